@@ -1,0 +1,4 @@
+pub mod Views
+pub mod CellViews
+pub mod Lists
+pub mod Examples

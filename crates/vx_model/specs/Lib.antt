@@ -1,0 +1,11 @@
+pub mod Words
+pub mod Ty
+pub mod Tree
+pub mod Val
+pub mod Piece
+pub mod Numbers
+pub mod TyView
+pub mod TreeView
+pub mod Context
+pub mod Distinct
+pub mod TyLaws

@@ -1,0 +1,71 @@
+-- Types of columns, as contracts see them.
+use Rattle.std.specs.Prelude.{ℕ, ◌&&◌, ◌==◌, Bool, true, false, List, [], ◌∷◌, bytes_eq}
+use mathlib.Core.Bool.{beq}
+use Rattle.vx_model.specs.declared.ptype.PType.{PType}
+use Rattle.vx_model.specs.Numbers.{ptype_number}
+
+mutual
+  pub data Ty : Type 0 where
+    boolean : Bool → Ty
+    primitive : PType → Bool → Ty
+    utf8 : Bool → Ty
+    binary : Bool → Ty
+    list : Ty → Bool → Ty
+    struct : Tys → Bool → Ty
+    extension : List ℕ → Ty → Ty
+
+  pub data Tys : Type 0 where
+    no_fields : Tys
+    field : List ℕ → Ty → Tys → Tys
+
+abbrev pub Named : Type 0
+Named = List ℕ × Ty
+
+-- fields in order
+abbrev pub tys_of : List Named → Tys
+tys_of [] = no_fields
+tys_of (f ∷ fs) = field f.0 f.1 (tys_of fs)
+
+abbrev pub fields_in : Tys → List Named
+fields_in no_fields = []
+fields_in (field name t fs) = (name, t) ∷ fields_in fs
+
+abbrev pub nullable : Ty → Bool
+nullable (boolean n) = n
+nullable (primitive p n) = n
+nullable (utf8 n) = n
+nullable (binary n) = n
+nullable (list t n) = n
+nullable (struct fs n) = n
+nullable (extension tag t) = nullable t
+
+abbrev pub as_nullable : Ty → Ty
+as_nullable (boolean n) = boolean true
+as_nullable (primitive p n) = primitive p true
+as_nullable (utf8 n) = utf8 true
+as_nullable (binary n) = binary true
+as_nullable (list t n) = list t true
+as_nullable (struct fs n) = struct fs true
+as_nullable (extension tag t) = extension tag (as_nullable t)
+
+-- the type below all extensions
+abbrev pub storage_type : Ty → Ty
+storage_type (extension tag t) = storage_type t
+storage_type t = t
+
+-- whether two types are the same
+abbrev mutual
+  pub ty_eq : Ty → Ty → Bool
+  ty_eq (boolean m) (boolean n) = beq m n
+  ty_eq (primitive p m) (primitive q n) = (ptype_number p == ptype_number q) && beq m n
+  ty_eq (utf8 m) (utf8 n) = beq m n
+  ty_eq (binary m) (binary n) = beq m n
+  ty_eq (list s m) (list t n) = ty_eq s t && beq m n
+  ty_eq (struct fs m) (struct gs n) = tys_eq fs gs && beq m n
+  ty_eq (extension a s) (extension b t) = bytes_eq a b && ty_eq s t
+  ty_eq s t = false
+
+  pub tys_eq : Tys → Tys → Bool
+  tys_eq no_fields no_fields = true
+  tys_eq (field a s fs) (field b t gs) = (bytes_eq a b && ty_eq s t) && tys_eq fs gs
+  tys_eq fs gs = false

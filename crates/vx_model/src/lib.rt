@@ -1,0 +1,23 @@
+//! The data that every crate of the writer speaks of: types, cells, row values, encodings, and the plain trees
+//! and short definitions by which contracts see them.
+#![tactic(auto)]
+
+mod array_context;
+mod blob;
+mod cell;
+mod dtype;
+mod encoding;
+mod ptype;
+mod row_value;
+mod segment;
+mod text;
+
+pub use array_context::{ArrayContext, ContextError};
+pub use blob::Blob;
+pub use cell::Cell;
+pub use dtype::{DType, ExtDType, StructField, StructFields};
+pub use encoding::EncodingId;
+pub use ptype::{Nullability, PType};
+pub use row_value::Value;
+pub use segment::{IdTooLarge, SegmentId};
+pub use text::{FieldName, Text};
