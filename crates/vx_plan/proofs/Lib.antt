@@ -6,3 +6,5 @@ pub mod ChunkedLaws
 pub mod Numbering
 pub mod Fronts
 pub mod SourceLaws
+pub mod InOrderLaws
+mod Examples

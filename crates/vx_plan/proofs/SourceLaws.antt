@@ -1,9 +1,11 @@
 -- The laws over whole sources.
 use Rattle.std.proofs.Common.{◌≡◌, ℕ, zero, suc, ◌+◌, ◌<◌, ◌≤◌, ◌^◌, ◌⊎◌, Bool, true, false, List, [], ◌∷◌, ◌++◌, map, length, Option, Some, None, refl, sym, ap, ap₂, ◌∙◌, subst, inl, inr, ⊎_elim, arith, length-append}
 use Rattle.std.proofs.lemmas.Bool.Decides.{nat_tests}
-use Rattle.vx_model.specs.Ty.{Ty}
+use Rattle.std.specs.Prelude.{if◌then◌else◌}
+use Rattle.vx_model.specs.Ty.{Ty, ty_eq}
+use Rattle.vx_model.specs.TyLaws.{ty_eq_decides}
 use Rattle.vx_model.specs.Val.{Val}
-use Rattle.vx_model.specs.Piece.{Piece, row_values}
+use Rattle.vx_model.specs.Piece.{Piece, piece_type, row_values}
 use Rattle.vx_path.specs.Lists.{In, Each}
 use Rattle.vx_path.specs.Path.{meets, Scattered, Region, under, raised}
 use Rattle.vx_path.proofs.Path.{under_apart, meets-sym}
@@ -12,9 +14,9 @@ use Rattle.vx_tree.specs.Rows.{rows, and_then, counted, kind_rows, each_rows}
 use Rattle.vx_tree.proofs.LayoutLaws.{rows_renamed}
 use Rattle.vx_plan.specs.PlanData.{Setting, Item, Pair, Plan, Node, paths, places, stream_values}
 use Rattle.vx_plan.specs.Way.{Way}
-use Rattle.vx_plan.specs.SourcePlan.{plan, source_plan, batch_items, root_eof, source_values, with_root}
+use Rattle.vx_plan.specs.SourcePlan.{plan, source_plan, batch_items, root_eof, source_values, with_root, of_schema}
 use Rattle.vx_plan.specs.Number.{sorted, segments, numbered, number_of, segment_at}
-use Rattle.vx_plan.specs.Valid.{Fit, AllOf, Keeps}
+use Rattle.vx_plan.specs.Valid.{Fit, AllOf, OfSchema, Keeps}
 use Rattle.vx_plan.specs.Statements.{RowsComeBack, PathsDistinct, PathsInRegion, PrefixWithin, FrontOfTaken, CountsRows, Within}
 use Rattle.vx_plan.proofs.Relate.{Cases, induct}
 use Rattle.vx_plan.proofs.PlanLists.{ItemsOf, Holds, counted_count}
@@ -140,3 +142,19 @@ counts_rows s w t m batches keeps of clean fit =
     ((plan_typed s w t).typed m (batch_items 0 batches) true root_eof,
      sym (rows_count s.codec (λ x. segment_at 0 (segments p) (number_of p.pairs 0 x)) p.layout (source_values batches)
         (sym (rows_renamed s.codec (segment_at 0 (segments p)) (number_of p.pairs 0) p.layout) ∙ rows_come_back s w t m batches 0 keeps of clean fit)))
+
+-- ---- batches of the schema
+
+schema_step : (t : Ty) (b : Piece) (rest : List Piece) (f : Bool) → ty_eq (piece_type b) t ≡ f → of_schema t (b ∷ rest) ≡ (if f then b ∷ of_schema t rest else [])
+schema_step t b rest f e = ap (λ g. if g then b ∷ of_schema t rest else []) e
+
+-- batches of the schema are all taken
+pub of_schema_all : (t : Ty) (bs : List Piece) → OfSchema t bs → of_schema t bs ≡ bs
+of_schema_all t [] h = refl
+of_schema_all t (b ∷ bs) h = schema_step t b bs true ((ty_eq_decides (piece_type b) t).1 h.0) ∙ ap (λ r. b ∷ r) (of_schema_all t bs h.1)
+
+-- and those before one of another type
+pub of_schema_until : (t : Ty) (bs : List Piece) (b : Piece) (rest : List Piece) → OfSchema t bs → ty_eq (piece_type b) t ≡ false → of_schema t (bs ++ (b ∷ rest)) ≡ bs
+of_schema_until t [] b rest h e = schema_step t b rest false e
+of_schema_until t (c ∷ bs) b rest h e =
+    schema_step t c (bs ++ (b ∷ rest)) true ((ty_eq_decides (piece_type c) t).1 h.0) ∙ ap (λ r. c ∷ r) (of_schema_until t bs b rest h.1 e)

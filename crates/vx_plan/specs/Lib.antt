@@ -7,3 +7,4 @@ pub mod SourcePlan
 pub mod Number
 pub mod Valid
 pub mod Statements
+pub mod InOrder

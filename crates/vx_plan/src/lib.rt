@@ -2,6 +2,7 @@
 //! Each function here has an empty body; its contract is a law, proved for every plan.
 #![tactic(auto)]
 
+ghost use Rattle.vx_plan.specs.InOrder.{ChunksInOrder};
 ghost use Rattle.vx_plan.specs.Statements.{RowsComeBack, PathsDistinct, PathsInRegion, PrefixWithin, FrontOfTaken, CountsRows};
 
 /// The rows of the numbered layout are the batches' rows, in order.
@@ -37,5 +38,11 @@ pub fn fronts_are_of_taken()
 /// The layout has the schema's type and as many rows as the batches.
 pub fn layouts_count_rows()
     ensures { CountsRows }
+{
+}
+
+/// Chunking over flat writes each batch's segment, in order.
+pub fn chunks_stand_in_order()
+    ensures { ChunksInOrder }
 {
 }
