@@ -1,0 +1,4 @@
+pub mod CellLaws
+pub mod RegroupLaws
+pub mod BlockLaws
+pub mod FlushLaws

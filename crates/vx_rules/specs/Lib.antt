@@ -1,0 +1,4 @@
+pub mod Stream
+pub mod Regroup
+pub mod Blocks
+pub mod Flushes
