@@ -214,10 +214,10 @@ length-struct_rows (suc n) columns valid = ap suc (length-struct_rows n (map tai
 
 -- ---- every chunk
 
-of_type : (s t : Ty) → ty_eq s t ≡ true → s ≡ t
+pub of_type : (s t : Ty) → ty_eq s t ≡ true → s ≡ t
 of_type s t e = (ty_eq_decides s t).0 e
 
-no_last : (a : Bool) → (a && false) ≡ true → ⊥
+pub no_last : (a : Bool) → (a && false) ≡ true → ⊥
 no_last true h = true≢false (sym h)
 no_last false h = true≢false (sym h)
 

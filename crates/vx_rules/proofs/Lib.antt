@@ -2,3 +2,5 @@ pub mod CellLaws
 pub mod RegroupLaws
 pub mod BlockLaws
 pub mod FlushLaws
+pub mod ColumnCells
+pub mod ColumnStreams

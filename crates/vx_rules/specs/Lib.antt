@@ -2,3 +2,4 @@ pub mod Stream
 pub mod Regroup
 pub mod Blocks
 pub mod Flushes
+pub mod Columns
