@@ -50,7 +50,7 @@ chunked_reads s t k r = record { reads = go }
 
 -- ---- paths
 
-paths-append : (ps qs : List Pair) → paths (ps ++ qs) ≡ paths ps ++ paths qs
+pub paths-append : (ps qs : List Pair) → paths (ps ++ qs) ≡ paths ps ++ paths qs
 paths-append [] qs = refl
 paths-append (p ∷ ps) qs = ap (λ r. p.0 ∷ r) (paths-append ps qs)
 

@@ -3,6 +3,8 @@ pub mod PlanLists
 pub mod Spots
 pub mod FlatLaws
 pub mod ChunkedLaws
+pub mod GroupLaws
+pub mod ColumnLaws
 pub mod Numbering
 pub mod Fronts
 pub mod SourceLaws

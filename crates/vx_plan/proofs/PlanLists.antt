@@ -1,6 +1,6 @@
 -- Faults, numbers and pairs of several plans, joined.
 use Rattle.std.proofs.Common.{◌≡◌, ℕ, ◌+◌, ◌<◌, ◌≤◌, ◌^◌, ◌⊎◌, Bool, true, false, cond, List, [], ◌∷◌, ◌++◌, map, length, Option, Some, None, refl, sym, ap, ap₂, ◌∙◌, subst, inl, inr, ⊎_elim, arith, append_assoc, length-append, eq-eqb}
-use Rattle.std.proofs.lemmas.List.{append-nil, length-map}
+use Rattle.std.proofs.lemmas.List.{append-nil, length-map, map-append}
 use Rattle.vx_model.specs.Ty.{Ty}
 use Rattle.vx_model.specs.Tree.{Tree}
 use Rattle.vx_model.specs.Val.{Val, value}
@@ -12,6 +12,7 @@ use Rattle.vx_tree.specs.LayoutTree.{Lay, lays_of, gathered, layout, no_layouts,
 use Rattle.vx_tree.specs.Real.{Of}
 use Rattle.vx_tree.specs.Codec.{Codec}
 use Rattle.vx_tree.specs.Rows.{and_then, all_there, counted, joined, chunked_rows, rows, each_rows}
+use Rattle.vx_rules.specs.Stream.{Chunks, stream_cells}
 use Rattle.vx_plan.specs.PlanData.{Setting, Pair, Plan, Item, Fault, Node, row_total, stream_values}
 use Rattle.vx_plan.specs.ChunkedNode.{all_pairs, all_faults, all_numbers, all_layouts}
 use Rattle.vx_plan.specs.Valid.{Fit}
@@ -19,8 +20,7 @@ use Rattle.vx_plan.specs.Statements.{Within}
 
 -- each chunk of a stream is a whole one of the type
 abbrev pub ItemsOf : Ty → List Item → Type 0
-ItemsOf t [] = Unit {0}
-ItemsOf t (i ∷ is) = Of t i.1 × ItemsOf t is
+ItemsOf t items = Chunks t items
 
 -- each pair's path is looked up to its bytes
 abbrev pub Holds : (List ℕ → Option (List ℕ)) → List Pair → Type 0
@@ -135,3 +135,13 @@ grow_more p q ps qs a b = record {
 
 pub within_itself : (p : Plan) → Within p p
 within_itself p = record { pairs = λ x h. h; faultless = λ e. e; fit = λ e h. h }
+
+-- ---- rows and values of a stream by its cells
+
+pub row_total_cells : (items : List Item) → row_total items ≡ length (stream_cells items)
+row_total_cells [] = refl
+row_total_cells (i ∷ is) = ap (λ n. length (cells i.1) + n) (row_total_cells is) ∙ sym (length-append (cells i.1) (stream_cells is))
+
+pub stream_values_cells : (items : List Item) → stream_values items ≡ map value (stream_cells items)
+stream_values_cells [] = refl
+stream_values_cells (i ∷ is) = ap (λ r. row_values i.1 ++ r) (stream_values_cells is) ∙ sym (map-append value (cells i.1) (stream_cells is))

@@ -23,6 +23,8 @@ use Rattle.vx_plan.proofs.PlanLists.{ItemsOf, Holds, counted_count}
 use Rattle.vx_plan.proofs.Spots.{Apart, Lies}
 use Rattle.vx_plan.proofs.FlatLaws.{Reads, Placed, Grows, Typed, flat_reads, flat_placed, flat_grows, flat_typed}
 use Rattle.vx_plan.proofs.ChunkedLaws.{chunked_reads, chunked_placed, chunked_grows, chunked_typed}
+use Rattle.vx_plan.proofs.GroupLaws.{grouped_reads, grouped_placed, grouped_grows, grouped_typed, compressed_reads, compressed_placed, compressed_grows, compressed_typed}
+use Rattle.vx_plan.proofs.ColumnLaws.{struct_reads, struct_placed, struct_grows, struct_typed, not_struct_reads, not_struct_placed, not_struct_grows, not_struct_typed, list_reads, list_placed, list_grows, list_typed}
 use Rattle.vx_plan.proofs.Numbering.{numbers_hold}
 use Rattle.vx_plan.proofs.Fronts.{sorted_fronts}
 
@@ -31,25 +33,45 @@ use Rattle.vx_plan.proofs.Fronts.{sorted_fronts}
 pub plan_reads : (s : Setting) → Keeps s → (w : Way) (t : Ty) → Reads s t (plan s w t)
 plan_reads s keeps = induct s (λ t k. Reads s t k) (record {
   flat_case = λ o t. flat_reads s keeps o t;
-  chunked_case = λ t k h. chunked_reads s t k h
+  chunked_case = λ t k h. chunked_reads s t k h;
+  grouped_case = λ g t k h. grouped_reads s g t k h;
+  compressed_case = λ which room t k h. compressed_reads s keeps which room t k h;
+  not_struct_case = λ t. not_struct_reads s t;
+  struct_case = λ fs n dup v ks h hs. struct_reads s fs n dup v ks h hs;
+  list_case = λ t n e o v x y z. list_reads s t n e o v x y z
 })
 
 pub plan_placed : (s : Setting) (w : Way) (t : Ty) → Placed t (plan s w t)
 plan_placed s = induct s (λ t k. Placed t k) (record {
   flat_case = λ o t. flat_placed s o t;
-  chunked_case = λ t k h. chunked_placed t k h
+  chunked_case = λ t k h. chunked_placed t k h;
+  grouped_case = λ g t k h. grouped_placed g t k h;
+  compressed_case = λ which room t k h. compressed_placed s which room t k h;
+  not_struct_case = λ t. not_struct_placed t;
+  struct_case = λ fs n dup v ks h hs. struct_placed fs n dup v ks h hs;
+  list_case = λ t n e o v x y z. list_placed t n e o v x y z
 })
 
 pub plan_grows : (s : Setting) (w : Way) (t : Ty) → Grows t (plan s w t)
 plan_grows s = induct s (λ t k. Grows t k) (record {
   flat_case = λ o t. flat_grows s o t;
-  chunked_case = λ t k h. chunked_grows t k
+  chunked_case = λ t k h. chunked_grows t k;
+  grouped_case = λ g t k h. grouped_grows g t k h;
+  compressed_case = λ which room t k h. compressed_grows s which room t k h;
+  not_struct_case = λ t. not_struct_grows t;
+  struct_case = λ fs n dup v ks h hs. struct_grows fs n dup v ks h hs;
+  list_case = λ t n e o v x y z. list_grows t n e o v x y z
 })
 
 pub plan_typed : (s : Setting) (w : Way) (t : Ty) → Typed t (plan s w t)
 plan_typed s = induct s (λ t k. Typed t k) (record {
   flat_case = λ o t. flat_typed s o t;
-  chunked_case = λ t k h. chunked_typed t k h
+  chunked_case = λ t k h. chunked_typed t k h;
+  grouped_case = λ g t k h. grouped_typed g t k h;
+  compressed_case = λ which room t k h. compressed_typed s which room t k h;
+  not_struct_case = λ t. not_struct_typed t;
+  struct_case = λ fs n dup v ks h hs. struct_typed fs n dup v ks;
+  list_case = λ t n e o v x y z. list_typed t n e o v
 })
 
 -- ---- the batches of a source

@@ -3,6 +3,8 @@ pub mod Way
 pub mod Walk
 pub mod FlatNode
 pub mod ChunkedNode
+pub mod GroupNode
+pub mod ColumnNodes
 pub mod SourcePlan
 pub mod Number
 pub mod Valid
