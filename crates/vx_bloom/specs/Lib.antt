@@ -1,0 +1,5 @@
+pub mod Blocks
+pub mod Bytes
+pub mod Filter
+pub mod Options
+pub mod Partial
