@@ -2,6 +2,9 @@
 use Rattle.std.proofs.Common.{◌≡◌, ◌≢◌, ℕ, zero, suc, ◌+◌, ◌<◌, ◌==◌, true, false, cond, IsTrue, List, [], ◌∷◌, ◌++◌, length, map, get_or, refl, sym, ap, ◌∙◌, arith, rules, inl, inr, eq-eqb, append_assoc}
 use Rattle.std.specs.Prelude.{replicate, filter, slice_set, slice_index_or, All, Contains}
 use Rattle.std.specs.List.{range_with_len}
+use Rattle.std.specs.Prelude.{nat_eq, Bool, ◌↔◌}
+use lib.Pointwise.{pointwise}
+use Rattle.std.proofs.lemmas.Slice.Eq.{bytes_eq-Decides, slice_eq-Decides}
 use Rattle.std.proofs.lemmas.Bool.Decides.{eqb_tells}
 use Rattle.std.proofs.lemmas.List.{replicate-append-replicate, length-set, same_lists, map-append, get_or-set_same, get_or-set_other}
 use Rattle.std.proofs.lemmas.List.Elements.{filter-append, All-head, All-tail}
@@ -208,6 +211,14 @@ contained_of filter blocks hashes hash e within has =
 
 pub same_count : (f g : List Block) (blocks : ℕ) (xs ys : List ℕ) → f ≡ filter_of blocks xs → g ≡ filter_of blocks ys → length f ≡ length g
 same_count f g blocks xs ys e e' = rw (e, e', length-filter_of blocks xs, length-filter_of blocks ys) refl
+
+-- what `==` tells of two filters
+pub told_same : (f g : List Block) (r : Bool) → r ≡ pointwise (pointwise nat_eq) f g → IsTrue r ↔ (f ≡ g)
+told_same f g r e = slice_eq-Decides bytes_eq-Decides f g r e
+
+pub same_of : (f g : List Block) (blocks : ℕ) (xs ys : List ℕ) → f ≡ filter_of blocks xs → g ≡ filter_of blocks ys
+    → SameElements xs ys → f ≡ g
+same_of f g blocks xs ys e e' same = e ∙ same_filters blocks xs ys same ∙ sym e'
 
 pub ruleset empty_rules = (filter_of_none, replicate_more)
 pub ruleset insert_rules = (inserted_of)

@@ -3,12 +3,12 @@ use Rattle.std.proofs.Common.{◌≡◌, ℕ, zero, suc, ◌+◌, ◌*◌, ◌/�
 use Rattle.std.specs.Prelude.{All}
 use Rattle.std.specs.Int.{w32, from_le_bytes, to_le_bytes}
 use Rattle.std.specs.List.{flat_map}
-use Rattle.std.proofs.lemmas.Grind.{common_steps}
+use Rattle.std.proofs.lemmas.Grind.{flat_map-append}
 use Rattle.std.proofs.lemmas.Bool.{cases_lt}
-use Rattle.std.proofs.lemmas.List.{get_or-take, get_or-drop, take_more, length-take-le, flat_map_more, drop-drop}
-use Rattle.std.proofs.lemmas.List.Elements.{All-head, All-tail, All-nil, All-cons}
+use Rattle.std.proofs.lemmas.List.{get_or-take, get_or-drop, take_more, length-take-le, flat_map_more, drop-drop, append-nil}
+use Rattle.std.proofs.lemmas.List.Elements.{All-head, All-tail, All-nil, All-push, All-from_recursion}
 use Rattle.std.proofs.lemmas.Nat.{le_bytes_4, from_le_bytes-to_le_bytes_4}
-use Rattle.std.proofs.Math.Seq.{take-add}
+use Rattle.std.proofs.Math.Seq.{take-add, take-length}
 use Rattle.std.proofs.Math.ListN.{get_or-eq_default}
 use Rattle.vx_bloom.specs.Blocks.{Block, eight}
 use Rattle.vx_bloom.specs.Bytes.{number_bytes, number_at, block_bytes, filter_bytes, block_at, IsBlock, AreBlocks}
@@ -128,4 +128,55 @@ block_bytes-block_at bytes i are within =
     (piece bytes (i + 24) (i + 28) 4 8 _ are (omega arith) refl (omega arith)
     (piece bytes (i + 28) (i + 32) 0 4 [] are (omega arith) refl (omega arith) refl))))))))
 
+-- ---- filters
+
+byte_read : (bytes : List ℕ) (i n k : ℕ) → AreBytes bytes → k < n → get_or (take n (drop i bytes)) k 0 < 256
+byte_read bytes i n k are low = rw (get_or-take n (drop i bytes) k 0 low, get_or-drop i bytes k 0) (are.each (i + k))
+
+number_at_fits : (bytes : List ℕ) (i : ℕ) → AreBytes bytes → number_at bytes i < 2 ^ 32
+unfolding number_at
+number_at_fits bytes i are =
+    omega (arith, byte_read bytes i 4 0 are (omega arith), byte_read bytes i 4 1 are (omega arith),
+    byte_read bytes i 4 2 are (omega arith), byte_read bytes i 4 3 are (omega arith))
+
+pub IsBlock-block_at : (bytes : List ℕ) (i : ℕ) → AreBytes bytes → IsBlock (block_at bytes i)
+unfolding block_at
+IsBlock-block_at bytes i are =
+    let fit : (lane : ℕ) → number_at bytes (i + 4 * lane) < 2 ^ 32 = λ lane. number_at_fits bytes (i + 4 * lane) are in
+    record {
+      eight = refl;
+      fits = All-from_recursion (λ lane. lane < 2 ^ 32) (block_at bytes i)
+          (fit 0, (fit 1, (fit 2, (fit 3, (fit 4, (fit 5, (fit 6, (fit 7, tt))))))));
+    }
+
+-- the first blocks of the bytes
+pub record BlocksOf (bytes : List ℕ) (count : ℕ) (blocks : List Block) : Type 0 where
+  pub spell : filter_bytes blocks ≡ take (32 * count) bytes
+  pub sound : AreBlocks blocks
+  pub many : length blocks ≡ count
+
+pub blocks_begin : (bytes : List ℕ) → BlocksOf bytes 0 []
+unfolding filter_bytes
+blocks_begin bytes = record { spell = refl; sound = All-nil IsBlock; many = refl }
+
+pub blocks_more : (bytes : List ℕ) (count : ℕ) (blocks : List Block) → AreBytes bytes → 32 * count + 32 ≤ length bytes
+    → BlocksOf bytes count blocks → BlocksOf bytes (count + 1) (blocks ++ block_at bytes (32 * count) ∷ [])
+unfolding filter_bytes
+blocks_more bytes count blocks are within so_far =
+    let next : 32 * (count + 1) ≡ 32 * count + 32 = omega arith in
+    record {
+      spell =
+          flat_map-append block_bytes blocks (block_at bytes (32 * count) ∷ [])
+          ∙ ap (λ (rest : List ℕ). flat_map block_bytes blocks ++ rest) (append-nil (block_bytes (block_at bytes (32 * count))))
+          ∙ rw (so_far.spell, block_bytes-block_at bytes (32 * count) are within, next, take-add (32 * count) 32 bytes) refl;
+      sound = All-push IsBlock blocks (block_at bytes (32 * count)) so_far.sound (IsBlock-block_at bytes (32 * count) are);
+      many = rw (length-append blocks (block_at bytes (32 * count) ∷ []), so_far.many) refl;
+    }
+
+pub all_read : (bytes : List ℕ) (count : ℕ) (blocks : List Block) → length bytes ≡ 32 * count → BlocksOf bytes count blocks
+    → filter_bytes blocks ≡ bytes
+all_read bytes count blocks e read = read.spell ∙ ap (λ n. take n bytes) (sym e) ∙ take-length bytes
+
 pub ruleset block_rules = (append_assoc, flat_map_step)
+pub ruleset filter_rules = (append_assoc, flat_map_step)
+pub ruleset blocks_rules = (all_read)

@@ -1,10 +1,13 @@
 // Numbers of 32 bits and blocks as bytes, low byte first.
 
-ghost use Rattle.std.specs.Prelude.{◌≡◌, ◌+◌, ◌≤◌, ◌++◌, length, OnOk};
-ghost use Rattle.vx_bloom.specs.Bytes.{number_bytes, number_at, block_bytes, block_at};
+ghost use Rattle.std.specs.Prelude.{◌≡◌, ◌+◌, ◌*◌, ◌≤◌, ◌++◌, length, OnOk, IfOk};
+ghost use Rattle.vx_bloom.specs.Bytes.{number_bytes, number_at, block_bytes, block_at, filter_bytes, AreBlocks};
 
 use crate::block::Block;
-use std::alloc::AllocError;
+use std::alloc::{AllocError, Global};
+
+/// Bytes of a block.
+pub(crate) const BLOCK_LEN: usize = 32;
 
 #[tactic(auto, unfolding(crate::specs::Bytes::number_bytes))]
 pub(crate) fn push_number(out: &mut Vec<u8>, number: u32) -> Result<(), AllocError>
@@ -50,4 +53,26 @@ pub(crate) fn block_at(bytes: &[u8], at: usize) -> Block
         number_at(bytes, at + 24),
         number_at(bytes, at + 28),
     ]
+}
+
+// The blocks that the bytes spell.
+#[tactic(
+    auto,
+    using(crate::proofs::ReadBack::blocks_rules)
+)]
+pub(crate) fn blocks_at(
+    alloc: Global,
+    bytes: &[u8],
+    count: usize,
+) -> Result<Vec<Block>, AllocError>
+    requires { length bytes.now ≡ 32 * count }
+    ensures bytes { IfOk result (λ v. filter_bytes v.items ≡ bytes.now) }
+    ensures blocks { IfOk result (λ v. AreBlocks v.items) }
+    ensures count { IfOk result (λ v. length v.items ≡ count) }
+{
+    let mut blocks = Vec::with_capacity(alloc, count)?;
+    'places: for place in 0..count {
+        blocks.push(block_at(bytes, BLOCK_LEN * place))?;
+    }
+    Ok(blocks)
 }

@@ -1,11 +1,15 @@
 //! Filters.
 
-ghost use Rattle.std.specs.Prelude.{◌≡◌, ◌<◌, ◌≢◌, ◌↔◌, ◌++◌, ◌∷◌, [], List, ℕ, IsTrue, All, Contains, length, replicate, IfOk, OnOk, OnErr, IsErr};
+ghost use Rattle.std.specs.Prelude.{nat_eq, ◌≡◌, ◌<◌, ◌≢◌, ◌↔◌, ◌++◌, ◌∷◌, [], List, ℕ, IsTrue, All, Contains, length, replicate, IfOk, OnOk, OnErr, IsErr};
+ghost use lib.Pointwise.{pointwise};
 ghost use Rattle.vx_bloom.specs.Blocks.{Block, no_lanes, full_lanes};
-ghost use Rattle.vx_bloom.specs.Filter.{block_of, inserted, may_contain, or_blocks, filter_of};
+ghost use Rattle.vx_bloom.specs.Bytes.{filter_bytes, AreBlocks};
+ghost use Rattle.vx_bloom.specs.Partial.{ReadsFilter};
+ghost use Rattle.vx_bloom.specs.Filter.{block_of, inserted, may_contain, or_blocks, filter_of, SameElements};
 ghost use Rattle.vx_bloom.specs.Options.{blocks_in};
 
 use crate::block::{Block, block_of, covers, is_full, mask, no_lanes, or_into, or_lanes};
+use crate::bytes::{BLOCK_LEN, blocks_at, push_block};
 use crate::options::BloomOptions;
 use std::alloc::{AllocError, Global};
 use std::marker::{Model, PhantomData};
@@ -138,5 +142,57 @@ impl<H: ByteHash> BloomPartial<H> {
         ensures { IsTrue result ↔ All (λ block. block ≡ full_lanes) self.now }
     {
         self.blocks.iter().all(|block| is_full(block))
+    }
+
+    /// The lanes, block after block, each as four bytes, low byte first.
+    #[tactic(
+        auto,
+        using(crate::proofs::ReadBack::filter_rules),
+        unfolding(crate::specs::Bytes::filter_bytes)
+    )]
+    pub fn serialize(&self, alloc: Global) -> Result<Vec<u8>, AllocError>
+        ensures { IfOk result (λ v. v.items ≡ filter_bytes self.now) }
+    {
+        let mut bytes = Vec::with_capacity(alloc, BLOCK_LEN * self.blocks.len())?;
+        'places: for block in &self.blocks {
+            push_block(&mut bytes, block)?;
+        }
+        Ok(bytes)
+    }
+
+    /// The filter that these bytes spell.
+    pub fn deserialize(alloc: Global, bytes: &[u8]) -> Result<BloomPartial<H>, PartialError>
+        ensures answer { ReadsFilter bytes.now result }
+        ensures whole { (p : List Block) → AreBlocks p → filter_bytes p ≡ bytes.now → IfOk result (λ q. q ≡ p) }
+    {
+        let count = bytes.len() / BLOCK_LEN;
+        if bytes.len() % BLOCK_LEN != 0 || count == 0 || count > u32::MAX as usize {
+            return Err(PartialError::Length);
+        }
+        let blocks = blocks_at(alloc, bytes, count)?;
+        Ok(BloomPartial {
+            blocks,
+            hash: PhantomData,
+        })
+    }
+}
+
+impl<H: ByteHash> PartialEq for BloomPartial<H> {
+    ghost use Rattle.std.specs.Prelude.{nat_eq};
+    ghost use Rattle.std.proofs.lemmas.Cmp.{lists_equiv, nat_list_eq_equiv};
+    ghost use Rattle.std.specs.Cmp.{partial_equiv_from_equiv};
+    ghost use lib.Pointwise.{pointwise};
+
+    ghost eq = { pointwise (pointwise nat_eq) };
+
+    ghost laws = { partial_equiv_from_equiv (lists_equiv nat_list_eq_equiv) };
+
+    fn eq(&self, other: &BloomPartial<H>) -> bool
+        ensures value { result ≡ pointwise (pointwise nat_eq) self.now other.now }
+        ensures same { IsTrue result ↔ (self.now ≡ other.now) }
+        ensures inserted { (blocks : ℕ) (xs ys : List ℕ) → self.now ≡ filter_of blocks xs → other.now ≡ filter_of blocks ys
+            → SameElements xs ys → IsTrue result }
+    {
+        self.blocks == other.blocks
     }
 }
