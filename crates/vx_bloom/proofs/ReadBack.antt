@@ -104,6 +104,19 @@ pub same_filter_bytes : (p q : List Block) → AreBlocks p → AreBlocks q → f
 unfolding filter_bytes
 same_filter_bytes p q are are' e = same_pieces block_bytes IsBlock 31 length-block_bytes same_blocks p q are are' e
 
+length-filter_bytes : (p : List Block) → AreBlocks p → length (filter_bytes p) ≡ 32 * length p
+unfolding filter_bytes
+length-filter_bytes [] are = refl
+length-filter_bytes (x ∷ xs) are =
+    rw (length-append (block_bytes x) (flat_map block_bytes xs), length-block_bytes x (All-head IsBlock x xs are),
+    length-filter_bytes xs (All-tail IsBlock x xs are)) (omega arith)
+
+-- how many blocks a filter's bytes have
+pub count_of : (p : List Block) (bytes : List ℕ) → AreBlocks p → filter_bytes p ≡ bytes → length bytes / 32 ≡ length p
+count_of p bytes are e =
+    let many : length bytes ≡ 32 * length p = sym (ap (λ (b : List ℕ). length b) e) ∙ length-filter_bytes p are in
+    omega arith
+
 -- four bytes more in front
 piece : (bytes : List ℕ) (i j k n : ℕ) (others : List ℕ) → AreBytes bytes → i + 4 ≡ j → k + 4 ≡ n → i + n ≤ length bytes
     → others ≡ take k (drop j bytes) → number_bytes (number_at bytes i) ++ others ≡ take n (drop i bytes)

@@ -3,3 +3,5 @@ pub mod Bytes
 pub mod Filter
 pub mod Options
 pub mod Partial
+pub mod Scalar
+pub mod Values

@@ -84,8 +84,14 @@ impl<H: ByteHash> BloomPartial<H> {
         })
     }
 
+    pub(crate) fn block_count(&self) -> u32
+        ensures { result ≡ length self.now }
+    {
+        self.blocks.len() as u32
+    }
+
     #[tactic(auto, unfolding(crate::specs::Filter::inserted))]
-    fn insert_hash(&mut self, hash: u64)
+    pub(crate) fn insert_hash(&mut self, hash: u64)
         ensures { self.new ≡ inserted self.old hash }
     {
         let place = block_of(hash, self.blocks.len());
@@ -93,7 +99,7 @@ impl<H: ByteHash> BloomPartial<H> {
     }
 
     #[tactic(auto, unfolding(crate::specs::Filter::may_contain))]
-    fn contains_hash(&self, hash: u64) -> bool
+    pub(crate) fn contains_hash(&self, hash: u64) -> bool
         ensures mask { result ≡ may_contain self.now hash }
         ensures within { block_of (length self.now) hash < length self.now }
     {
