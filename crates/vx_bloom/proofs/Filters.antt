@@ -94,8 +94,8 @@ absorbs blocks [] hash place e k low is = absurd (omega arith)
 absorbs blocks (x ∷ xs) hash place e zero low is =
     let here : block_of blocks x ≡ place = ap (block_of blocks) is ∙ e in
     let all : block_at blocks (x ∷ xs) place ≡ or_lanes (mask hash) (block_at blocks xs place) =
-        block_first blocks x xs place
-        ∙ ap (λ (b : Block). or_lanes b (block_at blocks xs place)) (block_in blocks x place here ∙ ap mask is) in
+    block_first blocks x xs place
+    ∙ ap (λ (b : Block). or_lanes b (block_at blocks xs place)) (block_in blocks x place here ∙ ap mask is) in
     ap (or_lanes (mask hash)) all ∙ or_lanes_twice (mask hash) (block_at blocks xs place) ∙ sym all
 absorbs blocks (x ∷ xs) hash place e (suc k) low is =
     let first = block_at blocks (x ∷ []) place in
@@ -152,7 +152,7 @@ contains_inserted blocks hashes hash low has =
 -- one block of a filter with one more hash
 inserted_here : (blocks : ℕ) (hashes : List ℕ) (hash : ℕ) (k : ℕ) (d : Block) → k < blocks → block_of blocks hash ≡ k
     → get_or (slice_set (filter_of blocks hashes) k (or_lanes (get_or (filter_of blocks hashes) k no_lanes) (mask hash))) k d
-        ≡ block_at blocks (hashes ++ hash ∷ []) k
+    ≡ block_at blocks (hashes ++ hash ∷ []) k
 inserted_here blocks hashes hash k d low e =
     get_or-set_same (filter_of blocks hashes) k
     (or_lanes (get_or (filter_of blocks hashes) k no_lanes) (mask hash)) d
@@ -179,15 +179,15 @@ inserted-filter_of blocks hashes hash =
     (slice_set (filter_of blocks hashes) (block_of blocks hash) (or_lanes (get_or (filter_of blocks hashes) (block_of blocks hash) no_lanes) (mask hash)))
     (filter_of blocks (hashes ++ hash ∷ []))
     (length-set (filter_of blocks hashes) (block_of blocks hash) (or_lanes (get_or (filter_of blocks hashes) (block_of blocks hash) no_lanes) (mask hash))
-        ∙ length-filter_of blocks hashes ∙ sym (length-filter_of blocks (hashes ++ hash ∷ [])))
+    ∙ length-filter_of blocks hashes ∙ sym (length-filter_of blocks (hashes ++ hash ∷ [])))
     (λ k d within.
-        let low : k < blocks = rw (length-set (filter_of blocks hashes), length-filter_of blocks hashes) at within in
-        elim (eqb_tells (block_of blocks hash) k) [
-          | inl here ↦ rw here.1 (inserted_here blocks hashes hash k d low here.1)
-          | inr elsewhere ↦ inserted_elsewhere blocks hashes hash (block_of blocks hash) k
-              (or_lanes (get_or (filter_of blocks hashes) (block_of blocks hash) no_lanes) (mask hash)) d low refl (λ e. elsewhere.1 (sym e))
-        ]
-        ∙ sym (get_or-filter_of blocks (hashes ++ hash ∷ []) k d low)))
+    let low : k < blocks = rw (length-set (filter_of blocks hashes), length-filter_of blocks hashes) at within in
+    elim (eqb_tells (block_of blocks hash) k) [
+      | inl here ↦ rw here.1 (inserted_here blocks hashes hash k d low here.1)
+      | inr elsewhere ↦ inserted_elsewhere blocks hashes hash (block_of blocks hash) k
+          (or_lanes (get_or (filter_of blocks hashes) (block_of blocks hash) no_lanes) (mask hash)) d low refl (λ e. elsewhere.1 (sym e))
+    ]
+    ∙ sym (get_or-filter_of blocks (hashes ++ hash ∷ []) k d low)))
 
 -- ---- for the functions
 
@@ -221,6 +221,9 @@ pub same_of : (f g : List Block) (blocks : ℕ) (xs ys : List ℕ) → f ≡ fil
 same_of f g blocks xs ys e e' same = e ∙ same_filters blocks xs ys same ∙ sym e'
 
 pub ruleset empty_rules = (filter_of_none, replicate_more)
+
 pub ruleset insert_rules = (inserted_of)
+
 pub ruleset contains_rules = (contained_of)
+
 pub ruleset union_rules = (union_of, length-or_blocks)

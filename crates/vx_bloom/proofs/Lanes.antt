@@ -42,7 +42,7 @@ or_lanes_twice a b = eight_same
     (λ i. bit_or (slice_index a i) (bit_or (slice_index a i) (slice_index b i)))
     (λ i. bit_or (slice_index a i) (slice_index b i))
     (λ i. sym (or_assoc (slice_index a i) (slice_index a i) (slice_index b i))
-        ∙ ap (λ n. bit_or n (slice_index b i)) (or_self (slice_index a i)))
+    ∙ ap (λ n. bit_or n (slice_index b i)) (or_self (slice_index a i)))
 
 pub or_all_none : (xs : List Block) → or_lanes no_lanes (or_all xs) ≡ or_all xs
 unfolding or_lanes no_lanes or_all
@@ -69,7 +69,7 @@ pub covers_absorbed : (x m : Block) → or_lanes m x ≡ x → covers x m ≡ tr
 unfolding or_lanes covers
 covers_absorbed x m e =
     let lane : (i : ℕ) → slice_index (or_lanes m x) i ≡ bit_or (slice_index m i) (slice_index x i)
-            → (bit_and (slice_index x i) (slice_index m i) == slice_index m i) ≡ true
-        = λ i is. eq-eqb (bit_and (slice_index x i) (slice_index m i)) (slice_index m i)
-            (and_from_or (slice_index x i) (slice_index m i) (sym is ∙ ap (λ (b : Block). slice_index b i) e)) in
+    → (bit_and (slice_index x i) (slice_index m i) == slice_index m i) ≡ true
+    = λ i is. eq-eqb (bit_and (slice_index x i) (slice_index m i)) (slice_index m i)
+    (and_from_or (slice_index x i) (slice_index m i) (sym is ∙ ap (λ (b : Block). slice_index b i) e)) in
     rw (lane 0 refl, lane 1 refl, lane 2 refl, lane 3 refl, lane 4 refl, lane 5 refl, lane 6 refl, lane 7 refl) refl

@@ -47,4 +47,5 @@ all_laid old others now same laid =
     laid.done k d within ∙ sym (get_or-or_blocks old others k d within' within))
 
 pub ruleset place_rules = (place_fits, place_within)
+
 pub ruleset or_rules = (all_laid)

@@ -108,8 +108,11 @@ length-filter_bytes : (p : List Block) → AreBlocks p → length (filter_bytes 
 unfolding filter_bytes
 length-filter_bytes [] are = refl
 length-filter_bytes (x ∷ xs) are =
-    rw (length-append (block_bytes x) (flat_map block_bytes xs), length-block_bytes x (All-head IsBlock x xs are),
-    length-filter_bytes xs (All-tail IsBlock x xs are)) (omega arith)
+    rw (
+      length-append (block_bytes x) (flat_map block_bytes xs),
+      length-block_bytes x (All-head IsBlock x xs are),
+      length-filter_bytes xs (All-tail IsBlock x xs are),
+    ) (omega arith)
 
 -- how many blocks a filter's bytes have
 pub count_of : (p : List Block) (bytes : List ℕ) → AreBlocks p → filter_bytes p ≡ bytes → length bytes / 32 ≡ length p
@@ -149,8 +152,13 @@ byte_read bytes i n k are low = rw (get_or-take n (drop i bytes) k 0 low, get_or
 number_at_fits : (bytes : List ℕ) (i : ℕ) → AreBytes bytes → number_at bytes i < 2 ^ 32
 unfolding number_at
 number_at_fits bytes i are =
-    omega (arith, byte_read bytes i 4 0 are (omega arith), byte_read bytes i 4 1 are (omega arith),
-    byte_read bytes i 4 2 are (omega arith), byte_read bytes i 4 3 are (omega arith))
+    omega (
+      arith,
+      byte_read bytes i 4 0 are (omega arith),
+      byte_read bytes i 4 1 are (omega arith),
+      byte_read bytes i 4 2 are (omega arith),
+      byte_read bytes i 4 3 are (omega arith),
+    )
 
 pub IsBlock-block_at : (bytes : List ℕ) (i : ℕ) → AreBytes bytes → IsBlock (block_at bytes i)
 unfolding block_at
@@ -191,5 +199,7 @@ pub all_read : (bytes : List ℕ) (count : ℕ) (blocks : List Block) → length
 all_read bytes count blocks e read = read.spell ∙ ap (λ n. take n bytes) (sym e) ∙ take-length bytes
 
 pub ruleset block_rules = (append_assoc, flat_map_step)
+
 pub ruleset filter_rules = (append_assoc, flat_map_step)
+
 pub ruleset blocks_rules = (all_read)

@@ -52,12 +52,13 @@ drop_unsupported t values i v low is = rw (drop_more values i v low, ← is) ref
 
 pub drop_inserted : (hash : List ℕ → ℕ) (t : Ty) (blocks : List Block) (values : List Value) (i : ℕ) (v : Value) → i < length values → v ≡ get_or values i v
     → all_inserted blocks (value_hashes hash t (map val (drop i values)))
-        ≡ all_inserted (all_inserted blocks (value_hashes hash t (val v ∷ []))) (value_hashes hash t (map val (drop (i + 1) values)))
+    ≡ all_inserted (all_inserted blocks (value_hashes hash t (val v ∷ []))) (value_hashes hash t (map val (drop (i + 1) values)))
 drop_inserted hash t blocks values i v low is =
     rw (drop_more values i v low, ← is)
     (all_inserted-append blocks (option_to_list (value_hash hash t (val v))) (value_hashes hash t (map val (drop (i + 1) values)))
     ∙ ap (λ (xs : List ℕ). all_inserted (all_inserted blocks xs) (value_hashes hash t (map val (drop (i + 1) values))))
-        (sym (append-nil (option_to_list (value_hash hash t (val v))))))
+    (sym (append-nil (option_to_list (value_hash hash t (val v))))))
 
 pub ruleset value_rules = (unsupported_none, all_inserted_of)
+
 pub ruleset accumulate_rules = (drop_unsupported, drop_inserted, all_inserted_of)

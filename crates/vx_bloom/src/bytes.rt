@@ -24,11 +24,7 @@ pub(crate) fn number_at(bytes: &[u8], at: usize) -> u32
     u32::from_le_bytes([bytes[at], bytes[at + 1], bytes[at + 2], bytes[at + 3]])
 }
 
-#[tactic(
-    auto,
-    using(crate::proofs::ReadBack::block_rules),
-    unfolding(crate::specs::Bytes::block_bytes)
-)]
+#[tactic(auto, using(crate::proofs::ReadBack::block_rules), unfolding(crate::specs::Bytes::block_bytes))]
 pub(crate) fn push_block(out: &mut Vec<u8>, block: &Block) -> Result<(), AllocError>
     ensures { OnOk result (out.new.items ≡ out.old.items ++ block_bytes block.now) }
 {
@@ -56,15 +52,8 @@ pub(crate) fn block_at(bytes: &[u8], at: usize) -> Block
 }
 
 // The blocks that the bytes spell.
-#[tactic(
-    auto,
-    using(crate::proofs::ReadBack::blocks_rules)
-)]
-pub(crate) fn blocks_at(
-    alloc: Global,
-    bytes: &[u8],
-    count: usize,
-) -> Result<Vec<Block>, AllocError>
+#[tactic(auto, using(crate::proofs::ReadBack::blocks_rules))]
+pub(crate) fn blocks_at(alloc: Global, bytes: &[u8], count: usize) -> Result<Vec<Block>, AllocError>
     requires { length bytes.now ≡ 32 * count }
     ensures bytes { IfOk result (λ v. filter_bytes v.items ≡ bytes.now) }
     ensures blocks { IfOk result (λ v. AreBlocks v.items) }

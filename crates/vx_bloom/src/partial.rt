@@ -151,11 +151,7 @@ impl<H: ByteHash> BloomPartial<H> {
     }
 
     /// The lanes, block after block, each as four bytes, low byte first.
-    #[tactic(
-        auto,
-        using(crate::proofs::ReadBack::filter_rules),
-        unfolding(crate::specs::Bytes::filter_bytes)
-    )]
+    #[tactic(auto, using(crate::proofs::ReadBack::filter_rules), unfolding(crate::specs::Bytes::filter_bytes))]
     pub fn serialize(&self, alloc: Global) -> Result<Vec<u8>, AllocError>
         ensures { IfOk result (λ v. v.items ≡ filter_bytes self.now) }
     {
@@ -201,4 +197,10 @@ impl<H: ByteHash> PartialEq for BloomPartial<H> {
     {
         self.blocks == other.blocks
     }
+}
+
+impl<H: ByteHash> Eq for BloomPartial<H> {
+    ghost use Rattle.std.proofs.lemmas.Cmp.{lists_equiv, nat_list_eq_equiv};
+
+    ghost laws = { lists_equiv nat_list_eq_equiv };
 }

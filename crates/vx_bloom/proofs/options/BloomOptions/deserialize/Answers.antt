@@ -11,7 +11,7 @@ returns-then-bytes-ne8-clause-whole c = λ o low e.
 pub returns-in_default-clause-whole : goal.returns-in_default-clause-whole
 returns-in_default-clause-whole c = λ o low e.
     absurd (c.in_default.ensures.0 (c.number_at-number.ensures
-        ∙ (reads_options c.args.bytes.now o low e).second ∙ hash_number_zero (hash_fn_in o)))
+    ∙ (reads_options c.args.bytes.now o low e).second ∙ hash_number_zero (hash_fn_in o)))
 
 pub returns-in_default-new-clause-whole : goal.returns-in_default-new-clause-whole
 returns-in_default-new-clause-whole c = λ o low e.
