@@ -1,0 +1,6 @@
+pub mod Filters
+pub mod Lanes
+pub mod ReadOptions
+pub mod ValueLaws
+pub mod Places
+pub mod ReadBack
