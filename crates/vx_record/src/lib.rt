@@ -1,0 +1,2 @@
+//! Records of zones, bounds, and what they rule out.
+#![tactic(auto)]
