@@ -5,6 +5,7 @@ pub mod FlatLaws
 pub mod ChunkedLaws
 pub mod GroupLaws
 pub mod ColumnLaws
+pub mod ZonedLaws
 pub mod Numbering
 pub mod Fronts
 pub mod SourceLaws

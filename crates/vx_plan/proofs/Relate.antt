@@ -5,11 +5,12 @@ use Rattle.std.proofs.lemmas.Bool.{cases_Bool}
 use Rattle.vx_model.specs.Ty.{Ty, Tys, boolean, primitive, utf8, binary, list, struct, extension, no_fields, field}
 use Rattle.vx_rules.specs.Columns.{offset_type}
 use Rattle.vx_plan.specs.PlanData.{Setting, Node}
-use Rattle.vx_plan.specs.Way.{Way, Ways, Wraps, FlatOptions, Grouping, flat, chunked, grouped, compressed, structured, listed, tabled, no_ways, way_at, no_wraps, wrap_grouped}
+use Rattle.vx_plan.specs.Way.{Way, Ways, Wraps, FlatOptions, ZonedOptions, Grouping, flat, chunked, grouped, compressed, zoned, structured, listed, tabled, no_ways, way_at, no_wraps, wrap_grouped, wrap_zoned}
 use Rattle.vx_plan.specs.Walk.{Nodes, Named, Around, same_names, find, duplicate, chosen, field_nodes, of_struct, of_list, in_lists, of_table, of_tables, walk, walk_named, walk_wraps}
 use Rattle.vx_plan.specs.FlatNode.{flat_node}
 use Rattle.vx_plan.specs.ChunkedNode.{chunked_node}
 use Rattle.vx_plan.specs.GroupNode.{grouped_node, compressed_node}
+use Rattle.vx_plan.specs.ZonedNode.{zoned_node}
 use Rattle.vx_plan.specs.ColumnNodes.{not_struct_node, struct_node, list_node}
 use Rattle.vx_plan.specs.SourcePlan.{plan, plan_nodes}
 
@@ -26,6 +27,7 @@ module _ (A B : Type 0) (a : Nodes A) (b : Nodes B) (P : Ty → A → B → Type
     pub at_chunked : (t : Ty) (k : A) (l : B) → P t k l → P t (a.on_chunked t k) (b.on_chunked t l)
     pub at_grouped : (g : Grouping) (t : Ty) (k : A) (l : B) → P t k l → P t (a.on_grouped g t k) (b.on_grouped g t l)
     pub at_compressed : (which room : ℕ) (t : Ty) (k : A) (l : B) → P t k l → P t (a.on_compressed which room t k) (b.on_compressed which room t l)
+    pub at_zoned : (o : ZonedOptions) (t : Ty) (k : A) (l : B) (f : Ty → A) (g : Ty → B) → P t k l → ((u : Ty) → P u (f u) (g u)) → P t (a.on_zoned o t k f) (b.on_zoned o t l g)
     pub at_not_struct : (t : Ty) → P t (a.on_not_struct t) (b.on_not_struct t)
     pub at_struct : (fs : Tys) (n : Bool) (dup : Option (List ℕ)) (v : A) (w : B) (ks : List A) (ls : List B)
         → P (boolean false) v w → Both P fs ks ls → P (struct fs n) (a.on_struct fs n dup v ks) (b.on_struct fs n dup w ls)
@@ -128,6 +130,7 @@ module _ (A B : Type 0) (a : Nodes A) (b : Nodes B) (P : Ty → A → B → Type
     relate g (chunked w) t = g.at_chunked t (walk a w t) (walk b w t) (relate g w t)
     relate g (grouped r w) t = g.at_grouped r t (walk a w t) (walk b w t) (relate g w t)
     relate g (compressed which room w) t = g.at_compressed which room t (walk a w t) (walk b w t) (relate g w t)
+    relate g (zoned o w stats) t = g.at_zoned o t (walk a w t) (walk b w t) (walk a stats) (walk b stats) (relate g w t) (relate g stats)
     relate g (structured v d ws) t = struct_alike g (walk a v) (walk b v) (walk a d) (walk b d) (walk_named a ws) (walk_named b ws) (relate g v) (relate g d) (relate_named g ws) t
     relate g (listed e o v f) t = list_alike g (walk a e) (walk a o) (walk a v) (walk a f) (walk b e) (walk b o) (walk b v) (walk b f) (relate g e) (relate g o) (relate g v) (relate g f) t
     relate g (tabled v l ws lists wraps) t =
@@ -141,6 +144,8 @@ module _ (A B : Type 0) (a : Nodes A) (b : Nodes B) (P : Ty → A → B → Type
     relate_wraps : Agree → (ws : Wraps) (t : Ty) (k : A) (l : B) → P t k l → P t (walk_wraps a ws t k) (walk_wraps b ws t l)
     relate_wraps g no_wraps t k l p = p
     relate_wraps g (wrap_grouped r ws) t k l p = g.at_grouped r t (walk_wraps a ws t k) (walk_wraps b ws t l) (relate_wraps g ws t k l p)
+    relate_wraps g (wrap_zoned o stats ws) t k l p =
+        g.at_zoned o t (walk_wraps a ws t k) (walk_wraps b ws t l) (walk a stats) (walk b stats) (relate_wraps g ws t k l p) (relate g stats)
 
 -- each field's node
 abbrev pub Fields : (Ty → Node → Type 0) → Tys → List Node → Type 0
@@ -156,6 +161,7 @@ module _ (s : Setting) (P : Ty → Node → Type 0) where
     pub chunked_case : (t : Ty) (k : Node) → P t k → P t (chunked_node t k)
     pub grouped_case : (g : Grouping) (t : Ty) (k : Node) → P t k → P t (grouped_node g t k)
     pub compressed_case : (which room : ℕ) (t : Ty) (k : Node) → P t k → P t (compressed_node s which room t k)
+    pub zoned_case : (o : ZonedOptions) (t : Ty) (k : Node) (f : Ty → Node) → P t k → ((u : Ty) → P u (f u)) → P t (zoned_node s o t k f)
     pub not_struct_case : (t : Ty) → P t (not_struct_node t)
     pub struct_case : (fs : Tys) (n : Bool) (dup : Option (List ℕ)) (v : Node) (ks : List Node) → P (boolean false) v → Fields P fs ks → P (struct fs n) (struct_node fs n dup v ks)
     pub list_case : (t : Ty) (n : Bool) (e o v : Node) → P t e → P offset_type o → P (boolean false) v → P (list t n) (list_node t n e o v)
@@ -166,6 +172,7 @@ module _ (s : Setting) (P : Ty → Node → Type 0) where
     on_chunked = λ t k. tt;
     on_grouped = λ g t k. tt;
     on_compressed = λ which room t k. tt;
+    on_zoned = λ o t k f. tt;
     on_not_struct = λ t. tt;
     on_struct = λ fs n dup v ks. tt;
     on_list = λ t n e o v. tt
@@ -185,6 +192,7 @@ module _ (s : Setting) (P : Ty → Node → Type 0) where
     at_chunked = λ t k l h. c.chunked_case t k h;
     at_grouped = λ g t k l h. c.grouped_case g t k h;
     at_compressed = λ which room t k l h. c.compressed_case which room t k h;
+    at_zoned = λ o t k l f g h hs. c.zoned_case o t k f h hs;
     at_not_struct = λ t. c.not_struct_case t;
     at_struct = λ fs n dup v w ks ls h hs. c.struct_case fs n dup v ks h (one_side fs ks ls hs);
     at_list = λ t n e o v f p w x y z. c.list_case t n e o v x y z

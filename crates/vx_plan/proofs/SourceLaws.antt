@@ -24,6 +24,7 @@ use Rattle.vx_plan.proofs.Spots.{Apart, Lies}
 use Rattle.vx_plan.proofs.FlatLaws.{Reads, Placed, Grows, Typed, flat_reads, flat_placed, flat_grows, flat_typed}
 use Rattle.vx_plan.proofs.ChunkedLaws.{chunked_reads, chunked_placed, chunked_grows, chunked_typed}
 use Rattle.vx_plan.proofs.GroupLaws.{grouped_reads, grouped_placed, grouped_grows, grouped_typed, compressed_reads, compressed_placed, compressed_grows, compressed_typed}
+use Rattle.vx_plan.proofs.ZonedLaws.{zoned_reads, zoned_placed, zoned_grows, zoned_typed}
 use Rattle.vx_plan.proofs.ColumnLaws.{struct_reads, struct_placed, struct_grows, struct_typed, not_struct_reads, not_struct_placed, not_struct_grows, not_struct_typed, list_reads, list_placed, list_grows, list_typed}
 use Rattle.vx_plan.proofs.Numbering.{numbers_hold}
 use Rattle.vx_plan.proofs.Fronts.{sorted_fronts}
@@ -36,6 +37,7 @@ plan_reads s keeps = induct s (λ t k. Reads s t k) (record {
   chunked_case = λ t k h. chunked_reads s t k h;
   grouped_case = λ g t k h. grouped_reads s g t k h;
   compressed_case = λ which room t k h. compressed_reads s keeps which room t k h;
+  zoned_case = λ o t k f h hs. zoned_reads s o t k f h;
   not_struct_case = λ t. not_struct_reads s t;
   struct_case = λ fs n dup v ks h hs. struct_reads s fs n dup v ks h hs;
   list_case = λ t n e o v x y z. list_reads s t n e o v x y z
@@ -47,6 +49,7 @@ plan_placed s = induct s (λ t k. Placed t k) (record {
   chunked_case = λ t k h. chunked_placed t k h;
   grouped_case = λ g t k h. grouped_placed g t k h;
   compressed_case = λ which room t k h. compressed_placed s which room t k h;
+  zoned_case = λ o t k f h hs. zoned_placed s o t k f h hs;
   not_struct_case = λ t. not_struct_placed t;
   struct_case = λ fs n dup v ks h hs. struct_placed fs n dup v ks h hs;
   list_case = λ t n e o v x y z. list_placed t n e o v x y z
@@ -58,6 +61,7 @@ plan_grows s = induct s (λ t k. Grows t k) (record {
   chunked_case = λ t k h. chunked_grows t k;
   grouped_case = λ g t k h. grouped_grows g t k h;
   compressed_case = λ which room t k h. compressed_grows s which room t k h;
+  zoned_case = λ o t k f h hs. zoned_grows s o t k f h;
   not_struct_case = λ t. not_struct_grows t;
   struct_case = λ fs n dup v ks h hs. struct_grows fs n dup v ks h hs;
   list_case = λ t n e o v x y z. list_grows t n e o v x y z
@@ -69,6 +73,7 @@ plan_typed s = induct s (λ t k. Typed t k) (record {
   chunked_case = λ t k h. chunked_typed t k h;
   grouped_case = λ g t k h. grouped_typed g t k h;
   compressed_case = λ which room t k h. compressed_typed s which room t k h;
+  zoned_case = λ o t k f h hs. zoned_typed s o t k f h;
   not_struct_case = λ t. not_struct_typed t;
   struct_case = λ fs n dup v ks h hs. struct_typed fs n dup v ks;
   list_case = λ t n e o v x y z. list_typed t n e o v

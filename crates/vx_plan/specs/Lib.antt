@@ -5,6 +5,7 @@ pub mod FlatNode
 pub mod ChunkedNode
 pub mod GroupNode
 pub mod ColumnNodes
+pub mod ZonedNode
 pub mod SourcePlan
 pub mod Number
 pub mod Valid

@@ -2,7 +2,7 @@
 use Rattle.std.specs.Prelude.{ℕ, ◌&&◌, bytes_eq, Bool, true, false, if◌then◌else◌, List, [], ◌∷◌, ◌++◌, Option, Some, None}
 use Rattle.vx_model.specs.Ty.{Ty, Tys, boolean, primitive, utf8, binary, list, struct, extension, no_fields, field}
 use Rattle.vx_rules.specs.Columns.{offset_type}
-use Rattle.vx_plan.specs.Way.{Way, Ways, Wraps, FlatOptions, Grouping, flat, chunked, grouped, compressed, structured, listed, tabled, no_ways, way_at, no_wraps, wrap_grouped}
+use Rattle.vx_plan.specs.Way.{Way, Ways, Wraps, FlatOptions, ZonedOptions, Grouping, flat, chunked, grouped, compressed, zoned, structured, listed, tabled, no_ways, way_at, no_wraps, wrap_grouped, wrap_zoned}
 
 -- what is made of each node, from what is made of its children
 pub record Nodes (A : Type 0) : Type 0 where
@@ -10,6 +10,8 @@ pub record Nodes (A : Type 0) : Type 0 where
   pub on_chunked : Ty → A → A
   pub on_grouped : Grouping → Ty → A → A
   pub on_compressed : ℕ → ℕ → Ty → A → A
+  -- the table at any type
+  pub on_zoned : ZonedOptions → Ty → A → (Ty → A) → A
   pub on_not_struct : Ty → A
   -- fields, nullable, the first repeated name, validity, each field
   pub on_struct : Tys → Bool → Option (List ℕ) → A → List A → A
@@ -96,6 +98,7 @@ abbrev mutual
   walk on (chunked w) t = on.on_chunked t (walk on w t)
   walk on (grouped g w) t = on.on_grouped g t (walk on w t)
   walk on (compressed which room w) t = on.on_compressed which room t (walk on w t)
+  walk on (zoned o w stats) t = on.on_zoned o t (walk on w t) (walk on stats)
   walk on (structured v d ws) t = of_struct on (walk on v) (walk on d) (walk_named on ws) t
   walk on (listed e o v f) t = of_list on (walk on e) (walk on o) (walk on v) (walk on f) t
   walk on (tabled v l ws lists wraps) t = of_table on (walk on v) (walk on l) (if lists then Some (walk_wraps on wraps) else None) (walk_named on ws) [] t
@@ -107,3 +110,4 @@ abbrev mutual
   pub walk_wraps : {A : Type 0} → Nodes A → Wraps → Ty → A → A
   walk_wraps on no_wraps t k = k
   walk_wraps on (wrap_grouped g ws) t k = on.on_grouped g t (walk_wraps on ws t k)
+  walk_wraps on (wrap_zoned o stats ws) t k = on.on_zoned o t (walk_wraps on ws t k) (walk on stats)

@@ -1,5 +1,6 @@
 -- Strategies, as contracts see them.
 use Rattle.std.specs.Prelude.{ℕ, Bool, List, Option, Some, None}
+use Rattle.vx_record.specs.Aggregate.{Aggregate}
 use Rattle.vx_rules.specs.Blocks.{BlockOptions}
 
 pub record FlatOptions : Type 0 where
@@ -15,6 +16,13 @@ pub data Grouping : Type 0 where
   -- into one chunk
   into_one : Grouping
 
+pub record ZonedOptions : Type 0 where
+  -- rows of a zone
+  pub zone_len : ℕ
+  -- None: those that are recorded where nothing else is asked for
+  pub aggregates : Option (List Aggregate)
+  pub concurrency : ℕ
+
 mutual
   pub data Way : Type 0 where
     flat : FlatOptions → Way
@@ -22,6 +30,8 @@ mutual
     grouped : Grouping → Way → Way
     -- the compressor's number, and how many chunks may wait behind it
     compressed : ℕ → ℕ → Way → Way
+    -- child, table
+    zoned : ZonedOptions → Way → Way → Way
     -- validity, default, fields by a path of one name
     structured : Way → Way → Ways → Way
     -- elements, offsets, validity, what another type goes to
@@ -38,6 +48,8 @@ mutual
   pub data Wraps : Type 0 where
     no_wraps : Wraps
     wrap_grouped : Grouping → Wraps → Wraps
+    -- with the strategy of its table
+    wrap_zoned : ZonedOptions → Way → Wraps → Wraps
 
 -- the flat strategy that a chunk alone ends at, where only chunking stands above it
 abbrev pub leaf : Way → Option FlatOptions
