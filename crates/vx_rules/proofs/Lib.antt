@@ -4,3 +4,5 @@ pub mod BlockLaws
 pub mod FlushLaws
 pub mod ColumnCells
 pub mod ColumnStreams
+pub mod RunLaws
+pub mod RunStreams

@@ -3,3 +3,4 @@ pub mod Regroup
 pub mod Blocks
 pub mod Flushes
 pub mod Columns
+pub mod Runs
