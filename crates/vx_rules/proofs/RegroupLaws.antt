@@ -123,12 +123,12 @@ ranked_begins p r cs x h =
     let w : (k : ℕ) × (r ≤ k) × (x ≡ under p k) = ranked_path p r cs x h in
     subst (λ z. begins p z ≡ true) (sym w.2) (begins-under p w.0)
 
-scattered_both : (ps qs : List (List ℕ)) → Scattered ps → Scattered qs → ((p q : List ℕ) → In p ps → In q qs → meets p q ≡ false) → Scattered (ps ++ qs)
+pub scattered_both : (ps qs : List (List ℕ)) → Scattered ps → Scattered qs → ((p q : List ℕ) → In p ps → In q qs → meets p q ≡ false) → Scattered (ps ++ qs)
 scattered_both [] qs f g h = g
 scattered_both (p ∷ ps) qs f g h =
     (λ q i. ⊎_elim (λ l. f.0 q l) (λ r. h p q (inl refl) r) (in_cases q ps qs i), scattered_both ps qs f.1 g (λ a b i j. h a b (inr i) j))
 
-apart_both : (p q x y : List ℕ) → meets p q ≡ false → begins p x ≡ true → begins q y ≡ true → meets x y ≡ false
+pub apart_both : (p q x y : List ℕ) → meets p q ≡ false → begins p x ≡ true → begins q y ≡ true → meets x y ≡ false
 apart_both p q x y m b c = meets-sym x y ∙ apart_begins q x y (meets-sym q x ∙ apart_begins p q x m b) c
 
 -- paths below p, then paths onto others

@@ -80,7 +80,7 @@ pub record Extends (ds es : List Tree) : Type 0 where
   pub more : List Tree
   pub same : es ≡ ds ++ more
 
-extends_self : (ds : List Tree) → Extends ds ds
+pub extends_self : (ds : List Tree) → Extends ds ds
 extends_self ds = record { more = []; same = sym (append-nil ds) }
 
 extends_further : (ds es fs : List Tree) → Extends ds es → Extends es fs → Extends ds fs
