@@ -69,14 +69,14 @@ grouped_reads s g t k r = record { reads = go }
 
 -- ---- paths
 
-apart_onto : (ps qs : List (List ℕ)) (e : Eof) → Onto ps qs → Apart qs e → Apart ps e
+pub apart_onto : (ps qs : List (List ℕ)) (e : Eof) → Onto ps qs → Apart qs e → Apart ps e
 apart_onto ps qs e o a = record {
   scattered = o.scattered a.scattered;
   off = λ p i j. let w : (q : List ℕ) × In q qs × (begins q p ≡ true) = o.from p i in
       apart_both w.0 (raised e j) p (raised e j) (a.off w.0 w.1 j) w.2 (begins-refl (raised e j))
 }
 
-lies_onto : (ps qs : List (List ℕ)) (e : Eof) (xs : List (List ℕ)) → Onto ps qs → Lies (Region ps e) xs → Lies (Region qs e) xs
+pub lies_onto : (ps qs : List (List ℕ)) (e : Eof) (xs : List (List ℕ)) → Onto ps qs → Lies (Region ps e) xs → Lies (Region qs e) xs
 lies_onto ps qs e xs o l = record { scattered = l.scattered; within = λ x i. region_from ps qs e x o.from (l.within x i) }
 
 pub grouped_placed : (g : Grouping) (t : Ty) (k : Node) → Placed t k → Placed t (grouped_node g t k)

@@ -6,6 +6,7 @@ pub mod ChunkedLaws
 pub mod GroupLaws
 pub mod ColumnLaws
 pub mod ZonedLaws
+pub mod DictLaws
 pub mod Numbering
 pub mod Fronts
 pub mod SourceLaws

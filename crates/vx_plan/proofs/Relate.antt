@@ -3,13 +3,16 @@ use Rattle.std.proofs.Common.{◌≡◌, ℕ, ◌⊎◌, Bool, true, false, List
 use Rattle.std.specs.Prelude.{if◌then◌else◌}
 use Rattle.std.proofs.lemmas.Bool.{cases_Bool}
 use Rattle.vx_model.specs.Ty.{Ty, Tys, boolean, primitive, utf8, binary, list, struct, extension, no_fields, field}
+use Rattle.vx_model.specs.Piece.{is_dict_type}
 use Rattle.vx_rules.specs.Columns.{offset_type}
+use Rattle.vx_rules.specs.Runs.{DictOptions, code_type}
 use Rattle.vx_plan.specs.PlanData.{Setting, Node}
-use Rattle.vx_plan.specs.Way.{Way, Ways, Wraps, FlatOptions, ZonedOptions, Grouping, flat, chunked, grouped, compressed, zoned, structured, listed, tabled, no_ways, way_at, no_wraps, wrap_grouped, wrap_zoned}
-use Rattle.vx_plan.specs.Walk.{Nodes, Named, Around, same_names, find, duplicate, chosen, field_nodes, of_struct, of_list, in_lists, of_table, of_tables, walk, walk_named, walk_wraps}
+use Rattle.vx_plan.specs.Way.{Way, Ways, Wraps, FlatOptions, ZonedOptions, Grouping, flat, chunked, grouped, compressed, coded, zoned, structured, listed, tabled, no_ways, way_at, no_wraps, wrap_grouped, wrap_zoned}
+use Rattle.vx_plan.specs.Walk.{Nodes, Named, Around, same_names, find, duplicate, chosen, field_nodes, of_struct, of_list, of_dict, in_lists, of_table, of_tables, walk, walk_named, walk_wraps}
 use Rattle.vx_plan.specs.FlatNode.{flat_node}
 use Rattle.vx_plan.specs.ChunkedNode.{chunked_node}
 use Rattle.vx_plan.specs.GroupNode.{grouped_node, compressed_node}
+use Rattle.vx_plan.specs.DictNode.{dict_node}
 use Rattle.vx_plan.specs.ZonedNode.{zoned_node}
 use Rattle.vx_plan.specs.ColumnNodes.{not_struct_node, struct_node, list_node}
 use Rattle.vx_plan.specs.SourcePlan.{plan, plan_nodes}
@@ -27,6 +30,8 @@ module _ (A B : Type 0) (a : Nodes A) (b : Nodes B) (P : Ty → A → B → Type
     pub at_chunked : (t : Ty) (k : A) (l : B) → P t k l → P t (a.on_chunked t k) (b.on_chunked t l)
     pub at_grouped : (g : Grouping) (t : Ty) (k : A) (l : B) → P t k l → P t (a.on_grouped g t k) (b.on_grouped g t l)
     pub at_compressed : (which room : ℕ) (t : Ty) (k : A) (l : B) → P t k l → P t (a.on_compressed which room t k) (b.on_compressed which room t l)
+    pub at_dict : (o : DictOptions) (t : Ty) → is_dict_type t ≡ true → (c v f : A) (d w g : B) → P (code_type o) c d → P t v w → P t f g
+        → P t (a.on_dict o t c v f) (b.on_dict o t d w g)
     pub at_zoned : (o : ZonedOptions) (t : Ty) (k : A) (l : B) (f : Ty → A) (g : Ty → B) → P t k l → ((u : Ty) → P u (f u) (g u)) → P t (a.on_zoned o t k f) (b.on_zoned o t l g)
     pub at_not_struct : (t : Ty) → P t (a.on_not_struct t) (b.on_not_struct t)
     pub at_struct : (fs : Tys) (n : Bool) (dup : Option (List ℕ)) (v : A) (w : B) (ks : List A) (ls : List B)
@@ -82,6 +87,13 @@ module _ (A B : Type 0) (a : Nodes A) (b : Nodes B) (P : Ty → A → B → Type
   list_alike g e o v f e' o' v' f' x y z w (struct fs n) = w (struct fs n)
   list_alike g e o v f e' o' v' f' x y z w (extension tag t) = w (extension tag t)
 
+  dict_alike : Agree → (o : DictOptions) (c v f : Ty → A) (d w h : Ty → B) → Alike c d → Alike v w → Alike f h → (t : Ty) → P t (of_dict a o c v f t) (of_dict b o d w h t)
+  dict_alike g o c v f d w h x y z t = go (is_dict_type t) refl
+    where
+      go : (is : Bool) → is_dict_type t ≡ is → P t (if is then a.on_dict o t (c (code_type o)) (v t) (f t) else f t) (if is then b.on_dict o t (d (code_type o)) (w t) (h t) else h t)
+      go true e = g.at_dict o t e (c (code_type o)) (v t) (f t) (d (code_type o)) (w t) (h t) (x (code_type o)) (y t) (z t)
+      go false e = z t
+
   abbrev pub AroundAlike : Around A → Around B → Type 0
   AroundAlike None None = Unit {0}
   AroundAlike (Some f) (Some g) = (t : Ty) (k : A) (l : B) → P t k l → P t (f t k) (g t l)
@@ -130,6 +142,7 @@ module _ (A B : Type 0) (a : Nodes A) (b : Nodes B) (P : Ty → A → B → Type
     relate g (chunked w) t = g.at_chunked t (walk a w t) (walk b w t) (relate g w t)
     relate g (grouped r w) t = g.at_grouped r t (walk a w t) (walk b w t) (relate g w t)
     relate g (compressed which room w) t = g.at_compressed which room t (walk a w t) (walk b w t) (relate g w t)
+    relate g (coded o c v f) t = dict_alike g o (walk a c) (walk a v) (walk a f) (walk b c) (walk b v) (walk b f) (relate g c) (relate g v) (relate g f) t
     relate g (zoned o w stats) t = g.at_zoned o t (walk a w t) (walk b w t) (walk a stats) (walk b stats) (relate g w t) (relate g stats)
     relate g (structured v d ws) t = struct_alike g (walk a v) (walk b v) (walk a d) (walk b d) (walk_named a ws) (walk_named b ws) (relate g v) (relate g d) (relate_named g ws) t
     relate g (listed e o v f) t = list_alike g (walk a e) (walk a o) (walk a v) (walk a f) (walk b e) (walk b o) (walk b v) (walk b f) (relate g e) (relate g o) (relate g v) (relate g f) t
@@ -161,6 +174,7 @@ module _ (s : Setting) (P : Ty → Node → Type 0) where
     pub chunked_case : (t : Ty) (k : Node) → P t k → P t (chunked_node t k)
     pub grouped_case : (g : Grouping) (t : Ty) (k : Node) → P t k → P t (grouped_node g t k)
     pub compressed_case : (which room : ℕ) (t : Ty) (k : Node) → P t k → P t (compressed_node s which room t k)
+    pub dict_case : (o : DictOptions) (t : Ty) → is_dict_type t ≡ true → (c v f : Node) → P (code_type o) c → P t v → P t f → P t (dict_node s o t c v f)
     pub zoned_case : (o : ZonedOptions) (t : Ty) (k : Node) (f : Ty → Node) → P t k → ((u : Ty) → P u (f u)) → P t (zoned_node s o t k f)
     pub not_struct_case : (t : Ty) → P t (not_struct_node t)
     pub struct_case : (fs : Tys) (n : Bool) (dup : Option (List ℕ)) (v : Node) (ks : List Node) → P (boolean false) v → Fields P fs ks → P (struct fs n) (struct_node fs n dup v ks)
@@ -172,6 +186,7 @@ module _ (s : Setting) (P : Ty → Node → Type 0) where
     on_chunked = λ t k. tt;
     on_grouped = λ g t k. tt;
     on_compressed = λ which room t k. tt;
+    on_dict = λ o t c v f. tt;
     on_zoned = λ o t k f. tt;
     on_not_struct = λ t. tt;
     on_struct = λ fs n dup v ks. tt;
@@ -187,13 +202,14 @@ module _ (s : Setting) (P : Ty → Node → Type 0) where
   one_side (field name t fs) (k ∷ ks) (u ∷ us) h = (h.0, one_side fs ks us h.1)
 
   pub induct : Cases → (w : Way) (t : Ty) → P t (plan s w t)
-  induct c = relate Node (Unit {0}) (plan_nodes s) unit_nodes (λ t k u. P t k) (record {
-    at_flat = λ o t. c.flat_case o t;
-    at_chunked = λ t k l h. c.chunked_case t k h;
-    at_grouped = λ g t k l h. c.grouped_case g t k h;
-    at_compressed = λ which room t k l h. c.compressed_case which room t k h;
-    at_zoned = λ o t k l f g h hs. c.zoned_case o t k f h hs;
-    at_not_struct = λ t. c.not_struct_case t;
-    at_struct = λ fs n dup v w ks ls h hs. c.struct_case fs n dup v ks h (one_side fs ks ls hs);
-    at_list = λ t n e o v f p w x y z. c.list_case t n e o v x y z
+  induct cases = relate Node (Unit {0}) (plan_nodes s) unit_nodes (λ t k u. P t k) (record {
+    at_flat = λ o t. cases.flat_case o t;
+    at_chunked = λ t k l h. cases.chunked_case t k h;
+    at_grouped = λ g t k l h. cases.grouped_case g t k h;
+    at_compressed = λ which room t k l h. cases.compressed_case which room t k h;
+    at_dict = λ o t is c v f d w g x y z. cases.dict_case o t is c v f x y z;
+    at_zoned = λ o t k l f g h hs. cases.zoned_case o t k f h hs;
+    at_not_struct = λ t. cases.not_struct_case t;
+    at_struct = λ fs n dup v w ks ls h hs. cases.struct_case fs n dup v ks h (one_side fs ks ls hs);
+    at_list = λ t n e o v f p w x y z. cases.list_case t n e o v x y z
   })

@@ -24,6 +24,7 @@ use Rattle.vx_plan.proofs.Spots.{Apart, Lies}
 use Rattle.vx_plan.proofs.FlatLaws.{Reads, Placed, Grows, Typed, flat_reads, flat_placed, flat_grows, flat_typed}
 use Rattle.vx_plan.proofs.ChunkedLaws.{chunked_reads, chunked_placed, chunked_grows, chunked_typed}
 use Rattle.vx_plan.proofs.GroupLaws.{grouped_reads, grouped_placed, grouped_grows, grouped_typed, compressed_reads, compressed_placed, compressed_grows, compressed_typed}
+use Rattle.vx_plan.proofs.DictLaws.{dict_reads, dict_placed, dict_grows, dict_typed}
 use Rattle.vx_plan.proofs.ZonedLaws.{zoned_reads, zoned_placed, zoned_grows, zoned_typed}
 use Rattle.vx_plan.proofs.ColumnLaws.{struct_reads, struct_placed, struct_grows, struct_typed, not_struct_reads, not_struct_placed, not_struct_grows, not_struct_typed, list_reads, list_placed, list_grows, list_typed}
 use Rattle.vx_plan.proofs.Numbering.{numbers_hold}
@@ -37,6 +38,7 @@ plan_reads s keeps = induct s (λ t k. Reads s t k) (record {
   chunked_case = λ t k h. chunked_reads s t k h;
   grouped_case = λ g t k h. grouped_reads s g t k h;
   compressed_case = λ which room t k h. compressed_reads s keeps which room t k h;
+  dict_case = λ o t is c v f x y z. dict_reads s o t is c v f x y z;
   zoned_case = λ o t k f h hs. zoned_reads s o t k f h;
   not_struct_case = λ t. not_struct_reads s t;
   struct_case = λ fs n dup v ks h hs. struct_reads s fs n dup v ks h hs;
@@ -49,6 +51,7 @@ plan_placed s = induct s (λ t k. Placed t k) (record {
   chunked_case = λ t k h. chunked_placed t k h;
   grouped_case = λ g t k h. grouped_placed g t k h;
   compressed_case = λ which room t k h. compressed_placed s which room t k h;
+  dict_case = λ o t is c v f x y z. dict_placed s o t c v f x y z;
   zoned_case = λ o t k f h hs. zoned_placed s o t k f h hs;
   not_struct_case = λ t. not_struct_placed t;
   struct_case = λ fs n dup v ks h hs. struct_placed fs n dup v ks h hs;
@@ -61,6 +64,7 @@ plan_grows s = induct s (λ t k. Grows t k) (record {
   chunked_case = λ t k h. chunked_grows t k;
   grouped_case = λ g t k h. grouped_grows g t k h;
   compressed_case = λ which room t k h. compressed_grows s which room t k h;
+  dict_case = λ o t is c v f x y z. dict_grows s o t c v f x y z;
   zoned_case = λ o t k f h hs. zoned_grows s o t k f h;
   not_struct_case = λ t. not_struct_grows t;
   struct_case = λ fs n dup v ks h hs. struct_grows fs n dup v ks h hs;
@@ -73,6 +77,7 @@ plan_typed s = induct s (λ t k. Typed t k) (record {
   chunked_case = λ t k h. chunked_typed t k h;
   grouped_case = λ g t k h. grouped_typed g t k h;
   compressed_case = λ which room t k h. compressed_typed s which room t k h;
+  dict_case = λ o t is c v f x y z. dict_typed s o t c v f z;
   zoned_case = λ o t k f h hs. zoned_typed s o t k f h;
   not_struct_case = λ t. not_struct_typed t;
   struct_case = λ fs n dup v ks h hs. struct_typed fs n dup v ks;

@@ -16,7 +16,7 @@ use Rattle.vx_record.specs.ZoneTable.{Filled, table_type}
 use Rattle.vx_plan.specs.PlanData.{Setting, Item, Pair, Plan, Node, Fault, paths, places, stream_values, row_total}
 use Rattle.vx_plan.specs.GroupNode.{with_numbers}
 use Rattle.vx_plan.specs.Way.{ZonedOptions}
-use Rattle.vx_plan.specs.ZonedNode.{recorded, forbidden_faults, is_cut_wrong, is_last, cut_faults, zone_faults, with_faults, table_items, both_plans, with_table, table_of, unmarked_node, zoned_node}
+use Rattle.vx_plan.specs.ZonedNode.{recorded, forbidden_faults, is_cut_wrong, is_last, cut_faults, zone_faults, with_faults, table_items, with_table, table_of, unmarked_node, zoned_node}
 use Rattle.vx_plan.specs.Valid.{Fit}
 use Rattle.vx_plan.specs.Statements.{Within}
 use Rattle.vx_plan.proofs.PlanLists.{ItemsOf, Holds, counted_same, nil_left, nil_right, nil_both, fit_left, fit_right, fit_both, holds_left, holds_right, row_total-append, length-stream_values}

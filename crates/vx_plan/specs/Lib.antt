@@ -6,6 +6,7 @@ pub mod ChunkedNode
 pub mod GroupNode
 pub mod ColumnNodes
 pub mod ZonedNode
+pub mod DictNode
 pub mod SourcePlan
 pub mod Number
 pub mod Valid

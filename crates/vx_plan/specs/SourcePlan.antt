@@ -10,6 +10,7 @@ use Rattle.vx_plan.specs.Walk.{Nodes, walk}
 use Rattle.vx_plan.specs.FlatNode.{flat_node}
 use Rattle.vx_plan.specs.ChunkedNode.{chunked_node}
 use Rattle.vx_plan.specs.GroupNode.{grouped_node, compressed_node}
+use Rattle.vx_plan.specs.DictNode.{dict_node}
 use Rattle.vx_plan.specs.ZonedNode.{zoned_node}
 use Rattle.vx_plan.specs.ColumnNodes.{not_struct_node, struct_node, list_node}
 
@@ -19,6 +20,7 @@ plan_nodes s = record {
   on_chunked = chunked_node;
   on_grouped = grouped_node;
   on_compressed = compressed_node s;
+  on_dict = dict_node s;
   on_zoned = zoned_node s;
   on_not_struct = not_struct_node;
   on_struct = struct_node;

@@ -1,8 +1,10 @@
 -- One walk over a strategy and a type, for all that is read off them.
 use Rattle.std.specs.Prelude.{ℕ, ◌&&◌, bytes_eq, Bool, true, false, if◌then◌else◌, List, [], ◌∷◌, ◌++◌, Option, Some, None}
 use Rattle.vx_model.specs.Ty.{Ty, Tys, boolean, primitive, utf8, binary, list, struct, extension, no_fields, field}
+use Rattle.vx_model.specs.Piece.{is_dict_type}
 use Rattle.vx_rules.specs.Columns.{offset_type}
-use Rattle.vx_plan.specs.Way.{Way, Ways, Wraps, FlatOptions, ZonedOptions, Grouping, flat, chunked, grouped, compressed, zoned, structured, listed, tabled, no_ways, way_at, no_wraps, wrap_grouped, wrap_zoned}
+use Rattle.vx_rules.specs.Runs.{DictOptions, code_type}
+use Rattle.vx_plan.specs.Way.{Way, Ways, Wraps, FlatOptions, ZonedOptions, Grouping, flat, chunked, grouped, compressed, coded, zoned, structured, listed, tabled, no_ways, way_at, no_wraps, wrap_grouped, wrap_zoned}
 
 -- what is made of each node, from what is made of its children
 pub record Nodes (A : Type 0) : Type 0 where
@@ -10,6 +12,8 @@ pub record Nodes (A : Type 0) : Type 0 where
   pub on_chunked : Ty → A → A
   pub on_grouped : Grouping → Ty → A → A
   pub on_compressed : ℕ → ℕ → Ty → A → A
+  -- codes, values, fallback
+  pub on_dict : DictOptions → Ty → A → A → A → A
   -- the table at any type
   pub on_zoned : ZonedOptions → Ty → A → (Ty → A) → A
   pub on_not_struct : Ty → A
@@ -63,6 +67,11 @@ abbrev pub of_list : {A : Type 0} → Nodes A → (Ty → A) → (Ty → A) → 
 of_list on e o v f (list t n) = on.on_list t n (e t) (o offset_type) (v (boolean false))
 of_list on e o v f t = f t
 
+-- ---- dictionaries: types that they can't hold go to the fallback
+
+abbrev pub of_dict : {A : Type 0} → Nodes A → DictOptions → (Ty → A) → (Ty → A) → (Ty → A) → Ty → A
+of_dict on o c v f t = if is_dict_type t then on.on_dict o t (c (code_type o)) (v t) (f t) else f t
+
 -- ---- tables
 
 -- what wraps a list, where lists are laid out as lists
@@ -98,6 +107,7 @@ abbrev mutual
   walk on (chunked w) t = on.on_chunked t (walk on w t)
   walk on (grouped g w) t = on.on_grouped g t (walk on w t)
   walk on (compressed which room w) t = on.on_compressed which room t (walk on w t)
+  walk on (coded o c v f) t = of_dict on o (walk on c) (walk on v) (walk on f) t
   walk on (zoned o w stats) t = on.on_zoned o t (walk on w t) (walk on stats)
   walk on (structured v d ws) t = of_struct on (walk on v) (walk on d) (walk_named on ws) t
   walk on (listed e o v f) t = of_list on (walk on e) (walk on o) (walk on v) (walk on f) t

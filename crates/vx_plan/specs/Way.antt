@@ -2,6 +2,7 @@
 use Rattle.std.specs.Prelude.{ℕ, Bool, List, Option, Some, None}
 use Rattle.vx_record.specs.Aggregate.{Aggregate}
 use Rattle.vx_rules.specs.Blocks.{BlockOptions}
+use Rattle.vx_rules.specs.Runs.{DictOptions}
 
 pub record FlatOptions : Type 0 where
   pub padding : Bool
@@ -30,6 +31,8 @@ mutual
     grouped : Grouping → Way → Way
     -- the compressor's number, and how many chunks may wait behind it
     compressed : ℕ → ℕ → Way → Way
+    -- codes, values, what is no dictionary goes to
+    coded : DictOptions → Way → Way → Way → Way
     -- child, table
     zoned : ZonedOptions → Way → Way → Way
     -- validity, default, fields by a path of one name

@@ -10,6 +10,7 @@ use Rattle.vx_record.specs.Record.{zone_record}
 use Rattle.vx_record.specs.ZoneTable.{Filled, kept_columns, table_type, table_specs, table_piece}
 use Rattle.vx_plan.specs.PlanData.{Setting, Item, Plan, Node, Fault, fault, forbidden_aggregate, zone_cut, at_start, at_chunk, row_total}
 use Rattle.vx_plan.specs.GroupNode.{with_numbers}
+use Rattle.vx_plan.specs.ChunkedNode.{both_plans}
 use Rattle.vx_plan.specs.Way.{ZonedOptions}
 
 -- the node's aggregates that the type can hold, in order
@@ -62,9 +63,6 @@ with_faults fs p = record { pairs = p.pairs; faults = fs ++ p.faults; layout = p
 -- the table as one chunk at the first path below e + 1, and e + 2 behind it
 abbrev pub table_items : List Filled → ℕ → Eof → List Item
 table_items cs zones e = (under (raised e 1) 0, table_piece cs zones) ∷ []
-
-abbrev pub both_plans : Lay (List ℕ) → List ℕ → Plan → Plan → Plan
-both_plans l ns p q = record { pairs = p.pairs ++ q.pairs; faults = p.faults ++ q.faults; layout = l; numbers = ns ++ (p.numbers ++ q.numbers); reserved = p.reserved + q.reserved }
 
 abbrev pub with_table : Setting → ZonedOptions → Ty → (Ty → Node) → Bool → List Item → Eof → Plan → Option (List Filled) → Plan
 with_table s o t stats m items e p None = with_numbers (row_total items ∷ (e.last + 1) ∷ []) 0 p
