@@ -12,3 +12,4 @@ pub mod Fronts
 pub mod SourceLaws
 pub mod InOrderLaws
 mod Examples
+mod NodeExamples
