@@ -4,3 +4,4 @@ pub mod Bounds
 pub mod Record
 pub mod ZoneTable
 pub mod Pruning
+pub mod Statements
