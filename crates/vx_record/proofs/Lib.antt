@@ -1,2 +1,3 @@
 mod Examples
 pub mod OrderLaws
+pub mod TextOrder
