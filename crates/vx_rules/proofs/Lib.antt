@@ -6,3 +6,4 @@ pub mod ColumnCells
 pub mod ColumnStreams
 pub mod RunLaws
 pub mod RunStreams
+pub mod RuleLaws

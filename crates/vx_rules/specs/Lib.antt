@@ -4,3 +4,4 @@ pub mod Blocks
 pub mod Flushes
 pub mod Columns
 pub mod Runs
+pub mod Statements
