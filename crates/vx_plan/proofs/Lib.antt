@@ -7,6 +7,7 @@ pub mod GroupLaws
 pub mod ColumnLaws
 pub mod ZonedLaws
 pub mod DictLaws
+pub mod ZoneRecords
 pub mod Numbering
 pub mod Fronts
 pub mod SourceLaws
