@@ -7,6 +7,7 @@ pub mod GroupNode
 pub mod ColumnNodes
 pub mod ZonedNode
 pub mod DictNode
+pub mod Admitted
 pub mod SourcePlan
 pub mod Number
 pub mod Valid
