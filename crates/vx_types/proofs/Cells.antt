@@ -1,6 +1,7 @@
 -- Going through a list of cells.
 use Rattle.std.proofs.Common.{◌≡◌, ℕ, ◌+◌, ◌<◌, ◌&&◌, Bool, true, false, List, ◌++◌, length, get_or, drop, map, refl, append_assoc, rules}
-use Rattle.std.proofs.lemmas.List.{drop_more, append-nil}
+use Rattle.std.proofs.lemmas.List.{drop_more, append-nil, map_push, map_more}
+use Rattle.vx_model.proofs.CellViews.{tree_list, tree_struct}
 use Rattle.std.specs.Prelude.{IsTrue, ℤ}
 use Rattle.vx_model.specs.declared.cell.Cell.{Cell}
 use Rattle.vx_model.specs.declared.cell.Cell as cl
@@ -34,3 +35,4 @@ pub rest_fits : (f : Tree → Bool) (cs : List Cell) (i : ℕ) (c : Cell) → i 
 rest_fits f cs i c lt is h = rest_true (f (tree c)) (all_by f (map tree (drop (i + 1) cs))) (rw (drop_all_by f cs i c lt is) at h)
 
 pub ruleset cell_rules = (append_assoc, append-nil, drop_joined_by, drop_all_by)
+pub ruleset copy_rules = (map_push, map_more, tree_list, tree_struct)

@@ -2,6 +2,7 @@
 #![tactic(auto)]
 
 mod chunk;
+mod copy;
 mod encode;
 
 pub use chunk::Chunk;
