@@ -1,5 +1,5 @@
 ghost use Rattle.std.specs.Prelude.{◌≡◌, ℕ, ◌+◌, Some, map, length, IsTrue};
-ghost use Rattle.std.specs.Vec.IntoIter.{into_iter_items};
+ghost use Rattle.std.specs.Vec.Iter.{into_iter_items};
 ghost use Rattle.vx_model.specs.TyView.{ty};
 ghost use Rattle.vx_types.specs.ChunkView.{piece};
 ghost use Rattle.vx_sink.specs.Fails.{fails_at};
