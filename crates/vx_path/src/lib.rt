@@ -1,0 +1,2 @@
+//! Paths: lists of numbers in lexicographic order, a prefix before its extensions.
+#![tactic(auto)]
