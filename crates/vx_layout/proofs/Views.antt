@@ -4,7 +4,7 @@ use Rattle.std.proofs.lemmas.List.{drop_more, append-nil, length-map, length-dro
 use Rattle.std.proofs.lemmas.Bool.Decides.{nat_tests}
 use Rattle.std.specs.Prelude.{codes}
 use Rattle.vx_model.specs.Words.{total_by}
-use Rattle.vx_model.specs.Ty.{tys_of, Named}
+use Rattle.vx_model.specs.Ty.{tys_of}
 use Rattle.vx_model.specs.TyView.{ty, field_ty}
 use Rattle.vx_model.specs.declared.dtype.StructField.{StructField}
 use Rattle.vx_model.proofs.Views.{view_rules, field_ty_is}

@@ -1,5 +1,5 @@
 -- The text of a layout's tree. Built for flat and chunked layouts so far; other kinds have none.
-use Rattle.std.specs.Prelude.{ℕ, suc, ◌+◌, Bool, true, false, nat_lt, if◌then◌else◌, List, [], ◌∷◌, ◌++◌, length, codes, decimal, Option, Some, None}
+use Rattle.std.specs.Prelude.{ℕ, suc, Bool, true, false, nat_lt, if◌then◌else◌, List, [], ◌∷◌, ◌++◌, codes, decimal}
 use Rattle.vx_model.specs.Ty.{Ty}
 use Rattle.vx_tree.specs.LayoutTree.{Kind, flat_kind, chunked_kind, struct_kind, list_kind, dict_kind, zoned_kind, stats_kind, foreign_kind, Lay, Lays, layout, no_layouts, child}
 use Rattle.vx_layout.specs.Shown.{type_text}

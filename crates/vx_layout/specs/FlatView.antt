@@ -1,5 +1,5 @@
 -- A flat layout as contracts see it.
-use Rattle.std.specs.Prelude.{ℕ, option_map}
+use Rattle.std.specs.Prelude.{ℕ}
 use Rattle.vx_model.specs.TyView.{ty}
 use Rattle.vx_tree.specs.LayoutTree.{Lay, flat_layout}
 use Rattle.vx_layout.specs.declared.flat.FlatLayout.{FlatLayout}

@@ -1,5 +1,5 @@
 -- A layout as contracts see it.
-use Rattle.std.specs.Prelude.{ℕ, List, map}
+use Rattle.std.specs.Prelude.{ℕ}
 use Rattle.vx_model.specs.TyView.{ty}
 use Rattle.vx_tree.specs.LayoutTree.{Lay, chunked_layout}
 use Rattle.vx_layout.specs.declared.layout.Layout.{Layout, fold-Layout}
