@@ -56,7 +56,7 @@ module _ (es : List Entry) (i : ℕ) (d : Entry) (p : List ℕ) (lt : i < length
     pub distinct-set : AreDistinct (pairs (set es i e))
     distinct-set = subst AreDistinct (sym (pairs-set es i e lt))
         (distinct_with (front_of es i) (back_of es i) (pair_of e) not_there
-          (distinct_without (front_of es i) (back_of es i) (pair_of (get_or es i d)) parted).1)
+        (distinct_without (front_of es i) (back_of es i) (pair_of (get_or es i d)) parted).1)
 
 -- An entry more.
 module _ (es : List Entry) (e : Entry) (kept : AreDistinct (pairs es)) (free : fin.get (active_of es) e.path ≡ None) where

@@ -57,6 +57,13 @@ eof_path-place_of [] n = absurd (n refl)
 eof_path-place_of (i ∷ []) n = refl
 eof_path-place_of (i ∷ j ∷ p) n = ap (λ r. i ∷ r) (eof_path-place_of (j ∷ p) (λ e. cc))
 
+-- what a pointer's fields and its value tell of each other
+pub place_is : (p : List ℕ) (e : Eof) → p ≡ eof_path e → place_of p ≡ e
+place_is p e h = ap place_of h ∙ place_of-eof_path e
+
+pub path_is : (p : List ℕ) (e : Eof) → place_of p ≡ e → p ≢ [] → p ≡ eof_path e
+path_is p e h n = sym (eof_path-place_of p n) ∙ ap eof_path h
+
 begins_head : (i j : ℕ) (b : Bool) → (nat_eq i j && b) ≡ true → (i ≡ j) × (b ≡ true)
 begins_head i j b h = grind (arith, nat_tests)
 

@@ -5,11 +5,11 @@ use Rattle.std.proofs.lemmas.List.{take_more, drop_all, take_all, map-append}
 use Rattle.std.proofs.lemmas.Bool.{true≢false, cases_Bool}
 use Rattle.std.specs.FinMap as fin
 use Rattle.std.specs.FinMap.{find}
-use Rattle.std.specs.Cmp.Lexicographic.{pointwise, texts_ties}
+use Rattle.std.specs.Cmp.Lexicographic.{pointwise, texts_ties, bytes_decides}
 use Rattle.vx_path.specs.Lists.{In}
 use Rattle.vx_path.specs.Path.{path_le, is_least}
 use Rattle.vx_path.proofs.Lists.{in_cases}
-use Rattle.vx_path.proofs.Path.{is_least_in, is_least_from, path_le-trans, path_le-total}
+use Rattle.vx_path.proofs.Path.{is_least_in, is_least_from, path_le-trans, path_le-total, path_le-antisym}
 use Rattle.vx_sequence.specs.declared.active.Entry.{Entry}
 use Rattle.vx_sequence.specs.Universe.{path_cmp, Active, IsActive, IsLeast}
 use Rattle.vx_sequence.specs.Entries.{paths, pairs, active_of}
@@ -71,8 +71,8 @@ found_in q [] h = absurd h
 found_in q (x ∷ es) h = ⊎_elim
     (λ t. ap (λ b. is_some (cond b (Some x.open) (find path_cmp q (pairs es)))) t)
     (λ f. ap (λ b. is_some (cond b (Some x.open) (find path_cmp q (pairs es)))) f ∙ ⊎_elim
-        (λ e. absurd (true≢false (sym (subst (λ r. same r x.path ≡ true) (sym e) (same_refl x.path)) ∙ f)))
-        (λ n. found_in q es n) h)
+    (λ e. absurd (true≢false (sym (subst (λ r. same r x.path ≡ true) (sym e) (same_refl x.path)) ∙ f)))
+    (λ n. found_in q es n) h)
     (cases_Bool (same q x.path))
 
 is_in : (q : List ℕ) (es : List Entry) → is_some (find path_cmp q (pairs es)) ≡ true → In q (paths es)
@@ -93,6 +93,14 @@ pub shows_least : (es : List Entry) (u : Active) → active_of es ≡ u → (r :
     → MatchOption r (es ≡ []) (λ p. In p.now (paths es) × (is_least p.now (paths es) ≡ true))
     → MatchOption r (u ≡ fin.empty) (λ p. IsActive u p.now × IsLeast u p.now)
 shows_least es u view None h = sym view ∙ ap active_of h
-shows_least es u view (Some p) h =
-    (subst (λ w. IsActive w p.now) view (is_active_in es p.now h.0),
-     λ q a. is_least_in p.now (paths es) h.1 q (in_of_active es q (subst (λ w. IsActive w q) (sym view) a)))
+shows_least es u view (Some p) h = (
+  subst (λ w. IsActive w p.now) view (is_active_in es p.now h.0),
+  λ q a. is_least_in p.now (paths es) h.1 q (in_of_active es q (subst (λ w. IsActive w q) (sym view) a)),
+)
+
+-- a path is least just where it is the least one
+pub is_the_least : (u : Active) (least p : List ℕ) → IsActive u least → IsLeast u least → IsActive u p → (b : Bool) → b ≡ pointwise nat_eq least p
+    → (b ≡ true → IsLeast u p) × (IsLeast u p → b ≡ true)
+is_the_least u least p a l own b is =
+    (λ h. subst (λ q. IsLeast u q) ((bytes_decides least p).0 (sym is ∙ h)) l,
+     λ h. is ∙ (bytes_decides least p).1 (path_le-antisym least p (l p own) (h least a)))

@@ -29,7 +29,7 @@ module _ (u : Active) (p n : List ℕ) (apart : n ≢ p) where
   put_both : fin.insert (fin.remove opened p) p false ≡ fin.insert closed n true
   put_both = same_active (fin.insert (fin.remove opened p) p false) (fin.insert closed n true) (λ q. ⊎_elim
       (λ s. subst (λ r. fin.get (fin.insert (fin.remove opened p) p false) r ≡ fin.get (fin.insert closed n true) r) (sym s)
-          (get-inserted (fin.remove opened p) p false ∙ sym (get-insert_other closed n true p (λ e. apart (sym e)) ∙ get-inserted u p false)))
+      (get-inserted (fin.remove opened p) p false ∙ sym (get-insert_other closed n true p (λ e. apart (sym e)) ∙ get-inserted u p false)))
       (λ other. get-insert_other (fin.remove opened p) p false q other ∙ get-remove_other opened p q other ∙ beside q other)
       (one_path q p))
 
@@ -37,7 +37,7 @@ module _ (u : Active) (p n : List ℕ) (apart : n ≢ p) where
   without_either : fin.remove opened p ≡ fin.remove (fin.insert closed n true) p
   without_either = same_active (fin.remove opened p) (fin.remove (fin.insert closed n true) p) (λ q. ⊎_elim
       (λ s. subst (λ r. fin.get (fin.remove opened p) r ≡ fin.get (fin.remove (fin.insert closed n true) p) r) (sym s)
-          (get-removed opened p ∙ sym (get-removed (fin.insert closed n true) p)))
+      (get-removed opened p ∙ sym (get-removed (fin.insert closed n true) p)))
       (λ other. get-remove_other opened p q other ∙ beside q other ∙ sym (get-remove_other (fin.insert closed n true) p q other))
       (one_path q p))
 

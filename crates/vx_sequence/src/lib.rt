@@ -1,9 +1,13 @@
-//! Sequence ids: which path may be written next.
+//! Sequence ids: in which order segments are written, whoever makes them.
 #![tactic(auto)]
 
 mod active;
 mod errors;
+mod ids;
+mod pointers;
 mod siblings;
 
 pub use active::Universe;
 pub use errors::SequenceError;
+pub use ids::SequenceId;
+pub use pointers::SequencePointer;
