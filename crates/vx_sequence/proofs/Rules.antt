@@ -4,7 +4,7 @@ use Rattle.std.proofs.lemmas.Bool.{true≢false}
 use Rattle.std.specs.FinMap as map
 use Rattle.vx_path.specs.Path.{begins, under, Eof, raised, eof_path, next, inside}
 use Rattle.vx_path.proofs.Path.{begins-refl, begins-trans, begins-under}
-use Rattle.vx_sequence.specs.Universe.{Active, IsActive, IsOpen, IsUniverse, root, universe_of_root, advanced, descended, split_from}
+use Rattle.vx_sequence.specs.Universe.{Active, IsActive, IsOpen, IsUniverse, only, advanced, descended, split_from}
 use Rattle.vx_sequence.proofs.Places.{not_true, same_parts, same_place, begins_under, siblings_apart}
 use Rattle.vx_sequence.proofs.Sets.{is_open_active, none_active, not_empty, is_inserted, is_active_more, active_insert, open_insert, active_remove, open_remove}
 
@@ -148,15 +148,16 @@ module _ (u : Active) (p : List ℕ) (r : IsUniverse u) (a : IsActive u p) where
         (stays_open (eof_path f) b));
   }
 
-pub root_rules : IsUniverse universe_of_root
-root_rules = record {
-  prefix_free = λ x y a b h. only x a ∙ sym (only y b);
+-- the rules of a universe of one path
+pub only_rules : (e : Eof) → IsUniverse (only e)
+only_rules e = record {
+  prefix_free = λ x y a b h. one x a ∙ sym (one y b);
   nothing_behind = λ f j q o a. not_true (begins (raised f (j + 1)) q) (λ h.
-      let same : f ≡ root = same_place f root (only (eof_path f) (is_open_active universe_of_root (eof_path f) o)) in
-      let g : begins (raised root (j + 1)) (eof_path root) ≡ true =
-      subst (λ x. begins (raised root (j + 1)) x ≡ true) (only q a) (subst (λ x. begins (raised x (j + 1)) q ≡ true) same h) in
-      clash (begins (raised root (j + 1)) (eof_path root)) g (siblings_apart [] 0 (0 + (j + 1)) (omega arith)).1);
+      let same : f ≡ e = same_place f e (one (eof_path f) (is_open_active (only e) (eof_path f) o)) in
+      let g : begins (raised e (j + 1)) (eof_path e) ≡ true =
+      subst (λ x. begins (raised e (j + 1)) x ≡ true) (one q a) (subst (λ x. begins (raised x (j + 1)) q ≡ true) same h) in
+      clash (begins (raised e (j + 1)) (eof_path e)) g (siblings_apart e.stem e.last (e.last + (j + 1)) (omega arith)).1);
 }
   where
-    only : (q : List ℕ) → IsActive universe_of_root q → q ≡ eof_path root
-    only q a = ⊎_elim (λ s. s) (λ b. absurd (not_empty q b)) (active_insert map.empty (eof_path root) true q a)
+    one : (q : List ℕ) → IsActive (only e) q → q ≡ eof_path e
+    one q a = ⊎_elim (λ s. s) (λ b. absurd (not_empty q b)) (active_insert map.empty (eof_path e) true q a)

@@ -101,6 +101,7 @@ shows_least es u view (Some p) h = (
 -- a path is least just where it is the least one
 pub is_the_least : (u : Active) (least p : List ℕ) → IsActive u least → IsLeast u least → IsActive u p → (b : Bool) → b ≡ pointwise nat_eq least p
     → (b ≡ true → IsLeast u p) × (IsLeast u p → b ≡ true)
-is_the_least u least p a l own b is =
-    (λ h. subst (λ q. IsLeast u q) ((bytes_decides least p).0 (sym is ∙ h)) l,
-     λ h. is ∙ (bytes_decides least p).1 (path_le-antisym least p (l p own) (h least a)))
+is_the_least u least p a l own b is = (
+  λ h. subst (λ q. IsLeast u q) ((bytes_decides least p).0 (sym is ∙ h)) l,
+  λ h. is ∙ (bytes_decides least p).1 (path_le-antisym least p (l p own) (h least a)),
+)

@@ -5,11 +5,11 @@ use Rattle.std.specs.List.{remove}
 use Rattle.std.specs.FinMap as fin
 use Rattle.vx_path.specs.Path.{under, Eof, eof_path, next}
 use Rattle.vx_sequence.specs.declared.active.Entry.{Entry}
-use Rattle.vx_sequence.specs.Universe.{Active, IsActive, IsOpen, IsUniverse, universe_of_root, place_of, advanced, descended, split_from, released}
+use Rattle.vx_sequence.specs.Universe.{Active, IsActive, IsOpen, IsUniverse, place_of, advanced, descended, split_from, released}
 use Rattle.vx_sequence.specs.Entries.{pairs, active_of, AreDistinct, IsKept}
 use Rattle.vx_sequence.proofs.Places.{eof_path-place_of}
 use Rattle.vx_sequence.proofs.Sets.{one_path, same_active, get-inserted, get-insert_other, get-removed, get-remove_other, is_inserted, is_active_more, is_open_active}
-use Rattle.vx_sequence.proofs.Rules.{root_rules, removed_rules, sibling_free, child_free, advanced_rules, descended_rules}
+use Rattle.vx_sequence.proofs.Rules.{only_rules, removed_rules, sibling_free, child_free, advanced_rules, descended_rules}
 use Rattle.vx_sequence.proofs.Edits.{active-set, distinct-set, active-push, distinct-push, active-remove, distinct-remove}
 
 module _ (u : Active) (p n : List ℕ) (apart : n ≢ p) where
@@ -129,10 +129,10 @@ module _ (es : List Entry) (kept : IsKept es) (p : List ℕ) (i : ℕ) (d : Entr
     rules = subst IsUniverse (sym (active-remove es i d p lt at kept.distinct)) (removed_rules (active_of es) p kept.rules);
   }
 
-pub kept_root : (m : Entry) → m.path ≡ under [] 0 → m.open ≡ true → IsKept (m ∷ [])
-kept_root m mp mo = record {
+pub kept_only : (e : Eof) (m : Entry) → m.path ≡ eof_path e → m.open ≡ true → IsKept (m ∷ [])
+kept_only e m mp mo = record {
   distinct = (refl, tt);
-  rules = subst IsUniverse (λ j. fin.insert fin.empty (sym mp j) (sym mo j)) root_rules;
+  rules = subst IsUniverse (λ j. fin.insert fin.empty (sym mp j) (sym mo j)) (only_rules e);
 }
 
 -- The same, as the calls meet it: the path comes as a list, and the entry by its place.

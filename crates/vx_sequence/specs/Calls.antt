@@ -1,6 +1,5 @@
 -- Lists of calls on the ids and pointers of one universe.
 use Rattle.std.specs.Prelude.{ℕ, true, List, [], ◌∷◌, IsTrue}
-use Rattle.std.specs.FinMap as map
 use Rattle.vx_path.specs.Path.{path_lt, begins, Eof, eof_path, raised}
 use Rattle.vx_sequence.specs.Universe.{Active, IsActive, IsOpen, advanced, descended, released}
 
@@ -35,10 +34,6 @@ after_all u (c ∷ calls) = after_all (after u c) calls
 -- q is greater than some active path
 abbrev pub IsAbove : Active → List ℕ → Type 0
 IsAbove u q = (p : List ℕ) × IsActive u p × IsTrue (path_lt p q)
-
--- the universe of one pointer's path alone
-abbrev pub only : Eof → Active
-only e = map.insert map.empty (eof_path e) true
 
 -- x goes on from the pointer's path e or from a later sibling of it, e + j
 abbrev pub GoesOn : Eof → List ℕ → Type 0

@@ -49,9 +49,9 @@ place_of p = record { stem = stem_of p; last = last_of p }
 abbrev pub root : Eof
 root = record { stem = []; last = 0 }
 
--- the universe with that path alone
-abbrev pub universe_of_root : Active
-universe_of_root = map.insert map.empty (eof_path root) true
+-- the universe of one pointer's path alone
+abbrev pub only : Eof → Active
+only e = map.insert map.empty (eof_path e) true
 
 -- what `advance` of the pointer at e leaves: its path closed, and the next sibling open
 abbrev pub advanced : Active → Eof → Active

@@ -5,7 +5,6 @@ ghost use Rattle.vx_path.specs.Path.{under, eof_path, next};
 
 use crate::errors::SequenceError;
 use crate::siblings::sibling;
-use std::alloc::Global;
 use std::marker::Model;
 use vx_path::owned::{Path, path_le};
 
@@ -42,7 +41,7 @@ impl Model for Universe {
 }
 
 impl Universe {
-    ghost use Rattle.vx_sequence.specs.Universe.{IsActive, IsOpen, IsLeast, IsUniverse, place_of, universe_of_root, advanced, descended, split_from, released};
+    ghost use Rattle.vx_sequence.specs.Universe.{IsActive, IsOpen, IsLeast, IsUniverse, place_of, only, advanced, descended, split_from, released};
 
     /// The least active path.
     pub fn least(&self) -> Option<&[u64]>
@@ -52,19 +51,18 @@ impl Universe {
         least_of(&self.entries)
     }
 
-    /// A universe with the path `[0]` alone, which is open, and a copy of that path.
-    pub(crate) fn with_root(alloc: Global) -> Result<(Self, Path), SequenceError>
-        ensures ok { IfOk result (λ r. (r.0 ≡ universe_of_root) × (r.1 ≡ under [] 0)) }
+    /// A universe in which this path alone is active, and open.
+    pub(crate) fn only(path: &Path) -> Result<Self, SequenceError>
+        requires { path.now ≢ [] }
+        ensures ok { IfOk result (λ u. u ≡ only (place_of path.now)) }
         ensures memory { IfErr result (λ e. e ≡ SequenceError.OutOfMemory) }
     {
-        let path = Path::child(alloc, &[], 0)?;
-        let copy = path.clone()?;
-        let mut entries = Vec::new(alloc);
+        let mut entries = Vec::new(path.allocator());
         entries.push(Entry {
-            path: copy,
+            path: path.clone()?,
             open: true,
         })?;
-        Ok((Universe { entries }, path))
+        Ok(Universe { entries })
     }
 
     /// Closes an open path and opens its next sibling, of which it gives a copy.

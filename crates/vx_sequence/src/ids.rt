@@ -8,7 +8,7 @@ ghost use Rattle.std.specs.Hash as fed;
 ghost use Rattle.std.specs.Cmp.Rules.{hashing};
 ghost use Rattle.std.proofs.Common.{rules};
 ghost use Rattle.vx_path.specs.Path.{inside};
-ghost use Rattle.vx_sequence.specs.Universe.{IsActive, IsLeast, root, universe_of_root, descended, released};
+ghost use Rattle.vx_sequence.specs.Universe.{IsActive, IsLeast, root, only, descended, released};
 
 use crate::active::Universe;
 use crate::errors::SequenceError;
@@ -39,10 +39,11 @@ impl Model for SequenceId {
 impl SequenceId {
     /// A universe with the path `[0]` alone, and its pointer.
     pub fn root(alloc: Global) -> Result<(Universe, SequencePointer), SequenceError>
-        ensures root { IfOk result (λ r. (r.0 ≡ universe_of_root) × (r.1 ≡ root)) }
+        ensures root { IfOk result (λ r. (r.0 ≡ only root) × (r.1 ≡ root)) }
         ensures memory { IfErr result (λ e. e ≡ SequenceError.OutOfMemory) }
     {
-        let (universe, path) = Universe::with_root(alloc)?;
+        let path = Path::child(alloc, &[], 0)?;
+        let universe = Universe::only(&path)?;
         Ok((universe, SequencePointer::new(path)))
     }
 

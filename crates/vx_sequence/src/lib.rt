@@ -5,6 +5,7 @@ mod active;
 mod errors;
 mod ids;
 mod pointers;
+pub mod runs;
 mod siblings;
 
 pub use active::Universe;

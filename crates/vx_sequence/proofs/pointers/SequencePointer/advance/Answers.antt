@@ -18,7 +18,7 @@ pub returns-clause-pointer : goal.returns-clause-pointer
 returns-clause-pointer c =
     let here : place_of c.path.result.now ≡ c.args.self.now = place_is c.path.result.now c.args.self.now c.path.ensures.path in
     place_is c.replace.new.dest (next c.args.self.now)
-        (c.replace.ensures.after ∙ c.in_ok-next.ensures.next ∙ ap (λ (e : Eof). eof_path (next e)) here)
+    (c.replace.ensures.after ∙ c.in_ok-next.ensures.next ∙ ap (λ (e : Eof). eof_path (next e)) here)
 
 pub returns-clause-universe : goal.returns-clause-universe
 returns-clause-universe c =
