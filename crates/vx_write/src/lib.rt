@@ -5,8 +5,10 @@ mod error;
 mod strategy;
 mod stream;
 mod trace;
+mod write;
 
 pub use error::WriteError;
 pub use strategy::{BuildError, ChunkedLayoutStrategy, FlatLayoutStrategy, Strategy};
-pub use stream::{Refused, Written, write_stream};
+
 pub use trace::{ActionKind, Step};
+pub use write::{Refused, Written, write_stream};
