@@ -1,24 +1,22 @@
 -- From the batches in order to the plan.
-use Rattle.std.proofs.Common.{◌≡◌, ℕ, suc, ◌+◌, ◌≤◌, ◌<◌, ◌^◌, ◌&&◌, Bool, true, false, not, List, [], ◌∷◌, ◌++◌, length, Option, Some, None, refl, sym, ap, subst, ◌∙◌, arith, append_assoc, inl, inr}
-use Rattle.std.proofs.lemmas.List.{append-nil, length-append}
+use Rattle.std.proofs.Common.{◌≡◌, ℕ, suc, ◌+◌, ◌≤◌, ◌<◌, ◌^◌, ◌&&◌, Bool, true, false, not, List, [], ◌∷◌, ◌++◌, length, Option, Some, None, refl, sym, ap, subst, ◌∙◌, arith, inl, inr}
+use Rattle.std.proofs.lemmas.List.{append-nil}
 use Rattle.vx_model.specs.declared.encoding.EncodingId.{EncodingId}
-use Rattle.vx_model.specs.declared.ptype.PType.{PType}
 use Rattle.vx_model.specs.declared.ptype.PType.TheVariants.{U8, U16, U32, U64, I8, I16, I32, I64}
-use Rattle.vx_model.specs.Ty.{Ty, boolean, primitive, utf8, binary, list, struct, extension, ty_eq}
+use Rattle.vx_model.specs.Ty.{Ty, boolean, primitive, utf8, binary, list, struct, extension}
 use Rattle.vx_model.specs.TyLaws.{ty_eq_decides}
-use Rattle.vx_model.specs.Piece.{Piece, piece_type, cells}
-use Rattle.vx_types.specs.Segment.{encode, refused, tree_bytes, bytes_unless, segment_bytes}
+use Rattle.vx_model.specs.Piece.{Piece, piece_type}
+use Rattle.vx_types.specs.Segment.{encode, refused, bytes_unless, segment_bytes}
 use Rattle.vx_path.specs.Lists.{In}
-use Rattle.vx_tree.specs.LayoutTree.{Lay, gathered, flat_layout}
-use Rattle.vx_plan.specs.PlanData.{Setting, Plan, Pair, Fault}
+use Rattle.vx_tree.specs.LayoutTree.{Lay, gathered}
+use Rattle.vx_plan.specs.PlanData.{Setting, Fault}
 use Rattle.vx_plan.specs.Way.{Way, FlatOptions, flat, chunked}
-use Rattle.vx_plan.specs.FlatNode.{segment, pair_at, refused_at, refusals, inlined}
+use Rattle.vx_plan.specs.FlatNode.{refused_at, inlined}
 use Rattle.vx_plan.specs.SourcePlan.{source_plan, taken_plan, of_schema}
-use Rattle.vx_plan.specs.InOrder.{InOrder, ChunksInOrder, there, batch_rows, batch_segments, batch_refusals, batch_flats, batch_pairs}
+use Rattle.vx_plan.specs.InOrder.{InOrder, ChunksInOrder, batch_rows, batch_segments, batch_refusals, batch_flats, batch_pairs}
 use Rattle.vx_plan.specs.Number.{segments, numbered}
 use Rattle.vx_plan.specs.Valid.{Fit, OfSchema, Valid}
 use Rattle.vx_sink.specs.Told.{before_told, then_told, NoneTold}
-use Rattle.vx_write.specs.FlatView.{is_default}
 use Rattle.vx_write.proofs.Steps.{stored-append, told_same, then_same}
 use Rattle.vx_write.specs.InOrder.{stored_of, flats_of, AllWritten, Finished, Halted}
 use Rattle.vx_write.specs.Stream.{Writes, Stands, is_built, is_built_way, is_built_type}

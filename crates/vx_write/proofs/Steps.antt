@@ -1,20 +1,18 @@
 -- One more batch, and what stands at the end of a write.
-use Rattle.std.proofs.Common.{◌≡◌, ℕ, suc, ◌+◌, ◌-◌, ◌≤◌, ◌<◌, ◌^◌, List, [], ◌∷◌, ◌++◌, length, map, Option, Some, None, refl, sym, ap, subst, Bool, true, false, not, ◌∙◌, arith, add-zero, append_assoc, inl, inr}
-use Rattle.std.proofs.lemmas.List.{append-nil, length-append, length-map, map_push}
-use Rattle.std.specs.Prelude.{option_map, ◌⊎◌}
+use Rattle.std.proofs.Common.{◌≡◌, ℕ, suc, ◌+◌, ◌≤◌, ◌<◌, ◌^◌, List, [], ◌∷◌, ◌++◌, length, Option, Some, None, refl, sym, subst, Bool, true, false, not, ◌∙◌, arith, add-zero, append_assoc, inl, inr}
+use Rattle.std.proofs.lemmas.List.{append-nil, length-append}
 use Rattle.vx_model.specs.declared.encoding.EncodingId.{EncodingId}
-use Rattle.vx_model.specs.Words.{total_by}
 use Rattle.vx_model.specs.Ty.{Ty}
 use Rattle.vx_model.specs.Piece.{Piece, piece_type, cells}
 use Rattle.vx_types.specs.Segment.{encode, refused}
-use Rattle.vx_tree.specs.LayoutTree.{Lay, flat_layout, gathered, row_count}
-use Rattle.vx_plan.specs.InOrder.{there, batch_rows}
+use Rattle.vx_tree.specs.LayoutTree.{Lay}
+use Rattle.vx_plan.specs.InOrder.{batch_rows}
 use Rattle.vx_layout.specs.Errors.{rows_in}
-use Rattle.vx_sink.specs.Told.{before_told, then_told, NoneTold}
-use Rattle.vx_write.specs.InOrder.{stored_of, flats_of, AllWritten, Done, BatchWritten, Finished, Halted}
+use Rattle.vx_sink.specs.Told.{before_told, then_told}
+use Rattle.vx_write.specs.InOrder.{stored_of, flats_of, AllWritten, Done, BatchWritten, Halted}
 use Rattle.vx_write.specs.declared.error.WriteError.{WriteError}
 use Rattle.vx_write.specs.declared.error.WriteError.TheVariants as errors
-use Rattle.vx_write.specs.Stream.{TookLast, TookRows, HasCause, NotAdmitted, NotWritten}
+use Rattle.vx_write.specs.Stream.{TookLast, HasCause, NotAdmitted, NotWritten}
 
 told_more : (xs ys : List Piece) (a b c : Option (List Piece)) → a ≡ before_told xs b → b ≡ before_told ys c → a ≡ before_told (xs ++ ys) c
 told_more xs ys a b None e f = e ∙ (rw f refl)

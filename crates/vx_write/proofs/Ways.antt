@@ -1,6 +1,6 @@
 -- What strategies are seen as, and layouts that are gathered.
 use Rattle.std.proofs.Common.{◌≡◌, ℕ, List, [], ◌∷◌, ◌++◌, length, map, refl, rules}
-use Rattle.vx_plan.specs.Way.{Way, flat, chunked}
+use Rattle.vx_plan.specs.Way.{flat, chunked}
 use Rattle.vx_write.specs.declared.strategy.Strategy.{Strategy}
 use Rattle.vx_write.specs.declared.strategy.Strategy as st
 use Rattle.vx_write.specs.declared.strategy.FlatLayoutStrategy.{FlatLayoutStrategy}

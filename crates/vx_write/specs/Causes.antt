@@ -7,7 +7,7 @@ use Rattle.vx_sink.specs.declared.sink.SinkError.TheVariants as sink
 use Rattle.vx_types.specs.declared.encode.EncodeError.{EncodeError}
 use Rattle.vx_types.specs.declared.encode.EncodeError.TheVariants as encoding
 use Rattle.vx_write.specs.declared.error.WriteError.{WriteError}
-use Rattle.vx_write.specs.declared.error.WriteError.TheVariants.{SourceFault, SinkFault, CompressFault, BatchType, NotStruct, DuplicateField, ManyChunks, EmptyList, ZoneCut, ForbiddenAggregate, ForbiddenEncoding, TooLarge, OutOfMemory, Unbuilt}
+use Rattle.vx_write.specs.declared.error.WriteError.TheVariants.{SourceFault, SinkFault, CompressFault, ForbiddenEncoding, OutOfMemory, Unbuilt}
 
 abbrev pub of_source : SourceError → WriteError
 of_source source.Failed = SourceFault

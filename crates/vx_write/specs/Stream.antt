@@ -1,20 +1,17 @@
 -- What `write_stream` answers.
-use Rattle.std.specs.Prelude.{◌≡◌, ℕ, suc, ◌+◌, ◌-◌, ◌^◌, ◌<◌, ◌≤◌, ◌⊎◌, ◌&&◌, Bool, true, false, List, [], ◌∷◌, ◌++◌, length, Option, Some, None}
+use Rattle.std.specs.Prelude.{◌≡◌, ℕ, ◌+◌, ◌^◌, ◌≤◌, ◌⊎◌, ◌&&◌, Bool, true, false, List, [], ◌∷◌, ◌++◌, length, Option, Some}
 use Rattle.vx_model.specs.declared.encoding.EncodingId.{EncodingId}
 use Rattle.vx_model.specs.declared.ptype.PType.{PType}
-use Rattle.vx_model.specs.declared.ptype.PType.TheVariants.{U8, U16, U32, U64, I8, I16, I32, I64}
-use Rattle.vx_model.specs.Ty.{Ty, boolean, primitive, utf8, binary, list, struct, extension}
+use Rattle.vx_model.specs.declared.ptype.PType.TheVariants.{I64}
+use Rattle.vx_model.specs.Ty.{Ty, primitive}
 use Rattle.vx_model.specs.Piece.{Piece, piece_type, cells}
-use Rattle.vx_types.specs.declared.chunk.Chunk.{Chunk}
 use Rattle.vx_types.specs.ChunkView.{piece}
 use Rattle.vx_types.specs.Segment.{encode, refused, tree_bytes}
-use Rattle.vx_plan.specs.PlanData.{Setting, Plan, forbidden_encoding}
+use Rattle.vx_plan.specs.PlanData.{Setting, Plan}
 use Rattle.vx_plan.specs.Way.{Way, flat, chunked}
-use Rattle.vx_plan.specs.SourcePlan.{source_plan, taken_plan}
 use Rattle.vx_plan.specs.InOrder.{batch_rows}
 use Rattle.vx_plan.specs.Number.{segments}
-use Rattle.vx_plan.specs.Valid.{Has}
-use Rattle.vx_sink.specs.Told.{before_told, then_told, NoneTold}
+use Rattle.vx_sink.specs.Told.{before_told, then_told}
 use Rattle.vx_write.specs.FlatView.{is_default}
 use Rattle.vx_write.specs.declared.error.WriteError.{WriteError}
 use Rattle.vx_write.specs.declared.error.WriteError.TheVariants.{SourceFault, SinkFault, CompressFault, BatchType, NotStruct, DuplicateField, ManyChunks, EmptyList, ZoneCut, ForbiddenAggregate, ForbiddenEncoding, TooLarge, OutOfMemory, Unbuilt}

@@ -1,4 +1,4 @@
-use Rattle.std.proofs.Common.{◌≡◌, ℕ, ◌+◌, ◌∙◌, sym, ap, subst, length, map, arith, refl, List, [], ◌∷◌, ◌++◌, None, ◌<◌, ◌^◌}
+use Rattle.std.proofs.Common.{◌≡◌, ℕ, ◌+◌, ◌∙◌, sym, ap, subst, length, map, arith, refl, [], ◌∷◌, ◌++◌, None, ◌<◌, ◌^◌}
 use Rattle.std.proofs.lemmas.List.{map_push, length-append, length-map}
 use Rattle.vx_model.specs.Piece.{Piece}
 use Rattle.vx_types.specs.Segment.{refused}
