@@ -1,0 +1,4 @@
+pub mod Task
+pub mod State
+pub mod Run
+pub mod Rules
