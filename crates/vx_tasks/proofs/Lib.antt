@@ -1,2 +1,5 @@
 pub mod Scripts
 pub mod Stuck
+pub mod Steps
+pub mod Order
+pub mod Runs

@@ -167,22 +167,22 @@ below_from_held m p n j Bare h = tt
 below_from_held m p n j (Node t kids rest) (a, b, c) = (λ g. (a, b, tt), below_from_held m p n (suc j) rest c)
 
 -- the paths of a node's part of what is held
-in_here : (p : Task) (n j : ℕ) (t : Task) (kids rest : Forest) (s : Counts) (x : List ℕ) → started p j n ≡ true
+pub in_here : (p : Task) (n j : ℕ) (t : Task) (kids rest : Forest) (s : Counts) (x : List ℕ) → started p j n ≡ true
     → In x (queue p n j t (top s) ++ (holds t (top s) ++ held t (top s) 0 kids (below s))) → In x (held p n j (Node t kids rest) s)
 in_here p n j t kids rest s x g i = rw g (in_left x (queue p n j t (top s) ++ (holds t (top s) ++ held t (top s) 0 kids (below s)))
     (held p n (suc j) rest (beside s)) i)
 
-in_own : (p : Task) (n j : ℕ) (t : Task) (kids rest : Forest) (s : Counts) (x : List ℕ) → started p j n ≡ true
+pub in_own : (p : Task) (n j : ℕ) (t : Task) (kids rest : Forest) (s : Counts) (x : List ℕ) → started p j n ≡ true
     → In x (holds t (top s)) → In x (held p n j (Node t kids rest) s)
 in_own p n j t kids rest s x g i = in_here p n j t kids rest s x g (in_right x (queue p n j t (top s)) (holds t (top s) ++ held t (top s) 0 kids (below s))
     (in_left x (holds t (top s)) (held t (top s) 0 kids (below s)) i))
 
-in_below : (p : Task) (n j : ℕ) (t : Task) (kids rest : Forest) (s : Counts) (x : List ℕ) → started p j n ≡ true
+pub in_below : (p : Task) (n j : ℕ) (t : Task) (kids rest : Forest) (s : Counts) (x : List ℕ) → started p j n ≡ true
     → In x (held t (top s) 0 kids (below s)) → In x (held p n j (Node t kids rest) s)
 in_below p n j t kids rest s x g i = in_here p n j t kids rest s x g (in_right x (queue p n j t (top s)) (holds t (top s) ++ held t (top s) 0 kids (below s))
     (in_right x (holds t (top s)) (held t (top s) 0 kids (below s)) i))
 
-in_aside : (p : Task) (n j : ℕ) (t : Task) (kids rest : Forest) (s : Counts) (x : List ℕ)
+pub in_aside : (p : Task) (n j : ℕ) (t : Task) (kids rest : Forest) (s : Counts) (x : List ℕ)
     → In x (held p n (suc j) rest (beside s)) → In x (held p n j (Node t kids rest) s)
 in_aside p n j t kids rest s x i = in_right x
     (cond (started p j n) (queue p n j t (top s) ++ (holds t (top s) ++ held t (top s) 0 kids (below s))) []) (held p n (suc j) rest (beside s)) i
