@@ -1,5 +1,6 @@
 pub mod Scripts
 pub mod Stuck
 pub mod Steps
-pub mod Order
+pub mod Sorted
 pub mod Runs
+pub mod Names

@@ -8,7 +8,7 @@ use Rattle.vx_tasks.specs.State.{Counts, top, below, beside, left}
 use Rattle.vx_tasks.specs.State.Counts.{Zeros, Count}
 use Rattle.vx_tasks.specs.Run.{Move, moves, outside, all_held, all_moves, ready, work, Leads, Step, first_pick, later_picks, nth, step_at, step_of, run, end_of, moves_of}
 use Rattle.vx_tasks.specs.Rules.{Fits, Rules, Kept, NoneRefuses, AllEnd}
-use Rattle.vx_tasks.proofs.Scripts.{no_true}
+use Rattle.vx_tasks.proofs.Scripts.{no_true, or_false, next_clean}
 use Rattle.vx_tasks.proofs.Stuck.{some_move}
 use Rattle.vx_tasks.proofs.Steps.{Where, here, under, aside, which, Own, move_left, move_kept, at_start}
 
@@ -80,3 +80,73 @@ run_leads f s picks (suc n) =
             (end_of s (step_at (length (all_moves f s)) k (nth (all_moves f s) k) (λ m. run f m.after (later_picks picks) n)))
     by_move k None e go = rw e refl
     by_move k (Some m) e go = rw e (by_test k m (nth_in (all_moves f s) k m e) m.action.refuses refl go)
+
+-- the next step and those after it, where the pick is at place k
+abbrev Goes : Forest → Counts → List ℕ → ℕ → ℕ → Option Move → List Step
+Goes f s picks n k o = step_at (length (all_moves f s)) k o (λ m. run f m.after (later_picks picks) n)
+
+place_fits : (pick size : ℕ) → 0 < size → pick % size < size
+place_fits pick size h = omega arith
+
+pub run_stops : (f : Forest) (s : Counts) (picks : List ℕ) (n : ℕ) → Rules false outside 0 f → Kept f s
+    → length (run f s picks n) < n → Stopped f (end_of s (run f s picks n))
+run_stops f s picks zero rules kept h = absurd (omega arith)
+run_stops f s picks (suc n) rules kept h =
+    let k : ℕ = first_pick picks % length (all_moves f s) in
+    by_move k (place_fits (first_pick picks) (length (all_moves f s))) (nth (all_moves f s) k) refl
+      (λ m i r l. run_stops f m.after (later_picks picks) n rules (move_kept (all_held f s) outside 1 0 f s m i r kept) l) h
+  where
+    by_test : (k : ℕ) (m : Move) → In m (all_moves f s) → (b : Bool) → m.action.refuses ≡ b
+        → ((m : Move) → In m (all_moves f s) → m.action.refuses ≡ false → length (run f m.after (later_picks picks) n) < n
+          → Stopped f (end_of m.after (run f m.after (later_picks picks) n)))
+        → length (Goes f s picks n k (Some m)) < suc n → Stopped f (end_of s (Goes f s picks n k (Some m)))
+    by_test k m i true r go l = rw r (inr (m, i, r))
+    by_test k m i false r go l = rw r (go m i r (let z : suc (length (run f m.after (later_picks picks) n)) < suc n = rw r at l in omega arith))
+    none_ready : (k : ℕ) → (0 < length (all_moves f s) → k < length (all_moves f s)) → nth (all_moves f s) k ≡ None → left f s ≡ 0
+    none_ready k fits e = ⊎_elim (λ z. z) (λ z. absurd (nth_some (all_moves f s) k (fits (some_move f s rules kept z)) e)) (zero_or (left f s))
+      where
+        zero_or : (n : ℕ) → (n ≡ 0) ⊎ (0 < n)
+        zero_or n = grind arith
+    by_move : (k : ℕ) → (0 < length (all_moves f s) → k < length (all_moves f s)) → (o : Option Move) → nth (all_moves f s) k ≡ o
+        → ((m : Move) → In m (all_moves f s) → m.action.refuses ≡ false → length (run f m.after (later_picks picks) n) < n
+          → Stopped f (end_of m.after (run f m.after (later_picks picks) n)))
+        → length (Goes f s picks n k (nth (all_moves f s) k)) < suc n → Stopped f (end_of s (Goes f s picks n k (nth (all_moves f s) k)))
+    by_move k fits None e go l = rw e (inl (none_ready k fits e))
+    by_move k fits (Some m) e go l = rw e (by_test k m (nth_in (all_moves f s) k m e) m.action.refuses refl go (rw e at l))
+
+-- a task that doesn't refuse has no refusing move
+clean_moves : (all : List (List ℕ)) (p : Task) (n j : ℕ) (f : Forest) (s : Counts) (m : Move) → NoneRefuses f → In m (moves all p n j f s) → m.action.refuses ≡ false
+clean_moves all p n j Bare s m none i = absurd i
+clean_moves all p n j (Node t kids rest) s m (own, inner, outer) i =
+    by_place (which all p n j t kids rest s m i)
+      (λ d k. clean_moves all t (top s) 0 kids (below s) d inner k) (λ d k. clean_moves all p n (suc j) rest (beside s) d outer k)
+  where
+    by_place : Where all p n j t kids rest s m → ((d : Move) → In d (moves all t (top s) 0 kids (below s)) → d.action.refuses ≡ false)
+        → ((d : Move) → In d (moves all p n (suc j) rest (beside s)) → d.action.refuses ≡ false) → m.action.refuses ≡ false
+    by_place (here g o) down over = (or_false m.action.refuses (refuses_in o.todo) (sym (ap refuses_in o.next_is) ∙ next_clean t (top s) own)).0
+    by_place (under g d k e) down over = ap (λ x. x.action.refuses) e ∙ down d k
+    by_place (aside d k e) down over = ap (λ x. x.action.refuses) e ∙ over d k
+
+as_many : (xs : List Step) → length (moves_of xs) ≡ length xs
+as_many [] = refl
+as_many (x ∷ xs) = ap suc (as_many xs)
+
+pub run_exact : (f : Forest) (picks : List ℕ) → Rules false outside 0 f → NoneRefuses f → length (run f Zeros picks (work f)) ≡ work f
+run_exact f picks rules none = by_stop (run_stops f Zeros picks (work f) rules (at_start f))
+  where
+    sum : left f (end_of Zeros (run f Zeros picks (work f))) + length (run f Zeros picks (work f)) ≡ work f
+    sum = rw (← as_many (run f Zeros picks (work f)))
+        (leads_left f Zeros (end_of Zeros (run f Zeros picks (work f))) (moves_of (run f Zeros picks (work f))) (run_leads f Zeros picks (work f)))
+    cases : (a b : ℕ) → (a < b) ⊎ (b ≤ a)
+    cases a b = grind arith
+    by_stop : (length (run f Zeros picks (work f)) < work f → Stopped f (end_of Zeros (run f Zeros picks (work f)))) → length (run f Zeros picks (work f)) ≡ work f
+    by_stop stop = ⊎_elim
+        (λ l. ⊎_elim (λ z. omega (arith, sum, z))
+          (λ m. absurd (no_true (clean_moves (all_held f (end_of Zeros (run f Zeros picks (work f)))) outside 1 0 f (end_of Zeros (run f Zeros picks (work f))) m.0 none m.1) m.2))
+          (stop l))
+        (λ g. omega (arith, sum))
+        (cases (length (run f Zeros picks (work f))) (work f))
+
+-- where a refusing action can come next, something is left
+pub refusal_left : (f : Forest) (e : Counts) (ms : List Move) (m : Move) → Leads f Zeros ms e → In m (all_moves f e) → length ms < work f
+refusal_left f e ms m l i = omega (arith, leads_left f Zeros e ms l, move_left (all_held f e) outside 1 0 f e m i)

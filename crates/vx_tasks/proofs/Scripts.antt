@@ -143,3 +143,7 @@ still_some_time t n h =
     first_is : (xs : List Action) → still_first xs ≡ true → still_in xs ≡ true
     first_is [] h = h
     first_is (a ∷ xs) h = or_true (is_still a.kind) (still_in xs) (inl h)
+
+pub next_clean : (t : Task) (n : ℕ) → refuses_in t.script ≡ false → refuses_in (next t n) ≡ false
+next_clean t n h =
+    (or_false (refuses_in (past t n)) (refuses_in (next t n)) (sym (ap refuses_in (script_is t n) ∙ refuses_in-append (past t n) (next t n)) ∙ h)).1

@@ -2,3 +2,4 @@ pub mod Task
 pub mod State
 pub mod Run
 pub mod Rules
+pub mod Laws

@@ -7,6 +7,7 @@ use Rattle.vx_tasks.specs.Task.{Task, Action, Kind, Forest, next, sent, started,
 use Rattle.vx_tasks.specs.Task.Forest.{Bare, Node}
 use Rattle.vx_tasks.specs.Task.Kind.{Append, Join}
 use Rattle.vx_tasks.specs.State.{Counts, top, below, beside}
+use Rattle.vx_tasks.specs.Run.{outside}
 
 -- How a task p and its child t, with number j, fit together. `cut` tells that p's own stream is open: it
 -- is never told its end.
@@ -85,6 +86,14 @@ abbrev pub InOrder : List (List ℕ) → Task → ℕ → Forest → Type 0
 InOrder ps p j Bare = Unit {0}
 InOrder ps p j (Node t kids rest) =
     Ordered ps p j t kids × InOrder (items j p) t 0 kids × InOrder ps p (suc j) rest
+
+-- the rules for a whole tree
+
+abbrev pub KeepsRules : Forest → Type 0
+KeepsRules f = Rules false outside 0 f
+
+abbrev pub KeepsOrder : Forest → Type 0
+KeepsOrder f = InOrder [] outside 0 f
 
 -- Names.
 

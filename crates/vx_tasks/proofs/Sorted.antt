@@ -153,3 +153,13 @@ pub run_ascends : (f : Forest) (s e : Counts) (ms : List Move) → Rules false o
 run_ascends f s e ms rules order l =
     first_ascends (written ms) (sort (pending f e))
       (let a : Ascends (λ p. p) (sort (pending f s)) = sort_ascends (λ p. p) (pending f s) in rw (sort_run f s e ms rules order l) at a)
+
+-- at the start all appends are pending
+all_pending : (f : Forest) → pending f Zeros ≡ appends f
+all_pending Bare = refl
+all_pending (Node t kids rest) =
+    ap (λ x. appends_in t.script ++ (x ++ pending rest Zeros)) (all_pending kids) ∙ ap (λ x. appends_in t.script ++ (appends kids ++ x)) (all_pending rest)
+
+pub numbered_run : (f : Forest) (e : Counts) (ms : List Move) → Rules false outside 0 f → InOrder [] outside 0 f → Leads f Zeros ms e
+    → sort (appends f) ≡ written ms ++ sort (pending f e)
+numbered_run f e ms rules order l = ap sort (sym (all_pending f)) ∙ sort_run f Zeros e ms rules order l
