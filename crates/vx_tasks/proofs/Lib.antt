@@ -4,3 +4,6 @@ pub mod Steps
 pub mod Sorted
 pub mod Runs
 pub mod Names
+pub mod Fit
+pub mod Leaves
+pub mod Chunks
