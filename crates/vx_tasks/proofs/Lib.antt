@@ -6,4 +6,5 @@ pub mod Runs
 pub mod Names
 pub mod Fit
 pub mod Leaves
+pub mod Born
 pub mod Chunks
