@@ -41,7 +41,7 @@ given_part j (a ∷ xs) (suc n) h =
     let r : given j xs ≡ [] = nil_right (to_child j a.gives) (given j xs) h in
     rw l (given_part j xs n r)
 
-given_rest : (j : ℕ) (xs : List Action) (n : ℕ) → given j xs ≡ [] → given j (drop n xs) ≡ []
+pub given_rest : (j : ℕ) (xs : List Action) (n : ℕ) → given j xs ≡ [] → given j (drop n xs) ≡ []
 given_rest j xs zero h = h
 given_rest j [] (suc n) h = refl
 given_rest j (a ∷ xs) (suc n) h = given_rest j xs n (nil_right (to_child j a.gives) (given j xs) h)

@@ -24,10 +24,10 @@ use Rattle.vx_tasks.proofs.Born.{born_feeds}
 abbrev last_part : Bool → List Action
 last_part ended = once_ended ended (acts TakeEnd [] ∷ acts Join [] ∷ [])
 
-same_test : (j : ℕ) → nat_eq j j ≡ true
+pub same_test : (j : ℕ) → nat_eq j j ≡ true
 same_test j = grind (arith, nat_tests)
 
-other_test : (i j : ℕ) → i < j → nat_eq j i ≡ false
+pub other_test : (i j : ℕ) → i < j → nat_eq j i ≡ false
 other_test i j h = grind (arith, nat_tests)
 
 -- they give nothing to the children before j

@@ -8,3 +8,5 @@ pub mod Fit
 pub mod Leaves
 pub mod Born
 pub mod Chunks
+pub mod Columns
+pub mod Machine

@@ -147,3 +147,7 @@ still_some_time t n h =
 pub next_clean : (t : Task) (n : ℕ) → refuses_in t.script ≡ false → refuses_in (next t n) ≡ false
 next_clean t n h =
     (or_false (refuses_in (past t n)) (refuses_in (next t n)) (sym (ap refuses_in (script_is t n) ∙ refuses_in-append (past t n) (next t n)) ∙ h)).1
+
+pub holds_in-append : (xs ys : List Action) → holds_in (xs ++ ys) ≡ holds_in xs ++ holds_in ys
+holds_in-append [] ys = refl
+holds_in-append (a ∷ xs) ys = ap (λ y. a.holds ++ y) (holds_in-append xs ys) ∙ sym (append_assoc a.holds (holds_in xs) (holds_in ys))

@@ -110,6 +110,11 @@ abbrev pub columns_task : List ℕ → Eof → Bool → ℕ → List (List ℕ) 
 columns_task name e list w ps ended = record {
   name = name; script = columns_script list w ps ended; first = numbers 0 w; held = []; spare = []; eof = eof_path e }
 
+-- whether the columns' streams end
+abbrev pub columns_end : Bool → List (List ℕ) → Bool → Bool
+columns_end true [] true = false
+columns_end list ps ended = ended
+
 -- the paths of column c of the chunks at ps
 abbrev pub column_stream : ℕ → List (List ℕ) → List (List ℕ)
 column_stream c ps = map (λ p. under p c) ps
