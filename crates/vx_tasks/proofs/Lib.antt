@@ -10,3 +10,4 @@ pub mod Born
 pub mod Chunks
 pub mod Columns
 pub mod Machine
+pub mod Counting

@@ -5,3 +5,5 @@ pub mod Rules
 pub mod Laws
 pub mod Nodes
 pub mod Good
+pub mod NodeLaws
+pub mod Runs
