@@ -11,3 +11,4 @@ pub mod Chunks
 pub mod Columns
 pub mod Machine
 pub mod Counting
+pub mod Refusals

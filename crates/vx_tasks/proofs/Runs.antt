@@ -127,7 +127,7 @@ clean_moves all p n j (Node t kids rest) s m (own, inner, outer) i =
     by_place (under g d k e) down over = ap (λ x. x.action.refuses) e ∙ down d k
     by_place (aside d k e) down over = ap (λ x. x.action.refuses) e ∙ over d k
 
-as_many : (xs : List Step) → length (moves_of xs) ≡ length xs
+pub as_many : (xs : List Step) → length (moves_of xs) ≡ length xs
 as_many [] = refl
 as_many (x ∷ xs) = ap suc (as_many xs)
 

@@ -7,3 +7,4 @@ pub mod Nodes
 pub mod Good
 pub mod NodeLaws
 pub mod Runs
+pub mod Broken

@@ -1,5 +1,5 @@
 -- Whole machines, and what their runs are.
-use Rattle.std.specs.Prelude.{◌≡◌, ℕ, ◌+◌, ◌*◌, ◌<◌, Bool, true, false, List, [], ◌∷◌, length, take, drop, map, IsTrue}
+use Rattle.std.specs.Prelude.{◌≡◌, ℕ, zero, suc, ◌+◌, ◌*◌, ◌<◌, Bool, true, false, List, [], ◌∷◌, length, take, drop, map, IsTrue}
 use Rattle.vx_path.specs.Lists.{In}
 use Rattle.vx_path.specs.Path.{Eof, inside, next, under}
 use Rattle.vx_tasks.specs.Task.{Task, Forest, Kind, Prompt}
@@ -71,3 +71,30 @@ TwoColumns =
   where
     third : List Note → List Note
     third xs = take 1 (drop 2 xs)
+
+-- Machines that refuse.
+
+abbrev pub flat_columns : List ℕ → ℕ → ℕ → List (List ℕ) → Eof → Forest
+flat_columns name c zero ps e = Bare
+flat_columns name c (suc k) ps e =
+    Node (flat_task (under name c) (inside e) false (column_stream c ps) true) Bare (flat_columns name (suc c) k ps (next e))
+
+-- two batches into a struct of two columns, each of one flat segment: a second chunk is refused
+abbrev pub struct_of_flat : Forest
+struct_of_flat = machine first_batch 2 true (columns_task (1 ∷ []) root_eof false 2 (batch_paths first_batch 2) true) (flat_columns (1 ∷ []) 0 2 (batch_paths first_batch 2) root_eof)
+
+-- one batch into chunked flat, and a second one that isn't of the schema
+abbrev pub wrong_batch : Forest
+wrong_batch = machine first_batch 1 false (chunked_task (1 ∷ []) root_eof false (batch_paths first_batch 1) false) (flat_kids (1 ∷ []) 0 (batch_paths first_batch 1) root_eof)
+
+-- under every schedule fewer steps than the work are taken, and nothing is appended
+abbrev pub ManyChunks : Type 0
+ManyChunks = (picks : List ℕ) → let steps = run struct_of_flat Zeros picks (work struct_of_flat) in
+    (length steps < work struct_of_flat) × (written (moves_of steps) ≡ [])
+
+-- it depends on the schedule whether the batch before the wrong one is appended
+abbrev pub WrongBatch : Type 0
+WrongBatch =
+    (trace wrong_batch [] ≡ noted 1 0 (0 ∷ []) (Free Batch) ∷ noted 1 0 (0 ∷ []) (Put 0) ∷ [])
+    × (written (moves_of (run wrong_batch Zeros (0 ∷ 0 ∷ 1 ∷ 1 ∷ 1 ∷ 1 ∷ []) (work wrong_batch))) ≡ (0 ∷ 0 ∷ []) ∷ [])
+    × (length (run wrong_batch Zeros (0 ∷ 0 ∷ 1 ∷ 1 ∷ 1 ∷ 1 ∷ []) (work wrong_batch)) ≡ 6)

@@ -1,6 +1,6 @@
 use Rattle.vx_tasks.specs.State.Counts.{Zeros}
 use Rattle.vx_tasks.proofs.Sorted.{all_covered, run_ascends, run_below}
-use Rattle.vx_tasks.proofs.order.Goals as goal
+use Rattle.vx_tasks.proofs.laws.order.Goals as goal
 
 pub returns-clause-covered : goal.returns-clause-covered
 returns-clause-covered c = λ f s rules order x i. all_covered f s rules order x i

@@ -1,7 +1,7 @@
 use Rattle.vx_tasks.specs.State.Counts.{Zeros}
 use Rattle.vx_tasks.proofs.Steps.{at_start}
 use Rattle.vx_tasks.proofs.Runs.{run_leads, run_stops, run_exact}
-use Rattle.vx_tasks.proofs.scheduled.Goals as goal
+use Rattle.vx_tasks.proofs.laws.scheduled.Goals as goal
 
 pub returns-clause-leads : goal.returns-clause-leads
 returns-clause-leads c = λ f picks n. run_leads f Zeros picks n

@@ -2,7 +2,7 @@ use Rattle.vx_tasks.specs.Run.{all_held, outside}
 use Rattle.vx_tasks.specs.State.Counts.{Zeros}
 use Rattle.vx_tasks.proofs.Steps.{move_left}
 use Rattle.vx_tasks.proofs.Runs.{leads_left, refusal_left}
-use Rattle.vx_tasks.proofs.left.Goals as goal
+use Rattle.vx_tasks.proofs.laws.left.Goals as goal
 
 pub returns-clause-moves : goal.returns-clause-moves
 returns-clause-moves c = λ f s m i. move_left (all_held f s) outside 1 0 f s m i
