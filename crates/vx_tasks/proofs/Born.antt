@@ -1,21 +1,14 @@
 -- A child that one action of its parent starts, feeds and closes.
-use Rattle.std.proofs.Common.{◌≡◌, ℕ, zero, suc, ◌+◌, ◌<◌, ◌≤◌, ◌⊎◌, Bool, true, false, cond, not, nat_eq, ◌||◌, List, [], ◌∷◌, ◌++◌, length, take, drop, refl, sym, ap, ◌∙◌, subst, inl, inr, ⊎_elim, arith, append_assoc, append-nil}
-use Rattle.std.proofs.lemmas.Bool.{cases_Bool}
-use Rattle.std.proofs.lemmas.Bool.Decides.{nat_tests}
+use Rattle.std.proofs.Common.{◌≡◌, ℕ, zero, suc, ◌+◌, ◌≤◌, Bool, true, false, List, [], ◌∷◌, ◌++◌, length, take, drop, refl, sym, ap, ◌∙◌, subst, inl, inr, ⊎_elim, arith, append_assoc}
 use Rattle.vx_path.specs.Lists.{In}
-use Rattle.vx_path.specs.Path.{path_le, begins, under, Eof, raised, eof_path, inside, next, Region}
-use Rattle.vx_path.proofs.Lists.{in_left, in_right, in_cases}
-use Rattle.vx_path.proofs.Path.{path_le-refl, path_le-trans, begins-refl, begins_le, begins-under, under_le, raised-next, raised-zero, region_next, region_inside, region_more}
+use Rattle.vx_path.proofs.Lists.{in_right}
 use Rattle.vx_tasks.specs.Task.{Task, Action, Kind, Forest, past, given, to_child, sent, started, closed, taken, holds, items, closes, has, starts_in, shuts_in, refuses_in, takes_of, takes_in, appends_in, holds_after, holds_in, is_still, still_first, still_in, ever_held}
 use Rattle.vx_tasks.specs.Task as task
 use Rattle.vx_tasks.specs.Task.Kind.{Free, Take, TakeEnd, Put, Append, Join}
 use Rattle.vx_tasks.specs.Task.Forest.{Bare, Node}
-use Rattle.vx_tasks.specs.Rules.{AllHeld, Rules, AtLeast, Covers, InOrder, Rises, names}
-use Rattle.vx_tasks.specs.Nodes.{acts, refusal, once_ended, chunk_takes, chunked_script, chunked_task}
-use Rattle.vx_tasks.specs.Good.{Reads, Good, ChunkKids}
-use Rattle.vx_tasks.proofs.Scripts.{no_true, or_true, or_false, nil_left, nil_right, items_are, given-append, starts_in-append, shuts_in-append, still_in-append, takes_in-append, appends_in-append, refuses_in-append, holds_after-append, all_whole}
-use Rattle.vx_tasks.proofs.Fit.{Feeds, child_rules, child_order, body_reads, body_shuts, no_append_keeps, no_append_own, join_apart, no_join_apart, held_where, NamedFrom, more_named, more_rises, alone_named, alone_rises}
-use Rattle.vx_tasks.proofs.Leaves.{mute_reads}
+use Rattle.vx_tasks.specs.Rules.{Covers}
+use Rattle.vx_tasks.proofs.Scripts.{no_true, or_true, nil_left, nil_right, items_are, given-append, starts_in-append, shuts_in-append}
+use Rattle.vx_tasks.proofs.Fit.{Feeds, body_shuts}
 
 -- A place in a list: n actions are done before the one at it, or it is.
 pub data Cut (pre : List Action) (x : Action) (post : List Action) (n : ℕ) : Type 0 where

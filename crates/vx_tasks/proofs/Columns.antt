@@ -1,19 +1,19 @@
 -- Struct and List keep the rules, where their columns do.
-use Rattle.std.proofs.Common.{◌≡◌, ℕ, zero, suc, ◌+◌, ◌<◌, ◌≤◌, ◌⊎◌, Bool, true, false, cond, not, nat_eq, ◌||◌, List, [], ◌∷◌, ◌++◌, map, length, take, drop, refl, sym, ap, ◌∙◌, subst, inl, inr, ⊎_elim, arith, append_assoc, append-nil, length-append, zero-add, one-add}
+use Rattle.std.proofs.Common.{◌≡◌, ℕ, zero, suc, ◌+◌, ◌<◌, ◌≤◌, ◌⊎◌, Bool, true, false, cond, not, nat_eq, ◌||◌, List, [], ◌∷◌, ◌++◌, length, take, drop, refl, sym, ap, ◌∙◌, subst, inl, inr, ⊎_elim, arith, append_assoc, append-nil, zero-add, one-add}
 use Rattle.std.proofs.lemmas.Bool.{cases_Bool}
 use Rattle.std.proofs.lemmas.Bool.Decides.{nat_tests}
 use Rattle.vx_path.specs.Lists.{In}
-use Rattle.vx_path.specs.Path.{path_le, begins, under, Eof, raised, eof_path, inside, next, Region}
+use Rattle.vx_path.specs.Path.{begins, under, Eof, eof_path, inside, next, Region}
 use Rattle.vx_path.proofs.Lists.{in_left, in_right, in_cases, from_map}
-use Rattle.vx_path.proofs.Path.{path_le-refl, begins-refl, begins_le, begins-under, region_next, region_inside, region_from}
+use Rattle.vx_path.proofs.Path.{path_le-refl, begins_le, begins-under, region_next, region_inside, region_from}
 use Rattle.vx_tasks.specs.Task.{Task, Action, Kind, Forest, past, given, to_child, sent, started, closed, taken, holds, items, closes, has, starts_in, shuts_in, refuses_in, takes_of, takes_in, appends_in, holds_after, holds_in, is_still, still_first, still_in, ever_held}
 use Rattle.vx_tasks.specs.Task as task
 use Rattle.vx_tasks.specs.Task.Kind.{Free, Take, TakeEnd, Put, Append, Join}
 use Rattle.vx_tasks.specs.Task.Forest.{Bare, Node}
 use Rattle.vx_tasks.specs.Rules.{Apart, AllHeld, Rules, AtLeast, Covers, InOrder, Rises, names}
 use Rattle.vx_tasks.specs.Nodes.{acts, refusal, closing, once_ended, numbers, column_paths, column_puts, column_takes, column_stream, columns_script, columns_task, columns_end}
-use Rattle.vx_tasks.specs.Good.{Reads, Good, ColumnKids}
-use Rattle.vx_tasks.proofs.Scripts.{no_true, or_true, or_false, given-append, starts_in-append, shuts_in-append, still_in-append, takes_in-append, appends_in-append, refuses_in-append, holds_after-append, holds_in-append, all_whole}
+use Rattle.vx_tasks.specs.Good.{Good, ColumnKids}
+use Rattle.vx_tasks.proofs.Scripts.{no_true, or_true, given-append, shuts_in-append, still_in-append, takes_in-append, appends_in-append, holds_after-append, holds_in-append, all_whole}
 use Rattle.vx_tasks.proofs.Fit.{Feeds, child_rules, child_order, body_reads, body_shuts, no_append_keeps, no_append_own, join_apart, no_join_apart, held_where, NamedFrom, more_named, more_rises, alone_named, alone_rises}
 use Rattle.vx_tasks.proofs.Leaves.{mute_reads}
 use Rattle.vx_tasks.proofs.Born.{given_rest}

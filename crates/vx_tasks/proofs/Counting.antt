@@ -1,13 +1,12 @@
 -- The whole machines: they keep the rules, refuse nowhere, and have so many actions.
-use Rattle.std.proofs.Common.{◌≡◌, ℕ, zero, suc, ◌+◌, ◌*◌, ◌<◌, ◌≤◌, Bool, true, false, ◌||◌, List, [], ◌∷◌, ◌++◌, length, map, refl, sym, ap, ◌∙◌, arith, length-append}
-use Rattle.vx_path.specs.Path.{Eof, eof_path, inside, next, under}
-use Rattle.vx_tasks.specs.Task.{Task, Forest, Action, refuses_in}
-use Rattle.vx_tasks.specs.Task.Forest.{Bare, Node}
+use Rattle.std.proofs.Common.{◌≡◌, ℕ, zero, suc, ◌+◌, ◌*◌, Bool, true, false, ◌||◌, List, [], ◌∷◌, length, refl, ap, ◌∙◌, arith, length-append}
+use Rattle.vx_path.specs.Path.{Eof, inside, next, under}
+use Rattle.vx_tasks.specs.Task.{refuses_in}
 use Rattle.vx_tasks.specs.State.{left}
 use Rattle.vx_tasks.specs.State.Counts.{Zeros}
 use Rattle.vx_tasks.specs.Run.{run, work}
-use Rattle.vx_tasks.specs.Rules.{NoneRefuses, KeepsRules}
-use Rattle.vx_tasks.specs.Nodes.{source_script, batch_paths, chunk_takes, chunked_script, chunked_task, flat_kids, column_puts, column_takes, column_stream, columns_script, columns_task, chunked_columns, machine, acts, closing, numbers}
+use Rattle.vx_tasks.specs.Rules.{NoneRefuses}
+use Rattle.vx_tasks.specs.Nodes.{source_script, batch_paths, chunk_takes, chunked_script, chunked_task, flat_kids, column_puts, column_takes, column_stream, columns_script, columns_task, chunked_columns, acts, closing, numbers}
 use Rattle.vx_tasks.specs.Task.Kind.{TakeEnd, Join}
 use Rattle.vx_tasks.specs.Good.{Good, ChunkKids, ColumnKids}
 use Rattle.vx_tasks.specs.Runs.{chunks_of_flat, struct_of_chunks}

@@ -1,19 +1,18 @@
 -- A node with children that are good is good: what every node's proof takes.
-use Rattle.std.proofs.Common.{◌≡◌, ℕ, zero, suc, ◌+◌, ◌<◌, ◌≤◌, ◌⊎◌, Bool, true, false, cond, not, nat_eq, nat_lt, ◌||◌, List, [], ◌∷◌, ◌++◌, map, length, take, drop, IsTrue, IsFalse, refl, sym, ap, ◌∙◌, subst, inl, inr, ⊎_elim, arith, append_assoc, append-nil}
-use Rattle.std.proofs.lemmas.Bool.{cases_Bool}
+use Rattle.std.proofs.Common.{◌≡◌, ℕ, zero, suc, ◌≤◌, ◌⊎◌, Bool, true, false, cond, not, nat_eq, nat_lt, ◌||◌, List, [], ◌∷◌, ◌++◌, take, drop, refl, sym, ap, ◌∙◌, inl, inr, ⊎_elim, arith, append-nil}
 use Rattle.std.proofs.lemmas.Bool.Decides.{nat_tests}
 use Rattle.vx_path.specs.Lists.{In}
-use Rattle.vx_path.specs.Path.{path_le, path_lt, begins, under, Eof, raised, eof_path, inside, next, Region}
-use Rattle.vx_path.proofs.Lists.{in_left, in_right, in_cases}
-use Rattle.vx_path.proofs.Path.{path_le-refl, path_le-trans, path_le-total, begins_le, begins-refl, begins-trans, begins-under, region_least, under_lt, under_apart, apart_lt, lt_le_trans}
+use Rattle.vx_path.specs.Path.{path_le, path_lt, begins, under, Eof, eof_path, Region}
+use Rattle.vx_path.proofs.Lists.{in_cases}
+use Rattle.vx_path.proofs.Path.{begins_le, begins-refl, begins-trans, begins-under, region_least, under_lt, under_apart, apart_lt, lt_le_trans}
 use Rattle.vx_tasks.specs.Task.{Task, Action, Kind, Forest, past, given, sent, started, closed, taken, holds, items, closes, has, starts_in, shuts_in, refuses_in, takes_in, appends_of, appends_in, holds_after, is_still, still_first, still_in, ever_held}
 use Rattle.vx_tasks.specs.Task as task
 use Rattle.vx_tasks.specs.Task.Kind.{Free, Take, TakeEnd, Put, Append, Join}
 use Rattle.vx_tasks.specs.Task.Forest.{Bare, Node}
 use Rattle.vx_tasks.specs.Rules.{Fits, Keeps, AllHeld, AllBelow, Apart, Rules, AtLeast, Covers, appends, Ordered, InOrder, Rises, names}
-use Rattle.vx_tasks.specs.Good.{Reads, Good}
-use Rattle.vx_tasks.proofs.Scripts.{no_true, or_parts, or_true, script_is, held_ever, still_some_time, appends_in-append, takes_in-append, shuts_in-append}
-use Rattle.vx_tasks.proofs.Names.{Across, rises_join}
+use Rattle.vx_tasks.specs.Good.{Good}
+use Rattle.vx_tasks.proofs.Scripts.{no_true, or_true, script_is, held_ever, still_some_time, appends_in-append, takes_in-append, shuts_in-append}
+use Rattle.vx_tasks.proofs.Names.{rises_join}
 
 -- How a task p, whose own stream has the paths ps, feeds a child j with a stream cps.
 pub record Feeds (cut : Bool) (ps : List (List ℕ)) (p : Task) (j : ℕ) (cps : List (List ℕ)) (cend : Bool) (ceof : List ℕ) : Type 0 where

@@ -1,5 +1,5 @@
 -- The nodes without children, Flat and Struct without columns, keep the rules.
-use Rattle.std.proofs.Common.{◌≡◌, ℕ, zero, suc, ◌+◌, ◌<◌, ◌≤◌, ◌⊎◌, Bool, true, false, List, [], ◌∷◌, ◌++◌, length, take, drop, refl, sym, ap, ◌∙◌, subst, inl, inr, ⊎_elim, arith}
+use Rattle.std.proofs.Common.{◌≡◌, ℕ, zero, suc, ◌≤◌, Bool, true, false, List, [], ◌∷◌, ◌++◌, length, refl, sym, ap, ◌∙◌, subst, inl, ⊎_elim, arith}
 use Rattle.vx_path.specs.Lists.{In}
 use Rattle.vx_path.specs.Path.{path_le, begins, Eof, eof_path, Region}
 use Rattle.vx_path.proofs.Lists.{in_left}

@@ -1,14 +1,13 @@
 -- A source on top of a good root makes a tree that keeps the rules.
-use Rattle.std.proofs.Common.{◌≡◌, ℕ, zero, suc, ◌+◌, ◌<◌, ◌≤◌, ◌⊎◌, Bool, true, false, cond, not, nat_eq, ◌||◌, List, [], ◌∷◌, ◌++◌, length, take, drop, refl, sym, ap, ◌∙◌, subst, inl, inr, ⊎_elim, arith, append-nil}
+use Rattle.std.proofs.Common.{◌≡◌, ℕ, zero, suc, ◌+◌, Bool, true, false, not, List, [], ◌∷◌, ◌++◌, take, drop, refl, sym, ap, ◌∙◌, subst, inl, ⊎_elim, arith, append-nil}
 use Rattle.vx_path.specs.Lists.{In}
-use Rattle.vx_path.specs.Path.{path_le, path_lt, begins, Eof, eof_path, next}
-use Rattle.vx_path.proofs.Lists.{in_left, in_right, in_cases}
-use Rattle.vx_path.proofs.Path.{path_le-refl, path_le-trans, begins-refl, under_le, apart_lt}
-use Rattle.vx_tasks.specs.Task.{Task, Action, Kind, Forest, past, given, sent, started, closed, taken, holds, items, closes, has, starts_in, shuts_in, refuses_in, takes_in, appends_in, holds_after, still_first, still_in}
-use Rattle.vx_tasks.specs.Task as task
+use Rattle.vx_path.specs.Path.{path_le, Eof, eof_path, next}
+use Rattle.vx_path.proofs.Lists.{in_left}
+use Rattle.vx_path.proofs.Path.{path_le-refl, path_le-trans, under_le, apart_lt}
+use Rattle.vx_tasks.specs.Task.{Task, Forest, given, taken, holds, shuts_in, refuses_in, appends_in, holds_after, still_in}
 use Rattle.vx_tasks.specs.Task.Forest.{Bare, Node}
 use Rattle.vx_tasks.specs.Run.{outside}
-use Rattle.vx_tasks.specs.Rules.{Fits, Rules, AtLeast, Covers, appends, Ordered, InOrder, KeepsRules, KeepsOrder, Rises, names}
+use Rattle.vx_tasks.specs.Rules.{Fits, AtLeast, Covers, Ordered, KeepsRules, KeepsOrder, Rises, names}
 use Rattle.vx_tasks.specs.Nodes.{source_script, source_task, batch_paths, machine}
 use Rattle.vx_tasks.specs.Good.{Good}
 use Rattle.vx_tasks.proofs.Scripts.{no_true, still_some_time, all_whole}

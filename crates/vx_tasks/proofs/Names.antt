@@ -1,15 +1,14 @@
 -- The order of names is the order in which the tree is walked.
-use Rattle.std.proofs.Common.{◌≡◌, ℕ, zero, suc, ◌⊎◌, Bool, true, false, cond, List, [], ◌∷◌, ◌++◌, map, IsTrue, refl, sym, ap, ◌∙◌, subst, inl, inr, ⊎_elim}
-use Rattle.std.proofs.lemmas.Bool.{cases_Bool}
+use Rattle.std.proofs.Common.{◌≡◌, ℕ, suc, ◌⊎◌, Bool, true, false, List, [], ◌∷◌, ◌++◌, map, refl, sym, ap, subst, inl, inr, ⊎_elim}
 use Rattle.vx_path.specs.Lists.{In}
 use Rattle.vx_path.specs.Path.{path_lt}
-use Rattle.vx_path.proofs.Lists.{in_left, in_right, in_cases, in_map, from_map}
+use Rattle.vx_path.proofs.Lists.{in_left, in_right, in_cases, from_map}
 use Rattle.vx_tasks.specs.Task.{Task, Action, Forest, next, started, closed}
 use Rattle.vx_tasks.specs.Task.Forest.{Bare, Node}
 use Rattle.vx_tasks.specs.State.{Counts, top, below, beside, queue}
 use Rattle.vx_tasks.specs.Run.{can, Move, own_move, move_below, move_beside, moves}
 use Rattle.vx_tasks.specs.Rules.{Rises, names}
-use Rattle.vx_tasks.proofs.Steps.{Where, here, under, aside, which, Own}
+use Rattle.vx_tasks.proofs.Steps.{Where, here, under, aside, which}
 
 abbrev pub Across : List (List ℕ) → List (List ℕ) → Type 0
 Across xs ys = (x y : List ℕ) → In x xs → In y ys → path_lt x y ≡ true

@@ -1,8 +1,8 @@
 -- A struct of flat columns refuses its second batch, under every schedule.
-use Rattle.std.proofs.Common.{◌≡◌, ℕ, zero, suc, ◌+◌, ◌<◌, ◌≤◌, ◌⊎◌, Bool, true, false, List, [], ◌∷◌, ◌++◌, length, refl, sym, ap, ◌∙◌, subst, inl, inr, ⊎_elim, arith}
+use Rattle.std.proofs.Common.{◌≡◌, ℕ, zero, suc, ◌+◌, ◌<◌, true, false, List, [], ◌∷◌, ◌++◌, length, refl, sym, ap, ◌∙◌, arith}
 use Rattle.vx_path.specs.Path.{Eof, inside, next, under}
 use Rattle.vx_path.specs.Sort.{sort}
-use Rattle.vx_tasks.specs.Task.{Forest, refuses_in}
+use Rattle.vx_tasks.specs.Task.{Forest}
 use Rattle.vx_tasks.specs.State.{Counts, left, pending}
 use Rattle.vx_tasks.specs.State.Counts.{Zeros}
 use Rattle.vx_tasks.specs.Run.{Step, run, end_of, moves_of, written, work, Leads}

@@ -1,16 +1,16 @@
 -- Runs: how long they are, where they end, and what stands at the end.
-use Rattle.std.proofs.Common.{◌≡◌, ℕ, zero, suc, ◌+◌, ◌%◌, ◌<◌, ◌≤◌, ◌⊎◌, Bool, true, false, cond, not, nat_eq, ◌||◌, List, [], ◌∷◌, ◌++◌, map, length, take, drop, Option, Some, None, IsTrue, IsFalse, refl, sym, ap, ◌∙◌, subst, inl, inr, ⊎_elim, arith, append_assoc, mod-lt}
-use Rattle.std.proofs.lemmas.Bool.{cases_Bool, true≢false}
+use Rattle.std.proofs.Common.{◌≡◌, ℕ, zero, suc, ◌+◌, ◌%◌, ◌<◌, ◌≤◌, ◌⊎◌, Bool, true, false, not, List, [], ◌∷◌, length, Option, Some, None, refl, sym, ap, ◌∙◌, subst, inl, inr, ⊎_elim, arith}
+use Rattle.std.proofs.lemmas.Bool.{cases_Bool}
 use Rattle.vx_path.specs.Lists.{In}
-use Rattle.vx_tasks.specs.Task.{Task, Action, Kind, Forest, next, refuses_in, closes}
+use Rattle.vx_tasks.specs.Task.{Task, Action, Forest, next, refuses_in, closes}
 use Rattle.vx_tasks.specs.Task.Forest.{Bare, Node}
 use Rattle.vx_tasks.specs.State.{Counts, top, below, beside, left}
-use Rattle.vx_tasks.specs.State.Counts.{Zeros, Count}
-use Rattle.vx_tasks.specs.Run.{Move, moves, outside, all_held, all_moves, ready, work, Leads, Step, first_pick, later_picks, nth, step_at, step_of, run, end_of, moves_of}
-use Rattle.vx_tasks.specs.Rules.{Fits, Rules, Kept, NoneRefuses, AllEnd}
+use Rattle.vx_tasks.specs.State.Counts.{Zeros}
+use Rattle.vx_tasks.specs.Run.{Move, moves, outside, all_held, all_moves, ready, work, Leads, Step, first_pick, later_picks, nth, step_at, run, end_of, moves_of}
+use Rattle.vx_tasks.specs.Rules.{Rules, Kept, NoneRefuses, AllEnd}
 use Rattle.vx_tasks.proofs.Scripts.{no_true, or_false, next_clean}
 use Rattle.vx_tasks.proofs.Stuck.{some_move}
-use Rattle.vx_tasks.proofs.Steps.{Where, here, under, aside, which, Own, move_left, move_kept, at_start}
+use Rattle.vx_tasks.proofs.Steps.{Where, here, under, aside, which, move_left, move_kept, at_start}
 
 pub leads_kept : (f : Forest) (s e : Counts) (ms : List Move) → Kept f s → Leads f s ms e → Kept f e
 leads_kept f s e [] k l = subst (λ x. Kept f x) l k

@@ -1,11 +1,10 @@
 -- What words on lists of actions say of a list in two parts, and of what a task has done and has still to do.
-use Rattle.std.proofs.Common.{◌≡◌, ℕ, zero, suc, ◌+◌, ◌<◌, ◌≤◌, ◌⊎◌, Bool, true, false, cond, not, nat_eq, ◌||◌, List, [], ◌∷◌, ◌++◌, map, length, take, drop, IsTrue, IsFalse, refl, sym, ap, ◌∙◌, subst, inl, inr, ⊎_elim, arith, append_assoc, append-nil, take-append-drop, add_assoc, length-append, take_all}
-use Rattle.std.proofs.lemmas.Bool.{cases_Bool, true≢false}
+use Rattle.std.proofs.Common.{◌≡◌, ℕ, zero, suc, ◌+◌, ◌≤◌, ◌⊎◌, Bool, true, false, ◌||◌, List, [], ◌∷◌, ◌++◌, map, length, take, drop, refl, sym, ap, ◌∙◌, inl, inr, arith, append_assoc, append-nil, take-append-drop, add_assoc, length-append, take_all}
+use Rattle.std.proofs.lemmas.Bool.{true≢false}
 use Rattle.std.proofs.lemmas.Bool.Decides.{nat_tests}
 use Rattle.vx_path.specs.Lists.{In}
 use Rattle.vx_path.proofs.Lists.{in_left, in_right, in_cases}
-use Rattle.vx_tasks.specs.Task.{Task, Action, Kind, next, past, has, to_child, given, starts_in, shuts_in, refuses_in, takes_of, takes_in, appends_of, appends_in, holds_after, holds_in, is_still, still_first, still_in, sent, started, closed, taken, holds, items, closes, ever_held}
-use Rattle.vx_tasks.specs.Task.Kind.{Free, Take, TakeEnd, Put, Append, Join}
+use Rattle.vx_tasks.specs.Task.{Task, Action, next, past, has, to_child, given, starts_in, shuts_in, refuses_in, takes_of, takes_in, appends_of, appends_in, holds_after, holds_in, is_still, still_first, still_in, sent, closed, holds, items, closes, ever_held}
 
 -- Lists.
 

@@ -1,22 +1,22 @@
 -- What is appended is the least of all that is still to be appended.
-use Rattle.std.proofs.Common.{◌≡◌, ℕ, zero, suc, ◌+◌, ◌<◌, ◌≤◌, ◌⊎◌, Bool, true, false, cond, not, nat_eq, ◌||◌, List, [], ◌∷◌, ◌++◌, map, length, take, drop, IsTrue, IsFalse, refl, sym, ap, ◌∙◌, subst, inl, inr, ⊎_elim, arith, append_assoc}
-use Rattle.std.proofs.lemmas.Bool.{cases_Bool, true≢false}
+use Rattle.std.proofs.Common.{◌≡◌, ℕ, suc, ◌⊎◌, Bool, true, false, not, List, [], ◌∷◌, ◌++◌, drop, refl, sym, ap, ◌∙◌, ⊎_elim, append_assoc}
+use Rattle.std.proofs.lemmas.Bool.{cases_Bool}
 use Rattle.vx_path.specs.Lists.{In}
 use Rattle.vx_path.specs.Path.{path_le, is_least}
 use Rattle.vx_path.specs.Sort.{sort, Ascends}
 use Rattle.vx_path.proofs.Lists.{in_left, in_right, in_cases, in_rest}
 use Rattle.vx_path.proofs.Path.{path_le-refl, path_le-trans, is_least_in}
 use Rattle.vx_path.proofs.Sort.{sort-least, sort_ascends, in_sorted}
-use Rattle.vx_tasks.specs.Task.{Task, Action, Kind, Forest, next, past, given, started, sent, taken, holds, items, closes, appends_of, appends_in}
+use Rattle.vx_tasks.specs.Task.{Task, Kind, Forest, next, past, given, started, sent, taken, holds, items, closes, appends_of, appends_in}
 use Rattle.vx_tasks.specs.Task.Kind.{Free, Take, TakeEnd, Put, Append, Join}
 use Rattle.vx_tasks.specs.Task.Forest.{Bare, Node}
 use Rattle.vx_tasks.specs.State.{Counts, top, below, beside, queue, held, pending}
-use Rattle.vx_tasks.specs.State.Counts.{Zeros, Count}
-use Rattle.vx_tasks.specs.Run.{Move, move_below, move_beside, moves, outside, all_held, all_moves, Leads, written}
-use Rattle.vx_tasks.specs.Rules.{Fits, Rules, AtLeast, Covers, appends, Ordered, InOrder}
+use Rattle.vx_tasks.specs.State.Counts.{Zeros}
+use Rattle.vx_tasks.specs.Run.{Move, moves, outside, all_held, all_moves, Leads, written}
+use Rattle.vx_tasks.specs.Rules.{Rules, AtLeast, Covers, appends, InOrder}
 use Rattle.vx_tasks.proofs.Scripts.{script_is, in_drop, items_are, appends_in-append}
 use Rattle.vx_tasks.proofs.Stuck.{in_here, in_own, in_below, in_aside}
-use Rattle.vx_tasks.proofs.Steps.{Where, here, under, aside, which, Own, Removes, move_removes}
+use Rattle.vx_tasks.proofs.Steps.{Where, here, under, aside, which, Removes, move_removes}
 
 -- What is pending is some of what is appended in all.
 

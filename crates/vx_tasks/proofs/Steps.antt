@@ -1,12 +1,10 @@
 -- What a move does to a state: the work left falls by one, no refusal is passed, and the path that is
 -- appended leaves those that are pending.
-use Rattle.std.proofs.Common.{◌≡◌, ℕ, zero, suc, ◌+◌, ◌<◌, ◌≤◌, ◌⊎◌, Bool, true, false, cond, not, nat_eq, ◌||◌, List, [], ◌∷◌, ◌++◌, map, length, take, drop, IsTrue, IsFalse, refl, sym, ap, ap₂, ◌∙◌, subst, inl, inr, ⊎_elim, arith, append_assoc}
-use Rattle.std.proofs.lemmas.Bool.{cases_Bool, true≢false}
+use Rattle.std.proofs.Common.{◌≡◌, ℕ, suc, ◌⊎◌, Bool, true, false, cond, List, [], ◌∷◌, ◌++◌, map, refl, sym, ap, ◌∙◌, subst, inl, inr, ⊎_elim, arith, append_assoc}
+use Rattle.std.proofs.lemmas.Bool.{cases_Bool}
 use Rattle.vx_path.specs.Lists.{In}
-use Rattle.vx_path.specs.Path.{is_least}
-use Rattle.vx_path.proofs.Lists.{in_left, in_right, in_cases, from_map}
-use Rattle.vx_tasks.specs.Task.{Task, Action, Kind, Forest, next, refuses_in, started, closed, appends_of, appends_in}
-use Rattle.vx_tasks.specs.Task.Kind.{Free, Take, TakeEnd, Put, Append, Join}
+use Rattle.vx_path.proofs.Lists.{in_cases, from_map}
+use Rattle.vx_tasks.specs.Task.{Task, Action, Forest, next, refuses_in, started, closed, appends_of, appends_in}
 use Rattle.vx_tasks.specs.Task.Forest.{Bare, Node}
 use Rattle.vx_tasks.specs.State.{Counts, top, below, beside, left, queue, pending}
 use Rattle.vx_tasks.specs.State.Counts.{Zeros, Count}

@@ -1,20 +1,20 @@
 -- A state with work left has a move.
-use Rattle.std.proofs.Common.{◌≡◌, ℕ, zero, suc, ◌+◌, ◌<◌, ◌≤◌, ◌⊎◌, Bool, true, false, cond, not, nat_eq, nat_le, ◌||◌, List, [], ◌∷◌, ◌++◌, map, length, take, drop, IsTrue, IsFalse, refl, sym, ap, ◌∙◌, subst, inl, inr, ⊎_elim, arith, get_or}
-use Rattle.std.proofs.lemmas.Bool.{cases_Bool, true≢false}
+use Rattle.std.proofs.Common.{◌≡◌, ℕ, suc, ◌+◌, ◌<◌, ◌≤◌, ◌⊎◌, Bool, true, false, cond, not, nat_eq, nat_le, ◌||◌, List, [], ◌∷◌, ◌++◌, map, length, drop, IsTrue, refl, sym, ap, ◌∙◌, subst, inl, inr, ⊎_elim, arith, get_or}
+use Rattle.std.proofs.lemmas.Bool.{cases_Bool}
 use Rattle.std.proofs.lemmas.Bool.Decides.{nat_tests}
 use Rattle.std.proofs.lemmas.List.{drop_all}
 use Rattle.vx_path.specs.Lists.{In}
-use Rattle.vx_path.specs.Path.{path_le, path_lt, is_least}
+use Rattle.vx_path.specs.Path.{path_lt, is_least}
 use Rattle.vx_path.proofs.Lists.{in_left, in_right, in_cases}
 use Rattle.vx_path.proofs.Path.{least_in, is_least_in, lt_not_le}
-use Rattle.vx_tasks.specs.Task.{Task, Action, Kind, Prompt, Forest, next, past, given, starts_in, shuts_in, refuses_in, takes_in, holds_after, has, is_still, still_first, still_in, sent, started, closed, taken, holds, items, closes, places, ever_held}
+use Rattle.vx_tasks.specs.Task.{Task, Action, Kind, Forest, next, shuts_in, refuses_in, holds_after, is_still, still_first, sent, started, closed, taken, holds, items, closes, places}
 use Rattle.vx_tasks.specs.Task.Kind.{Free, Take, TakeEnd, Put, Append, Join}
 use Rattle.vx_tasks.specs.Task.Forest.{Bare, Node}
 use Rattle.vx_tasks.specs.State.{Counts, top, below, beside, left, left_started, queue, full, held}
-use Rattle.vx_tasks.specs.State.Counts.{Zeros, Count}
+use Rattle.vx_tasks.specs.State.Counts.{Count}
 use Rattle.vx_tasks.specs.Run.{can, any_there, Move, own_move, move_below, move_beside, moves, outside, all_held, all_moves, ready}
-use Rattle.vx_tasks.specs.Rules.{Fits, Keeps, AllHeld, AllBelow, Apart, Rules, Kept}
-use Rattle.vx_tasks.proofs.Scripts.{nil_left, nil_right, map_nil, drop_nil, no_true, or_parts, or_false, script_is, all_done, all_whole, held_ever, sent_fewer, closes_some_time, still_some_time}
+use Rattle.vx_tasks.specs.Rules.{Fits, AllHeld, AllBelow, Rules, Kept}
+use Rattle.vx_tasks.proofs.Scripts.{nil_left, nil_right, map_nil, drop_nil, no_true, all_done, all_whole, held_ever, sent_fewer, still_some_time}
 
 -- A task at rest: it is about to append or to join, or is done.
 abbrev Rests : Task → ℕ → Type 0

@@ -1,8 +1,8 @@
 -- Small trees that break one rule each, and what becomes of them.
-use Rattle.std.specs.Prelude.{◌≡◌, ℕ, ◌<◌, Bool, true, false, List, [], ◌∷◌}
-use Rattle.vx_tasks.specs.Task.{Action, Kind, Prompt, Task, Forest}
+use Rattle.std.specs.Prelude.{◌≡◌, ℕ, ◌<◌, false, List, [], ◌∷◌}
+use Rattle.vx_tasks.specs.Task.{Action, Task, Forest}
 use Rattle.vx_tasks.specs.Task.Prompt.{Close, Call}
-use Rattle.vx_tasks.specs.Task.Kind.{Free, Take, TakeEnd, Put, Append, Join}
+use Rattle.vx_tasks.specs.Task.Kind.{Free, Take, TakeEnd, Append, Join}
 use Rattle.vx_tasks.specs.Task.Forest.{Bare, Node}
 use Rattle.vx_tasks.specs.State.{left}
 use Rattle.vx_tasks.specs.State.Counts.{Zeros}

@@ -1,6 +1,6 @@
 -- What each node shows of its task, its children and all below them, in terms of the stream that it is
 -- given, so that a tree made of such nodes keeps the rules.
-use Rattle.std.specs.Prelude.{◌≡◌, ℕ, zero, suc, ◌≤◌, Bool, true, false, not, List, [], ◌∷◌, ◌++◌, map, length, IsTrue, IsFalse}
+use Rattle.std.specs.Prelude.{◌≡◌, ℕ, zero, suc, ◌≤◌, Bool, true, not, List, [], ◌∷◌, length, IsTrue, IsFalse}
 use Rattle.vx_path.specs.Lists.{In}
 use Rattle.vx_path.specs.Path.{begins, under, Eof, eof_path, inside, next, Region}
 use Rattle.vx_tasks.specs.Task.{Task, Forest, holds, takes_in, taken, still_first, appends_in, refuses_in}

@@ -1,12 +1,12 @@
 -- The laws, for every tree f, and every list of moves ms that leads from its start to a state e.
-use Rattle.std.specs.Prelude.{◌≡◌, ℕ, suc, ◌+◌, ◌<◌, ◌≤◌, ◌⊎◌, List, [], ◌∷◌, ◌++◌, length, map, IsTrue}
+use Rattle.std.specs.Prelude.{◌≡◌, ℕ, suc, ◌+◌, ◌<◌, ◌⊎◌, List, ◌++◌, length, map, IsTrue}
 use Rattle.vx_path.specs.Lists.{In}
 use Rattle.vx_path.specs.Path.{path_le}
 use Rattle.vx_path.specs.Sort.{sort, Ascends}
 use Rattle.vx_tasks.specs.Task.{Forest}
 use Rattle.vx_tasks.specs.State.{Counts, left, pending}
 use Rattle.vx_tasks.specs.State.Counts.{Zeros}
-use Rattle.vx_tasks.specs.Run.{Move, Step, all_held, all_moves, ready, work, Leads, written, run, end_of, moves_of, outside}
+use Rattle.vx_tasks.specs.Run.{Move, all_held, all_moves, ready, work, Leads, written, run, end_of, moves_of, outside}
 use Rattle.vx_tasks.specs.Rules.{KeepsRules, KeepsOrder, AtLeast, appends, Rises, names, NoneRefuses, AllEnd}
 
 -- each move lowers the work left by one

@@ -2,7 +2,7 @@
 use Rattle.std.specs.Prelude.{ℕ, Bool, true, false, List, [], ◌∷◌}
 use Rattle.vx_path.specs.Path.{Eof}
 use Rattle.vx_tasks.specs.Task.{Task, Forest}
-use Rattle.vx_tasks.specs.Task.Forest.{Bare, Node}
+use Rattle.vx_tasks.specs.Task.Forest.{Bare}
 use Rattle.vx_tasks.specs.Rules.{KeepsRules, KeepsOrder, Rises, names}
 use Rattle.vx_tasks.specs.Nodes.{flat_task, chunked_task, columns_task, columns_end, rows_task, batch_paths, machine}
 use Rattle.vx_tasks.specs.Good.{Good, ChunkKids, ColumnKids}

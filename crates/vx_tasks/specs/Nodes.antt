@@ -1,10 +1,10 @@
 -- The scripts of the source and of the nodes Flat, Chunked and Struct, read off from the streams that they
 -- are given: the paths of the items, and whether the stream ends. A script on an open stream ends before
 -- the action that would read past what is known; a refusing action is the last of its script.
-use Rattle.std.specs.Prelude.{ℕ, zero, suc, Bool, true, false, List, [], ◌∷◌, ◌++◌, map, length}
+use Rattle.std.specs.Prelude.{ℕ, zero, suc, Bool, true, false, List, [], ◌∷◌, ◌++◌, map}
 use Rattle.vx_path.specs.Path.{under, Eof, eof_path, inside, next}
-use Rattle.vx_tasks.specs.Task.{Action, Kind, Prompt, Task, Forest}
-use Rattle.vx_tasks.specs.Task.Prompt.{Batch, End, Call, Close}
+use Rattle.vx_tasks.specs.Task.{Action, Kind, Task, Forest}
+use Rattle.vx_tasks.specs.Task.Prompt.{Batch, End, Close}
 use Rattle.vx_tasks.specs.Task.Kind.{Free, Take, TakeEnd, Put, Append, Join}
 use Rattle.vx_tasks.specs.Task.Forest.{Bare, Node}
 

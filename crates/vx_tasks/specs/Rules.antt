@@ -1,9 +1,9 @@
 -- The rules that a tree's scripts keep, so that it never gets stuck and appends in order of path.
 -- They speak of the scripts alone, and of no state.
-use Rattle.std.specs.Prelude.{◌≡◌, ℕ, suc, ◌+◌, ◌<◌, ◌≤◌, Bool, true, false, not, ◌||◌, List, [], ◌∷◌, ◌++◌, length, drop, IsTrue, IsFalse}
+use Rattle.std.specs.Prelude.{◌≡◌, ℕ, suc, ◌≤◌, Bool, false, not, ◌||◌, List, [], ◌∷◌, ◌++◌, length, drop, IsTrue, IsFalse}
 use Rattle.vx_path.specs.Lists.{In}
 use Rattle.vx_path.specs.Path.{path_le, path_lt}
-use Rattle.vx_tasks.specs.Task.{Task, Action, Kind, Forest, next, sent, started, closed, taken, holds, items, closes, given, refuses_in, takes_in, appends_in, still_first, still_in, ever_held, starts_in, has}
+use Rattle.vx_tasks.specs.Task.{Task, Action, Forest, next, sent, started, closed, taken, holds, items, closes, given, refuses_in, takes_in, appends_in, still_first, still_in, ever_held, starts_in, has}
 use Rattle.vx_tasks.specs.Task.Forest.{Bare, Node}
 use Rattle.vx_tasks.specs.Task.Kind.{Append, Join}
 use Rattle.vx_tasks.specs.State.{Counts, top, below, beside}

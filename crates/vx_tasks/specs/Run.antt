@@ -1,5 +1,5 @@
 -- What can be done in a state, and runs under a schedule.
-use Rattle.std.specs.Prelude.{◌≡◌, ℕ, ◌+◌, ◌%◌, Bool, true, false, cond, not, nat_eq, ◌||◌, zero, suc, List, [], ◌∷◌, ◌++◌, map, length, IsFalse, Option, Some, None}
+use Rattle.std.specs.Prelude.{◌≡◌, ℕ, ◌%◌, Bool, true, false, cond, not, nat_eq, ◌||◌, zero, suc, List, [], ◌∷◌, ◌++◌, map, length, IsFalse, Option, Some, None}
 use Rattle.vx_path.specs.Lists.{In}
 use Rattle.vx_path.specs.Path.{is_least}
 use Rattle.vx_tasks.specs.Task.{Task, Action, Kind, Forest, Prompt, next, started, closed, appends_of}

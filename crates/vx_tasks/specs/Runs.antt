@@ -1,14 +1,12 @@
 -- Whole machines, and what their runs are.
-use Rattle.std.specs.Prelude.{◌≡◌, ℕ, zero, suc, ◌+◌, ◌*◌, ◌<◌, Bool, true, false, List, [], ◌∷◌, length, take, drop, map, IsTrue}
-use Rattle.vx_path.specs.Lists.{In}
+use Rattle.std.specs.Prelude.{◌≡◌, ℕ, zero, suc, ◌+◌, ◌*◌, ◌<◌, true, false, List, [], ◌∷◌, length, take, drop}
 use Rattle.vx_path.specs.Path.{Eof, inside, next, under}
-use Rattle.vx_tasks.specs.Task.{Task, Forest, Kind, Prompt}
-use Rattle.vx_tasks.specs.Task.Prompt.{Batch, End, Call, Close}
+use Rattle.vx_tasks.specs.Task.{Forest, Kind}
+use Rattle.vx_tasks.specs.Task.Prompt.{Batch, End, Close}
 use Rattle.vx_tasks.specs.Task.Kind.{Free, Take, TakeEnd, Put, Append, Join}
 use Rattle.vx_tasks.specs.Task.Forest.{Bare, Node}
-use Rattle.vx_tasks.specs.State.{left}
 use Rattle.vx_tasks.specs.State.Counts.{Zeros}
-use Rattle.vx_tasks.specs.Run.{Note, run, end_of, moves_of, written, trace, ready_counts, work, ready, all_moves, Move}
+use Rattle.vx_tasks.specs.Run.{Note, run, moves_of, written, trace, ready_counts, work, ready}
 use Rattle.vx_tasks.specs.Nodes.{batch_paths, machine, chunked_task, flat_task, flat_kids, columns_task, chunked_columns, column_stream}
 
 -- where a run begins: batches at [0, 0], [0, 1], .., and the root's eof path [1]

@@ -1,5 +1,5 @@
 -- States of a tree of tasks: one number a task, the actions that it has done.
-use Rattle.std.specs.Prelude.{ℕ, suc, ◌+◌, Bool, true, false, cond, nat_eq, nat_le, ◌||◌, List, [], ◌∷◌, ◌++◌, length, drop}
+use Rattle.std.specs.Prelude.{ℕ, suc, ◌+◌, Bool, false, cond, nat_eq, nat_le, List, [], ◌++◌, length, drop}
 use Rattle.vx_tasks.specs.Task.{Task, Forest, next, sent, started, taken, holds, places, appends_in}
 use Rattle.vx_tasks.specs.Task.Forest.{Bare, Node}
 

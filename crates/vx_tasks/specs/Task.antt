@@ -1,5 +1,5 @@
 -- Tasks: what each does, in order, and what each action waits for, starts, gives, closes and holds.
-use Rattle.std.specs.Prelude.{ℕ, ◌+◌, Bool, true, false, cond, nat_eq, ◌||◌, List, [], ◌∷◌, ◌++◌, length, take, drop, get_or}
+use Rattle.std.specs.Prelude.{ℕ, ◌+◌, Bool, true, false, cond, nat_eq, ◌||◌, List, [], ◌∷◌, ◌++◌, take, drop, get_or}
 
 -- The actions that wait for nothing: reading a batch, reading the end, calling the compressor, closing queues.
 pub data Prompt : Type 0 where
