@@ -47,7 +47,7 @@ module _ (cut : Bool) (ps : List (List ℕ)) (t : Task) (j : ℕ) (p : List ℕ)
   has_started : (n k : ℕ) → take n t.script ≡ pre ++ (x ∷ take k post) → started t j n ≡ true
   has_started n k w =
       or_true (has j t.first) (starts_in j (past t n)) (inr (ap (starts_in j) w ∙ starts_in-append j pre (x ∷ take k post)
-        ∙ or_true (starts_in j pre) (starts_in j (x ∷ take k post)) (inr (or_true (has j x.starts) (starts_in j (take k post)) (inl starts_it)))))
+      ∙ or_true (starts_in j pre) (starts_in j (x ∷ take k post)) (inr (or_true (has j x.starts) (starts_in j (take k post)) (inl starts_it)))))
 
   born_items : items j t ≡ p ∷ []
   born_items = ap (given j) script_is ∙ given-append j pre (x ∷ post) ∙ ap (λ y. y ++ (to_child j x.gives ++ given j post)) gives_before
@@ -71,7 +71,7 @@ module _ (cut : Bool) (ps : List (List ℕ)) (t : Task) (j : ℕ) (p : List ℕ)
       at : Cut pre x post n → Covers ps t n y
       at (before l w) =
           let z : In y (p ∷ []) = subst (λ l. In y l) born_items
-                (rw (items_are t j n) (in_right y (sent t j n) (given j (task.next t n)) i)) in
+          (rw (items_are t j n) (in_right y (sent t j n) (given j (task.next t n)) i)) in
           ⊎_elim (λ e. subst (λ v. Covers ps t n v) (sym e) (item_covered n l)) (λ v. absurd v) z
       at (behind k e w d) =
           let z : In y [] = subst (λ l. In y l) (ap (λ v. given j (drop n v)) script_is ∙ ap (given j) d ∙ given_rest j post k gives_after) i in absurd z
@@ -88,4 +88,5 @@ module _ (cut : Bool) (ps : List (List ℕ)) (t : Task) (j : ℕ) (p : List ℕ)
     open_refuses = λ c h. absurd (no_true h born_closes);
     open_moves = λ h. absurd (no_true h born_closes);
     unsent = born_unsent;
-    unborn = λ n h. eof_covered n (not_yet n h).0 }
+    unborn = λ n h. eof_covered n (not_yet n h).0;
+  }

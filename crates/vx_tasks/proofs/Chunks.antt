@@ -110,8 +110,12 @@ module _ (t : Task) (all front : List (List ℕ)) (j : ℕ) (pre : List Action) 
   child_fed = born_feeds (not ended) all t j p (eof_path (inside e)) pre (one_take j p e) (chunk_takes (suc j) ps (next e) ++ last_part ended)
       u.script_is (ap (has j) u.none_first) (u.gives_none j (omega arith)) (later_given j (suc j) ps (next e) ended (omega arith))
       it_moves (ap (λ b. b || false) (same_test j)) (ap (λ b. cond b (p ∷ []) []) (same_test j)) (ap (λ b. b || false) (same_test j))
-      (λ n h. (p, in_right p (holds t n) (drop (taken t n) all)
-          (let l : taken t n ≤ length front = few n h in subst (λ y. In p (drop (taken t n) y)) (sym u.stream_is) (in_drop_at (taken t n) front p ps l)), path_le-refl p))
+      (λ n h. (
+        p,
+        in_right p (holds t n) (drop (taken t n) all)
+            (let l : taken t n ≤ length front = few n h in subst (λ y. In p (drop (taken t n) y)) (sym u.stream_is) (in_drop_at (taken t n) front p ps l)),
+        path_le-refl p,
+      ))
       (λ n h. at_least_more (holds t n) (drop (taken t n) all) (eof_path e) (eof_path (inside e)) (u.eof_covered n h) (eof_le_inside e))
     where
       few : (n : ℕ) → n ≤ length pre → taken t n ≤ length front
@@ -131,17 +135,21 @@ module _ (t : Task) (all front : List (List ℕ)) (j : ℕ) (pre : List Action) 
     eof_covered = λ n h. ⊎_elim
         (λ l. at_next n (u.eof_covered n l))
         (λ l. rw (last n l) (eof_path (next e), inl refl, path_le-refl (eof_path (next e))))
-        (cases n (length pre) (let z : n ≤ length pre + 1 = rw (length-append pre (one_take j p e ∷ [])) at h in z)) }
+        (cases n (length pre) (let z : n ≤ length pre + 1 = rw (length-append pre (one_take j p e ∷ [])) at h in z));
+  }
     where
       not_that : (i : ℕ) → suc j ≤ i → nat_eq j i ≡ false
       not_that i h = grind (arith, nat_tests)
+
       cases : (n m : ℕ) → n ≤ m + 1 → (n ≤ m) ⊎ (n ≡ suc m)
       cases n m h = grind arith
+
       at_next : (n : ℕ) → AtLeast (holds t n) (eof_path e) → AtLeast (holds t n) (eof_path (next e))
       at_next n (z, i, k) = (z, i, path_le-trans z (eof_path e) (eof_path (next e)) k (eof_le_next e))
+
       last : (n : ℕ) → n ≡ suc (length pre) → holds t n ≡ eof_path (next e) ∷ []
       last n l = ap (holds_after t.held) (ap (λ m. take m t.script) l ∙ ap (take (suc (length pre))) u.script_is
-            ∙ take_one_more pre (one_take j p e) (chunk_takes (suc j) ps (next e) ++ last_part ended))
+          ∙ take_one_more pre (one_take j p e) (chunk_takes (suc j) ps (next e) ++ last_part ended))
           ∙ holds_after-append t.held pre (one_take j p e ∷ [])
 
 chunk_rules : (t : Task) (name : List ℕ) (all front : List (List ℕ)) (j : ℕ) (pre : List Action) (ps : List (List ℕ)) (ended : Bool) (e : Eof) (kids : Forest)
@@ -151,9 +159,10 @@ chunk_rules t name all front j pre [] ended e (Node c kids rest) u k = absurd k
 chunk_rules t name all front j pre (p ∷ ps) ended e Bare u k = absurd k
 chunk_rules t name all front j pre (p ∷ ps) ended e (Node c kids rest) u (g, k) =
     let r : Rules (not ended) t (suc j) rest × InOrder all t (suc j) rest =
-          chunk_rules t name all (front ++ (p ∷ [])) (suc j) (pre ++ (one_take j p e ∷ [])) ps ended (next e) rest (next_upto t all front j pre p ps ended e u) k in
-    (child_rules (not ended) all t j (under name j) (p ∷ []) true (inside e) c kids (child_fed t all front j pre p ps ended e u) g rest r.0,
-      child_order (not ended) all t j (under name j) (p ∷ []) true (inside e) c kids (child_fed t all front j pre p ps ended e u) g rest r.1)
+    chunk_rules t name all (front ++ (p ∷ [])) (suc j) (pre ++ (one_take j p e ∷ [])) ps ended (next e) rest (next_upto t all front j pre p ps ended e u) k in (
+      child_rules (not ended) all t j (under name j) (p ∷ []) true (inside e) c kids (child_fed t all front j pre p ps ended e u) g rest r.0,
+      child_order (not ended) all t j (under name j) (p ∷ []) true (inside e) c kids (child_fed t all front j pre p ps ended e u) g rest r.1,
+    )
 
 -- Regions and names of the children.
 
@@ -163,9 +172,12 @@ chunk_region name j [] e (Node c kids rest) k = absurd k
 chunk_region name j (p ∷ ps) e Bare k = absurd k
 chunk_region name j (p ∷ ps) e (Node c kids rest) (g, k) =
     let a : AllHeld (Region (p ∷ ps) e) (Node c kids Bare) = held_where (Region (p ∷ []) (inside e)) (Region (p ∷ ps) e) (Node c kids Bare)
-          (λ x h. region_more (p ∷ []) (p ∷ ps) e x (λ q i. ⊎_elim (λ z. inl z) (λ z. absurd z) i) (region_inside (p ∷ []) e x h)) g.region in
-    (a.0, a.1, held_where (Region ps (next e)) (Region (p ∷ ps) e) rest
-        (λ x h. region_more ps (p ∷ ps) e x (λ q i. inr i) (region_next ps e x h)) (chunk_region name (suc j) ps (next e) rest k))
+    (λ x h. region_more (p ∷ []) (p ∷ ps) e x (λ q i. ⊎_elim (λ z. inl z) (λ z. absurd z) i) (region_inside (p ∷ []) e x h)) g.region in (
+      a.0,
+      a.1,
+      held_where (Region ps (next e)) (Region (p ∷ ps) e) rest
+          (λ x h. region_more ps (p ∷ ps) e x (λ q i. inr i) (region_next ps e x h)) (chunk_region name (suc j) ps (next e) rest k),
+    )
 
 chunk_names : (name : List ℕ) (j : ℕ) (ps : List (List ℕ)) (e : Eof) (kids : Forest) → ChunkKids name j ps e kids → NamedFrom name j (names kids) × Rises (names kids)
 chunk_names name j [] e Bare k = (λ y i. absurd i, tt)
@@ -186,40 +198,59 @@ chunked_good name e ps ended kids k = record {
   apart = apart ended;
   rules = both.0;
   order = both.1;
-  region = (λ x i. ⊎_elim (λ z. held_at x (0, z ∙ sym (raised-zero e))) (λ a. held_at x (takes_hold 0 ps e ended x a)) i,
-    chunk_region name 0 ps e kids k, tt);
+  region = (
+    λ x i. ⊎_elim (λ z. held_at x (0, z ∙ sym (raised-zero e))) (λ a. held_at x (takes_hold 0 ps e ended x a)) i,
+    chunk_region name 0 ps e kids k,
+    tt,
+  );
   named = alone_named (t ended) kids (chunk_names name 0 ps e kids k).0;
-  rises = alone_rises (t ended) kids (chunk_names name 0 ps e kids k).0 (chunk_names name 0 ps e kids k).1 }
+  rises = alone_rises (t ended) kids (chunk_names name 0 ps e kids k).0 (chunk_names name 0 ps e kids k).1;
+}
   where
     t : Bool → Task
     t ended = chunked_task name e false ps ended
+
     held_at : (x : List ℕ) → (i : ℕ) × (x ≡ raised e i) → Region ps e x
     held_at x (i, h) = inr (i, rw h (begins-refl (raised e i)))
+
     both : Rules (not ended) (t ended) 0 kids × InOrder ps (t ended) 0 kids
     both = chunk_rules (t ended) name ps [] 0 [] ps ended e kids
         (record {
-          script_is = refl; none_first = refl; stream_is = refl; took = refl; moving = refl; gives_none = λ i h. refl;
-          eof_covered = λ n h. at_zero n (let z : n ≡ 0 = omega arith in z) }) k
+          script_is = refl;
+          none_first = refl;
+          stream_is = refl;
+          took = refl;
+          moving = refl;
+          gives_none = λ i h. refl;
+          eof_covered = λ n h. at_zero n (let z : n ≡ 0 = omega arith in z);
+        }) k
       where
         at_zero : (n : ℕ) → n ≡ 0 → AtLeast (holds (t ended) n) (eof_path e)
         at_zero n z = rw z (eof_path e, inl refl, path_le-refl (eof_path e))
+
     body : List Action
     body = chunk_takes 0 ps e ++ (acts TakeEnd [] ∷ [])
+
     split : (t true).script ≡ body ++ (acts Join [] ∷ [])
     split = sym (append_assoc (chunk_takes 0 ps e) (acts TakeEnd [] ∷ []) (acts Join [] ∷ []))
+
     body_moves : still_in body ≡ false
     body_moves = still_in-append (chunk_takes 0 ps e) (acts TakeEnd [] ∷ []) ∙ ap (λ b. b || false) (takes_move 0 ps e)
+
     open_moves : still_in (t false).script ≡ false
     open_moves = still_in-append (chunk_takes 0 ps e) [] ∙ ap (λ b. b || false) (takes_move 0 ps e)
+
     reads : (ended : Bool) → Reads ps ended (t ended)
     reads true = record {
       reads_all = λ r. rw (takes_in-append (chunk_takes 0 ps e) (last_part true)) (omega (arith, takes_length 0 ps e));
       reads_first = λ n h. body_reads (t true) body (acts Join [] ∷ []) (length ps) n split body_moves
           (rw (takes_in-append (chunk_takes 0 ps e) (acts TakeEnd [] ∷ [])) (omega (arith, takes_length 0 ps e))) h;
       at_end = λ r h. ap (holds_after (eof_path e ∷ [])) (all_whole (t true)) ∙ holds_after-append (eof_path e ∷ []) (chunk_takes 0 ps e) (last_part true);
-      own = no_append_own (t true) ps (takes_mute 0 ps e true) }
+      own = no_append_own (t true) ps (takes_mute 0 ps e true);
+    }
     reads false = mute_reads ps false (t false) (takes_mute 0 ps e false) open_moves
         (λ r. rw (takes_in-append (chunk_takes 0 ps e) []) (omega (arith, takes_length 0 ps e))) (λ c h. cc)
+
     apart : (ended : Bool) → Apart (t ended) kids
     apart true = join_apart (t true) kids body (acts Join []) split body_moves (holds_after-append (eof_path e ∷ []) (chunk_takes 0 ps e) (acts TakeEnd [] ∷ []))
     apart false = no_join_apart (t false) kids open_moves
@@ -235,7 +266,8 @@ barred_good name e p ps ended = record {
   order = tt;
   region = (λ x i. ⊎_elim (λ z. inr (0, subst (λ y. begins (raised e 0) y ≡ true) (sym (z ∙ sym (raised-zero e))) (begins-refl (raised e 0)))) (λ a. absurd a) i, tt, tt);
   named = alone_named t Bare (λ y i. absurd i);
-  rises = alone_rises t Bare (λ y i. absurd i) tt }
+  rises = alone_rises t Bare (λ y i. absurd i) tt;
+}
   where
     t : Task
     t = chunked_task name e true (p ∷ ps) ended

@@ -33,12 +33,13 @@ puts_one : (c : ℕ) (p : List ℕ) (b k : ℕ) → b ≤ c → c < b + k → gi
 puts_one c p b zero l h = absurd (omega arith)
 puts_one c p b (suc k) l h = ⊎_elim
     (λ e. subst (λ y. cond (nat_eq y c) (under p y ∷ []) [] ++ given c (column_puts p (suc y) k) ≡ under p c ∷ []) (sym e)
-        (rw (same_test c) (ap (λ y. under p c ∷ y) (puts_later c p (suc c) k (omega arith)))))
+    (rw (same_test c) (ap (λ y. under p c ∷ y) (puts_later c p (suc c) k (omega arith)))))
     (λ g. rw (higher b g) (puts_one c p (suc b) k g (omega arith)))
     (cases b l)
   where
     cases : (b : ℕ) → b ≤ c → (b ≡ c) ⊎ (suc b ≤ c)
     cases b l = grind arith
+
     higher : (b : ℕ) → suc b ≤ c → nat_eq b c ≡ false
     higher b g = grind (arith, nat_tests)
 
@@ -107,7 +108,7 @@ takes_hold w [] x i = absurd i
 takes_hold w (p ∷ ps) x i = ⊎_elim
     (λ a. (p, inl refl, paths_from p 0 w x a))
     (λ b. ⊎_elim (λ c. (p, inl refl, puts_hold p 0 w x c)) (λ c. more (takes_hold w ps x c))
-      (in_cases x (holds_in (column_puts p 0 w)) (holds_in (column_takes w ps)) (let z : In x (holds_in (column_puts p 0 w) ++ holds_in (column_takes w ps)) = rw (holds_in-append (column_puts p 0 w) (column_takes w ps)) at b in z)))
+    (in_cases x (holds_in (column_puts p 0 w)) (holds_in (column_takes w ps)) (let z : In x (holds_in (column_puts p 0 w) ++ holds_in (column_takes w ps)) = rw (holds_in-append (column_puts p 0 w) (column_takes w ps)) at b in z)))
     (in_cases x (column_paths p 0 w) (holds_in (column_puts p 0 w ++ column_takes w ps)) i)
   where
     more : (q : List ℕ) × In q ps × (begins q x ≡ true) → (q : List ℕ) × In q (p ∷ ps) × (begins q x ≡ true)
@@ -125,7 +126,7 @@ block_known c p ps rest x known b (suc k) zero i = ⊎_elim
     (λ a. (x, in_left x (column_paths p b (suc k)) ps (puts_paths c p b (suc k) x a), path_le-refl x))
     (λ a. known (column_paths p b (suc k)) 0 a)
     (in_cases x (given c (column_puts p b (suc k))) (given c rest)
-      (let z : In x (given c (column_puts p b (suc k)) ++ given c rest) = rw (given-append c (column_puts p b (suc k)) rest) at i in z))
+    (let z : In x (given c (column_puts p b (suc k)) ++ given c rest) = rw (given-append c (column_puts p b (suc k)) rest) at i in z))
 block_known c p ps rest x known b (suc k) (suc n) i =
     rw zero-add (block_known c p ps rest x known (suc b) k n i)
 
@@ -133,15 +134,15 @@ takes_known : (c w : ℕ) (ps : List (List ℕ)) (tail : List Action) (x : List 
 takes_known c w [] tail x l z h n i = let y : In x [] = rw (given_rest c tail n z) at i in absurd y
 takes_known c w (p ∷ ps) tail x l z h zero i =
     at (from_map (λ q. under q c) x (p ∷ ps) (let y : In x (column_stream c (p ∷ ps)) = subst (λ s. In x s)
-        (given-append c (column_takes w (p ∷ ps)) tail ∙ ap (λ s. given c (column_takes w (p ∷ ps)) ++ s) z ∙ append-nil (given c (column_takes w (p ∷ ps)))
-          ∙ takes_stream c w (p ∷ ps) l) i in y))
+    (given-append c (column_takes w (p ∷ ps)) tail ∙ ap (λ s. given c (column_takes w (p ∷ ps)) ++ s) z ∙ append-nil (given c (column_takes w (p ∷ ps)))
+    ∙ takes_stream c w (p ∷ ps) l) i in y))
   where
     at : (q : List ℕ) × In q (p ∷ ps) × (x ≡ under q c) → AtLeast (h ++ (p ∷ ps)) x
     at (q, i, e) = (q, in_right q h (p ∷ ps) i, rw e (begins_le q (under q c) (begins-under q c)))
 takes_known c w (p ∷ ps) tail x l z h (suc n) i =
     let assoc : (column_puts p 0 w ++ column_takes w ps) ++ tail ≡ column_puts p 0 w ++ (column_takes w ps ++ tail) = append_assoc (column_puts p 0 w) (column_takes w ps) tail in
     rw one-add (subst (λ s. AtLeast (holds_after (column_paths p 0 w) (take n s) ++ drop (takes_in (take n s)) ps) x) (sym assoc)
-      (block_known c p ps (column_takes w ps ++ tail) x (λ h n. takes_known c w ps tail x l z h n) 0 w n (subst (λ s. In x (given c (drop n s))) assoc i)))
+    (block_known c p ps (column_takes w ps ++ tail) x (λ h n. takes_known c w ps tail x l z h n) 0 w n (subst (λ s. In x (given c (drop n s))) assoc i)))
 
 -- The numbers of the columns.
 
@@ -187,7 +188,7 @@ module _ (t : Task) (w : ℕ) (ps : List (List ℕ)) (ended : Bool) (script_is :
   unfolding body
   body_takes =
       let h : takes_in (column_takes w ps ++ once_ended ended (acts TakeEnd [] ∷ closing (numbers 0 w) ∷ [])) ≡ takes_in (column_takes w ps) + takes_in (once_ended ended (acts TakeEnd [] ∷ closing (numbers 0 w) ∷ []))
-            = takes_in-append (column_takes w ps) (once_ended ended (acts TakeEnd [] ∷ closing (numbers 0 w) ∷ [])) in
+      = takes_in-append (column_takes w ps) (once_ended ended (acts TakeEnd [] ∷ closing (numbers 0 w) ∷ [])) in
       omega (arith, h, takes_all w ps, at ended)
     where
       at : (ended : Bool) → takes_in (once_ended ended (acts TakeEnd [] ∷ closing (numbers 0 w) ∷ [])) ≡ 0
@@ -223,14 +224,17 @@ module _ (t : Task) (w : ℕ) (ps : List (List ℕ)) (ended : Bool) (script_is :
     open_moves = λ g. ap still_in split ∙ still_in-append body (once_ended ended (acts Join [] ∷ []))
         ∙ ap (λ b. b || still_in (once_ended ended (acts Join [] ∷ []))) body_moves ∙ open_still ended (sym (column_closes c l) ∙ g);
     unsent = λ n x i. known n x i;
-    unborn = λ n h. absurd (no_true h (always_started c n l)) }
+    unborn = λ n h. absurd (no_true h (always_started c n l));
+  }
     where
       ended_is : (b : Bool) → not b ≡ false → b ≡ true
       ended_is true h = refl
       ended_is false h = cc
+
       open_still : (b : Bool) → b ≡ false → still_in (once_ended b (acts Join [] ∷ [])) ≡ false
       open_still true h = cc
       open_still false h = refl
+
       known : (n : ℕ) (x : List ℕ) → In x (given c (task.next t n)) → Covers ps t n x
       known n x i = subst (λ s. AtLeast (holds_after t.held (take n s) ++ drop (takes_in (take n s)) ps) x) (sym script_is)
           (takes_known c w ps (last_part w ended) x l (last_gives c w ended) t.held n (subst (λ s. In x (given c (drop n s))) script_is i))
@@ -245,9 +249,10 @@ column_rules cut t name w ps cend feed c zero e (Node d kids rest) h k = absurd 
 column_rules cut t name w ps cend feed c (suc m) e Bare h k = absurd k
 column_rules cut t name w ps cend feed c (suc m) e (Node d kids rest) h (g, k) =
     let r : Rules cut t (suc c) rest × InOrder ps t (suc c) rest = column_rules cut t name w ps cend feed (suc c) m (next e) rest (omega arith) k in
-    let f : Feeds cut ps t c (column_stream c ps) cend (eof_path (inside e)) = feed c (eof_path (inside e)) (omega arith) in
-    (child_rules cut ps t c (under name c) (column_stream c ps) cend (inside e) d kids f g rest r.0,
-      child_order cut ps t c (under name c) (column_stream c ps) cend (inside e) d kids f g rest r.1)
+    let f : Feeds cut ps t c (column_stream c ps) cend (eof_path (inside e)) = feed c (eof_path (inside e)) (omega arith) in (
+      child_rules cut ps t c (under name c) (column_stream c ps) cend (inside e) d kids f g rest r.0,
+      child_order cut ps t c (under name c) (column_stream c ps) cend (inside e) d kids f g rest r.1,
+    )
 
 column_region : (name : List ℕ) (c k : ℕ) (ps : List (List ℕ)) (cend : Bool) (e : Eof) (kids : Forest) → ColumnKids name c k ps cend e kids → AllHeld (Region ps e) kids
 column_region name c zero ps cend e Bare k = tt
@@ -255,7 +260,7 @@ column_region name c zero ps cend e (Node d kids rest) k = absurd k
 column_region name c (suc m) ps cend e Bare k = absurd k
 column_region name c (suc m) ps cend e (Node d kids rest) (g, k) =
     let a : AllHeld (Region ps e) (Node d kids Bare) = held_where (Region (column_stream c ps) (inside e)) (Region ps e) (Node d kids Bare)
-          (λ x h. region_inside ps e x (region_from (column_stream c ps) ps (inside e) x (λ p i. at p (from_map (λ q. under q c) p ps i)) h)) g.region in
+    (λ x h. region_inside ps e x (region_from (column_stream c ps) ps (inside e) x (λ p i. at p (from_map (λ q. under q c) p ps i)) h)) g.region in
     (a.0, a.1, held_where (Region ps (next e)) (Region ps e) rest (λ x h. region_next ps e x h) (column_region name (suc c) m ps cend (next e) rest k))
   where
     at : (p : List ℕ) → (q : List ℕ) × In q ps × (p ≡ under q c) → (q : List ℕ) × In q ps × (begins q p ≡ true)
@@ -283,44 +288,58 @@ full_good name e list w ps ended kids script k = record {
     reads_first = λ n h. body_reads t the_body tail (length ps) n (split t w ps ended script refl refl) (body_moves t w ps ended script refl refl)
         (omega (arith, body_takes t w ps ended script refl refl)) h;
     at_end = λ c r. ap (holds_after []) (all_whole t ∙ script) ∙ holds_after-append [] (column_takes w ps) (last_part w ended) ∙ last_holds ended c (holds_after [] (column_takes w ps));
-    own = no_append_own t ps mute };
+    own = no_append_own t ps mute;
+  };
   keeps = no_append_keeps t mute;
   apart = apart;
   rules = both.0;
   order = both.1;
-  region = (λ x i. at_held x (takes_hold w ps x (only_takes x ended (rw (script, holds_in-append (column_takes w ps) (last_part w ended)) at i))),
-    column_region name 0 w ps ended e kids k, tt);
+  region = (
+    λ x i. at_held x (takes_hold w ps x (only_takes x ended (rw (script, holds_in-append (column_takes w ps) (last_part w ended)) at i))),
+    column_region name 0 w ps ended e kids k,
+    tt,
+  );
   named = alone_named t kids (column_names name 0 w ps ended e kids k).0;
-  rises = alone_rises t kids (column_names name 0 w ps ended e kids k).0 (column_names name 0 w ps ended e kids k).1 }
+  rises = alone_rises t kids (column_names name 0 w ps ended e kids k).0 (column_names name 0 w ps ended e kids k).1;
+}
   where
     t : Task
     t = columns_task name e list w ps ended
+
     tail : List Action
     tail = once_ended ended (acts Join [] ∷ [])
+
     the_body : List Action
     the_body = body t w ps ended script refl refl
+
     both : Rules (not ended) t 0 kids × InOrder ps t 0 kids
     both = column_rules (not ended) t name w ps ended (column_fed t w ps ended script refl refl) 0 w e kids (omega arith) k
+
     last_mute : (ended : Bool) → appends_in (last_part w ended) ≡ []
     last_mute true = refl
     last_mute false = refl
+
     mute : appends_in t.script ≡ []
     mute = ap appends_in script ∙ appends_in-append (column_takes w ps) (last_part w ended) ∙ ap (λ y. y ++ appends_in (last_part w ended)) (takes_mute w ps) ∙ last_mute ended
+
     last_holds : (b : Bool) → b ≡ true → (h : List (List ℕ)) → holds_after h (last_part w b) ≡ []
     last_holds true c h = refl
     last_holds false c h = cc
+
     only_takes : (x : List ℕ) (b : Bool) → In x (holds_in (column_takes w ps) ++ holds_in (last_part w b)) → In x (holds_in (column_takes w ps))
     only_takes x true i = rw (append-nil (holds_in (column_takes w ps))) at i
     only_takes x false i = rw (append-nil (holds_in (column_takes w ps))) at i
+
     at_held : (x : List ℕ) → (q : List ℕ) × In q ps × (begins q x ≡ true) → Region ps e x
     at_held x (q, i, h) = inl (q, i, h)
+
     apart : Apart t kids
     apart = by_end ended refl
       where
         by_end : (b : Bool) → ended ≡ b → Apart t kids
         by_end true c = join_apart t kids the_body (acts Join []) (split t w ps ended script refl refl ∙ ap (λ b. the_body ++ once_ended b (acts Join [] ∷ [])) c) (body_moves t w ps ended script refl refl)
             (holds_after-append [] (column_takes w ps) (once_ended ended (acts TakeEnd [] ∷ closing (numbers 0 w) ∷ []))
-              ∙ ap (λ b. holds_after (holds_after [] (column_takes w ps)) (once_ended b (acts TakeEnd [] ∷ closing (numbers 0 w) ∷ []))) c)
+            ∙ ap (λ b. holds_after (holds_after [] (column_takes w ps)) (once_ended b (acts TakeEnd [] ∷ closing (numbers 0 w) ∷ []))) c)
         by_end false c = no_join_apart t kids (ap still_in (split t w ps ended script refl refl) ∙ still_in-append the_body tail
             ∙ ap (λ b. b || still_in tail) (body_moves t w ps ended script refl refl) ∙ ap (λ b. still_in (once_ended b (acts Join [] ∷ []))) c)
 
@@ -336,10 +355,12 @@ refused_fed t w script_is first_is c ceof l = record {
   open_refuses = λ h g. ap refuses_in script_is;
   open_moves = λ g. ap still_in script_is;
   unsent = λ n x i. let z : In x [] = subst (λ y. In x y) (ap (λ s. given c (drop n s)) script_is ∙ given_rest c (refusal TakeEnd ∷ []) n refl) i in absurd z;
-  unborn = λ n h. absurd (no_true h (on n)) }
+  unborn = λ n h. absurd (no_true h (on n));
+}
   where
     open_queue : closes c t ≡ false
     open_queue = ap (shuts_in c) script_is
+
     on : (n : ℕ) → started t c n ≡ true
     on n = or_true (has c t.first) (starts_in c (past t n)) (inl (ap (has c) first_is ∙ has_number c 0 w (omega arith) (omega arith)))
 
@@ -353,10 +374,12 @@ refused_good name e w kids k = record {
   order = both.1;
   region = (λ x i. absurd i, column_region name 0 w [] false e kids k, tt);
   named = alone_named t kids (column_names name 0 w [] false e kids k).0;
-  rises = alone_rises t kids (column_names name 0 w [] false e kids k).0 (column_names name 0 w [] false e kids k).1 }
+  rises = alone_rises t kids (column_names name 0 w [] false e kids k).0 (column_names name 0 w [] false e kids k).1;
+}
   where
     t : Task
     t = columns_task name e true w [] true
+
     both : Rules false t 0 kids × InOrder [] t 0 kids
     both = column_rules false t name w [] false (refused_fed t w refl refl) 0 w e kids (omega arith) k
 

@@ -101,8 +101,13 @@ stream_length c (p ∷ ps) = ap suc (stream_length c ps)
 chunked_columns_left : (name : List ℕ) (c k : ℕ) (ps : List (List ℕ)) (e : Eof) → left (chunked_columns name c k ps true e) Zeros ≡ k * (4 * length ps + 2)
 chunked_columns_left name c zero ps e = omega arith
 chunked_columns_left name c (suc k) ps e =
-    omega (arith, chunked_length (column_stream c ps) (inside e), flat_kids_left (under name c) 0 (column_stream c ps) (inside e), stream_length c ps,
-      chunked_columns_left name (suc c) k ps (next e))
+    omega (
+      arith,
+      chunked_length (column_stream c ps) (inside e),
+      flat_kids_left (under name c) 0 (column_stream c ps) (inside e),
+      stream_length c ps,
+      chunked_columns_left name (suc c) k ps (next e),
+    )
 
 chunked_work : (here e : Eof) (n : ℕ) → work (chunks_of_flat here e n) ≡ 6 * n + 4
 chunked_work here e n =
@@ -111,23 +116,23 @@ chunked_work here e n =
 struct_work : (here e : Eof) (n c : ℕ) → work (struct_of_chunks here e n c) ≡ 3 * n + 5 + 5 * (c * n) + 2 * c
 struct_work here e n c =
     let a : length (column_takes c (batch_paths here n)) ≡ n * (1 + c) =
-          column_takes_length c (batch_paths here n) ∙ ap (λ m. m * (1 + c)) (batches here n) in
+    column_takes_length c (batch_paths here n) ∙ ap (λ m. m * (1 + c)) (batches here n) in
     let b : left (chunked_columns (1 ∷ []) 0 c (batch_paths here n) true e) Zeros ≡ c * (4 * n + 2) =
-          chunked_columns_left (1 ∷ []) 0 c (batch_paths here n) e ∙ ap (λ m. c * (4 * m + 2)) (batches here n) in
+    chunked_columns_left (1 ∷ []) 0 c (batch_paths here n) e ∙ ap (λ m. c * (4 * m + 2)) (batches here n) in
     omega (arith, source_length here n, length-append (column_takes c (batch_paths here n)) (acts TakeEnd [] ∷ closing (numbers 0 c) ∷ acts Join [] ∷ []))
 
 pub chunked_steps : (here e : Eof) (n : ℕ) (picks : List ℕ) → length (run (chunks_of_flat here e n) Zeros picks (work (chunks_of_flat here e n))) ≡ 6 * n + 4
 chunked_steps here e n picks =
     run_exact (chunks_of_flat here e n) picks
-      (machine_rules here n true e (chunked_task (1 ∷ []) e false (batch_paths here n) true) (flat_kids (1 ∷ []) 0 (batch_paths here n) e) (chunks_good (1 ∷ []) (batch_paths here n) true e))
-      (source_clean here n, (chunks_clean (batch_paths here n) e, flat_kids_clean (1 ∷ []) 0 (batch_paths here n) e, tt), tt)
+    (machine_rules here n true e (chunked_task (1 ∷ []) e false (batch_paths here n) true) (flat_kids (1 ∷ []) 0 (batch_paths here n) e) (chunks_good (1 ∷ []) (batch_paths here n) true e))
+    (source_clean here n, (chunks_clean (batch_paths here n) e, flat_kids_clean (1 ∷ []) 0 (batch_paths here n) e, tt), tt)
     ∙ chunked_work here e n
 
 pub struct_steps : (here e : Eof) (n c : ℕ) (picks : List ℕ) → length (run (struct_of_chunks here e n c) Zeros picks (work (struct_of_chunks here e n c))) ≡ 3 * n + 5 + 5 * (c * n) + 2 * c
 struct_steps here e n c picks =
     run_exact (struct_of_chunks here e n c) picks
-      (machine_rules here n true e (columns_task (1 ∷ []) e false c (batch_paths here n) true) (chunked_columns (1 ∷ []) 0 c (batch_paths here n) true e)
-        (columns_good (1 ∷ []) e false c (batch_paths here n) true (chunked_columns (1 ∷ []) 0 c (batch_paths here n) true e)
-          (chunked_columns_good (1 ∷ []) 0 c (batch_paths here n) true e)))
-      (source_clean here n, (columns_clean c (batch_paths here n), chunked_columns_clean (1 ∷ []) 0 c (batch_paths here n) e, tt), tt)
+    (machine_rules here n true e (columns_task (1 ∷ []) e false c (batch_paths here n) true) (chunked_columns (1 ∷ []) 0 c (batch_paths here n) true e)
+    (columns_good (1 ∷ []) e false c (batch_paths here n) true (chunked_columns (1 ∷ []) 0 c (batch_paths here n) true e)
+    (chunked_columns_good (1 ∷ []) 0 c (batch_paths here n) true e)))
+    (source_clean here n, (columns_clean c (batch_paths here n), chunked_columns_clean (1 ∷ []) 0 c (batch_paths here n) e, tt), tt)
     ∙ struct_work here e n c

@@ -39,6 +39,7 @@ find_append (a ∷ xs) x i = ⊎_elim (λ l. (0, a, xs, refl, is_append a.kind x
     is_append (Put c) x i = absurd i
     is_append (Append q) x i = ⊎_elim (λ e. ap Append (sym e)) (λ y. absurd y) i
     is_append Join x i = absurd i
+
     later : (n : ℕ) × (b : Action) × (todo : List Action) × (drop n xs ≡ b ∷ todo) × (b.kind ≡ Append x)
         → (n : ℕ) × (b : Action) × (todo : List Action) × (drop n (a ∷ xs) ≡ b ∷ todo) × (b.kind ≡ Append x)
     later (n, b, todo, e, k) = (suc n, b, todo, e, k)
@@ -54,8 +55,8 @@ appends_held P cut p j Bare rules held x i = absurd i
 appends_held P cut p j (Node t kids rest) (fit, keeps, apart, lower, later) (own, inner, outer) x i = ⊎_elim
     (λ a. own x (own_held t keeps x a))
     (λ b. ⊎_elim
-      (λ c. appends_held P (not (closes j p)) t 0 kids lower inner x c)
-      (λ c. appends_held P cut p (suc j) rest later outer x c) (in_cases x (appends kids) (appends rest) b))
+    (λ c. appends_held P (not (closes j p)) t 0 kids lower inner x c)
+    (λ c. appends_held P cut p (suc j) rest later outer x c) (in_cases x (appends kids) (appends rest) b))
     (in_cases x (appends_in t.script) (appends kids ++ appends rest) i)
 
 -- The two sides of a stream make a fit.
@@ -71,7 +72,8 @@ module _ (cut : Bool) (ps : List (List ℕ)) (p : Task) (j : ℕ) (name : List �
     started_first = f.started_first;
     open_refuses = f.open_refuses;
     open_moves = f.open_moves;
-    at_end = λ c r. g.reads.at_end (sym f.closes_are ∙ c) r }
+    at_end = λ c r. g.reads.at_end (sym f.closes_are ∙ c) r;
+  }
 
   in_region : (x : List ℕ) → In x (appends (Node t kids Bare)) → Region cps e x
   in_region x i = ⊎_elim
@@ -84,7 +86,8 @@ module _ (cut : Bool) (ps : List (List ℕ)) (p : Task) (j : ℕ) (name : List �
     own = λ n x i. rw f.items_are (g.reads.own n x i);
     unsent = f.unsent;
     unborn = λ n h. rw g.eof_is (f.unborn n h);
-    inside = λ x i. rw (g.eof_is, f.items_are) (from_region x (region_least cps e x (in_region x i))) }
+    inside = λ x i. rw (g.eof_is, f.items_are) (from_region x (region_least cps e x (in_region x i)));
+  }
     where
       from_region : (x : List ℕ) → ((q : List ℕ) × In q cps × (path_le q x ≡ true)) ⊎ (path_le (eof_path e) x ≡ true) → AtLeast (eof_path e ∷ cps) x
       from_region x (inl (q, i, h)) = (q, inr i, h)
@@ -107,6 +110,7 @@ late (a ∷ body) tail (suc n) h s = more (late body tail n (or_later (is_still 
     or_later : (a b : Bool) → (a || b) ≡ false → b ≡ false
     or_later true b h = cc
     or_later false b h = h
+
     more : (k : ℕ) × (drop n (body ++ tail) ≡ drop k tail) × (take n (body ++ tail) ≡ body ++ take k tail)
         → (k : ℕ) × (drop n (body ++ tail) ≡ drop k tail) × (a ∷ take n (body ++ tail) ≡ a ∷ (body ++ take k tail))
     more (k, d, t) = (k, d, ap (λ x. a ∷ x) t)
@@ -207,7 +211,7 @@ pub more_rises : (name : List ℕ) (j : ℕ) (ps : List (List ℕ)) (ended : Boo
     → Good (under name j) ps ended e t kids → NamedFrom name (suc j) (names rest) → Rises (names rest) → Rises (names (Node t kids rest))
 more_rises name j ps ended e t kids rest g h r =
     rises_join (t.name ∷ names kids) (names rest) g.rises r
-      (λ x y i k. at x y (g.named x i) (h y k))
+    (λ x y i k. at x y (g.named x i) (h y k))
   where
     at : (x y : List ℕ) → begins (under name j) x ≡ true → (k : ℕ) × (suc j ≤ k) × (begins (under name k) y ≡ true) → path_lt x y ≡ true
     at x y a (k, l, b) = apart_lt (under name j) (under name k) x y (under_lt name j k (omega arith)) (under_apart name j k (omega arith)) a b

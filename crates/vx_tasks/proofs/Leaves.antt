@@ -26,16 +26,23 @@ mute_reads ps ended t a s r h = record {
   reads_all = r;
   reads_first = λ n k. absurd (no_true s (still_some_time t n k));
   at_end = h;
-  own = no_append_own t ps a }
+  own = no_append_own t ps a;
+}
 
 -- a task without children
 leaf : (name : List ℕ) (ps : List (List ℕ)) (ended : Bool) (e : Eof) (t : Task) → t.name ≡ name → t.eof ≡ eof_path e → Reads ps ended t → Keeps t
     → ((x : List ℕ) → In x (ever_held t) → Region ps e x) → Good name ps ended e t Bare
 leaf name ps ended e t n f reads keeps region = record {
-  eof_is = f; reads = reads; keeps = keeps; apart = λ n a todo w k m i. tt; rules = tt; order = tt;
+  eof_is = f;
+  reads = reads;
+  keeps = keeps;
+  apart = λ n a todo w k m i. tt;
+  rules = tt;
+  order = tt;
   region = (region, tt, tt);
   named = λ y i. ⊎_elim (λ z. subst (λ x. begins name x ≡ true) (sym (z ∙ n)) (begins-refl name)) (λ z. absurd z) i;
-  rises = (λ y i. absurd i, tt) }
+  rises = (λ y i. absurd i, tt);
+}
 
 -- Flat with its one chunk, to the end.
 module _ (name : List ℕ) (e : Eof) (p : List ℕ) where
@@ -70,7 +77,8 @@ module _ (name : List ℕ) (e : Eof) (p : List ℕ) where
         reads_all = λ r. omega arith;
         reads_first = λ n h. body_reads whole (acts Take (p ∷ []) ∷ acts TakeEnd (p ∷ []) ∷ []) (acts (Append p) [] ∷ []) 1 n refl refl (omega arith) h;
         at_end = λ r h. refl;
-        own = whole_own })
+        own = whole_own;
+      })
       whole_keeps in_ones
 
 -- Flat, whatever comes.
@@ -122,7 +130,7 @@ rows_none (p ∷ ps) ended = rows_none ps ended
 pub rows_good : (name : List ℕ) (e : Eof) (ps : List (List ℕ)) (ended : Bool) → Good name ps ended e (rows_task name e ps ended) Bare
 rows_good name e ps ended = leaf name ps ended e (rows_task name e ps ended) refl refl
     (mute_reads ps ended (rows_task name e ps ended) (rows_mute ps ended) (rows_moves ps ended)
-      (λ r. omega (arith, rows_takes ps ended))
-      (λ r h. ap (holds_after []) (all_whole (rows_task name e ps ended)) ∙ rows_end [] ps ended refl))
+    (λ r. omega (arith, rows_takes ps ended))
+    (λ r h. ap (holds_after []) (all_whole (rows_task name e ps ended)) ∙ rows_end [] ps ended refl))
     (no_append_keeps (rows_task name e ps ended) (rows_mute ps ended))
     (λ x i. let z : In x [] = rw (rows_none ps ended) at i in absurd z)

@@ -75,7 +75,8 @@ root_fed here n fits ceof = record {
   open_refuses = λ h g. source_refuses here n fits ∙ ap not (sym (closes_queue here n fits) ∙ g);
   open_moves = λ g. source_moves here n fits;
   unsent = λ k x i. at k x (source_covers fits n here k (eof_path here ∷ []) x (inl refl) i);
-  unborn = λ k h. cc }
+  unborn = λ k h. cc;
+}
   where
     at : (k : ℕ) (x : List ℕ) → AtLeast (holds (source_task here n fits) k) x → Covers [] (source_task here n fits) k x
     at k x (y, i, h) = (y, in_left y (holds (source_task here n fits) k) (drop (taken (source_task here n fits) k) []) i, h)
@@ -89,7 +90,8 @@ source_fits here n fits = record {
   started_first = λ k h. cc;
   open_refuses = λ c h. cc;
   open_moves = λ h. cc;
-  at_end = λ c r. ap (holds_after (eof_path here ∷ [])) (all_whole (source_task here n fits)) ∙ at fits (sym (source_refuses here n fits) ∙ r) }
+  at_end = λ c r. ap (holds_after (eof_path here ∷ [])) (all_whole (source_task here n fits)) ∙ at fits (sym (source_refuses here n fits) ∙ r);
+}
   where
     at : (b : Bool) → not b ≡ false → holds_after (eof_path here ∷ []) (source_script here n b) ≡ []
     at true h = source_end (eof_path here ∷ []) here n
@@ -100,25 +102,31 @@ source_ordered here n fits kids = record {
   own = λ k x i. no_append_own (source_task here n fits) [] (source_mute here n fits) k x i;
   unsent = λ k x i. let z : In x [] = rw (given_rest 0 outside.script k refl) at i in absurd z;
   unborn = λ k h. cc;
-  inside = λ x i. ([], inl refl, refl) }
+  inside = λ x i. ([], inl refl, refl);
+}
 
 -- The whole.
 
 pub machine_rules : (here : Eof) (n : ℕ) (fits : Bool) (e : Eof) (root : Task) (kids : Forest) → Good (1 ∷ []) (batch_paths here n) fits e root kids
     → KeepsRules (machine here n fits root kids)
-machine_rules here n fits e root kids g =
-    (source_fits here n fits, no_append_keeps (source_task here n fits) (source_mute here n fits),
-      no_join_apart (source_task here n fits) (Node root kids Bare) (source_moves here n fits),
-      child_rules false [] (source_task here n fits) 0 (1 ∷ []) (batch_paths here n) fits e root kids (root_fed here n fits (eof_path e)) g Bare tt, tt)
+machine_rules here n fits e root kids g = (
+  source_fits here n fits,
+  no_append_keeps (source_task here n fits) (source_mute here n fits),
+  no_join_apart (source_task here n fits) (Node root kids Bare) (source_moves here n fits),
+  child_rules false [] (source_task here n fits) 0 (1 ∷ []) (batch_paths here n) fits e root kids (root_fed here n fits (eof_path e)) g Bare tt,
+  tt,
+)
 
 pub machine_order : (here : Eof) (n : ℕ) (fits : Bool) (e : Eof) (root : Task) (kids : Forest) → Good (1 ∷ []) (batch_paths here n) fits e root kids
     → KeepsOrder (machine here n fits root kids)
-machine_order here n fits e root kids g =
-    (source_ordered here n fits (Node root kids Bare),
-      child_order false [] (source_task here n fits) 0 (1 ∷ []) (batch_paths here n) fits e root kids (root_fed here n fits (eof_path e)) g Bare tt, tt)
+machine_order here n fits e root kids g = (
+  source_ordered here n fits (Node root kids Bare),
+  child_order false [] (source_task here n fits) 0 (1 ∷ []) (batch_paths here n) fits e root kids (root_fed here n fits (eof_path e)) g Bare tt,
+  tt,
+)
 
 pub machine_named : (here : Eof) (n : ℕ) (fits : Bool) (e : Eof) (root : Task) (kids : Forest) → Good (1 ∷ []) (batch_paths here n) fits e root kids
     → Rises (names (machine here n fits root kids))
 machine_named here n fits e root kids g =
     subst (λ y. Rises ((0 ∷ []) ∷ root.name ∷ y)) (sym (append-nil (names kids ++ []) ∙ append-nil (names kids)))
-      (λ y i. apart_lt (0 ∷ []) (1 ∷ []) (0 ∷ []) y refl refl refl (g.named y i), g.rises)
+    (λ y i. apart_lt (0 ∷ []) (1 ∷ []) (0 ∷ []) y refl refl refl (g.named y i), g.rises)

@@ -35,7 +35,7 @@ move_named : (all : List (List ℕ)) (p : Task) (n j : ℕ) (f : Forest) (s : Co
 move_named all p n j Bare s m i = absurd i
 move_named all p n j (Node t kids rest) s m i =
     by_place (which all p n j t kids rest s m i)
-      (λ d k. move_named all t (top s) 0 kids (below s) d k) (λ d k. move_named all p n (suc j) rest (beside s) d k)
+    (λ d k. move_named all t (top s) 0 kids (below s) d k) (λ d k. move_named all p n (suc j) rest (beside s) d k)
   where
     by_place : Where all p n j t kids rest s m → ((d : Move) → In d (moves all t (top s) 0 kids (below s)) → In d.name (names kids))
         → ((d : Move) → In d (moves all p n (suc j) rest (beside s)) → In d.name (names rest)) → In m.name (names (Node t kids rest))
@@ -80,27 +80,33 @@ pub moves_rise : (all : List (List ℕ)) (p : Task) (n j : ℕ) (f : Forest) (s 
 moves_rise all p n j Bare s h = tt
 moves_rise all p n j (Node t kids rest) s (first, more) =
     by_start (started p j n) refl
-      (moves_rise all t (top s) 0 kids (below s) (rises_left (names kids) (names rest) more))
-      (moves_rise all p n (suc j) rest (beside s) (rises_right (names kids) (names rest) more))
+    (moves_rise all t (top s) 0 kids (below s) (rises_left (names kids) (names rest) more))
+    (moves_rise all p n (suc j) rest (beside s) (rises_right (names kids) (names rest) more))
   where
     over : List Move
     over = moves all p n (suc j) rest (beside s)
+
     down : List Move
     down = moves all t (top s) 0 kids (below s)
+
     own : List Move
     own = own_move all (queue p n j t (top s)) (closed p j n) t kids s (next t (top s))
+
     own_rises : (l : List (List ℕ)) → (l ≡ []) ⊎ (l ≡ t.name ∷ []) → Rises (named down) → Rises (l ++ named down)
     own_rises l (inl e) r = rw e r
     own_rises l (inr e) r = rw e (λ y i. first y (in_left y (names kids) (names rest) (named_in all t (top s) 0 kids (below s) y i)), r)
+
     own_before : (l : List (List ℕ)) → (l ≡ []) ⊎ (l ≡ t.name ∷ []) → (x : List ℕ) → In x (l ++ named down) → (y : List ℕ) → In y (named over) → path_lt x y ≡ true
     own_before l c x i y k = ⊎_elim
         (λ a. ⊎_elim (λ e. let z : In x [] = rw e at a in absurd z)
-          (λ e. let z : In x (t.name ∷ []) = rw e at a in ⊎_elim
-            (λ w. rw w (first y (in_right y (names kids) (names rest) (named_in all p n (suc j) rest (beside s) y k)))) (λ w. absurd w) z) c)
+        (λ e. let z : In x (t.name ∷ []) = rw e at a in ⊎_elim
+        (λ w. rw w (first y (in_right y (names kids) (names rest) (named_in all p n (suc j) rest (beside s) y k)))) (λ w. absurd w) z) c)
         (λ b. rises_across (names kids) (names rest) more x y (named_in all t (top s) 0 kids (below s) x b) (named_in all p n (suc j) rest (beside s) y k))
         (in_cases x l (named down) i)
+
     one : (named own ≡ []) ⊎ (named own ≡ t.name ∷ [])
     one = own_named all (queue p n j t (top s)) (closed p j n) t kids s (next t (top s))
+
     by_start : (b : Bool) → started p j n ≡ b → Rises (named down) → Rises (named over) → Rises (named (moves all p n j (Node t kids rest) s))
     by_start true g low high = rw g (rw (named-append (own ++ map (move_below s) down) (map (move_beside s) over), named-append own (map (move_below s) down), named-below s down, named-beside s over)
         (rises_join (named own ++ named down) (named over) (own_rises (named own) one low) high (λ x y i k. own_before (named own) one x i y k)))

@@ -41,14 +41,19 @@ refused f picks rules order bad none = (by_left (left f e) refl, nil_left (writt
   where
     steps : List Step
     steps = run f Zeros picks (work f)
+
     e : Counts
     e = end_of Zeros steps
+
     leads : Leads f Zeros (moves_of steps) e
     leads = run_leads f Zeros picks (work f)
+
     first : sort (appends f) ≡ written (moves_of steps) ++ sort (pending f e)
     first = numbered_run f e (moves_of steps) rules order leads
+
     sum : left f e + length steps ≡ work f
     sum = ap (λ n. left f e + n) (sym (as_many steps)) ∙ leads_left f Zeros e (moves_of steps) leads
+
     by_left : (n : ℕ) → left f e ≡ n → length steps < work f
     by_left zero h = absurd (bad (at_the_end f e (moves_of steps) rules leads h).0)
     by_left (suc n) h = omega (arith, sum, h)

@@ -27,9 +27,11 @@ always_ready f e ms rules l h = some_move f e rules (leads_kept f Zeros e ms (at
 
 no_refusal : (f : Forest) (s : Counts) → Kept f s → left f s ≡ 0 → NoneRefuses f
 no_refusal Bare s kept h = tt
-no_refusal (Node t kids rest) s (k, inner, outer) h =
-    (⊎_elim (λ r. absurd (no_true (ap refuses_in (empty (next t (top s)) (omega arith))) (k r))) (λ r. r) (cases_Bool (refuses_in t.script)),
-      no_refusal kids (below s) inner (omega arith), no_refusal rest (beside s) outer (omega arith))
+no_refusal (Node t kids rest) s (k, inner, outer) h = (
+  ⊎_elim (λ r. absurd (no_true (ap refuses_in (empty (next t (top s)) (omega arith))) (k r))) (λ r. r) (cases_Bool (refuses_in t.script)),
+  no_refusal kids (below s) inner (omega arith),
+  no_refusal rest (beside s) outer (omega arith),
+)
   where
     empty : (xs : List Action) → length xs ≡ 0 → xs ≡ []
     empty [] d = refl
@@ -71,13 +73,14 @@ run_leads f s picks (suc n) =
     by_test : (k : ℕ) (m : Move) → In m (all_moves f s) → (b : Bool) → m.action.refuses ≡ b
         → ((m : Move) → Leads f m.after (moves_of (run f m.after (later_picks picks) n)) (end_of m.after (run f m.after (later_picks picks) n)))
         → Leads f s (moves_of (step_at (length (all_moves f s)) k (Some m) (λ m. run f m.after (later_picks picks) n)))
-            (end_of s (step_at (length (all_moves f s)) k (Some m) (λ m. run f m.after (later_picks picks) n)))
+        (end_of s (step_at (length (all_moves f s)) k (Some m) (λ m. run f m.after (later_picks picks) n)))
     by_test k m i true r go = rw r refl
     by_test k m i false r go = rw r (i, r, go m)
+
     by_move : (k : ℕ) (o : Option Move) → nth (all_moves f s) k ≡ o
         → ((m : Move) → Leads f m.after (moves_of (run f m.after (later_picks picks) n)) (end_of m.after (run f m.after (later_picks picks) n)))
         → Leads f s (moves_of (step_at (length (all_moves f s)) k (nth (all_moves f s) k) (λ m. run f m.after (later_picks picks) n)))
-            (end_of s (step_at (length (all_moves f s)) k (nth (all_moves f s) k) (λ m. run f m.after (later_picks picks) n)))
+        (end_of s (step_at (length (all_moves f s)) k (nth (all_moves f s) k) (λ m. run f m.after (later_picks picks) n)))
     by_move k None e go = rw e refl
     by_move k (Some m) e go = rw e (by_test k m (nth_in (all_moves f s) k m e) m.action.refuses refl go)
 
@@ -94,22 +97,24 @@ run_stops f s picks zero rules kept h = absurd (omega arith)
 run_stops f s picks (suc n) rules kept h =
     let k : ℕ = first_pick picks % length (all_moves f s) in
     by_move k (place_fits (first_pick picks) (length (all_moves f s))) (nth (all_moves f s) k) refl
-      (λ m i r l. run_stops f m.after (later_picks picks) n rules (move_kept (all_held f s) outside 1 0 f s m i r kept) l) h
+    (λ m i r l. run_stops f m.after (later_picks picks) n rules (move_kept (all_held f s) outside 1 0 f s m i r kept) l) h
   where
     by_test : (k : ℕ) (m : Move) → In m (all_moves f s) → (b : Bool) → m.action.refuses ≡ b
         → ((m : Move) → In m (all_moves f s) → m.action.refuses ≡ false → length (run f m.after (later_picks picks) n) < n
-          → Stopped f (end_of m.after (run f m.after (later_picks picks) n)))
+        → Stopped f (end_of m.after (run f m.after (later_picks picks) n)))
         → length (Goes f s picks n k (Some m)) < suc n → Stopped f (end_of s (Goes f s picks n k (Some m)))
     by_test k m i true r go l = rw r (inr (m, i, r))
     by_test k m i false r go l = rw r (go m i r (let z : suc (length (run f m.after (later_picks picks) n)) < suc n = rw r at l in omega arith))
+
     none_ready : (k : ℕ) → (0 < length (all_moves f s) → k < length (all_moves f s)) → nth (all_moves f s) k ≡ None → left f s ≡ 0
     none_ready k fits e = ⊎_elim (λ z. z) (λ z. absurd (nth_some (all_moves f s) k (fits (some_move f s rules kept z)) e)) (zero_or (left f s))
       where
         zero_or : (n : ℕ) → (n ≡ 0) ⊎ (0 < n)
         zero_or n = grind arith
+
     by_move : (k : ℕ) → (0 < length (all_moves f s) → k < length (all_moves f s)) → (o : Option Move) → nth (all_moves f s) k ≡ o
         → ((m : Move) → In m (all_moves f s) → m.action.refuses ≡ false → length (run f m.after (later_picks picks) n) < n
-          → Stopped f (end_of m.after (run f m.after (later_picks picks) n)))
+        → Stopped f (end_of m.after (run f m.after (later_picks picks) n)))
         → length (Goes f s picks n k (nth (all_moves f s) k)) < suc n → Stopped f (end_of s (Goes f s picks n k (nth (all_moves f s) k)))
     by_move k fits None e go l = rw e (inl (none_ready k fits e))
     by_move k fits (Some m) e go l = rw e (by_test k m (nth_in (all_moves f s) k m e) m.action.refuses refl go (rw e at l))
@@ -119,7 +124,7 @@ clean_moves : (all : List (List ℕ)) (p : Task) (n j : ℕ) (f : Forest) (s : C
 clean_moves all p n j Bare s m none i = absurd i
 clean_moves all p n j (Node t kids rest) s m (own, inner, outer) i =
     by_place (which all p n j t kids rest s m i)
-      (λ d k. clean_moves all t (top s) 0 kids (below s) d inner k) (λ d k. clean_moves all p n (suc j) rest (beside s) d outer k)
+    (λ d k. clean_moves all t (top s) 0 kids (below s) d inner k) (λ d k. clean_moves all p n (suc j) rest (beside s) d outer k)
   where
     by_place : Where all p n j t kids rest s m → ((d : Move) → In d (moves all t (top s) 0 kids (below s)) → d.action.refuses ≡ false)
         → ((d : Move) → In d (moves all p n (suc j) rest (beside s)) → d.action.refuses ≡ false) → m.action.refuses ≡ false
@@ -137,13 +142,15 @@ run_exact f picks rules none = by_stop (run_stops f Zeros picks (work f) rules (
     sum : left f (end_of Zeros (run f Zeros picks (work f))) + length (run f Zeros picks (work f)) ≡ work f
     sum = rw (← as_many (run f Zeros picks (work f)))
         (leads_left f Zeros (end_of Zeros (run f Zeros picks (work f))) (moves_of (run f Zeros picks (work f))) (run_leads f Zeros picks (work f)))
+
     cases : (a b : ℕ) → (a < b) ⊎ (b ≤ a)
     cases a b = grind arith
+
     by_stop : (length (run f Zeros picks (work f)) < work f → Stopped f (end_of Zeros (run f Zeros picks (work f)))) → length (run f Zeros picks (work f)) ≡ work f
     by_stop stop = ⊎_elim
         (λ l. ⊎_elim (λ z. omega (arith, sum, z))
-          (λ m. absurd (no_true (clean_moves (all_held f (end_of Zeros (run f Zeros picks (work f)))) outside 1 0 f (end_of Zeros (run f Zeros picks (work f))) m.0 none m.1) m.2))
-          (stop l))
+        (λ m. absurd (no_true (clean_moves (all_held f (end_of Zeros (run f Zeros picks (work f)))) outside 1 0 f (end_of Zeros (run f Zeros picks (work f))) m.0 none m.1) m.2))
+        (stop l))
         (λ g. omega (arith, sum))
         (cases (length (run f Zeros picks (work f))) (work f))
 

@@ -47,7 +47,7 @@ cannot all q shut t kids s [] e a more f = cc
 cannot all q shut t kids s (b ∷ todo) e a more f =
     let h : b ≡ a = cc in
     rw (← h) (cond_nil (can all q shut t (top s) kids (below s) b.kind)
-        (record { name = t.name; action = b; after = Count (suc (top s)) (below s) (beside s) }) e)
+    (record { name = t.name; action = b; after = Count (suc (top s)) (below s) (beside s) }) e)
 
 -- a task that can't move is at rest, or waits at an empty queue that is open
 waits : (all q : List (List ℕ)) (shut : Bool) (t : Task) (kids : Forest) (s : Counts) → own_move all q shut t kids s (next t (top s)) ≡ []
@@ -57,6 +57,7 @@ waits all q shut t kids s e room = go (next t (top s)) refl
     empty : (q : List (List ℕ)) → (any_there q || shut) ≡ false → (q ≡ []) × (shut ≡ false)
     empty [] h = (refl, h)
     empty (x ∷ q) h = cc
+
     by_kind : (k : Kind) (todo : List Action) → can all q shut t (top s) kids (below s) k ≡ false → (is_still k ≡ true) ⊎ ((q ≡ []) × (shut ≡ false))
     by_kind (Free w) todo f = cc
     by_kind Take todo f = inr (empty q f)
@@ -64,6 +65,7 @@ waits all q shut t kids s e room = go (next t (top s)) refl
     by_kind (Put c) todo f = absurd (no_true f (ap not (room c)))
     by_kind (Append x) todo f = inl refl
     by_kind Join todo f = inl refl
+
     go : (todo : List Action) → next t (top s) ≡ todo → ((still_first (next t (top s)) ≡ true) ⊎ (next t (top s) ≡ [])) ⊎ ((q ≡ []) × (shut ≡ false))
     go [] w = inl (inr w)
     go (a ∷ todo) w = ⊎_elim (λ h. inl (inl (ap still_first w ∙ h))) (λ h. inr h)
@@ -75,14 +77,14 @@ module _ (all : List (List ℕ)) (p : Task) (n j : ℕ) (t : Task) (kids rest : 
   aside_none : moves all p n (suc j) rest (beside s) ≡ []
   aside_none = map_nil (move_beside s) (moves all p n (suc j) rest (beside s)) (nil_right
       (cond (started p j n) (own_move all (queue p n j t (top s)) (closed p j n) t kids s (next t (top s))
-        ++ map (move_below s) (moves all t (top s) 0 kids (below s))) [])
+      ++ map (move_below s) (moves all t (top s) 0 kids (below s))) [])
       (map (move_beside s) (moves all p n (suc j) rest (beside s))) e)
 
   here_none : started p j n ≡ true
       → own_move all (queue p n j t (top s)) (closed p j n) t kids s (next t (top s)) ++ map (move_below s) (moves all t (top s) 0 kids (below s)) ≡ []
   here_none g = rw g at (nil_left
       (cond (started p j n) (own_move all (queue p n j t (top s)) (closed p j n) t kids s (next t (top s))
-        ++ map (move_below s) (moves all t (top s) 0 kids (below s))) [])
+      ++ map (move_below s) (moves all t (top s) 0 kids (below s))) [])
       (map (move_beside s) (moves all p n (suc j) rest (beside s))) e)
 
   own_none : started p j n ≡ true → own_move all (queue p n j t (top s)) (closed p j n) t kids s (next t (top s)) ≡ []
@@ -92,7 +94,7 @@ module _ (all : List (List ℕ)) (p : Task) (n j : ℕ) (t : Task) (kids rest : 
   below_none : started p j n ≡ true → moves all t (top s) 0 kids (below s) ≡ []
   below_none g = map_nil (move_below s) (moves all t (top s) 0 kids (below s))
       (nil_right (own_move all (queue p n j t (top s)) (closed p j n) t kids s (next t (top s)))
-        (map (move_below s) (moves all t (top s) 0 kids (below s))) (here_none g))
+      (map (move_below s) (moves all t (top s) 0 kids (below s))) (here_none g))
 
 -- The queues are empty.
 
@@ -115,15 +117,16 @@ not_full p n j (Node t kids rest) s h c =
 all_empty : (all : List (List ℕ)) (cut : Bool) (p : Task) (n j : ℕ) (f : Forest) (s : Counts) → Rules cut p j f → Kept f s
     → moves all p n j f s ≡ [] → AllEmpty p n j f s
 all_empty all cut p n j Bare s rules kept e = tt
-all_empty all cut p n j (Node t kids rest) s (fit, keeps, apart, under, aside) (k, kept, more) e =
-    (⊎_elim (λ g. ⊎_elim
-        (λ r. empty_queue cut p n j t (top s) fit k r) (λ w. w.0)
-        (waits all (queue p n j t (top s)) (closed p j n) t kids s (own_none all p n j t kids rest s e g)
-          (not_full t (top s) 0 kids (below s)
-            (all_empty all (not (closes j p)) t (top s) 0 kids (below s) under kept (below_none all p n j t kids rest s e g)))))
+all_empty all cut p n j (Node t kids rest) s (fit, keeps, apart, under, aside) (k, kept, more) e = (
+  ⊎_elim (λ g. ⊎_elim
+      (λ r. empty_queue cut p n j t (top s) fit k r) (λ w. w.0)
+      (waits all (queue p n j t (top s)) (closed p j n) t kids s (own_none all p n j t kids rest s e g)
+      (not_full t (top s) 0 kids (below s)
+      (all_empty all (not (closes j p)) t (top s) 0 kids (below s) under kept (below_none all p n j t kids rest s e g)))))
       (λ g. ap (λ q. drop (taken t (top s)) q) (fit.started_first n g) ∙ drop_nil (taken t (top s)))
       (cases_Bool (started p j n)),
-    all_empty all cut p n (suc j) rest (beside s) aside more (aside_none all p n j t kids rest s e))
+  all_empty all cut p n (suc j) rest (beside s) aside more (aside_none all p n j t kids rest s e),
+)
 
 -- All started tasks are at rest, and their streams have ended.
 
@@ -131,8 +134,8 @@ all_empty all cut p n j (Node t kids rest) s (fit, keeps, apart, under, aside) (
 closes_all : (cut : Bool) (p : Task) (j : ℕ) (t : Task) (n : ℕ) → Fits cut p j t → cut ≡ false → Still p n → Rests p n → closes j p ≡ true
 closes_all cut p j t n fit c k r = ⊎_elim (λ h. h)
     (λ h. absurd (⊎_elim
-        (λ a. no_true (fit.open_moves h) (still_some_time p n a))
-        (λ e. no_true (done_clean p n k e) (fit.open_refuses c h)) r))
+    (λ a. no_true (fit.open_moves h) (still_some_time p n a))
+    (λ e. no_true (done_clean p n k e) (fit.open_refuses c h)) r))
     (cases_Bool (closes j p))
 
 has_closed : (cut : Bool) (p : Task) (j : ℕ) (t : Task) (n : ℕ) → Fits cut p j t → cut ≡ false → Still p n → Rests p n → closed p j n ≡ true
@@ -149,16 +152,20 @@ Quiet p n j (Node t kids rest) s =
 all_quiet : (all : List (List ℕ)) (cut : Bool) (p : Task) (n j : ℕ) (f : Forest) (s : Counts) → Rules cut p j f → Kept f s
     → moves all p n j f s ≡ [] → cut ≡ false → Still p n → Rests p n → Quiet p n j f s
 all_quiet all cut p n j Bare s rules kept e c sp rp = tt
-all_quiet all cut p n j (Node t kids rest) s (fit, keeps, apart, under, aside) (k, kept, more) e c sp rp =
-    (λ g.
+all_quiet all cut p n j (Node t kids rest) s (fit, keeps, apart, under, aside) (k, kept, more) e c sp rp = (
+  λ g.
       let shut : closes j p ≡ true = closes_all cut p j t n fit c sp rp in
       let rt : Rests t (top s) = ⊎_elim (λ r. r) (λ w. absurd (no_true w.1 (has_closed cut p j t n fit c sp rp)))
-            (waits all (queue p n j t (top s)) (closed p j n) t kids s (own_none all p n j t kids rest s e g)
-              (not_full t (top s) 0 kids (below s)
-                (all_empty all (not (closes j p)) t (top s) 0 kids (below s) under kept (below_none all p n j t kids rest s e g)))) in
-      (rt, shut, empty_queue cut p n j t (top s) fit k rt,
-        all_quiet all (not (closes j p)) t (top s) 0 kids (below s) under kept (below_none all p n j t kids rest s e g) (ap not shut) k rt),
-    all_quiet all cut p n (suc j) rest (beside s) aside more (aside_none all p n j t kids rest s e) c sp rp)
+      (waits all (queue p n j t (top s)) (closed p j n) t kids s (own_none all p n j t kids rest s e g)
+      (not_full t (top s) 0 kids (below s)
+      (all_empty all (not (closes j p)) t (top s) 0 kids (below s) under kept (below_none all p n j t kids rest s e g)))) in (
+        rt,
+        shut,
+        empty_queue cut p n j t (top s) fit k rt,
+        all_quiet all (not (closes j p)) t (top s) 0 kids (below s) under kept (below_none all p n j t kids rest s e g) (ap not shut) k rt,
+      ),
+  all_quiet all cut p n (suc j) rest (beside s) aside more (aside_none all p n j t kids rest s e) c sp rp,
+)
 
 -- Where something is left, a path is held.
 
@@ -202,15 +209,18 @@ some_held : (all : List (List ℕ)) (cut : Bool) (p : Task) (n j : ℕ) (f : For
 some_held all cut p n j Bare s rules kept e quiet h = absurd (omega arith)
 some_held all cut p n j (Node t kids rest) s (fit, keeps, apart, under, aside) (k, kept, more) e (here, beyond) h =
     by_started (cases_Bool (started p j n))
-      (λ l. some_held all cut p n (suc j) rest (beside s) aside more (aside_none all p n j t kids rest s e) beyond l)
-      (λ g l. some_held all (not (closes j p)) t (top s) 0 kids (below s) under kept (below_none all p n j t kids rest s e g) (here g).3 l)
+    (λ l. some_held all cut p n (suc j) rest (beside s) aside more (aside_none all p n j t kids rest s e) beyond l)
+    (λ g l. some_held all (not (closes j p)) t (top s) 0 kids (below s) under kept (below_none all p n j t kids rest s e g) (here g).3 l)
   where
     aside_held : SomeHeld p n (suc j) rest (beside s) → SomeHeld p n j (Node t kids rest) s
     aside_held (x, i, f) = (x, in_aside p n j t kids rest s x i, λ m b. f m b.1)
+
     below_held : started p j n ≡ true → SomeHeld t (top s) 0 kids (below s) → SomeHeld p n j (Node t kids rest) s
     below_held g (x, i, f) = (x, in_below p n j t kids rest s x g i, λ m b. f m (below_from_held m t (top s) 0 kids (b.0 g).1))
+
     own_held : started p j n ≡ true → (x : List ℕ) → In x (holds t (top s)) → SomeHeld p n j (Node t kids rest) s
     own_held g x i = (x, in_own p n j t kids rest s x g i, λ m b. (b.0 g).0 x (held_ever t (top s) x i))
+
     by_kind : (g : started p j n ≡ true) (a : Action) (todo : List Action) → next t (top s) ≡ a ∷ todo → (0 < left_started t (top s) 0 kids (below s) → SomeHeld t (top s) 0 kids (below s))
         → (kind : Kind) → a.kind ≡ kind → is_still kind ≡ true → can all (queue p n j t (top s)) (closed p j n) t (top s) kids (below s) kind ≡ false
         → SomeHeld p n j (Node t kids rest) s
@@ -220,18 +230,20 @@ some_held all cut p n j (Node t kids rest) s (fit, keeps, apart, under, aside) (
     by_kind g a todo w down (Put c) is still stuck = cc
     by_kind g a todo w down (Append q) is still stuck = own_held g q (rw (keeps (top s) q a todo w is) (inl refl))
     by_kind g a todo w down Join is still stuck = below_held g (down (waits_join (left_started t (top s) 0 kids (below s)) stuck))
+
     by_todo : (g : started p j n ≡ true) → Rests t (top s) → (0 < left_started t (top s) 0 kids (below s) → SomeHeld t (top s) 0 kids (below s))
         → (0 < length (next t (top s))) ⊎ (0 < left_started t (top s) 0 kids (below s)) → (todo : List Action) → next t (top s) ≡ todo → SomeHeld p n j (Node t kids rest) s
     by_todo g r down l [] w = below_held g (down (⊎_elim (λ a. absurd (let z : length (next t (top s)) ≡ 0 = ap length w in omega arith)) (λ b. b) l))
     by_todo g r down l (a ∷ todo) w = by_kind g a todo w down a.kind refl
         (⊎_elim (λ y. sym (ap still_first w) ∙ y) (λ z. cc) r)
         (cannot all (queue p n j t (top s)) (closed p j n) t kids s (next t (top s)) (own_none all p n j t kids rest s e g) a todo w)
+
     by_started : (started p j n ≡ true) ⊎ (started p j n ≡ false) → (0 < left_started p n (suc j) rest (beside s) → SomeHeld p n (suc j) rest (beside s))
         → (started p j n ≡ true → 0 < left_started t (top s) 0 kids (below s) → SomeHeld t (top s) 0 kids (below s)) → SomeHeld p n j (Node t kids rest) s
     by_started (inl g) over down =
         let h' : 0 < length (next t (top s)) + left_started t (top s) 0 kids (below s) + left_started p n (suc j) rest (beside s) = rw g at h in
         ⊎_elim (λ l. aside_held (over l)) (λ l. by_todo g (here g).0 (down g) l (next t (top s)) refl)
-          (cases_sum (length (next t (top s))) (left_started t (top s) 0 kids (below s)) (left_started p n (suc j) rest (beside s)) h')
+        (cases_sum (length (next t (top s))) (left_started t (top s) 0 kids (below s)) (left_started p n (suc j) rest (beside s)) h')
     by_started (inr g) over down =
         let h' : 0 < 0 + left_started p n (suc j) rest (beside s) = rw g at h in
         aside_held (over (omega arith))
@@ -244,16 +256,16 @@ no_least : (all : List (List ℕ)) (cut : Bool) (p : Task) (n j : ℕ) (f : Fore
 no_least all cut p n j Bare s rules kept e quiet sub m least i = i
 no_least all cut p n j (Node t kids rest) s (fit, keeps, apart, under, aside) (k, kept, more) e (here, beyond) sub m least i =
     ⊎_elim
-      (λ a. ⊎_elim
-          (λ g. by_place g (rw g at a)
-            (no_least all (not (closes j p)) t (top s) 0 kids (below s) under kept (below_none all p n j t kids rest s e g) (here g).3
-              (λ x y. sub x (in_below p n j t kids rest s x g y)) m least))
-          (λ g. let z : In m [] = rw g at a in z)
-          (cases_Bool (started p j n)))
-      (λ b. no_least all cut p n (suc j) rest (beside s) aside more (aside_none all p n j t kids rest s e) beyond
-          (λ x y. sub x (in_aside p n j t kids rest s x y)) m least b)
-      (in_cases m (cond (started p j n) (queue p n j t (top s) ++ (holds t (top s) ++ held t (top s) 0 kids (below s))) [])
-        (held p n (suc j) rest (beside s)) i)
+    (λ a. ⊎_elim
+    (λ g. by_place g (rw g at a)
+    (no_least all (not (closes j p)) t (top s) 0 kids (below s) under kept (below_none all p n j t kids rest s e g) (here g).3
+    (λ x y. sub x (in_below p n j t kids rest s x g y)) m least))
+    (λ g. let z : In m [] = rw g at a in z)
+    (cases_Bool (started p j n)))
+    (λ b. no_least all cut p n (suc j) rest (beside s) aside more (aside_none all p n j t kids rest s e) beyond
+    (λ x y. sub x (in_aside p n j t kids rest s x y)) m least b)
+    (in_cases m (cond (started p j n) (queue p n j t (top s) ++ (holds t (top s) ++ held t (top s) 0 kids (below s))) [])
+    (held p n (suc j) rest (beside s)) i)
   where
     by_kind : (g : started p j n ≡ true) → In m (holds t (top s)) → (a : Action) (todo : List Action) → next t (top s) ≡ a ∷ todo
         → (kind : Kind) → a.kind ≡ kind → is_still kind ≡ true → can all (queue p n j t (top s)) (closed p j n) t (top s) kids (below s) kind ≡ false → ⊥
@@ -266,10 +278,11 @@ no_least all cut p n j (Node t kids rest) s (fit, keeps, apart, under, aside) (k
         ⊎_elim (λ z. no_true stuck (rw z at least)) (λ z. z) o
     by_kind g h a todo w Join is still stuck =
         let x : SomeHeld t (top s) 0 kids (below s) =
-              some_held all (not (closes j p)) t (top s) 0 kids (below s) under kept (below_none all p n j t kids rest s e g) (here g).3
-                (waits_join (left_started t (top s) 0 kids (below s)) stuck) in
+        some_held all (not (closes j p)) t (top s) 0 kids (below s) under kept (below_none all p n j t kids rest s e g) (here g).3
+        (waits_join (left_started t (top s) 0 kids (below s)) stuck) in
         lt_not_le x.0 m (x.2 m (apart (top s) a todo w is m h))
-          (is_least_in m all least x.0 (sub x.0 (in_below p n j t kids rest s x.0 g x.1)))
+        (is_least_in m all least x.0 (sub x.0 (in_below p n j t kids rest s x.0 g x.1)))
+
     by_todo : (g : started p j n ≡ true) → In m (holds t (top s)) → Rests t (top s) → (todo : List Action) → next t (top s) ≡ todo → ⊥
     by_todo g h r [] w =
         let same : holds t (top s) ≡ holds t (length t.script) = ap (holds_after t.held) (all_done t (top s) w ∙ sym (all_whole t)) in
@@ -278,12 +291,13 @@ no_least all cut p n j (Node t kids rest) s (fit, keeps, apart, under, aside) (k
     by_todo g h r (a ∷ todo) w = by_kind g h a todo w a.kind refl
         (⊎_elim (λ y. sym (ap still_first w) ∙ y) (λ z. cc) r)
         (cannot all (queue p n j t (top s)) (closed p j n) t kids s (next t (top s)) (own_none all p n j t kids rest s e g) a todo w)
+
     by_place : (g : started p j n ≡ true) → In m (queue p n j t (top s) ++ (holds t (top s) ++ held t (top s) 0 kids (below s)))
         → (In m (held t (top s) 0 kids (below s)) → ⊥) → ⊥
     by_place g h down = ⊎_elim
         (λ a. let y : In m [] = rw ((here g).2) at a in y)
         (λ b. ⊎_elim (λ c. by_todo g c (here g).0 (next t (top s)) refl) (λ c. down c)
-          (in_cases m (holds t (top s)) (held t (top s) 0 kids (below s)) b))
+        (in_cases m (holds t (top s)) (held t (top s) 0 kids (below s)) b))
         (in_cases m (queue p n j t (top s)) (holds t (top s) ++ held t (top s) 0 kids (below s)) h)
 
 -- Where the task above is done and nothing is left of what is started, nothing is left.
@@ -307,14 +321,16 @@ nothing_left cut p n j (Node t kids rest) s (fit, keeps, apart, under, aside) e 
 none_left : (f : Forest) (s : Counts) → Rules false outside 0 f → Kept f s → all_moves f s ≡ [] → left f s ≡ 0
 none_left f s rules kept e = ⊎_elim
     (λ h. let x : SomeHeld outside 1 0 f s = some_held (all_held f s) false outside 1 0 f s rules kept e quiet h in
-        absurd (by_list (all_held f s) refl x.0 x.1))
+    absurd (by_list (all_held f s) refl x.0 x.1))
     (λ h. nothing_left false outside 1 0 f s rules refl h)
     (zero_or (left_started outside 1 0 f s))
   where
     zero_or : (n : ℕ) → (0 < n) ⊎ (n ≡ 0)
     zero_or n = grind arith
+
     quiet : Quiet outside 1 0 f s
     quiet = all_quiet (all_held f s) false outside 1 0 f s rules kept e refl (λ h. cc) (inr refl)
+
     by_list : (ps : List (List ℕ)) → all_held f s ≡ ps → (x : List ℕ) → In x (all_held f s) → ⊥
     by_list [] w x i = let y : In x [] = rw w at i in y
     by_list (q ∷ ps) w x i =

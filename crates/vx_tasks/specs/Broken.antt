@@ -55,7 +55,7 @@ early_append = pair giver
 abbrev pub early_join : Forest
 early_join = Node giver
     (Node (doer (0 ∷ []) [] (closing (0 ∷ []) ∷ acts Take [] ∷ acts Join [] ∷ acts Take [] ∷ acts Take [] ∷ acts TakeEnd [] ∷ []))
-      (Node (doer [] ((1 ∷ []) ∷ []) (acts TakeEnd ((1 ∷ []) ∷ []) ∷ acts (Append (1 ∷ [])) [] ∷ [])) Bare Bare) Bare) Bare
+    (Node (doer [] ((1 ∷ []) ∷ []) (acts TakeEnd ((1 ∷ []) ∷ []) ∷ acts (Append (1 ∷ [])) [] ∷ [])) Bare Bare) Bare) Bare
 
 -- a join before the queue of the child is closed
 abbrev pub late_close : Forest
@@ -96,26 +96,38 @@ falling = Node (doer [] ((1 ∷ []) ∷ []) (acts (Append (1 ∷ [])) ((0 ∷ []
 
 -- a child that appends the path that it holds from its start
 abbrev pub appender : ℕ → List ℕ → Task
-appender k eof = record { name = []; first = []; held = (k ∷ []) ∷ []; spare = []; eof = eof;
-  script = acts TakeEnd ((k ∷ []) ∷ []) ∷ acts (Append (k ∷ [])) [] ∷ [] }
+appender k eof = record {
+  name = [];
+  first = [];
+  held = (k ∷ []) ∷ [];
+  spare = [];
+  eof = eof;
+  script = acts TakeEnd ((k ∷ []) ∷ []) ∷ acts (Append (k ∷ [])) [] ∷ [];
+}
 
 -- an item, below all that is held, for a child that is started then
 abbrev pub low_item : Forest
 low_item = three (doer (0 ∷ []) [] (closing (0 ∷ []) ∷ acts Join []
-      ∷ record { kind = Free Call; starts = 1 ∷ []; gives = (1, 0 ∷ []) ∷ []; shuts = 1 ∷ []; holds = []; refuses = false } ∷ []))
+    ∷ record { kind = Free Call; starts = 1 ∷ []; gives = (1, 0 ∷ []) ∷ []; shuts = 1 ∷ []; holds = []; refuses = false } ∷ []))
     (appender 1 (1 ∷ []))
-    (record { name = []; first = []; held = []; spare = []; eof = 0 ∷ [];
-      script = acts Take ((0 ∷ []) ∷ []) ∷ acts TakeEnd ((0 ∷ []) ∷ []) ∷ acts (Append (0 ∷ [])) [] ∷ [] })
+    (record {
+      name = [];
+      first = [];
+      held = [];
+      spare = [];
+      eof = 0 ∷ [];
+      script = acts Take ((0 ∷ []) ∷ []) ∷ acts TakeEnd ((0 ∷ []) ∷ []) ∷ acts (Append (0 ∷ [])) [] ∷ [];
+    })
 
 -- a child started with an eof path below all that is held
 abbrev pub low_birth : Forest
 low_birth = three (doer (0 ∷ []) [] (closing (0 ∷ []) ∷ acts Join []
-      ∷ record { kind = Free Call; starts = 1 ∷ []; gives = []; shuts = 1 ∷ []; holds = []; refuses = false } ∷ []))
+    ∷ record { kind = Free Call; starts = 1 ∷ []; gives = []; shuts = 1 ∷ []; holds = []; refuses = false } ∷ []))
     (appender 1 (1 ∷ [])) (appender 0 (0 ∷ []))
 
 -- a child that appends below its eof path and its stream
 abbrev pub low_append : Forest
 low_append = three (doer (0 ∷ []) ((2 ∷ []) ∷ [])
-      (record { kind = Free Close; starts = []; gives = []; shuts = 0 ∷ []; holds = (2 ∷ []) ∷ []; refuses = false } ∷ acts Join ((2 ∷ []) ∷ [])
-      ∷ record { kind = Free Call; starts = 1 ∷ []; gives = []; shuts = 1 ∷ []; holds = []; refuses = false } ∷ []))
+    (record { kind = Free Close; starts = []; gives = []; shuts = 0 ∷ []; holds = (2 ∷ []) ∷ []; refuses = false } ∷ acts Join ((2 ∷ []) ∷ [])
+    ∷ record { kind = Free Call; starts = 1 ∷ []; gives = []; shuts = 1 ∷ []; holds = []; refuses = false } ∷ []))
     (appender 1 (1 ∷ [])) (appender 0 (2 ∷ []))

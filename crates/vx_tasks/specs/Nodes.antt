@@ -47,7 +47,13 @@ batch_paths here (suc n) = eof_path here ∷ batch_paths (next here) n
 
 abbrev pub source_task : Eof → ℕ → Bool → Task
 source_task here n fits = record {
-  name = 0 ∷ []; script = source_script here n fits; first = 0 ∷ []; held = eof_path here ∷ []; spare = []; eof = [] }
+  name = 0 ∷ [];
+  script = source_script here n fits;
+  first = 0 ∷ [];
+  held = eof_path here ∷ [];
+  spare = [];
+  eof = [];
+}
 
 -- Flat takes its one chunk, sees the end, and appends. It refuses a chunk whose encoding isn't allowed
 -- (`bad`) and a second chunk. It gives its eof path up at the start.
@@ -60,7 +66,13 @@ flat_script false (p ∷ q ∷ ps) ended = acts Take (p ∷ []) ∷ refusal Take
 
 abbrev pub flat_task : List ℕ → Eof → Bool → List (List ℕ) → Bool → Task
 flat_task name e bad ps ended = record {
-  name = name; script = flat_script bad ps ended; first = []; held = []; spare = []; eof = eof_path e }
+  name = name;
+  script = flat_script bad ps ended;
+  first = [];
+  held = [];
+  spare = [];
+  eof = eof_path e;
+}
 
 -- Chunked starts a child for each chunk that it takes, puts the chunk on its queue and closes it. It holds
 -- a pointer, at the eof path that the next child stands under, until it sees the end; then it joins.
@@ -78,7 +90,13 @@ chunked_script barred ps ended e = chunk_takes 0 ps e ++ once_ended ended (acts 
 
 abbrev pub chunked_task : List ℕ → Eof → Bool → List (List ℕ) → Bool → Task
 chunked_task name e barred ps ended = record {
-  name = name; script = chunked_script barred ps ended e; first = []; held = eof_path e ∷ []; spare = []; eof = eof_path e }
+  name = name;
+  script = chunked_script barred ps ended e;
+  first = [];
+  held = eof_path e ∷ [];
+  spare = [];
+  eof = eof_path e;
+}
 
 -- Struct and List take a chunk, make the ids of its columns and put each on its column's queue. At the end
 -- they close all queues and join. The columns are started with the node. A list refuses a stream that ends
@@ -108,7 +126,13 @@ columns_script list w ps ended = column_takes w ps ++ once_ended ended (acts Tak
 
 abbrev pub columns_task : List ℕ → Eof → Bool → ℕ → List (List ℕ) → Bool → Task
 columns_task name e list w ps ended = record {
-  name = name; script = columns_script list w ps ended; first = numbers 0 w; held = []; spare = []; eof = eof_path e }
+  name = name;
+  script = columns_script list w ps ended;
+  first = numbers 0 w;
+  held = [];
+  spare = [];
+  eof = eof_path e;
+}
 
 -- whether the columns' streams end
 abbrev pub columns_end : Bool → List (List ℕ) → Bool → Bool
@@ -127,7 +151,13 @@ rows_script (p ∷ ps) ended = acts Take [] ∷ rows_script ps ended
 
 abbrev pub rows_task : List ℕ → Eof → List (List ℕ) → Bool → Task
 rows_task name e ps ended = record {
-  name = name; script = rows_script ps ended; first = []; held = []; spare = []; eof = eof_path e }
+  name = name;
+  script = rows_script ps ended;
+  first = [];
+  held = [];
+  spare = [];
+  eof = eof_path e;
+}
 
 -- A whole tree: the source on top, its only child the root node's task, whose name is [1].
 abbrev pub machine : Eof → ℕ → Bool → Task → Forest → Forest
@@ -143,4 +173,4 @@ abbrev pub chunked_columns : List ℕ → ℕ → ℕ → List (List ℕ) → Bo
 chunked_columns name c zero ps ended e = Bare
 chunked_columns name c (suc k) ps ended e =
     Node (chunked_task (under name c) (inside e) false (column_stream c ps) ended) (flat_kids (under name c) 0 (column_stream c ps) (inside e))
-      (chunked_columns name (suc c) k ps ended (next e))
+    (chunked_columns name (suc c) k ps ended (next e))

@@ -34,7 +34,7 @@ abbrev pub own_move : List (List ℕ) → List (List ℕ) → Bool → Task → 
 own_move all q shut t kids s [] = []
 own_move all q shut t kids s (a ∷ todo) =
     cond (can all q shut t (top s) kids (below s) a.kind)
-      (record { name = t.name; action = a; after = Count (suc (top s)) (below s) (beside s) } ∷ []) []
+    (record { name = t.name; action = a; after = Count (suc (top s)) (below s) (beside s) } ∷ []) []
 
 abbrev pub move_below : Counts → Move → Move
 move_below s m = record { name = m.name; action = m.action; after = Count (top s) m.after (beside s) }
@@ -48,15 +48,20 @@ abbrev pub moves : List (List ℕ) → Task → ℕ → ℕ → Forest → Count
 moves all p n j Bare s = []
 moves all p n j (Node t kids rest) s =
     cond (started p j n)
-      (own_move all (queue p n j t (top s)) (closed p j n) t kids s (next t (top s))
-        ++ map (move_below s) (moves all t (top s) 0 kids (below s))) []
+    (own_move all (queue p n j t (top s)) (closed p j n) t kids s (next t (top s))
+    ++ map (move_below s) (moves all t (top s) 0 kids (below s))) []
     ++ map (move_beside s) (moves all p n (suc j) rest (beside s))
 
 -- What stands above the whole: it has started its child 0, has given it nothing, and has closed its queue.
 abbrev pub outside : Task
 outside = record {
-  name = []; first = 0 ∷ []; held = []; spare = []; eof = [];
-  script = record { kind = Free Prompt.Close; starts = []; gives = []; shuts = 0 ∷ []; holds = []; refuses = false } ∷ [] }
+  name = [];
+  first = 0 ∷ [];
+  held = [];
+  spare = [];
+  eof = [];
+  script = record { kind = Free Prompt.Close; starts = []; gives = []; shuts = 0 ∷ []; holds = []; refuses = false } ∷ [];
+}
 
 -- all paths that are held
 abbrev pub all_held : Forest → Counts → List (List ℕ)

@@ -7,8 +7,7 @@ ghost use Rattle.vx_tasks.specs.Broken.{IsStuck, IsDisordered, never_started, un
 pub fn step_counts()
     ensures chunks { ChunkedSteps }
     ensures columns { StructSteps }
-{
-}
+{}
 
 /// Traces of small runs.
 pub fn traces()
@@ -16,15 +15,13 @@ pub fn traces()
     ensures none { NoBatch }
     ensures two { TwoBatches }
     ensures columns { TwoColumns }
-{
-}
+{}
 
 /// Runs that end with a refusal.
 pub fn refusals()
     ensures chunks { ManyChunks }
     ensures batch { WrongBatch }
-{
-}
+{}
 
 /// Trees that break one rule each: the run gets stuck.
 pub fn stuck()
@@ -38,8 +35,7 @@ pub fn stuck()
     ensures at_end { IsStuck kept_path }
     ensures keeps { IsStuck two_held }
     ensures apart { IsStuck low_join }
-{
-}
+{}
 
 /// Trees that break one rule of order each: the appends don't ascend.
 pub fn disordered()
@@ -47,5 +43,4 @@ pub fn disordered()
     ensures unsent { IsDisordered low_item }
     ensures unborn { IsDisordered low_birth }
     ensures inside { IsDisordered low_append }
-{
-}
+{}

@@ -7,45 +7,38 @@ pub fn left()
     ensures moves { MoveLowers }
     ensures shared { WorkIsShared }
     ensures refused { RefusedEarly }
-{
-}
+{}
 
 /// Nothing gets stuck: as long as work is left, a task is ready.
 pub fn ready()
     ensures { SomeReady }
-{
-}
+{}
 
 /// The order of appends: nothing still to come is below the least path that is held.
 pub fn order()
     ensures covered { PendingCovered }
     ensures ascends { WrittenAscends }
     ensures below { WrittenBelow }
-{
-}
+{}
 
 /// The appends so far are a beginning of all appends in order of path.
 pub fn numbered()
     ensures { WrittenFirst }
-{
-}
+{}
 
 /// Once no work is left.
 pub fn ended()
     ensures { EndIsWhole }
-{
-}
+{}
 
 /// Runs under a schedule, whatever it picks.
 pub fn scheduled()
     ensures leads { RunLeads }
     ensures stops { RunStops }
     ensures whole { RunIsWhole }
-{
-}
+{}
 
 /// The order in which ready tasks are counted.
 pub fn named()
     ensures { NamesAscend }
-{
-}
+{}
