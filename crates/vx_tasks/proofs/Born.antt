@@ -1,13 +1,13 @@
 -- A child that one action of its parent starts, feeds and closes.
-use Rattle.std.proofs.Common.{◌≡◌, ℕ, zero, suc, ◌+◌, ◌≤◌, Bool, true, false, List, [], ◌∷◌, ◌++◌, length, take, drop, refl, sym, ap, ◌∙◌, subst, inl, inr, ⊎_elim, arith, append_assoc}
+use Rattle.std.proofs.Common.{◌||◌, ◌≡◌, ℕ, zero, suc, ◌+◌, ◌≤◌, Bool, true, false, List, [], ◌∷◌, ◌++◌, length, take, drop, refl, sym, ap, ◌∙◌, subst, inl, inr, ⊎_elim, arith, append_assoc}
 use Rattle.vx_path.specs.Lists.{In}
 use Rattle.vx_path.proofs.Lists.{in_right}
-use Rattle.vx_tasks.specs.Task.{Task, Action, Kind, Forest, past, given, to_child, sent, started, closed, taken, holds, items, closes, has, starts_in, shuts_in, refuses_in, takes_of, takes_in, appends_in, holds_after, holds_in, is_still, still_first, still_in, ever_held}
+use Rattle.vx_tasks.specs.Task.{Task, Action, Kind, Forest, past, given, to_child, sent, started, closed, taken, holds, items, closes, has, starts_in, shuts_in, refuses_in, takes_of, takes_in, appends_in, holds_after, holds_in, is_still, is_late, next_kind, any_kind, ever_held}
 use Rattle.vx_tasks.specs.Task as task
 use Rattle.vx_tasks.specs.Task.Kind.{Free, Take, TakeEnd, Put, Append, Join}
 use Rattle.vx_tasks.specs.Task.Forest.{Bare, Node}
 use Rattle.vx_tasks.specs.Rules.{Covers}
-use Rattle.vx_tasks.proofs.Scripts.{no_true, or_true, nil_left, nil_right, items_are, given-append, starts_in-append, shuts_in-append}
+use Rattle.vx_tasks.proofs.Scripts.{given_rest, no_true, or_true, or_false, nil_left, nil_right, items_are, given-append, starts_in-append, shuts_in-append}
 use Rattle.vx_tasks.proofs.Fit.{Feeds, body_shuts}
 
 -- A place in a list: n actions are done before the one at it, or it is.
@@ -34,15 +34,10 @@ given_part j (a ∷ xs) (suc n) h =
     let r : given j xs ≡ [] = nil_right (to_child j a.gives) (given j xs) h in
     rw l (given_part j xs n r)
 
-pub given_rest : (j : ℕ) (xs : List Action) (n : ℕ) → given j xs ≡ [] → given j (drop n xs) ≡ []
-given_rest j xs zero h = h
-given_rest j [] (suc n) h = refl
-given_rest j (a ∷ xs) (suc n) h = given_rest j xs n (nil_right (to_child j a.gives) (given j xs) h)
-
 -- A child that one action, x, starts, gives its one item, and closes.
 module _ (cut : Bool) (ps : List (List ℕ)) (t : Task) (j : ℕ) (p : List ℕ) (ceof : List ℕ) (pre : List Action) (x : Action) (post : List Action)
-    (script_is : t.script ≡ pre ++ (x ∷ post)) (late_start : has j t.first ≡ false) (gives_before : given j pre ≡ []) (gives_after : given j post ≡ [])
-    (moving : still_in (pre ++ (x ∷ [])) ≡ false) (starts_it : has j x.starts ≡ true) (gives_it : to_child j x.gives ≡ p ∷ []) (shuts_it : has j x.shuts ≡ true)
+    (script_is : t.script ≡ pre ++ (x ∷ post)) (late_start : has j t.first ≡ false) (gives_before : given j pre ≡ []) (shuts_before : shuts_in j pre ≡ false) (gives_after : given j post ≡ [])
+    (moving : any_kind is_still (pre ++ (x ∷ [])) ≡ false) (starts_it : has j x.starts ≡ true) (gives_it : to_child j x.gives ≡ p ∷ []) (shuts_it : has j x.shuts ≡ true)
     (item_covered : (n : ℕ) → n ≤ length pre → Covers ps t n p) (eof_covered : (n : ℕ) → n ≤ length pre → Covers ps t n ceof) where
   has_started : (n k : ℕ) → take n t.script ≡ pre ++ (x ∷ take k post) → started t j n ≡ true
   has_started n k w =
@@ -76,6 +71,21 @@ module _ (cut : Bool) (ps : List (List ℕ)) (t : Task) (j : ℕ) (p : List ℕ)
       at (behind k e w d) =
           let z : In y [] = subst (λ l. In y l) (ap (λ v. given j (drop n v)) script_is ∙ ap (given j) d ∙ given_rest j post k gives_after) i in absurd z
 
+  shut_part : (xs : List Action) (n : ℕ) → shuts_in j xs ≡ false → shuts_in j (take n xs) ≡ true → ⊥
+  shut_part [] zero h c = no_true refl c
+  shut_part [] (suc n) h c = no_true refl c
+  shut_part (a ∷ xs) zero h c = no_true refl c
+  shut_part (a ∷ xs) (suc n) h c =
+      let o : (has j a.shuts ≡ false) × (shuts_in j xs ≡ false) = or_false (has j a.shuts) (shuts_in j xs) h in
+      shut_part xs n o.1 (sym (ap (λ b. b || shuts_in j (take n xs)) o.0) ∙ c)
+
+  born_shut_last : (n : ℕ) → closed t j n ≡ true → given j (task.next t n) ≡ []
+  born_shut_last n c = at (cut_at pre x post n)
+    where
+      at : Cut pre x post n → given j (task.next t n) ≡ []
+      at (before l w) = absurd (shut_part pre n shuts_before (sym (ap (shuts_in j) (ap (take n) script_is ∙ w)) ∙ c))
+      at (behind k e w d) = ap (λ v. given j (drop n v)) script_is ∙ ap (given j) d ∙ given_rest j post k gives_after
+
   pub born_feeds : Feeds cut ps t j (p ∷ []) true ceof
   born_feeds = record {
     items_are = born_items;
@@ -84,6 +94,7 @@ module _ (cut : Bool) (ps : List (List ℕ)) (t : Task) (j : ℕ) (p : List ℕ)
         ∙ or_true (starts_in j pre) (starts_in j (x ∷ post)) (inr (or_true (has j x.starts) (starts_in j post) (inl starts_it)))));
     closed_first = λ n s c. body_shuts t (pre ++ (x ∷ [])) post j n (script_is ∙ sym (append_assoc pre (x ∷ []) post)) moving
         (shuts_in-append j pre (x ∷ []) ∙ or_true (shuts_in j pre) (shuts_in j (x ∷ [])) (inr (or_true (has j x.shuts) false (inl shuts_it)))) s;
+    shut_last = born_shut_last;
     started_first = λ n h. ap (given j) (not_yet n h).1 ∙ given_part j pre n gives_before;
     open_refuses = λ c h. absurd (no_true h born_closes);
     open_moves = λ h. absurd (no_true h born_closes);

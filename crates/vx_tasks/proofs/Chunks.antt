@@ -5,15 +5,15 @@ use Rattle.vx_path.specs.Lists.{In}
 use Rattle.vx_path.specs.Path.{path_le, begins, under, Eof, raised, eof_path, inside, next, Region}
 use Rattle.vx_path.proofs.Lists.{in_left, in_right}
 use Rattle.vx_path.proofs.Path.{path_le-refl, path_le-trans, begins-refl, begins_le, begins-under, under_le, raised-next, raised-zero, region_next, region_inside, region_more}
-use Rattle.vx_tasks.specs.Task.{Task, Action, Forest, past, given, taken, holds, has, takes_in, appends_in, holds_after, holds_in, still_in}
+use Rattle.vx_tasks.specs.Task.{shuts_in, is_late, Task, Action, Forest, past, given, taken, holds, has, takes_in, appends_in, holds_after, holds_in, is_still, any_kind}
 use Rattle.vx_tasks.specs.Task.Kind.{Take, TakeEnd, Join}
 use Rattle.vx_tasks.specs.Task.Forest.{Bare, Node}
 use Rattle.vx_tasks.specs.Rules.{Apart, AllHeld, Rules, AtLeast, InOrder, Rises, names}
 use Rattle.vx_tasks.specs.Nodes.{acts, once_ended, chunk_takes, chunked_task}
 use Rattle.vx_tasks.specs.Good.{Reads, Good, ChunkKids}
-use Rattle.vx_tasks.proofs.Scripts.{given-append, still_in-append, takes_in-append, holds_after-append, all_whole}
+use Rattle.vx_tasks.proofs.Scripts.{shuts_in-append, given-append, any_kind-append, takes_in-append, holds_after-append, all_whole}
 use Rattle.vx_tasks.proofs.Fit.{Feeds, child_rules, child_order, body_reads, no_append_keeps, no_append_own, join_apart, no_join_apart, held_where, NamedFrom, more_named, more_rises, alone_named, alone_rises}
-use Rattle.vx_tasks.proofs.Leaves.{mute_reads}
+use Rattle.vx_tasks.proofs.Leaves.{mute_reads, never_late}
 use Rattle.vx_tasks.proofs.Born.{born_feeds}
 
 -- What the takes of chunks do.
@@ -38,9 +38,13 @@ takes_length : (j : ℕ) (ps : List (List ℕ)) (e : Eof) → takes_in (chunk_ta
 takes_length j [] e = refl
 takes_length j (p ∷ ps) e = omega (arith, takes_length (suc j) ps (next e))
 
-takes_move : (j : ℕ) (ps : List (List ℕ)) (e : Eof) → still_in (chunk_takes j ps e) ≡ false
+takes_move : (j : ℕ) (ps : List (List ℕ)) (e : Eof) → any_kind is_still (chunk_takes j ps e) ≡ false
 takes_move j [] e = refl
 takes_move j (p ∷ ps) e = takes_move (suc j) ps (next e)
+
+takes_early : (j : ℕ) (ps : List (List ℕ)) (e : Eof) → any_kind is_late (chunk_takes j ps e) ≡ false
+takes_early j [] e = refl
+takes_early j (p ∷ ps) e = takes_early (suc j) ps (next e)
 
 takes_mute : (j : ℕ) (ps : List (List ℕ)) (e : Eof) (ended : Bool) → appends_in (chunk_takes j ps e ++ last_part ended) ≡ []
 takes_mute j [] e true = refl
@@ -93,8 +97,9 @@ pub record Upto (t : Task) (all front : List (List ℕ)) (j : ℕ) (pre : List A
   pub none_first : t.first ≡ []
   pub stream_is : all ≡ front ++ ps
   pub took : takes_in pre ≡ length front
-  pub moving : still_in pre ≡ false
+  pub moving : any_kind is_still pre ≡ false
   pub gives_none : (i : ℕ) → j ≤ i → given i pre ≡ []
+  pub shuts_none : (i : ℕ) → j ≤ i → shuts_in i pre ≡ false
   pub eof_covered : (n : ℕ) → n ≤ length pre → AtLeast (holds t n) (eof_path e)
 
 -- the take of one more chunk
@@ -103,12 +108,12 @@ one_take j p e = record { kind = Take; starts = j ∷ []; gives = (j, p) ∷ [];
 
 module _ (t : Task) (all front : List (List ℕ)) (j : ℕ) (pre : List Action) (p : List ℕ) (ps : List (List ℕ)) (ended : Bool) (e : Eof)
     (u : Upto t all front j pre (p ∷ ps) ended e) where
-  it_moves : still_in (pre ++ (one_take j p e ∷ [])) ≡ false
-  it_moves = still_in-append pre (one_take j p e ∷ []) ∙ ap (λ b. b || false) u.moving
+  it_moves : any_kind is_still (pre ++ (one_take j p e ∷ [])) ≡ false
+  it_moves = any_kind-append is_still pre (one_take j p e ∷ []) ∙ ap (λ b. b || false) u.moving
 
   child_fed : Feeds (not ended) all t j (p ∷ []) true (eof_path (inside e))
   child_fed = born_feeds (not ended) all t j p (eof_path (inside e)) pre (one_take j p e) (chunk_takes (suc j) ps (next e) ++ last_part ended)
-      u.script_is (ap (has j) u.none_first) (u.gives_none j (omega arith)) (later_given j (suc j) ps (next e) ended (omega arith))
+      u.script_is (ap (has j) u.none_first) (u.gives_none j (omega arith)) (u.shuts_none j (omega arith)) (later_given j (suc j) ps (next e) ended (omega arith))
       it_moves (ap (λ b. b || false) (same_test j)) (ap (λ b. cond b (p ∷ []) []) (same_test j)) (ap (λ b. b || false) (same_test j))
       (λ n h. (
         p,
@@ -132,6 +137,8 @@ module _ (t : Task) (all front : List (List ℕ)) (j : ℕ) (pre : List Action) 
     moving = it_moves;
     gives_none = λ i h. given-append i pre (one_take j p e ∷ []) ∙ ap (λ y. y ++ given i (one_take j p e ∷ [])) (u.gives_none i (omega arith))
         ∙ ap (λ b. cond b (p ∷ []) [] ++ []) (not_that i h);
+    shuts_none = λ i h. shuts_in-append i pre (one_take j p e ∷ []) ∙ ap (λ b. b || shuts_in i (one_take j p e ∷ [])) (u.shuts_none i (omega arith))
+        ∙ ap (λ b. b || false || false) (not_that i h);
     eof_covered = λ n h. ⊎_elim
         (λ l. at_next n (u.eof_covered n l))
         (λ l. rw (last n l) (eof_path (next e), inl refl, path_le-refl (eof_path (next e))))
@@ -221,7 +228,7 @@ chunked_good name e ps ended kids k = record {
           stream_is = refl;
           took = refl;
           moving = refl;
-          gives_none = λ i h. refl;
+          gives_none = λ i h. refl; shuts_none = λ i h. refl;
           eof_covered = λ n h. at_zero n (let z : n ≡ 0 = omega arith in z);
         }) k
       where
@@ -234,22 +241,29 @@ chunked_good name e ps ended kids k = record {
     split : (t true).script ≡ body ++ (acts Join [] ∷ [])
     split = sym (append_assoc (chunk_takes 0 ps e) (acts TakeEnd [] ∷ []) (acts Join [] ∷ []))
 
-    body_moves : still_in body ≡ false
-    body_moves = still_in-append (chunk_takes 0 ps e) (acts TakeEnd [] ∷ []) ∙ ap (λ b. b || false) (takes_move 0 ps e)
+    body_moves : any_kind is_still body ≡ false
+    body_moves = any_kind-append is_still (chunk_takes 0 ps e) (acts TakeEnd [] ∷ []) ∙ ap (λ b. b || false) (takes_move 0 ps e)
 
-    open_moves : still_in (t false).script ≡ false
-    open_moves = still_in-append (chunk_takes 0 ps e) [] ∙ ap (λ b. b || false) (takes_move 0 ps e)
+    open_moves : any_kind is_still (t false).script ≡ false
+    open_moves = any_kind-append is_still (chunk_takes 0 ps e) [] ∙ ap (λ b. b || false) (takes_move 0 ps e)
+
+    last_takes : (ended : Bool) → takes_in (last_part ended) ≡ 0
+    last_takes true = refl
+    last_takes false = refl
+
+    all_takes : (ended : Bool) → takes_in (t ended).script ≡ length ps
+    all_takes ended =
+        let h : takes_in (t ended).script ≡ takes_in (chunk_takes 0 ps e) + takes_in (last_part ended) = takes_in-append (chunk_takes 0 ps e) (last_part ended) in
+        omega (arith, takes_length 0 ps e, last_takes ended)
+
+    holds_end : (ended : Bool) → ended ≡ true → holds (t ended) (length (t ended).script) ≡ []
+    holds_end true c = ap (holds_after (eof_path e ∷ [])) (all_whole (t true)) ∙ holds_after-append (eof_path e ∷ []) (chunk_takes 0 ps e) (last_part true)
+    holds_end false c = cc
 
     reads : (ended : Bool) → Reads ps ended (t ended)
-    reads true = record {
-      reads_all = λ r. rw (takes_in-append (chunk_takes 0 ps e) (last_part true)) (omega (arith, takes_length 0 ps e));
-      reads_first = λ n h. body_reads (t true) body (acts Join [] ∷ []) (length ps) n split body_moves
-          (rw (takes_in-append (chunk_takes 0 ps e) (acts TakeEnd [] ∷ [])) (omega (arith, takes_length 0 ps e))) h;
-      at_end = λ r h. ap (holds_after (eof_path e ∷ [])) (all_whole (t true)) ∙ holds_after-append (eof_path e ∷ []) (chunk_takes 0 ps e) (last_part true);
-      own = no_append_own (t true) ps (takes_mute 0 ps e true);
-    }
-    reads false = mute_reads ps false (t false) (takes_mute 0 ps e false) open_moves
-        (λ r. rw (takes_in-append (chunk_takes 0 ps e) []) (omega (arith, takes_length 0 ps e))) (λ c h. cc)
+    reads ended = mute_reads ps ended (t ended) (takes_mute 0 ps e ended) (omega (arith, all_takes ended))
+        (λ n h. body_reads (t ended) (chunk_takes 0 ps e) (last_part ended) (length ps) n refl (takes_early 0 ps e) (omega (arith, takes_length 0 ps e)) h)
+        (λ r. omega (arith, all_takes ended)) (λ c r. holds_end ended c)
 
     apart : (ended : Bool) → Apart (t ended) kids
     apart true = join_apart (t true) kids body (acts Join []) split body_moves (holds_after-append (eof_path e ∷ []) (chunk_takes 0 ps e) (acts TakeEnd [] ∷ []))
@@ -259,7 +273,7 @@ chunked_good name e ps ended kids k = record {
 pub barred_good : (name : List ℕ) (e : Eof) (p : List ℕ) (ps : List (List ℕ)) (ended : Bool) → Good name (p ∷ ps) ended e (chunked_task name e true (p ∷ ps) ended) Bare
 barred_good name e p ps ended = record {
   eof_is = refl;
-  reads = mute_reads (p ∷ ps) ended t refl refl (λ r. cc) (λ r h. cc);
+  reads = mute_reads (p ∷ ps) ended t refl (omega arith) (never_late (length (p ∷ ps)) t refl) (λ r. cc) (λ r h. cc);
   keeps = no_append_keeps t refl;
   apart = no_join_apart t Bare refl;
   rules = tt;

@@ -6,17 +6,16 @@ use Rattle.vx_path.specs.Lists.{In}
 use Rattle.vx_path.specs.Path.{begins, under, Eof, eof_path, inside, next, Region}
 use Rattle.vx_path.proofs.Lists.{in_left, in_right, in_cases, from_map}
 use Rattle.vx_path.proofs.Path.{path_le-refl, begins_le, begins-under, region_next, region_inside, region_from}
-use Rattle.vx_tasks.specs.Task.{Task, Action, Kind, Forest, past, given, to_child, sent, started, closed, taken, holds, items, closes, has, starts_in, shuts_in, refuses_in, takes_of, takes_in, appends_in, holds_after, holds_in, is_still, still_first, still_in, ever_held}
+use Rattle.vx_tasks.specs.Task.{is_late, Task, Action, Kind, Forest, past, given, to_child, sent, started, closed, taken, holds, items, closes, has, starts_in, shuts_in, refuses_in, takes_of, takes_in, appends_in, holds_after, holds_in, is_still, is_late, next_kind, any_kind, ever_held}
 use Rattle.vx_tasks.specs.Task as task
 use Rattle.vx_tasks.specs.Task.Kind.{Free, Take, TakeEnd, Put, Append, Join}
 use Rattle.vx_tasks.specs.Task.Forest.{Bare, Node}
 use Rattle.vx_tasks.specs.Rules.{Apart, AllHeld, Rules, AtLeast, Covers, InOrder, Rises, names}
 use Rattle.vx_tasks.specs.Nodes.{acts, refusal, closing, once_ended, numbers, column_paths, column_puts, column_takes, column_stream, columns_script, columns_task, columns_end}
 use Rattle.vx_tasks.specs.Good.{Good, ColumnKids}
-use Rattle.vx_tasks.proofs.Scripts.{no_true, or_true, given-append, shuts_in-append, still_in-append, takes_in-append, appends_in-append, holds_after-append, holds_in-append, all_whole}
-use Rattle.vx_tasks.proofs.Fit.{Feeds, child_rules, child_order, body_reads, body_shuts, no_append_keeps, no_append_own, join_apart, no_join_apart, held_where, NamedFrom, more_named, more_rises, alone_named, alone_rises}
-use Rattle.vx_tasks.proofs.Leaves.{mute_reads}
-use Rattle.vx_tasks.proofs.Born.{given_rest}
+use Rattle.vx_tasks.proofs.Scripts.{given_rest, closes_some_time, no_true, or_true, given-append, shuts_in-append, any_kind-append, takes_in-append, appends_in-append, holds_after-append, holds_in-append, all_whole}
+use Rattle.vx_tasks.proofs.Fit.{front_open, Feeds, child_rules, child_order, body_reads, body_shuts, no_append_keeps, no_append_own, join_apart, no_join_apart, held_where, NamedFrom, more_named, more_rises, alone_named, alone_rises}
+use Rattle.vx_tasks.proofs.Leaves.{mute_reads, never_late}
 use Rattle.vx_tasks.proofs.Chunks.{same_test, other_test}
 
 -- the end of the script
@@ -52,7 +51,7 @@ puts_paths c p b (suc k) x i = at (cases_Bool (nat_eq b c)) (λ h. puts_paths c 
         let z : In x (under p b ∷ given c (column_puts p (suc b) k)) = rw t at i in ⊎_elim (λ e. inl e) (λ h. inr (rest h)) z
     at (inr f) rest = let z : In x (given c (column_puts p (suc b) k)) = rw f at i in inr (rest z)
 
-puts_move : (p : List ℕ) (b k : ℕ) → still_in (column_puts p b k) ≡ false
+puts_move : (p : List ℕ) (b k : ℕ) → any_kind is_still (column_puts p b k) ≡ false
 puts_move p b zero = refl
 puts_move p b (suc k) = puts_move p (suc b) k
 
@@ -85,9 +84,17 @@ takes_stream c w (p ∷ ps) h =
     given-append c (column_puts p 0 w) (column_takes w ps)
     ∙ ap (λ y. y ++ given c (column_takes w ps)) (puts_one c p 0 w (omega arith) (omega arith)) ∙ ap (λ y. under p c ∷ y) (takes_stream c w ps h)
 
-takes_move : (w : ℕ) (ps : List (List ℕ)) → still_in (column_takes w ps) ≡ false
+takes_move : (w : ℕ) (ps : List (List ℕ)) → any_kind is_still (column_takes w ps) ≡ false
 takes_move w [] = refl
-takes_move w (p ∷ ps) = still_in-append (column_puts p 0 w) (column_takes w ps) ∙ ap (λ b. b || still_in (column_takes w ps)) (puts_move p 0 w) ∙ takes_move w ps
+takes_move w (p ∷ ps) = any_kind-append is_still (column_puts p 0 w) (column_takes w ps) ∙ ap (λ b. b || any_kind is_still (column_takes w ps)) (puts_move p 0 w) ∙ takes_move w ps
+
+puts_early : (p : List ℕ) (b k : ℕ) → any_kind is_late (column_puts p b k) ≡ false
+puts_early p b zero = refl
+puts_early p b (suc k) = puts_early p (suc b) k
+
+takes_early : (w : ℕ) (ps : List (List ℕ)) → any_kind is_late (column_takes w ps) ≡ false
+takes_early w [] = refl
+takes_early w (p ∷ ps) = any_kind-append is_late (column_puts p 0 w) (column_takes w ps) ∙ ap (λ b. b || any_kind is_late (column_takes w ps)) (puts_early p 0 w) ∙ takes_early w ps
 
 takes_mute : (w : ℕ) (ps : List (List ℕ)) → appends_in (column_takes w ps) ≡ []
 takes_mute w [] = refl
@@ -166,12 +173,12 @@ module _ (t : Task) (w : ℕ) (ps : List (List ℕ)) (ended : Bool) (script_is :
   body : List Action
   body = column_takes w ps ++ once_ended ended (acts TakeEnd [] ∷ closing (numbers 0 w) ∷ [])
 
-  body_moves : still_in body ≡ false
+  body_moves : any_kind is_still body ≡ false
   unfolding body
-  body_moves = still_in-append (column_takes w ps) (once_ended ended (acts TakeEnd [] ∷ closing (numbers 0 w) ∷ []))
-      ∙ ap (λ b. b || still_in (once_ended ended (acts TakeEnd [] ∷ closing (numbers 0 w) ∷ []))) (takes_move w ps) ∙ at ended
+  body_moves = any_kind-append is_still (column_takes w ps) (once_ended ended (acts TakeEnd [] ∷ closing (numbers 0 w) ∷ []))
+      ∙ ap (λ b. b || any_kind is_still (once_ended ended (acts TakeEnd [] ∷ closing (numbers 0 w) ∷ []))) (takes_move w ps) ∙ at ended
     where
-      at : (ended : Bool) → still_in (once_ended ended (acts TakeEnd [] ∷ closing (numbers 0 w) ∷ [])) ≡ false
+      at : (ended : Bool) → any_kind is_still (once_ended ended (acts TakeEnd [] ∷ closing (numbers 0 w) ∷ [])) ≡ false
       at true = refl
       at false = refl
 
@@ -184,14 +191,12 @@ module _ (t : Task) (w : ℕ) (ps : List (List ℕ)) (ended : Bool) (script_is :
       at true = sym (append_assoc (column_takes w ps) (acts TakeEnd [] ∷ closing (numbers 0 w) ∷ []) (acts Join [] ∷ []))
       at false = sym (append-nil (column_takes w ps ++ []))
 
-  body_takes : takes_in body ≡ length ps
-  unfolding body
-  body_takes =
-      let h : takes_in (column_takes w ps ++ once_ended ended (acts TakeEnd [] ∷ closing (numbers 0 w) ∷ [])) ≡ takes_in (column_takes w ps) + takes_in (once_ended ended (acts TakeEnd [] ∷ closing (numbers 0 w) ∷ []))
-      = takes_in-append (column_takes w ps) (once_ended ended (acts TakeEnd [] ∷ closing (numbers 0 w) ∷ [])) in
-      omega (arith, h, takes_all w ps, at ended)
+  all_takes : takes_in t.script ≡ length ps
+  all_takes =
+      let h : takes_in t.script ≡ takes_in (column_takes w ps) + takes_in (last_part w ended) = ap takes_in script_is ∙ takes_in-append (column_takes w ps) (last_part w ended) in
+      omega (arith, takes_all w ps, at ended)
     where
-      at : (ended : Bool) → takes_in (once_ended ended (acts TakeEnd [] ∷ closing (numbers 0 w) ∷ [])) ≡ 0
+      at : (ended : Bool) → takes_in (last_part w ended) ≡ 0
       at true = refl
       at false = refl
 
@@ -219,10 +224,11 @@ module _ (t : Task) (w : ℕ) (ps : List (List ℕ)) (ended : Bool) (script_is :
     closes_are = column_closes c l;
     begun = or_true (has c t.first) (starts_in c t.script) (inl (ap (has c) first_is ∙ has_number c 0 w (omega arith) (omega arith)));
     closed_first = λ n s h. body_shuts t body (once_ended ended (acts Join [] ∷ [])) c n split body_moves (body_closes c l (sym (column_closes c l) ∙ h)) s;
+    shut_last = λ n h. front_open t (column_takes w ps) (last_part w ended) c n script_is (takes_open c w ps) (last_gives c w ended) h;
     started_first = λ n h. absurd (no_true h (always_started c n l));
     open_refuses = λ h g. absurd (no_true (sym (column_closes c l) ∙ g) (ended_is ended h));
-    open_moves = λ g. ap still_in split ∙ still_in-append body (once_ended ended (acts Join [] ∷ []))
-        ∙ ap (λ b. b || still_in (once_ended ended (acts Join [] ∷ []))) body_moves ∙ open_still ended (sym (column_closes c l) ∙ g);
+    open_moves = λ g. ap (any_kind is_still) split ∙ any_kind-append is_still body (once_ended ended (acts Join [] ∷ []))
+        ∙ ap (λ b. b || any_kind is_still (once_ended ended (acts Join [] ∷ []))) body_moves ∙ open_still ended (sym (column_closes c l) ∙ g);
     unsent = λ n x i. known n x i;
     unborn = λ n h. absurd (no_true h (always_started c n l));
   }
@@ -231,7 +237,7 @@ module _ (t : Task) (w : ℕ) (ps : List (List ℕ)) (ended : Bool) (script_is :
       ended_is true h = refl
       ended_is false h = cc
 
-      open_still : (b : Bool) → b ≡ false → still_in (once_ended b (acts Join [] ∷ [])) ≡ false
+      open_still : (b : Bool) → b ≡ false → any_kind is_still (once_ended b (acts Join [] ∷ [])) ≡ false
       open_still true h = cc
       open_still false h = refl
 
@@ -283,13 +289,11 @@ full_good : (name : List ℕ) (e : Eof) (list : Bool) (w : ℕ) (ps : List (List
 unfolding body
 full_good name e list w ps ended kids script k = record {
   eof_is = refl;
-  reads = record {
-    reads_all = λ r. rw (split t w ps ended script refl refl, takes_in-append the_body tail) (omega (arith, body_takes t w ps ended script refl refl));
-    reads_first = λ n h. body_reads t the_body tail (length ps) n (split t w ps ended script refl refl) (body_moves t w ps ended script refl refl)
-        (omega (arith, body_takes t w ps ended script refl refl)) h;
-    at_end = λ c r. ap (holds_after []) (all_whole t ∙ script) ∙ holds_after-append [] (column_takes w ps) (last_part w ended) ∙ last_holds ended c (holds_after [] (column_takes w ps));
-    own = no_append_own t ps mute;
-  };
+  reads = mute_reads ps ended t mute (omega (arith, all_takes t w ps ended script refl refl))
+      (λ n h. body_reads t (column_takes w ps) (last_part w ended) (length ps) n script (takes_early w ps) (omega (arith, takes_all w ps)) h)
+      (λ r. omega (arith, all_takes t w ps ended script refl refl))
+      (λ c r. ap (holds_after []) (all_whole t ∙ script) ∙ holds_after-append [] (column_takes w ps) (last_part w ended)
+        ∙ last_holds ended c (holds_after [] (column_takes w ps)));
   keeps = no_append_keeps t mute;
   apart = apart;
   rules = both.0;
@@ -340,8 +344,8 @@ full_good name e list w ps ended kids script k = record {
         by_end true c = join_apart t kids the_body (acts Join []) (split t w ps ended script refl refl ∙ ap (λ b. the_body ++ once_ended b (acts Join [] ∷ [])) c) (body_moves t w ps ended script refl refl)
             (holds_after-append [] (column_takes w ps) (once_ended ended (acts TakeEnd [] ∷ closing (numbers 0 w) ∷ []))
             ∙ ap (λ b. holds_after (holds_after [] (column_takes w ps)) (once_ended b (acts TakeEnd [] ∷ closing (numbers 0 w) ∷ []))) c)
-        by_end false c = no_join_apart t kids (ap still_in (split t w ps ended script refl refl) ∙ still_in-append the_body tail
-            ∙ ap (λ b. b || still_in tail) (body_moves t w ps ended script refl refl) ∙ ap (λ b. still_in (once_ended b (acts Join [] ∷ []))) c)
+        by_end false c = no_join_apart t kids (ap (any_kind is_still) (split t w ps ended script refl refl) ∙ any_kind-append is_still the_body tail
+            ∙ ap (λ b. b || any_kind is_still tail) (body_moves t w ps ended script refl refl) ∙ ap (λ b. any_kind is_still (once_ended b (acts Join [] ∷ []))) c)
 
 -- A list whose stream ends without a chunk refuses.
 
@@ -351,9 +355,10 @@ refused_fed t w script_is first_is c ceof l = record {
   closes_are = open_queue;
   begun = or_true (has c t.first) (starts_in c t.script) (inl (ap (has c) first_is ∙ has_number c 0 w (omega arith) (omega arith)));
   closed_first = λ n s h. absurd (no_true open_queue h);
+  shut_last = λ n h. absurd (no_true open_queue (closes_some_time t c n h));
   started_first = λ n h. absurd (no_true h (on n));
   open_refuses = λ h g. ap refuses_in script_is;
-  open_moves = λ g. ap still_in script_is;
+  open_moves = λ g. ap (any_kind is_still) script_is;
   unsent = λ n x i. let z : In x [] = subst (λ y. In x y) (ap (λ s. given c (drop n s)) script_is ∙ given_rest c (refusal TakeEnd ∷ []) n refl) i in absurd z;
   unborn = λ n h. absurd (no_true h (on n));
 }
@@ -367,7 +372,7 @@ refused_fed t w script_is first_is c ceof l = record {
 refused_good : (name : List ℕ) (e : Eof) (w : ℕ) (kids : Forest) → ColumnKids name 0 w [] false e kids → Good name [] true e (columns_task name e true w [] true) kids
 refused_good name e w kids k = record {
   eof_is = refl;
-  reads = mute_reads [] true t refl refl (λ r. cc) (λ r h. cc);
+  reads = mute_reads [] true t refl (omega arith) (λ n h. omega arith) (λ r. cc) (λ r h. cc);
   keeps = no_append_keeps t refl;
   apart = no_join_apart t kids refl;
   rules = both.0;

@@ -5,13 +5,13 @@ use Rattle.vx_path.specs.Lists.{In}
 use Rattle.vx_path.specs.Path.{path_le, path_lt, begins, under, Eof, eof_path, Region}
 use Rattle.vx_path.proofs.Lists.{in_cases}
 use Rattle.vx_path.proofs.Path.{begins_le, begins-refl, begins-trans, begins-under, region_least, under_lt, under_apart, apart_lt, lt_le_trans}
-use Rattle.vx_tasks.specs.Task.{Task, Action, Kind, Forest, past, given, sent, started, closed, taken, holds, items, closes, has, starts_in, shuts_in, refuses_in, takes_in, appends_of, appends_in, holds_after, is_still, still_first, still_in, ever_held}
+use Rattle.vx_tasks.specs.Task.{Task, Action, Kind, Forest, past, given, sent, started, closed, taken, holds, items, closes, has, starts_in, shuts_in, refuses_in, takes_in, appends_of, appends_in, holds_after, is_still, is_late, next_kind, any_kind, ever_held}
 use Rattle.vx_tasks.specs.Task as task
 use Rattle.vx_tasks.specs.Task.Kind.{Free, Take, TakeEnd, Put, Append, Join}
 use Rattle.vx_tasks.specs.Task.Forest.{Bare, Node}
 use Rattle.vx_tasks.specs.Rules.{Fits, Keeps, AllHeld, AllBelow, Apart, Rules, AtLeast, Covers, appends, Ordered, InOrder, Rises, names}
 use Rattle.vx_tasks.specs.Good.{Good}
-use Rattle.vx_tasks.proofs.Scripts.{no_true, or_true, script_is, held_ever, still_some_time, appends_in-append, takes_in-append, shuts_in-append}
+use Rattle.vx_tasks.proofs.Scripts.{given_rest, no_true, or_true, or_false, script_is, held_ever, kind_some_time, appends_in-append, takes_in-append, shuts_in-append}
 use Rattle.vx_tasks.proofs.Names.{rises_join}
 
 -- How a task p, whose own stream has the paths ps, feeds a child j with a stream cps.
@@ -19,10 +19,11 @@ pub record Feeds (cut : Bool) (ps : List (List ℕ)) (p : Task) (j : ℕ) (cps :
   pub items_are : items j p ≡ cps
   pub closes_are : closes j p ≡ cend
   pub begun : (has j p.first || starts_in j p.script) ≡ true
-  pub closed_first : (n : ℕ) → still_first (task.next p n) ≡ true → closes j p ≡ true → closed p j n ≡ true
+  pub closed_first : (n : ℕ) → next_kind is_still (task.next p n) ≡ true → closes j p ≡ true → closed p j n ≡ true
+  pub shut_last : (n : ℕ) → closed p j n ≡ true → given j (task.next p n) ≡ []
   pub started_first : (n : ℕ) → started p j n ≡ false → sent p j n ≡ []
   pub open_refuses : cut ≡ false → closes j p ≡ false → refuses_in p.script ≡ true
-  pub open_moves : closes j p ≡ false → still_in p.script ≡ false
+  pub open_moves : closes j p ≡ false → any_kind is_still p.script ≡ false
   pub unsent : (n : ℕ) (x : List ℕ) → In x (given j (task.next p n)) → Covers ps p n x
   pub unborn : (n : ℕ) → started p j n ≡ false → Covers ps p n ceof
 
@@ -69,6 +70,8 @@ module _ (cut : Bool) (ps : List (List ℕ)) (p : Task) (j : ℕ) (name : List �
     reads_all = λ r. rw f.items_are (g.reads.reads_all r);
     reads_first = λ n h. rw f.items_are (g.reads.reads_first n h);
     closed_first = f.closed_first;
+    shut_last = f.shut_last;
+    enough = rw f.items_are g.reads.enough;
     started_first = f.started_first;
     open_refuses = f.open_refuses;
     open_moves = f.open_moves;
@@ -99,13 +102,13 @@ module _ (cut : Bool) (ps : List (List ℕ)) (p : Task) (j : ℕ) (name : List �
   pub child_order : (rest : Forest) → InOrder ps p (suc j) rest → InOrder ps p j (Node t kids rest)
   child_order rest r = (ordered, rw f.items_are g.order, r)
 
--- A script in two parts: a body that neither appends nor joins, and a tail.
+-- A script in two parts, where the first, the body, has no action of a kind that passes a test.
 
-pub late : (body tail : List Action) (n : ℕ) → still_in body ≡ false → still_first (drop n (body ++ tail)) ≡ true
+pub late : (test : Kind → Bool) (body tail : List Action) (n : ℕ) → any_kind test body ≡ false → next_kind test (drop n (body ++ tail)) ≡ true
     → (k : ℕ) × (drop n (body ++ tail) ≡ drop k tail) × (take n (body ++ tail) ≡ body ++ take k tail)
-late [] tail n h s = (n, refl, refl)
-late (a ∷ body) tail zero h s = absurd (no_true h (or_true (is_still a.kind) (still_in body) (inl s)))
-late (a ∷ body) tail (suc n) h s = more (late body tail n (or_later (is_still a.kind) (still_in body) h) s)
+late test [] tail n h s = (n, refl, refl)
+late test (a ∷ body) tail zero h s = absurd (no_true h (or_true (test a.kind) (any_kind test body) (inl s)))
+late test (a ∷ body) tail (suc n) h s = more (late test body tail n (or_later (test a.kind) (any_kind test body) h) s)
   where
     or_later : (a b : Bool) → (a || b) ≡ false → b ≡ false
     or_later true b h = cc
@@ -115,20 +118,34 @@ late (a ∷ body) tail (suc n) h s = more (late body tail n (or_later (is_still 
         → (k : ℕ) × (drop n (body ++ tail) ≡ drop k tail) × (a ∷ take n (body ++ tail) ≡ a ∷ (body ++ take k tail))
     more (k, d, t) = (k, d, ap (λ x. a ∷ x) t)
 
--- where it appends or joins, the body is done
-pub body_reads : (t : Task) (body tail : List Action) (m n : ℕ) → t.script ≡ body ++ tail → still_in body ≡ false → m ≤ takes_in body
-    → still_first (task.next t n) ≡ true → m ≤ taken t n
-body_reads t body tail m n e h l s = at (late body tail n h (sym (ap (λ x. still_first (drop n x)) e) ∙ s))
+-- where it sees the end, appends or joins, a body of takes is done
+pub body_reads : (t : Task) (body tail : List Action) (m n : ℕ) → t.script ≡ body ++ tail → any_kind is_late body ≡ false → m ≤ takes_in body
+    → next_kind is_late (task.next t n) ≡ true → m ≤ taken t n
+body_reads t body tail m n e h l s = at (late is_late body tail n h (sym (ap (λ x. next_kind is_late (drop n x)) e) ∙ s))
   where
     at : (k : ℕ) × (drop n (body ++ tail) ≡ drop k tail) × (take n (body ++ tail) ≡ body ++ take k tail) → m ≤ taken t n
     at (k, d, w) = rw (e, w, takes_in-append body (take k tail)) (omega arith)
 
-pub body_shuts : (p : Task) (body tail : List Action) (j n : ℕ) → p.script ≡ body ++ tail → still_in body ≡ false → shuts_in j body ≡ true
-    → still_first (task.next p n) ≡ true → closed p j n ≡ true
-body_shuts p body tail j n e h c s = at (late body tail n h (sym (ap (λ x. still_first (drop n x)) e) ∙ s))
+-- where it appends or joins, a body with the closing is done
+pub body_shuts : (p : Task) (body tail : List Action) (j n : ℕ) → p.script ≡ body ++ tail → any_kind is_still body ≡ false → shuts_in j body ≡ true
+    → next_kind is_still (task.next p n) ≡ true → closed p j n ≡ true
+body_shuts p body tail j n e h c s = at (late is_still body tail n h (sym (ap (λ x. next_kind is_still (drop n x)) e) ∙ s))
   where
     at : (k : ℕ) × (drop n (body ++ tail) ≡ drop k tail) × (take n (body ++ tail) ≡ body ++ take k tail) → closed p j n ≡ true
     at (k, d, w) = rw (e, w) (shuts_in-append j body (take k tail) ∙ or_true (shuts_in j body) (shuts_in j (take k tail)) (inl c))
+
+-- where the queue is closed, a front of the script before the closing is done
+pub front_open : (p : Task) (front rest : List Action) (j n : ℕ) → p.script ≡ front ++ rest → shuts_in j front ≡ false → given j rest ≡ []
+    → closed p j n ≡ true → given j (task.next p n) ≡ []
+front_open p front rest j n e h g c =
+    ap (λ s. given j (drop n s)) e ∙ at front rest n h g (sym (ap (λ s. shuts_in j (take n s)) e) ∙ c)
+  where
+    at : (front rest : List Action) (n : ℕ) → shuts_in j front ≡ false → given j rest ≡ [] → shuts_in j (take n (front ++ rest)) ≡ true → given j (drop n (front ++ rest)) ≡ []
+    at [] rest n h g c = given_rest j rest n g
+    at (a ∷ front) rest zero h g c = cc
+    at (a ∷ front) rest (suc n) h g c =
+        let o : (has j a.shuts ≡ false) × (shuts_in j front ≡ false) = or_false (has j a.shuts) (shuts_in j front) h in
+        at front rest n o.1 g (sym (ap (λ b. b || shuts_in j (take n (front ++ rest))) o.0) ∙ c)
 
 -- a task that appends nothing
 
@@ -148,10 +165,10 @@ pub no_append_own : (t : Task) (ps : List (List ℕ)) → appends_in t.script �
 no_append_own t ps h n x i = let z : In x [] = rw (todo_none t n h) at i in absurd z
 
 -- a task that holds nothing where it joins is apart from its children
-pub join_apart : (t : Task) (kids : Forest) (body : List Action) (j : Action) → t.script ≡ body ++ (j ∷ []) → still_in body ≡ false
+pub join_apart : (t : Task) (kids : Forest) (body : List Action) (j : Action) → t.script ≡ body ++ (j ∷ []) → any_kind is_still body ≡ false
     → holds_after t.held body ≡ [] → Apart t kids
 join_apart t kids body j e h z n a todo w k m i =
-    at (late body (j ∷ []) n h (sym (ap (λ x. still_first (drop n x)) e) ∙ ap still_first w ∙ ap is_still k))
+    at (late is_still body (j ∷ []) n h (sym (ap (λ x. next_kind is_still (drop n x)) e) ∙ ap (next_kind is_still) w ∙ ap is_still k))
   where
     at : (k : ℕ) × (drop n (body ++ (j ∷ [])) ≡ drop k (j ∷ [])) × (take n (body ++ (j ∷ [])) ≡ body ++ take k (j ∷ [])) → AllBelow m t n 0 kids
     at (zero, d, v) =
@@ -165,8 +182,8 @@ join_apart t kids body j e h z n a todo w k m i =
         none (suc k) s = cc
 
 -- a task that never joins
-pub no_join_apart : (t : Task) (kids : Forest) → still_in t.script ≡ false → Apart t kids
-no_join_apart t kids h n a todo w k m i = absurd (no_true h (still_some_time t n (ap still_first w ∙ ap is_still k)))
+pub no_join_apart : (t : Task) (kids : Forest) → any_kind is_still t.script ≡ false → Apart t kids
+no_join_apart t kids h n a todo w k m i = absurd (no_true h (kind_some_time is_still t n (ap (next_kind is_still) w ∙ ap is_still k)))
 
 -- Regions and names of children.
 

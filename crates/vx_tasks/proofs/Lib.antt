@@ -12,3 +12,4 @@ pub mod Columns
 pub mod Machine
 pub mod Counting
 pub mod Refusals
+pub mod Queues

@@ -4,15 +4,14 @@ use Rattle.vx_path.specs.Lists.{In}
 use Rattle.vx_path.specs.Path.{path_le, Eof, eof_path, next}
 use Rattle.vx_path.proofs.Lists.{in_left}
 use Rattle.vx_path.proofs.Path.{path_le-refl, path_le-trans, under_le, apart_lt}
-use Rattle.vx_tasks.specs.Task.{Task, Forest, given, taken, holds, shuts_in, refuses_in, appends_in, holds_after, still_in}
+use Rattle.vx_tasks.specs.Task.{takes_in, Task, Forest, given, taken, holds, shuts_in, refuses_in, appends_in, holds_after, is_still, any_kind}
 use Rattle.vx_tasks.specs.Task.Forest.{Bare, Node}
 use Rattle.vx_tasks.specs.Run.{outside}
 use Rattle.vx_tasks.specs.Rules.{Fits, AtLeast, Covers, Ordered, KeepsRules, KeepsOrder, Rises, names}
 use Rattle.vx_tasks.specs.Nodes.{source_script, source_task, batch_paths, machine}
 use Rattle.vx_tasks.specs.Good.{Good}
-use Rattle.vx_tasks.proofs.Scripts.{no_true, still_some_time, all_whole}
+use Rattle.vx_tasks.proofs.Scripts.{given_rest, no_true, kind_some_time, all_whole}
 use Rattle.vx_tasks.proofs.Fit.{Feeds, child_rules, child_order, no_append_keeps, no_append_own, no_join_apart}
-use Rattle.vx_tasks.proofs.Born.{given_rest}
 
 -- What the source does.
 
@@ -31,7 +30,7 @@ source_refuses here zero true = refl
 source_refuses here zero false = refl
 source_refuses here (suc n) fits = source_refuses (next here) n fits
 
-source_moves : (here : Eof) (n : ℕ) (fits : Bool) → still_in (source_script here n fits) ≡ false
+source_moves : (here : Eof) (n : ℕ) (fits : Bool) → any_kind is_still (source_script here n fits) ≡ false
 source_moves here zero true = refl
 source_moves here zero false = refl
 source_moves here (suc n) fits = source_moves (next here) n fits
@@ -44,6 +43,11 @@ source_mute here (suc n) fits = source_mute (next here) n fits
 source_end : (h : List (List ℕ)) (here : Eof) (n : ℕ) → holds_after h (source_script here n true) ≡ []
 source_end h here zero = refl
 source_end h here (suc n) = source_end (eof_path (next here) ∷ []) (next here) n
+
+takes_none : (here : Eof) (n : ℕ) (fits : Bool) → takes_in (source_script here n fits) ≡ 0
+takes_none here zero true = refl
+takes_none here zero false = refl
+takes_none here (suc n) fits = omega (arith, takes_none (next here) n fits)
 
 eof_le_next : (e : Eof) → path_le (eof_path e) (eof_path (next e)) ≡ true
 eof_le_next e = under_le e.stem e.last (e.last + 1) (omega arith)
@@ -70,7 +74,8 @@ root_fed here n fits ceof = record {
   items_are = gives_batches here n fits;
   closes_are = closes_queue here n fits;
   begun = refl;
-  closed_first = λ k s h. absurd (no_true (source_moves here n fits) (still_some_time (source_task here n fits) k s));
+  closed_first = λ k s h. absurd (no_true (source_moves here n fits) (kind_some_time is_still (source_task here n fits) k s));
+  shut_last = λ k h. source_shut k n here h;
   started_first = λ k h. cc;
   open_refuses = λ h g. source_refuses here n fits ∙ ap not (sym (closes_queue here n fits) ∙ g);
   open_moves = λ g. source_moves here n fits;
@@ -78,15 +83,23 @@ root_fed here n fits ceof = record {
   unborn = λ k h. cc;
 }
   where
+    source_shut : (k n : ℕ) (here : Eof) → shuts_in 0 (take k (source_script here n fits)) ≡ true → given 0 (drop k (source_script here n fits)) ≡ []
+    source_shut k zero here h = given_rest 0 (source_script here zero fits) k (gives_batches here zero fits)
+    source_shut zero (suc n) here h = cc
+    source_shut (suc zero) (suc n) here h = cc
+    source_shut (suc (suc k)) (suc n) here h = source_shut k n (next here) h
+
     at : (k : ℕ) (x : List ℕ) → AtLeast (holds (source_task here n fits) k) x → Covers [] (source_task here n fits) k x
     at k x (y, i, h) = (y, in_left y (holds (source_task here n fits) k) (drop (taken (source_task here n fits) k) []) i, h)
 
 source_fits : (here : Eof) (n : ℕ) (fits : Bool) → Fits false outside 0 (source_task here n fits)
 source_fits here n fits = record {
   begun = refl;
+  enough = omega (arith, takes_none here n fits);
+  shut_last = λ k h. given_rest 0 outside.script k refl;
   reads_all = λ r. omega arith;
   reads_first = λ k h. omega arith;
-  closed_first = λ k s h. absurd (no_true refl (still_some_time outside k s));
+  closed_first = λ k s h. absurd (no_true refl (kind_some_time is_still outside k s));
   started_first = λ k h. cc;
   open_refuses = λ c h. cc;
   open_moves = λ h. cc;

@@ -4,7 +4,8 @@ use Rattle.std.proofs.lemmas.Bool.{true≢false}
 use Rattle.std.proofs.lemmas.Bool.Decides.{nat_tests}
 use Rattle.vx_path.specs.Lists.{In}
 use Rattle.vx_path.proofs.Lists.{in_left, in_right, in_cases}
-use Rattle.vx_tasks.specs.Task.{Task, Action, next, past, has, to_child, given, starts_in, shuts_in, refuses_in, takes_of, takes_in, appends_of, appends_in, holds_after, holds_in, is_still, still_first, still_in, sent, closed, holds, items, closes, ever_held}
+use Rattle.vx_tasks.specs.Task.Kind.{Free, Take, TakeEnd, Put, Append, Join}
+use Rattle.vx_tasks.specs.Task.{Task, Action, Kind, next, past, has, to_child, given, starts_in, shuts_in, refuses_in, takes_of, takes_in, appends_of, appends_in, holds_after, holds_in, is_still, is_late, next_kind, any_kind, sent, closed, holds, items, closes, ever_held}
 
 -- Lists.
 
@@ -95,10 +96,10 @@ refuses_in-append [] ys = refl
 refuses_in-append (a ∷ xs) ys =
     ap (λ y. a.refuses || y) (refuses_in-append xs ys) ∙ sym (or_assoc a.refuses (refuses_in xs) (refuses_in ys))
 
-pub still_in-append : (xs ys : List Action) → still_in (xs ++ ys) ≡ (still_in xs || still_in ys)
-still_in-append [] ys = refl
-still_in-append (a ∷ xs) ys =
-    ap (λ y. is_still a.kind || y) (still_in-append xs ys) ∙ sym (or_assoc (is_still a.kind) (still_in xs) (still_in ys))
+pub any_kind-append : (test : Kind → Bool) (xs ys : List Action) → any_kind test (xs ++ ys) ≡ (any_kind test xs || any_kind test ys)
+any_kind-append test [] ys = refl
+any_kind-append test (a ∷ xs) ys =
+    ap (λ y. test a.kind || y) (any_kind-append test xs ys) ∙ sym (or_assoc (test a.kind) (any_kind test xs) (any_kind test ys))
 
 pub takes_in-append : (xs ys : List Action) → takes_in (xs ++ ys) ≡ takes_in xs + takes_in ys
 takes_in-append [] ys = omega arith
@@ -134,14 +135,28 @@ pub closes_some_time : (p : Task) (j n : ℕ) → closed p j n ≡ true → clos
 closes_some_time p j n h =
     ap (shuts_in j) (script_is p n) ∙ shuts_in-append j (past p n) (next p n) ∙ or_true (closed p j n) (shuts_in j (next p n)) (inl h)
 
-pub still_some_time : (t : Task) (n : ℕ) → still_first (next t n) ≡ true → still_in t.script ≡ true
-still_some_time t n h =
-    ap still_in (script_is t n) ∙ still_in-append (past t n) (next t n)
-    ∙ or_true (still_in (past t n)) (still_in (next t n)) (inr (first_is (next t n) h))
+pub kind_some_time : (test : Kind → Bool) (t : Task) (n : ℕ) → next_kind test (next t n) ≡ true → any_kind test t.script ≡ true
+kind_some_time test t n h =
+    ap (any_kind test) (script_is t n) ∙ any_kind-append test (past t n) (next t n)
+    ∙ or_true (any_kind test (past t n)) (any_kind test (next t n)) (inr (first_is (next t n) h))
   where
-    first_is : (xs : List Action) → still_first xs ≡ true → still_in xs ≡ true
+    first_is : (xs : List Action) → next_kind test xs ≡ true → any_kind test xs ≡ true
     first_is [] h = h
-    first_is (a ∷ xs) h = or_true (is_still a.kind) (still_in xs) (inl h)
+    first_is (a ∷ xs) h = or_true (test a.kind) (any_kind test xs) (inl h)
+
+-- what appends or joins comes after the last item
+pub late_from_still : (xs : List Action) → next_kind is_still xs ≡ true → next_kind is_late xs ≡ true
+late_from_still [] h = h
+late_from_still (a ∷ xs) h = at a.kind h
+  where
+    at : (k : Kind) → is_still k ≡ true → is_late k ≡ true
+    at (Free w) h = h
+    at Take h = h
+    at TakeEnd h = refl
+    at (Put c) h = h
+    at (Append q) h = refl
+    at Join h = refl
+
 
 pub next_clean : (t : Task) (n : ℕ) → refuses_in t.script ≡ false → refuses_in (next t n) ≡ false
 next_clean t n h =
@@ -150,3 +165,8 @@ next_clean t n h =
 pub holds_in-append : (xs ys : List Action) → holds_in (xs ++ ys) ≡ holds_in xs ++ holds_in ys
 holds_in-append [] ys = refl
 holds_in-append (a ∷ xs) ys = ap (λ y. a.holds ++ y) (holds_in-append xs ys) ∙ sym (append_assoc a.holds (holds_in xs) (holds_in ys))
+
+pub given_rest : (j : ℕ) (xs : List Action) (n : ℕ) → given j xs ≡ [] → given j (drop n xs) ≡ []
+given_rest j xs zero h = h
+given_rest j [] (suc n) h = refl
+given_rest j (a ∷ xs) (suc n) h = given_rest j xs n (nil_right (to_child j a.gives) (given j xs) h)

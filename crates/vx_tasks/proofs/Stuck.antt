@@ -7,18 +7,18 @@ use Rattle.vx_path.specs.Lists.{In}
 use Rattle.vx_path.specs.Path.{path_lt, is_least}
 use Rattle.vx_path.proofs.Lists.{in_left, in_right, in_cases}
 use Rattle.vx_path.proofs.Path.{least_in, is_least_in, lt_not_le}
-use Rattle.vx_tasks.specs.Task.{Task, Action, Kind, Forest, next, shuts_in, refuses_in, holds_after, is_still, still_first, sent, started, closed, taken, holds, items, closes, places}
+use Rattle.vx_tasks.specs.Task.{Task, Action, Kind, Forest, next, shuts_in, refuses_in, holds_after, is_still, next_kind, sent, started, closed, taken, holds, items, closes, places}
 use Rattle.vx_tasks.specs.Task.Kind.{Free, Take, TakeEnd, Put, Append, Join}
 use Rattle.vx_tasks.specs.Task.Forest.{Bare, Node}
 use Rattle.vx_tasks.specs.State.{Counts, top, below, beside, left, left_started, queue, full, held}
 use Rattle.vx_tasks.specs.State.Counts.{Count}
 use Rattle.vx_tasks.specs.Run.{can, any_there, Move, own_move, move_below, move_beside, moves, outside, all_held, all_moves, ready}
 use Rattle.vx_tasks.specs.Rules.{Fits, AllHeld, AllBelow, Rules, Kept}
-use Rattle.vx_tasks.proofs.Scripts.{nil_left, nil_right, map_nil, drop_nil, no_true, all_done, all_whole, held_ever, sent_fewer, still_some_time}
+use Rattle.vx_tasks.proofs.Scripts.{nil_left, nil_right, map_nil, drop_nil, no_true, all_done, all_whole, held_ever, sent_fewer, kind_some_time, late_from_still}
 
 -- A task at rest: it is about to append or to join, or is done.
 abbrev Rests : Task → ℕ → Type 0
-Rests t n = (still_first (next t n) ≡ true) ⊎ (next t n ≡ [])
+Rests t n = (next_kind is_still (next t n) ≡ true) ⊎ (next t n ≡ [])
 
 -- t has still to refuse, if it does
 abbrev Still : Task → ℕ → Type 0
@@ -29,7 +29,7 @@ done_clean t n k e = ⊎_elim (λ h. absurd (no_true (ap refuses_in e) (k h))) (
 
 -- a task at rest has taken all items
 took_all : (cut : Bool) (p : Task) (j : ℕ) (t : Task) (m : ℕ) → Fits cut p j t → Still t m → Rests t m → length (items j p) ≤ taken t m
-took_all cut p j t m fit k r = ⊎_elim (λ h. fit.reads_first m h)
+took_all cut p j t m fit k r = ⊎_elim (λ h. fit.reads_first m (late_from_still (next t m) h))
     (λ e. rw (all_done t m e) (fit.reads_all (done_clean t m k e))) r
 
 empty_queue : (cut : Bool) (p : Task) (n j : ℕ) (t : Task) (m : ℕ) → Fits cut p j t → Still t m → Rests t m → queue p n j t m ≡ []
@@ -66,9 +66,9 @@ waits all q shut t kids s e room = go (next t (top s)) refl
     by_kind (Append x) todo f = inl refl
     by_kind Join todo f = inl refl
 
-    go : (todo : List Action) → next t (top s) ≡ todo → ((still_first (next t (top s)) ≡ true) ⊎ (next t (top s) ≡ [])) ⊎ ((q ≡ []) × (shut ≡ false))
+    go : (todo : List Action) → next t (top s) ≡ todo → ((next_kind is_still (next t (top s)) ≡ true) ⊎ (next t (top s) ≡ [])) ⊎ ((q ≡ []) × (shut ≡ false))
     go [] w = inl (inr w)
-    go (a ∷ todo) w = ⊎_elim (λ h. inl (inl (ap still_first w ∙ h))) (λ h. inr h)
+    go (a ∷ todo) w = ⊎_elim (λ h. inl (inl (ap (next_kind is_still) w ∙ h))) (λ h. inr h)
         (by_kind a.kind todo (cannot all q shut t kids s (next t (top s)) e a todo w))
 
 -- The parts of a state in which nothing can be done.
@@ -134,7 +134,7 @@ all_empty all cut p n j (Node t kids rest) s (fit, keeps, apart, under, aside) (
 closes_all : (cut : Bool) (p : Task) (j : ℕ) (t : Task) (n : ℕ) → Fits cut p j t → cut ≡ false → Still p n → Rests p n → closes j p ≡ true
 closes_all cut p j t n fit c k r = ⊎_elim (λ h. h)
     (λ h. absurd (⊎_elim
-    (λ a. no_true (fit.open_moves h) (still_some_time p n a))
+    (λ a. no_true (fit.open_moves h) (kind_some_time is_still p n a))
     (λ e. no_true (done_clean p n k e) (fit.open_refuses c h)) r))
     (cases_Bool (closes j p))
 
@@ -235,7 +235,7 @@ some_held all cut p n j (Node t kids rest) s (fit, keeps, apart, under, aside) (
         → (0 < length (next t (top s))) ⊎ (0 < left_started t (top s) 0 kids (below s)) → (todo : List Action) → next t (top s) ≡ todo → SomeHeld p n j (Node t kids rest) s
     by_todo g r down l [] w = below_held g (down (⊎_elim (λ a. absurd (let z : length (next t (top s)) ≡ 0 = ap length w in omega arith)) (λ b. b) l))
     by_todo g r down l (a ∷ todo) w = by_kind g a todo w down a.kind refl
-        (⊎_elim (λ y. sym (ap still_first w) ∙ y) (λ z. cc) r)
+        (⊎_elim (λ y. sym (ap (next_kind is_still) w) ∙ y) (λ z. cc) r)
         (cannot all (queue p n j t (top s)) (closed p j n) t kids s (next t (top s)) (own_none all p n j t kids rest s e g) a todo w)
 
     by_started : (started p j n ≡ true) ⊎ (started p j n ≡ false) → (0 < left_started p n (suc j) rest (beside s) → SomeHeld p n (suc j) rest (beside s))
@@ -289,7 +289,7 @@ no_least all cut p n j (Node t kids rest) s (fit, keeps, apart, under, aside) (k
         let z : In m (holds t (length t.script)) = subst (λ l. In m l) same h in
         let y : In m [] = rw (fit.at_end (here g).1 (done_clean t (top s) k w)) at z in y
     by_todo g h r (a ∷ todo) w = by_kind g h a todo w a.kind refl
-        (⊎_elim (λ y. sym (ap still_first w) ∙ y) (λ z. cc) r)
+        (⊎_elim (λ y. sym (ap (next_kind is_still) w) ∙ y) (λ z. cc) r)
         (cannot all (queue p n j t (top s)) (closed p j n) t kids s (next t (top s)) (own_none all p n j t kids rest s e g) a todo w)
 
     by_place : (g : started p j n ≡ true) → In m (queue p n j t (top s) ++ (holds t (top s) ++ held t (top s) 0 kids (below s)))

@@ -3,7 +3,7 @@
 use Rattle.std.specs.Prelude.{◌≡◌, ℕ, zero, suc, ◌≤◌, Bool, true, not, List, [], ◌∷◌, length, IsTrue, IsFalse}
 use Rattle.vx_path.specs.Lists.{In}
 use Rattle.vx_path.specs.Path.{begins, under, Eof, eof_path, inside, next, Region}
-use Rattle.vx_tasks.specs.Task.{Task, Forest, holds, takes_in, taken, still_first, appends_in, refuses_in}
+use Rattle.vx_tasks.specs.Task.{Task, Forest, holds, takes_in, taken, next_kind, is_late, appends_in, refuses_in}
 use Rattle.vx_tasks.specs.Task.Forest.{Bare, Node}
 use Rattle.vx_tasks.specs.Rules.{Keeps, Apart, Rules, AllHeld, Covers, InOrder, Rises, names}
 use Rattle.vx_tasks.specs.Nodes.{column_stream}
@@ -12,7 +12,8 @@ use Rattle.vx_tasks.specs.Task as task
 -- how a task reads a stream of paths ps
 pub record Reads (ps : List (List ℕ)) (ended : Bool) (t : Task) : Type 0 where
   pub reads_all : IsFalse (refuses_in t.script) → length ps ≤ takes_in t.script
-  pub reads_first : (n : ℕ) → IsTrue (still_first (task.next t n)) → length ps ≤ taken t n
+  pub enough : takes_in t.script ≤ length ps
+  pub reads_first : (n : ℕ) → IsTrue (next_kind is_late (task.next t n)) → length ps ≤ taken t n
   pub at_end : IsTrue ended → IsFalse (refuses_in t.script) → holds t (length t.script) ≡ []
   pub own : (n : ℕ) (x : List ℕ) → In x (appends_in (task.next t n)) → Covers ps t n x
 

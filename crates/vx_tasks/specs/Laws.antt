@@ -7,6 +7,7 @@ use Rattle.vx_tasks.specs.Task.{Forest}
 use Rattle.vx_tasks.specs.State.{Counts, left, pending}
 use Rattle.vx_tasks.specs.State.Counts.{Zeros}
 use Rattle.vx_tasks.specs.Run.{Move, all_held, all_moves, ready, work, Leads, written, run, end_of, moves_of, outside}
+use Rattle.vx_tasks.specs.Queues.{AllQueued}
 use Rattle.vx_tasks.specs.Rules.{KeepsRules, KeepsOrder, AtLeast, appends, Rises, names, NoneRefuses, AllEnd}
 
 -- each move lowers the work left by one
@@ -64,3 +65,7 @@ RefusedEarly = (f : Forest) (e : Counts) (ms : List Move) (m : Move) → Leads f
 -- siblings, the tasks that are ready are found in order of their names
 abbrev pub NamesAscend : Type 0
 NamesAscend = (f : Forest) (s : Counts) → Rises (names f) → Rises (map (λ m. m.name) (all_moves f s))
+
+-- how the queues stand in each state that a run reaches
+abbrev pub QueuesStand : Type 0
+QueuesStand = (f : Forest) (e : Counts) (ms : List Move) → KeepsRules f → Leads f Zeros ms e → AllQueued outside 1 0 f e

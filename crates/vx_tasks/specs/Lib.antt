@@ -8,3 +8,4 @@ pub mod Good
 pub mod NodeLaws
 pub mod Runs
 pub mod Broken
+pub mod Queues

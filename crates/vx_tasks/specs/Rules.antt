@@ -3,7 +3,7 @@
 use Rattle.std.specs.Prelude.{◌≡◌, ℕ, suc, ◌≤◌, Bool, false, not, ◌||◌, List, [], ◌∷◌, ◌++◌, length, drop, IsTrue, IsFalse}
 use Rattle.vx_path.specs.Lists.{In}
 use Rattle.vx_path.specs.Path.{path_le, path_lt}
-use Rattle.vx_tasks.specs.Task.{Task, Action, Forest, next, sent, started, closed, taken, holds, items, closes, given, refuses_in, takes_in, appends_in, still_first, still_in, ever_held, starts_in, has}
+use Rattle.vx_tasks.specs.Task.{Task, Action, Forest, next, sent, started, closed, taken, holds, items, closes, given, refuses_in, takes_in, appends_in, next_kind, any_kind, is_still, is_late, ever_held, starts_in, has}
 use Rattle.vx_tasks.specs.Task.Forest.{Bare, Node}
 use Rattle.vx_tasks.specs.Task.Kind.{Append, Join}
 use Rattle.vx_tasks.specs.State.{Counts, top, below, beside}
@@ -16,16 +16,20 @@ pub record Fits (cut : Bool) (p : Task) (j : ℕ) (t : Task) : Type 0 where
   pub begun : IsTrue (has j p.first || starts_in j p.script)
   -- t takes all items, if it refuses nowhere
   pub reads_all : IsFalse (refuses_in t.script) → length (items j p) ≤ takes_in t.script
-  -- t has taken all items before it appends or joins
-  pub reads_first : (n : ℕ) → IsTrue (still_first (next t n)) → length (items j p) ≤ taken t n
+  -- t takes no more items than there are
+  pub enough : takes_in t.script ≤ length (items j p)
+  -- t has taken all items before it sees the end, appends or joins
+  pub reads_first : (n : ℕ) → IsTrue (next_kind is_late (next t n)) → length (items j p) ≤ taken t n
   -- where p closes t's queue, it does so before it appends or joins
-  pub closed_first : (n : ℕ) → IsTrue (still_first (next p n)) → IsTrue (closes j p) → IsTrue (closed p j n)
+  pub closed_first : (n : ℕ) → IsTrue (next_kind is_still (next p n)) → IsTrue (closes j p) → IsTrue (closed p j n)
+  -- p gives t nothing after it closes its queue
+  pub shut_last : (n : ℕ) → IsTrue (closed p j n) → given j (next p n) ≡ []
   -- p gives t nothing before it starts t
   pub started_first : (n : ℕ) → IsFalse (started p j n) → sent p j n ≡ []
   -- where p's own stream ends and t's stays open, p refuses somewhere
   pub open_refuses : IsFalse cut → IsFalse (closes j p) → IsTrue (refuses_in p.script)
   -- where t's stream stays open, p never appends or joins
-  pub open_moves : IsFalse (closes j p) → IsFalse (still_in p.script)
+  pub open_moves : IsFalse (closes j p) → IsFalse (any_kind is_still p.script)
   -- where t's stream ends and t refuses nowhere, t holds nothing in the end
   pub at_end : IsTrue (closes j p) → IsFalse (refuses_in t.script) → holds t (length t.script) ≡ []
 

@@ -113,6 +113,16 @@ abbrev pub holds_after : List (List ℕ) → List Action → List (List ℕ)
 holds_after h [] = h
 holds_after h (a ∷ todo) = holds_after a.holds todo
 
+-- whether the first of the actions, or one of them, is of a kind that passes a test
+
+abbrev pub next_kind : (Kind → Bool) → List Action → Bool
+next_kind test [] = false
+next_kind test (a ∷ todo) = test a.kind
+
+abbrev pub any_kind : (Kind → Bool) → List Action → Bool
+any_kind test [] = false
+any_kind test (a ∷ todo) = test a.kind || any_kind test todo
+
 -- an action that waits for other tasks than those that it feeds and is fed by: an append or a join
 abbrev pub is_still : Kind → Bool
 is_still (Free w) = false
@@ -122,15 +132,14 @@ is_still (Put c) = false
 is_still (Append q) = true
 is_still Join = true
 
--- the first of the actions is an append or a join
-abbrev pub still_first : List Action → Bool
-still_first [] = false
-still_first (a ∷ todo) = is_still a.kind
-
--- one of the actions is an append or a join
-abbrev pub still_in : List Action → Bool
-still_in [] = false
-still_in (a ∷ todo) = is_still a.kind || still_in todo
+-- an action that comes after the last item: the take of the end, an append or a join
+abbrev pub is_late : Kind → Bool
+is_late (Free w) = false
+is_late Take = false
+is_late TakeEnd = true
+is_late (Put c) = false
+is_late (Append q) = true
+is_late Join = true
 
 -- A task t that has done n actions.
 

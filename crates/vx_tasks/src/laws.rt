@@ -1,6 +1,6 @@
 //! The laws of every tree of tasks that keeps the rules.
 
-ghost use Rattle.vx_tasks.specs.Laws.{MoveLowers, WorkIsShared, SomeReady, PendingCovered, WrittenAscends, WrittenBelow, WrittenFirst, EndIsWhole, RunLeads, RunStops, RunIsWhole, RefusedEarly, NamesAscend};
+ghost use Rattle.vx_tasks.specs.Laws.{MoveLowers, WorkIsShared, SomeReady, PendingCovered, WrittenAscends, WrittenBelow, WrittenFirst, EndIsWhole, RunLeads, RunStops, RunIsWhole, RefusedEarly, NamesAscend, QueuesStand};
 
 /// The work left: a number that each step lowers by one.
 pub fn left()
@@ -41,4 +41,10 @@ pub fn scheduled()
 /// The order in which ready tasks are counted.
 pub fn named()
     ensures { NamesAscend }
+{}
+
+/// The queues: nothing is taken that wasn't given, the end is seen on an empty queue alone, and a task that
+/// isn't started has done nothing.
+pub fn queues()
+    ensures { QueuesStand }
 {}
