@@ -92,7 +92,7 @@ module _ (cut : Bool) (ps : List (List ℕ)) (t : Task) (j : ℕ) (p : List ℕ)
     closes_are = born_closes;
     begun = or_true (has j t.first) (starts_in j t.script) (inr (ap (starts_in j) script_is ∙ starts_in-append j pre (x ∷ post)
         ∙ or_true (starts_in j pre) (starts_in j (x ∷ post)) (inr (or_true (has j x.starts) (starts_in j post) (inl starts_it)))));
-    closed_first = λ n s c. body_shuts t (pre ++ (x ∷ [])) post j n (script_is ∙ sym (append_assoc pre (x ∷ []) post)) moving
+    closed_first = λ n s g c. body_shuts t (pre ++ (x ∷ [])) post j n (script_is ∙ sym (append_assoc pre (x ∷ []) post)) moving
         (shuts_in-append j pre (x ∷ []) ∙ or_true (shuts_in j pre) (shuts_in j (x ∷ [])) (inr (or_true (has j x.shuts) false (inl shuts_it)))) s;
     shut_last = born_shut_last;
     started_first = λ n h. ap (given j) (not_yet n h).1 ∙ given_part j pre n gives_before;

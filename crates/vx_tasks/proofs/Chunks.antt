@@ -12,7 +12,7 @@ use Rattle.vx_tasks.specs.Rules.{Apart, AllHeld, Rules, AtLeast, InOrder, Rises,
 use Rattle.vx_tasks.specs.Nodes.{acts, once_ended, chunk_takes, chunked_task}
 use Rattle.vx_tasks.specs.Good.{Reads, Good, ChunkKids}
 use Rattle.vx_tasks.proofs.Scripts.{shuts_in-append, given-append, any_kind-append, takes_in-append, holds_after-append, all_whole}
-use Rattle.vx_tasks.proofs.Fit.{Feeds, child_rules, child_order, body_reads, no_append_keeps, no_append_own, join_apart, no_join_apart, held_where, NamedFrom, more_named, more_rises, alone_named, alone_rises}
+use Rattle.vx_tasks.proofs.Fit.{Feeds, child_rules, child_order, body_reads, no_append_keeps, join_apart, no_join_apart, held_where, NamedFrom, more_named, more_rises, alone_named, alone_rises}
 use Rattle.vx_tasks.proofs.Leaves.{mute_reads, never_late}
 use Rattle.vx_tasks.proofs.Born.{born_feeds}
 
@@ -228,7 +228,8 @@ chunked_good name e ps ended kids k = record {
           stream_is = refl;
           took = refl;
           moving = refl;
-          gives_none = λ i h. refl; shuts_none = λ i h. refl;
+          gives_none = λ i h. refl;
+          shuts_none = λ i h. refl;
           eof_covered = λ n h. at_zero n (let z : n ≡ 0 = omega arith in z);
         }) k
       where

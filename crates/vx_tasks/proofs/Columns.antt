@@ -14,8 +14,8 @@ use Rattle.vx_tasks.specs.Rules.{Apart, AllHeld, Rules, AtLeast, Covers, InOrder
 use Rattle.vx_tasks.specs.Nodes.{acts, refusal, closing, once_ended, numbers, column_paths, column_puts, column_takes, column_stream, columns_script, columns_task, columns_end}
 use Rattle.vx_tasks.specs.Good.{Good, ColumnKids}
 use Rattle.vx_tasks.proofs.Scripts.{given_rest, closes_some_time, no_true, or_true, given-append, shuts_in-append, any_kind-append, takes_in-append, appends_in-append, holds_after-append, holds_in-append, all_whole}
-use Rattle.vx_tasks.proofs.Fit.{front_open, Feeds, child_rules, child_order, body_reads, body_shuts, no_append_keeps, no_append_own, join_apart, no_join_apart, held_where, NamedFrom, more_named, more_rises, alone_named, alone_rises}
-use Rattle.vx_tasks.proofs.Leaves.{mute_reads, never_late}
+use Rattle.vx_tasks.proofs.Fit.{front_open, Feeds, child_rules, child_order, body_reads, body_shuts, no_append_keeps, join_apart, no_join_apart, held_where, NamedFrom, more_named, more_rises, alone_named, alone_rises}
+use Rattle.vx_tasks.proofs.Leaves.{mute_reads}
 use Rattle.vx_tasks.proofs.Chunks.{same_test, other_test}
 
 -- the end of the script
@@ -223,7 +223,7 @@ module _ (t : Task) (w : ℕ) (ps : List (List ℕ)) (ended : Bool) (script_is :
         ∙ append-nil (given c (column_takes w ps)) ∙ takes_stream c w ps l;
     closes_are = column_closes c l;
     begun = or_true (has c t.first) (starts_in c t.script) (inl (ap (has c) first_is ∙ has_number c 0 w (omega arith) (omega arith)));
-    closed_first = λ n s h. body_shuts t body (once_ended ended (acts Join [] ∷ [])) c n split body_moves (body_closes c l (sym (column_closes c l) ∙ h)) s;
+    closed_first = λ n s g h. body_shuts t body (once_ended ended (acts Join [] ∷ [])) c n split body_moves (body_closes c l (sym (column_closes c l) ∙ h)) s;
     shut_last = λ n h. front_open t (column_takes w ps) (last_part w ended) c n script_is (takes_open c w ps) (last_gives c w ended) h;
     started_first = λ n h. absurd (no_true h (always_started c n l));
     open_refuses = λ h g. absurd (no_true (sym (column_closes c l) ∙ g) (ended_is ended h));
@@ -293,7 +293,7 @@ full_good name e list w ps ended kids script k = record {
       (λ n h. body_reads t (column_takes w ps) (last_part w ended) (length ps) n script (takes_early w ps) (omega (arith, takes_all w ps)) h)
       (λ r. omega (arith, all_takes t w ps ended script refl refl))
       (λ c r. ap (holds_after []) (all_whole t ∙ script) ∙ holds_after-append [] (column_takes w ps) (last_part w ended)
-        ∙ last_holds ended c (holds_after [] (column_takes w ps)));
+      ∙ last_holds ended c (holds_after [] (column_takes w ps)));
   keeps = no_append_keeps t mute;
   apart = apart;
   rules = both.0;
@@ -354,7 +354,7 @@ refused_fed t w script_is first_is c ceof l = record {
   items_are = ap (given c) script_is;
   closes_are = open_queue;
   begun = or_true (has c t.first) (starts_in c t.script) (inl (ap (has c) first_is ∙ has_number c 0 w (omega arith) (omega arith)));
-  closed_first = λ n s h. absurd (no_true open_queue h);
+  closed_first = λ n s g h. absurd (no_true open_queue h);
   shut_last = λ n h. absurd (no_true open_queue (closes_some_time t c n h));
   started_first = λ n h. absurd (no_true h (on n));
   open_refuses = λ h g. ap refuses_in script_is;

@@ -19,7 +19,7 @@ pub record Feeds (cut : Bool) (ps : List (List ℕ)) (p : Task) (j : ℕ) (cps :
   pub items_are : items j p ≡ cps
   pub closes_are : closes j p ≡ cend
   pub begun : (has j p.first || starts_in j p.script) ≡ true
-  pub closed_first : (n : ℕ) → next_kind is_still (task.next p n) ≡ true → closes j p ≡ true → closed p j n ≡ true
+  pub closed_first : (n : ℕ) → next_kind is_still (task.next p n) ≡ true → started p j n ≡ true → closes j p ≡ true → closed p j n ≡ true
   pub shut_last : (n : ℕ) → closed p j n ≡ true → given j (task.next p n) ≡ []
   pub started_first : (n : ℕ) → started p j n ≡ false → sent p j n ≡ []
   pub open_refuses : cut ≡ false → closes j p ≡ false → refuses_in p.script ≡ true

@@ -1,18 +1,18 @@
 -- The queues of every state that a run reaches.
-use Rattle.std.proofs.Common.{not, ◌≡◌, ℕ, zero, suc, ◌+◌, ◌-◌, ◌<◌, ◌≤◌, ◌⊎◌, Bool, true, false, ◌||◌, List, [], ◌∷◌, ◌++◌, length, take, drop, IsTrue, refl, sym, ap, ◌∙◌, subst, inl, inr, ⊎_elim, arith, length-append, length-drop, append-nil}
+use Rattle.std.proofs.Common.{not, ◌≡◌, ℕ, suc, ◌+◌, ◌<◌, ◌≤◌, ◌⊎◌, Bool, true, false, ◌||◌, List, [], ◌∷◌, ◌++◌, length, refl, sym, ap, ◌∙◌, subst, inl, inr, ⊎_elim, arith, length-append, length-drop, append-nil}
 use Rattle.std.proofs.lemmas.Bool.{cases_Bool}
 use Rattle.std.proofs.lemmas.List.{drop_all}
 use Rattle.vx_path.specs.Lists.{In}
-use Rattle.vx_tasks.specs.Task.{Task, Action, Kind, Forest, next, past, given, to_child, sent, started, starts_in, has, closed, closes, items, taken, takes_of, takes_in, next_kind, is_late}
+use Rattle.vx_tasks.specs.Task.{Task, Action, Kind, Forest, next, past, given, sent, started, starts_in, has, closed, closes, items, taken, takes_of, takes_in, next_kind, is_late}
 use Rattle.vx_tasks.specs.Task.Kind.{Free, Take, TakeEnd, Put, Append, Join}
 use Rattle.vx_tasks.specs.Task.Forest.{Bare, Node}
 use Rattle.vx_tasks.specs.State.{Counts, top, below, beside, queue}
-use Rattle.vx_tasks.specs.State.Counts.{Zeros, Count}
-use Rattle.vx_tasks.specs.Run.{any_there, can, Move, moves, move_below, move_beside, outside, all_held, Leads}
+use Rattle.vx_tasks.specs.State.Counts.{Zeros}
+use Rattle.vx_tasks.specs.Run.{any_there, can, Move, moves, outside, all_held, Leads}
 use Rattle.vx_tasks.specs.Rules.{Fits, Rules}
 use Rattle.vx_tasks.specs.Queues.{is_take, is_end, Queued, AtZero, AllQueued}
-use Rattle.vx_tasks.proofs.Scripts.{no_true, or_parts, or_true, script_is, next_suc, past_suc, items_are, sent_fewer, given-append, starts_in-append, takes_in-append}
-use Rattle.vx_tasks.proofs.Steps.{Where, here, under, aside, which, Own}
+use Rattle.vx_tasks.proofs.Scripts.{no_true, or_parts, or_true, script_is, past_suc, items_are, sent_fewer, given-append, starts_in-append, takes_in-append}
+use Rattle.vx_tasks.proofs.Steps.{Where, here, under, aside, which}
 
 -- What one more action does.
 
@@ -29,8 +29,8 @@ started_more : (p : Task) (j n : ℕ) (a : Action) (todo : List Action) → next
 started_more p j n a todo e h =
     ap (λ s. has j p.first || starts_in j s) (past_suc p.script n a todo e)
     ∙ or_true (has j p.first) (starts_in j (past p n ++ (a ∷ []))) (⊎_elim (λ x. inl x)
-        (λ x. inr (starts_in-append j (past p n) (a ∷ []) ∙ or_true (starts_in j (past p n)) (starts_in j (a ∷ [])) (inl x)))
-        (or_parts (has j p.first) (starts_in j (past p n)) h))
+    (λ x. inr (starts_in-append j (past p n) (a ∷ []) ∙ or_true (starts_in j (past p n)) (starts_in j (a ∷ [])) (inl x)))
+    (or_parts (has j p.first) (starts_in j (past p n)) h))
 
 -- From what is taken so far the rest follows.
 
@@ -89,19 +89,21 @@ queued cut p n j t m fit l = record {
 
 at_zero : (p : Task) (n j : ℕ) (cut : Bool) (f : Forest) (s : Counts) → Rules cut p j f → AtZero f s → AllQueued p n j f s
 at_zero p n j cut Bare s rules z = tt
-at_zero p n j cut (Node t kids rest) s (fit, keeps, apart, lower, later) (z, inner, outer) =
-    (λ g. (queued cut p n j t (top s) fit (rw z (omega arith)), at_zero t (top s) 0 (not (closes j p)) kids (below s) lower inner),
-      λ g. (z, inner),
-      at_zero p n (suc j) cut rest (beside s) later outer)
+at_zero p n j cut (Node t kids rest) s (fit, keeps, apart, lower, later) (z, inner, outer) = (
+  λ g. (queued cut p n j t (top s) fit (rw z (omega arith)), at_zero t (top s) 0 (not (closes j p)) kids (below s) lower inner),
+  λ g. (z, inner),
+  at_zero p n (suc j) cut rest (beside s) later outer,
+)
 
 -- p does one more action
 parent_moved : (p : Task) (n j : ℕ) (a : Action) (todo : List Action) (cut : Bool) (f : Forest) (s : Counts) → next p n ≡ a ∷ todo → Rules cut p j f
     → AllQueued p n j f s → AllQueued p (suc n) j f s
 parent_moved p n j a todo cut Bare s e rules q = tt
-parent_moved p n j a todo cut (Node t kids rest) s e (fit, keeps, apart, lower, later) (on, off, more) =
-    (λ g. by_start (cases_Bool (started p j n)),
-      λ g. off (was_off g),
-      parent_moved p n (suc j) a todo cut rest (beside s) e later more)
+parent_moved p n j a todo cut (Node t kids rest) s e (fit, keeps, apart, lower, later) (on, off, more) = (
+  λ g. by_start (cases_Bool (started p j n)),
+  λ g. off (was_off g),
+  parent_moved p n (suc j) a todo cut rest (beside s) e later more,
+)
   where
     was_off : started p j (suc n) ≡ false → started p j n ≡ false
     was_off g = ⊎_elim (λ h. absurd (no_true g (started_more p j n a todo e h))) (λ h. h) (cases_Bool (started p j n))
@@ -120,8 +122,8 @@ moved : (all : List (List ℕ)) (cut : Bool) (p : Task) (n j : ℕ) (f : Forest)
 moved all cut p n j Bare s m rules i q = tt
 moved all cut p n j (Node t kids rest) s m (fit, keeps, apart, lower, later) i (on, off, more) =
     by_place (which all p n j t kids rest s m i)
-      (λ d k q. moved all (not (closes j p)) t (top s) 0 kids (below s) d lower k q)
-      (λ d k q. moved all cut p n (suc j) rest (beside s) d later k q)
+    (λ d k q. moved all (not (closes j p)) t (top s) 0 kids (below s) d lower k q)
+    (λ d k q. moved all cut p n (suc j) rest (beside s) d later k q)
   where
     one_more : (k : Kind) (q : List (List ℕ)) (shut : Bool) → can all q shut t (top s) kids (below s) k ≡ true
         → (is_take k ≡ true → (any_there q || shut) ≡ true → any_there q ≡ true) → q ≡ queue p n j t (top s)
@@ -141,12 +143,14 @@ moved all cut p n j (Node t kids rest) s m (fit, keeps, apart, lower, later) i (
     by_place (here g o) down over =
         let q : Queued p n j t (top s) × AllQueued t (top s) 0 kids (below s) = on g in
         let l : taken t (suc (top s)) ≤ length (sent p j n) =
-              subst (λ x. x ≤ length (sent p j n)) (sym (taken_more t (top s) m.action o.todo o.next_is))
-                (one_more m.action.kind (queue p n j t (top s)) (closed p j n) o.allowed
-                  (λ h r. q.0.item (ap (next_kind is_take) o.next_is ∙ h) r) refl q.0.fewer) in
-        rw o.after_is
-          (λ h. (queued cut p n j t (suc (top s)) fit l, parent_moved t (top s) 0 m.action o.todo (not (closes j p)) kids (below s) o.next_is lower q.1),
-            λ h. absurd (no_true h g), more)
+        subst (λ x. x ≤ length (sent p j n)) (sym (taken_more t (top s) m.action o.todo o.next_is))
+        (one_more m.action.kind (queue p n j t (top s)) (closed p j n) o.allowed
+        (λ h r. q.0.item (ap (next_kind is_take) o.next_is ∙ h) r) refl q.0.fewer) in
+        rw o.after_is (
+          λ h. (queued cut p n j t (suc (top s)) fit l, parent_moved t (top s) 0 m.action o.todo (not (closes j p)) kids (below s) o.next_is lower q.1),
+          λ h. absurd (no_true h g),
+          more,
+        )
     by_place (under g d k e) down over = rw e (λ h. ((on h).0, down d k (on h).1), λ h. absurd (no_true h g), more)
     by_place (aside d k e) down over = rw e (on, off, over d k more)
 

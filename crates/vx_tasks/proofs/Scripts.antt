@@ -157,7 +157,6 @@ late_from_still (a ∷ xs) h = at a.kind h
     at (Append q) h = refl
     at Join h = refl
 
-
 pub next_clean : (t : Task) (n : ℕ) → refuses_in t.script ≡ false → refuses_in (next t n) ≡ false
 next_clean t n h =
     (or_false (refuses_in (past t n)) (refuses_in (next t n)) (sym (ap refuses_in (script_is t n) ∙ refuses_in-append (past t n) (next t n)) ∙ h)).1

@@ -138,9 +138,9 @@ closes_all cut p j t n fit c k r = ⊎_elim (λ h. h)
     (λ e. no_true (done_clean p n k e) (fit.open_refuses c h)) r))
     (cases_Bool (closes j p))
 
-has_closed : (cut : Bool) (p : Task) (j : ℕ) (t : Task) (n : ℕ) → Fits cut p j t → cut ≡ false → Still p n → Rests p n → closed p j n ≡ true
-has_closed cut p j t n fit c k r = ⊎_elim
-    (λ a. fit.closed_first n a (closes_all cut p j t n fit c k r))
+has_closed : (cut : Bool) (p : Task) (j : ℕ) (t : Task) (n : ℕ) → Fits cut p j t → started p j n ≡ true → cut ≡ false → Still p n → Rests p n → closed p j n ≡ true
+has_closed cut p j t n fit g c k r = ⊎_elim
+    (λ a. fit.closed_first n a g (closes_all cut p j t n fit c k r))
     (λ e. ap (shuts_in j) (all_done p n e) ∙ closes_all cut p j t n fit c k r) r
 
 abbrev Quiet : Task → ℕ → ℕ → Forest → Counts → Type 0
@@ -155,7 +155,7 @@ all_quiet all cut p n j Bare s rules kept e c sp rp = tt
 all_quiet all cut p n j (Node t kids rest) s (fit, keeps, apart, under, aside) (k, kept, more) e c sp rp = (
   λ g.
       let shut : closes j p ≡ true = closes_all cut p j t n fit c sp rp in
-      let rt : Rests t (top s) = ⊎_elim (λ r. r) (λ w. absurd (no_true w.1 (has_closed cut p j t n fit c sp rp)))
+      let rt : Rests t (top s) = ⊎_elim (λ r. r) (λ w. absurd (no_true w.1 (has_closed cut p j t n fit g c sp rp)))
       (waits all (queue p n j t (top s)) (closed p j n) t kids s (own_none all p n j t kids rest s e g)
       (not_full t (top s) 0 kids (below s)
       (all_empty all (not (closes j p)) t (top s) 0 kids (below s) under kept (below_none all p n j t kids rest s e g)))) in (

@@ -1,12 +1,13 @@
 -- Small trees that break one rule each, and what becomes of them.
-use Rattle.std.specs.Prelude.{◌≡◌, ℕ, ◌<◌, false, List, [], ◌∷◌}
-use Rattle.vx_tasks.specs.Task.{Action, Task, Forest}
+use Rattle.std.specs.Prelude.{length, IsTrue, ◌≡◌, ℕ, ◌<◌, false, List, [], ◌∷◌}
+use Rattle.vx_tasks.specs.Task.{next, sent, taken, next_kind, Action, Task, Forest}
 use Rattle.vx_tasks.specs.Task.Prompt.{Close, Call}
 use Rattle.vx_tasks.specs.Task.Kind.{Free, Take, TakeEnd, Append, Join}
 use Rattle.vx_tasks.specs.Task.Forest.{Bare, Node}
-use Rattle.vx_tasks.specs.State.{left}
+use Rattle.vx_tasks.specs.State.{left, top, below, queue}
 use Rattle.vx_tasks.specs.State.Counts.{Zeros}
 use Rattle.vx_tasks.specs.Run.{run, end_of, moves_of, written, work, ready}
+use Rattle.vx_tasks.specs.Queues.{is_end}
 use Rattle.vx_tasks.specs.Nodes.{acts, puts, closing, refusal}
 
 -- the run ends with work left and nothing ready
@@ -35,7 +36,7 @@ watcher = doer [] [] (acts TakeEnd [] ∷ [])
 
 -- a child that is never started
 abbrev pub never_started : Forest
-never_started = pair (doer [] [] []) watcher
+never_started = pair (doer [] [] (closing (0 ∷ []) ∷ [])) watcher
 
 -- of three items the child takes one
 abbrev pub unread : Forest
@@ -107,7 +108,9 @@ appender k eof = record {
 
 -- an item, below all that is held, for a child that is started then
 abbrev pub low_item : Forest
-low_item = three (doer (0 ∷ []) [] (closing (0 ∷ []) ∷ acts Join []
+low_item =
+    three (doer (0 ∷ []) ((2 ∷ []) ∷ [])
+    (record { kind = Free Close; starts = []; gives = []; shuts = 0 ∷ []; holds = (2 ∷ []) ∷ []; refuses = false } ∷ acts Join ((2 ∷ []) ∷ [])
     ∷ record { kind = Free Call; starts = 1 ∷ []; gives = (1, 0 ∷ []) ∷ []; shuts = 1 ∷ []; holds = []; refuses = false } ∷ []))
     (appender 1 (1 ∷ []))
     (record {
@@ -115,7 +118,7 @@ low_item = three (doer (0 ∷ []) [] (closing (0 ∷ []) ∷ acts Join []
       first = [];
       held = [];
       spare = [];
-      eof = 0 ∷ [];
+      eof = 2 ∷ [];
       script = acts Take ((0 ∷ []) ∷ []) ∷ acts TakeEnd ((0 ∷ []) ∷ []) ∷ acts (Append (0 ∷ [])) [] ∷ [];
     })
 
@@ -131,3 +134,33 @@ low_append = three (doer (0 ∷ []) ((2 ∷ []) ∷ [])
     (record { kind = Free Close; starts = []; gives = []; shuts = 0 ∷ []; holds = (2 ∷ []) ∷ []; refuses = false } ∷ acts Join ((2 ∷ []) ∷ [])
     ∷ record { kind = Free Call; starts = 1 ∷ []; gives = []; shuts = 1 ∷ []; holds = []; refuses = false } ∷ []))
     (appender 1 (1 ∷ [])) (appender 0 (2 ∷ []))
+
+-- A task and its one child after so many steps under a schedule: the child has taken more than it was given.
+abbrev pub IsOverdrawn : Task → Task → List ℕ → ℕ → Type 0
+IsOverdrawn p t picks n =
+    let e = end_of Zeros (run (pair p t) Zeros picks n) in length (sent p 0 (top e)) < taken t (top (below e))
+
+-- the child may see the end next, and an item is there
+abbrev pub IsHasty : Task → Task → List ℕ → ℕ → Type 0
+IsHasty p t picks n =
+    let e = end_of Zeros (run (pair p t) Zeros picks n) in
+    IsTrue (next_kind is_end (next t (top (below e)))) × (0 < length (queue p (top e) 0 t (top (below e))))
+
+-- a task that gives one item
+abbrev pub one_item : Task
+one_item = doer (0 ∷ []) [] (puts 0 (1 ∷ []) [] ∷ closing (0 ∷ []) ∷ [])
+
+-- a child that takes two
+abbrev pub greedy : Task
+greedy = doer [] [] (acts Take [] ∷ acts Take [] ∷ [])
+
+-- a task that gives an item after it closed the queue, and a child that takes it
+abbrev pub late_gift : Task
+late_gift = doer (0 ∷ []) [] (closing (0 ∷ []) ∷ puts 0 (1 ∷ []) [] ∷ [])
+
+abbrev pub taker : Task
+taker = doer [] [] (acts Take [] ∷ acts TakeEnd [] ∷ [])
+
+-- a child that sees the end before its item
+abbrev pub hasty : Task
+hasty = doer [] [] (acts TakeEnd [] ∷ acts Take [] ∷ [])

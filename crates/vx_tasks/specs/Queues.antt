@@ -1,5 +1,5 @@
 -- How the queues stand in a state that a run reaches.
-use Rattle.std.specs.Prelude.{◌≡◌, ℕ, suc, ◌≤◌, Bool, true, false, ◌||◌, List, [], ◌∷◌, length, IsTrue, IsFalse}
+use Rattle.std.specs.Prelude.{◌≡◌, ℕ, suc, ◌≤◌, Bool, true, false, ◌||◌, [], length, IsTrue, IsFalse}
 use Rattle.vx_tasks.specs.Task.{Task, Kind, Forest, next, sent, started, closed, taken, next_kind}
 use Rattle.vx_tasks.specs.Task.Kind.{Free, Take, TakeEnd, Put, Append, Join}
 use Rattle.vx_tasks.specs.Task.Forest.{Bare, Node}

@@ -20,8 +20,8 @@ pub record Fits (cut : Bool) (p : Task) (j : ℕ) (t : Task) : Type 0 where
   pub enough : takes_in t.script ≤ length (items j p)
   -- t has taken all items before it sees the end, appends or joins
   pub reads_first : (n : ℕ) → IsTrue (next_kind is_late (next t n)) → length (items j p) ≤ taken t n
-  -- where p closes t's queue, it does so before it appends or joins
-  pub closed_first : (n : ℕ) → IsTrue (next_kind is_still (next p n)) → IsTrue (closes j p) → IsTrue (closed p j n)
+  -- where p appends or joins and t is started by then, t's queue is closed, if p ever closes it
+  pub closed_first : (n : ℕ) → IsTrue (next_kind is_still (next p n)) → IsTrue (started p j n) → IsTrue (closes j p) → IsTrue (closed p j n)
   -- p gives t nothing after it closes its queue
   pub shut_last : (n : ℕ) → IsTrue (closed p j n) → given j (next p n) ≡ []
   -- p gives t nothing before it starts t

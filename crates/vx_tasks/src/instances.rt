@@ -1,7 +1,8 @@
 //! Machines whose runs are told, and small trees that show what each rule excludes.
 
+ghost use Rattle.std.specs.Prelude.{[], ◌∷◌};
 ghost use Rattle.vx_tasks.specs.Runs.{ChunkedSteps, StructSteps, OneBatch, NoBatch, TwoBatches, TwoColumns, ManyChunks, WrongBatch};
-ghost use Rattle.vx_tasks.specs.Broken.{IsStuck, IsDisordered, never_started, unread, early_append, early_join, late_close, late_start, never_closed, open_join, kept_path, two_held, low_join, falling, low_item, low_birth, low_append};
+ghost use Rattle.vx_tasks.specs.Broken.{IsStuck, IsDisordered, never_started, unread, early_append, early_join, late_close, late_start, never_closed, open_join, kept_path, two_held, low_join, falling, low_item, low_birth, low_append, IsOverdrawn, IsHasty, one_item, greedy, late_gift, taker, hasty};
 
 /// How many steps a run takes, whatever the schedule.
 pub fn step_counts()
@@ -43,4 +44,11 @@ pub fn disordered()
     ensures unsent { IsDisordered low_item }
     ensures unborn { IsDisordered low_birth }
     ensures inside { IsDisordered low_append }
+{}
+
+/// Tasks that break a rule on the queue between them: what is taken isn't what was given.
+pub fn miscounted()
+    ensures enough { IsOverdrawn one_item greedy [] 4 }
+    ensures shut_last { IsOverdrawn late_gift taker (0 ∷ 1 ∷ []) 2 }
+    ensures reads_first { IsHasty one_item hasty [] 1 }
 {}
