@@ -13,3 +13,4 @@ pub mod Machine
 pub mod Counting
 pub mod Refusals
 pub mod Queues
+pub mod Picks
