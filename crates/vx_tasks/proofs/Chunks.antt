@@ -5,16 +5,16 @@ use Rattle.vx_path.specs.Lists.{In}
 use Rattle.vx_path.specs.Path.{path_le, begins, under, Eof, raised, eof_path, inside, next, Region}
 use Rattle.vx_path.proofs.Lists.{in_left, in_right}
 use Rattle.vx_path.proofs.Path.{path_le-refl, path_le-trans, begins-refl, begins_le, begins-under, under_le, raised-next, raised-zero, region_next, region_inside, region_more}
-use Rattle.vx_tasks.specs.Task.{shuts_in, is_late, Task, Action, Forest, past, given, taken, holds, has, takes_in, appends_in, holds_after, holds_in, is_still, any_kind}
+use Rattle.vx_tasks.specs.Task.{is_late, Task, Action, Forest, past, taken, holds, has, takes_in, appends_in, holds_after, holds_in, is_still, any_kind}
 use Rattle.vx_tasks.specs.Task.Kind.{Take, TakeEnd, Join}
 use Rattle.vx_tasks.specs.Task.Forest.{Bare, Node}
 use Rattle.vx_tasks.specs.Rules.{Apart, AllHeld, Rules, AtLeast, InOrder, Rises, names}
 use Rattle.vx_tasks.specs.Nodes.{acts, once_ended, chunk_takes, chunked_task}
 use Rattle.vx_tasks.specs.Good.{Reads, Good, ChunkKids}
-use Rattle.vx_tasks.proofs.Scripts.{shuts_in-append, given-append, any_kind-append, takes_in-append, holds_after-append, all_whole}
+use Rattle.vx_tasks.proofs.Scripts.{any_kind-append, takes_in-append, holds_after-append, all_whole}
 use Rattle.vx_tasks.proofs.Fit.{Feeds, child_rules, child_order, body_reads, no_append_keeps, join_apart, no_join_apart, held_where, NamedFrom, more_named, more_rises, alone_named, alone_rises}
 use Rattle.vx_tasks.proofs.Leaves.{mute_reads, never_late}
-use Rattle.vx_tasks.proofs.Born.{born_feeds}
+use Rattle.vx_tasks.proofs.Born.{Untouched, untouched-append, born_feeds}
 
 -- What the takes of chunks do.
 
@@ -28,11 +28,24 @@ same_test j = grind (arith, nat_tests)
 pub other_test : (i j : ℕ) → i < j → nat_eq j i ≡ false
 other_test i j h = grind (arith, nat_tests)
 
--- they give nothing to the children before j
-later_given : (i j : ℕ) (ps : List (List ℕ)) (e : Eof) (ended : Bool) → i < j → given i (chunk_takes j ps e ++ last_part ended) ≡ []
-later_given i j [] e true h = refl
-later_given i j [] e false h = refl
-later_given i j (p ∷ ps) e ended h = rw (other_test i j h) (later_given i (suc j) ps (next e) ended (omega arith))
+-- the take of one more chunk
+abbrev one_take : ℕ → List ℕ → Eof → Action
+one_take j p e = record { kind = Take; starts = j ∷ []; gives = (j, p) ∷ []; shuts = j ∷ []; holds = eof_path (next e) ∷ []; refuses = false }
+
+not_touched : (i j : ℕ) (p : List ℕ) (e : Eof) → nat_eq j i ≡ false → Untouched i (one_take j p e ∷ [])
+not_touched i j p e h = record {
+  starts = ap (λ b. b || false || false) h;
+  gives = ap (λ b. cond b (p ∷ []) [] ++ []) h;
+  shuts = ap (λ b. b || false || false) h;
+}
+
+-- they don't touch the children before j
+later_untouched : (i j : ℕ) (ps : List (List ℕ)) (e : Eof) (ended : Bool) → i < j → Untouched i (chunk_takes j ps e ++ last_part ended)
+later_untouched i j [] e true h = record { starts = refl; gives = refl; shuts = refl }
+later_untouched i j [] e false h = record { starts = refl; gives = refl; shuts = refl }
+later_untouched i j (p ∷ ps) e ended h =
+    untouched-append i (one_take j p e ∷ []) (chunk_takes (suc j) ps (next e) ++ last_part ended) (not_touched i j p e (other_test i j h))
+    (later_untouched i (suc j) ps (next e) ended (omega arith))
 
 takes_length : (j : ℕ) (ps : List (List ℕ)) (e : Eof) → takes_in (chunk_takes j ps e) ≡ length ps
 takes_length j [] e = refl
@@ -97,24 +110,15 @@ pub record Upto (t : Task) (all front : List (List ℕ)) (j : ℕ) (pre : List A
   pub none_first : t.first ≡ []
   pub stream_is : all ≡ front ++ ps
   pub took : takes_in pre ≡ length front
-  pub moving : any_kind is_still pre ≡ false
-  pub gives_none : (i : ℕ) → j ≤ i → given i pre ≡ []
-  pub shuts_none : (i : ℕ) → j ≤ i → shuts_in i pre ≡ false
+  pub untouched : (i : ℕ) → j ≤ i → Untouched i pre
   pub eof_covered : (n : ℕ) → n ≤ length pre → AtLeast (holds t n) (eof_path e)
-
--- the take of one more chunk
-abbrev one_take : ℕ → List ℕ → Eof → Action
-one_take j p e = record { kind = Take; starts = j ∷ []; gives = (j, p) ∷ []; shuts = j ∷ []; holds = eof_path (next e) ∷ []; refuses = false }
 
 module _ (t : Task) (all front : List (List ℕ)) (j : ℕ) (pre : List Action) (p : List ℕ) (ps : List (List ℕ)) (ended : Bool) (e : Eof)
     (u : Upto t all front j pre (p ∷ ps) ended e) where
-  it_moves : any_kind is_still (pre ++ (one_take j p e ∷ [])) ≡ false
-  it_moves = any_kind-append is_still pre (one_take j p e ∷ []) ∙ ap (λ b. b || false) u.moving
-
   child_fed : Feeds (not ended) all t j (p ∷ []) true (eof_path (inside e))
   child_fed = born_feeds (not ended) all t j p (eof_path (inside e)) pre (one_take j p e) (chunk_takes (suc j) ps (next e) ++ last_part ended)
-      u.script_is (ap (has j) u.none_first) (u.gives_none j (omega arith)) (u.shuts_none j (omega arith)) (later_given j (suc j) ps (next e) ended (omega arith))
-      it_moves (ap (λ b. b || false) (same_test j)) (ap (λ b. cond b (p ∷ []) []) (same_test j)) (ap (λ b. b || false) (same_test j))
+      u.script_is (ap (has j) u.none_first) (u.untouched j (omega arith)) (later_untouched j (suc j) ps (next e) ended (omega arith))
+      (ap (λ b. b || false) (same_test j)) (ap (λ b. cond b (p ∷ []) []) (same_test j)) (ap (λ b. b || false) (same_test j))
       (λ n h. (
         p,
         in_right p (holds t n) (drop (taken t n) all)
@@ -134,11 +138,7 @@ module _ (t : Task) (all front : List (List ℕ)) (j : ℕ) (pre : List Action) 
     none_first = u.none_first;
     stream_is = u.stream_is ∙ sym (append_assoc front (p ∷ []) ps);
     took = takes_in-append pre (one_take j p e ∷ []) ∙ ap (λ n. n + 1) u.took ∙ sym (length-append front (p ∷ []));
-    moving = it_moves;
-    gives_none = λ i h. given-append i pre (one_take j p e ∷ []) ∙ ap (λ y. y ++ given i (one_take j p e ∷ [])) (u.gives_none i (omega arith))
-        ∙ ap (λ b. cond b (p ∷ []) [] ++ []) (not_that i h);
-    shuts_none = λ i h. shuts_in-append i pre (one_take j p e ∷ []) ∙ ap (λ b. b || shuts_in i (one_take j p e ∷ [])) (u.shuts_none i (omega arith))
-        ∙ ap (λ b. b || false || false) (not_that i h);
+    untouched = λ i h. untouched-append i pre (one_take j p e ∷ []) (u.untouched i (omega arith)) (not_touched i j p e (not_that i h));
     eof_covered = λ n h. ⊎_elim
         (λ l. at_next n (u.eof_covered n l))
         (λ l. rw (last n l) (eof_path (next e), inl refl, path_le-refl (eof_path (next e))))
@@ -227,9 +227,7 @@ chunked_good name e ps ended kids k = record {
           none_first = refl;
           stream_is = refl;
           took = refl;
-          moving = refl;
-          gives_none = λ i h. refl;
-          shuts_none = λ i h. refl;
+          untouched = λ i h. record { starts = refl; gives = refl; shuts = refl };
           eof_covered = λ n h. at_zero n (let z : n ≡ 0 = omega arith in z);
         }) k
       where

@@ -14,3 +14,4 @@ pub mod Counting
 pub mod Refusals
 pub mod Queues
 pub mod Picks
+pub mod Befores

@@ -1,11 +1,11 @@
 -- For a machine that walks the tree: where a pick falls among the moves, and how a run goes on.
-use Rattle.std.proofs.Common.{◌≡◌, ℕ, zero, suc, ◌+◌, ◌%◌, ◌<◌, ◌≤◌, ◌⊎◌, Bool, true, false, cond, List, [], ◌∷◌, ◌++◌, map, length, Option, Some, None, refl, sym, ap, ◌∙◌, inl, inr, ⊎_elim, arith, length-append}
+use Rattle.std.proofs.Common.{◌≡◌, ℕ, zero, suc, ◌+◌, ◌%◌, ◌<◌, ◌⊎◌, Bool, true, false, List, [], ◌∷◌, ◌++◌, map, length, Some, refl, sym, ap, ◌∙◌, inl, ⊎_elim, arith, length-append}
 use Rattle.vx_path.specs.Lists.{In}
-use Rattle.vx_tasks.specs.Task.{Task, Action, Forest, next, started, closed}
-use Rattle.vx_tasks.specs.Task.Forest.{Bare, Node}
+use Rattle.vx_tasks.specs.Task.{Task, Forest, next, started, closed}
+use Rattle.vx_tasks.specs.Task.Forest.{Node}
 use Rattle.vx_tasks.specs.State.{Counts, top, below, beside, left, queue}
-use Rattle.vx_tasks.specs.State.Counts.{Zeros, Count}
-use Rattle.vx_tasks.specs.Run.{can, Move, own_move, move_below, move_beside, moves, outside, all_held, all_moves, ready, Leads, Step, first_pick, later_picks, nth, step_at, run}
+use Rattle.vx_tasks.specs.State.Counts.{Zeros}
+use Rattle.vx_tasks.specs.Run.{Move, own_move, move_below, move_beside, moves, outside, all_held, all_moves, ready, Leads, Step, first_pick, later_picks, nth, step_at, run}
 use Rattle.vx_tasks.specs.Rules.{KeepsRules}
 use Rattle.vx_tasks.proofs.Steps.{move_left}
 use Rattle.vx_tasks.proofs.Runs.{always_ready}
@@ -69,22 +69,22 @@ module _ (all : List (List ℕ)) (p : Task) (n j : ℕ) (t : Task) (kids rest : 
       → nth (moves all p n j (Node t kids rest) s) k ≡ nth (own_move all (queue p n j t (top s)) (closed p j n) t kids s (next t (top s))) k
   unfolding own down over
   pick_own g k h = rw g (nth_left (own ++ map (move_below s) down) (map (move_beside s) over) k
-        (let l : length (own ++ map (move_below s) down) ≡ length own + length (map (move_below s) down) = length-append own (map (move_below s) down) in omega arith)
+      (let l : length (own ++ map (move_below s) down) ≡ length own + length (map (move_below s) down) = length-append own (map (move_below s) down) in omega arith)
       ∙ nth_left own (map (move_below s) down) k h)
 
   pub pick_below : started p j n ≡ true → (k i : ℕ) (d : Move) → k ≡ own_ready all p n j t kids s + i → i < length (moves all t (top s) 0 kids (below s))
       → nth (moves all t (top s) 0 kids (below s)) i ≡ Some d → nth (moves all p n j (Node t kids rest) s) k ≡ Some (move_below s d)
   unfolding own down over
   pick_below g k i d e l h = rw g (nth_left (own ++ map (move_below s) down) (map (move_beside s) over) k
-        (let w : length (own ++ map (move_below s) down) ≡ length own + length (map (move_below s) down) = length-append own (map (move_below s) down) in
-          let v : length (map (move_below s) down) ≡ length down = length_map (move_below s) down in omega arith)
+      (let w : length (own ++ map (move_below s) down) ≡ length own + length (map (move_below s) down) = length-append own (map (move_below s) down) in
+      let v : length (map (move_below s) down) ≡ length down = length_map (move_below s) down in omega arith)
       ∙ nth_right own (map (move_below s) down) k i e ∙ nth_map (move_below s) down i d h)
 
   pub pick_beside : started p j n ≡ true → (k i : ℕ) (d : Move) → k ≡ own_ready all p n j t kids s + length (moves all t (top s) 0 kids (below s)) + i
       → nth (moves all p n (suc j) rest (beside s)) i ≡ Some d → nth (moves all p n j (Node t kids rest) s) k ≡ Some (move_beside s d)
   unfolding own down over
   pick_beside g k i d e h = rw g (nth_right (own ++ map (move_below s) down) (map (move_beside s) over) k i
-        (e ∙ ap (λ x. x + i) (sym (length-append own (map (move_below s) down) ∙ ap (λ x. length own + x) (length_map (move_below s) down))))
+      (e ∙ ap (λ x. x + i) (sym (length-append own (map (move_below s) down) ∙ ap (λ x. length own + x) (length_map (move_below s) down))))
       ∙ nth_map (move_beside s) over i d h)
 
   pub pick_past : started p j n ≡ false → (k : ℕ) (d : Move) → nth (moves all p n (suc j) rest (beside s)) k ≡ Some d
@@ -103,8 +103,8 @@ pub run_step : (f : Forest) (s : Counts) (picks : List ℕ) (n : ℕ) (m : Move)
 run_step f s picks n m e r =
     ap (λ o. step_at (ready f s) (place f s picks) o (λ d. run f d.after (later_picks picks) n)) e
     ∙ (let goes : Bool → List Step =
-            λ b. elim b [ true ↦ [] | false ↦ record { ready = ready f s; picked = place f s picks; move = m } ∷ run f m.after (later_picks picks) n ] in
-        ap goes r)
+    λ b. elim b [ true ↦ [] | false ↦ record { ready = ready f s; picked = place f s picks; move = m } ∷ run f m.after (later_picks picks) n ] in
+    ap goes r)
 
 pub run_refused : (f : Forest) (s : Counts) (picks : List ℕ) (n : ℕ) (m : Move) → nth (all_moves f s) (place f s picks) ≡ Some m → m.action.refuses ≡ true
     → run f s picks (suc n) ≡ []
