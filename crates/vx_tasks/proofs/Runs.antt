@@ -7,9 +7,9 @@ use Rattle.vx_tasks.specs.Task.Forest.{Bare, Node}
 use Rattle.vx_tasks.specs.State.{Counts, top, below, beside, left}
 use Rattle.vx_tasks.specs.State.Counts.{Zeros}
 use Rattle.vx_tasks.specs.Run.{Move, moves, outside, all_held, all_moves, ready, work, Leads, Step, first_pick, later_picks, nth, step_at, run, end_of, moves_of}
-use Rattle.vx_tasks.specs.Rules.{Rules, Kept, NoneRefuses, AllEnd}
+use Rattle.vx_tasks.specs.Rules.{Rules, NoneRefuses, AllEnd}
 use Rattle.vx_tasks.proofs.Scripts.{no_true, or_false, next_clean}
-use Rattle.vx_tasks.proofs.Stuck.{some_move}
+use Rattle.vx_tasks.proofs.Stuck.{Kept, some_move}
 use Rattle.vx_tasks.proofs.Steps.{Where, here, under, aside, which, move_left, move_kept, at_start}
 
 pub leads_kept : (f : Forest) (s e : Counts) (ms : List Move) → Kept f s → Leads f s ms e → Kept f e

@@ -9,7 +9,7 @@ use Rattle.vx_tasks.specs.Task.Forest.{Bare, Node}
 use Rattle.vx_tasks.specs.State.{Counts, top, below, beside, left, queue, pending}
 use Rattle.vx_tasks.specs.State.Counts.{Zeros, Count}
 use Rattle.vx_tasks.specs.Run.{can, Move, own_move, move_below, move_beside, moves}
-use Rattle.vx_tasks.specs.Rules.{Kept}
+use Rattle.vx_tasks.proofs.Stuck.{Kept}
 use Rattle.vx_tasks.proofs.Scripts.{next_suc, no_true, or_parts}
 
 -- The task that moves: this one, one below it, or one beside it.

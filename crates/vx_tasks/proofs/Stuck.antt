@@ -13,8 +13,14 @@ use Rattle.vx_tasks.specs.Task.Forest.{Bare, Node}
 use Rattle.vx_tasks.specs.State.{Counts, top, below, beside, left, left_started, queue, full, held}
 use Rattle.vx_tasks.specs.State.Counts.{Count}
 use Rattle.vx_tasks.specs.Run.{can, any_there, Move, own_move, move_below, move_beside, moves, outside, all_held, all_moves, ready}
-use Rattle.vx_tasks.specs.Rules.{Fits, AllHeld, AllBelow, Rules, Kept}
+use Rattle.vx_tasks.specs.Rules.{Fits, AllHeld, AllBelow, Rules}
 use Rattle.vx_tasks.proofs.Scripts.{nil_left, nil_right, map_nil, drop_nil, no_true, all_done, all_whole, held_ever, sent_fewer, kind_some_time, late_from_still}
+
+-- Of a state: a task that refuses has still to reach the action at which it does.
+abbrev pub Kept : Forest → Counts → Type 0
+Kept Bare s = Unit {0}
+Kept (Node t kids rest) s =
+    (IsTrue (refuses_in t.script) → IsTrue (refuses_in (next t (top s)))) × Kept kids (below s) × Kept rest (beside s)
 
 -- A task at rest: it is about to append or to join, or is done.
 abbrev Rests : Task → ℕ → Type 0

@@ -22,6 +22,10 @@ WorkIsShared = (f : Forest) (e : Counts) (ms : List Move) → Leads f Zeros ms e
 abbrev pub SomeReady : Type 0
 SomeReady = (f : Forest) (e : Counts) (ms : List Move) → KeepsRules f → Leads f Zeros ms e → 0 < left f e → 0 < ready f e
 
+-- and only there
+abbrev pub NoneReady : Type 0
+NoneReady = (f : Forest) (s : Counts) → left f s ≡ 0 → ready f s ≡ 0
+
 -- a path still to be appended is at least one that is held
 abbrev pub PendingCovered : Type 0
 PendingCovered = (f : Forest) (s : Counts) → KeepsRules f → KeepsOrder f → (x : List ℕ) → In x (pending f s) → AtLeast (all_held f s) x

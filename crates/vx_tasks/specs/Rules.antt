@@ -6,7 +6,6 @@ use Rattle.vx_path.specs.Path.{path_le, path_lt}
 use Rattle.vx_tasks.specs.Task.{Task, Action, Forest, next, sent, started, closed, taken, holds, items, closes, given, refuses_in, takes_in, appends_in, next_kind, any_kind, is_still, is_late, ever_held, starts_in, has}
 use Rattle.vx_tasks.specs.Task.Forest.{Bare, Node}
 use Rattle.vx_tasks.specs.Task.Kind.{Append, Join}
-use Rattle.vx_tasks.specs.State.{Counts, top, below, beside}
 use Rattle.vx_tasks.specs.Run.{outside}
 
 -- How a task p and its child t, with number j, fit together. `cut` tells that p's own stream is open: it
@@ -122,9 +121,3 @@ NoneRefuses (Node t kids rest) = IsFalse (refuses_in t.script) × NoneRefuses ki
 abbrev pub AllEnd : Task → ℕ → Forest → Type 0
 AllEnd p j Bare = Unit {0}
 AllEnd p j (Node t kids rest) = IsTrue (closes j p) × AllEnd t 0 kids × AllEnd p (suc j) rest
-
--- Of a state: a task that refuses has still to reach the action at which it does.
-abbrev pub Kept : Forest → Counts → Type 0
-Kept Bare s = Unit {0}
-Kept (Node t kids rest) s =
-    (IsTrue (refuses_in t.script) → IsTrue (refuses_in (next t (top s)))) × Kept kids (below s) × Kept rest (beside s)

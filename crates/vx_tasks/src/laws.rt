@@ -1,6 +1,6 @@
 //! The laws of every tree of tasks that keeps the rules.
 
-ghost use Rattle.vx_tasks.specs.Laws.{MoveLowers, WorkIsShared, SomeReady, PendingCovered, WrittenAscends, WrittenBelow, WrittenFirst, EndIsWhole, RunLeads, RunStops, RunIsWhole, RefusedEarly, NamesAscend, QueuesStand};
+ghost use Rattle.vx_tasks.specs.Laws.{MoveLowers, WorkIsShared, SomeReady, NoneReady, PendingCovered, WrittenAscends, WrittenBelow, WrittenFirst, EndIsWhole, RunLeads, RunStops, RunIsWhole, RefusedEarly, NamesAscend, QueuesStand};
 
 /// The work left: a number that each step lowers by one.
 pub fn left()
@@ -11,7 +11,8 @@ pub fn left()
 
 /// Nothing gets stuck: as long as work is left, a task is ready.
 pub fn ready()
-    ensures { SomeReady }
+    ensures some { SomeReady }
+    ensures none { NoneReady }
 {}
 
 /// The order of appends: nothing still to come is below the least path that is held.
