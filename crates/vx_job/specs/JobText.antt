@@ -1,8 +1,8 @@
 -- What job the bytes of an input are.
-use Rattle.std.specs.Prelude.{ℕ, ◌&&◌, ◌==◌, nat_lt, Bool, true, false, if◌then◌else◌, List, [], ◌∷◌, length, codes, bytes_eq, Option, Some, None, option_map, option_and_then}
+use Rattle.std.specs.Prelude.{ℕ, ◌&&◌, ◌==◌, nat_lt, Bool, false, if◌then◌else◌, List, [], ◌∷◌, length, codes, bytes_eq, Option, Some, None, option_map, option_and_then}
 use Rattle.std.specs.Str.{is_utf8}
 use Rattle.serde_json.specs.Data.{Data, null, boolean, number, string, array, object, Items, no_items, item, Members}
-use Rattle.serde_json.specs.Find.{get, get_member, as_number, as_i64, as_array}
+use Rattle.serde_json.specs.Find.{get_member, as_number, as_i64, as_array}
 use Rattle.serde_json.specs.Read.{read}
 use Rattle.serde_json.specs.Events.{members_len}
 use Rattle.vx_model.specs.declared.ptype.PType.TheVariants.{I64}

@@ -1,6 +1,6 @@
 //! What the program is asked to write.
 
-ghost use Rattle.std.specs.Prelude.{◌≡◌, map, IfOk, IfSome, IsTrue, option_map, Some};
+ghost use Rattle.std.specs.Prelude.{◌≡◌, map, IfOk, IfSome, IsTrue, option_map, Some, false};
 ghost use Rattle.serde_json.specs.View.{view, items_view};
 ghost use Rattle.vx_model.specs.declared.ptype.PType.TheVariants.{I64};
 ghost use Rattle.vx_model.specs.Words.{all_by};
@@ -8,7 +8,7 @@ ghost use Rattle.vx_model.specs.Ty.{primitive};
 ghost use Rattle.vx_model.specs.Tree.{fits};
 ghost use Rattle.vx_model.specs.TreeView.{tree};
 ghost use Rattle.vx_types.specs.ChunkView.{piece};
-ghost use Rattle.vx_job.specs.JobText.{job, job_of, cell_of, piece_of, each, is_text, is_chunked_flat, batches_of};
+ghost use Rattle.vx_job.specs.JobText.{job, job_of, cell_of, piece_of, each, is_text, is_chunked_flat};
 ghost use Rattle.vx_job.specs.JobRead.{JobRead};
 
 use crate::error::JobError;
@@ -62,7 +62,10 @@ fn read_value(alloc: Global, value: &Value) -> Result<Job, JobError>
     let Some(batches) = value.get("batches") else {
         return Ok(Job::Unbuilt);
     };
-    match read_batches(alloc, batches)? {
+    let Some(items) = batches.as_array() else {
+        return Ok(Job::Unbuilt);
+    };
+    match read_batches(alloc, items)? {
         Some(batches) => Ok(Job::Column(batches)),
         None => Ok(Job::Unbuilt),
     }
@@ -93,12 +96,9 @@ fn is_chunked_flat(value: Option<&Value>) -> bool
 
 /// The batches, where each is a list of whole numbers of 64 bits.
 #[tactic(auto, using(crate::proofs::ReadSteps::list_rules))]
-fn read_batches(alloc: Global, value: &Value) -> Result<Option<Vec<Chunk>>, AllocError>
-    ensures { IfOk result (λ o. option_map (λ v. map piece v.items) o ≡ batches_of (view value.now)) }
+fn read_batches(alloc: Global, items: &[Value]) -> Result<Option<Vec<Chunk>>, AllocError>
+    ensures { IfOk result (λ o. option_map (λ v. map piece v.items) o ≡ each piece_of (items_view items.now)) }
 {
-    let Some(items) = value.as_array() else {
-        return Ok(None);
-    };
     let mut batches = Vec::with_capacity(alloc, items.len())?;
     for item in items {
         let Some(batch) = read_batch(alloc, item)? else {

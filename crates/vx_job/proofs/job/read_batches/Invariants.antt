@@ -6,4 +6,4 @@ use Rattle.vx_job.proofs.ReadSteps.{with_front}
 use Rattle.vx_job.proofs.job.read_batches.Given as goal
 
 abbrev pub invariant-loop-item : goal.invariant-loop-item
-invariant-loop-item l = with_front (map piece l.batches.items) (each piece_of (items_view (drop l.item-index l.items.items))) ≡ each piece_of (items_view l.items.items)
+invariant-loop-item l = with_front (map piece l.batches.items) (each piece_of (items_view (drop l.item-index l.items))) ≡ each piece_of (items_view l.items)
