@@ -28,16 +28,12 @@ use Rattle.vx_plan.specs.ColumnNodes.{Column, marked, column_plans, beside, not_
 use Rattle.vx_plan.specs.Valid.{Fit}
 use Rattle.vx_plan.specs.Statements.{Within}
 use Rattle.vx_plan.proofs.Relate.{Fields}
-use Rattle.vx_plan.proofs.PlanLists.{ItemsOf, Holds, ReadAll, all_there_read, counted_same, Grow, grow_none, grow_more, nil_left, nil_right, fit_left, fit_right, fit_both, holds_left, holds_right, row_total-append, row_total_cells, stream_values_cells}
+use Rattle.vx_plan.proofs.PlanLists.{ItemsOf, Holds, Gives, gives_same, ReadAll, all_there_read, all_zones, counted_same, Grow, grow_none, grow_more, nil_left, nil_right, fit_left, fit_right, fit_both, holds_left, holds_right, row_total-append, row_total_cells, stream_values_cells}
 use Rattle.vx_plan.proofs.Spots.{Apart, Lies, lies_none, scattered_both, apart_both, inside_begins, apart_next}
-use Rattle.vx_plan.proofs.FlatLaws.{Reads, Placed, Grows, Typed}
+use Rattle.vx_plan.proofs.FlatLaws.{Reads, Placed, Grows, Typed, cons_nil}
 use Rattle.vx_plan.proofs.ChunkedLaws.{paths-append}
 
 -- ---- rows of structs
-
-is_nil : {A : Type 0} → List A → Bool
-is_nil [] = true
-is_nil (x ∷ xs) = false
 
 abbrev pub streams_values : List (List Chunk) → List (List Val)
 streams_values [] = []
@@ -50,7 +46,7 @@ streams_values_cells (s ∷ ss) = ap₂ (λ x y. x ∷ y) (stream_values_cells s
 fields_read : (s : Setting) (fs : Tys) (ks : List Node) → Fields (λ t k. Reads s t k) fs ks → (m : Bool) (c : ℕ) (xs : List Split) (e : Eof)
     → StreamsOf fs (field_streams fs c xs) → all_faults (column_plans (marked m ks) c xs true e) ≡ [] → Fit (all_numbers (column_plans (marked m ks) c xs true e))
     → (look : List ℕ → Option (List ℕ)) → Holds look (all_pairs (column_plans (marked m ks) c xs true e))
-    → ReadAll s.codec look (all_layouts (column_plans (marked m ks) c xs true e)) (streams_values (field_streams fs c xs))
+    → ReadAll s look (all_layouts (column_plans (marked m ks) c xs true e)) (streams_values (field_streams fs c xs))
 fields_read s no_fields [] r m c xs e of clean fit look held = tt
 fields_read s no_fields (k ∷ ks) r m c xs e of clean fit look held = absurd r
 fields_read s (field name t fs) [] r m c xs e of clean fit look held = absurd r
@@ -95,10 +91,12 @@ stream_fits : (t : Ty) (cs : List Chunk) → Chunks t cs → all_by (fits t) (st
 stream_fits t [] h = refl
 stream_fits t (c ∷ cs) h = all_append (fits t) (cells c.1) (stream_cells cs) (cells_fine t c.1 h.0).fit (stream_fits t cs h.1)
 
-struct_layout_rows : {A : Type 0} (c : Codec) (look : A → Option (List ℕ)) (fs : Tys) (m : Bool) (n : ℕ) (ls : List (Lay A)) (vss : List (List Val)) (out : List Val)
-    → ReadAll c look ls vss → struct_rows m n vss ≡ Some out → length out ≡ n → rows c look (struct_layout (struct fs m) n ls) ≡ Some out
-struct_layout_rows c look fs m n ls vss out r e l =
-    ap (λ z. and_then (counted n) (and_then (struct_rows m n) z)) (all_there_read c look ls vss r) ∙ ap (and_then (counted n)) e ∙ counted_same n out l
+struct_layout_rows : {A : Type 0} (s : Setting) (look : A → Option (List ℕ)) (fs : Tys) (m : Bool) (n : ℕ) (ls : List (Lay A)) (vss : List (List Val)) (out : List Val)
+    → ReadAll s look ls vss → struct_rows m n vss ≡ Some out → length out ≡ n → Gives s look (struct_layout (struct fs m) n ls) out
+struct_layout_rows s look fs m n ls vss out r e l = record {
+  read = ap (λ z. and_then (counted n) (and_then (struct_rows m n) z)) (all_there_read s look ls vss r) ∙ ap (and_then (counted n)) e ∙ counted_same n out l;
+  zones = (tt, all_zones s look ls vss r)
+}
 
 values_length : (items : List Item) → length (map value (stream_cells items)) ≡ row_total items
 values_length items = length-map (stream_cells items) value ∙ sym (row_total_cells items)
@@ -114,7 +112,7 @@ nullable_reads s fs v ks rv rs = record { reads = go }
   where
     go : (m : Bool) (items : List Item) (e : Eof) → ItemsOf (struct fs true) items → (struct_node fs true None v ks m items true e).faults ≡ [] → Fit (struct_node fs true None v ks m items true e).numbers
         → (look : List ℕ → Option (List ℕ)) → Holds look (struct_node fs true None v ks m items true e).pairs
-        → rows s.codec look (struct_node fs true None v ks m items true e).layout ≡ Some (stream_values items)
+        → Gives s look (struct_node fs true None v ks m items true e).layout (stream_values items)
     go m items e of clean fit look held =
         let xs : List Split = struct_splits fs true items in
         let p : Plan = v m (column 0 xs) true (inside e) in
@@ -123,16 +121,17 @@ nullable_reads s fs v ks rv rs = record { reads = go }
         let fields : StreamsOf fs (field_streams fs 1 (other_columns xs)) × (streams_cells (field_streams fs 1 (other_columns xs)) ≡ field_cells fs (Rattle.vx_rules.proofs.ColumnStreams.all_cells (chunk_cells items))) =
             streams_are fs 1 (other_columns xs) (chunk_cells items) (nullable_shows fs items of) in
         let numbers : Fit (p.numbers ++ all_numbers ps) = fit.1.1.1 in
-        let first : rows s.codec look p.layout ≡ Some (stream_values (column 0 xs)) =
+        let first : Gives s look p.layout (stream_values (column 0 xs)) =
             rv.reads m (column 0 xs) (inside e) flags.0 (nil_left p.faults (all_faults ps) clean) (fit_left p.numbers (all_numbers ps) numbers) look (holds_left look p.pairs (all_pairs ps) held) in
-        let others : ReadAll s.codec look (all_layouts ps) (streams_values (field_streams fs 1 (other_columns xs))) =
+        let others : ReadAll s look (all_layouts ps) (streams_values (field_streams fs 1 (other_columns xs))) =
             fields_read s fs ks rs (m || true) 1 (other_columns xs) (next e) fields.0 (nil_right p.faults (all_faults ps) clean) (fit_right p.numbers (all_numbers ps) numbers) look (holds_right look p.pairs (all_pairs ps) held) in
-        struct_layout_rows s.codec look fs true (row_total items) (p.layout ∷ all_layouts ps) (stream_values (column 0 xs) ∷ streams_values (field_streams fs 1 (other_columns xs))) (map value (stream_cells items))
+        gives_same s look (struct_node fs true None v ks m items true e).layout (map value (stream_cells items)) (stream_values items)
+          (struct_layout_rows s look fs true (row_total items) (p.layout ∷ all_layouts ps) (stream_values (column 0 xs) ∷ streams_values (field_streams fs 1 (other_columns xs))) (map value (stream_cells items))
             (first, others)
             (ap₂ (λ x y. struct_rows true (row_total items) (x ∷ y)) (stream_values_cells (column 0 xs) ∙ ap (map value) flags.1) (field_values fs 1 (other_columns xs) items fields.1)
             ∙ nullable_rows_are fs (stream_cells items) (row_total items) (sym (row_total_cells items)) (stream_fits (struct fs true) items of))
-            (values_length items)
-        ∙ ap Some (sym (stream_values_cells items))
+            (values_length items))
+          (sym (stream_values_cells items))
 
 plain_reads : (s : Setting) (fs : Tys) (v : Node) (ks : List Node) → Fields (λ t k. Reads s t k) fs ks
     → Reads s (struct fs false) (struct_node fs false None v ks)
@@ -140,36 +139,39 @@ plain_reads s fs v ks rs = record { reads = go }
   where
     go : (m : Bool) (items : List Item) (e : Eof) → ItemsOf (struct fs false) items → (struct_node fs false None v ks m items true e).faults ≡ [] → Fit (struct_node fs false None v ks m items true e).numbers
         → (look : List ℕ → Option (List ℕ)) → Holds look (struct_node fs false None v ks m items true e).pairs
-        → rows s.codec look (struct_node fs false None v ks m items true e).layout ≡ Some (stream_values items)
+        → Gives s look (struct_node fs false None v ks m items true e).layout (stream_values items)
     go m items e of clean fit look held =
         let xs : List Split = struct_splits fs false items in
         let ps : List Plan = column_plans (marked (m || false) ks) 0 xs true e in
         let fields : StreamsOf fs (field_streams fs 0 xs) × (streams_cells (field_streams fs 0 xs) ≡ field_cells fs (Rattle.vx_rules.proofs.ColumnStreams.all_cells (chunk_cells items))) =
             streams_are fs 0 xs (chunk_cells items) (struct_shows fs items of) in
-        let read : ReadAll s.codec look (all_layouts ps) (streams_values (field_streams fs 0 xs)) =
+        let read : ReadAll s look (all_layouts ps) (streams_values (field_streams fs 0 xs)) =
             fields_read s fs ks rs (m || false) 0 xs e fields.0 clean fit.1.1.1 look held in
-        struct_layout_rows s.codec look fs false (row_total items) (all_layouts ps) (streams_values (field_streams fs 0 xs)) (map value (stream_cells items))
+        gives_same s look (struct_node fs false None v ks m items true e).layout (map value (stream_cells items)) (stream_values items)
+          (struct_layout_rows s look fs false (row_total items) (all_layouts ps) (streams_values (field_streams fs 0 xs)) (map value (stream_cells items))
             read
             (ap (struct_rows false (row_total items)) (field_values fs 0 xs items fields.1)
             ∙ struct_rows_are fs (stream_cells items) (row_total items) (sym (row_total_cells items)) (stream_fits (struct fs false) items of))
-            (values_length items)
-        ∙ ap Some (sym (stream_values_cells items))
+            (values_length items))
+          (sym (stream_values_cells items))
 
 pub struct_reads : (s : Setting) (fs : Tys) (n : Bool) (dup : Option (List ℕ)) (v : Node) (ks : List Node) → Reads s (boolean false) v → Fields (λ t k. Reads s t k) fs ks
     → Reads s (struct fs n) (struct_node fs n dup v ks)
-struct_reads s fs n (Some name) v ks rv rs = record { reads = λ m items e of clean fit look held. cc }
+struct_reads s fs n (Some name) v ks rv rs = record { reads = λ m items e of clean fit look held. absurd (cons_nil clean) }
 struct_reads s fs true None v ks rv rs = nullable_reads s fs v ks rv rs
 struct_reads s fs false None v ks rv rs = plain_reads s fs v ks rs
 
 pub not_struct_reads : (s : Setting) (t : Ty) → Reads s t (not_struct_node t)
-not_struct_reads s t = record { reads = λ m items e of clean fit look held. cc }
+not_struct_reads s t = record { reads = λ m items e of clean fit look held. absurd (cons_nil clean) }
 
 -- ---- rows of lists
 
-list_layout_rows : {A : Type 0} (c : Codec) (look : A → Option (List ℕ)) (t : Ty) (m : Bool) (n : ℕ) (ls : List (Lay A)) (vss : List (List Val)) (out : List Val)
-    → ReadAll c look ls vss → list_rows m n vss ≡ Some out → length out ≡ n → rows c look (list_layout (list t m) n ls) ≡ Some out
-list_layout_rows c look t m n ls vss out r e l =
-    ap (λ z. and_then (counted n) (and_then (list_rows m n) z)) (all_there_read c look ls vss r) ∙ ap (and_then (counted n)) e ∙ counted_same n out l
+list_layout_rows : {A : Type 0} (s : Setting) (look : A → Option (List ℕ)) (t : Ty) (m : Bool) (n : ℕ) (ls : List (Lay A)) (vss : List (List Val)) (out : List Val)
+    → ReadAll s look ls vss → list_rows m n vss ≡ Some out → length out ≡ n → Gives s look (list_layout (list t m) n ls) out
+list_layout_rows s look t m n ls vss out r e l = record {
+  read = ap (λ z. and_then (counted n) (and_then (list_rows m n) z)) (all_there_read s look ls vss r) ∙ ap (and_then (counted n)) e ∙ counted_same n out l;
+  zones = (tt, all_zones s look ls vss r)
+}
 
 pub list_reads : (s : Setting) (t : Ty) (n : Bool) (es os v : Node) → Reads s t es → Reads s offset_type os → Reads s (boolean false) v → Reads s (list t n) (list_node t n es os v)
 list_reads s t n es os v re ro rv = record { reads = go n re ro rv }
@@ -177,8 +179,8 @@ list_reads s t n es os v re ro rv = record { reads = go n re ro rv }
     go : (n : Bool) → Reads s t es → Reads s offset_type os → Reads s (boolean false) v
         → (m : Bool) (items : List Item) (e : Eof) → ItemsOf (list t n) items → (list_node t n es os v m items true e).faults ≡ [] → Fit (list_node t n es os v m items true e).numbers
         → (look : List ℕ → Option (List ℕ)) → Holds look (list_node t n es os v m items true e).pairs
-        → rows s.codec look (list_node t n es os v m items true e).layout ≡ Some (stream_values items)
-    go n re ro rv m [] e of clean fit look held = cc
+        → Gives s look (list_node t n es os v m items true e).layout (stream_values items)
+    go n re ro rv m [] e of clean fit look held = absurd (cons_nil clean)
     go false re ro rv m (i ∷ is) e of clean fit look held =
         let items : List Item = i ∷ is in
         let xs : List Split = list_splits t false true 0 (i ∷ is) in
@@ -191,18 +193,19 @@ list_reads s t n es os v re ro rv = record { reads = go n re ro rv }
         let elements : Chunks t (column 0 xs) × (stream_cells (column 0 xs) ≡ all_elements (stream_cells (i ∷ is))) = elements_stream t false true 0 (i ∷ is) of all in
         let offsets : Chunks offset_type (column 1 (other_columns xs)) × (stream_cells (column 1 (other_columns xs)) ≡ map offset_cell (0 ∷ ends 0 (stream_cells (i ∷ is)))) =
             offsets_stream t false i is all (omega arith) in
-        let first : rows s.codec look p.layout ≡ Some (stream_values (column 0 xs)) =
+        let first : Gives s look p.layout (stream_values (column 0 xs)) =
             re.reads m (column 0 xs) (inside e) elements.0 (nil_left p.faults (q.faults ++ []) clean) (fit_left p.numbers (q.numbers ++ []) numbers) look (holds_left look p.pairs (q.pairs ++ []) held) in
-        let second : rows s.codec look q.layout ≡ Some (stream_values (column 1 (other_columns xs))) =
+        let second : Gives s look q.layout (stream_values (column 1 (other_columns xs))) =
             ro.reads m (column 1 (other_columns xs)) (inside (next e)) offsets.0 (nil_left q.faults [] (nil_right p.faults (q.faults ++ []) clean)) (fit_left q.numbers [] (fit_right p.numbers (q.numbers ++ []) numbers)) look
                 (holds_left look q.pairs [] (holds_right look p.pairs (q.pairs ++ []) held)) in
-        list_layout_rows s.codec look t false (row_total (i ∷ is)) (p.layout ∷ q.layout ∷ []) (stream_values (column 0 xs) ∷ stream_values (column 1 (other_columns xs)) ∷ []) (map value (stream_cells (i ∷ is)))
+        gives_same s look (list_node t false es os v m (i ∷ is) true e).layout (map value (stream_cells (i ∷ is))) (stream_values (i ∷ is))
+          (list_layout_rows s look t false (row_total (i ∷ is)) (p.layout ∷ q.layout ∷ []) (stream_values (column 0 xs) ∷ stream_values (column 1 (other_columns xs)) ∷ []) (map value (stream_cells (i ∷ is)))
             (first, (second, tt))
             (ap₂ (λ x y. lists_of x y) (stream_values_cells (column 0 xs) ∙ ap (map value) elements.1) (stream_values_cells (column 1 (other_columns xs)) ∙ ap (map value) offsets.1)
             ∙ lists_are t false (stream_cells (i ∷ is)) (stream_fits (list t false) (i ∷ is) of)
             ∙ ap Some (lists_valid t (stream_cells (i ∷ is)) (stream_fits (list t false) (i ∷ is) of)))
-            (values_length (i ∷ is))
-        ∙ ap Some (sym (stream_values_cells (i ∷ is)))
+            (values_length (i ∷ is)))
+          (sym (stream_values_cells (i ∷ is)))
     go true re ro rv m (i ∷ is) e of clean fit look held =
         let xs : List Split = list_splits t true true 0 (i ∷ is) in
         let p : Plan = es m (column 0 xs) true (inside e) in
@@ -217,18 +220,19 @@ list_reads s t n es os v re ro rv = record { reads = go n re ro rv }
             offsets_stream t true i is all (omega arith) in
         let flags : Chunks (boolean false) (column 2 (other_columns (other_columns xs))) × (stream_cells (column 2 (other_columns (other_columns xs))) ≡ map bool_cell (map flag_of (stream_cells (i ∷ is)))) =
             list_validity_stream t true 0 (i ∷ is) of in
-        let first : rows s.codec look p.layout ≡ Some (stream_values (column 0 xs)) =
+        let first : Gives s look p.layout (stream_values (column 0 xs)) =
             re.reads m (column 0 xs) (inside e) elements.0 (nil_left p.faults (q.faults ++ (r.faults ++ [])) clean) (fit_left p.numbers (q.numbers ++ (r.numbers ++ [])) numbers) look (holds_left look p.pairs (q.pairs ++ (r.pairs ++ [])) held) in
-        let second : rows s.codec look q.layout ≡ Some (stream_values (column 1 (other_columns xs))) =
+        let second : Gives s look q.layout (stream_values (column 1 (other_columns xs))) =
             ro.reads m (column 1 (other_columns xs)) (inside (next e)) offsets.0 (nil_left q.faults (r.faults ++ []) (nil_right p.faults (q.faults ++ (r.faults ++ [])) clean))
                 (fit_left q.numbers (r.numbers ++ []) (fit_right p.numbers (q.numbers ++ (r.numbers ++ [])) numbers)) look
                 (holds_left look q.pairs (r.pairs ++ []) (holds_right look p.pairs (q.pairs ++ (r.pairs ++ [])) held)) in
-        let third : rows s.codec look r.layout ≡ Some (stream_values (column 2 (other_columns (other_columns xs)))) =
+        let third : Gives s look r.layout (stream_values (column 2 (other_columns (other_columns xs)))) =
             rv.reads m (column 2 (other_columns (other_columns xs))) (inside (next (next e))) flags.0
                 (nil_left r.faults [] (nil_right q.faults (r.faults ++ []) (nil_right p.faults (q.faults ++ (r.faults ++ [])) clean)))
                 (fit_left r.numbers [] (fit_right q.numbers (r.numbers ++ []) (fit_right p.numbers (q.numbers ++ (r.numbers ++ [])) numbers))) look
                 (holds_left look r.pairs [] (holds_right look q.pairs (r.pairs ++ []) (holds_right look p.pairs (q.pairs ++ (r.pairs ++ [])) held))) in
-        list_layout_rows s.codec look t true (row_total (i ∷ is)) (p.layout ∷ q.layout ∷ r.layout ∷ [])
+        gives_same s look (list_node t true es os v m (i ∷ is) true e).layout (map value (stream_cells (i ∷ is))) (stream_values (i ∷ is))
+          (list_layout_rows s look t true (row_total (i ∷ is)) (p.layout ∷ q.layout ∷ r.layout ∷ [])
             (stream_values (column 0 xs) ∷ stream_values (column 1 (other_columns xs)) ∷ stream_values (column 2 (other_columns (other_columns xs))) ∷ []) (map value (stream_cells (i ∷ is)))
             (first, (second, (third, tt)))
             (ap₂ (λ x y. and_then (under_validity (row_total (i ∷ is)) (stream_values (column 2 (other_columns (other_columns xs))))) (lists_of x y))
@@ -236,8 +240,8 @@ list_reads s t n es os v re ro rv = record { reads = go n re ro rv }
             ∙ ap (and_then (under_validity (row_total (i ∷ is)) (stream_values (column 2 (other_columns (other_columns xs)))))) (lists_are t true (stream_cells (i ∷ is)) (stream_fits (list t true) (i ∷ is) of))
             ∙ ap (λ z. under_validity (row_total (i ∷ is)) z (map inner_value (stream_cells (i ∷ is)))) (stream_values_cells (column 2 (other_columns (other_columns xs))) ∙ ap (map value) flags.1)
             ∙ under_flags (stream_cells (i ∷ is)) (row_total (i ∷ is)) (sym count))
-            (values_length (i ∷ is))
-        ∙ ap Some (sym (stream_values_cells (i ∷ is)))
+            (values_length (i ∷ is)))
+          (sym (stream_values_cells (i ∷ is)))
 
 -- ---- paths
 
@@ -366,10 +370,6 @@ list_placed t n es os v p q r = record { placed = go }
     go m [] true e a = lies_none (Region [] e)
     go m [] false e a = columns m [] false e a
     go m (i ∷ is) ended e a = columns m (i ∷ is) ended e a
-
-cons_nil : {A : Type 0} {x : A} {xs : List A} → x ∷ xs ≡ [] → ⊥
-unfolding is_nil
-cons_nil {A} f = absurd (true≢false (sym (ap (λ (z : List A). is_nil z) f)))
 
 -- ---- prefixes
 

@@ -2,6 +2,7 @@
 use Rattle.std.proofs.Common.{◌≡◌, ℕ, suc, ◌+◌, ◌*◌, ◌<◌, ◌≤◌, ◌^◌, Bool, true, false, List, [], ◌∷◌, ◌++◌, map, length, Option, Some, None, refl, sym, ap, ap₂, ◌∙◌, subst, inl, inr, ⊎_elim, arith, append_assoc, length-append}
 use Rattle.std.specs.Prelude.{if◌then◌else◌}
 use Rattle.std.proofs.lemmas.List.{append-nil, length-map, map-append}
+use Rattle.std.proofs.lemmas.Bool.{true≢false}
 use Rattle.vx_model.specs.Ty.{Ty}
 use Rattle.vx_model.specs.Tree.{Tree}
 use Rattle.vx_model.specs.Val.{Val, value}
@@ -23,7 +24,7 @@ use Rattle.vx_plan.specs.ChunkedNode.{whole, both_plans, all_pairs, all_faults, 
 use Rattle.vx_plan.specs.DictNode.{is_dictionary, run_plan, run_plans, made_counts, dict_numbers, runs_node, dict_node}
 use Rattle.vx_plan.specs.Valid.{Fit}
 use Rattle.vx_plan.specs.Statements.{Within}
-use Rattle.vx_plan.proofs.PlanLists.{ItemsOf, Holds, ReadAll, Grow, grow_none, grow_more, within_itself, gathered_reads, counted_same, nil_left, nil_right, nil_both, fit_left, fit_right, fit_both, holds_left, holds_right, row_total-append, row_total_cells, stream_values_cells}
+use Rattle.vx_plan.proofs.PlanLists.{ItemsOf, Holds, Gives, gives_same, ReadAll, Grow, grow_none, grow_more, within_itself, gathered_reads, counted_same, nil_left, nil_right, nil_both, fit_left, fit_right, fit_both, holds_left, holds_right, row_total-append, row_total_cells, stream_values_cells}
 use Rattle.vx_plan.proofs.Spots.{Apart, Lies, lies_none, two_parts, apart_left, apart_right, apart_inside, apart_next}
 use Rattle.vx_plan.proofs.FlatLaws.{Reads, Placed, Grows, Typed}
 use Rattle.vx_plan.proofs.ChunkedLaws.{paths-append}
@@ -31,10 +32,12 @@ use Rattle.vx_plan.proofs.GroupLaws.{apart_onto, lies_onto}
 
 -- ---- rows
 
-dict_layout_rows : {A : Type 0} (c : Codec) (look : A → Option (List ℕ)) (t : Ty) (n : ℕ) (values codes : Lay A) (vs cs out : List Val)
-    → rows c look values ≡ Some vs → rows c look codes ≡ Some cs → dict_rows (vs ∷ cs ∷ []) ≡ Some out → length out ≡ n → rows c look (dict_layout t n values codes) ≡ Some out
-dict_layout_rows c look t n values codes vs cs out e f g l =
-    ap₂ (λ a b. and_then (counted n) (and_then dict_rows (all_there (a ∷ b ∷ [])))) e f ∙ ap (and_then (counted n)) g ∙ counted_same n out l
+dict_layout_rows : {A : Type 0} (s : Setting) (look : A → Option (List ℕ)) (t : Ty) (n : ℕ) (values codes : Lay A) (vs cs out : List Val)
+    → Gives s look values vs → Gives s look codes cs → dict_rows (vs ∷ cs ∷ []) ≡ Some out → length out ≡ n → Gives s look (dict_layout t n values codes) out
+dict_layout_rows s look t n values codes vs cs out e f g l = record {
+  read = ap₂ (λ a b. and_then (counted n) (and_then dict_rows (all_there (a ∷ b ∷ [])))) e.read f.read ∙ ap (and_then (counted n)) g ∙ counted_same n out l;
+  zones = (tt, (e.zones, (f.zones, tt)))
+}
 
 -- one run that has ended
 run_reads : (s : Setting) (o : DictOptions) (t : Ty) (ck vk : Node) → Reads s (code_type o) ck → Reads s t vk → (m : Bool) (codes values : List Item) (closed : Bool) (e : Eof) (part : List Tree) → closed ≡ true
@@ -42,15 +45,15 @@ run_reads : (s : Setting) (o : DictOptions) (t : Ty) (ck vk : Node) → Reads s 
     → (ck m codes closed (inside e)).faults ++ (vk m values closed (inside (next e))).faults ≡ []
     → Fit ((ck m codes closed (inside e)).numbers ++ (vk m values closed (inside (next e))).numbers) → (look : List ℕ → Option (List ℕ))
     → Holds look ((ck m codes closed (inside e)).pairs ++ (vk m values closed (inside (next e))).pairs)
-    → rows s.codec look (dict_layout t (row_total codes) (vk m values closed (inside (next e))).layout (ck m codes closed (inside e)).layout) ≡ Some (map value part)
-run_reads s o t ck vk rc rv m codes values false e part c ns ds x y d oc ov clean fit look held = cc
+    → Gives s look (dict_layout t (row_total codes) (vk m values closed (inside (next e))).layout (ck m codes closed (inside e)).layout) (map value part)
+run_reads s o t ck vk rc rv m codes values false e part c ns ds x y d oc ov clean fit look held = absurd (true≢false (sym c))
 run_reads s o t ck vk rc rv m codes values true e part c ns ds x y d oc ov clean fit look held =
     let p : Plan = ck m codes true (inside e) in
     let q : Plan = vk m values true (inside (next e)) in
     let l : length ns ≡ length part = decodes_length ds ns part d in
-    dict_layout_rows s.codec look t (row_total codes) q.layout p.layout (map value ds) (map value (map offset_cell ns)) (map value part)
-        (rv.reads m values (inside (next e)) ov (nil_right p.faults q.faults clean) (fit_right p.numbers q.numbers fit) look (holds_right look p.pairs q.pairs held) ∙ ap Some (stream_values_cells values ∙ ap (map value) y))
-        (rc.reads m codes (inside e) oc (nil_left p.faults q.faults clean) (fit_left p.numbers q.numbers fit) look (holds_left look p.pairs q.pairs held) ∙ ap Some (stream_values_cells codes ∙ ap (map value) x))
+    dict_layout_rows s look t (row_total codes) q.layout p.layout (map value ds) (map value (map offset_cell ns)) (map value part)
+        (gives_same s look q.layout (stream_values values) (map value ds) (rv.reads m values (inside (next e)) ov (nil_right p.faults q.faults clean) (fit_right p.numbers q.numbers fit) look (holds_right look p.pairs q.pairs held)) (stream_values_cells values ∙ ap (map value) y))
+        (gives_same s look p.layout (stream_values codes) (map value (map offset_cell ns)) (rc.reads m codes (inside e) oc (nil_left p.faults q.faults clean) (fit_left p.numbers q.numbers fit) look (holds_left look p.pairs q.pairs held)) (stream_values_cells codes ∙ ap (map value) x))
         (decodes_rows ds ns part d)
         (length-map part value ∙ sym l ∙ sym (length-map ns offset_cell) ∙ sym (ap length x) ∙ sym (row_total_cells codes))
 
@@ -65,7 +68,7 @@ joined_parts o t (r ∷ rs) cs h = ap (λ z. map value h.0 ++ z) (joined_parts o
 
 runs_read : (s : Setting) (o : DictOptions) (t : Ty) (ck vk : Node) → Reads s (code_type o) ck → Reads s t vk → (m : Bool) (rs : List Run) (e : Eof) (cs : List Tree) (h : AllEnded o t rs cs)
     → all_faults (run_plans t ck vk m rs e) ≡ [] → Fit (all_numbers (run_plans t ck vk m rs e)) → (look : List ℕ → Option (List ℕ)) → Holds look (all_pairs (run_plans t ck vk m rs e))
-    → ReadAll s.codec look (all_layouts (run_plans t ck vk m rs e)) (parts_of o t rs cs h)
+    → ReadAll s look (all_layouts (run_plans t ck vk m rs e)) (parts_of o t rs cs h)
 runs_read s o t ck vk rc rv m [] e cs h clean fit look held = tt
 runs_read s o t ck vk rc rv m (r ∷ rs) e cs h clean fit look held =
     let p : Plan = run_plan t ck vk m r e in
@@ -83,24 +86,25 @@ dict_reads s o t d ck vk f rc rv rf = record { reads = go }
   where
     by_runs : (m : Bool) (i : Item) (is : List Item) (e : Eof) → ItemsOf t (i ∷ is) → (runs_node o t ck vk m (i ∷ is) true e).faults ≡ [] → Fit (runs_node o t ck vk m (i ∷ is) true e).numbers
         → (look : List ℕ → Option (List ℕ)) → Holds look (runs_node o t ck vk m (i ∷ is) true e).pairs
-        → rows s.codec look (runs_node o t ck vk m (i ∷ is) true e).layout ≡ Some (stream_values (i ∷ is))
+        → Gives s look (runs_node o t ck vk m (i ∷ is) true e).layout (stream_values (i ∷ is))
     by_runs m i is e of clean fit look held =
         let h : AllEnded o t (runs o t (i ∷ is) true) (stream_cells (i ∷ is)) = runs_end o t d i is of in
         let vss : List (List Val) = parts_of o t (runs o t (i ∷ is) true) (stream_cells (i ∷ is)) h in
-        gathered_reads s.codec look t (row_total (i ∷ is)) (all_layouts (run_plans t ck vk m (runs o t (i ∷ is) true) e)) vss
-            (runs_read s o t ck vk rc rv m (runs o t (i ∷ is) true) e (stream_cells (i ∷ is)) h clean
-                (fit_tail (i ∷ is) o t true e (all_numbers (run_plans t ck vk m (runs o t (i ∷ is) true) e)) fit) look held)
-            (ap length (joined_parts o t (runs o t (i ∷ is) true) (stream_cells (i ∷ is)) h) ∙ length-map (stream_cells (i ∷ is)) value ∙ sym (row_total_cells (i ∷ is)))
-        ∙ ap Some (joined_parts o t (runs o t (i ∷ is) true) (stream_cells (i ∷ is)) h ∙ sym (stream_values_cells (i ∷ is)))
+        gives_same s look (runs_node o t ck vk m (i ∷ is) true e).layout (joined vss) (stream_values (i ∷ is))
+            (gathered_reads s look t (row_total (i ∷ is)) (all_layouts (run_plans t ck vk m (runs o t (i ∷ is) true) e)) vss
+                (runs_read s o t ck vk rc rv m (runs o t (i ∷ is) true) e (stream_cells (i ∷ is)) h clean
+                    (fit_tail (i ∷ is) o t true e (all_numbers (run_plans t ck vk m (runs o t (i ∷ is) true) e)) fit) look held)
+                (ap length (joined_parts o t (runs o t (i ∷ is) true) (stream_cells (i ∷ is)) h) ∙ length-map (stream_cells (i ∷ is)) value ∙ sym (row_total_cells (i ∷ is))))
+            (joined_parts o t (runs o t (i ∷ is) true) (stream_cells (i ∷ is)) h ∙ sym (stream_values_cells (i ∷ is)))
     either : (b : Bool) (m : Bool) (i : Item) (is : List Item) (e : Eof) → ItemsOf t (i ∷ is) → (if b then runs_node o t ck vk m (i ∷ is) true e else f m (i ∷ is) true e).faults ≡ []
         → Fit (if b then runs_node o t ck vk m (i ∷ is) true e else f m (i ∷ is) true e).numbers
         → (look : List ℕ → Option (List ℕ)) → Holds look (if b then runs_node o t ck vk m (i ∷ is) true e else f m (i ∷ is) true e).pairs
-        → rows s.codec look (if b then runs_node o t ck vk m (i ∷ is) true e else f m (i ∷ is) true e).layout ≡ Some (stream_values (i ∷ is))
+        → Gives s look (if b then runs_node o t ck vk m (i ∷ is) true e else f m (i ∷ is) true e).layout (stream_values (i ∷ is))
     either true m i is e of clean fit look held = by_runs m i is e of clean fit look held
     either false m i is e of clean fit look held = rf.reads m (i ∷ is) e of clean fit look held
     go : (m : Bool) (items : List Item) (e : Eof) → ItemsOf t items → (dict_node s o t ck vk f m items true e).faults ≡ [] → Fit (dict_node s o t ck vk f m items true e).numbers
         → (look : List ℕ → Option (List ℕ)) → Holds look (dict_node s o t ck vk f m items true e).pairs
-        → rows s.codec look (dict_node s o t ck vk f m items true e).layout ≡ Some (stream_values items)
+        → Gives s look (dict_node s o t ck vk f m items true e).layout (stream_values items)
     go m [] e of clean fit look held = rf.reads m [] e of clean fit look held
     go m (i ∷ is) e of clean fit look held = either (is_dictionary (s.image o.probe i.1)) m i is e of clean fit look held
 

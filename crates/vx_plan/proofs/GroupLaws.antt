@@ -26,7 +26,7 @@ use Rattle.vx_plan.specs.Way.{Grouping, by_blocks, by_bytes, into_one}
 use Rattle.vx_plan.specs.GroupNode.{with_numbers, grouped_stream, counted_at, left_count, rest_count, block_count, block_rest, held_sizes, group_numbers, group_reserved, grouped_node, images, compressed_node}
 use Rattle.vx_plan.specs.Valid.{Fit, Keeps}
 use Rattle.vx_plan.specs.Statements.{Within}
-use Rattle.vx_plan.proofs.PlanLists.{ItemsOf, Holds, fit_left, fit_right, fit_both, row_total-append, row_total_cells, stream_values_cells}
+use Rattle.vx_plan.proofs.PlanLists.{ItemsOf, Holds, Gives, gives_same, fit_left, fit_right, fit_both, row_total-append, row_total_cells, stream_values_cells}
 use Rattle.vx_plan.proofs.Spots.{Apart, Lies, apart_both}
 use Rattle.vx_plan.proofs.FlatLaws.{Reads, Placed, Grows, Typed}
 
@@ -59,13 +59,14 @@ grouped_reads s g t k r = record { reads = go }
   where
     go : (m : Bool) (items : List Item) (e : Eof) → ItemsOf t items → (grouped_node g t k m items true e).faults ≡ [] → Fit (grouped_node g t k m items true e).numbers
         → (look : List ℕ → Option (List ℕ)) → Holds look (grouped_node g t k m items true e).pairs
-        → rows s.codec look (grouped_node g t k m items true e).layout ≡ Some (stream_values items)
+        → Gives s look (grouped_node g t k m items true e).layout (stream_values items)
     go m items e of clean fit look held =
         let count : row_total items ≡ length (stream_cells items) = row_total_cells items in
         let lt : row_total items < 2 ^ 64 = fit.0 in
-        r.reads m (grouped_stream g t items true) e (kept_of g t items of (omega arith)) clean
-            (fit_right (row_total items ∷ group_numbers g t items true) (k m (grouped_stream g t items true) true e).numbers fit) look held
-        ∙ ap Some (stream_values_cells (grouped_stream g t items true) ∙ ap (map value) (kept_cells g t items) ∙ sym (stream_values_cells items))
+        gives_same s look (k m (grouped_stream g t items true) true e).layout (stream_values (grouped_stream g t items true)) (stream_values items)
+            (r.reads m (grouped_stream g t items true) e (kept_of g t items of (omega arith)) clean
+                (fit_right (row_total items ∷ group_numbers g t items true) (k m (grouped_stream g t items true) true e).numbers fit) look held)
+            (stream_values_cells (grouped_stream g t items true) ∙ ap (map value) (kept_cells g t items) ∙ sym (stream_values_cells items))
 
 -- ---- paths
 
@@ -158,7 +159,8 @@ images-append s which (x ∷ xs) ys = ap (λ (z : List Item). (x.0, s.image whic
 
 pub compressed_reads : (s : Setting) → Keeps s → (which room : ℕ) (t : Ty) (k : Node) → Reads s t k → Reads s t (compressed_node s which room t k)
 compressed_reads s keeps which room t k r = record { reads = λ m items e of clean fit look held.
-    r.reads m (images s which items) e (images_of s keeps which t items of) clean fit look held ∙ ap Some (images_values s keeps which t items of) }
+    gives_same s look (k m (images s which items) true e).layout (stream_values (images s which items)) (stream_values items)
+        (r.reads m (images s which items) e (images_of s keeps which t items of) clean fit look held) (images_values s keeps which t items of) }
 
 pub compressed_placed : (s : Setting) (which room : ℕ) (t : Ty) (k : Node) → Placed t k → Placed t (compressed_node s which room t k)
 compressed_placed s which room t k c = record { placed = λ m items ended e a.

@@ -5,9 +5,9 @@ pub mod FlatLaws
 pub mod ChunkedLaws
 pub mod GroupLaws
 pub mod ColumnLaws
+pub mod ZoneRecords
 pub mod ZonedLaws
 pub mod DictLaws
-pub mod ZoneRecords
 pub mod Numbering
 pub mod Fronts
 pub mod SourceLaws

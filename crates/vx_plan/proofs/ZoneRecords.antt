@@ -12,7 +12,8 @@ use Rattle.vx_record.specs.Record.{zone_record}
 use Rattle.vx_plan.specs.PlanData.{Setting, Item, fault, zone_cut, at_chunk, stream_values}
 use Rattle.vx_plan.specs.Way.{ZonedOptions}
 use Rattle.vx_plan.specs.ZonedNode.{recorded, is_cut_wrong, is_last, cut_faults, zone_faults, zone_records}
-use Rattle.vx_plan.specs.Statements.{zones_of, records_of, RecordsAreOfZones}
+use Rattle.vx_plan.specs.ZonesHold.{zones_of, records_of}
+use Rattle.vx_plan.specs.Statements.{RecordsAreOfZones}
 
 take_front : {A : Type 0} (front back : List A) (n : ℕ) → length front ≡ n → take n (front ++ back) ≡ front
 take_front [] back zero e = refl
@@ -46,7 +47,7 @@ cut_right zone c cs h = go (is_cut_wrong zone (length (cells c.1)) (is_last cs))
     go true h = cc
     go false h = (refl, h)
 
-zones_right : (s : Setting) (t : Ty) (columns : List Column) (zone : ℕ) (items : List Item) → cut_faults zone items ≡ []
+pub zones_right : (s : Setting) (t : Ty) (columns : List Column) (zone : ℕ) (items : List Item) → cut_faults zone items ≡ []
     → zone_records s t columns items ≡ records_of s t columns (zones_of (length items) zone (stream_values items))
 zones_right s t columns zone [] h = refl
 zones_right s t columns zone (c ∷ []) h =

@@ -4,7 +4,7 @@ use Rattle.std.specs.Prelude.{if◌then◌else◌}
 use Rattle.std.proofs.lemmas.List.{append-nil}
 use Rattle.std.proofs.lemmas.Bool.{cases_Bool, true≢false}
 use Rattle.vx_model.specs.Ty.{Ty}
-use Rattle.vx_model.specs.Piece.{cells}
+use Rattle.vx_model.specs.Piece.{cells, row_values}
 use Rattle.vx_path.specs.Lists.{In}
 use Rattle.vx_path.specs.Path.{Eof, Region, begins, meets, raised, inside, next, under}
 use Rattle.vx_path.proofs.Lists.{in_left}
@@ -12,40 +12,65 @@ use Rattle.vx_path.proofs.Path.{begins-refl, begins-trans, begins-under, meets-s
 use Rattle.vx_tree.specs.Rows.{rows, and_then, counted}
 use Rattle.vx_tree.specs.LayoutTree.{layout_type}
 use Rattle.vx_record.specs.Aggregate.{Column}
-use Rattle.vx_record.specs.ZoneTable.{Filled, table_type}
+use Rattle.vx_record.specs.ZoneTable.{Filled, table_type, table_piece, table_specs, kept_columns}
+use Rattle.vx_plan.specs.ZonesHold.{zones_of, records_of, IsZoned}
+use Rattle.vx_plan.proofs.ZoneRecords.{zones_right}
 use Rattle.vx_plan.specs.PlanData.{Setting, Item, Pair, Plan, Node, Fault, paths, places, stream_values, row_total}
 use Rattle.vx_plan.specs.GroupNode.{with_numbers}
 use Rattle.vx_plan.specs.Way.{ZonedOptions}
-use Rattle.vx_plan.specs.ZonedNode.{recorded, forbidden_faults, is_cut_wrong, is_last, cut_faults, zone_faults, with_faults, table_items, with_table, table_of, unmarked_node, zoned_node}
+use Rattle.vx_plan.specs.ZonedNode.{recorded, forbidden_faults, is_cut_wrong, is_last, cut_faults, zone_faults, zone_records, with_faults, table_items, with_table, table_of, unmarked_node, zoned_node}
 use Rattle.vx_plan.specs.Valid.{Fit}
 use Rattle.vx_plan.specs.Statements.{Within}
-use Rattle.vx_plan.proofs.PlanLists.{ItemsOf, Holds, counted_same, nil_left, nil_right, nil_both, fit_left, fit_right, fit_both, holds_left, holds_right, row_total-append, length-stream_values}
+use Rattle.vx_plan.proofs.PlanLists.{ItemsOf, Holds, Gives, counted_same, nil_left, nil_right, nil_both, fit_left, fit_right, fit_both, holds_left, holds_right, row_total-append, length-stream_values}
 use Rattle.vx_plan.proofs.Spots.{Apart, Lies, scattered_left, two_parts, apart_both, apart_inside, apart_next}
 use Rattle.vx_plan.proofs.FlatLaws.{Reads, Placed, Grows, Typed}
 use Rattle.vx_plan.proofs.ChunkedLaws.{paths-append}
 
 -- ---- rows: the data child's
 
-table_reads : (s : Setting) (o : ZonedOptions) (t : Ty) (stats : Ty → Node) (m : Bool) (items : List Item) (e : Eof) (p : Plan) (cs : Option (List Filled)) (look : List ℕ → Option (List ℕ))
-    → (p.faults ≡ [] → Fit p.numbers → Holds look p.pairs → rows s.codec look p.layout ≡ Some (stream_values items))
-    → (with_table s o t stats m items e p cs).faults ≡ [] → Fit (with_table s o t stats m items e p cs).numbers → Holds look (with_table s o t stats m items e p cs).pairs
-    → rows s.codec look (with_table s o t stats m items e p cs).layout ≡ Some (stream_values items)
-table_reads s o t stats m items e p None look r clean fit held = r clean fit.1.1 held
-table_reads s o t stats m items e p (Some cs) look r clean fit held =
-    let q : Plan = stats (table_type cs) m (table_items cs (length items) e) true (next (next e)) in
-    ap (and_then (counted (row_total items)))
-        (r (nil_left p.faults q.faults clean) (fit_left p.numbers q.numbers fit.1.1.1) (holds_left look p.pairs q.pairs held))
-    ∙ counted_same (row_total items) (stream_values items) (length-stream_values items)
+-- the records, where a column is kept of them
+of_zones : (s : Setting) (o : ZonedOptions) (t : Ty) (columns : List Column) (items : List Item) (cs : List Filled) → zone_faults o.zone_len columns items ≡ [] → kept_columns columns (zone_records s t columns items) ≡ Some cs
+    → zone_records s t columns items ≡ records_of s t columns (zones_of (length items) o.zone_len (stream_values items))
+of_zones s o t [] [] cs right kept = cc
+of_zones s o t [] (i ∷ is) cs right kept = cc
+of_zones s o t (a ∷ columns) items cs right kept = zones_right s t (a ∷ columns) o.zone_len items right
 
-pub zoned_reads : (s : Setting) (o : ZonedOptions) (t : Ty) (k : Node) (stats : Ty → Node) → Reads s t k → Reads s t (zoned_node s o t k stats)
-zoned_reads s o t k stats r = record { reads = go }
+table_reads : (s : Setting) (o : ZonedOptions) (t : Ty) (stats : Ty → Node) → ((u : Ty) → Reads s u (stats u)) → (items : List Item) (e : Eof) (p : Plan) (cs : Option (List Filled))
+    → zone_faults o.zone_len (recorded o t) items ≡ [] → kept_columns (recorded o t) (zone_records s t (recorded o t) items) ≡ cs → (look : List ℕ → Option (List ℕ))
+    → (p.faults ≡ [] → Fit p.numbers → Holds look p.pairs → Gives s look p.layout (stream_values items))
+    → (with_table s o t stats false items e p cs).faults ≡ [] → Fit (with_table s o t stats false items e p cs).numbers → Holds look (with_table s o t stats false items e p cs).pairs
+    → Gives s look (with_table s o t stats false items e p cs).layout (stream_values items)
+table_reads s o t stats rs items e p None right kept look r clean fit held = r clean fit.1.1 held
+table_reads s o t stats rs items e p (Some cs) right kept look r clean fit held =
+    let q : Plan = stats (table_type cs) false (table_items cs (length items) e) true (next (next e)) in
+    let data_child : Gives s look p.layout (stream_values items) = r (nil_left p.faults q.faults clean) (fit_left p.numbers q.numbers fit.1.1.1) (holds_left look p.pairs q.pairs held) in
+    record {
+      read = ap (and_then (counted (row_total items))) data_child.read ∙ counted_same (row_total items) (stream_values items) (length-stream_values items);
+      zones = (record {
+        columns = recorded o t;
+        values = stream_values items;
+        count = length items;
+        table = cs;
+        data_rows = data_child.read;
+        kept = ap (kept_columns (recorded o t)) (sym (of_zones s o t (recorded o t) items cs right kept)) ∙ kept;
+        specs_are = refl;
+        zones_rows = λ of. ((rs (table_type cs)).reads false (table_items cs (length items) e) (next (next e)) (of, tt) (nil_right p.faults q.faults clean) (fit_right p.numbers q.numbers fit.1.1.1) look
+            (holds_right look p.pairs q.pairs held)).read ∙ ap Some (append-nil (row_values (table_piece cs (length items))))
+      }, (data_child.zones, tt))
+    }
+
+pub zoned_reads : (s : Setting) (o : ZonedOptions) (t : Ty) (k : Node) (stats : Ty → Node) → Reads s t k → ((u : Ty) → Reads s u (stats u)) → Reads s t (zoned_node s o t k stats)
+zoned_reads s o t k stats r rs = record { reads = go }
   where
     go : (m : Bool) (items : List Item) (e : Eof) → ItemsOf t items → (zoned_node s o t k stats m items true e).faults ≡ [] → Fit (zoned_node s o t k stats m items true e).numbers
         → (look : List ℕ → Option (List ℕ)) → Holds look (zoned_node s o t k stats m items true e).pairs
-        → rows s.codec look (zoned_node s o t k stats m items true e).layout ≡ Some (stream_values items)
+        → Gives s look (zoned_node s o t k stats m items true e).layout (stream_values items)
     go true items e of clean fit look held = r.reads true items e of clean fit look held
     go false items e of clean fit look held =
-        table_reads s o t stats false items e (k false items true (inside e)) (table_of s o t items true) look
+        table_reads s o t stats rs items e (k false items true (inside e)) (table_of s o t items true)
+            (nil_right (forbidden_faults s.allowed (recorded o t)) (zone_faults o.zone_len (recorded o t) items)
+                (nil_left (forbidden_faults s.allowed (recorded o t) ++ zone_faults o.zone_len (recorded o t) items) (with_table s o t stats false items e (k false items true (inside e)) (table_of s o t items true)).faults clean))
+            refl look
             (λ c f h. r.reads false items (inside e) of c f look h)
             (nil_right (forbidden_faults s.allowed (recorded o t) ++ zone_faults o.zone_len (recorded o t) items) (with_table s o t stats false items e (k false items true (inside e)) (table_of s o t items true)).faults clean)
             fit held

@@ -11,5 +11,6 @@ pub mod Admitted
 pub mod SourcePlan
 pub mod Number
 pub mod Valid
+pub mod ZonesHold
 pub mod Statements
 pub mod InOrder

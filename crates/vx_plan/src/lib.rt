@@ -3,7 +3,7 @@
 #![tactic(auto)]
 
 ghost use Rattle.vx_plan.specs.InOrder.{ChunksInOrder};
-ghost use Rattle.vx_plan.specs.Statements.{RowsComeBack, PathsDistinct, PathsInRegion, PrefixWithin, FrontOfTaken, CountsRows, RecordsAreOfZones};
+ghost use Rattle.vx_plan.specs.Statements.{RowsComeBack, PathsDistinct, PathsInRegion, PrefixWithin, FrontOfTaken, CountsRows, RecordsAreOfZones, ZonesAreTrue};
 
 /// The rows of the numbered layout are the batches' rows, in order.
 pub fn rows_come_back()
@@ -50,5 +50,11 @@ pub fn chunks_stand_in_order()
 /// Record z of a zoned node is of the rows of zone z.
 pub fn records_are_of_zones()
     ensures { RecordsAreOfZones }
+{
+}
+
+/// Each zoned node has a table of the records of exactly the rows of its zones.
+pub fn zones_are_true()
+    ensures { ZonesAreTrue }
 {
 }
