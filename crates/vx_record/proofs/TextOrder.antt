@@ -36,19 +36,19 @@ ltb_true a b h = lt-ltb a b h
 ltb_false : (a b : ℕ) → b ≤ a → ltb a b ≡ false
 ltb_false a b h = grind (arith, nat_tests)
 
-one_byte : (c : ℕ) → c < 128 → encode_utf8 c ≡ c ∷ []
+pub one_byte : (c : ℕ) → c < 128 → encode_utf8 c ≡ c ∷ []
 unfolding encode_utf8
 one_byte c h = rw (ltb_true c 128 h) refl
 
-two_bytes : (c : ℕ) → 128 ≤ c → c < 2048 → encode_utf8 c ≡ (192 + c / 64) ∷ (128 + c % 64) ∷ []
+pub two_bytes : (c : ℕ) → 128 ≤ c → c < 2048 → encode_utf8 c ≡ (192 + c / 64) ∷ (128 + c % 64) ∷ []
 unfolding encode_utf8
 two_bytes c l h = rw (ltb_false c 128 l, ltb_true c 2048 h) refl
 
-three_bytes : (c : ℕ) → 2048 ≤ c → c < 65536 → encode_utf8 c ≡ (224 + c / 4096) ∷ (128 + c / 64 % 64) ∷ (128 + c % 64) ∷ []
+pub three_bytes : (c : ℕ) → 2048 ≤ c → c < 65536 → encode_utf8 c ≡ (224 + c / 4096) ∷ (128 + c / 64 % 64) ∷ (128 + c % 64) ∷ []
 unfolding encode_utf8
 three_bytes c l h = rw (ltb_false c 128 (omega arith), ltb_false c 2048 l, ltb_true c 65536 h) refl
 
-four_bytes : (c : ℕ) → 65536 ≤ c → encode_utf8 c ≡ (240 + c / 262144) ∷ (128 + c / 4096 % 64) ∷ (128 + c / 64 % 64) ∷ (128 + c % 64) ∷ []
+pub four_bytes : (c : ℕ) → 65536 ≤ c → encode_utf8 c ≡ (240 + c / 262144) ∷ (128 + c / 4096 % 64) ∷ (128 + c / 64 % 64) ∷ (128 + c % 64) ∷ []
 unfolding encode_utf8
 four_bytes c l = rw (ltb_false c 128 (omega arith), ltb_false c 2048 (omega arith), ltb_false c 65536 l) refl
 
@@ -128,7 +128,7 @@ four_four c l = below_by c (suc c) ((240 + c / 262144) ∷ (128 + c / 4096 % 64)
             ]
         ]))
 
-plain_next : (c : ℕ) → c ≢ 55295 → next_char c ≡ suc c
+pub plain_next : (c : ℕ) → c ≢ 55295 → next_char c ≡ suc c
 plain_next c n = ⊎_elim (λ (t : nat_eq c 55295 ≡ true). absurd (n (same c t))) (λ (f : nat_eq c 55295 ≡ false). ap (λ b. if b then 57344 else suc c) f) (cases_Bool (nat_eq c 55295))
   where
     same : (k : ℕ) → nat_eq k 55295 ≡ true → k ≡ 55295
@@ -161,7 +161,7 @@ is_below : (c d : ℕ) → Below c d → (x y : List ℕ) → path_lt (encode_ut
 unfolding Below
 is_below c d h x y = h x y
 
-eq_or : (c : ℕ) → (c ≡ 55295) ⊎ (c ≢ 55295)
+pub eq_or : (c : ℕ) → (c ≡ 55295) ⊎ (c ≢ 55295)
 eq_or c = elim (cases_lt c 55295) [
   | inl l ↦ inr (λ e. absurd (omega arith))
   | inr h ↦ elim (cases_lt 55295 c) [
