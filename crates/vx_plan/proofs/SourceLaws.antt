@@ -155,7 +155,7 @@ zoned_renamed s look f (zoned_kind zone_len specs) t (child data_child (child zo
   data_rows = rows_renamed s.codec look f data_child ∙ h.data_rows;
   kept = h.kept;
   specs_are = h.specs_are;
-  zones_rows = λ of. rows_renamed s.codec look f zones ∙ h.zones_rows of
+  zones_rows = λ small. rows_renamed s.codec look f zones ∙ h.zones_rows small
 }
 zoned_renamed s look f (zoned_kind zone_len specs) t no_layouts h = tt
 zoned_renamed s look f (zoned_kind zone_len specs) t (child l no_layouts) h = tt

@@ -1,5 +1,5 @@
 -- The laws of a zoned node.
-use Rattle.std.proofs.Common.{◌≡◌, ℕ, ◌+◌, ◌<◌, ◌≤◌, ◌^◌, Bool, true, false, List, [], ◌∷◌, ◌++◌, map, length, Option, Some, None, refl, sym, ap, ap₂, ◌∙◌, subst, inl, inr, ⊎_elim, arith, append_assoc, length-append}
+use Rattle.std.proofs.Common.{◌≡◌, ℕ, suc, ◌+◌, ◌<◌, ◌≤◌, ◌^◌, Bool, true, false, List, [], ◌∷◌, ◌++◌, map, length, Option, Some, None, refl, sym, ap, ap₂, ◌∙◌, subst, inl, inr, ⊎_elim, arith, append_assoc, length-append}
 use Rattle.std.specs.Prelude.{if◌then◌else◌}
 use Rattle.std.proofs.lemmas.List.{append-nil}
 use Rattle.std.proofs.lemmas.Bool.{cases_Bool, true≢false}
@@ -14,11 +14,17 @@ use Rattle.vx_tree.specs.LayoutTree.{layout_type}
 use Rattle.vx_record.specs.Aggregate.{Column}
 use Rattle.vx_record.specs.ZoneTable.{Filled, table_type, table_piece, table_specs, kept_columns}
 use Rattle.vx_plan.specs.ZonesHold.{zones_of, records_of, IsZoned}
+use Rattle.vx_tree.specs.Real.{Of}
+use Rattle.vx_record.specs.Record.{zone_record}
+use Rattle.vx_table.specs.Statements.{Zones, SmallColumns, records}
+use Rattle.vx_table.proofs.WholeTables.{table_whole, small_columns}
+use Rattle.vx_rules.proofs.CellLaws.{Fine, cells_fine}
+use Rattle.vx_rules.proofs.ColumnStreams.{chunk_cells}
 use Rattle.vx_plan.proofs.ZoneRecords.{zones_right}
 use Rattle.vx_plan.specs.PlanData.{Setting, Item, Pair, Plan, Node, Fault, paths, places, stream_values, row_total}
 use Rattle.vx_plan.specs.GroupNode.{with_numbers}
 use Rattle.vx_plan.specs.Way.{ZonedOptions}
-use Rattle.vx_plan.specs.ZonedNode.{recorded, forbidden_faults, is_cut_wrong, is_last, cut_faults, zone_faults, zone_records, with_faults, table_items, with_table, table_of, unmarked_node, zoned_node}
+use Rattle.vx_plan.specs.ZonedNode.{asked, recorded, forbidden_faults, is_cut_wrong, is_last, cut_faults, zone_faults, zone_records, with_faults, table_items, with_table, table_of, unmarked_node, zoned_node}
 use Rattle.vx_plan.specs.Valid.{Fit}
 use Rattle.vx_plan.specs.Statements.{Within}
 use Rattle.vx_plan.proofs.PlanLists.{ItemsOf, Holds, Gives, counted_same, nil_left, nil_right, nil_both, fit_left, fit_right, fit_both, holds_left, holds_right, row_total-append, length-stream_values}
@@ -35,13 +41,35 @@ of_zones s o t [] [] cs right kept = cc
 of_zones s o t [] (i ∷ is) cs right kept = cc
 of_zones s o t (a ∷ columns) items cs right kept = zones_right s t (a ∷ columns) o.zone_len items right
 
-table_reads : (s : Setting) (o : ZonedOptions) (t : Ty) (stats : Ty → Node) → ((u : Ty) → Reads s u (stats u)) → (items : List Item) (e : Eof) (p : Plan) (cs : Option (List Filled))
+-- the zones' cells
+zones_cells : (t : Ty) (items : List Item) → ItemsOf t items → Zones t (chunk_cells items)
+zones_cells t [] of = tt
+zones_cells t (c ∷ cs) of = let f : Fine t (cells c.1) = cells_fine t c.1 of.0 in (record { fit = f.fit; real = f.real; short = f.short }, zones_cells t cs of.1)
+
+records_cells : (s : Setting) (t : Ty) (columns : List Column) (items : List Item) → zone_records s t columns items ≡ records s.hash t columns (chunk_cells items)
+records_cells s t columns [] = refl
+records_cells s t columns (c ∷ cs) = ap (λ r. zone_record s.hash t (row_values c.1) columns ∷ r) (records_cells s t columns cs)
+
+cells_count : (items : List Item) → length (chunk_cells items) ≡ length items
+cells_count [] = refl
+cells_count (c ∷ cs) = ap suc (cells_count cs)
+
+-- the table is a whole chunk
+whole_table : (s : Setting) (o : ZonedOptions) (t : Ty) (items : List Item) (cs : List Filled) → ItemsOf t items → length items < 2 ^ 64 → kept_columns (recorded o t) (zone_records s t (recorded o t) items) ≡ Some cs
+    → SmallColumns (recorded o t) → Of (table_type cs) (table_piece cs (length items))
+whole_table s o t items cs of short kept small =
+    subst (λ n. Of (table_type cs) (table_piece cs n)) (cells_count items)
+        (table_whole s.hash t (recorded o t) (chunk_cells items) cs (small_columns t (asked o.aggregates t) small) (zones_cells t items of)
+            (let e : length (chunk_cells items) ≡ length items = cells_count items in omega arith)
+            (ap (kept_columns (recorded o t)) (sym (records_cells s t (recorded o t) items)) ∙ kept))
+
+table_reads : (s : Setting) (o : ZonedOptions) (t : Ty) (stats : Ty → Node) → ((u : Ty) → Reads s u (stats u)) → (items : List Item) (e : Eof) (p : Plan) (cs : Option (List Filled)) → ItemsOf t items
     → zone_faults o.zone_len (recorded o t) items ≡ [] → kept_columns (recorded o t) (zone_records s t (recorded o t) items) ≡ cs → (look : List ℕ → Option (List ℕ))
     → (p.faults ≡ [] → Fit p.numbers → Holds look p.pairs → Gives s look p.layout (stream_values items))
     → (with_table s o t stats false items e p cs).faults ≡ [] → Fit (with_table s o t stats false items e p cs).numbers → Holds look (with_table s o t stats false items e p cs).pairs
     → Gives s look (with_table s o t stats false items e p cs).layout (stream_values items)
-table_reads s o t stats rs items e p None right kept look r clean fit held = r clean fit.1.1 held
-table_reads s o t stats rs items e p (Some cs) right kept look r clean fit held =
+table_reads s o t stats rs items e p None of right kept look r clean fit held = r clean fit.1.1 held
+table_reads s o t stats rs items e p (Some cs) of right kept look r clean fit held =
     let q : Plan = stats (table_type cs) false (table_items cs (length items) e) true (next (next e)) in
     let data_child : Gives s look p.layout (stream_values items) = r (nil_left p.faults q.faults clean) (fit_left p.numbers q.numbers fit.1.1.1) (holds_left look p.pairs q.pairs held) in
     record {
@@ -54,7 +82,7 @@ table_reads s o t stats rs items e p (Some cs) right kept look r clean fit held 
         data_rows = data_child.read;
         kept = ap (kept_columns (recorded o t)) (sym (of_zones s o t (recorded o t) items cs right kept)) ∙ kept;
         specs_are = refl;
-        zones_rows = λ of. ((rs (table_type cs)).reads false (table_items cs (length items) e) (next (next e)) (of, tt) (nil_right p.faults q.faults clean) (fit_right p.numbers q.numbers fit.1.1.1) look
+        zones_rows = λ small. ((rs (table_type cs)).reads false (table_items cs (length items) e) (next (next e)) (whole_table s o t items cs of (fit.1.0) kept small, tt) (nil_right p.faults q.faults clean) (fit_right p.numbers q.numbers fit.1.1.1) look
             (holds_right look p.pairs q.pairs held)).read ∙ ap Some (append-nil (row_values (table_piece cs (length items))))
       }, (data_child.zones, tt))
     }
@@ -67,7 +95,7 @@ zoned_reads s o t k stats r rs = record { reads = go }
         → Gives s look (zoned_node s o t k stats m items true e).layout (stream_values items)
     go true items e of clean fit look held = r.reads true items e of clean fit look held
     go false items e of clean fit look held =
-        table_reads s o t stats rs items e (k false items true (inside e)) (table_of s o t items true)
+        table_reads s o t stats rs items e (k false items true (inside e)) (table_of s o t items true) of
             (nil_right (forbidden_faults s.allowed (recorded o t)) (zone_faults o.zone_len (recorded o t) items)
                 (nil_left (forbidden_faults s.allowed (recorded o t) ++ zone_faults o.zone_len (recorded o t) items) (with_table s o t stats false items e (k false items true (inside e)) (table_of s o t items true)).faults clean))
             refl look

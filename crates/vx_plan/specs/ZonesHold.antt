@@ -4,11 +4,11 @@ use Rattle.vx_model.specs.Ty.{Ty}
 use Rattle.vx_model.specs.Val.{Val}
 use Rattle.vx_model.specs.Piece.{row_values}
 use Rattle.vx_tree.specs.LayoutTree.{Kind, flat_kind, chunked_kind, struct_kind, list_kind, dict_kind, zoned_kind, stats_kind, foreign_kind, Lay, Lays, layout, no_layouts, child, Spec}
-use Rattle.vx_tree.specs.Real.{Of}
 use Rattle.vx_tree.specs.Rows.{rows}
 use Rattle.vx_record.specs.Aggregate.{Column}
 use Rattle.vx_record.specs.Record.{zone_record}
-use Rattle.vx_record.specs.ZoneTable.{Filled, kept_columns, table_type, table_specs, table_piece}
+use Rattle.vx_record.specs.ZoneTable.{Filled, kept_columns, table_specs, table_piece}
+use Rattle.vx_table.specs.Statements.{SmallColumns}
 use Rattle.vx_plan.specs.PlanData.{Setting}
 
 -- consecutive stretches of so many rows, the last of what is left
@@ -30,8 +30,8 @@ pub record IsZoned {A : Type 0} (s : Setting) (look : A → Option (List ℕ)) (
   pub data_rows : rows s.codec look data_child ≡ Some values
   pub kept : kept_columns columns (records_of s t columns (zones_of count zone_len values)) ≡ Some table
   pub specs_are : specs ≡ table_specs table
-  -- the table being a chunk that can be in memory
-  pub zones_rows : Of (table_type table) (table_piece table count) → rows s.codec look zones ≡ Some (row_values (table_piece table count))
+  -- where filters have fewer than 2^32 blocks
+  pub zones_rows : SmallColumns columns → rows s.codec look zones ≡ Some (row_values (table_piece table count))
 
 abbrev pub OwnZones : {A : Type 0} → Setting → (A → Option (List ℕ)) → Kind → Ty → Lays A → Type 0
 OwnZones s look (zoned_kind zone_len specs) t (child data_child (child zones no_layouts)) = IsZoned s look zone_len specs t data_child zones

@@ -18,7 +18,7 @@ use Rattle.vx_tree.specs.Real.{Of, Whole, is_real_cell, is_real, are_real}
 use Rattle.vx_record.specs.Aggregate.{Aggregate, Column, with_state, held_aggregates, state_type}
 use Rattle.vx_record.specs.Record.{aggregate_value, zone_record}
 use Rattle.vx_record.specs.ZoneTable.{Filled, name_of, filled, is_null_value, some_values, ordered, state_cell, table_fields, table_type, table_columns, any_columns, kept_columns, table_piece}
-use Rattle.vx_table.specs.Statements.{Zone, Zones, SmallFilter, SmallFilters, records, TablesAreWhole}
+use Rattle.vx_table.specs.Statements.{Zone, Zones, SmallFilter, SmallFilters, SmallColumns, records, TablesAreWhole}
 use Rattle.vx_table.proofs.StateCells.{Holds, AllHold, aggregate_held}
 
 both : (a b : Bool) → a ≡ true → b ≡ true → (a && b) ≡ true
@@ -119,9 +119,10 @@ columned n (c ∷ cs) small h =
           (both (length (map state_cell c.values) == n) (match_fields (table_fields cs) (pieces_in (pieces_of (table_columns cs))) n) (eq-eqb (length (map state_cell c.values)) n count) rest.fields)
     }
 
-pub tables_are_whole : TablesAreWhole
-tables_are_whole hash t aggregates zs table small z short e =
-    let c : Columned (length zs) table = columned (length zs) table short (kept_good hash t (held_aggregates aggregates t) zs table (columns_are t aggregates small) z e) in
+pub table_whole : (hash : List ℕ → ℕ) (t : Ty) (columns : List Column) (zs : List (List Tree)) (table : List Filled) → Columns t columns → Zones t zs → length zs < 2 ^ 64
+    → kept_columns columns (records hash t columns zs) ≡ Some table → Of (table_type table) (table_piece table (length zs))
+table_whole hash t columns zs table are z short e =
+    let c : Columned (length zs) table = columned (length zs) table short (kept_good hash t columns zs table are z e) in
     record {
       typed = refl;
       whole = record {
@@ -131,3 +132,16 @@ tables_are_whole hash t aggregates zs table small z short e =
         real = c.real
       }
     }
+
+pub tables_are_whole : TablesAreWhole
+tables_are_whole hash t aggregates zs table small z short e = table_whole hash t (held_aggregates aggregates t) zs table (columns_are t aggregates small) z short e
+
+-- the aggregates that a type can hold, with filters of few blocks
+pub small_columns : (t : Ty) (aggregates : List Aggregate) → SmallColumns (held_aggregates aggregates t) → Columns t (held_aggregates aggregates t)
+small_columns t [] h = tt
+small_columns t (a ∷ aggregates) h = go (state_type a t) refl h (small_columns t aggregates)
+  where
+    go : (o : Option Ty) → state_type a t ≡ o → SmallColumns (with_state a o ++ held_aggregates aggregates t) → (SmallColumns (held_aggregates aggregates t) → Columns t (held_aggregates aggregates t))
+        → Columns t (with_state a o ++ held_aggregates aggregates t)
+    go None e h rest = rest h
+    go (Some u) e h rest = (e, h.0, rest h.1)

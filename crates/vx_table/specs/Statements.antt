@@ -28,6 +28,11 @@ abbrev pub SmallFilters : List Aggregate → Type 0
 SmallFilters [] = Unit {0}
 SmallFilters (a ∷ aggregates) = SmallFilter a × SmallFilters aggregates
 
+-- the same of the columns of a record
+abbrev pub SmallColumns : List Column → Type 0
+SmallColumns [] = Unit {0}
+SmallColumns (a ∷ columns) = SmallFilter a.0 × SmallColumns columns
+
 abbrev pub records : (List ℕ → ℕ) → Ty → List Column → List (List Tree) → List (List Val)
 records hash t columns [] = []
 records hash t columns (z ∷ zs) = zone_record hash t (map value z) columns ∷ records hash t columns zs
