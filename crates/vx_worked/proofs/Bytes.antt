@@ -1,0 +1,61 @@
+-- Plans of small streams with the bytes of their segments.
+use Rattle.std.proofs.Common.{◌≡◌, ℕ, Bool, true, false, List, [], ◌∷◌, ◌++◌, length, map, Option, Some, None, refl}
+use Rattle.std.specs.Prelude.{pos, codes, replicate}
+use Rattle.vx_model.specs.declared.ptype.PType.TheVariants.{U64, I32, I64}
+use Rattle.vx_model.specs.declared.encoding.EncodingId.{EncodingId}
+use Rattle.vx_model.specs.declared.encoding.EncodingId.TheVariants as encodings
+use Rattle.vx_model.specs.Ty.{Ty, primitive, list, struct, field, no_fields}
+use Rattle.vx_model.specs.Tree.{Tree, int_cell}
+use Rattle.vx_model.specs.Piece.{Piece, plain_piece, list_piece}
+use Rattle.vx_types.specs.Segment.{encode, tree_bytes, refused}
+use Rattle.vx_plan.specs.PlanData.{Setting, paths}
+use Rattle.vx_plan.specs.Way.{Way, ZonedOptions, flat, chunked, zoned, listed}
+use Rattle.vx_plan.specs.SourcePlan.{source_plan}
+use Rattle.vx_plan.specs.Number.{segments}
+
+every_encoding : List EncodingId
+every_encoding = encodings.Plain ∷ encodings.Constant ∷ encodings.Dict ∷ encodings.Chunked ∷ encodings.List ∷ encodings.Struct ∷ encodings.Extension ∷ []
+
+setting : Setting
+setting = record {
+  codec = record { encode = encode; tree_part = tree_bytes; refused = refused; decode = λ es t b. None };
+  encodings = encodings.Plain ∷ encodings.Constant ∷ encodings.Dict ∷ encodings.Chunked ∷ encodings.List ∷ encodings.Struct ∷ encodings.Extension ∷ [];
+  allowed = None;
+  image = λ which p. p;
+  hash = λ b. 0
+}
+
+flats : Way
+flats = flat (record { padding = true; inline = false })
+
+chunks : Way
+chunks = chunked (flat (record { padding = true; inline = false }))
+
+i64s : List ℕ → Piece
+i64s ns = plain_piece (primitive I64 false) (map (λ n. int_cell (pos n)) ns)
+
+-- two batches: 53 and 45 bytes
+two_lengths : map length (segments (source_plan setting chunks (primitive I64 false) false (i64s (1 ∷ 2 ∷ []) ∷ i64s (3 ∷ []) ∷ []) true)) ≡ 53 ∷ 45 ∷ []
+unfolding setting chunks i64s
+two_lengths = refl
+
+-- one batch: its cell, the flag, index, rows, extra, buffers, the buffer's length, children, and the tree's length
+one_segment : segments (source_plan setting chunks (primitive I64 false) false (i64s (7 ∷ []) ∷ []) true)
+    ≡ ((7 ∷ replicate 7 0) ++ ((1 ∷ 0 ∷ 0 ∷ []) ++ ((1 ∷ replicate 7 0) ++ ((0 ∷ 1 ∷ []) ++ ((8 ∷ replicate 7 0) ++ (replicate 8 0 ++ (29 ∷ replicate 7 0))))))) ∷ []
+unfolding setting chunks i64s
+one_segment = refl
+
+-- ---- zones of three rows
+
+zones_of_3 : ZonedOptions
+zones_of_3 = record { zone_len = 3; aggregates = None; concurrency = 1 }
+
+nine : List Piece
+nine = plain_piece (primitive I32 false) (int_cell (pos 1) ∷ int_cell (pos 2) ∷ int_cell (pos 3) ∷ [])
+    ∷ plain_piece (primitive I32 false) (int_cell (pos 4) ∷ int_cell (pos 5) ∷ int_cell (pos 6) ∷ [])
+    ∷ plain_piece (primitive I32 false) (int_cell (pos 7) ∷ int_cell (pos 8) ∷ int_cell (pos 9) ∷ []) ∷ []
+
+-- three chunks, and a table of 172 bytes
+zoned_lengths : map length (segments (source_plan setting (zoned zones_of_3 chunks flats) (primitive I32 false) false nine true)) ≡ 49 ∷ 49 ∷ 49 ∷ 172 ∷ []
+unfolding setting flats chunks zones_of_3 nine
+zoned_lengths = refl
