@@ -1,5 +1,6 @@
 //! Sequence pointers: places from which ids are made in ascending order.
-ghost use Rattle.std.specs.Prelude.{◌≡◌, ◌≢◌, ◌<◌, [], IfOk, IfErr, OnOk, OnErr, IsErrOf};
+ghost use Rattle.std.specs.Prelude.{◌≡◌, ◌≢◌, ◌<◌, [], Some, IfOk, IfErr, OnOk, OnErr, IsErrOf};
+ghost use Rattle.std.specs.Fmt.{debug_list, decimal};
 ghost use Rattle.vx_path.specs.Path.{eof_path, next, inside};
 ghost use Rattle.vx_sequence.specs.Universe.{IsOpen, place_of, advanced, split_from};
 
@@ -7,7 +8,7 @@ use crate::active::Universe;
 use crate::errors::SequenceError;
 use crate::ids::SequenceId;
 use std::marker::Model;
-use std::mem;
+use std::{fmt, mem};
 use vx_path::owned::Path;
 
 /// A path that is open in a universe: contracts see the path that it stands under and its last index.
@@ -108,5 +109,13 @@ impl SequencePointer {
     {
         let SequencePointer { path } = self;
         SequenceId::new(path)
+    }
+}
+
+impl fmt::Debug for SequencePointer {
+    ghost debug_output = { λ p. debug_list (λ n. Some (decimal n)) (eof_path p) };
+
+    fn fmt<W: fmt::Write>(&self, f: &mut fmt::Formatter<W>) -> fmt::Result {
+        fmt::Debug::fmt(&self.path(), f)
     }
 }
