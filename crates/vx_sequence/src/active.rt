@@ -5,6 +5,7 @@ ghost use Rattle.vx_path.specs.Path.{under, eof_path, next};
 
 use crate::errors::SequenceError;
 use crate::siblings::sibling;
+use std::alloc::Global;
 use std::marker::Model;
 use vx_path::owned::{Path, path_le};
 
@@ -49,6 +50,11 @@ impl Universe {
         ensures rules { IsUniverse self.now }
     {
         least_of(&self.entries)
+    }
+
+    /// The allocator that holds the paths, for copies of them.
+    pub fn allocator(&self) -> Global {
+        *self.entries.allocator()
     }
 
     /// A universe in which this path alone is active, and open.
@@ -96,8 +102,8 @@ impl Universe {
     {
         let child = Path::child(*self.entries.allocator(), path, 0)?;
         let copy = child.clone()?;
-        let at = index_of(&self.entries, path);
-        self.entries[at] = Entry {
+        let parent = index_of(&self.entries, path);
+        self.entries[parent] = Entry {
             path: copy,
             open: true,
         };

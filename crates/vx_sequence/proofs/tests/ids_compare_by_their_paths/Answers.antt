@@ -22,10 +22,10 @@ release-requires-2 g c =
     let first : c.expect-id.result ≡ 0 ∷ [] = id ∙ ap eof_path made.1 in
     let second : c.downgrade-later.result ≡ 1 ∷ [] = c.downgrade-later.ensures ∙ ap eof_path (pointer ∙ ap next made.1) in
     rw (c.release.ensures) (released_active c.advance.new.universe c.expect-id.result c.downgrade-later.result
-        (λ e. absurd (omega (arith, ap (λ r. get_or r 0 9) (sym first ∙ sym e ∙ second))))
-        (rw (c.downgrade-later.ensures, pointer, universe)
-          (open_active (advanced c.expect-universe.result.0 c.expect-universe.result.1) (eof_path (next c.expect-universe.result.1))
-            (advanced_next c.expect-universe.result.0 c.expect-universe.result.1))))
+    (λ e. absurd (omega (arith, ap (λ r. get_or r 0 9) (sym first ∙ sym e ∙ second))))
+    (rw (c.downgrade-later.ensures, pointer, universe)
+    (open_active (advanced c.expect-universe.result.0 c.expect-universe.result.1) (eof_path (next c.expect-universe.result.1))
+    (advanced_next c.expect-universe.result.0 c.expect-universe.result.1))))
 
 pub release-requires-3 : goal.release-requires-3
 release-requires-3 g c =

@@ -53,13 +53,13 @@ release-requires-2 g c =
     let here : c.downgrade-2.result ≡ 0 ∷ 1 ∷ [] = c.downgrade-2.ensures ∙ ap eof_path pointer ∙ second c.expect-off.result.0 off in
     let first : c.expect-id.result ≡ 0 ∷ 0 ∷ [] = id ∙ ap eof_path off in
     let deep : c.downgrade.result ≡ 0 ∷ 0 ∷ 0 ∷ [] = c.downgrade.ensures
-        ∙ under_first c.expect-below.result c.expect-off.result.0 c.expect-id.result below.0 below.1 id off in
+    ∙ under_first c.expect-below.result c.expect-off.result.0 c.expect-id.result below.0 below.1 id off in
     rw (c.release.ensures, descended_is) (stays c.advance.new.universe c.expect-id.result c.downgrade.result c.downgrade-2.result
-        (λ e. differ c.expect-id.result c.downgrade-2.result 1 0 1 (ap (λ r. get_or r 1 9) first) (ap (λ r. get_or r 1 9) here) (omega arith) (sym e))
-        (λ e. differ c.downgrade.result c.downgrade-2.result 1 0 1 (ap (λ r. get_or r 1 9) deep) (ap (λ r. get_or r 1 9) here) (omega arith) (sym e))
-        (rw (c.downgrade-2.ensures, pointer, advanced_is)
-            (open_active (advanced c.split.new.universe c.expect-off.result.0) (eof_path (next c.expect-off.result.0))
-                (advanced_next c.split.new.universe c.expect-off.result.0))))
+    (λ e. differ c.expect-id.result c.downgrade-2.result 1 0 1 (ap (λ r. get_or r 1 9) first) (ap (λ r. get_or r 1 9) here) (omega arith) (sym e))
+    (λ e. differ c.downgrade.result c.downgrade-2.result 1 0 1 (ap (λ r. get_or r 1 9) deep) (ap (λ r. get_or r 1 9) here) (omega arith) (sym e))
+    (rw (c.downgrade-2.ensures, pointer, advanced_is)
+    (open_active (advanced c.split.new.universe c.expect-off.result.0) (eof_path (next c.expect-off.result.0))
+    (advanced_next c.split.new.universe c.expect-off.result.0))))
 
 pub release-requires-3 : goal.release-requires-3
 release-requires-3 g c =
@@ -76,15 +76,15 @@ release-requires-3 g c =
     let here : c.downgrade-2.result ≡ 0 ∷ 1 ∷ [] = c.downgrade-2.ensures ∙ ap eof_path pointer ∙ second c.expect-off.result.0 off in
     let first : c.expect-id.result ≡ 0 ∷ 0 ∷ [] = id ∙ ap eof_path off in
     let deep : c.downgrade.result ≡ 0 ∷ 0 ∷ 0 ∷ [] = c.downgrade.ensures
-        ∙ under_first c.expect-below.result c.expect-off.result.0 c.expect-id.result below.0 below.1 id off in
+    ∙ under_first c.expect-below.result c.expect-off.result.0 c.expect-id.result below.0 below.1 id off in
     rw (c.release-2.ensures, c.release.ensures, descended_is) (released_active
-        (released (descended c.advance.new.universe c.expect-id.result) c.downgrade.result) c.downgrade-2.result c.downgrade-3.result
-        (λ e. differ c.downgrade-2.result c.downgrade-3.result 0 0 1 (ap (λ r. get_or r 0 9) here) (ap (λ r. get_or r 0 9) rest) (omega arith) (sym e))
-        (stays c.advance.new.universe c.expect-id.result c.downgrade.result c.downgrade-3.result
-          (λ e. differ c.expect-id.result c.downgrade-3.result 0 0 1 (ap (λ r. get_or r 0 9) first) (ap (λ r. get_or r 0 9) rest) (omega arith) (sym e))
-          (λ e. differ c.downgrade.result c.downgrade-3.result 0 0 1 (ap (λ r. get_or r 0 9) deep) (ap (λ r. get_or r 0 9) rest) (omega arith) (sym e))
-          (rw (c.downgrade-3.ensures, parts.1, advanced_is, split_is)
-            (advanced_active (split_from c.expect-universe.result.0 c.expect-universe.result.1) c.expect-off.result.0
-              (eof_path (next c.expect-universe.result.1))
-              (open_active (split_from c.expect-universe.result.0 c.expect-universe.result.1) (eof_path (next c.expect-universe.result.1))
-                (split_second c.expect-universe.result.0 c.expect-universe.result.1))))))
+    (released (descended c.advance.new.universe c.expect-id.result) c.downgrade.result) c.downgrade-2.result c.downgrade-3.result
+    (λ e. differ c.downgrade-2.result c.downgrade-3.result 0 0 1 (ap (λ r. get_or r 0 9) here) (ap (λ r. get_or r 0 9) rest) (omega arith) (sym e))
+    (stays c.advance.new.universe c.expect-id.result c.downgrade.result c.downgrade-3.result
+    (λ e. differ c.expect-id.result c.downgrade-3.result 0 0 1 (ap (λ r. get_or r 0 9) first) (ap (λ r. get_or r 0 9) rest) (omega arith) (sym e))
+    (λ e. differ c.downgrade.result c.downgrade-3.result 0 0 1 (ap (λ r. get_or r 0 9) deep) (ap (λ r. get_or r 0 9) rest) (omega arith) (sym e))
+    (rw (c.downgrade-3.ensures, parts.1, advanced_is, split_is)
+    (advanced_active (split_from c.expect-universe.result.0 c.expect-universe.result.1) c.expect-off.result.0
+    (eof_path (next c.expect-universe.result.1))
+    (open_active (split_from c.expect-universe.result.0 c.expect-universe.result.1) (eof_path (next c.expect-universe.result.1))
+    (split_second c.expect-universe.result.0 c.expect-universe.result.1))))))
