@@ -11,6 +11,7 @@ use vx_sequence::{SequenceError, SequenceId, SequencePointer, Universe};
 use vx_sink::{SegmentSink, SinkError};
 
 /// An order of one universe and one sink, which nobody else uses. All bytes may be written at all paths.
+#[derive(Drop)]
 pub struct LocalOrder<S> {
     sink: S,
     universe: Universe,
@@ -104,10 +105,16 @@ impl<S: SegmentSink> Order for LocalOrder<S> {
 }
 
 /// The least active path, where it is smaller than the id's.
+#[tactic(auto, using(crate::proofs::Smaller::smaller_rules))]
 fn smaller_path<'a>(universe: &'a Universe, id: &SequenceId) -> Option<&'a [u64]>
     requires { IsActive universe.now id.now }
     ensures none { IfNone result (IsLeast universe.now id.now) }
     ensures some { IfSome result (λ p. IsActive universe.now p.now × IsLeast universe.now p.now × IsTrue (path_lt p.now id.now)) }
 {
-    universe.least().filter(|least| *least != id.path())
+    let least = universe.least()?;
+    if least == id.path() {
+        None
+    } else {
+        Some(least)
+    }
 }
