@@ -8,7 +8,6 @@ use Rattle.vx_order.specs.declared.attempt.Attempt.{Attempt}
 use Rattle.vx_order.specs.declared.attempt.Attempt.TheVariants.{Written, Waiting}
 use Rattle.vx_order.specs.declared.errors.OrderError.{OrderError}
 use Rattle.vx_order.specs.declared.errors.OrderError.TheVariants.{TooLarge, SinkFault, OutOfMemory}
-use Rattle.vx_order.specs.Store.{Store}
 
 -- why an order refuses to go on from a pointer with this last index
 abbrev pub FullAt : ℕ → OrderError → Type 0

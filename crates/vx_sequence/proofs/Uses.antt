@@ -1,8 +1,8 @@
 -- For callers: what is active, and what is open, after each call.
-use Rattle.std.proofs.Common.{◌≡◌, ◌≢◌, ℕ, ◌+◌, arith, Bool, true, false, List, Option, Some, is_some, refl, sym, ap, subst, ◌∙◌, ⊎_elim}
+use Rattle.std.proofs.Common.{◌≡◌, ◌≢◌, ℕ, ◌+◌, arith, true, false, List, is_some, sym, ap, subst, ◌∙◌, ⊎_elim}
 use Rattle.std.specs.FinMap as map
 use Rattle.vx_path.specs.Path.{under, Eof, eof_path, next, inside}
-use Rattle.vx_sequence.specs.Universe.{Active, IsActive, IsOpen, IsUniverse, only, advanced, descended, split_from, released}
+use Rattle.vx_sequence.specs.Universe.{Active, IsActive, IsOpen, only, advanced, descended, split_from, released}
 use Rattle.vx_sequence.proofs.Places.{same_parts}
 use Rattle.vx_sequence.proofs.Sets.{one_path, get-inserted, get-insert_other, get-remove_other, is_open_active, is_inserted, is_active_more}
 

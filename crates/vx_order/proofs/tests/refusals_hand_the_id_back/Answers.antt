@@ -1,6 +1,6 @@
 use Rattle.std.proofs.Common.{◌≡◌, ◌∙◌, ap, sym, get_or, ℕ, List, [], ◌∷◌, arith}
 use Rattle.vx_path.specs.Path.{Eof, eof_path, next, under}
-use Rattle.vx_sequence.specs.Universe.{Active, IsActive, root, only, advanced, descended}
+use Rattle.vx_sequence.specs.Universe.{Active, IsActive, root, advanced, descended}
 use Rattle.vx_sequence.proofs.Uses.{only_open, advanced_id, advanced_next, descended_child, released_active, open_active}
 use Rattle.vx_order.proofs.tests.refusals_hand_the_id_back.Goals as goal
 

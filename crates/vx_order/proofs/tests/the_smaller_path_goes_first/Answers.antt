@@ -1,4 +1,4 @@
-use Rattle.std.proofs.Common.{◌≡◌, ◌∙◌, ap, sym, get_or, List, [], ◌∷◌, arith}
+use Rattle.std.proofs.Common.{◌≡◌, ◌∙◌, ap, sym, get_or, [], ◌∷◌, arith}
 use Rattle.vx_path.specs.Path.{Eof, eof_path, next, inside}
 use Rattle.vx_sequence.specs.Universe.{Active, IsActive, root, split_from}
 use Rattle.vx_sequence.proofs.Uses.{only_open, split_first, split_second, released_active, open_active}

@@ -1,4 +1,3 @@
-use Rattle.std.proofs.Common.{◌≡◌}
 use Rattle.vx_sequence.proofs.Uses.{only_open}
 use Rattle.vx_sequence.proofs.tests.the_greatest_index_has_no_sibling.Goals as goal
 

@@ -1,4 +1,4 @@
-use Rattle.std.proofs.Common.{subst, ◌∙◌}
+use Rattle.std.proofs.Common.{subst}
 use Rattle.vx_sequence.specs.Universe.{IsActive}
 use Rattle.vx_sequence.proofs.Sets.{not_empty}
 use Rattle.vx_sequence.proofs.Scans.{is_the_least}
