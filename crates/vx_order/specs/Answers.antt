@@ -31,6 +31,26 @@ Answers u next id (Ok (Written r)) = IsLeast u id × (next < 2 ^ 32) × (r.path 
 Answers u next id (Ok (Waiting back smaller)) = (back ≡ id) × IsActive u smaller × IsLeast u smaller × IsTrue (path_lt smaller id)
 Answers u next id (Err r) = (r.0 ≡ id) × Refuses u next id r.1
 
+-- the id waits, its number is too large, or it is written; or there was no memory
+abbrev pub IsWaiting : Tried → Type 0
+IsWaiting (Ok (Written r)) = ⊥
+IsWaiting (Ok (Waiting back smaller)) = Unit {0}
+IsWaiting (Err r) = r.1 ≡ OutOfMemory
+
+abbrev pub IsLarge : OrderError → Type 0
+IsLarge (TooLarge n) = Unit {0}
+IsLarge SinkFault = ⊥
+IsLarge OutOfMemory = Unit {0}
+
+abbrev pub IsTooLarge : Tried → Type 0
+IsTooLarge (Ok a) = ⊥
+IsTooLarge (Err r) = IsLarge r.1
+
+abbrev pub IsWritten : Tried → Type 0
+IsWritten (Ok (Written r)) = Unit {0}
+IsWritten (Ok (Waiting back smaller)) = ⊥
+IsWritten (Err r) = r.1 ≡ OutOfMemory
+
 -- whether the sink failed
 abbrev pub is_fault : OrderError → Bool
 is_fault (TooLarge n) = false

@@ -1,7 +1,7 @@
 //! An order of one universe and one sink.
 ghost use Rattle.std.specs.Prelude.{◌≡◌, IsTrue, IfNone, IfSome};
 ghost use Rattle.vx_path.specs.Path.{path_lt};
-ghost use Rattle.vx_sequence.specs.Universe.{IsActive, IsLeast};
+ghost use Rattle.vx_sequence.specs.Universe.{IsActive, IsLeast, IsUniverse};
 
 use crate::attempt::{Attempt, Receipt};
 use crate::errors::OrderError;
@@ -109,6 +109,7 @@ impl<S: SegmentSink> Order for LocalOrder<S> {
 fn smaller_path<'a>(universe: &'a Universe, id: &SequenceId) -> Option<&'a [u64]>
     requires { IsActive universe.now id.now }
     ensures none { IfNone result (IsLeast universe.now id.now) }
+    ensures rules { IsUniverse universe.now }
     ensures some { IfSome result (λ p. IsActive universe.now p.now × IsLeast universe.now p.now × IsTrue (path_lt p.now id.now)) }
 {
     let least = universe.least()?;

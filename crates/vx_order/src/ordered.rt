@@ -1,8 +1,8 @@
 //! The order of writes as a trait.
-ghost use Rattle.std.specs.Prelude.{◌≡◌, ◌↔◌, ℕ, ◌+◌, ◌<◌, List, IsTrue, IfOk, IfErr, OnOk, OnErr};
-ghost use Rattle.vx_path.specs.Path.{eof_path, next};
-ghost use Rattle.vx_sequence.specs.Universe.{Active, IsActive, IsOpen, IsLeast, advanced, descended, released};
-ghost use Rattle.vx_sink.specs.Counts.{Counts};
+ghost use Rattle.std.specs.Prelude.{◌≡◌, ◌↔◌, ℕ, ◌+◌, ◌<◌, ◌≤◌, ◌^◌, List, IsTrue, IfOk, IfErr, OnOk, OnErr};
+ghost use Rattle.vx_path.specs.Path.{eof_path, next, path_lt};
+ghost use Rattle.vx_sequence.specs.Universe.{Active, IsActive, IsOpen, IsLeast, IsUniverse, advanced, descended, released};
+ghost use Rattle.vx_sink.specs.Counts.{Counts, IsCalm};
 
 use crate::attempt::Attempt;
 use crate::errors::OrderError;
@@ -11,7 +11,7 @@ use vx_sequence::{SequenceId, SequencePointer};
 /// A universe of paths, and a sink to which segments are appended in the order of their paths.
 pub trait Order {
     ghost use Rattle.vx_order.specs.Store.{Store};
-    ghost use Rattle.vx_order.specs.Answers.{FullAt, Answers, is_sink_fault, active_after, next_after, segments_after, MayLater};
+    ghost use Rattle.vx_order.specs.Answers.{FullAt, Answers, IsWaiting, IsTooLarge, IsWritten, is_sink_fault, active_after, next_after, segments_after, MayLater};
 
     /// The active paths.
     ghost active: { Self → Active };
@@ -38,7 +38,8 @@ pub trait Order {
 
         ensures store { store self.new ≡ store self.old }
         ensures may_fail { (k : ℕ) → may_fail self.new k → may_fail self.old k }
-        ensures may_write { (p b : List ℕ) → may_write self.old p b → may_write self.new p b };
+        ensures may_write { (p b : List ℕ) → may_write self.old p b → may_write self.new p b }
+        ensures rules { IsUniverse (active self.old) };
 
     /// `SequenceId::descend` in the universe.
     fn descend(&mut self, id: SequenceId) -> Result<SequencePointer, (SequenceId, OrderError)>
@@ -50,7 +51,8 @@ pub trait Order {
 
         ensures store { store self.new ≡ store self.old }
         ensures may_fail { (k : ℕ) → may_fail self.new k → may_fail self.old k }
-        ensures may_write { (p b : List ℕ) → may_write self.old p b → may_write self.new p b };
+        ensures may_write { (p b : List ℕ) → may_write self.old p b → may_write self.new p b }
+        ensures rules { IsUniverse (active self.old) };
 
     /// `SequenceId::release` in the universe.
     fn release(&mut self, id: SequenceId)
@@ -58,12 +60,14 @@ pub trait Order {
         ensures active { active self.new ≡ released (active self.old) id }
         ensures store { store self.new ≡ store self.old }
         ensures may_fail { (k : ℕ) → may_fail self.new k → may_fail self.old k }
-        ensures may_write { (p b : List ℕ) → may_write self.old p b → may_write self.new p b };
+        ensures may_write { (p b : List ℕ) → may_write self.old p b → may_write self.new p b }
+        ensures rules { IsUniverse (active self.old) };
 
     /// Whether no other active path is smaller. This stays so until the id is given up.
     fn is_least(&self, id: &SequenceId) -> bool
         requires { IsActive (active self.now) id.now }
-        ensures { IsTrue result ↔ IsLeast (active self.now) id.now };
+        ensures least { IsTrue result ↔ IsLeast (active self.now) id.now }
+        ensures rules { IsUniverse (active self.now) };
 
     /// Appends the bytes and gives the id up, unless another active path is smaller. A refused id is handed back.
     fn try_write(
@@ -74,11 +78,17 @@ pub trait Order {
         requires is_active { IsActive (active self.old) id }
         requires allowed { may_write self.old id bytes.now }
         ensures answer { Answers (active self.old) (store self.old).next id result }
+        ensures waits { (q : List ℕ) → IsActive (active self.old) q → IsTrue (path_lt q id) → IsWaiting result }
+        ensures large { IsLeast (active self.old) id → 2 ^ 32 ≤ (store self.old).next → IsTooLarge result }
+        ensures complete { IsLeast (active self.old) id → (store self.old).next < 2 ^ 32
+            → IsCalm (store self.old).faults (store self.new).faults → IsWritten result }
+
         ensures active { active self.new ≡ active_after (active self.old) id result }
         ensures next { (store self.new).next ≡ next_after (store self.old).next result }
         ensures segments { (store self.new).segments ≡ segments_after (store self.old).segments bytes.now result }
         ensures cause { Counts (store self.old).faults (store self.new).faults (is_sink_fault result) }
         ensures fails { IsTrue (is_sink_fault result) → may_fail self.old 0 }
         ensures later { (k : ℕ) → may_fail self.new k → MayLater (may_fail self.old) k result }
-        ensures may_write { (p b : List ℕ) → may_write self.old p b → may_write self.new p b };
+        ensures may_write { (p b : List ℕ) → may_write self.old p b → may_write self.new p b }
+        ensures rules { IsUniverse (active self.old) };
 }

@@ -80,6 +80,7 @@ impl Universe {
         ensures room { OnOk result ((place_of path.now).last < u64.MAX) }
         ensures full { IsErrOf result SequenceError.IndexFull → (place_of path.now).last ≡ u64.MAX }
         ensures err { OnErr result (self.new ≡ self.old) }
+        ensures rules { IsUniverse self.old }
     {
         let next = sibling(*self.entries.allocator(), path)?;
         let copy = next.clone()?;
@@ -99,6 +100,7 @@ impl Universe {
         ensures child { IfOk result (λ p. p ≡ under path.now 0) }
         ensures memory { IfErr result (λ e. e ≡ SequenceError.OutOfMemory) }
         ensures err { OnErr result (self.new ≡ self.old) }
+        ensures rules { IsUniverse self.old }
     {
         let child = Path::child(*self.entries.allocator(), path, 0)?;
         let copy = child.clone()?;
@@ -119,6 +121,7 @@ impl Universe {
         ensures room { OnOk result ((place_of path.now).last < u64.MAX) }
         ensures full { IsErrOf result SequenceError.IndexFull → (place_of path.now).last ≡ u64.MAX }
         ensures err { OnErr result (self.new ≡ self.old) }
+        ensures rules { IsUniverse self.old }
     {
         let alloc = *self.entries.allocator();
         let next = sibling(alloc, path)?;
@@ -140,7 +143,8 @@ impl Universe {
     /// Gives an active path up.
     pub(crate) fn release(&mut self, path: &[u64])
         requires { IsActive self.old path.now }
-        ensures { self.new ≡ released self.old path.now }
+        ensures active { self.new ≡ released self.old path.now }
+        ensures rules { IsUniverse self.old }
     {
         let at = index_of(&self.entries, path);
         let _entry = self.entries.remove(at);

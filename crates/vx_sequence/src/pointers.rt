@@ -2,7 +2,7 @@
 ghost use Rattle.std.specs.Prelude.{◌≡◌, ◌≢◌, ◌<◌, [], Some, IfOk, IfErr, OnOk, OnErr, IsErrOf};
 ghost use Rattle.std.specs.Fmt.{debug_list, decimal};
 ghost use Rattle.vx_path.specs.Path.{eof_path, next, inside};
-ghost use Rattle.vx_sequence.specs.Universe.{IsOpen, place_of, advanced, split_from};
+ghost use Rattle.vx_sequence.specs.Universe.{IsOpen, IsUniverse, place_of, advanced, split_from};
 
 use crate::active::Universe;
 use crate::errors::SequenceError;
@@ -58,6 +58,7 @@ impl SequencePointer {
         ensures room { OnOk result (self.old.last < u64.MAX) }
         ensures full { IsErrOf result SequenceError.IndexFull → self.old.last ≡ u64.MAX }
         ensures unchanged { OnErr result ((self.new ≡ self.old) × (universe.new ≡ universe.old)) }
+        ensures rules { IsUniverse universe.old }
     {
         let next = universe.advance(self.path())?;
         Ok(SequenceId::new(mem::replace(&mut self.path, next)))
@@ -75,6 +76,7 @@ impl SequencePointer {
         ensures room { OnOk result (self.old.last < u64.MAX) }
         ensures full { IsErrOf result SequenceError.IndexFull → self.old.last ≡ u64.MAX }
         ensures unchanged { OnErr result ((self.new ≡ self.old) × (universe.new ≡ universe.old)) }
+        ensures rules { IsUniverse universe.old }
     {
         let (child, next) = universe.split(self.path())?;
         self.path = next;
@@ -96,6 +98,7 @@ impl SequencePointer {
         ensures full { IfErr result (λ r. r.1 ≡ SequenceError.IndexFull → self.last ≡ u64.MAX) }
         ensures refused { IfErr result (λ r. r.0 ≡ self) }
         ensures unchanged { OnErr result (universe.new ≡ universe.old) }
+        ensures rules { IsUniverse universe.old }
     {
         match self.split_off(universe) {
             Ok(off) => Ok((off, self)),

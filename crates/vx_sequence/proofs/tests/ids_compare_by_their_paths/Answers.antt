@@ -21,7 +21,7 @@ release-requires-2 g c =
     let universe = rw c.expect-id.ensures at c.advance.ensures.universe in
     let first : c.expect-id.result ≡ 0 ∷ [] = id ∙ ap eof_path made.1 in
     let second : c.downgrade-later.result ≡ 1 ∷ [] = c.downgrade-later.ensures ∙ ap eof_path (pointer ∙ ap next made.1) in
-    rw (c.release.ensures) (released_active c.advance.new.universe c.expect-id.result c.downgrade-later.result
+    rw (c.release.ensures.universe) (released_active c.advance.new.universe c.expect-id.result c.downgrade-later.result
     (λ e. absurd (omega (arith, ap (λ r. get_or r 0 9) (sym first ∙ sym e ∙ second))))
     (rw (c.downgrade-later.ensures, pointer, universe)
     (open_active (advanced c.expect-universe.result.0 c.expect-universe.result.1) (eof_path (next c.expect-universe.result.1))

@@ -54,7 +54,7 @@ release-requires-2 g c =
     let first : c.expect-id.result ≡ 0 ∷ 0 ∷ [] = id ∙ ap eof_path off in
     let deep : c.downgrade.result ≡ 0 ∷ 0 ∷ 0 ∷ [] = c.downgrade.ensures
     ∙ under_first c.expect-below.result c.expect-off.result.0 c.expect-id.result below.0 below.1 id off in
-    rw (c.release.ensures, descended_is) (stays c.advance.new.universe c.expect-id.result c.downgrade.result c.downgrade-2.result
+    rw (c.release.ensures.universe, descended_is) (stays c.advance.new.universe c.expect-id.result c.downgrade.result c.downgrade-2.result
     (λ e. differ c.expect-id.result c.downgrade-2.result 1 0 1 (ap (λ r. get_or r 1 9) first) (ap (λ r. get_or r 1 9) here) (omega arith) (sym e))
     (λ e. differ c.downgrade.result c.downgrade-2.result 1 0 1 (ap (λ r. get_or r 1 9) deep) (ap (λ r. get_or r 1 9) here) (omega arith) (sym e))
     (rw (c.downgrade-2.ensures, pointer, advanced_is)
@@ -77,7 +77,7 @@ release-requires-3 g c =
     let first : c.expect-id.result ≡ 0 ∷ 0 ∷ [] = id ∙ ap eof_path off in
     let deep : c.downgrade.result ≡ 0 ∷ 0 ∷ 0 ∷ [] = c.downgrade.ensures
     ∙ under_first c.expect-below.result c.expect-off.result.0 c.expect-id.result below.0 below.1 id off in
-    rw (c.release-2.ensures, c.release.ensures, descended_is) (released_active
+    rw (c.release-2.ensures.universe, c.release.ensures.universe, descended_is) (released_active
     (released (descended c.advance.new.universe c.expect-id.result) c.downgrade.result) c.downgrade-2.result c.downgrade-3.result
     (λ e. differ c.downgrade-2.result c.downgrade-3.result 0 0 1 (ap (λ r. get_or r 0 9) here) (ap (λ r. get_or r 0 9) rest) (omega arith) (sym e))
     (stays c.advance.new.universe c.expect-id.result c.downgrade.result c.downgrade-3.result
