@@ -6,7 +6,6 @@ ghost use Rattle.vx_sequence.specs.Universe.{IsActive, IsLeast, IsUniverse};
 use crate::attempt::{Attempt, Receipt};
 use crate::errors::OrderError;
 use crate::ordered::Order;
-use vx_path::owned::Path;
 use vx_sequence::{SequenceError, SequenceId, SequencePointer, Universe};
 use vx_sink::{SegmentSink, SinkError};
 
@@ -77,7 +76,7 @@ impl<S: SegmentSink> Order for LocalOrder<S> {
         bytes: &[u8],
     ) -> Result<Attempt, (SequenceId, OrderError)> {
         if let Some(least) = smaller_path(&self.universe, &id) {
-            return match Path::from_slice(self.universe.allocator(), least) {
+            return match self.universe.copy_of(least) {
                 Ok(smaller) => Ok(Attempt::Waiting { id, smaller }),
                 Err(_) => Err((id, OrderError::OutOfMemory)),
             };
@@ -87,7 +86,7 @@ impl<S: SegmentSink> Order for LocalOrder<S> {
             return Err((id, OrderError::TooLarge(u128::from(number))));
         }
         // Memory is taken before the sink is asked.
-        let Ok(path) = Path::from_slice(self.universe.allocator(), id.path()) else {
+        let Ok(path) = self.universe.copy_of(id.path()) else {
             return Err((id, OrderError::OutOfMemory));
         };
         match self.sink.append(bytes) {

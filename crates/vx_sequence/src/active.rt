@@ -5,7 +5,7 @@ ghost use Rattle.vx_path.specs.Path.{under, eof_path, next};
 
 use crate::errors::SequenceError;
 use crate::siblings::sibling;
-use std::alloc::Global;
+use std::alloc::AllocError;
 use std::marker::Model;
 use vx_path::owned::{Path, path_le};
 
@@ -52,9 +52,11 @@ impl Universe {
         least_of(&self.entries)
     }
 
-    /// The allocator that holds the paths, for copies of them.
-    pub fn allocator(&self) -> Global {
-        *self.entries.allocator()
+    /// A copy of a path, in the memory that holds the active ones.
+    pub fn copy_of(&self, path: &[u64]) -> Result<Path, AllocError>
+        ensures { IfOk result (λ p. p ≡ path.now) }
+    {
+        Path::from_slice(*self.entries.allocator(), path)
     }
 
     /// A universe in which this path alone is active, and open.
