@@ -15,7 +15,7 @@ pub fn report(alloc: Global, first: u64, layout: &Layout, segments: &[Blob]) -> 
     ensures { IfOk result (λ text. string_bytes text ≡ report first (lay layout.now) segments.now) }
 {
     let mut out = String::from_str(alloc, "layout\n")?;
-    let tree = layout.display_tree_verbose(alloc, false)?;
+    let tree = layout.display_tree_verbose(alloc, true)?;
     out.push_str(tree.as_str())?;
     out.push_str("segments\n")?;
     push_segments(alloc, &mut out, first, segments)?;
