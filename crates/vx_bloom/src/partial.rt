@@ -3,7 +3,7 @@
 ghost use Rattle.std.specs.Prelude.{nat_eq, ◌≡◌, ◌<◌, ◌≢◌, ◌↔◌, ◌++◌, ◌∷◌, [], List, ℕ, IsTrue, All, Contains, length, replicate, IfOk, OnOk, OnErr, IsErr};
 ghost use lib.Pointwise.{pointwise};
 ghost use Rattle.vx_bloom.specs.Blocks.{Block, no_lanes, full_lanes};
-ghost use Rattle.vx_bloom.specs.Bytes.{filter_bytes, AreBlocks};
+ghost use Rattle.vx_bloom.specs.Bytes.{filter_bytes, filter_at, AreBlocks};
 ghost use Rattle.vx_bloom.specs.Partial.{ReadsFilter};
 ghost use Rattle.vx_bloom.specs.Filter.{block_of, inserted, may_contain, or_blocks, filter_of, SameElements};
 ghost use Rattle.vx_bloom.specs.Options.{blocks_in};
@@ -165,6 +165,7 @@ impl<H: ByteHash> BloomPartial<H> {
     /// The filter that these bytes spell.
     pub fn deserialize(alloc: Global, bytes: &[u8]) -> Result<BloomPartial<H>, PartialError>
         ensures answer { ReadsFilter bytes.now result }
+        ensures blocks { IfOk result (λ p. p ≡ filter_at bytes.now) }
         ensures whole { (p : List Block) → AreBlocks p → filter_bytes p ≡ bytes.now → IfOk result (λ q. q ≡ p) }
     {
         let count = bytes.len() / BLOCK_LEN;
