@@ -1,7 +1,7 @@
 -- Bytes and what is read from them.
 use Rattle.std.proofs.Common.{◌≡◌, ℕ, zero, suc, ◌+◌, ◌*◌, ◌/◌, ◌%◌, ◌^◌, ◌<◌, ◌≤◌, List, [], ◌∷◌, ◌++◌, length, take, drop, map, get_or, refl, sym, ap, ◌∙◌, arith, rules, inl, inr, append_assoc, length-append, length-drop}
 use Rattle.std.specs.Prelude.{All}
-use Rattle.std.specs.Int.{w32, from_le_bytes, to_le_bytes}
+use Rattle.std.specs.Int.{w32, from_le_bytes}
 use Rattle.std.specs.List.{flat_map, range_with_len}
 use Rattle.std.proofs.lemmas.List.FromFn.{map-range_with_len_more}
 use Rattle.std.proofs.lemmas.Grind.{flat_map-append}
@@ -11,7 +11,7 @@ use Rattle.std.proofs.lemmas.List.Elements.{All-head, All-tail, All-nil, All-pus
 use Rattle.std.proofs.lemmas.Nat.{le_bytes_4, from_le_bytes-to_le_bytes_4}
 use Rattle.std.proofs.Math.Seq.{take-add, take-length}
 use Rattle.std.proofs.Math.ListN.{get_or-eq_default}
-use Rattle.vx_bloom.specs.Blocks.{Block, eight}
+use Rattle.vx_bloom.specs.Blocks.{Block}
 use Rattle.vx_bloom.specs.Bytes.{number_bytes, number_at, block_bytes, filter_bytes, block_at, filter_at, IsBlock, AreBlocks}
 
 -- the bytes are numbers below 256

@@ -1,10 +1,10 @@
 -- What a reader sees of a cell of a type is a row value of the type.
-use Rattle.std.proofs.Common.{◌≡◌, ◌&&◌, ◌||◌, Bool, true, false, List, [], ◌∷◌, refl}
+use Rattle.std.proofs.Common.{◌≡◌, ◌&&◌, Bool, true, false, refl}
 use Rattle.vx_model.specs.Words.{all_by}
 use Rattle.vx_model.specs.Ty.{Ty, Tys, boolean, primitive, utf8, binary, list, struct, extension, no_fields, field}
 use Rattle.vx_model.specs.Tree.{Tree, Trees, null_cell, bool_cell, int_cell, text_cell, bytes_cell, list_cell, struct_cell, no_cells, cell, items, fits, fields_fit}
 use Rattle.vx_model.specs.Val.{value, values_in, vals_in}
-use Rattle.vx_bloom.specs.Values.{value_fits, values_fit, is_row_value}
+use Rattle.vx_bloom.specs.Values.{value_fits, values_fit}
 
 left_of : (a b : Bool) → (a && b) ≡ true → a ≡ true
 left_of true b e = refl
