@@ -6,6 +6,7 @@ ghost use Rattle.vx_model.specs.Distinct.{is_listed, first_repeat};
 ghost use Rattle.vx_model.specs.Context.{NamesRepeat};
 
 use crate::encoding::EncodingId;
+use std::alloc::AllocError;
 use std::marker::Model;
 use thiserror::Error;
 
@@ -53,6 +54,16 @@ impl ArrayContext {
         ensures distinct { first_repeat self.now ≡ None }
     {
         self.ids.as_slice()
+    }
+}
+
+impl Clone for ArrayContext {
+    ghost is_clone = { λ c copy. copy ≡ c };
+
+    fn clone(&self) -> Result<ArrayContext, AllocError> {
+        Ok(ArrayContext {
+            ids: Vec::from_slice(*self.ids.allocator(), self.ids.as_slice())?,
+        })
     }
 }
 

@@ -1,0 +1,3 @@
+pub mod JobText
+pub mod JobRead
+pub mod Report

@@ -1,0 +1,10 @@
+//! Jobs of the program, read from JSON, and its reports.
+#![tactic(auto)]
+
+mod error;
+mod job;
+mod report_text;
+
+pub use error::JobError;
+pub use job::{Job, read_job};
+pub use report_text::{refused_report, report};

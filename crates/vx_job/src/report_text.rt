@@ -1,0 +1,60 @@
+//! The text that the program prints.
+
+ghost use Rattle.std.specs.Prelude.{◌≡◌, ◌++◌, ◌+◌, ◌<◌, ◌^◌, string_bytes, length, IfOk, OnOk};
+ghost use Rattle.vx_layout.specs.LayoutView.{lay};
+ghost use Rattle.vx_job.specs.Report.{report, refused_report, segment_line, segment_lines};
+
+use std::alloc::{AllocError, Global};
+use vx_layout::Layout;
+use vx_types::Blob;
+
+/// The report of a write whose first segment has the number `first`.
+#[tactic(auto, using(crate::proofs::Lines::text_rules))]
+pub fn report(alloc: Global, first: u64, layout: &Layout, segments: &[Blob]) -> Result<String, AllocError>
+    requires { first + length segments.now < 2 ^ 64 }
+    ensures { IfOk result (λ text. string_bytes text ≡ report first (lay layout.now) segments.now) }
+{
+    let mut out = String::from_str(alloc, "layout\n")?;
+    let tree = layout.display_tree_verbose(alloc, false)?;
+    out.push_str(tree.as_str())?;
+    out.push_str("segments\n")?;
+    push_segments(alloc, &mut out, first, segments)?;
+    out.push_str("zones\ntrace\n")?;
+    Ok(out)
+}
+
+/// The report of a refused write: the name of the refusal, and the segments that stand.
+#[tactic(auto, using(crate::proofs::Lines::text_rules))]
+pub fn refused_report(alloc: Global, name: &str, first: u64, segments: &[Blob]) -> Result<String, AllocError>
+    requires { first + length segments.now < 2 ^ 64 }
+    ensures { IfOk result (λ text. string_bytes text ≡ refused_report name.now first segments.now) }
+{
+    let mut out = String::from_str(alloc, "refused ")?;
+    out.push_str(name)?;
+    out.push_str("\nsegments\n")?;
+    push_segments(alloc, &mut out, first, segments)?;
+    out.push_str("trace\n")?;
+    Ok(out)
+}
+
+#[tactic(auto, using(crate::proofs::Lines::line_rules))]
+fn push_segments(alloc: Global, out: &mut String, first: u64, segments: &[Blob]) -> Result<(), AllocError>
+    requires { first + length segments.now < 2 ^ 64 }
+    ensures { OnOk result (string_bytes out.new ≡ string_bytes out.old ++ segment_lines first segments.now) }
+{
+    for i in 0..segments.len() {
+        push_segment(alloc, out, first + i as u64, &segments[i])?;
+    }
+    Ok(())
+}
+
+#[tactic(auto, using(crate::proofs::Lines::text_rules))]
+fn push_segment(alloc: Global, out: &mut String, number: u64, segment: &Blob) -> Result<(), AllocError>
+    ensures { OnOk result (string_bytes out.new ≡ string_bytes out.old ++ segment_line number segment.now) }
+{
+    write!(out, "{number} ")?;
+    let text = hex::encode(alloc, segment.as_slice())?;
+    out.push_str(&text)?;
+    out.push_str("\n")?;
+    Ok(())
+}

@@ -1,0 +1,5 @@
+pub mod FlatView
+pub mod LayoutView
+pub mod Errors
+pub mod Shown
+pub mod Display

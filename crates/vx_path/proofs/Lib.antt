@@ -1,0 +1,4 @@
+pub mod Lists
+pub mod Order
+pub mod Path
+pub mod Sort

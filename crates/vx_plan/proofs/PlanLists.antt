@@ -1,0 +1,137 @@
+-- Faults, numbers and pairs of several plans, joined.
+use Rattle.std.proofs.Common.{◌≡◌, ℕ, ◌+◌, ◌<◌, ◌≤◌, ◌^◌, ◌⊎◌, Bool, true, false, cond, List, [], ◌∷◌, ◌++◌, map, length, Option, Some, None, refl, sym, ap, ap₂, ◌∙◌, subst, inl, inr, ⊎_elim, arith, append_assoc, length-append, eq-eqb}
+use Rattle.std.proofs.lemmas.List.{append-nil, length-map}
+use Rattle.vx_model.specs.Ty.{Ty}
+use Rattle.vx_model.specs.Tree.{Tree}
+use Rattle.vx_model.specs.Val.{Val, value}
+use Rattle.vx_model.specs.Piece.{Piece, cells, row_values}
+use Rattle.vx_path.specs.Lists.{In}
+use Rattle.vx_path.proofs.Lists.{in_left, in_right, in_cases}
+use Rattle.vx_path.specs.Path.{Eof}
+use Rattle.vx_tree.specs.LayoutTree.{Lay, lays_of, gathered, layout, no_layouts, chunked_kind, chunked_layout}
+use Rattle.vx_tree.specs.Real.{Of}
+use Rattle.vx_tree.specs.Codec.{Codec}
+use Rattle.vx_tree.specs.Rows.{and_then, all_there, counted, joined, chunked_rows, rows, each_rows}
+use Rattle.vx_plan.specs.PlanData.{Setting, Pair, Plan, Item, Fault, Node, row_total, stream_values}
+use Rattle.vx_plan.specs.ChunkedNode.{all_pairs, all_faults, all_numbers, all_layouts}
+use Rattle.vx_plan.specs.Valid.{Fit}
+use Rattle.vx_plan.specs.Statements.{Within}
+
+-- each chunk of a stream is a whole one of the type
+abbrev pub ItemsOf : Ty → List Item → Type 0
+ItemsOf t [] = Unit {0}
+ItemsOf t (i ∷ is) = Of t i.1 × ItemsOf t is
+
+-- each pair's path is looked up to its bytes
+abbrev pub Holds : (List ℕ → Option (List ℕ)) → List Pair → Type 0
+Holds look [] = Unit {0}
+Holds look (p ∷ ps) = (look p.0 ≡ Some p.1) × Holds look ps
+
+pub nil_left : {A : Type 0} (xs ys : List A) → xs ++ ys ≡ [] → xs ≡ []
+nil_left [] ys e = refl
+nil_left (x ∷ xs) ys e = cc
+
+pub nil_right : {A : Type 0} (xs ys : List A) → xs ++ ys ≡ [] → ys ≡ []
+nil_right [] ys e = e
+nil_right (x ∷ xs) ys e = cc
+
+pub nil_both : {A : Type 0} (xs ys : List A) → xs ≡ [] → ys ≡ [] → xs ++ ys ≡ []
+nil_both xs ys e f = rw (e, f) refl
+
+pub fit_left : (ms ns : List ℕ) → Fit (ms ++ ns) → Fit ms
+fit_left [] ns h = tt
+fit_left (m ∷ ms) ns h = (h.0, fit_left ms ns h.1)
+
+pub fit_right : (ms ns : List ℕ) → Fit (ms ++ ns) → Fit ns
+fit_right [] ns h = h
+fit_right (m ∷ ms) ns h = fit_right ms ns h.1
+
+pub fit_both : (ms ns : List ℕ) → Fit ms → Fit ns → Fit (ms ++ ns)
+fit_both [] ns g h = h
+fit_both (m ∷ ms) ns g h = (g.0, fit_both ms ns g.1 h)
+
+pub holds_left : (look : List ℕ → Option (List ℕ)) (ps qs : List Pair) → Holds look (ps ++ qs) → Holds look ps
+holds_left look [] qs h = tt
+holds_left look (p ∷ ps) qs h = (h.0, holds_left look ps qs h.1)
+
+pub holds_right : (look : List ℕ → Option (List ℕ)) (ps qs : List Pair) → Holds look (ps ++ qs) → Holds look qs
+holds_right look [] qs h = h
+holds_right look (p ∷ ps) qs h = holds_right look ps qs h.1
+
+pub counted_same : (n : ℕ) (vs : List Val) → length vs ≡ n → counted n vs ≡ Some vs
+counted_same n vs e = rw (eq-eqb (length vs) n e) refl
+
+-- a layout gives as many rows as it counts
+pub counted_count : (n : ℕ) (vs ws : List Val) → counted n vs ≡ Some ws → length ws ≡ n
+counted_count n vs ws e = grind (arith)
+
+pub joined-one : {A : Type 0} (xs : List A) → joined (xs ∷ []) ≡ xs
+joined-one xs = append-nil xs
+
+pub stream_values-one : (i : Item) → stream_values (i ∷ []) ≡ row_values i.1
+stream_values-one i = append-nil (row_values i.1)
+
+pub stream_values-append : (xs ys : List Item) → stream_values (xs ++ ys) ≡ stream_values xs ++ stream_values ys
+stream_values-append [] ys = refl
+stream_values-append (x ∷ xs) ys = ap (λ r. row_values x.1 ++ r) (stream_values-append xs ys) ∙ sym (append_assoc (row_values x.1) (stream_values xs) (stream_values ys))
+
+pub row_total-append : (xs ys : List Item) → row_total (xs ++ ys) ≡ row_total xs + row_total ys
+row_total-append [] ys = omega arith
+row_total-append (x ∷ xs) ys = let h : row_total (xs ++ ys) ≡ row_total xs + row_total ys = row_total-append xs ys in omega arith
+
+pub length-stream_values : (items : List Item) → length (stream_values items) ≡ row_total items
+length-stream_values [] = refl
+length-stream_values (i ∷ is) =
+    let h : length (stream_values is) ≡ row_total is = length-stream_values is in
+    let g : length (row_values i.1 ++ stream_values is) ≡ length (row_values i.1) + length (stream_values is) = length-append (row_values i.1) (stream_values is) in
+    let k : length (row_values i.1) ≡ length (cells i.1) = length-map (cells i.1) value in
+    omega arith
+
+-- Several layouts, each of which gives its rows.
+abbrev pub ReadAll : {A : Type 0} → Codec → (A → Option (List ℕ)) → List (Lay A) → List (List Val) → Type 0
+ReadAll c look [] [] = Unit {0}
+ReadAll c look [] (v ∷ vs) = ⊥
+ReadAll c look (l ∷ ls) [] = ⊥
+ReadAll c look (l ∷ ls) (v ∷ vs) = (rows c look l ≡ Some v) × ReadAll c look ls vs
+
+pub all_there_read : {A : Type 0} (c : Codec) (look : A → Option (List ℕ)) (ls : List (Lay A)) (vs : List (List Val))
+    → ReadAll c look ls vs → all_there (each_rows c look (lays_of ls)) ≡ Some vs
+all_there_read c look [] [] h = refl
+all_there_read c look [] (v ∷ vs) h = absurd h
+all_there_read c look (l ∷ ls) [] h = absurd h
+all_there_read c look (l ∷ ls) (v ∷ vs) h =
+    ap (λ r. all_there (r ∷ each_rows c look (lays_of ls))) h.0
+    ∙ ap (and_then (λ xs. Some (v ∷ xs))) (all_there_read c look ls vs h.1)
+
+-- one layout is read itself, none or several joined
+pub gathered_reads : {A : Type 0} (c : Codec) (look : A → Option (List ℕ)) (t : Ty) (n : ℕ) (ls : List (Lay A)) (vs : List (List Val))
+    → ReadAll c look ls vs → length (joined vs) ≡ n → rows c look (gathered t n ls) ≡ Some (joined vs)
+gathered_reads c look t n [] [] h e = counted_same n [] e
+gathered_reads c look t n [] (v ∷ vs) h e = absurd h
+gathered_reads c look t n (l ∷ ls) [] h e = absurd h
+gathered_reads c look t n (l ∷ []) (v ∷ []) h e = h.0 ∙ ap Some (sym (append-nil v))
+gathered_reads c look t n (l ∷ []) (v ∷ w ∷ vs) h e = absurd h.1
+gathered_reads c look t n (l ∷ k ∷ ls) (v ∷ vs) h e =
+    ap (λ r. and_then (counted n) (and_then chunked_rows r)) (all_there_read c look (l ∷ k ∷ ls) (v ∷ vs) h)
+    ∙ counted_same n (joined (v ∷ vs)) e
+
+-- What holds of the first plans holds of all, plan by plan.
+pub record Grow (ps qs : List Plan) : Type 0 where
+  pub pairs : (x : Pair) → In x (all_pairs ps) → In x (all_pairs qs)
+  pub faultless : all_faults qs ≡ [] → all_faults ps ≡ []
+  pub fit : all_faults qs ≡ [] → Fit (all_numbers qs) → Fit (all_numbers ps)
+
+pub grow_none : (qs : List Plan) → Grow [] qs
+grow_none qs = record { pairs = λ x h. absurd h; faultless = λ e. refl; fit = λ e h. tt }
+
+pub grow_more : (p q : Plan) (ps qs : List Plan) → Within p q → Grow ps qs → Grow (p ∷ ps) (q ∷ qs)
+grow_more p q ps qs a b = record {
+  pairs = λ x h. ⊎_elim (λ l. in_left x q.pairs (all_pairs qs) (a.pairs x l)) (λ r. in_right x q.pairs (all_pairs qs) (b.pairs x r)) (in_cases x p.pairs (all_pairs ps) h);
+  faultless = λ e. nil_both p.faults (all_faults ps) (a.faultless (nil_left q.faults (all_faults qs) e)) (b.faultless (nil_right q.faults (all_faults qs) e));
+  fit = λ e h. fit_both p.numbers (all_numbers ps)
+      (a.fit (nil_left q.faults (all_faults qs) e) (fit_left q.numbers (all_numbers qs) h))
+      (b.fit (nil_right q.faults (all_faults qs) e) (fit_right q.numbers (all_numbers qs) h))
+}
+
+pub within_itself : (p : Plan) → Within p p
+within_itself p = record { pairs = λ x h. h; faultless = λ e. e; fit = λ e h. h }

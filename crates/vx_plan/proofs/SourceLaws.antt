@@ -1,0 +1,160 @@
+-- The laws over whole sources.
+use Rattle.std.proofs.Common.{◌≡◌, ℕ, zero, suc, ◌+◌, ◌<◌, ◌≤◌, ◌^◌, ◌⊎◌, Bool, true, false, List, [], ◌∷◌, ◌++◌, map, length, Option, Some, None, refl, sym, ap, ap₂, ◌∙◌, subst, inl, inr, ⊎_elim, arith, length-append}
+use Rattle.std.proofs.lemmas.Bool.Decides.{nat_tests}
+use Rattle.std.specs.Prelude.{if◌then◌else◌}
+use Rattle.vx_model.specs.Ty.{Ty, ty_eq}
+use Rattle.vx_model.specs.TyLaws.{ty_eq_decides}
+use Rattle.vx_model.specs.Val.{Val}
+use Rattle.vx_model.specs.Piece.{Piece, piece_type, row_values}
+use Rattle.vx_path.specs.Lists.{In, Each}
+use Rattle.vx_path.specs.Path.{meets, Scattered, Region, under, raised}
+use Rattle.vx_path.proofs.Path.{under_apart, meets-sym}
+use Rattle.vx_tree.specs.LayoutTree.{Lay, layout, renamed, row_count, layout_type}
+use Rattle.vx_tree.specs.Rows.{rows, and_then, counted, kind_rows, each_rows}
+use Rattle.vx_tree.proofs.LayoutLaws.{rows_renamed}
+use Rattle.vx_plan.specs.PlanData.{Setting, Item, Pair, Plan, Node, paths, places, stream_values}
+use Rattle.vx_plan.specs.Way.{Way}
+use Rattle.vx_plan.specs.SourcePlan.{plan, source_plan, batch_items, root_eof, source_values, with_root, of_schema}
+use Rattle.vx_plan.specs.Number.{sorted, segments, numbered, number_of, segment_at}
+use Rattle.vx_plan.specs.Valid.{Fit, AllOf, OfSchema, Keeps}
+use Rattle.vx_plan.specs.Statements.{RowsComeBack, PathsDistinct, PathsInRegion, PrefixWithin, FrontOfTaken, CountsRows, Within}
+use Rattle.vx_plan.proofs.Relate.{Cases, induct}
+use Rattle.vx_plan.proofs.PlanLists.{ItemsOf, Holds, counted_count}
+use Rattle.vx_plan.proofs.Spots.{Apart, Lies}
+use Rattle.vx_plan.proofs.FlatLaws.{Reads, Placed, Grows, Typed, flat_reads, flat_placed, flat_grows, flat_typed}
+use Rattle.vx_plan.proofs.ChunkedLaws.{chunked_reads, chunked_placed, chunked_grows, chunked_typed}
+use Rattle.vx_plan.proofs.Numbering.{numbers_hold}
+use Rattle.vx_plan.proofs.Fronts.{sorted_fronts}
+
+-- ---- each law, of every node
+
+pub plan_reads : (s : Setting) → Keeps s → (w : Way) (t : Ty) → Reads s t (plan s w t)
+plan_reads s keeps = induct s (λ t k. Reads s t k) (record {
+  flat_case = λ o t. flat_reads s keeps o t;
+  chunked_case = λ t k h. chunked_reads s t k h
+})
+
+pub plan_placed : (s : Setting) (w : Way) (t : Ty) → Placed t (plan s w t)
+plan_placed s = induct s (λ t k. Placed t k) (record {
+  flat_case = λ o t. flat_placed s o t;
+  chunked_case = λ t k h. chunked_placed t k h
+})
+
+pub plan_grows : (s : Setting) (w : Way) (t : Ty) → Grows t (plan s w t)
+plan_grows s = induct s (λ t k. Grows t k) (record {
+  flat_case = λ o t. flat_grows s o t;
+  chunked_case = λ t k h. chunked_grows t k
+})
+
+pub plan_typed : (s : Setting) (w : Way) (t : Ty) → Typed t (plan s w t)
+plan_typed s = induct s (λ t k. Typed t k) (record {
+  flat_case = λ o t. flat_typed s o t;
+  chunked_case = λ t k h. chunked_typed t k h
+})
+
+-- ---- the batches of a source
+
+pub items_of : (t : Ty) (i : ℕ) (bs : List Piece) → AllOf t bs → ItemsOf t (batch_items i bs)
+items_of t i [] h = tt
+items_of t i (b ∷ bs) h = (h.0, items_of t (suc i) bs h.1)
+
+pub batch_values : (i : ℕ) (bs : List Piece) → stream_values (batch_items i bs) ≡ source_values bs
+batch_values i [] = refl
+batch_values i (b ∷ bs) = ap (λ r. row_values b ++ r) (batch_values (suc i) bs)
+
+pub batch_items-append : (i : ℕ) (bs cs : List Piece) → (ds : List Item) × (batch_items i (bs ++ cs) ≡ batch_items i bs ++ ds)
+batch_items-append i [] cs = (batch_items i cs, refl)
+batch_items-append i (b ∷ bs) cs =
+    let r : (ds : List Item) × (batch_items (suc i) (bs ++ cs) ≡ batch_items (suc i) bs ++ ds) = batch_items-append (suc i) bs cs in
+    (r.0, ap (λ (z : List Item). (0 ∷ i ∷ [], b) ∷ z) r.1)
+
+batch_path : (i : ℕ) (bs : List Piece) (p : List ℕ) → In p (places (batch_items i bs)) → (j : ℕ) × (i ≤ j) × (p ≡ under (0 ∷ []) j)
+batch_path i [] p h = absurd h
+batch_path i (b ∷ bs) p h = ⊎_elim (λ e. (i, omega arith, e))
+    (λ t. let r : (j : ℕ) × (suc i ≤ j) × (p ≡ under (0 ∷ []) j) = batch_path (suc i) bs p t in (r.0, (let h : suc i ≤ r.0 = r.1 in omega arith), r.2)) h
+
+batches_scattered : (i : ℕ) (bs : List Piece) → Scattered (places (batch_items i bs))
+batches_scattered i [] = tt
+batches_scattered i (b ∷ bs) =
+    (λ q h. let r : (j : ℕ) × (suc i ≤ j) × (q ≡ under (0 ∷ []) j) = batch_path (suc i) bs q h in
+        let l : suc i ≤ r.0 = r.1 in
+        subst (λ z. meets (0 ∷ i ∷ []) z ≡ false) (sym r.2) (under_apart (0 ∷ []) i r.0 (omega arith)),
+     batches_scattered (suc i) bs)
+
+off_root : (j n : ℕ) → meets (0 ∷ j ∷ []) ((1 + n) ∷ []) ≡ false
+off_root j n = grind (arith, nat_tests)
+
+pub batches_apart : (bs : List Piece) → Apart (places (batch_items 0 bs)) root_eof
+batches_apart bs = record {
+  scattered = batches_scattered 0 bs;
+  off = λ p h n. let r : (j : ℕ) × (0 ≤ j) × (p ≡ under (0 ∷ []) j) = batch_path 0 bs p h in
+      subst (λ z. meets z (raised root_eof n) ≡ false) (sym r.2) (off_root r.0 n)
+}
+
+-- ---- the laws
+
+source_lies : (s : Setting) (w : Way) (t : Ty) (m : Bool) (batches : List Piece) (ended : Bool)
+    → Lies (Region (places (batch_items 0 batches)) root_eof) (paths (source_plan s w t m batches ended).pairs)
+source_lies s w t m batches ended = (plan_placed s w t).placed m (batch_items 0 batches) ended root_eof (batches_apart batches)
+
+pub paths_distinct : PathsDistinct
+paths_distinct s w t m batches ended = (source_lies s w t m batches ended).scattered
+
+pub paths_in_region : PathsInRegion
+paths_in_region s w t m batches ended = (source_lies s w t m batches ended).within
+
+pub rows_come_back : RowsComeBack
+rows_come_back s w t m batches first keeps of clean fit =
+    let p : Plan = source_plan s w t m batches true in
+    rows_renamed s.codec (segment_at first (segments p)) (number_of p.pairs first) p.layout
+    ∙ (plan_reads s keeps w t).reads m (batch_items 0 batches) root_eof (items_of t 0 batches of) clean fit.1
+        (λ x. segment_at first (segments p) (number_of p.pairs first x)) (numbers_hold p first (paths_distinct s w t m batches true))
+    ∙ ap Some (batch_values 0 batches)
+
+pub prefix_within : PrefixWithin
+prefix_within s w t m taken later ended =
+    let r : (ds : List Item) × (batch_items 0 (taken ++ later) ≡ batch_items 0 taken ++ ds) = batch_items-append 0 taken later in
+    let h : Within (plan s w t m (batch_items 0 taken) false root_eof) (plan s w t m (batch_items 0 (taken ++ later)) ended root_eof) =
+        subst (λ z. Within (plan s w t m (batch_items 0 taken) false root_eof) (plan s w t m z ended root_eof)) (sym r.1)
+            ((plan_grows s w t).grows m (batch_items 0 taken) r.0 ended root_eof) in
+    record {
+      pairs = h.pairs;
+      faultless = h.faultless;
+      fit = λ e f. ((let a : length (taken ++ later) < 2 ^ 64 = f.0 in let b : length (taken ++ later) ≡ length taken + length later = length-append taken later in omega arith), h.fit e f.1)
+    }
+
+pub front_of_taken : FrontOfTaken
+front_of_taken s w t m taken later ended done rest e f =
+    sorted_fronts (source_plan s w t m (taken ++ later) ended).pairs (source_plan s w t m taken false).pairs done rest
+        (paths_distinct s w t m (taken ++ later) ended) (paths_distinct s w t m taken false) (prefix_within s w t m taken later ended).pairs e f
+
+-- what a layout gives is as many rows as it counts
+rows_count : {A : Type 0} (c : _) (look : A → Option (List ℕ)) (l : Lay A) (vs : List Val) → rows c look l ≡ Some vs → length vs ≡ row_count l
+rows_count c look (layout k t n names ls) vs e = go (kind_rows c look k t n names (each_rows c look ls)) e
+  where
+    go : (r : Option (List Val)) → and_then (counted n) r ≡ Some vs → length vs ≡ n
+    go None e = cc
+    go (Some ws) e = counted_count n ws vs e
+
+pub counts_rows : CountsRows
+counts_rows s w t m batches keeps of clean fit =
+    let p : Plan = source_plan s w t m batches true in
+    ((plan_typed s w t).typed m (batch_items 0 batches) true root_eof,
+     sym (rows_count s.codec (λ x. segment_at 0 (segments p) (number_of p.pairs 0 x)) p.layout (source_values batches)
+        (sym (rows_renamed s.codec (segment_at 0 (segments p)) (number_of p.pairs 0) p.layout) ∙ rows_come_back s w t m batches 0 keeps of clean fit)))
+
+-- ---- batches of the schema
+
+schema_step : (t : Ty) (b : Piece) (rest : List Piece) (f : Bool) → ty_eq (piece_type b) t ≡ f → of_schema t (b ∷ rest) ≡ (if f then b ∷ of_schema t rest else [])
+schema_step t b rest f e = ap (λ g. if g then b ∷ of_schema t rest else []) e
+
+-- batches of the schema are all taken
+pub of_schema_all : (t : Ty) (bs : List Piece) → OfSchema t bs → of_schema t bs ≡ bs
+of_schema_all t [] h = refl
+of_schema_all t (b ∷ bs) h = schema_step t b bs true ((ty_eq_decides (piece_type b) t).1 h.0) ∙ ap (λ r. b ∷ r) (of_schema_all t bs h.1)
+
+-- and those before one of another type
+pub of_schema_until : (t : Ty) (bs : List Piece) (b : Piece) (rest : List Piece) → OfSchema t bs → ty_eq (piece_type b) t ≡ false → of_schema t (bs ++ (b ∷ rest)) ≡ bs
+of_schema_until t [] b rest h e = schema_step t b rest false e
+of_schema_until t (c ∷ bs) b rest h e =
+    schema_step t c (bs ++ (b ∷ rest)) true ((ty_eq_decides (piece_type c) t).1 h.0) ∙ ap (λ r. c ∷ r) (of_schema_until t bs b rest h.1 e)

@@ -1,0 +1,10 @@
+pub mod PlanData
+pub mod Way
+pub mod Walk
+pub mod FlatNode
+pub mod ChunkedNode
+pub mod SourcePlan
+pub mod Number
+pub mod Valid
+pub mod Statements
+pub mod InOrder

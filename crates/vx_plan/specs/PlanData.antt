@@ -1,0 +1,105 @@
+-- What is written of a stream: the data of a plan.
+use Rattle.std.specs.Prelude.{ℕ, ◌+◌, ◌^◌, ◌<◌, ◌≡◌, ◌&&◌, Bool, true, false, if◌then◌else◌, List, [], ◌∷◌, ◌++◌, length, map, Option, Some, None}
+use Rattle.vx_model.specs.declared.encoding.EncodingId.{EncodingId}
+use Rattle.vx_model.specs.Ty.{Ty}
+use Rattle.vx_model.specs.Val.{Val}
+use Rattle.vx_model.specs.Piece.{Piece, cells, row_values}
+use Rattle.vx_path.specs.Path.{Eof}
+use Rattle.vx_tree.specs.LayoutTree.{Lay}
+use Rattle.vx_tree.specs.Codec.{Codec}
+
+-- What a write is given beside its strategy and its schema.
+pub record Setting : Type 0 where
+  pub codec : Codec
+  -- the encodings that segments may use, in their order
+  pub encodings : List EncodingId
+  -- the ids of the aggregates that zone tables may have; None: all
+  pub allowed : Option (List (List ℕ))
+  -- the compressor's image of a chunk, by the compressor's number
+  pub image : ℕ → Piece → Piece
+  -- the hash of filters
+  pub hash : List ℕ → ℕ
+
+-- What a stream may have wrong
+pub data What : Type 0 where
+  -- a struct node has another type
+  not_struct : What
+  -- two columns have this name
+  duplicate_field : List ℕ → What
+  -- a flat node was handed a second chunk
+  many_chunks : What
+  -- a list node's stream ended without a chunk
+  empty_list : What
+  -- a recording zoned node was handed a chunk of so many rows
+  zone_cut : ℕ → What
+  -- an aggregate of this id isn't allowed
+  forbidden_aggregate : List ℕ → What
+  -- the first encoding of a stored chunk that isn't listed
+  forbidden_encoding : EncodingId → What
+
+-- where in its node's stream a fault stands
+pub data Place : Type 0 where
+  at_start : Place
+  -- at the chunk of this path
+  at_chunk : List ℕ → Place
+  at_end : Place
+
+pub record Fault : Type 0 where
+  pub what : What
+  pub place : Place
+
+abbrev pub fault : What → Place → Fault
+fault w p = record { what = w; place = p }
+
+-- a segment's path and its bytes
+abbrev pub Pair : Type 0
+Pair = List ℕ × List ℕ
+
+-- What is written of a stream. The layout means something only where the stream has ended and has no fault.
+pub record Plan : Type 0 where
+  pub pairs : List Pair
+  pub faults : List Fault
+  -- segments are named by their paths
+  pub layout : Lay (List ℕ)
+  -- row counts, offsets, sizes, lengths of segments and indices of paths, which must fit 64 bits
+  pub numbers : List ℕ
+  -- the held sizes of all chunks that buffering nodes take, summed
+  pub reserved : ℕ
+
+-- a chunk and its path
+abbrev pub Item : Type 0
+Item = List ℕ × Piece
+
+-- What a node writes: from its mark, its stream, whether that has ended, and its eof path.
+abbrev pub Node : Type 0
+Node = Bool → List Item → Bool → Eof → Plan
+
+abbrev pub paths : List Pair → List (List ℕ)
+paths [] = []
+paths (p ∷ ps) = p.0 ∷ paths ps
+
+abbrev pub stored : List Pair → List (List ℕ)
+stored [] = []
+stored (p ∷ ps) = p.1 ∷ stored ps
+
+abbrev pub places : List Item → List (List ℕ)
+places [] = []
+places (i ∷ is) = i.0 ∷ places is
+
+-- rows of a stream
+abbrev pub row_total : List Item → ℕ
+row_total [] = 0
+row_total (i ∷ is) = length (cells i.1) + row_total is
+
+-- the row values of a stream
+abbrev pub stream_values : List Item → List Val
+stream_values [] = []
+stream_values (i ∷ is) = row_values i.1 ++ stream_values is
+
+-- a layout, where the stream has ended without a fault
+abbrev pub given : Bool → List Fault → Lay (List ℕ) → Option (Lay (List ℕ))
+given true [] l = Some l
+given ended fs l = None
+
+abbrev pub planned : Bool → Plan → Option (Lay (List ℕ))
+planned ended p = given ended p.faults p.layout

@@ -1,0 +1,53 @@
+-- The laws of what is written.
+use Rattle.std.specs.Prelude.{ℕ, ◌+◌, ◌≡◌, Bool, true, false, List, [], ◌∷◌, ◌++◌, length, Some}
+use Rattle.vx_model.specs.Ty.{Ty}
+use Rattle.vx_model.specs.Piece.{Piece}
+use Rattle.vx_path.specs.Lists.{In, Each}
+use Rattle.vx_path.specs.Path.{Scattered, Region}
+use Rattle.vx_tree.specs.LayoutTree.{row_count, layout_type}
+use Rattle.vx_tree.specs.Rows.{rows}
+use Rattle.vx_plan.specs.PlanData.{Setting, Item, Pair, Plan, paths, places, row_total}
+use Rattle.vx_plan.specs.Way.{Way}
+use Rattle.vx_plan.specs.SourcePlan.{source_plan, batch_items, root_eof, source_values}
+use Rattle.vx_plan.specs.Number.{sorted, segments, numbered, segment_at}
+use Rattle.vx_plan.specs.Valid.{Valid, Fit, AllOf, Keeps}
+
+-- The rows of the numbered layout are the batches' rows, in order.
+abbrev pub RowsComeBack : Type 0
+RowsComeBack = (s : Setting) (w : Way) (t : Ty) (m : Bool) (batches : List Piece) (first : ℕ) → Keeps s → AllOf t batches
+    → (source_plan s w t m batches true).faults ≡ [] → Fit (source_plan s w t m batches true).numbers
+    → rows s.codec (segment_at first (segments (source_plan s w t m batches true))) (numbered (source_plan s w t m batches true) first)
+        ≡ Some (source_values batches)
+
+-- No path of a segment is a prefix of another's, so all are distinct; each goes on from a batch's path or from one of the root's eof paths.
+abbrev pub PathsDistinct : Type 0
+PathsDistinct = (s : Setting) (w : Way) (t : Ty) (m : Bool) (batches : List Piece) (ended : Bool)
+    → Scattered (paths (source_plan s w t m batches ended).pairs)
+
+abbrev pub PathsInRegion : Type 0
+PathsInRegion = (s : Setting) (w : Way) (t : Ty) (m : Bool) (batches : List Piece) (ended : Bool)
+    → Each (Region (places (batch_items 0 batches)) root_eof) (paths (source_plan s w t m batches ended).pairs)
+
+-- What holds of the first batches, the source not having ended, and of all.
+pub record Within (p q : Plan) : Type 0 where
+  pub pairs : (x : Pair) → In x p.pairs → In x q.pairs
+  pub faultless : q.faults ≡ [] → p.faults ≡ []
+  pub fit : q.faults ≡ [] → Fit q.numbers → Fit p.numbers
+
+abbrev pub PrefixWithin : Type 0
+PrefixWithin = (s : Setting) (w : Way) (t : Ty) (m : Bool) (taken later : List Piece) (ended : Bool)
+    → Within (source_plan s w t m taken false) (source_plan s w t m (taken ++ later) ended)
+
+-- A front of all sorted pairs that lies in the plan of the batches taken is a front of its sorted pairs.
+abbrev pub FrontOfTaken : Type 0
+FrontOfTaken = (s : Setting) (w : Way) (t : Ty) (m : Bool) (taken later : List Piece) (ended : Bool) (done rest : List Pair)
+    → sorted (source_plan s w t m (taken ++ later) ended).pairs ≡ done ++ rest
+    → ((x : Pair) → In x done → In x (source_plan s w t m taken false).pairs)
+    → (more : List Pair) × (sorted (source_plan s w t m taken false).pairs ≡ done ++ more)
+
+-- The layout has the schema's type and as many rows as the batches.
+abbrev pub CountsRows : Type 0
+CountsRows = (s : Setting) (w : Way) (t : Ty) (m : Bool) (batches : List Piece) → Keeps s → AllOf t batches
+    → (source_plan s w t m batches true).faults ≡ [] → Fit (source_plan s w t m batches true).numbers
+    → (layout_type (source_plan s w t m batches true).layout ≡ t)
+        × (row_count (source_plan s w t m batches true).layout ≡ length (source_values batches))

@@ -1,0 +1,177 @@
+//! The universe: which paths are active.
+ghost use Rattle.std.specs.Prelude.{◌≡◌, ◌≢◌, ℕ, ◌<◌, List, [], ◌++◌, map, length, slice_index_or, IsTrue, IsSome, MatchOption, IfOk, IfErr, OnOk, OnErr, IsErrOf};
+ghost use Rattle.std.specs.FinMap as map;
+ghost use Rattle.vx_path.specs.Path.{under, eof_path, next};
+
+use crate::errors::SequenceError;
+use crate::siblings::sibling;
+use std::marker::Model;
+use vx_path::owned::{Path, path_le};
+
+/// An active path.
+#[derive(Drop)]
+struct Entry {
+    path: Path,
+    open: bool,
+}
+
+/// The set of active paths, each marked open, as a pointer's, or closed, as an id's that `advance` gave.
+///
+/// No active path is a prefix of another, and behind an open one nothing is active.
+#[derive(Drop)]
+pub struct Universe {
+    entries: Vec<Entry>,
+}
+
+impl Model for Universe {
+    ghost use Rattle.std.specs.Prelude.{Bool};
+    ghost use Rattle.std.specs.FinMap as map;
+    ghost use Rattle.std.specs.Coded.{coded_list, coded_ℕ, coded_bool};
+    ghost use Rattle.vx_sequence.specs.Universe.{path_cmp};
+
+    ghost Value = { map.FinMap path_cmp Bool };
+
+    ghost coded = { map.code (coded_list coded_ℕ) coded_bool };
+
+    ghost use Rattle.vx_sequence.specs.Entries.{active_of, IsKept};
+
+    ghost view = { λ u. active_of u.entries.items };
+
+    ghost invariant = { λ u. IsKept u.entries.items };
+}
+
+impl Universe {
+    ghost use Rattle.vx_sequence.specs.Universe.{IsActive, IsOpen, IsLeast, IsUniverse, place_of, only, advanced, descended, split_from, released};
+
+    /// The least active path.
+    pub fn least(&self) -> Option<&[u64]>
+        ensures least { MatchOption result (self.now ≡ map.empty) (λ p. IsActive self.now p.now × IsLeast self.now p.now) }
+        ensures rules { IsUniverse self.now }
+    {
+        least_of(&self.entries)
+    }
+
+    /// A universe in which this path alone is active, and open.
+    pub(crate) fn only(path: &Path) -> Result<Self, SequenceError>
+        requires { path.now ≢ [] }
+        ensures ok { IfOk result (λ u. u ≡ only (place_of path.now)) }
+        ensures memory { IfErr result (λ e. e ≡ SequenceError.OutOfMemory) }
+    {
+        let mut entries = Vec::new(path.allocator());
+        entries.push(Entry {
+            path: path.clone()?,
+            open: true,
+        })?;
+        Ok(Universe { entries })
+    }
+
+    /// Closes an open path and opens its next sibling, of which it gives a copy.
+    pub(crate) fn advance(&mut self, path: &[u64]) -> Result<Path, SequenceError>
+        requires stem { path.now ≢ [] }
+        requires open { IsOpen self.old path.now }
+        ensures ok { OnOk result (self.new ≡ advanced self.old (place_of path.now)) }
+        ensures next { IfOk result (λ p. p ≡ eof_path (next (place_of path.now))) }
+        ensures room { OnOk result ((place_of path.now).last < u64.MAX) }
+        ensures full { IsErrOf result SequenceError.IndexFull → (place_of path.now).last ≡ u64.MAX }
+        ensures err { OnErr result (self.new ≡ self.old) }
+    {
+        let next = sibling(*self.entries.allocator(), path)?;
+        let copy = next.clone()?;
+        let at = index_of(&self.entries, path);
+        self.entries.push(Entry {
+            path: copy,
+            open: true,
+        })?;
+        self.entries[at].open = false;
+        Ok(next)
+    }
+
+    /// Opens the first child of an active path in its place, and gives a copy of the child's path.
+    pub(crate) fn descend(&mut self, path: &[u64]) -> Result<Path, SequenceError>
+        requires { IsActive self.old path.now }
+        ensures ok { OnOk result (self.new ≡ descended self.old path.now) }
+        ensures child { IfOk result (λ p. p ≡ under path.now 0) }
+        ensures memory { IfErr result (λ e. e ≡ SequenceError.OutOfMemory) }
+        ensures err { OnErr result (self.new ≡ self.old) }
+    {
+        let child = Path::child(*self.entries.allocator(), path, 0)?;
+        let copy = child.clone()?;
+        let at = index_of(&self.entries, path);
+        self.entries[at] = Entry {
+            path: copy,
+            open: true,
+        };
+        Ok(child)
+    }
+
+    /// Opens both the first child of an open path, in its place, and its next sibling, and gives copies of these.
+    pub(crate) fn split(&mut self, path: &[u64]) -> Result<(Path, Path), SequenceError>
+        requires stem { path.now ≢ [] }
+        requires open { IsOpen self.old path.now }
+        ensures ok { OnOk result (self.new ≡ split_from self.old (place_of path.now)) }
+        ensures parts { IfOk result (λ r. (r.0 ≡ under path.now 0) × (r.1 ≡ eof_path (next (place_of path.now)))) }
+        ensures room { OnOk result ((place_of path.now).last < u64.MAX) }
+        ensures full { IsErrOf result SequenceError.IndexFull → (place_of path.now).last ≡ u64.MAX }
+        ensures err { OnErr result (self.new ≡ self.old) }
+    {
+        let alloc = *self.entries.allocator();
+        let next = sibling(alloc, path)?;
+        let child = Path::child(alloc, path, 0)?;
+        let next_copy = next.clone()?;
+        let child_copy = child.clone()?;
+        let at = index_of(&self.entries, path);
+        self.entries.push(Entry {
+            path: next_copy,
+            open: true,
+        })?;
+        self.entries[at] = Entry {
+            path: child_copy,
+            open: true,
+        };
+        Ok((child, next))
+    }
+
+    /// Gives an active path up.
+    pub(crate) fn release(&mut self, path: &[u64])
+        requires { IsActive self.old path.now }
+        ensures { self.new ≡ released self.old path.now }
+    {
+        let at = index_of(&self.entries, path);
+        let _entry = self.entries.remove(at);
+    }
+}
+
+ghost use Rattle.vx_path.specs.Lists.{In};
+ghost use Rattle.vx_path.specs.Path.{is_least};
+ghost use Rattle.std.specs.FinMap.{find};
+ghost use Rattle.vx_sequence.specs.Universe.{path_cmp};
+ghost use Rattle.vx_sequence.specs.Entries.{paths, pairs};
+
+/// The least path of the entries.
+#[tactic(auto, using(crate::proofs::Scans::least_rules))]
+fn least_of(entries: &[Entry]) -> Option<&[u64]>
+    ensures { MatchOption result (entries.now ≡ []) (λ p. In p.now (paths entries.now) × IsTrue (is_least p.now (paths entries.now))) }
+{
+    let mut least = entries.first()?.path.as_slice();
+    for entry in entries {
+        if path_le(entry.path.as_slice(), least) {
+            least = entry.path.as_slice();
+        }
+    }
+    Some(least)
+}
+
+/// Where the entry of an active path stands.
+#[tactic(auto, using(crate::proofs::Scans::find_rules))]
+fn index_of(entries: &[Entry], path: &[u64]) -> usize
+    requires { IsSome (find path_cmp path.now (pairs entries.now)) }
+    ensures within { result < length entries.now }
+    ensures found { (d : Entry) → (slice_index_or entries.now result d).path ≡ path.now }
+{
+    for (i, entry) in entries.iter().enumerate() {
+        if entry.path.as_slice() == path {
+            return i;
+        }
+    }
+    unreachable!()
+}

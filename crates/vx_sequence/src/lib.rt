@@ -1,0 +1,14 @@
+//! Sequence ids: in which order segments are written, whoever makes them.
+#![tactic(auto)]
+
+mod active;
+mod errors;
+mod ids;
+mod pointers;
+pub mod runs;
+mod siblings;
+
+pub use active::Universe;
+pub use errors::SequenceError;
+pub use ids::SequenceId;
+pub use pointers::SequencePointer;

@@ -1,0 +1,7 @@
+pub mod Counts
+pub mod Told
+pub mod Source
+pub mod Sink
+pub mod Compressor
+pub mod Fails
+pub mod ContextView

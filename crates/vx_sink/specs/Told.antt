@@ -1,0 +1,15 @@
+-- What an object tells of its contents: a list, or nothing.
+use Rattle.std.specs.Prelude.{◌≡◌, List, [], ◌++◌, Option, Some, None, option_map}
+
+-- these stood in front of what it tells now
+abbrev pub before_told : {A : Type 0} → List A → Option (List A) → Option (List A)
+before_told front told = option_map (λ more. front ++ more) told
+
+-- what it told, and these behind
+abbrev pub then_told : {A : Type 0} → Option (List A) → List A → Option (List A)
+then_told told more = option_map (λ front. front ++ more) told
+
+-- nothing is left, where it tells
+abbrev pub NoneTold : {A : Type 0} → Option (List A) → Type 0
+NoneTold None = Unit {0}
+NoneTold (Some xs) = xs ≡ []

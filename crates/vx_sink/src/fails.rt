@@ -1,0 +1,45 @@
+//! Calls that fail by a list of their numbers.
+
+ghost use Rattle.std.specs.Prelude.{◌≡◌, ℕ, ◌+◌, ◌≤◌, ◌-◌, ◌^◌, min, if◌then◌else◌};
+ghost use Rattle.vx_sink.specs.Fails.{fails_at};
+
+/// Counts calls, and lets those fail whose number is in the list. Numbers begin at 0; at the greatest u64 the
+/// counter stays, and no call fails.
+#[derive(Debug, Drop)]
+pub struct Fails {
+    list: Vec<u64>,
+    calls: u64,
+    count: u64,
+    ghost counted: { count ≤ calls },
+}
+
+impl Fails {
+    pub fn new(list: Vec<u64>) -> Fails
+        ensures list { result.list.items ≡ list.items }
+        ensures calls { result.calls ≡ 0 }
+        ensures count { result.count ≡ 0 }
+    {
+        Fails {
+            list,
+            calls: 0,
+            count: 0,
+        }
+    }
+
+    /// Counts a call, and tells whether it fails.
+    pub fn call(&mut self) -> bool
+        ensures fails { result ≡ fails_at self.old.list.items self.old.calls }
+        ensures calls { self.new.calls ≡ min (self.old.calls + 1) (2 ^ 64 - 1) }
+        ensures count { self.new.count ≡ (if result then self.old.count + 1 else self.old.count) }
+        ensures list { self.new.list.items ≡ self.old.list.items }
+    {
+        let fails = self.calls < u64::MAX && self.list.contains(&self.calls);
+        if self.calls < u64::MAX {
+            self.calls += 1;
+        }
+        if fails {
+            self.count += 1;
+        }
+        fails
+    }
+}

@@ -1,0 +1,62 @@
+ghost use Rattle.std.specs.Prelude.{◌≡◌, ℕ, ◌+◌, [], Some, IsTrue};
+ghost use Rattle.vx_sink.specs.Fails.{fails_at};
+
+use crate::fails::Fails;
+use crate::sink::{SegmentSink, SinkError};
+use vx_model::{Blob, SegmentId};
+
+/// Segments in memory.
+#[derive(Debug, Drop)]
+pub struct MemorySink {
+    next: u64,
+    segments: Vec<Blob>,
+    fails: Fails,
+}
+
+impl MemorySink {
+    /// No segments, the first of which gets the number `first`; the appends whose numbers are in `fail` fail.
+    pub fn new(first: u64, fail: Vec<u64>) -> MemorySink
+        ensures next { ⟦<MemorySink as SegmentSink>⟧.next result ≡ first }
+        ensures segments { ⟦<MemorySink as SegmentSink>⟧.segments result ≡ Some [] }
+        ensures faults { ⟦<MemorySink as SegmentSink>⟧.faults result ≡ 0 }
+        ensures may_fail { (k : ℕ) → ⟦<MemorySink as SegmentSink>⟧.may_fail result k → IsTrue (fails_at fail.items k) }
+    {
+        let segments = Vec::new(*fail.allocator());
+        MemorySink {
+            next: first,
+            segments,
+            fails: Fails::new(fail),
+        }
+    }
+
+    pub fn segments(&self) -> &[Blob]
+        ensures { ⟦<MemorySink as SegmentSink>⟧.segments self.now ≡ Some result.now }
+    {
+        self.segments.as_slice()
+    }
+}
+
+impl SegmentSink for MemorySink {
+    ghost next = { λ s. s.next };
+
+    ghost segments = { λ s. Some s.segments.items };
+
+    ghost faults = { λ s. s.fails.count };
+
+    ghost may_fail = { λ s k. IsTrue (fails_at s.fails.list.items (s.fails.calls + k)) };
+
+    fn next_id(&self) -> u64 {
+        self.next
+    }
+
+    fn append(&mut self, bytes: &[u8]) -> Result<SegmentId, SinkError> {
+        if self.fails.call() {
+            return Err(SinkError::Failed);
+        }
+        let segment = Blob::from_slice(*self.segments.allocator(), bytes)?;
+        self.segments.push(segment)?;
+        let id = SegmentId(self.next as u32);
+        self.next += 1;
+        Ok(id)
+    }
+}

@@ -1,0 +1,45 @@
+ghost use Rattle.std.specs.Prelude.{◌≡◌, ℕ, ◌+◌, IsTrue};
+ghost use Rattle.vx_sink.specs.Fails.{fails_at};
+ghost use Rattle.vx_sink.specs.Compressor.{same_rows};
+
+use crate::compressor::{CompressError, CompressorPlugin};
+use crate::fails::Fails;
+use vx_types::Chunk;
+
+/// A compressor whose image of a chunk is the chunk itself.
+#[derive(Debug, Drop)]
+pub struct PlainCompressor {
+    fails: Fails,
+}
+
+impl PlainCompressor {
+    /// The calls whose numbers are in `fail` fail.
+    pub fn new(fail: Vec<u64>) -> PlainCompressor
+        ensures kind { ⟦<PlainCompressor as CompressorPlugin>⟧.kind result ≡ 0 }
+        ensures faults { ⟦<PlainCompressor as CompressorPlugin>⟧.faults result ≡ 0 }
+        ensures may_fail { (k : ℕ) → ⟦<PlainCompressor as CompressorPlugin>⟧.may_fail result k → IsTrue (fails_at fail.items k) }
+    {
+        PlainCompressor {
+            fails: Fails::new(fail),
+        }
+    }
+}
+
+impl CompressorPlugin for PlainCompressor {
+    ghost kind = { λ _. 0 };
+
+    ghost image = { λ _ _ p. p };
+
+    ghost faults = { λ c. c.fails.count };
+
+    ghost may_fail = { λ c k. IsTrue (fails_at c.fails.list.items (c.fails.calls + k)) };
+
+    ghost keeps = { λ _ _ p sound. same_rows p sound };
+
+    fn compress_chunk(&mut self, _which: u32, chunk: &Chunk) -> Result<Chunk, CompressError> {
+        if self.fails.call() {
+            return Err(CompressError::Failed);
+        }
+        Ok(chunk.clone()?)
+    }
+}

@@ -1,0 +1,86 @@
+ghost use Rattle.std.specs.Prelude.{◌≡◌, ℕ, ◌+◌, ◌<◌, ◌^◌, List, Option, IsTrue, IfOk};
+ghost use Rattle.vx_sink.specs.Counts.{Counts};
+ghost use Rattle.vx_sink.specs.Sink.{sink_failed, next_after, segments_after};
+
+use std::alloc::{AllocError, AllocFailed};
+use thiserror::Error;
+use vx_model::SegmentId;
+
+/// Why a sink took no segment.
+#[derive(Debug, Drop, Error)]
+pub enum SinkError {
+    /// The sink failed; its count of faults says so.
+    #[error("the sink failed")]
+    Failed,
+    #[error("out of memory")]
+    OutOfMemory,
+}
+
+impl From<AllocError> for SinkError {
+    ghost use Rattle.std.specs.Prelude.{◌≡◌};
+    ghost use Rattle.vx_sink.specs.declared.sink.SinkError.TheVariants.{OutOfMemory};
+
+    ghost from_gives = { λ _ e. e ≡ OutOfMemory };
+
+    fn from(_error: AllocError) -> SinkError {
+        SinkError::OutOfMemory
+    }
+}
+
+impl<T: Drop> From<AllocFailed<T>> for SinkError {
+    ghost use Rattle.std.specs.Prelude.{◌≡◌};
+    ghost use Rattle.vx_sink.specs.declared.sink.SinkError.TheVariants.{OutOfMemory};
+
+    ghost from_gives = { λ _ e. e ≡ OutOfMemory };
+
+    fn from(_error: AllocFailed<T>) -> SinkError {
+        SinkError::OutOfMemory
+    }
+}
+
+/// Segments, numbered in the order in which they are appended.
+pub trait SegmentSink {
+    /// The number of the next segment.
+    ghost next: { Self → ℕ };
+
+    /// The segments, where the sink tells them.
+    ghost segments: { Self → Option (List (List ℕ)) };
+
+    /// How often the sink failed.
+    ghost faults: { Self → ℕ };
+
+    /// Whether the append after so many others may fail.
+    ghost may_fail: { Self → ℕ → Type 0 };
+
+    /// The number of the next segment.
+    fn next_id(&self) -> u64
+        ensures { result ≡ next self.now };
+
+    /// Puts the bytes behind the segments. An error changes nothing but the count of faults.
+    fn append(&mut self, bytes: &[u8]) -> Result<SegmentId, SinkError>
+        requires { next self.old < 2 ^ 32 }
+        ensures number { IfOk result (λ id. id.0 ≡ next self.old) }
+        ensures next { next self.new ≡ next_after (next self.old) result }
+        ensures segments { segments self.new ≡ segments_after (segments self.old) bytes.now result }
+        ensures cause { Counts (faults self.old) (faults self.new) (sink_failed result) }
+        ensures fails { IsTrue (sink_failed result) → may_fail self.old 0 }
+        ensures later { (k : ℕ) → may_fail self.new k → may_fail self.old (k + 1) };
+}
+
+impl<S: SegmentSink> SegmentSink for &mut S {
+    ghost next = { λ s. S.next s.now };
+
+    ghost segments = { λ s. S.segments s.now };
+
+    ghost faults = { λ s. S.faults s.now };
+
+    ghost may_fail = { λ s k. S.may_fail s.now k };
+
+    fn next_id(&self) -> u64 {
+        (**self).next_id()
+    }
+
+    fn append(&mut self, bytes: &[u8]) -> Result<SegmentId, SinkError> {
+        (**self).append(bytes)
+    }
+}

@@ -1,0 +1,17 @@
+pub mod Scripts
+pub mod Stuck
+pub mod Steps
+pub mod Sorted
+pub mod Runs
+pub mod Names
+pub mod Fit
+pub mod Leaves
+pub mod Born
+pub mod Chunks
+pub mod Columns
+pub mod Machine
+pub mod Counting
+pub mod Refusals
+pub mod Queues
+pub mod Picks
+pub mod Befores

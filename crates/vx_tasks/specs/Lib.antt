@@ -1,0 +1,11 @@
+pub mod Task
+pub mod State
+pub mod Run
+pub mod Rules
+pub mod Laws
+pub mod Nodes
+pub mod Good
+pub mod NodeLaws
+pub mod Runs
+pub mod Broken
+pub mod Queues

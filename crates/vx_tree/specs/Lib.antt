@@ -1,0 +1,4 @@
+pub mod LayoutTree
+pub mod Real
+pub mod Codec
+pub mod Rows

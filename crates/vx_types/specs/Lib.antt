@@ -1,0 +1,3 @@
+pub mod ChunkView
+pub mod Segment
+pub mod Encoding

@@ -1,0 +1,43 @@
+-- Errors of a write, by what gave them.
+use Rattle.std.specs.Prelude.{Bool, true, false, Result, Ok, Err}
+use Rattle.vx_sink.specs.declared.source.SourceError.{SourceError}
+use Rattle.vx_sink.specs.declared.source.SourceError.TheVariants as source
+use Rattle.vx_sink.specs.declared.sink.SinkError.{SinkError}
+use Rattle.vx_sink.specs.declared.sink.SinkError.TheVariants as sink
+use Rattle.vx_types.specs.declared.encode.EncodeError.{EncodeError}
+use Rattle.vx_types.specs.declared.encode.EncodeError.TheVariants as encoding
+use Rattle.vx_write.specs.declared.error.WriteError.{WriteError}
+use Rattle.vx_write.specs.declared.error.WriteError.TheVariants.{SourceFault, SinkFault, CompressFault, ForbiddenEncoding, OutOfMemory, Unbuilt}
+
+abbrev pub of_source : SourceError → WriteError
+of_source source.Failed = SourceFault
+of_source source.OutOfMemory = OutOfMemory
+
+abbrev pub of_sink : SinkError → WriteError
+of_sink sink.Failed = SinkFault
+of_sink sink.OutOfMemory = OutOfMemory
+
+abbrev pub of_encode : EncodeError → WriteError
+of_encode (encoding.EncodingNotListed id) = ForbiddenEncoding id
+of_encode encoding.OutOfMemory = OutOfMemory
+
+abbrev pub is_source_fault : WriteError → Bool
+is_source_fault SourceFault = true
+is_source_fault e = false
+
+abbrev pub is_sink_fault : WriteError → Bool
+is_sink_fault SinkFault = true
+is_sink_fault e = false
+
+abbrev pub is_compress_fault : WriteError → Bool
+is_compress_fault CompressFault = true
+is_compress_fault e = false
+
+abbrev pub is_unbuilt : WriteError → Bool
+is_unbuilt Unbuilt = true
+is_unbuilt e = false
+
+-- whether the result is an error of which this holds
+abbrev pub errs : {A E : Type 0} → (E → Bool) → Result A E → Bool
+errs f (Ok x) = false
+errs f (Err e) = f e

@@ -1,0 +1,5 @@
+pub mod FlatView
+pub mod StrategyView
+pub mod Causes
+pub mod InOrder
+pub mod Stream

@@ -1,0 +1,111 @@
+-- What `write_stream` answers.
+use Rattle.std.specs.Prelude.{◌≡◌, ℕ, ◌+◌, ◌^◌, ◌≤◌, ◌⊎◌, ◌&&◌, Bool, true, false, List, [], ◌∷◌, ◌++◌, length, Option, Some}
+use Rattle.vx_model.specs.declared.encoding.EncodingId.{EncodingId}
+use Rattle.vx_model.specs.declared.ptype.PType.{PType}
+use Rattle.vx_model.specs.declared.ptype.PType.TheVariants.{I64}
+use Rattle.vx_model.specs.Ty.{Ty, primitive}
+use Rattle.vx_model.specs.Piece.{Piece, piece_type, cells}
+use Rattle.vx_types.specs.ChunkView.{piece}
+use Rattle.vx_types.specs.Segment.{encode, refused, tree_bytes}
+use Rattle.vx_plan.specs.PlanData.{Setting, Plan}
+use Rattle.vx_plan.specs.Way.{Way, flat, chunked}
+use Rattle.vx_plan.specs.InOrder.{batch_rows}
+use Rattle.vx_plan.specs.Number.{segments}
+use Rattle.vx_sink.specs.Told.{before_told, then_told}
+use Rattle.vx_write.specs.FlatView.{is_default}
+use Rattle.vx_write.specs.declared.error.WriteError.{WriteError}
+use Rattle.vx_write.specs.declared.error.WriteError.TheVariants.{SourceFault, SinkFault, CompressFault, BatchType, NotStruct, DuplicateField, ManyChunks, EmptyList, ZoneCut, ForbiddenAggregate, ForbiddenEncoding, TooLarge, OutOfMemory, Unbuilt}
+
+-- A setting that writes these encodings by the grammar of segments. What it reads, hashes and compresses is left
+-- open, since nothing that is built asks for it.
+pub record Writes (ids : List EncodingId) (s : Setting) : Type 0 where
+  pub encodes : s.codec.encode ≡ encode
+  pub trees : s.codec.tree_part ≡ tree_bytes
+  pub refuses : s.codec.refused ≡ refused
+  pub listed : s.encodings ≡ ids
+
+-- ---- which forms are built: chunking over flat with its default options, and 64-bit integers without null
+
+abbrev pub is_flat_default : Way → Bool
+is_flat_default (flat o) = is_default o
+is_flat_default (chunked w) = false
+
+abbrev pub is_built_way : Way → Bool
+is_built_way (flat o) = false
+is_built_way (chunked w) = is_flat_default w
+
+abbrev pub is_i64 : PType → Bool
+is_i64 I64 = true
+is_i64 p = false
+
+abbrev pub is_built_type : Ty → Bool
+is_built_type (primitive p true) = false
+is_built_type (primitive p false) = is_i64 p
+is_built_type t = false
+
+abbrev pub is_built : Way → Ty → Bool
+is_built w t = is_built_way w && is_built_type t
+
+-- ---- refusals
+
+-- the last batch taken
+pub record TookLast (to_come_before to_come_now : Option (List Piece)) (b : Piece) : Type 0 where
+  pub front : List Piece
+  pub came : to_come_before ≡ before_told (front ++ b ∷ []) to_come_now
+
+-- the rows of the batches taken, which don't fit 64 bits
+pub record TookRows (to_come_before to_come_now : Option (List Piece)) (n : ℕ) : Type 0 where
+  pub taken : List Piece
+  pub came : to_come_before ≡ before_told taken to_come_now
+  pub rows : n ≡ batch_rows taken
+  pub large : 2 ^ 64 ≤ n
+
+-- the cause of an error: a table, one line an error; faults are told by counts, and want of memory is free;
+-- `unbuilt` says that a form isn't built
+abbrev pub HasCause : Ty → List EncodingId → Type 0 → ℕ → Option (List Piece) → Option (List Piece) → WriteError → Type 0
+HasCause t ids unbuilt next before now (BatchType c) = (¬ (piece_type (piece c) ≡ t)) × TookLast before now (piece c)
+HasCause t ids unbuilt next before now (ForbiddenEncoding id) = (b : Piece) × (refused ids b ≡ Some id) × TookLast before now b
+HasCause t ids unbuilt next before now (TooLarge n) = ((n ≡ next) × (2 ^ 32 ≤ n)) ⊎ TookRows before now n
+HasCause t ids unbuilt next before now SourceFault = Unit {0}
+HasCause t ids unbuilt next before now SinkFault = Unit {0}
+HasCause t ids unbuilt next before now OutOfMemory = Unit {0}
+HasCause t ids unbuilt next before now Unbuilt = unbuilt
+HasCause t ids unbuilt next before now CompressFault = ⊥
+HasCause t ids unbuilt next before now NotStruct = ⊥
+HasCause t ids unbuilt next before now (DuplicateField name) = ⊥
+HasCause t ids unbuilt next before now ManyChunks = ⊥
+HasCause t ids unbuilt next before now EmptyList = ⊥
+HasCause t ids unbuilt next before now (ZoneCut n) = ⊥
+HasCause t ids unbuilt next before now (ForbiddenAggregate id) = ⊥
+
+-- whether the next call of the source or the sink may be one that fails
+abbrev pub MayCome : Type 0 → Type 0 → WriteError → Type 0
+MayCome source sink SourceFault = source
+MayCome source sink SinkFault = sink
+MayCome source sink e = Unit {0}
+
+-- What stands after a refusal: the segments appended are the first of those that the batches taken give.
+pub record Stands (plan_of : List Piece → Plan) (first next : ℕ) (to_come_before to_come_now : Option (List Piece)) (before now : Option (List (List ℕ))) : Type 0 where
+  pub taken : List Piece
+  pub came : to_come_before ≡ before_told taken to_come_now
+  pub appended : List (List ℕ)
+  pub more : List (List ℕ)
+  pub prefix : segments (plan_of taken) ≡ appended ++ more
+  pub stands : now ≡ then_told before appended
+  pub numbers : next ≡ first + length appended
+
+-- ---- the parts of the loop
+
+-- why a batch isn't admitted
+abbrev pub NotAdmitted : Ty → Piece → ℕ → WriteError → Type 0
+NotAdmitted t p rows (BatchType c) = (piece c ≡ p) × (¬ (piece_type p ≡ t))
+NotAdmitted t p rows (TooLarge n) = (n ≡ rows + length (cells p)) × (2 ^ 64 ≤ n)
+NotAdmitted t p rows e = ⊥
+
+-- why an admitted batch isn't written
+abbrev pub NotWritten : List EncodingId → ℕ → Piece → WriteError → Type 0
+NotWritten ids next p (ForbiddenEncoding id) = refused ids p ≡ Some id
+NotWritten ids next p (TooLarge n) = (n ≡ next) × (2 ^ 32 ≤ n)
+NotWritten ids next p SinkFault = Unit {0}
+NotWritten ids next p OutOfMemory = Unit {0}
+NotWritten ids next p e = ⊥

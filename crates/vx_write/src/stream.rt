@@ -1,0 +1,118 @@
+//! One column of 64-bit integers, batch by batch.
+
+ghost use Rattle.std.specs.Prelude.{◌≡◌, ℕ, ◌+◌, ◌-◌, ◌<◌, ◌≤◌, ◌^◌, ◌⊎◌, ◌↔◌, Some, None, true, false, List, map, length, is_ok, if◌then◌else◌, IsTrue, IfOk, IfErr, OnOk, OnErr};
+ghost use Rattle.vx_model.specs.declared.ptype.PType.TheVariants.{I64};
+ghost use Rattle.vx_model.specs.Ty.{primitive};
+ghost use Rattle.vx_model.specs.TyView.{ty};
+ghost use Rattle.vx_model.specs.Piece.{Piece, piece_type, cells};
+ghost use Rattle.vx_types.specs.ChunkView.{piece};
+ghost use Rattle.vx_types.specs.Segment.{refused};
+ghost use Rattle.vx_tree.specs.LayoutTree.{gathered};
+ghost use Rattle.vx_layout.specs.LayoutView.{lay};
+ghost use Rattle.vx_layout.specs.Errors.{rows_in};
+ghost use Rattle.vx_plan.specs.InOrder.{batch_rows};
+ghost use Rattle.vx_sink.specs.Counts.{Counts, IsCalm};
+ghost use Rattle.vx_write.specs.declared.error.WriteError.TheVariants.{OutOfMemory};
+ghost use Rattle.vx_write.specs.Causes.{errs, is_source_fault, is_sink_fault};
+ghost use Rattle.vx_write.specs.InOrder.{AllWritten, BatchWritten, Finished, Halted};
+ghost use Rattle.vx_write.specs.Stream.{HasCause, MayCome, NotAdmitted, NotWritten, is_built_type};
+
+use crate::error::WriteError;
+
+
+use std::alloc::Global;
+use vx_layout::{ChunkedLayout, FlatLayout, Layout};
+use vx_sink::{BatchSource, SegmentSink};
+use vx_types::{ArrayContext, Chunk, DType, encode_segment};
+
+#[tactic(auto, using(crate::proofs::Steps::step_rules))]
+/// Writes the source's batches as one column.
+pub(crate) fn write_column<B: BatchSource, S: SegmentSink>(alloc: Global, ctx: &ArrayContext, source: &mut B, sink: &mut S) -> Result<Layout, WriteError>
+    requires { B.kind source.old ≡ primitive I64 false }
+    ensures kind { B.kind source.new ≡ B.kind source.old }
+    ensures ok { IfOk result (λ l. Finished ctx.now (B.kind source.old) (S.next sink.old) (S.next sink.new) (lay l)
+        (B.to_come source.old) (B.to_come source.new) (S.segments sink.old) (S.segments sink.new)) }
+    ensures err { OnErr result (Halted ctx.now (B.kind source.old) (S.next sink.old) (S.next sink.new)
+        (B.to_come source.old) (B.to_come source.new) (S.segments sink.old) (S.segments sink.new)) }
+    ensures source_count { Counts (B.faults source.old) (B.faults source.new) (errs is_source_fault result) }
+    ensures sink_count { Counts (S.faults sink.old) (S.faults sink.new) (errs is_sink_fault result) }
+    ensures cause { IfErr result (HasCause (B.kind source.old) ctx.now ⊥ (S.next sink.new) (B.to_come source.old) (B.to_come source.new)) }
+    ensures may { IfErr result (MayCome (B.may_fail source.old (S.next sink.new - S.next sink.old))
+        (S.may_fail sink.old (S.next sink.new - S.next sink.old))) }
+    ensures complete { (xs : List Piece) → B.to_come source.old ≡ Some xs → AllWritten ctx.now (B.kind source.old) xs
+        → S.next sink.old + length xs ≤ 2 ^ 32 → batch_rows xs < 2 ^ 64
+        → IsCalm (B.faults source.old) (B.faults source.new) → IsCalm (S.faults sink.old) (S.faults sink.new)
+        → IfErr result (λ e. e ≡ OutOfMemory) }
+{
+    let mut flats = Vec::new(alloc);
+    let mut rows = 0u64;
+    'batches: loop {
+        flats.reserve(1)?;
+        let Some(batch) = source.next()? else {
+            return gather(source.dtype(), rows, flats);
+        };
+        let (batch, total) = admit(source.dtype(), batch, rows)?;
+        let flat = write_batch(alloc, ctx, &batch, sink)?;
+        rows = total;
+        flats.push(flat).unwrap();
+    }
+}
+
+#[tactic(auto, using(vx_model::specs::TyLaws::ty_eq_decides))]
+/// Tests the batch's type, and counts its rows to those before it.
+fn admit(dtype: &DType, batch: Chunk, rows: u64) -> Result<(Chunk, u64), WriteError>
+    ensures same { IfOk result (λ r. piece r.0 ≡ piece batch) }
+    ensures typed { OnOk result (piece_type (piece batch) ≡ ty dtype.now) }
+    ensures rows { IfOk result (λ r. r.1 ≡ rows + length (cells (piece batch))) }
+    ensures cause { IfErr result (NotAdmitted (ty dtype.now) (piece batch) rows) }
+{
+    if batch.dtype() != dtype {
+        return Err(WriteError::BatchType(batch));
+    }
+    let total = rows as u128 + batch.len() as u128;
+    if total > 18_446_744_073_709_551_615 {
+        return Err(WriteError::TooLarge(total));
+    }
+    Ok((batch, total as u64))
+}
+
+/// Appends the batch's segment. All memory is taken before the sink is called.
+#[tactic(auto, using(vx_layout::proofs::Views::lay_rules))]
+fn write_batch<S: SegmentSink>(alloc: Global, ctx: &ArrayContext, batch: &Chunk, sink: &mut S) -> Result<Layout, WriteError>
+    requires { piece_type (piece batch.now) ≡ primitive I64 false }
+    ensures ok { IfOk result (λ l. BatchWritten ctx.now (S.next sink.old) (piece batch.now) (lay l) (S.segments sink.old) (S.segments sink.new)) }
+    ensures same { OnErr result (S.segments sink.new ≡ S.segments sink.old) }
+    ensures next { S.next sink.new ≡ (if is_ok result then S.next sink.old + 1 else S.next sink.old) }
+    ensures count { Counts (S.faults sink.old) (S.faults sink.new) (errs is_sink_fault result) }
+    ensures cause { IfErr result (NotWritten ctx.now (S.next sink.old) (piece batch.now)) }
+    ensures may { IsTrue (errs is_sink_fault result) → S.may_fail sink.old 0 }
+    ensures later { (k : ℕ) → OnOk result (S.may_fail sink.new k → S.may_fail sink.old (k + 1)) }
+    ensures complete { refused ctx.now (piece batch.now) ≡ None → S.next sink.old < 2 ^ 32 → IsCalm (S.faults sink.old) (S.faults sink.new)
+        → IfErr result (λ e. e ≡ OutOfMemory) }
+{
+    let bytes = encode_segment(alloc, ctx, batch, true)?;
+    let number = sink.next_id();
+    if number > 4_294_967_295 {
+        return Err(WriteError::TooLarge(number as u128));
+    }
+    let dtype = batch.dtype().clone()?;
+    let ctx = ctx.clone()?;
+    let id = sink.append(&bytes)?;
+    Ok(Layout::Flat(FlatLayout::new(batch.len(), dtype, id, ctx)))
+}
+
+/// One layout is given itself, none or several are chunked.
+#[tactic(auto, using(crate::proofs::Ways::gather_rules))]
+fn gather(dtype: &DType, rows: u64, mut flats: Vec<Layout>) -> Result<Layout, WriteError>
+    requires { rows_in (map lay flats.items) ≡ rows }
+    ensures ok { IfOk result (λ l. lay l ≡ gathered (ty dtype.now) rows (map lay flats.items)) }
+    ensures err { IfErr result (λ e. e ≡ OutOfMemory) }
+{
+    if flats.len() == 1 {
+        return Ok(flats.pop().unwrap());
+    }
+    match ChunkedLayout::new(rows, dtype.clone()?, flats) {
+        Ok(chunked) => Ok(Layout::Chunked(chunked)),
+        Err(_) => unreachable!(),
+    }
+}
