@@ -1,4 +1,3 @@
-use Rattle.std.proofs.Common.{◌≡◌}
 use Rattle.vx_path.specs.Path.{eof_path}
 use Rattle.vx_sequence.specs.Universe.{IsActive, root, only}
 use Rattle.vx_sequence.proofs.Uses.{only_open, open_active}
