@@ -10,7 +10,8 @@ use vx_sequence::{SequenceError, SequenceId, SequencePointer, Universe};
 use vx_sink::{SegmentSink, SinkError};
 
 /// An order of one universe and one sink, which nobody else uses. All bytes may be written at all paths.
-#[derive(Drop)]
+///
+/// It ends by `into_sink`, so that the writes to a borrowed sink are known.
 pub struct LocalOrder<S> {
     sink: S,
     universe: Universe,
@@ -46,6 +47,8 @@ impl<S: SegmentSink> Order for LocalOrder<S> {
     ghost may_fail = { λ o k. S.may_fail o.sink k };
 
     ghost may_write = { λ _ _ _. Unit {0} };
+
+    ghost borrow = { λ o. S.borrow o.sink };
 
     fn advance(&mut self, p: &mut SequencePointer) -> Result<SequenceId, OrderError> {
         match p.advance(&mut self.universe) {

@@ -25,6 +25,9 @@ pub trait Order {
     /// Which bytes may be written at which path.
     ghost may_write: { Self → List ℕ → List ℕ → Type 0 };
 
+    /// Of an order over a borrowed sink the name of the borrow, which no call exchanges for another.
+    ghost borrow: { Self → ℕ };
+
     /// `SequencePointer::advance` in the universe. `TooLarge(2^64)` comes where the last index is the greatest one.
     fn advance(&mut self, p: &mut SequencePointer) -> Result<SequenceId, OrderError>
         requires { IsOpen (active self.old) (eof_path p.old) }
@@ -39,7 +42,8 @@ pub trait Order {
         ensures store { store self.new ≡ store self.old }
         ensures may_fail { (k : ℕ) → may_fail self.new k → may_fail self.old k }
         ensures may_write { (p b : List ℕ) → may_write self.old p b → may_write self.new p b }
-        ensures rules { IsUniverse (active self.old) };
+        ensures rules { IsUniverse (active self.old) }
+        ensures borrow { borrow self.new ≡ borrow self.old };
 
     /// `SequenceId::descend` in the universe.
     fn descend(&mut self, id: SequenceId) -> Result<SequencePointer, (SequenceId, OrderError)>
@@ -52,7 +56,8 @@ pub trait Order {
         ensures store { store self.new ≡ store self.old }
         ensures may_fail { (k : ℕ) → may_fail self.new k → may_fail self.old k }
         ensures may_write { (p b : List ℕ) → may_write self.old p b → may_write self.new p b }
-        ensures rules { IsUniverse (active self.old) };
+        ensures rules { IsUniverse (active self.old) }
+        ensures borrow { borrow self.new ≡ borrow self.old };
 
     /// `SequenceId::release` in the universe.
     fn release(&mut self, id: SequenceId)
@@ -61,7 +66,8 @@ pub trait Order {
         ensures store { store self.new ≡ store self.old }
         ensures may_fail { (k : ℕ) → may_fail self.new k → may_fail self.old k }
         ensures may_write { (p b : List ℕ) → may_write self.old p b → may_write self.new p b }
-        ensures rules { IsUniverse (active self.old) };
+        ensures rules { IsUniverse (active self.old) }
+        ensures borrow { borrow self.new ≡ borrow self.old };
 
     /// Whether no other active path is smaller. This stays so until the id is given up.
     fn is_least(&self, id: &SequenceId) -> bool
@@ -90,5 +96,6 @@ pub trait Order {
         ensures fails { IsTrue (is_sink_fault result) → may_fail self.old 0 }
         ensures later { (k : ℕ) → may_fail self.new k → MayLater (may_fail self.old) k result }
         ensures may_write { (p b : List ℕ) → may_write self.old p b → may_write self.new p b }
-        ensures rules { IsUniverse (active self.old) };
+        ensures rules { IsUniverse (active self.old) }
+        ensures borrow { borrow self.new ≡ borrow self.old };
 }

@@ -1,12 +1,13 @@
-ghost use Rattle.std.specs.Prelude.{◌≡◌};
+ghost use Rattle.std.specs.Prelude.{◌≡◌, ◌+◌, IsTrue, IsFalse};
 ghost use Rattle.vx_sequence.specs.Universe.{IsActive, released};
 
 use super::*;
+use std::alloc::Global;
 use std::panic::Expect;
 use std::process::Abort;
 use vx_path::owned::Path;
 use vx_sequence::SequenceId;
-use vx_sink::MemorySink;
+use vx_sink::{MemorySink, SegmentSink};
 
 fn written<O: Order>(rt: &impl Abort, order: &mut O, id: SequenceId, bytes: &[u8]) -> Receipt
     requires active { IsActive (O.active order.old) id }
@@ -92,4 +93,41 @@ fn refusals_hand_the_id_back(rt: HostRuntime) {
     let (id, error) = refused(&rt, &mut order, below.downgrade(), &[8]);
     assert!(rt; matches!(error, OrderError::TooLarge(4_294_967_296)));
     order.release(id);
+    assert_eq!(rt; order.into_sink().segments().len(), 1);
+}
+
+/// A sink that was lent to an order has what was written.
+fn is_written<S: SegmentSink>(alloc: Global, sink: &mut S, bytes: &[u8]) -> bool
+    ensures written { IsTrue result → S.next sink.new ≡ S.next sink.old + 1 }
+    ensures refused { IsFalse result → S.next sink.new ≡ S.next sink.old }
+{
+    let Ok((universe, pointer)) = SequenceId::root(alloc) else {
+        return false;
+    };
+    let mut order = LocalOrder::new(sink, universe);
+    let written = match order.try_write(pointer.downgrade(), bytes) {
+        Ok(Attempt::Written(_)) => true,
+        Ok(
+            Attempt::Waiting {
+                id,
+                smaller: _smaller,
+            },
+        ) => {
+            order.release(id);
+            false
+        }
+        Err((id, _)) => {
+            order.release(id);
+            false
+        }
+    };
+    let _sink = order.into_sink();
+    written
+}
+
+#[test]
+fn a_lent_sink_is_written_to(rt: HostRuntime) {
+    let mut sink = MemorySink::new(7, Vec::new(rt.alloc()));
+    assert!(rt; is_written(rt.alloc(), &mut sink, &[1]));
+    assert_eq!(rt; sink.next_id(), 8);
 }
