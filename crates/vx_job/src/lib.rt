@@ -6,5 +6,5 @@ mod job;
 mod report_text;
 
 pub use error::JobError;
-pub use job::{Job, read_job};
+pub use job::{Job, LIMIT, read_job};
 pub use report_text::{refused_report, report};

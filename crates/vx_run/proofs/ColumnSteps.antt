@@ -1,0 +1,137 @@
+-- What is shown of a column, and which errors never come.
+use Rattle.std.proofs.Common.{◌≡◌, ℕ, Bool, true, false, cond, List, [], ◌∷◌, ◌++◌, length, map, Option, Some, None, refl, sym, ap, subst, ◌∙◌, ltb, rules}
+use Rattle.std.specs.Prelude.{option_map, option_and_then, codes}
+use Rattle.serde_json.specs.Find.{as_array, get_member}
+use Rattle.serde_json.specs.Data.{Data, null, boolean, number, string, array, object, Items, no_items, item}
+use Rattle.serde_json.specs.Read.{read}
+use Rattle.std.specs.Str.{is_utf8}
+use Rattle.vx_model.specs.declared.dtype.DType as dt
+use Rattle.vx_model.specs.declared.ptype.PType.TheVariants.{I64}
+use Rattle.vx_model.specs.declared.ptype.Nullability.TheVariants.{NonNullable}
+use Rattle.vx_model.specs.TyView.{ty}
+use Rattle.vx_model.specs.Ty.{Ty}
+use Rattle.vx_model.specs.Piece.{Piece, piece_type, plain_piece}
+use Rattle.vx_model.specs.Tree.{Tree}
+use Rattle.vx_types.specs.declared.chunk.Chunk.{Chunk}
+use Rattle.vx_types.specs.ChunkView.{piece}
+use Rattle.vx_types.specs.Segment.{refused}
+use Rattle.vx_tree.specs.LayoutTree.{Lay}
+use Rattle.vx_plan.specs.PlanData.{Setting}
+use Rattle.vx_plan.specs.Way.{Way}
+use Rattle.vx_plan.specs.SourcePlan.{source_plan, taken_plan}
+use Rattle.vx_plan.specs.Number.{segments, numbered}
+use Rattle.vx_plan.specs.Valid.{OfSchema, Valid}
+use Rattle.vx_sink.specs.Told.{before_told, then_told}
+use Rattle.vx_write.specs.Stream.{TookLast, Stands}
+use Rattle.vx_job.specs.JobText.{JobForm, column, unbuilt, not_json, limit, job, job_of, column_of, batches_of, piece_of, cell_of, each, is_one_column}
+use Rattle.vx_job.specs.Report.{report, refused_report}
+use Rattle.vx_run.specs.Answers.{all_encodings, i64_type, chunked_flat, column_plan, column_report, TooManyFor}
+
+pub column_shown : (s : Setting) (xs : List Piece) {text : List ℕ} {l : Lay ℕ} {shown : List (List ℕ)} {w : Way} {t : Ty} {first : ℕ} {old new : Option (List (List ℕ))}
+    → w ≡ chunked_flat → t ≡ i64_type → first ≡ 0 → old ≡ Some [] → new ≡ Some shown → text ≡ report 0 l shown
+    → l ≡ numbered (source_plan s w t false xs true) first → new ≡ then_told old (segments (source_plan s w t false xs true)) → text ≡ column_report s xs
+column_shown s xs {l = l} {shown = shown} {w = w} {t = t} {first = first} {old = old} {new = new} strategy type zero_first none told is laid stored =
+    let same : source_plan s w t false xs true ≡ column_plan s xs = ap (λ (v : Way). source_plan s v t false xs true) strategy ∙ ap (λ (u : Ty). source_plan s chunked_flat u false xs true) type in
+    let layout : l ≡ numbered (column_plan s xs) 0 = laid ∙ (ap (λ (n : ℕ). numbered (source_plan s w t false xs true) n) zero_first ∙ ap (λ p. numbered p 0) same) in
+    let all : Some shown ≡ Some (segments (column_plan s xs)) = sym told ∙ (stored ∙ (ap (λ o. then_told o (segments (source_plan s w t false xs true))) none ∙ ap (λ p. Some (segments p)) same)) in
+    let stored_all : shown ≡ segments (column_plan s xs) = cc in
+    is ∙ (ap (λ (k : Lay ℕ). report 0 k shown) layout ∙ ap (λ (bs : List (List ℕ)). report 0 (numbered (column_plan s xs) 0) bs) stored_all)
+
+told_parts : (taken : List Piece) (a c : Option (List Piece)) (xs : List Piece) → a ≡ before_told taken c → a ≡ Some xs → (zs : List Piece) × (xs ≡ taken ++ zs)
+told_parts taken a None xs e f = absurd (let g : None ≡ Some xs = sym e ∙ f in cc)
+told_parts taken a (Some zs) xs e f = (zs, let g : Some (taken ++ zs) ≡ Some xs = sym e ∙ f in cc)
+
+pub refused_shown : (s : Setting) (xs : List Piece) {text : List ℕ} {shown : List (List ℕ)} {w : Way} {t : Ty} {first next : ℕ} {a c : Option (List Piece)} {old new : Option (List (List ℕ))}
+    → w ≡ chunked_flat → t ≡ i64_type → a ≡ Some xs → old ≡ Some [] → new ≡ Some shown → text ≡ refused_report (codes "TooLarge") 0 shown
+    → Stands (λ taken. taken_plan s w t false taken false) first next a c old new → ((tracker : ℕ) → ¬ (Valid s chunked_flat i64_type false 0 tracker xs)) → TooManyFor s xs text
+refused_shown s xs {shown = shown} {w = w} {t = t} {a = a} {c = c} strategy type is none told text_is h never =
+    let parts = told_parts h.taken a c xs h.came is in
+    let same : taken_plan s w t false h.taken false ≡ taken_plan s chunked_flat i64_type false h.taken false = ap (λ (v : Way). taken_plan s v t false h.taken false) strategy ∙ ap (λ (u : Ty). taken_plan s chunked_flat u false h.taken false) type in
+    let all : Some shown ≡ Some h.appended = sym told ∙ (h.stands ∙ ap (λ o. then_told o h.appended) none) in
+    let stood : shown ≡ h.appended = cc in
+    record {
+      taken = h.taken;
+      later = parts.0;
+      parts = parts.1;
+      appended = h.appended;
+      more = h.more;
+      prefix = ap segments (sym same) ∙ h.prefix;
+      shown = text_is ∙ ap (λ (bs : List (List ℕ)). refused_report (codes "TooLarge") 0 bs) stood;
+      not_valid = never;
+    }
+
+-- ---- errors that never come
+
+typed_at : (t : Ty) (front : List Piece) (b : Piece) (zs : List Piece) → OfSchema t ((front ++ b ∷ []) ++ zs) → piece_type b ≡ t
+typed_at t [] b zs h = h.0
+typed_at t (x ∷ front) b zs h = typed_at t front b zs h.1
+
+pub last_typed : {t : Ty} {xs : List Piece} {a c : Option (List Piece)} {b : Piece} → OfSchema t xs → a ≡ Some xs → TookLast a c b → piece_type b ≡ t
+last_typed {t} {xs} {a} {c} {b} typed told last =
+    let parts = told_parts (last.front ++ b ∷ []) a c xs last.came told in
+    typed_at t last.front b parts.0 (subst (OfSchema t) parts.1 typed)
+
+plain_at : (cs : List Chunk) (front : List Piece) (b : Piece) (zs : List Piece) → map piece cs ≡ (front ++ b ∷ []) ++ zs → refused all_encodings b ≡ None
+plain_at [] [] b zs e = absurd cc
+plain_at [] (x ∷ front) b zs e = absurd cc
+plain_at (k ∷ cs) [] b zs e = let same : piece k ≡ b = cc in subst (λ (q : Piece). refused all_encodings q ≡ None) same refl
+plain_at (k ∷ cs) (x ∷ front) b zs e = plain_at cs front b zs cc
+
+pub last_plain : (cs : List Chunk) {a c : Option (List Piece)} {b : Piece} → a ≡ Some (map piece cs) → TookLast a c b → refused all_encodings b ≡ None
+last_plain cs {a} {c} {b} told last =
+    let parts = told_parts (last.front ++ b ∷ []) a c (map piece cs) last.came told in
+    plain_at cs last.front b parts.0 parts.1
+
+-- ---- the batches of a job have its type
+
+piece_typed : (d : Data) (p : Piece) → piece_of d ≡ Some p → piece_type p ≡ i64_type
+piece_typed d p e = from_read (option_and_then (each cell_of) (as_array d)) p e
+  where
+    from_read : (r : Option (List Tree)) (p : Piece) → option_map (plain_piece i64_type) r ≡ Some p → piece_type p ≡ i64_type
+    from_read None p e = absurd cc
+    from_read (Some cs) p e = let same : plain_piece i64_type cs ≡ p = cc in subst (λ (q : Piece). piece_type q ≡ i64_type) same refl
+
+item_typed : (first : Option Piece) (more : Option (List Piece)) (ps : List Piece) → ((p : Piece) → first ≡ Some p → piece_type p ≡ i64_type) → ((qs : List Piece) → more ≡ Some qs → OfSchema i64_type qs)
+    → option_and_then (λ x. option_map (λ xs. x ∷ xs) more) first ≡ Some ps → OfSchema i64_type ps
+item_typed None more ps typed others e = absurd cc
+item_typed (Some p) None ps typed others e = absurd cc
+item_typed (Some p) (Some qs) ps typed others e = let same : p ∷ qs ≡ ps = cc in subst (OfSchema i64_type) same (typed p refl, others qs refl)
+
+each_typed : (ds : Items) (ps : List Piece) → each piece_of ds ≡ Some ps → OfSchema i64_type ps
+each_typed no_items ps e = let same : [] ≡ ps = cc in subst (OfSchema i64_type) same tt
+each_typed (item d ds) ps e = item_typed (piece_of d) (each piece_of ds) ps (piece_typed d) (each_typed ds) e
+
+items_typed : (o : Option Items) (ps : List Piece) → option_and_then (each piece_of) o ≡ Some ps → OfSchema i64_type ps
+items_typed None ps e = absurd cc
+items_typed (Some ds) ps e = each_typed ds ps e
+
+data_typed : (o : Option Data) (ps : List Piece) → option_and_then batches_of o ≡ Some ps → OfSchema i64_type ps
+data_typed None ps e = absurd cc
+data_typed (Some d) ps e = items_typed (as_array d) ps e
+
+column_typed : (r : Option (List Piece)) (ps : List Piece) → ((qs : List Piece) → r ≡ Some qs → OfSchema i64_type qs) → column_of r ≡ column ps → OfSchema i64_type ps
+column_typed None ps typed e = absurd cc
+column_typed (Some qs) ps typed e = let same : qs ≡ ps = cc in subst (OfSchema i64_type) same (typed qs refl)
+
+chosen_typed : (b : Bool) (x y : JobForm) (ps : List Piece) → (x ≡ column ps → OfSchema i64_type ps) → (y ≡ column ps → OfSchema i64_type ps) → cond b x y ≡ column ps → OfSchema i64_type ps
+chosen_typed true x y ps h k e = h e
+chosen_typed false x y ps h k e = k e
+
+form_typed : (o : Option Data) (ps : List Piece) → job_of o ≡ column ps → OfSchema i64_type ps
+form_typed None ps e = absurd cc
+form_typed (Some null) ps e = absurd cc
+form_typed (Some (boolean b)) ps e = absurd cc
+form_typed (Some (number n)) ps e = absurd cc
+form_typed (Some (string s)) ps e = absurd cc
+form_typed (Some (array ds)) ps e = absurd cc
+form_typed (Some (object ms)) ps e =
+    chosen_typed (is_one_column ms) (column_of (option_and_then batches_of (get_member (codes "batches") ms))) unbuilt ps
+    (column_typed (option_and_then batches_of (get_member (codes "batches") ms)) ps (data_typed (get_member (codes "batches") ms))) (λ f. absurd cc) e
+
+pub job_schema : (bytes : List ℕ) (ps : List Piece) → job bytes ≡ column ps → OfSchema i64_type ps
+job_schema bytes ps e =
+    chosen_typed (ltb limit (length bytes)) not_json (cond (is_utf8 bytes) (job_of (read bytes)) not_json) ps (λ f. absurd cc)
+    (chosen_typed (is_utf8 bytes) (job_of (read bytes)) not_json ps (form_typed (read bytes) ps) (λ f. absurd cc)) e
+
+pub i64_is : ty (dt.Primitive I64 NonNullable) ≡ i64_type
+i64_is = search (rules, dt.the_lemmas)

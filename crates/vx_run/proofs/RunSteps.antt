@@ -1,0 +1,141 @@
+-- Steps of reading and writing bytes.
+use Rattle.std.proofs.Common.{◌≡◌, ℕ, ◌+◌, ◌-◌, ◌≤◌, ◌<◌, List, [], ◌∷◌, ◌++◌, length, take, drop, Option, Some, None, refl, sym, ap, subst, inl, inr, ◌∙◌, arith, append_assoc, ltb, Bool, true, false}
+use Rattle.std.proofs.lemmas.List.{append-nil, take-append-drop, length-take, length-drop, length-append, take_at, drop-drop, nil_from_length}
+use Rattle.std.specs.Io.KnownBytes.{Keeps, Appends, Consumes}
+use Rattle.vx_job.specs.JobText.{JobForm, not_json, not_object, unbuilt, column, limit, job}
+use Rattle.std.proofs.Math.Seq.{take-add}
+use Rattle.std.proofs.lemmas.Bool.{ltb-true, ltb-false, lt-ltb}
+use Rattle.std.specs.Prelude.{◌⊎◌}
+use Rattle.vx_model.specs.Piece.{Piece}
+use Rattle.vx_plan.specs.PlanData.{Setting}
+use Rattle.vx_plan.specs.Valid.{Valid}
+use Rattle.vx_sink.specs.Counts.{Counts, IsCalm}
+use Rattle.vx_write.specs.Stream.{Writes}
+use Rattle.vx_run.specs.declared.status.Status.{Status}
+use Rattle.vx_run.specs.declared.status.Status.TheVariants.{Done, Usage, BadJob, Refused, InputFault, OutputFault, OutOfMemory}
+use Rattle.vx_run.specs.Answers.{IsAnswer, ColumnAnswer, all_encodings, chunked_flat, i64_type}
+use Rattle.vx_run.specs.Running.{HasRead, Finishes, Ends, is_output_fault}
+
+pub consumes_none : (a : Option (List ℕ)) → Consumes a a []
+consumes_none None = tt
+consumes_none (Some xs) = refl
+
+pub consumes_more : (a b c : Option (List ℕ)) (xs ys : List ℕ) → Consumes a b xs → Consumes b c ys → Consumes a c (xs ++ ys)
+consumes_more None b c xs ys h k = tt
+consumes_more (Some zs) None c xs ys h k = absurd h
+consumes_more (Some zs) (Some ws) None xs ys h k = absurd k
+consumes_more (Some zs) (Some ws) (Some us) xs ys h k = h ∙ (ap (λ (r : List ℕ). xs ++ r) k ∙ sym (append_assoc xs ys us))
+
+pub appends_none : (a : Option (List ℕ)) → Appends a a []
+appends_none None = tt
+appends_none (Some xs) = sym (append-nil xs)
+
+pub appends_more : (a b c : Option (List ℕ)) (xs ys : List ℕ) → Appends a b xs → Appends b c ys → Appends a c (xs ++ ys)
+appends_more None b c xs ys h k = tt
+appends_more (Some zs) None c xs ys h k = absurd h
+appends_more (Some zs) (Some ws) None xs ys h k = absurd k
+appends_more (Some zs) (Some ws) (Some us) xs ys h k = k ∙ (ap (λ (r : List ℕ). r ++ ys) h ∙ append_assoc zs xs ys)
+
+pub keeps_after : (a b c : Option (List ℕ)) (xs : List ℕ) → Appends a b xs → Keeps b c → Appends a c xs
+keeps_after None b c xs h k = tt
+keeps_after (Some zs) None c xs h k = absurd h
+keeps_after (Some zs) (Some ws) None xs h k = absurd k
+keeps_after (Some zs) (Some ws) (Some us) xs h k = k ∙ h
+
+-- n more bytes behind the first ones
+pub take_then : (bytes : List ℕ) (at n : ℕ) → take at bytes ++ take n (drop at bytes) ≡ take (at + n) bytes
+take_then bytes at n = sym (take-add at n bytes)
+
+-- ---- what was read is the job that the input tells
+
+same_job : (read more : List ℕ) → (length read ≤ limit → more ≡ []) → job (read ++ more) ≡ job read
+same_job read more ended = by_length (ltb limit (length read)) refl
+  where
+    by_length : (b : Bool) → ltb limit (length read) ≡ b → job (read ++ more) ≡ job read
+    by_length true e =
+        let long : limit < length read = ltb-true limit (length read) e in
+        let longer : ltb limit (length (read ++ more)) ≡ true = lt-ltb limit (length (read ++ more)) (omega (arith, length-append read more)) in
+        rw (longer, e) refl
+    by_length false e =
+        let short : length read ≤ limit = ltb-false limit (length read) e in
+        ap job (ap (λ (r : List ℕ). read ++ r) (ended short) ∙ append-nil read)
+
+pub read_job_is : (before now : Option (List ℕ)) (bytes read : List ℕ) → before ≡ Some bytes → HasRead before now read → job bytes ≡ job read
+read_job_is None now bytes read told h = absurd cc
+read_job_is (Some all) None bytes read told h = absurd h.consumed
+read_job_is (Some all) (Some more) bytes read told h =
+    let same : all ≡ bytes = cc in
+    ap job (sym same ∙ h.consumed) ∙ same_job read more h.ended
+
+-- ---- how a run ends
+
+not_input : (j : JobForm) (text : List ℕ) → IsAnswer j InputFault text → ⊥
+not_input not_json text h = let e : InputFault ≡ BadJob = h.0 in cc
+not_input not_object text h = let e : InputFault ≡ BadJob = h.0 in cc
+not_input unbuilt text h = let e : InputFault ≡ Refused = h.0 in cc
+not_input (column batches) text h = h
+
+not_output : (j : JobForm) (text : List ℕ) → IsAnswer j OutputFault text → ⊥
+not_output not_json text h = let e : OutputFault ≡ BadJob = h.0 in cc
+not_output not_object text h = let e : OutputFault ≡ BadJob = h.0 in cc
+not_output unbuilt text h = let e : OutputFault ≡ Refused = h.0 in cc
+not_output (column batches) text h = h
+
+not_memory : (j : JobForm) (text : List ℕ) → IsAnswer j OutOfMemory text → ⊥
+not_memory not_json text h = let e : OutOfMemory ≡ BadJob = h.0 in cc
+not_memory not_object text h = let e : OutOfMemory ≡ BadJob = h.0 in cc
+not_memory unbuilt text h = let e : OutOfMemory ≡ Refused = h.0 in cc
+not_memory (column batches) text h = h
+
+wrote_it : (j : JobForm) (status : Status) (text : List ℕ) (before now : Option (List ℕ)) → IsAnswer j status text → Appends before now text → Ends (IsAnswer j) before now status
+wrote_it j Done text before now answers wrote = record { text = text; answers = answers; wrote = wrote }
+wrote_it j Usage text before now answers wrote = record { text = text; answers = answers; wrote = wrote }
+wrote_it j BadJob text before now answers wrote = record { text = text; answers = answers; wrote = wrote }
+wrote_it j Refused text before now answers wrote = record { text = text; answers = answers; wrote = wrote }
+wrote_it j InputFault text before now answers wrote = absurd (not_input j text answers)
+wrote_it j OutputFault text before now answers wrote = absurd (not_output j text answers)
+wrote_it j OutOfMemory text before now answers wrote = absurd (not_memory j text answers)
+
+pub ends_so : (j : JobForm) (status : Status) (text : List ℕ) (before now : Option (List ℕ)) (result : Status) → IsAnswer j status text → Finishes status text before now result → Ends (IsAnswer j) before now result
+ends_so j status text before now result answers (inl all) = subst (Ends (IsAnswer j) before now) (sym all.0) (wrote_it j status text before now answers all.1)
+ends_so j status text before now result answers (inr (inl failed, front)) = subst (Ends (IsAnswer j) before now) (sym failed) (record { status = status; text = text; answers = answers; count = front.count; wrote = front.wrote })
+ends_so j status text before now result answers (inr (inr memory, front)) = subst (Ends (IsAnswer j) before now) (sym memory) (inr (record { status = status; text = text; answers = answers; count = front.count; wrote = front.wrote }))
+
+no_fault : (before now : ℕ) (result : Status) → result ≡ OutputFault → Counts before now (is_output_fault result) → IsCalm before now → ⊥
+no_fault before now result e counts calm =
+    let rose : Counts before now true = subst (λ (r : Status). Counts before now (is_output_fault r)) e counts in
+    absurd (omega (arith, rose.0, rose.1, calm.0, calm.1))
+
+valid_done : (batches : List Piece) (s : Setting) (tracker : ℕ) (status : Status) (text : List ℕ) → Writes all_encodings s → Valid s chunked_flat i64_type false 0 tracker batches → ColumnAnswer batches status text → status ≡ Done
+valid_done batches s tracker Done text writes valid answers = refl
+valid_done batches s tracker Refused text writes valid answers = absurd ((answers s writes).not_valid tracker valid)
+valid_done batches s tracker Usage text writes valid answers = absurd answers
+valid_done batches s tracker BadJob text writes valid answers = absurd answers
+valid_done batches s tracker InputFault text writes valid answers = absurd answers
+valid_done batches s tracker OutputFault text writes valid answers = absurd answers
+valid_done batches s tracker OutOfMemory text writes valid answers = absurd answers
+
+pub done_or_memory : (j : JobForm) (batches : List Piece) (s : Setting) (tracker : ℕ) (status : Status) (text : List ℕ) (before now : Option (List ℕ)) (result : Status) (faults faults_now : ℕ)
+    → j ≡ column batches → Writes all_encodings s → Valid s chunked_flat i64_type false 0 tracker batches → IsAnswer j status text → Finishes status text before now result
+    → Counts faults faults_now (is_output_fault result) → IsCalm faults faults_now → (result ≡ Done) ⊎ (result ≡ OutOfMemory)
+done_or_memory j batches s tracker status text before now result faults faults_now is writes valid answers (inl all) counts calm =
+    let column_answers : ColumnAnswer batches status text = subst (λ (k : JobForm). IsAnswer k status text) is answers in
+    inl (all.0 ∙ valid_done batches s tracker status text writes valid column_answers)
+done_or_memory j batches s tracker status text before now result faults faults_now is writes valid answers (inr (inl failed, front)) counts calm = absurd (no_fault faults faults_now result failed counts calm)
+done_or_memory j batches s tracker status text before now result faults faults_now is writes valid answers (inr (inr memory, front)) counts calm = inr memory
+
+-- ---- an input in memory
+
+pub read_front : (bytes copied : List ℕ) (at n : ℕ) (behind : List ℕ) → n ≤ length bytes - at → copied ≡ take n (drop at bytes) → drop at bytes ≡ take n (copied ++ behind) ++ drop (at + n) bytes
+read_front bytes copied at n behind fits is =
+    let count : length copied ≡ n = ap length is ∙ omega (arith, length-take n (drop at bytes), length-drop at bytes) in
+    rw (take_at copied behind n count, is, ← drop-drop n at bytes) (sym (take-append-drop n (drop at bytes)))
+
+pub at_end : (bytes : List ℕ) (at : ℕ) → length bytes ≤ at → drop at bytes ≡ []
+at_end bytes at le = nil_from_length (drop at bytes) (omega (arith, length-drop at bytes))
+
+pub ruleset read_rules = (append_assoc, append-nil)
+
+pub ruleset write_rules = (append_assoc, append-nil, take_then)
+
+pub ruleset run_rules = (append-nil)

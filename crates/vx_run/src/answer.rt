@@ -1,0 +1,133 @@
+//! What the command `write` answers to a job.
+
+ghost use Rattle.std.specs.Prelude.{◌≡◌, string_bytes, map, List, IfOk};
+ghost use Rattle.vx_model.specs.Piece.{Piece};
+ghost use Rattle.vx_types.specs.ChunkView.{piece};
+ghost use Rattle.vx_plan.specs.Valid.{OfSchema};
+ghost use Rattle.vx_sink.specs.ContextView.{listed};
+ghost use Rattle.vx_job.specs.JobText.{job};
+ghost use Rattle.vx_write.specs.StrategyView.{way};
+ghost use Rattle.vx_run.specs.Answers.{IsAnswer, ColumnAnswer, all_encodings, i64_type, chunked_flat};
+
+use crate::status::Status;
+use std::alloc::{AllocError, Global};
+use vx_job::{Job, JobError, read_job, refused_report, report};
+use vx_sink::{LayoutWriterContext, ListSource, MemorySink, PlainCompressor};
+use vx_types::{ArrayContext, Chunk, DType, EncodingId, Nullability, PType};
+use vx_write::{
+    BuildError, ChunkedLayoutStrategy, FlatLayoutStrategy, Strategy, WriteError, write_stream,
+};
+
+/// A status, and the text that is printed before it.
+#[derive(Debug, Drop)]
+pub(crate) struct Answer {
+    pub status: Status,
+    pub text: String,
+}
+
+/// The answer to the bytes of an input.
+pub(crate) fn answer_to(alloc: Global, bytes: &[u8]) -> Result<Answer, AllocError>
+    ensures { IfOk result (λ a. IsAnswer (job bytes.now) a.status (string_bytes a.text)) }
+{
+    match read_job(alloc, bytes) {
+        Ok(job) => match job {
+            Job::Column(batches) => write_batches(alloc, batches),
+            Job::Unbuilt => {
+                let text = refused_report(alloc, "Unbuilt", 0, &[])?;
+                Ok(Answer {
+                    status: Status::Refused,
+                    text,
+                })
+            }
+        },
+        Err(JobError::Json) => bad_job(alloc, "bad job at json\n"),
+        Err(JobError::Job) => bad_job(alloc, "bad job at job\n"),
+        Err(JobError::OutOfMemory) => Err(AllocError),
+    }
+}
+
+fn bad_job(alloc: Global, line: &str) -> Result<Answer, AllocError>
+    ensures { IfOk result (λ a. (a.status ≡ Status.BadJob) × (string_bytes a.text ≡ line.now)) }
+{
+    let text = String::from_str(alloc, line)?;
+    Ok(Answer {
+        status: Status::BadJob,
+        text,
+    })
+}
+
+/// Writes the batches of one column, and reports.
+fn write_batches(alloc: Global, batches: Vec<Chunk>) -> Result<Answer, AllocError>
+    requires { OfSchema i64_type (map piece batches.items) }
+    ensures { IfOk result (λ a. ColumnAnswer (map piece batches.items) a.status (string_bytes a.text)) }
+{
+    let strategy = chunked_over_flat(alloc)?;
+    let mut ctx = all_encodings(alloc)?;
+    let dtype = DType::Primitive(PType::I64, Nullability::NonNullable);
+    let mut source = ListSource::new(dtype, batches, Vec::new(alloc));
+    let mut sink = MemorySink::new(0, Vec::new(alloc));
+    let mut compressor = PlainCompressor::new(Vec::new(alloc));
+    match write_stream(
+        alloc,
+        &strategy,
+        &mut ctx,
+        &mut source,
+        &mut sink,
+        &[],
+        &mut compressor,
+    ) {
+        Ok(written) => {
+            let text = report(alloc, 0, &written.layout, sink.segments())?;
+            Ok(Answer {
+                status: Status::Done,
+                text,
+            })
+        }
+        Err(refused) => match refused.error {
+            WriteError::OutOfMemory => Err(AllocError),
+            WriteError::TooLarge(_) => {
+                let text = refused_report(alloc, "TooLarge", 0, sink.segments())?;
+                Ok(Answer {
+                    status: Status::Refused,
+                    text,
+                })
+            }
+            WriteError::SourceFault | WriteError::SinkFault | WriteError::CompressFault =>
+                unreachable!(),
+            WriteError::BatchType(_) => unreachable!(),
+            WriteError::NotStruct | WriteError::DuplicateField(_) | WriteError::ManyChunks =>
+                unreachable!(),
+            WriteError::EmptyList | WriteError::ZoneCut(_) | WriteError::ForbiddenAggregate(_) =>
+                unreachable!(),
+            WriteError::ForbiddenEncoding(_) => unreachable!(),
+            WriteError::Unbuilt => unreachable!(),
+        },
+    }
+}
+
+fn chunked_over_flat(alloc: Global) -> Result<Strategy, AllocError>
+    ensures { IfOk result (λ s. way s ≡ chunked_flat) }
+{
+    let flat = FlatLayoutStrategy::default().into_strategy();
+    match ChunkedLayoutStrategy::new(alloc, flat) {
+        Ok(chunked) => Ok(chunked.into_strategy()),
+        Err(BuildError::OutOfMemory) => Err(AllocError),
+    }
+}
+
+fn all_encodings(alloc: Global) -> Result<LayoutWriterContext, AllocError>
+    ensures { IfOk result (λ c. listed c ≡ all_encodings) }
+{
+    let mut ids = Vec::with_capacity(alloc, 7)?;
+    ids.push(EncodingId::Plain)?;
+    ids.push(EncodingId::Constant)?;
+    ids.push(EncodingId::Dict)?;
+    ids.push(EncodingId::Chunked)?;
+    ids.push(EncodingId::List)?;
+    ids.push(EncodingId::Struct)?;
+    ids.push(EncodingId::Extension)?;
+    match ArrayContext::try_new(ids) {
+        Ok(ids) => Ok(LayoutWriterContext::new(ids)),
+        Err(_) => unreachable!(),
+    }
+}

@@ -1,0 +1,33 @@
+ghost use Rattle.std.specs.Prelude.{ℕ, List, Option};
+ghost use Rattle.std.specs.Io.{ReadsAtMost};
+ghost use Rattle.std.specs.Io.KnownBytes.{ReadConsumes};
+ghost use Rattle.vx_sink.specs.Counts.{Counts};
+ghost use Rattle.vx_run.specs.Failures.{input_failed};
+
+use thiserror::Error;
+
+/// Why no bytes were read.
+#[derive(Debug, Drop, Error)]
+pub enum InputFailure {
+    /// The input failed; its count of faults says so.
+    #[error("the input failed")]
+    Failed,
+    #[error("out of memory")]
+    OutOfMemory,
+}
+
+/// Bytes that are read in order.
+pub trait Input {
+    /// The bytes to come, where the input tells them.
+    ghost to_come: { Self → Option (List ℕ) };
+
+    /// How often the input failed.
+    ghost faults: { Self → ℕ };
+
+    /// Reads the next bytes into the front of the buffer, and gives their number: 0, for a buffer that has room,
+    /// at the end alone.
+    fn read(&mut self, buf: &mut [u8]) -> Result<u64, InputFailure>
+        ensures bound { ReadsAtMost result buf.new }
+        ensures bytes { ReadConsumes (to_come self.old) (to_come self.new) result buf.new }
+        ensures cause { Counts (faults self.old) (faults self.new) (input_failed result) };
+}

@@ -1,0 +1,17 @@
+//! The program as a function of its words, its input and its output.
+#![tactic(auto)]
+
+mod answer;
+mod input;
+mod memory;
+mod output;
+mod real;
+mod running;
+mod status;
+
+pub use input::{Input, InputFailure};
+pub use memory::{ByteInput, ByteOutput};
+pub use output::{Output, OutputFailure};
+pub use real::{RealInput, RealOutput};
+pub use running::run;
+pub use status::Status;

@@ -1,0 +1,33 @@
+ghost use Rattle.std.specs.Prelude.{ℕ, ◌<◌, List, Option, length, IfOk};
+ghost use Rattle.std.specs.Io.{WritesAtMost};
+ghost use Rattle.std.specs.Io.KnownBytes.{WriteAppends};
+ghost use Rattle.vx_sink.specs.Counts.{Counts};
+ghost use Rattle.vx_run.specs.Failures.{output_failed};
+
+use thiserror::Error;
+
+/// Why no bytes were written.
+#[derive(Debug, Drop, Error)]
+pub enum OutputFailure {
+    /// The output failed; its count of faults says so.
+    #[error("the output failed")]
+    Failed,
+    #[error("out of memory")]
+    OutOfMemory,
+}
+
+/// Takes bytes in order.
+pub trait Output {
+    /// The bytes written so far, where the output tells them.
+    ghost written: { Self → Option (List ℕ) };
+
+    /// How often the output failed.
+    ghost faults: { Self → ℕ };
+
+    /// Writes bytes from the front of the piece, and gives their number: at least one of a piece that isn't empty.
+    fn write(&mut self, bytes: &[u8]) -> Result<u64, OutputFailure>
+        ensures bound { WritesAtMost result bytes.now }
+        ensures some { 0 < length bytes.now → IfOk result (λ n. 0 < n) }
+        ensures bytes { WriteAppends (written self.old) (written self.new) result bytes.now }
+        ensures cause { Counts (faults self.old) (faults self.new) (output_failed result) };
+}

@@ -1,0 +1,69 @@
+//! The program's own input and output.
+
+ghost use Rattle.std.specs.Prelude.{◌≡◌};
+
+use crate::input::{Input, InputFailure};
+use crate::output::{Output, OutputFailure};
+use std::io::{Read, Write};
+
+/// A reader as an input; it tells what the reader tells.
+#[derive(Drop)]
+pub struct RealInput<R: Read> {
+    inner: R,
+    faults: u64,
+}
+
+impl<R: Read> RealInput<R> {
+    pub fn new(inner: R) -> RealInput<R>
+        ensures { ⟦<RealInput<R> as Input>⟧.faults result ≡ 0 }
+    {
+        RealInput { inner, faults: 0 }
+    }
+}
+
+impl<R: Read> Input for RealInput<R> {
+    ghost to_come = { λ s. R.remaining s.inner };
+
+    ghost faults = { λ s. s.faults };
+
+    fn read(&mut self, buf: &mut [u8]) -> Result<u64, InputFailure> {
+        match self.inner.read(buf) {
+            Ok(count) => Ok(count as u64),
+            Err(_) => {
+                self.faults = self.faults.saturating_add(1);
+                Err(InputFailure::Failed)
+            }
+        }
+    }
+}
+
+/// A writer as an output; it tells what the writer tells. A write of nothing is a failure.
+#[derive(Drop)]
+pub struct RealOutput<W: Write> {
+    inner: W,
+    faults: u64,
+}
+
+impl<W: Write> RealOutput<W> {
+    pub fn new(inner: W) -> RealOutput<W>
+        ensures { ⟦<RealOutput<W> as Output>⟧.faults result ≡ 0 }
+    {
+        RealOutput { inner, faults: 0 }
+    }
+}
+
+impl<W: Write> Output for RealOutput<W> {
+    ghost written = { λ s. W.contents s.inner };
+
+    ghost faults = { λ s. s.faults };
+
+    fn write(&mut self, bytes: &[u8]) -> Result<u64, OutputFailure> {
+        match self.inner.write(bytes) {
+            Ok(count) if count > 0 || bytes.is_empty() => Ok(count as u64),
+            Ok(_) | Err(_) => {
+                self.faults = self.faults.saturating_add(1);
+                Err(OutputFailure::Failed)
+            }
+        }
+    }
+}

@@ -1,0 +1,121 @@
+//! The program.
+
+ghost use Rattle.std.specs.Prelude.{◌≡◌, ℕ, ◌+◌, ◌≤◌, ◌<◌, ◌⊎◌, true, false, List, Some, map, length, string_bytes, IsTrue, IfOk, OnOk, OnErr};
+ghost use Rattle.std.specs.Io.KnownBytes.{Keeps, Appends, IsAtEnd};
+ghost use Rattle.vx_model.specs.Piece.{Piece};
+ghost use Rattle.vx_plan.specs.PlanData.{Setting};
+ghost use Rattle.vx_plan.specs.Valid.{Valid};
+ghost use Rattle.vx_sink.specs.Counts.{Counts, IsCalm};
+ghost use Rattle.vx_write.specs.Stream.{Writes};
+ghost use Rattle.vx_job.specs.JobText.{job, column, limit};
+ghost use Rattle.vx_run.specs.declared.status.Status.{Status};
+ghost use Rattle.vx_run.specs.declared.status.Status.TheVariants as statuses;
+ghost use Rattle.vx_run.specs.Answers.{IsText, IsAnswer, all_encodings, chunked_flat, i64_type};
+ghost use Rattle.vx_run.specs.Failures.{input_failed, output_failed};
+ghost use Rattle.vx_run.specs.Running.{is_write, usage, is_input_fault, is_output_fault, Ends, HasRead, has_read, Finishes, AppendsFront};
+
+use crate::answer::answer_to;
+use crate::input::{Input, InputFailure};
+use crate::output::{Output, OutputFailure};
+use crate::status::Status;
+use std::alloc::Global;
+use vx_job::LIMIT;
+
+/// Does what the words say with the input and the output, and gives the exit status.
+///
+/// The one command so far is `write`: it reads a job, writes it, and prints the report. Other words print the usage.
+#[tactic(auto, using(crate::proofs::RunSteps::run_rules))]
+pub fn run<I: Input, O: Output>(
+    alloc: Global,
+    words: &[String],
+    input: &mut I,
+    output: &mut O,
+) -> Status
+    ensures input_count { Counts (I.faults input.old) (I.faults input.new) (is_input_fault result) }
+    ensures output_count { Counts (O.faults output.old) (O.faults output.new) (is_output_fault result) }
+    ensures ended { is_write (map string_bytes words.now) ≡ true → has_read result ≡ true → IsAtEnd (I.to_come input.new) }
+    ensures ran { (bytes : List ℕ) → is_write (map string_bytes words.now) ≡ true → I.to_come input.old ≡ Some bytes
+        → Ends (IsAnswer (job bytes)) (O.written output.old) (O.written output.new) result }
+    ensures used { is_write (map string_bytes words.now) ≡ false
+        → Ends (IsText statuses.Usage usage) (O.written output.old) (O.written output.new) result }
+    ensures complete { (bytes : List ℕ) (batches : List Piece) (s : Setting) (tracker : ℕ) → is_write (map string_bytes words.now) ≡ true
+        → I.to_come input.old ≡ Some bytes → job bytes ≡ column batches
+        → Writes all_encodings s → Valid s chunked_flat i64_type false 0 tracker batches
+        → IsCalm (I.faults input.old) (I.faults input.new) → IsCalm (O.faults output.old) (O.faults output.new)
+        → (result ≡ statuses.Done) ⊎ (result ≡ statuses.OutOfMemory) }
+{
+    if !is_write(words) {
+        return finish(
+            output,
+            Status::Usage,
+            "usage: vx_tool write | gen N | tree\n",
+        );
+    }
+    match read_all(alloc, input) {
+        Ok(bytes) => match answer_to(alloc, &bytes) {
+            Ok(answer) => finish(output, answer.status, &answer.text),
+            Err(_) => Status::OutOfMemory,
+        },
+        Err(InputFailure::Failed) => Status::InputFault,
+        Err(InputFailure::OutOfMemory) => Status::OutOfMemory,
+    }
+}
+
+fn is_write(words: &[String]) -> bool
+    ensures { result ≡ is_write (map string_bytes words.now) }
+{
+    match words {
+        [word] => word.as_str() == "write",
+        [] | [_, _, ..] => false,
+    }
+}
+
+/// Reads to the end, or one byte past the limit.
+#[tactic(auto, using(crate::proofs::RunSteps::read_rules))]
+fn read_all<I: Input>(alloc: Global, input: &mut I) -> Result<Vec<u8>, InputFailure>
+    ensures read { IfOk result (λ bytes. HasRead (I.to_come input.old) (I.to_come input.new) bytes.items) }
+    ensures count { Counts (I.faults input.old) (I.faults input.new) (input_failed result) }
+{
+    let mut bytes = Vec::new(alloc);
+    let mut buffer = [0u8; 4096];
+    'reads: while bytes.len() <= LIMIT {
+        let want = (LIMIT + 1 - bytes.len()).min(buffer.len());
+        if bytes.reserve(want).is_err() {
+            return Err(InputFailure::OutOfMemory);
+        }
+        let part = &mut buffer[..want];
+        let count = input.read(part)? as usize;
+        if count == 0 {
+            return Ok(bytes);
+        }
+        bytes.extend_from_slice(&part[..count]).unwrap();
+    }
+    Ok(bytes)
+}
+
+/// Writes the text, and gives the status unless that fails.
+fn finish<O: Output>(output: &mut O, status: Status, text: &str) -> Status
+    requires { is_output_fault status ≡ false }
+    ensures count { Counts (O.faults output.old) (O.faults output.new) (is_output_fault result) }
+    ensures wrote { Finishes status text.now (O.written output.old) (O.written output.new) result }
+{
+    match write_all(output, text.as_bytes()) {
+        Ok(()) => status,
+        Err(OutputFailure::Failed) => Status::OutputFault,
+        Err(OutputFailure::OutOfMemory) => Status::OutOfMemory,
+    }
+}
+
+#[tactic(auto, using(crate::proofs::RunSteps::write_rules))]
+fn write_all<O: Output>(output: &mut O, bytes: &[u8]) -> Result<(), OutputFailure>
+    ensures all { OnOk result (Appends (O.written output.old) (O.written output.new) bytes.now) }
+    ensures front { OnErr result (AppendsFront (O.written output.old) (O.written output.new) bytes.now) }
+    ensures count { Counts (O.faults output.old) (O.faults output.new) (output_failed result) }
+{
+    let mut at = 0;
+    'writes: while at < bytes.len() {
+        let rest = bytes.split_at(at).1;
+        at += output.write(rest)? as usize;
+    }
+    Ok(())
+}
