@@ -1,3 +1,4 @@
+pub mod Examples
 pub mod Filters
 pub mod Lanes
 pub mod ReadOptions

@@ -61,6 +61,7 @@ impl<H: ByteHash> Model for BloomPartial<H> {
     ghost invariant = { λ p. (1 ≤ length p.blocks.items) × (length p.blocks.items < 2 ^ 32) };
 }
 
+// By hand, since a derive would ask that the hash function can be dropped.
 impl<H: ByteHash> Drop for BloomPartial<H> {
     fn drop(self) {
         let BloomPartial { blocks: _, hash: _ } = self;
