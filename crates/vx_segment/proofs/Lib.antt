@@ -7,3 +7,5 @@ pub mod TreeLaws
 pub mod BufferLaws
 pub mod CellLaws
 pub mod SegmentLaws
+pub mod Contexts
+pub mod Answering

@@ -4,9 +4,11 @@
 mod buffers;
 mod error;
 mod integers;
+mod law;
 mod node;
 mod segment;
 mod tree;
 
 pub use error::DecodeError;
+pub use law::segments_read_back;
 pub use segment::{buffer_lengths, decode_segment, tree_buffer_lengths};

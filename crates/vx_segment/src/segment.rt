@@ -1,6 +1,6 @@
 //! Reading a segment back.
 
-ghost use Rattle.std.specs.Prelude.{◌≡◌, ◌+◌, ◌≤◌, Bool, false, List, map, length, Some, Ok, IfOk, IsTrue};
+ghost use Rattle.std.specs.Prelude.{◌≡◌, ◌+◌, ◌≤◌, ◌<◌, ◌^◌, Bool, false, List, map, length, Some, Ok, IfOk, IsTrue};
 ghost use Rattle.vx_model.specs.declared.ptype.PType.TheVariants.{I64};
 ghost use Rattle.vx_model.specs.Ty.{primitive};
 ghost use Rattle.vx_model.specs.TyView.{ty};
@@ -24,10 +24,11 @@ use vx_model::{ArrayContext, Cell, DType, EncodingId};
 use vx_types::Chunk;
 
 /// The bytes before the tree, and the tree.
-#[tactic(auto, using(crate::proofs::SegmentSteps::half_rules, crate::proofs::TreeLaws::tree_again, crate::proofs::BufferLaws::halves_again, crate::proofs::SegmentLaws::decode_again))]
+#[tactic(auto, using(crate::proofs::SegmentSteps::half_rules, crate::proofs::TreeLaws::tree_again, crate::proofs::BufferLaws::halves_again))]
 fn halves(bytes: &[u8]) -> Result<(&[u8], &[u8]), DecodeError>
     ensures halves { Gives (λ x. (x.0.now, x.1.now)) result (halves_of bytes.now) }
     ensures shorter { IfOk result (λ x. length x.0.now + 8 ≤ length bytes.now) }
+    ensures in_memory { length bytes.now < 2 ^ 64 }
 {
     if bytes.len() < 8 {
         return Err(DecodeError::Grammar(0));
@@ -45,7 +46,8 @@ fn halves(bytes: &[u8]) -> Result<(&[u8], &[u8]), DecodeError>
 /// The tree and the buffers, of every encoding.
 #[tactic(auto, unfolding(crate::specs::Segment::raw_of))]
 fn read_raw<'a>(alloc: Global, bytes: &'a [u8]) -> Result<RawSegment<'a>, DecodeError>
-    ensures { Gives raw result (raw_of bytes.now) }
+    ensures exact { Gives raw result (raw_of bytes.now) }
+    ensures in_memory { length bytes.now < 2 ^ 64 }
 {
     let (data, tree_bytes) = halves(bytes)?;
     let tree = read_tree(alloc, (bytes.len() - 8) as u64, tree_bytes)?;
@@ -67,10 +69,10 @@ fn find_place(ids: &[EncodingId], id: EncodingId) -> Option<usize>
     None
 }
 
-fn is_plain_head(ctx: &ArrayContext, node: &Node) -> bool
-    ensures { result ≡ plain_head ctx.now (head node.now) }
+fn is_plain_head(ids: &[EncodingId], node: &Node) -> bool
+    ensures { result ≡ plain_head ids.now (head node.now) }
 {
-    match find_place(ctx.ids(), EncodingId::Plain) {
+    match find_place(ids, EncodingId::Plain) {
         None => false,
         Some(place) => {
             place == node.index as usize && (node.extra == 0 && (node.lengths.len() == 1 && node.children == 0))
@@ -79,12 +81,12 @@ fn is_plain_head(ctx: &ArrayContext, node: &Node) -> bool
 }
 
 #[tactic(auto, unfolding(crate::specs::Segment::plain_cells))]
-fn plain_cells(alloc: Global, ctx: &ArrayContext, nodes: &[Node], buffers: &[&[u8]]) -> Result<Vec<Cell>, DecodeError>
-    ensures { Gives (λ v. map tree v.items) result (cells_in ctx.now (map head nodes.now) (map (λ b. b.now) buffers.now)) }
+fn plain_cells(alloc: Global, ids: &[EncodingId], nodes: &[Node], buffers: &[&[u8]]) -> Result<Vec<Cell>, DecodeError>
+    ensures { Gives (λ v. map tree v.items) result (cells_in ids.now (map head nodes.now) (map (λ b. b.now) buffers.now)) }
 {
     match (nodes, buffers) {
         ([node, ..], [buffer, ..]) => {
-            if !is_plain_head(ctx, node) {
+            if !is_plain_head(ids, node) {
                 return Err(DecodeError::BadType(0));
             }
             read_cells(alloc, 0, node.rows, buffer)
@@ -94,11 +96,12 @@ fn plain_cells(alloc: Global, ctx: &ArrayContext, nodes: &[Node], buffers: &[&[u
 }
 
 #[tactic(auto, unfolding(crate::specs::Segment::decode_integers))]
-fn read_integers(alloc: Global, ctx: &ArrayContext, bytes: &[u8]) -> Result<Vec<Cell>, DecodeError>
-    ensures { Gives (λ v. map tree v.items) result (decode_integers ctx.now bytes.now) }
+fn read_integers(alloc: Global, ids: &[EncodingId], bytes: &[u8]) -> Result<Vec<Cell>, DecodeError>
+    ensures exact { Gives (λ v. map tree v.items) result (decode_integers ids.now bytes.now) }
+    ensures in_memory { length bytes.now < 2 ^ 64 }
 {
     let segment = read_raw(alloc, bytes)?;
-    plain_cells(alloc, ctx, &segment.tree.nodes, &segment.buffers)
+    plain_cells(alloc, ids, &segment.tree.nodes, &segment.buffers)
 }
 
 /// The lengths in bytes of all buffers of a segment, in pre-order of their nodes, whatever its type.
@@ -133,6 +136,6 @@ pub fn decode_segment(
     // Which fault it is.
     ensures exact { Gives piece result (decode ctx.now (ty dtype.now) bytes.now) }
 {
-    let cells = read_integers(alloc, ctx, bytes)?;
+    let cells = read_integers(alloc, ctx.ids(), bytes)?;
     Ok(Chunk::plain(dtype.clone()?, cells))
 }
