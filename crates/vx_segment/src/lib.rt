@@ -12,3 +12,6 @@ mod tree;
 pub use error::DecodeError;
 pub use law::segments_read_back;
 pub use segment::{buffer_lengths, decode_segment, tree_buffer_lengths};
+
+#[cfg(test)]
+mod tests;
