@@ -1,15 +1,15 @@
 -- Buffers that are read are laid out so, and what is laid out so is read; likewise the halves of a segment and the cells.
-use Rattle.std.proofs.Common.{◌≡◌, ℕ, zero, suc, ◌+◌, ◌-◌, ◌%◌, ◌^◌, ◌<◌, ◌≤◌, Bool, true, false, cond, eqb, ltb, List, [], ◌∷◌, ◌++◌, length, take, drop, map, replicate, Option, Some, None, Result, Ok, Err, refl, sym, ap, subst, ◌∙◌, append_assoc, arith}
+use Rattle.std.proofs.Common.{◌≡◌, ℕ, zero, suc, ◌+◌, ◌-◌, ◌%◌, ◌^◌, ◌<◌, ◌≤◌, Bool, true, false, cond, eqb, ltb, List, [], ◌∷◌, ◌++◌, length, take, drop, map, replicate, None, Ok, Err, refl, sym, ap, subst, ◌∙◌, append_assoc, arith}
 use Rattle.std.specs.List.{AllByRecursion}
-use Rattle.std.specs.Int.{w64, from_le_bytes, to_le_bytes}
+use Rattle.std.specs.Int.{w64, from_le_bytes}
 use Rattle.std.proofs.lemmas.Bool.{eqb-true, ltb-false, le-ltb}
-use Rattle.std.proofs.lemmas.List.{append-nil, nil_from_length, length-append, length-take, length-drop, length-replicate, take-append-drop, take_at, drop_at, drop-drop}
+use Rattle.std.proofs.lemmas.List.{nil_from_length, length-append, length-take, length-drop, length-replicate, take-append-drop, take_at, drop_at, drop-drop}
 use Rattle.vx_model.specs.Tree.{u64_bytes}
 use Rattle.vx_types.specs.Segment.{padding_at, laid_out}
 use Rattle.vx_segment.specs.Reading.{Fault, bad_grammar, ◌>>=◌}
-use Rattle.vx_segment.specs.Segment.{set_byte, unless_set, buffer_at, buffers_at, halves_at, halves_of}
+use Rattle.vx_segment.specs.Segment.{set_byte, buffer_at, buffers_at, halves_at, halves_of}
 use Rattle.vx_segment.proofs.BufferSteps.{buffer_is}
-use Rattle.vx_segment.proofs.Fields.{IsBytes, IsBytes-take, IsBytes-drop, bind_ok, guard_ok, guard_ended, ok_is, wide64}
+use Rattle.vx_segment.proofs.Fields.{IsBytes, IsBytes-take, IsBytes-drop, bind_ok, guard_ended, ok_is, wide64}
 
 padding_zeros : (padded : Bool) (at : ℕ) → padding_at padded at ≡ replicate (length (padding_at padded at)) 0
 padding_zeros true at = ap (λ (k : ℕ). replicate k 0) (sym (length-replicate ((8 - at % 8) % 8) 0))

@@ -5,7 +5,7 @@ use Rattle.std.proofs.lemmas.List.{append-nil, drop_more, length-replicate, leng
 use Rattle.vx_types.specs.Segment.{padding_at}
 use Rattle.vx_segment.specs.declared.node.Node.{Node}
 use Rattle.vx_segment.specs.declared.error.DecodeError.{DecodeError}
-use Rattle.vx_segment.specs.Reading.{Fault, bad_grammar, ◌>>=◌, Head}
+use Rattle.vx_segment.specs.Reading.{Fault, bad_grammar, ◌>>=◌}
 use Rattle.vx_segment.specs.Segment.{set_byte, unless_set, buffer_at, buffers_at, lengths_of}
 use Rattle.vx_segment.specs.Views.{Fails, head}
 use Rattle.vx_segment.proofs.Loops.{fails_with}

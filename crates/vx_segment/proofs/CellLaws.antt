@@ -1,19 +1,18 @@
 -- Integers that are read are spelled so and fit, and what is spelled so is read.
-use Rattle.std.proofs.Common.{◌≡◌, ℕ, zero, suc, ◌+◌, ◌-◌, ◌^◌, ◌<◌, ◌≤◌, Bool, true, false, cond, eqb, ltb, List, [], ◌∷◌, ◌++◌, length, take, drop, Result, Ok, Err, refl, sym, ap, subst, ◌∙◌, arith, IsTrue, inl, inr}
+use Rattle.std.proofs.Common.{◌≡◌, ℕ, zero, suc, ◌^◌, ◌<◌, ◌≤◌, Bool, true, false, cond, eqb, ltb, List, [], ◌∷◌, ◌++◌, length, take, drop, Ok, Err, refl, sym, ap, subst, ◌∙◌, arith, IsTrue, inl, inr}
 use Rattle.std.specs.Prelude.{ℤ, pos, negsuc, ◌&&◌}
 use Rattle.std.specs.List.{AllByRecursion}
 use Rattle.std.specs.Int.{w64, from_le_bytes, to_le_bytes, cast_signed, cast_unsigned}
-use Rattle.std.proofs.lemmas.Bool.{cases_lt, eqb-true, ltb-false, ltb-true, lt-ltb, le-ltb}
+use Rattle.std.proofs.lemmas.Bool.{cases_lt, eqb-true, ltb-false, le-ltb}
 use Rattle.std.proofs.lemmas.List.{append-nil, nil_from_length, length-append, length-take, take-append-drop, take_at, drop_at}
 use Rattle.std.proofs.lemmas.Int.{of_z-to_z, to_z-of_z, to_z_pos}
 use mir.Val.{SFits}
-use lib.Signed.{mag}
 use Rattle.vx_model.specs.declared.ptype.PType.TheVariants.{I64}
 use Rattle.vx_model.specs.Words.{joined_by, all_by}
 use Rattle.vx_model.specs.Numbers.{int_fits}
 use Rattle.vx_model.specs.Ty.{primitive}
-use Rattle.vx_model.specs.Tree.{Tree, null_cell, bool_cell, int_cell, text_cell, bytes_cell, list_cell, struct_cell, fits, spelling}
-use Rattle.vx_segment.specs.Reading.{Fault, bad_type, ◌>>=◌, many_at}
+use Rattle.vx_model.specs.Tree.{Tree, int_cell, fits, spelling}
+use Rattle.vx_segment.specs.Reading.{bad_type, ◌>>=◌, many_at}
 use Rattle.vx_segment.specs.Segment.{cell_at, cells_of}
 use Rattle.vx_segment.proofs.Fields.{IsBytes, IsBytes-take, IsBytes-drop, bind_ok, guard_ok, guard_ended, ok_is, Takes, wide64, many_takes, many_again}
 
@@ -49,6 +48,7 @@ cell_again node (int_cell i) rest fit =
     unsigned_below : (i : ℤ) → IsTrue (int_fits I64 i) → cast_unsigned w64 i < 2 ^ 64
     unsigned_below (pos n) fit = grind (arith, fit)
     unsigned_below (negsuc n) fit = omega arith
+
     signed_fits : (i : ℤ) → IsTrue (int_fits I64 i) → SFits w64 i
     signed_fits (pos n) fit = record { sfits = grind (arith, fit) }
     signed_fits (negsuc n) fit = record { sfits = grind (arith, fit) }

@@ -1,19 +1,18 @@
 -- A chunk that is read is spelled so, and what is spelled so is read.
-use Rattle.std.proofs.Common.{◌≡◌, ℕ, zero, suc, ◌+◌, ◌-◌, ◌^◌, ◌<◌, ◌≤◌, Bool, true, false, cond, eqb, ltb, List, [], ◌∷◌, ◌++◌, length, map, Option, Some, None, Result, Ok, Err, refl, sym, ap, subst, ◌∙◌, append_assoc, arith, IsTrue}
+use Rattle.std.proofs.Common.{◌≡◌, ℕ, ◌+◌, ◌-◌, ◌^◌, ◌<◌, Bool, true, false, cond, eqb, List, [], ◌∷◌, ◌++◌, length, Some, None, Result, Ok, Err, refl, sym, ap, subst, ◌∙◌, arith, IsTrue}
 use Rattle.std.specs.Prelude.{◌&&◌}
 use Rattle.std.specs.List.{AllByRecursion}
-use Rattle.std.specs.Int.{w16, w64, to_le_bytes}
 use Rattle.std.proofs.lemmas.Bool.{eqb-true, eq-eqb}
-use Rattle.std.proofs.lemmas.List.{append-nil, nil_from_length, length-append}
+use Rattle.std.proofs.lemmas.List.{append-nil, length-append}
 use Rattle.vx_model.specs.declared.encoding.EncodingId.{EncodingId}
 use Rattle.vx_model.specs.declared.encoding.EncodingId.TheVariants.{Plain}
 use Rattle.vx_model.specs.declared.ptype.PType.TheVariants.{I64}
 use Rattle.vx_model.specs.Words.{joined_by, all_by}
 use Rattle.vx_model.specs.Distinct.{is_listed}
-use Rattle.vx_model.specs.Ty.{Ty, primitive}
+use Rattle.vx_model.specs.Ty.{primitive}
 use Rattle.vx_model.specs.Tree.{Tree, bit, u64_bytes, fits}
 use Rattle.vx_model.specs.Piece.{Piece, plain_piece}
-use Rattle.vx_types.specs.Segment.{padding_at, laid_out, place_of, node_head, tree_bytes, segment_bytes, bytes_unless, refused, encode}
+use Rattle.vx_types.specs.Segment.{padding_at, laid_out, place_of, tree_bytes, segment_bytes, bytes_unless, encode}
 use Rattle.vx_types.specs.Encoding.{listed_place}
 use Rattle.vx_segment.specs.Reading.{Fault, bad_type, ◌>>=◌, Head, RawTree, tree_at}
 use Rattle.vx_segment.specs.Spelled.{head_spelling, are_trees, tree_spelling, IsHead}
@@ -21,8 +20,8 @@ use Rattle.vx_segment.specs.Segment.{buffers_at, halves_of, lengths_of, Raw, raw
 use Rattle.vx_segment.specs.Codec.{IsSegment}
 use Rattle.vx_segment.proofs.Fields.{IsBytes, bind_ok, ok_is}
 use Rattle.vx_segment.proofs.TreeLaws.{tree_takes, tree_again}
-use Rattle.vx_segment.proofs.BufferLaws.{AreBuffers, lengths, buffers_take, buffers_again, halves_take, halves_again}
-use Rattle.vx_segment.proofs.CellLaws.{spell, IsInteger, cells_take, cells_again, cells_fit, each_fits}
+use Rattle.vx_segment.proofs.BufferLaws.{lengths, buffers_take, buffers_again, halves_take, halves_again}
+use Rattle.vx_segment.proofs.CellLaws.{spell, cells_take, cells_again, cells_fit, each_fits}
 
 -- what is known of a segment that was read
 record IsRaw (bytes : List ℕ) (r : Raw) : Type 0 where

@@ -1,12 +1,12 @@
 -- A tree that is read is spelled so, and what is spelled so is read.
-use Rattle.std.proofs.Common.{◌≡◌, ℕ, zero, suc, ◌+◌, ◌-◌, ◌^◌, ◌<◌, ◌≤◌, Bool, true, false, cond, eqb, List, [], ◌∷◌, ◌++◌, length, Result, Ok, Err, refl, sym, ap, subst, ◌∙◌, append_assoc, arith}
+use Rattle.std.proofs.Common.{◌≡◌, ℕ, zero, suc, ◌+◌, ◌-◌, ◌^◌, ◌<◌, ◌≤◌, true, cond, eqb, List, [], ◌∷◌, ◌++◌, length, Ok, Err, refl, sym, ap, subst, ◌∙◌, append_assoc, arith}
 use Rattle.std.specs.Int.{w16, w64, to_le_bytes}
 use Rattle.std.specs.List.{AllByRecursion}
 use Rattle.std.proofs.lemmas.Bool.{eqb-true}
 use Rattle.std.proofs.lemmas.List.{append-nil, nil_from_length, length-append}
 use Rattle.vx_model.specs.Words.{joined_by}
 use Rattle.vx_model.specs.Tree.{bit, u64_bytes}
-use Rattle.vx_segment.specs.Reading.{Fault, bad_grammar, ◌>>=◌, number_at, byte_at, flag_at, many_at, Head, node_at, nodes_at, RawTree, tree_at}
+use Rattle.vx_segment.specs.Reading.{bad_grammar, ◌>>=◌, number_at, byte_at, flag_at, many_at, Head, node_at, nodes_at, RawTree, tree_at}
 use Rattle.vx_segment.specs.Spelled.{head_spelling, are_trees, tree_spelling, IsHead}
 use Rattle.vx_segment.proofs.Fields.{IsBytes, bind_ok, guard_ended, ok_is, Takes, Takes-then, wide16, number_takes, number_again, u64_takes, u64_again, byte_takes, flag_takes, flag_again, many_takes, many_again}
 

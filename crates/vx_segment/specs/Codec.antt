@@ -2,8 +2,7 @@
 use Rattle.std.specs.Prelude.{◌≡◌, ◌^◌, ◌<◌, Bool, false, List, length, Option, Some, None, Result, Ok, Err, IsTrue, ℕ}
 use Rattle.vx_model.specs.declared.encoding.EncodingId.{EncodingId}
 use Rattle.vx_model.specs.declared.ptype.PType.TheVariants.{I64}
-use Rattle.vx_model.specs.Distinct.{first_repeat}
-use Rattle.vx_model.specs.Ty.{Ty, primitive}
+use Rattle.vx_model.specs.Ty.{primitive}
 use Rattle.vx_model.specs.Tree.{Tree}
 use Rattle.vx_model.specs.Piece.{Piece, plain_piece, piece_type, is_sound, cells}
 use Rattle.vx_types.specs.Segment.{encode, refused, tree_bytes}

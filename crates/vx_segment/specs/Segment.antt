@@ -1,6 +1,6 @@
 -- Reading a segment: its tree, its buffers, and the chunk that they are.
-use Rattle.std.specs.Prelude.{ℕ, zero, suc, ◌+◌, ◌-◌, ◌&&◌, Bool, true, false, List, [], ◌∷◌, ◌++◌, length, take, drop, Option, Some, None, Result, Ok, Err, nat_lt, ◌==◌, if◌then◌else◌}
-use Rattle.std.specs.Int.{w64, byte_len, from_le_bytes, cast_signed}
+use Rattle.std.specs.Prelude.{ℕ, zero, suc, ◌+◌, ◌-◌, ◌&&◌, Bool, false, List, [], ◌∷◌, ◌++◌, length, take, drop, Option, Some, None, Result, Ok, Err, nat_lt, ◌==◌, if◌then◌else◌}
+use Rattle.std.specs.Int.{w64, from_le_bytes, cast_signed}
 use Rattle.vx_model.specs.declared.encoding.EncodingId.{EncodingId}
 use Rattle.vx_model.specs.declared.encoding.EncodingId.TheVariants.{Plain}
 use Rattle.vx_model.specs.declared.ptype.PType.TheVariants.{I64}

@@ -42,7 +42,12 @@ fn set_byte(at: u64, bytes: &[u8]) -> Option<u64>
     None
 }
 
-fn buffer_at(padding: u64, at: u64, length: u64, bytes: &[u8]) -> Result<(&[u8], &[u8]), DecodeError>
+fn buffer_at(
+    padding: u64,
+    at: u64,
+    length: u64,
+    bytes: &[u8],
+) -> Result<(&[u8], &[u8]), DecodeError>
     requires { at + padding < 2 ^ 64 }
     ensures { Gives (λ x. (x.0.now, x.1.now)) result (buffer_from padding at length bytes.now) }
 {

@@ -25,7 +25,12 @@ fn read_cell(node: u64, bytes: &[u8]) -> Result<(Cell, &[u8]), DecodeError>
 }
 
 #[tactic(auto, using(crate::proofs::Loops::many_rules))]
-fn read_rows(alloc: Global, node: u64, rows: u64, bytes: &[u8]) -> Result<(Vec<Cell>, &[u8]), DecodeError>
+fn read_rows(
+    alloc: Global,
+    node: u64,
+    rows: u64,
+    bytes: &[u8],
+) -> Result<(Vec<Cell>, &[u8]), DecodeError>
     ensures { Gives (λ x. (map tree x.0.items, x.1.now)) result (many_at (cell_at node) rows bytes.now) }
 {
     let mut cells = Vec::new(alloc);
@@ -40,7 +45,12 @@ fn read_rows(alloc: Global, node: u64, rows: u64, bytes: &[u8]) -> Result<(Vec<C
 
 /// So many integers, which fill the bytes. The bytes bound their number, whatever `rows` claims.
 #[tactic(auto, unfolding(crate::specs::Segment::cells_of))]
-pub(crate) fn read_cells(alloc: Global, node: u64, rows: u64, bytes: &[u8]) -> Result<Vec<Cell>, DecodeError>
+pub(crate) fn read_cells(
+    alloc: Global,
+    node: u64,
+    rows: u64,
+    bytes: &[u8],
+) -> Result<Vec<Cell>, DecodeError>
     ensures { Gives (λ v. map tree v.items) result (cells_of node rows bytes.now) }
 {
     let (cells, rest) = read_rows(alloc, node, rows, bytes)?;

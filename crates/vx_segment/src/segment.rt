@@ -75,13 +75,19 @@ fn is_plain_head(ids: &[EncodingId], node: &Node) -> bool
     match find_place(ids, EncodingId::Plain) {
         None => false,
         Some(place) => {
-            place == node.index as usize && (node.extra == 0 && (node.lengths.len() == 1 && node.children == 0))
+            place == node.index as usize
+                && (node.extra == 0 && (node.lengths.len() == 1 && node.children == 0))
         }
     }
 }
 
 #[tactic(auto, unfolding(crate::specs::Segment::plain_cells))]
-fn plain_cells(alloc: Global, ids: &[EncodingId], nodes: &[Node], buffers: &[&[u8]]) -> Result<Vec<Cell>, DecodeError>
+fn plain_cells(
+    alloc: Global,
+    ids: &[EncodingId],
+    nodes: &[Node],
+    buffers: &[&[u8]],
+) -> Result<Vec<Cell>, DecodeError>
     ensures { Gives (λ v. map tree v.items) result (cells_in ids.now (map head nodes.now) (map (λ b. b.now) buffers.now)) }
 {
     match (nodes, buffers) {

@@ -61,7 +61,12 @@ fn bool_at(stop: u64, bytes: &[u8]) -> Result<(bool, &[u8]), DecodeError>
 }
 
 #[tactic(auto, using(crate::proofs::Loops::many_rules))]
-fn lengths_at(alloc: Global, stop: u64, count: u8, bytes: &[u8]) -> Result<(Vec<u64>, &[u8]), DecodeError>
+fn lengths_at(
+    alloc: Global,
+    stop: u64,
+    count: u8,
+    bytes: &[u8],
+) -> Result<(Vec<u64>, &[u8]), DecodeError>
     ensures { Gives (λ x. (x.0.items, x.1.now)) result (many_at (number_at w64 stop) count bytes.now) }
 {
     let mut lengths = Vec::new(alloc);
@@ -84,7 +89,16 @@ fn read_node(alloc: Global, stop: u64, bytes: &[u8]) -> Result<(Node, &[u8]), De
     let (count, rest) = u8_at(stop, rest)?;
     let (lengths, rest) = lengths_at(alloc, stop, count, rest)?;
     let (children, rest) = u64_at(stop, rest)?;
-    Ok((Node { index, rows, extra, lengths, children }, rest))
+    Ok((
+        Node {
+            index,
+            rows,
+            extra,
+            lengths,
+            children,
+        },
+        rest,
+    ))
 }
 
 /// The nodes of one tree in pre-order. The bytes bound their number, whatever they claim.

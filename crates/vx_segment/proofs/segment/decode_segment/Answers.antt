@@ -1,15 +1,10 @@
-use Rattle.std.proofs.Common.{◌≡◌, ℕ, false, List, Ok, Some, map, sym, ap, ◌∙◌, subst, arith, IsTrue}
+use Rattle.std.proofs.Common.{◌≡◌, List, Ok, map, ap, ◌∙◌, arith}
 use Rattle.std.proofs.lemmas.Result.{err_from_is_err_and}
 use Rattle.vx_model.specs.declared.encoding.EncodingId.{EncodingId}
-use Rattle.vx_model.specs.declared.ptype.PType.TheVariants.{I64}
-use Rattle.vx_model.specs.Ty.{Ty, primitive}
-use Rattle.vx_model.specs.Tree.{Tree}
 use Rattle.vx_model.specs.TyView.{ty}
 use Rattle.vx_model.specs.TreeView.{tree}
-use Rattle.vx_model.specs.Piece.{Piece, plain_piece}
+use Rattle.vx_model.specs.Piece.{plain_piece}
 use Rattle.vx_segment.specs.Segment.{decode_integers}
-use Rattle.vx_segment.specs.Codec.{IsSegment}
-use Rattle.vx_segment.specs.Views.{Fails}
 use Rattle.vx_segment.proofs.SegmentLaws.{decode_takes}
 use Rattle.vx_segment.proofs.Answering.{typed_again, typed_found, fails_never, same_cells}
 use Rattle.vx_segment.proofs.segment.decode_segment.Goals as goal

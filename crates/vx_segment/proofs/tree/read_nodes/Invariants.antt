@@ -1,4 +1,4 @@
-use Rattle.std.proofs.Common.{◌≡◌, ℕ, ◌-◌, ◌+◌, ◌*◌, ◌≤◌, ◌^◌, length, map}
+use Rattle.std.proofs.Common.{◌≡◌, ◌-◌, ◌+◌, ◌*◌, ◌≤◌, ◌^◌, length, map}
 use Rattle.vx_segment.specs.Reading.{nodes_at}
 use Rattle.vx_segment.specs.Views.{head}
 use Rattle.vx_segment.proofs.Loops.{with_front}
