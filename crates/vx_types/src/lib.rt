@@ -4,6 +4,7 @@
 mod chunk;
 mod copy;
 mod encode;
+mod rows;
 
 pub use chunk::Chunk;
 pub use encode::{EncodeError, encode_segment};
