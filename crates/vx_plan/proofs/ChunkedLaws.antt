@@ -12,7 +12,7 @@ use Rattle.vx_plan.specs.PlanData.{Setting, Item, Pair, Plan, Node, paths, place
 use Rattle.vx_plan.specs.ChunkedNode.{chunked_node, chunk_plans, chunked_numbers, all_pairs, all_faults, all_numbers, all_layouts}
 use Rattle.vx_plan.specs.Valid.{Fit}
 use Rattle.vx_plan.specs.Statements.{Within}
-use Rattle.vx_plan.proofs.PlanLists.{ItemsOf, Holds, ReadAll, Grow, grow_none, grow_more, nil_left, nil_right, fit_left, fit_right, holds_left, holds_right, gathered_reads, length-stream_values, row_total-append, within_itself}
+use Rattle.vx_plan.proofs.PlanLists.{ItemsOf, Holds, Gives, gives_same, ReadAll, Grow, grow_none, grow_more, nil_left, nil_right, fit_left, fit_right, holds_left, holds_right, gathered_reads, length-stream_values, row_total-append, within_itself}
 use Rattle.vx_plan.proofs.Spots.{Apart, Lies, lies_none, two_parts, apart_inside, apart_next, apart_left, apart_right}
 use Rattle.vx_plan.proofs.FlatLaws.{Reads, Placed, Grows, Typed}
 
@@ -29,7 +29,7 @@ joined-each_values (i ∷ is) = ap₂ (λ a b. a ++ b) (append-nil (row_values i
 
 chunks_read : (s : Setting) (t : Ty) (k : Node) → Reads s t k → (m : Bool) (items : List Item) (e : Eof) → ItemsOf t items
     → all_faults (chunk_plans k m items e) ≡ [] → Fit (all_numbers (chunk_plans k m items e)) → (look : List ℕ → Option (List ℕ))
-    → Holds look (all_pairs (chunk_plans k m items e)) → ReadAll s.codec look (all_layouts (chunk_plans k m items e)) (each_values items)
+    → Holds look (all_pairs (chunk_plans k m items e)) → ReadAll s look (all_layouts (chunk_plans k m items e)) (each_values items)
 chunks_read s t k r m [] e of clean fit look held = tt
 chunks_read s t k r m (i ∷ is) e of clean fit look held =
     let p : Plan = k m (i ∷ []) true (inside e) in
@@ -42,15 +42,16 @@ chunked_reads s t k r = record { reads = go }
   where
     go : (m : Bool) (items : List Item) (e : Eof) → ItemsOf t items → (chunked_node t k m items true e).faults ≡ [] → Fit (chunked_node t k m items true e).numbers
         → (look : List ℕ → Option (List ℕ)) → Holds look (chunked_node t k m items true e).pairs
-        → rows s.codec look (chunked_node t k m items true e).layout ≡ Some (stream_values items)
+        → Gives s look (chunked_node t k m items true e).layout (stream_values items)
     go m items e of clean fit look held =
-        gathered_reads s.codec look t (row_total items) (all_layouts (chunk_plans k m items e)) (each_values items)
-            (chunks_read s t k r m items e of clean fit.1.1 look held) (ap length (joined-each_values items) ∙ length-stream_values items)
-        ∙ ap Some (joined-each_values items)
+        gives_same s look (chunked_node t k m items true e).layout (joined (each_values items)) (stream_values items)
+            (gathered_reads s look t (row_total items) (all_layouts (chunk_plans k m items e)) (each_values items)
+                (chunks_read s t k r m items e of clean fit.1.1 look held) (ap length (joined-each_values items) ∙ length-stream_values items))
+            (joined-each_values items)
 
 -- ---- paths
 
-paths-append : (ps qs : List Pair) → paths (ps ++ qs) ≡ paths ps ++ paths qs
+pub paths-append : (ps qs : List Pair) → paths (ps ++ qs) ≡ paths ps ++ paths qs
 paths-append [] qs = refl
 paths-append (p ∷ ps) qs = ap (λ r. p.0 ∷ r) (paths-append ps qs)
 

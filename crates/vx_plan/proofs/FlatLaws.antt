@@ -1,6 +1,7 @@
 -- The laws of a flat node.
 use Rattle.std.proofs.Common.{◌≡◌, ℕ, ◌+◌, ◌<◌, ◌^◌, Bool, true, false, List, [], ◌∷◌, ◌++◌, map, length, Option, Some, None, refl, sym, ap, ◌∙◌, subst, inl, inr}
 use Rattle.std.proofs.lemmas.List.{append-nil, length-map}
+use Rattle.std.proofs.lemmas.Bool.{true≢false}
 use Rattle.vx_model.specs.declared.encoding.EncodingId.{EncodingId}
 use Rattle.vx_model.specs.Ty.{Ty}
 use Rattle.vx_model.specs.Tree.{Tree}
@@ -18,7 +19,7 @@ use Rattle.vx_plan.specs.Way.{FlatOptions}
 use Rattle.vx_plan.specs.FlatNode.{flat_node, segment, pair_at, refused_at, length_of}
 use Rattle.vx_plan.specs.Valid.{Fit, Keeps}
 use Rattle.vx_plan.specs.Statements.{Within}
-use Rattle.vx_plan.proofs.PlanLists.{ItemsOf, Holds, nil_left, nil_right, counted_same, within_itself}
+use Rattle.vx_plan.proofs.PlanLists.{ItemsOf, Holds, Gives, nil_left, nil_right, counted_same, within_itself}
 use Rattle.vx_plan.proofs.Spots.{Apart, Lies, lies_none, lies_one}
 
 -- What the laws say of a node at a type.
@@ -26,7 +27,7 @@ use Rattle.vx_plan.proofs.Spots.{Apart, Lies, lies_none, lies_one}
 pub record Reads (s : Setting) (t : Ty) (k : Node) : Type 0 where
   pub reads : (m : Bool) (items : List Item) (e : Eof) → ItemsOf t items → (k m items true e).faults ≡ [] → Fit (k m items true e).numbers
       → (look : List ℕ → Option (List ℕ)) → Holds look (k m items true e).pairs
-      → rows s.codec look (k m items true e).layout ≡ Some (stream_values items)
+      → Gives s look (k m items true e).layout (stream_values items)
 
 pub record Placed (t : Ty) (k : Node) : Type 0 where
   pub placed : (m : Bool) (items : List Item) (ended : Bool) (e : Eof) → Apart (places items) e
@@ -39,6 +40,14 @@ pub record Grows (t : Ty) (k : Node) : Type 0 where
 -- the layout has the node's type
 pub record Typed (t : Ty) (k : Node) : Type 0 where
   pub typed : (m : Bool) (items : List Item) (ended : Bool) (e : Eof) → layout_type (k m items ended e).layout ≡ t
+
+is_nil : {A : Type 0} → List A → Bool
+is_nil [] = true
+is_nil (x ∷ xs) = false
+
+pub cons_nil : {A : Type 0} {x : A} {xs : List A} → x ∷ xs ≡ [] → ⊥
+unfolding is_nil
+cons_nil {A} f = absurd (true≢false (sym (ap (λ (z : List A). is_nil z) f)))
 
 -- ---- rows
 
@@ -64,17 +73,17 @@ flat_reads s keeps o t = record { reads = go }
   where
     go : (m : Bool) (items : List Item) (e : Eof) → ItemsOf t items → (flat_node s o t m items true e).faults ≡ [] → Fit (flat_node s o t m items true e).numbers
         → (look : List ℕ → Option (List ℕ)) → Holds look (flat_node s o t m items true e).pairs
-        → rows s.codec look (flat_node s o t m items true e).layout ≡ Some (stream_values items)
-    go m [] e of clean fit look held = refl
+        → Gives s look (flat_node s o t m items true e).layout (stream_values items)
+    go m [] e of clean fit look held = record { read = refl; zones = (tt, tt) }
     go m (i ∷ []) e of clean fit look held =
         let none : s.codec.refused s.encodings i.1 ≡ None = no_refusal i.0 (s.codec.refused s.encodings i.1) clean in
         let enc : (b : List ℕ) × (segment s o i ≡ Some b) = keeps.codec.encodes o.padding i.1 none in
         let short : length enc.0 < 2 ^ 64 = fit_length (segment s o i) enc.0 enc.1 fit.1 in
         let again : s.codec.decode s.encodings (piece_type i.1) enc.0 ≡ Some (cells i.1) = keeps.codec.again o.padding i.1 enc.0 of.0.whole enc.1 short in
-        flat_value (look i.0) enc.0 (cells i.1) (s.codec.decode s.encodings t) (held_pair look i.0 (segment s o i) enc.0 enc.1 held)
+        record { zones = (tt, tt); read = flat_value (look i.0) enc.0 (cells i.1) (s.codec.decode s.encodings t) (held_pair look i.0 (segment s o i) enc.0 enc.1 held)
             (subst (λ u. s.codec.decode s.encodings u enc.0 ≡ Some (cells i.1)) of.0.typed again)
-        ∙ ap Some (sym (append-nil (row_values i.1)))
-    go m (i ∷ j ∷ is) e of clean fit look held = let f = nil_right (refused_at i.0 (s.codec.refused s.encodings i.1)) _ clean in cc
+        ∙ ap Some (sym (append-nil (row_values i.1))) }
+    go m (i ∷ j ∷ is) e of clean fit look held = let f = nil_right (refused_at i.0 (s.codec.refused s.encodings i.1)) _ clean in absurd (cons_nil f)
 
 -- ---- paths
 

@@ -36,6 +36,7 @@ alone s o (flat p) t m i e h = let same : o ≡ p = cc in rw same (record { pair
 alone s o (chunked w) t m i e h =
     let a : Alone s o t i (plan s w t m (i ∷ []) true (inside e)) = alone s o w t m i (inside e) h in
     record { pairs = append-nil _ ∙ a.pairs; faults = append-nil _ ∙ a.faults; layout = a.layout }
+alone s o w t m i e h = cc
 
 -- ---- all chunks
 

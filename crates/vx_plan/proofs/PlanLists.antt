@@ -1,6 +1,6 @@
 -- Faults, numbers and pairs of several plans, joined.
 use Rattle.std.proofs.Common.{◌≡◌, ℕ, ◌+◌, ◌<◌, ◌≤◌, ◌^◌, ◌⊎◌, Bool, true, false, cond, List, [], ◌∷◌, ◌++◌, map, length, Option, Some, None, refl, sym, ap, ap₂, ◌∙◌, subst, inl, inr, ⊎_elim, arith, append_assoc, length-append, eq-eqb}
-use Rattle.std.proofs.lemmas.List.{append-nil, length-map}
+use Rattle.std.proofs.lemmas.List.{append-nil, length-map, map-append}
 use Rattle.vx_model.specs.Ty.{Ty}
 use Rattle.vx_model.specs.Tree.{Tree}
 use Rattle.vx_model.specs.Val.{Val, value}
@@ -12,15 +12,16 @@ use Rattle.vx_tree.specs.LayoutTree.{Lay, lays_of, gathered, layout, no_layouts,
 use Rattle.vx_tree.specs.Real.{Of}
 use Rattle.vx_tree.specs.Codec.{Codec}
 use Rattle.vx_tree.specs.Rows.{and_then, all_there, counted, joined, chunked_rows, rows, each_rows}
+use Rattle.vx_rules.specs.Stream.{Chunks, stream_cells}
 use Rattle.vx_plan.specs.PlanData.{Setting, Pair, Plan, Item, Fault, Node, row_total, stream_values}
 use Rattle.vx_plan.specs.ChunkedNode.{all_pairs, all_faults, all_numbers, all_layouts}
 use Rattle.vx_plan.specs.Valid.{Fit}
+use Rattle.vx_plan.specs.ZonesHold.{ZonesHold, AllZonesHold}
 use Rattle.vx_plan.specs.Statements.{Within}
 
 -- each chunk of a stream is a whole one of the type
 abbrev pub ItemsOf : Ty → List Item → Type 0
-ItemsOf t [] = Unit {0}
-ItemsOf t (i ∷ is) = Of t i.1 × ItemsOf t is
+ItemsOf t items = Chunks t items
 
 -- each pair's path is looked up to its bytes
 abbrev pub Holds : (List ℕ → Option (List ℕ)) → List Pair → Type 0
@@ -87,33 +88,49 @@ length-stream_values (i ∷ is) =
     let k : length (row_values i.1) ≡ length (cells i.1) = length-map (cells i.1) value in
     omega arith
 
--- Several layouts, each of which gives its rows.
-abbrev pub ReadAll : {A : Type 0} → Codec → (A → Option (List ℕ)) → List (Lay A) → List (List Val) → Type 0
-ReadAll c look [] [] = Unit {0}
-ReadAll c look [] (v ∷ vs) = ⊥
-ReadAll c look (l ∷ ls) [] = ⊥
-ReadAll c look (l ∷ ls) (v ∷ vs) = (rows c look l ≡ Some v) × ReadAll c look ls vs
+-- A layout gives these rows, and what its zoned nodes promise holds.
+pub record Gives {A : Type 0} (s : Setting) (look : A → Option (List ℕ)) (l : Lay A) (vs : List Val) : Type 0 where
+  pub read : rows s.codec look l ≡ Some vs
+  pub zones : ZonesHold s look l
 
-pub all_there_read : {A : Type 0} (c : Codec) (look : A → Option (List ℕ)) (ls : List (Lay A)) (vs : List (List Val))
-    → ReadAll c look ls vs → all_there (each_rows c look (lays_of ls)) ≡ Some vs
-all_there_read c look [] [] h = refl
-all_there_read c look [] (v ∷ vs) h = absurd h
-all_there_read c look (l ∷ ls) [] h = absurd h
-all_there_read c look (l ∷ ls) (v ∷ vs) h =
-    ap (λ r. all_there (r ∷ each_rows c look (lays_of ls))) h.0
-    ∙ ap (and_then (λ xs. Some (v ∷ xs))) (all_there_read c look ls vs h.1)
+pub gives_same : {A : Type 0} (s : Setting) (look : A → Option (List ℕ)) (l : Lay A) (vs ws : List Val) → Gives s look l vs → vs ≡ ws → Gives s look l ws
+gives_same s look l vs ws g e = record { read = g.read ∙ ap Some e; zones = g.zones }
+
+-- Several layouts, each of which gives its rows.
+abbrev pub ReadAll : {A : Type 0} → Setting → (A → Option (List ℕ)) → List (Lay A) → List (List Val) → Type 0
+ReadAll s look [] [] = Unit {0}
+ReadAll s look [] (v ∷ vs) = ⊥
+ReadAll s look (l ∷ ls) [] = ⊥
+ReadAll s look (l ∷ ls) (v ∷ vs) = Gives s look l v × ReadAll s look ls vs
+
+pub all_there_read : {A : Type 0} (s : Setting) (look : A → Option (List ℕ)) (ls : List (Lay A)) (vs : List (List Val))
+    → ReadAll s look ls vs → all_there (each_rows s.codec look (lays_of ls)) ≡ Some vs
+all_there_read s look [] [] h = refl
+all_there_read s look [] (v ∷ vs) h = absurd h
+all_there_read s look (l ∷ ls) [] h = absurd h
+all_there_read s look (l ∷ ls) (v ∷ vs) h =
+    ap (λ r. all_there (r ∷ each_rows s.codec look (lays_of ls))) h.0.read
+    ∙ ap (and_then (λ xs. Some (v ∷ xs))) (all_there_read s look ls vs h.1)
+
+pub all_zones : {A : Type 0} (s : Setting) (look : A → Option (List ℕ)) (ls : List (Lay A)) (vs : List (List Val)) → ReadAll s look ls vs → AllZonesHold s look false (lays_of ls)
+all_zones s look [] [] h = tt
+all_zones s look [] (v ∷ vs) h = absurd h
+all_zones s look (l ∷ ls) [] h = absurd h
+all_zones s look (l ∷ ls) (v ∷ vs) h = (h.0.zones, all_zones s look ls vs h.1)
 
 -- one layout is read itself, none or several joined
-pub gathered_reads : {A : Type 0} (c : Codec) (look : A → Option (List ℕ)) (t : Ty) (n : ℕ) (ls : List (Lay A)) (vs : List (List Val))
-    → ReadAll c look ls vs → length (joined vs) ≡ n → rows c look (gathered t n ls) ≡ Some (joined vs)
-gathered_reads c look t n [] [] h e = counted_same n [] e
-gathered_reads c look t n [] (v ∷ vs) h e = absurd h
-gathered_reads c look t n (l ∷ ls) [] h e = absurd h
-gathered_reads c look t n (l ∷ []) (v ∷ []) h e = h.0 ∙ ap Some (sym (append-nil v))
-gathered_reads c look t n (l ∷ []) (v ∷ w ∷ vs) h e = absurd h.1
-gathered_reads c look t n (l ∷ k ∷ ls) (v ∷ vs) h e =
-    ap (λ r. and_then (counted n) (and_then chunked_rows r)) (all_there_read c look (l ∷ k ∷ ls) (v ∷ vs) h)
-    ∙ counted_same n (joined (v ∷ vs)) e
+pub gathered_reads : {A : Type 0} (s : Setting) (look : A → Option (List ℕ)) (t : Ty) (n : ℕ) (ls : List (Lay A)) (vs : List (List Val))
+    → ReadAll s look ls vs → length (joined vs) ≡ n → Gives s look (gathered t n ls) (joined vs)
+gathered_reads s look t n [] [] h e = record { read = counted_same n [] e; zones = (tt, tt) }
+gathered_reads s look t n [] (v ∷ vs) h e = absurd h
+gathered_reads s look t n (l ∷ ls) [] h e = absurd h
+gathered_reads s look t n (l ∷ []) (v ∷ []) h e = gives_same s look l v (v ++ []) h.0 (sym (append-nil v))
+gathered_reads s look t n (l ∷ []) (v ∷ w ∷ vs) h e = absurd h.1
+gathered_reads s look t n (l ∷ k ∷ ls) (v ∷ vs) h e = record {
+  read = ap (λ r. and_then (counted n) (and_then chunked_rows r)) (all_there_read s look (l ∷ k ∷ ls) (v ∷ vs) h)
+      ∙ counted_same n (joined (v ∷ vs)) e;
+  zones = (tt, all_zones s look (l ∷ k ∷ ls) (v ∷ vs) h)
+}
 
 -- What holds of the first plans holds of all, plan by plan.
 pub record Grow (ps qs : List Plan) : Type 0 where
@@ -135,3 +152,13 @@ grow_more p q ps qs a b = record {
 
 pub within_itself : (p : Plan) → Within p p
 within_itself p = record { pairs = λ x h. h; faultless = λ e. e; fit = λ e h. h }
+
+-- ---- rows and values of a stream by its cells
+
+pub row_total_cells : (items : List Item) → row_total items ≡ length (stream_cells items)
+row_total_cells [] = refl
+row_total_cells (i ∷ is) = ap (λ n. length (cells i.1) + n) (row_total_cells is) ∙ sym (length-append (cells i.1) (stream_cells is))
+
+pub stream_values_cells : (items : List Item) → stream_values items ≡ map value (stream_cells items)
+stream_values_cells [] = refl
+stream_values_cells (i ∷ is) = ap (λ r. row_values i.1 ++ r) (stream_values_cells is) ∙ sym (map-append value (cells i.1) (stream_cells is))

@@ -35,6 +35,10 @@ whole t n numbers ps = record {
   reserved = all_reserved ps
 }
 
+-- two plans beside each other, under one layout
+abbrev pub both_plans : Lay (List ℕ) → List ℕ → Plan → Plan → Plan
+both_plans l ns p q = record { pairs = p.pairs ++ q.pairs; faults = p.faults ++ q.faults; layout = l; numbers = ns ++ (p.numbers ++ q.numbers); reserved = p.reserved + q.reserved }
+
 -- chunk j alone, ended, with the first eof path below e + j
 abbrev pub chunk_plans : Node → Bool → List Item → Eof → List Plan
 chunk_plans k m [] e = []

@@ -6,6 +6,7 @@ use Rattle.vx_model.specs.Val.{Val}
 use Rattle.vx_model.specs.Piece.{Piece, cells, row_values}
 use Rattle.vx_path.specs.Path.{Eof}
 use Rattle.vx_tree.specs.LayoutTree.{Lay}
+use Rattle.vx_rules.specs.Stream.{Chunk, chunk_paths}
 use Rattle.vx_tree.specs.Codec.{Codec}
 
 -- What a write is given beside its strategy and its schema.
@@ -68,7 +69,7 @@ pub record Plan : Type 0 where
 
 -- a chunk and its path
 abbrev pub Item : Type 0
-Item = List ℕ × Piece
+Item = Chunk
 
 -- What a node writes: from its mark, its stream, whether that has ended, and its eof path.
 abbrev pub Node : Type 0
@@ -83,8 +84,7 @@ stored [] = []
 stored (p ∷ ps) = p.1 ∷ stored ps
 
 abbrev pub places : List Item → List (List ℕ)
-places [] = []
-places (i ∷ is) = i.0 ∷ places is
+places is = chunk_paths is
 
 -- rows of a stream
 abbrev pub row_total : List Item → ℕ

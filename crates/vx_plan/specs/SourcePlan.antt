@@ -9,9 +9,23 @@ use Rattle.vx_plan.specs.Way.{Way}
 use Rattle.vx_plan.specs.Walk.{Nodes, walk}
 use Rattle.vx_plan.specs.FlatNode.{flat_node}
 use Rattle.vx_plan.specs.ChunkedNode.{chunked_node}
+use Rattle.vx_plan.specs.GroupNode.{grouped_node, compressed_node}
+use Rattle.vx_plan.specs.DictNode.{dict_node}
+use Rattle.vx_plan.specs.ZonedNode.{zoned_node}
+use Rattle.vx_plan.specs.ColumnNodes.{not_struct_node, struct_node, list_node}
 
 abbrev pub plan_nodes : Setting → Nodes Node
-plan_nodes s = record { on_flat = flat_node s; on_chunked = chunked_node }
+plan_nodes s = record {
+  on_flat = flat_node s;
+  on_chunked = chunked_node;
+  on_grouped = grouped_node;
+  on_compressed = compressed_node s;
+  on_dict = dict_node s;
+  on_zoned = zoned_node s;
+  on_not_struct = not_struct_node;
+  on_struct = struct_node;
+  on_list = list_node
+}
 
 -- what a strategy writes of a stream of the type
 abbrev pub plan : Setting → Way → Ty → Node

@@ -1,13 +1,15 @@
 -- The laws of what is written.
-use Rattle.std.specs.Prelude.{ℕ, ◌+◌, ◌≡◌, Bool, true, false, List, [], ◌∷◌, ◌++◌, length, Some}
+use Rattle.std.specs.Prelude.{ℕ, ◌+◌, ◌<◌, ◌≡◌, Bool, true, false, List, [], ◌∷◌, ◌++◌, length, Some}
 use Rattle.vx_model.specs.Ty.{Ty}
 use Rattle.vx_model.specs.Piece.{Piece}
 use Rattle.vx_path.specs.Lists.{In, Each}
 use Rattle.vx_path.specs.Path.{Scattered, Region}
 use Rattle.vx_tree.specs.LayoutTree.{row_count, layout_type}
 use Rattle.vx_tree.specs.Rows.{rows}
-use Rattle.vx_plan.specs.PlanData.{Setting, Item, Pair, Plan, paths, places, row_total}
-use Rattle.vx_plan.specs.Way.{Way}
+use Rattle.vx_plan.specs.PlanData.{Setting, Item, Pair, Plan, paths, places, row_total, stream_values}
+use Rattle.vx_plan.specs.Way.{Way, ZonedOptions}
+use Rattle.vx_plan.specs.ZonedNode.{recorded, zone_faults, zone_records}
+use Rattle.vx_plan.specs.ZonesHold.{zones_of, records_of, ZonesHold}
 use Rattle.vx_plan.specs.SourcePlan.{source_plan, batch_items, root_eof, source_values}
 use Rattle.vx_plan.specs.Number.{sorted, segments, numbered, segment_at}
 use Rattle.vx_plan.specs.Valid.{Valid, Fit, AllOf, Keeps}
@@ -51,3 +53,17 @@ CountsRows = (s : Setting) (w : Way) (t : Ty) (m : Bool) (batches : List Piece) 
     → (source_plan s w t m batches true).faults ≡ [] → Fit (source_plan s w t m batches true).numbers
     → (layout_type (source_plan s w t m batches true).layout ≡ t)
         × (row_count (source_plan s w t m batches true).layout ≡ length (source_values batches))
+
+-- ---- zones
+
+-- Where no zone is cut wrong, record z is of the rows from z * zone_len to the next zone or the end: of the very rows, in
+-- order, that the data child gives back.
+abbrev pub RecordsAreOfZones : Type 0
+RecordsAreOfZones = (s : Setting) (o : ZonedOptions) (t : Ty) (items : List Item) → 0 < length (recorded o t) → zone_faults o.zone_len (recorded o t) items ≡ []
+    → zone_records s t (recorded o t) items ≡ records_of s t (recorded o t) (zones_of (length items) o.zone_len (stream_values items))
+
+-- Each zoned node of the numbered layout has a table of the records of exactly the rows of its zones.
+abbrev pub ZonesAreTrue : Type 0
+ZonesAreTrue = (s : Setting) (w : Way) (t : Ty) (m : Bool) (batches : List Piece) (first : ℕ) → Keeps s → AllOf t batches
+    → (source_plan s w t m batches true).faults ≡ [] → Fit (source_plan s w t m batches true).numbers
+    → ZonesHold s (segment_at first (segments (source_plan s w t m batches true))) (numbered (source_plan s w t m batches true) first)

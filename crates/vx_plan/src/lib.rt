@@ -3,7 +3,7 @@
 #![tactic(auto)]
 
 ghost use Rattle.vx_plan.specs.InOrder.{ChunksInOrder};
-ghost use Rattle.vx_plan.specs.Statements.{RowsComeBack, PathsDistinct, PathsInRegion, PrefixWithin, FrontOfTaken, CountsRows};
+ghost use Rattle.vx_plan.specs.Statements.{RowsComeBack, PathsDistinct, PathsInRegion, PrefixWithin, FrontOfTaken, CountsRows, RecordsAreOfZones, ZonesAreTrue};
 
 /// The rows of the numbered layout are the batches' rows, in order.
 pub fn rows_come_back()
@@ -44,5 +44,17 @@ pub fn layouts_count_rows()
 /// Chunking over flat writes each batch's segment, in order.
 pub fn chunks_stand_in_order()
     ensures { ChunksInOrder }
+{
+}
+
+/// Record z of a zoned node is of the rows of zone z.
+pub fn records_are_of_zones()
+    ensures { RecordsAreOfZones }
+{
+}
+
+/// Each zoned node has a table of the records of exactly the rows of its zones.
+pub fn zones_are_true()
+    ensures { ZonesAreTrue }
 {
 }

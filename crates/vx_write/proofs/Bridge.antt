@@ -38,9 +38,9 @@ not_true true e = absurd (let f : false ≡ true = e in cc)
 not_true false e = refl
 
 built_way : (w : Way) → is_built_way w ≡ true → IsBuilt w
-built_way (flat o) e = absurd (let f : false ≡ true = e in cc)
 built_way (chunked (flat o)) e = let h = both o.padding _ e in record { options = o; chunks = refl; padded = h.0; apart = not_true o.inline h.1 }
-built_way (chunked (chunked w)) e = absurd (let f : false ≡ true = e in cc)
+built_way (chunked w) e = absurd (let f : false ≡ true = e in cc)
+built_way w e = absurd (let f : false ≡ true = e in cc)
 
 pub built : (w : Way) (t : Ty) → is_built w t ≡ true → IsBuilt w
 built w t e = built_way w (both (is_built_way w) (is_built_type t) e).0

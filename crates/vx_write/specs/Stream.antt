@@ -28,11 +28,11 @@ pub record Writes (ids : List EncodingId) (s : Setting) : Type 0 where
 
 abbrev pub is_flat_default : Way → Bool
 is_flat_default (flat o) = is_default o
-is_flat_default (chunked w) = false
+is_flat_default w = false
 
 abbrev pub is_built_way : Way → Bool
-is_built_way (flat o) = false
 is_built_way (chunked w) = is_flat_default w
+is_built_way w = false
 
 abbrev pub is_i64 : PType → Bool
 is_i64 I64 = true

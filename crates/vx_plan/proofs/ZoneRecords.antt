@@ -1,0 +1,70 @@
+-- The records of zones are of the rows of the zones.
+use Rattle.std.proofs.Common.{◌≡◌, ℕ, zero, suc, ◌+◌, ◌<◌, ◌≤◌, ◌⊎◌, ◌&&◌, ◌||◌, Bool, true, false, List, [], ◌∷◌, ◌++◌, map, length, take, drop, refl, sym, ap, ap₂, ◌∙◌, subst, inl, inr, ⊎_elim, arith}
+use Rattle.std.specs.Prelude.{if◌then◌else◌, ◌==◌, nat_lt}
+use Rattle.std.proofs.lemmas.List.{append-nil, length-map}
+use Rattle.std.proofs.lemmas.Bool.{cases_Bool, true≢false}
+use Rattle.std.proofs.lemmas.Bool.Decides.{nat_tests}
+use Rattle.vx_model.specs.Ty.{Ty}
+use Rattle.vx_model.specs.Val.{Val, value}
+use Rattle.vx_model.specs.Piece.{cells, row_values}
+use Rattle.vx_record.specs.Aggregate.{Column}
+use Rattle.vx_record.specs.Record.{zone_record}
+use Rattle.vx_plan.specs.PlanData.{Setting, Item, fault, zone_cut, at_chunk, stream_values}
+use Rattle.vx_plan.specs.Way.{ZonedOptions}
+use Rattle.vx_plan.specs.ZonedNode.{recorded, is_cut_wrong, is_last, cut_faults, zone_faults, zone_records}
+use Rattle.vx_plan.specs.ZonesHold.{zones_of, records_of}
+use Rattle.vx_plan.specs.Statements.{RecordsAreOfZones}
+
+take_front : {A : Type 0} (front back : List A) (n : ℕ) → length front ≡ n → take n (front ++ back) ≡ front
+take_front [] back zero e = refl
+take_front [] back (suc n) e = absurd (omega arith)
+take_front (x ∷ front) back zero e = absurd (omega arith)
+take_front (x ∷ front) back (suc n) e = ap (λ z. x ∷ z) (take_front front back n (omega arith))
+
+drop_front : {A : Type 0} (front back : List A) (n : ℕ) → length front ≡ n → drop n (front ++ back) ≡ back
+drop_front [] back zero e = refl
+drop_front [] back (suc n) e = absurd (omega arith)
+drop_front (x ∷ front) back zero e = absurd (omega arith)
+drop_front (x ∷ front) back (suc n) e = drop_front front back n (omega arith)
+
+take_all : {A : Type 0} (xs : List A) (n : ℕ) → length xs ≤ n → take n xs ≡ xs
+take_all [] zero l = refl
+take_all [] (suc n) l = refl
+take_all (x ∷ xs) zero l = absurd (omega arith)
+take_all (x ∷ xs) (suc n) l = ap (λ z. x ∷ z) (take_all xs n (omega arith))
+
+-- a chunk that is a zone has at most the zone's rows, and as many where another follows
+few : (zone n : ℕ) (last : Bool) → is_cut_wrong zone n last ≡ false → n ≤ zone
+few zone n last h = grind (arith, nat_tests)
+
+whole_zone : (zone n : ℕ) → is_cut_wrong zone n false ≡ false → n ≡ zone
+whole_zone zone n h = grind (arith, nat_tests)
+
+cut_right : (zone : ℕ) (c : Item) (cs : List Item) → cut_faults zone (c ∷ cs) ≡ [] → (is_cut_wrong zone (length (cells c.1)) (is_last cs) ≡ false) × (cut_faults zone cs ≡ [])
+cut_right zone c cs h = go (is_cut_wrong zone (length (cells c.1)) (is_last cs)) h
+  where
+    go : (b : Bool) → (if b then fault (zone_cut (length (cells c.1))) (at_chunk c.0) ∷ [] else cut_faults zone cs) ≡ [] → (b ≡ false) × (cut_faults zone cs ≡ [])
+    go true h = cc
+    go false h = (refl, h)
+
+pub zones_right : (s : Setting) (t : Ty) (columns : List Column) (zone : ℕ) (items : List Item) → cut_faults zone items ≡ []
+    → zone_records s t columns items ≡ records_of s t columns (zones_of (length items) zone (stream_values items))
+zones_right s t columns zone [] h = refl
+zones_right s t columns zone (c ∷ []) h =
+    let w : (is_cut_wrong zone (length (cells c.1)) true ≡ false) × ([] ≡ []) = cut_right zone c [] h in
+    let l : length (row_values c.1 ++ []) ≡ length (cells c.1) = ap length (append-nil (row_values c.1)) ∙ length-map (cells c.1) value in
+    let k : length (cells c.1) ≤ zone = few zone (length (cells c.1)) true w.0 in
+    ap (λ vs. zone_record s.hash t vs columns ∷ []) (sym (take_all (row_values c.1 ++ []) zone (omega arith) ∙ append-nil (row_values c.1)))
+zones_right s t columns zone (c ∷ d ∷ cs) h =
+    let w : (is_cut_wrong zone (length (cells c.1)) false ≡ false) × (cut_faults zone (d ∷ cs) ≡ []) = cut_right zone c (d ∷ cs) h in
+    let l : length (row_values c.1) ≡ zone = length-map (cells c.1) value ∙ whole_zone zone (length (cells c.1)) w.0 in
+    ap₂ (λ vs rest. zone_record s.hash t vs columns ∷ rest) (sym (take_front (row_values c.1) (stream_values (d ∷ cs)) zone l))
+        (zones_right s t columns zone (d ∷ cs) w.1 ∙ ap (λ vs. records_of s t columns (zones_of (length (d ∷ cs)) zone vs)) (sym (drop_front (row_values c.1) (stream_values (d ∷ cs)) zone l)))
+
+pub records_are_of_zones : RecordsAreOfZones
+records_are_of_zones s o t items some h = go (recorded o t) some h
+  where
+    go : (columns : List Column) → 0 < length columns → zone_faults o.zone_len columns items ≡ []
+        → zone_records s t columns items ≡ records_of s t columns (zones_of (length items) o.zone_len (stream_values items))
+    go [] n h = absurd (omega arith)
+    go (a ∷ columns) n h = zones_right s t (a ∷ columns) o.zone_len items h

@@ -1,0 +1,4 @@
+mod Examples
+pub mod OrderLaws
+pub mod TextOrder
+pub mod PruneLaws

@@ -1,0 +1,5 @@
+use Rattle.vx_record.proofs.PruneLaws.{bounds_hold}
+use Rattle.vx_record.proofs.bounds_hold.Goals as goal
+
+pub returns : goal.returns
+returns c = bounds_hold

@@ -1,0 +1,140 @@
+-- Predicates over a column, and which zones a record rules out.
+use Rattle.std.specs.Prelude.{ℕ, ◌&&◌, ◌||◌, ◌==◌, ◌%◌, ◌/◌, ◌^◌, nat_lt, Bool, true, false, not, if◌then◌else◌, List, [], ◌∷◌, length, Option, Some, None, pos}
+use Rattle.vx_model.specs.Ty.{Ty}
+use Rattle.vx_model.specs.Val.{Val, null_value, bool_value, int_value, text_value, bytes_value, list_value, struct_value}
+use Rattle.vx_bloom.specs.Values.{value_hash, may_contain_hash}
+use Rattle.vx_record.specs.Aggregate.{Aggregate, maximum, minimum, bounded_maximum, bounded_minimum, null_count, sum, bloom}
+use Rattle.vx_record.specs.ValueOrder.{value_le, value_lt, value_same}
+
+pub data Predicate : Type 0 where
+  eq : Val → Predicate
+  not_eq : Val → Predicate
+  lt : Val → Predicate
+  lt_eq : Val → Predicate
+  gt : Val → Predicate
+  gt_eq : Val → Predicate
+  is_null : Predicate
+  is_not_null : Predicate
+  both : Predicate → Predicate → Predicate
+  either : Predicate → Predicate → Predicate
+  negated : Predicate → Predicate
+
+-- ---- what a predicate says of a value: true, false or unknown
+
+abbrev pub both_of : Option Bool → Option Bool → Option Bool
+both_of (Some false) b = Some false
+both_of a (Some false) = Some false
+both_of (Some true) (Some true) = Some true
+both_of a b = None
+
+abbrev pub either_of : Option Bool → Option Bool → Option Bool
+either_of (Some true) b = Some true
+either_of a (Some true) = Some true
+either_of (Some false) (Some false) = Some false
+either_of a b = None
+
+abbrev pub not_of : Option Bool → Option Bool
+not_of None = None
+not_of (Some b) = Some (not b)
+
+-- a comparison with null is unknown
+abbrev pub compared : Val → Bool → Option Bool
+compared null_value b = None
+compared v b = Some b
+
+abbrev pub is_null_row : Val → Bool
+is_null_row null_value = true
+is_null_row v = false
+
+abbrev pub says : Predicate → Val → Option Bool
+says (eq w) v = compared v (value_same v w)
+says (not_eq w) v = compared v (not (value_same v w))
+says (lt w) v = compared v (value_lt v w)
+says (lt_eq w) v = compared v (value_le v w)
+says (gt w) v = compared v (value_lt w v)
+says (gt_eq w) v = compared v (value_le w v)
+says is_null v = Some (is_null_row v)
+says is_not_null v = Some (not (is_null_row v))
+says (both p q) v = both_of (says p v) (says q v)
+says (either p q) v = either_of (says p v) (says q v)
+says (negated p) v = not_of (says p v)
+
+-- ---- the table
+
+-- a zone's record: its aggregates with their values
+abbrev pub ZoneRecord : Type 0
+ZoneRecord = List (Aggregate × Val)
+
+-- whether some upper bound that isn't null passes the test
+abbrev pub upper_passes : (Val → Bool) → Aggregate → Val → Bool
+upper_passes f maximum u = not (is_null_row u) && f u
+upper_passes f (bounded_maximum n) u = not (is_null_row u) && f u
+upper_passes f a u = false
+
+abbrev pub lower_passes : (Val → Bool) → Aggregate → Val → Bool
+lower_passes f minimum l = not (is_null_row l) && f l
+lower_passes f (bounded_minimum n) l = not (is_null_row l) && f l
+lower_passes f a l = false
+
+abbrev pub some_upper : (Val → Bool) → ZoneRecord → Bool
+some_upper f [] = false
+some_upper f (a ∷ r) = upper_passes f a.0 a.1 || some_upper f r
+
+abbrev pub some_lower : (Val → Bool) → ZoneRecord → Bool
+some_lower f [] = false
+some_lower f (a ∷ r) = lower_passes f a.0 a.1 || some_lower f r
+
+-- whether a null count is n
+abbrev pub counts : ℕ → Aggregate → Val → Bool
+counts n null_count (int_value (pos k)) = k == n
+counts n a v = false
+
+abbrev pub null_count_is : ℕ → ZoneRecord → Bool
+null_count_is n [] = false
+null_count_is n (a ∷ r) = counts n a.0 a.1 || null_count_is n r
+
+-- which zones the table rules out for a predicate on the leaves, `excludes` telling which literals the filters exclude
+abbrev pub ruled_out : (Val → Bool) → ZoneRecord → ℕ → Predicate → Bool
+ruled_out excludes r n (eq v) = (some_upper (λ u. value_lt u v) r || some_lower (λ l. value_lt v l) r) || (excludes v || null_count_is n r)
+ruled_out excludes r n (not_eq v) = (some_upper (λ u. value_same u v) r && some_lower (λ l. value_same l v) r) || null_count_is n r
+ruled_out excludes r n (lt v) = some_lower (λ l. value_le v l) r || null_count_is n r
+ruled_out excludes r n (lt_eq v) = some_lower (λ l. value_lt v l) r || null_count_is n r
+ruled_out excludes r n (gt v) = some_upper (λ u. value_le u v) r || null_count_is n r
+ruled_out excludes r n (gt_eq v) = some_upper (λ u. value_lt u v) r || null_count_is n r
+ruled_out excludes r n is_null = null_count_is 0 r
+ruled_out excludes r n is_not_null = null_count_is n r
+ruled_out excludes r n (both p q) = ruled_out excludes r n p || ruled_out excludes r n q
+ruled_out excludes r n (either p q) = ruled_out excludes r n p && ruled_out excludes r n q
+ruled_out excludes r n (negated p) = false
+
+-- Not is pushed to the leaves
+abbrev mutual
+  pub pushed : Predicate → Predicate
+  pushed (both p q) = both (pushed p) (pushed q)
+  pushed (either p q) = either (pushed p) (pushed q)
+  pushed (negated p) = opposite p
+  pushed (eq v) = eq v
+  pushed (not_eq v) = not_eq v
+  pushed (lt v) = lt v
+  pushed (lt_eq v) = lt_eq v
+  pushed (gt v) = gt v
+  pushed (gt_eq v) = gt_eq v
+  pushed is_null = is_null
+  pushed is_not_null = is_not_null
+
+  pub opposite : Predicate → Predicate
+  opposite (both p q) = either (opposite p) (opposite q)
+  opposite (either p q) = both (opposite p) (opposite q)
+  opposite (negated p) = pushed p
+  opposite (eq v) = not_eq v
+  opposite (not_eq v) = eq v
+  opposite (lt v) = gt_eq v
+  opposite (lt_eq v) = gt v
+  opposite (gt v) = lt_eq v
+  opposite (gt_eq v) = lt v
+  opposite is_null = is_not_null
+  opposite is_not_null = is_null
+
+-- whether the record of a zone of n rows rules the predicate out
+abbrev pub falsified : (Val → Bool) → ZoneRecord → ℕ → Predicate → Bool
+falsified excludes r n p = ruled_out excludes r n (pushed p)

@@ -1,0 +1,2 @@
+pub mod StateCells
+pub mod WholeTables

@@ -1,0 +1,43 @@
+-- Zone tables are whole chunks.
+use Rattle.std.specs.Prelude.{◌≡◌, ℕ, ◌^◌, ◌<◌, Bool, true, List, [], ◌∷◌, length, map, Option, Some}
+use Rattle.vx_model.specs.Words.{all_by}
+use Rattle.vx_model.specs.Ty.{Ty}
+use Rattle.vx_model.specs.Tree.{Tree, fits}
+use Rattle.vx_model.specs.Val.{Val, value}
+use Rattle.vx_tree.specs.Real.{Of, is_real_cell}
+use Rattle.vx_record.specs.Aggregate.{Aggregate, maximum, minimum, bounded_maximum, bounded_minimum, null_count, sum, bloom, Column, held_aggregates}
+use Rattle.vx_record.specs.Record.{zone_record}
+use Rattle.vx_record.specs.ZoneTable.{Filled, kept_columns, table_type, table_piece}
+
+-- the cells of a zone: they fit the type, can be in memory, and are fewer than 2^64
+pub record Zone (t : Ty) (cs : List Tree) : Type 0 where
+  pub fit : all_by (fits t) cs ≡ true
+  pub real : all_by is_real_cell cs ≡ true
+  pub short : length cs < 2 ^ 64
+
+abbrev pub Zones : Ty → List (List Tree) → Type 0
+Zones t [] = Unit {0}
+Zones t (z ∷ zs) = Zone t z × Zones t zs
+
+-- a filter's number of blocks has 32 bits
+abbrev pub SmallFilter : Aggregate → Type 0
+SmallFilter (bloom n) = n < 2 ^ 32
+SmallFilter a = Unit {0}
+
+abbrev pub SmallFilters : List Aggregate → Type 0
+SmallFilters [] = Unit {0}
+SmallFilters (a ∷ aggregates) = SmallFilter a × SmallFilters aggregates
+
+-- the same of the columns of a record
+abbrev pub SmallColumns : List Column → Type 0
+SmallColumns [] = Unit {0}
+SmallColumns (a ∷ columns) = SmallFilter a.0 × SmallColumns columns
+
+abbrev pub records : (List ℕ → ℕ) → Ty → List Column → List (List Tree) → List (List Val)
+records hash t columns [] = []
+records hash t columns (z ∷ zs) = zone_record hash t (map value z) columns ∷ records hash t columns zs
+
+-- The table of the records of zones is a whole chunk of the table's type.
+abbrev pub TablesAreWhole : Type 0
+TablesAreWhole = (hash : List ℕ → ℕ) (t : Ty) (aggregates : List Aggregate) (zs : List (List Tree)) (table : List Filled) → SmallFilters aggregates → Zones t zs → length zs < 2 ^ 64
+    → kept_columns (held_aggregates aggregates t) (records hash t (held_aggregates aggregates t) zs) ≡ Some table → Of (table_type table) (table_piece table (length zs))
