@@ -1,5 +1,5 @@
 -- Filters of lists of hashes.
-use Rattle.std.proofs.Common.{◌≡◌, ◌≢◌, ℕ, zero, suc, ◌+◌, ◌<◌, ◌==◌, true, false, cond, IsTrue, List, [], ◌∷◌, ◌++◌, length, map, get_or, refl, sym, ap, ◌∙◌, arith, rules, inl, inr, eq-eqb, append_assoc}
+use Rattle.std.proofs.Common.{◌≡◌, ◌≢◌, ℕ, zero, suc, ◌+◌, ◌<◌, ◌==◌, true, false, IsTrue, List, [], ◌∷◌, ◌++◌, length, map, get_or, refl, sym, ap, ◌∙◌, arith, inl, inr, eq-eqb}
 use Rattle.std.specs.Prelude.{replicate, filter, slice_set, slice_index_or, All, Contains}
 use Rattle.std.specs.List.{range_with_len}
 use Rattle.std.specs.Prelude.{nat_eq, Bool, ◌↔◌}
@@ -9,7 +9,7 @@ use Rattle.std.proofs.lemmas.Bool.Decides.{eqb_tells}
 use Rattle.std.proofs.lemmas.List.{replicate-append-replicate, length-set, same_lists, map-append, get_or-set_same, get_or-set_other}
 use Rattle.std.proofs.lemmas.List.Elements.{filter-append, All-head, All-tail}
 use Rattle.std.proofs.lemmas.List.FromFn.{length-map-range_with_len, get_or-map-range_with_len}
-use Rattle.vx_bloom.specs.Blocks.{Block, mask, no_lanes, or_lanes, covers}
+use Rattle.vx_bloom.specs.Blocks.{Block, mask, no_lanes, or_lanes}
 use Rattle.vx_bloom.specs.Filter.{block_of, or_all, masks_in, filter_of, inserted, may_contain, or_blocks, SameElements}
 use Rattle.vx_bloom.proofs.Places.{length-or_blocks}
 use Rattle.vx_bloom.proofs.Lanes.{or_lanes_assoc, or_lanes_comm, or_lanes_twice, or_all_none, or_all-append, or_all_one, covers_absorbed}

@@ -1,8 +1,9 @@
 -- Bytes and what is read from them.
-use Rattle.std.proofs.Common.{◌≡◌, ℕ, zero, suc, ◌+◌, ◌*◌, ◌/◌, ◌%◌, ◌^◌, ◌<◌, ◌≤◌, List, [], ◌∷◌, ◌++◌, length, take, drop, get_or, refl, sym, ap, ◌∙◌, arith, rules, inl, inr, append_assoc, length-append, length-drop}
+use Rattle.std.proofs.Common.{◌≡◌, ℕ, zero, suc, ◌+◌, ◌*◌, ◌/◌, ◌%◌, ◌^◌, ◌<◌, ◌≤◌, List, [], ◌∷◌, ◌++◌, length, take, drop, map, get_or, refl, sym, ap, ◌∙◌, arith, rules, inl, inr, append_assoc, length-append, length-drop}
 use Rattle.std.specs.Prelude.{All}
-use Rattle.std.specs.Int.{w32, from_le_bytes, to_le_bytes}
-use Rattle.std.specs.List.{flat_map}
+use Rattle.std.specs.Int.{w32, from_le_bytes}
+use Rattle.std.specs.List.{flat_map, range_with_len}
+use Rattle.std.proofs.lemmas.List.FromFn.{map-range_with_len_more}
 use Rattle.std.proofs.lemmas.Grind.{flat_map-append}
 use Rattle.std.proofs.lemmas.Bool.{cases_lt}
 use Rattle.std.proofs.lemmas.List.{get_or-take, get_or-drop, take_more, length-take-le, flat_map_more, drop-drop, append-nil}
@@ -10,8 +11,8 @@ use Rattle.std.proofs.lemmas.List.Elements.{All-head, All-tail, All-nil, All-pus
 use Rattle.std.proofs.lemmas.Nat.{le_bytes_4, from_le_bytes-to_le_bytes_4}
 use Rattle.std.proofs.Math.Seq.{take-add, take-length}
 use Rattle.std.proofs.Math.ListN.{get_or-eq_default}
-use Rattle.vx_bloom.specs.Blocks.{Block, eight}
-use Rattle.vx_bloom.specs.Bytes.{number_bytes, number_at, block_bytes, filter_bytes, block_at, IsBlock, AreBlocks}
+use Rattle.vx_bloom.specs.Blocks.{Block}
+use Rattle.vx_bloom.specs.Bytes.{number_bytes, number_at, block_bytes, filter_bytes, block_at, filter_at, IsBlock, AreBlocks}
 
 -- the bytes are numbers below 256
 pub record AreBytes (bytes : List ℕ) : Type 0 where
@@ -174,11 +175,12 @@ IsBlock-block_at bytes i are =
 pub record BlocksOf (bytes : List ℕ) (count : ℕ) (blocks : List Block) : Type 0 where
   pub spell : filter_bytes blocks ≡ take (32 * count) bytes
   pub sound : AreBlocks blocks
+  pub read : blocks ≡ map (λ place. block_at bytes (32 * place)) (range_with_len 0 count)
   pub many : length blocks ≡ count
 
 pub blocks_begin : (bytes : List ℕ) → BlocksOf bytes 0 []
 unfolding filter_bytes
-blocks_begin bytes = record { spell = refl; sound = All-nil IsBlock; many = refl }
+blocks_begin bytes = record { spell = refl; sound = All-nil IsBlock; read = refl; many = refl }
 
 pub blocks_more : (bytes : List ℕ) (count : ℕ) (blocks : List Block) → AreBytes bytes → 32 * count + 32 ≤ length bytes
     → BlocksOf bytes count blocks → BlocksOf bytes (count + 1) (blocks ++ block_at bytes (32 * count) ∷ [])
@@ -191,6 +193,9 @@ blocks_more bytes count blocks are within so_far =
           ∙ ap (λ (rest : List ℕ). flat_map block_bytes blocks ++ rest) (append-nil (block_bytes (block_at bytes (32 * count))))
           ∙ rw (so_far.spell, block_bytes-block_at bytes (32 * count) are within, next, take-add (32 * count) 32 bytes) refl;
       sound = All-push IsBlock blocks (block_at bytes (32 * count)) so_far.sound (IsBlock-block_at bytes (32 * count) are);
+      read =
+          ap (λ (bs : List Block). bs ++ block_at bytes (32 * count) ∷ []) so_far.read
+          ∙ sym (map-range_with_len_more (λ place. block_at bytes (32 * place)) 0 count count (omega arith));
       many = rw (length-append blocks (block_at bytes (32 * count) ∷ []), so_far.many) refl;
     }
 
@@ -198,8 +203,15 @@ pub all_read : (bytes : List ℕ) (count : ℕ) (blocks : List Block) → length
     → filter_bytes blocks ≡ bytes
 all_read bytes count blocks e read = read.spell ∙ ap (λ n. take n bytes) (sym e) ∙ take-length bytes
 
+pub all_spelled : (bytes : List ℕ) (count : ℕ) (blocks : List Block) → length bytes ≡ 32 * count → BlocksOf bytes count blocks
+    → blocks ≡ filter_at bytes
+unfolding filter_at
+all_spelled bytes count blocks e read =
+    let many : count ≡ length bytes / 32 = omega arith in
+    read.read ∙ ap (λ n. map (λ place. block_at bytes (32 * place)) (range_with_len 0 n)) many
+
 pub ruleset block_rules = (append_assoc, flat_map_step)
 
 pub ruleset filter_rules = (append_assoc, flat_map_step)
 
-pub ruleset blocks_rules = (all_read)
+pub ruleset blocks_rules = (all_read, all_spelled)

@@ -1,16 +1,16 @@
 -- Values and their hashes.
-use Rattle.std.proofs.Common.{◌≡◌, ℕ, ◌+◌, ◌<◌, true, false, Bool, List, [], ◌∷◌, ◌++◌, length, map, take, drop, get_or, refl, sym, ap, ◌∙◌, arith, rules, append_assoc}
-use Rattle.std.specs.Prelude.{Option, Some, None, ◌||◌, All}
+use Rattle.std.proofs.Common.{◌≡◌, ℕ, ◌+◌, ◌<◌, true, false, List, [], ◌∷◌, ◌++◌, length, map, drop, get_or, refl, sym, ap, ◌∙◌, arith, rules, append_assoc}
+use Rattle.std.specs.Prelude.{None, ◌||◌}
 use Rattle.std.specs.Option.{option_map, option_to_list}
 use Rattle.std.proofs.lemmas.List.{append-nil, drop_more}
 use Rattle.vx_model.specs.declared.row_value.Value.{Value}
 use Rattle.vx_model.specs.declared.row_value.Value as vl
 use Rattle.vx_model.specs.TreeView.{val}
 use Rattle.vx_model.specs.Ty.{Ty, boolean, primitive, utf8, binary, list, struct, extension}
-use Rattle.vx_model.specs.Val.{Val, null_value, bool_value, int_value, text_value, bytes_value, list_value, struct_value}
+use Rattle.vx_model.specs.Val.{Val, bytes_value}
 use Rattle.vx_bloom.specs.Blocks.{Block}
 use Rattle.vx_bloom.specs.Filter.{filter_of, inserted}
-use Rattle.vx_bloom.specs.Values.{is_hashed, is_null, is_unsupported, hashed_bytes, value_hash, value_hashes, all_inserted, any_unsupported}
+use Rattle.vx_bloom.specs.Values.{is_hashed, is_unsupported, hashed_bytes, value_hash, value_hashes, all_inserted, any_unsupported}
 use Rattle.vx_bloom.proofs.Filters.{inserted_of}
 
 unhashed : (t : Ty) (v : Val) → is_hashed t ≡ false → hashed_bytes t v ≡ None

@@ -1,5 +1,5 @@
 -- A block of a filter: eight lanes, numbers below 2 ^ 32. The mask of a hash has one bit in each lane.
-use Rattle.std.specs.Prelude.{ℕ, ◌+◌, ◌-◌, ◌*◌, ◌/◌, ◌%◌, ◌^◌, ◌==◌, Bool, ◌&&◌, List, [], ◌∷◌, slice_index, bit_and, bit_or}
+use Rattle.std.specs.Prelude.{ℕ, ◌-◌, ◌*◌, ◌/◌, ◌%◌, ◌^◌, ◌==◌, Bool, ◌&&◌, List, [], ◌∷◌, slice_index, bit_and, bit_or}
 
 abbrev pub Block : Type 0
 Block = List ℕ

@@ -1,7 +1,7 @@
 -- The bytes of numbers and filters: each number of 32 bits as four bytes, low byte first.
-use Rattle.std.specs.Prelude.{◌≡◌, ℕ, ◌+◌, ◌*◌, ◌/◌, ◌%◌, ◌^◌, ◌<◌, List, [], ◌∷◌, length, take, drop, All}
+use Rattle.std.specs.Prelude.{◌≡◌, ℕ, ◌+◌, ◌*◌, ◌/◌, ◌%◌, ◌^◌, ◌<◌, List, length, take, drop, map, All}
 use Rattle.std.specs.Int.{w32, from_le_bytes, to_le_bytes}
-use Rattle.std.specs.List.{flat_map}
+use Rattle.std.specs.List.{flat_map, range_with_len}
 use Rattle.vx_bloom.specs.Blocks.{Block, eight}
 
 unfoldable pub number_bytes : ℕ → List ℕ
@@ -22,6 +22,10 @@ filter_bytes blocks = flat_map block_bytes blocks
 -- the block that the 32 bytes from place i spell
 unfoldable pub block_at : List ℕ → ℕ → Block
 block_at bytes i = eight (λ lane. number_at bytes (i + 4 * lane))
+
+-- the blocks that bytes spell, 32 bytes a block
+unfoldable pub filter_at : List ℕ → List Block
+filter_at bytes = map (λ place. block_at bytes (32 * place)) (range_with_len 0 (length bytes / 32))
 
 -- eight lanes of 32 bits
 pub record IsBlock (block : Block) : Type 0 where

@@ -4,7 +4,7 @@ use Rattle.std.specs.Option.{option_map, option_to_list}
 use Rattle.vx_model.specs.declared.ptype.PType.{PType}
 use Rattle.vx_model.specs.Numbers.{int_fits}
 use Rattle.vx_model.specs.Words.{all_by}
-use Rattle.vx_model.specs.Ty.{Ty, Tys, boolean, primitive, utf8, binary, list, struct, extension, no_fields, field, storage_type}
+use Rattle.vx_model.specs.Ty.{Ty, Tys, boolean, primitive, utf8, binary, list, struct, extension, no_fields, field}
 use Rattle.vx_model.specs.Val.{Val, null_value, bool_value, int_value, text_value, bytes_value, list_value, struct_value, vals_in}
 use Rattle.vx_model.specs.Tree.{int_bytes}
 use Rattle.vx_bloom.specs.Blocks.{Block}

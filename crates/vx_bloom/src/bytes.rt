@@ -1,7 +1,7 @@
 // Numbers of 32 bits and blocks as bytes, low byte first.
 
 ghost use Rattle.std.specs.Prelude.{◌≡◌, ◌+◌, ◌*◌, ◌≤◌, ◌++◌, length, OnOk, IfOk};
-ghost use Rattle.vx_bloom.specs.Bytes.{number_bytes, number_at, block_bytes, block_at, filter_bytes, AreBlocks};
+ghost use Rattle.vx_bloom.specs.Bytes.{number_bytes, number_at, block_bytes, block_at, filter_bytes, filter_at, AreBlocks};
 
 use crate::block::Block;
 use std::alloc::{AllocError, Global};
@@ -56,7 +56,8 @@ pub(crate) fn block_at(bytes: &[u8], at: usize) -> Block
 pub(crate) fn blocks_at(alloc: Global, bytes: &[u8], count: usize) -> Result<Vec<Block>, AllocError>
     requires { length bytes.now ≡ 32 * count }
     ensures bytes { IfOk result (λ v. filter_bytes v.items ≡ bytes.now) }
-    ensures blocks { IfOk result (λ v. AreBlocks v.items) }
+    ensures spelled { IfOk result (λ v. v.items ≡ filter_at bytes.now) }
+    ensures sound { IfOk result (λ v. AreBlocks v.items) }
     ensures count { IfOk result (λ v. length v.items ≡ count) }
 {
     let mut blocks = Vec::with_capacity(alloc, count)?;

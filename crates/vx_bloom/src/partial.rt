@@ -3,7 +3,7 @@
 ghost use Rattle.std.specs.Prelude.{nat_eq, ◌≡◌, ◌<◌, ◌≢◌, ◌↔◌, ◌++◌, ◌∷◌, [], List, ℕ, IsTrue, All, Contains, length, replicate, IfOk, OnOk, OnErr, IsErr};
 ghost use lib.Pointwise.{pointwise};
 ghost use Rattle.vx_bloom.specs.Blocks.{Block, no_lanes, full_lanes};
-ghost use Rattle.vx_bloom.specs.Bytes.{filter_bytes, AreBlocks};
+ghost use Rattle.vx_bloom.specs.Bytes.{filter_bytes, filter_at, AreBlocks};
 ghost use Rattle.vx_bloom.specs.Partial.{ReadsFilter};
 ghost use Rattle.vx_bloom.specs.Filter.{block_of, inserted, may_contain, or_blocks, filter_of, SameElements};
 ghost use Rattle.vx_bloom.specs.Options.{blocks_in};
@@ -61,6 +61,7 @@ impl<H: ByteHash> Model for BloomPartial<H> {
     ghost invariant = { λ p. (1 ≤ length p.blocks.items) × (length p.blocks.items < 2 ^ 32) };
 }
 
+// By hand, since a derive would ask that the hash function can be dropped.
 impl<H: ByteHash> Drop for BloomPartial<H> {
     fn drop(self) {
         let BloomPartial { blocks: _, hash: _ } = self;
@@ -165,6 +166,7 @@ impl<H: ByteHash> BloomPartial<H> {
     /// The filter that these bytes spell.
     pub fn deserialize(alloc: Global, bytes: &[u8]) -> Result<BloomPartial<H>, PartialError>
         ensures answer { ReadsFilter bytes.now result }
+        ensures blocks { IfOk result (λ p. p ≡ filter_at bytes.now) }
         ensures whole { (p : List Block) → AreBlocks p → filter_bytes p ≡ bytes.now → IfOk result (λ q. q ≡ p) }
     {
         let count = bytes.len() / BLOCK_LEN;

@@ -1,5 +1,5 @@
 -- The hash of a list of bytes, by its length.
-use Rattle.std.specs.Prelude.{ℕ, zero, suc, ◌+◌, ◌-◌, ◌*◌, ◌/◌, ◌%◌, ◌^◌, nat_lt, List, [], ◌∷◌, length, slice_index, bit_xor, if◌then◌else◌}
+use Rattle.std.specs.Prelude.{ℕ, zero, suc, ◌+◌, ◌-◌, ◌*◌, ◌/◌, ◌^◌, nat_lt, List, [], ◌∷◌, length, slice_index, bit_xor, if◌then◌else◌}
 use Rattle.std.specs.Int.{w32, w64, from_le_bytes, rotate_left, swap_bytes}
 use Rattle.vx_hash.specs.Words.{add, mul, add_each, word, half, joined, xorshift, fold, half_product, half_prime_1, half_prime_2, half_prime_3, prime_1, prime_2, prime_3, prime_4, prime_5, mixing_prime_2, key, avalanche, avalanche_short}
 

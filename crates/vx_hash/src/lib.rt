@@ -1,4 +1,4 @@
-//! A hash of bytes: the trait that filters ask for, and XXH3's steps for one piece of bytes with no seed.
+//! A hash of bytes: the trait that filters ask for, and the hash function that they store.
 #![tactic(auto)]
 
 ghost use Rattle.std.specs.Prelude.{◌≡◌, ℕ, List};
@@ -10,7 +10,7 @@ mod short;
 mod tests;
 mod words;
 
-/// A hash function of bytes: equal bytes have equal hashes, in each call.
+/// A hash function of bytes, of 64 bits. Equal bytes have equal hashes.
 pub trait ByteHash {
     // the hash of the bytes
     ghost hash: { List ℕ → ℕ };

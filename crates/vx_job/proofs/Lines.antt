@@ -10,4 +10,5 @@ drop_lines first bs i b lt is =
     rw (drop_more bs i b lt, ← is, n) refl
 
 pub ruleset text_rules = (append_assoc, append-nil)
+
 pub ruleset line_rules = (append_assoc, append-nil, drop_lines)

@@ -46,6 +46,7 @@ pub each_stops : {A : Type 0} (f : Data → Option A) (vs : List Value) (i : ℕ
 each_stops f vs i v front all lt is e so_far = sym so_far ∙ rw (drop_more vs i v lt, ← is, e) refl
 
 pub ruleset list_rules = (each_goes_on, each_stops, map_push, append-nil)
+
 pub job_is : (bytes : List ℕ) (v : Data) → length bytes ≤ limit → IsUtf8 bytes → read bytes ≡ Some v → job bytes ≡ job_of (Some v)
 job_is bytes v short utf8 is =
     let within : ltb limit (length bytes) ≡ false = le-ltb limit (length bytes) short in
@@ -57,4 +58,5 @@ fits_more f [] x all one = both_are (f x) true one refl
 fits_more f (y ∷ ys) x all one = both_are (f y) (all_by f (ys ++ x ∷ [])) (first_is (f y) (all_by f ys) all) (fits_more f ys x (second_is (f y) (all_by f ys) all) one)
 
 pub ruleset job_rules = (IsUtf8-from_is_utf8, is_utf8-from_IsUtf8)
+
 pub ruleset value_rules = (view-Array, view-Object, members_len-members_view)

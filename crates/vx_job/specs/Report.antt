@@ -1,5 +1,5 @@
 -- The text of a report.
-use Rattle.std.specs.Prelude.{ℕ, suc, false, List, [], ◌∷◌, ◌++◌, codes, decimal}
+use Rattle.std.specs.Prelude.{ℕ, suc, true, List, [], ◌∷◌, ◌++◌, codes, decimal}
 use Rattle.hex.specs.Hex.{encode_lower}
 use Rattle.vx_tree.specs.LayoutTree.{Lay}
 use Rattle.vx_layout.specs.Display.{tree_text}
@@ -13,10 +13,10 @@ abbrev pub segment_lines : ℕ → List (List ℕ) → List ℕ
 segment_lines n [] = []
 segment_lines n (b ∷ bs) = segment_line n b ++ segment_lines (suc n) bs
 
--- the layout's tree, the segments from the first number on; no zone tables, and no steps
+-- the layout's verbose tree, the segments from the first number on; no zone tables, and no steps
 abbrev pub report : ℕ → Lay ℕ → List (List ℕ) → List ℕ
 report first l segments =
-    codes "layout\n" ++ (tree_text false [] [] l ++ (codes "segments\n" ++ (segment_lines first segments ++ codes "zones\ntrace\n")))
+    codes "layout\n" ++ (tree_text true [] [] l ++ (codes "segments\n" ++ (segment_lines first segments ++ codes "zones\ntrace\n")))
 
 -- the refusal's name and the segments that were appended
 abbrev pub refused_report : List ℕ → ℕ → List (List ℕ) → List ℕ

@@ -55,7 +55,9 @@ fn read_value(alloc: Global, value: &Value) -> Result<Job, JobError>
     let Some(members) = value.as_object() else {
         return Err(JobError::Job);
     };
-    let is_column = members.len() == 3 && is_text(value.get("schema"), "i64") && is_chunked_flat(value.get("strategy"));
+    let is_column = members.len() == 3
+        && is_text(value.get("schema"), "i64")
+        && is_chunked_flat(value.get("strategy"));
     if !is_column {
         return Ok(Job::Unbuilt);
     }
@@ -77,7 +79,8 @@ fn is_text(value: Option<&Value>, text: &str) -> bool
 {
     match value {
         Some(Value::String(found)) => found.as_str() == text,
-        Some(Value::Null | Value::Bool(_) | Value::Number(_) | Value::Array(_) | Value::Object(_)) | None => false,
+        Some(Value::Null | Value::Bool(_) | Value::Number(_) | Value::Array(_) | Value::Object(_))
+        | None => false,
     }
 }
 
@@ -90,7 +93,8 @@ fn is_chunked_flat(value: Option<&Value>) -> bool
     };
     match value {
         Value::Object(members) => members.len() == 1 && is_text(value.get("chunked"), "flat"),
-        Value::Null | Value::Bool(_) | Value::Number(_) | Value::String(_) | Value::Array(_) => false,
+        Value::Null | Value::Bool(_) | Value::Number(_) | Value::String(_) | Value::Array(_) =>
+            false,
     }
 }
 
@@ -118,7 +122,10 @@ fn read_batch(alloc: Global, value: &Value) -> Result<Option<Chunk>, AllocError>
     let Some(cells) = read_cells(alloc, items)? else {
         return Ok(None);
     };
-    Ok(Some(Chunk::plain(DType::Primitive(PType::I64, Nullability::NonNullable), cells)))
+    Ok(Some(Chunk::plain(
+        DType::Primitive(PType::I64, Nullability::NonNullable),
+        cells,
+    )))
 }
 
 #[tactic(auto, using(crate::proofs::ReadSteps::list_rules))]

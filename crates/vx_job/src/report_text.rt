@@ -10,12 +10,17 @@ use vx_types::Blob;
 
 /// The report of a write whose first segment has the number `first`.
 #[tactic(auto, using(crate::proofs::Lines::text_rules))]
-pub fn report(alloc: Global, first: u64, layout: &Layout, segments: &[Blob]) -> Result<String, AllocError>
+pub fn report(
+    alloc: Global,
+    first: u64,
+    layout: &Layout,
+    segments: &[Blob],
+) -> Result<String, AllocError>
     requires { first + length segments.now < 2 ^ 64 }
     ensures { IfOk result (λ text. string_bytes text ≡ report first (lay layout.now) segments.now) }
 {
     let mut out = String::from_str(alloc, "layout\n")?;
-    let tree = layout.display_tree_verbose(alloc, false)?;
+    let tree = layout.display_tree_verbose(alloc, true)?;
     out.push_str(tree.as_str())?;
     out.push_str("segments\n")?;
     push_segments(alloc, &mut out, first, segments)?;
@@ -25,7 +30,12 @@ pub fn report(alloc: Global, first: u64, layout: &Layout, segments: &[Blob]) -> 
 
 /// The report of a refused write: the name of the refusal, and the segments that stand.
 #[tactic(auto, using(crate::proofs::Lines::text_rules))]
-pub fn refused_report(alloc: Global, name: &str, first: u64, segments: &[Blob]) -> Result<String, AllocError>
+pub fn refused_report(
+    alloc: Global,
+    name: &str,
+    first: u64,
+    segments: &[Blob],
+) -> Result<String, AllocError>
     requires { first + length segments.now < 2 ^ 64 }
     ensures { IfOk result (λ text. string_bytes text ≡ refused_report name.now first segments.now) }
 {
@@ -38,7 +48,12 @@ pub fn refused_report(alloc: Global, name: &str, first: u64, segments: &[Blob]) 
 }
 
 #[tactic(auto, using(crate::proofs::Lines::line_rules))]
-fn push_segments(alloc: Global, out: &mut String, first: u64, segments: &[Blob]) -> Result<(), AllocError>
+fn push_segments(
+    alloc: Global,
+    out: &mut String,
+    first: u64,
+    segments: &[Blob],
+) -> Result<(), AllocError>
     requires { first + length segments.now < 2 ^ 64 }
     ensures { OnOk result (string_bytes out.new ≡ string_bytes out.old ++ segment_lines first segments.now) }
 {
@@ -49,7 +64,12 @@ fn push_segments(alloc: Global, out: &mut String, first: u64, segments: &[Blob])
 }
 
 #[tactic(auto, using(crate::proofs::Lines::text_rules))]
-fn push_segment(alloc: Global, out: &mut String, number: u64, segment: &Blob) -> Result<(), AllocError>
+fn push_segment(
+    alloc: Global,
+    out: &mut String,
+    number: u64,
+    segment: &Blob,
+) -> Result<(), AllocError>
     ensures { OnOk result (string_bytes out.new ≡ string_bytes out.old ++ segment_line number segment.now) }
 {
     write!(out, "{number} ")?;

@@ -71,7 +71,11 @@ pub chunked_lines : (verbose : Bool) (first rest : List ℕ) (c : ChunkedLayout)
 chunked_lines verbose first rest c = rw (chunked_is c) (joined_line first (node_text verbose chunked_kind (ty (out-ChunkedLayout c).dtype) (out-ChunkedLayout c).row_count [] (count_lays (lays_of (map lay (out-ChunkedLayout c).children.items)))) (codes "\n") (children_lines verbose rest 0 (lays_of (map lay (out-ChunkedLayout c).children.items))))
 
 pub ruleset lay_rules = (lay_flat, lay_chunked, chunked_is)
+
 pub ruleset sum_rules = (drop_rows, lay_rules)
+
 pub ruleset text_rules = (append_assoc, append-nil)
+
 pub ruleset shown_rules = (append_assoc, append-nil, drop_fields, next_not_first, view_rules)
+
 pub ruleset tree_rules = (append_assoc, append-nil, length-map, drop_lines, own_line_is, chunked_lines, lay_flat, lay_chunked)

@@ -31,7 +31,11 @@ impl ChunkedLayout {
     ghost use Rattle.vx_layout.specs.Errors.{CountsRows, rows_in};
 
     /// The children in order. Refuses `RowCount` exactly where their rows don't sum to `row_count`.
-    pub fn new(row_count: u64, dtype: DType, children: Vec<Layout>) -> Result<ChunkedLayout, LayoutError>
+    pub fn new(
+        row_count: u64,
+        dtype: DType,
+        children: Vec<Layout>,
+    ) -> Result<ChunkedLayout, LayoutError>
         ensures ok { IfOk result (λ c. chunked_lay c ≡ chunked_layout (ty dtype) row_count (map lay children.items)) }
         ensures sum { IsOk result ↔ (rows_in (map lay children.items) ≡ row_count) }
         ensures rows { IfErr result (CountsRows (rows_in (map lay children.items)) row_count) }

@@ -28,7 +28,14 @@ impl Layout {
 
 #[cycle(tree)]
 #[tactic(auto, using(crate::proofs::Views::tree_rules))]
-fn push_tree(alloc: Global, out: &mut String, verbose: bool, first: &str, rest: &str, layout: &Layout) -> Result<(), AllocError>
+fn push_tree(
+    alloc: Global,
+    out: &mut String,
+    verbose: bool,
+    first: &str,
+    rest: &str,
+    layout: &Layout,
+) -> Result<(), AllocError>
     ensures { OnOk result (string_bytes out.new ≡ string_bytes out.old ++ tree_text verbose first.now rest.now (lay layout.now)) }
 {
     match layout {
@@ -42,7 +49,13 @@ fn push_tree(alloc: Global, out: &mut String, verbose: bool, first: &str, rest: 
 
 #[cycle(tree)]
 #[tactic(auto, using(crate::proofs::Views::tree_rules))]
-fn push_children(alloc: Global, out: &mut String, verbose: bool, rest: &str, children: &[Layout]) -> Result<(), AllocError>
+fn push_children(
+    alloc: Global,
+    out: &mut String,
+    verbose: bool,
+    rest: &str,
+    children: &[Layout],
+) -> Result<(), AllocError>
     ensures { OnOk result (string_bytes out.new ≡ string_bytes out.old ++ children_lines verbose rest.now 0 (lays_of (map lay children.now))) }
 {
     for i in 0..children.len() {
@@ -74,7 +87,12 @@ fn trunk(alloc: Global, rest: &str, last: bool) -> Result<String, AllocError>
 }
 
 #[tactic(auto, using(crate::proofs::Views::tree_rules))]
-fn push_flat(out: &mut String, verbose: bool, first: &str, flat: &FlatLayout) -> Result<(), AllocError>
+fn push_flat(
+    out: &mut String,
+    verbose: bool,
+    first: &str,
+    flat: &FlatLayout,
+) -> Result<(), AllocError>
     ensures { OnOk result (string_bytes out.new ≡ string_bytes out.old ++ tree_text verbose first.now [] (flat_lay flat.now)) }
 {
     push_head(out, first, "vortex.flat", &flat.dtype)?;
@@ -86,7 +104,12 @@ fn push_flat(out: &mut String, verbose: bool, first: &str, flat: &FlatLayout) ->
 
 /// The node's own line.
 #[tactic(auto, using(crate::proofs::Views::tree_rules))]
-fn push_chunked(out: &mut String, verbose: bool, first: &str, chunked: &ChunkedLayout) -> Result<(), AllocError>
+fn push_chunked(
+    out: &mut String,
+    verbose: bool,
+    first: &str,
+    chunked: &ChunkedLayout,
+) -> Result<(), AllocError>
     ensures { OnOk result (string_bytes out.new ≡ string_bytes out.old ++ own_line verbose first.now (chunked_lay chunked.now)) }
 {
     push_head(out, first, "vortex.chunked", &chunked.dtype)?;

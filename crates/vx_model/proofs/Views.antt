@@ -42,5 +42,7 @@ other_lengths (a ∷ xs) [] h = refl
 other_lengths (a ∷ xs) (b ∷ ys) h = rw (other_lengths xs ys (λ e. h (ap suc e))) (and_false (bytes_eq a.0 b.0 && ty_eq a.1 b.1))
 
 pub ruleset view_rules = (ty_list, ty_struct, ty_extension, field_ty_is)
+
 pub ruleset copy_rules = (map_push, map_more, view_rules)
+
 pub ruleset same_rules = (drop_fields, other_lengths, length-map, view_rules)

@@ -48,7 +48,8 @@ impl DType {
         ensures { result ≡ nullable (ty self.now) }
     {
         match self {
-            DType::Bool(n) | DType::Primitive(_, n) | DType::Utf8(n) | DType::Binary(n) => n.is_nullable(),
+            DType::Bool(n) | DType::Primitive(_, n) | DType::Utf8(n) | DType::Binary(n) =>
+                n.is_nullable(),
             DType::List(_, n) | DType::Struct(_, n) => n.is_nullable(),
             DType::Extension(ext) => ext.storage.is_nullable(),
         }

@@ -33,9 +33,10 @@ chunks_read : (s : Setting) (t : Ty) (k : Node) → Reads s t k → (m : Bool) (
 chunks_read s t k r m [] e of clean fit look held = tt
 chunks_read s t k r m (i ∷ is) e of clean fit look held =
     let p : Plan = k m (i ∷ []) true (inside e) in
-    let ps : List Plan = chunk_plans k m is (next e) in
-    (r.reads m (i ∷ []) (inside e) (of.0, tt) (nil_left p.faults (all_faults ps) clean) (fit_left p.numbers (all_numbers ps) fit) look (holds_left look p.pairs (all_pairs ps) held),
-     chunks_read s t k r m is (next e) of.1 (nil_right p.faults (all_faults ps) clean) (fit_right p.numbers (all_numbers ps) fit) look (holds_right look p.pairs (all_pairs ps) held))
+    let ps : List Plan = chunk_plans k m is (next e) in (
+      r.reads m (i ∷ []) (inside e) (of.0, tt) (nil_left p.faults (all_faults ps) clean) (fit_left p.numbers (all_numbers ps) fit) look (holds_left look p.pairs (all_pairs ps) held),
+      chunks_read s t k r m is (next e) of.1 (nil_right p.faults (all_faults ps) clean) (fit_right p.numbers (all_numbers ps) fit) look (holds_right look p.pairs (all_pairs ps) held),
+    )
 
 pub chunked_reads : (s : Setting) (t : Ty) (k : Node) → Reads s t k → Reads s t (chunked_node t k)
 chunked_reads s t k r = record { reads = go }
@@ -45,9 +46,9 @@ chunked_reads s t k r = record { reads = go }
         → Gives s look (chunked_node t k m items true e).layout (stream_values items)
     go m items e of clean fit look held =
         gives_same s look (chunked_node t k m items true e).layout (joined (each_values items)) (stream_values items)
-            (gathered_reads s look t (row_total items) (all_layouts (chunk_plans k m items e)) (each_values items)
-                (chunks_read s t k r m items e of clean fit.1.1 look held) (ap length (joined-each_values items) ∙ length-stream_values items))
-            (joined-each_values items)
+        (gathered_reads s look t (row_total items) (all_layouts (chunk_plans k m items e)) (each_values items)
+        (chunks_read s t k r m items e of clean fit.1.1 look held) (ap length (joined-each_values items) ∙ length-stream_values items))
+        (joined-each_values items)
 
 -- ---- paths
 
@@ -60,9 +61,9 @@ chunks_placed : (t : Ty) (k : Node) → Placed t k → (m : Bool) (items : List 
 chunks_placed t k c m [] e a = lies_none (Region [] e)
 chunks_placed t k c m (i ∷ is) e a =
     subst (Lies (Region (places (i ∷ is)) e)) (sym (paths-append (k m (i ∷ []) true (inside e)).pairs (all_pairs (chunk_plans k m is (next e)))))
-        (two_parts (i.0 ∷ []) (places is) e (paths (k m (i ∷ []) true (inside e)).pairs) (paths (all_pairs (chunk_plans k m is (next e)))) a
-            (c.placed m (i ∷ []) true (inside e) (apart_inside (i.0 ∷ []) e (apart_left (i.0 ∷ []) (places is) e a)))
-            (chunks_placed t k c m is (next e) (apart_next (places is) e (apart_right (i.0 ∷ []) (places is) e a))))
+    (two_parts (i.0 ∷ []) (places is) e (paths (k m (i ∷ []) true (inside e)).pairs) (paths (all_pairs (chunk_plans k m is (next e)))) a
+    (c.placed m (i ∷ []) true (inside e) (apart_inside (i.0 ∷ []) e (apart_left (i.0 ∷ []) (places is) e a)))
+    (chunks_placed t k c m is (next e) (apart_next (places is) e (apart_right (i.0 ∷ []) (places is) e a))))
 
 pub chunked_placed : (t : Ty) (k : Node) → Placed t k → Placed t (chunked_node t k)
 chunked_placed t k c = record { placed = λ m items ended e a. chunks_placed t k c m items e a }
@@ -73,7 +74,7 @@ chunks_grow : (k : Node) (m : Bool) (xs ys : List Item) (e : Eof) → Grow (chun
 chunks_grow k m [] ys e = grow_none (chunk_plans k m ys e)
 chunks_grow k m (x ∷ xs) ys e =
     grow_more (k m (x ∷ []) true (inside e)) (k m (x ∷ []) true (inside e)) (chunk_plans k m xs (next e)) (chunk_plans k m (xs ++ ys) (next e))
-        (within_itself (k m (x ∷ []) true (inside e))) (chunks_grow k m xs ys (next e))
+    (within_itself (k m (x ∷ []) true (inside e))) (chunks_grow k m xs ys (next e))
 
 pub chunked_grows : (t : Ty) (k : Node) → Grows t (chunked_node t k)
 chunked_grows t k = record { grows = go; quiet = λ m e. refl }
@@ -86,9 +87,11 @@ chunked_grows t k = record { grows = go; quiet = λ m e. refl }
           faultless = g.faultless;
           fit = λ f h. (
             (let total : row_total (xs ++ ys) ≡ row_total xs + row_total ys = row_total-append xs ys in let a : row_total (xs ++ ys) < 2 ^ 64 = h.0 in omega arith),
-            ((let total : length (xs ++ ys) ≡ length xs + length ys = length-append xs ys in let a : e.last + length (xs ++ ys) < 2 ^ 64 = h.1.0 in omega arith),
-            g.fit f h.1.1),
-          )
+            (
+              (let total : length (xs ++ ys) ≡ length xs + length ys = length-append xs ys in let a : e.last + length (xs ++ ys) < 2 ^ 64 = h.1.0 in omega arith),
+              g.fit f h.1.1,
+            ),
+          );
         }
 
 -- ---- type

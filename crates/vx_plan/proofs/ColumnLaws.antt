@@ -52,9 +52,10 @@ fields_read s no_fields (k ∷ ks) r m c xs e of clean fit look held = absurd r
 fields_read s (field name t fs) [] r m c xs e of clean fit look held = absurd r
 fields_read s (field name t fs) (k ∷ ks) r m c xs e of clean fit look held =
     let p : Plan = k m (column c xs) true (inside e) in
-    let ps : List Plan = column_plans (marked m ks) (suc c) (other_columns xs) true (next e) in
-    (r.0.reads m (column c xs) (inside e) of.0 (nil_left p.faults (all_faults ps) clean) (fit_left p.numbers (all_numbers ps) fit) look (holds_left look p.pairs (all_pairs ps) held),
-     fields_read s fs ks r.1 m (suc c) (other_columns xs) (next e) of.1 (nil_right p.faults (all_faults ps) clean) (fit_right p.numbers (all_numbers ps) fit) look (holds_right look p.pairs (all_pairs ps) held))
+    let ps : List Plan = column_plans (marked m ks) (suc c) (other_columns xs) true (next e) in (
+      r.0.reads m (column c xs) (inside e) of.0 (nil_left p.faults (all_faults ps) clean) (fit_left p.numbers (all_numbers ps) fit) look (holds_left look p.pairs (all_pairs ps) held),
+      fields_read s fs ks r.1 m (suc c) (other_columns xs) (next e) of.1 (nil_right p.faults (all_faults ps) clean) (fit_right p.numbers (all_numbers ps) fit) look (holds_right look p.pairs (all_pairs ps) held),
+    )
 
 counts_ok : (fs : Tys) (cs : List Tree) (n : ℕ) → length cs ≡ n → all_by (has_count n) (column_values (field_cells fs cs)) ≡ true
 counts_ok no_fields cs n e = refl
@@ -75,15 +76,15 @@ struct_rows_are fs cs n e h =
 under_flags : (cs : List Tree) (n : ℕ) → length cs ≡ n → under_validity n (map value (map bool_cell (map flag_of cs))) (map inner_value cs) ≡ Some (map value cs)
 under_flags cs n e =
     ap (λ b. if b then Some (kept_rows (map value (map bool_cell (map flag_of cs))) (map inner_value cs)) else None)
-        (eq-eqb (length (map value (map bool_cell (map flag_of cs)))) n (length-map (map bool_cell (map flag_of cs)) value ∙ length-map (map flag_of cs) bool_cell ∙ length-map cs flag_of ∙ e))
+    (eq-eqb (length (map value (map bool_cell (map flag_of cs)))) n (length-map (map bool_cell (map flag_of cs)) value ∙ length-map (map flag_of cs) bool_cell ∙ length-map cs flag_of ∙ e))
     ∙ ap Some (flags_keep cs)
 
 nullable_rows_are : (fs : Tys) (cs : List Tree) (n : ℕ) → length cs ≡ n → all_by (fits (struct fs true)) cs ≡ true
     → struct_rows true n (map value (map bool_cell (map flag_of cs)) ∷ column_values (field_cells fs cs)) ≡ Some (map value cs)
 nullable_rows_are fs cs n e h =
     ap (and_then (under_validity n (map value (map bool_cell (map flag_of cs)))))
-        (ap (λ b. if b then Some (zipped n (column_values (field_cells fs cs))) else None) (counts_ok fs cs n e)
-        ∙ ap Some (ap (λ k. zipped k (column_values (field_cells fs cs))) (sym e) ∙ zipped_fields fs true cs h))
+    (ap (λ b. if b then Some (zipped n (column_values (field_cells fs cs))) else None) (counts_ok fs cs n e)
+    ∙ ap Some (ap (λ k. zipped k (column_values (field_cells fs cs))) (sym e) ∙ zipped_fields fs true cs h))
     ∙ under_flags cs n e
 
 -- the cells of a stream fit its type
@@ -95,7 +96,7 @@ struct_layout_rows : {A : Type 0} (s : Setting) (look : A → Option (List ℕ))
     → ReadAll s look ls vss → struct_rows m n vss ≡ Some out → length out ≡ n → Gives s look (struct_layout (struct fs m) n ls) out
 struct_layout_rows s look fs m n ls vss out r e l = record {
   read = ap (λ z. and_then (counted n) (and_then (struct_rows m n) z)) (all_there_read s look ls vss r) ∙ ap (and_then (counted n)) e ∙ counted_same n out l;
-  zones = (tt, all_zones s look ls vss r)
+  zones = (tt, all_zones s look ls vss r);
 }
 
 values_length : (items : List Item) → length (map value (stream_cells items)) ≡ row_total items
@@ -119,19 +120,19 @@ nullable_reads s fs v ks rv rs = record { reads = go }
         let ps : List Plan = column_plans (marked (m || true) ks) 1 (other_columns xs) true (next e) in
         let flags : Chunks (boolean false) (column 0 xs) × (stream_cells (column 0 xs) ≡ map bool_cell (map flag_of (stream_cells items))) = validity_stream fs items of in
         let fields : StreamsOf fs (field_streams fs 1 (other_columns xs)) × (streams_cells (field_streams fs 1 (other_columns xs)) ≡ field_cells fs (Rattle.vx_rules.proofs.ColumnStreams.all_cells (chunk_cells items))) =
-            streams_are fs 1 (other_columns xs) (chunk_cells items) (nullable_shows fs items of) in
+        streams_are fs 1 (other_columns xs) (chunk_cells items) (nullable_shows fs items of) in
         let numbers : Fit (p.numbers ++ all_numbers ps) = fit.1.1.1 in
         let first : Gives s look p.layout (stream_values (column 0 xs)) =
-            rv.reads m (column 0 xs) (inside e) flags.0 (nil_left p.faults (all_faults ps) clean) (fit_left p.numbers (all_numbers ps) numbers) look (holds_left look p.pairs (all_pairs ps) held) in
+        rv.reads m (column 0 xs) (inside e) flags.0 (nil_left p.faults (all_faults ps) clean) (fit_left p.numbers (all_numbers ps) numbers) look (holds_left look p.pairs (all_pairs ps) held) in
         let others : ReadAll s look (all_layouts ps) (streams_values (field_streams fs 1 (other_columns xs))) =
-            fields_read s fs ks rs (m || true) 1 (other_columns xs) (next e) fields.0 (nil_right p.faults (all_faults ps) clean) (fit_right p.numbers (all_numbers ps) numbers) look (holds_right look p.pairs (all_pairs ps) held) in
+        fields_read s fs ks rs (m || true) 1 (other_columns xs) (next e) fields.0 (nil_right p.faults (all_faults ps) clean) (fit_right p.numbers (all_numbers ps) numbers) look (holds_right look p.pairs (all_pairs ps) held) in
         gives_same s look (struct_node fs true None v ks m items true e).layout (map value (stream_cells items)) (stream_values items)
-          (struct_layout_rows s look fs true (row_total items) (p.layout ∷ all_layouts ps) (stream_values (column 0 xs) ∷ streams_values (field_streams fs 1 (other_columns xs))) (map value (stream_cells items))
-            (first, others)
-            (ap₂ (λ x y. struct_rows true (row_total items) (x ∷ y)) (stream_values_cells (column 0 xs) ∙ ap (map value) flags.1) (field_values fs 1 (other_columns xs) items fields.1)
-            ∙ nullable_rows_are fs (stream_cells items) (row_total items) (sym (row_total_cells items)) (stream_fits (struct fs true) items of))
-            (values_length items))
-          (sym (stream_values_cells items))
+        (struct_layout_rows s look fs true (row_total items) (p.layout ∷ all_layouts ps) (stream_values (column 0 xs) ∷ streams_values (field_streams fs 1 (other_columns xs))) (map value (stream_cells items))
+        (first, others)
+        (ap₂ (λ x y. struct_rows true (row_total items) (x ∷ y)) (stream_values_cells (column 0 xs) ∙ ap (map value) flags.1) (field_values fs 1 (other_columns xs) items fields.1)
+        ∙ nullable_rows_are fs (stream_cells items) (row_total items) (sym (row_total_cells items)) (stream_fits (struct fs true) items of))
+        (values_length items))
+        (sym (stream_values_cells items))
 
 plain_reads : (s : Setting) (fs : Tys) (v : Node) (ks : List Node) → Fields (λ t k. Reads s t k) fs ks
     → Reads s (struct fs false) (struct_node fs false None v ks)
@@ -144,16 +145,16 @@ plain_reads s fs v ks rs = record { reads = go }
         let xs : List Split = struct_splits fs false items in
         let ps : List Plan = column_plans (marked (m || false) ks) 0 xs true e in
         let fields : StreamsOf fs (field_streams fs 0 xs) × (streams_cells (field_streams fs 0 xs) ≡ field_cells fs (Rattle.vx_rules.proofs.ColumnStreams.all_cells (chunk_cells items))) =
-            streams_are fs 0 xs (chunk_cells items) (struct_shows fs items of) in
+        streams_are fs 0 xs (chunk_cells items) (struct_shows fs items of) in
         let read : ReadAll s look (all_layouts ps) (streams_values (field_streams fs 0 xs)) =
-            fields_read s fs ks rs (m || false) 0 xs e fields.0 clean fit.1.1.1 look held in
+        fields_read s fs ks rs (m || false) 0 xs e fields.0 clean fit.1.1.1 look held in
         gives_same s look (struct_node fs false None v ks m items true e).layout (map value (stream_cells items)) (stream_values items)
-          (struct_layout_rows s look fs false (row_total items) (all_layouts ps) (streams_values (field_streams fs 0 xs)) (map value (stream_cells items))
-            read
-            (ap (struct_rows false (row_total items)) (field_values fs 0 xs items fields.1)
-            ∙ struct_rows_are fs (stream_cells items) (row_total items) (sym (row_total_cells items)) (stream_fits (struct fs false) items of))
-            (values_length items))
-          (sym (stream_values_cells items))
+        (struct_layout_rows s look fs false (row_total items) (all_layouts ps) (streams_values (field_streams fs 0 xs)) (map value (stream_cells items))
+        read
+        (ap (struct_rows false (row_total items)) (field_values fs 0 xs items fields.1)
+        ∙ struct_rows_are fs (stream_cells items) (row_total items) (sym (row_total_cells items)) (stream_fits (struct fs false) items of))
+        (values_length items))
+        (sym (stream_values_cells items))
 
 pub struct_reads : (s : Setting) (fs : Tys) (n : Bool) (dup : Option (List ℕ)) (v : Node) (ks : List Node) → Reads s (boolean false) v → Fields (λ t k. Reads s t k) fs ks
     → Reads s (struct fs n) (struct_node fs n dup v ks)
@@ -170,7 +171,7 @@ list_layout_rows : {A : Type 0} (s : Setting) (look : A → Option (List ℕ)) (
     → ReadAll s look ls vss → list_rows m n vss ≡ Some out → length out ≡ n → Gives s look (list_layout (list t m) n ls) out
 list_layout_rows s look t m n ls vss out r e l = record {
   read = ap (λ z. and_then (counted n) (and_then (list_rows m n) z)) (all_there_read s look ls vss r) ∙ ap (and_then (counted n)) e ∙ counted_same n out l;
-  zones = (tt, all_zones s look ls vss r)
+  zones = (tt, all_zones s look ls vss r);
 }
 
 pub list_reads : (s : Setting) (t : Ty) (n : Bool) (es os v : Node) → Reads s t es → Reads s offset_type os → Reads s (boolean false) v → Reads s (list t n) (list_node t n es os v)
@@ -192,20 +193,20 @@ list_reads s t n es os v re ro rv = record { reads = go n re ro rv }
         let numbers : Fit (p.numbers ++ (q.numbers ++ [])) = fit.1.1.1.1.1 in
         let elements : Chunks t (column 0 xs) × (stream_cells (column 0 xs) ≡ all_elements (stream_cells (i ∷ is))) = elements_stream t false true 0 (i ∷ is) of all in
         let offsets : Chunks offset_type (column 1 (other_columns xs)) × (stream_cells (column 1 (other_columns xs)) ≡ map offset_cell (0 ∷ ends 0 (stream_cells (i ∷ is)))) =
-            offsets_stream t false i is all (omega arith) in
+        offsets_stream t false i is all (omega arith) in
         let first : Gives s look p.layout (stream_values (column 0 xs)) =
-            re.reads m (column 0 xs) (inside e) elements.0 (nil_left p.faults (q.faults ++ []) clean) (fit_left p.numbers (q.numbers ++ []) numbers) look (holds_left look p.pairs (q.pairs ++ []) held) in
+        re.reads m (column 0 xs) (inside e) elements.0 (nil_left p.faults (q.faults ++ []) clean) (fit_left p.numbers (q.numbers ++ []) numbers) look (holds_left look p.pairs (q.pairs ++ []) held) in
         let second : Gives s look q.layout (stream_values (column 1 (other_columns xs))) =
-            ro.reads m (column 1 (other_columns xs)) (inside (next e)) offsets.0 (nil_left q.faults [] (nil_right p.faults (q.faults ++ []) clean)) (fit_left q.numbers [] (fit_right p.numbers (q.numbers ++ []) numbers)) look
-                (holds_left look q.pairs [] (holds_right look p.pairs (q.pairs ++ []) held)) in
+        ro.reads m (column 1 (other_columns xs)) (inside (next e)) offsets.0 (nil_left q.faults [] (nil_right p.faults (q.faults ++ []) clean)) (fit_left q.numbers [] (fit_right p.numbers (q.numbers ++ []) numbers)) look
+        (holds_left look q.pairs [] (holds_right look p.pairs (q.pairs ++ []) held)) in
         gives_same s look (list_node t false es os v m (i ∷ is) true e).layout (map value (stream_cells (i ∷ is))) (stream_values (i ∷ is))
-          (list_layout_rows s look t false (row_total (i ∷ is)) (p.layout ∷ q.layout ∷ []) (stream_values (column 0 xs) ∷ stream_values (column 1 (other_columns xs)) ∷ []) (map value (stream_cells (i ∷ is)))
-            (first, (second, tt))
-            (ap₂ (λ x y. lists_of x y) (stream_values_cells (column 0 xs) ∙ ap (map value) elements.1) (stream_values_cells (column 1 (other_columns xs)) ∙ ap (map value) offsets.1)
-            ∙ lists_are t false (stream_cells (i ∷ is)) (stream_fits (list t false) (i ∷ is) of)
-            ∙ ap Some (lists_valid t (stream_cells (i ∷ is)) (stream_fits (list t false) (i ∷ is) of)))
-            (values_length (i ∷ is)))
-          (sym (stream_values_cells (i ∷ is)))
+        (list_layout_rows s look t false (row_total (i ∷ is)) (p.layout ∷ q.layout ∷ []) (stream_values (column 0 xs) ∷ stream_values (column 1 (other_columns xs)) ∷ []) (map value (stream_cells (i ∷ is)))
+        (first, (second, tt))
+        (ap₂ (λ x y. lists_of x y) (stream_values_cells (column 0 xs) ∙ ap (map value) elements.1) (stream_values_cells (column 1 (other_columns xs)) ∙ ap (map value) offsets.1)
+        ∙ lists_are t false (stream_cells (i ∷ is)) (stream_fits (list t false) (i ∷ is) of)
+        ∙ ap Some (lists_valid t (stream_cells (i ∷ is)) (stream_fits (list t false) (i ∷ is) of)))
+        (values_length (i ∷ is)))
+        (sym (stream_values_cells (i ∷ is)))
     go true re ro rv m (i ∷ is) e of clean fit look held =
         let xs : List Split = list_splits t true true 0 (i ∷ is) in
         let p : Plan = es m (column 0 xs) true (inside e) in
@@ -217,31 +218,31 @@ list_reads s t n es os v re ro rv = record { reads = go n re ro rv }
         let numbers : Fit (p.numbers ++ (q.numbers ++ (r.numbers ++ []))) = fit.1.1.1.1.1 in
         let elements : Chunks t (column 0 xs) × (stream_cells (column 0 xs) ≡ all_elements (stream_cells (i ∷ is))) = elements_stream t true true 0 (i ∷ is) of all in
         let offsets : Chunks offset_type (column 1 (other_columns xs)) × (stream_cells (column 1 (other_columns xs)) ≡ map offset_cell (0 ∷ ends 0 (stream_cells (i ∷ is)))) =
-            offsets_stream t true i is all (omega arith) in
+        offsets_stream t true i is all (omega arith) in
         let flags : Chunks (boolean false) (column 2 (other_columns (other_columns xs))) × (stream_cells (column 2 (other_columns (other_columns xs))) ≡ map bool_cell (map flag_of (stream_cells (i ∷ is)))) =
-            list_validity_stream t true 0 (i ∷ is) of in
+        list_validity_stream t true 0 (i ∷ is) of in
         let first : Gives s look p.layout (stream_values (column 0 xs)) =
-            re.reads m (column 0 xs) (inside e) elements.0 (nil_left p.faults (q.faults ++ (r.faults ++ [])) clean) (fit_left p.numbers (q.numbers ++ (r.numbers ++ [])) numbers) look (holds_left look p.pairs (q.pairs ++ (r.pairs ++ [])) held) in
+        re.reads m (column 0 xs) (inside e) elements.0 (nil_left p.faults (q.faults ++ (r.faults ++ [])) clean) (fit_left p.numbers (q.numbers ++ (r.numbers ++ [])) numbers) look (holds_left look p.pairs (q.pairs ++ (r.pairs ++ [])) held) in
         let second : Gives s look q.layout (stream_values (column 1 (other_columns xs))) =
-            ro.reads m (column 1 (other_columns xs)) (inside (next e)) offsets.0 (nil_left q.faults (r.faults ++ []) (nil_right p.faults (q.faults ++ (r.faults ++ [])) clean))
-                (fit_left q.numbers (r.numbers ++ []) (fit_right p.numbers (q.numbers ++ (r.numbers ++ [])) numbers)) look
-                (holds_left look q.pairs (r.pairs ++ []) (holds_right look p.pairs (q.pairs ++ (r.pairs ++ [])) held)) in
+        ro.reads m (column 1 (other_columns xs)) (inside (next e)) offsets.0 (nil_left q.faults (r.faults ++ []) (nil_right p.faults (q.faults ++ (r.faults ++ [])) clean))
+        (fit_left q.numbers (r.numbers ++ []) (fit_right p.numbers (q.numbers ++ (r.numbers ++ [])) numbers)) look
+        (holds_left look q.pairs (r.pairs ++ []) (holds_right look p.pairs (q.pairs ++ (r.pairs ++ [])) held)) in
         let third : Gives s look r.layout (stream_values (column 2 (other_columns (other_columns xs)))) =
-            rv.reads m (column 2 (other_columns (other_columns xs))) (inside (next (next e))) flags.0
-                (nil_left r.faults [] (nil_right q.faults (r.faults ++ []) (nil_right p.faults (q.faults ++ (r.faults ++ [])) clean)))
-                (fit_left r.numbers [] (fit_right q.numbers (r.numbers ++ []) (fit_right p.numbers (q.numbers ++ (r.numbers ++ [])) numbers))) look
-                (holds_left look r.pairs [] (holds_right look q.pairs (r.pairs ++ []) (holds_right look p.pairs (q.pairs ++ (r.pairs ++ [])) held))) in
+        rv.reads m (column 2 (other_columns (other_columns xs))) (inside (next (next e))) flags.0
+        (nil_left r.faults [] (nil_right q.faults (r.faults ++ []) (nil_right p.faults (q.faults ++ (r.faults ++ [])) clean)))
+        (fit_left r.numbers [] (fit_right q.numbers (r.numbers ++ []) (fit_right p.numbers (q.numbers ++ (r.numbers ++ [])) numbers))) look
+        (holds_left look r.pairs [] (holds_right look q.pairs (r.pairs ++ []) (holds_right look p.pairs (q.pairs ++ (r.pairs ++ [])) held))) in
         gives_same s look (list_node t true es os v m (i ∷ is) true e).layout (map value (stream_cells (i ∷ is))) (stream_values (i ∷ is))
-          (list_layout_rows s look t true (row_total (i ∷ is)) (p.layout ∷ q.layout ∷ r.layout ∷ [])
-            (stream_values (column 0 xs) ∷ stream_values (column 1 (other_columns xs)) ∷ stream_values (column 2 (other_columns (other_columns xs))) ∷ []) (map value (stream_cells (i ∷ is)))
-            (first, (second, (third, tt)))
-            (ap₂ (λ x y. and_then (under_validity (row_total (i ∷ is)) (stream_values (column 2 (other_columns (other_columns xs))))) (lists_of x y))
-                (stream_values_cells (column 0 xs) ∙ ap (map value) elements.1) (stream_values_cells (column 1 (other_columns xs)) ∙ ap (map value) offsets.1)
-            ∙ ap (and_then (under_validity (row_total (i ∷ is)) (stream_values (column 2 (other_columns (other_columns xs)))))) (lists_are t true (stream_cells (i ∷ is)) (stream_fits (list t true) (i ∷ is) of))
-            ∙ ap (λ z. under_validity (row_total (i ∷ is)) z (map inner_value (stream_cells (i ∷ is)))) (stream_values_cells (column 2 (other_columns (other_columns xs))) ∙ ap (map value) flags.1)
-            ∙ under_flags (stream_cells (i ∷ is)) (row_total (i ∷ is)) (sym count))
-            (values_length (i ∷ is)))
-          (sym (stream_values_cells (i ∷ is)))
+        (list_layout_rows s look t true (row_total (i ∷ is)) (p.layout ∷ q.layout ∷ r.layout ∷ [])
+        (stream_values (column 0 xs) ∷ stream_values (column 1 (other_columns xs)) ∷ stream_values (column 2 (other_columns (other_columns xs))) ∷ []) (map value (stream_cells (i ∷ is)))
+        (first, (second, (third, tt)))
+        (ap₂ (λ x y. and_then (under_validity (row_total (i ∷ is)) (stream_values (column 2 (other_columns (other_columns xs))))) (lists_of x y))
+        (stream_values_cells (column 0 xs) ∙ ap (map value) elements.1) (stream_values_cells (column 1 (other_columns xs)) ∙ ap (map value) offsets.1)
+        ∙ ap (and_then (under_validity (row_total (i ∷ is)) (stream_values (column 2 (other_columns (other_columns xs)))))) (lists_are t true (stream_cells (i ∷ is)) (stream_fits (list t true) (i ∷ is) of))
+        ∙ ap (λ z. under_validity (row_total (i ∷ is)) z (map inner_value (stream_cells (i ∷ is)))) (stream_values_cells (column 2 (other_columns (other_columns xs))) ∙ ap (map value) flags.1)
+        ∙ under_flags (stream_cells (i ∷ is)) (row_total (i ∷ is)) (sym count))
+        (values_length (i ∷ is)))
+        (sym (stream_values_cells (i ∷ is)))
 
 -- ---- paths
 
@@ -267,17 +268,18 @@ from_unders c (p ∷ ps) x h = ⊎_elim (λ e. (p, inl refl, e)) (λ t. let r : 
 
 unders_scattered : (c : ℕ) (ps : List (List ℕ)) → Scattered ps → Scattered (unders c ps)
 unders_scattered c [] s = tt
-unders_scattered c (p ∷ ps) s =
-    (λ q h. let r : (z : List ℕ) × In z ps × (q ≡ under z c) = from_unders c ps q h in
-        subst (λ z. meets (under p c) z ≡ false) (sym r.2) (apart_both p r.0 (under p c) (under r.0 c) (s.0 r.0 r.1) (begins-under p c) (begins-under r.0 c)),
-     unders_scattered c ps s.1)
+unders_scattered c (p ∷ ps) s = (
+  λ q h. let r : (z : List ℕ) × In z ps × (q ≡ under z c) = from_unders c ps q h in
+      subst (λ z. meets (under p c) z ≡ false) (sym r.2) (apart_both p r.0 (under p c) (under r.0 c) (s.0 r.0 r.1) (begins-under p c) (begins-under r.0 c)),
+  unders_scattered c ps s.1,
+)
 
 unders_apart : (c : ℕ) (ps : List (List ℕ)) (e : Eof) → Apart ps e → Apart (unders c ps) (inside e)
 unders_apart c ps e a = record {
   scattered = unders_scattered c ps a.scattered;
   off = λ x i j. let r : (p : List ℕ) × In p ps × (x ≡ under p c) = from_unders c ps x i in
       subst (λ z. meets z (raised (inside e) j) ≡ false) (sym r.2)
-          (apart_both r.0 (raised e 0) (under r.0 c) (raised (inside e) j) (a.off r.0 r.1 0) (begins-under r.0 c) (inside_begins e j (raised (inside e) j) (begins-refl (raised (inside e) j))))
+      (apart_both r.0 (raised e 0) (under r.0 c) (raised (inside e) j) (a.off r.0 r.1 0) (begins-under r.0 c) (inside_begins e j (raised (inside e) j) (begins-refl (raised (inside e) j))));
 }
 
 -- the paths of column c, and those of the columns behind it
@@ -285,18 +287,21 @@ beside_lies : (c : ℕ) (ps : List (List ℕ)) (e : Eof) (us bs : List (List ℕ
     → Lies (Beyond c ps e) (us ++ bs)
 beside_lies c ps e us bs a l r = record {
   scattered = scattered_both us bs l.scattered r.scattered (λ x y i j. cross x y (l.within x i) (r.within y j));
-  within = λ x h. ⊎_elim (λ i. first x (l.within x i)) (λ i. second x (r.within x i)) (in_cases x us bs h)
+  within = λ x h. ⊎_elim (λ i. first x (l.within x i)) (λ i. second x (r.within x i)) (in_cases x us bs h);
 }
   where
     first : (x : List ℕ) → Region (unders c ps) (inside e) x → Beyond c ps e x
     first x (inl h) = let w : (p : List ℕ) × In p ps × (h.0 ≡ under p c) = from_unders c ps h.0 h.1 in inl (w.0, w.1, (c, omega arith, subst (λ z. begins z x ≡ true) w.2 h.2))
     first x (inr h) = inr (0, inside_begins e h.0 x h.1)
+
     second : (x : List ℕ) → Beyond (suc c) ps (next e) x → Beyond c ps e x
     second x (inl h) = let k : (j : ℕ) × (suc c ≤ j) × (begins (under h.0 j) x ≡ true) = h.2 in let le : suc c ≤ k.0 = k.1 in inl (h.0, h.1, (k.0, omega arith, k.2))
     second x (inr h) = inr (h.0 + 1, subst (λ z. begins z x ≡ true) (raised-next e h.0) h.1)
+
     two : (p q : List ℕ) (j : ℕ) (x y : List ℕ) → (p ≡ q) ⊎ (meets p q ≡ false) → suc c ≤ j → begins (under p c) x ≡ true → begins (under q j) y ≡ true → meets x y ≡ false
     two p q j x y (inl s) le b d = apart_both (under p c) (under p j) x y (under_apart p c j (omega arith)) b (subst (λ z. begins (under z j) y ≡ true) (sym s) d)
     two p q j x y (inr m) le b d = apart_both p q x y m (begins-trans p (under p c) x (begins-under p c) b) (begins-trans q (under q j) y (begins-under q j) d)
+
     cross : (x y : List ℕ) → Region (unders c ps) (inside e) x → Beyond (suc c) ps (next e) y → meets x y ≡ false
     cross x y (inl h) (inl k) =
         let w : (p : List ℕ) × In p ps × (h.0 ≡ under p c) = from_unders c ps h.0 h.1 in
@@ -316,13 +321,13 @@ columns_placed : (ks : List Column) → AllPlaced ks → (c : ℕ) (xs : List Sp
 columns_placed [] h c xs ended e a = lies_none (Beyond c (split_paths xs) e)
 columns_placed (k ∷ ks) h c xs ended e a =
     let l : Lies (Region (chunk_paths (column c xs)) (inside e)) (paths (k (column c xs) ended (inside e)).pairs) =
-        h.0 (column c xs) ended (inside e) (subst (λ z. Apart z (inside e)) (sym (column_paths c xs)) (unders_apart c (split_paths xs) e a)) in
+    h.0 (column c xs) ended (inside e) (subst (λ z. Apart z (inside e)) (sym (column_paths c xs)) (unders_apart c (split_paths xs) e a)) in
     let r : Lies (Beyond (suc c) (split_paths (other_columns xs)) (next e)) (paths (all_pairs (column_plans ks (suc c) (other_columns xs) ended (next e)))) =
-        columns_placed ks h.1 (suc c) (other_columns xs) ended (next e) (subst (λ z. Apart z (next e)) (sym (other_paths xs)) (apart_next (split_paths xs) e a)) in
+    columns_placed ks h.1 (suc c) (other_columns xs) ended (next e) (subst (λ z. Apart z (next e)) (sym (other_paths xs)) (apart_next (split_paths xs) e a)) in
     subst (Lies (Beyond c (split_paths xs) e)) (sym (paths-append (k (column c xs) ended (inside e)).pairs (all_pairs (column_plans ks (suc c) (other_columns xs) ended (next e)))))
-        (beside_lies c (split_paths xs) e (paths (k (column c xs) ended (inside e)).pairs) (paths (all_pairs (column_plans ks (suc c) (other_columns xs) ended (next e)))) a
-            (subst (λ z. Lies (Region z (inside e)) (paths (k (column c xs) ended (inside e)).pairs)) (column_paths c xs) l)
-            (subst (λ z. Lies (Beyond (suc c) z (next e)) (paths (all_pairs (column_plans ks (suc c) (other_columns xs) ended (next e))))) (other_paths xs) r))
+    (beside_lies c (split_paths xs) e (paths (k (column c xs) ended (inside e)).pairs) (paths (all_pairs (column_plans ks (suc c) (other_columns xs) ended (next e)))) a
+    (subst (λ z. Lies (Region z (inside e)) (paths (k (column c xs) ended (inside e)).pairs)) (column_paths c xs) l)
+    (subst (λ z. Lies (Beyond (suc c) z (next e)) (paths (all_pairs (column_plans ks (suc c) (other_columns xs) ended (next e))))) (other_paths xs) r))
 
 beyond_region : (ps : List (List ℕ)) (e : Eof) (xs : List (List ℕ)) → Lies (Beyond 0 ps e) xs → Lies (Region ps e) xs
 beyond_region ps e xs l = record { scattered = l.scattered; within = λ x i. go x (l.within x i) }
@@ -346,10 +351,12 @@ writers_placed fs false m v ks c h = fields_placed fs ks h (m || false)
 
 pub struct_placed : (fs : Tys) (n : Bool) (dup : Option (List ℕ)) (v : Node) (ks : List Node) → Placed (boolean false) v → Fields (λ t k. Placed t k) fs ks → Placed (struct fs n) (struct_node fs n dup v ks)
 struct_placed fs n (Some name) v ks c h = record { placed = λ m items ended e a. lies_none (Region (places items) e) }
-struct_placed fs n None v ks c h = record { placed = λ m items ended e a.
-    beyond_region (places items) e (paths (all_pairs (struct_plans fs n v ks m items ended e)))
-        (subst (λ z. Lies (Beyond 0 z e) (paths (all_pairs (struct_plans fs n v ks m items ended e)))) (struct_paths fs n items)
-            (columns_placed (struct_writers n m v ks) (writers_placed fs n m v ks c h) 0 (struct_splits fs n items) ended e (subst (λ z. Apart z e) (sym (struct_paths fs n items)) a))) }
+struct_placed fs n None v ks c h = record {
+  placed = λ m items ended e a.
+      beyond_region (places items) e (paths (all_pairs (struct_plans fs n v ks m items ended e)))
+      (subst (λ z. Lies (Beyond 0 z e) (paths (all_pairs (struct_plans fs n v ks m items ended e)))) (struct_paths fs n items)
+      (columns_placed (struct_writers n m v ks) (writers_placed fs n m v ks c h) 0 (struct_splits fs n items) ended e (subst (λ z. Apart z e) (sym (struct_paths fs n items)) a)));
+}
 
 pub not_struct_placed : (t : Ty) → Placed t (not_struct_node t)
 not_struct_placed t = record { placed = λ m items ended e a. lies_none (Region (places items) e) }
@@ -364,8 +371,9 @@ list_placed t n es os v p q r = record { placed = go }
     columns : (m : Bool) (items : List Item) (ended : Bool) (e : Eof) → Apart (places items) e → Lies (Region (places items) e) (paths (list_columns_plan t n es os v m items ended e).pairs)
     columns m items ended e a =
         beyond_region (places items) e (paths (all_pairs (list_plans t n es os v m items ended e)))
-            (subst (λ z. Lies (Beyond 0 z e) (paths (all_pairs (list_plans t n es os v m items ended e)))) (list_paths t n true 0 items)
-                (columns_placed (list_writers n m es os v) (list_writers_placed t n m es os v p q r) 0 (list_splits t n true 0 items) ended e (subst (λ z. Apart z e) (sym (list_paths t n true 0 items)) a)))
+        (subst (λ z. Lies (Beyond 0 z e) (paths (all_pairs (list_plans t n es os v m items ended e)))) (list_paths t n true 0 items)
+        (columns_placed (list_writers n m es os v) (list_writers_placed t n m es os v p q r) 0 (list_splits t n true 0 items) ended e (subst (λ z. Apart z e) (sym (list_paths t n true 0 items)) a)))
+
     go : (m : Bool) (items : List Item) (ended : Bool) (e : Eof) → Apart (places items) e → Lies (Region (places items) e) (paths (list_node t n es os v m items ended e).pairs)
     go m [] true e a = lies_none (Region [] e)
     go m [] false e a = columns m [] false e a
@@ -382,9 +390,9 @@ columns_grow : (ks : List Column) → AllGrow ks → (c : ℕ) (xs ys : List Spl
 columns_grow [] h c xs ys ended e = grow_none []
 columns_grow (k ∷ ks) h c xs ys ended e =
     grow_more (k (column c xs) false (inside e)) (k (column c (xs ++ ys)) ended (inside e)) (column_plans ks (suc c) (other_columns xs) false (next e)) (column_plans ks (suc c) (other_columns (xs ++ ys)) ended (next e))
-        (subst (λ z. Within (k (column c xs) false (inside e)) (k z ended (inside e))) (sym (column-append c xs ys)) (h.0 (column c xs) (column c ys) ended (inside e)))
-        (subst (λ z. Grow (column_plans ks (suc c) (other_columns xs) false (next e)) (column_plans ks (suc c) z ended (next e))) (sym (other_columns-append xs ys))
-            (columns_grow ks h.2 (suc c) (other_columns xs) (other_columns ys) ended (next e)))
+    (subst (λ z. Within (k (column c xs) false (inside e)) (k z ended (inside e))) (sym (column-append c xs ys)) (h.0 (column c xs) (column c ys) ended (inside e)))
+    (subst (λ z. Grow (column_plans ks (suc c) (other_columns xs) false (next e)) (column_plans ks (suc c) z ended (next e))) (sym (other_columns-append xs ys))
+    (columns_grow ks h.2 (suc c) (other_columns xs) (other_columns ys) ended (next e)))
 
 columns_quiet : (ks : List Column) → AllGrow ks → (c : ℕ) (e : Eof) → all_pairs (column_plans ks c [] false e) ≡ []
 columns_quiet [] h c e = refl
@@ -394,7 +402,7 @@ beside_within : (l k : Lay (List ℕ)) (ns ms : List ℕ) (ps qs : List Plan) �
 beside_within l k ns ms ps qs f g = record {
   pairs = g.pairs;
   faultless = g.faultless;
-  fit = λ e h. fit_both ns (all_numbers ps) (f (fit_left ms (all_numbers qs) h)) (g.fit e (fit_right ms (all_numbers qs) h))
+  fit = λ e h. fit_both ns (all_numbers ps) (f (fit_left ms (all_numbers qs) h)) (g.fit e (fit_right ms (all_numbers qs) h));
 }
 
 one_grows : (t : Ty) (k : Node) → Grows t k → (m : Bool) (ks : List Column) → AllGrow ks → AllGrow (k m ∷ ks)
@@ -416,22 +424,22 @@ numbers_fit xs ys ks e h = ((let total : row_total (xs ++ ys) ≡ row_total xs +
 pub struct_grows : (fs : Tys) (n : Bool) (dup : Option (List ℕ)) (v : Node) (ks : List Node) → Grows (boolean false) v → Fields (λ t k. Grows t k) fs ks → Grows (struct fs n) (struct_node fs n dup v ks)
 struct_grows fs n (Some name) v ks c h = record {
   grows = λ m xs ys ended e. record { pairs = λ x i. i; faultless = λ f. f; fit = λ f g. g };
-  quiet = λ m e. refl
+  quiet = λ m e. refl;
 }
 struct_grows fs n None v ks c h = record {
   grows = λ m xs ys ended e.
       beside_within (struct_node fs n None v ks m xs false e).layout (struct_node fs n None v ks m (xs ++ ys) ended e).layout
-          (column_numbers xs (struct_writers n m v ks) e) (column_numbers (xs ++ ys) (struct_writers n m v ks) e) (struct_plans fs n v ks m xs false e) (struct_plans fs n v ks m (xs ++ ys) ended e)
-          (numbers_fit xs ys (struct_writers n m v ks) e)
-          (subst (λ z. Grow (struct_plans fs n v ks m xs false e) (column_plans (struct_writers n m v ks) 0 z ended e)) (sym (struct_splits-append fs n xs ys))
-              (columns_grow (struct_writers n m v ks) (writers_grow fs n m v ks c h) 0 (struct_splits fs n xs) (struct_splits fs n ys) ended e));
-  quiet = λ m e. columns_quiet (struct_writers n m v ks) (writers_grow fs n m v ks c h) 0 e
+      (column_numbers xs (struct_writers n m v ks) e) (column_numbers (xs ++ ys) (struct_writers n m v ks) e) (struct_plans fs n v ks m xs false e) (struct_plans fs n v ks m (xs ++ ys) ended e)
+      (numbers_fit xs ys (struct_writers n m v ks) e)
+      (subst (λ z. Grow (struct_plans fs n v ks m xs false e) (column_plans (struct_writers n m v ks) 0 z ended e)) (sym (struct_splits-append fs n xs ys))
+      (columns_grow (struct_writers n m v ks) (writers_grow fs n m v ks c h) 0 (struct_splits fs n xs) (struct_splits fs n ys) ended e));
+  quiet = λ m e. columns_quiet (struct_writers n m v ks) (writers_grow fs n m v ks c h) 0 e;
 }
 
 pub not_struct_grows : (t : Ty) → Grows t (not_struct_node t)
 not_struct_grows t = record {
   grows = λ m xs ys ended e. record { pairs = λ x i. i; faultless = λ f. f; fit = λ f g. g };
-  quiet = λ m e. refl
+  quiet = λ m e. refl;
 }
 
 list_writers_grow : (t : Ty) (n m : Bool) (es os v : Node) → Grows t es → Grows offset_type os → Grows (boolean false) v → AllGrow (list_writers n m es os v)
@@ -439,11 +447,15 @@ list_writers_grow t true m es os v a b c = one_grows t es a m (os m ∷ v m ∷ 
 list_writers_grow t false m es os v a b c = one_grows t es a m (os m ∷ []) (one_grows offset_type os b m [] tt)
 
 list_numbers_fit : (xs ys : List Item) (ks : List Column) (e : Eof) → Fit (list_numbers (xs ++ ys) ks e) → Fit (list_numbers xs ks e)
-list_numbers_fit xs ys ks e h =
-    ((let total : row_total (xs ++ ys) ≡ row_total xs + row_total ys = row_total-append xs ys in let a : suc (row_total (xs ++ ys)) < 2 ^ 64 = h.0 in omega arith),
-     ((let all : length (all_elements (stream_cells (xs ++ ys))) ≡ length (all_elements (stream_cells xs)) + length (all_elements (stream_cells ys)) =
-          ap (λ z. length (all_elements z)) (stream_cells-append xs ys) ∙ ap length (elements_append (stream_cells xs) (stream_cells ys)) ∙ length-append (all_elements (stream_cells xs)) (all_elements (stream_cells ys)) in
-      let b : length (all_elements (stream_cells (xs ++ ys))) < 2 ^ 64 = h.1.0 in omega arith), numbers_fit xs ys ks e h.1.1))
+list_numbers_fit xs ys ks e h = (
+  (let total : row_total (xs ++ ys) ≡ row_total xs + row_total ys = row_total-append xs ys in let a : suc (row_total (xs ++ ys)) < 2 ^ 64 = h.0 in omega arith),
+  (
+    (let all : length (all_elements (stream_cells (xs ++ ys))) ≡ length (all_elements (stream_cells xs)) + length (all_elements (stream_cells ys)) =
+        ap (λ z. length (all_elements z)) (stream_cells-append xs ys) ∙ ap length (elements_append (stream_cells xs) (stream_cells ys)) ∙ length-append (all_elements (stream_cells xs)) (all_elements (stream_cells ys)) in
+        let b : length (all_elements (stream_cells (xs ++ ys))) < 2 ^ 64 = h.1.0 in omega arith),
+    numbers_fit xs ys ks e h.1.1,
+  ),
+)
 
 pub list_grows : (t : Ty) (n : Bool) (es os v : Node) → Grows t es → Grows offset_type os → Grows (boolean false) v → Grows (list t n) (list_node t n es os v)
 list_grows t n es os v p q r = record { grows = go; quiet = λ m e. columns_quiet (list_writers n m es os v) (list_writers_grow t n m es os v p q r) 0 e }
@@ -452,15 +464,16 @@ list_grows t n es os v p q r = record { grows = go; quiet = λ m e. columns_quie
     columns m xs ys ended e =
         let b : (more : List Split) × (list_splits t n true 0 (xs ++ ys) ≡ list_splits t n true 0 xs ++ more) = list_splits_begin t n true 0 xs ys in
         beside_within (list_columns_plan t n es os v m xs false e).layout (list_columns_plan t n es os v m (xs ++ ys) ended e).layout
-            (list_numbers xs (list_writers n m es os v) e) (list_numbers (xs ++ ys) (list_writers n m es os v) e) (list_plans t n es os v m xs false e) (list_plans t n es os v m (xs ++ ys) ended e)
-            (list_numbers_fit xs ys (list_writers n m es os v) e)
-            (subst (λ z. Grow (list_plans t n es os v m xs false e) (column_plans (list_writers n m es os v) 0 z ended e)) (sym b.1)
-                (columns_grow (list_writers n m es os v) (list_writers_grow t n m es os v p q r) 0 (list_splits t n true 0 xs) b.0 ended e))
+        (list_numbers xs (list_writers n m es os v) e) (list_numbers (xs ++ ys) (list_writers n m es os v) e) (list_plans t n es os v m xs false e) (list_plans t n es os v m (xs ++ ys) ended e)
+        (list_numbers_fit xs ys (list_writers n m es os v) e)
+        (subst (λ z. Grow (list_plans t n es os v m xs false e) (column_plans (list_writers n m es os v) 0 z ended e)) (sym b.1)
+        (columns_grow (list_writers n m es os v) (list_writers_grow t n m es os v p q r) 0 (list_splits t n true 0 xs) b.0 ended e))
+
     go : (m : Bool) (xs ys : List Item) (ended : Bool) (e : Eof) → Within (list_node t n es os v m xs false e) (list_node t n es os v m (xs ++ ys) ended e)
     go m [] [] true e = record {
       pairs = λ x i. subst (In x) (columns_quiet (list_writers n m es os v) (list_writers_grow t n m es os v p q r) 0 e) i;
       faultless = λ f. cc;
-      fit = λ f g. absurd (cons_nil f)
+      fit = λ f g. absurd (cons_nil f);
     }
     go m [] [] false e = columns m [] [] false e
     go m [] (y ∷ ys) ended e = columns m [] (y ∷ ys) ended e

@@ -36,7 +36,7 @@ dict_layout_rows : {A : Type 0} (s : Setting) (look : A → Option (List ℕ)) (
     → Gives s look values vs → Gives s look codes cs → dict_rows (vs ∷ cs ∷ []) ≡ Some out → length out ≡ n → Gives s look (dict_layout t n values codes) out
 dict_layout_rows s look t n values codes vs cs out e f g l = record {
   read = ap₂ (λ a b. and_then (counted n) (and_then dict_rows (all_there (a ∷ b ∷ [])))) e.read f.read ∙ ap (and_then (counted n)) g ∙ counted_same n out l;
-  zones = (tt, (e.zones, (f.zones, tt)))
+  zones = (tt, (e.zones, (f.zones, tt)));
 }
 
 -- one run that has ended
@@ -52,10 +52,10 @@ run_reads s o t ck vk rc rv m codes values true e part c ns ds x y d oc ov clean
     let q : Plan = vk m values true (inside (next e)) in
     let l : length ns ≡ length part = decodes_length ds ns part d in
     dict_layout_rows s look t (row_total codes) q.layout p.layout (map value ds) (map value (map offset_cell ns)) (map value part)
-        (gives_same s look q.layout (stream_values values) (map value ds) (rv.reads m values (inside (next e)) ov (nil_right p.faults q.faults clean) (fit_right p.numbers q.numbers fit) look (holds_right look p.pairs q.pairs held)) (stream_values_cells values ∙ ap (map value) y))
-        (gives_same s look p.layout (stream_values codes) (map value (map offset_cell ns)) (rc.reads m codes (inside e) oc (nil_left p.faults q.faults clean) (fit_left p.numbers q.numbers fit) look (holds_left look p.pairs q.pairs held)) (stream_values_cells codes ∙ ap (map value) x))
-        (decodes_rows ds ns part d)
-        (length-map part value ∙ sym l ∙ sym (length-map ns offset_cell) ∙ sym (ap length x) ∙ sym (row_total_cells codes))
+    (gives_same s look q.layout (stream_values values) (map value ds) (rv.reads m values (inside (next e)) ov (nil_right p.faults q.faults clean) (fit_right p.numbers q.numbers fit) look (holds_right look p.pairs q.pairs held)) (stream_values_cells values ∙ ap (map value) y))
+    (gives_same s look p.layout (stream_values codes) (map value (map offset_cell ns)) (rc.reads m codes (inside e) oc (nil_left p.faults q.faults clean) (fit_left p.numbers q.numbers fit) look (holds_left look p.pairs q.pairs held)) (stream_values_cells codes ∙ ap (map value) x))
+    (decodes_rows ds ns part d)
+    (length-map part value ∙ sym l ∙ sym (length-map ns offset_cell) ∙ sym (ap length x) ∙ sym (row_total_cells codes))
 
 -- the rows of each run
 abbrev pub parts_of : (o : DictOptions) (t : Ty) (rs : List Run) (rows : List Tree) → AllEnded o t rs rows → List (List Val)
@@ -73,10 +73,11 @@ runs_read s o t ck vk rc rv m [] e cs h clean fit look held = tt
 runs_read s o t ck vk rc rv m (r ∷ rs) e cs h clean fit look held =
     let p : Plan = run_plan t ck vk m r e in
     let ps : List Plan = run_plans t ck vk m rs (next (next e)) in
-    let w : Ended o t r h.0 = h.3 in
-    (run_reads s o t ck vk rc rv m r.codes r.values r.closed e h.0 w.closed w.codes w.distinct w.codes_cells w.values_cells w.decodes w.codes_of w.values_of
-        (nil_left p.faults (all_faults ps) clean) (fit_left p.numbers (all_numbers ps) fit) look (holds_left look p.pairs (all_pairs ps) held),
-     runs_read s o t ck vk rc rv m rs (next (next e)) h.1 h.4 (nil_right p.faults (all_faults ps) clean) (fit_right p.numbers (all_numbers ps) fit) look (holds_right look p.pairs (all_pairs ps) held))
+    let w : Ended o t r h.0 = h.3 in (
+      run_reads s o t ck vk rc rv m r.codes r.values r.closed e h.0 w.closed w.codes w.distinct w.codes_cells w.values_cells w.decodes w.codes_of w.values_of
+          (nil_left p.faults (all_faults ps) clean) (fit_left p.numbers (all_numbers ps) fit) look (holds_left look p.pairs (all_pairs ps) held),
+      runs_read s o t ck vk rc rv m rs (next (next e)) h.1 h.4 (nil_right p.faults (all_faults ps) clean) (fit_right p.numbers (all_numbers ps) fit) look (holds_right look p.pairs (all_pairs ps) held),
+    )
 
 fit_tail : (items : List Item) (o : DictOptions) (t : Ty) (ended : Bool) (e : Eof) (ns : List ℕ) → Fit (dict_numbers o t items ended e ++ ns) → Fit ns
 fit_tail items o t ended e ns h = fit_right (dict_numbers o t items ended e) ns h
@@ -91,17 +92,19 @@ dict_reads s o t d ck vk f rc rv rf = record { reads = go }
         let h : AllEnded o t (runs o t (i ∷ is) true) (stream_cells (i ∷ is)) = runs_end o t d i is of in
         let vss : List (List Val) = parts_of o t (runs o t (i ∷ is) true) (stream_cells (i ∷ is)) h in
         gives_same s look (runs_node o t ck vk m (i ∷ is) true e).layout (joined vss) (stream_values (i ∷ is))
-            (gathered_reads s look t (row_total (i ∷ is)) (all_layouts (run_plans t ck vk m (runs o t (i ∷ is) true) e)) vss
-                (runs_read s o t ck vk rc rv m (runs o t (i ∷ is) true) e (stream_cells (i ∷ is)) h clean
-                    (fit_tail (i ∷ is) o t true e (all_numbers (run_plans t ck vk m (runs o t (i ∷ is) true) e)) fit) look held)
-                (ap length (joined_parts o t (runs o t (i ∷ is) true) (stream_cells (i ∷ is)) h) ∙ length-map (stream_cells (i ∷ is)) value ∙ sym (row_total_cells (i ∷ is))))
-            (joined_parts o t (runs o t (i ∷ is) true) (stream_cells (i ∷ is)) h ∙ sym (stream_values_cells (i ∷ is)))
+        (gathered_reads s look t (row_total (i ∷ is)) (all_layouts (run_plans t ck vk m (runs o t (i ∷ is) true) e)) vss
+        (runs_read s o t ck vk rc rv m (runs o t (i ∷ is) true) e (stream_cells (i ∷ is)) h clean
+        (fit_tail (i ∷ is) o t true e (all_numbers (run_plans t ck vk m (runs o t (i ∷ is) true) e)) fit) look held)
+        (ap length (joined_parts o t (runs o t (i ∷ is) true) (stream_cells (i ∷ is)) h) ∙ length-map (stream_cells (i ∷ is)) value ∙ sym (row_total_cells (i ∷ is))))
+        (joined_parts o t (runs o t (i ∷ is) true) (stream_cells (i ∷ is)) h ∙ sym (stream_values_cells (i ∷ is)))
+
     either : (b : Bool) (m : Bool) (i : Item) (is : List Item) (e : Eof) → ItemsOf t (i ∷ is) → (if b then runs_node o t ck vk m (i ∷ is) true e else f m (i ∷ is) true e).faults ≡ []
         → Fit (if b then runs_node o t ck vk m (i ∷ is) true e else f m (i ∷ is) true e).numbers
         → (look : List ℕ → Option (List ℕ)) → Holds look (if b then runs_node o t ck vk m (i ∷ is) true e else f m (i ∷ is) true e).pairs
         → Gives s look (if b then runs_node o t ck vk m (i ∷ is) true e else f m (i ∷ is) true e).layout (stream_values (i ∷ is))
     either true m i is e of clean fit look held = by_runs m i is e of clean fit look held
     either false m i is e of clean fit look held = rf.reads m (i ∷ is) e of clean fit look held
+
     go : (m : Bool) (items : List Item) (e : Eof) → ItemsOf t items → (dict_node s o t ck vk f m items true e).faults ≡ [] → Fit (dict_node s o t ck vk f m items true e).numbers
         → (look : List ℕ → Option (List ℕ)) → Holds look (dict_node s o t ck vk f m items true e).pairs
         → Gives s look (dict_node s o t ck vk f m items true e).layout (stream_values items)
@@ -119,11 +122,11 @@ runs_placed o t ck vk c v m (r ∷ rs) e a =
     let ps : List Pair = all_pairs (run_plans t ck vk m rs (next (next e))) in
     let behind : Apart (chunk_paths r.values ++ run_paths rs) (next e) = apart_next (chunk_paths r.values ++ run_paths rs) e (apart_right (chunk_paths r.codes) (chunk_paths r.values ++ run_paths rs) e a) in
     subst (Lies (Region (run_paths (r ∷ rs)) e)) (sym (paths-append (p.pairs ++ q.pairs) ps ∙ ap (λ z. z ++ paths ps) (paths-append p.pairs q.pairs) ∙ append_assoc (paths p.pairs) (paths q.pairs) (paths ps)))
-        (two_parts (chunk_paths r.codes) (chunk_paths r.values ++ run_paths rs) e (paths p.pairs) (paths q.pairs ++ paths ps) a
-            (c.placed m r.codes r.closed (inside e) (apart_inside (chunk_paths r.codes) e (apart_left (chunk_paths r.codes) (chunk_paths r.values ++ run_paths rs) e a)))
-            (two_parts (chunk_paths r.values) (run_paths rs) (next e) (paths q.pairs) (paths ps) behind
-                (v.placed m r.values r.closed (inside (next e)) (apart_inside (chunk_paths r.values) (next e) (apart_left (chunk_paths r.values) (run_paths rs) (next e) behind)))
-                (runs_placed o t ck vk c v m rs (next (next e)) (apart_next (run_paths rs) (next e) (apart_right (chunk_paths r.values) (run_paths rs) (next e) behind)))))
+    (two_parts (chunk_paths r.codes) (chunk_paths r.values ++ run_paths rs) e (paths p.pairs) (paths q.pairs ++ paths ps) a
+    (c.placed m r.codes r.closed (inside e) (apart_inside (chunk_paths r.codes) e (apart_left (chunk_paths r.codes) (chunk_paths r.values ++ run_paths rs) e a)))
+    (two_parts (chunk_paths r.values) (run_paths rs) (next e) (paths q.pairs) (paths ps) behind
+    (v.placed m r.values r.closed (inside (next e)) (apart_inside (chunk_paths r.values) (next e) (apart_left (chunk_paths r.values) (run_paths rs) (next e) behind)))
+    (runs_placed o t ck vk c v m rs (next (next e)) (apart_next (run_paths rs) (next e) (apart_right (chunk_paths r.values) (run_paths rs) (next e) behind)))))
 
 pub dict_placed : (s : Setting) (o : DictOptions) (t : Ty) (ck vk f : Node) → Placed (code_type o) ck → Placed t vk → Placed t f → Placed t (dict_node s o t ck vk f)
 dict_placed s o t ck vk f c v pf = record { placed = go }
@@ -132,8 +135,9 @@ dict_placed s o t ck vk f c v pf = record { placed = go }
         → Lies (Region (places (i ∷ is)) e) (paths (if b then runs_node o t ck vk m (i ∷ is) ended e else f m (i ∷ is) ended e).pairs)
     either true m i is ended e a =
         lies_onto (run_paths (runs o t (i ∷ is) ended)) (places (i ∷ is)) e (paths (all_pairs (run_plans t ck vk m (runs o t (i ∷ is) ended) e))) (runs_onto o t i is ended)
-            (runs_placed o t ck vk c v m (runs o t (i ∷ is) ended) e (apart_onto (run_paths (runs o t (i ∷ is) ended)) (places (i ∷ is)) e (runs_onto o t i is ended) a))
+        (runs_placed o t ck vk c v m (runs o t (i ∷ is) ended) e (apart_onto (run_paths (runs o t (i ∷ is) ended)) (places (i ∷ is)) e (runs_onto o t i is ended) a))
     either false m i is ended e a = pf.placed m (i ∷ is) ended e a
+
     go : (m : Bool) (items : List Item) (ended : Bool) (e : Eof) → Apart (places items) e → Lies (Region (places items) e) (paths (dict_node s o t ck vk f m items ended e).pairs)
     go m [] true e a = pf.placed m [] true e a
     go m [] false e a = lies_none (Region [] e)
@@ -145,25 +149,25 @@ both_within : (l k : Lay (List ℕ)) (p q r u : Plan) → Within p r → Within 
 both_within l k p q r u a b = record {
   pairs = λ x h. ⊎_elim (λ i. in_left x r.pairs u.pairs (a.pairs x i)) (λ i. in_right x r.pairs u.pairs (b.pairs x i)) (in_cases x p.pairs q.pairs h);
   faultless = λ e. nil_both p.faults q.faults (a.faultless (nil_left r.faults u.faults e)) (b.faultless (nil_right r.faults u.faults e));
-  fit = λ e h. fit_both p.numbers q.numbers (a.fit (nil_left r.faults u.faults e) (fit_left r.numbers u.numbers h)) (b.fit (nil_right r.faults u.faults e) (fit_right r.numbers u.numbers h))
+  fit = λ e h. fit_both p.numbers q.numbers (a.fit (nil_left r.faults u.faults e) (fit_left r.numbers u.numbers h)) (b.fit (nil_right r.faults u.faults e) (fit_right r.numbers u.numbers h));
 }
 
 run_within : (o : DictOptions) (t : Ty) (ck vk : Node) → Grows (code_type o) ck → Grows t vk → (m : Bool) (r q : Run) (e : Eof) → RunGrows r q → Within (run_plan t ck vk m r e) (run_plan t ck vk m q e)
 run_within o t ck vk c v m r q e (inl h) = subst (λ z. Within (run_plan t ck vk m r e) (run_plan t ck vk m z e)) h (within_itself (run_plan t ck vk m r e))
 run_within o t ck vk c v m r q e (inr h) =
     both_within (run_plan t ck vk m r e).layout (run_plan t ck vk m q e).layout (ck m r.codes r.closed (inside e)) (vk m r.values r.closed (inside (next e)))
-        (ck m q.codes q.closed (inside e)) (vk m q.values q.closed (inside (next e)))
-        (subst (λ b. Within (ck m r.codes b (inside e)) (ck m q.codes q.closed (inside e))) (sym h.0)
-            (subst (λ z. Within (ck m r.codes false (inside e)) (ck m z q.closed (inside e))) (sym h.2.1) (c.grows m r.codes h.2.0 q.closed (inside e))))
-        (subst (λ b. Within (vk m r.values b (inside (next e))) (vk m q.values q.closed (inside (next e)))) (sym h.0)
-            (subst (λ z. Within (vk m z false (inside (next e))) (vk m q.values q.closed (inside (next e)))) (sym h.1) (v.grows m [] q.values q.closed (inside (next e)))))
+    (ck m q.codes q.closed (inside e)) (vk m q.values q.closed (inside (next e)))
+    (subst (λ b. Within (ck m r.codes b (inside e)) (ck m q.codes q.closed (inside e))) (sym h.0)
+    (subst (λ z. Within (ck m r.codes false (inside e)) (ck m z q.closed (inside e))) (sym h.2.1) (c.grows m r.codes h.2.0 q.closed (inside e))))
+    (subst (λ b. Within (vk m r.values b (inside (next e))) (vk m q.values q.closed (inside (next e)))) (sym h.0)
+    (subst (λ z. Within (vk m z false (inside (next e))) (vk m q.values q.closed (inside (next e)))) (sym h.1) (v.grows m [] q.values q.closed (inside (next e)))))
 
 runs_within : (o : DictOptions) (t : Ty) (ck vk : Node) → Grows (code_type o) ck → Grows t vk → (m : Bool) (rs qs : List Run) (e : Eof) → RunsGrow rs qs → Grow (run_plans t ck vk m rs e) (run_plans t ck vk m qs e)
 runs_within o t ck vk c v m [] qs e h = grow_none (run_plans t ck vk m qs e)
 runs_within o t ck vk c v m (r ∷ rs) [] e h = absurd h
 runs_within o t ck vk c v m (r ∷ rs) (q ∷ qs) e h =
     grow_more (run_plan t ck vk m r e) (run_plan t ck vk m q e) (run_plans t ck vk m rs (next (next e))) (run_plans t ck vk m qs (next (next e)))
-        (run_within o t ck vk c v m r q e h.0) (runs_within o t ck vk c v m rs qs (next (next e)) h.1)
+    (run_within o t ck vk c v m r q e h.0) (runs_within o t ck vk c v m rs qs (next (next e)) h.1)
 
 runs_fewer : (rs qs : List Run) → RunsGrow rs qs → length rs ≤ length qs
 runs_fewer [] qs h = omega arith
@@ -181,9 +185,10 @@ numbers_before : (o : DictOptions) (t : Ty) (x : Item) (xs ys : List Item) (ende
 numbers_before o t x xs ys ended e h =
     let b : (more : List ℕ) × (made_counts o t [] (x ∷ xs ++ ys) ended ≡ made_counts o t [] (x ∷ xs) false ++ more) = made_begin o t [] (x ∷ xs) ys ended in
     let l : length (runs o t (x ∷ xs) false) ≤ length (runs o t (x ∷ xs ++ ys) ended) = runs_fewer (runs o t (x ∷ xs) false) (runs o t (x ∷ xs ++ ys) ended) (runs_grow o t x xs ys ended) in
-    let total : row_total (x ∷ xs ++ ys) ≡ row_total (x ∷ xs) + row_total ys = row_total-append (x ∷ xs) ys in
-    ((let a : row_total (x ∷ xs ++ ys) < 2 ^ 64 = h.0 in omega arith),
-     ((let a : e.last + 2 * length (runs o t (x ∷ xs ++ ys) ended) < 2 ^ 64 = h.1.0 in omega arith), fit_left (made_counts o t [] (x ∷ xs) false) b.0 (subst Fit b.1 h.1.1)))
+    let total : row_total (x ∷ xs ++ ys) ≡ row_total (x ∷ xs) + row_total ys = row_total-append (x ∷ xs) ys in (
+      (let a : row_total (x ∷ xs ++ ys) < 2 ^ 64 = h.0 in omega arith),
+      ((let a : e.last + 2 * length (runs o t (x ∷ xs ++ ys) ended) < 2 ^ 64 = h.1.0 in omega arith), fit_left (made_counts o t [] (x ∷ xs) false) b.0 (subst Fit b.1 h.1.1)),
+    )
 
 pub dict_grows : (s : Setting) (o : DictOptions) (t : Ty) (ck vk f : Node) → Grows (code_type o) ck → Grows t vk → Grows t f → Grows t (dict_node s o t ck vk f)
 dict_grows s o t ck vk f c v gf = record { grows = go; quiet = λ m e. refl }
@@ -191,18 +196,20 @@ dict_grows s o t ck vk f c v gf = record { grows = go; quiet = λ m e. refl }
     by_runs : (m : Bool) (x : Item) (xs ys : List Item) (ended : Bool) (e : Eof) → Within (runs_node o t ck vk m (x ∷ xs) false e) (runs_node o t ck vk m (x ∷ xs ++ ys) ended e)
     by_runs m x xs ys ended e =
         let g : Grow (run_plans t ck vk m (runs o t (x ∷ xs) false) e) (run_plans t ck vk m (runs o t (x ∷ xs ++ ys) ended) e) =
-            runs_within o t ck vk c v m (runs o t (x ∷ xs) false) (runs o t (x ∷ xs ++ ys) ended) e (runs_grow o t x xs ys ended) in
+        runs_within o t ck vk c v m (runs o t (x ∷ xs) false) (runs o t (x ∷ xs ++ ys) ended) e (runs_grow o t x xs ys ended) in
         record {
           pairs = g.pairs;
           faultless = g.faultless;
           fit = λ w h. fit_both (dict_numbers o t (x ∷ xs) false e) (all_numbers (run_plans t ck vk m (runs o t (x ∷ xs) false) e))
               (numbers_before o t x xs ys ended e (fit_left (dict_numbers o t (x ∷ xs ++ ys) ended e) (all_numbers (run_plans t ck vk m (runs o t (x ∷ xs ++ ys) ended) e)) h))
-              (g.fit w (fit_right (dict_numbers o t (x ∷ xs ++ ys) ended e) (all_numbers (run_plans t ck vk m (runs o t (x ∷ xs ++ ys) ended) e)) h))
+              (g.fit w (fit_right (dict_numbers o t (x ∷ xs ++ ys) ended e) (all_numbers (run_plans t ck vk m (runs o t (x ∷ xs ++ ys) ended) e)) h));
         }
+
     either : (b : Bool) (m : Bool) (x : Item) (xs ys : List Item) (ended : Bool) (e : Eof)
         → Within (if b then runs_node o t ck vk m (x ∷ xs) false e else f m (x ∷ xs) false e) (if b then runs_node o t ck vk m (x ∷ xs ++ ys) ended e else f m (x ∷ xs ++ ys) ended e)
     either true m x xs ys ended e = by_runs m x xs ys ended e
     either false m x xs ys ended e = gf.grows m (x ∷ xs) ys ended e
+
     go : (m : Bool) (xs ys : List Item) (ended : Bool) (e : Eof) → Within (dict_node s o t ck vk f m xs false e) (dict_node s o t ck vk f m (xs ++ ys) ended e)
     go m [] ys ended e = record { pairs = λ x h. absurd h; faultless = λ h. refl; fit = λ h g. tt }
     go m (x ∷ xs) ys ended e = either (is_dictionary (s.image o.probe x.1)) m x xs ys ended e
@@ -220,6 +227,7 @@ dict_typed s o t ck vk f tf = record { typed = go }
     either : (b : Bool) (m : Bool) (i : Item) (is : List Item) (ended : Bool) (e : Eof) → layout_type (if b then runs_node o t ck vk m (i ∷ is) ended e else f m (i ∷ is) ended e).layout ≡ t
     either true m i is ended e = run_typed t ck vk m (runs o t (i ∷ is) ended) (row_total (i ∷ is)) e
     either false m i is ended e = tf.typed m (i ∷ is) ended e
+
     go : (m : Bool) (items : List Item) (ended : Bool) (e : Eof) → layout_type (dict_node s o t ck vk f m items ended e).layout ≡ t
     go m [] true e = tf.typed m [] true e
     go m [] false e = refl

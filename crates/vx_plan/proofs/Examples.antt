@@ -18,12 +18,12 @@ counting = record {
     encode = λ es padding p. Some (length (cells p) ∷ []);
     tree_part = λ es padding p. [];
     refused = λ es p. None;
-    decode = λ es t b. None
+    decode = λ es t b. None;
   };
   encodings = Plain ∷ [];
   allowed = None;
   image = λ which p. p;
-  hash = λ b. 0
+  hash = λ b. 0;
 }
 
 -- the same, refusing each chunk
@@ -33,12 +33,12 @@ refusing = record {
     encode = λ es padding p. None;
     tree_part = λ es padding p. [];
     refused = λ es p. Some Plain;
-    decode = λ es t b. None
+    decode = λ es t b. None;
   };
   encodings = [];
   allowed = None;
   image = λ which p. p;
-  hash = λ b. 0
+  hash = λ b. 0;
 }
 
 i64 : Ty

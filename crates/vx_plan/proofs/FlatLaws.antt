@@ -80,9 +80,12 @@ flat_reads s keeps o t = record { reads = go }
         let enc : (b : List ℕ) × (segment s o i ≡ Some b) = keeps.codec.encodes o.padding i.1 none in
         let short : length enc.0 < 2 ^ 64 = fit_length (segment s o i) enc.0 enc.1 fit.1 in
         let again : s.codec.decode s.encodings (piece_type i.1) enc.0 ≡ Some (cells i.1) = keeps.codec.again o.padding i.1 enc.0 of.0.whole enc.1 short in
-        record { zones = (tt, tt); read = flat_value (look i.0) enc.0 (cells i.1) (s.codec.decode s.encodings t) (held_pair look i.0 (segment s o i) enc.0 enc.1 held)
-            (subst (λ u. s.codec.decode s.encodings u enc.0 ≡ Some (cells i.1)) of.0.typed again)
-        ∙ ap Some (sym (append-nil (row_values i.1))) }
+        record {
+          zones = (tt, tt);
+          read = flat_value (look i.0) enc.0 (cells i.1) (s.codec.decode s.encodings t) (held_pair look i.0 (segment s o i) enc.0 enc.1 held)
+              (subst (λ u. s.codec.decode s.encodings u enc.0 ≡ Some (cells i.1)) of.0.typed again)
+              ∙ ap Some (sym (append-nil (row_values i.1)));
+        }
     go m (i ∷ j ∷ is) e of clean fit look held = let f = nil_right (refused_at i.0 (s.codec.refused s.encodings i.1)) _ clean in absurd (cons_nil f)
 
 -- ---- paths
@@ -111,7 +114,7 @@ flat_grows s o t = record { grows = go; quiet = λ m e. refl }
     go m (i ∷ []) (y ∷ ys) ended e = record {
       pairs = λ x h. absurd h;
       faultless = λ f. nil_left (refused_at i.0 (s.codec.refused s.encodings i.1)) _ f;
-      fit = λ f h. h
+      fit = λ f h. h;
     }
     go m (i ∷ j ∷ is) ys ended e = record { pairs = λ x h. h; faultless = λ f. f; fit = λ f h. h }
 

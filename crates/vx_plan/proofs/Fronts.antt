@@ -21,7 +21,7 @@ scattered_insert x [] s = s
 scattered_insert x (y ∷ ys) s = ⊎_elim
     (λ t. subst (λ z. Scattered (paths z)) (sym (insert_by-head path_of x y ys t)) s)
     (λ f. subst (λ z. Scattered (paths z)) (sym (insert_by-tail path_of x y ys f))
-        (off, scattered_insert x ys (λ q i. s.0 q (inr i), s.1.1)))
+    (off, scattered_insert x ys (λ q i. s.0 q (inr i), s.1.1)))
     (cases_Bool (path_le x.0 y.0))
   where
     off : (q : List ℕ) → In q (paths (insert_by path_of x ys)) → meets y.0 q ≡ false
@@ -56,12 +56,16 @@ fronts (x ∷ done) rest (y ∷ bs) a b s t f g =
   where
     x_le : path_le x.0 y.0 ≡ true
     x_le = ⊎_elim (λ e. subst (λ z. path_le x.0 z ≡ true) (sym (ap path_of e)) (path_le-refl x.0)) (λ i. a.0 y i) (f y (inl refl))
+
     y_le : path_le y.0 x.0 ≡ true
     y_le = ⊎_elim (λ e. subst (λ z. path_le y.0 z ≡ true) (sym (ap path_of e)) (path_le-refl y.0)) (λ i. b.0 x i) (g x (inl refl))
+
     same : x ≡ y
     same = one_content (x ∷ done ++ rest) s x y (inl refl) (f y (inl refl)) (path_le-antisym x.0 y.0 x_le y_le)
+
     inner : (z : Pair) → In z bs → In z (done ++ rest)
     inner z i = ⊎_elim (λ e. absurd (not_again y bs t (subst (λ w. In w bs) (e ∙ same) i))) (λ j. j) (f z (inr i))
+
     front : (w : Pair) → In w done → In w bs
     front w i = ⊎_elim (λ e. absurd (not_again x (done ++ rest) s (in_left x done rest (subst (λ z. In z done) (e ∙ sym same) i)))) (λ j. j) (g w (inr i))
 
@@ -70,6 +74,6 @@ pub sorted_fronts : (ps qs done rest : List Pair) → Scattered (paths ps) → S
     → sorted ps ≡ done ++ rest → ((x : Pair) → In x done → In x qs) → (more : List Pair) × (sorted qs ≡ done ++ more)
 sorted_fronts ps qs done rest s t f e g =
     fronts done rest (sorted qs) (subst (Ascends path_of) e (sort_ascends path_of ps)) (sort_ascends path_of qs)
-        (subst (λ z. Scattered (paths z)) e (scattered_sorted ps s)) (scattered_sorted qs t)
-        (λ x i. subst (λ z. In x z) e (in_sorted path_of x ps (f x (from_sorted path_of x qs i))))
-        (λ x i. in_sorted path_of x qs (g x i))
+    (subst (λ z. Scattered (paths z)) e (scattered_sorted ps s)) (scattered_sorted qs t)
+    (λ x i. subst (λ z. In x z) e (in_sorted path_of x ps (f x (from_sorted path_of x qs i))))
+    (λ x i. in_sorted path_of x qs (g x i))

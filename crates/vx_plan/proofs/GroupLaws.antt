@@ -64,9 +64,9 @@ grouped_reads s g t k r = record { reads = go }
         let count : row_total items ≡ length (stream_cells items) = row_total_cells items in
         let lt : row_total items < 2 ^ 64 = fit.0 in
         gives_same s look (k m (grouped_stream g t items true) true e).layout (stream_values (grouped_stream g t items true)) (stream_values items)
-            (r.reads m (grouped_stream g t items true) e (kept_of g t items of (omega arith)) clean
-                (fit_right (row_total items ∷ group_numbers g t items true) (k m (grouped_stream g t items true) true e).numbers fit) look held)
-            (stream_values_cells (grouped_stream g t items true) ∙ ap (map value) (kept_cells g t items) ∙ sym (stream_values_cells items))
+        (r.reads m (grouped_stream g t items true) e (kept_of g t items of (omega arith)) clean
+        (fit_right (row_total items ∷ group_numbers g t items true) (k m (grouped_stream g t items true) true e).numbers fit) look held)
+        (stream_values_cells (grouped_stream g t items true) ∙ ap (map value) (kept_cells g t items) ∙ sym (stream_values_cells items))
 
 -- ---- paths
 
@@ -74,16 +74,18 @@ pub apart_onto : (ps qs : List (List ℕ)) (e : Eof) → Onto ps qs → Apart qs
 apart_onto ps qs e o a = record {
   scattered = o.scattered a.scattered;
   off = λ p i j. let w : (q : List ℕ) × In q qs × (begins q p ≡ true) = o.from p i in
-      apart_both w.0 (raised e j) p (raised e j) (a.off w.0 w.1 j) w.2 (begins-refl (raised e j))
+      apart_both w.0 (raised e j) p (raised e j) (a.off w.0 w.1 j) w.2 (begins-refl (raised e j));
 }
 
 pub lies_onto : (ps qs : List (List ℕ)) (e : Eof) (xs : List (List ℕ)) → Onto ps qs → Lies (Region ps e) xs → Lies (Region qs e) xs
 lies_onto ps qs e xs o l = record { scattered = l.scattered; within = λ x i. region_from ps qs e x o.from (l.within x i) }
 
 pub grouped_placed : (g : Grouping) (t : Ty) (k : Node) → Placed t k → Placed t (grouped_node g t k)
-grouped_placed g t k c = record { placed = λ m items ended e a.
-    lies_onto (chunk_paths (grouped_stream g t items ended)) (places items) e (paths (k m (grouped_stream g t items ended) ended e).pairs) (grouped_onto g t items ended)
-        (c.placed m (grouped_stream g t items ended) ended e (apart_onto (chunk_paths (grouped_stream g t items ended)) (places items) e (grouped_onto g t items ended) a)) }
+grouped_placed g t k c = record {
+  placed = λ m items ended e a.
+      lies_onto (chunk_paths (grouped_stream g t items ended)) (places items) e (paths (k m (grouped_stream g t items ended) ended e).pairs) (grouped_onto g t items ended)
+      (c.placed m (grouped_stream g t items ended) ended e (apart_onto (chunk_paths (grouped_stream g t items ended)) (places items) e (grouped_onto g t items ended) a));
+}
 
 -- ---- prefixes
 
@@ -108,16 +110,16 @@ fit_group : (g : Grouping) (t : Ty) (xs ys : List Item) (ended : Bool) → Fit (
 fit_group (by_blocks o) t xs ys ended h = fit_counted (block_count o t) (block_rest o t) (blocks o t) [] xs ys ended h
 fit_group (by_bytes size) t xs ys ended h =
     fit_both (held_sizes size [] xs) (counted_at (left_count (flushes size)) (rest_count (flushes size)) (flushes size) [] xs false)
-        (fit_held size [] xs ys (fit_left (held_sizes size [] (xs ++ ys)) (counted_at (left_count (flushes size)) (rest_count (flushes size)) (flushes size) [] (xs ++ ys) ended) h))
-        (fit_counted (left_count (flushes size)) (rest_count (flushes size)) (flushes size) [] xs ys ended
-            (fit_right (held_sizes size [] (xs ++ ys)) (counted_at (left_count (flushes size)) (rest_count (flushes size)) (flushes size) [] (xs ++ ys) ended) h))
+    (fit_held size [] xs ys (fit_left (held_sizes size [] (xs ++ ys)) (counted_at (left_count (flushes size)) (rest_count (flushes size)) (flushes size) [] (xs ++ ys) ended) h))
+    (fit_counted (left_count (flushes size)) (rest_count (flushes size)) (flushes size) [] xs ys ended
+    (fit_right (held_sizes size [] (xs ++ ys)) (counted_at (left_count (flushes size)) (rest_count (flushes size)) (flushes size) [] (xs ++ ys) ended) h))
 fit_group into_one t xs ys ended h = tt
 
 pub with_within : (ns ms : List ℕ) (a b : ℕ) (p q : Plan) → (Fit ms → Fit ns) → Within p q → Within (with_numbers ns a p) (with_numbers ms b q)
 with_within ns ms a b p q f h = record {
   pairs = h.pairs;
   faultless = h.faultless;
-  fit = λ e g. fit_both ns p.numbers (f (fit_left ms q.numbers g)) (h.fit e (fit_right ms q.numbers g))
+  fit = λ e g. fit_both ns p.numbers (f (fit_left ms q.numbers g)) (h.fit e (fit_right ms q.numbers g));
 }
 
 no_stream : (g : Grouping) (t : Ty) → grouped_stream g t [] false ≡ []
@@ -130,10 +132,10 @@ grouped_grows g t k c = record {
   grows = λ m xs ys ended e.
       let b : (more : List Item) × (grouped_stream g t (xs ++ ys) ended ≡ grouped_stream g t xs false ++ more) = grouped_begins g t xs ys ended in
       with_within (row_total xs ∷ group_numbers g t xs false) (row_total (xs ++ ys) ∷ group_numbers g t (xs ++ ys) ended) (group_reserved g xs) (group_reserved g (xs ++ ys))
-          (k m (grouped_stream g t xs false) false e) (k m (grouped_stream g t (xs ++ ys) ended) ended e)
-          (λ f. ((let total : row_total (xs ++ ys) ≡ row_total xs + row_total ys = row_total-append xs ys in let a : row_total (xs ++ ys) < 2 ^ 64 = f.0 in omega arith), fit_group g t xs ys ended f.1))
-          (subst (λ z. Within (k m (grouped_stream g t xs false) false e) (k m z ended e)) (sym b.1) (c.grows m (grouped_stream g t xs false) b.0 ended e));
-  quiet = λ m e. ap (λ z. (k m z false e).pairs) (no_stream g t) ∙ c.quiet m e
+      (k m (grouped_stream g t xs false) false e) (k m (grouped_stream g t (xs ++ ys) ended) ended e)
+      (λ f. ((let total : row_total (xs ++ ys) ≡ row_total xs + row_total ys = row_total-append xs ys in let a : row_total (xs ++ ys) < 2 ^ 64 = f.0 in omega arith), fit_group g t xs ys ended f.1))
+      (subst (λ z. Within (k m (grouped_stream g t xs false) false e) (k m z ended e)) (sym b.1) (c.grows m (grouped_stream g t xs false) b.0 ended e));
+  quiet = λ m e. ap (λ z. (k m z false e).pairs) (no_stream g t) ∙ c.quiet m e;
 }
 
 pub grouped_typed : (g : Grouping) (t : Ty) (k : Node) → Typed t k → Typed t (grouped_node g t k)
@@ -158,20 +160,24 @@ images-append s which [] ys = refl
 images-append s which (x ∷ xs) ys = ap (λ (z : List Item). (x.0, s.image which x.1) ∷ z) (images-append s which xs ys)
 
 pub compressed_reads : (s : Setting) → Keeps s → (which room : ℕ) (t : Ty) (k : Node) → Reads s t k → Reads s t (compressed_node s which room t k)
-compressed_reads s keeps which room t k r = record { reads = λ m items e of clean fit look held.
-    gives_same s look (k m (images s which items) true e).layout (stream_values (images s which items)) (stream_values items)
-        (r.reads m (images s which items) e (images_of s keeps which t items of) clean fit look held) (images_values s keeps which t items of) }
+compressed_reads s keeps which room t k r = record {
+  reads = λ m items e of clean fit look held.
+      gives_same s look (k m (images s which items) true e).layout (stream_values (images s which items)) (stream_values items)
+      (r.reads m (images s which items) e (images_of s keeps which t items of) clean fit look held) (images_values s keeps which t items of);
+}
 
 pub compressed_placed : (s : Setting) (which room : ℕ) (t : Ty) (k : Node) → Placed t k → Placed t (compressed_node s which room t k)
-compressed_placed s which room t k c = record { placed = λ m items ended e a.
-    subst (λ z. Lies (Region z e) (paths (k m (images s which items) ended e).pairs)) (images_places s which items)
-        (c.placed m (images s which items) ended e (subst (λ z. Apart z e) (sym (images_places s which items)) a)) }
+compressed_placed s which room t k c = record {
+  placed = λ m items ended e a.
+      subst (λ z. Lies (Region z e) (paths (k m (images s which items) ended e).pairs)) (images_places s which items)
+      (c.placed m (images s which items) ended e (subst (λ z. Apart z e) (sym (images_places s which items)) a));
+}
 
 pub compressed_grows : (s : Setting) (which room : ℕ) (t : Ty) (k : Node) → Grows t k → Grows t (compressed_node s which room t k)
 compressed_grows s which room t k c = record {
   grows = λ m xs ys ended e. subst (λ z. Within (k m (images s which xs) false e) (k m z ended e)) (sym (images-append s which xs ys))
       (c.grows m (images s which xs) (images s which ys) ended e);
-  quiet = λ m e. c.quiet m e
+  quiet = λ m e. c.quiet m e;
 }
 
 pub compressed_typed : (s : Setting) (which room : ℕ) (t : Ty) (k : Node) → Typed t k → Typed t (compressed_node s which room t k)

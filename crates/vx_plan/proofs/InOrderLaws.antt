@@ -83,9 +83,12 @@ pairs_ascend s o i (b ∷ bs) = go (segment s o (0 ∷ i ∷ [], b)) (pairs_asce
   where
     go : (x : Option (List ℕ)) → Ascends path_of (batch_pairs s o (suc i) bs) → Ascends path_of (pair_at (0 ∷ i ∷ []) x ++ batch_pairs s o (suc i) bs)
     go None a = a
-    go (Some bytes) a = (λ q k. let r : (j : ℕ) × (suc i ≤ j) × (q.0 ≡ 0 ∷ j ∷ []) = pair_path s o (suc i) bs q k in
-        let le : suc i ≤ r.0 = r.1 in
-        subst (λ z. path_le (0 ∷ i ∷ []) z ≡ true) (sym r.2) (under_le (0 ∷ []) i r.0 (omega arith)), a)
+    go (Some bytes) a = (
+      λ q k. let r : (j : ℕ) × (suc i ≤ j) × (q.0 ≡ 0 ∷ j ∷ []) = pair_path s o (suc i) bs q k in
+          let le : suc i ≤ r.0 = r.1 in
+          subst (λ z. path_le (0 ∷ i ∷ []) z ≡ true) (sym r.2) (under_le (0 ∷ []) i r.0 (omega arith)),
+      a,
+    )
 
 sorted_are : (s : Setting) (o : FlatOptions) (i : ℕ) (bs : List Piece) → sorted (batch_pairs s o i bs) ≡ batch_pairs s o i bs
 sorted_are s o i bs = sort_by-ascending path_of (batch_pairs s o i bs) (pairs_ascend s o i bs)
@@ -143,10 +146,10 @@ unfolding flats_at
 renamed_flats s o t f i first [] h = refl
 renamed_flats s o t f i first (b ∷ bs) h =
     ap₂ (λ x y. x ∷ y)
-        (ap (λ z. flat_layout t (length (cells b)) s.encodings (inlined s o ([], b)) z)
-            (ap (λ z. f (0 ∷ z ∷ [])) (let e : i ≡ i + 0 = omega arith in e) ∙ h 0 (omega arith) ∙ (let e : first + 0 ≡ first = omega arith in e)))
-        (renamed_flats s o t f (suc i) (suc first) bs
-            (λ j lt. ap (λ z. f (0 ∷ z ∷ [])) (let e : suc i + j ≡ i + suc j = omega arith in e) ∙ h (suc j) (omega arith) ∙ (let e : first + suc j ≡ suc first + j = omega arith in e)))
+    (ap (λ z. flat_layout t (length (cells b)) s.encodings (inlined s o ([], b)) z)
+    (ap (λ z. f (0 ∷ z ∷ [])) (let e : i ≡ i + 0 = omega arith in e) ∙ h 0 (omega arith) ∙ (let e : first + 0 ≡ first = omega arith in e)))
+    (renamed_flats s o t f (suc i) (suc first) bs
+    (λ j lt. ap (λ z. f (0 ∷ z ∷ [])) (let e : suc i + j ≡ i + suc j = omega arith in e) ∙ h (suc j) (omega arith) ∙ (let e : first + suc j ≡ suc first + j = omega arith in e)))
 
 each_renamed-lays_of : (f : List ℕ → ℕ) (ls : List (Lay (List ℕ))) → each_renamed f (lays_of ls) ≡ lays_of (map (renamed f) ls)
 each_renamed-lays_of f [] = refl
@@ -167,11 +170,11 @@ chunks_in_order s o w t m batches ended h =
       faults = faults_are s o w t m h 0 batches root_eof;
       layout = λ clean enc first.
           ap (λ z. renamed (number_of (source_plan s (chunked w) t m batches ended).pairs first) z)
-              (ap₂ (λ n ls. gathered t n ls) (rows_are 0 batches) (layouts_are s o w t m h 0 batches root_eof))
+          (ap₂ (λ n ls. gathered t n ls) (rows_are 0 batches) (layouts_are s o w t m h 0 batches root_eof))
           ∙ renamed-gathered (number_of (source_plan s (chunked w) t m batches ended).pairs first) t (batch_rows batches) (flats_at s o t 0 batches)
           ∙ ap (λ ls. gathered t (batch_rows batches) ls)
-              (renamed_flats s o t (number_of (source_plan s (chunked w) t m batches ended).pairs first) 0 first batches
-                  (λ j lt. ap (λ z. first + place_of (0 ∷ (0 + j) ∷ []) z) (ap sorted ps ∙ sorted_are s o 0 batches)
-                      ∙ ap (λ z. first + z) (places_are s o 0 batches clean enc j lt)));
-      rows = inr (inl (sym (rows_are 0 batches)))
+          (renamed_flats s o t (number_of (source_plan s (chunked w) t m batches ended).pairs first) 0 first batches
+          (λ j lt. ap (λ z. first + place_of (0 ∷ (0 + j) ∷ []) z) (ap sorted ps ∙ sorted_are s o 0 batches)
+          ∙ ap (λ z. first + z) (places_are s o 0 batches clean enc j lt)));
+      rows = inr (inl (sym (rows_are 0 batches)));
     }

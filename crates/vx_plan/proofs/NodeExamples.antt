@@ -23,12 +23,12 @@ setting = record {
     encode = λ es padding p. Some (length (cells p) ∷ []);
     tree_part = λ es padding p. [];
     refused = λ es p. None;
-    decode = λ es t b. None
+    decode = λ es t b. None;
   };
   encodings = Plain ∷ [];
   allowed = None;
   image = λ which p. dict_piece p p;
-  hash = λ b. 0
+  hash = λ b. 0;
 }
 
 flats : Way
@@ -182,12 +182,12 @@ spelling = record {
     encode = λ es padding p. Some (spell (cells p));
     tree_part = λ es padding p. [];
     refused = λ es p. None;
-    decode = λ es t b. None
+    decode = λ es t b. None;
   };
   encodings = Plain ∷ [];
   allowed = Some (codes "vortex.min" ∷ []);
   image = λ which p. p;
-  hash = λ b. 0
+  hash = λ b. 0;
 }
 
 list_segments : (source_plan spelling (listed chunks chunks flats flats) (list (primitive I64 false) false) false list_chunks true).pairs

@@ -35,9 +35,9 @@ place_found : (path : List ℕ) (bytes : List ℕ) (qs : List Pair) → ((q : Pa
 place_found path bytes [] f r i e = absurd i
 place_found path bytes (q ∷ qs) f r i e = ⊎_elim
     (λ (t : bytes_eq path q.0 ≡ true). ap (λ b. element (q.1 ∷ stored qs) (if b then 0 else suc (place_of path qs))) t
-        ∙ ap Some (f q (inl refl) (sym ((bytes_decides path q.0).0 t))))
+    ∙ ap Some (f q (inl refl) (sym ((bytes_decides path q.0).0 t))))
     (λ (n : bytes_eq path q.0 ≡ false). ap (λ b. element (q.1 ∷ stored qs) (if b then 0 else suc (place_of path qs))) n
-        ∙ place_found path bytes qs (λ z k. f z (inr k)) r (later n i) e)
+    ∙ place_found path bytes qs (λ z k. f z (inr k)) r (later n i) e)
     (cases_Bool (bytes_eq path q.0))
   where
     later : bytes_eq path q.0 ≡ false → In r (q ∷ qs) → In r qs
@@ -59,4 +59,4 @@ holds_all first list place (p ∷ ps) f = (segment_at-first first list (place p.
 pub numbers_hold : (p : Plan) (first : ℕ) → Scattered (paths p.pairs) → Holds (λ x. segment_at first (segments p) (number_of p.pairs first x)) p.pairs
 numbers_hold p first s = holds_all first (segments p) (λ x. place_of x (sorted p.pairs)) p.pairs
     (λ q i. place_found q.0 q.1 (sorted p.pairs) (λ r j e. ap (λ z. z.1) (one_content p.pairs s r q (from_sorted path_of r p.pairs j) i e))
-        q (in_sorted path_of q p.pairs i) refl)
+    q (in_sorted path_of q p.pairs i) refl)

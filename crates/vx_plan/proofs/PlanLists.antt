@@ -129,7 +129,7 @@ gathered_reads s look t n (l ∷ []) (v ∷ w ∷ vs) h e = absurd h.1
 gathered_reads s look t n (l ∷ k ∷ ls) (v ∷ vs) h e = record {
   read = ap (λ r. and_then (counted n) (and_then chunked_rows r)) (all_there_read s look (l ∷ k ∷ ls) (v ∷ vs) h)
       ∙ counted_same n (joined (v ∷ vs)) e;
-  zones = (tt, all_zones s look (l ∷ k ∷ ls) (v ∷ vs) h)
+  zones = (tt, all_zones s look (l ∷ k ∷ ls) (v ∷ vs) h);
 }
 
 -- What holds of the first plans holds of all, plan by plan.
@@ -147,7 +147,7 @@ grow_more p q ps qs a b = record {
   faultless = λ e. nil_both p.faults (all_faults ps) (a.faultless (nil_left q.faults (all_faults qs) e)) (b.faultless (nil_right q.faults (all_faults qs) e));
   fit = λ e h. fit_both p.numbers (all_numbers ps)
       (a.fit (nil_left q.faults (all_faults qs) e) (fit_left q.numbers (all_numbers qs) h))
-      (b.fit (nil_right q.faults (all_faults qs) e) (fit_right q.numbers (all_numbers qs) h))
+      (b.fit (nil_right q.faults (all_faults qs) e) (fit_right q.numbers (all_numbers qs) h));
 }
 
 pub within_itself : (p : Plan) → Within p p

@@ -56,7 +56,7 @@ module _ (A B : Type 0) (a : Nodes A) (b : Nodes B) (P : Ty → A → B → Type
   found path (v ∷ vs) [] h t k l p = absurd h
   found path (v ∷ vs) (w ∷ ws) h t k l p =
       subst (λ z. P t (chosen (find path (v ∷ vs)) t k) (chosen (if same_names path z then Some w.1 else find path ws) t l)) h.0
-          (go (same_names path v.0) (found path vs ws h.2 t k l p))
+      (go (same_names path v.0) (found path vs ws h.2 t k l p))
     where
       go : (b : Bool) → P t (chosen (find path vs) t k) (chosen (find path ws) t l)
           → P t (chosen (if b then Some v.1 else find path vs) t k) (chosen (if b then Some w.1 else find path ws) t l)
@@ -110,13 +110,13 @@ module _ (A B : Type 0) (a : Nodes A) (b : Nodes B) (P : Ty → A → B → Type
         → (vs : Named A) (ws : Named B) → AllAlike vs ws → (walked : List (List ℕ)) (t : Ty) → P t (of_table a v d f vs walked t) (of_table b w e h ws walked t)
     table_alike g v w d e f h x y r vs ws all walked (struct fs n) =
         g.at_struct fs n (duplicate fs) (v (boolean false)) (w (boolean false)) (of_tables a v d f vs walked fs) (of_tables b w e h ws walked fs) (x (boolean false))
-            (tables_alike g v w d e f h x y r vs ws all walked fs)
+        (tables_alike g v w d e f h x y r vs ws all walked fs)
     table_alike g v w d e f h x y r vs ws all walked (list t n) =
         lists_alike f h r (list t n) (d (list t n)) (e (list t n))
-            (a.on_list t n (of_table a v d f [] [] t) (d offset_type) (v (boolean false))) (b.on_list t n (of_table b w e h [] [] t) (e offset_type) (w (boolean false)))
-            (y (list t n))
-            (g.at_list t n (of_table a v d f [] [] t) (d offset_type) (v (boolean false)) (of_table b w e h [] [] t) (e offset_type) (w (boolean false))
-                (table_alike g v w d e f h x y r [] [] tt [] t) (y offset_type) (x (boolean false)))
+        (a.on_list t n (of_table a v d f [] [] t) (d offset_type) (v (boolean false))) (b.on_list t n (of_table b w e h [] [] t) (e offset_type) (w (boolean false)))
+        (y (list t n))
+        (g.at_list t n (of_table a v d f [] [] t) (d offset_type) (v (boolean false)) (of_table b w e h [] [] t) (e offset_type) (w (boolean false))
+        (table_alike g v w d e f h x y r [] [] tt [] t) (y offset_type) (x (boolean false)))
     table_alike g v w d e f h x y r vs ws all walked (boolean n) = y (boolean n)
     table_alike g v w d e f h x y r vs ws all walked (primitive p n) = y (primitive p n)
     table_alike g v w d e f h x y r vs ws all walked (utf8 n) = y (utf8 n)
@@ -126,10 +126,11 @@ module _ (A B : Type 0) (a : Nodes A) (b : Nodes B) (P : Ty → A → B → Type
     tables_alike : Agree → (v : Ty → A) (w : Ty → B) (d : Ty → A) (e : Ty → B) (f : Around A) (h : Around B) → Alike v w → Alike d e → AroundAlike f h
         → (vs : Named A) (ws : Named B) → AllAlike vs ws → (walked : List (List ℕ)) (fs : Tys) → Both P fs (of_tables a v d f vs walked fs) (of_tables b w e h ws walked fs)
     tables_alike g v w d e f h x y r vs ws all walked no_fields = tt
-    tables_alike g v w d e f h x y r vs ws all walked (field name t fs) =
-        (found (walked ++ (name ∷ [])) vs ws all t (of_table a v d f vs (walked ++ (name ∷ [])) t) (of_table b w e h ws (walked ++ (name ∷ [])) t)
-            (table_alike g v w d e f h x y r vs ws all (walked ++ (name ∷ [])) t),
-         tables_alike g v w d e f h x y r vs ws all walked fs)
+    tables_alike g v w d e f h x y r vs ws all walked (field name t fs) = (
+      found (walked ++ (name ∷ [])) vs ws all t (of_table a v d f vs (walked ++ (name ∷ [])) t) (of_table b w e h ws (walked ++ (name ∷ [])) t)
+          (table_alike g v w d e f h x y r vs ws all (walked ++ (name ∷ [])) t),
+      tables_alike g v w d e f h x y r vs ws all walked fs,
+    )
 
   around_alike : (lists : Bool) (f : Ty → A → A) (h : Ty → B → B) → ((t : Ty) (k : A) (l : B) → P t k l → P t (f t k) (h t l))
       → AroundAlike (if lists then Some f else None) (if lists then Some h else None)
@@ -148,7 +149,7 @@ module _ (A B : Type 0) (a : Nodes A) (b : Nodes B) (P : Ty → A → B → Type
     relate g (listed e o v f) t = list_alike g (walk a e) (walk a o) (walk a v) (walk a f) (walk b e) (walk b o) (walk b v) (walk b f) (relate g e) (relate g o) (relate g v) (relate g f) t
     relate g (tabled v l ws lists wraps) t =
         table_alike g (walk a v) (walk b v) (walk a l) (walk b l) (if lists then Some (walk_wraps a wraps) else None) (if lists then Some (walk_wraps b wraps) else None)
-            (relate g v) (relate g l) (around_alike lists (walk_wraps a wraps) (walk_wraps b wraps) (relate_wraps g wraps)) (walk_named a ws) (walk_named b ws) (relate_named g ws) [] t
+        (relate g v) (relate g l) (around_alike lists (walk_wraps a wraps) (walk_wraps b wraps) (relate_wraps g wraps)) (walk_named a ws) (walk_named b ws) (relate_named g ws) [] t
 
     relate_named : Agree → (ws : Ways) → AllAlike (walk_named a ws) (walk_named b ws)
     relate_named g no_ways = tt
@@ -190,7 +191,7 @@ module _ (s : Setting) (P : Ty → Node → Type 0) where
     on_zoned = λ o t k f. tt;
     on_not_struct = λ t. tt;
     on_struct = λ fs n dup v ks. tt;
-    on_list = λ t n e o v. tt
+    on_list = λ t n e o v. tt;
   }
 
   one_side : (fs : Tys) (ks : List Node) (us : List (Unit {0})) → Both (λ t k (u : Unit {0}). P t k) fs ks us → Fields P fs ks
@@ -211,5 +212,5 @@ module _ (s : Setting) (P : Ty → Node → Type 0) where
     at_zoned = λ o t k l f g h hs. cases.zoned_case o t k f h hs;
     at_not_struct = λ t. cases.not_struct_case t;
     at_struct = λ fs n dup v w ks ls h hs. cases.struct_case fs n dup v ks h (one_side fs ks ls hs);
-    at_list = λ t n e o v f p w x y z. cases.list_case t n e o v x y z
+    at_list = λ t n e o v f p w x y z. cases.list_case t n e o v x y z;
   })

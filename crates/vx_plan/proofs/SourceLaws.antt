@@ -43,7 +43,7 @@ plan_reads s keeps = induct s (λ t k. Reads s t k) (record {
   zoned_case = λ o t k f h hs. zoned_reads s o t k f h hs;
   not_struct_case = λ t. not_struct_reads s t;
   struct_case = λ fs n dup v ks h hs. struct_reads s fs n dup v ks h hs;
-  list_case = λ t n e o v x y z. list_reads s t n e o v x y z
+  list_case = λ t n e o v x y z. list_reads s t n e o v x y z;
 })
 
 pub plan_placed : (s : Setting) (w : Way) (t : Ty) → Placed t (plan s w t)
@@ -56,7 +56,7 @@ plan_placed s = induct s (λ t k. Placed t k) (record {
   zoned_case = λ o t k f h hs. zoned_placed s o t k f h hs;
   not_struct_case = λ t. not_struct_placed t;
   struct_case = λ fs n dup v ks h hs. struct_placed fs n dup v ks h hs;
-  list_case = λ t n e o v x y z. list_placed t n e o v x y z
+  list_case = λ t n e o v x y z. list_placed t n e o v x y z;
 })
 
 pub plan_grows : (s : Setting) (w : Way) (t : Ty) → Grows t (plan s w t)
@@ -69,7 +69,7 @@ plan_grows s = induct s (λ t k. Grows t k) (record {
   zoned_case = λ o t k f h hs. zoned_grows s o t k f h;
   not_struct_case = λ t. not_struct_grows t;
   struct_case = λ fs n dup v ks h hs. struct_grows fs n dup v ks h hs;
-  list_case = λ t n e o v x y z. list_grows t n e o v x y z
+  list_case = λ t n e o v x y z. list_grows t n e o v x y z;
 })
 
 pub plan_typed : (s : Setting) (w : Way) (t : Ty) → Typed t (plan s w t)
@@ -82,7 +82,7 @@ plan_typed s = induct s (λ t k. Typed t k) (record {
   zoned_case = λ o t k f h hs. zoned_typed s o t k f h;
   not_struct_case = λ t. not_struct_typed t;
   struct_case = λ fs n dup v ks h hs. struct_typed fs n dup v ks;
-  list_case = λ t n e o v x y z. list_typed t n e o v
+  list_case = λ t n e o v x y z. list_typed t n e o v;
 })
 
 -- ---- the batches of a source
@@ -108,11 +108,12 @@ batch_path i (b ∷ bs) p h = ⊎_elim (λ e. (i, omega arith, e))
 
 batches_scattered : (i : ℕ) (bs : List Piece) → Scattered (places (batch_items i bs))
 batches_scattered i [] = tt
-batches_scattered i (b ∷ bs) =
-    (λ q h. let r : (j : ℕ) × (suc i ≤ j) × (q ≡ under (0 ∷ []) j) = batch_path (suc i) bs q h in
-        let l : suc i ≤ r.0 = r.1 in
-        subst (λ z. meets (0 ∷ i ∷ []) z ≡ false) (sym r.2) (under_apart (0 ∷ []) i r.0 (omega arith)),
-     batches_scattered (suc i) bs)
+batches_scattered i (b ∷ bs) = (
+  λ q h. let r : (j : ℕ) × (suc i ≤ j) × (q ≡ under (0 ∷ []) j) = batch_path (suc i) bs q h in
+      let l : suc i ≤ r.0 = r.1 in
+      subst (λ z. meets (0 ∷ i ∷ []) z ≡ false) (sym r.2) (under_apart (0 ∷ []) i r.0 (omega arith)),
+  batches_scattered (suc i) bs,
+)
 
 off_root : (j n : ℕ) → meets (0 ∷ j ∷ []) ((1 + n) ∷ []) ≡ false
 off_root j n = grind (arith, nat_tests)
@@ -121,7 +122,7 @@ pub batches_apart : (bs : List Piece) → Apart (places (batch_items 0 bs)) root
 batches_apart bs = record {
   scattered = batches_scattered 0 bs;
   off = λ p h n. let r : (j : ℕ) × (0 ≤ j) × (p ≡ under (0 ∷ []) j) = batch_path 0 bs p h in
-      subst (λ z. meets z (raised root_eof n) ≡ false) (sym r.2) (off_root r.0 n)
+      subst (λ z. meets z (raised root_eof n) ≡ false) (sym r.2) (off_root r.0 n);
 }
 
 -- ---- the laws
@@ -139,11 +140,11 @@ paths_in_region s w t m batches ended = (source_lies s w t m batches ended).with
 source_gives : (s : Setting) (w : Way) (t : Ty) (m : Bool) (batches : List Piece) (first : ℕ) → Keeps s → AllOf t batches
     → (source_plan s w t m batches true).faults ≡ [] → Fit (source_plan s w t m batches true).numbers
     → Gives s (λ x. segment_at first (segments (source_plan s w t m batches true)) (number_of (source_plan s w t m batches true).pairs first x)) (source_plan s w t m batches true).layout
-        (stream_values (batch_items 0 batches))
+    (stream_values (batch_items 0 batches))
 source_gives s w t m batches first keeps of clean fit =
     let p : Plan = source_plan s w t m batches true in
     (plan_reads s keeps w t).reads m (batch_items 0 batches) root_eof (items_of t 0 batches of) clean fit.1
-        (λ x. segment_at first (segments p) (number_of p.pairs first x)) (numbers_hold p first (paths_distinct s w t m batches true))
+    (λ x. segment_at first (segments p) (number_of p.pairs first x)) (numbers_hold p first (paths_distinct s w t m batches true))
 
 -- zoned nodes of a renamed layout
 zoned_renamed : {A B : Type 0} (s : Setting) (look : B → Option (List ℕ)) (f : A → B) (k : Kind) (t : Ty) (ls : Lays A) → OwnZones s (λ a. look (f a)) k t ls → OwnZones s look k t (each_renamed f ls)
@@ -155,7 +156,7 @@ zoned_renamed s look f (zoned_kind zone_len specs) t (child data_child (child zo
   data_rows = rows_renamed s.codec look f data_child ∙ h.data_rows;
   kept = h.kept;
   specs_are = h.specs_are;
-  zones_rows = λ small. rows_renamed s.codec look f zones ∙ h.zones_rows small
+  zones_rows = λ small. rows_renamed s.codec look f zones ∙ h.zones_rows small;
 }
 zoned_renamed s look f (zoned_kind zone_len specs) t no_layouts h = tt
 zoned_renamed s look f (zoned_kind zone_len specs) t (child l no_layouts) h = tt
@@ -193,18 +194,18 @@ pub prefix_within : PrefixWithin
 prefix_within s w t m taken later ended =
     let r : (ds : List Item) × (batch_items 0 (taken ++ later) ≡ batch_items 0 taken ++ ds) = batch_items-append 0 taken later in
     let h : Within (plan s w t m (batch_items 0 taken) false root_eof) (plan s w t m (batch_items 0 (taken ++ later)) ended root_eof) =
-        subst (λ z. Within (plan s w t m (batch_items 0 taken) false root_eof) (plan s w t m z ended root_eof)) (sym r.1)
-            ((plan_grows s w t).grows m (batch_items 0 taken) r.0 ended root_eof) in
+    subst (λ z. Within (plan s w t m (batch_items 0 taken) false root_eof) (plan s w t m z ended root_eof)) (sym r.1)
+    ((plan_grows s w t).grows m (batch_items 0 taken) r.0 ended root_eof) in
     record {
       pairs = h.pairs;
       faultless = h.faultless;
-      fit = λ e f. ((let a : length (taken ++ later) < 2 ^ 64 = f.0 in let b : length (taken ++ later) ≡ length taken + length later = length-append taken later in omega arith), h.fit e f.1)
+      fit = λ e f. ((let a : length (taken ++ later) < 2 ^ 64 = f.0 in let b : length (taken ++ later) ≡ length taken + length later = length-append taken later in omega arith), h.fit e f.1);
     }
 
 pub front_of_taken : FrontOfTaken
 front_of_taken s w t m taken later ended done rest e f =
     sorted_fronts (source_plan s w t m (taken ++ later) ended).pairs (source_plan s w t m taken false).pairs done rest
-        (paths_distinct s w t m (taken ++ later) ended) (paths_distinct s w t m taken false) (prefix_within s w t m taken later ended).pairs e f
+    (paths_distinct s w t m (taken ++ later) ended) (paths_distinct s w t m taken false) (prefix_within s w t m taken later ended).pairs e f
 
 -- what a layout gives is as many rows as it counts
 rows_count : {A : Type 0} (c : _) (look : A → Option (List ℕ)) (l : Lay A) (vs : List Val) → rows c look l ≡ Some vs → length vs ≡ row_count l
@@ -216,10 +217,11 @@ rows_count c look (layout k t n names ls) vs e = go (kind_rows c look k t n name
 
 pub counts_rows : CountsRows
 counts_rows s w t m batches keeps of clean fit =
-    let p : Plan = source_plan s w t m batches true in
-    ((plan_typed s w t).typed m (batch_items 0 batches) true root_eof,
-     sym (rows_count s.codec (λ x. segment_at 0 (segments p) (number_of p.pairs 0 x)) p.layout (source_values batches)
-        (sym (rows_renamed s.codec (segment_at 0 (segments p)) (number_of p.pairs 0) p.layout) ∙ rows_come_back s w t m batches 0 keeps of clean fit)))
+    let p : Plan = source_plan s w t m batches true in (
+      (plan_typed s w t).typed m (batch_items 0 batches) true root_eof,
+      sym (rows_count s.codec (λ x. segment_at 0 (segments p) (number_of p.pairs 0 x)) p.layout (source_values batches)
+          (sym (rows_renamed s.codec (segment_at 0 (segments p)) (number_of p.pairs 0) p.layout) ∙ rows_come_back s w t m batches 0 keeps of clean fit)),
+    )
 
 -- ---- batches of the schema
 

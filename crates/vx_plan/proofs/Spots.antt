@@ -69,7 +69,7 @@ two_parts ps qs e xs ys a l r = record {
   within = λ x h. ⊎_elim
       (λ i. region_more ps (ps ++ qs) e x (λ p k. in_left p ps qs k) (region_inside ps e x (l.within x i)))
       (λ i. region_more qs (ps ++ qs) e x (λ p k. in_right p ps qs k) (region_next qs e x (r.within x i)))
-      (in_cases x xs ys h)
+      (in_cases x xs ys h);
 }
   where
     cross : (x y : List ℕ) → Region ps (inside e) x → Region qs (next e) y → meets x y ≡ false

@@ -59,7 +59,7 @@ zones_right s t columns zone (c ∷ d ∷ cs) h =
     let w : (is_cut_wrong zone (length (cells c.1)) false ≡ false) × (cut_faults zone (d ∷ cs) ≡ []) = cut_right zone c (d ∷ cs) h in
     let l : length (row_values c.1) ≡ zone = length-map (cells c.1) value ∙ whole_zone zone (length (cells c.1)) w.0 in
     ap₂ (λ vs rest. zone_record s.hash t vs columns ∷ rest) (sym (take_front (row_values c.1) (stream_values (d ∷ cs)) zone l))
-        (zones_right s t columns zone (d ∷ cs) w.1 ∙ ap (λ vs. records_of s t columns (zones_of (length (d ∷ cs)) zone vs)) (sym (drop_front (row_values c.1) (stream_values (d ∷ cs)) zone l)))
+    (zones_right s t columns zone (d ∷ cs) w.1 ∙ ap (λ vs. records_of s t columns (zones_of (length (d ∷ cs)) zone vs)) (sym (drop_front (row_values c.1) (stream_values (d ∷ cs)) zone l)))
 
 pub records_are_of_zones : RecordsAreOfZones
 records_are_of_zones s o t items some h = go (recorded o t) some h

@@ -59,9 +59,9 @@ whole_table : (s : Setting) (o : ZonedOptions) (t : Ty) (items : List Item) (cs 
     → SmallColumns (recorded o t) → Of (table_type cs) (table_piece cs (length items))
 whole_table s o t items cs of short kept small =
     subst (λ n. Of (table_type cs) (table_piece cs n)) (cells_count items)
-        (table_whole s.hash t (recorded o t) (chunk_cells items) cs (small_columns t (asked o.aggregates t) small) (zones_cells t items of)
-            (let e : length (chunk_cells items) ≡ length items = cells_count items in omega arith)
-            (ap (kept_columns (recorded o t)) (sym (records_cells s t (recorded o t) items)) ∙ kept))
+    (table_whole s.hash t (recorded o t) (chunk_cells items) cs (small_columns t (asked o.aggregates t) small) (zones_cells t items of)
+    (let e : length (chunk_cells items) ≡ length items = cells_count items in omega arith)
+    (ap (kept_columns (recorded o t)) (sym (records_cells s t (recorded o t) items)) ∙ kept))
 
 table_reads : (s : Setting) (o : ZonedOptions) (t : Ty) (stats : Ty → Node) → ((u : Ty) → Reads s u (stats u)) → (items : List Item) (e : Eof) (p : Plan) (cs : Option (List Filled)) → ItemsOf t items
     → zone_faults o.zone_len (recorded o t) items ≡ [] → kept_columns (recorded o t) (zone_records s t (recorded o t) items) ≡ cs → (look : List ℕ → Option (List ℕ))
@@ -74,17 +74,20 @@ table_reads s o t stats rs items e p (Some cs) of right kept look r clean fit he
     let data_child : Gives s look p.layout (stream_values items) = r (nil_left p.faults q.faults clean) (fit_left p.numbers q.numbers fit.1.1.1) (holds_left look p.pairs q.pairs held) in
     record {
       read = ap (and_then (counted (row_total items))) data_child.read ∙ counted_same (row_total items) (stream_values items) (length-stream_values items);
-      zones = (record {
-        columns = recorded o t;
-        values = stream_values items;
-        count = length items;
-        table = cs;
-        data_rows = data_child.read;
-        kept = ap (kept_columns (recorded o t)) (sym (of_zones s o t (recorded o t) items cs right kept)) ∙ kept;
-        specs_are = refl;
-        zones_rows = λ small. ((rs (table_type cs)).reads false (table_items cs (length items) e) (next (next e)) (whole_table s o t items cs of (fit.1.0) kept small, tt) (nil_right p.faults q.faults clean) (fit_right p.numbers q.numbers fit.1.1.1) look
-            (holds_right look p.pairs q.pairs held)).read ∙ ap Some (append-nil (row_values (table_piece cs (length items))))
-      }, (data_child.zones, tt))
+      zones = (
+        record {
+          columns = recorded o t;
+          values = stream_values items;
+          count = length items;
+          table = cs;
+          data_rows = data_child.read;
+          kept = ap (kept_columns (recorded o t)) (sym (of_zones s o t (recorded o t) items cs right kept)) ∙ kept;
+          specs_are = refl;
+          zones_rows = λ small. ((rs (table_type cs)).reads false (table_items cs (length items) e) (next (next e)) (whole_table s o t items cs of (fit.1.0) kept small, tt) (nil_right p.faults q.faults clean) (fit_right p.numbers q.numbers fit.1.1.1) look
+              (holds_right look p.pairs q.pairs held)).read ∙ ap Some (append-nil (row_values (table_piece cs (length items))));
+        },
+        (data_child.zones, tt),
+      );
     }
 
 pub zoned_reads : (s : Setting) (o : ZonedOptions) (t : Ty) (k : Node) (stats : Ty → Node) → Reads s t k → ((u : Ty) → Reads s u (stats u)) → Reads s t (zoned_node s o t k stats)
@@ -96,12 +99,12 @@ zoned_reads s o t k stats r rs = record { reads = go }
     go true items e of clean fit look held = r.reads true items e of clean fit look held
     go false items e of clean fit look held =
         table_reads s o t stats rs items e (k false items true (inside e)) (table_of s o t items true) of
-            (nil_right (forbidden_faults s.allowed (recorded o t)) (zone_faults o.zone_len (recorded o t) items)
-                (nil_left (forbidden_faults s.allowed (recorded o t) ++ zone_faults o.zone_len (recorded o t) items) (with_table s o t stats false items e (k false items true (inside e)) (table_of s o t items true)).faults clean))
-            refl look
-            (λ c f h. r.reads false items (inside e) of c f look h)
-            (nil_right (forbidden_faults s.allowed (recorded o t) ++ zone_faults o.zone_len (recorded o t) items) (with_table s o t stats false items e (k false items true (inside e)) (table_of s o t items true)).faults clean)
-            fit held
+        (nil_right (forbidden_faults s.allowed (recorded o t)) (zone_faults o.zone_len (recorded o t) items)
+        (nil_left (forbidden_faults s.allowed (recorded o t) ++ zone_faults o.zone_len (recorded o t) items) (with_table s o t stats false items e (k false items true (inside e)) (table_of s o t items true)).faults clean))
+        refl look
+        (λ c f h. r.reads false items (inside e) of c f look h)
+        (nil_right (forbidden_faults s.allowed (recorded o t) ++ zone_faults o.zone_len (recorded o t) items) (with_table s o t stats false items e (k false items true (inside e)) (table_of s o t items true)).faults clean)
+        fit held
 
 -- ---- paths
 
@@ -113,15 +116,18 @@ table_apart e = record {
   scattered = (λ q h. absurd h, tt);
   off = λ p i j. ⊎_elim (λ s. subst (λ z. meets z (raised (next (next e)) j) ≡ false) (sym s)
       (apart_both (raised e 1) (raised e (j + 1 + 1)) (under (raised e 1) 0) (raised (next (next e)) j)
-          (raised_apart e 1 (j + 1 + 1) (omega arith)) (begins-under (raised e 1) 0) (same j))) (λ n. absurd n) i
+      (raised_apart e 1 (j + 1 + 1) (omega arith)) (begins-under (raised e 1) 0) (same j))) (λ n. absurd n) i;
 }
   where
     same : (j : ℕ) → begins (raised e (j + 1 + 1)) (raised (next (next e)) j) ≡ true
     same j = subst (λ z. begins z (raised (next (next e)) j) ≡ true) (raised-next (next e) j ∙ raised-next e (j + 1)) (begins-refl (raised (next (next e)) j))
 
 table_region : (e : Eof) (x : List ℕ) → Region (under (raised e 1) 0 ∷ []) (next (next e)) x → Region [] (next e) x
-table_region e x (inl h) = inr (0, subst (λ z. begins z x ≡ true) (sym (raised-next e 0))
-    (begins-trans (raised e 1) h.0 x (⊎_elim (λ s. subst (λ z. begins (raised e 1) z ≡ true) (sym s) (begins-under (raised e 1) 0)) (λ n. absurd n) h.1) h.2))
+table_region e x (inl h) = inr (
+  0,
+  subst (λ z. begins z x ≡ true) (sym (raised-next e 0))
+      (begins-trans (raised e 1) h.0 x (⊎_elim (λ s. subst (λ z. begins (raised e 1) z ≡ true) (sym s) (begins-under (raised e 1) 0)) (λ n. absurd n) h.1) h.2),
+)
 table_region e x (inr h) = inr (h.0 + 1, subst (λ z. begins z x ≡ true) (raised-next (next e) h.0) h.1)
 
 table_placed : (s : Setting) (o : ZonedOptions) (t : Ty) (stats : Ty → Node) → ((u : Ty) → Placed u (stats u)) → (m : Bool) (items : List Item) (e : Eof) (p : Plan) (cs : Option (List Filled))
@@ -131,9 +137,9 @@ table_placed s o t stats c m items e p (Some cs) a l =
     let q : Plan = stats (table_type cs) m (table_items cs (length items) e) true (next (next e)) in
     let lq : Lies (Region (under (raised e 1) 0 ∷ []) (next (next e))) (paths q.pairs) = (c (table_type cs)).placed m (table_items cs (length items) e) true (next (next e)) (table_apart e) in
     subst (Lies (Region (places items) e)) (sym (paths-append p.pairs q.pairs))
-        (subst (λ z. Lies (Region z e) (paths p.pairs ++ paths q.pairs)) (append-nil (places items))
-            (two_parts (places items) [] e (paths p.pairs) (paths q.pairs) (nil_apart e (places items) a) l
-                (record { scattered = lq.scattered; within = λ x i. table_region e x (lq.within x i) })))
+    (subst (λ z. Lies (Region z e) (paths p.pairs ++ paths q.pairs)) (append-nil (places items))
+    (two_parts (places items) [] e (paths p.pairs) (paths q.pairs) (nil_apart e (places items) a) l
+    (record { scattered = lq.scattered; within = λ x i. table_region e x (lq.within x i) })))
 
 pub zoned_placed : (s : Setting) (o : ZonedOptions) (t : Ty) (k : Node) (stats : Ty → Node) → Placed t k → ((u : Ty) → Placed u (stats u)) → Placed t (zoned_node s o t k stats)
 zoned_placed s o t k stats c cs = record { placed = go }
@@ -151,11 +157,14 @@ cut_before zone (x ∷ xs) ys h = go (is_cut_wrong zone (length (cells x.1)) (is
   where
     stays : (n : ℕ) (a b : Bool) → (is_cut_wrong zone n a ≡ true → is_cut_wrong zone n b ≡ true) → is_cut_wrong zone n a ≡ true → is_cut_wrong zone n b ≡ true
     stays n a b f = f
+
     last_weaker : (n : ℕ) (b : Bool) → is_cut_wrong zone n true ≡ true → is_cut_wrong zone n b ≡ true
     last_weaker n b h = grind (arith)
+
     weaker : (xs : List Item) → is_cut_wrong zone (length (cells x.1)) (is_last xs) ≡ true → is_cut_wrong zone (length (cells x.1)) (is_last (xs ++ ys)) ≡ true
     weaker [] h = last_weaker (length (cells x.1)) (is_last ys) h
     weaker (z ∷ zs) h = h
+
     go : (b c : Bool) → (b ≡ true → c ≡ true) → (if c then Rattle.vx_plan.specs.PlanData.fault (Rattle.vx_plan.specs.PlanData.zone_cut (length (cells x.1))) (Rattle.vx_plan.specs.PlanData.at_chunk x.0) ∷ [] else cut_faults zone (xs ++ ys)) ≡ []
         → (cut_faults zone (xs ++ ys) ≡ [] → cut_faults zone xs ≡ [])
         → (if b then Rattle.vx_plan.specs.PlanData.fault (Rattle.vx_plan.specs.PlanData.zone_cut (length (cells x.1))) (Rattle.vx_plan.specs.PlanData.at_chunk x.0) ∷ [] else cut_faults zone xs) ≡ []
@@ -173,7 +182,7 @@ open_table : (s : Setting) (o : ZonedOptions) (t : Ty) (stats : Ty → Node) (m 
 open_table s o t stats m xs ys e p q None h = record {
   pairs = h.pairs;
   faultless = h.faultless;
-  fit = λ f g. ((let total : row_total (xs ++ ys) ≡ row_total xs + row_total ys = row_total-append xs ys in let a : row_total (xs ++ ys) < 2 ^ 64 = g.0 in omega arith), (g.1.0, h.fit f g.1.1))
+  fit = λ f g. ((let total : row_total (xs ++ ys) ≡ row_total xs + row_total ys = row_total-append xs ys in let a : row_total (xs ++ ys) < 2 ^ 64 = g.0 in omega arith), (g.1.0, h.fit f g.1.1));
 }
 open_table s o t stats m xs ys e p q (Some cs) h =
     let r : Plan = stats (table_type cs) m (table_items cs (length (xs ++ ys)) e) true (next (next e)) in
@@ -182,15 +191,15 @@ open_table s o t stats m xs ys e p q (Some cs) h =
       faultless = λ f. h.faultless (nil_left q.faults r.faults f);
       fit = λ f g. (
         (let total : row_total (xs ++ ys) ≡ row_total xs + row_total ys = row_total-append xs ys in let a : row_total (xs ++ ys) < 2 ^ 64 = g.0 in omega arith),
-        ((let b : e.last + 2 < 2 ^ 64 = g.1.1.0 in omega arith), h.fit (nil_left q.faults r.faults f) (fit_left q.numbers r.numbers g.1.1.1))
-      )
+        ((let b : e.last + 2 < 2 ^ 64 = g.1.1.0 in omega arith), h.fit (nil_left q.faults r.faults f) (fit_left q.numbers r.numbers g.1.1.1)),
+      );
     }
 
 faults_within : (fs gs : List Fault) (p q : Plan) → (gs ≡ [] → fs ≡ []) → Within p q → Within (with_faults fs p) (with_faults gs q)
 faults_within fs gs p q f h = record {
   pairs = h.pairs;
   faultless = λ e. nil_both fs p.faults (f (nil_left gs q.faults e)) (h.faultless (nil_right gs q.faults e));
-  fit = λ e g. h.fit (nil_right gs q.faults e) g
+  fit = λ e g. h.fit (nil_right gs q.faults e) g;
 }
 
 pub zoned_grows : (s : Setting) (o : ZonedOptions) (t : Ty) (k : Node) (stats : Ty → Node) → Grows t k → Grows t (zoned_node s o t k stats)
@@ -200,11 +209,12 @@ zoned_grows s o t k stats c = record { grows = go; quiet = still }
     go true xs ys ended e = c.grows true xs ys ended e
     go false xs ys ended e =
         faults_within (forbidden_faults s.allowed (recorded o t) ++ zone_faults o.zone_len (recorded o t) xs) (forbidden_faults s.allowed (recorded o t) ++ zone_faults o.zone_len (recorded o t) (xs ++ ys))
-            (with_table s o t stats false xs e (k false xs false (inside e)) None) (with_table s o t stats false (xs ++ ys) e (k false (xs ++ ys) ended (inside e)) (table_of s o t (xs ++ ys) ended))
-            (λ f. nil_both (forbidden_faults s.allowed (recorded o t)) (zone_faults o.zone_len (recorded o t) xs)
-                (nil_left (forbidden_faults s.allowed (recorded o t)) (zone_faults o.zone_len (recorded o t) (xs ++ ys)) f)
-                (zone_before o.zone_len (recorded o t) xs ys (nil_right (forbidden_faults s.allowed (recorded o t)) (zone_faults o.zone_len (recorded o t) (xs ++ ys)) f)))
-            (open_table s o t stats false xs ys e (k false xs false (inside e)) (k false (xs ++ ys) ended (inside e)) (table_of s o t (xs ++ ys) ended) (c.grows false xs ys ended (inside e)))
+        (with_table s o t stats false xs e (k false xs false (inside e)) None) (with_table s o t stats false (xs ++ ys) e (k false (xs ++ ys) ended (inside e)) (table_of s o t (xs ++ ys) ended))
+        (λ f. nil_both (forbidden_faults s.allowed (recorded o t)) (zone_faults o.zone_len (recorded o t) xs)
+        (nil_left (forbidden_faults s.allowed (recorded o t)) (zone_faults o.zone_len (recorded o t) (xs ++ ys)) f)
+        (zone_before o.zone_len (recorded o t) xs ys (nil_right (forbidden_faults s.allowed (recorded o t)) (zone_faults o.zone_len (recorded o t) (xs ++ ys)) f)))
+        (open_table s o t stats false xs ys e (k false xs false (inside e)) (k false (xs ++ ys) ended (inside e)) (table_of s o t (xs ++ ys) ended) (c.grows false xs ys ended (inside e)))
+
     still : (m : Bool) (e : Eof) → (zoned_node s o t k stats m [] false e).pairs ≡ []
     still true e = c.quiet true e
     still false e = c.quiet false (inside e)

@@ -32,7 +32,7 @@ whole t n numbers ps = record {
   faults = all_faults ps;
   layout = gathered t n (all_layouts ps);
   numbers = numbers ++ all_numbers ps;
-  reserved = all_reserved ps
+  reserved = all_reserved ps;
 }
 
 -- two plans beside each other, under one layout

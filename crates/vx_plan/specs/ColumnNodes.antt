@@ -47,7 +47,7 @@ abbrev pub struct_node : Tys → Bool → Option (List ℕ) → Node → List No
 struct_node fs n (Some name) v ks m items ended e = refused_node (struct_layout (struct fs n) 0 []) (duplicate_field name) at_start
 struct_node fs n None v ks m items ended e =
     beside (struct_layout (struct fs n) (row_total items) (all_layouts (struct_plans fs n v ks m items ended e)))
-        (column_numbers items (struct_writers n m v ks) e) (struct_plans fs n v ks m items ended e)
+    (column_numbers items (struct_writers n m v ks) e) (struct_plans fs n v ks m items ended e)
 
 -- ---- lists
 
@@ -64,7 +64,7 @@ list_plans t n es os v m items ended e = column_plans (list_writers n m es os v)
 abbrev pub list_columns_plan : Ty → Bool → Node → Node → Node → Bool → List Item → Bool → Eof → Plan
 list_columns_plan t n es os v m items ended e =
     beside (list_layout (list t n) (row_total items) (all_layouts (list_plans t n es os v m items ended e)))
-        (list_numbers items (list_writers n m es os v) e) (list_plans t n es os v m items ended e)
+    (list_numbers items (list_writers n m es os v) e) (list_plans t n es os v m items ended e)
 
 -- a stream that has ended without a chunk is refused
 abbrev pub list_node : Ty → Bool → Node → Node → Node → Node

@@ -17,7 +17,7 @@ is_dictionary p = false
 abbrev pub run_plan : Ty → Node → Node → Bool → Run → Eof → Plan
 run_plan t ck vk m r e =
     both_plans (dict_layout t (row_total r.codes) (vk m r.values r.closed (inside (next e))).layout (ck m r.codes r.closed (inside e)).layout) []
-        (ck m r.codes r.closed (inside e)) (vk m r.values r.closed (inside (next e)))
+    (ck m r.codes r.closed (inside e)) (vk m r.values r.closed (inside (next e)))
 
 abbrev pub run_plans : Ty → Node → Node → Bool → List Run → Eof → List Plan
 run_plans t ck vk m [] e = []

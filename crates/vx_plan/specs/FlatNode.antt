@@ -42,12 +42,12 @@ flat_node s o t m (i ∷ []) ended e = record {
   faults = refusals s i;
   layout = flat_of s o t i;
   numbers = length (cells i.1) ∷ length_of (segment s o i);
-  reserved = 0
+  reserved = 0;
 }
 flat_node s o t m (i ∷ j ∷ is) ended e = record {
   pairs = [];
   faults = refusals s i ++ (fault many_chunks (at_chunk j.0) ∷ []);
   layout = flat_of s o t i;
   numbers = length (cells i.1) ∷ length_of (segment s o i);
-  reserved = 0
+  reserved = 0;
 }

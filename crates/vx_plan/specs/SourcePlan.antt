@@ -24,7 +24,7 @@ plan_nodes s = record {
   on_zoned = zoned_node s;
   on_not_struct = not_struct_node;
   on_struct = struct_node;
-  on_list = list_node
+  on_list = list_node;
 }
 
 -- what a strategy writes of a stream of the type

@@ -19,7 +19,7 @@ abbrev pub RowsComeBack : Type 0
 RowsComeBack = (s : Setting) (w : Way) (t : Ty) (m : Bool) (batches : List Piece) (first : ℕ) → Keeps s → AllOf t batches
     → (source_plan s w t m batches true).faults ≡ [] → Fit (source_plan s w t m batches true).numbers
     → rows s.codec (segment_at first (segments (source_plan s w t m batches true))) (numbered (source_plan s w t m batches true) first)
-        ≡ Some (source_values batches)
+    ≡ Some (source_values batches)
 
 -- No path of a segment is a prefix of another's, so all are distinct; each goes on from a batch's path or from one of the root's eof paths.
 abbrev pub PathsDistinct : Type 0
@@ -52,7 +52,7 @@ abbrev pub CountsRows : Type 0
 CountsRows = (s : Setting) (w : Way) (t : Ty) (m : Bool) (batches : List Piece) → Keeps s → AllOf t batches
     → (source_plan s w t m batches true).faults ≡ [] → Fit (source_plan s w t m batches true).numbers
     → (layout_type (source_plan s w t m batches true).layout ≡ t)
-        × (row_count (source_plan s w t m batches true).layout ≡ length (source_values batches))
+    × (row_count (source_plan s w t m batches true).layout ≡ length (source_values batches))
 
 -- ---- zones
 

@@ -68,7 +68,7 @@ abbrev pub with_table : Setting → ZonedOptions → Ty → (Ty → Node) → Bo
 with_table s o t stats m items e p None = with_numbers (row_total items ∷ (e.last + 1) ∷ []) 0 p
 with_table s o t stats m items e p (Some cs) =
     both_plans (zoned_layout t (row_total items) o.zone_len (table_specs cs) p.layout (stats (table_type cs) m (table_items cs (length items) e) true (next (next e))).layout)
-        (row_total items ∷ length items ∷ (e.last + 2) ∷ []) p (stats (table_type cs) m (table_items cs (length items) e) true (next (next e)))
+    (row_total items ∷ length items ∷ (e.last + 2) ∷ []) p (stats (table_type cs) m (table_items cs (length items) e) true (next (next e)))
 
 -- the columns of the table, once the stream has ended
 abbrev pub table_of : Setting → ZonedOptions → Ty → List Item → Bool → Option (List Filled)
@@ -77,7 +77,7 @@ table_of s o t items ended = if ended then kept_columns (recorded o t) (zone_rec
 abbrev pub unmarked_node : Setting → ZonedOptions → Ty → Node → (Ty → Node) → Node
 unmarked_node s o t k stats m items ended e =
     with_faults (forbidden_faults s.allowed (recorded o t) ++ zone_faults o.zone_len (recorded o t) items)
-        (with_table s o t stats m items e (k m items ended (inside e)) (table_of s o t items ended))
+    (with_table s o t stats m items e (k m items ended (inside e)) (table_of s o t items ended))
 
 -- a marked one is its child alone
 abbrev pub zoned_node : Setting → ZonedOptions → Ty → Node → (Ty → Node) → Node

@@ -250,7 +250,7 @@ greatest_top s n (v ∷ vs) h = go v (greatest vs) (cell_of s v n h.0) (greatest
         (⊎_elim
         (λ (e : value_le v g ≡ true). subst (λ b. Top s (v ∷ vs) (if b then g else v)) (sym e) (inr (t.0, t.1, (inr e, t.2))))
         (λ (e : value_le v g ≡ false). subst (λ b. Top s (v ∷ vs) (if b then g else v)) (sym e)
-            (inr (l, k, (inr (literal_refl s v l), under_more g v vs (le_total s v g (pair_of s v g l t.0) e) t.2))))
+        (inr (l, k, (inr (literal_refl s v l), under_more g v vs (le_total s v g (pair_of s v g l t.0) e) t.2))))
         (cases_Bool (value_le v g)))
 
 pub least_bottom : (s : Sort) → (s ≡ nested → ⊥) → (vs : List Val) → AllSort s vs → Bottom s vs (least vs)

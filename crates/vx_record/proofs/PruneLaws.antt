@@ -239,9 +239,12 @@ module _ (hash : List ℕ → ℕ) (t : Ty) (s : Sort) (vs : List Val) (all : Al
 
   one_upper : (f : Val → Bool) (a : Aggregate) (u : Val) → u ≡ aggregate_value hash t vs a → upper_passes f a u ≡ true → Above f
   one_upper f maximum u e h = (u, right_part (not (is_null_row u)) (f u) h, λ w i m. subst (λ z. value_le w z ≡ true) (sym e) (at_most s n vs all w i m))
-  one_upper f (bounded_maximum k) u e h =
-      (u, right_part (not (is_null_row u)) (f u) h, λ w i m. subst (λ z. value_le w z ≡ true) (sym e)
-          (within_upper s n vs all k w i m (λ z. not_null u (left_part (not (is_null_row u)) (f u) h) (e ∙ z))))
+  one_upper f (bounded_maximum k) u e h = (
+    u,
+    right_part (not (is_null_row u)) (f u) h,
+    λ w i m. subst (λ z. value_le w z ≡ true) (sym e)
+        (within_upper s n vs all k w i m (λ z. not_null u (left_part (not (is_null_row u)) (f u) h) (e ∙ z))),
+  )
   one_upper f minimum u e h = absurd (true≢false (sym h))
   one_upper f (bounded_minimum k) u e h = absurd (true≢false (sym h))
   one_upper f null_count u e h = absurd (true≢false (sym h))
@@ -402,20 +405,20 @@ module _ (hash : List ℕ → ℕ) (t : Ty) (s : Sort) (vs : List Val) (r : Zone
       let high : value_le v w ≡ true = right_part (value_le w v) (value_le v w) c.1 in
       ⊎_elim
       (λ b. ⊎_elim
-          (λ x. let u = upper_found hash t s vs all (not_nested s v l) (λ u. value_lt u v) r rec x in lt_not_ge u.0 v u.1 (le_trans v w u.0 high (u.2 w i c.0)))
-          (λ x. let u = lower_found hash t s vs all (not_nested s v l) (λ u. value_lt v u) r rec x in lt_not_ge v u.0 u.1 (le_trans u.0 w v (u.2 w i c.0) low))
-          (or_cases (some_upper (λ u. value_lt u v) r) (some_lower (λ u. value_lt v u) r) b))
+      (λ x. let u = upper_found hash t s vs all (not_nested s v l) (λ u. value_lt u v) r rec x in lt_not_ge u.0 v u.1 (le_trans v w u.0 high (u.2 w i c.0)))
+      (λ x. let u = lower_found hash t s vs all (not_nested s v l) (λ u. value_lt v u) r rec x in lt_not_ge v u.0 u.1 (le_trans u.0 w v (u.2 w i c.0) low))
+      (or_cases (some_upper (λ u. value_lt u v) r) (some_lower (λ u. value_lt v u) r) b))
       (λ b. ⊎_elim (λ x. excluded v w x i c.1) (λ x. nulls_only x w i c.0) (or_cases (excludes v) (null_count_is (length vs) r) b))
       (or_cases (some_upper (λ u. value_lt u v) r || some_lower (λ u. value_lt v u) r) (excludes v || null_count_is (length vs) r) h)
   rules (not_eq v) l h w i e =
       let c : (w ≡ null_value → ⊥) × (not (value_same w v) ≡ true) = said w (not (value_same w v)) e in
       ⊎_elim
       (λ b.
-          let u = upper_found hash t s vs all (not_nested s v l) (λ u. value_same u v) r rec (left_part (some_upper (λ u. value_same u v) r) (some_lower (λ u. value_same u v) r) b) in
-          let d = lower_found hash t s vs all (not_nested s v l) (λ u. value_same u v) r rec (right_part (some_upper (λ u. value_same u v) r) (some_lower (λ u. value_same u v) r) b) in
-          let low : value_le w v ≡ true = le_trans w u.0 v (u.2 w i c.0) (left_part (value_le u.0 v) (value_le v u.0) u.1) in
-          let high : value_le v w ≡ true = le_trans v d.0 w (right_part (value_le d.0 v) (value_le v d.0) d.1) (d.2 w i c.0) in
-          true≢false (sym (sym (ap not (ap₂ (λ a b. a && b) low high)) ∙ c.1)))
+      let u = upper_found hash t s vs all (not_nested s v l) (λ u. value_same u v) r rec (left_part (some_upper (λ u. value_same u v) r) (some_lower (λ u. value_same u v) r) b) in
+      let d = lower_found hash t s vs all (not_nested s v l) (λ u. value_same u v) r rec (right_part (some_upper (λ u. value_same u v) r) (some_lower (λ u. value_same u v) r) b) in
+      let low : value_le w v ≡ true = le_trans w u.0 v (u.2 w i c.0) (left_part (value_le u.0 v) (value_le v u.0) u.1) in
+      let high : value_le v w ≡ true = le_trans v d.0 w (right_part (value_le d.0 v) (value_le v d.0) d.1) (d.2 w i c.0) in
+      true≢false (sym (sym (ap not (ap₂ (λ a b. a && b) low high)) ∙ c.1)))
       (λ b. nulls_only b w i c.0)
       (or_cases (some_upper (λ u. value_same u v) r && some_lower (λ u. value_same u v) r) (null_count_is (length vs) r) h)
   rules (lt v) l h w i e =
@@ -445,7 +448,7 @@ module _ (hash : List ℕ → ℕ) (t : Ty) (s : Sort) (vs : List Val) (r : Zone
       ⊎_elim (λ x. rules p l.0 x w i c.0) (λ x. rules q l.1 x w i c.1) (or_cases (ruled_out excludes r (length vs) p) (ruled_out excludes r (length vs) q) h)
   rules (either p q) l h w i e =
       ⊎_elim (λ c. rules p l.0 (left_part (ruled_out excludes r (length vs) p) (ruled_out excludes r (length vs) q) h) w i c)
-          (λ c. rules q l.1 (right_part (ruled_out excludes r (length vs) p) (ruled_out excludes r (length vs) q) h) w i c) (either_true (says p w) (says q w) e)
+      (λ c. rules q l.1 (right_part (ruled_out excludes r (length vs) p) (ruled_out excludes r (length vs) q) h) w i c) (either_true (says p w) (says q w) e)
   rules (negated p) l h w i e = true≢false (sym h)
 
 mutual

@@ -69,10 +69,10 @@ one_two = below_by 127 128 (127 ∷ []) (194 ∷ 128 ∷ []) (one_byte 127 (omeg
 two_two : (c : ℕ) → 128 ≤ c → suc c < 2048 → Below c (suc c)
 two_two c l h = below_by c (suc c) ((192 + c / 64) ∷ (128 + c % 64) ∷ []) ((192 + suc c / 64) ∷ (128 + suc c % 64) ∷ []) (two_bytes c l (omega arith)) (two_bytes (suc c) (omega arith) h)
     (λ x y. lt_at (192 + c / 64) (192 + suc c / 64) ((128 + c % 64) ∷ x) ((128 + suc c % 64) ∷ y)
-        (elim (cases_lt (c % 64) 63) [
-          | inl low ↦ inr (let e : 192 + c / 64 ≡ 192 + suc c / 64 = omega arith in e, lt_at (128 + c % 64) (128 + suc c % 64) x y (inl (omega arith)))
-          | inr high ↦ inl (omega arith)
-        ]))
+    (elim (cases_lt (c % 64) 63) [
+      | inl low ↦ inr (let e : 192 + c / 64 ≡ 192 + suc c / 64 = omega arith in e, lt_at (128 + c % 64) (128 + suc c % 64) x y (inl (omega arith)))
+      | inr high ↦ inl (omega arith)
+    ]))
 
 two_three : Below 2047 2048
 two_three = below_by 2047 2048 (223 ∷ 191 ∷ []) (224 ∷ 160 ∷ 128 ∷ []) (two_bytes 2047 (omega arith) (omega arith)) (three_bytes 2048 (omega arith) (omega arith)) (λ x y. lt_at 223 224 (191 ∷ x) (160 ∷ 128 ∷ y) (inl (omega arith)))
@@ -81,18 +81,22 @@ three_three : (c : ℕ) → 2048 ≤ c → suc c < 65536 → Below c (suc c)
 three_three c l h = below_by c (suc c) ((224 + c / 4096) ∷ (128 + c / 64 % 64) ∷ (128 + c % 64) ∷ []) ((224 + suc c / 4096) ∷ (128 + suc c / 64 % 64) ∷ (128 + suc c % 64) ∷ [])
     (three_bytes c l (omega arith)) (three_bytes (suc c) (omega arith) h)
     (λ x y. lt_at (224 + c / 4096) (224 + suc c / 4096) ((128 + c / 64 % 64) ∷ (128 + c % 64) ∷ x) ((128 + suc c / 64 % 64) ∷ (128 + suc c % 64) ∷ y)
-        (elim (cases_lt (c % 64) 63) [
-          | inl low ↦
-              inr (let e : 224 + c / 4096 ≡ 224 + suc c / 4096 = omega arith in e,
-                  lt_at (128 + c / 64 % 64) (128 + suc c / 64 % 64) ((128 + c % 64) ∷ x) ((128 + suc c % 64) ∷ y)
-                      (inr (let e : 128 + c / 64 % 64 ≡ 128 + suc c / 64 % 64 = omega arith in e, lt_at (128 + c % 64) (128 + suc c % 64) x y (inl (omega arith)))))
-          | inr high ↦ elim (cases_lt (c / 64 % 64) 63) [
-              | inl low ↦
-                  inr (let e : 224 + c / 4096 ≡ 224 + suc c / 4096 = omega arith in e,
-                      lt_at (128 + c / 64 % 64) (128 + suc c / 64 % 64) ((128 + c % 64) ∷ x) ((128 + suc c % 64) ∷ y) (inl (omega arith)))
-              | inr higher ↦ inl (omega arith)
-            ]
-        ]))
+    (elim (cases_lt (c % 64) 63) [
+      | inl low ↦
+          inr (
+            let e : 224 + c / 4096 ≡ 224 + suc c / 4096 = omega arith in e,
+            lt_at (128 + c / 64 % 64) (128 + suc c / 64 % 64) ((128 + c % 64) ∷ x) ((128 + suc c % 64) ∷ y)
+                (inr (let e : 128 + c / 64 % 64 ≡ 128 + suc c / 64 % 64 = omega arith in e, lt_at (128 + c % 64) (128 + suc c % 64) x y (inl (omega arith)))),
+          )
+      | inr high ↦ elim (cases_lt (c / 64 % 64) 63) [
+        | inl low ↦
+            inr (
+              let e : 224 + c / 4096 ≡ 224 + suc c / 4096 = omega arith in e,
+              lt_at (128 + c / 64 % 64) (128 + suc c / 64 % 64) ((128 + c % 64) ∷ x) ((128 + suc c % 64) ∷ y) (inl (omega arith)),
+            )
+        | inr higher ↦ inl (omega arith)
+      ]
+    ]))
 
 three_four : Below 65535 65536
 three_four = below_by 65535 65536 (239 ∷ 191 ∷ 191 ∷ []) (240 ∷ 144 ∷ 128 ∷ 128 ∷ []) (three_bytes 65535 (omega arith) (omega arith)) (four_bytes 65536 (omega arith))
@@ -106,27 +110,37 @@ four_four : (c : ℕ) → 65536 ≤ c → Below c (suc c)
 four_four c l = below_by c (suc c) ((240 + c / 262144) ∷ (128 + c / 4096 % 64) ∷ (128 + c / 64 % 64) ∷ (128 + c % 64) ∷ []) ((240 + suc c / 262144) ∷ (128 + suc c / 4096 % 64) ∷ (128 + suc c / 64 % 64) ∷ (128 + suc c % 64) ∷ [])
     (four_bytes c l) (four_bytes (suc c) (omega arith))
     (λ x y. lt_at (240 + c / 262144) (240 + suc c / 262144) ((128 + c / 4096 % 64) ∷ (128 + c / 64 % 64) ∷ (128 + c % 64) ∷ x) ((128 + suc c / 4096 % 64) ∷ (128 + suc c / 64 % 64) ∷ (128 + suc c % 64) ∷ y)
-        (elim (cases_lt (c % 64) 63) [
+    (elim (cases_lt (c % 64) 63) [
+      | inl low ↦
+          inr (
+            let e : 240 + c / 262144 ≡ 240 + suc c / 262144 = omega arith in e,
+            lt_at (128 + c / 4096 % 64) (128 + suc c / 4096 % 64) ((128 + c / 64 % 64) ∷ (128 + c % 64) ∷ x) ((128 + suc c / 64 % 64) ∷ (128 + suc c % 64) ∷ y)
+                (inr (
+                  let e : 128 + c / 4096 % 64 ≡ 128 + suc c / 4096 % 64 = omega arith in e,
+                  lt_at (128 + c / 64 % 64) (128 + suc c / 64 % 64) ((128 + c % 64) ∷ x) ((128 + suc c % 64) ∷ y)
+                      (inr (let e : 128 + c / 64 % 64 ≡ 128 + suc c / 64 % 64 = omega arith in e, lt_at (128 + c % 64) (128 + suc c % 64) x y (inl (omega arith)))),
+                )),
+          )
+      | inr high ↦ elim (cases_lt (c / 64 % 64) 63) [
+        | inl low ↦
+            inr (
+              let e : 240 + c / 262144 ≡ 240 + suc c / 262144 = omega arith in e,
+              lt_at (128 + c / 4096 % 64) (128 + suc c / 4096 % 64) ((128 + c / 64 % 64) ∷ (128 + c % 64) ∷ x) ((128 + suc c / 64 % 64) ∷ (128 + suc c % 64) ∷ y)
+                  (inr (
+                    let e : 128 + c / 4096 % 64 ≡ 128 + suc c / 4096 % 64 = omega arith in e,
+                    lt_at (128 + c / 64 % 64) (128 + suc c / 64 % 64) ((128 + c % 64) ∷ x) ((128 + suc c % 64) ∷ y) (inl (omega arith)),
+                  )),
+            )
+        | inr higher ↦ elim (cases_lt (c / 4096 % 64) 63) [
           | inl low ↦
-              inr (let e : 240 + c / 262144 ≡ 240 + suc c / 262144 = omega arith in e,
-                  lt_at (128 + c / 4096 % 64) (128 + suc c / 4096 % 64) ((128 + c / 64 % 64) ∷ (128 + c % 64) ∷ x) ((128 + suc c / 64 % 64) ∷ (128 + suc c % 64) ∷ y)
-                      (inr (let e : 128 + c / 4096 % 64 ≡ 128 + suc c / 4096 % 64 = omega arith in e,
-                          lt_at (128 + c / 64 % 64) (128 + suc c / 64 % 64) ((128 + c % 64) ∷ x) ((128 + suc c % 64) ∷ y)
-                              (inr (let e : 128 + c / 64 % 64 ≡ 128 + suc c / 64 % 64 = omega arith in e, lt_at (128 + c % 64) (128 + suc c % 64) x y (inl (omega arith)))))))
-          | inr high ↦ elim (cases_lt (c / 64 % 64) 63) [
-              | inl low ↦
-                  inr (let e : 240 + c / 262144 ≡ 240 + suc c / 262144 = omega arith in e,
-                      lt_at (128 + c / 4096 % 64) (128 + suc c / 4096 % 64) ((128 + c / 64 % 64) ∷ (128 + c % 64) ∷ x) ((128 + suc c / 64 % 64) ∷ (128 + suc c % 64) ∷ y)
-                          (inr (let e : 128 + c / 4096 % 64 ≡ 128 + suc c / 4096 % 64 = omega arith in e,
-                              lt_at (128 + c / 64 % 64) (128 + suc c / 64 % 64) ((128 + c % 64) ∷ x) ((128 + suc c % 64) ∷ y) (inl (omega arith)))))
-              | inr higher ↦ elim (cases_lt (c / 4096 % 64) 63) [
-                  | inl low ↦
-                      inr (let e : 240 + c / 262144 ≡ 240 + suc c / 262144 = omega arith in e,
-                          lt_at (128 + c / 4096 % 64) (128 + suc c / 4096 % 64) ((128 + c / 64 % 64) ∷ (128 + c % 64) ∷ x) ((128 + suc c / 64 % 64) ∷ (128 + suc c % 64) ∷ y) (inl (omega arith)))
-                  | inr highest ↦ inl (omega arith)
-                ]
-            ]
-        ]))
+              inr (
+                let e : 240 + c / 262144 ≡ 240 + suc c / 262144 = omega arith in e,
+                lt_at (128 + c / 4096 % 64) (128 + suc c / 4096 % 64) ((128 + c / 64 % 64) ∷ (128 + c % 64) ∷ x) ((128 + suc c / 64 % 64) ∷ (128 + suc c % 64) ∷ y) (inl (omega arith)),
+              )
+          | inr highest ↦ inl (omega arith)
+        ]
+      ]
+    ]))
 
 pub plain_next : (c : ℕ) → c ≢ 55295 → next_char c ≡ suc c
 plain_next c n = ⊎_elim (λ (t : nat_eq c 55295 ≡ true). absurd (n (same c t))) (λ (f : nat_eq c 55295 ≡ false). ap (λ b. if b then 57344 else suc c) f) (cases_Bool (nat_eq c 55295))
@@ -140,21 +154,21 @@ next_below c (inr n) = subst (Below c) (sym (plain_next c n))
     (elim (cases_lt (suc c) 128) [
       | inl a ↦ one_one c a
       | inr a ↦ elim (cases_lt (suc c) 129) [
-          | inl b ↦ subst (λ z. Below z (suc z)) (let e : 127 ≡ c = omega arith in e) one_two
-          | inr b ↦ elim (cases_lt (suc c) 2048) [
-              | inl d ↦ two_two c (omega arith) d
-              | inr d ↦ elim (cases_lt (suc c) 2049) [
-                  | inl f ↦ subst (λ z. Below z (suc z)) (let e : 2047 ≡ c = omega arith in e) two_three
-                  | inr f ↦ elim (cases_lt (suc c) 65536) [
-                      | inl g ↦ three_three c (omega arith) g
-                      | inr g ↦ elim (cases_lt (suc c) 65537) [
-                          | inl h ↦ subst (λ z. Below z (suc z)) (let e : 65535 ≡ c = omega arith in e) three_four
-                          | inr h ↦ four_four c (omega arith)
-                        ]
-                    ]
-                ]
+        | inl b ↦ subst (λ z. Below z (suc z)) (let e : 127 ≡ c = omega arith in e) one_two
+        | inr b ↦ elim (cases_lt (suc c) 2048) [
+          | inl d ↦ two_two c (omega arith) d
+          | inr d ↦ elim (cases_lt (suc c) 2049) [
+            | inl f ↦ subst (λ z. Below z (suc z)) (let e : 2047 ≡ c = omega arith in e) two_three
+            | inr f ↦ elim (cases_lt (suc c) 65536) [
+              | inl g ↦ three_three c (omega arith) g
+              | inr g ↦ elim (cases_lt (suc c) 65537) [
+                | inl h ↦ subst (λ z. Below z (suc z)) (let e : 65535 ≡ c = omega arith in e) three_four
+                | inr h ↦ four_four c (omega arith)
+              ]
             ]
+          ]
         ]
+      ]
     ])
 
 is_below : (c d : ℕ) → Below c d → (x y : List ℕ) → path_lt (encode_utf8 c ++ x) (encode_utf8 d ++ y) ≡ true
@@ -165,9 +179,9 @@ pub eq_or : (c : ℕ) → (c ≡ 55295) ⊎ (c ≢ 55295)
 eq_or c = elim (cases_lt c 55295) [
   | inl l ↦ inr (λ e. absurd (omega arith))
   | inr h ↦ elim (cases_lt 55295 c) [
-      | inl l ↦ inr (λ e. absurd (omega arith))
-      | inr g ↦ inl (omega arith)
-    ]
+    | inl l ↦ inr (λ e. absurd (omega arith))
+    | inr g ↦ inl (omega arith)
+  ]
 ]
 
 -- ---- raised lists are above all that go on from the unraised
@@ -179,6 +193,7 @@ raised_bytes (x ∷ p) r tail e = go (raised_last byte_rises suc p) (λ ys f. ra
     here : (b : Bool) → (if b then Some (suc x ∷ []) else None) ≡ Some r → path_lt (x ∷ p ++ tail) r ≡ true
     here false h = cc
     here true h = let same : suc x ∷ [] ≡ r = cc in subst (λ z. path_lt (x ∷ p ++ tail) z ≡ true) same (lt_at x (suc x) (p ++ tail) [] (inl (omega arith)))
+
     go : (o : Option (List ℕ)) → ((ys : List ℕ) → o ≡ Some ys → path_lt (p ++ tail) ys ≡ true) → raised_before byte_rises suc x o ≡ Some r → path_lt (x ∷ p ++ tail) r ≡ true
     go None f h = here (byte_rises x) h
     go (Some ys) f h = let same : x ∷ ys ≡ r = cc in subst (λ z. path_lt (x ∷ p ++ tail) z ≡ true) same (lt_at x x (p ++ tail) ys (inr (refl, f ys refl)))
@@ -191,6 +206,7 @@ raised_chars (x ∷ p) r tail e = go (raised_last char_rises next_char p) (λ ys
     here false h = cc
     here true h = let same : next_char x ∷ [] ≡ r = cc in
         subst (λ z. path_lt (encode_utf8_all (x ∷ p ++ tail)) (encode_utf8_all z) ≡ true) same (is_below x (next_char x) (next_below x (eq_or x)) (encode_utf8_all (p ++ tail)) [])
+
     go : (o : Option (List ℕ)) → ((ys : List ℕ) → o ≡ Some ys → path_lt (encode_utf8_all (p ++ tail)) (encode_utf8_all ys) ≡ true) → raised_before char_rises next_char x o ≡ Some r
         → path_lt (encode_utf8_all (x ∷ p ++ tail)) (encode_utf8_all r) ≡ true
     go None f h = here (char_rises x) h
@@ -218,8 +234,8 @@ pub front_below : (n : ℕ) (cs : List ℕ) → path_le (encode_utf8_all (front_
 front_below n cs =
     let w : (tail : List ℕ) × (cs ≡ front_chars n cs ++ tail) = front_whole n cs in
     subst (λ z. path_le (encode_utf8_all (front_chars n cs)) (encode_utf8_all z) ≡ true) (sym w.1)
-        (subst (λ z. path_le (encode_utf8_all (front_chars n cs)) z ≡ true) (sym (encodes-append (front_chars n cs) w.0))
-            (begins_le (encode_utf8_all (front_chars n cs)) (encode_utf8_all (front_chars n cs) ++ encode_utf8_all w.0) (begins-append (encode_utf8_all (front_chars n cs)) (encode_utf8_all w.0))))
+    (subst (λ z. path_le (encode_utf8_all (front_chars n cs)) z ≡ true) (sym (encodes-append (front_chars n cs) w.0))
+    (begins_le (encode_utf8_all (front_chars n cs)) (encode_utf8_all (front_chars n cs) ++ encode_utf8_all w.0) (begins-append (encode_utf8_all (front_chars n cs)) (encode_utf8_all w.0))))
 
 pub take_below : (n : ℕ) (s : List ℕ) → path_le (take n s) s ≡ true
 take_below n s = subst (λ z. path_le (take n s) z ≡ true) (take-append-drop n s) (begins_le (take n s) (take n s ++ Rattle.std.proofs.Common.drop n s) (begins-append (take n s) (Rattle.std.proofs.Common.drop n s)))

@@ -44,9 +44,10 @@ cut_of : (t : Ty) (rows : List Tree) (ks : List ℕ) → Rows t rows → length 
 cut_of t rows [] r lt = tt
 cut_of t rows (k ∷ ks) r lt =
     let a : length (take k rows) ≡ min k (length rows) = length-take k rows in
-    let b : length (drop k rows) ≡ length rows - k = length-drop k rows in
-    (plain_of t (take k rows) (record { fit = all_take (fits t) k rows r.fit; real = all_take is_real_cell k rows r.real; short = omega arith }),
-     cut_of t (drop k rows) ks (rows_drop t k rows r) (omega arith))
+    let b : length (drop k rows) ≡ length rows - k = length-drop k rows in (
+      plain_of t (take k rows) (record { fit = all_take (fits t) k rows r.fit; real = all_take is_real_cell k rows r.real; short = omega arith }),
+      cut_of t (drop k rows) ks (rows_drop t k rows r) (omega arith),
+    )
 
 left_rows : (t : Ty) (rows : List Tree) (ks : List ℕ) → Rows t rows → Rows t (left_over rows ks)
 left_rows t rows [] r = r
@@ -75,5 +76,5 @@ blocks_regroup o t = record {
   close = λ rows c r o' lt. pieces_append t (cut_off t (rows ++ cells c) (sizes_at o t rows c)) (last_block t (left_over (rows ++ cells c) (sizes_at o t rows c)))
       (cut_of t (rows ++ cells c) (sizes_at o t rows c) (rows_more t rows c r o') lt)
       (last_of t (left_over (rows ++ cells c) (sizes_at o t rows c)) (left_rows t (rows ++ cells c) (sizes_at o t rows c) (rows_more t rows c r o'))
-          (let h : length (left_over (rows ++ cells c) (sizes_at o t rows c)) ≤ length (rows ++ cells c) = left_length (rows ++ cells c) (sizes_at o t rows c) in omega arith))
+      (let h : length (left_over (rows ++ cells c) (sizes_at o t rows c)) ≤ length (rows ++ cells c) = left_length (rows ++ cells c) (sizes_at o t rows c) in omega arith));
 }

@@ -122,10 +122,10 @@ list_rows_fit t m es [] valid g h = refl
 list_rows_fit t m es (a ∷ []) valid g h = refl
 list_rows_fit t m es (a ∷ b ∷ offsets) valid g h =
     both_true (flag_fits (head_or true valid) m && all_by (fits t) (items (trees_of (take (b - a) (drop a es))))) (all_by (list_fits m (fits t)) (list_rows es (b ∷ offsets) (tail valid)))
-        (both_true (flag_fits (head_or true valid) m) (all_by (fits t) (items (trees_of (take (b - a) (drop a es)))))
-            (flag_head m valid h)
-            (ap (all_by (fits t)) (items_trees_of (take (b - a) (drop a es))) ∙ all_take (fits t) (b - a) (drop a es) (all_drop (fits t) a es g)))
-        (list_rows_fit t m es (b ∷ offsets) (tail valid) g (flags_tail m valid h))
+    (both_true (flag_fits (head_or true valid) m) (all_by (fits t) (items (trees_of (take (b - a) (drop a es)))))
+    (flag_head m valid h)
+    (ap (all_by (fits t)) (items_trees_of (take (b - a) (drop a es))) ∙ all_take (fits t) (b - a) (drop a es) (all_drop (fits t) a es g)))
+    (list_rows_fit t m es (b ∷ offsets) (tail valid) g (flags_tail m valid h))
 
 length-drop-le : {X : Type 0} (n : ℕ) (xs : List X) → length (drop n xs) ≤ length xs
 length-drop-le zero xs = omega arith
@@ -145,10 +145,10 @@ list_rows_real es (a ∷ b ∷ offsets) valid g h =
     let l1 : length (take (b - a) (drop a es)) ≤ length (drop a es) = length-take-le_all (b - a) (drop a es) in
     let l2 : length (drop a es) ≤ length es = length-drop-le a es in
     both_true (are_real_cells (trees_of span) && is_length (length (items (trees_of span)))) (all_by is_real_cell (list_rows es (b ∷ offsets) (tail valid)))
-        (both_true (are_real_cells (trees_of span)) (is_length (length (items (trees_of span))))
-            (real_trees_of span ∙ all_take is_real_cell (b - a) (drop a es) (all_drop is_real_cell a es g))
-            (ap (λ z. is_length (length z)) (items_trees_of span) ∙ below_test (length (take (b - a) (drop a es))) (omega arith)))
-        (list_rows_real es (b ∷ offsets) (tail valid) g h)
+    (both_true (are_real_cells (trees_of span)) (is_length (length (items (trees_of span))))
+    (real_trees_of span ∙ all_take is_real_cell (b - a) (drop a es) (all_drop is_real_cell a es g))
+    (ap (λ z. is_length (length z)) (items_trees_of span) ∙ below_test (length (take (b - a) (drop a es))) (omega arith)))
+    (list_rows_real es (b ∷ offsets) (tail valid) g h)
 
 pub length-list_rows : (es : List Tree) (offsets : List ℕ) (valid : List Bool) → length (list_rows es offsets valid) ≡ length offsets - 1
 length-list_rows es [] valid = refl
@@ -183,9 +183,9 @@ struct_rows_fit : (fs : Tys) (m : Bool) (n : ℕ) (columns : List (List Tree)) (
 struct_rows_fit fs m zero columns valid g h = refl
 struct_rows_fit fs m (suc n) columns valid g h =
     both_true (flag_fits (head_or true valid) m && fields_fit fs (items (trees_of (map (head_or null_cell) columns)))) (all_by (struct_fits m (fields_fit fs)) (struct_rows n (map tail columns) (tail valid)))
-        (both_true (flag_fits (head_or true valid) m) (fields_fit fs (items (trees_of (map (head_or null_cell) columns))))
-            (flag_head m valid h) (ap (fields_fit fs) (items_trees_of (map (head_or null_cell) columns)) ∙ heads_fit fs columns n g))
-        (struct_rows_fit fs m n (map tail columns) (tail valid) (tails_fit fs columns n g) (flags_tail m valid h))
+    (both_true (flag_fits (head_or true valid) m) (fields_fit fs (items (trees_of (map (head_or null_cell) columns))))
+    (flag_head m valid h) (ap (fields_fit fs) (items_trees_of (map (head_or null_cell) columns)) ∙ heads_fit fs columns n g))
+    (struct_rows_fit fs m n (map tail columns) (tail valid) (tails_fit fs columns n g) (flags_tail m valid h))
 
 abbrev pub ColumnsReal : List (List Tree) → Type 0
 ColumnsReal [] = Unit {0}
@@ -205,8 +205,8 @@ struct_rows_real : (n : ℕ) (columns : List (List Tree)) (valid : List Bool) �
 struct_rows_real zero columns valid h = refl
 struct_rows_real (suc n) columns valid h =
     both_true (are_real_cells (trees_of (map (head_or null_cell) columns))) (all_by is_real_cell (struct_rows n (map tail columns) (tail valid)))
-        (real_trees_of (map (head_or null_cell) columns) ∙ heads_real columns h)
-        (struct_rows_real n (map tail columns) (tail valid) (tails_real columns h))
+    (real_trees_of (map (head_or null_cell) columns) ∙ heads_real columns h)
+    (struct_rows_real n (map tail columns) (tail valid) (tails_real columns h))
 
 pub length-struct_rows : (n : ℕ) (columns : List (List Tree)) (valid : List Bool) → length (struct_rows n columns valid) ≡ n
 length-struct_rows zero columns valid = refl
@@ -226,12 +226,12 @@ mutual
   whole_fine (plain_piece t cs) s r = record {
     fit = left_true (all_by (fits t) cs) (nat_lt (length cs) (2 ^ 64)) s;
     real = r;
-    short = below (length cs) (right_true (all_by (fits t) cs) (nat_lt (length cs) (2 ^ 64)) s)
+    short = below (length cs) (right_true (all_by (fits t) cs) (nat_lt (length cs) (2 ^ 64)) s);
   }
   whole_fine (constant_piece t c n) s r = record {
     fit = all_replicate (fits t) n c (left_true (fits t c) (nat_lt n (2 ^ 64)) s);
     real = all_replicate is_real_cell n c r;
-    short = rw (length-replicate n c) (below n (right_true (fits t c) (nat_lt n (2 ^ 64)) s))
+    short = rw (length-replicate n c) (below n (right_true (fits t c) (nat_lt n (2 ^ 64)) s));
   }
   whole_fine (dict_piece codes values) s r =
       let sc : (is_sound codes && is_sound values) ≡ true = left_true (is_sound codes && is_sound values) _ s in
@@ -243,7 +243,7 @@ mutual
       record {
         fit = dict_all (fits (piece_type values)) (cells values) (cells codes) v.fit places;
         real = dict_all is_real_cell (cells values) (cells codes) v.real places;
-        short = rw (length-map (cells codes) (picked (cells values))) c.short
+        short = rw (length-map (cells codes) (picked (cells values))) c.short;
       }
   whole_fine (chunked_piece t ps) s r =
       let rest : _ ≡ true = right_true (are_sound ps) _ s in
@@ -251,7 +251,7 @@ mutual
       record {
         fit = parts_fit t ps (left_true (are_sound ps) _ s) r parts;
         real = parts_real ps (left_true (are_sound ps) _ s) r;
-        short = below (length (joined_cells ps)) (right_true (are_parts t (pieces_in ps)) _ rest)
+        short = below (length (joined_cells ps)) (right_true (are_parts t (pieces_in ps)) _ rest);
       }
   whole_fine (list_piece (list t m) e offsets valid) s r =
       let a : _ ≡ true = right_true (is_sound e) _ s in
@@ -265,7 +265,7 @@ mutual
       record {
         fit = list_rows_fit t m (cells e) offsets valid (subst (λ u. all_by (fits u) (cells e) ≡ true) same f.fit) (flags_ok m (length offsets - 1) valid flags);
         real = list_rows_real (cells e) offsets valid f.real f.short;
-        short = omega arith
+        short = omega arith;
       }
   whole_fine (list_piece (boolean m) e offsets valid) s r = absurd (no_last (is_sound e) s)
   whole_fine (list_piece (primitive p m) e offsets valid) s r = absurd (no_last (is_sound e) s)
@@ -280,7 +280,7 @@ mutual
       record {
         fit = struct_rows_fit fs m n (each_cells ps) valid (fields_columns fs ps n (left_true (are_sound ps) _ s) r (left_true (match_fields fs (pieces_in ps) n) _ a)) (flags_ok m n valid flags);
         real = struct_rows_real n (each_cells ps) valid (fields_real ps (left_true (are_sound ps) _ s) r);
-        short = rw (length-struct_rows n (each_cells ps) valid) (below n (left_true (nat_lt n (2 ^ 64)) _ b))
+        short = rw (length-struct_rows n (each_cells ps) valid) (below n (left_true (nat_lt n (2 ^ 64)) _ b));
       }
   whole_fine (struct_piece (boolean m) ps valid n) s r = absurd (no_last (are_sound ps) s)
   whole_fine (struct_piece (primitive p m) ps valid n) s r = absurd (no_last (are_sound ps) s)
@@ -305,7 +305,7 @@ mutual
       let typed : piece_type p ≡ t = of_type (piece_type p) t (left_true (ty_eq (piece_type p) t) _ (left_true (ty_eq (piece_type p) t && _) _ h)) in
       let f : Fine (piece_type p) (cells p) = whole_fine p (left_true (is_sound p) (are_sound ps) s) (left_true (is_real p) (are_real ps) r) in
       all_append (fits t) (cells p) (joined_cells ps) (subst (λ u. all_by (fits u) (cells p) ≡ true) typed f.fit)
-          (parts_fit t ps (right_true (is_sound p) (are_sound ps) s) (right_true (is_real p) (are_real ps) r) (right_true _ (are_parts t (pieces_in ps)) h))
+      (parts_fit t ps (right_true (is_sound p) (are_sound ps) s) (right_true (is_real p) (are_real ps) r) (right_true _ (are_parts t (pieces_in ps)) h))
 
   parts_real : (ps : Pieces) → are_sound ps ≡ true → are_real ps ≡ true → all_by is_real_cell (joined_cells ps) ≡ true
   parts_real no_pieces s r = refl
@@ -320,9 +320,11 @@ mutual
   fields_columns (field name t fs) (part p ps) n s r h =
       let typed : piece_type p ≡ t = of_type (piece_type p) t (left_true (ty_eq (piece_type p) t) _ h) in
       let rest : _ ≡ true = right_true (ty_eq (piece_type p) t) _ h in
-      let f : Fine (piece_type p) (cells p) = whole_fine p (left_true (is_sound p) (are_sound ps) s) (left_true (is_real p) (are_real ps) r) in
-      (subst (λ u. all_by (fits u) (cells p) ≡ true) typed f.fit, eqb-true (length (cells p)) n (left_true (length (cells p) == n) _ rest),
-       fields_columns fs ps n (right_true (is_sound p) (are_sound ps) s) (right_true (is_real p) (are_real ps) r) (right_true (length (cells p) == n) _ rest))
+      let f : Fine (piece_type p) (cells p) = whole_fine p (left_true (is_sound p) (are_sound ps) s) (left_true (is_real p) (are_real ps) r) in (
+        subst (λ u. all_by (fits u) (cells p) ≡ true) typed f.fit,
+        eqb-true (length (cells p)) n (left_true (length (cells p) == n) _ rest),
+        fields_columns fs ps n (right_true (is_sound p) (are_sound ps) s) (right_true (is_real p) (are_real ps) r) (right_true (length (cells p) == n) _ rest),
+      )
 
   fields_real : (ps : Pieces) → are_sound ps ≡ true → are_real ps ≡ true → ColumnsReal (each_cells ps)
   fields_real no_pieces s r = tt
@@ -338,12 +340,12 @@ cells_fine t p o = subst (λ u. Fine u (cells p)) o.typed (whole_fine p o.whole.
 pub plain_of : (t : Ty) (cs : List Tree) → Fine t cs → Of t (plain_piece t cs)
 plain_of t cs f = record {
   typed = refl;
-  whole = record { sound = both_true (all_by (fits t) cs) (nat_lt (length cs) (2 ^ 64)) f.fit (below_test (length cs) f.short); real = f.real }
+  whole = record { sound = both_true (all_by (fits t) cs) (nat_lt (length cs) (2 ^ 64)) f.fit (below_test (length cs) f.short); real = f.real };
 }
 
 pub fine_part : (t : Ty) (cs front back : List Tree) → cs ≡ front ++ back → Fine t cs → Fine t front
 fine_part t cs front back e f = record {
   fit = all_left (fits t) front back (subst (λ z. all_by (fits t) z ≡ true) e f.fit);
   real = all_left is_real_cell front back (subst (λ z. all_by is_real_cell z ≡ true) e f.real);
-  short = let h : length cs ≡ length front + length back = ap length e ∙ length-append front back in let g : length cs < 2 ^ 64 = f.short in omega arith
+  short = let h : length cs ≡ length front + length back = ap length e ∙ length-append front back in let g : length cs < 2 ^ 64 = f.short in omega arith;
 }

@@ -64,10 +64,11 @@ kept_fields no_fields no_pieces n s r h = tt
 kept_fields no_fields (part p ps) n s r h = absurd (true≢false (sym h))
 kept_fields (field name t fs) no_pieces n s r h = absurd (true≢false (sym h))
 kept_fields (field name t fs) (part p ps) n s r h =
-    let rest : _ ≡ true = right_true (ty_eq (piece_type p) t) _ h in
-    (record { typed = of_type (piece_type p) t (left_true (ty_eq (piece_type p) t) _ h); whole = record { sound = left_true (is_sound p) (are_sound ps) s; real = left_true (is_real p) (are_real ps) r } },
-     eqb-true (length (cells p)) n (left_true (length (cells p) == n) _ rest),
-     kept_fields fs ps n (right_true (is_sound p) (are_sound ps) s) (right_true (is_real p) (are_real ps) r) (right_true (length (cells p) == n) _ rest))
+    let rest : _ ≡ true = right_true (ty_eq (piece_type p) t) _ h in (
+      record { typed = of_type (piece_type p) t (left_true (ty_eq (piece_type p) t) _ h); whole = record { sound = left_true (is_sound p) (are_sound ps) s; real = left_true (is_real p) (are_real ps) r } },
+      eqb-true (length (cells p)) n (left_true (length (cells p) == n) _ rest),
+      kept_fields fs ps n (right_true (is_sound p) (are_sound ps) s) (right_true (is_real p) (are_real ps) r) (right_true (length (cells p) == n) _ rest),
+    )
 
 fields_fit_columns : (fs : Tys) (ps : List Piece) (n : ℕ) → FieldsOf fs ps n → ColumnsFit fs (each_cell ps) n
 fields_fit_columns no_fields [] n h = tt
@@ -83,9 +84,12 @@ first_fits_one : (name : List ℕ) (t : Ty) (fs : Tys) (m : Bool) (c : Tree) →
     → (fits t (first_of c) ≡ true) × (is_real_cell (first_of c) ≡ true) × (fits (struct fs m) (others_of c) ≡ true) × (is_real_cell (others_of c) ≡ true)
 first_fits_one name t fs m (struct_cell v (cell c cs)) h r =
     let flag : flag_fits v m ≡ true = left_true (flag_fits v m) _ h in
-    let inner : (fits t c && fields_fit fs (items cs)) ≡ true = right_true (flag_fits v m) _ h in
-    (left_true (fits t c) _ inner, left_true (is_real_cell c) (are_real_cells cs) r,
-     both_true (flag_fits v m) (fields_fit fs (items cs)) flag (right_true (fits t c) _ inner), right_true (is_real_cell c) (are_real_cells cs) r)
+    let inner : (fits t c && fields_fit fs (items cs)) ≡ true = right_true (flag_fits v m) _ h in (
+      left_true (fits t c) _ inner,
+      left_true (is_real_cell c) (are_real_cells cs) r,
+      both_true (flag_fits v m) (fields_fit fs (items cs)) flag (right_true (fits t c) _ inner),
+      right_true (is_real_cell c) (are_real_cells cs) r,
+    )
 first_fits_one name t fs m (struct_cell v no_cells) h r = absurd (no_last (flag_fits v m) h)
 first_fits_one name t fs m null_cell h r = absurd (true≢false (sym h))
 first_fits_one name t fs m (bool_cell b) h r = absurd (true≢false (sym h))
@@ -99,11 +103,13 @@ firsts_fit : (name : List ℕ) (t : Ty) (fs : Tys) (m : Bool) (cs : List Tree) �
 firsts_fit name t fs m [] h = (refl, refl, (refl, refl))
 firsts_fit name t fs m (c ∷ cs) h =
     let a : (fits t (first_of c) ≡ true) × (is_real_cell (first_of c) ≡ true) × (fits (struct fs m) (others_of c) ≡ true) × (is_real_cell (others_of c) ≡ true) =
-        first_fits_one name t fs m c (left_true (fits (struct (field name t fs) m) c) _ h.0) (left_true (is_real_cell c) _ h.1) in
+    first_fits_one name t fs m c (left_true (fits (struct (field name t fs) m) c) _ h.0) (left_true (is_real_cell c) _ h.1) in
     let b : (all_by (fits t) (map first_of cs) ≡ true) × (all_by is_real_cell (map first_of cs) ≡ true) × AreStructs fs m (map others_of cs) =
-        firsts_fit name t fs m cs (right_true (fits (struct (field name t fs) m) c) _ h.0, right_true (is_real_cell c) _ h.1) in
-    (both_true (fits t (first_of c)) _ a.0 b.0, both_true (is_real_cell (first_of c)) _ a.1 b.1,
-     (both_true (fits (struct fs m) (others_of c)) _ a.2 b.2.0, both_true (is_real_cell (others_of c)) _ a.3 b.2.1))
+    firsts_fit name t fs m cs (right_true (fits (struct (field name t fs) m) c) _ h.0, right_true (is_real_cell c) _ h.1) in (
+      both_true (fits t (first_of c)) _ a.0 b.0,
+      both_true (is_real_cell (first_of c)) _ a.1 b.1,
+      (both_true (fits (struct fs m) (others_of c)) _ a.2 b.2.0, both_true (is_real_cell (others_of c)) _ a.3 b.2.1),
+    )
 
 plain_fields_of : (fs : Tys) (m : Bool) (cs : List Tree) (n : ℕ) → AreStructs fs m cs → length cs ≡ n → n < 2 ^ 64 → FieldsOf fs (plain_fields fs cs) n
 plain_fields_of no_fields m cs n h e lt = tt
@@ -124,9 +130,11 @@ other_type : (fs : Tys) (m : Bool) (u : Ty) → u ≡ struct fs m → (ps : Piec
 other_type fs m u e ps valid n w =
     let s : is_sound (struct_piece (struct fs m) ps valid n) ≡ true = subst (λ z. is_sound (struct_piece z ps valid n) ≡ true) e w.sound in
     let a : _ ≡ true = right_true (are_sound ps) _ s in
-    let f : FieldsOf fs (pieces_in ps) n = kept_fields fs ps n (left_true (are_sound ps) _ s) w.real (left_true (match_fields fs (pieces_in ps) n) _ a) in
-    (f, Rattle.vx_rules.proofs.CellLaws.length-struct_rows n (each_cells ps) valid,
-     each_cell-in ps ∙ sym (fields_made fs n (each_cells ps) valid (subst (λ z. ColumnsFit fs z n) (each_cell-in ps) (fields_fit_columns fs (pieces_in ps) n f))))
+    let f : FieldsOf fs (pieces_in ps) n = kept_fields fs ps n (left_true (are_sound ps) _ s) w.real (left_true (match_fields fs (pieces_in ps) n) _ a) in (
+      f,
+      Rattle.vx_rules.proofs.CellLaws.length-struct_rows n (each_cells ps) valid,
+      each_cell-in ps ∙ sym (fields_made fs n (each_cells ps) valid (subst (λ z. ColumnsFit fs z n) (each_cell-in ps) (fields_fit_columns fs (pieces_in ps) n f))),
+    )
 
 -- the fields' chunks are whole ones of the fields' types, and have the fields' cells
 pub fields_are : (fs : Tys) (m : Bool) (p : Piece) → Of (struct fs m) p
@@ -139,7 +147,7 @@ fields_are fs m (list_piece t e offsets valid) o = plain_case fs m (list_piece t
 fields_are fs m (extension_piece t p) o = plain_case fs m (extension_piece t p) o
 fields_are fs m (struct_piece u ps valid n) o =
     let a : (FieldsOf fs (pieces_in ps) n) × (length (struct_rows n (each_cells ps) valid) ≡ n) × (each_cell (pieces_in ps) ≡ field_cells fs (struct_rows n (each_cells ps) valid)) =
-        other_type fs m u o.typed ps valid n o.whole in
+    other_type fs m u o.typed ps valid n o.whole in
     (subst (FieldsOf fs (pieces_in ps)) (sym a.1) a.0, a.2)
 
 -- ---- structs: the rows from the columns
@@ -170,8 +178,8 @@ pub zipped_fields : (fs : Tys) (m : Bool) (cs : List Tree) → all_by (fits (str
 zipped_fields fs m [] h = refl
 zipped_fields fs m (struct_cell v inner ∷ cs) h =
     ap₂ (λ x y. struct_value x ∷ y)
-        (head_values fs v inner cs (right_true (flag_fits v m) _ (left_true (fits (struct fs m) (struct_cell v inner)) _ h)))
-        (ap (zipped (length cs)) (tail_values fs (struct_cell v inner) cs) ∙ zipped_fields fs m cs (right_true (fits (struct fs m) (struct_cell v inner)) _ h))
+    (head_values fs v inner cs (right_true (flag_fits v m) _ (left_true (fits (struct fs m) (struct_cell v inner)) _ h)))
+    (ap (zipped (length cs)) (tail_values fs (struct_cell v inner) cs) ∙ zipped_fields fs m cs (right_true (fits (struct fs m) (struct_cell v inner)) _ h))
 zipped_fields fs m (null_cell ∷ cs) h = absurd (true≢false (sym h))
 zipped_fields fs m (bool_cell b ∷ cs) h = absurd (true≢false (sym h))
 zipped_fields fs m (int_cell b ∷ cs) h = absurd (true≢false (sym h))

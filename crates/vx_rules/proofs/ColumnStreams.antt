@@ -61,7 +61,7 @@ pub list_splits_begin : (t : Ty) (n first : Bool) (from : ℕ) (xs ys : List Chu
 list_splits_begin t n first from [] ys = (list_splits t n first from ys, refl)
 list_splits_begin t n first from (x ∷ xs) ys =
     let r : (more : List Split) × (list_splits t n false (from + length (all_elements (cells x.1))) (xs ++ ys) ≡ list_splits t n false (from + length (all_elements (cells x.1))) xs ++ more) =
-        list_splits_begin t n false (from + length (all_elements (cells x.1))) xs ys in
+    list_splits_begin t n false (from + length (all_elements (cells x.1))) xs ys in
     (r.0, ap (λ (z : List Split). (x.0, list_columns t n first from x.1) ∷ z) r.1)
 
 -- ---- structs
@@ -134,7 +134,7 @@ streams_are no_fields k xs cs h = (tt, refl)
 streams_are (field name t fs) k xs cs h =
     let a : Chunks t (column k xs) × (stream_cells (column k xs) ≡ map first_of (all_cells cs)) = shows_first name t fs k xs cs h in
     let b : StreamsOf fs (field_streams fs (suc k) (other_columns xs)) × (streams_cells (field_streams fs (suc k) (other_columns xs)) ≡ field_cells fs (all_cells (others_all cs))) =
-        streams_are fs (suc k) (other_columns xs) (others_all cs) (shows_others name t fs xs cs h) in
+    streams_are fs (suc k) (other_columns xs) (others_all cs) (shows_others name t fs xs cs h) in
     ((a.0, b.0), ap₂ (λ x y. x ∷ y) a.1 (b.1 ∙ ap (field_cells fs) (others_joined cs)))
 
 -- the cells of each chunk
@@ -163,10 +163,11 @@ pub validity_stream : (fs : Tys) (cs : List Chunk) → Chunks (struct fs true) c
     → Chunks (boolean false) (column 0 (struct_splits fs true cs)) × (stream_cells (column 0 (struct_splits fs true cs)) ≡ map bool_cell (map flag_of (stream_cells cs)))
 validity_stream fs [] h = (tt, refl)
 validity_stream fs (c ∷ cs) h =
-    let r : Chunks (boolean false) (column 0 (struct_splits fs true cs)) × (stream_cells (column 0 (struct_splits fs true cs)) ≡ map bool_cell (map flag_of (stream_cells cs))) = validity_stream fs cs h.1 in
-    ((validity_of c.1 (cells_fine (struct fs true) c.1 h.0).short, r.0),
-     ap (λ z. map bool_cell (map flag_of (cells c.1)) ++ z) r.1
-     ∙ sym (ap (map bool_cell) (map-append flag_of (cells c.1) (stream_cells cs)) ∙ map-append bool_cell (map flag_of (cells c.1)) (map flag_of (stream_cells cs))))
+    let r : Chunks (boolean false) (column 0 (struct_splits fs true cs)) × (stream_cells (column 0 (struct_splits fs true cs)) ≡ map bool_cell (map flag_of (stream_cells cs))) = validity_stream fs cs h.1 in (
+      (validity_of c.1 (cells_fine (struct fs true) c.1 h.0).short, r.0),
+      ap (λ z. map bool_cell (map flag_of (cells c.1)) ++ z) r.1
+          ∙ sym (ap (map bool_cell) (map-append flag_of (cells c.1) (stream_cells cs)) ∙ map-append bool_cell (map flag_of (cells c.1)) (map flag_of (stream_cells cs))),
+    )
 
 -- ---- lists: the rows from elements and offsets
 
@@ -178,10 +179,10 @@ pub ends_append : (from : ℕ) (xs ys : List Tree) → ends from (xs ++ ys) ≡ 
 ends_append from [] ys = ap (λ z. ends z ys) (let h : from ≡ from + 0 = omega arith in h)
 ends_append from (x ∷ xs) ys =
     ap (λ z. (from + length (elements_of x)) ∷ z)
-        (ends_append (from + length (elements_of x)) xs ys
-        ∙ ap (λ z. ends (from + length (elements_of x)) xs ++ ends z ys)
-            (let l : length (elements_of x ++ all_elements xs) ≡ length (elements_of x) + length (all_elements xs) = length-append (elements_of x) (all_elements xs) in
-             let h : from + length (elements_of x) + length (all_elements xs) ≡ from + length (elements_of x ++ all_elements xs) = omega arith in h))
+    (ends_append (from + length (elements_of x)) xs ys
+    ∙ ap (λ z. ends (from + length (elements_of x)) xs ++ ends z ys)
+    (let l : length (elements_of x ++ all_elements xs) ≡ length (elements_of x) + length (all_elements xs) = length-append (elements_of x) (all_elements xs) in
+    let h : from + length (elements_of x) + length (all_elements xs) ≡ from + length (elements_of x ++ all_elements xs) = omega arith in h))
 
 pub offset_values : (ns : List ℕ) → all_there (map offset_of (map value (map offset_cell ns))) ≡ Some ns
 offset_values [] = refl
@@ -195,7 +196,7 @@ offsets_ok count from [] h = le_test from count (omega arith)
 offsets_ok count from (c ∷ cs) h =
     let l : length (elements_of c ++ all_elements cs) ≡ length (elements_of c) + length (all_elements cs) = length-append (elements_of c) (all_elements cs) in
     both_true (nat_le from (from + length (elements_of c))) (are_offsets count ((from + length (elements_of c)) ∷ ends (from + length (elements_of c)) cs))
-        (le_test from (from + length (elements_of c)) (omega arith)) (offsets_ok count (from + length (elements_of c)) cs (omega arith))
+    (le_test from (from + length (elements_of c)) (omega arith)) (offsets_ok count (from + length (elements_of c)) cs (omega arith))
 
 -- cells of lists
 abbrev pub AreLists : Ty → Bool → List Tree → Type 0
@@ -231,18 +232,20 @@ spans_are : (t : Ty) (n : Bool) (before : List Val) (from : ℕ) (cs : List Tree
 spans_are t n before from [] h e = refl
 spans_are t n before from (c ∷ cs) h e =
     ap₂ (λ x y. x ∷ y)
-        (ap (λ z. list_value (vals_of z)) span ∙ span_one t n c (left_true (fits (list t n) c) _ h))
-        (ap (λ z. spans z ((from + length (elements_of c)) ∷ ends (from + length (elements_of c)) cs)) moved
-        ∙ spans_are t n (before ++ map value (elements_of c)) (from + length (elements_of c)) cs (right_true (fits (list t n) c) _ h) count)
+    (ap (λ z. list_value (vals_of z)) span ∙ span_one t n c (left_true (fits (list t n) c) _ h))
+    (ap (λ z. spans z ((from + length (elements_of c)) ∷ ends (from + length (elements_of c)) cs)) moved
+    ∙ spans_are t n (before ++ map value (elements_of c)) (from + length (elements_of c)) cs (right_true (fits (list t n) c) _ h) count)
   where
     moved : before ++ map value (elements_of c ++ all_elements cs) ≡ (before ++ map value (elements_of c)) ++ map value (all_elements cs)
     moved = ap (λ z. before ++ z) (map-append value (elements_of c) (all_elements cs)) ∙ sym (append_assoc before (map value (elements_of c)) (map value (all_elements cs)))
+
     count : length (before ++ map value (elements_of c)) ≡ from + length (elements_of c)
     count = length-append before (map value (elements_of c)) ∙ ap₂ (λ x y. x + y) e (length-map (elements_of c) value)
+
     span : take (from + length (elements_of c) - from) (drop from (before ++ map value (elements_of c ++ all_elements cs))) ≡ map value (elements_of c)
     span =
         ap₂ (λ x y. take x y) (let k : from + length (elements_of c) - from ≡ length (elements_of c) = omega arith in k)
-            (drop_front before (map value (elements_of c ++ all_elements cs)) from e ∙ map-append value (elements_of c) (all_elements cs))
+        (drop_front before (map value (elements_of c ++ all_elements cs)) from e ∙ map-append value (elements_of c) (all_elements cs))
         ∙ take_front (map value (elements_of c)) (map value (all_elements cs)) (length (elements_of c)) (length-map (elements_of c) value)
 
 -- the rows of lists, unmasked, from all elements and all offsets
@@ -251,7 +254,7 @@ pub lists_are : (t : Ty) (n : Bool) (cs : List Tree) → AreLists t n cs
 lists_are t n cs h =
     ap (and_then (spans_between (map value (all_elements cs)))) (offset_values (0 ∷ ends 0 cs))
     ∙ ap (λ b. if b then Some (spans (map value (all_elements cs)) (0 ∷ ends 0 cs)) else None)
-        (offsets_ok (length (map value (all_elements cs))) 0 cs (let l : length (map value (all_elements cs)) ≡ length (all_elements cs) = length-map (all_elements cs) value in omega arith))
+    (offsets_ok (length (map value (all_elements cs))) 0 cs (let l : length (map value (all_elements cs)) ≡ length (all_elements cs) = length-map (all_elements cs) value in omega arith))
     ∙ ap Some (spans_are t n [] 0 cs h refl)
 
 -- ---- lists: the streams
@@ -268,6 +271,7 @@ elements_fine t n (c ∷ cs) h r =
     real_items : (cs : Trees) → are_real_cells cs ≡ true → all_by is_real_cell (items cs) ≡ true
     real_items no_cells e = refl
     real_items (cell d ds) e = both_true (is_real_cell d) (all_by is_real_cell (items ds)) (left_true (is_real_cell d) _ e) (real_items ds (right_true (is_real_cell d) _ e))
+
     one : (c : Tree) → fits (list t n) c ≡ true → is_real_cell c ≡ true → (all_by (fits t) (elements_of c) ≡ true) × (all_by is_real_cell (elements_of c) ≡ true)
     one (list_cell v ds) e f = (right_true (flag_fits v n) _ e, real_items ds (left_true (are_real_cells ds) _ f))
     one (struct_cell v ds) e f = absurd (true≢false (sym e))
@@ -286,7 +290,7 @@ ends_fit from [] h = refl
 ends_fit from (c ∷ cs) h =
     let l : length (elements_of c ++ all_elements cs) ≡ length (elements_of c) + length (all_elements cs) = length-append (elements_of c) (all_elements cs) in
     both_true (fits offset_type (offset_cell (from + length (elements_of c)))) (all_by (fits offset_type) (map offset_cell (ends (from + length (elements_of c)) cs)))
-        (u64_fits (from + length (elements_of c)) (omega arith)) (ends_fit (from + length (elements_of c)) cs (omega arith))
+    (u64_fits (from + length (elements_of c)) (omega arith)) (ends_fit (from + length (elements_of c)) cs (omega arith))
 
 offsets_real : (ns : List ℕ) → all_by is_real_cell (map offset_cell ns) ≡ true
 offsets_real [] = refl
@@ -305,9 +309,10 @@ elements_piece t n p o lt =
 
 entries_fit : (first : Bool) (from : ℕ) (cs : List Tree) → from + length (all_elements cs) < 2 ^ 64
     → (all_by (fits offset_type) (map offset_cell (offset_entries first from cs)) ≡ true) × (length (offset_entries first from cs) ≤ suc (length cs))
-entries_fit true from cs h =
-    (both_true (fits offset_type (offset_cell from)) (all_by (fits offset_type) (map offset_cell (ends from cs))) (u64_fits from (omega arith)) (ends_fit from cs h),
-     (let l : length (ends from cs) ≡ length cs = length-ends from cs in omega arith))
+entries_fit true from cs h = (
+  both_true (fits offset_type (offset_cell from)) (all_by (fits offset_type) (map offset_cell (ends from cs))) (u64_fits from (omega arith)) (ends_fit from cs h),
+  (let l : length (ends from cs) ≡ length cs = length-ends from cs in omega arith),
+)
 entries_fit false from cs h = (ends_fit from cs h, (let l : length (ends from cs) ≡ length cs = length-ends from cs in omega arith))
 
 pub offsets_piece : (first : Bool) (from : ℕ) (cs : List Tree) → from + length (all_elements cs) < 2 ^ 64 → suc (length cs) < 2 ^ 64
@@ -325,9 +330,9 @@ module _ (t : Ty) (n : Bool) where
   elements_stream first from [] h lt = (tt, refl)
   elements_stream first from (c ∷ cs) h lt =
       let e : length (all_elements (cells c.1 ++ stream_cells cs)) ≡ length (all_elements (cells c.1)) + length (all_elements (stream_cells cs)) =
-          ap length (elements_append (cells c.1) (stream_cells cs)) ∙ length-append (all_elements (cells c.1)) (all_elements (stream_cells cs)) in
+      ap length (elements_append (cells c.1) (stream_cells cs)) ∙ length-append (all_elements (cells c.1)) (all_elements (stream_cells cs)) in
       let r : Chunks t (column 0 (list_splits t n false (from + length (all_elements (cells c.1))) cs)) × (stream_cells (column 0 (list_splits t n false (from + length (all_elements (cells c.1))) cs)) ≡ all_elements (stream_cells cs)) =
-          elements_stream false (from + length (all_elements (cells c.1))) cs h.1 (omega arith) in
+      elements_stream false (from + length (all_elements (cells c.1))) cs h.1 (omega arith) in
       ((elements_piece t n c.1 h.0 (omega arith), r.0), ap (λ z. all_elements (cells c.1) ++ z) r.1 ∙ sym (elements_append (cells c.1) (stream_cells cs)))
 
   -- the stream of the offsets behind the first chunk
@@ -336,37 +341,40 @@ module _ (t : Ty) (n : Bool) where
   offsets_behind from [] lt many = (tt, refl)
   offsets_behind from (c ∷ cs) lt many =
       let e : length (all_elements (cells c.1 ++ stream_cells cs)) ≡ length (all_elements (cells c.1)) + length (all_elements (stream_cells cs)) =
-          ap length (elements_append (cells c.1) (stream_cells cs)) ∙ length-append (all_elements (cells c.1)) (all_elements (stream_cells cs)) in
+      ap length (elements_append (cells c.1) (stream_cells cs)) ∙ length-append (all_elements (cells c.1)) (all_elements (stream_cells cs)) in
       let l : length (cells c.1 ++ stream_cells cs) ≡ length (cells c.1) + length (stream_cells cs) = length-append (cells c.1) (stream_cells cs) in
       let r : Chunks offset_type (column 1 (other_columns (list_splits t n false (from + length (all_elements (cells c.1))) cs)))
-              × (stream_cells (column 1 (other_columns (list_splits t n false (from + length (all_elements (cells c.1))) cs))) ≡ map offset_cell (ends (from + length (all_elements (cells c.1))) (stream_cells cs))) =
-          offsets_behind (from + length (all_elements (cells c.1))) cs (omega arith) (omega arith) in
-      ((offsets_piece false from (cells c.1) (omega arith) (omega arith), r.0),
-       ap (λ z. map offset_cell (ends from (cells c.1)) ++ z) r.1
-       ∙ sym (ap (map offset_cell) (ends_append from (cells c.1) (stream_cells cs)) ∙ map-append offset_cell (ends from (cells c.1)) (ends (from + length (all_elements (cells c.1))) (stream_cells cs))))
+      × (stream_cells (column 1 (other_columns (list_splits t n false (from + length (all_elements (cells c.1))) cs))) ≡ map offset_cell (ends (from + length (all_elements (cells c.1))) (stream_cells cs))) =
+      offsets_behind (from + length (all_elements (cells c.1))) cs (omega arith) (omega arith) in (
+        (offsets_piece false from (cells c.1) (omega arith) (omega arith), r.0),
+        ap (λ z. map offset_cell (ends from (cells c.1)) ++ z) r.1
+            ∙ sym (ap (map offset_cell) (ends_append from (cells c.1) (stream_cells cs)) ∙ map-append offset_cell (ends from (cells c.1)) (ends (from + length (all_elements (cells c.1))) (stream_cells cs))),
+      )
 
   pub offsets_stream : (c : Chunk) (cs : List Chunk) → length (all_elements (stream_cells (c ∷ cs))) < 2 ^ 64 → suc (length (stream_cells (c ∷ cs))) < 2 ^ 64
       → Chunks offset_type (column 1 (other_columns (list_splits t n true 0 (c ∷ cs)))) × (stream_cells (column 1 (other_columns (list_splits t n true 0 (c ∷ cs)))) ≡ map offset_cell (0 ∷ ends 0 (stream_cells (c ∷ cs))))
   offsets_stream c cs lt many =
       let e : length (all_elements (cells c.1 ++ stream_cells cs)) ≡ length (all_elements (cells c.1)) + length (all_elements (stream_cells cs)) =
-          ap length (elements_append (cells c.1) (stream_cells cs)) ∙ length-append (all_elements (cells c.1)) (all_elements (stream_cells cs)) in
+      ap length (elements_append (cells c.1) (stream_cells cs)) ∙ length-append (all_elements (cells c.1)) (all_elements (stream_cells cs)) in
       let l : length (cells c.1 ++ stream_cells cs) ≡ length (cells c.1) + length (stream_cells cs) = length-append (cells c.1) (stream_cells cs) in
       let r : Chunks offset_type (column 1 (other_columns (list_splits t n false (0 + length (all_elements (cells c.1))) cs)))
-              × (stream_cells (column 1 (other_columns (list_splits t n false (0 + length (all_elements (cells c.1))) cs))) ≡ map offset_cell (ends (0 + length (all_elements (cells c.1))) (stream_cells cs))) =
-          offsets_behind (0 + length (all_elements (cells c.1))) cs (omega arith) (omega arith) in
-      ((offsets_piece true 0 (cells c.1) (omega arith) (omega arith), r.0),
-       ap (λ z. map offset_cell (0 ∷ ends 0 (cells c.1)) ++ z) r.1
-       ∙ ap (λ z. offset_cell 0 ∷ z) (sym (ap (map offset_cell) (ends_append 0 (cells c.1) (stream_cells cs)) ∙ map-append offset_cell (ends 0 (cells c.1)) (ends (0 + length (all_elements (cells c.1))) (stream_cells cs)))))
+      × (stream_cells (column 1 (other_columns (list_splits t n false (0 + length (all_elements (cells c.1))) cs))) ≡ map offset_cell (ends (0 + length (all_elements (cells c.1))) (stream_cells cs))) =
+      offsets_behind (0 + length (all_elements (cells c.1))) cs (omega arith) (omega arith) in (
+        (offsets_piece true 0 (cells c.1) (omega arith) (omega arith), r.0),
+        ap (λ z. map offset_cell (0 ∷ ends 0 (cells c.1)) ++ z) r.1
+            ∙ ap (λ z. offset_cell 0 ∷ z) (sym (ap (map offset_cell) (ends_append 0 (cells c.1) (stream_cells cs)) ∙ map-append offset_cell (ends 0 (cells c.1)) (ends (0 + length (all_elements (cells c.1))) (stream_cells cs)))),
+      )
 
 -- the stream of the flags
 pub list_validity_stream : (t : Ty) (first : Bool) (from : ℕ) (cs : List Chunk) → Chunks (list t true) cs
     → Chunks (boolean false) (column 2 (other_columns (other_columns (list_splits t true first from cs))))
-        × (stream_cells (column 2 (other_columns (other_columns (list_splits t true first from cs)))) ≡ map bool_cell (map flag_of (stream_cells cs)))
+    × (stream_cells (column 2 (other_columns (other_columns (list_splits t true first from cs)))) ≡ map bool_cell (map flag_of (stream_cells cs)))
 list_validity_stream t first from [] h = (tt, refl)
 list_validity_stream t first from (c ∷ cs) h =
     let r : Chunks (boolean false) (column 2 (other_columns (other_columns (list_splits t true false (from + length (all_elements (cells c.1))) cs))))
-            × (stream_cells (column 2 (other_columns (other_columns (list_splits t true false (from + length (all_elements (cells c.1))) cs)))) ≡ map bool_cell (map flag_of (stream_cells cs))) =
-        list_validity_stream t false (from + length (all_elements (cells c.1))) cs h.1 in
-    ((validity_of c.1 (cells_fine (list t true) c.1 h.0).short, r.0),
-     ap (λ z. map bool_cell (map flag_of (cells c.1)) ++ z) r.1
-     ∙ sym (ap (map bool_cell) (map-append flag_of (cells c.1) (stream_cells cs)) ∙ map-append bool_cell (map flag_of (cells c.1)) (map flag_of (stream_cells cs))))
+    × (stream_cells (column 2 (other_columns (other_columns (list_splits t true false (from + length (all_elements (cells c.1))) cs)))) ≡ map bool_cell (map flag_of (stream_cells cs))) =
+    list_validity_stream t false (from + length (all_elements (cells c.1))) cs h.1 in (
+      (validity_of c.1 (cells_fine (list t true) c.1 h.0).short, r.0),
+      ap (λ z. map bool_cell (map flag_of (cells c.1)) ++ z) r.1
+          ∙ sym (ap (map bool_cell) (map-append flag_of (cells c.1) (stream_cells cs)) ∙ map-append bool_cell (map flag_of (cells c.1)) (map flag_of (stream_cells cs))),
+    )

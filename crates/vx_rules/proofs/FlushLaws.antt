@@ -56,7 +56,7 @@ flushes_regroup size t = record {
   all = λ ps c. sym (with_cells ps c);
   leave = λ ps c g o lt. pieces_left t ((flushes size).leaves ps c) ((flushes size).holds ps c) (flush_pieces size t ps c g o);
   stay = λ ps c g o. pieces_right t ((flushes size).leaves ps c) ((flushes size).holds ps c) (flush_pieces size t ps c g o);
-  close = λ ps c g o lt. pieces_append t ps (c ∷ []) g (o, tt)
+  close = λ ps c g o lt. pieces_append t ps (c ∷ []) g (o, tt);
 }
 
 held_at_most : (size : ℕ) (ps : List Piece) → total_by held (still_held size ps) ≤ size
@@ -68,6 +68,7 @@ held_at_most size (p ∷ ps) = ⊎_elim
   where
     le_of : (a b : ℕ) → nat_le a b ≡ true → a ≤ b
     le_of a b h = grind (arith, nat_tests)
+
     ap_le : {a b : ℕ} → a ≡ b → a ≤ size → b ≤ size
     ap_le e h = rw (← e) h
 
@@ -75,10 +76,10 @@ held_at_most size (p ∷ ps) = ⊎_elim
 pub holds_less : (size : ℕ) (ps : List Piece) (c : Piece) → 0 < size → size < 2 ^ 64 - 1 → total_by held ((flushes size).holds ps c) < twice size
 holds_less size ps c pos below = ⊎_elim
     (λ (t : is_full size (ps ++ (c ∷ [])) ≡ true).
-        let h : total_by held (still_held size (ps ++ (c ∷ []))) ≤ size = held_at_most size (ps ++ (c ∷ [])) in
-        subst (λ b. total_by held (if b then still_held size (ps ++ (c ∷ [])) else ps ++ (c ∷ [])) < twice size) (sym t) (omega arith))
+    let h : total_by held (still_held size (ps ++ (c ∷ []))) ≤ size = held_at_most size (ps ++ (c ∷ [])) in
+    subst (λ b. total_by held (if b then still_held size (ps ++ (c ∷ [])) else ps ++ (c ∷ [])) < twice size) (sym t) (omega arith))
     (λ (f : is_full size (ps ++ (c ∷ [])) ≡ false).
-        subst (λ b. total_by held (if b then still_held size (ps ++ (c ∷ [])) else ps ++ (c ∷ [])) < twice size) (sym f) (lt_of (twice size) (total_by held (ps ++ (c ∷ []))) f))
+    subst (λ b. total_by held (if b then still_held size (ps ++ (c ∷ [])) else ps ++ (c ∷ [])) < twice size) (sym f) (lt_of (twice size) (total_by held (ps ++ (c ∷ []))) f))
     (cases_Bool (is_full size (ps ++ (c ∷ []))))
   where
     lt_of : (a b : ℕ) → nat_le a b ≡ false → b < a
@@ -119,14 +120,14 @@ parts_append : (t : Ty) (ps qs : List Piece) → Parts t ps → Parts t qs → P
 parts_append t [] qs g h = h
 parts_append t (p ∷ ps) qs g h =
     let r : Parts t (ps ++ qs) = parts_append t ps qs (record {
-          sound = right_true (is_sound p) (are_sound (pieces_of ps)) g.sound;
-          real = right_true (is_real p) (are_real (pieces_of ps)) g.real;
-          parts = right_true (ty_eq (piece_type p) t && not (is_chunked p)) (are_parts t ps) g.parts
-        }) h in
+      sound = right_true (is_sound p) (are_sound (pieces_of ps)) g.sound;
+      real = right_true (is_real p) (are_real (pieces_of ps)) g.real;
+      parts = right_true (ty_eq (piece_type p) t && not (is_chunked p)) (are_parts t ps) g.parts;
+    }) h in
     record {
       sound = both_true (is_sound p) (are_sound (pieces_of (ps ++ qs))) (left_true (is_sound p) (are_sound (pieces_of ps)) g.sound) r.sound;
       real = both_true (is_real p) (are_real (pieces_of (ps ++ qs))) (left_true (is_real p) (are_real (pieces_of ps)) g.real) r.real;
-      parts = both_true (ty_eq (piece_type p) t && not (is_chunked p)) (are_parts t (ps ++ qs)) (left_true (ty_eq (piece_type p) t && not (is_chunked p)) (are_parts t ps) g.parts) r.parts
+      parts = both_true (ty_eq (piece_type p) t && not (is_chunked p)) (are_parts t (ps ++ qs)) (left_true (ty_eq (piece_type p) t && not (is_chunked p)) (are_parts t ps) g.parts) r.parts;
     }
 
 pieces_of_in : (ps : Pieces) → pieces_of (pieces_in ps) ≡ ps
@@ -138,7 +139,7 @@ one_part t p o n = record {
   sound = both_true (is_sound p) true o.whole.sound refl;
   real = both_true (is_real p) true o.whole.real refl;
   parts = both_true (ty_eq (piece_type p) t && not (is_chunked p)) true
-      (both_true (ty_eq (piece_type p) t) (not (is_chunked p)) ((ty_eq_decides (piece_type p) t).1 o.typed) (ap not n)) refl
+      (both_true (ty_eq (piece_type p) t) (not (is_chunked p)) ((ty_eq_decides (piece_type p) t).1 o.typed) (ap not n)) refl;
 }
 
 parts_are : (t : Ty) (p : Piece) → Of t p → Parts t (parts_of p)
@@ -150,7 +151,7 @@ parts_are t (chunked_piece u ps) o =
     record {
       sound = ap are_sound (pieces_of_in ps) ∙ left_true (are_sound ps) _ s;
       real = ap are_real (pieces_of_in ps) ∙ o.whole.real;
-      parts = subst (λ v. are_parts v (pieces_in ps) ≡ true) o.typed (left_true (are_parts u (pieces_in ps)) _ (right_true (are_sound ps) _ s))
+      parts = subst (λ v. are_parts v (pieces_in ps) ≡ true) o.typed (left_true (are_parts u (pieces_in ps)) _ (right_true (are_sound ps) _ s));
     }
 parts_are t (list_piece u e offsets valid) o = one_part t (list_piece u e offsets valid) o refl
 parts_are t (struct_piece u ps valid n) o = one_part t (struct_piece u ps valid n) o refl
@@ -172,9 +173,9 @@ concatenated_of t ps h lt =
       whole = record {
         sound = both_true (are_sound (pieces_of (all_parts ps))) _ a.sound
             (both_true (are_parts t (pieces_in (pieces_of (all_parts ps)))) _ (ap (are_parts t) (pieces_in_of (all_parts ps)) ∙ a.parts)
-                (ap (λ z. nat_lt (length z) (2 ^ 64)) (concatenated_cells t ps) ∙ below_test (length (piece_cells ps)) lt));
-        real = a.real
-      }
+            (ap (λ z. nat_lt (length z) (2 ^ 64)) (concatenated_cells t ps) ∙ below_test (length (piece_cells ps)) lt));
+        real = a.real;
+      };
     }
 
 chunk_pieces_of : (t : Ty) (cs : List Chunk) → Chunks t cs → PiecesOf t (chunk_pieces cs)
@@ -191,8 +192,11 @@ collected_rows t (c ∷ cs) = append-nil _ ∙ concatenated_cells t (chunk_piece
 
 pub collected_of : (t : Ty) (cs : List Chunk) → Chunks t cs → length (stream_cells cs) < 2 ^ 64 → Chunks t (collected t cs true)
 collected_of t [] h lt = tt
-collected_of t (c ∷ cs) h lt = (concatenated_of t (chunk_pieces (c ∷ cs)) (chunk_pieces_of t (c ∷ cs) h)
-    (let e : length (piece_cells (chunk_pieces (c ∷ cs))) ≡ length (stream_cells (c ∷ cs)) = ap length (chunk_pieces_cells (c ∷ cs)) in omega arith), tt)
+collected_of t (c ∷ cs) h lt = (
+  concatenated_of t (chunk_pieces (c ∷ cs)) (chunk_pieces_of t (c ∷ cs) h)
+      (let e : length (piece_cells (chunk_pieces (c ∷ cs))) ≡ length (stream_cells (c ∷ cs)) = ap length (chunk_pieces_cells (c ∷ cs)) in omega arith),
+  tt,
+)
 
 last_in : (p : List ℕ) (cs : List Chunk) → In (last_path p cs) (p ∷ chunk_paths cs)
 last_in p [] = inl refl
@@ -203,7 +207,7 @@ collected_onto t [] ended = onto_none []
 collected_onto t (c ∷ cs) false = onto_none (chunk_paths (c ∷ cs))
 collected_onto t (c ∷ cs) true = record {
   scattered = λ s. (λ q h. absurd h, tt);
-  from = λ p h. ⊎_elim (λ e. (last_path c.0 cs, last_in c.0 cs, subst (λ z. begins (last_path c.0 cs) z ≡ true) (sym e) (begins-refl (last_path c.0 cs)))) (λ n. absurd n) h
+  from = λ p h. ⊎_elim (λ e. (last_path c.0 cs, last_in c.0 cs, subst (λ z. begins (last_path c.0 cs) z ≡ true) (sym e) (begins-refl (last_path c.0 cs)))) (λ n. absurd n) h;
 }
 
 pub collected_open : (t : Ty) (cs : List Chunk) → collected t cs false ≡ []

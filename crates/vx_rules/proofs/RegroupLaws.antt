@@ -80,8 +80,8 @@ module _ (S : Type 0) (t : Ty) (r : Rule S) (within : S → List Tree) (good : S
       let k : length (piece_cells (r.leaves s c.1) ++ within (r.holds s c.1)) ≡ length (piece_cells (r.leaves s c.1)) + length (within (r.holds s c.1)) = length-append (piece_cells (r.leaves s c.1)) (within (r.holds s c.1)) in
       let e : length (within s ++ cells c.1) ≡ length (piece_cells (r.leaves s c.1) ++ within (r.holds s c.1)) = ap length (g.keeps s c.1) in
       chunks_append t (ranked c.0 0 (r.leaves s c.1)) (regrouped r (r.holds s c.1) (d ∷ cs) true)
-          (ranked_of t c.0 0 (r.leaves s c.1) (g.leave s c.1 ok of.0 (omega arith)))
-          (of_from (r.holds s c.1) (d ∷ cs) (g.stay s c.1 ok of.0) of.1 (omega arith))
+      (ranked_of t c.0 0 (r.leaves s c.1) (g.leave s c.1 ok of.0 (omega arith)))
+      (of_from (r.holds s c.1) (d ∷ cs) (g.stay s c.1 ok of.0) of.1 (omega arith))
 
   -- whole chunks of the type stay so, where the rows are fewer than 2^64
   pub regrouped_of : (cs : List Chunk) → Chunks t cs → length (stream_cells cs) < 2 ^ 64 → Chunks t (regrouped r r.start cs true)
@@ -112,11 +112,12 @@ ranked_path p r (c ∷ cs) x h = ⊎_elim (λ e. (r, omega arith, e))
 
 ranked_scattered : (p : List ℕ) (r : ℕ) (cs : List Piece) → Scattered (chunk_paths (ranked p r cs))
 ranked_scattered p r [] = tt
-ranked_scattered p r (c ∷ cs) =
-    (λ q h. let w : (k : ℕ) × (suc r ≤ k) × (q ≡ under p k) = ranked_path p (suc r) cs q h in
-        let l : suc r ≤ w.0 = w.1 in
-        subst (λ z. meets (under p r) z ≡ false) (sym w.2) (under_apart p r w.0 (omega arith)),
-     ranked_scattered p (suc r) cs)
+ranked_scattered p r (c ∷ cs) = (
+  λ q h. let w : (k : ℕ) × (suc r ≤ k) × (q ≡ under p k) = ranked_path p (suc r) cs q h in
+      let l : suc r ≤ w.0 = w.1 in
+      subst (λ z. meets (under p r) z ≡ false) (sym w.2) (under_apart p r w.0 (omega arith)),
+  ranked_scattered p (suc r) cs,
+)
 
 ranked_begins : (p : List ℕ) (r : ℕ) (cs : List Piece) (x : List ℕ) → In x (chunk_paths (ranked p r cs)) → begins p x ≡ true
 ranked_begins p r cs x h =
@@ -136,9 +137,9 @@ onto_more : (p : List ℕ) (r : ℕ) (cs : List Piece) (ps qs : List (List ℕ))
 onto_more p r cs ps qs o = record {
   scattered = λ s. scattered_both (chunk_paths (ranked p r cs)) ps (ranked_scattered p r cs) (o.scattered s.1)
       (λ a b i j. let w : (q : List ℕ) × In q qs × (begins q b ≡ true) = o.from b j in
-          apart_both p w.0 a b (s.0 w.0 w.1) (ranked_begins p r cs a i) w.2);
+      apart_both p w.0 a b (s.0 w.0 w.1) (ranked_begins p r cs a i) w.2);
   from = λ x h. ⊎_elim (λ i. (p, inl refl, ranked_begins p r cs x i))
-      (λ j. let w : (q : List ℕ) × In q qs × (begins q x ≡ true) = o.from x j in (w.0, inr w.1, w.2)) (in_cases x (chunk_paths (ranked p r cs)) ps h)
+      (λ j. let w : (q : List ℕ) × In q qs × (begins q x ≡ true) = o.from x j in (w.0, inr w.1, w.2)) (in_cases x (chunk_paths (ranked p r cs)) ps h);
 }
 
 pub onto_none : (qs : List (List ℕ)) → Onto [] qs
@@ -151,4 +152,4 @@ regrouped_onto r s (c ∷ []) true =
 regrouped_onto r s (c ∷ []) false = onto_none (c.0 ∷ [])
 regrouped_onto r s (c ∷ d ∷ cs) ended =
     subst (λ z. Onto z (chunk_paths (c ∷ d ∷ cs))) (sym (chunk_paths-append (ranked c.0 0 (r.leaves s c.1)) (regrouped r (r.holds s c.1) (d ∷ cs) ended)))
-        (onto_more c.0 0 (r.leaves s c.1) (chunk_paths (regrouped r (r.holds s c.1) (d ∷ cs) ended)) (chunk_paths (d ∷ cs)) (regrouped_onto r (r.holds s c.1) (d ∷ cs) ended))
+    (onto_more c.0 0 (r.leaves s c.1) (chunk_paths (regrouped r (r.holds s c.1) (d ∷ cs) ended)) (chunk_paths (d ∷ cs)) (regrouped_onto r (r.holds s c.1) (d ∷ cs) ended))

@@ -30,7 +30,7 @@ pub regrouping_keeps_rows : RegroupingKeepsRows
 regrouping_keeps_rows t items = record {
   by_blocks = λ o. regrouped_rows (List Tree) t (blocks o t) (λ rows. rows) (Rows t) (blocks_regroup o t) items;
   by_bytes = λ size. regrouped_rows (List Piece) t (flushes size) piece_cells (PiecesOf t) (flushes_regroup size t) items;
-  into_one = collected_rows t items
+  into_one = collected_rows t items;
 }
 
 -- ---- blocks
@@ -64,21 +64,23 @@ sizes_are : (len minimum : ℕ) (t : Ty) (c : ℕ) (rows : List Tree) (ps : List
 sizes_are len minimum t c rows [] h w = tt
 sizes_are len minimum t c rows (p ∷ ps) h w = ⊎_elim
     (λ (y : is_cut len minimum t rows (p - c) ≡ true).
-        subst (λ b. Multiples len rows (if b then cut else kept)) (sym y) (
-          (some_blocks len (p - c) h (le_of len (p - c) (left_true (nat_le len (p - c)) _ y))).0,
-          (some_blocks len (p - c) h (le_of len (p - c) (left_true (nat_le len (p - c)) _ y))).1,
-          (let a : cut_rows len (p - c) ≤ p - c = mul-div-le (p - c) len in let b : p ≤ c + length rows = w.0 in omega arith),
-          sizes_are len minimum t (c + cut_rows len (p - c)) (drop (cut_rows len (p - c)) rows) ps h
-              (moved (let a : cut_rows len (p - c) ≤ p - c = mul-div-le (p - c) len in let b : p ≤ c + length rows = w.0 in let l : length (drop (cut_rows len (p - c)) rows) ≡ length rows - cut_rows len (p - c) = length-drop (cut_rows len (p - c)) rows in
-                  let e : c + length rows ≡ c + cut_rows len (p - c) + length (drop (cut_rows len (p - c)) rows) = omega arith in e) w.1),
-        ))
+    subst (λ b. Multiples len rows (if b then cut else kept)) (sym y) (
+      (some_blocks len (p - c) h (le_of len (p - c) (left_true (nat_le len (p - c)) _ y))).0,
+      (some_blocks len (p - c) h (le_of len (p - c) (left_true (nat_le len (p - c)) _ y))).1,
+      (let a : cut_rows len (p - c) ≤ p - c = mul-div-le (p - c) len in let b : p ≤ c + length rows = w.0 in omega arith),
+      sizes_are len minimum t (c + cut_rows len (p - c)) (drop (cut_rows len (p - c)) rows) ps h
+          (moved (let a : cut_rows len (p - c) ≤ p - c = mul-div-le (p - c) len in let b : p ≤ c + length rows = w.0 in let l : length (drop (cut_rows len (p - c)) rows) ≡ length rows - cut_rows len (p - c) = length-drop (cut_rows len (p - c)) rows in
+          let e : c + length rows ≡ c + cut_rows len (p - c) + length (drop (cut_rows len (p - c)) rows) = omega arith in e) w.1),
+    ))
     (λ (n : is_cut len minimum t rows (p - c) ≡ false). subst (λ b. Multiples len rows (if b then cut else kept)) (sym n) (sizes_are len minimum t c rows ps h w.1))
     (cases_Bool (is_cut len minimum t rows (p - c)))
   where
     cut : List ℕ
     cut = cut_rows len (p - c) ∷ block_sizes len minimum t (c + cut_rows len (p - c)) (drop (cut_rows len (p - c)) rows) ps
+
     kept : List ℕ
     kept = block_sizes len minimum t c rows ps
+
     moved : {m k : ℕ} → m ≡ k → WithinRows m ps → WithinRows k ps
     moved e x = subst (λ z. WithinRows z ps) e x
 
@@ -98,7 +100,7 @@ within_append total (p ∷ ps) qs g h = (g.0, within_append total ps qs g.1 h)
 points_within : (len a n : ℕ) → WithinRows (a + n) (check_points len a n)
 points_within len a n =
     within_append (a + n) (steps a len ((n - 1) / len)) ((a + n) ∷ [])
-        (steps_within len a ((n - 1) / len) (a + n) (let k : len * ((n - 1) / len) ≤ n - 1 = mul-div-le (n - 1) len in omega arith)) (omega arith, tt)
+    (steps_within len a ((n - 1) / len) (a + n) (let k : len * ((n - 1) / len) ≤ n - 1 = mul-div-le (n - 1) len in omega arith)) (omega arith, tt)
 
 AllMultiples : ℕ → List Chunk → Type 0
 AllMultiples len [] = Unit {0}
@@ -129,21 +131,21 @@ module _ (o : BlockOptions) (t : Ty) (positive : 0 < o.multiple) where
   at_sizes : (rows : List Tree) (c : Piece) → Multiples (block_len o t) (rows ++ cells c) (sizes_at o t rows c)
   at_sizes rows c =
       sizes_are (block_len o t) o.minimum t 0 (rows ++ cells c) (check_points (block_len o t) (length rows) (length (cells c))) (len_positive o t positive)
-          (subst (λ z. WithinRows z (check_points (block_len o t) (length rows) (length (cells c)))) (sym (length-append rows (cells c)) ∙ (let h : length (rows ++ cells c) ≡ 0 + length (rows ++ cells c) = omega arith in h))
-              (points_within (block_len o t) (length rows) (length (cells c))))
+      (subst (λ z. WithinRows z (check_points (block_len o t) (length rows) (length (cells c)))) (sym (length-append rows (cells c)) ∙ (let h : length (rows ++ cells c) ≡ 0 + length (rows ++ cells c) = omega arith in h))
+      (points_within (block_len o t) (length rows) (length (cells c))))
 
   multiples_from : (rows : List Tree) (items : List Chunk) (ended : Bool) → AllButLast (IsMultiple (block_len o t)) (regrouped (blocks o t) rows items ended)
   multiples_from rows [] ended = tt
   multiples_from rows (c ∷ []) false = tt
   multiples_from rows (c ∷ []) true =
       subst (AllButLast (IsMultiple (block_len o t))) (sym (ranked_append c.0 0 (cut_off t (rows ++ cells c.1) (sizes_at o t rows c.1)) (last_block t (left_over (rows ++ cells c.1) (sizes_at o t rows c.1)))))
-          (but_last (block_len o t) (ranked c.0 0 (cut_off t (rows ++ cells c.1) (sizes_at o t rows c.1))) (ranked c.0 (0 + length (cut_off t (rows ++ cells c.1) (sizes_at o t rows c.1))) (last_block t (left_over (rows ++ cells c.1) (sizes_at o t rows c.1))))
-              (pieces_are (block_len o t) t c.0 0 (rows ++ cells c.1) (sizes_at o t rows c.1) (at_sizes rows c.1))
-              (last_alone (block_len o t) t c.0 (0 + length (cut_off t (rows ++ cells c.1) (sizes_at o t rows c.1))) (left_over (rows ++ cells c.1) (sizes_at o t rows c.1))))
+      (but_last (block_len o t) (ranked c.0 0 (cut_off t (rows ++ cells c.1) (sizes_at o t rows c.1))) (ranked c.0 (0 + length (cut_off t (rows ++ cells c.1) (sizes_at o t rows c.1))) (last_block t (left_over (rows ++ cells c.1) (sizes_at o t rows c.1))))
+      (pieces_are (block_len o t) t c.0 0 (rows ++ cells c.1) (sizes_at o t rows c.1) (at_sizes rows c.1))
+      (last_alone (block_len o t) t c.0 (0 + length (cut_off t (rows ++ cells c.1) (sizes_at o t rows c.1))) (left_over (rows ++ cells c.1) (sizes_at o t rows c.1))))
   multiples_from rows (c ∷ d ∷ cs) ended =
       but_last (block_len o t) (ranked c.0 0 ((blocks o t).leaves rows c.1)) (regrouped (blocks o t) ((blocks o t).holds rows c.1) (d ∷ cs) ended)
-          (pieces_are (block_len o t) t c.0 0 (rows ++ cells c.1) (sizes_at o t rows c.1) (at_sizes rows c.1))
-          (multiples_from ((blocks o t).holds rows c.1) (d ∷ cs) ended)
+      (pieces_are (block_len o t) t c.0 0 (rows ++ cells c.1) (sizes_at o t rows c.1) (at_sizes rows c.1))
+      (multiples_from ((blocks o t).holds rows c.1) (d ∷ cs) ended)
 
 pub blocks_are_multiples : BlocksAreMultiples
 blocks_are_multiples o t items ended h = multiples_from o t h [] items ended
@@ -162,10 +164,13 @@ buffer_holds_less size cs a b = held_less_from size [] cs a b (omega arith)
 runs_give_from : (o : DictOptions) (t : Ty) (rs : List Run) (rows : List Tree) → AllEnded o t rs rows → RunsGive rs rows
 runs_give_from o t [] rows h = h
 runs_give_from o t (r ∷ rs) rows h =
-    let e : Ended o t r h.0 = h.3 in
-    (h.0, h.1, h.2,
-     ap₂ (λ x y. dict_rows (map value x ∷ map value y ∷ [])) e.values_cells e.codes_cells ∙ decodes_rows e.distinct e.codes h.0 e.decodes,
-     runs_give_from o t rs h.1 h.4)
+    let e : Ended o t r h.0 = h.3 in (
+      h.0,
+      h.1,
+      h.2,
+      ap₂ (λ x y. dict_rows (map value x ∷ map value y ∷ [])) e.values_cells e.codes_cells ∙ decodes_rows e.distinct e.codes h.0 e.decodes,
+      runs_give_from o t rs h.1 h.4,
+    )
 
 pub runs_give_rows : RunsGiveRows
 runs_give_rows o t c cs d of = runs_give_from o t (runs o t (c ∷ cs) true) (stream_cells (c ∷ cs)) (runs_end o t d c cs of)
@@ -180,19 +185,21 @@ longest_from o t first ds codes done [] e f =
     (e ∙ ap (distinct_from first) (sym (append-nil done)), ⊎_elim (λ n. inl (append-nil done ∙ n)) (λ y. inr y) f)
 longest_from o t first ds codes done (c ∷ cs) e f = ⊎_elim
     (λ (y : cells_fit o t (with_cell ds c) ≡ true).
-        subst (λ b. Given (if b then goes_on else ends_here)) (sym y)
-            (subst (CutLongest o t first goes_on.closed goes_on.distinct) (append_assoc done (c ∷ []) cs)
-                (longest_from o t first (with_cell ds c) (codes ++ (place_in c (with_cell ds c) ∷ [])) (done ++ (c ∷ [])) cs
-                    (ap (λ z. with_cell z c) e ∙ sym (distinct_more first done c)) (inr y))))
+    subst (λ b. Given (if b then goes_on else ends_here)) (sym y)
+    (subst (CutLongest o t first goes_on.closed goes_on.distinct) (append_assoc done (c ∷ []) cs)
+    (longest_from o t first (with_cell ds c) (codes ++ (place_in c (with_cell ds c) ∷ [])) (done ++ (c ∷ [])) cs
+    (ap (λ z. with_cell z c) e ∙ sym (distinct_more first done c)) (inr y))))
     (λ (n : cells_fit o t (with_cell ds c) ≡ false).
-        subst (λ b. Given (if b then goes_on else ends_here)) (sym n)
-            (done, c, cs, refl, e, f, n, longest_from o t [] (c ∷ []) (0 ∷ []) (c ∷ []) cs refl (inr refl)))
+    subst (λ b. Given (if b then goes_on else ends_here)) (sym n)
+    (done, c, cs, refl, e, f, n, longest_from o t [] (c ∷ []) (0 ∷ []) (c ∷ []) cs refl (inr refl)))
     (cases_Bool (cells_fit o t (with_cell ds c)))
   where
     goes_on : Cut
     goes_on = stretches o t (with_cell ds c) (codes ++ (place_in c (with_cell ds c) ∷ [])) cs
+
     ends_here : Cut
     ends_here = behind codes ds (stretches o t (c ∷ []) (0 ∷ []) cs)
+
     Given : Cut → Type 0
     Given z = CutLongest o t first z.closed z.distinct (done ++ (c ∷ cs))
 

@@ -181,30 +181,41 @@ stretches_give o t d first ds codes done [] x h few f r = (x, subst (Decodes ds 
 stretches_give o t d first ds codes done (c ∷ cs) x h few f r =
     ⊎_elim
     (λ (y : cells_fit o t (with_cell ds c) ≡ true).
-        subst (λ b. Given (if b then goes_on else ends_here)) (sym y)
-            (subst (Gives o t first goes_on.closed goes_on.codes goes_on.distinct) (append_assoc done (c ∷ []) cs)
-                (stretches_give o t d first (with_cell ds c) (codes ++ (place_in c (with_cell ds c) ∷ [])) (done ++ (c ∷ [])) cs
-                    (extends_further first ds (with_cell ds c) x (with_extends ds c))
-                    (decodes_append (with_cell ds c) codes (place_in c (with_cell ds c) ∷ []) done (c ∷ []) (decodes_more ds (with_cell ds c) codes done (with_extends ds c) h) (with_place ds c self, tt))
-                    (record { fit = with_all (fits t) ds c few.fit cf; real = with_all is_real_cell ds c few.real cr; few = few_of (length (with_cell ds c)) (most_cells o) _ y })
-                    (right_true (fits t c) _ f) (right_true (is_real_cell c) _ r))))
+    subst (λ b. Given (if b then goes_on else ends_here)) (sym y)
+    (subst (Gives o t first goes_on.closed goes_on.codes goes_on.distinct) (append_assoc done (c ∷ []) cs)
+    (stretches_give o t d first (with_cell ds c) (codes ++ (place_in c (with_cell ds c) ∷ [])) (done ++ (c ∷ [])) cs
+    (extends_further first ds (with_cell ds c) x (with_extends ds c))
+    (decodes_append (with_cell ds c) codes (place_in c (with_cell ds c) ∷ []) done (c ∷ []) (decodes_more ds (with_cell ds c) codes done (with_extends ds c) h) (with_place ds c self, tt))
+    (record { fit = with_all (fits t) ds c few.fit cf; real = with_all is_real_cell ds c few.real cr; few = few_of (length (with_cell ds c)) (most_cells o) _ y })
+    (right_true (fits t c) _ f) (right_true (is_real_cell c) _ r))))
     (λ (n : cells_fit o t (with_cell ds c) ≡ false).
-        subst (λ b. Given (if b then goes_on else ends_here)) (sym n)
-            (done, c ∷ cs, refl, x, h, few,
-             stretches_give o t d [] (c ∷ []) (0 ∷ []) (c ∷ []) cs (record { more = c ∷ []; same = refl }) ((omega arith, refl), tt)
-                (record { fit = both_true (fits t c) true cf refl; real = both_true (is_real_cell c) true cr refl; few = omega arith })
-                (right_true (fits t c) _ f) (right_true (is_real_cell c) _ r)))
+    subst (λ b. Given (if b then goes_on else ends_here)) (sym n) (
+      done,
+      c ∷ cs,
+      refl,
+      x,
+      h,
+      few,
+      stretches_give o t d [] (c ∷ []) (0 ∷ []) (c ∷ []) cs (record { more = c ∷ []; same = refl }) ((omega arith, refl), tt)
+          (record { fit = both_true (fits t c) true cf refl; real = both_true (is_real_cell c) true cr refl; few = omega arith })
+          (right_true (fits t c) _ f) (right_true (is_real_cell c) _ r),
+    ))
     (cases_Bool (cells_fit o t (with_cell ds c)))
   where
     cf : fits t c ≡ true
     cf = left_true (fits t c) _ f
+
     cr : is_real_cell c ≡ true
     cr = left_true (is_real_cell c) _ r
+
     self : same_cell c c ≡ true
     self = self_same t c d (left_true (fits t c) _ f)
+
     goes_on : Cut
     goes_on = stretches o t (with_cell ds c) (codes ++ (place_in c (with_cell ds c) ∷ [])) cs
+
     ends_here : Cut
     ends_here = behind codes ds (stretches o t (c ∷ []) (0 ∷ []) cs)
+
     Given : Cut → Type 0
     Given z = Gives o t first z.closed z.codes z.distinct (done ++ (c ∷ cs))

@@ -56,10 +56,13 @@ code_fits o t ds n d lt = go (nat_le o.max_len 255) (few_small o.max_len (length
   where
     few_small : (m l : ℕ) → nat_le m 255 ≡ true → l ≤ max 1 (min m (2 ^ 16 - 1)) → l ≤ 255
     few_small m l h k = grind (arith, nat_tests)
+
     u8 : (n : ℕ) → n < 256 → fits (primitive U8 false) (offset_cell n) ≡ true
     u8 n h = grind (arith, nat_tests)
+
     u16 : (n : ℕ) → n < 65536 → fits (primitive U16 false) (offset_cell n) ≡ true
     u16 n h = grind (arith, nat_tests)
+
     go : (b : Bool) → (b ≡ true → length ds ≤ max 1 (min o.max_len (2 ^ 16 - 1)) → length ds ≤ 255) → length ds ≤ max 1 (min o.max_len (2 ^ 16 - 1))
         → fits (primitive (if b then U8 else U16) false) (offset_cell n) ≡ true
     go true f h = let k : length ds ≤ 255 = f refl h in u8 n (omega arith)
@@ -94,7 +97,7 @@ going_more o t ds es cur p ns done rows g x h d lt = record {
   codes = g.codes ++ ns;
   codes_cells = stream_cells-append cur ((p, codes_piece o ns) ∷ []) ∙ ap₂ (λ a b. a ++ b) g.codes_cells (append-nil (map offset_cell ns)) ∙ sym (map-append offset_cell g.codes ns);
   decodes = decodes_append es g.codes ns done rows (decodes_more ds es g.codes done x g.decodes) h;
-  codes_of = chunks_append (code_type o) cur ((p, codes_piece o ns) ∷ []) g.codes_of (codes_whole o t es ns rows d h lt, tt)
+  codes_of = chunks_append (code_type o) cur ((p, codes_piece o ns) ∷ []) g.codes_of (codes_whole o t es ns rows d h lt, tt);
 }
 
 going_none : (o : DictOptions) (t : Ty) → Going o t [] [] []
@@ -116,7 +119,7 @@ parted o t p r ds cur done [] codes es rows g h lt = record {
   after = done ++ rows;
   split = refl;
   ended = refl;
-  going = going_more o t ds es cur (under p r) codes done rows g h.0 h.1 h.2 lt
+  going = going_more o t ds es cur (under p r) codes done rows g h.0 h.1 h.2 lt;
 }
 parted o t p r ds cur done (x ∷ xs) codes es rows g h lt =
     let l : length rows ≡ length h.0 + length h.1 = ap length h.2 ∙ length-append h.0 h.1 in
@@ -126,17 +129,23 @@ parted o t p r ds cur done (x ∷ xs) codes es rows g h lt =
       before = (done ++ h.0) ++ rest.before;
       after = rest.after;
       split = ap (λ z. done ++ z) h.2 ∙ sym (append_assoc done h.0 h.1) ∙ ap (λ z. (done ++ h.0) ++ z) rest.split ∙ sym (append_assoc (done ++ h.0) rest.before rest.after);
-      ended = (done ++ h.0, rest.before, refl, record {
-        codes = one.codes;
-        distinct = x.1;
-        codes_cells = one.codes_cells;
-        values_cells = append-nil x.1;
-        decodes = one.decodes;
-        codes_of = one.codes_of;
-        values_of = (values_whole o t x.1 h.5, tt);
-        closed = refl
-      }, rest.ended);
-      going = rest.going
+      ended = (
+        done ++ h.0,
+        rest.before,
+        refl,
+        record {
+          codes = one.codes;
+          distinct = x.1;
+          codes_cells = one.codes_cells;
+          values_cells = append-nil x.1;
+          decodes = one.decodes;
+          codes_of = one.codes_of;
+          values_of = (values_whole o t x.1 h.5, tt);
+          closed = refl;
+        },
+        rest.ended,
+      );
+      going = rest.going;
     }
 
 -- where the last run ends too, nothing goes on
@@ -161,20 +170,20 @@ ended_from o t d ds cur done c [] few g of =
     let cut : Cut = cut_at o t ds c in
     let lt : length (cells c.1) < 2 ^ 64 = (cells_fine t c.1 of.0).short in
     let p : Parted o t (ended_runs o t c.0 0 cur (cut.closed ++ ((cut.codes, cut.distinct) ∷ []))) [] (next_codes o c.0 0 cur (cut.closed ++ ((cut.codes, cut.distinct) ∷ [])) []) (done ++ cells c.1) =
-        parted o t c.0 0 ds cur done (cut.closed ++ ((cut.codes, cut.distinct) ∷ [])) [] [] (cells c.1) g (closing o t ds cut.closed cut.codes cut.distinct (cells c.1) (at_chunk o t d ds few c of.0)) lt in
+    parted o t c.0 0 ds cur done (cut.closed ++ ((cut.codes, cut.distinct) ∷ [])) [] [] (cells c.1) g (closing o t ds cut.closed cut.codes cut.distinct (cells c.1) (at_chunk o t d ds few c of.0)) lt in
     subst (AllEnded o t (runs_from o t ds cur (c ∷ []) true))
-        (sym (append-nil p.before) ∙ ap (λ z. p.before ++ z) (sym (decodes_none p.going.codes p.after p.going.decodes).1) ∙ sym p.split ∙ ap (λ z. done ++ z) (sym (append-nil (cells c.1)))) p.ended
+    (sym (append-nil p.before) ∙ ap (λ z. p.before ++ z) (sym (decodes_none p.going.codes p.after p.going.decodes).1) ∙ sym p.split ∙ ap (λ z. done ++ z) (sym (append-nil (cells c.1)))) p.ended
 ended_from o t d ds cur done c (e ∷ cs) few g of =
     let cut : Cut = cut_at o t ds c in
     let gives : Gives o t ds cut.closed cut.codes cut.distinct (cells c.1) = at_chunk o t d ds few c of.0 in
     let lt : length (cells c.1) < 2 ^ 64 = (cells_fine t c.1 of.0).short in
     let p : Parted o t (ended_runs o t c.0 0 cur cut.closed) cut.distinct (next_codes o c.0 0 cur cut.closed cut.codes) (done ++ cells c.1) =
-        parted o t c.0 0 ds cur done cut.closed cut.codes cut.distinct (cells c.1) g gives lt in
+    parted o t c.0 0 ds cur done cut.closed cut.codes cut.distinct (cells c.1) g gives lt in
     let rest : AllEnded o t (runs_from o t cut.distinct (next_codes o c.0 0 cur cut.closed cut.codes) (e ∷ cs) true) (p.after ++ stream_cells (e ∷ cs)) =
-        ended_from o t d cut.distinct (next_codes o c.0 0 cur cut.closed cut.codes) p.after e cs (gives_distinct o t ds cut.closed cut.codes cut.distinct (cells c.1) gives) p.going of.1 in
+    ended_from o t d cut.distinct (next_codes o c.0 0 cur cut.closed cut.codes) p.after e cs (gives_distinct o t ds cut.closed cut.codes cut.distinct (cells c.1) gives) p.going of.1 in
     subst (AllEnded o t (runs_from o t ds cur (c ∷ e ∷ cs) true))
-        (sym (append_assoc p.before p.after (stream_cells (e ∷ cs))) ∙ ap (λ z. z ++ stream_cells (e ∷ cs)) (sym p.split) ∙ append_assoc done (cells c.1) (stream_cells (e ∷ cs)))
-        (all_ended_append o t (ended_runs o t c.0 0 cur cut.closed) (runs_from o t cut.distinct (next_codes o c.0 0 cur cut.closed cut.codes) (e ∷ cs) true) p.before (p.after ++ stream_cells (e ∷ cs)) p.ended rest)
+    (sym (append_assoc p.before p.after (stream_cells (e ∷ cs))) ∙ ap (λ z. z ++ stream_cells (e ∷ cs)) (sym p.split) ∙ append_assoc done (cells c.1) (stream_cells (e ∷ cs)))
+    (all_ended_append o t (ended_runs o t c.0 0 cur cut.closed) (runs_from o t cut.distinct (next_codes o c.0 0 cur cut.closed cut.codes) (e ∷ cs) true) p.before (p.after ++ stream_cells (e ∷ cs)) p.ended rest)
 
 -- the runs of an ended stream have all ended, and have its rows in order
 pub runs_end : (o : DictOptions) (t : Ty) → is_dict_type t ≡ true → (c : Chunk) (cs : List Chunk) → Chunks t (c ∷ cs) → AllEnded o t (runs o t (c ∷ cs) true) (stream_cells (c ∷ cs))
@@ -209,7 +218,7 @@ ended_continue o t p r cur x xs rs = record {
   others = ended_runs o t p (r + 2) [] xs ++ rs;
   same = refl;
   more = (under p r, codes_piece o x.0) ∷ [];
-  codes = refl
+  codes = refl;
 }
 
 close_continue : (o : DictOptions) (t : Ty) (p : List ℕ) (r : ℕ) (cur : List Chunk) (closed : List (List ℕ × List Tree)) (x : List ℕ × List Tree) → Continues cur (ended_runs o t p r cur (closed ++ (x ∷ [])))
@@ -254,9 +263,9 @@ runs_from_grow o t ds [] x [] ys ended = tt
 runs_from_grow o t ds (c ∷ cur) x [] ys ended = open_grows (c ∷ cur) (runs_from o t ds (c ∷ cur) (x ∷ ys) ended) (runs_continue o t ds c cur x ys ended)
 runs_from_grow o t ds cur x (y ∷ xs) ys ended =
     runs_same (ended_runs o t x.0 0 cur (cut_at o t ds x).closed)
-        (runs_from o t (cut_at o t ds x).distinct (next_codes o x.0 0 cur (cut_at o t ds x).closed (cut_at o t ds x).codes) (y ∷ xs) false)
-        (runs_from o t (cut_at o t ds x).distinct (next_codes o x.0 0 cur (cut_at o t ds x).closed (cut_at o t ds x).codes) (y ∷ xs ++ ys) ended)
-        (runs_from_grow o t (cut_at o t ds x).distinct (next_codes o x.0 0 cur (cut_at o t ds x).closed (cut_at o t ds x).codes) y xs ys ended)
+    (runs_from o t (cut_at o t ds x).distinct (next_codes o x.0 0 cur (cut_at o t ds x).closed (cut_at o t ds x).codes) (y ∷ xs) false)
+    (runs_from o t (cut_at o t ds x).distinct (next_codes o x.0 0 cur (cut_at o t ds x).closed (cut_at o t ds x).codes) (y ∷ xs ++ ys) ended)
+    (runs_from_grow o t (cut_at o t ds x).distinct (next_codes o x.0 0 cur (cut_at o t ds x).closed (cut_at o t ds x).codes) y xs ys ended)
 
 pub runs_grow : (o : DictOptions) (t : Ty) (x : Chunk) (xs ys : List Chunk) (ended : Bool) → RunsGrow (runs o t (x ∷ xs) false) (runs o t (x ∷ xs ++ ys) ended)
 runs_grow o t x xs ys ended = runs_from_grow o t [] [] x xs ys ended
@@ -295,7 +304,7 @@ at_paths o t p r cur [] codes = chunk_paths-append cur ((under p r, codes_piece 
 at_paths o t p r cur (x ∷ xs) codes =
     append_assoc (chunk_paths (cur ++ ((under p r, codes_piece o x.0) ∷ []))) (under p (suc r) ∷ run_paths (ended_runs o t p (r + 2) [] xs)) (chunk_paths (next_codes o p (r + 2) [] xs codes))
     ∙ ap₂ (λ a b. a ++ (under p (suc r) ∷ b)) (chunk_paths-append cur ((under p r, codes_piece o x.0) ∷ []))
-        (at_paths o t p (r + 2) [] xs codes ∙ ap (λ z. made p z (suc (two xs))) (let h : r + 2 ≡ suc (suc r) = omega arith in h))
+    (at_paths o t p (r + 2) [] xs codes ∙ ap (λ z. made p z (suc (two xs))) (let h : r + 2 ≡ suc (suc r) = omega arith in h))
     ∙ append_assoc (chunk_paths cur) (under p r ∷ []) (under p (suc r) ∷ made p (suc (suc r)) (suc (two xs)))
 
 closed_paths : (o : DictOptions) (t : Ty) (p : List ℕ) (r : ℕ) (cur : List Chunk) (x : List ℕ × List Tree) (closed : List (List ℕ × List Tree))
@@ -305,7 +314,7 @@ closed_paths o t p r cur x [] =
     ∙ append_assoc (chunk_paths cur) (under p r ∷ []) (under p (suc r) ∷ [])
 closed_paths o t p r cur x (y ∷ ys) =
     ap₂ (λ a b. a ++ (under p (suc r) ∷ b)) (chunk_paths-append cur ((under p r, codes_piece o x.0) ∷ []))
-        (closed_paths o t p (r + 2) [] y ys ∙ ap (λ z. made p z (suc (suc (two ys)))) (let h : r + 2 ≡ suc (suc r) = omega arith in h))
+    (closed_paths o t p (r + 2) [] y ys ∙ ap (λ z. made p z (suc (suc (two ys)))) (let h : r + 2 ≡ suc (suc r) = omega arith in h))
     ∙ append_assoc (chunk_paths cur) (under p r ∷ []) (under p (suc r) ∷ made p (suc (suc r)) (suc (suc (two ys))))
 
 -- the paths of all runs: those so far, then others made at the chunks
@@ -321,10 +330,11 @@ made_path p r (suc n) x h = ⊎_elim (λ e. (r, omega arith, e))
 
 made_scattered : (p : List ℕ) (r n : ℕ) → Scattered (made p r n)
 made_scattered p r zero = tt
-made_scattered p r (suc n) =
-    (λ q h. let w : (k : ℕ) × (suc r ≤ k) × (q ≡ under p k) = made_path p (suc r) n q h in let l : suc r ≤ w.0 = w.1 in
-        subst (λ z. meets (under p r) z ≡ false) (sym w.2) (under_apart p r w.0 (omega arith)),
-     made_scattered p (suc r) n)
+made_scattered p r (suc n) = (
+  λ q h. let w : (k : ℕ) × (suc r ≤ k) × (q ≡ under p k) = made_path p (suc r) n q h in let l : suc r ≤ w.0 = w.1 in
+      subst (λ z. meets (under p r) z ≡ false) (sym w.2) (under_apart p r w.0 (omega arith)),
+  made_scattered p (suc r) n,
+)
 
 made_begins : (p : List ℕ) (r n : ℕ) (x : List ℕ) → In x (made p r n) → begins p x ≡ true
 made_begins p r n x h =
@@ -335,7 +345,7 @@ made_onto : (p : List ℕ) (r n : ℕ) (ps qs : List (List ℕ)) → Onto ps qs 
 made_onto p r n ps qs o = record {
   scattered = λ s. scattered_both (made p r n) ps (made_scattered p r n) (o.scattered s.1)
       (λ a b i j. let w : (q : List ℕ) × In q qs × (begins q b ≡ true) = o.from b j in apart_both p w.0 a b (s.0 w.0 w.1) (made_begins p r n a i) w.2);
-  from = λ x h. ⊎_elim (λ i. (p, inl refl, made_begins p r n x i)) (λ j. let w : (q : List ℕ) × In q qs × (begins q x ≡ true) = o.from x j in (w.0, inr w.1, w.2)) (in_cases x (made p r n) ps h)
+  from = λ x h. ⊎_elim (λ i. (p, inl refl, made_begins p r n x i)) (λ j. let w : (q : List ℕ) × In q qs × (begins q x ≡ true) = o.from x j in (w.0, inr w.1, w.2)) (in_cases x (made p r n) ps h);
 }
 
 none_onto : (qs : List (List ℕ)) → Onto [] qs
@@ -366,7 +376,7 @@ runs_from_made o t ds cur c (e ∷ cs) ended =
           ∙ sym (append_assoc (run_paths (ended_runs o t c.0 0 cur cut.closed)) (chunk_paths next) r.others)
           ∙ ap (λ z. z ++ r.others) (at_paths o t c.0 0 cur cut.closed cut.codes)
           ∙ append_assoc (chunk_paths cur) (made c.0 0 (suc (two cut.closed))) r.others;
-      onto = made_onto c.0 0 (suc (two cut.closed)) r.others (chunk_paths (e ∷ cs)) r.onto
+      onto = made_onto c.0 0 (suc (two cut.closed)) r.others (chunk_paths (e ∷ cs)) r.onto;
     }
 
 -- the runs' paths go on from the stream's, and none is a prefix of another

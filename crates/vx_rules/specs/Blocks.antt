@@ -67,9 +67,9 @@ abbrev pub tested_sizes : ℕ → ℕ → Ty → ℕ → List Tree → List ℕ 
 tested_sizes len minimum t c rows [] = []
 tested_sizes len minimum t c rows (p ∷ ps) =
     total_by (cell_size t) (take (p - c) rows) ∷
-        (if is_cut len minimum t rows (p - c)
-        then tested_sizes len minimum t (c + cut_rows len (p - c)) (drop (cut_rows len (p - c)) rows) ps
-        else tested_sizes len minimum t c rows ps)
+    (if is_cut len minimum t rows (p - c)
+    then tested_sizes len minimum t (c + cut_rows len (p - c)) (drop (cut_rows len (p - c)) rows) ps
+    else tested_sizes len minimum t c rows ps)
 
 -- the first rows in blocks of these sizes, and what is left
 abbrev pub cut_off : Ty → List Tree → List ℕ → List Piece
@@ -94,5 +94,5 @@ blocks o t = record {
   start = [];
   leaves = λ rows c. cut_off t (rows ++ cells c) (sizes_at o t rows c);
   holds = λ rows c. left_over (rows ++ cells c) (sizes_at o t rows c);
-  rest = λ rows c. cut_off t (rows ++ cells c) (sizes_at o t rows c) ++ last_block t (left_over (rows ++ cells c) (sizes_at o t rows c))
+  rest = λ rows c. cut_off t (rows ++ cells c) (sizes_at o t rows c) ++ last_block t (left_over (rows ++ cells c) (sizes_at o t rows c));
 }

@@ -71,7 +71,7 @@ offset_type = primitive U64 false
 abbrev pub list_columns : Ty → Bool → Bool → ℕ → Piece → List Piece
 list_columns t n first from p =
     plain_piece t (all_elements (cells p)) ∷ plain_piece offset_type (map offset_cell (offset_entries first from (cells p))) ∷
-        (if n then validity_piece p ∷ [] else [])
+    (if n then validity_piece p ∷ [] else [])
 
 -- ---- streams of columns
 

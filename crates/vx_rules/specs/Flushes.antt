@@ -28,7 +28,7 @@ flushes size = record {
   start = [];
   leaves = λ ps c. if is_full size (ps ++ (c ∷ [])) then flushed size (ps ++ (c ∷ [])) else [];
   holds = λ ps c. if is_full size (ps ++ (c ∷ [])) then still_held size (ps ++ (c ∷ [])) else ps ++ (c ∷ []);
-  rest = λ ps c. ps ++ (c ∷ [])
+  rest = λ ps c. ps ++ (c ∷ []);
 }
 
 -- ---- collecting

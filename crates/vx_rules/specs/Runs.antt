@@ -124,7 +124,7 @@ runs_from o t ds cur (c ∷ []) ended =
     else open_run cur
 runs_from o t ds cur (c ∷ d ∷ cs) ended =
     ended_runs o t c.0 0 cur (cut_at o t ds c).closed
-        ++ runs_from o t (cut_at o t ds c).distinct (next_codes o c.0 0 cur (cut_at o t ds c).closed (cut_at o t ds c).codes) (d ∷ cs) ended
+    ++ runs_from o t (cut_at o t ds c).distinct (next_codes o c.0 0 cur (cut_at o t ds c).closed (cut_at o t ds c).codes) (d ∷ cs) ended
 
 abbrev pub runs : DictOptions → Ty → List Chunk → Bool → List Run
 runs o t items ended = runs_from o t [] [] items ended

@@ -126,12 +126,12 @@ form_typed (Some (string s)) ps e = absurd cc
 form_typed (Some (array ds)) ps e = absurd cc
 form_typed (Some (object ms)) ps e =
     chosen_typed (is_one_column ms) (column_of (option_and_then batches_of (get_member (codes "batches") ms))) unbuilt ps
-      (column_typed (option_and_then batches_of (get_member (codes "batches") ms)) ps (data_typed (get_member (codes "batches") ms))) (λ f. absurd cc) e
+    (column_typed (option_and_then batches_of (get_member (codes "batches") ms)) ps (data_typed (get_member (codes "batches") ms))) (λ f. absurd cc) e
 
 pub job_schema : (bytes : List ℕ) (ps : List Piece) → job bytes ≡ column ps → OfSchema i64_type ps
 job_schema bytes ps e =
     chosen_typed (ltb limit (length bytes)) not_json (cond (is_utf8 bytes) (job_of (read bytes)) not_json) ps (λ f. absurd cc)
-      (chosen_typed (is_utf8 bytes) (job_of (read bytes)) not_json ps (form_typed (read bytes) ps) (λ f. absurd cc)) e
+    (chosen_typed (is_utf8 bytes) (job_of (read bytes)) not_json ps (form_typed (read bytes) ps) (λ f. absurd cc)) e
 
 pub i64_is : ty (dt.Primitive I64 NonNullable) ≡ i64_type
 i64_is = search (rules, dt.the_lemmas)

@@ -135,5 +135,7 @@ pub at_end : (bytes : List ℕ) (at : ℕ) → length bytes ≤ at → drop at b
 at_end bytes at le = nil_from_length (drop at bytes) (omega (arith, length-drop at bytes))
 
 pub ruleset read_rules = (append_assoc, append-nil)
+
 pub ruleset write_rules = (append_assoc, append-nil, take_then)
+
 pub ruleset run_rules = (append-nil)

@@ -14,7 +14,9 @@ use std::alloc::{AllocError, Global};
 use vx_job::{Job, JobError, read_job, refused_report, report};
 use vx_sink::{LayoutWriterContext, ListSource, MemorySink, PlainCompressor};
 use vx_types::{ArrayContext, Chunk, DType, EncodingId, Nullability, PType};
-use vx_write::{BuildError, ChunkedLayoutStrategy, FlatLayoutStrategy, Strategy, WriteError, write_stream};
+use vx_write::{
+    BuildError, ChunkedLayoutStrategy, FlatLayoutStrategy, Strategy, WriteError, write_stream,
+};
 
 /// A status, and the text that is printed before it.
 #[derive(Debug, Drop)]
@@ -32,7 +34,10 @@ pub(crate) fn answer_to(alloc: Global, bytes: &[u8]) -> Result<Answer, AllocErro
             Job::Column(batches) => write_batches(alloc, batches),
             Job::Unbuilt => {
                 let text = refused_report(alloc, "Unbuilt", 0, &[])?;
-                Ok(Answer { status: Status::Refused, text })
+                Ok(Answer {
+                    status: Status::Refused,
+                    text,
+                })
             }
         },
         Err(JobError::Json) => bad_job(alloc, "bad job at json\n"),
@@ -45,7 +50,10 @@ fn bad_job(alloc: Global, line: &str) -> Result<Answer, AllocError>
     ensures { IfOk result (λ a. (a.status ≡ Status.BadJob) × (string_bytes a.text ≡ line.now)) }
 {
     let text = String::from_str(alloc, line)?;
-    Ok(Answer { status: Status::BadJob, text })
+    Ok(Answer {
+        status: Status::BadJob,
+        text,
+    })
 }
 
 /// Writes the batches of one column, and reports.
@@ -59,21 +67,38 @@ fn write_batches(alloc: Global, batches: Vec<Chunk>) -> Result<Answer, AllocErro
     let mut source = ListSource::new(dtype, batches, Vec::new(alloc));
     let mut sink = MemorySink::new(0, Vec::new(alloc));
     let mut compressor = PlainCompressor::new(Vec::new(alloc));
-    match write_stream(alloc, &strategy, &mut ctx, &mut source, &mut sink, &[], &mut compressor) {
+    match write_stream(
+        alloc,
+        &strategy,
+        &mut ctx,
+        &mut source,
+        &mut sink,
+        &[],
+        &mut compressor,
+    ) {
         Ok(written) => {
             let text = report(alloc, 0, &written.layout, sink.segments())?;
-            Ok(Answer { status: Status::Done, text })
+            Ok(Answer {
+                status: Status::Done,
+                text,
+            })
         }
         Err(refused) => match refused.error {
             WriteError::OutOfMemory => Err(AllocError),
             WriteError::TooLarge(_) => {
                 let text = refused_report(alloc, "TooLarge", 0, sink.segments())?;
-                Ok(Answer { status: Status::Refused, text })
+                Ok(Answer {
+                    status: Status::Refused,
+                    text,
+                })
             }
-            WriteError::SourceFault | WriteError::SinkFault | WriteError::CompressFault => unreachable!(),
+            WriteError::SourceFault | WriteError::SinkFault | WriteError::CompressFault =>
+                unreachable!(),
             WriteError::BatchType(_) => unreachable!(),
-            WriteError::NotStruct | WriteError::DuplicateField(_) | WriteError::ManyChunks => unreachable!(),
-            WriteError::EmptyList | WriteError::ZoneCut(_) | WriteError::ForbiddenAggregate(_) => unreachable!(),
+            WriteError::NotStruct | WriteError::DuplicateField(_) | WriteError::ManyChunks =>
+                unreachable!(),
+            WriteError::EmptyList | WriteError::ZoneCut(_) | WriteError::ForbiddenAggregate(_) =>
+                unreachable!(),
             WriteError::ForbiddenEncoding(_) => unreachable!(),
             WriteError::Unbuilt => unreachable!(),
         },

@@ -25,7 +25,12 @@ use vx_job::LIMIT;
 ///
 /// The one command so far is `write`: it reads a job, writes it, and prints the report. Other words print the usage.
 #[tactic(auto, using(crate::proofs::RunSteps::run_rules))]
-pub fn run<I: Input, O: Output>(alloc: Global, words: &[String], input: &mut I, output: &mut O) -> Status
+pub fn run<I: Input, O: Output>(
+    alloc: Global,
+    words: &[String],
+    input: &mut I,
+    output: &mut O,
+) -> Status
     ensures input_count { Counts (I.faults input.old) (I.faults input.new) (is_input_fault result) }
     ensures output_count { Counts (O.faults output.old) (O.faults output.new) (is_output_fault result) }
     ensures ended { is_write (map string_bytes words.now) ≡ true → has_read result ≡ true → IsAtEnd (I.to_come input.new) }
@@ -40,7 +45,11 @@ pub fn run<I: Input, O: Output>(alloc: Global, words: &[String], input: &mut I, 
         → (result ≡ statuses.Done) ⊎ (result ≡ statuses.OutOfMemory) }
 {
     if !is_write(words) {
-        return finish(output, Status::Usage, "usage: vx_tool write | gen N | tree\n");
+        return finish(
+            output,
+            Status::Usage,
+            "usage: vx_tool write | gen N | tree\n",
+        );
     }
     match read_all(alloc, input) {
         Ok(bytes) => match answer_to(alloc, &bytes) {

@@ -1,10 +1,10 @@
 -- What holds over any list of calls.
-use Rattle.std.proofs.Common.{◌≡◌, ◌≢◌, ℕ, ◌+◌, ◌<◌, ◌≤◌, ◌⊎◌, Bool, true, false, not, cond, nat_eq, nat_lt, List, [], ◌∷◌, IsTrue, refl, sym, ap, subst, ◌∙◌, inl, inr, ⊎_elim, arith}
+use Rattle.std.proofs.Common.{◌≡◌, ℕ, ◌+◌, ◌⊎◌, Bool, true, false, not, cond, nat_eq, nat_lt, List, [], ◌∷◌, refl, sym, ap, subst, ◌∙◌, inl, inr, ⊎_elim, arith}
 use Rattle.std.specs.FinMap as map
 use Rattle.vx_path.specs.Path.{path_le, path_lt, begins, under, Eof, raised, eof_path, next, inside}
 use Rattle.std.proofs.lemmas.Bool.Decides.{nat_tests}
 use Rattle.vx_path.proofs.Path.{path_le-trans, lt_le, under_lt, begins-refl, begins-trans, begins-under, below_raised, begins-inside, raised-next, raised-zero}
-use Rattle.vx_sequence.specs.Universe.{Active, IsActive, IsOpen, IsLeast, IsUniverse, only, advanced, descended}
+use Rattle.vx_sequence.specs.Universe.{Active, IsActive, IsLeast, IsUniverse, only}
 use Rattle.vx_sequence.specs.Calls.{Call, advance, descend, release, MayCall, after, MayRun, after_all, IsAbove, GoesOn}
 use Rattle.vx_sequence.proofs.Places.{same_parts, begins_under}
 use Rattle.vx_sequence.proofs.Sets.{is_open_active, not_empty, active_insert, active_remove}

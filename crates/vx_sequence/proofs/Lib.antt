@@ -7,3 +7,4 @@ pub mod Rules
 pub mod Scans
 pub mod Sets
 pub mod Steps
+pub mod Uses

@@ -1,10 +1,10 @@
 -- Paths that are not empty, in their two parts.
-use Rattle.std.proofs.Common.{◌≡◌, ◌≢◌, ℕ, ◌+◌, ◌<◌, ◌⊎◌, Bool, true, false, List, [], ◌∷◌, ◌++◌, nat_eq, ◌&&◌, ◌||◌, refl, sym, ap, ap₂, ◌∙◌, subst, inl, inr, ⊎_elim, arith}
-use Rattle.std.proofs.lemmas.Bool.{cases_Bool, true≢false}
+use Rattle.std.proofs.Common.{◌≡◌, ◌≢◌, ℕ, ◌<◌, ◌⊎◌, Bool, true, false, List, [], ◌∷◌, ◌++◌, nat_eq, ◌&&◌, ◌||◌, refl, sym, ap, ap₂, ◌∙◌, inl, inr, ⊎_elim, arith}
+use Rattle.std.proofs.lemmas.Bool.{true≢false}
 use Rattle.std.proofs.lemmas.Bool.Decides.{nat_tests}
-use Rattle.vx_path.specs.Path.{begins, meets, under, Eof, raised, eof_path, next, inside}
+use Rattle.vx_path.specs.Path.{begins, under, Eof, eof_path}
 use Rattle.vx_sequence.specs.Universe.{stem_of, last_of, place_of}
-use Rattle.vx_path.proofs.Path.{under_apart, begins-refl, begins-trans, begins-under, begins_both}
+use Rattle.vx_path.proofs.Path.{under_apart}
 
 pub not_true : (b : Bool) → (b ≡ true → ⊥) → b ≡ false
 not_true true f = absurd (f refl)

@@ -1,12 +1,12 @@
 -- Each call keeps the two rules of a universe.
-use Rattle.std.proofs.Common.{◌≡◌, ◌≢◌, ℕ, ◌+◌, ◌<◌, ◌⊎◌, Bool, true, false, List, [], ◌∷◌, None, refl, sym, ap, subst, ◌∙◌, inl, inr, ⊎_elim, arith, zero, suc}
+use Rattle.std.proofs.Common.{◌≡◌, ◌≢◌, ℕ, ◌+◌, ◌⊎◌, Bool, true, false, List, None, sym, subst, ◌∙◌, inl, inr, ⊎_elim, arith, zero, suc}
 use Rattle.std.proofs.lemmas.Bool.{true≢false}
 use Rattle.std.specs.FinMap as map
-use Rattle.vx_path.specs.Path.{begins, under, Eof, raised, eof_path, next, inside}
+use Rattle.vx_path.specs.Path.{begins, under, Eof, raised, eof_path, next}
 use Rattle.vx_path.proofs.Path.{begins-refl, begins-trans, begins-under}
-use Rattle.vx_sequence.specs.Universe.{Active, IsActive, IsOpen, IsUniverse, only, advanced, descended, split_from}
+use Rattle.vx_sequence.specs.Universe.{Active, IsActive, IsOpen, IsUniverse, only, advanced, descended}
 use Rattle.vx_sequence.proofs.Places.{not_true, same_parts, same_place, begins_under, siblings_apart}
-use Rattle.vx_sequence.proofs.Sets.{is_open_active, none_active, not_empty, is_inserted, is_active_more, active_insert, open_insert, active_remove, open_remove}
+use Rattle.vx_sequence.proofs.Sets.{is_open_active, none_active, not_empty, active_insert, open_insert, active_remove, open_remove}
 
 clash : (b : Bool) → b ≡ true → b ≡ false → ⊥
 clash b t f = true≢false (sym t ∙ f)

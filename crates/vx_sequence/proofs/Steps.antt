@@ -1,5 +1,5 @@
 -- Each call's edits of the entries are its change of the universe, and keep what the entries keep.
-use Rattle.std.proofs.Common.{◌≡◌, ◌≢◌, ℕ, ◌+◌, ◌<◌, ◌⊎◌, Bool, true, false, List, [], ◌∷◌, ◌++◌, length, get_or, set, Option, Some, None, refl, sym, ap, subst, ◌∙◌, inl, inr, ⊎_elim, arith, length-append}
+use Rattle.std.proofs.Common.{◌≡◌, ◌≢◌, ℕ, ◌<◌, Bool, true, false, List, [], ◌∷◌, ◌++◌, length, get_or, set, Option, Some, None, refl, sym, ap, subst, ◌∙◌, ⊎_elim, arith, length-append}
 use Rattle.std.proofs.Math.ListN.{get_or-append}
 use Rattle.std.specs.List.{remove}
 use Rattle.std.specs.FinMap as fin
@@ -8,7 +8,7 @@ use Rattle.vx_sequence.specs.declared.active.Entry.{Entry}
 use Rattle.vx_sequence.specs.Universe.{Active, IsActive, IsOpen, IsUniverse, place_of, advanced, descended, split_from, released}
 use Rattle.vx_sequence.specs.Entries.{pairs, active_of, AreDistinct, IsKept}
 use Rattle.vx_sequence.proofs.Places.{eof_path-place_of}
-use Rattle.vx_sequence.proofs.Sets.{one_path, same_active, get-inserted, get-insert_other, get-removed, get-remove_other, is_inserted, is_active_more, is_open_active}
+use Rattle.vx_sequence.proofs.Sets.{one_path, same_active, get-inserted, get-insert_other, get-removed, get-remove_other, is_inserted, is_active_more}
 use Rattle.vx_sequence.proofs.Rules.{only_rules, removed_rules, sibling_free, child_free, advanced_rules, descended_rules}
 use Rattle.vx_sequence.proofs.Edits.{active-set, distinct-set, active-push, distinct-push, active-remove, distinct-remove}
 

@@ -1,5 +1,5 @@
 -- Lists of calls on the ids and pointers of one universe.
-use Rattle.std.specs.Prelude.{ℕ, true, List, [], ◌∷◌, IsTrue}
+use Rattle.std.specs.Prelude.{ℕ, List, [], ◌∷◌, IsTrue}
 use Rattle.vx_path.specs.Path.{path_lt, begins, Eof, eof_path, raised}
 use Rattle.vx_sequence.specs.Universe.{Active, IsActive, IsOpen, advanced, descended, released}
 

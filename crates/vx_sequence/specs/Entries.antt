@@ -1,7 +1,6 @@
 -- How the universe is kept: a list of entries, in no order.
-use Rattle.std.specs.Prelude.{◌≡◌, ℕ, Bool, List, [], ◌∷◌, map, None, length}
+use Rattle.std.specs.Prelude.{◌≡◌, ℕ, Bool, List, [], ◌∷◌, map, None}
 use Rattle.std.specs.FinMap.{find, from_entries}
-use Rattle.vx_path.specs.Path.{Eof}
 use Rattle.vx_sequence.specs.Universe.{path_cmp, Active, IsUniverse}
 use Rattle.vx_sequence.specs.declared.active.Entry.{Entry}
 

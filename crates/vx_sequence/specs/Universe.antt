@@ -4,7 +4,7 @@ use Rattle.std.specs.declared.cmp.Ordering.{Ordering}
 use Rattle.std.specs.Ordering.{nat_cmp}
 use Rattle.std.specs.Cmp.Lexicographic.{slice_cmp}
 use Rattle.std.specs.FinMap as map
-use Rattle.vx_path.specs.Path.{path_le, begins, under, Eof, raised, eof_path, next, inside}
+use Rattle.vx_path.specs.Path.{path_le, begins, under, Eof, raised, eof_path, next}
 
 -- the order of paths: lexicographic, a prefix before its extensions
 abbrev pub path_cmp : List ℕ → List ℕ → Ordering

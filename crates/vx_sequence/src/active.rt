@@ -5,6 +5,7 @@ ghost use Rattle.vx_path.specs.Path.{under, eof_path, next};
 
 use crate::errors::SequenceError;
 use crate::siblings::sibling;
+use std::alloc::AllocError;
 use std::marker::Model;
 use vx_path::owned::{Path, path_le};
 
@@ -51,6 +52,13 @@ impl Universe {
         least_of(&self.entries)
     }
 
+    /// A copy of a path, in the memory that holds the active ones.
+    pub fn copy_of(&self, path: &[u64]) -> Result<Path, AllocError>
+        ensures { IfOk result (λ p. p ≡ path.now) }
+    {
+        Path::from_slice(*self.entries.allocator(), path)
+    }
+
     /// A universe in which this path alone is active, and open.
     pub(crate) fn only(path: &Path) -> Result<Self, SequenceError>
         requires { path.now ≢ [] }
@@ -74,6 +82,7 @@ impl Universe {
         ensures room { OnOk result ((place_of path.now).last < u64.MAX) }
         ensures full { IsErrOf result SequenceError.IndexFull → (place_of path.now).last ≡ u64.MAX }
         ensures err { OnErr result (self.new ≡ self.old) }
+        ensures rules { IsUniverse self.old }
     {
         let next = sibling(*self.entries.allocator(), path)?;
         let copy = next.clone()?;
@@ -93,11 +102,12 @@ impl Universe {
         ensures child { IfOk result (λ p. p ≡ under path.now 0) }
         ensures memory { IfErr result (λ e. e ≡ SequenceError.OutOfMemory) }
         ensures err { OnErr result (self.new ≡ self.old) }
+        ensures rules { IsUniverse self.old }
     {
         let child = Path::child(*self.entries.allocator(), path, 0)?;
         let copy = child.clone()?;
-        let at = index_of(&self.entries, path);
-        self.entries[at] = Entry {
+        let parent = index_of(&self.entries, path);
+        self.entries[parent] = Entry {
             path: copy,
             open: true,
         };
@@ -113,6 +123,7 @@ impl Universe {
         ensures room { OnOk result ((place_of path.now).last < u64.MAX) }
         ensures full { IsErrOf result SequenceError.IndexFull → (place_of path.now).last ≡ u64.MAX }
         ensures err { OnErr result (self.new ≡ self.old) }
+        ensures rules { IsUniverse self.old }
     {
         let alloc = *self.entries.allocator();
         let next = sibling(alloc, path)?;
@@ -134,7 +145,8 @@ impl Universe {
     /// Gives an active path up.
     pub(crate) fn release(&mut self, path: &[u64])
         requires { IsActive self.old path.now }
-        ensures { self.new ≡ released self.old path.now }
+        ensures active { self.new ≡ released self.old path.now }
+        ensures rules { IsUniverse self.old }
     {
         let at = index_of(&self.entries, path);
         let _entry = self.entries.remove(at);

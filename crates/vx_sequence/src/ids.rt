@@ -8,7 +8,7 @@ ghost use Rattle.std.specs.Hash as fed;
 ghost use Rattle.std.specs.Cmp.Rules.{hashing};
 ghost use Rattle.std.proofs.Common.{rules};
 ghost use Rattle.vx_path.specs.Path.{inside};
-ghost use Rattle.vx_sequence.specs.Universe.{IsActive, IsLeast, root, only, descended, released};
+ghost use Rattle.vx_sequence.specs.Universe.{IsActive, IsLeast, IsUniverse, root, only, descended, released};
 
 use crate::active::Universe;
 use crate::errors::SequenceError;
@@ -70,6 +70,7 @@ impl SequenceId {
         ensures universe { OnOk result (universe.new ≡ descended universe.old self) }
         ensures refused { IfErr result (λ r. (r.0 ≡ self) × (r.1 ≡ SequenceError.OutOfMemory)) }
         ensures unchanged { OnErr result (universe.new ≡ universe.old) }
+        ensures rules { IsUniverse universe.old }
     {
         match universe.descend(self.path()) {
             Ok(child) => {
@@ -83,7 +84,8 @@ impl SequenceId {
     /// Gives the path up.
     pub fn release(self, universe: &mut Universe)
         requires { IsActive universe.old self }
-        ensures { universe.new ≡ released universe.old self }
+        ensures universe { universe.new ≡ released universe.old self }
+        ensures rules { IsUniverse universe.old }
     {
         universe.release(self.path());
         let SequenceId { path: _path } = self;
@@ -92,7 +94,8 @@ impl SequenceId {
     /// Whether no other active path is smaller.
     pub fn is_first(&self, universe: &Universe) -> bool
         requires { IsActive universe.now self.now }
-        ensures { IsTrue result ↔ IsLeast universe.now self.now }
+        ensures first { IsTrue result ↔ IsLeast universe.now self.now }
+        ensures rules { IsUniverse universe.now }
     {
         match universe.least() {
             Some(least) => least == self.path(),

@@ -1,13 +1,14 @@
 //! Sequence pointers: places from which ids are made in ascending order.
-ghost use Rattle.std.specs.Prelude.{◌≡◌, ◌≢◌, ◌<◌, [], IfOk, IfErr, OnOk, OnErr, IsErrOf};
+ghost use Rattle.std.specs.Prelude.{◌≡◌, ◌≢◌, ◌<◌, [], Some, IfOk, IfErr, OnOk, OnErr, IsErrOf};
+ghost use Rattle.std.specs.Fmt.{debug_list, decimal};
 ghost use Rattle.vx_path.specs.Path.{eof_path, next, inside};
-ghost use Rattle.vx_sequence.specs.Universe.{IsOpen, place_of, advanced, split_from};
+ghost use Rattle.vx_sequence.specs.Universe.{IsOpen, IsUniverse, place_of, advanced, split_from};
 
 use crate::active::Universe;
 use crate::errors::SequenceError;
 use crate::ids::SequenceId;
 use std::marker::Model;
-use std::mem;
+use std::{fmt, mem};
 use vx_path::owned::Path;
 
 /// A path that is open in a universe: contracts see the path that it stands under and its last index.
@@ -57,6 +58,7 @@ impl SequencePointer {
         ensures room { OnOk result (self.old.last < u64.MAX) }
         ensures full { IsErrOf result SequenceError.IndexFull → self.old.last ≡ u64.MAX }
         ensures unchanged { OnErr result ((self.new ≡ self.old) × (universe.new ≡ universe.old)) }
+        ensures rules { IsUniverse universe.old }
     {
         let next = universe.advance(self.path())?;
         Ok(SequenceId::new(mem::replace(&mut self.path, next)))
@@ -74,6 +76,7 @@ impl SequencePointer {
         ensures room { OnOk result (self.old.last < u64.MAX) }
         ensures full { IsErrOf result SequenceError.IndexFull → self.old.last ≡ u64.MAX }
         ensures unchanged { OnErr result ((self.new ≡ self.old) × (universe.new ≡ universe.old)) }
+        ensures rules { IsUniverse universe.old }
     {
         let (child, next) = universe.split(self.path())?;
         self.path = next;
@@ -95,6 +98,7 @@ impl SequencePointer {
         ensures full { IfErr result (λ r. r.1 ≡ SequenceError.IndexFull → self.last ≡ u64.MAX) }
         ensures refused { IfErr result (λ r. r.0 ≡ self) }
         ensures unchanged { OnErr result (universe.new ≡ universe.old) }
+        ensures rules { IsUniverse universe.old }
     {
         match self.split_off(universe) {
             Ok(off) => Ok((off, self)),
@@ -108,5 +112,13 @@ impl SequencePointer {
     {
         let SequencePointer { path } = self;
         SequenceId::new(path)
+    }
+}
+
+impl fmt::Debug for SequencePointer {
+    ghost debug_output = { λ p. debug_list (λ n. Some (decimal n)) (eof_path p) };
+
+    fn fmt<W: fmt::Write>(&self, f: &mut fmt::Formatter<W>) -> fmt::Result {
+        fmt::Debug::fmt(&self.path(), f)
     }
 }

@@ -52,6 +52,9 @@ pub trait SegmentSink {
     /// Whether the append after so many others may fail.
     ghost may_fail: { Self → ℕ → Type 0 };
 
+    /// Of a borrowed sink the name of the borrow, which no call exchanges for another.
+    ghost borrow: { Self → ℕ } = { λ _. 0 };
+
     /// The number of the next segment.
     fn next_id(&self) -> u64
         ensures { result ≡ next self.now };
@@ -64,7 +67,8 @@ pub trait SegmentSink {
         ensures segments { segments self.new ≡ segments_after (segments self.old) bytes.now result }
         ensures cause { Counts (faults self.old) (faults self.new) (sink_failed result) }
         ensures fails { IsTrue (sink_failed result) → may_fail self.old 0 }
-        ensures later { (k : ℕ) → may_fail self.new k → may_fail self.old (k + 1) };
+        ensures later { (k : ℕ) → may_fail self.new k → may_fail self.old (k + 1) }
+        ensures borrow { borrow self.new ≡ borrow self.old };
 }
 
 impl<S: SegmentSink> SegmentSink for &mut S {
@@ -75,6 +79,8 @@ impl<S: SegmentSink> SegmentSink for &mut S {
     ghost faults = { λ s. S.faults s.now };
 
     ghost may_fail = { λ s k. S.may_fail s.now k };
+
+    ghost borrow = { λ s. s.ghost_name };
 
     fn next_id(&self) -> u64 {
         (**self).next_id()

@@ -121,9 +121,11 @@ raised_are (x ∷ p) r h e = go (raised_last byte_rises suc p) (λ ys f. raised_
   where
     byte_suc : (x : ℕ) → byte_rises x ≡ true → is_byte (suc x) ≡ true
     byte_suc x b = grind (arith, nat_tests)
+
     here : (b : Bool) → byte_rises x ≡ b → (if b then Some (suc x ∷ []) else None) ≡ Some r → (all_by is_byte r ≡ true) × (length r ≤ suc (length p))
     here false f g = cc
     here true f g = let s : suc x ∷ [] ≡ r = cc in subst (λ z. (all_by is_byte z ≡ true) × (length z ≤ suc (length p))) s (both_true (is_byte (suc x)) true (byte_suc x f) refl, omega arith)
+
     go : (o : Option (List ℕ)) → ((ys : List ℕ) → o ≡ Some ys → (all_by is_byte ys ≡ true) × (length ys ≤ length p)) → raised_before byte_rises suc x o ≡ Some r → (all_by is_byte r ≡ true) × (length r ≤ suc (length p))
     go None f g = here (byte_rises x) refl g
     go (Some ys) f g = let s : x ∷ ys ≡ r = cc in
@@ -172,6 +174,7 @@ scalar_next c s h = go (eq_or c)
   where
     not_top : c ≡ 1114111 → ⊥
     not_top e = true≢false (sym (subst (λ z. char_rises z ≡ true) e h))
+
     above : (c ≡ 55295 → ⊥) → (c < 55296) ⊎ ((57344 ≤ c) × (c < 1114112)) → (suc c < 55296) ⊎ ((57344 ≤ suc c) × (suc c < 1114112))
     above n (inl l) = elim (cases_lt c 55295) [
       | inl a ↦ inl (omega arith)
@@ -183,6 +186,7 @@ scalar_next c s h = go (eq_or c)
           | inl a ↦ inr (omega arith, omega arith)
           | inr a ↦ absurd (not_top (omega arith))
         ]
+
     go : (c ≡ 55295) ⊎ (c ≢ 55295) → IsScalar (next_char c)
     go (inl e) = subst (λ z. IsScalar (next_char z)) (sym e) refl
     go (inr n) = subst IsScalar (sym (plain_next c n)) (scalar_from (suc c) (above n (scalar_cases c s)))
@@ -193,26 +197,28 @@ next_longer c = go (eq_or c)
   where
     at : (c d : ℕ) (p q : List ℕ) → encode_utf8 c ≡ p → encode_utf8 d ≡ q → length q ≤ length p + 1 → length (encode_utf8 d) ≤ length (encode_utf8 c) + 1
     at c d p q e f l = subst (λ z. length (encode_utf8 d) ≤ length z + 1) (sym e) (subst (λ z. length z ≤ length p + 1) (sym f) l)
+
     plain : length (encode_utf8 (suc c)) ≤ length (encode_utf8 c) + 1
     plain = elim (cases_lt (suc c) 128) [
       | inl a ↦ at c (suc c) (c ∷ []) (suc c ∷ []) (one_byte c (omega arith)) (one_byte (suc c) a) (omega arith)
       | inr a ↦ elim (cases_lt c 128) [
-          | inl b ↦ at c (suc c) (c ∷ []) _ (one_byte c b) (two_bytes (suc c) a (omega arith)) (omega arith)
-          | inr b ↦ elim (cases_lt (suc c) 2048) [
-              | inl d ↦ at c (suc c) _ _ (two_bytes c b (omega arith)) (two_bytes (suc c) a d) (omega arith)
-              | inr d ↦ elim (cases_lt c 2048) [
-                  | inl f ↦ at c (suc c) _ _ (two_bytes c b f) (three_bytes (suc c) d (omega arith)) (omega arith)
-                  | inr f ↦ elim (cases_lt (suc c) 65536) [
-                      | inl g ↦ at c (suc c) _ _ (three_bytes c f (omega arith)) (three_bytes (suc c) d g) (omega arith)
-                      | inr g ↦ elim (cases_lt c 65536) [
-                          | inl h ↦ at c (suc c) _ _ (three_bytes c f h) (four_bytes (suc c) g) (omega arith)
-                          | inr h ↦ at c (suc c) _ _ (four_bytes c h) (four_bytes (suc c) g) (omega arith)
-                        ]
-                    ]
-                ]
+        | inl b ↦ at c (suc c) (c ∷ []) _ (one_byte c b) (two_bytes (suc c) a (omega arith)) (omega arith)
+        | inr b ↦ elim (cases_lt (suc c) 2048) [
+          | inl d ↦ at c (suc c) _ _ (two_bytes c b (omega arith)) (two_bytes (suc c) a d) (omega arith)
+          | inr d ↦ elim (cases_lt c 2048) [
+            | inl f ↦ at c (suc c) _ _ (two_bytes c b f) (three_bytes (suc c) d (omega arith)) (omega arith)
+            | inr f ↦ elim (cases_lt (suc c) 65536) [
+              | inl g ↦ at c (suc c) _ _ (three_bytes c f (omega arith)) (three_bytes (suc c) d g) (omega arith)
+              | inr g ↦ elim (cases_lt c 65536) [
+                | inl h ↦ at c (suc c) _ _ (three_bytes c f h) (four_bytes (suc c) g) (omega arith)
+                | inr h ↦ at c (suc c) _ _ (four_bytes c h) (four_bytes (suc c) g) (omega arith)
+              ]
             ]
+          ]
         ]
+      ]
     ]
+
     go : (c ≡ 55295) ⊎ (c ≢ 55295) → length (encode_utf8 (next_char c)) ≤ length (encode_utf8 c) + 1
     go (inl e) = subst (λ z. length (encode_utf8 (next_char z)) ≤ length (encode_utf8 z) + 1) (sym e)
         (at 55295 57344 _ _ (three_bytes 55295 (omega arith) (omega arith)) (three_bytes 57344 (omega arith) (omega arith)) (omega arith))
@@ -229,18 +235,22 @@ chars_raised n (x ∷ p) r h e = go (raised_last char_rises next_char p) (λ k y
   where
     sx : IsScalar x
     sx = left_true _ (all_scalars p) h.scalar
+
     whole : length (encode_utf8 x ++ encode_utf8_all p) ≡ length (encode_utf8 x) + length (encode_utf8_all p)
     whole = length-append (encode_utf8 x) (encode_utf8_all p)
+
     total : length (encode_utf8 x ++ encode_utf8_all p) ≤ n
     total = h.few
+
     here : (b : Bool) → char_rises x ≡ b → (if b then Some (next_char x ∷ []) else None) ≡ Some r → Chars (n + 1) r
     here false f g = absurd (Rattle.std.proofs.lemmas.Option.none-some r g)
     here true f g = subst (Chars (n + 1)) (Rattle.std.proofs.lemmas.Option.same_Some (next_char x ∷ []) r g) (record {
       scalar = both_true _ true (scalar_next x sx f) refl;
       few = (let a : length (encode_utf8 x ++ encode_utf8_all p) ≡ length (encode_utf8 x) + length (encode_utf8_all p) = whole in let b : length (encode_utf8 x ++ encode_utf8_all p) ≤ n = total in
           let l : length (encode_utf8 (next_char x)) ≤ length (encode_utf8 x) + 1 = next_longer x in
-          let k : length (encode_utf8 (next_char x) ++ []) ≡ length (encode_utf8 (next_char x)) = ap length (append-nil (encode_utf8 (next_char x))) in omega arith)
+          let k : length (encode_utf8 (next_char x) ++ []) ≡ length (encode_utf8 (next_char x)) = ap length (append-nil (encode_utf8 (next_char x))) in omega arith);
     })
+
     go : (o : Option (List ℕ)) → ((k : ℕ) (ys : List ℕ) → Chars k p → o ≡ Some ys → Chars (k + 1) ys) → raised_before char_rises next_char x o ≡ Some r → Chars (n + 1) r
     go None f g = here (char_rises x) refl g
     go (Some ys) f g =
@@ -256,12 +266,13 @@ front_are n (c ∷ cs) h = go (nat_le (length (encode_utf8 c)) n) refl (front_ar
   where
     le_of : (a b : ℕ) → nat_le a b ≡ true → a ≤ b
     le_of a b h = grind (arith, nat_tests)
+
     go : (b : Bool) → nat_le (length (encode_utf8 c)) n ≡ b → Chars (n - length (encode_utf8 c)) (front_chars (n - length (encode_utf8 c)) cs) → Chars n (if b then c ∷ front_chars (n - length (encode_utf8 c)) cs else [])
     go true e r =
         let l : length (encode_utf8 c) ≤ n = le_of (length (encode_utf8 c)) n e in
         let few : length (encode_utf8_all (front_chars (n - length (encode_utf8 c)) cs)) ≤ n - length (encode_utf8 c) = r.few in
         let k : length (encode_utf8 c ++ encode_utf8_all (front_chars (n - length (encode_utf8 c)) cs)) ≡ length (encode_utf8 c) + length (encode_utf8_all (front_chars (n - length (encode_utf8 c)) cs)) =
-            length-append (encode_utf8 c) (encode_utf8_all (front_chars (n - length (encode_utf8 c)) cs)) in
+        length-append (encode_utf8 c) (encode_utf8_all (front_chars (n - length (encode_utf8 c)) cs)) in
         record { scalar = both_true _ (all_scalars (front_chars (n - length (encode_utf8 c)) cs)) (left_true _ (all_scalars cs) h) r.scalar; few = omega arith }
     go false e r = record { scalar = refl; few = omega arith }
 
@@ -282,6 +293,7 @@ module _ (n : ℕ) (x : List ℕ) (r : is_real_cell (text_cell x) ≡ true) wher
     where
       more : (a b : ℕ) → nat_le a b ≡ false → b < a
       more a b h = grind (arith, nat_tests)
+
       go : (b : Bool) → nat_le (length x) n ≡ b → (o : Option (List ℕ)) → raised_last char_rises next_char (front_chars n (chars x)) ≡ o → Holds (utf8 true) (if b then text_value x else text_or_null o)
       go true e o f = record { fit = refl; real = r }
       go false e None f = record { fit = refl; real = refl }
@@ -293,6 +305,7 @@ module _ (n : ℕ) (x : List ℕ) (r : is_real_cell (text_cell x) ≡ true) wher
     where
       more : (a b : ℕ) → nat_le a b ≡ false → b < a
       more a b h = grind (arith, nat_tests)
+
       go : (b : Bool) → nat_le (length x) n ≡ b → Holds (utf8 true) (if b then text_value x else text_value (encode_utf8_all (front_chars n (chars x))))
       go true e = record { fit = refl; real = r }
       go false e = text_held n (front_chars n (chars x)) (front_are n (chars x) are_scalars) (let l : n < length x = more (length x) n e in let k : length x < 2 ^ 64 = short in omega arith)
@@ -392,8 +405,10 @@ low_bytes i (suc k) n = both_true (is_byte (byte_at i n)) (all_by is_byte (bytes
   where
     low : (b : ℕ) → b < 256 → is_byte b ≡ true
     low b h = grind (arith, nat_tests)
+
     mod_low : (m : ℕ) → m % 256 < 256
     mod_low m = omega arith
+
     byte_low : (i n : ℕ) → byte_at i n < 256
     byte_low zero n = omega arith
     byte_low (suc i) n = mod_low (n / 256 ^ suc i)
@@ -425,7 +440,7 @@ blocks_are f (p ∷ ps) =
     let a : (all_by is_byte (flat_map number_bytes (or_all (f p))) ≡ true) × (length (flat_map number_bytes (or_all (f p))) ≡ 4 * length (or_all (f p))) = numbers_are (or_all (f p)) in
     let b : (all_by is_byte (flat_map block_bytes (map (λ p. or_all (f p)) ps)) ≡ true) × (length (flat_map block_bytes (map (λ p. or_all (f p)) ps)) ≡ 32 * length ps) = blocks_are f ps in
     let l : length (flat_map number_bytes (or_all (f p)) ++ flat_map block_bytes (map (λ p. or_all (f p)) ps)) ≡ length (flat_map number_bytes (or_all (f p))) + length (flat_map block_bytes (map (λ p. or_all (f p)) ps)) =
-        length-append (flat_map number_bytes (or_all (f p))) (flat_map block_bytes (map (λ p. or_all (f p)) ps)) in
+    length-append (flat_map number_bytes (or_all (f p))) (flat_map block_bytes (map (λ p. or_all (f p)) ps)) in
     let e : length (or_all (f p)) ≡ 8 = eight_lanes (f p) in
     let la : length (flat_map number_bytes (or_all (f p))) ≡ 4 * length (or_all (f p)) = a.1 in
     let lb : length (flat_map block_bytes (map (λ p. or_all (f p)) ps)) ≡ 32 * length ps = b.1 in
@@ -435,11 +450,14 @@ filter_is : (blocks : ℕ) (hashes : List ℕ) → blocks < 2 ^ 32 → Holds (bi
 unfolding filter_bytes filter_of
 filter_is blocks hashes small =
     let a : (all_by is_byte (flat_map block_bytes (map (λ p. or_all (masks_in blocks hashes p)) (range_with_len 0 blocks))) ≡ true)
-            × (length (flat_map block_bytes (map (λ p. or_all (masks_in blocks hashes p)) (range_with_len 0 blocks))) ≡ 32 * length (range_with_len 0 blocks)) = blocks_are (masks_in blocks hashes) (range_with_len 0 blocks) in
+    × (length (flat_map block_bytes (map (λ p. or_all (masks_in blocks hashes p)) (range_with_len 0 blocks))) ≡ 32 * length (range_with_len 0 blocks)) = blocks_are (masks_in blocks hashes) (range_with_len 0 blocks) in
     let l : length (range_with_len 0 blocks) ≡ blocks = length-range_with_len 0 blocks in
     let m : length (flat_map block_bytes (map (λ p. or_all (masks_in blocks hashes p)) (range_with_len 0 blocks))) ≡ 32 * length (range_with_len 0 blocks) = a.1 in
-    record { fit = refl; real = both_true (all_by is_byte (filter_bytes (filter_of blocks hashes))) (is_length (length (filter_bytes (filter_of blocks hashes)))) a.0
-        (below_test (length (filter_bytes (filter_of blocks hashes))) (omega arith)) }
+    record {
+      fit = refl;
+      real = both_true (all_by is_byte (filter_bytes (filter_of blocks hashes))) (is_length (length (filter_bytes (filter_of blocks hashes)))) a.0
+          (below_test (length (filter_bytes (filter_of blocks hashes))) (omega arith));
+    }
 
 filter_held : (t u : Ty) (blocks : ℕ) (hashes : List ℕ) → filter_state t ≡ Some u → blocks < 2 ^ 32 → Holds u (bytes_value (filter_bytes (filter_of blocks hashes)))
 filter_held (boolean n) u blocks hashes e small = let s : binary true ≡ u = cc in subst (λ z. Holds z (bytes_value (filter_bytes (filter_of blocks hashes)))) s (filter_is blocks hashes small)

@@ -62,7 +62,7 @@ filled_good hash t [] zs c z f i = absurd i
 filled_good hash t (a ∷ columns) zs c z f i = ⊎_elim
     (λ e. subst (Good (length zs)) (sym e) (record {
       held = heads_are hash t a columns zs c.0 c.1 z;
-      count = length-map (records hash t (a ∷ columns) zs) (head_or null_value) ∙ length-records hash t (a ∷ columns) zs
+      count = length-map (records hash t (a ∷ columns) zs) (head_or null_value) ∙ length-records hash t (a ∷ columns) zs;
     }))
     (λ j. filled_good hash t columns zs c.2 z f (subst (λ r. In f (filled columns r)) (tails_are hash t a columns zs) j)) i
 
@@ -84,8 +84,8 @@ kept_good hash t columns [] table c z e f i = absurd (none-some table e)
 kept_good hash t columns (y ∷ zs) table c z e f i =
     let same : ordered (some_values (filled columns (records hash t columns (y ∷ zs)))) ≡ table = any_same (ordered (some_values (filled columns (records hash t columns (y ∷ zs))))) table e in
     filled_good hash t columns (y ∷ zs) c z f
-        (from_some f (filled columns (records hash t columns (y ∷ zs)))
-            (from_sorted name_of f (some_values (filled columns (records hash t columns (y ∷ zs)))) (subst (In f) (sym same) i)))
+    (from_some f (filled columns (records hash t columns (y ∷ zs)))
+    (from_sorted name_of f (some_values (filled columns (records hash t columns (y ∷ zs)))) (subst (In f) (sym same) i)))
 
 -- ---- the chunk
 
@@ -116,7 +116,7 @@ columned n (c ∷ cs) small h =
           (both (all_by (fits c.state) (map state_cell c.values)) (nat_lt (length (map state_cell c.values)) (2 ^ 64)) held.0 (below (length (map state_cell c.values)) (omega arith))) rest.sound;
       real = both (all_by is_real_cell (map state_cell c.values)) (are_real (pieces_of (table_columns cs))) held.1 rest.real;
       fields = both (ty_eq c.state c.state) _ ((ty_eq_decides c.state c.state).1 refl)
-          (both (length (map state_cell c.values) == n) (match_fields (table_fields cs) (pieces_in (pieces_of (table_columns cs))) n) (eq-eqb (length (map state_cell c.values)) n count) rest.fields)
+          (both (length (map state_cell c.values) == n) (match_fields (table_fields cs) (pieces_in (pieces_of (table_columns cs))) n) (eq-eqb (length (map state_cell c.values)) n count) rest.fields);
     }
 
 pub table_whole : (hash : List ℕ → ℕ) (t : Ty) (columns : List Column) (zs : List (List Tree)) (table : List Filled) → Columns t columns → Zones t zs → length zs < 2 ^ 64
@@ -128,9 +128,9 @@ table_whole hash t columns zs table are z short e =
       whole = record {
         sound = both (are_sound (pieces_of (table_columns table))) _ c.sound
             (both (match_fields (table_fields table) (pieces_in (pieces_of (table_columns table))) (length zs)) _ c.fields
-                (both (nat_lt (length zs) (2 ^ 64)) (are_flags (table_type table) (length zs) []) (below (length zs) short) refl));
-        real = c.real
-      }
+            (both (nat_lt (length zs) (2 ^ 64)) (are_flags (table_type table) (length zs) []) (below (length zs) short) refl));
+        real = c.real;
+      };
     }
 
 pub tables_are_whole : TablesAreWhole

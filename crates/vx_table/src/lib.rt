@@ -7,5 +7,4 @@ ghost use Rattle.vx_table.specs.Statements.{TablesAreWhole};
 /// The table of the records of zones is a whole chunk of the table's type.
 pub fn tables_are_whole()
     ensures { TablesAreWhole }
-{
-}
+{}

@@ -35,4 +35,5 @@ pub rest_fits : (f : Tree → Bool) (cs : List Cell) (i : ℕ) (c : Cell) → i 
 rest_fits f cs i c lt is h = rest_true (f (tree c)) (all_by f (map tree (drop (i + 1) cs))) (rw (drop_all_by f cs i c lt is) at h)
 
 pub ruleset cell_rules = (append_assoc, append-nil, drop_joined_by, drop_all_by)
+
 pub ruleset copy_rules = (map_push, map_more, tree_list, tree_struct)

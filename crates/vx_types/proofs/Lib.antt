@@ -1,2 +1,4 @@
 pub mod Cells
 pub mod PlainSegment
+pub mod RowSteps
+pub mod Examples

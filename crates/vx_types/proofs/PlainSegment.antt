@@ -54,6 +54,7 @@ pub refusal_is : (ctx : List EncodingId) (cs : List Tree) → listed_place Plain
 refusal_is ctx cs listed = rw (is_missing (is_listed Plain ctx) (place_of Plain ctx) listed) refl
 
 pub ruleset place_rules = (drop_place)
+
 -- the same of a chunk as it is held
 pub held_segment : (ctx : List EncodingId) (padded : Bool) (t : Ty) (cs : List Tree) (index : ℕ) (bytes : List ℕ)
     → t ≡ primitive I64 false → listed_place Plain ctx ≡ Some index → bytes ≡ plain_bytes padded index cs
@@ -68,4 +69,5 @@ pub joins : (out a b c d e f g : List ℕ) → ((((((out ++ a) ++ b) ++ c) ++ d)
 joins out a b c d e f g = simp append_assoc
 
 pub ruleset segment_rules = (segment_is, refusal_is, held_segment)
+
 pub ruleset length_rules = (append_assoc, append-nil, length-map)

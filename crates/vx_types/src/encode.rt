@@ -51,7 +51,12 @@ impl<T: Drop> From<AllocFailed<T>> for EncodeError {
 /// The segment of a chunk: its buffers, its tree of encodings and the tree's length. With `padding` each buffer
 /// begins at a multiple of eight bytes. Built for 64-bit integers without null so far.
 #[tactic(auto, using(crate::proofs::PlainSegment::segment_rules))]
-pub fn encode_segment(alloc: Global, ctx: &ArrayContext, chunk: &Chunk, padding: bool) -> Result<Vec<u8>, EncodeError>
+pub fn encode_segment(
+    alloc: Global,
+    ctx: &ArrayContext,
+    chunk: &Chunk,
+    padding: bool,
+) -> Result<Vec<u8>, EncodeError>
     requires { piece_type (piece chunk.now) ≡ primitive I64 false }
     ensures ok { IfOk result (λ bytes. encode ctx.now padding (piece chunk.now) ≡ Some bytes.items) }
     ensures refused { IfErr result (HasEncodeCause (refused ctx.now (piece chunk.now))) }
@@ -63,7 +68,12 @@ pub fn encode_segment(alloc: Global, ctx: &ArrayContext, chunk: &Chunk, padding:
 }
 
 #[tactic(auto, using(crate::proofs::PlainSegment::length_rules))]
-fn plain_segment(alloc: Global, cells: &[Cell], index: usize, padding: bool) -> Result<Vec<u8>, AllocError>
+fn plain_segment(
+    alloc: Global,
+    cells: &[Cell],
+    index: usize,
+    padding: bool,
+) -> Result<Vec<u8>, AllocError>
     requires { IsTrue (all_by (fits (primitive I64 false)) (map tree cells.now)) }
     ensures { IfOk result (λ bytes. bytes.items ≡ plain_bytes padding index (map tree cells.now)) }
 {
@@ -109,7 +119,13 @@ fn push_integer(out: &mut Vec<u8>, cell: &Cell) -> Result<(), AllocError>
 
 #[tactic(auto, using(crate::proofs::Cells::cell_rules))]
 /// The tree of a plain chunk with one buffer, and the tree's length.
-fn push_tree(out: &mut Vec<u8>, padding: bool, index: usize, rows: u64, length: u64) -> Result<(), AllocError>
+fn push_tree(
+    out: &mut Vec<u8>,
+    padding: bool,
+    index: usize,
+    rows: u64,
+    length: u64,
+) -> Result<(), AllocError>
     ensures { OnOk result (out.new.items ≡ out.old.items ++ plain_tree padding index rows length) }
 {
     out.push(padding as u8)?;

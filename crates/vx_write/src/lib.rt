@@ -9,6 +9,5 @@ mod write;
 
 pub use error::WriteError;
 pub use strategy::{BuildError, ChunkedLayoutStrategy, FlatLayoutStrategy, Strategy};
-
 pub use trace::{ActionKind, Step};
 pub use write::{Refused, Written, write_stream};

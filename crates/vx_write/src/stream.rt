@@ -18,8 +18,6 @@ ghost use Rattle.vx_write.specs.InOrder.{AllWritten, BatchWritten, Finished, Hal
 ghost use Rattle.vx_write.specs.Stream.{HasCause, MayCome, NotAdmitted, NotWritten, is_built_type};
 
 use crate::error::WriteError;
-
-
 use std::alloc::Global;
 use vx_layout::{ChunkedLayout, FlatLayout, Layout};
 use vx_sink::{BatchSource, SegmentSink};
@@ -27,7 +25,12 @@ use vx_types::{ArrayContext, Chunk, DType, encode_segment};
 
 #[tactic(auto, using(crate::proofs::Steps::step_rules))]
 /// Writes the source's batches as one column.
-pub(crate) fn write_column<B: BatchSource, S: SegmentSink>(alloc: Global, ctx: &ArrayContext, source: &mut B, sink: &mut S) -> Result<Layout, WriteError>
+pub(crate) fn write_column<B: BatchSource, S: SegmentSink>(
+    alloc: Global,
+    ctx: &ArrayContext,
+    source: &mut B,
+    sink: &mut S,
+) -> Result<Layout, WriteError>
     requires { B.kind source.old ≡ primitive I64 false }
     ensures kind { B.kind source.new ≡ B.kind source.old }
     ensures ok { IfOk result (λ l. Finished ctx.now (B.kind source.old) (S.next sink.old) (S.next sink.new) (lay l)
@@ -78,7 +81,12 @@ fn admit(dtype: &DType, batch: Chunk, rows: u64) -> Result<(Chunk, u64), WriteEr
 
 /// Appends the batch's segment. All memory is taken before the sink is called.
 #[tactic(auto, using(vx_layout::proofs::Views::lay_rules))]
-fn write_batch<S: SegmentSink>(alloc: Global, ctx: &ArrayContext, batch: &Chunk, sink: &mut S) -> Result<Layout, WriteError>
+fn write_batch<S: SegmentSink>(
+    alloc: Global,
+    ctx: &ArrayContext,
+    batch: &Chunk,
+    sink: &mut S,
+) -> Result<Layout, WriteError>
     requires { piece_type (piece batch.now) ≡ primitive I64 false }
     ensures ok { IfOk result (λ l. BatchWritten ctx.now (S.next sink.old) (piece batch.now) (lay l) (S.segments sink.old) (S.segments sink.new)) }
     ensures same { OnErr result (S.segments sink.new ≡ S.segments sink.old) }

@@ -62,10 +62,10 @@ pub fn write_stream<B: BatchSource, S: SegmentSink, C: CompressorPlugin>(
         → lay w.layout ≡ numbered (source_plan s (way strategy.now) (B.kind source.old) false xs true) (S.next sink.old)) }
     ensures segments { OnOk result ((s : Setting) (xs : List Piece) → Writes (listed ctx.old) s → B.to_come source.old ≡ Some xs
         → S.segments sink.new ≡ then_told (S.segments sink.old)
-            (segments (source_plan s (way strategy.now) (B.kind source.old) false xs true))) }
+        (segments (source_plan s (way strategy.now) (B.kind source.old) false xs true))) }
     ensures numbers { OnOk result ((s : Setting) (xs : List Piece) → Writes (listed ctx.old) s → B.to_come source.old ≡ Some xs
         → S.next sink.new ≡ S.next sink.old
-            + length (segments (source_plan s (way strategy.now) (B.kind source.old) false xs true))) }
+        + length (segments (source_plan s (way strategy.now) (B.kind source.old) false xs true))) }
     ensures ended { OnOk result (NoneTold (B.to_come source.new)) }
 
     // A fault is told by its count, and after anything else the counts are as before.
@@ -76,7 +76,7 @@ pub fn write_stream<B: BatchSource, S: SegmentSink, C: CompressorPlugin>(
     // After a refusal the segments appended are the first of the plan of the batches taken.
     ensures prefix { OnErr result ((s : Setting) → Writes (listed ctx.old) s
         → Stands (λ taken. taken_plan s (way strategy.now) (B.kind source.old) false taken false)
-            (S.next sink.old) (S.next sink.new) (B.to_come source.old) (B.to_come source.new) (S.segments sink.old) (S.segments sink.new)) }
+        (S.next sink.old) (S.next sink.new) (B.to_come source.old) (B.to_come source.new) (S.segments sink.old) (S.segments sink.new)) }
     ensures cause { IfErr result (λ r. HasCause (B.kind source.old) (listed ctx.old)
         (is_built (way strategy.now) (B.kind source.old) ≡ false) (S.next sink.new) (B.to_come source.old) (B.to_come source.new) r.error) }
     ensures may { IfErr result (λ r. MayCome (B.may_fail source.old (S.next sink.new - S.next sink.old))

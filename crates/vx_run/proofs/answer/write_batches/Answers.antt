@@ -12,7 +12,7 @@ pub returns-in-TooLarge : goal.returns-in-TooLarge
 returns-in-TooLarge c s writes = refused_shown s (map piece c.args.batches.items) c.in_ok-strategy.ensures (c.new-source.ensures.kind ∙ i64_is) c.new-source.ensures.batches c.new-sink.ensures.segments c.segments-in-TooLarge.ensures c.in_ok-text-in-TooLarge.ensures
     (c.in-Err.ensures.prefix s (rw c.in_ok-ctx.ensures writes))
     (λ tracker valid. let never : c.in-Err.refused.error ≡ errors.OutOfMemory = c.in-Err.ensures.complete s tracker (map piece c.args.batches.items) (rw c.in_ok-ctx.ensures writes) c.new-source.ensures.batches (rw (c.in_ok-strategy.ensures, c.new-source.ensures.kind, i64_is) refl) (rw (c.in_ok-strategy.ensures, c.new-source.ensures.kind, i64_is, c.new-sink.ensures.next) valid) (rw c.in-TooLarge.is at c.in-Err.ensures.source_count, rw c.new-source.ensures.faults (omega arith)) (rw c.in-TooLarge.is at c.in-Err.ensures.sink_count, rw c.new-sink.ensures.faults (omega arith)) in
-      let other : errors.TooLarge c.in-TooLarge.field-0 ≡ errors.OutOfMemory = sym c.in-TooLarge.is ∙ never in cc)
+    let other : errors.TooLarge c.in-TooLarge.field-0 ≡ errors.OutOfMemory = sym c.in-TooLarge.is ∙ never in cc)
 
 pub unreachable-requires-in-BatchType : goal.unreachable-requires-in-BatchType
 unreachable-requires-in-BatchType c =

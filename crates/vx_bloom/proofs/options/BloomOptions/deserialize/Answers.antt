@@ -1,6 +1,5 @@
-use Rattle.std.proofs.Common.{◌≡◌, ℕ, refl, sym, ◌∙◌, rules, arith}
-use Rattle.vx_bloom.specs.Bytes.{number_at}
-use Rattle.vx_bloom.specs.Options.{hash_number, hash_fn_in, blocks_in}
+use Rattle.std.proofs.Common.{◌∙◌, rules, arith}
+use Rattle.vx_bloom.specs.Options.{hash_fn_in}
 use Rattle.vx_bloom.proofs.ReadOptions.{hash_number_zero, reads_options, same_read}
 use Rattle.vx_bloom.proofs.options.BloomOptions.deserialize.Goals as goal
 

@@ -4,4 +4,4 @@ use Rattle.vx_bloom.proofs.partial.BloomPartial.deserialize.Goals as goal
 
 pub returns-clause-whole : goal.returns-clause-whole
 returns-clause-whole g c = λ p are e.
-    same_filter_bytes c.in_ok-blocks.blocks.items p c.in_ok-blocks.ensures.blocks are (c.in_ok-blocks.ensures.bytes ∙ sym e)
+    same_filter_bytes c.in_ok-blocks.blocks.items p c.in_ok-blocks.ensures.sound are (c.in_ok-blocks.ensures.bytes ∙ sym e)

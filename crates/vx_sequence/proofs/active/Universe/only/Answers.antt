@@ -1,6 +1,5 @@
-use Rattle.std.proofs.Common.{◌≡◌, ◌∙◌, ap, refl, sym, true}
+use Rattle.std.proofs.Common.{◌∙◌, ap, refl, sym, true}
 use Rattle.std.specs.FinMap as fin
-use Rattle.vx_path.specs.Path.{eof_path}
 use Rattle.vx_sequence.specs.Universe.{place_of}
 use Rattle.vx_sequence.proofs.Places.{eof_path-place_of}
 use Rattle.vx_sequence.proofs.Steps.{kept_only}

@@ -11,7 +11,7 @@ invariant_of-self c = keeps_released c.self.inside.entries.items c.self.invarian
     c.requires c.index_of-at.result (rw c.deref.ensures.value at c.index_of-at.ensures.within)
     (rw c.deref.ensures.value at c.index_of-at.ensures.found) c.remove-entry.result c.remove-entry.new.self.items c.remove-entry.ensures.items
 
-pub returns : goal.returns
-returns c = shows_released c.self.inside.entries.items c.self.invariant c.args.self.now c.self.view_is c.args.path.now
+pub returns-clause-active : goal.returns-clause-active
+returns-clause-active c = shows_released c.self.inside.entries.items c.self.invariant c.args.self.now c.self.view_is c.args.path.now
     c.requires c.index_of-at.result (rw c.deref.ensures.value at c.index_of-at.ensures.within)
     (rw c.deref.ensures.value at c.index_of-at.ensures.found) c.remove-entry.result c.remove-entry.new.self.items c.remove-entry.ensures.items

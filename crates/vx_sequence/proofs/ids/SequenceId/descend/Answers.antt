@@ -1,6 +1,5 @@
 use Rattle.std.proofs.Common.{◌≡◌, ap, ◌∙◌}
 use Rattle.vx_path.specs.Path.{Eof, under}
-use Rattle.vx_sequence.specs.Universe.{place_of}
 use Rattle.vx_sequence.proofs.Places.{place_is}
 use Rattle.vx_sequence.proofs.ids.SequenceId.descend.Goals as goal
 

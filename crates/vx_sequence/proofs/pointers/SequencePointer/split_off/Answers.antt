@@ -3,7 +3,7 @@ use Rattle.vx_path.specs.Path.{Eof, eof_path, next, inside, under}
 use Rattle.vx_sequence.specs.Universe.{place_of, split_from}
 use Rattle.vx_sequence.specs.declared.errors.SequenceError.TheVariants.{IndexFull}
 use Rattle.vx_sequence.proofs.Refusals.{handed_on}
-use Rattle.vx_sequence.proofs.Places.{place_is, path_is}
+use Rattle.vx_sequence.proofs.Places.{place_is}
 use Rattle.vx_sequence.proofs.pointers.SequencePointer.split_off.Goals as goal
 
 pub returns-in_err-child-clause-full : goal.returns-in_err-child-clause-full

@@ -1,0 +1,33 @@
+//! Tests that cross crates: jobs and their reports, and refusals of writes.
+#![tactic(auto)]
+
+ghost use Rattle.std.specs.Prelude.{◌≡◌, false};
+ghost use Rattle.vx_model.specs.declared.ptype.PType.TheVariants.{I64};
+ghost use Rattle.vx_model.specs.Ty.{primitive};
+ghost use Rattle.vx_model.specs.TyView.{ty};
+
+#[cfg(test)]
+mod refusals;
+#[cfg(test)]
+mod reports;
+
+use std::alloc::{AllocError, Global};
+use vx_types::{Cell, Chunk, DType, Nullability, PType};
+
+/// The type of 64-bit integers without null.
+#[tactic(auto, using(crate::proofs::Fits::i64_is))]
+pub fn i64_type() -> DType
+    ensures { ty result ≡ primitive I64 false }
+{
+    DType::Primitive(PType::I64, Nullability::NonNullable)
+}
+
+/// A plain chunk of these integers.
+#[tactic(auto, using(crate::proofs::Fits::fit_rules))]
+pub fn integers(alloc: Global, numbers: &[i64]) -> Result<Chunk, AllocError> {
+    let mut cells = Vec::with_capacity(alloc, numbers.len())?;
+    for number in numbers {
+        cells.push(Cell::Int(i128::from(*number)))?;
+    }
+    Ok(Chunk::plain(i64_type(), cells))
+}

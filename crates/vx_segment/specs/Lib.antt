@@ -1,0 +1,5 @@
+pub mod Reading
+pub mod Segment
+pub mod Codec
+pub mod Spelled
+pub mod Views

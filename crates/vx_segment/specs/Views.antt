@@ -1,0 +1,29 @@
+-- What the readers return, as contracts see it.
+use Rattle.std.specs.Prelude.{◌≡◌, map, Result, Ok, Err}
+use Rattle.vx_segment.specs.declared.node.Node.{Node}
+use Rattle.vx_segment.specs.declared.node.EncodingTree.{EncodingTree}
+use Rattle.vx_segment.specs.declared.node.RawSegment.{RawSegment}
+use Rattle.vx_segment.specs.declared.error.DecodeError.{DecodeError}
+use Rattle.vx_segment.specs.declared.error.DecodeError.TheVariants as errors
+use Rattle.vx_segment.specs.Reading.{Fault, bad_grammar, bad_type, Head, RawTree}
+use Rattle.vx_segment.specs.Segment.{Raw}
+
+-- the same fault; want of memory is free
+abbrev pub Fails : {Y : Type 0} → DecodeError → Result Y Fault → Type 0
+Fails (errors.Grammar place) read = read ≡ Err (bad_grammar place)
+Fails (errors.BadType node) read = read ≡ Err (bad_type node)
+Fails errors.OutOfMemory read = Unit {0}
+
+-- What a function returned, seen by `view`, is what reading gives, unless memory ran out.
+abbrev pub Gives : {X Y : Type 0} → (X → Y) → Result X DecodeError → Result Y Fault → Type 0
+Gives view (Ok x) read = read ≡ Ok (view x)
+Gives view (Err e) read = Fails e read
+
+abbrev pub head : Node → Head
+head n = record { index = n.index; rows = n.rows; extra = n.extra; lengths = n.lengths.items; children = n.children }
+
+abbrev pub raw_tree : EncodingTree → RawTree
+raw_tree t = record { padded = t.padded; nodes = map head t.nodes.items }
+
+abbrev pub raw : RawSegment → Raw
+raw s = record { tree = raw_tree s.tree; buffers = map (λ b. b.now) s.buffers.items }
