@@ -9,3 +9,4 @@ pub mod CellLaws
 pub mod SegmentLaws
 pub mod Contexts
 pub mod Answering
+mod Examples
