@@ -9,4 +9,3 @@ pub mod CellLaws
 pub mod SegmentLaws
 pub mod Contexts
 pub mod Answering
-mod Examples
