@@ -1,5 +1,6 @@
 pub mod Reading
 pub mod Segment
 pub mod Codec
+pub mod Examples
 pub mod Spelled
 pub mod Views

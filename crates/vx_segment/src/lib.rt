@@ -10,7 +10,7 @@ mod segment;
 mod tree;
 
 pub use error::DecodeError;
-pub use law::segments_read_back;
+pub use law::{segment_examples, segments_read_back};
 pub use segment::{buffer_lengths, decode_segment, tree_buffer_lengths};
 
 #[cfg(test)]
