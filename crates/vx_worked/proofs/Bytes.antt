@@ -22,7 +22,7 @@ setting = record {
   encodings = encodings.Plain ∷ encodings.Constant ∷ encodings.Dict ∷ encodings.Chunked ∷ encodings.List ∷ encodings.Struct ∷ encodings.Extension ∷ [];
   allowed = None;
   image = λ which p. p;
-  hash = λ b. 0
+  hash = λ b. 0;
 }
 
 flats : Way

@@ -5,9 +5,10 @@ ghost use Rattle.vx_model.specs.TyView.{ty};
 ghost use Rattle.vx_model.specs.Piece.{Piece};
 ghost use Rattle.vx_layout.specs.LayoutView.{lay};
 ghost use Rattle.vx_plan.specs.PlanData.{Setting};
-ghost use Rattle.vx_plan.specs.SourcePlan.{source_plan, taken_plan};
-ghost use Rattle.vx_plan.specs.Number.{segments, numbered};
-ghost use Rattle.vx_plan.specs.Valid.{Valid};
+ghost use Rattle.vx_tree.specs.Rows.{rows};
+ghost use Rattle.vx_plan.specs.SourcePlan.{source_plan, taken_plan, source_values};
+ghost use Rattle.vx_plan.specs.Number.{segments, numbered, segment_at};
+ghost use Rattle.vx_plan.specs.Valid.{Valid, Keeps, AllOf, Fit};
 ghost use Rattle.vx_sink.specs.Counts.{Counts, IsCalm};
 ghost use Rattle.vx_sink.specs.Told.{then_told, NoneTold};
 ghost use Rattle.vx_sink.specs.ContextView.{listed};
@@ -66,6 +67,11 @@ pub fn write_stream<B: BatchSource, S: SegmentSink, C: CompressorPlugin>(
     ensures numbers { OnOk result ((s : Setting) (xs : List Piece) → Writes (listed ctx.old) s → B.to_come source.old ≡ Some xs
         → S.next sink.new ≡ S.next sink.old
         + length (segments (source_plan s (way strategy.now) (B.kind source.old) false xs true))) }
+    // The rows of this layout, read from these segments, are the batches' rows.
+    ensures rows { IfOk result (λ w. (s : Setting) (xs : List Piece) → Writes (listed ctx.old) s → B.to_come source.old ≡ Some xs
+        → Keeps s → AllOf (B.kind source.old) xs → Fit (source_plan s (way strategy.now) (B.kind source.old) false xs true).numbers
+        → rows s.codec (segment_at (S.next sink.old) (segments (source_plan s (way strategy.now) (B.kind source.old) false xs true))) (lay w.layout)
+        ≡ Some (source_values xs)) }
     ensures ended { OnOk result (NoneTold (B.to_come source.new)) }
 
     // A fault is told by its count, and after anything else the counts are as before.
@@ -96,6 +102,7 @@ pub fn write_stream<B: BatchSource, S: SegmentSink, C: CompressorPlugin>(
     ensures trace { MatchResult result (λ w. w.trace.items ≡ []) (λ r. r.trace.items ≡ []) }
 {
     vx_plan::chunks_stand_in_order();
+    vx_plan::rows_come_back();
     let _ = &compressor;
     let trace = Vec::new(alloc);
     if !is_built(strategy, source.dtype()) {
