@@ -154,6 +154,7 @@ zoned_renamed s look f (zoned_kind zone_len specs) t (child data_child (child zo
   count = h.count;
   table = h.table;
   data_rows = rows_renamed s.codec look f data_child ∙ h.data_rows;
+  all_zones = h.all_zones;
   kept = h.kept;
   specs_are = h.specs_are;
   zones_rows = λ small. rows_renamed s.codec look f zones ∙ h.zones_rows small;

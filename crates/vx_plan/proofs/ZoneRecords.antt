@@ -1,18 +1,19 @@
 -- The records of zones are of the rows of the zones.
-use Rattle.std.proofs.Common.{◌≡◌, ℕ, zero, suc, ◌+◌, ◌<◌, ◌≤◌, ◌⊎◌, ◌&&◌, ◌||◌, Bool, true, false, List, [], ◌∷◌, ◌++◌, map, length, take, drop, refl, sym, ap, ap₂, ◌∙◌, subst, inl, inr, ⊎_elim, arith}
+use Rattle.std.proofs.Common.{◌≡◌, ℕ, zero, suc, ◌+◌, ◌*◌, ◌<◌, ◌≤◌, ◌⊎◌, ◌&&◌, ◌||◌, Bool, true, false, List, [], ◌∷◌, ◌++◌, map, length, take, drop, refl, sym, ap, ap₂, ◌∙◌, subst, inl, inr, ⊎_elim, arith}
 use Rattle.std.specs.Prelude.{if◌then◌else◌, ◌==◌, nat_lt}
 use Rattle.std.proofs.lemmas.List.{append-nil, length-map}
 use Rattle.std.proofs.lemmas.Bool.{cases_Bool, true≢false}
 use Rattle.std.proofs.lemmas.Bool.Decides.{nat_tests}
+use Rattle.std.proofs.Math.Nat.{suc-mul}
 use Rattle.vx_model.specs.Ty.{Ty}
 use Rattle.vx_model.specs.Val.{Val, value}
 use Rattle.vx_model.specs.Piece.{cells, row_values}
 use Rattle.vx_record.specs.Aggregate.{Column}
 use Rattle.vx_record.specs.Record.{zone_record}
-use Rattle.vx_plan.specs.PlanData.{Setting, Item, fault, zone_cut, at_chunk, stream_values}
+use Rattle.vx_plan.specs.PlanData.{Setting, Item, fault, zone_cut, at_chunk, stream_values, row_total}
 use Rattle.vx_plan.specs.Way.{ZonedOptions}
 use Rattle.vx_plan.specs.ZonedNode.{recorded, is_cut_wrong, is_last, cut_faults, zone_faults, zone_records}
-use Rattle.vx_plan.specs.ZonesHold.{zones_of, records_of}
+use Rattle.vx_plan.specs.ZonesHold.{zones_of, records_of, IsZoneCount}
 use Rattle.vx_plan.specs.Statements.{RecordsAreOfZones}
 
 take_front : {A : Type 0} (front back : List A) (n : ℕ) → length front ≡ n → take n (front ++ back) ≡ front
@@ -40,6 +41,9 @@ few zone n last h = grind (arith, nat_tests)
 whole_zone : (zone n : ℕ) → is_cut_wrong zone n false ≡ false → n ≡ zone
 whole_zone zone n h = grind (arith, nat_tests)
 
+some_rows : (zone n : ℕ) (last : Bool) → is_cut_wrong zone n last ≡ false → 0 < n
+some_rows zone n last h = grind (arith, nat_tests)
+
 cut_right : (zone : ℕ) (c : Item) (cs : List Item) → cut_faults zone (c ∷ cs) ≡ [] → (is_cut_wrong zone (length (cells c.1)) (is_last cs) ≡ false) × (cut_faults zone cs ≡ [])
 cut_right zone c cs h = go (is_cut_wrong zone (length (cells c.1)) (is_last cs)) h
   where
@@ -60,6 +64,20 @@ zones_right s t columns zone (c ∷ d ∷ cs) h =
     let l : length (row_values c.1) ≡ zone = length-map (cells c.1) value ∙ whole_zone zone (length (cells c.1)) w.0 in
     ap₂ (λ vs rest. zone_record s.hash t vs columns ∷ rest) (sym (take_front (row_values c.1) (stream_values (d ∷ cs)) zone l))
     (zones_right s t columns zone (d ∷ cs) w.1 ∙ ap (λ vs. records_of s t columns (zones_of (length (d ∷ cs)) zone vs)) (sym (drop_front (row_values c.1) (stream_values (d ∷ cs)) zone l)))
+
+-- a chunk a zone
+pub zones_count : (zone : ℕ) (c : Item) (cs : List Item) → cut_faults zone (c ∷ cs) ≡ [] → IsZoneCount (row_total (c ∷ cs)) zone (length (c ∷ cs))
+zones_count zone c [] h =
+    let w : (is_cut_wrong zone (length (cells c.1)) true ≡ false) × ([] ≡ []) = cut_right zone c [] h in
+    let k : length (cells c.1) ≤ zone = few zone (length (cells c.1)) true w.0 in
+    let p : 0 < length (cells c.1) = some_rows zone (length (cells c.1)) true w.0 in
+    (omega arith, omega arith)
+zones_count zone c (d ∷ cs) h =
+    let w : (is_cut_wrong zone (length (cells c.1)) false ≡ false) × (cut_faults zone (d ∷ cs) ≡ []) = cut_right zone c (d ∷ cs) h in
+    let l : length (cells c.1) ≡ zone = whole_zone zone (length (cells c.1)) w.0 in
+    let r : IsZoneCount (row_total (d ∷ cs)) zone (length (d ∷ cs)) = zones_count zone d cs w.1 in
+    let m : length (c ∷ d ∷ cs) * zone ≡ length (d ∷ cs) * zone + zone = suc-mul (length (d ∷ cs)) zone in
+    (let a : row_total (d ∷ cs) ≤ length (d ∷ cs) * zone = r.0 in omega arith, let b : length (d ∷ cs) * zone < row_total (d ∷ cs) + zone = r.1 in omega arith)
 
 pub records_are_of_zones : RecordsAreOfZones
 records_are_of_zones s o t items some h = go (recorded o t) some h

@@ -13,14 +13,14 @@ use Rattle.vx_tree.specs.Rows.{rows, and_then, counted}
 use Rattle.vx_tree.specs.LayoutTree.{layout_type}
 use Rattle.vx_record.specs.Aggregate.{Column}
 use Rattle.vx_record.specs.ZoneTable.{Filled, table_type, table_piece, table_specs, kept_columns}
-use Rattle.vx_plan.specs.ZonesHold.{zones_of, records_of, IsZoned}
+use Rattle.vx_plan.specs.ZonesHold.{zones_of, records_of, IsZoned, IsZoneCount}
 use Rattle.vx_tree.specs.Real.{Of}
 use Rattle.vx_record.specs.Record.{zone_record}
 use Rattle.vx_table.specs.Statements.{Zones, SmallColumns, records}
 use Rattle.vx_table.proofs.WholeTables.{table_whole, small_columns}
 use Rattle.vx_rules.proofs.CellLaws.{Fine, cells_fine}
 use Rattle.vx_rules.proofs.ColumnStreams.{chunk_cells}
-use Rattle.vx_plan.proofs.ZoneRecords.{zones_right}
+use Rattle.vx_plan.proofs.ZoneRecords.{zones_right, zones_count}
 use Rattle.vx_plan.specs.PlanData.{Setting, Item, Pair, Plan, Node, Fault, paths, places, stream_values, row_total}
 use Rattle.vx_plan.specs.GroupNode.{with_numbers}
 use Rattle.vx_plan.specs.Way.{ZonedOptions}
@@ -40,6 +40,15 @@ of_zones : (s : Setting) (o : ZonedOptions) (t : Ty) (columns : List Column) (it
 of_zones s o t [] [] cs right kept = cc
 of_zones s o t [] (i ∷ is) cs right kept = cc
 of_zones s o t (a ∷ columns) items cs right kept = zones_right s t (a ∷ columns) o.zone_len items right
+
+-- as many zones as chunks
+count_zones : (s : Setting) (o : ZonedOptions) (t : Ty) (columns : List Column) (items : List Item) (cs : List Filled) → zone_faults o.zone_len columns items ≡ [] → kept_columns columns (zone_records s t columns items) ≡ Some cs
+    → IsZoneCount (length (stream_values items)) o.zone_len (length items)
+count_zones s o t [] [] cs right kept = absurd cc
+count_zones s o t [] (i ∷ is) cs right kept = absurd cc
+count_zones s o t (a ∷ columns) [] cs right kept = absurd cc
+count_zones s o t (a ∷ columns) (i ∷ is) cs right kept =
+    subst (λ n. IsZoneCount n o.zone_len (length (i ∷ is))) (sym (length-stream_values (i ∷ is))) (zones_count o.zone_len i is right)
 
 -- the zones' cells
 zones_cells : (t : Ty) (items : List Item) → ItemsOf t items → Zones t (chunk_cells items)
@@ -81,6 +90,7 @@ table_reads s o t stats rs items e p (Some cs) of right kept look r clean fit he
           count = length items;
           table = cs;
           data_rows = data_child.read;
+          all_zones = count_zones s o t (recorded o t) items cs right kept;
           kept = ap (kept_columns (recorded o t)) (sym (of_zones s o t (recorded o t) items cs right kept)) ∙ kept;
           specs_are = refl;
           zones_rows = λ small. ((rs (table_type cs)).reads false (table_items cs (length items) e) (next (next e)) (whole_table s o t items cs of (fit.1.0) kept small, tt) (nil_right p.faults q.faults clean) (fit_right p.numbers q.numbers fit.1.1.1) look

@@ -1,5 +1,5 @@
 -- What each zoned node of a layout promises.
-use Rattle.std.specs.Prelude.{ℕ, zero, suc, ◌≡◌, Bool, true, false, List, [], ◌∷◌, take, drop, Option, Some}
+use Rattle.std.specs.Prelude.{ℕ, zero, suc, ◌+◌, ◌*◌, ◌<◌, ◌≤◌, length, ◌≡◌, Bool, true, false, List, [], ◌∷◌, take, drop, Option, Some}
 use Rattle.vx_model.specs.Ty.{Ty}
 use Rattle.vx_model.specs.Val.{Val}
 use Rattle.vx_model.specs.Piece.{row_values}
@@ -16,6 +16,10 @@ abbrev pub zones_of : ℕ → ℕ → List Val → List (List Val)
 zones_of zero zone_len vs = []
 zones_of (suc n) zone_len vs = take zone_len vs ∷ zones_of n zone_len (drop zone_len vs)
 
+-- so many zones are all zones of the rows: each but the last has zone_len rows, and the last at least one
+abbrev pub IsZoneCount : ℕ → ℕ → ℕ → Type 0
+IsZoneCount rows zone_len count = (rows ≤ count * zone_len) × (count * zone_len < rows + zone_len)
+
 abbrev pub records_of : Setting → Ty → List Column → List (List Val) → List (List Val)
 records_of s t columns [] = []
 records_of s t columns (vs ∷ zones) = zone_record s.hash t vs columns ∷ records_of s t columns zones
@@ -28,6 +32,7 @@ pub record IsZoned {A : Type 0} (s : Setting) (look : A → Option (List ℕ)) (
   pub count : ℕ
   pub table : List Filled
   pub data_rows : rows s.codec look data_child ≡ Some values
+  pub all_zones : IsZoneCount (length values) zone_len count
   pub kept : kept_columns columns (records_of s t columns (zones_of count zone_len values)) ≡ Some table
   pub specs_are : specs ≡ table_specs table
   -- where filters have fewer than 2^32 blocks
