@@ -15,14 +15,14 @@ use Rattle.vx_plan.specs.FlatNode.{refused_at, inlined}
 use Rattle.vx_plan.specs.SourcePlan.{source_plan, taken_plan, of_schema}
 use Rattle.vx_plan.specs.InOrder.{InOrder, ChunksInOrder, batch_rows, batch_segments, batch_refusals, batch_flats, batch_pairs}
 use Rattle.vx_plan.specs.Number.{segments, numbered, segment_at}
-use Rattle.vx_plan.specs.Valid.{Fit, OfSchema, Valid, Keeps, AllOf}
-use Rattle.vx_plan.specs.Statements.{RowsComeBack}
+use Rattle.vx_plan.specs.Valid.{Fit, OfSchema, Valid}
 use Rattle.vx_plan.specs.SourcePlan.{source_values}
 use Rattle.vx_tree.specs.Rows.{rows}
 use Rattle.vx_sink.specs.Told.{before_told, then_told, NoneTold}
 use Rattle.vx_write.proofs.Steps.{stored-append, told_same, then_same}
 use Rattle.vx_write.specs.InOrder.{stored_of, flats_of, AllWritten, Finished, Halted}
-use Rattle.vx_write.specs.Stream.{Writes, Stands, is_built, is_built_way, is_built_type}
+use Rattle.vx_write.proofs.Back.{rows_back}
+use Rattle.vx_write.specs.Stream.{Writes, ReadsBack, Stands, is_built, is_built_way, is_built_type}
 
 -- ---- which strategies are built
 
@@ -144,9 +144,8 @@ module _ (ids : List EncodingId) (s : Setting) (writes : Writes ids s) (w : Way)
     layout_is = f.laid ∙ (rw taken_all (ap (gathered t (batch_rows xs)) (sym (flats_is t first xs))) ∙ sym ((in_order t xs true).layout (refusals_none 0 t xs all_written) encodes first))
 
     -- the rows of the layout are those of the batches
-    pub rows_are : RowsComeBack → Keeps s → AllOf t xs → Fit (source_plan s w t false xs true).numbers
-        → rows s.codec (segment_at first (segments (source_plan s w t false xs true))) l ≡ Some (source_values xs)
-    rows_are back keeps whole fit = rw layout_is (back s w t false xs first keeps whole ((in_order t xs true).faults ∙ refusals_none 0 t xs all_written) fit)
+    pub rows_are : ReadsBack s.codec ids xs → rows s.codec (segment_at first (segments (source_plan s w t false xs true))) l ≡ Some (source_values xs)
+    rows_are back = rw (f.laid, taken_all, (in_order t xs true).segments, stored_is xs) (rows_back s.codec ids t first xs all_written back)
 
     pub segments_are : now ≡ then_told before (segments (source_plan s w t false xs true))
     segments_are = f.appended ∙ ap (then_told before) (ap (stored_of ids) taken_all ∙ (sym (stored_is xs) ∙ sym (in_order t xs true).segments))

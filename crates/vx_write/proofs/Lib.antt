@@ -1,3 +1,4 @@
 pub mod Ways
 pub mod Steps
+pub mod Back
 pub mod Bridge
