@@ -7,6 +7,8 @@ ghost use Rattle.vx_model.specs.Ty.{primitive};
 ghost use Rattle.vx_model.specs.TyView.{ty};
 
 #[cfg(test)]
+mod calls;
+#[cfg(test)]
 mod refusals;
 #[cfg(test)]
 mod reports;
