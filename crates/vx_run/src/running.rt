@@ -38,6 +38,7 @@ pub fn run<I: Input, O: Output>(
         → Ends (IsAnswer (job bytes)) (O.written output.old) (O.written output.new) result }
     ensures used { is_write (map string_bytes words.now) ≡ false
         → Ends (IsText statuses.Usage usage) (O.written output.old) (O.written output.new) result }
+    ensures unread { is_write (map string_bytes words.now) ≡ false → is_input_fault result ≡ false }
     ensures complete { (bytes : List ℕ) (batches : List Piece) (s : Setting) (tracker : ℕ) → is_write (map string_bytes words.now) ≡ true
         → I.to_come input.old ≡ Some bytes → job bytes ≡ column batches
         → Writes all_encodings s → Valid s chunked_flat i64_type false 0 tracker batches
