@@ -1,11 +1,12 @@
 //! A chunk as the bytes of a segment.
 
-ghost use Rattle.std.specs.Prelude.{◌≡◌, ◌++◌, Some, false, map, OnOk, IfOk, IfErr, IsTrue};
+ghost use Rattle.std.specs.Prelude.{◌≡◌, ◌++◌, ◌<◌, ◌^◌, Some, None, false, map, length, OnOk, IfOk, IfErr, IsTrue};
 ghost use Rattle.vx_model.specs.declared.ptype.PType.TheVariants.{I64};
 ghost use Rattle.vx_model.specs.Words.{all_by, joined_by};
 ghost use Rattle.vx_model.specs.Ty.{primitive};
 ghost use Rattle.vx_model.specs.Tree.{fits, spelling};
 ghost use Rattle.vx_model.specs.TreeView.{tree};
+ghost use Rattle.vx_model.specs.Distinct.{first_repeat};
 ghost use Rattle.vx_model.specs.Piece.{piece_type};
 ghost use Rattle.vx_types.specs.ChunkView.{piece};
 ghost use Rattle.vx_types.specs.Segment.{encode, refused};
@@ -60,6 +61,8 @@ pub fn encode_segment(
     requires { piece_type (piece chunk.now) ≡ primitive I64 false }
     ensures ok { IfOk result (λ bytes. encode ctx.now padding (piece chunk.now) ≡ Some bytes.items) }
     ensures refused { IfErr result (HasEncodeCause (refused ctx.now (piece chunk.now))) }
+    ensures short { IfOk result (λ bytes. length bytes.items < 2 ^ 64) }
+    ensures distinct { first_repeat ctx.now ≡ None }
 {
     let Some(index) = find_place(ctx.ids(), EncodingId::Plain) else {
         return Err(EncodeError::EncodingNotListed(EncodingId::Plain));

@@ -15,8 +15,7 @@ use Rattle.vx_plan.specs.InOrder.{batch_rows}
 use Rattle.vx_plan.specs.Number.{segment_at}
 use Rattle.vx_plan.specs.SourcePlan.{source_values}
 use Rattle.vx_plan.proofs.PlanLists.{counted_same}
-use Rattle.vx_write.specs.InOrder.{stored_of, flats_of, AllWritten}
-use Rattle.vx_write.specs.Stream.{ReadsBack}
+use Rattle.vx_write.specs.InOrder.{stored_of, flats_of, AllWritten, ReadsBack}
 
 -- each batch's segment stands at its number
 abbrev Segments : (ℕ → Option (List ℕ)) → List EncodingId → ℕ → List Piece → Type 0

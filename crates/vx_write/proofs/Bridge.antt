@@ -20,9 +20,10 @@ use Rattle.vx_plan.specs.SourcePlan.{source_values}
 use Rattle.vx_tree.specs.Rows.{rows}
 use Rattle.vx_sink.specs.Told.{before_told, then_told, NoneTold}
 use Rattle.vx_write.proofs.Steps.{stored-append, told_same, then_same}
-use Rattle.vx_write.specs.InOrder.{stored_of, flats_of, AllWritten, Finished, Halted}
+use Rattle.vx_write.specs.InOrder.{stored_of, flats_of, AllWritten, ReadsBack, Finished, Halted}
+use Rattle.vx_segment.specs.Codec.{segment_codec}
 use Rattle.vx_write.proofs.Back.{rows_back}
-use Rattle.vx_write.specs.Stream.{Writes, ReadsBack, Stands, is_built, is_built_way, is_built_type}
+use Rattle.vx_write.specs.Stream.{Writes, Stands, is_built, is_built_way, is_built_type}
 
 -- ---- which strategies are built
 
@@ -144,8 +145,8 @@ module _ (ids : List EncodingId) (s : Setting) (writes : Writes ids s) (w : Way)
     layout_is = f.laid ∙ (rw taken_all (ap (gathered t (batch_rows xs)) (sym (flats_is t first xs))) ∙ sym ((in_order t xs true).layout (refusals_none 0 t xs all_written) encodes first))
 
     -- the rows of the layout are those of the batches
-    pub rows_are : ReadsBack s.codec ids xs → rows s.codec (segment_at first (segments (source_plan s w t false xs true))) l ≡ Some (source_values xs)
-    rows_are back = rw (f.laid, taken_all, (in_order t xs true).segments, stored_is xs) (rows_back s.codec ids t first xs all_written back)
+    pub rows_are : rows segment_codec (segment_at first (segments (source_plan s w t false xs true))) l ≡ Some (source_values xs)
+    rows_are = rw (f.laid, taken_all, (in_order t xs true).segments, stored_is xs) (rows_back segment_codec ids t first xs all_written (subst (ReadsBack segment_codec ids) taken_all f.back))
 
     pub segments_are : now ≡ then_told before (segments (source_plan s w t false xs true))
     segments_are = f.appended ∙ ap (then_told before) (ap (stored_of ids) taken_all ∙ (sym (stored_is xs) ∙ sym (in_order t xs true).segments))

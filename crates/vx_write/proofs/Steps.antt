@@ -1,15 +1,26 @@
 -- One more batch, and what stands at the end of a write.
-use Rattle.std.proofs.Common.{◌≡◌, ℕ, suc, ◌+◌, ◌≤◌, ◌<◌, ◌^◌, List, [], ◌∷◌, ◌++◌, length, Option, Some, None, refl, sym, subst, Bool, true, false, not, ◌∙◌, arith, add-zero, append_assoc, inl, inr}
+use Rattle.std.proofs.Common.{◌≡◌, ℕ, suc, ◌+◌, ◌≤◌, ◌<◌, ◌^◌, List, [], ◌∷◌, ◌++◌, length, Option, Some, None, refl, sym, ap, subst, Bool, true, false, not, ◌∙◌, arith, add-zero, append_assoc, inl, inr}
+use Rattle.std.specs.Prelude.{IsTrue, map}
 use Rattle.std.proofs.lemmas.List.{append-nil, length-append}
 use Rattle.vx_model.specs.declared.encoding.EncodingId.{EncodingId}
-use Rattle.vx_model.specs.Ty.{Ty}
-use Rattle.vx_model.specs.Piece.{Piece, piece_type, cells}
+use Rattle.vx_model.specs.Ty.{Ty, primitive}
+use Rattle.vx_model.specs.declared.ptype.PType.TheVariants.{I64}
+use Rattle.vx_model.specs.Distinct.{first_repeat}
+use Rattle.vx_model.specs.Tree.{Tree}
+use Rattle.vx_model.specs.TreeView.{tree}
+use Rattle.vx_model.specs.TyView.{ty}
+use Rattle.vx_model.specs.Piece.{Piece, plain_piece, piece_type, cells, is_sound}
+use Rattle.vx_types.specs.declared.chunk.Chunk.{Chunk}
+use Rattle.vx_types.specs.ChunkView.{piece}
+use Rattle.vx_segment.specs.Codec.{IsPlain, segment_codec}
+use Rattle.vx_segment.proofs.Answering.{is_codec}
+use Rattle.vx_tree.specs.Codec.{Codec}
 use Rattle.vx_types.specs.Segment.{encode, refused}
 use Rattle.vx_tree.specs.LayoutTree.{Lay}
 use Rattle.vx_plan.specs.InOrder.{batch_rows}
 use Rattle.vx_layout.specs.Errors.{rows_in}
 use Rattle.vx_sink.specs.Told.{before_told, then_told}
-use Rattle.vx_write.specs.InOrder.{stored_of, flats_of, AllWritten, Done, BatchWritten, Halted}
+use Rattle.vx_write.specs.InOrder.{stored_of, flats_of, AllWritten, ReadsBack, Done, BatchWritten, Halted}
 use Rattle.vx_write.specs.declared.error.WriteError.{WriteError}
 use Rattle.vx_write.specs.declared.error.WriteError.TheVariants as errors
 use Rattle.vx_write.specs.Stream.{TookLast, HasCause, NotAdmitted, NotWritten}
@@ -51,12 +62,30 @@ written-append : (ids : List EncodingId) (t : Ty) (xs : List Piece) (b : Piece) 
 written-append ids t [] b all typed listed = (typed, listed, tt)
 written-append ids t (x ∷ xs) b all typed listed = (all.0, all.1, written-append ids t xs b all.2 typed listed)
 
+back-append : (k : Codec) (ids : List EncodingId) (xs : List Piece) (b : Piece) → ReadsBack k ids xs → ReadsBack k ids (b ∷ []) → ReadsBack k ids (xs ++ b ∷ [])
+back-append k ids [] b all one = one
+back-append k ids (x ∷ xs) b all one = (all.0, back-append k ids xs b all.1 one)
+
+-- a chunk of 64-bit integers is read back from its segment
+pub chunk_back : (ids : List EncodingId) (c : Chunk) (bytes : List ℕ) → first_repeat ids ≡ None → IsTrue (is_sound (piece c)) → piece_type (piece c) ≡ primitive I64 false
+    → encode ids true (piece c) ≡ Some bytes → length bytes < 2 ^ 64 → ReadsBack segment_codec ids (piece c ∷ [])
+chunk_back ids c bytes distinct sound typed encoded short = (λ other is. (is_codec ids distinct).again true (piece c) other plain is (let same : bytes ≡ other = one_value (sym encoded ∙ is) in subst (λ (b : List ℕ). length b < 2 ^ 64) same short), tt)
+  where
+    one_value : {a b : List ℕ} → Some a ≡ Some b → a ≡ b
+    one_value e = cc
+
+    is_plain : (t : Ty) (cs : List Tree) → IsTrue (is_sound (plain_piece t cs)) → t ≡ primitive I64 false → IsPlain (plain_piece t cs)
+    is_plain t cs whole is = (cs, ap (λ (u : Ty). plain_piece u cs) is, subst (λ (u : Ty). IsTrue (is_sound (plain_piece u cs))) is whole)
+
+    plain : IsPlain (piece c)
+    plain = is_plain (ty c.dtype) (map tree c.cells.items) sound typed
+
 pub not_false : (b : Bool) → false ≡ not b → b ≡ true
 not_false true e = refl
 not_false false e = e
 
 pub begins : (ids : List EncodingId) (t : Ty) (first : ℕ) (a : Option (List Piece)) (s : Option (List (List ℕ))) → Done ids t first [] 0 a a s s
-begins ids t first a s = record { taken = []; came = told_same a; count = refl; laid = refl; appended = then_same s; rows = refl; written = tt }
+begins ids t first a s = record { taken = []; came = told_same a; count = refl; laid = refl; appended = then_same s; rows = refl; written = tt; back = tt }
 
 pub goes_on : {ids : List EncodingId} {t : Ty} {first : ℕ} {flats : List (Lay ℕ)} {total : ℕ} {a b : Option (List Piece)} {s u : Option (List (List ℕ))}
     (p : Piece) (l : Lay ℕ) (c : Option (List Piece)) (v : Option (List (List ℕ))) (next : ℕ) → Done ids t first flats total a b s u
@@ -70,6 +99,7 @@ goes_on {ids} {t} {first} {flats} {total} {a} {b} {s} {u} p l c v next d came ty
   appended = rw (stored-append ids d.taken (p ∷ []), stored_one ids p w.bytes w.encoded) (then_more (stored_of ids d.taken) (w.bytes ∷ []) s u v d.appended w.appended);
   rows = rw (rows-append d.taken (p ∷ []), ← d.rows) (omega arith);
   written = written-append ids t d.taken p d.written typed w.listed;
+  back = back-append segment_codec ids d.taken p d.back w.back;
 }
 
 -- ---- the layouts have the rows of the batches

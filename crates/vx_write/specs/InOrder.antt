@@ -4,7 +4,9 @@ use Rattle.vx_model.specs.declared.encoding.EncodingId.{EncodingId}
 use Rattle.vx_model.specs.Ty.{Ty}
 use Rattle.vx_model.specs.Piece.{Piece, piece_type, cells}
 use Rattle.vx_types.specs.Segment.{encode, refused}
+use Rattle.vx_tree.specs.Codec.{Codec}
 use Rattle.vx_tree.specs.LayoutTree.{Lay, flat_layout, gathered}
+use Rattle.vx_segment.specs.Codec.{segment_codec}
 use Rattle.vx_plan.specs.InOrder.{there, batch_rows}
 use Rattle.vx_sink.specs.Told.{before_told, then_told, NoneTold}
 
@@ -23,6 +25,11 @@ abbrev pub AllWritten : List EncodingId → Ty → List Piece → Type 0
 AllWritten ids t [] = Unit {0}
 AllWritten ids t (b ∷ bs) = (piece_type b ≡ t) × (refused ids b ≡ None) × AllWritten ids t bs
 
+-- each batch is read back from its padded segment
+abbrev pub ReadsBack : Codec → List EncodingId → List Piece → Type 0
+ReadsBack c ids [] = Unit {0}
+ReadsBack c ids (b ∷ bs) = ((bytes : List ℕ) → encode ids true b ≡ Some bytes → c.decode ids (piece_type b) bytes ≡ Some (cells b)) × ReadsBack c ids bs
+
 -- How far a write has come: the batches taken, each written as a segment and a flat layout.
 pub record Done (ids : List EncodingId) (t : Ty) (first : ℕ) (flats : List (Lay ℕ)) (total : ℕ) (to_come_before to_come_now : Option (List Piece)) (before now : Option (List (List ℕ))) : Type 0 where
   pub taken : List Piece
@@ -32,6 +39,7 @@ pub record Done (ids : List EncodingId) (t : Ty) (first : ℕ) (flats : List (La
   pub appended : now ≡ then_told before (stored_of ids taken)
   pub rows : total ≡ batch_rows taken
   pub written : AllWritten ids t taken
+  pub back : ReadsBack segment_codec ids taken
 
 -- A batch was written as the segment of the next number.
 pub record BatchWritten (ids : List EncodingId) (next : ℕ) (p : Piece) (l : Lay ℕ) (before now : Option (List (List ℕ))) : Type 0 where
@@ -40,6 +48,7 @@ pub record BatchWritten (ids : List EncodingId) (next : ℕ) (p : Piece) (l : La
   pub encoded : encode ids true p ≡ Some bytes
   pub listed : refused ids p ≡ None
   pub appended : now ≡ then_told before (bytes ∷ [])
+  pub back : ReadsBack segment_codec ids (p ∷ [])
 
 -- All batches were written, and the source has ended.
 pub record Finished (ids : List EncodingId) (t : Ty) (first next : ℕ) (l : Lay ℕ) (to_come_before to_come_now : Option (List Piece)) (before now : Option (List (List ℕ))) : Type 0 where
@@ -49,6 +58,7 @@ pub record Finished (ids : List EncodingId) (t : Ty) (first next : ℕ) (l : Lay
   pub laid : l ≡ gathered t (batch_rows taken) (flats_of ids t first taken)
   pub appended : now ≡ then_told before (stored_of ids taken)
   pub written : AllWritten ids t taken
+  pub back : ReadsBack segment_codec ids taken
   pub numbers : next ≡ first + length taken
 
 -- What stands after a refusal: all batches taken but the last, at the most, were written.

@@ -7,7 +7,6 @@ use Rattle.vx_model.specs.Ty.{Ty, primitive}
 use Rattle.vx_model.specs.Piece.{Piece, piece_type, cells}
 use Rattle.vx_types.specs.ChunkView.{piece}
 use Rattle.vx_types.specs.Segment.{encode, refused, tree_bytes}
-use Rattle.vx_tree.specs.Codec.{Codec}
 use Rattle.vx_plan.specs.PlanData.{Setting, Plan}
 use Rattle.vx_plan.specs.Way.{Way, flat, chunked}
 use Rattle.vx_plan.specs.InOrder.{batch_rows}
@@ -24,11 +23,6 @@ pub record Writes (ids : List EncodingId) (s : Setting) : Type 0 where
   pub trees : s.codec.tree_part ≡ tree_bytes
   pub refuses : s.codec.refused ≡ refused
   pub listed : s.encodings ≡ ids
-
--- each batch is read back from its padded segment
-abbrev pub ReadsBack : Codec → List EncodingId → List Piece → Type 0
-ReadsBack c ids [] = Unit {0}
-ReadsBack c ids (b ∷ bs) = ((bytes : List ℕ) → encode ids true b ≡ Some bytes → c.decode ids (piece_type b) bytes ≡ Some (cells b)) × ReadsBack c ids bs
 
 -- ---- which forms are built: chunking over flat with its default options, and 64-bit integers without null
 

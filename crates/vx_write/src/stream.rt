@@ -80,7 +80,7 @@ fn admit(dtype: &DType, batch: Chunk, rows: u64) -> Result<(Chunk, u64), WriteEr
 }
 
 /// Appends the batch's segment. All memory is taken before the sink is called.
-#[tactic(auto, using(vx_layout::proofs::Views::lay_rules))]
+#[tactic(auto, using(vx_layout::proofs::Views::lay_rules, crate::proofs::Steps::chunk_back))]
 fn write_batch<S: SegmentSink>(
     alloc: Global,
     ctx: &ArrayContext,

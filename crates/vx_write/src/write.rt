@@ -6,6 +6,7 @@ ghost use Rattle.vx_model.specs.Piece.{Piece};
 ghost use Rattle.vx_layout.specs.LayoutView.{lay};
 ghost use Rattle.vx_plan.specs.PlanData.{Setting};
 ghost use Rattle.vx_tree.specs.Rows.{rows};
+ghost use Rattle.vx_segment.specs.Codec.{segment_codec};
 ghost use Rattle.vx_plan.specs.SourcePlan.{source_plan, taken_plan, source_values};
 ghost use Rattle.vx_plan.specs.Number.{segments, numbered, segment_at};
 ghost use Rattle.vx_plan.specs.Valid.{Valid};
@@ -15,7 +16,7 @@ ghost use Rattle.vx_sink.specs.ContextView.{listed};
 ghost use Rattle.vx_write.specs.declared.error.WriteError.TheVariants.{OutOfMemory};
 ghost use Rattle.vx_write.specs.StrategyView.{way};
 ghost use Rattle.vx_write.specs.Causes.{errs, is_source_fault, is_sink_fault, is_unbuilt};
-ghost use Rattle.vx_write.specs.Stream.{Writes, ReadsBack, Stands, HasCause, MayCome, is_built, is_built_type};
+ghost use Rattle.vx_write.specs.Stream.{Writes, Stands, HasCause, MayCome, is_built, is_built_type};
 
 use crate::error::WriteError;
 use crate::strategy::Strategy;
@@ -69,8 +70,7 @@ pub fn write_stream<B: BatchSource, S: SegmentSink, C: CompressorPlugin>(
         + length (segments (source_plan s (way strategy.now) (B.kind source.old) false xs true))) }
     // The rows of this layout, read from these segments, are the batches' rows.
     ensures rows { IfOk result (λ w. (s : Setting) (xs : List Piece) → Writes (listed ctx.old) s → B.to_come source.old ≡ Some xs
-        → ReadsBack s.codec (listed ctx.old) xs
-        → rows s.codec (segment_at (S.next sink.old) (segments (source_plan s (way strategy.now) (B.kind source.old) false xs true))) (lay w.layout)
+        → rows segment_codec (segment_at (S.next sink.old) (segments (source_plan s (way strategy.now) (B.kind source.old) false xs true))) (lay w.layout)
         ≡ Some (source_values xs)) }
     ensures ended { OnOk result (NoneTold (B.to_come source.new)) }
 

@@ -12,7 +12,7 @@ pub returns-in-Ok-clause-layout : goal.returns-in-Ok-clause-layout
 returns-in-Ok-clause-layout g c s xs writes told = layout_is c.array_ctx.result.now s (rw c.array_ctx.ensures writes) (way c.args.strategy.now) (built (way c.args.strategy.now) (g.B.BatchSource.kind c.args.source.now) (rw (← c.dtype.ensures) (sym c.is_built.ensures ∙ c.if-not-is_built.false))) c.chunks_stand_in_order.ensures (g.B.BatchSource.kind c.args.source.now) (g.S.SegmentSink.next c.args.sink.now) (g.S.SegmentSink.next c.write_column.new.sink) (lay c.in-Ok.layout) (g.B.BatchSource.to_come c.args.source.now) (g.B.BatchSource.to_come c.write_column.new.source) (g.S.SegmentSink.segments c.args.sink.now) (g.S.SegmentSink.segments c.write_column.new.sink) xs told c.in-Ok.ensures.ok
 
 pub returns-in-Ok-clause-rows : goal.returns-in-Ok-clause-rows
-returns-in-Ok-clause-rows g c s xs writes told back = rows_are c.array_ctx.result.now s (rw c.array_ctx.ensures writes) (way c.args.strategy.now) (built (way c.args.strategy.now) (g.B.BatchSource.kind c.args.source.now) (rw (← c.dtype.ensures) (sym c.is_built.ensures ∙ c.if-not-is_built.false))) c.chunks_stand_in_order.ensures (g.B.BatchSource.kind c.args.source.now) (g.S.SegmentSink.next c.args.sink.now) (g.S.SegmentSink.next c.write_column.new.sink) (lay c.in-Ok.layout) (g.B.BatchSource.to_come c.args.source.now) (g.B.BatchSource.to_come c.write_column.new.source) (g.S.SegmentSink.segments c.args.sink.now) (g.S.SegmentSink.segments c.write_column.new.sink) xs told c.in-Ok.ensures.ok (rw c.array_ctx.ensures back)
+returns-in-Ok-clause-rows g c s xs writes told = rows_are c.array_ctx.result.now s (rw c.array_ctx.ensures writes) (way c.args.strategy.now) (built (way c.args.strategy.now) (g.B.BatchSource.kind c.args.source.now) (rw (← c.dtype.ensures) (sym c.is_built.ensures ∙ c.if-not-is_built.false))) c.chunks_stand_in_order.ensures (g.B.BatchSource.kind c.args.source.now) (g.S.SegmentSink.next c.args.sink.now) (g.S.SegmentSink.next c.write_column.new.sink) (lay c.in-Ok.layout) (g.B.BatchSource.to_come c.args.source.now) (g.B.BatchSource.to_come c.write_column.new.source) (g.S.SegmentSink.segments c.args.sink.now) (g.S.SegmentSink.segments c.write_column.new.sink) xs told c.in-Ok.ensures.ok
 
 pub returns-in-Ok-clause-segments : goal.returns-in-Ok-clause-segments
 returns-in-Ok-clause-segments g c s xs writes told = segments_are c.array_ctx.result.now s (rw c.array_ctx.ensures writes) (way c.args.strategy.now) (built (way c.args.strategy.now) (g.B.BatchSource.kind c.args.source.now) (rw (← c.dtype.ensures) (sym c.is_built.ensures ∙ c.if-not-is_built.false))) c.chunks_stand_in_order.ensures (g.B.BatchSource.kind c.args.source.now) (g.S.SegmentSink.next c.args.sink.now) (g.S.SegmentSink.next c.write_column.new.sink) (lay c.in-Ok.layout) (g.B.BatchSource.to_come c.args.source.now) (g.B.BatchSource.to_come c.write_column.new.source) (g.S.SegmentSink.segments c.args.sink.now) (g.S.SegmentSink.segments c.write_column.new.sink) xs told c.in-Ok.ensures.ok
