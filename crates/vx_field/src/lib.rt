@@ -1,0 +1,10 @@
+//! Paths of field names, and masks that say which fields are meant.
+#![tactic(auto)]
+
+mod mask;
+mod path;
+#[cfg(test)]
+mod tests;
+
+pub use mask::FieldMask;
+pub use path::FieldPath;
