@@ -1,0 +1,4 @@
+pub mod AggregateView
+pub mod Specs
+pub mod Stats
+pub mod Tables
