@@ -1,4 +1,5 @@
 pub mod Views
 pub mod CellViews
 pub mod Lists
+pub mod FitSteps
 pub mod Examples
