@@ -1,5 +1,5 @@
 -- Steps of the tests of cells.
-use Rattle.std.proofs.Common.{◌≡◌, ℕ, suc, ◌+◌, ◌<◌, ◌&&◌, Bool, true, false, List, [], ◌∷◌, length, get_or, drop, map, refl, ap}
+use Rattle.std.proofs.Common.{◌≡◌, ℕ, suc, ◌+◌, ◌<◌, ◌&&◌, false, List, [], ◌∷◌, length, get_or, drop, map, refl, ap}
 use Rattle.std.proofs.lemmas.List.{drop_more, length-map}
 use Rattle.vx_model.specs.declared.dtype.StructField.{StructField}
 use Rattle.vx_model.specs.declared.cell.Cell.{Cell}

@@ -2,4 +2,5 @@ pub mod Views
 pub mod CellViews
 pub mod Lists
 pub mod FitSteps
+pub mod Texts
 pub mod Examples

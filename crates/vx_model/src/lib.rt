@@ -5,6 +5,7 @@
 mod array_context;
 mod blob;
 mod cell;
+mod display;
 mod dtype;
 mod encoding;
 mod fit;
