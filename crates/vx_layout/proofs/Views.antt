@@ -4,10 +4,7 @@ use Rattle.std.proofs.lemmas.List.{drop_more, append-nil, length-map, length-dro
 use Rattle.std.proofs.lemmas.Bool.Decides.{nat_tests}
 use Rattle.std.specs.Prelude.{codes}
 use Rattle.vx_model.specs.Words.{total_by}
-use Rattle.vx_model.specs.Ty.{tys_of}
-use Rattle.vx_model.specs.TyView.{ty, field_ty}
-use Rattle.vx_model.specs.declared.dtype.StructField.{StructField}
-use Rattle.vx_model.proofs.Views.{view_rules, field_ty_is}
+use Rattle.vx_model.specs.TyView.{ty}
 use Rattle.vx_tree.specs.LayoutTree.{Lay, lays_of, row_count, chunked_layout, chunked_kind}
 use Rattle.vx_layout.specs.declared.layout.Layout.{Layout}
 use Rattle.vx_layout.specs.declared.layout.Layout as ly
@@ -15,7 +12,7 @@ use Rattle.vx_layout.specs.declared.flat.FlatLayout.{FlatLayout}
 use Rattle.vx_layout.specs.declared.chunked.ChunkedLayout.{ChunkedLayout, out-ChunkedLayout}
 use Rattle.vx_layout.specs.FlatView.{flat_lay}
 use Rattle.vx_layout.specs.LayoutView.{lay, chunked_lay}
-use Rattle.vx_layout.specs.Shown.{comma, type_text, fields_text}
+use Rattle.vx_model.specs.Shown.{type_text}
 use Rattle.vx_layout.specs.Display.{tree_text, children_lines, own_line, node_text, count_lays, children_text, rows_text, is_last, branch_to, trunk_by, chunk_name}
 
 pub lay_flat : (f : FlatLayout) → lay (ly.Flat f) ≡ flat_lay f
@@ -30,13 +27,6 @@ chunked_is c = search (rules, ly.the_lemmas)
 pub drop_rows : (ls : List Layout) (i : ℕ) (l : Layout) → i < length ls → l ≡ get_or ls i l
     → total_by row_count (map lay (drop i ls)) ≡ row_count (lay l) + total_by row_count (map lay (drop (i + 1) ls))
 drop_rows ls i l lt is = rw (drop_more ls i l lt, ← is) refl
-
-pub drop_fields : (first : Bool) (fs : List StructField) (i : ℕ) (f : StructField) → i < length fs → f ≡ get_or fs i f
-    → fields_text first (tys_of (map field_ty (drop i fs))) ≡ comma first ++ (f.name ++ (codes "=" ++ (type_text (ty f.dtype) ++ fields_text false (tys_of (map field_ty (drop (i + 1) fs))))))
-drop_fields first fs i f lt is = rw (drop_more fs i f lt, ← is, field_ty_is f) refl
-
-pub next_not_first : (i : ℕ) → (i + 1 == 0) ≡ false
-next_not_first i = grind (arith, nat_tests)
 
 last_of : (rest : List Layout) (i n : ℕ) → length rest + (i + 1) ≡ n → is_last (lays_of (map lay rest)) ≡ (i + 1 == n)
 last_of [] i n e = grind (arith, nat_tests)
@@ -75,7 +65,5 @@ pub ruleset lay_rules = (lay_flat, lay_chunked, chunked_is)
 pub ruleset sum_rules = (drop_rows, lay_rules)
 
 pub ruleset text_rules = (append_assoc, append-nil)
-
-pub ruleset shown_rules = (append_assoc, append-nil, drop_fields, next_not_first, view_rules)
 
 pub ruleset tree_rules = (append_assoc, append-nil, length-map, drop_lines, own_line_is, chunked_lines, lay_flat, lay_chunked)

@@ -2,7 +2,7 @@
 use Rattle.std.specs.Prelude.{ℕ, suc, Bool, true, false, nat_lt, if◌then◌else◌, List, [], ◌∷◌, ◌++◌, codes, decimal}
 use Rattle.vx_model.specs.Ty.{Ty}
 use Rattle.vx_tree.specs.LayoutTree.{Kind, flat_kind, chunked_kind, struct_kind, list_kind, dict_kind, zoned_kind, stats_kind, foreign_kind, Lay, Lays, layout, no_layouts, child}
-use Rattle.vx_layout.specs.Shown.{type_text}
+use Rattle.vx_model.specs.Shown.{type_text}
 
 abbrev pub count_lays : {A : Type 0} → Lays A → ℕ
 count_lays no_layouts = 0

@@ -1,5 +1,4 @@
 pub mod FlatView
 pub mod LayoutView
 pub mod Errors
-pub mod Shown
 pub mod Display

@@ -4,14 +4,13 @@ ghost use Rattle.std.specs.Prelude.{◌≡◌, ◌++◌, ◌∷◌, [], string_b
 ghost use Rattle.vx_tree.specs.LayoutTree.{lays_of};
 ghost use Rattle.vx_layout.specs.FlatView.{flat_lay};
 ghost use Rattle.vx_layout.specs.LayoutView.{lay, chunked_lay};
-ghost use Rattle.vx_layout.specs.Shown.{type_text};
+ghost use Rattle.vx_model.specs.Shown.{type_text};
 ghost use Rattle.vx_layout.specs.Display.{tree_text, children_lines, own_line, rows_text, children_text, segment_text, branch_to, trunk_by, chunk_name};
 ghost use Rattle.vx_model.specs.TyView.{ty};
 
 use crate::chunked::ChunkedLayout;
 use crate::flat::FlatLayout;
 use crate::layout::Layout;
-use crate::shown::push_type;
 use std::alloc::{AllocError, Global};
 use vx_types::{DType, Text};
 
@@ -141,10 +140,8 @@ fn push_segment(out: &mut String, segment: u32) -> Result<(), AllocError>
 fn push_head(out: &mut String, first: &str, id: &str, dtype: &DType) -> Result<(), AllocError>
     ensures { OnOk result (string_bytes out.new ≡ string_bytes out.old ++ (first.now ++ (id.now ++ (codes ", dtype: " ++ type_text (ty dtype.now))))) }
 {
-    out.push_str(first)?;
-    out.push_str(id)?;
-    out.push_str(", dtype: ")?;
-    push_type(out, dtype)
+    write!(out, "{first}{id}, dtype: {dtype}")?;
+    Ok(())
 }
 
 #[tactic(auto, using(crate::proofs::Views::text_rules))]

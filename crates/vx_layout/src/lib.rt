@@ -5,7 +5,6 @@ mod chunked;
 mod display;
 mod flat;
 mod layout;
-mod shown;
 
 pub use chunked::{ChunkedLayout, LayoutError};
 pub use flat::FlatLayout;

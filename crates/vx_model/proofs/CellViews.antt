@@ -1,10 +1,12 @@
 -- What a cell and a row value are seen as where they hold others.
-use Rattle.std.proofs.Common.{◌≡◌, Bool, List, [], ◌∷◌, map, refl, ap, rules}
+use Rattle.std.proofs.Common.{◌≡◌, ℕ, ◌+◌, ◌<◌, ◌&&◌, Bool, List, [], ◌∷◌, length, get_or, drop, map, refl, ap, rules}
+use Rattle.std.proofs.lemmas.List.{drop_more, map_push, map_more, length-map}
 use Rattle.std.specs.Global.{Vec}
 use Rattle.vx_model.specs.declared.cell.Cell.{Cell}
 use Rattle.vx_model.specs.declared.cell.Cell as cl
 use Rattle.vx_model.specs.declared.row_value.Value.{Value}
 use Rattle.vx_model.specs.declared.row_value.Value as vl
+use Rattle.vx_model.specs.Words.{all_by}
 use Rattle.vx_model.specs.Tree.{Tree, Trees, list_cell, struct_cell, no_cells, cell, trees_of, items}
 use Rattle.vx_model.specs.Val.{Val, list_value, struct_value, one_value, vals_of, vals_in, value, values_in}
 use Rattle.vx_model.specs.TreeView.{tree, val}
@@ -39,3 +41,10 @@ values_in-trees_of [] = refl
 values_in-trees_of (c ∷ cs) = ap (one_value (value c)) (values_in-trees_of cs)
 
 pub ruleset cell_rules = (items_trees_of, vals_in_vals_of, values_in-trees_of, tree_list, tree_struct, val_list, val_struct)
+
+pub ruleset copy_rules = (map_push, map_more, tree_list, tree_struct, val_list, val_struct)
+
+-- what holds of cells from place i on, at one more step
+pub drop_all_by : (f : Tree → Bool) (cs : List Cell) (i : ℕ) (c : Cell) → i < length cs → c ≡ get_or cs i c
+    → all_by f (map tree (drop i cs)) ≡ (f (tree c) && all_by f (map tree (drop (i + 1) cs)))
+drop_all_by f cs i c lt is = rw (drop_more cs i c lt, ← is) refl

@@ -1,4 +1,6 @@
 pub mod Views
 pub mod CellViews
 pub mod Lists
+pub mod FitSteps
+pub mod Texts
 pub mod Examples

@@ -25,7 +25,7 @@ field_ty_is f = search (rules, dt.the_lemmas)
 pub ty_extension : (e : ExtDType) → ty (dt.Extension e) ≡ extension (out-ExtDType e).tag (ty (out-ExtDType e).storage.value)
 ty_extension e = search (rules, dt.the_lemmas)
 
-and_false : (a : Bool) → (a && false) ≡ false
+pub and_false : (a : Bool) → (a && false) ≡ false
 and_false true = refl
 and_false false = refl
 

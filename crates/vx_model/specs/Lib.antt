@@ -9,3 +9,6 @@ pub mod TreeView
 pub mod Context
 pub mod Distinct
 pub mod TyLaws
+pub mod ElementSize
+pub mod Shown
+pub mod Places

@@ -40,6 +40,17 @@ ptype_bytes I16 = 2
 ptype_bytes I32 = 4
 ptype_bytes I64 = 8
 
+-- an integer type's name
+abbrev pub ptype_name : PType → List ℕ
+ptype_name U8 = codes "u8"
+ptype_name U16 = codes "u16"
+ptype_name U32 = codes "u32"
+ptype_name U64 = codes "u64"
+ptype_name I8 = codes "i8"
+ptype_name I16 = codes "i16"
+ptype_name I32 = codes "i32"
+ptype_name I64 = codes "i64"
+
 abbrev pub is_between : ℤ → ℤ → ℤ → Bool
 is_between low high n = not (int_lt n low) && int_lt n high
 

@@ -48,6 +48,15 @@ as_nullable (list t n) = list t true
 as_nullable (struct fs n) = struct fs true
 as_nullable (extension tag t) = extension tag (as_nullable t)
 
+-- of the type itself, not of an extension's storage
+abbrev pub is_list : Ty → Bool
+is_list (list t n) = true
+is_list t = false
+
+abbrev pub is_struct : Ty → Bool
+is_struct (struct fs n) = true
+is_struct t = false
+
 -- the type below all extensions
 abbrev pub storage_type : Ty → Ty
 storage_type (extension tag t) = storage_type t

@@ -4,6 +4,7 @@ ghost use Rattle.std.specs.Prelude.{◌≡◌, List, None, IfOk, IfErr, IsOk, �
 ghost use Rattle.vx_model.specs.declared.encoding.EncodingId.{EncodingId};
 ghost use Rattle.vx_model.specs.Distinct.{is_listed, first_repeat};
 ghost use Rattle.vx_model.specs.Context.{NamesRepeat};
+ghost use Rattle.vx_model.specs.Places.{listed_place};
 
 use crate::encoding::EncodingId;
 use std::alloc::AllocError;
@@ -55,6 +56,13 @@ impl ArrayContext {
     {
         self.ids.as_slice()
     }
+
+    /// The place of an encoding, where it is listed: the number that stands for it in bytes.
+    pub fn place(&self, id: EncodingId) -> Option<usize>
+        ensures { result ≡ listed_place id self.now }
+    {
+        find_place(&self.ids, id)
+    }
 }
 
 impl Clone for ArrayContext {
@@ -91,4 +99,16 @@ fn contains(ids: &[EncodingId], id: EncodingId) -> bool
         }
     }
     false
+}
+
+#[tactic(auto, using(crate::proofs::Lists::place_rules))]
+fn find_place(ids: &[EncodingId], id: EncodingId) -> Option<usize>
+    ensures { result ≡ listed_place id ids.now }
+{
+    for i in 0..ids.len() {
+        if ids[i].number() == id.number() {
+            return Some(i);
+        }
+    }
+    None
 }

@@ -89,7 +89,7 @@ fn copy(dtype: &DType) -> Result<DType, AllocError>
 
 #[cycle(copy)]
 #[tactic(auto, using(crate::proofs::Views::copy_rules))]
-fn copy_box(dtype: &Box<DType>) -> Result<Box<DType>, AllocError>
+pub(crate) fn copy_box(dtype: &Box<DType>) -> Result<Box<DType>, AllocError>
     ensures { IfOk result (λ t. ty t.value ≡ ty dtype.now.value) }
 {
     Ok(Box::new(*Box::allocator(dtype), copy(dtype)?)?)
@@ -97,7 +97,7 @@ fn copy_box(dtype: &Box<DType>) -> Result<Box<DType>, AllocError>
 
 #[cycle(copy)]
 #[tactic(auto, using(crate::proofs::Views::copy_rules))]
-fn copy_fields(fields: &Vec<StructField>) -> Result<Vec<StructField>, AllocError>
+pub(crate) fn copy_fields(fields: &Vec<StructField>) -> Result<Vec<StructField>, AllocError>
     ensures { IfOk result (λ v. map field_ty v.items ≡ map field_ty fields.now.items) }
 {
     let mut copies = Vec::with_capacity(*fields.allocator(), fields.len())?;

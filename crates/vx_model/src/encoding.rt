@@ -1,4 +1,5 @@
-ghost use Rattle.std.specs.Prelude.{◌≡◌};
+ghost use Rattle.std.specs.Prelude.{◌≡◌, ◌≢◌, IfNone, IfSome};
+ghost use Rattle.vx_model.specs.declared.encoding.EncodingId.{EncodingId};
 ghost use Rattle.vx_model.specs.Numbers.{encoding_id, encoding_number};
 
 /// How a chunk's rows are held.
@@ -52,6 +53,23 @@ impl EncodingId {
             EncodingId::List => "vx.list",
             EncodingId::Struct => "vx.struct",
             EncodingId::Extension => "vx.ext",
+        }
+    }
+
+    /// The encoding of that name.
+    pub fn from_id(id: &str) -> Option<EncodingId>
+        ensures found { IfSome result (λ e. encoding_id e ≡ id.now) }
+        ensures none { IfNone result ((e : EncodingId) → encoding_id e ≢ id.now) }
+    {
+        match id {
+            "vx.plain" => Some(EncodingId::Plain),
+            "vx.constant" => Some(EncodingId::Constant),
+            "vx.dict" => Some(EncodingId::Dict),
+            "vx.chunked" => Some(EncodingId::Chunked),
+            "vx.list" => Some(EncodingId::List),
+            "vx.struct" => Some(EncodingId::Struct),
+            "vx.ext" => Some(EncodingId::Extension),
+            _ => None,
         }
     }
 }

@@ -1,6 +1,6 @@
 use Rattle.std.specs.Prelude.{codes, string_bytes, length}
 use Rattle.vx_model.specs.TyView.{ty}
-use Rattle.vx_layout.specs.Shown.{type_text}
+use Rattle.vx_model.specs.Shown.{type_text}
 use Rattle.vx_layout.specs.Display.{children_text, rows_text}
 use Rattle.vx_layout.specs.declared.chunked.ChunkedLayout.{out-ChunkedLayout}
 use Rattle.vx_layout.proofs.Views.{own_line_is, line_parts}

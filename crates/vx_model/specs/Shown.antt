@@ -1,18 +1,7 @@
 -- The text of a type.
 use Rattle.std.specs.Prelude.{ℕ, Bool, true, false, if◌then◌else◌, List, [], ◌++◌, codes}
-use Rattle.vx_model.specs.declared.ptype.PType.{PType}
-use Rattle.vx_model.specs.declared.ptype.PType.TheVariants.{U8, U16, U32, U64, I8, I16, I32, I64}
+use Rattle.vx_model.specs.Numbers.{ptype_name}
 use Rattle.vx_model.specs.Ty.{Ty, Tys, boolean, primitive, utf8, binary, list, struct, extension, no_fields, field}
-
-abbrev pub ptype_text : PType → List ℕ
-ptype_text U8 = codes "u8"
-ptype_text U16 = codes "u16"
-ptype_text U32 = codes "u32"
-ptype_text U64 = codes "u64"
-ptype_text I8 = codes "i8"
-ptype_text I16 = codes "i16"
-ptype_text I32 = codes "i32"
-ptype_text I64 = codes "i64"
 
 -- a question mark where the type is nullable
 abbrev pub null_mark : Bool → List ℕ
@@ -25,7 +14,7 @@ comma first = if first then [] else codes ", "
 abbrev mutual
   pub type_text : Ty → List ℕ
   type_text (boolean n) = codes "bool" ++ null_mark n
-  type_text (primitive p n) = ptype_text p ++ null_mark n
+  type_text (primitive p n) = ptype_name p ++ null_mark n
   type_text (utf8 n) = codes "utf8" ++ null_mark n
   type_text (binary n) = codes "binary" ++ null_mark n
   type_text (list t n) = codes "list(" ++ (type_text t ++ (codes ")" ++ null_mark n))
