@@ -14,7 +14,8 @@ use Rattle.vx_path.specs.Path.{under}
 use Rattle.vx_tree.specs.Rows.{dict_rows}
 use Rattle.vx_rules.specs.Stream.{Chunk, stream_cells, piece_cells, Chunks, PiecesOf}
 use Rattle.vx_rules.specs.Regroup.{Rule, ranked, regrouped}
-use Rattle.vx_rules.specs.Blocks.{BlockOptions, element_size, aimed, block_len, steps, check_points, is_cut, cut_rows, block_sizes, cut_off, left_over, last_block, sizes_at, blocks}
+use Rattle.vx_model.specs.ElementSize.{element_size}
+use Rattle.vx_rules.specs.Blocks.{BlockOptions, aimed, block_len, steps, check_points, is_cut, cut_rows, block_sizes, cut_off, left_over, last_block, sizes_at, blocks}
 use Rattle.vx_rules.specs.Flushes.{twice, flushes}
 use Rattle.vx_rules.specs.Columns.{offset_cell}
 use Rattle.vx_rules.specs.Runs.{DictOptions, with_cell, place_in, cells_fit, Cut, behind, stretches, cut_at, Run, runs}

@@ -1,9 +1,9 @@
 -- Repartition: rows leave in blocks of a multiple of the block length.
 use Rattle.std.specs.Prelude.{ℕ, zero, suc, ◌+◌, ◌-◌, ◌*◌, ◌/◌, ◌&&◌, min, max, nat_lt, nat_le, Bool, if◌then◌else◌, List, [], ◌∷◌, ◌++◌, length, map, take, drop, Option, Some, None}
 use Rattle.vx_model.specs.Words.{total_by}
-use Rattle.vx_model.specs.Numbers.{ptype_bytes}
-use Rattle.vx_model.specs.Ty.{Ty, boolean, primitive, extension}
-use Rattle.vx_model.specs.Tree.{Tree, cell_size, null_byte}
+use Rattle.vx_model.specs.ElementSize.{element_size}
+use Rattle.vx_model.specs.Ty.{Ty}
+use Rattle.vx_model.specs.Tree.{Tree, cell_size}
 use Rattle.vx_model.specs.Piece.{Piece, plain_piece, cells}
 use Rattle.vx_rules.specs.Regroup.{Rule}
 
@@ -15,13 +15,6 @@ pub record BlockOptions : Type 0 where
   -- block size to aim at, in bytes
   pub target : Option ℕ
   pub canonicalize : Bool
-
--- the row size of each cell, where all have one
-abbrev pub element_size : Ty → Option ℕ
-element_size (boolean n) = Some (1 + null_byte n)
-element_size (primitive p n) = Some (ptype_bytes p + null_byte n)
-element_size (extension tag t) = element_size t
-element_size t = None
 
 -- the least number of elements that take so many bytes
 abbrev pub rounded_up : ℕ → ℕ → ℕ

@@ -1,0 +1,17 @@
+pub mod WayCode
+pub mod WayDepth
+pub mod OptionViews
+pub mod Places
+pub mod RuleViews
+pub mod FieldWays
+pub mod PathWays
+pub mod PathFalls
+pub mod WrapViews
+pub mod NodeViews
+pub mod StrategyView
+pub mod DepthFalls
+pub mod Overridden
+pub mod PairWays
+pub mod Wrapped
+pub mod Causes
+pub mod WrapCauses
