@@ -1,20 +1,19 @@
 -- Plans of each kind of node on small streams, computed. The codec here spells a chunk by its count of rows.
-use Rattle.std.proofs.Common.{◌≡◌, ℕ, Bool, true, false, List, [], ◌∷◌, ◌++◌, length, map, Option, Some, None, refl}
-use Rattle.std.specs.Prelude.{pos, codes, replicate, ◌^◌, ◌*◌}
-use Rattle.std.specs.Fmt.{decimal}
+use Rattle.std.proofs.Common.{◌≡◌, ℕ, true, false, List, [], ◌∷◌, length, map, Option, Some, None, refl}
+use Rattle.std.specs.Prelude.{pos, codes, replicate}
 use Rattle.vx_model.specs.declared.ptype.PType.TheVariants.{U8, U64, I32, I64}
 use Rattle.vx_model.specs.declared.encoding.EncodingId.TheVariants.{Plain}
-use Rattle.vx_model.specs.Ty.{Ty, Tys, primitive, utf8, boolean, struct, list, field, no_fields}
-use Rattle.vx_model.specs.Tree.{Tree, int_cell, text_cell, struct_cell, list_cell, trees_of}
-use Rattle.vx_model.specs.Piece.{Piece, plain_piece, dict_piece, list_piece, cells, piece_type}
-use Rattle.vx_tree.specs.LayoutTree.{Lay, Spec, chunked_layout, flat_layout, struct_layout, dict_layout, list_layout, zoned_layout}
+use Rattle.vx_model.specs.Ty.{Ty, primitive, utf8, struct, list, field, no_fields}
+use Rattle.vx_model.specs.Tree.{Tree, int_cell, text_cell, struct_cell, trees_of}
+use Rattle.vx_model.specs.Piece.{Piece, plain_piece, dict_piece, list_piece, cells}
+use Rattle.vx_tree.specs.LayoutTree.{Lay, chunked_layout, flat_layout, struct_layout, dict_layout, zoned_layout}
 use Rattle.vx_record.specs.Aggregate.{maximum, minimum, null_count, spec}
 use Rattle.vx_rules.specs.Blocks.{BlockOptions, block_len}
 use Rattle.vx_rules.specs.Runs.{DictOptions}
-use Rattle.vx_plan.specs.PlanData.{Setting, Plan, Pair, paths, planned, Fault, fault, many_chunks, empty_list, not_struct, duplicate_field, zone_cut, forbidden_aggregate, at_chunk, at_start, at_end}
-use Rattle.vx_plan.specs.Way.{Way, FlatOptions, ZonedOptions, flat, chunked, grouped, by_blocks, by_bytes, into_one, structured, listed, coded, zoned, tabled, compressed, no_ways, way_at, no_wraps}
+use Rattle.vx_plan.specs.PlanData.{Setting, paths, fault, many_chunks, empty_list, not_struct, duplicate_field, zone_cut, forbidden_aggregate, at_chunk, at_start, at_end}
+use Rattle.vx_plan.specs.Way.{Way, ZonedOptions, flat, chunked, grouped, by_blocks, by_bytes, structured, listed, coded, zoned, tabled, no_ways, way_at, no_wraps}
 use Rattle.vx_plan.specs.SourcePlan.{source_plan}
-use Rattle.vx_plan.specs.Number.{segments, sorted, numbered}
+use Rattle.vx_plan.specs.Number.{sorted, numbered}
 
 -- a compressor whose image 2 is a dictionary
 setting : Setting
@@ -239,8 +238,8 @@ marked_zoned : numbered (source_plan spelling (zoned zones_of_3 chunks flats) (p
 unfolding spelling flats chunks zones_of_3 nine i32_flat
 marked_zoned = refl
 
--- a shorter zone that another follows
-wrong_cut : (source_plan setting (zoned zones_of_3 chunks flats) u8 false (ints 3 ∷ ints 2 ∷ ints 1 ∷ []) true).faults ≡ fault (zone_cut 2) (at_chunk (0 ∷ 1 ∷ [])) ∷ []
+-- a shorter zone that another follows, refused when that comes
+wrong_cut : (source_plan setting (zoned zones_of_3 chunks flats) u8 false (ints 3 ∷ ints 2 ∷ ints 1 ∷ []) true).faults ≡ fault (zone_cut 2) (at_chunk (0 ∷ 2 ∷ [])) ∷ []
 unfolding setting flats chunks zones_of_3 u8 ints
 wrong_cut = refl
 
