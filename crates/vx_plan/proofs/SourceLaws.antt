@@ -3,25 +3,25 @@ use Rattle.std.proofs.Common.{◌≡◌, ℕ, suc, ◌+◌, ◌<◌, ◌≤◌, 
 use Rattle.std.proofs.lemmas.Bool.{true≢false}
 use Rattle.std.proofs.lemmas.Bool.Decides.{nat_tests}
 use Rattle.std.specs.Prelude.{if◌then◌else◌}
-use Rattle.vx_model.specs.Ty.{Ty, ty_eq}
+use Rattle.vx_model.specs.Ty.{Ty, Tys, no_fields, field, ty_eq}
 use Rattle.vx_model.specs.TyLaws.{ty_eq_decides}
 use Rattle.vx_model.specs.Val.{Val}
 use Rattle.vx_model.specs.Piece.{Piece, piece_type, row_values}
 use Rattle.vx_path.specs.Lists.{In}
 use Rattle.vx_path.specs.Path.{meets, Scattered, Region, under, raised}
 use Rattle.vx_path.proofs.Path.{under_apart}
-use Rattle.vx_tree.specs.LayoutTree.{Kind, flat_kind, chunked_kind, struct_kind, list_kind, dict_kind, zoned_kind, stats_kind, foreign_kind, Lay, Lays, layout, no_layouts, child, renamed, each_renamed, row_count}
+use Rattle.vx_tree.specs.LayoutTree.{Kind, flat_kind, chunked_kind, struct_kind, list_kind, dict_kind, zoned_kind, stats_kind, foreign_kind, Lay, Lays, layout, no_layouts, child, renamed, each_renamed, row_count, layout_type}
 use Rattle.vx_plan.specs.ZonesHold.{OfZoned, IsZoned, AllZoned, ZonesHold}
 use Rattle.vx_plan.specs.Admitted.{is_admitted}
 use Rattle.vx_tree.specs.Rows.{rows, and_then, counted, kind_rows, each_rows}
 use Rattle.vx_tree.proofs.LayoutLaws.{rows_renamed}
-use Rattle.vx_plan.specs.PlanData.{Setting, Item, Plan, paths, places, stream_values}
+use Rattle.vx_plan.specs.PlanData.{Setting, Item, Plan, Node, paths, places, stream_values}
 use Rattle.vx_plan.specs.Way.{Way}
 use Rattle.vx_plan.specs.SourcePlan.{plan, source_plan, batch_items, root_eof, source_values, of_schema}
 use Rattle.vx_plan.specs.Number.{segments, number_of, segment_at}
 use Rattle.vx_plan.specs.Valid.{Fit, AllOf, OfSchema, Keeps}
 use Rattle.vx_plan.specs.Statements.{RowsComeBack, PathsDistinct, PathsInRegion, PrefixWithin, FrontOfTaken, CountsRows, ZonesAreTrue, Within}
-use Rattle.vx_plan.proofs.Relate.{Given, induct}
+use Rattle.vx_plan.proofs.Relate.{Given, Fields, induct}
 use Rattle.vx_plan.proofs.PlanLists.{ItemsOf, Gives, counted_count}
 use Rattle.vx_plan.proofs.Spots.{Apart, Lies}
 use Rattle.vx_plan.proofs.FlatLaws.{Reads, Placed, Grows, Typed, flat_reads, flat_placed, flat_grows, flat_typed}
@@ -35,18 +35,32 @@ use Rattle.vx_plan.proofs.Fronts.{sorted_fronts}
 
 -- ---- each law, of every node
 
-pub plan_reads : (s : Setting) → Keeps s → (w : Way) (t : Ty) → Reads (is_admitted w) s t (plan s w t)
-plan_reads s keeps w t = induct s (is_admitted w) (λ t k. Reads (is_admitted w) s t k) (record {
-  flat_case = λ o t. flat_reads (is_admitted w) s keeps o t;
-  chunked_case = λ t k h. chunked_reads (is_admitted w) s t k h;
-  grouped_case = λ g a t k h. grouped_reads (is_admitted w) s g t k h;
-  compressed_case = λ which room a t k h. compressed_reads (is_admitted w) s keeps which room t k h;
-  dict_case = λ o t is c v f x y z. dict_reads (is_admitted w) s o t is c v f x y z;
-  zoned_case = λ o a t k f h hs. zoned_reads (is_admitted w) s o a t k f h hs;
-  not_struct_case = λ t. not_struct_reads (is_admitted w) s t;
-  struct_case = λ fs n dup v ks h hs. struct_reads (is_admitted w) s fs n dup v ks h hs;
-  list_case = λ t n e o v x y z. list_reads (is_admitted w) s t n e o v x y z;
+-- a node's rows, and its type
+pub record Known (admitted : Bool) (s : Setting) (t : Ty) (k : Node) : Type 0 where
+  pub reads : Reads admitted s t k
+  pub typed : Typed t k
+
+known_fields : (admitted : Bool) (s : Setting) (fs : Tys) (ks : List Node) → Fields (λ t k. Known admitted s t k) fs ks → Fields (λ t k. Reads admitted s t k) fs ks
+known_fields admitted s no_fields [] h = tt
+known_fields admitted s no_fields (k ∷ ks) h = h
+known_fields admitted s (field name t fs) [] h = h
+known_fields admitted s (field name t fs) (k ∷ ks) h = (h.0.reads, known_fields admitted s fs ks h.1)
+
+plan_known : (s : Setting) → Keeps s → (w : Way) (t : Ty) → Known (is_admitted w) s t (plan s w t)
+plan_known s keeps w t = induct s (is_admitted w) (λ t k. Known (is_admitted w) s t k) (record {
+  flat_case = λ o t. record { reads = flat_reads (is_admitted w) s keeps o t; typed = flat_typed s o t };
+  chunked_case = λ t k h. record { reads = chunked_reads (is_admitted w) s t k h.reads; typed = chunked_typed t k h.typed };
+  grouped_case = λ g a t k h. record { reads = grouped_reads (is_admitted w) s g t k h.reads; typed = grouped_typed g t k h.typed };
+  compressed_case = λ which room a t k h. record { reads = compressed_reads (is_admitted w) s keeps which room t k h.reads; typed = compressed_typed s which room t k h.typed };
+  dict_case = λ o t is c v f x y z. record { reads = dict_reads (is_admitted w) s o t is c v f x.reads y.reads z.reads; typed = dict_typed s o t c v f z.typed };
+  zoned_case = λ o a t k f h hs. record { reads = zoned_reads (is_admitted w) s o a t k f h.reads (λ u. (hs u).reads) (λ u. (hs u).typed); typed = zoned_typed s o t k f h.typed };
+  not_struct_case = λ t. record { reads = not_struct_reads (is_admitted w) s t; typed = not_struct_typed t };
+  struct_case = λ fs n dup v ks h hs. record { reads = struct_reads (is_admitted w) s fs n dup v ks h.reads (known_fields (is_admitted w) s fs ks hs); typed = struct_typed fs n dup v ks };
+  list_case = λ t n e o v x y z. record { reads = list_reads (is_admitted w) s t n e o v x.reads y.reads z.reads; typed = list_typed t n e o v };
 }) w (λ e. e) t
+
+pub plan_reads : (s : Setting) → Keeps s → (w : Way) (t : Ty) → Reads (is_admitted w) s t (plan s w t)
+plan_reads s keeps w t = (plan_known s keeps w t).reads
 
 no_premise : {b : Bool} → Given false b
 no_premise e = absurd (true≢false (sym e))
@@ -151,6 +165,9 @@ source_gives s w t m batches first keeps of clean fit =
     (plan_reads s keeps w t).reads m (batch_items 0 batches) root_eof (items_of t 0 batches of) clean fit.1
     (λ x. segment_at first (segments p) (number_of p.pairs first x)) (numbers_hold p first (paths_distinct s w t m batches true))
 
+type_renamed : {A B : Type 0} (f : A → B) (l : Lay A) → layout_type (renamed f l) ≡ layout_type l
+type_renamed f (layout k t n names ls) = refl
+
 -- zoned nodes of a renamed layout
 zoned_renamed : {A B : Type 0} (s : Setting) (look : B → Option (List ℕ)) (f : A → B) (k : Kind) (t : Ty) (n : ℕ) (ls : Lays A)
     → OfZoned (IsZoned s (λ a. look (f a))) k t n ls → OfZoned (IsZoned s look) k t n (each_renamed f ls)
@@ -166,6 +183,7 @@ zoned_renamed s look f (zoned_kind zone_len specs) t n (child data_child (child 
   all_zones = h.all_zones;
   kept = h.kept;
   specs_are = h.specs_are;
+  zones_type = type_renamed f zones ∙ h.zones_type;
   zones_rows = rows_renamed s.codec look f zones ∙ h.zones_rows;
 }
 zoned_renamed s look f (zoned_kind zone_len specs) t n no_layouts h = tt

@@ -161,14 +161,14 @@ items_values t (c ∷ cs) of =
     let f : Fine t (cells c.1) = cells_fine t c.1 of.0 in
     values_append t (row_values c.1) (stream_values cs) (cells_values t (cells c.1) f.fit f.real) (items_values t cs of.1)
 
-table_reads : (admitted : Bool) (s : Setting) (o : ZonedOptions) → Given admitted (is_admitted_zoned o) → (t : Ty) (stats : Ty → Node) → ((u : Ty) → Reads admitted s u (stats u))
+table_reads : (admitted : Bool) (s : Setting) (o : ZonedOptions) → Given admitted (is_admitted_zoned o) → (t : Ty) (stats : Ty → Node) → ((u : Ty) → Reads admitted s u (stats u)) → ((u : Ty) → Typed u (stats u))
     → (items : List Item) (e : Eof) (p : Plan) (cs : Option (List Filled)) → ItemsOf t items
     → zone_faults o.zone_len (recorded o t) items ≡ [] → kept_columns (recorded o t) (zone_records s t (recorded o t) items) ≡ cs → (look : List ℕ → Option (List ℕ))
     → (p.faults ≡ [] → Fit p.numbers → Holds look p.pairs → Gives admitted s look p.layout (stream_values items))
     → (with_table s o t stats false items e p cs).faults ≡ [] → Fit (with_table s o t stats false items e p cs).numbers → Holds look (with_table s o t stats false items e p cs).pairs
     → Gives admitted s look (with_table s o t stats false items e p cs).layout (stream_values items)
-table_reads admitted s o ok t stats rs items e p None of right kept look r clean fit held = r clean fit.1.1 held
-table_reads admitted s o ok t stats rs items e p (Some cs) of right kept look r clean fit held =
+table_reads admitted s o ok t stats rs ts items e p None of right kept look r clean fit held = r clean fit.1.1 held
+table_reads admitted s o ok t stats rs ts items e p (Some cs) of right kept look r clean fit held =
     let q : Plan = stats (table_type cs) false (table_items cs (length items) e) true (next (next e)) in
     let data_child : Gives admitted s look p.layout (stream_values items) = r (nil_left p.faults q.faults clean) (fit_left p.numbers q.numbers fit.1.1.1) (holds_left look p.pairs q.pairs held) in
     record {
@@ -189,21 +189,22 @@ table_reads admitted s o ok t stats rs items e p (Some cs) of right kept look r 
               all_zones = count_zones s o t (recorded o t) items cs right kept;
               kept = ap (kept_columns (recorded o t)) (sym (of_zones s o t (recorded o t) items cs right kept)) ∙ kept;
               specs_are = refl;
+              zones_type = (ts (table_type cs)).typed false (table_items cs (length items) e) true (next (next e));
               zones_rows = zones_child.read ∙ ap Some (append-nil (row_values (table_piece cs (length items))));
             },
             (data_child.zones a, (zones_child.zones a, tt)),
           );
     }
 
-pub zoned_reads : (admitted : Bool) (s : Setting) (o : ZonedOptions) → Given admitted (is_admitted_zoned o) → (t : Ty) (k : Node) (stats : Ty → Node) → Reads admitted s t k → ((u : Ty) → Reads admitted s u (stats u)) → Reads admitted s t (zoned_node s o t k stats)
-zoned_reads admitted s o ok t k stats r rs = record { reads = go }
+pub zoned_reads : (admitted : Bool) (s : Setting) (o : ZonedOptions) → Given admitted (is_admitted_zoned o) → (t : Ty) (k : Node) (stats : Ty → Node) → Reads admitted s t k → ((u : Ty) → Reads admitted s u (stats u)) → ((u : Ty) → Typed u (stats u)) → Reads admitted s t (zoned_node s o t k stats)
+zoned_reads admitted s o ok t k stats r rs ts = record { reads = go }
   where
     go : (m : Bool) (items : List Item) (e : Eof) → ItemsOf t items → (zoned_node s o t k stats m items true e).faults ≡ [] → Fit (zoned_node s o t k stats m items true e).numbers
         → (look : List ℕ → Option (List ℕ)) → Holds look (zoned_node s o t k stats m items true e).pairs
         → Gives admitted s look (zoned_node s o t k stats m items true e).layout (stream_values items)
     go true items e of clean fit look held = r.reads true items e of clean fit look held
     go false items e of clean fit look held =
-        table_reads admitted s o ok t stats rs items e (k false items true (inside e)) (table_of s o t items true) of
+        table_reads admitted s o ok t stats rs ts items e (k false items true (inside e)) (table_of s o t items true) of
         (nil_right (forbidden_faults s.allowed (recorded o t)) (zone_faults o.zone_len (recorded o t) items)
         (nil_left (forbidden_faults s.allowed (recorded o t) ++ zone_faults o.zone_len (recorded o t) items) (with_table s o t stats false items e (k false items true (inside e)) (table_of s o t items true)).faults clean))
         refl look

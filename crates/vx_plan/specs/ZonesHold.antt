@@ -4,11 +4,11 @@ use Rattle.vx_model.specs.Words.{all_by}
 use Rattle.vx_model.specs.Ty.{Ty}
 use Rattle.vx_model.specs.Val.{Val}
 use Rattle.vx_model.specs.Piece.{row_values}
-use Rattle.vx_tree.specs.LayoutTree.{Kind, zoned_kind, Lay, Lays, layout, no_layouts, child, Spec}
+use Rattle.vx_tree.specs.LayoutTree.{Kind, zoned_kind, Lay, Lays, layout, no_layouts, child, layout_type, Spec}
 use Rattle.vx_tree.specs.Rows.{rows}
 use Rattle.vx_record.specs.Aggregate.{Aggregate, Column, held_aggregates, has_options}
 use Rattle.vx_record.specs.Record.{zone_record}
-use Rattle.vx_record.specs.ZoneTable.{Filled, kept_columns, table_specs, table_piece}
+use Rattle.vx_record.specs.ZoneTable.{Filled, kept_columns, table_specs, table_type, table_piece}
 use Rattle.vx_record.specs.Statements.{AllValues}
 use Rattle.vx_plan.specs.PlanData.{Setting}
 
@@ -40,6 +40,7 @@ pub record IsZoned {A : Type 0} (s : Setting) (look : A → Option (List ℕ)) (
   pub all_zones : IsZoneCount (length values) zone_len count
   pub kept : kept_columns (held_aggregates aggregates t) (records_of s t (held_aggregates aggregates t) (zones_of count zone_len values)) ≡ Some table
   pub specs_are : specs ≡ table_specs table
+  pub zones_type : layout_type zones ≡ table_type table
   pub zones_rows : rows s.codec look zones ≡ Some (row_values (table_piece table count))
 
 -- ---- each zoned node of a layout, those of zone tables too

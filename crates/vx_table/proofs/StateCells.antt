@@ -95,12 +95,12 @@ pick : (b : Bool) (v w : Val) → ((if b then v else w) ≡ v) ⊎ ((if b then v
 pick true v w = inl refl
 pick false v w = inr refl
 
-greater_among : (v w : Val) → (greater v w ≡ v) ⊎ (greater v w ≡ w)
+pub greater_among : (v w : Val) → (greater v w ≡ v) ⊎ (greater v w ≡ w)
 greater_among null_value w = inr refl
 greater_among v null_value = inl refl
 greater_among v w = ⊎_elim (λ a. inr a) (λ a. inl a) (pick (value_le v w) w v)
 
-lesser_among : (v w : Val) → (lesser v w ≡ v) ⊎ (lesser v w ≡ w)
+pub lesser_among : (v w : Val) → (lesser v w ≡ v) ⊎ (lesser v w ≡ w)
 lesser_among null_value w = inr refl
 lesser_among v null_value = inl refl
 lesser_among v w = pick (value_le v w) v w

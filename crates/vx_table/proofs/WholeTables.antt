@@ -64,7 +64,7 @@ filled_good hash t (a ∷ columns) zs c z f i = ⊎_elim
     }))
     (λ j. filled_good hash t columns zs c.2 z f (subst (λ r. In f (filled columns r)) (tails_are hash t a columns zs) j)) i
 
-from_some : (f : Filled) (cs : List Filled) → In f (some_values cs) → In f cs
+pub from_some : (f : Filled) (cs : List Filled) → In f (some_values cs) → In f cs
 from_some f [] i = i
 from_some f (c ∷ cs) i = go (all_by is_null_value c.values) (from_some f cs) i
   where
@@ -72,7 +72,7 @@ from_some f (c ∷ cs) i = go (all_by is_null_value c.values) (from_some f cs) i
     go true r j = inr (r j)
     go false r j = ⊎_elim (λ e. inl e) (λ k. inr (r k)) j
 
-any_same : (cs : List Filled) (table : List Filled) → any_columns cs ≡ Some table → cs ≡ table
+pub any_same : (cs : List Filled) (table : List Filled) → any_columns cs ≡ Some table → cs ≡ table
 any_same [] table e = absurd (none-some table e)
 any_same (c ∷ cs) table e = same_Some (c ∷ cs) table e
 
