@@ -7,3 +7,4 @@ pub mod FilterLaws
 pub mod PruneLaws
 pub mod TableLaws
 pub mod SpecLaws
+pub mod HashLaws

@@ -4,6 +4,7 @@ use Rattle.std.specs.Str.{is_utf8}
 use Rattle.vx_model.specs.Ty.{Ty}
 use Rattle.vx_model.specs.Val.{Val, null_value, int_value, text_value, bytes_value}
 use Rattle.vx_path.specs.Lists.{In}
+use Rattle.vx_hash.specs.XxHash3.{xxhash3_64}
 use Rattle.vx_bloom.specs.Bytes.{filter_at, IsFilterLength}
 use Rattle.vx_bloom.specs.Values.{is_row_value, value_hash, value_hashes, may_contain_hash}
 use Rattle.vx_bloom.specs.Filter.{filter_of}
@@ -144,6 +145,10 @@ StoredFilterContains = (hash : List ℕ → ℕ) (t : Ty) (blocks : ℕ) (vs : L
 abbrev pub BoundsHold : Type 0
 BoundsHold = (t : Ty) (n : ℕ) (vs : List Val) (v : Val) → has_order t ≡ true → AllValues t vs → In v vs → v ≢ null_value
     → (upper_bound n (greatest vs) ≢ null_value → value_le v (upper_bound n (greatest vs)) ≡ true) × (value_le (lower_bound n (least vs)) v ≡ true)
+
+-- The hash of filters has 64 bits.
+abbrev pub HashIsSmall : Type 0
+HashIsSmall = SmallHash xxhash3_64
 
 -- ---- specs
 

@@ -2,7 +2,7 @@
 //! Each function here has an empty body; its contract is a law, proved for every record.
 #![tactic(auto)]
 
-ghost use Rattle.vx_record.specs.Statements.{PruningIsSound, TableIsExact, NotIsPushed, FilterContains, StoredFilterContains, BoundsHold, SpecsAreRead};
+ghost use Rattle.vx_record.specs.Statements.{PruningIsSound, TableIsExact, NotIsPushed, FilterContains, StoredFilterContains, BoundsHold, HashIsSmall, SpecsAreRead};
 
 /// Where a zone's record rules a predicate out, no row of the zone matches it.
 pub fn pruning_is_sound()
@@ -32,6 +32,11 @@ pub fn stored_filters_contain_values()
 /// A bounded maximum that isn't null is at least every value, a bounded minimum at most.
 pub fn bounds_hold()
     ensures { BoundsHold }
+{}
+
+/// The hash of filters has 64 bits, so laws that ask for this hold of it.
+pub fn hash_is_small()
+    ensures { HashIsSmall }
 {}
 
 /// An aggregate is read from its spec.
