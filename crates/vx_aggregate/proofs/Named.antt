@@ -1,7 +1,8 @@
 -- Ids and options of aggregates tell them apart.
 use Rattle.std.proofs.Common.{◌≡◌, ◌≢◌, ℕ, ◌<◌, ◌^◌, ◌+◌, List, [], ◌∷◌, ◌++◌, length, refl, sym, ◌∙◌, ap, rules, arith, Bool, true, false, Result, Ok, Err, subst}
 use Rattle.std.proofs.lemmas.Grind.{common_steps}
-use Rattle.std.specs.Prelude.{codes, bytes_eq, MatchResult, if◌then◌else◌}
+use Rattle.std.specs.Prelude.{◌&&◌, nat_lt, codes, bytes_eq, MatchResult, if◌then◌else◌}
+use Rattle.std.proofs.lemmas.Bool.Decides.{nat_tests}
 use Rattle.std.specs.Int.{w32, to_le_bytes}
 use Rattle.vx_bloom.specs.Bytes.{number_bytes, number_at}
 use Rattle.vx_bloom.specs.Options.{blocks_in, hash_fn_in, hash_number, options_bytes, ReadsOptions}
@@ -9,9 +10,9 @@ use Rattle.vx_bloom.specs.declared.options.BloomOptions.{BloomOptions}
 use Rattle.vx_bloom.specs.declared.options.OptionsError.{OptionsError}
 use Rattle.vx_bloom.specs.declared.options.OptionsError.TheVariants as errors
 use Rattle.vx_bloom.proofs.ReadOptions.{ReadsTwo, reads_two, hash_number_zero}
-use Rattle.vx_record.specs.Aggregate.{Aggregate, aggregate_id, option_bytes, maximum, minimum, bounded_maximum, bounded_minimum, null_count, sum, bloom}
+use Rattle.vx_record.specs.Aggregate.{Aggregate, aggregate_id, option_bytes, maximum, minimum, bounded_maximum, bounded_minimum, null_count, sum, bloom, has_options}
 use Rattle.vx_aggregate.specs.AggregateView.{aggregate}
-use Rattle.vx_aggregate.specs.Specs.{NamesAggregate, IsNumbered}
+use Rattle.vx_aggregate.specs.Specs.{NamesAggregate}
 use Rattle.vx_aggregate.specs.declared.aggregate.AggregateFn.{AggregateFn}
 use Rattle.vx_aggregate.specs.declared.spec.SpecError.{SpecError}
 use Rattle.vx_aggregate.specs.declared.spec.SpecError.TheVariants.{UnknownAggregate, Options}
@@ -52,20 +53,34 @@ no_options (bounded_maximum n) e = absurd (omega arith)
 no_options (bounded_minimum n) e = absurd (omega arith)
 no_options (bloom n) e = absurd (omega arith)
 
+left_true : (a b : Bool) → (a && b) ≡ true → a ≡ true
+left_true true b e = refl
+left_true false b e = e
+
+right_true : (a b : Bool) → (a && b) ≡ true → b ≡ true
+right_true true b e = e
+right_true false b e = absurd (cc e)
+
+in_range : (n : ℕ) → (nat_lt 0 n && nat_lt n (2 ^ 32)) ≡ true → (0 < n) × (n < 2 ^ 32)
+in_range n e = (
+    let h = left_true (nat_lt 0 n) (nat_lt n (2 ^ 32)) e in grind (arith, nat_tests),
+    let h = right_true (nat_lt 0 n) (nat_lt n (2 ^ 32)) e in grind (arith, nat_tests),
+  )
+
 -- a bound's options are no others than these
 bounds_only : (a : Aggregate) (options : List ℕ) → sort a ≡ 4 → ((n : ℕ) → 0 < n → n < 2 ^ 32 → to_le_bytes w32 n ≡ options → ⊥)
-    → IsNumbered a → option_bytes a ≡ options → ⊥
+    → has_options a ≡ true → option_bytes a ≡ options → ⊥
 unfolding sort
 bounds_only maximum options e h num is = omega arith
 bounds_only minimum options e h num is = omega arith
 bounds_only null_count options e h num is = omega arith
 bounds_only sum options e h num is = omega arith
-bounds_only (bounded_maximum n) options e h num is = h n num.0 num.1 is
-bounds_only (bounded_minimum n) options e h num is = h n num.0 num.1 is
+bounds_only (bounded_maximum n) options e h num is = let r = in_range n num in h n r.0 r.1 is
+bounds_only (bounded_minimum n) options e h num is = let r = in_range n num in h n r.0 r.1 is
 bounds_only (bloom n) options e h num is = omega arith
 
 filters_only : (a : Aggregate) (options : List ℕ) → sort a ≡ 5 → ((n : ℕ) → 0 < n → n < 2 ^ 32 → option_bytes (bloom n) ≡ options → ⊥)
-    → IsNumbered a → option_bytes a ≡ options → ⊥
+    → has_options a ≡ true → option_bytes a ≡ options → ⊥
 unfolding sort
 filters_only maximum options e h num is = omega arith
 filters_only minimum options e h num is = omega arith
@@ -73,7 +88,7 @@ filters_only null_count options e h num is = omega arith
 filters_only sum options e h num is = omega arith
 filters_only (bounded_maximum n) options e h num is = omega arith
 filters_only (bounded_minimum n) options e h num is = omega arith
-filters_only (bloom n) options e h num is = h n num.0 num.1 is
+filters_only (bloom n) options e h num is = let r = in_range n num in h n r.0 r.1 is
 
 same_sort : (id : List ℕ) (a : Aggregate) → aggregate_id a ≡ id → sort a ≡ sort_named id
 same_sort id a e = sym (sort_is a) ∙ ap sort_named e

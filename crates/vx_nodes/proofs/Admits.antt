@@ -5,7 +5,8 @@ use Rattle.std.proofs.lemmas.List.{drop_more, drop_all}
 use Rattle.std.proofs.lemmas.Bool.Decides.{nat_tests}
 use Rattle.vx_model.specs.Words.{all_by}
 use Rattle.vx_plan.specs.Way.{Wraps, no_wraps, by_blocks}
-use Rattle.vx_plan.specs.Admitted.{is_admitted, are_admitted, wraps_admitted, is_admitted_aggregate, is_admitted_grouping, is_admitted_zoned}
+use Rattle.vx_record.specs.Aggregate.{has_options}
+use Rattle.vx_plan.specs.Admitted.{is_admitted, are_admitted, wraps_admitted, is_admitted_grouping, is_admitted_zoned}
 use Rattle.vx_aggregate.specs.AggregateView.{aggregate}
 use Rattle.vx_aggregate.specs.declared.aggregate.AggregateFn.{AggregateFn}
 use Rattle.vx_nodes.specs.FieldWays.{field_ways}
@@ -29,7 +30,7 @@ below_u32 n h = grind (arith, nat_tests)
 pub ruleset admit_rules = (both_true, above_zero, below_u32)
 
 pub drop_aggregates : (xs : List AggregateFn) (i : ℕ) (a : AggregateFn) → i < length xs → a ≡ get_or xs i a
-    → all_by is_admitted_aggregate (map aggregate (drop i xs)) ≡ (is_admitted_aggregate (aggregate a) && all_by is_admitted_aggregate (map aggregate (drop (i + 1) xs)))
+    → all_by has_options (map aggregate (drop i xs)) ≡ (has_options (aggregate a) && all_by has_options (map aggregate (drop (i + 1) xs)))
 drop_aggregates xs i a lt is = rw (drop_more xs i a lt, ← is) refl
 
 pub ruleset aggregate_rules = (both_true, above_zero, below_u32, drop_all, drop_aggregates)

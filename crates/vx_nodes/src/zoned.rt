@@ -1,7 +1,7 @@
 ghost use Rattle.std.specs.Prelude.{◌≡◌, ◌<◌, ◌≤◌, ◌⊎◌, ◌^◌, map, IsTrue, MatchOption};
 ghost use Rattle.std.specs.Int.NonZero.{non_zero_u32_get};
 ghost use Rattle.vx_model.specs.Words.{all_by};
-ghost use Rattle.vx_plan.specs.Admitted.{is_admitted_aggregate};
+ghost use Rattle.vx_record.specs.Aggregate.{has_options};
 ghost use Rattle.vx_aggregate.specs.AggregateView.{aggregate};
 
 use crate::child::ChildStrategy;
@@ -71,7 +71,7 @@ fn zone_length(rows: u64) -> Option<NonZeroU32>
 /// Does nothing; tells a proof that the aggregates' numbers are from 1 to 2^32 - 1.
 #[tactic(auto, using(crate::proofs::Admits::aggregate_rules))]
 fn numbered(aggregates: &[AggregateFn])
-    ensures { IsTrue (all_by is_admitted_aggregate (map aggregate aggregates.now)) }
+    ensures { IsTrue (all_by has_options (map aggregate aggregates.now)) }
 {
     for aggregate in aggregates {
         is_numbered(aggregate)
@@ -80,7 +80,7 @@ fn numbered(aggregates: &[AggregateFn])
 
 #[tactic(auto, using(crate::proofs::Admits::aggregate_rules))]
 fn is_numbered(one: &AggregateFn)
-    ensures { IsTrue (is_admitted_aggregate (aggregate one.now)) }
+    ensures { IsTrue (has_options (aggregate one.now)) }
 {
     match one {
         AggregateFn::Max | AggregateFn::Min | AggregateFn::NullCount | AggregateFn::Sum => {}

@@ -1,15 +1,14 @@
 -- The laws of a chunked node.
-use Rattle.std.proofs.Common.{◌≡◌, ℕ, ◌+◌, ◌<◌, ◌≤◌, ◌^◌, Bool, true, false, List, [], ◌∷◌, ◌++◌, map, length, Option, Some, None, refl, sym, ap, ap₂, ◌∙◌, subst, inl, inr, arith, length-append}
+use Rattle.std.proofs.Common.{◌≡◌, ℕ, ◌+◌, ◌<◌, ◌^◌, Bool, true, false, List, [], ◌∷◌, ◌++◌, length, Option, refl, sym, ap, ap₂, ◌∙◌, subst, arith, length-append}
 use Rattle.std.proofs.lemmas.List.{append-nil}
 use Rattle.vx_model.specs.Ty.{Ty}
 use Rattle.vx_model.specs.Val.{Val}
 use Rattle.vx_model.specs.Piece.{row_values}
-use Rattle.vx_path.specs.Lists.{In}
 use Rattle.vx_path.specs.Path.{Eof, Region, inside, next}
-use Rattle.vx_tree.specs.LayoutTree.{Lay, gathered, layout_type}
-use Rattle.vx_tree.specs.Rows.{rows, joined}
+use Rattle.vx_tree.specs.LayoutTree.{gathered, layout_type}
+use Rattle.vx_tree.specs.Rows.{joined}
 use Rattle.vx_plan.specs.PlanData.{Setting, Item, Pair, Plan, Node, paths, places, stream_values, row_total}
-use Rattle.vx_plan.specs.ChunkedNode.{chunked_node, chunk_plans, chunked_numbers, all_pairs, all_faults, all_numbers, all_layouts}
+use Rattle.vx_plan.specs.ChunkedNode.{chunked_node, chunk_plans, all_pairs, all_faults, all_numbers, all_layouts}
 use Rattle.vx_plan.specs.Valid.{Fit}
 use Rattle.vx_plan.specs.Statements.{Within}
 use Rattle.vx_plan.proofs.PlanLists.{ItemsOf, Holds, Gives, gives_same, ReadAll, Grow, grow_none, grow_more, nil_left, nil_right, fit_left, fit_right, holds_left, holds_right, gathered_reads, length-stream_values, row_total-append, within_itself}
@@ -27,27 +26,27 @@ pub joined-each_values : (items : List Item) → joined (each_values items) ≡ 
 joined-each_values [] = refl
 joined-each_values (i ∷ is) = ap₂ (λ a b. a ++ b) (append-nil (row_values i.1)) (joined-each_values is)
 
-chunks_read : (s : Setting) (t : Ty) (k : Node) → Reads s t k → (m : Bool) (items : List Item) (e : Eof) → ItemsOf t items
+chunks_read : (admitted : Bool) (s : Setting) (t : Ty) (k : Node) → Reads admitted s t k → (m : Bool) (items : List Item) (e : Eof) → ItemsOf t items
     → all_faults (chunk_plans k m items e) ≡ [] → Fit (all_numbers (chunk_plans k m items e)) → (look : List ℕ → Option (List ℕ))
-    → Holds look (all_pairs (chunk_plans k m items e)) → ReadAll s look (all_layouts (chunk_plans k m items e)) (each_values items)
-chunks_read s t k r m [] e of clean fit look held = tt
-chunks_read s t k r m (i ∷ is) e of clean fit look held =
+    → Holds look (all_pairs (chunk_plans k m items e)) → ReadAll admitted s look (all_layouts (chunk_plans k m items e)) (each_values items)
+chunks_read admitted s t k r m [] e of clean fit look held = tt
+chunks_read admitted s t k r m (i ∷ is) e of clean fit look held =
     let p : Plan = k m (i ∷ []) true (inside e) in
     let ps : List Plan = chunk_plans k m is (next e) in (
       r.reads m (i ∷ []) (inside e) (of.0, tt) (nil_left p.faults (all_faults ps) clean) (fit_left p.numbers (all_numbers ps) fit) look (holds_left look p.pairs (all_pairs ps) held),
-      chunks_read s t k r m is (next e) of.1 (nil_right p.faults (all_faults ps) clean) (fit_right p.numbers (all_numbers ps) fit) look (holds_right look p.pairs (all_pairs ps) held),
+      chunks_read admitted s t k r m is (next e) of.1 (nil_right p.faults (all_faults ps) clean) (fit_right p.numbers (all_numbers ps) fit) look (holds_right look p.pairs (all_pairs ps) held),
     )
 
-pub chunked_reads : (s : Setting) (t : Ty) (k : Node) → Reads s t k → Reads s t (chunked_node t k)
-chunked_reads s t k r = record { reads = go }
+pub chunked_reads : (admitted : Bool) (s : Setting) (t : Ty) (k : Node) → Reads admitted s t k → Reads admitted s t (chunked_node t k)
+chunked_reads admitted s t k r = record { reads = go }
   where
     go : (m : Bool) (items : List Item) (e : Eof) → ItemsOf t items → (chunked_node t k m items true e).faults ≡ [] → Fit (chunked_node t k m items true e).numbers
         → (look : List ℕ → Option (List ℕ)) → Holds look (chunked_node t k m items true e).pairs
-        → Gives s look (chunked_node t k m items true e).layout (stream_values items)
+        → Gives admitted s look (chunked_node t k m items true e).layout (stream_values items)
     go m items e of clean fit look held =
-        gives_same s look (chunked_node t k m items true e).layout (joined (each_values items)) (stream_values items)
-        (gathered_reads s look t (row_total items) (all_layouts (chunk_plans k m items e)) (each_values items)
-        (chunks_read s t k r m items e of clean fit.1.1 look held) (ap length (joined-each_values items) ∙ length-stream_values items))
+        gives_same admitted s look (chunked_node t k m items true e).layout (joined (each_values items)) (stream_values items)
+        (gathered_reads admitted s look t (row_total items) (all_layouts (chunk_plans k m items e)) (each_values items)
+        (chunks_read admitted s t k r m items e of clean fit.1.1 look held) (ap length (joined-each_values items) ∙ length-stream_values items))
         (joined-each_values items)
 
 -- ---- paths
@@ -77,7 +76,7 @@ chunks_grow k m (x ∷ xs) ys e =
     (within_itself (k m (x ∷ []) true (inside e))) (chunks_grow k m xs ys (next e))
 
 pub chunked_grows : (t : Ty) (k : Node) → Grows t (chunked_node t k)
-chunked_grows t k = record { grows = go; quiet = λ m e. refl }
+chunked_grows t k = record { grows = go; quiet = λ m e. refl; still = λ m e. refl }
   where
     go : (m : Bool) (xs ys : List Item) (ended : Bool) (e : Eof) → Within (chunked_node t k m xs false e) (chunked_node t k m (xs ++ ys) ended e)
     go m xs ys ended e =
@@ -85,6 +84,7 @@ chunked_grows t k = record { grows = go; quiet = λ m e. refl }
         record {
           pairs = g.pairs;
           faultless = g.faultless;
+          reserved = g.reserved;
           fit = λ f h. (
             (let total : row_total (xs ++ ys) ≡ row_total xs + row_total ys = row_total-append xs ys in let a : row_total (xs ++ ys) < 2 ^ 64 = h.0 in omega arith),
             (

@@ -1,29 +1,26 @@
 -- The laws of struct and list nodes.
-use Rattle.std.proofs.Common.{◌≡◌, ℕ, zero, suc, ◌+◌, ◌<◌, ◌≤◌, ◌^◌, ◌⊎◌, ◌||◌, Bool, true, false, List, [], ◌∷◌, ◌++◌, map, length, Option, Some, None, refl, sym, ap, ap₂, ◌∙◌, subst, inl, inr, ⊎_elim, arith, append_assoc, length-append, eq-eqb}
+use Rattle.std.proofs.Common.{◌≡◌, ℕ, suc, ◌+◌, ◌<◌, ◌≤◌, ◌^◌, ◌⊎◌, ◌||◌, Bool, true, false, List, [], ◌∷◌, ◌++◌, map, length, Option, Some, None, refl, sym, ap, ap₂, ◌∙◌, subst, inl, inr, ⊎_elim, arith, length-append, eq-eqb}
 use Rattle.std.specs.Prelude.{if◌then◌else◌, ◌==◌, ◌&&◌}
-use Rattle.std.proofs.lemmas.List.{append-nil, map-append, length-map}
-use Rattle.std.proofs.lemmas.Bool.{true≢false}
+use Rattle.std.proofs.lemmas.List.{length-map}
 use Rattle.vx_rules.proofs.RegroupLaws.{stream_cells-append}
-use Rattle.vx_model.specs.Words.{all_by, tail}
+use Rattle.vx_model.specs.Words.{all_by}
 use Rattle.vx_model.specs.Ty.{Ty, Tys, boolean, list, struct, no_fields, field}
 use Rattle.vx_model.specs.Val.{Val, value}
 use Rattle.vx_model.specs.Tree.{Tree, fits, bool_cell}
-use Rattle.vx_model.specs.Piece.{Piece, cells}
+use Rattle.vx_model.specs.Piece.{cells}
 use Rattle.vx_path.specs.Lists.{In}
 use Rattle.vx_path.specs.Path.{Eof, Region, begins, Scattered, meets, raised, inside, next, under}
-use Rattle.vx_path.proofs.Lists.{in_left, in_right, in_cases}
+use Rattle.vx_path.proofs.Lists.{in_cases}
 use Rattle.vx_path.proofs.Path.{begins-refl, begins-trans, begins-under, meets-sym, under_apart, raised_apart, raised-next}
-use Rattle.vx_tree.specs.Real.{Of}
-use Rattle.vx_tree.specs.Codec.{Codec}
-use Rattle.vx_tree.specs.Rows.{rows, each_rows, and_then, all_there, counted, struct_rows, list_rows, fields_rows, under_validity, has_count, zipped, kept_rows, lists_of}
-use Rattle.vx_tree.specs.LayoutTree.{Lay, layout_type, lays_of, struct_layout, list_layout}
+use Rattle.vx_tree.specs.Rows.{and_then, counted, struct_rows, list_rows, under_validity, has_count, zipped, kept_rows, lists_of}
+use Rattle.vx_tree.specs.LayoutTree.{Lay, layout_type, struct_layout, list_layout}
 use Rattle.vx_rules.specs.Stream.{Chunk, Chunks, stream_cells, chunk_paths}
 use Rattle.vx_rules.specs.Columns.{flag_of, Split, struct_splits, list_splits, column, other_columns, all_elements, ends, offset_cell, offset_type}
-use Rattle.vx_rules.proofs.CellLaws.{Fine, cells_fine, all_append}
+use Rattle.vx_rules.proofs.CellLaws.{cells_fine, all_append}
 use Rattle.vx_rules.proofs.ColumnCells.{field_cells, column_values, inner_value, zipped_fields, flags_keep, structs_valid, lists_valid}
 use Rattle.vx_rules.proofs.ColumnStreams.{split_paths, unders, column_paths, other_paths, struct_paths, list_paths, column-append, other_columns-append, struct_splits-append, list_splits_begin, field_streams, StreamsOf, streams_cells, streams_are, chunk_cells, all_chunk_cells, struct_shows, nullable_shows, validity_stream, lists_are, elements_stream, offsets_stream, list_validity_stream, elements_append}
-use Rattle.vx_plan.specs.PlanData.{Setting, Item, Pair, Plan, Node, paths, places, stream_values, row_total}
-use Rattle.vx_plan.specs.ChunkedNode.{all_pairs, all_faults, all_numbers, all_layouts}
+use Rattle.vx_plan.specs.PlanData.{Setting, Item, Plan, Node, paths, places, stream_values, row_total}
+use Rattle.vx_plan.specs.ChunkedNode.{all_pairs, all_faults, all_numbers, all_layouts, all_reserved}
 use Rattle.vx_plan.specs.ColumnNodes.{Column, marked, column_plans, beside, not_struct_node, struct_writers, column_numbers, struct_plans, struct_node, list_writers, list_numbers, list_plans, list_columns_plan, list_node}
 use Rattle.vx_plan.specs.Valid.{Fit}
 use Rattle.vx_plan.specs.Statements.{Within}
@@ -43,18 +40,18 @@ streams_values_cells : (ss : List (List Chunk)) → streams_values ss ≡ column
 streams_values_cells [] = refl
 streams_values_cells (s ∷ ss) = ap₂ (λ x y. x ∷ y) (stream_values_cells s) (streams_values_cells ss)
 
-fields_read : (s : Setting) (fs : Tys) (ks : List Node) → Fields (λ t k. Reads s t k) fs ks → (m : Bool) (c : ℕ) (xs : List Split) (e : Eof)
+fields_read : (admitted : Bool) (s : Setting) (fs : Tys) (ks : List Node) → Fields (λ t k. Reads admitted s t k) fs ks → (m : Bool) (c : ℕ) (xs : List Split) (e : Eof)
     → StreamsOf fs (field_streams fs c xs) → all_faults (column_plans (marked m ks) c xs true e) ≡ [] → Fit (all_numbers (column_plans (marked m ks) c xs true e))
     → (look : List ℕ → Option (List ℕ)) → Holds look (all_pairs (column_plans (marked m ks) c xs true e))
-    → ReadAll s look (all_layouts (column_plans (marked m ks) c xs true e)) (streams_values (field_streams fs c xs))
-fields_read s no_fields [] r m c xs e of clean fit look held = tt
-fields_read s no_fields (k ∷ ks) r m c xs e of clean fit look held = absurd r
-fields_read s (field name t fs) [] r m c xs e of clean fit look held = absurd r
-fields_read s (field name t fs) (k ∷ ks) r m c xs e of clean fit look held =
+    → ReadAll admitted s look (all_layouts (column_plans (marked m ks) c xs true e)) (streams_values (field_streams fs c xs))
+fields_read admitted s no_fields [] r m c xs e of clean fit look held = tt
+fields_read admitted s no_fields (k ∷ ks) r m c xs e of clean fit look held = absurd r
+fields_read admitted s (field name t fs) [] r m c xs e of clean fit look held = absurd r
+fields_read admitted s (field name t fs) (k ∷ ks) r m c xs e of clean fit look held =
     let p : Plan = k m (column c xs) true (inside e) in
     let ps : List Plan = column_plans (marked m ks) (suc c) (other_columns xs) true (next e) in (
       r.0.reads m (column c xs) (inside e) of.0 (nil_left p.faults (all_faults ps) clean) (fit_left p.numbers (all_numbers ps) fit) look (holds_left look p.pairs (all_pairs ps) held),
-      fields_read s fs ks r.1 m (suc c) (other_columns xs) (next e) of.1 (nil_right p.faults (all_faults ps) clean) (fit_right p.numbers (all_numbers ps) fit) look (holds_right look p.pairs (all_pairs ps) held),
+      fields_read admitted s fs ks r.1 m (suc c) (other_columns xs) (next e) of.1 (nil_right p.faults (all_faults ps) clean) (fit_right p.numbers (all_numbers ps) fit) look (holds_right look p.pairs (all_pairs ps) held),
     )
 
 counts_ok : (fs : Tys) (cs : List Tree) (n : ℕ) → length cs ≡ n → all_by (has_count n) (column_values (field_cells fs cs)) ≡ true
@@ -92,11 +89,11 @@ stream_fits : (t : Ty) (cs : List Chunk) → Chunks t cs → all_by (fits t) (st
 stream_fits t [] h = refl
 stream_fits t (c ∷ cs) h = all_append (fits t) (cells c.1) (stream_cells cs) (cells_fine t c.1 h.0).fit (stream_fits t cs h.1)
 
-struct_layout_rows : {A : Type 0} (s : Setting) (look : A → Option (List ℕ)) (fs : Tys) (m : Bool) (n : ℕ) (ls : List (Lay A)) (vss : List (List Val)) (out : List Val)
-    → ReadAll s look ls vss → struct_rows m n vss ≡ Some out → length out ≡ n → Gives s look (struct_layout (struct fs m) n ls) out
-struct_layout_rows s look fs m n ls vss out r e l = record {
-  read = ap (λ z. and_then (counted n) (and_then (struct_rows m n) z)) (all_there_read s look ls vss r) ∙ ap (and_then (counted n)) e ∙ counted_same n out l;
-  zones = (tt, all_zones s look ls vss r);
+struct_layout_rows : {A : Type 0} (admitted : Bool) (s : Setting) (look : A → Option (List ℕ)) (fs : Tys) (m : Bool) (n : ℕ) (ls : List (Lay A)) (vss : List (List Val)) (out : List Val)
+    → ReadAll admitted s look ls vss → struct_rows m n vss ≡ Some out → length out ≡ n → Gives admitted s look (struct_layout (struct fs m) n ls) out
+struct_layout_rows admitted s look fs m n ls vss out r e l = record {
+  read = ap (λ z. and_then (counted n) (and_then (struct_rows m n) z)) (all_there_read admitted s look ls vss r) ∙ ap (and_then (counted n)) e ∙ counted_same n out l;
+  zones = λ a. (tt, all_zones admitted s look ls vss r a);
 }
 
 values_length : (items : List Item) → length (map value (stream_cells items)) ≡ row_total items
@@ -107,13 +104,13 @@ field_values : (fs : Tys) (c : ℕ) (xs : List Split) (items : List Item) → st
 field_values fs c xs items h =
     streams_values_cells (field_streams fs c xs) ∙ ap column_values h ∙ ap (λ z. column_values (field_cells fs z)) (all_chunk_cells items)
 
-nullable_reads : (s : Setting) (fs : Tys) (v : Node) (ks : List Node) → Reads s (boolean false) v → Fields (λ t k. Reads s t k) fs ks
-    → Reads s (struct fs true) (struct_node fs true None v ks)
-nullable_reads s fs v ks rv rs = record { reads = go }
+nullable_reads : (admitted : Bool) (s : Setting) (fs : Tys) (v : Node) (ks : List Node) → Reads admitted s (boolean false) v → Fields (λ t k. Reads admitted s t k) fs ks
+    → Reads admitted s (struct fs true) (struct_node fs true None v ks)
+nullable_reads admitted s fs v ks rv rs = record { reads = go }
   where
     go : (m : Bool) (items : List Item) (e : Eof) → ItemsOf (struct fs true) items → (struct_node fs true None v ks m items true e).faults ≡ [] → Fit (struct_node fs true None v ks m items true e).numbers
         → (look : List ℕ → Option (List ℕ)) → Holds look (struct_node fs true None v ks m items true e).pairs
-        → Gives s look (struct_node fs true None v ks m items true e).layout (stream_values items)
+        → Gives admitted s look (struct_node fs true None v ks m items true e).layout (stream_values items)
     go m items e of clean fit look held =
         let xs : List Split = struct_splits fs true items in
         let p : Plan = v m (column 0 xs) true (inside e) in
@@ -122,65 +119,65 @@ nullable_reads s fs v ks rv rs = record { reads = go }
         let fields : StreamsOf fs (field_streams fs 1 (other_columns xs)) × (streams_cells (field_streams fs 1 (other_columns xs)) ≡ field_cells fs (Rattle.vx_rules.proofs.ColumnStreams.all_cells (chunk_cells items))) =
         streams_are fs 1 (other_columns xs) (chunk_cells items) (nullable_shows fs items of) in
         let numbers : Fit (p.numbers ++ all_numbers ps) = fit.1.1.1 in
-        let first : Gives s look p.layout (stream_values (column 0 xs)) =
+        let first : Gives admitted s look p.layout (stream_values (column 0 xs)) =
         rv.reads m (column 0 xs) (inside e) flags.0 (nil_left p.faults (all_faults ps) clean) (fit_left p.numbers (all_numbers ps) numbers) look (holds_left look p.pairs (all_pairs ps) held) in
-        let others : ReadAll s look (all_layouts ps) (streams_values (field_streams fs 1 (other_columns xs))) =
-        fields_read s fs ks rs (m || true) 1 (other_columns xs) (next e) fields.0 (nil_right p.faults (all_faults ps) clean) (fit_right p.numbers (all_numbers ps) numbers) look (holds_right look p.pairs (all_pairs ps) held) in
-        gives_same s look (struct_node fs true None v ks m items true e).layout (map value (stream_cells items)) (stream_values items)
-        (struct_layout_rows s look fs true (row_total items) (p.layout ∷ all_layouts ps) (stream_values (column 0 xs) ∷ streams_values (field_streams fs 1 (other_columns xs))) (map value (stream_cells items))
+        let others : ReadAll admitted s look (all_layouts ps) (streams_values (field_streams fs 1 (other_columns xs))) =
+        fields_read admitted s fs ks rs (m || true) 1 (other_columns xs) (next e) fields.0 (nil_right p.faults (all_faults ps) clean) (fit_right p.numbers (all_numbers ps) numbers) look (holds_right look p.pairs (all_pairs ps) held) in
+        gives_same admitted s look (struct_node fs true None v ks m items true e).layout (map value (stream_cells items)) (stream_values items)
+        (struct_layout_rows admitted s look fs true (row_total items) (p.layout ∷ all_layouts ps) (stream_values (column 0 xs) ∷ streams_values (field_streams fs 1 (other_columns xs))) (map value (stream_cells items))
         (first, others)
         (ap₂ (λ x y. struct_rows true (row_total items) (x ∷ y)) (stream_values_cells (column 0 xs) ∙ ap (map value) flags.1) (field_values fs 1 (other_columns xs) items fields.1)
         ∙ nullable_rows_are fs (stream_cells items) (row_total items) (sym (row_total_cells items)) (stream_fits (struct fs true) items of))
         (values_length items))
         (sym (stream_values_cells items))
 
-plain_reads : (s : Setting) (fs : Tys) (v : Node) (ks : List Node) → Fields (λ t k. Reads s t k) fs ks
-    → Reads s (struct fs false) (struct_node fs false None v ks)
-plain_reads s fs v ks rs = record { reads = go }
+plain_reads : (admitted : Bool) (s : Setting) (fs : Tys) (v : Node) (ks : List Node) → Fields (λ t k. Reads admitted s t k) fs ks
+    → Reads admitted s (struct fs false) (struct_node fs false None v ks)
+plain_reads admitted s fs v ks rs = record { reads = go }
   where
     go : (m : Bool) (items : List Item) (e : Eof) → ItemsOf (struct fs false) items → (struct_node fs false None v ks m items true e).faults ≡ [] → Fit (struct_node fs false None v ks m items true e).numbers
         → (look : List ℕ → Option (List ℕ)) → Holds look (struct_node fs false None v ks m items true e).pairs
-        → Gives s look (struct_node fs false None v ks m items true e).layout (stream_values items)
+        → Gives admitted s look (struct_node fs false None v ks m items true e).layout (stream_values items)
     go m items e of clean fit look held =
         let xs : List Split = struct_splits fs false items in
         let ps : List Plan = column_plans (marked (m || false) ks) 0 xs true e in
         let fields : StreamsOf fs (field_streams fs 0 xs) × (streams_cells (field_streams fs 0 xs) ≡ field_cells fs (Rattle.vx_rules.proofs.ColumnStreams.all_cells (chunk_cells items))) =
         streams_are fs 0 xs (chunk_cells items) (struct_shows fs items of) in
-        let read : ReadAll s look (all_layouts ps) (streams_values (field_streams fs 0 xs)) =
-        fields_read s fs ks rs (m || false) 0 xs e fields.0 clean fit.1.1.1 look held in
-        gives_same s look (struct_node fs false None v ks m items true e).layout (map value (stream_cells items)) (stream_values items)
-        (struct_layout_rows s look fs false (row_total items) (all_layouts ps) (streams_values (field_streams fs 0 xs)) (map value (stream_cells items))
+        let read : ReadAll admitted s look (all_layouts ps) (streams_values (field_streams fs 0 xs)) =
+        fields_read admitted s fs ks rs (m || false) 0 xs e fields.0 clean fit.1.1.1 look held in
+        gives_same admitted s look (struct_node fs false None v ks m items true e).layout (map value (stream_cells items)) (stream_values items)
+        (struct_layout_rows admitted s look fs false (row_total items) (all_layouts ps) (streams_values (field_streams fs 0 xs)) (map value (stream_cells items))
         read
         (ap (struct_rows false (row_total items)) (field_values fs 0 xs items fields.1)
         ∙ struct_rows_are fs (stream_cells items) (row_total items) (sym (row_total_cells items)) (stream_fits (struct fs false) items of))
         (values_length items))
         (sym (stream_values_cells items))
 
-pub struct_reads : (s : Setting) (fs : Tys) (n : Bool) (dup : Option (List ℕ)) (v : Node) (ks : List Node) → Reads s (boolean false) v → Fields (λ t k. Reads s t k) fs ks
-    → Reads s (struct fs n) (struct_node fs n dup v ks)
-struct_reads s fs n (Some name) v ks rv rs = record { reads = λ m items e of clean fit look held. absurd (cons_nil clean) }
-struct_reads s fs true None v ks rv rs = nullable_reads s fs v ks rv rs
-struct_reads s fs false None v ks rv rs = plain_reads s fs v ks rs
+pub struct_reads : (admitted : Bool) (s : Setting) (fs : Tys) (n : Bool) (dup : Option (List ℕ)) (v : Node) (ks : List Node) → Reads admitted s (boolean false) v → Fields (λ t k. Reads admitted s t k) fs ks
+    → Reads admitted s (struct fs n) (struct_node fs n dup v ks)
+struct_reads admitted s fs n (Some name) v ks rv rs = record { reads = λ m items e of clean fit look held. absurd (cons_nil clean) }
+struct_reads admitted s fs true None v ks rv rs = nullable_reads admitted s fs v ks rv rs
+struct_reads admitted s fs false None v ks rv rs = plain_reads admitted s fs v ks rs
 
-pub not_struct_reads : (s : Setting) (t : Ty) → Reads s t (not_struct_node t)
-not_struct_reads s t = record { reads = λ m items e of clean fit look held. absurd (cons_nil clean) }
+pub not_struct_reads : (admitted : Bool) (s : Setting) (t : Ty) → Reads admitted s t (not_struct_node t)
+not_struct_reads admitted s t = record { reads = λ m items e of clean fit look held. absurd (cons_nil clean) }
 
 -- ---- rows of lists
 
-list_layout_rows : {A : Type 0} (s : Setting) (look : A → Option (List ℕ)) (t : Ty) (m : Bool) (n : ℕ) (ls : List (Lay A)) (vss : List (List Val)) (out : List Val)
-    → ReadAll s look ls vss → list_rows m n vss ≡ Some out → length out ≡ n → Gives s look (list_layout (list t m) n ls) out
-list_layout_rows s look t m n ls vss out r e l = record {
-  read = ap (λ z. and_then (counted n) (and_then (list_rows m n) z)) (all_there_read s look ls vss r) ∙ ap (and_then (counted n)) e ∙ counted_same n out l;
-  zones = (tt, all_zones s look ls vss r);
+list_layout_rows : {A : Type 0} (admitted : Bool) (s : Setting) (look : A → Option (List ℕ)) (t : Ty) (m : Bool) (n : ℕ) (ls : List (Lay A)) (vss : List (List Val)) (out : List Val)
+    → ReadAll admitted s look ls vss → list_rows m n vss ≡ Some out → length out ≡ n → Gives admitted s look (list_layout (list t m) n ls) out
+list_layout_rows admitted s look t m n ls vss out r e l = record {
+  read = ap (λ z. and_then (counted n) (and_then (list_rows m n) z)) (all_there_read admitted s look ls vss r) ∙ ap (and_then (counted n)) e ∙ counted_same n out l;
+  zones = λ a. (tt, all_zones admitted s look ls vss r a);
 }
 
-pub list_reads : (s : Setting) (t : Ty) (n : Bool) (es os v : Node) → Reads s t es → Reads s offset_type os → Reads s (boolean false) v → Reads s (list t n) (list_node t n es os v)
-list_reads s t n es os v re ro rv = record { reads = go n re ro rv }
+pub list_reads : (admitted : Bool) (s : Setting) (t : Ty) (n : Bool) (es os v : Node) → Reads admitted s t es → Reads admitted s offset_type os → Reads admitted s (boolean false) v → Reads admitted s (list t n) (list_node t n es os v)
+list_reads admitted s t n es os v re ro rv = record { reads = go n re ro rv }
   where
-    go : (n : Bool) → Reads s t es → Reads s offset_type os → Reads s (boolean false) v
+    go : (n : Bool) → Reads admitted s t es → Reads admitted s offset_type os → Reads admitted s (boolean false) v
         → (m : Bool) (items : List Item) (e : Eof) → ItemsOf (list t n) items → (list_node t n es os v m items true e).faults ≡ [] → Fit (list_node t n es os v m items true e).numbers
         → (look : List ℕ → Option (List ℕ)) → Holds look (list_node t n es os v m items true e).pairs
-        → Gives s look (list_node t n es os v m items true e).layout (stream_values items)
+        → Gives admitted s look (list_node t n es os v m items true e).layout (stream_values items)
     go n re ro rv m [] e of clean fit look held = absurd (cons_nil clean)
     go false re ro rv m (i ∷ is) e of clean fit look held =
         let items : List Item = i ∷ is in
@@ -194,13 +191,13 @@ list_reads s t n es os v re ro rv = record { reads = go n re ro rv }
         let elements : Chunks t (column 0 xs) × (stream_cells (column 0 xs) ≡ all_elements (stream_cells (i ∷ is))) = elements_stream t false true 0 (i ∷ is) of all in
         let offsets : Chunks offset_type (column 1 (other_columns xs)) × (stream_cells (column 1 (other_columns xs)) ≡ map offset_cell (0 ∷ ends 0 (stream_cells (i ∷ is)))) =
         offsets_stream t false i is all (omega arith) in
-        let first : Gives s look p.layout (stream_values (column 0 xs)) =
+        let first : Gives admitted s look p.layout (stream_values (column 0 xs)) =
         re.reads m (column 0 xs) (inside e) elements.0 (nil_left p.faults (q.faults ++ []) clean) (fit_left p.numbers (q.numbers ++ []) numbers) look (holds_left look p.pairs (q.pairs ++ []) held) in
-        let second : Gives s look q.layout (stream_values (column 1 (other_columns xs))) =
+        let second : Gives admitted s look q.layout (stream_values (column 1 (other_columns xs))) =
         ro.reads m (column 1 (other_columns xs)) (inside (next e)) offsets.0 (nil_left q.faults [] (nil_right p.faults (q.faults ++ []) clean)) (fit_left q.numbers [] (fit_right p.numbers (q.numbers ++ []) numbers)) look
         (holds_left look q.pairs [] (holds_right look p.pairs (q.pairs ++ []) held)) in
-        gives_same s look (list_node t false es os v m (i ∷ is) true e).layout (map value (stream_cells (i ∷ is))) (stream_values (i ∷ is))
-        (list_layout_rows s look t false (row_total (i ∷ is)) (p.layout ∷ q.layout ∷ []) (stream_values (column 0 xs) ∷ stream_values (column 1 (other_columns xs)) ∷ []) (map value (stream_cells (i ∷ is)))
+        gives_same admitted s look (list_node t false es os v m (i ∷ is) true e).layout (map value (stream_cells (i ∷ is))) (stream_values (i ∷ is))
+        (list_layout_rows admitted s look t false (row_total (i ∷ is)) (p.layout ∷ q.layout ∷ []) (stream_values (column 0 xs) ∷ stream_values (column 1 (other_columns xs)) ∷ []) (map value (stream_cells (i ∷ is)))
         (first, (second, tt))
         (ap₂ (λ x y. lists_of x y) (stream_values_cells (column 0 xs) ∙ ap (map value) elements.1) (stream_values_cells (column 1 (other_columns xs)) ∙ ap (map value) offsets.1)
         ∙ lists_are t false (stream_cells (i ∷ is)) (stream_fits (list t false) (i ∷ is) of)
@@ -221,19 +218,19 @@ list_reads s t n es os v re ro rv = record { reads = go n re ro rv }
         offsets_stream t true i is all (omega arith) in
         let flags : Chunks (boolean false) (column 2 (other_columns (other_columns xs))) × (stream_cells (column 2 (other_columns (other_columns xs))) ≡ map bool_cell (map flag_of (stream_cells (i ∷ is)))) =
         list_validity_stream t true 0 (i ∷ is) of in
-        let first : Gives s look p.layout (stream_values (column 0 xs)) =
+        let first : Gives admitted s look p.layout (stream_values (column 0 xs)) =
         re.reads m (column 0 xs) (inside e) elements.0 (nil_left p.faults (q.faults ++ (r.faults ++ [])) clean) (fit_left p.numbers (q.numbers ++ (r.numbers ++ [])) numbers) look (holds_left look p.pairs (q.pairs ++ (r.pairs ++ [])) held) in
-        let second : Gives s look q.layout (stream_values (column 1 (other_columns xs))) =
+        let second : Gives admitted s look q.layout (stream_values (column 1 (other_columns xs))) =
         ro.reads m (column 1 (other_columns xs)) (inside (next e)) offsets.0 (nil_left q.faults (r.faults ++ []) (nil_right p.faults (q.faults ++ (r.faults ++ [])) clean))
         (fit_left q.numbers (r.numbers ++ []) (fit_right p.numbers (q.numbers ++ (r.numbers ++ [])) numbers)) look
         (holds_left look q.pairs (r.pairs ++ []) (holds_right look p.pairs (q.pairs ++ (r.pairs ++ [])) held)) in
-        let third : Gives s look r.layout (stream_values (column 2 (other_columns (other_columns xs)))) =
+        let third : Gives admitted s look r.layout (stream_values (column 2 (other_columns (other_columns xs)))) =
         rv.reads m (column 2 (other_columns (other_columns xs))) (inside (next (next e))) flags.0
         (nil_left r.faults [] (nil_right q.faults (r.faults ++ []) (nil_right p.faults (q.faults ++ (r.faults ++ [])) clean)))
         (fit_left r.numbers [] (fit_right q.numbers (r.numbers ++ []) (fit_right p.numbers (q.numbers ++ (r.numbers ++ [])) numbers))) look
         (holds_left look r.pairs [] (holds_right look q.pairs (r.pairs ++ []) (holds_right look p.pairs (q.pairs ++ (r.pairs ++ [])) held))) in
-        gives_same s look (list_node t true es os v m (i ∷ is) true e).layout (map value (stream_cells (i ∷ is))) (stream_values (i ∷ is))
-        (list_layout_rows s look t true (row_total (i ∷ is)) (p.layout ∷ q.layout ∷ r.layout ∷ [])
+        gives_same admitted s look (list_node t true es os v m (i ∷ is) true e).layout (map value (stream_cells (i ∷ is))) (stream_values (i ∷ is))
+        (list_layout_rows admitted s look t true (row_total (i ∷ is)) (p.layout ∷ q.layout ∷ r.layout ∷ [])
         (stream_values (column 0 xs) ∷ stream_values (column 1 (other_columns xs)) ∷ stream_values (column 2 (other_columns (other_columns xs))) ∷ []) (map value (stream_cells (i ∷ is)))
         (first, (second, (third, tt)))
         (ap₂ (λ x y. and_then (under_validity (row_total (i ∷ is)) (stream_values (column 2 (other_columns (other_columns xs))))) (lists_of x y))
@@ -384,7 +381,7 @@ list_placed t n es os v p q r = record { placed = go }
 -- each of some writers keeps what it wrote
 abbrev pub AllGrow : List Column → Type 0
 AllGrow [] = Unit {0}
-AllGrow (k ∷ ks) = ((xs ys : List Item) (ended : Bool) (e : Eof) → Within (k xs false e) (k (xs ++ ys) ended e)) × ((e : Eof) → (k [] false e).pairs ≡ []) × AllGrow ks
+AllGrow (k ∷ ks) = ((xs ys : List Item) (ended : Bool) (e : Eof) → Within (k xs false e) (k (xs ++ ys) ended e)) × ((e : Eof) → (k [] false e).pairs ≡ []) × ((e : Eof) → (k [] false e).reserved ≡ 0) × AllGrow ks
 
 columns_grow : (ks : List Column) → AllGrow ks → (c : ℕ) (xs ys : List Split) (ended : Bool) (e : Eof) → Grow (column_plans ks c xs false e) (column_plans ks c (xs ++ ys) ended e)
 columns_grow [] h c xs ys ended e = grow_none []
@@ -392,21 +389,27 @@ columns_grow (k ∷ ks) h c xs ys ended e =
     grow_more (k (column c xs) false (inside e)) (k (column c (xs ++ ys)) ended (inside e)) (column_plans ks (suc c) (other_columns xs) false (next e)) (column_plans ks (suc c) (other_columns (xs ++ ys)) ended (next e))
     (subst (λ z. Within (k (column c xs) false (inside e)) (k z ended (inside e))) (sym (column-append c xs ys)) (h.0 (column c xs) (column c ys) ended (inside e)))
     (subst (λ z. Grow (column_plans ks (suc c) (other_columns xs) false (next e)) (column_plans ks (suc c) z ended (next e))) (sym (other_columns-append xs ys))
-    (columns_grow ks h.2 (suc c) (other_columns xs) (other_columns ys) ended (next e)))
+    (columns_grow ks h.3 (suc c) (other_columns xs) (other_columns ys) ended (next e)))
 
 columns_quiet : (ks : List Column) → AllGrow ks → (c : ℕ) (e : Eof) → all_pairs (column_plans ks c [] false e) ≡ []
 columns_quiet [] h c e = refl
-columns_quiet (k ∷ ks) h c e = ap₂ (λ x y. x ++ y) (h.1 (inside e)) (columns_quiet ks h.2 (suc c) (next e))
+columns_quiet (k ∷ ks) h c e = ap₂ (λ x y. x ++ y) (h.1 (inside e)) (columns_quiet ks h.3 (suc c) (next e))
+
+columns_still : (ks : List Column) → AllGrow ks → (c : ℕ) (e : Eof) → all_reserved (column_plans ks c [] false e) ≡ 0
+columns_still [] h c e = refl
+columns_still (k ∷ ks) h c e =
+    let a : (k [] false (inside e)).reserved ≡ 0 = h.2 (inside e) in let b : all_reserved (column_plans ks (suc c) [] false (next e)) ≡ 0 = columns_still ks h.3 (suc c) (next e) in omega arith
 
 beside_within : (l k : Lay (List ℕ)) (ns ms : List ℕ) (ps qs : List Plan) → (Fit ms → Fit ns) → Grow ps qs → Within (beside l ns ps) (beside k ms qs)
 beside_within l k ns ms ps qs f g = record {
   pairs = g.pairs;
   faultless = g.faultless;
+  reserved = g.reserved;
   fit = λ e h. fit_both ns (all_numbers ps) (f (fit_left ms (all_numbers qs) h)) (g.fit e (fit_right ms (all_numbers qs) h));
 }
 
 one_grows : (t : Ty) (k : Node) → Grows t k → (m : Bool) (ks : List Column) → AllGrow ks → AllGrow (k m ∷ ks)
-one_grows t k c m ks h = ((λ xs ys ended e. c.grows m xs ys ended e), (λ e. c.quiet m e), h)
+one_grows t k c m ks h = ((λ xs ys ended e. c.grows m xs ys ended e), (λ e. c.quiet m e), (λ e. c.still m e), h)
 
 fields_grow : (fs : Tys) (ks : List Node) → Fields (λ t k. Grows t k) fs ks → (m : Bool) → AllGrow (marked m ks)
 fields_grow no_fields [] h m = tt
@@ -423,8 +426,9 @@ numbers_fit xs ys ks e h = ((let total : row_total (xs ++ ys) ≡ row_total xs +
 
 pub struct_grows : (fs : Tys) (n : Bool) (dup : Option (List ℕ)) (v : Node) (ks : List Node) → Grows (boolean false) v → Fields (λ t k. Grows t k) fs ks → Grows (struct fs n) (struct_node fs n dup v ks)
 struct_grows fs n (Some name) v ks c h = record {
-  grows = λ m xs ys ended e. record { pairs = λ x i. i; faultless = λ f. f; fit = λ f g. g };
+  grows = λ m xs ys ended e. record { pairs = λ x i. i; faultless = λ f. f; fit = λ f g. g; reserved = omega arith };
   quiet = λ m e. refl;
+  still = λ m e. refl;
 }
 struct_grows fs n None v ks c h = record {
   grows = λ m xs ys ended e.
@@ -434,12 +438,14 @@ struct_grows fs n None v ks c h = record {
       (subst (λ z. Grow (struct_plans fs n v ks m xs false e) (column_plans (struct_writers n m v ks) 0 z ended e)) (sym (struct_splits-append fs n xs ys))
       (columns_grow (struct_writers n m v ks) (writers_grow fs n m v ks c h) 0 (struct_splits fs n xs) (struct_splits fs n ys) ended e));
   quiet = λ m e. columns_quiet (struct_writers n m v ks) (writers_grow fs n m v ks c h) 0 e;
+  still = λ m e. columns_still (struct_writers n m v ks) (writers_grow fs n m v ks c h) 0 e;
 }
 
 pub not_struct_grows : (t : Ty) → Grows t (not_struct_node t)
 not_struct_grows t = record {
-  grows = λ m xs ys ended e. record { pairs = λ x i. i; faultless = λ f. f; fit = λ f g. g };
+  grows = λ m xs ys ended e. record { pairs = λ x i. i; faultless = λ f. f; fit = λ f g. g; reserved = omega arith };
   quiet = λ m e. refl;
+  still = λ m e. refl;
 }
 
 list_writers_grow : (t : Ty) (n m : Bool) (es os v : Node) → Grows t es → Grows offset_type os → Grows (boolean false) v → AllGrow (list_writers n m es os v)
@@ -458,7 +464,11 @@ list_numbers_fit xs ys ks e h = (
 )
 
 pub list_grows : (t : Ty) (n : Bool) (es os v : Node) → Grows t es → Grows offset_type os → Grows (boolean false) v → Grows (list t n) (list_node t n es os v)
-list_grows t n es os v p q r = record { grows = go; quiet = λ m e. columns_quiet (list_writers n m es os v) (list_writers_grow t n m es os v p q r) 0 e }
+list_grows t n es os v p q r = record {
+  grows = go;
+  quiet = λ m e. columns_quiet (list_writers n m es os v) (list_writers_grow t n m es os v p q r) 0 e;
+  still = λ m e. columns_still (list_writers n m es os v) (list_writers_grow t n m es os v p q r) 0 e;
+}
   where
     columns : (m : Bool) (xs ys : List Item) (ended : Bool) (e : Eof) → Within (list_columns_plan t n es os v m xs false e) (list_columns_plan t n es os v m (xs ++ ys) ended e)
     columns m xs ys ended e =
@@ -474,6 +484,7 @@ list_grows t n es os v p q r = record { grows = go; quiet = λ m e. columns_quie
       pairs = λ x i. subst (In x) (columns_quiet (list_writers n m es os v) (list_writers_grow t n m es os v p q r) 0 e) i;
       faultless = λ f. cc;
       fit = λ f g. absurd (cons_nil f);
+      reserved = let z : all_reserved (list_plans t n es os v m [] false e) ≡ 0 = columns_still (list_writers n m es os v) (list_writers_grow t n m es os v p q r) 0 e in omega arith;
     }
     go m [] [] false e = columns m [] [] false e
     go m [] (y ∷ ys) ended e = columns m [] (y ∷ ys) ended e

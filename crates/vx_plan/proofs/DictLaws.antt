@@ -1,26 +1,23 @@
 -- The laws of a dictionary node.
-use Rattle.std.proofs.Common.{◌≡◌, ℕ, suc, ◌+◌, ◌*◌, ◌<◌, ◌≤◌, ◌^◌, Bool, true, false, List, [], ◌∷◌, ◌++◌, map, length, Option, Some, None, refl, sym, ap, ap₂, ◌∙◌, subst, inl, inr, ⊎_elim, arith, append_assoc, length-append}
+use Rattle.std.proofs.Common.{◌≡◌, ℕ, ◌+◌, ◌*◌, ◌<◌, ◌≤◌, ◌^◌, Bool, true, false, List, [], ◌∷◌, ◌++◌, map, length, Option, Some, refl, sym, ap, ap₂, ◌∙◌, subst, inl, inr, ⊎_elim, arith, append_assoc}
 use Rattle.std.specs.Prelude.{if◌then◌else◌}
-use Rattle.std.proofs.lemmas.List.{append-nil, length-map, map-append}
+use Rattle.std.proofs.lemmas.List.{length-map, map-append}
 use Rattle.std.proofs.lemmas.Bool.{true≢false}
 use Rattle.vx_model.specs.Ty.{Ty}
 use Rattle.vx_model.specs.Tree.{Tree}
 use Rattle.vx_model.specs.Val.{Val, value}
 use Rattle.vx_model.specs.Piece.{is_dict_type}
-use Rattle.vx_path.specs.Lists.{In}
 use Rattle.vx_path.specs.Path.{Eof, Region, inside, next}
 use Rattle.vx_path.proofs.Lists.{in_left, in_right, in_cases}
-use Rattle.vx_tree.specs.Codec.{Codec}
 use Rattle.vx_tree.specs.Rows.{rows, and_then, all_there, counted, joined, dict_rows}
 use Rattle.vx_tree.specs.LayoutTree.{Lay, layout_type, dict_layout, gathered}
-use Rattle.vx_rules.specs.Stream.{Chunk, Chunks, stream_cells, chunk_paths}
+use Rattle.vx_rules.specs.Stream.{Chunks, stream_cells, chunk_paths}
 use Rattle.vx_rules.specs.Columns.{offset_cell}
 use Rattle.vx_rules.specs.Runs.{DictOptions, Run, runs, code_type, cut_at}
-use Rattle.vx_rules.proofs.RegroupLaws.{Onto}
 use Rattle.vx_rules.proofs.RunLaws.{decodes_rows, decodes_length}
 use Rattle.vx_rules.proofs.RunStreams.{Ended, AllEnded, runs_end, RunGrows, RunsGrow, runs_grow, run_paths, runs_onto}
 use Rattle.vx_plan.specs.PlanData.{Setting, Item, Pair, Plan, Node, paths, places, stream_values, row_total}
-use Rattle.vx_plan.specs.ChunkedNode.{whole, both_plans, all_pairs, all_faults, all_numbers, all_layouts}
+use Rattle.vx_plan.specs.ChunkedNode.{both_plans, all_pairs, all_faults, all_numbers, all_layouts}
 use Rattle.vx_plan.specs.DictNode.{is_dictionary, run_plan, run_plans, made_counts, dict_numbers, runs_node, dict_node}
 use Rattle.vx_plan.specs.Valid.{Fit}
 use Rattle.vx_plan.specs.Statements.{Within}
@@ -32,28 +29,28 @@ use Rattle.vx_plan.proofs.GroupLaws.{apart_onto, lies_onto}
 
 -- ---- rows
 
-dict_layout_rows : {A : Type 0} (s : Setting) (look : A → Option (List ℕ)) (t : Ty) (n : ℕ) (values codes : Lay A) (vs cs out : List Val)
-    → Gives s look values vs → Gives s look codes cs → dict_rows (vs ∷ cs ∷ []) ≡ Some out → length out ≡ n → Gives s look (dict_layout t n values codes) out
-dict_layout_rows s look t n values codes vs cs out e f g l = record {
+dict_layout_rows : {A : Type 0} (admitted : Bool) (s : Setting) (look : A → Option (List ℕ)) (t : Ty) (n : ℕ) (values codes : Lay A) (vs cs out : List Val)
+    → Gives admitted s look values vs → Gives admitted s look codes cs → dict_rows (vs ∷ cs ∷ []) ≡ Some out → length out ≡ n → Gives admitted s look (dict_layout t n values codes) out
+dict_layout_rows admitted s look t n values codes vs cs out e f g l = record {
   read = ap₂ (λ a b. and_then (counted n) (and_then dict_rows (all_there (a ∷ b ∷ [])))) e.read f.read ∙ ap (and_then (counted n)) g ∙ counted_same n out l;
-  zones = (tt, (e.zones, (f.zones, tt)));
+  zones = λ a. (tt, (e.zones a, (f.zones a, tt)));
 }
 
 -- one run that has ended
-run_reads : (s : Setting) (o : DictOptions) (t : Ty) (ck vk : Node) → Reads s (code_type o) ck → Reads s t vk → (m : Bool) (codes values : List Item) (closed : Bool) (e : Eof) (part : List Tree) → closed ≡ true
+run_reads : (admitted : Bool) (s : Setting) (o : DictOptions) (t : Ty) (ck vk : Node) → Reads admitted s (code_type o) ck → Reads admitted s t vk → (m : Bool) (codes values : List Item) (closed : Bool) (e : Eof) (part : List Tree) → closed ≡ true
     → (ns : List ℕ) (ds : List Tree) → stream_cells codes ≡ map offset_cell ns → stream_cells values ≡ ds → Rattle.vx_rules.proofs.RunLaws.Decodes ds ns part → Chunks (code_type o) codes → Chunks t values
     → (ck m codes closed (inside e)).faults ++ (vk m values closed (inside (next e))).faults ≡ []
     → Fit ((ck m codes closed (inside e)).numbers ++ (vk m values closed (inside (next e))).numbers) → (look : List ℕ → Option (List ℕ))
     → Holds look ((ck m codes closed (inside e)).pairs ++ (vk m values closed (inside (next e))).pairs)
-    → Gives s look (dict_layout t (row_total codes) (vk m values closed (inside (next e))).layout (ck m codes closed (inside e)).layout) (map value part)
-run_reads s o t ck vk rc rv m codes values false e part c ns ds x y d oc ov clean fit look held = absurd (true≢false (sym c))
-run_reads s o t ck vk rc rv m codes values true e part c ns ds x y d oc ov clean fit look held =
+    → Gives admitted s look (dict_layout t (row_total codes) (vk m values closed (inside (next e))).layout (ck m codes closed (inside e)).layout) (map value part)
+run_reads admitted s o t ck vk rc rv m codes values false e part c ns ds x y d oc ov clean fit look held = absurd (true≢false (sym c))
+run_reads admitted s o t ck vk rc rv m codes values true e part c ns ds x y d oc ov clean fit look held =
     let p : Plan = ck m codes true (inside e) in
     let q : Plan = vk m values true (inside (next e)) in
     let l : length ns ≡ length part = decodes_length ds ns part d in
-    dict_layout_rows s look t (row_total codes) q.layout p.layout (map value ds) (map value (map offset_cell ns)) (map value part)
-    (gives_same s look q.layout (stream_values values) (map value ds) (rv.reads m values (inside (next e)) ov (nil_right p.faults q.faults clean) (fit_right p.numbers q.numbers fit) look (holds_right look p.pairs q.pairs held)) (stream_values_cells values ∙ ap (map value) y))
-    (gives_same s look p.layout (stream_values codes) (map value (map offset_cell ns)) (rc.reads m codes (inside e) oc (nil_left p.faults q.faults clean) (fit_left p.numbers q.numbers fit) look (holds_left look p.pairs q.pairs held)) (stream_values_cells codes ∙ ap (map value) x))
+    dict_layout_rows admitted s look t (row_total codes) q.layout p.layout (map value ds) (map value (map offset_cell ns)) (map value part)
+    (gives_same admitted s look q.layout (stream_values values) (map value ds) (rv.reads m values (inside (next e)) ov (nil_right p.faults q.faults clean) (fit_right p.numbers q.numbers fit) look (holds_right look p.pairs q.pairs held)) (stream_values_cells values ∙ ap (map value) y))
+    (gives_same admitted s look p.layout (stream_values codes) (map value (map offset_cell ns)) (rc.reads m codes (inside e) oc (nil_left p.faults q.faults clean) (fit_left p.numbers q.numbers fit) look (holds_left look p.pairs q.pairs held)) (stream_values_cells codes ∙ ap (map value) x))
     (decodes_rows ds ns part d)
     (length-map part value ∙ sym l ∙ sym (length-map ns offset_cell) ∙ sym (ap length x) ∙ sym (row_total_cells codes))
 
@@ -66,34 +63,34 @@ joined_parts : (o : DictOptions) (t : Ty) (rs : List Run) (cs : List Tree) (h : 
 joined_parts o t [] cs h = ap (map value) (sym h)
 joined_parts o t (r ∷ rs) cs h = ap (λ z. map value h.0 ++ z) (joined_parts o t rs h.1 h.4) ∙ sym (map-append value h.0 h.1) ∙ ap (map value) (sym h.2)
 
-runs_read : (s : Setting) (o : DictOptions) (t : Ty) (ck vk : Node) → Reads s (code_type o) ck → Reads s t vk → (m : Bool) (rs : List Run) (e : Eof) (cs : List Tree) (h : AllEnded o t rs cs)
+runs_read : (admitted : Bool) (s : Setting) (o : DictOptions) (t : Ty) (ck vk : Node) → Reads admitted s (code_type o) ck → Reads admitted s t vk → (m : Bool) (rs : List Run) (e : Eof) (cs : List Tree) (h : AllEnded o t rs cs)
     → all_faults (run_plans t ck vk m rs e) ≡ [] → Fit (all_numbers (run_plans t ck vk m rs e)) → (look : List ℕ → Option (List ℕ)) → Holds look (all_pairs (run_plans t ck vk m rs e))
-    → ReadAll s look (all_layouts (run_plans t ck vk m rs e)) (parts_of o t rs cs h)
-runs_read s o t ck vk rc rv m [] e cs h clean fit look held = tt
-runs_read s o t ck vk rc rv m (r ∷ rs) e cs h clean fit look held =
+    → ReadAll admitted s look (all_layouts (run_plans t ck vk m rs e)) (parts_of o t rs cs h)
+runs_read admitted s o t ck vk rc rv m [] e cs h clean fit look held = tt
+runs_read admitted s o t ck vk rc rv m (r ∷ rs) e cs h clean fit look held =
     let p : Plan = run_plan t ck vk m r e in
     let ps : List Plan = run_plans t ck vk m rs (next (next e)) in
     let w : Ended o t r h.0 = h.3 in (
-      run_reads s o t ck vk rc rv m r.codes r.values r.closed e h.0 w.closed w.codes w.distinct w.codes_cells w.values_cells w.decodes w.codes_of w.values_of
+      run_reads admitted s o t ck vk rc rv m r.codes r.values r.closed e h.0 w.closed w.codes w.distinct w.codes_cells w.values_cells w.decodes w.codes_of w.values_of
           (nil_left p.faults (all_faults ps) clean) (fit_left p.numbers (all_numbers ps) fit) look (holds_left look p.pairs (all_pairs ps) held),
-      runs_read s o t ck vk rc rv m rs (next (next e)) h.1 h.4 (nil_right p.faults (all_faults ps) clean) (fit_right p.numbers (all_numbers ps) fit) look (holds_right look p.pairs (all_pairs ps) held),
+      runs_read admitted s o t ck vk rc rv m rs (next (next e)) h.1 h.4 (nil_right p.faults (all_faults ps) clean) (fit_right p.numbers (all_numbers ps) fit) look (holds_right look p.pairs (all_pairs ps) held),
     )
 
 fit_tail : (items : List Item) (o : DictOptions) (t : Ty) (ended : Bool) (e : Eof) (ns : List ℕ) → Fit (dict_numbers o t items ended e ++ ns) → Fit ns
 fit_tail items o t ended e ns h = fit_right (dict_numbers o t items ended e) ns h
 
-pub dict_reads : (s : Setting) (o : DictOptions) (t : Ty) → is_dict_type t ≡ true → (ck vk f : Node) → Reads s (code_type o) ck → Reads s t vk → Reads s t f → Reads s t (dict_node s o t ck vk f)
-dict_reads s o t d ck vk f rc rv rf = record { reads = go }
+pub dict_reads : (admitted : Bool) (s : Setting) (o : DictOptions) (t : Ty) → is_dict_type t ≡ true → (ck vk f : Node) → Reads admitted s (code_type o) ck → Reads admitted s t vk → Reads admitted s t f → Reads admitted s t (dict_node s o t ck vk f)
+dict_reads admitted s o t d ck vk f rc rv rf = record { reads = go }
   where
     by_runs : (m : Bool) (i : Item) (is : List Item) (e : Eof) → ItemsOf t (i ∷ is) → (runs_node o t ck vk m (i ∷ is) true e).faults ≡ [] → Fit (runs_node o t ck vk m (i ∷ is) true e).numbers
         → (look : List ℕ → Option (List ℕ)) → Holds look (runs_node o t ck vk m (i ∷ is) true e).pairs
-        → Gives s look (runs_node o t ck vk m (i ∷ is) true e).layout (stream_values (i ∷ is))
+        → Gives admitted s look (runs_node o t ck vk m (i ∷ is) true e).layout (stream_values (i ∷ is))
     by_runs m i is e of clean fit look held =
         let h : AllEnded o t (runs o t (i ∷ is) true) (stream_cells (i ∷ is)) = runs_end o t d i is of in
         let vss : List (List Val) = parts_of o t (runs o t (i ∷ is) true) (stream_cells (i ∷ is)) h in
-        gives_same s look (runs_node o t ck vk m (i ∷ is) true e).layout (joined vss) (stream_values (i ∷ is))
-        (gathered_reads s look t (row_total (i ∷ is)) (all_layouts (run_plans t ck vk m (runs o t (i ∷ is) true) e)) vss
-        (runs_read s o t ck vk rc rv m (runs o t (i ∷ is) true) e (stream_cells (i ∷ is)) h clean
+        gives_same admitted s look (runs_node o t ck vk m (i ∷ is) true e).layout (joined vss) (stream_values (i ∷ is))
+        (gathered_reads admitted s look t (row_total (i ∷ is)) (all_layouts (run_plans t ck vk m (runs o t (i ∷ is) true) e)) vss
+        (runs_read admitted s o t ck vk rc rv m (runs o t (i ∷ is) true) e (stream_cells (i ∷ is)) h clean
         (fit_tail (i ∷ is) o t true e (all_numbers (run_plans t ck vk m (runs o t (i ∷ is) true) e)) fit) look held)
         (ap length (joined_parts o t (runs o t (i ∷ is) true) (stream_cells (i ∷ is)) h) ∙ length-map (stream_cells (i ∷ is)) value ∙ sym (row_total_cells (i ∷ is))))
         (joined_parts o t (runs o t (i ∷ is) true) (stream_cells (i ∷ is)) h ∙ sym (stream_values_cells (i ∷ is)))
@@ -101,13 +98,13 @@ dict_reads s o t d ck vk f rc rv rf = record { reads = go }
     either : (b : Bool) (m : Bool) (i : Item) (is : List Item) (e : Eof) → ItemsOf t (i ∷ is) → (if b then runs_node o t ck vk m (i ∷ is) true e else f m (i ∷ is) true e).faults ≡ []
         → Fit (if b then runs_node o t ck vk m (i ∷ is) true e else f m (i ∷ is) true e).numbers
         → (look : List ℕ → Option (List ℕ)) → Holds look (if b then runs_node o t ck vk m (i ∷ is) true e else f m (i ∷ is) true e).pairs
-        → Gives s look (if b then runs_node o t ck vk m (i ∷ is) true e else f m (i ∷ is) true e).layout (stream_values (i ∷ is))
+        → Gives admitted s look (if b then runs_node o t ck vk m (i ∷ is) true e else f m (i ∷ is) true e).layout (stream_values (i ∷ is))
     either true m i is e of clean fit look held = by_runs m i is e of clean fit look held
     either false m i is e of clean fit look held = rf.reads m (i ∷ is) e of clean fit look held
 
     go : (m : Bool) (items : List Item) (e : Eof) → ItemsOf t items → (dict_node s o t ck vk f m items true e).faults ≡ [] → Fit (dict_node s o t ck vk f m items true e).numbers
         → (look : List ℕ → Option (List ℕ)) → Holds look (dict_node s o t ck vk f m items true e).pairs
-        → Gives s look (dict_node s o t ck vk f m items true e).layout (stream_values items)
+        → Gives admitted s look (dict_node s o t ck vk f m items true e).layout (stream_values items)
     go m [] e of clean fit look held = rf.reads m [] e of clean fit look held
     go m (i ∷ is) e of clean fit look held = either (is_dictionary (s.image o.probe i.1)) m i is e of clean fit look held
 
@@ -150,6 +147,7 @@ both_within l k p q r u a b = record {
   pairs = λ x h. ⊎_elim (λ i. in_left x r.pairs u.pairs (a.pairs x i)) (λ i. in_right x r.pairs u.pairs (b.pairs x i)) (in_cases x p.pairs q.pairs h);
   faultless = λ e. nil_both p.faults q.faults (a.faultless (nil_left r.faults u.faults e)) (b.faultless (nil_right r.faults u.faults e));
   fit = λ e h. fit_both p.numbers q.numbers (a.fit (nil_left r.faults u.faults e) (fit_left r.numbers u.numbers h)) (b.fit (nil_right r.faults u.faults e) (fit_right r.numbers u.numbers h));
+  reserved = let m : p.reserved ≤ r.reserved = a.reserved in let n : q.reserved ≤ u.reserved = b.reserved in omega arith;
 }
 
 run_within : (o : DictOptions) (t : Ty) (ck vk : Node) → Grows (code_type o) ck → Grows t vk → (m : Bool) (r q : Run) (e : Eof) → RunGrows r q → Within (run_plan t ck vk m r e) (run_plan t ck vk m q e)
@@ -191,7 +189,7 @@ numbers_before o t x xs ys ended e h =
     )
 
 pub dict_grows : (s : Setting) (o : DictOptions) (t : Ty) (ck vk f : Node) → Grows (code_type o) ck → Grows t vk → Grows t f → Grows t (dict_node s o t ck vk f)
-dict_grows s o t ck vk f c v gf = record { grows = go; quiet = λ m e. refl }
+dict_grows s o t ck vk f c v gf = record { grows = go; quiet = λ m e. refl; still = λ m e. refl }
   where
     by_runs : (m : Bool) (x : Item) (xs ys : List Item) (ended : Bool) (e : Eof) → Within (runs_node o t ck vk m (x ∷ xs) false e) (runs_node o t ck vk m (x ∷ xs ++ ys) ended e)
     by_runs m x xs ys ended e =
@@ -200,6 +198,7 @@ dict_grows s o t ck vk f c v gf = record { grows = go; quiet = λ m e. refl }
         record {
           pairs = g.pairs;
           faultless = g.faultless;
+          reserved = g.reserved;
           fit = λ w h. fit_both (dict_numbers o t (x ∷ xs) false e) (all_numbers (run_plans t ck vk m (runs o t (x ∷ xs) false) e))
               (numbers_before o t x xs ys ended e (fit_left (dict_numbers o t (x ∷ xs ++ ys) ended e) (all_numbers (run_plans t ck vk m (runs o t (x ∷ xs ++ ys) ended) e)) h))
               (g.fit w (fit_right (dict_numbers o t (x ∷ xs ++ ys) ended e) (all_numbers (run_plans t ck vk m (runs o t (x ∷ xs ++ ys) ended) e)) h));
@@ -211,7 +210,7 @@ dict_grows s o t ck vk f c v gf = record { grows = go; quiet = λ m e. refl }
     either false m x xs ys ended e = gf.grows m (x ∷ xs) ys ended e
 
     go : (m : Bool) (xs ys : List Item) (ended : Bool) (e : Eof) → Within (dict_node s o t ck vk f m xs false e) (dict_node s o t ck vk f m (xs ++ ys) ended e)
-    go m [] ys ended e = record { pairs = λ x h. absurd h; faultless = λ h. refl; fit = λ h g. tt }
+    go m [] ys ended e = record { pairs = λ x h. absurd h; faultless = λ h. refl; fit = λ h g. tt; reserved = omega arith }
     go m (x ∷ xs) ys ended e = either (is_dictionary (s.image o.probe x.1)) m x xs ys ended e
 
 -- ---- type

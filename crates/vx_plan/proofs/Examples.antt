@@ -1,5 +1,5 @@
 -- Plans of small streams, computed. The codec here spells a chunk by its count of rows.
-use Rattle.std.proofs.Common.{◌≡◌, ℕ, Bool, true, false, List, [], ◌∷◌, length, Option, Some, None, refl}
+use Rattle.std.proofs.Common.{◌≡◌, ℕ, true, false, [], ◌∷◌, length, Some, None, refl}
 use Rattle.std.specs.Prelude.{pos}
 use Rattle.vx_model.specs.declared.ptype.PType.TheVariants.{I64}
 use Rattle.vx_model.specs.declared.encoding.EncodingId.TheVariants.{Plain}
@@ -7,7 +7,7 @@ use Rattle.vx_model.specs.Ty.{Ty, primitive}
 use Rattle.vx_model.specs.Tree.{int_cell}
 use Rattle.vx_model.specs.Piece.{Piece, plain_piece, cells}
 use Rattle.vx_tree.specs.LayoutTree.{chunked_layout, flat_layout}
-use Rattle.vx_plan.specs.PlanData.{Setting, Plan, planned, fault, many_chunks, forbidden_encoding, at_chunk}
+use Rattle.vx_plan.specs.PlanData.{Setting, planned, fault, many_chunks, forbidden_encoding, at_chunk}
 use Rattle.vx_plan.specs.Way.{Way, flat, chunked}
 use Rattle.vx_plan.specs.SourcePlan.{source_plan}
 use Rattle.vx_plan.specs.Number.{segments, numbered}

@@ -1,33 +1,30 @@
 -- The laws of a flat node.
-use Rattle.std.proofs.Common.{◌≡◌, ℕ, ◌+◌, ◌<◌, ◌^◌, Bool, true, false, List, [], ◌∷◌, ◌++◌, map, length, Option, Some, None, refl, sym, ap, ◌∙◌, subst, inl, inr}
+use Rattle.std.proofs.Common.{◌≡◌, ℕ, ◌<◌, ◌≤◌, ◌^◌, Bool, true, false, List, [], ◌∷◌, ◌++◌, map, length, Option, Some, None, refl, sym, ap, ◌∙◌, subst, inl, arith}
 use Rattle.std.proofs.lemmas.List.{append-nil, length-map}
 use Rattle.std.proofs.lemmas.Bool.{true≢false}
 use Rattle.vx_model.specs.declared.encoding.EncodingId.{EncodingId}
 use Rattle.vx_model.specs.Ty.{Ty}
 use Rattle.vx_model.specs.Tree.{Tree}
-use Rattle.vx_model.specs.Val.{Val, value}
-use Rattle.vx_model.specs.Piece.{Piece, cells, row_values, piece_type}
-use Rattle.vx_path.specs.Lists.{In}
+use Rattle.vx_model.specs.Val.{value}
+use Rattle.vx_model.specs.Piece.{cells, row_values, piece_type}
 use Rattle.vx_path.specs.Path.{Eof, Region}
 use Rattle.vx_path.proofs.Path.{begins-refl}
 use Rattle.vx_tree.specs.LayoutTree.{layout_type}
-use Rattle.vx_tree.specs.Codec.{Codec, Lawful}
-use Rattle.vx_tree.specs.Real.{Of}
-use Rattle.vx_tree.specs.Rows.{and_then, counted, rows}
-use Rattle.vx_plan.specs.PlanData.{Setting, Item, Pair, Plan, Node, Fault, paths, places, stream_values}
+use Rattle.vx_tree.specs.Rows.{and_then, counted}
+use Rattle.vx_plan.specs.PlanData.{Setting, Item, Node, paths, places, stream_values}
 use Rattle.vx_plan.specs.Way.{FlatOptions}
 use Rattle.vx_plan.specs.FlatNode.{flat_node, segment, pair_at, refused_at, length_of}
 use Rattle.vx_plan.specs.Valid.{Fit, Keeps}
 use Rattle.vx_plan.specs.Statements.{Within}
-use Rattle.vx_plan.proofs.PlanLists.{ItemsOf, Holds, Gives, nil_left, nil_right, counted_same, within_itself}
+use Rattle.vx_plan.proofs.PlanLists.{ItemsOf, Holds, Gives, nil_left, nil_right, counted_same}
 use Rattle.vx_plan.proofs.Spots.{Apart, Lies, lies_none, lies_one}
 
 -- What the laws say of a node at a type.
 
-pub record Reads (s : Setting) (t : Ty) (k : Node) : Type 0 where
+pub record Reads (admitted : Bool) (s : Setting) (t : Ty) (k : Node) : Type 0 where
   pub reads : (m : Bool) (items : List Item) (e : Eof) → ItemsOf t items → (k m items true e).faults ≡ [] → Fit (k m items true e).numbers
       → (look : List ℕ → Option (List ℕ)) → Holds look (k m items true e).pairs
-      → Gives s look (k m items true e).layout (stream_values items)
+      → Gives admitted s look (k m items true e).layout (stream_values items)
 
 pub record Placed (t : Ty) (k : Node) : Type 0 where
   pub placed : (m : Bool) (items : List Item) (ended : Bool) (e : Eof) → Apart (places items) e
@@ -36,6 +33,7 @@ pub record Placed (t : Ty) (k : Node) : Type 0 where
 pub record Grows (t : Ty) (k : Node) : Type 0 where
   pub grows : (m : Bool) (xs ys : List Item) (ended : Bool) (e : Eof) → Within (k m xs false e) (k m (xs ++ ys) ended e)
   pub quiet : (m : Bool) (e : Eof) → (k m [] false e).pairs ≡ []
+  pub still : (m : Bool) (e : Eof) → (k m [] false e).reserved ≡ 0
 
 -- the layout has the node's type
 pub record Typed (t : Ty) (k : Node) : Type 0 where
@@ -68,20 +66,20 @@ flat_value : (found : Option (List ℕ)) (b : List ℕ) (cs : List Tree) (d : Li
     → and_then (counted (length cs)) (and_then (λ ts. Some (map value ts)) (and_then d found)) ≡ Some (map value cs)
 flat_value found b cs d e f = rw (e, f) (counted_same (length cs) (map value cs) (length-map cs value))
 
-pub flat_reads : (s : Setting) → Keeps s → (o : FlatOptions) (t : Ty) → Reads s t (flat_node s o t)
-flat_reads s keeps o t = record { reads = go }
+pub flat_reads : (admitted : Bool) (s : Setting) → Keeps s → (o : FlatOptions) (t : Ty) → Reads admitted s t (flat_node s o t)
+flat_reads admitted s keeps o t = record { reads = go }
   where
     go : (m : Bool) (items : List Item) (e : Eof) → ItemsOf t items → (flat_node s o t m items true e).faults ≡ [] → Fit (flat_node s o t m items true e).numbers
         → (look : List ℕ → Option (List ℕ)) → Holds look (flat_node s o t m items true e).pairs
-        → Gives s look (flat_node s o t m items true e).layout (stream_values items)
-    go m [] e of clean fit look held = record { read = refl; zones = (tt, tt) }
+        → Gives admitted s look (flat_node s o t m items true e).layout (stream_values items)
+    go m [] e of clean fit look held = record { read = refl; zones = λ a. (tt, tt) }
     go m (i ∷ []) e of clean fit look held =
         let none : s.codec.refused s.encodings i.1 ≡ None = no_refusal i.0 (s.codec.refused s.encodings i.1) clean in
         let enc : (b : List ℕ) × (segment s o i ≡ Some b) = keeps.codec.encodes o.padding i.1 none in
         let short : length enc.0 < 2 ^ 64 = fit_length (segment s o i) enc.0 enc.1 fit.1 in
         let again : s.codec.decode s.encodings (piece_type i.1) enc.0 ≡ Some (cells i.1) = keeps.codec.again o.padding i.1 enc.0 of.0.whole enc.1 short in
         record {
-          zones = (tt, tt);
+          zones = λ a. (tt, tt);
           read = flat_value (look i.0) enc.0 (cells i.1) (s.codec.decode s.encodings t) (held_pair look i.0 (segment s o i) enc.0 enc.1 held)
               (subst (λ u. s.codec.decode s.encodings u enc.0 ≡ Some (cells i.1)) of.0.typed again)
               ∙ ap Some (sym (append-nil (row_values i.1)));
@@ -106,17 +104,21 @@ flat_placed s o t = record { placed = go }
 -- ---- prefixes
 
 pub flat_grows : (s : Setting) (o : FlatOptions) (t : Ty) → Grows t (flat_node s o t)
-flat_grows s o t = record { grows = go; quiet = λ m e. refl }
+flat_grows s o t = record { grows = go; quiet = λ m e. refl; still = λ m e. refl }
   where
+    none : 0 ≤ 0
+    none = omega arith
+
     go : (m : Bool) (xs ys : List Item) (ended : Bool) (e : Eof) → Within (flat_node s o t m xs false e) (flat_node s o t m (xs ++ ys) ended e)
-    go m [] ys ended e = record { pairs = λ x h. absurd h; faultless = λ f. refl; fit = λ f h. tt }
-    go m (i ∷ []) [] ended e = record { pairs = λ x h. absurd h; faultless = λ f. f; fit = λ f h. h }
+    go m [] ys ended e = record { pairs = λ x h. absurd h; faultless = λ f. refl; fit = λ f h. tt; reserved = omega arith }
+    go m (i ∷ []) [] ended e = record { pairs = λ x h. absurd h; faultless = λ f. f; fit = λ f h. h; reserved = none }
     go m (i ∷ []) (y ∷ ys) ended e = record {
       pairs = λ x h. absurd h;
       faultless = λ f. nil_left (refused_at i.0 (s.codec.refused s.encodings i.1)) _ f;
       fit = λ f h. h;
+      reserved = none;
     }
-    go m (i ∷ j ∷ is) ys ended e = record { pairs = λ x h. h; faultless = λ f. f; fit = λ f h. h }
+    go m (i ∷ j ∷ is) ys ended e = record { pairs = λ x h. h; faultless = λ f. f; fit = λ f h. h; reserved = none }
 
 pub flat_typed : (s : Setting) (o : FlatOptions) (t : Ty) → Typed t (flat_node s o t)
 flat_typed s o t = record { typed = go }

@@ -1,9 +1,9 @@
 -- A front of all sorted pairs that lies among the pairs of the batches taken is a front of their sorted pairs.
-use Rattle.std.proofs.Common.{◌≡◌, ℕ, ◌⊎◌, Bool, true, false, List, [], ◌∷◌, ◌++◌, refl, sym, ap, ap₂, ◌∙◌, subst, inl, inr, ⊎_elim}
+use Rattle.std.proofs.Common.{◌≡◌, ℕ, true, false, List, [], ◌∷◌, ◌++◌, refl, sym, ap, ap₂, ◌∙◌, subst, inl, inr, ⊎_elim}
 use Rattle.std.proofs.lemmas.Bool.{cases_Bool}
 use Rattle.vx_path.specs.Lists.{In}
 use Rattle.vx_path.specs.Path.{meets, Scattered, path_le}
-use Rattle.vx_path.specs.Sort.{insert_by, sort_by, Ascends}
+use Rattle.vx_path.specs.Sort.{insert_by, Ascends}
 use Rattle.vx_path.proofs.Lists.{in_left}
 use Rattle.vx_path.proofs.Path.{meets-sym, path_le-antisym, path_le-refl}
 use Rattle.vx_path.proofs.Sort.{insert_by-head, insert_by-tail, from_insert, in_sorted, from_sorted, sort_ascends}

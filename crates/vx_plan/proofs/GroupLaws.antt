@@ -1,29 +1,23 @@
 -- The laws of regrouping and compressing nodes.
-use Rattle.std.proofs.Common.{◌≡◌, ℕ, ◌+◌, ◌<◌, ◌≤◌, ◌^◌, Bool, true, false, List, [], ◌∷◌, ◌++◌, map, length, Option, Some, None, refl, sym, ap, ap₂, ◌∙◌, subst, inl, inr, ⊎_elim, arith, append_assoc, length-append}
-use Rattle.std.specs.Prelude.{if◌then◌else◌}
-use Rattle.std.proofs.lemmas.List.{append-nil, map-append}
+use Rattle.std.proofs.Common.{◌≡◌, ℕ, ◌+◌, ◌<◌, ◌≤◌, ◌^◌, Bool, true, false, List, [], ◌∷◌, ◌++◌, map, length, Option, refl, sym, ap, ap₂, ◌∙◌, subst, arith, append_assoc}
 use Rattle.vx_model.specs.Ty.{Ty}
-use Rattle.vx_model.specs.Words.{total_by}
-use Rattle.vx_model.specs.Val.{Val, value}
+use Rattle.vx_model.specs.Val.{value}
 use Rattle.vx_model.specs.Tree.{Tree}
-use Rattle.vx_model.specs.Piece.{Piece, cells, row_values, held}
+use Rattle.vx_model.specs.Piece.{Piece, held}
 use Rattle.vx_path.specs.Lists.{In}
-use Rattle.vx_path.specs.Path.{Eof, Region, begins, Scattered, meets, raised}
+use Rattle.vx_path.specs.Path.{Eof, Region, begins, raised}
 use Rattle.vx_path.proofs.Path.{region_from, begins-refl}
-use Rattle.vx_tree.specs.Real.{Of}
-use Rattle.vx_tree.specs.Rows.{rows}
-use Rattle.vx_tree.specs.LayoutTree.{layout_type}
-use Rattle.vx_rules.specs.Stream.{Chunk, Chunks, stream_cells, chunk_paths}
-use Rattle.vx_rules.specs.Regroup.{Rule, regrouped}
-use Rattle.vx_rules.specs.Blocks.{BlockOptions, blocks}
+use Rattle.vx_rules.specs.Stream.{Chunks, stream_cells, chunk_paths}
+use Rattle.vx_rules.specs.Regroup.{Rule}
+use Rattle.vx_rules.specs.Blocks.{blocks}
 use Rattle.vx_rules.specs.Flushes.{flushes, collected}
 use Rattle.vx_rules.proofs.RegroupLaws.{Onto, regrouped_rows, regrouped_of, regrouped_begins, regrouped_onto}
 use Rattle.vx_rules.proofs.BlockLaws.{Rows, blocks_regroup}
 use Rattle.vx_rules.proofs.FlushLaws.{flushes_regroup, collected_rows, collected_of, collected_onto, collected_open}
 use Rattle.vx_rules.specs.Stream.{piece_cells, PiecesOf}
-use Rattle.vx_plan.specs.PlanData.{Setting, Item, Pair, Plan, Node, paths, places, stream_values, row_total}
+use Rattle.vx_plan.specs.PlanData.{Setting, Item, Plan, Node, paths, places, stream_values, row_total}
 use Rattle.vx_plan.specs.Way.{Grouping, by_blocks, by_bytes, into_one}
-use Rattle.vx_plan.specs.GroupNode.{with_numbers, grouped_stream, counted_at, left_count, rest_count, block_count, block_rest, held_sizes, group_numbers, group_reserved, grouped_node, images, compressed_node}
+use Rattle.vx_plan.specs.GroupNode.{with_numbers, grouped_stream, counted_at, left_count, rest_count, block_count, block_rest, held_sizes, group_numbers, held_total, group_reserved, grouped_node, images, compressed_node}
 use Rattle.vx_plan.specs.Valid.{Fit, Keeps}
 use Rattle.vx_plan.specs.Statements.{Within}
 use Rattle.vx_plan.proofs.PlanLists.{ItemsOf, Holds, Gives, gives_same, fit_left, fit_right, fit_both, row_total-append, row_total_cells, stream_values_cells}
@@ -54,16 +48,16 @@ grouped_begins into_one t xs ys ended = (collected t (xs ++ ys) ended, ap (λ z.
 
 -- ---- rows
 
-pub grouped_reads : (s : Setting) (g : Grouping) (t : Ty) (k : Node) → Reads s t k → Reads s t (grouped_node g t k)
-grouped_reads s g t k r = record { reads = go }
+pub grouped_reads : (admitted : Bool) (s : Setting) (g : Grouping) (t : Ty) (k : Node) → Reads admitted s t k → Reads admitted s t (grouped_node g t k)
+grouped_reads admitted s g t k r = record { reads = go }
   where
     go : (m : Bool) (items : List Item) (e : Eof) → ItemsOf t items → (grouped_node g t k m items true e).faults ≡ [] → Fit (grouped_node g t k m items true e).numbers
         → (look : List ℕ → Option (List ℕ)) → Holds look (grouped_node g t k m items true e).pairs
-        → Gives s look (grouped_node g t k m items true e).layout (stream_values items)
+        → Gives admitted s look (grouped_node g t k m items true e).layout (stream_values items)
     go m items e of clean fit look held =
         let count : row_total items ≡ length (stream_cells items) = row_total_cells items in
         let lt : row_total items < 2 ^ 64 = fit.0 in
-        gives_same s look (k m (grouped_stream g t items true) true e).layout (stream_values (grouped_stream g t items true)) (stream_values items)
+        gives_same admitted s look (k m (grouped_stream g t items true) true e).layout (stream_values (grouped_stream g t items true)) (stream_values items)
         (r.reads m (grouped_stream g t items true) e (kept_of g t items of (omega arith)) clean
         (fit_right (row_total items ∷ group_numbers g t items true) (k m (grouped_stream g t items true) true e).numbers fit) look held)
         (stream_values_cells (grouped_stream g t items true) ∙ ap (map value) (kept_cells g t items) ∙ sym (stream_values_cells items))
@@ -115,17 +109,36 @@ fit_group (by_bytes size) t xs ys ended h =
     (fit_right (held_sizes size [] (xs ++ ys)) (counted_at (left_count (flushes size)) (rest_count (flushes size)) (flushes size) [] (xs ++ ys) ended) h))
 fit_group into_one t xs ys ended h = tt
 
-pub with_within : (ns ms : List ℕ) (a b : ℕ) (p q : Plan) → (Fit ms → Fit ns) → Within p q → Within (with_numbers ns a p) (with_numbers ms b q)
-with_within ns ms a b p q f h = record {
+pub with_within : (ns ms : List ℕ) (a b : ℕ) (p q : Plan) → (Fit ms → Fit ns) → a ≤ b → Within p q → Within (with_numbers ns a p) (with_numbers ms b q)
+with_within ns ms a b p q f l h = record {
   pairs = h.pairs;
   faultless = h.faultless;
+  reserved = let k : p.reserved ≤ q.reserved = h.reserved in omega arith;
   fit = λ e g. fit_both ns p.numbers (f (fit_left ms q.numbers g)) (h.fit e (fit_right ms q.numbers g));
 }
+
+held_more : (xs ys : List Item) → held_total xs ≤ held_total (xs ++ ys)
+held_more [] ys = omega arith
+held_more (x ∷ xs) ys = let l : held_total xs ≤ held_total (xs ++ ys) = held_more xs ys in omega arith
+
+-- what is reserved of the first chunks is at most that of all
+reserved_more : (g : Grouping) (xs ys : List Item) → group_reserved g xs ≤ group_reserved g (xs ++ ys)
+reserved_more (by_blocks o) xs ys = omega arith
+reserved_more (by_bytes size) xs ys = held_more xs ys
+reserved_more into_one xs ys = omega arith
+
+none_reserved : (g : Grouping) → group_reserved g [] ≡ 0
+none_reserved (by_blocks o) = refl
+none_reserved (by_bytes size) = refl
+none_reserved into_one = refl
 
 no_stream : (g : Grouping) (t : Ty) → grouped_stream g t [] false ≡ []
 no_stream (by_blocks o) t = refl
 no_stream (by_bytes size) t = refl
 no_stream into_one t = refl
+
+nothing : (n : ℕ) → n ≡ 0 → 0 + n ≡ 0
+nothing n e = omega arith
 
 pub grouped_grows : (g : Grouping) (t : Ty) (k : Node) → Grows t k → Grows t (grouped_node g t k)
 grouped_grows g t k c = record {
@@ -134,8 +147,10 @@ grouped_grows g t k c = record {
       with_within (row_total xs ∷ group_numbers g t xs false) (row_total (xs ++ ys) ∷ group_numbers g t (xs ++ ys) ended) (group_reserved g xs) (group_reserved g (xs ++ ys))
       (k m (grouped_stream g t xs false) false e) (k m (grouped_stream g t (xs ++ ys) ended) ended e)
       (λ f. ((let total : row_total (xs ++ ys) ≡ row_total xs + row_total ys = row_total-append xs ys in let a : row_total (xs ++ ys) < 2 ^ 64 = f.0 in omega arith), fit_group g t xs ys ended f.1))
+      (reserved_more g xs ys)
       (subst (λ z. Within (k m (grouped_stream g t xs false) false e) (k m z ended e)) (sym b.1) (c.grows m (grouped_stream g t xs false) b.0 ended e));
   quiet = λ m e. ap (λ z. (k m z false e).pairs) (no_stream g t) ∙ c.quiet m e;
+  still = λ m e. ap₂ (λ n z. n + (k m z false e).reserved) (none_reserved g) (no_stream g t) ∙ nothing (k m [] false e).reserved (c.still m e);
 }
 
 pub grouped_typed : (g : Grouping) (t : Ty) (k : Node) → Typed t k → Typed t (grouped_node g t k)
@@ -159,10 +174,10 @@ images-append : (s : Setting) (which : ℕ) (xs ys : List Item) → images s whi
 images-append s which [] ys = refl
 images-append s which (x ∷ xs) ys = ap (λ (z : List Item). (x.0, s.image which x.1) ∷ z) (images-append s which xs ys)
 
-pub compressed_reads : (s : Setting) → Keeps s → (which room : ℕ) (t : Ty) (k : Node) → Reads s t k → Reads s t (compressed_node s which room t k)
-compressed_reads s keeps which room t k r = record {
+pub compressed_reads : (admitted : Bool) (s : Setting) → Keeps s → (which room : ℕ) (t : Ty) (k : Node) → Reads admitted s t k → Reads admitted s t (compressed_node s which room t k)
+compressed_reads admitted s keeps which room t k r = record {
   reads = λ m items e of clean fit look held.
-      gives_same s look (k m (images s which items) true e).layout (stream_values (images s which items)) (stream_values items)
+      gives_same admitted s look (k m (images s which items) true e).layout (stream_values (images s which items)) (stream_values items)
       (r.reads m (images s which items) e (images_of s keeps which t items of) clean fit look held) (images_values s keeps which t items of);
 }
 
@@ -178,6 +193,7 @@ compressed_grows s which room t k c = record {
   grows = λ m xs ys ended e. subst (λ z. Within (k m (images s which xs) false e) (k m z ended e)) (sym (images-append s which xs ys))
       (c.grows m (images s which xs) (images s which ys) ended e);
   quiet = λ m e. c.quiet m e;
+  still = λ m e. c.still m e;
 }
 
 pub compressed_typed : (s : Setting) (which room : ℕ) (t : Ty) (k : Node) → Typed t k → Typed t (compressed_node s which room t k)

@@ -1,8 +1,7 @@
 -- Chunking over flat, in closed form.
-use Rattle.std.proofs.Common.{◌≡◌, ℕ, zero, suc, ◌+◌, ◌<◌, ◌≤◌, ◌⊎◌, bytes_eq, Bool, true, false, cond, nat_eq, nat_lt, nat_le, List, [], ◌∷◌, ◌++◌, map, length, Option, Some, None, refl, sym, ap, ap₂, ◌∙◌, subst, inl, inr, ⊎_elim, arith}
+use Rattle.std.proofs.Common.{◌≡◌, ℕ, zero, suc, ◌+◌, ◌<◌, ◌≤◌, bytes_eq, Bool, true, false, List, [], ◌∷◌, ◌++◌, map, length, Option, Some, None, refl, sym, ap, ap₂, ◌∙◌, subst, inl, inr, ⊎_elim, arith}
 use Rattle.std.proofs.lemmas.List.{append-nil}
-use Rattle.std.proofs.lemmas.Bool.{cases_Bool, true≢false}
-use Rattle.std.proofs.lemmas.Bool.Decides.{nat_tests}
+use Rattle.std.proofs.lemmas.Bool.{cases_Bool}
 use Rattle.std.specs.Cmp.Lexicographic.{bytes_decides}
 use Rattle.std.specs.Prelude.{if◌then◌else◌}
 use Rattle.vx_model.specs.declared.encoding.EncodingId.{EncodingId}
@@ -14,14 +13,14 @@ use Rattle.vx_path.specs.Sort.{Ascends}
 use Rattle.vx_path.proofs.Path.{under_le}
 use Rattle.vx_path.proofs.Sort.{sort_by-ascending}
 use Rattle.vx_path.proofs.Lists.{in_cases}
-use Rattle.vx_tree.specs.LayoutTree.{Lay, Lays, layout, chunked_kind, gathered, renamed, each_renamed, lays_of, child, flat_layout}
-use Rattle.vx_plan.specs.PlanData.{Setting, Item, Pair, Plan, Node, Fault, stored, row_total}
+use Rattle.vx_tree.specs.LayoutTree.{Lay, layout, chunked_kind, gathered, renamed, each_renamed, lays_of, child, flat_layout}
+use Rattle.vx_plan.specs.PlanData.{Setting, Item, Pair, Plan, stored, row_total}
 use Rattle.vx_plan.specs.Way.{Way, FlatOptions, flat, chunked, leaf}
-use Rattle.vx_plan.specs.FlatNode.{flat_node, segment, pair_at, refused_at, refusals, flat_of, inlined}
-use Rattle.vx_plan.specs.ChunkedNode.{chunked_node, chunk_plans, all_pairs, all_faults, all_layouts}
+use Rattle.vx_plan.specs.FlatNode.{segment, pair_at, refused_at, refusals, flat_of, inlined}
+use Rattle.vx_plan.specs.ChunkedNode.{chunk_plans, all_pairs, all_faults, all_layouts}
 use Rattle.vx_plan.specs.SourcePlan.{plan, source_plan, batch_items, root_eof}
-use Rattle.vx_plan.specs.Number.{path_of, sorted, place_of, number_of, numbered}
-use Rattle.vx_plan.specs.InOrder.{batch_pairs, batch_refusals, batch_segments, batch_flats, batch_rows, there, InOrder, ChunksInOrder}
+use Rattle.vx_plan.specs.Number.{path_of, sorted, place_of, number_of}
+use Rattle.vx_plan.specs.InOrder.{batch_pairs, batch_refusals, batch_segments, batch_flats, batch_rows, there, ChunksInOrder}
 use Rattle.vx_plan.proofs.PlanLists.{nil_left, nil_right}
 
 -- ---- a chunk alone

@@ -1,20 +1,21 @@
 -- Plans of each kind of node on small streams, computed. The codec here spells a chunk by its count of rows.
-use Rattle.std.proofs.Common.{◌≡◌, ℕ, Bool, true, false, List, [], ◌∷◌, ◌++◌, length, map, Option, Some, None, refl}
-use Rattle.std.specs.Prelude.{pos, codes, replicate, ◌^◌, ◌*◌}
-use Rattle.std.specs.Fmt.{decimal}
+use Rattle.std.proofs.Common.{◌≡◌, ℕ, true, false, List, [], ◌∷◌, length, map, Option, Some, None, refl, Bool}
+use Rattle.std.specs.Prelude.{pos, codes, replicate}
 use Rattle.vx_model.specs.declared.ptype.PType.TheVariants.{U8, U64, I32, I64}
 use Rattle.vx_model.specs.declared.encoding.EncodingId.TheVariants.{Plain}
-use Rattle.vx_model.specs.Ty.{Ty, Tys, primitive, utf8, boolean, struct, list, field, no_fields}
-use Rattle.vx_model.specs.Tree.{Tree, int_cell, text_cell, struct_cell, list_cell, trees_of}
-use Rattle.vx_model.specs.Piece.{Piece, plain_piece, dict_piece, list_piece, cells, piece_type}
-use Rattle.vx_tree.specs.LayoutTree.{Lay, Spec, chunked_layout, flat_layout, struct_layout, dict_layout, list_layout, zoned_layout}
+use Rattle.vx_model.specs.Ty.{Ty, primitive, utf8, struct, list, field, no_fields}
+use Rattle.vx_model.specs.Tree.{Tree, int_cell, text_cell, struct_cell, trees_of, list_cell}
+use Rattle.vx_model.specs.Val.{Val, int_value, list_value, vals_of}
+use Rattle.vx_model.specs.Piece.{Piece, plain_piece, dict_piece, list_piece, cells}
+use Rattle.vx_tree.specs.LayoutTree.{Lay, chunked_layout, flat_layout, struct_layout, dict_layout, zoned_layout, kind_id, layout_kind, children_of}
+use Rattle.vx_tree.specs.Rows.{rows}
 use Rattle.vx_record.specs.Aggregate.{maximum, minimum, null_count, spec}
 use Rattle.vx_rules.specs.Blocks.{BlockOptions, block_len}
 use Rattle.vx_rules.specs.Runs.{DictOptions}
-use Rattle.vx_plan.specs.PlanData.{Setting, Plan, Pair, paths, planned, Fault, fault, many_chunks, empty_list, not_struct, duplicate_field, zone_cut, forbidden_aggregate, at_chunk, at_start, at_end}
-use Rattle.vx_plan.specs.Way.{Way, FlatOptions, ZonedOptions, flat, chunked, grouped, by_blocks, by_bytes, into_one, structured, listed, coded, zoned, tabled, compressed, no_ways, way_at, no_wraps}
+use Rattle.vx_plan.specs.PlanData.{Setting, paths, fault, many_chunks, empty_list, not_struct, duplicate_field, zone_cut, forbidden_aggregate, at_chunk, at_start, at_end}
+use Rattle.vx_plan.specs.Way.{Way, ZonedOptions, flat, chunked, grouped, by_blocks, by_bytes, structured, listed, coded, zoned, tabled, no_ways, way_at, no_wraps, into_one}
 use Rattle.vx_plan.specs.SourcePlan.{source_plan}
-use Rattle.vx_plan.specs.Number.{segments, sorted, numbered}
+use Rattle.vx_plan.specs.Number.{sorted, numbered, segment_at, segments}
 
 -- a compressor whose image 2 is a dictionary
 setting : Setting
@@ -90,6 +91,25 @@ buffered_paths : paths (sorted (source_plan setting (grouped (by_bytes 10) chunk
 unfolding setting flats chunks u8 ints
 buffered_paths = refl
 
+-- all of them are reserved
+buffered_reserved : (source_plan setting (grouped (by_bytes 10) chunks) u8 false (ints 8 ∷ ints 8 ∷ ints 8 ∷ ints 1 ∷ []) true).reserved ≡ 25
+unfolding setting flats chunks u8 ints
+buffered_reserved = refl
+
+-- ---- collecting: one chunk at the last one's path
+
+collected_pairs : (source_plan setting (grouped into_one chunks) u8 false (ints 3 ∷ ints 4 ∷ []) true).pairs ≡ (0 ∷ 1 ∷ [], 7 ∷ []) ∷ []
+unfolding setting flats chunks u8 ints
+collected_pairs = refl
+
+collected_nothing : (source_plan setting (grouped into_one chunks) u8 false [] true).pairs ≡ []
+unfolding setting flats chunks u8 ints
+collected_nothing = refl
+
+collected_open : (source_plan setting (grouped into_one chunks) u8 false (ints 3 ∷ ints 4 ∷ []) false).pairs ≡ []
+unfolding setting flats chunks u8 ints
+collected_open = refl
+
 -- ---- blocks of 4 rows
 
 blocks_of : ℕ → BlockOptions
@@ -154,6 +174,12 @@ run_pairs : (source_plan setting (coded two_cells chunks flats flats) (utf8 fals
 unfolding setting flats chunks texts two_cells
 run_pairs = refl
 
+run_layout : numbered (source_plan setting (coded two_cells chunks flats flats) (utf8 false) false (texts (codes "a" ∷ codes "b" ∷ []) ∷ texts (codes "c" ∷ []) ∷ []) true) 0
+    ≡ chunked_layout (utf8 false) 3
+    (dict_layout (utf8 false) 2 (text_flat 2 2) (chunked_layout (primitive U8 false) 2 (code_flat 2 0 ∷ code_flat 0 1 ∷ [])) ∷ dict_layout (utf8 false) 1 (text_flat 1 4) (code_flat 1 3) ∷ [])
+unfolding setting flats chunks texts two_cells text_flat code_flat
+run_layout = refl
+
 run_flats : (source_plan setting (coded two_cells flats flats flats) (utf8 false) false (texts (codes "a" ∷ codes "b" ∷ []) ∷ texts (codes "c" ∷ []) ∷ []) true).faults ≡ fault many_chunks (at_chunk (0 ∷ 1 ∷ 0 ∷ [])) ∷ []
 unfolding setting flats chunks texts two_cells
 run_flats = refl
@@ -182,7 +208,7 @@ spelling = record {
     encode = λ es padding p. Some (spell (cells p));
     tree_part = λ es padding p. [];
     refused = λ es p. None;
-    decode = λ es t b. None;
+    decode = λ es t b. Some (map (λ n. int_cell (pos n)) b);
   };
   encodings = Plain ∷ [];
   allowed = Some (codes "vortex.min" ∷ []);
@@ -194,6 +220,15 @@ list_segments : (source_plan spelling (listed chunks chunks flats flats) (list (
     ≡ (0 ∷ 0 ∷ 0 ∷ [], 1 ∷ 2 ∷ []) ∷ (0 ∷ 1 ∷ 0 ∷ [], 3 ∷ []) ∷ (0 ∷ 0 ∷ 1 ∷ [], 0 ∷ 2 ∷ 2 ∷ []) ∷ (0 ∷ 1 ∷ 1 ∷ [], 3 ∷ []) ∷ []
 unfolding spelling flats chunks list_chunks
 list_segments = refl
+
+int : ℕ → Val
+int n = int_value (pos n)
+
+list_values : rows spelling.codec (segment_at 0 (segments (source_plan spelling (listed chunks chunks flats flats) (list (primitive I64 false) false) false list_chunks true)))
+    (numbered (source_plan spelling (listed chunks chunks flats flats) (list (primitive I64 false) false) false list_chunks true) 0)
+    ≡ Some (list_value (vals_of (int 1 ∷ int 2 ∷ [])) ∷ list_value (vals_of []) ∷ list_value (vals_of (int 3 ∷ [])) ∷ [])
+unfolding spelling flats chunks list_chunks int
+list_values = refl
 
 no_lists : (source_plan spelling (listed chunks chunks flats flats) (list (primitive I64 false) false) false [] true).faults ≡ fault empty_list at_end ∷ []
 unfolding spelling flats chunks
@@ -239,8 +274,8 @@ marked_zoned : numbered (source_plan spelling (zoned zones_of_3 chunks flats) (p
 unfolding spelling flats chunks zones_of_3 nine i32_flat
 marked_zoned = refl
 
--- a shorter zone that another follows
-wrong_cut : (source_plan setting (zoned zones_of_3 chunks flats) u8 false (ints 3 ∷ ints 2 ∷ ints 1 ∷ []) true).faults ≡ fault (zone_cut 2) (at_chunk (0 ∷ 1 ∷ [])) ∷ []
+-- a shorter zone that another follows, refused when that comes
+wrong_cut : (source_plan setting (zoned zones_of_3 chunks flats) u8 false (ints 3 ∷ ints 2 ∷ ints 1 ∷ []) true).faults ≡ fault (zone_cut 2) (at_chunk (0 ∷ 2 ∷ [])) ∷ []
 unfolding setting flats chunks zones_of_3 u8 ints
 wrong_cut = refl
 
@@ -262,3 +297,50 @@ table_lists : (source_plan spelling table_way (list (primitive I64 false) false)
     ≡ (0 ∷ 0 ∷ 0 ∷ [], 1 ∷ 2 ∷ []) ∷ (0 ∷ 1 ∷ 0 ∷ [], 3 ∷ []) ∷ (0 ∷ 0 ∷ 1 ∷ [], 0 ∷ 2 ∷ 2 ∷ []) ∷ (0 ∷ 1 ∷ 1 ∷ [], 3 ∷ []) ∷ []
 unfolding spelling flats chunks list_chunks table_way
 table_lists = refl
+
+-- ---- a table with an override of a.b, on {a={b=i64}, c=i64}
+
+nested : Ty
+nested = struct (field (codes "a") (struct (field (codes "b") (primitive I64 false) no_fields) false) (field (codes "c") (primitive I64 false) no_fields)) false
+
+nested_rows : ℕ → Piece
+nested_rows n = plain_piece nested (replicate n (struct_cell true (trees_of (struct_cell true (trees_of (int_cell (pos 1) ∷ [])) ∷ int_cell (pos 2) ∷ []))))
+
+nested_way : Way
+nested_way = tabled flats chunks (way_at (codes "a" ∷ codes "b" ∷ []) flats no_ways) false no_wraps
+
+nested_layout : numbered (source_plan setting nested_way nested false (nested_rows 1 ∷ []) true) 0
+    ≡ struct_layout nested 1 (struct_layout (struct (field (codes "b") (primitive I64 false) no_fields) false) 1 (i64_flat 1 0 ∷ []) ∷ i64_flat 1 1 ∷ [])
+unfolding setting flats chunks nested nested_rows nested_way i64_flat
+nested_layout = refl
+
+nested_twice : (source_plan setting nested_way nested false (nested_rows 1 ∷ nested_rows 1 ∷ []) true).faults ≡ fault many_chunks (at_chunk (0 ∷ 1 ∷ 0 ∷ 0 ∷ [])) ∷ []
+unfolding setting flats chunks nested nested_rows nested_way
+nested_twice = refl
+
+-- ---- a column of lists goes to the leaf, or is laid out as a list
+
+list_column : Ty
+list_column = struct (field (codes "l") (list (primitive I64 false) false) no_fields) false
+
+one_list : Piece
+one_list = plain_piece list_column (struct_cell true (trees_of (list_cell true (trees_of (int_cell (pos 1) ∷ [])) ∷ [])) ∷ [])
+
+column_ids : Bool → List (List ℕ)
+column_ids lists = map (λ l. kind_id (layout_kind l)) (children_of (source_plan setting (tabled flats chunks no_ways lists no_wraps) list_column false (one_list ∷ []) true).layout)
+
+without_lists : column_ids false ≡ codes "vortex.flat" ∷ []
+unfolding setting flats chunks list_column one_list column_ids
+without_lists = refl
+
+with_lists : column_ids true ≡ codes "vortex.list" ∷ []
+unfolding setting flats chunks list_column one_list column_ids
+with_lists = refl
+
+-- ---- a zone table that is zoned itself
+
+zoned_twice : numbered (source_plan setting (zoned zones_of_3 chunks (zoned zones_of_3 flats flats)) (primitive I32 false) false nine true) 0
+    ≡ zoned_layout (primitive I32 false) 9 3 (spec maximum ∷ spec minimum ∷ spec null_count ∷ []) (chunked_layout (primitive I32 false) 9 (i32_flat 3 0 ∷ i32_flat 3 1 ∷ i32_flat 3 2 ∷ []))
+    (zoned_layout table_ty 3 3 (spec null_count ∷ []) (flat_layout table_ty 3 (Plain ∷ []) None 3) (flat_layout (struct (field (codes "null_count") (primitive U64 true) no_fields) false) 1 (Plain ∷ []) None 4))
+unfolding setting flats chunks zones_of_3 nine table_ty i32_flat
+zoned_twice = refl

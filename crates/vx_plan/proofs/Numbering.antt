@@ -1,12 +1,11 @@
 -- Numbers by place: each path finds the bytes of its pair.
-use Rattle.std.proofs.Common.{◌≡◌, ℕ, zero, suc, ◌+◌, ◌-◌, ◌<◌, ◌≤◌, ◌⊎◌, nat_lt, bytes_eq, Bool, true, false, List, [], ◌∷◌, ◌++◌, length, Option, Some, None, refl, sym, ap, ◌∙◌, subst, inl, inr, ⊎_elim, arith}
+use Rattle.std.proofs.Common.{◌≡◌, ℕ, suc, ◌+◌, ◌-◌, nat_lt, bytes_eq, true, false, List, [], ◌∷◌, Some, refl, sym, ap, ◌∙◌, subst, inl, inr, ⊎_elim, arith}
 use Rattle.std.proofs.lemmas.Bool.{cases_Bool, true≢false}
 use Rattle.std.proofs.lemmas.Bool.Decides.{nat_tests}
 use Rattle.std.specs.Cmp.Lexicographic.{bytes_decides}
 use Rattle.std.specs.Prelude.{if◌then◌else◌}
 use Rattle.vx_path.specs.Lists.{In}
 use Rattle.vx_path.specs.Path.{meets, Scattered}
-use Rattle.vx_path.specs.Sort.{sort_by}
 use Rattle.vx_path.proofs.Path.{meets-refl}
 use Rattle.vx_path.proofs.Sort.{in_sorted, from_sorted}
 use Rattle.vx_plan.specs.PlanData.{Pair, Plan, paths, stored}

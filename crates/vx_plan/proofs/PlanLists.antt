@@ -1,22 +1,18 @@
 -- Faults, numbers and pairs of several plans, joined.
-use Rattle.std.proofs.Common.{◌≡◌, ℕ, ◌+◌, ◌<◌, ◌≤◌, ◌^◌, ◌⊎◌, Bool, true, false, cond, List, [], ◌∷◌, ◌++◌, map, length, Option, Some, None, refl, sym, ap, ap₂, ◌∙◌, subst, inl, inr, ⊎_elim, arith, append_assoc, length-append, eq-eqb}
+use Rattle.std.proofs.Common.{◌≡◌, ℕ, ◌+◌, ◌≤◌, Bool, true, List, [], ◌∷◌, ◌++◌, map, length, Option, Some, refl, sym, ap, ◌∙◌, ⊎_elim, arith, append_assoc, length-append, eq-eqb}
 use Rattle.std.proofs.lemmas.List.{append-nil, length-map, map-append}
 use Rattle.vx_model.specs.Ty.{Ty}
-use Rattle.vx_model.specs.Tree.{Tree}
 use Rattle.vx_model.specs.Val.{Val, value}
-use Rattle.vx_model.specs.Piece.{Piece, cells, row_values}
+use Rattle.vx_model.specs.Piece.{cells, row_values}
 use Rattle.vx_path.specs.Lists.{In}
 use Rattle.vx_path.proofs.Lists.{in_left, in_right, in_cases}
-use Rattle.vx_path.specs.Path.{Eof}
-use Rattle.vx_tree.specs.LayoutTree.{Lay, lays_of, gathered, layout, no_layouts, chunked_kind, chunked_layout}
-use Rattle.vx_tree.specs.Real.{Of}
-use Rattle.vx_tree.specs.Codec.{Codec}
+use Rattle.vx_tree.specs.LayoutTree.{Lay, lays_of, gathered}
 use Rattle.vx_tree.specs.Rows.{and_then, all_there, counted, joined, chunked_rows, rows, each_rows}
 use Rattle.vx_rules.specs.Stream.{Chunks, stream_cells}
-use Rattle.vx_plan.specs.PlanData.{Setting, Pair, Plan, Item, Fault, Node, row_total, stream_values}
-use Rattle.vx_plan.specs.ChunkedNode.{all_pairs, all_faults, all_numbers, all_layouts}
+use Rattle.vx_plan.specs.PlanData.{Setting, Pair, Plan, Item, row_total, stream_values}
+use Rattle.vx_plan.specs.ChunkedNode.{all_pairs, all_faults, all_numbers, all_reserved}
 use Rattle.vx_plan.specs.Valid.{Fit}
-use Rattle.vx_plan.specs.ZonesHold.{ZonesHold, AllZonesHold}
+use Rattle.vx_plan.specs.ZonesHold.{IsZoned, AllZoned, ZonesHold}
 use Rattle.vx_plan.specs.Statements.{Within}
 
 -- each chunk of a stream is a whole one of the type
@@ -88,48 +84,48 @@ length-stream_values (i ∷ is) =
     let k : length (row_values i.1) ≡ length (cells i.1) = length-map (cells i.1) value in
     omega arith
 
--- A layout gives these rows, and what its zoned nodes promise holds.
-pub record Gives {A : Type 0} (s : Setting) (look : A → Option (List ℕ)) (l : Lay A) (vs : List Val) : Type 0 where
+-- A layout gives these rows, and what its zoned nodes promise holds where the strategy is admitted.
+pub record Gives {A : Type 0} (admitted : Bool) (s : Setting) (look : A → Option (List ℕ)) (l : Lay A) (vs : List Val) : Type 0 where
   pub read : rows s.codec look l ≡ Some vs
-  pub zones : ZonesHold s look l
+  pub zones : admitted ≡ true → ZonesHold s look l
 
-pub gives_same : {A : Type 0} (s : Setting) (look : A → Option (List ℕ)) (l : Lay A) (vs ws : List Val) → Gives s look l vs → vs ≡ ws → Gives s look l ws
-gives_same s look l vs ws g e = record { read = g.read ∙ ap Some e; zones = g.zones }
+pub gives_same : {A : Type 0} (admitted : Bool) (s : Setting) (look : A → Option (List ℕ)) (l : Lay A) (vs ws : List Val) → Gives admitted s look l vs → vs ≡ ws → Gives admitted s look l ws
+gives_same admitted s look l vs ws g e = record { read = g.read ∙ ap Some e; zones = g.zones }
 
 -- Several layouts, each of which gives its rows.
-abbrev pub ReadAll : {A : Type 0} → Setting → (A → Option (List ℕ)) → List (Lay A) → List (List Val) → Type 0
-ReadAll s look [] [] = Unit {0}
-ReadAll s look [] (v ∷ vs) = ⊥
-ReadAll s look (l ∷ ls) [] = ⊥
-ReadAll s look (l ∷ ls) (v ∷ vs) = Gives s look l v × ReadAll s look ls vs
+abbrev pub ReadAll : {A : Type 0} → Bool → Setting → (A → Option (List ℕ)) → List (Lay A) → List (List Val) → Type 0
+ReadAll admitted s look [] [] = Unit {0}
+ReadAll admitted s look [] (v ∷ vs) = ⊥
+ReadAll admitted s look (l ∷ ls) [] = ⊥
+ReadAll admitted s look (l ∷ ls) (v ∷ vs) = Gives admitted s look l v × ReadAll admitted s look ls vs
 
-pub all_there_read : {A : Type 0} (s : Setting) (look : A → Option (List ℕ)) (ls : List (Lay A)) (vs : List (List Val))
-    → ReadAll s look ls vs → all_there (each_rows s.codec look (lays_of ls)) ≡ Some vs
-all_there_read s look [] [] h = refl
-all_there_read s look [] (v ∷ vs) h = absurd h
-all_there_read s look (l ∷ ls) [] h = absurd h
-all_there_read s look (l ∷ ls) (v ∷ vs) h =
+pub all_there_read : {A : Type 0} (admitted : Bool) (s : Setting) (look : A → Option (List ℕ)) (ls : List (Lay A)) (vs : List (List Val))
+    → ReadAll admitted s look ls vs → all_there (each_rows s.codec look (lays_of ls)) ≡ Some vs
+all_there_read admitted s look [] [] h = refl
+all_there_read admitted s look [] (v ∷ vs) h = absurd h
+all_there_read admitted s look (l ∷ ls) [] h = absurd h
+all_there_read admitted s look (l ∷ ls) (v ∷ vs) h =
     ap (λ r. all_there (r ∷ each_rows s.codec look (lays_of ls))) h.0.read
-    ∙ ap (and_then (λ xs. Some (v ∷ xs))) (all_there_read s look ls vs h.1)
+    ∙ ap (and_then (λ xs. Some (v ∷ xs))) (all_there_read admitted s look ls vs h.1)
 
-pub all_zones : {A : Type 0} (s : Setting) (look : A → Option (List ℕ)) (ls : List (Lay A)) (vs : List (List Val)) → ReadAll s look ls vs → AllZonesHold s look false (lays_of ls)
-all_zones s look [] [] h = tt
-all_zones s look [] (v ∷ vs) h = absurd h
-all_zones s look (l ∷ ls) [] h = absurd h
-all_zones s look (l ∷ ls) (v ∷ vs) h = (h.0.zones, all_zones s look ls vs h.1)
+pub all_zones : {A : Type 0} (admitted : Bool) (s : Setting) (look : A → Option (List ℕ)) (ls : List (Lay A)) (vs : List (List Val)) → ReadAll admitted s look ls vs → admitted ≡ true → AllZoned (IsZoned s look) (lays_of ls)
+all_zones admitted s look [] [] h a = tt
+all_zones admitted s look [] (v ∷ vs) h a = absurd h
+all_zones admitted s look (l ∷ ls) [] h a = absurd h
+all_zones admitted s look (l ∷ ls) (v ∷ vs) h a = (h.0.zones a, all_zones admitted s look ls vs h.1 a)
 
 -- one layout is read itself, none or several joined
-pub gathered_reads : {A : Type 0} (s : Setting) (look : A → Option (List ℕ)) (t : Ty) (n : ℕ) (ls : List (Lay A)) (vs : List (List Val))
-    → ReadAll s look ls vs → length (joined vs) ≡ n → Gives s look (gathered t n ls) (joined vs)
-gathered_reads s look t n [] [] h e = record { read = counted_same n [] e; zones = (tt, tt) }
-gathered_reads s look t n [] (v ∷ vs) h e = absurd h
-gathered_reads s look t n (l ∷ ls) [] h e = absurd h
-gathered_reads s look t n (l ∷ []) (v ∷ []) h e = gives_same s look l v (v ++ []) h.0 (sym (append-nil v))
-gathered_reads s look t n (l ∷ []) (v ∷ w ∷ vs) h e = absurd h.1
-gathered_reads s look t n (l ∷ k ∷ ls) (v ∷ vs) h e = record {
-  read = ap (λ r. and_then (counted n) (and_then chunked_rows r)) (all_there_read s look (l ∷ k ∷ ls) (v ∷ vs) h)
+pub gathered_reads : {A : Type 0} (admitted : Bool) (s : Setting) (look : A → Option (List ℕ)) (t : Ty) (n : ℕ) (ls : List (Lay A)) (vs : List (List Val))
+    → ReadAll admitted s look ls vs → length (joined vs) ≡ n → Gives admitted s look (gathered t n ls) (joined vs)
+gathered_reads admitted s look t n [] [] h e = record { read = counted_same n [] e; zones = λ a. (tt, tt) }
+gathered_reads admitted s look t n [] (v ∷ vs) h e = absurd h
+gathered_reads admitted s look t n (l ∷ ls) [] h e = absurd h
+gathered_reads admitted s look t n (l ∷ []) (v ∷ []) h e = gives_same admitted s look l v (v ++ []) h.0 (sym (append-nil v))
+gathered_reads admitted s look t n (l ∷ []) (v ∷ w ∷ vs) h e = absurd h.1
+gathered_reads admitted s look t n (l ∷ k ∷ ls) (v ∷ vs) h e = record {
+  read = ap (λ r. and_then (counted n) (and_then chunked_rows r)) (all_there_read admitted s look (l ∷ k ∷ ls) (v ∷ vs) h)
       ∙ counted_same n (joined (v ∷ vs)) e;
-  zones = (tt, all_zones s look (l ∷ k ∷ ls) (v ∷ vs) h);
+  zones = λ a. (tt, all_zones admitted s look (l ∷ k ∷ ls) (v ∷ vs) h a);
 }
 
 -- What holds of the first plans holds of all, plan by plan.
@@ -137,9 +133,10 @@ pub record Grow (ps qs : List Plan) : Type 0 where
   pub pairs : (x : Pair) → In x (all_pairs ps) → In x (all_pairs qs)
   pub faultless : all_faults qs ≡ [] → all_faults ps ≡ []
   pub fit : all_faults qs ≡ [] → Fit (all_numbers qs) → Fit (all_numbers ps)
+  pub reserved : all_reserved ps ≤ all_reserved qs
 
 pub grow_none : (qs : List Plan) → Grow [] qs
-grow_none qs = record { pairs = λ x h. absurd h; faultless = λ e. refl; fit = λ e h. tt }
+grow_none qs = record { pairs = λ x h. absurd h; faultless = λ e. refl; fit = λ e h. tt; reserved = omega arith }
 
 pub grow_more : (p q : Plan) (ps qs : List Plan) → Within p q → Grow ps qs → Grow (p ∷ ps) (q ∷ qs)
 grow_more p q ps qs a b = record {
@@ -148,10 +145,11 @@ grow_more p q ps qs a b = record {
   fit = λ e h. fit_both p.numbers (all_numbers ps)
       (a.fit (nil_left q.faults (all_faults qs) e) (fit_left q.numbers (all_numbers qs) h))
       (b.fit (nil_right q.faults (all_faults qs) e) (fit_right q.numbers (all_numbers qs) h));
+  reserved = let l : p.reserved ≤ q.reserved = a.reserved in let r : all_reserved ps ≤ all_reserved qs = b.reserved in omega arith;
 }
 
 pub within_itself : (p : Plan) → Within p p
-within_itself p = record { pairs = λ x h. h; faultless = λ e. e; fit = λ e h. h }
+within_itself p = record { pairs = λ x h. h; faultless = λ e. e; fit = λ e h. h; reserved = omega arith }
 
 -- ---- rows and values of a stream by its cells
 

@@ -1,13 +1,14 @@
 -- One induction over the walk, for all laws.
-use Rattle.std.proofs.Common.{◌≡◌, ℕ, ◌⊎◌, Bool, true, false, List, [], ◌∷◌, ◌++◌, Option, Some, None, refl, sym, ap, subst, inl, inr, ⊎_elim}
-use Rattle.std.specs.Prelude.{if◌then◌else◌}
-use Rattle.std.proofs.lemmas.Bool.{cases_Bool}
+use Rattle.std.proofs.Common.{◌≡◌, ℕ, Bool, true, false, List, [], ◌∷◌, ◌++◌, Option, Some, None, refl, sym, subst}
+use Rattle.std.specs.Prelude.{if◌then◌else◌, ◌&&◌, nat_lt}
+use Rattle.std.proofs.lemmas.Bool.{true≢false}
 use Rattle.vx_model.specs.Ty.{Ty, Tys, boolean, primitive, utf8, binary, list, struct, extension, no_fields, field}
 use Rattle.vx_model.specs.Piece.{is_dict_type}
 use Rattle.vx_rules.specs.Columns.{offset_type}
 use Rattle.vx_rules.specs.Runs.{DictOptions, code_type}
 use Rattle.vx_plan.specs.PlanData.{Setting, Node}
 use Rattle.vx_plan.specs.Way.{Way, Ways, Wraps, FlatOptions, ZonedOptions, Grouping, flat, chunked, grouped, compressed, coded, zoned, structured, listed, tabled, no_ways, way_at, no_wraps, wrap_grouped, wrap_zoned}
+use Rattle.vx_plan.specs.Admitted.{is_admitted, are_admitted, wraps_admitted, are_apart, is_admitted_grouping, is_admitted_zoned}
 use Rattle.vx_plan.specs.Walk.{Nodes, Named, Around, same_names, find, duplicate, chosen, field_nodes, of_struct, of_list, of_dict, in_lists, of_table, of_tables, walk, walk_named, walk_wraps}
 use Rattle.vx_plan.specs.FlatNode.{flat_node}
 use Rattle.vx_plan.specs.ChunkedNode.{chunked_node}
@@ -17,22 +18,35 @@ use Rattle.vx_plan.specs.ZonedNode.{zoned_node}
 use Rattle.vx_plan.specs.ColumnNodes.{not_struct_node, struct_node, list_node}
 use Rattle.vx_plan.specs.SourcePlan.{plan, plan_nodes}
 
+-- where the strategy is admitted, this is
+abbrev pub Given : Bool → Bool → Type 0
+Given admitted b = admitted ≡ true → b ≡ true
+
+pub given_left : (admitted a b : Bool) → Given admitted (a && b) → Given admitted a
+given_left admitted true b h e = refl
+given_left admitted false b h e = h e
+
+pub given_right : (admitted a b : Bool) → Given admitted (a && b) → Given admitted b
+given_right admitted true b h e = h e
+given_right admitted false b h e = absurd (true≢false (sym (h e)))
+
 -- what is made of each field, two ways
 abbrev pub Both : {A B : Type 0} → (Ty → A → B → Type 0) → Tys → List A → List B → Type 0
 Both P no_fields [] [] = Unit {0}
 Both P (field name t fs) (k ∷ ks) (l ∷ ls) = P t k l × Both P fs ks ls
 Both P fs ks ls = ⊥
 
--- Two readings of a strategy agree where they agree at each node.
-module _ (A B : Type 0) (a : Nodes A) (b : Nodes B) (P : Ty → A → B → Type 0) where
+-- Two readings of a strategy agree where they agree at each node, `admitted` saying whether the options are known to be
+-- such as constructors make.
+module _ (A B : Type 0) (a : Nodes A) (b : Nodes B) (admitted : Bool) (P : Ty → A → B → Type 0) where
   pub record Agree : Type 0 where
     pub at_flat : (o : FlatOptions) (t : Ty) → P t (a.on_flat o t) (b.on_flat o t)
     pub at_chunked : (t : Ty) (k : A) (l : B) → P t k l → P t (a.on_chunked t k) (b.on_chunked t l)
-    pub at_grouped : (g : Grouping) (t : Ty) (k : A) (l : B) → P t k l → P t (a.on_grouped g t k) (b.on_grouped g t l)
-    pub at_compressed : (which room : ℕ) (t : Ty) (k : A) (l : B) → P t k l → P t (a.on_compressed which room t k) (b.on_compressed which room t l)
+    pub at_grouped : (g : Grouping) → Given admitted (is_admitted_grouping g) → (t : Ty) (k : A) (l : B) → P t k l → P t (a.on_grouped g t k) (b.on_grouped g t l)
+    pub at_compressed : (which room : ℕ) → Given admitted (nat_lt 0 room) → (t : Ty) (k : A) (l : B) → P t k l → P t (a.on_compressed which room t k) (b.on_compressed which room t l)
     pub at_dict : (o : DictOptions) (t : Ty) → is_dict_type t ≡ true → (c v f : A) (d w g : B) → P (code_type o) c d → P t v w → P t f g
         → P t (a.on_dict o t c v f) (b.on_dict o t d w g)
-    pub at_zoned : (o : ZonedOptions) (t : Ty) (k : A) (l : B) (f : Ty → A) (g : Ty → B) → P t k l → ((u : Ty) → P u (f u) (g u)) → P t (a.on_zoned o t k f) (b.on_zoned o t l g)
+    pub at_zoned : (o : ZonedOptions) → Given admitted (is_admitted_zoned o) → (t : Ty) (k : A) (l : B) (f : Ty → A) (g : Ty → B) → P t k l → ((u : Ty) → P u (f u) (g u)) → P t (a.on_zoned o t k f) (b.on_zoned o t l g)
     pub at_not_struct : (t : Ty) → P t (a.on_not_struct t) (b.on_not_struct t)
     pub at_struct : (fs : Tys) (n : Bool) (dup : Option (List ℕ)) (v : A) (w : B) (ks : List A) (ls : List B)
         → P (boolean false) v w → Both P fs ks ls → P (struct fs n) (a.on_struct fs n dup v ks) (b.on_struct fs n dup w ls)
@@ -138,28 +152,56 @@ module _ (A B : Type 0) (a : Nodes A) (b : Nodes B) (P : Ty → A → B → Type
   around_alike false f h r = tt
 
   mutual
-    pub relate : Agree → (w : Way) (t : Ty) → P t (walk a w t) (walk b w t)
-    relate g (flat o) t = g.at_flat o t
-    relate g (chunked w) t = g.at_chunked t (walk a w t) (walk b w t) (relate g w t)
-    relate g (grouped r w) t = g.at_grouped r t (walk a w t) (walk b w t) (relate g w t)
-    relate g (compressed which room w) t = g.at_compressed which room t (walk a w t) (walk b w t) (relate g w t)
-    relate g (coded o c v f) t = dict_alike g o (walk a c) (walk a v) (walk a f) (walk b c) (walk b v) (walk b f) (relate g c) (relate g v) (relate g f) t
-    relate g (zoned o w stats) t = g.at_zoned o t (walk a w t) (walk b w t) (walk a stats) (walk b stats) (relate g w t) (relate g stats)
-    relate g (structured v d ws) t = struct_alike g (walk a v) (walk b v) (walk a d) (walk b d) (walk_named a ws) (walk_named b ws) (relate g v) (relate g d) (relate_named g ws) t
-    relate g (listed e o v f) t = list_alike g (walk a e) (walk a o) (walk a v) (walk a f) (walk b e) (walk b o) (walk b v) (walk b f) (relate g e) (relate g o) (relate g v) (relate g f) t
-    relate g (tabled v l ws lists wraps) t =
+    pub relate : Agree → (w : Way) → Given admitted (is_admitted w) → (t : Ty) → P t (walk a w t) (walk b w t)
+    relate g (flat o) h t = g.at_flat o t
+    relate g (chunked w) h t = g.at_chunked t (walk a w t) (walk b w t) (relate g w h t)
+    relate g (grouped r w) h t =
+        g.at_grouped r (given_left admitted (is_admitted_grouping r) (is_admitted w) h) t (walk a w t) (walk b w t) (relate g w (given_right admitted (is_admitted_grouping r) (is_admitted w) h) t)
+    relate g (compressed which room w) h t =
+        g.at_compressed which room (given_left admitted (nat_lt 0 room) (is_admitted w) h) t (walk a w t) (walk b w t) (relate g w (given_right admitted (nat_lt 0 room) (is_admitted w) h) t)
+    relate g (coded o c v f) h t =
+        let r : Given admitted (is_admitted v && is_admitted f) = given_right admitted (is_admitted c) (is_admitted v && is_admitted f) h in
+        dict_alike g o (walk a c) (walk a v) (walk a f) (walk b c) (walk b v) (walk b f) (relate g c (given_left admitted (is_admitted c) (is_admitted v && is_admitted f) h))
+        (relate g v (given_left admitted (is_admitted v) (is_admitted f) r)) (relate g f (given_right admitted (is_admitted v) (is_admitted f) r)) t
+    relate g (zoned o w stats) h t =
+        let r : Given admitted (is_admitted w && is_admitted stats) = given_right admitted (is_admitted_zoned o) (is_admitted w && is_admitted stats) h in
+        g.at_zoned o (given_left admitted (is_admitted_zoned o) (is_admitted w && is_admitted stats) h) t (walk a w t) (walk b w t) (walk a stats) (walk b stats)
+        (relate g w (given_left admitted (is_admitted w) (is_admitted stats) r) t) (relate g stats (given_right admitted (is_admitted w) (is_admitted stats) r))
+    relate g (structured v d ws) h t =
+        let r : Given admitted (is_admitted d && are_admitted ws) = given_right admitted (is_admitted v) (is_admitted d && are_admitted ws) h in
+        struct_alike g (walk a v) (walk b v) (walk a d) (walk b d) (walk_named a ws) (walk_named b ws) (relate g v (given_left admitted (is_admitted v) (is_admitted d && are_admitted ws) h))
+        (relate g d (given_left admitted (is_admitted d) (are_admitted ws) r)) (relate_named g ws (given_right admitted (is_admitted d) (are_admitted ws) r)) t
+    relate g (listed e o v f) h t =
+        let r : Given admitted (is_admitted o && (is_admitted v && is_admitted f)) = given_right admitted (is_admitted e) (is_admitted o && (is_admitted v && is_admitted f)) h in
+        let q : Given admitted (is_admitted v && is_admitted f) = given_right admitted (is_admitted o) (is_admitted v && is_admitted f) r in
+        list_alike g (walk a e) (walk a o) (walk a v) (walk a f) (walk b e) (walk b o) (walk b v) (walk b f) (relate g e (given_left admitted (is_admitted e) (is_admitted o && (is_admitted v && is_admitted f)) h))
+        (relate g o (given_left admitted (is_admitted o) (is_admitted v && is_admitted f) r)) (relate g v (given_left admitted (is_admitted v) (is_admitted f) q))
+        (relate g f (given_right admitted (is_admitted v) (is_admitted f) q)) t
+    relate g (tabled v l ws lists wraps) h t =
+        let r : Given admitted (is_admitted l && (are_apart ws && (are_admitted ws && wraps_admitted wraps))) =
+        given_right admitted (is_admitted v) (is_admitted l && (are_apart ws && (are_admitted ws && wraps_admitted wraps))) h in
+        let q : Given admitted (are_admitted ws && wraps_admitted wraps) =
+        given_right admitted (are_apart ws) (are_admitted ws && wraps_admitted wraps) (given_right admitted (is_admitted l) (are_apart ws && (are_admitted ws && wraps_admitted wraps)) r) in
         table_alike g (walk a v) (walk b v) (walk a l) (walk b l) (if lists then Some (walk_wraps a wraps) else None) (if lists then Some (walk_wraps b wraps) else None)
-        (relate g v) (relate g l) (around_alike lists (walk_wraps a wraps) (walk_wraps b wraps) (relate_wraps g wraps)) (walk_named a ws) (walk_named b ws) (relate_named g ws) [] t
+        (relate g v (given_left admitted (is_admitted v) (is_admitted l && (are_apart ws && (are_admitted ws && wraps_admitted wraps))) h))
+        (relate g l (given_left admitted (is_admitted l) (are_apart ws && (are_admitted ws && wraps_admitted wraps)) r))
+        (around_alike lists (walk_wraps a wraps) (walk_wraps b wraps) (relate_wraps g wraps (given_right admitted (are_admitted ws) (wraps_admitted wraps) q)))
+        (walk_named a ws) (walk_named b ws) (relate_named g ws (given_left admitted (are_admitted ws) (wraps_admitted wraps) q)) [] t
 
-    relate_named : Agree → (ws : Ways) → AllAlike (walk_named a ws) (walk_named b ws)
-    relate_named g no_ways = tt
-    relate_named g (way_at path w ws) = (refl, relate g w, relate_named g ws)
+    relate_named : Agree → (ws : Ways) → Given admitted (are_admitted ws) → AllAlike (walk_named a ws) (walk_named b ws)
+    relate_named g no_ways h = tt
+    relate_named g (way_at path w ws) h =
+        (refl, relate g w (given_left admitted (is_admitted w) (are_admitted ws) h), relate_named g ws (given_right admitted (is_admitted w) (are_admitted ws) h))
 
-    relate_wraps : Agree → (ws : Wraps) (t : Ty) (k : A) (l : B) → P t k l → P t (walk_wraps a ws t k) (walk_wraps b ws t l)
-    relate_wraps g no_wraps t k l p = p
-    relate_wraps g (wrap_grouped r ws) t k l p = g.at_grouped r t (walk_wraps a ws t k) (walk_wraps b ws t l) (relate_wraps g ws t k l p)
-    relate_wraps g (wrap_zoned o stats ws) t k l p =
-        g.at_zoned o t (walk_wraps a ws t k) (walk_wraps b ws t l) (walk a stats) (walk b stats) (relate_wraps g ws t k l p) (relate g stats)
+    relate_wraps : Agree → (ws : Wraps) → Given admitted (wraps_admitted ws) → (t : Ty) (k : A) (l : B) → P t k l → P t (walk_wraps a ws t k) (walk_wraps b ws t l)
+    relate_wraps g no_wraps h t k l p = p
+    relate_wraps g (wrap_grouped r ws) h t k l p =
+        g.at_grouped r (given_left admitted (is_admitted_grouping r) (wraps_admitted ws) h) t (walk_wraps a ws t k) (walk_wraps b ws t l)
+        (relate_wraps g ws (given_right admitted (is_admitted_grouping r) (wraps_admitted ws) h) t k l p)
+    relate_wraps g (wrap_zoned o stats ws) h t k l p =
+        let r : Given admitted (is_admitted stats && wraps_admitted ws) = given_right admitted (is_admitted_zoned o) (is_admitted stats && wraps_admitted ws) h in
+        g.at_zoned o (given_left admitted (is_admitted_zoned o) (is_admitted stats && wraps_admitted ws) h) t (walk_wraps a ws t k) (walk_wraps b ws t l) (walk a stats) (walk b stats)
+        (relate_wraps g ws (given_right admitted (is_admitted stats) (wraps_admitted ws) r) t k l p) (relate g stats (given_left admitted (is_admitted stats) (wraps_admitted ws) r))
 
 -- each field's node
 abbrev pub Fields : (Ty → Node → Type 0) → Tys → List Node → Type 0
@@ -169,14 +211,14 @@ Fields P (field name t fs) [] = ⊥
 Fields P (field name t fs) (k ∷ ks) = P t k × Fields P fs ks
 
 -- What holds of each node, from its children's, holds of every plan.
-module _ (s : Setting) (P : Ty → Node → Type 0) where
+module _ (s : Setting) (admitted : Bool) (P : Ty → Node → Type 0) where
   pub record Cases : Type 0 where
     pub flat_case : (o : FlatOptions) (t : Ty) → P t (flat_node s o t)
     pub chunked_case : (t : Ty) (k : Node) → P t k → P t (chunked_node t k)
-    pub grouped_case : (g : Grouping) (t : Ty) (k : Node) → P t k → P t (grouped_node g t k)
-    pub compressed_case : (which room : ℕ) (t : Ty) (k : Node) → P t k → P t (compressed_node s which room t k)
+    pub grouped_case : (g : Grouping) → Given admitted (is_admitted_grouping g) → (t : Ty) (k : Node) → P t k → P t (grouped_node g t k)
+    pub compressed_case : (which room : ℕ) → Given admitted (nat_lt 0 room) → (t : Ty) (k : Node) → P t k → P t (compressed_node s which room t k)
     pub dict_case : (o : DictOptions) (t : Ty) → is_dict_type t ≡ true → (c v f : Node) → P (code_type o) c → P t v → P t f → P t (dict_node s o t c v f)
-    pub zoned_case : (o : ZonedOptions) (t : Ty) (k : Node) (f : Ty → Node) → P t k → ((u : Ty) → P u (f u)) → P t (zoned_node s o t k f)
+    pub zoned_case : (o : ZonedOptions) → Given admitted (is_admitted_zoned o) → (t : Ty) (k : Node) (f : Ty → Node) → P t k → ((u : Ty) → P u (f u)) → P t (zoned_node s o t k f)
     pub not_struct_case : (t : Ty) → P t (not_struct_node t)
     pub struct_case : (fs : Tys) (n : Bool) (dup : Option (List ℕ)) (v : Node) (ks : List Node) → P (boolean false) v → Fields P fs ks → P (struct fs n) (struct_node fs n dup v ks)
     pub list_case : (t : Ty) (n : Bool) (e o v : Node) → P t e → P offset_type o → P (boolean false) v → P (list t n) (list_node t n e o v)
@@ -202,14 +244,14 @@ module _ (s : Setting) (P : Ty → Node → Type 0) where
   one_side (field name t fs) (k ∷ ks) [] h = absurd h
   one_side (field name t fs) (k ∷ ks) (u ∷ us) h = (h.0, one_side fs ks us h.1)
 
-  pub induct : Cases → (w : Way) (t : Ty) → P t (plan s w t)
-  induct cases = relate Node (Unit {0}) (plan_nodes s) unit_nodes (λ t k u. P t k) (record {
+  pub induct : Cases → (w : Way) → Given admitted (is_admitted w) → (t : Ty) → P t (plan s w t)
+  induct cases = relate Node (Unit {0}) (plan_nodes s) unit_nodes admitted (λ t k u. P t k) (record {
     at_flat = λ o t. cases.flat_case o t;
     at_chunked = λ t k l h. cases.chunked_case t k h;
-    at_grouped = λ g t k l h. cases.grouped_case g t k h;
-    at_compressed = λ which room t k l h. cases.compressed_case which room t k h;
+    at_grouped = λ g a t k l h. cases.grouped_case g a t k h;
+    at_compressed = λ which room a t k l h. cases.compressed_case which room a t k h;
     at_dict = λ o t is c v f d w g x y z. cases.dict_case o t is c v f x y z;
-    at_zoned = λ o t k l f g h hs. cases.zoned_case o t k f h hs;
+    at_zoned = λ o a t k l f g h hs. cases.zoned_case o a t k f h hs;
     at_not_struct = λ t. cases.not_struct_case t;
     at_struct = λ fs n dup v w ks ls h hs. cases.struct_case fs n dup v ks h (one_side fs ks ls hs);
     at_list = λ t n e o v f p w x y z. cases.list_case t n e o v x y z;

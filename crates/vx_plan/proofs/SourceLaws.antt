@@ -1,26 +1,28 @@
 -- The laws over whole sources.
-use Rattle.std.proofs.Common.{◌≡◌, ℕ, zero, suc, ◌+◌, ◌<◌, ◌≤◌, ◌^◌, ◌⊎◌, Bool, true, false, List, [], ◌∷◌, ◌++◌, map, length, Option, Some, None, refl, sym, ap, ap₂, ◌∙◌, subst, inl, inr, ⊎_elim, arith, length-append}
+use Rattle.std.proofs.Common.{◌≡◌, ℕ, suc, ◌+◌, ◌<◌, ◌≤◌, ◌^◌, Bool, true, false, List, [], ◌∷◌, ◌++◌, length, Option, Some, None, refl, sym, ap, ◌∙◌, subst, ⊎_elim, arith, length-append}
+use Rattle.std.proofs.lemmas.Bool.{true≢false}
 use Rattle.std.proofs.lemmas.Bool.Decides.{nat_tests}
 use Rattle.std.specs.Prelude.{if◌then◌else◌}
-use Rattle.vx_model.specs.Ty.{Ty, ty_eq}
+use Rattle.vx_model.specs.Ty.{Ty, Tys, no_fields, field, ty_eq}
 use Rattle.vx_model.specs.TyLaws.{ty_eq_decides}
 use Rattle.vx_model.specs.Val.{Val}
 use Rattle.vx_model.specs.Piece.{Piece, piece_type, row_values}
-use Rattle.vx_path.specs.Lists.{In, Each}
+use Rattle.vx_path.specs.Lists.{In}
 use Rattle.vx_path.specs.Path.{meets, Scattered, Region, under, raised}
-use Rattle.vx_path.proofs.Path.{under_apart, meets-sym}
+use Rattle.vx_path.proofs.Path.{under_apart}
 use Rattle.vx_tree.specs.LayoutTree.{Kind, flat_kind, chunked_kind, struct_kind, list_kind, dict_kind, zoned_kind, stats_kind, foreign_kind, Lay, Lays, layout, no_layouts, child, renamed, each_renamed, row_count, layout_type}
-use Rattle.vx_plan.specs.ZonesHold.{OwnZones, IsZoned, is_zoned, ZonesHold, AllZonesHold}
+use Rattle.vx_plan.specs.ZonesHold.{OfZoned, IsZoned, AllZoned, ZonesHold}
+use Rattle.vx_plan.specs.Admitted.{is_admitted}
 use Rattle.vx_tree.specs.Rows.{rows, and_then, counted, kind_rows, each_rows}
 use Rattle.vx_tree.proofs.LayoutLaws.{rows_renamed}
-use Rattle.vx_plan.specs.PlanData.{Setting, Item, Pair, Plan, Node, paths, places, stream_values}
+use Rattle.vx_plan.specs.PlanData.{Setting, Item, Plan, Node, paths, places, stream_values}
 use Rattle.vx_plan.specs.Way.{Way}
-use Rattle.vx_plan.specs.SourcePlan.{plan, source_plan, batch_items, root_eof, source_values, with_root, of_schema}
-use Rattle.vx_plan.specs.Number.{sorted, segments, numbered, number_of, segment_at}
+use Rattle.vx_plan.specs.SourcePlan.{plan, source_plan, batch_items, root_eof, source_values, of_schema}
+use Rattle.vx_plan.specs.Number.{segments, number_of, segment_at}
 use Rattle.vx_plan.specs.Valid.{Fit, AllOf, OfSchema, Keeps}
 use Rattle.vx_plan.specs.Statements.{RowsComeBack, PathsDistinct, PathsInRegion, PrefixWithin, FrontOfTaken, CountsRows, ZonesAreTrue, Within}
-use Rattle.vx_plan.proofs.Relate.{Cases, induct}
-use Rattle.vx_plan.proofs.PlanLists.{ItemsOf, Holds, Gives, counted_count}
+use Rattle.vx_plan.proofs.Relate.{Given, Fields, induct}
+use Rattle.vx_plan.proofs.PlanLists.{ItemsOf, Gives, counted_count}
 use Rattle.vx_plan.proofs.Spots.{Apart, Lies}
 use Rattle.vx_plan.proofs.FlatLaws.{Reads, Placed, Grows, Typed, flat_reads, flat_placed, flat_grows, flat_typed}
 use Rattle.vx_plan.proofs.ChunkedLaws.{chunked_reads, chunked_placed, chunked_grows, chunked_typed}
@@ -33,57 +35,74 @@ use Rattle.vx_plan.proofs.Fronts.{sorted_fronts}
 
 -- ---- each law, of every node
 
-pub plan_reads : (s : Setting) → Keeps s → (w : Way) (t : Ty) → Reads s t (plan s w t)
-plan_reads s keeps = induct s (λ t k. Reads s t k) (record {
-  flat_case = λ o t. flat_reads s keeps o t;
-  chunked_case = λ t k h. chunked_reads s t k h;
-  grouped_case = λ g t k h. grouped_reads s g t k h;
-  compressed_case = λ which room t k h. compressed_reads s keeps which room t k h;
-  dict_case = λ o t is c v f x y z. dict_reads s o t is c v f x y z;
-  zoned_case = λ o t k f h hs. zoned_reads s o t k f h hs;
-  not_struct_case = λ t. not_struct_reads s t;
-  struct_case = λ fs n dup v ks h hs. struct_reads s fs n dup v ks h hs;
-  list_case = λ t n e o v x y z. list_reads s t n e o v x y z;
-})
+-- a node's rows, and its type
+pub record Known (admitted : Bool) (s : Setting) (t : Ty) (k : Node) : Type 0 where
+  pub reads : Reads admitted s t k
+  pub typed : Typed t k
+
+known_fields : (admitted : Bool) (s : Setting) (fs : Tys) (ks : List Node) → Fields (λ t k. Known admitted s t k) fs ks → Fields (λ t k. Reads admitted s t k) fs ks
+known_fields admitted s no_fields [] h = tt
+known_fields admitted s no_fields (k ∷ ks) h = h
+known_fields admitted s (field name t fs) [] h = h
+known_fields admitted s (field name t fs) (k ∷ ks) h = (h.0.reads, known_fields admitted s fs ks h.1)
+
+plan_known : (s : Setting) → Keeps s → (w : Way) (t : Ty) → Known (is_admitted w) s t (plan s w t)
+plan_known s keeps w t = induct s (is_admitted w) (λ t k. Known (is_admitted w) s t k) (record {
+  flat_case = λ o t. record { reads = flat_reads (is_admitted w) s keeps o t; typed = flat_typed s o t };
+  chunked_case = λ t k h. record { reads = chunked_reads (is_admitted w) s t k h.reads; typed = chunked_typed t k h.typed };
+  grouped_case = λ g a t k h. record { reads = grouped_reads (is_admitted w) s g t k h.reads; typed = grouped_typed g t k h.typed };
+  compressed_case = λ which room a t k h. record { reads = compressed_reads (is_admitted w) s keeps which room t k h.reads; typed = compressed_typed s which room t k h.typed };
+  dict_case = λ o t is c v f x y z. record { reads = dict_reads (is_admitted w) s o t is c v f x.reads y.reads z.reads; typed = dict_typed s o t c v f z.typed };
+  zoned_case = λ o a t k f h hs. record { reads = zoned_reads (is_admitted w) s o a t k f h.reads (λ u. (hs u).reads) (λ u. (hs u).typed); typed = zoned_typed s o t k f h.typed };
+  not_struct_case = λ t. record { reads = not_struct_reads (is_admitted w) s t; typed = not_struct_typed t };
+  struct_case = λ fs n dup v ks h hs. record { reads = struct_reads (is_admitted w) s fs n dup v ks h.reads (known_fields (is_admitted w) s fs ks hs); typed = struct_typed fs n dup v ks };
+  list_case = λ t n e o v x y z. record { reads = list_reads (is_admitted w) s t n e o v x.reads y.reads z.reads; typed = list_typed t n e o v };
+}) w (λ e. e) t
+
+pub plan_reads : (s : Setting) → Keeps s → (w : Way) (t : Ty) → Reads (is_admitted w) s t (plan s w t)
+plan_reads s keeps w t = (plan_known s keeps w t).reads
+
+no_premise : {b : Bool} → Given false b
+no_premise e = absurd (true≢false (sym e))
 
 pub plan_placed : (s : Setting) (w : Way) (t : Ty) → Placed t (plan s w t)
-plan_placed s = induct s (λ t k. Placed t k) (record {
+plan_placed s w t = induct s false (λ t k. Placed t k) (record {
   flat_case = λ o t. flat_placed s o t;
   chunked_case = λ t k h. chunked_placed t k h;
-  grouped_case = λ g t k h. grouped_placed g t k h;
-  compressed_case = λ which room t k h. compressed_placed s which room t k h;
+  grouped_case = λ g a t k h. grouped_placed g t k h;
+  compressed_case = λ which room a t k h. compressed_placed s which room t k h;
   dict_case = λ o t is c v f x y z. dict_placed s o t c v f x y z;
-  zoned_case = λ o t k f h hs. zoned_placed s o t k f h hs;
+  zoned_case = λ o a t k f h hs. zoned_placed s o t k f h hs;
   not_struct_case = λ t. not_struct_placed t;
   struct_case = λ fs n dup v ks h hs. struct_placed fs n dup v ks h hs;
   list_case = λ t n e o v x y z. list_placed t n e o v x y z;
-})
+}) w no_premise t
 
 pub plan_grows : (s : Setting) (w : Way) (t : Ty) → Grows t (plan s w t)
-plan_grows s = induct s (λ t k. Grows t k) (record {
+plan_grows s w t = induct s false (λ t k. Grows t k) (record {
   flat_case = λ o t. flat_grows s o t;
   chunked_case = λ t k h. chunked_grows t k;
-  grouped_case = λ g t k h. grouped_grows g t k h;
-  compressed_case = λ which room t k h. compressed_grows s which room t k h;
+  grouped_case = λ g a t k h. grouped_grows g t k h;
+  compressed_case = λ which room a t k h. compressed_grows s which room t k h;
   dict_case = λ o t is c v f x y z. dict_grows s o t c v f x y z;
-  zoned_case = λ o t k f h hs. zoned_grows s o t k f h;
+  zoned_case = λ o a t k f h hs. zoned_grows s o t k f h;
   not_struct_case = λ t. not_struct_grows t;
   struct_case = λ fs n dup v ks h hs. struct_grows fs n dup v ks h hs;
   list_case = λ t n e o v x y z. list_grows t n e o v x y z;
-})
+}) w no_premise t
 
 pub plan_typed : (s : Setting) (w : Way) (t : Ty) → Typed t (plan s w t)
-plan_typed s = induct s (λ t k. Typed t k) (record {
+plan_typed s w t = induct s false (λ t k. Typed t k) (record {
   flat_case = λ o t. flat_typed s o t;
   chunked_case = λ t k h. chunked_typed t k h;
-  grouped_case = λ g t k h. grouped_typed g t k h;
-  compressed_case = λ which room t k h. compressed_typed s which room t k h;
+  grouped_case = λ g a t k h. grouped_typed g t k h;
+  compressed_case = λ which room a t k h. compressed_typed s which room t k h;
   dict_case = λ o t is c v f x y z. dict_typed s o t c v f z;
-  zoned_case = λ o t k f h hs. zoned_typed s o t k f h;
+  zoned_case = λ o a t k f h hs. zoned_typed s o t k f h;
   not_struct_case = λ t. not_struct_typed t;
   struct_case = λ fs n dup v ks h hs. struct_typed fs n dup v ks;
   list_case = λ t n e o v x y z. list_typed t n e o v;
-})
+}) w no_premise t
 
 -- ---- the batches of a source
 
@@ -139,50 +158,57 @@ paths_in_region s w t m batches ended = (source_lies s w t m batches ended).with
 
 source_gives : (s : Setting) (w : Way) (t : Ty) (m : Bool) (batches : List Piece) (first : ℕ) → Keeps s → AllOf t batches
     → (source_plan s w t m batches true).faults ≡ [] → Fit (source_plan s w t m batches true).numbers
-    → Gives s (λ x. segment_at first (segments (source_plan s w t m batches true)) (number_of (source_plan s w t m batches true).pairs first x)) (source_plan s w t m batches true).layout
+    → Gives (is_admitted w) s (λ x. segment_at first (segments (source_plan s w t m batches true)) (number_of (source_plan s w t m batches true).pairs first x)) (source_plan s w t m batches true).layout
     (stream_values (batch_items 0 batches))
 source_gives s w t m batches first keeps of clean fit =
     let p : Plan = source_plan s w t m batches true in
     (plan_reads s keeps w t).reads m (batch_items 0 batches) root_eof (items_of t 0 batches of) clean fit.1
     (λ x. segment_at first (segments p) (number_of p.pairs first x)) (numbers_hold p first (paths_distinct s w t m batches true))
 
+type_renamed : {A B : Type 0} (f : A → B) (l : Lay A) → layout_type (renamed f l) ≡ layout_type l
+type_renamed f (layout k t n names ls) = refl
+
 -- zoned nodes of a renamed layout
-zoned_renamed : {A B : Type 0} (s : Setting) (look : B → Option (List ℕ)) (f : A → B) (k : Kind) (t : Ty) (ls : Lays A) → OwnZones s (λ a. look (f a)) k t ls → OwnZones s look k t (each_renamed f ls)
-zoned_renamed s look f (zoned_kind zone_len specs) t (child data_child (child zones no_layouts)) h = record {
-  columns = h.columns;
+zoned_renamed : {A B : Type 0} (s : Setting) (look : B → Option (List ℕ)) (f : A → B) (k : Kind) (t : Ty) (n : ℕ) (ls : Lays A)
+    → OfZoned (IsZoned s (λ a. look (f a))) k t n ls → OfZoned (IsZoned s look) k t n (each_renamed f ls)
+zoned_renamed s look f (zoned_kind zone_len specs) t n (child data_child (child zones no_layouts)) h = record {
+  aggregates = h.aggregates;
+  options = h.options;
   values = h.values;
   count = h.count;
   table = h.table;
   data_rows = rows_renamed s.codec look f data_child ∙ h.data_rows;
+  row_count = h.row_count;
+  of_type = h.of_type;
   all_zones = h.all_zones;
   kept = h.kept;
   specs_are = h.specs_are;
-  zones_rows = λ small. rows_renamed s.codec look f zones ∙ h.zones_rows small;
+  zones_type = type_renamed f zones ∙ h.zones_type;
+  zones_rows = rows_renamed s.codec look f zones ∙ h.zones_rows;
 }
-zoned_renamed s look f (zoned_kind zone_len specs) t no_layouts h = tt
-zoned_renamed s look f (zoned_kind zone_len specs) t (child l no_layouts) h = tt
-zoned_renamed s look f (zoned_kind zone_len specs) t (child l (child m (child n ls))) h = tt
-zoned_renamed s look f (flat_kind encodings tree) t ls h = tt
-zoned_renamed s look f chunked_kind t ls h = tt
-zoned_renamed s look f struct_kind t ls h = tt
-zoned_renamed s look f list_kind t ls h = tt
-zoned_renamed s look f (dict_kind all) t ls h = tt
-zoned_renamed s look f (stats_kind zone_len stats) t ls h = tt
-zoned_renamed s look f (foreign_kind id metadata) t ls h = tt
+zoned_renamed s look f (zoned_kind zone_len specs) t n no_layouts h = tt
+zoned_renamed s look f (zoned_kind zone_len specs) t n (child l no_layouts) h = tt
+zoned_renamed s look f (zoned_kind zone_len specs) t n (child l (child m (child o ls))) h = tt
+zoned_renamed s look f (flat_kind encodings tree) t n ls h = tt
+zoned_renamed s look f chunked_kind t n ls h = tt
+zoned_renamed s look f struct_kind t n ls h = tt
+zoned_renamed s look f list_kind t n ls h = tt
+zoned_renamed s look f (dict_kind all) t n ls h = tt
+zoned_renamed s look f (stats_kind zone_len stats) t n ls h = tt
+zoned_renamed s look f (foreign_kind id metadata) t n ls h = tt
 
 mutual
   zones_renamed : {A B : Type 0} (s : Setting) (look : B → Option (List ℕ)) (f : A → B) (l : Lay A) → ZonesHold s (λ a. look (f a)) l → ZonesHold s look (renamed f l)
-  zones_renamed s look f (layout k t n names ls) h = (zoned_renamed s look f k t ls h.0, all_zones_renamed s look f (is_zoned k) ls h.1)
+  zones_renamed s look f (layout k t n names ls) h = (zoned_renamed s look f k t n ls h.0, all_zones_renamed s look f ls h.1)
 
-  all_zones_renamed : {A B : Type 0} (s : Setting) (look : B → Option (List ℕ)) (f : A → B) (first : Bool) (ls : Lays A) → AllZonesHold s (λ a. look (f a)) first ls → AllZonesHold s look first (each_renamed f ls)
-  all_zones_renamed s look f first no_layouts h = tt
-  all_zones_renamed s look f true (child l ls) h = (zones_renamed s look f l h.0, tt)
-  all_zones_renamed s look f false (child l ls) h = (zones_renamed s look f l h.0, all_zones_renamed s look f false ls h.1)
+  all_zones_renamed : {A B : Type 0} (s : Setting) (look : B → Option (List ℕ)) (f : A → B) (ls : Lays A) → AllZoned (IsZoned s (λ a. look (f a))) ls → AllZoned (IsZoned s look) (each_renamed f ls)
+  all_zones_renamed s look f no_layouts h = tt
+  all_zones_renamed s look f (child l ls) h = (zones_renamed s look f l h.0, all_zones_renamed s look f ls h.1)
 
 pub zones_are_true : ZonesAreTrue
-zones_are_true s w t m batches first keeps of clean fit =
+zones_are_true s w t m batches first keeps admitted of clean fit =
     let p : Plan = source_plan s w t m batches true in
-    zones_renamed s (segment_at first (segments p)) (number_of p.pairs first) p.layout (source_gives s w t m batches first keeps of clean fit).zones
+    zones_renamed s (segment_at first (segments p)) (number_of p.pairs first) p.layout ((source_gives s w t m batches first keeps of clean fit).zones admitted)
 
 pub rows_come_back : RowsComeBack
 rows_come_back s w t m batches first keeps of clean fit =
@@ -200,6 +226,7 @@ prefix_within s w t m taken later ended =
     record {
       pairs = h.pairs;
       faultless = h.faultless;
+      reserved = h.reserved;
       fit = λ e f. ((let a : length (taken ++ later) < 2 ^ 64 = f.0 in let b : length (taken ++ later) ≡ length taken + length later = length-append taken later in omega arith), h.fit e f.1);
     }
 

@@ -1,7 +1,7 @@
 -- Where a node's paths lie.
-use Rattle.std.proofs.Common.{◌≡◌, ℕ, zero, suc, ◌+◌, ◌<◌, ◌≤◌, ◌⊎◌, Bool, true, false, List, [], ◌∷◌, ◌++◌, map, refl, sym, ap, ◌∙◌, subst, inl, inr, ⊎_elim, arith}
-use Rattle.vx_path.specs.Lists.{In, Each}
-use Rattle.vx_path.specs.Path.{begins, meets, Scattered, under, Eof, raised, eof_path, inside, next, Region}
+use Rattle.std.proofs.Common.{◌≡◌, ℕ, ◌+◌, true, false, List, [], ◌∷◌, ◌++◌, refl, sym, ◌∙◌, subst, inl, inr, ⊎_elim, arith}
+use Rattle.vx_path.specs.Lists.{In}
+use Rattle.vx_path.specs.Path.{begins, meets, Scattered, Eof, raised, eof_path, inside, next, Region}
 use Rattle.vx_path.proofs.Lists.{in_left, in_right, in_cases}
 use Rattle.vx_path.proofs.Path.{begins-trans, begins-refl, meets-sym, apart_begins, raised_apart, raised-next, raised-zero, begins-inside, region_next, region_more, region_inside}
 

@@ -1,36 +1,51 @@
 -- The laws of a zoned node.
-use Rattle.std.proofs.Common.{◌≡◌, ℕ, suc, ◌+◌, ◌<◌, ◌≤◌, ◌^◌, Bool, true, false, List, [], ◌∷◌, ◌++◌, map, length, Option, Some, None, refl, sym, ap, ap₂, ◌∙◌, subst, inl, inr, ⊎_elim, arith, append_assoc, length-append}
-use Rattle.std.specs.Prelude.{if◌then◌else◌}
+use Rattle.std.proofs.Common.{◌≡◌, ℕ, suc, ◌+◌, ◌<◌, ◌≤◌, ◌^◌, Bool, true, false, List, [], ◌∷◌, ◌++◌, map, length, Option, Some, None, refl, sym, ap, ◌∙◌, subst, inl, inr, ⊎_elim, arith}
+use Rattle.std.specs.Prelude.{◌&&◌, ◌||◌, nat_lt}
+use Rattle.std.specs.Str.{is_utf8}
+use Rattle.std.proofs.lemmas.Bool.Decides.{nat_tests}
 use Rattle.std.proofs.lemmas.List.{append-nil}
-use Rattle.std.proofs.lemmas.Bool.{cases_Bool, true≢false}
-use Rattle.vx_model.specs.Ty.{Ty}
+use Rattle.vx_model.specs.Words.{all_by}
+use Rattle.vx_model.specs.Ty.{Ty, boolean, primitive, utf8, binary, list, struct, extension}
+use Rattle.vx_model.specs.Tree.{Tree, null_cell, bool_cell, int_cell, text_cell, bytes_cell, list_cell, struct_cell, fits}
+use Rattle.vx_model.specs.Val.{Val, value}
 use Rattle.vx_model.specs.Piece.{cells, row_values}
-use Rattle.vx_path.specs.Lists.{In}
 use Rattle.vx_path.specs.Path.{Eof, Region, begins, meets, raised, inside, next, under}
 use Rattle.vx_path.proofs.Lists.{in_left}
-use Rattle.vx_path.proofs.Path.{begins-refl, begins-trans, begins-under, meets-sym, raised_apart, raised-next, region_inside}
-use Rattle.vx_tree.specs.Rows.{rows, and_then, counted}
+use Rattle.vx_path.proofs.Path.{begins-refl, begins-trans, begins-under, raised_apart, raised-next, region_inside}
+use Rattle.vx_tree.specs.Rows.{and_then, counted}
 use Rattle.vx_tree.specs.LayoutTree.{layout_type}
-use Rattle.vx_record.specs.Aggregate.{Column}
-use Rattle.vx_record.specs.ZoneTable.{Filled, table_type, table_piece, table_specs, kept_columns}
-use Rattle.vx_plan.specs.ZonesHold.{zones_of, records_of, IsZoned, IsZoneCount}
-use Rattle.vx_tree.specs.Real.{Of}
+use Rattle.vx_record.specs.Aggregate.{Aggregate, maximum, minimum, bounded_maximum, bounded_minimum, null_count, sum, bloom, Column, has_options, default_aggregates}
+use Rattle.vx_record.specs.Statements.{is_text, AllValues}
+use Rattle.vx_bloom.specs.Values.{is_null, is_row_value, value_fits}
+use Rattle.vx_bloom.proofs.ValueFits.{value_fits-value}
+use Rattle.vx_record.specs.ZoneTable.{Filled, table_type, table_piece, kept_columns}
+use Rattle.vx_plan.specs.ZonesHold.{zones_of, records_of, IsZoneCount}
+use Rattle.vx_tree.specs.Real.{Of, is_real_cell}
 use Rattle.vx_record.specs.Record.{zone_record}
-use Rattle.vx_table.specs.Statements.{Zones, SmallColumns, records}
-use Rattle.vx_table.proofs.WholeTables.{table_whole, small_columns}
+use Rattle.vx_table.specs.Statements.{Zones, SmallFilter, SmallFilters, records}
+use Rattle.vx_table.proofs.WholeTables.{table_whole, columns_are}
 use Rattle.vx_rules.proofs.CellLaws.{Fine, cells_fine}
 use Rattle.vx_rules.proofs.ColumnStreams.{chunk_cells}
-use Rattle.vx_plan.proofs.ZoneRecords.{zones_right, zones_count}
-use Rattle.vx_plan.specs.PlanData.{Setting, Item, Pair, Plan, Node, Fault, paths, places, stream_values, row_total}
-use Rattle.vx_plan.specs.GroupNode.{with_numbers}
+use Rattle.vx_plan.proofs.ZoneRecords.{zones_right, zones_count, Right, more_right}
+use Rattle.vx_plan.specs.Admitted.{are_admitted_aggregates, is_admitted_zoned}
+use Rattle.vx_plan.proofs.Relate.{Given}
+use Rattle.vx_plan.specs.PlanData.{Setting, Item, Plan, Node, Fault, paths, places, stream_values, row_total}
 use Rattle.vx_plan.specs.Way.{ZonedOptions}
-use Rattle.vx_plan.specs.ZonedNode.{asked, recorded, forbidden_faults, is_cut_wrong, is_last, cut_faults, zone_faults, zone_records, with_faults, table_items, with_table, table_of, unmarked_node, zoned_node}
+use Rattle.vx_plan.specs.ZonedNode.{asked, recorded, forbidden_faults, cut_faults, zone_faults, zone_records, with_faults, table_items, with_table, table_of, zoned_node}
 use Rattle.vx_plan.specs.Valid.{Fit}
 use Rattle.vx_plan.specs.Statements.{Within}
-use Rattle.vx_plan.proofs.PlanLists.{ItemsOf, Holds, Gives, counted_same, nil_left, nil_right, nil_both, fit_left, fit_right, fit_both, holds_left, holds_right, row_total-append, length-stream_values}
-use Rattle.vx_plan.proofs.Spots.{Apart, Lies, scattered_left, two_parts, apart_both, apart_inside, apart_next}
+use Rattle.vx_plan.proofs.PlanLists.{ItemsOf, Holds, Gives, counted_same, nil_left, nil_right, nil_both, fit_left, fit_right, holds_left, holds_right, row_total-append, length-stream_values}
+use Rattle.vx_plan.proofs.Spots.{Apart, Lies, two_parts, apart_both, apart_inside}
 use Rattle.vx_plan.proofs.FlatLaws.{Reads, Placed, Grows, Typed}
 use Rattle.vx_plan.proofs.ChunkedLaws.{paths-append}
+
+front : (a b : Bool) → (a && b) ≡ true → a ≡ true
+front true b e = refl
+front false b e = e
+
+back : (a b : Bool) → (a && b) ≡ true → b ≡ true
+back true b e = e
+back false b e = cc
 
 -- ---- rows: the data child's
 
@@ -63,52 +78,133 @@ cells_count : (items : List Item) → length (chunk_cells items) ≡ length item
 cells_count [] = refl
 cells_count (c ∷ cs) = ap suc (cells_count cs)
 
+-- what constructors make of a zoned node's options
+default_options : (t : Ty) → all_by has_options (default_aggregates t) ≡ true
+default_options (boolean n) = refl
+default_options (primitive p n) = refl
+default_options (utf8 n) = refl
+default_options (binary n) = refl
+default_options (list t n) = refl
+default_options (struct fs n) = refl
+default_options (extension tag t) = refl
+
+asked_options : (aggregates : Option (List Aggregate)) (t : Ty) → are_admitted_aggregates aggregates ≡ true → all_by has_options (asked aggregates t) ≡ true
+asked_options None t h = default_options t
+asked_options (Some aggregates) t h = h
+
+options_of : (o : ZonedOptions) (t : Ty) → is_admitted_zoned o ≡ true → all_by has_options (asked o.aggregates t) ≡ true
+options_of o t h =
+    let a : (nat_lt o.zone_len (2 ^ 32) && (nat_lt 0 o.concurrency && are_admitted_aggregates o.aggregates)) ≡ true = back (nat_lt 0 o.zone_len) _ h in
+    let b : (nat_lt 0 o.concurrency && are_admitted_aggregates o.aggregates) ≡ true = back (nat_lt o.zone_len (2 ^ 32)) _ a in
+    asked_options o.aggregates t (back (nat_lt 0 o.concurrency) (are_admitted_aggregates o.aggregates) b)
+
+small_filter : (a : Aggregate) → has_options a ≡ true → SmallFilter a
+small_filter maximum h = tt
+small_filter minimum h = tt
+small_filter (bounded_maximum n) h = tt
+small_filter (bounded_minimum n) h = tt
+small_filter null_count h = tt
+small_filter sum h = tt
+small_filter (bloom n) h = few n (back (nat_lt 0 n) (nat_lt n (2 ^ 32)) h)
+  where
+    few : (n : ℕ) → nat_lt n (2 ^ 32) ≡ true → n < 2 ^ 32
+    few n h = grind (arith, nat_tests)
+
+small_filters : (aggregates : List Aggregate) → all_by has_options aggregates ≡ true → SmallFilters aggregates
+small_filters [] h = tt
+small_filters (a ∷ aggregates) h = (small_filter a (front (has_options a) (all_by has_options aggregates) h), small_filters aggregates (back (has_options a) (all_by has_options aggregates) h))
+
 -- the table is a whole chunk
 whole_table : (s : Setting) (o : ZonedOptions) (t : Ty) (items : List Item) (cs : List Filled) → ItemsOf t items → length items < 2 ^ 64 → kept_columns (recorded o t) (zone_records s t (recorded o t) items) ≡ Some cs
-    → SmallColumns (recorded o t) → Of (table_type cs) (table_piece cs (length items))
-whole_table s o t items cs of short kept small =
+    → is_admitted_zoned o ≡ true → Of (table_type cs) (table_piece cs (length items))
+whole_table s o t items cs of short kept h =
     subst (λ n. Of (table_type cs) (table_piece cs n)) (cells_count items)
-    (table_whole s.hash t (recorded o t) (chunk_cells items) cs (small_columns t (asked o.aggregates t) small) (zones_cells t items of)
+    (table_whole s.hash t (recorded o t) (chunk_cells items) cs (columns_are t (asked o.aggregates t) (small_filters (asked o.aggregates t) (options_of o t h))) (zones_cells t items of)
     (let e : length (chunk_cells items) ≡ length items = cells_count items in omega arith)
     (ap (kept_columns (recorded o t)) (sym (records_cells s t (recorded o t) items)) ∙ kept))
 
-table_reads : (s : Setting) (o : ZonedOptions) (t : Ty) (stats : Ty → Node) → ((u : Ty) → Reads s u (stats u)) → (items : List Item) (e : Eof) (p : Plan) (cs : Option (List Filled)) → ItemsOf t items
+-- ---- the rows are values of the type
+
+text_of : (c : Tree) → is_real_cell c ≡ true → is_text (value c) ≡ true
+text_of null_cell h = refl
+text_of (bool_cell b) h = refl
+text_of (int_cell b) h = refl
+text_of (text_cell b) h = front (is_utf8 b) _ h
+text_of (bytes_cell b) h = refl
+text_of (list_cell true cs) h = refl
+text_of (list_cell false cs) h = refl
+text_of (struct_cell true cs) h = refl
+text_of (struct_cell false cs) h = refl
+
+hold : (a b : Bool) → a ≡ true → b ≡ true → (a && b) ≡ true
+hold a b e f = rw (e, f) refl
+
+or_fits : (a b : Bool) → b ≡ true → (a || b) ≡ true
+or_fits true b e = refl
+or_fits false b e = e
+
+cells_values : (t : Ty) (cs : List Tree) → all_by (fits t) cs ≡ true → all_by is_real_cell cs ≡ true → AllValues t (map value cs)
+cells_values t [] f r = tt
+cells_values t (c ∷ cs) f r = (
+  hold (is_row_value t (value c)) (is_text (value c)) (or_fits (is_null (value c)) (value_fits t (value c)) (value_fits-value t c (front (fits t c) (all_by (fits t) cs) f)))
+      (text_of c (front (is_real_cell c) (all_by is_real_cell cs) r)),
+  cells_values t cs (back (fits t c) (all_by (fits t) cs) f) (back (is_real_cell c) (all_by is_real_cell cs) r),
+)
+
+values_append : (t : Ty) (vs ws : List Val) → AllValues t vs → AllValues t ws → AllValues t (vs ++ ws)
+values_append t [] ws g h = h
+values_append t (v ∷ vs) ws g h = (g.0, values_append t vs ws g.1 h)
+
+items_values : (t : Ty) (items : List Item) → ItemsOf t items → AllValues t (stream_values items)
+items_values t [] of = tt
+items_values t (c ∷ cs) of =
+    let f : Fine t (cells c.1) = cells_fine t c.1 of.0 in
+    values_append t (row_values c.1) (stream_values cs) (cells_values t (cells c.1) f.fit f.real) (items_values t cs of.1)
+
+table_reads : (admitted : Bool) (s : Setting) (o : ZonedOptions) → Given admitted (is_admitted_zoned o) → (t : Ty) (stats : Ty → Node) → ((u : Ty) → Reads admitted s u (stats u)) → ((u : Ty) → Typed u (stats u))
+    → (items : List Item) (e : Eof) (p : Plan) (cs : Option (List Filled)) → ItemsOf t items
     → zone_faults o.zone_len (recorded o t) items ≡ [] → kept_columns (recorded o t) (zone_records s t (recorded o t) items) ≡ cs → (look : List ℕ → Option (List ℕ))
-    → (p.faults ≡ [] → Fit p.numbers → Holds look p.pairs → Gives s look p.layout (stream_values items))
+    → (p.faults ≡ [] → Fit p.numbers → Holds look p.pairs → Gives admitted s look p.layout (stream_values items))
     → (with_table s o t stats false items e p cs).faults ≡ [] → Fit (with_table s o t stats false items e p cs).numbers → Holds look (with_table s o t stats false items e p cs).pairs
-    → Gives s look (with_table s o t stats false items e p cs).layout (stream_values items)
-table_reads s o t stats rs items e p None of right kept look r clean fit held = r clean fit.1.1 held
-table_reads s o t stats rs items e p (Some cs) of right kept look r clean fit held =
+    → Gives admitted s look (with_table s o t stats false items e p cs).layout (stream_values items)
+table_reads admitted s o ok t stats rs ts items e p None of right kept look r clean fit held = r clean fit.1.1 held
+table_reads admitted s o ok t stats rs ts items e p (Some cs) of right kept look r clean fit held =
     let q : Plan = stats (table_type cs) false (table_items cs (length items) e) true (next (next e)) in
-    let data_child : Gives s look p.layout (stream_values items) = r (nil_left p.faults q.faults clean) (fit_left p.numbers q.numbers fit.1.1.1) (holds_left look p.pairs q.pairs held) in
+    let data_child : Gives admitted s look p.layout (stream_values items) = r (nil_left p.faults q.faults clean) (fit_left p.numbers q.numbers fit.1.1.1) (holds_left look p.pairs q.pairs held) in
     record {
       read = ap (and_then (counted (row_total items))) data_child.read ∙ counted_same (row_total items) (stream_values items) (length-stream_values items);
-      zones = (
-        record {
-          columns = recorded o t;
-          values = stream_values items;
-          count = length items;
-          table = cs;
-          data_rows = data_child.read;
-          all_zones = count_zones s o t (recorded o t) items cs right kept;
-          kept = ap (kept_columns (recorded o t)) (sym (of_zones s o t (recorded o t) items cs right kept)) ∙ kept;
-          specs_are = refl;
-          zones_rows = λ small. ((rs (table_type cs)).reads false (table_items cs (length items) e) (next (next e)) (whole_table s o t items cs of (fit.1.0) kept small, tt) (nil_right p.faults q.faults clean) (fit_right p.numbers q.numbers fit.1.1.1) look
-              (holds_right look p.pairs q.pairs held)).read ∙ ap Some (append-nil (row_values (table_piece cs (length items))));
-        },
-        (data_child.zones, tt),
-      );
+      zones = λ a.
+          let zones_child : Gives admitted s look q.layout (row_values (table_piece cs (length items)) ++ []) =
+          (rs (table_type cs)).reads false (table_items cs (length items) e) (next (next e)) (whole_table s o t items cs of (fit.1.0) kept (ok a), tt) (nil_right p.faults q.faults clean) (fit_right p.numbers q.numbers fit.1.1.1) look
+          (holds_right look p.pairs q.pairs held) in (
+            record {
+              aggregates = asked o.aggregates t;
+              options = options_of o t (ok a);
+              values = stream_values items;
+              count = length items;
+              table = cs;
+              data_rows = data_child.read;
+              row_count = length-stream_values items;
+              of_type = items_values t items of;
+              all_zones = count_zones s o t (recorded o t) items cs right kept;
+              kept = ap (kept_columns (recorded o t)) (sym (of_zones s o t (recorded o t) items cs right kept)) ∙ kept;
+              specs_are = refl;
+              zones_type = (ts (table_type cs)).typed false (table_items cs (length items) e) true (next (next e));
+              zones_rows = zones_child.read ∙ ap Some (append-nil (row_values (table_piece cs (length items))));
+            },
+            (data_child.zones a, (zones_child.zones a, tt)),
+          );
     }
 
-pub zoned_reads : (s : Setting) (o : ZonedOptions) (t : Ty) (k : Node) (stats : Ty → Node) → Reads s t k → ((u : Ty) → Reads s u (stats u)) → Reads s t (zoned_node s o t k stats)
-zoned_reads s o t k stats r rs = record { reads = go }
+pub zoned_reads : (admitted : Bool) (s : Setting) (o : ZonedOptions) → Given admitted (is_admitted_zoned o) → (t : Ty) (k : Node) (stats : Ty → Node) → Reads admitted s t k → ((u : Ty) → Reads admitted s u (stats u)) → ((u : Ty) → Typed u (stats u)) → Reads admitted s t (zoned_node s o t k stats)
+zoned_reads admitted s o ok t k stats r rs ts = record { reads = go }
   where
     go : (m : Bool) (items : List Item) (e : Eof) → ItemsOf t items → (zoned_node s o t k stats m items true e).faults ≡ [] → Fit (zoned_node s o t k stats m items true e).numbers
         → (look : List ℕ → Option (List ℕ)) → Holds look (zoned_node s o t k stats m items true e).pairs
-        → Gives s look (zoned_node s o t k stats m items true e).layout (stream_values items)
+        → Gives admitted s look (zoned_node s o t k stats m items true e).layout (stream_values items)
     go true items e of clean fit look held = r.reads true items e of clean fit look held
     go false items e of clean fit look held =
-        table_reads s o t stats rs items e (k false items true (inside e)) (table_of s o t items true) of
+        table_reads admitted s o ok t stats rs ts items e (k false items true (inside e)) (table_of s o t items true) of
         (nil_right (forbidden_faults s.allowed (recorded o t)) (zone_faults o.zone_len (recorded o t) items)
         (nil_left (forbidden_faults s.allowed (recorded o t) ++ zone_faults o.zone_len (recorded o t) items) (with_table s o t stats false items e (k false items true (inside e)) (table_of s o t items true)).faults clean))
         refl look
@@ -163,24 +259,11 @@ zoned_placed s o t k stats c cs = record { placed = go }
 
 cut_before : (zone : ℕ) (xs ys : List Item) → cut_faults zone (xs ++ ys) ≡ [] → cut_faults zone xs ≡ []
 cut_before zone [] ys h = refl
-cut_before zone (x ∷ xs) ys h = go (is_cut_wrong zone (length (cells x.1)) (is_last xs)) (is_cut_wrong zone (length (cells x.1)) (is_last (xs ++ ys))) (weaker xs) h (cut_before zone xs ys)
-  where
-    stays : (n : ℕ) (a b : Bool) → (is_cut_wrong zone n a ≡ true → is_cut_wrong zone n b ≡ true) → is_cut_wrong zone n a ≡ true → is_cut_wrong zone n b ≡ true
-    stays n a b f = f
-
-    last_weaker : (n : ℕ) (b : Bool) → is_cut_wrong zone n true ≡ true → is_cut_wrong zone n b ≡ true
-    last_weaker n b h = grind (arith)
-
-    weaker : (xs : List Item) → is_cut_wrong zone (length (cells x.1)) (is_last xs) ≡ true → is_cut_wrong zone (length (cells x.1)) (is_last (xs ++ ys)) ≡ true
-    weaker [] h = last_weaker (length (cells x.1)) (is_last ys) h
-    weaker (z ∷ zs) h = h
-
-    go : (b c : Bool) → (b ≡ true → c ≡ true) → (if c then Rattle.vx_plan.specs.PlanData.fault (Rattle.vx_plan.specs.PlanData.zone_cut (length (cells x.1))) (Rattle.vx_plan.specs.PlanData.at_chunk x.0) ∷ [] else cut_faults zone (xs ++ ys)) ≡ []
-        → (cut_faults zone (xs ++ ys) ≡ [] → cut_faults zone xs ≡ [])
-        → (if b then Rattle.vx_plan.specs.PlanData.fault (Rattle.vx_plan.specs.PlanData.zone_cut (length (cells x.1))) (Rattle.vx_plan.specs.PlanData.at_chunk x.0) ∷ [] else cut_faults zone xs) ≡ []
-    go b true f h r = cc
-    go false false f h r = r h
-    go true false f h r = absurd (true≢false (sym (f refl)))
+cut_before zone (x ∷ []) [] h = h
+cut_before zone (x ∷ []) (y ∷ ys) h = rw (more_right zone x y ys h).some refl
+cut_before zone (x ∷ z ∷ xs) ys h =
+    let r : Right zone x z (xs ++ ys) = more_right zone x z (xs ++ ys) h in
+    rw (r.some, r.full) (cut_before zone (z ∷ xs) ys r.others)
 
 zone_before : (zone : ℕ) (columns : List Column) (xs ys : List Item) → zone_faults zone columns (xs ++ ys) ≡ [] → zone_faults zone columns xs ≡ []
 zone_before zone [] xs ys h = refl
@@ -192,6 +275,7 @@ open_table : (s : Setting) (o : ZonedOptions) (t : Ty) (stats : Ty → Node) (m 
 open_table s o t stats m xs ys e p q None h = record {
   pairs = h.pairs;
   faultless = h.faultless;
+  reserved = let l : p.reserved ≤ q.reserved = h.reserved in omega arith;
   fit = λ f g. ((let total : row_total (xs ++ ys) ≡ row_total xs + row_total ys = row_total-append xs ys in let a : row_total (xs ++ ys) < 2 ^ 64 = g.0 in omega arith), (g.1.0, h.fit f g.1.1));
 }
 open_table s o t stats m xs ys e p q (Some cs) h =
@@ -199,6 +283,7 @@ open_table s o t stats m xs ys e p q (Some cs) h =
     record {
       pairs = λ x i. in_left x q.pairs r.pairs (h.pairs x i);
       faultless = λ f. h.faultless (nil_left q.faults r.faults f);
+      reserved = let l : p.reserved ≤ q.reserved = h.reserved in omega arith;
       fit = λ f g. (
         (let total : row_total (xs ++ ys) ≡ row_total xs + row_total ys = row_total-append xs ys in let a : row_total (xs ++ ys) < 2 ^ 64 = g.0 in omega arith),
         ((let b : e.last + 2 < 2 ^ 64 = g.1.1.0 in omega arith), h.fit (nil_left q.faults r.faults f) (fit_left q.numbers r.numbers g.1.1.1)),
@@ -210,10 +295,11 @@ faults_within fs gs p q f h = record {
   pairs = h.pairs;
   faultless = λ e. nil_both fs p.faults (f (nil_left gs q.faults e)) (h.faultless (nil_right gs q.faults e));
   fit = λ e g. h.fit (nil_right gs q.faults e) g;
+  reserved = h.reserved;
 }
 
 pub zoned_grows : (s : Setting) (o : ZonedOptions) (t : Ty) (k : Node) (stats : Ty → Node) → Grows t k → Grows t (zoned_node s o t k stats)
-zoned_grows s o t k stats c = record { grows = go; quiet = still }
+zoned_grows s o t k stats c = record { grows = go; quiet = silent; still = nothing }
   where
     go : (m : Bool) (xs ys : List Item) (ended : Bool) (e : Eof) → Within (zoned_node s o t k stats m xs false e) (zoned_node s o t k stats m (xs ++ ys) ended e)
     go true xs ys ended e = c.grows true xs ys ended e
@@ -225,9 +311,13 @@ zoned_grows s o t k stats c = record { grows = go; quiet = still }
         (zone_before o.zone_len (recorded o t) xs ys (nil_right (forbidden_faults s.allowed (recorded o t)) (zone_faults o.zone_len (recorded o t) (xs ++ ys)) f)))
         (open_table s o t stats false xs ys e (k false xs false (inside e)) (k false (xs ++ ys) ended (inside e)) (table_of s o t (xs ++ ys) ended) (c.grows false xs ys ended (inside e)))
 
-    still : (m : Bool) (e : Eof) → (zoned_node s o t k stats m [] false e).pairs ≡ []
-    still true e = c.quiet true e
-    still false e = c.quiet false (inside e)
+    silent : (m : Bool) (e : Eof) → (zoned_node s o t k stats m [] false e).pairs ≡ []
+    silent true e = c.quiet true e
+    silent false e = c.quiet false (inside e)
+
+    nothing : (m : Bool) (e : Eof) → (zoned_node s o t k stats m [] false e).reserved ≡ 0
+    nothing true e = c.still true e
+    nothing false e = let z : (k false [] false (inside e)).reserved ≡ 0 = c.still false (inside e) in omega arith
 
 -- ---- type
 

@@ -1,7 +1,7 @@
 -- The strategies that constructors make.
-use Rattle.std.specs.Prelude.{ℕ, ◌^◌, ◌&&◌, ◌||◌, nat_lt, not, bytes_eq, Bool, true, false, List, [], ◌∷◌, Option, Some, None}
+use Rattle.std.specs.Prelude.{ℕ, ◌^◌, ◌&&◌, nat_lt, not, bytes_eq, Bool, true, false, List, [], ◌∷◌, Option, Some, None}
 use Rattle.vx_model.specs.Words.{all_by}
-use Rattle.vx_record.specs.Aggregate.{Aggregate, bounded_maximum, bounded_minimum, bloom}
+use Rattle.vx_record.specs.Aggregate.{Aggregate, has_options}
 use Rattle.vx_plan.specs.Way.{Way, Ways, Wraps, ZonedOptions, Grouping, by_blocks, by_bytes, into_one, flat, chunked, grouped, compressed, coded, zoned, structured, listed, tabled, no_ways, way_at, no_wraps, wrap_grouped, wrap_zoned}
 
 -- one of the two is a prefix of the other
@@ -29,16 +29,10 @@ is_admitted_grouping (by_blocks o) = nat_lt 0 o.multiple
 is_admitted_grouping (by_bytes size) = true
 is_admitted_grouping into_one = true
 
--- a bound and a number of blocks from 1 to 2^32 - 1
-abbrev pub is_admitted_aggregate : Aggregate → Bool
-is_admitted_aggregate (bounded_maximum n) = nat_lt 0 n && nat_lt n (2 ^ 32)
-is_admitted_aggregate (bounded_minimum n) = nat_lt 0 n && nat_lt n (2 ^ 32)
-is_admitted_aggregate (bloom n) = nat_lt 0 n && nat_lt n (2 ^ 32)
-is_admitted_aggregate a = true
-
+-- bounds and numbers of blocks from 1 to 2^32 - 1
 abbrev pub are_admitted_aggregates : Option (List Aggregate) → Bool
 are_admitted_aggregates None = true
-are_admitted_aggregates (Some aggregates) = all_by is_admitted_aggregate aggregates
+are_admitted_aggregates (Some aggregates) = all_by has_options aggregates
 
 -- zones of 1 to 2^32 - 1 rows, and a concurrency of at least 1
 abbrev pub is_admitted_zoned : ZonedOptions → Bool

@@ -5,7 +5,7 @@ use Rattle.vx_path.specs.Path.{Eof, inside, next}
 use Rattle.vx_tree.specs.LayoutTree.{Lay, struct_layout, list_layout}
 use Rattle.vx_rules.specs.Stream.{stream_cells}
 use Rattle.vx_rules.specs.Columns.{Split, struct_splits, list_splits, column, other_columns, all_elements}
-use Rattle.vx_plan.specs.PlanData.{Item, Plan, Node, Fault, fault, What, not_struct, duplicate_field, empty_list, Place, at_start, at_end, row_total}
+use Rattle.vx_plan.specs.PlanData.{Item, Plan, Node, fault, What, not_struct, duplicate_field, empty_list, Place, at_start, at_end, row_total}
 use Rattle.vx_plan.specs.ChunkedNode.{all_pairs, all_faults, all_numbers, all_layouts, all_reserved}
 
 -- a column's writer, its mark given

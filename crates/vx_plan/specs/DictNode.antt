@@ -1,11 +1,11 @@
 -- A dictionary node cuts its stream into runs, each with codes and values of its own.
-use Rattle.std.specs.Prelude.{ℕ, suc, ◌+◌, ◌*◌, Bool, true, false, if◌then◌else◌, List, [], ◌∷◌, ◌++◌, length}
+use Rattle.std.specs.Prelude.{ℕ, suc, ◌+◌, ◌*◌, Bool, true, false, if◌then◌else◌, List, [], ◌∷◌, length}
 use Rattle.vx_model.specs.Ty.{Ty}
 use Rattle.vx_model.specs.Tree.{Tree}
 use Rattle.vx_model.specs.Piece.{Piece, dict_piece}
 use Rattle.vx_path.specs.Path.{Eof, inside, next}
-use Rattle.vx_tree.specs.LayoutTree.{Lay, dict_layout, gathered}
-use Rattle.vx_rules.specs.Runs.{DictOptions, Run, runs, Cut, cut_at}
+use Rattle.vx_tree.specs.LayoutTree.{dict_layout, gathered}
+use Rattle.vx_rules.specs.Runs.{DictOptions, Run, runs, cut_at}
 use Rattle.vx_plan.specs.PlanData.{Setting, Item, Plan, Node, row_total}
 use Rattle.vx_plan.specs.ChunkedNode.{whole, both_plans}
 

@@ -1,11 +1,10 @@
 -- A flat node stores its one chunk as one segment.
-use Rattle.std.specs.Prelude.{ℕ, Bool, true, false, if◌then◌else◌, List, [], ◌∷◌, ◌++◌, length, Option, Some, None}
+use Rattle.std.specs.Prelude.{ℕ, if◌then◌else◌, List, [], ◌∷◌, ◌++◌, length, Option, Some, None}
 use Rattle.vx_model.specs.declared.encoding.EncodingId.{EncodingId}
 use Rattle.vx_model.specs.Ty.{Ty}
 use Rattle.vx_model.specs.Piece.{cells}
 use Rattle.vx_tree.specs.LayoutTree.{Lay, flat_layout, gathered}
-use Rattle.vx_tree.specs.Codec.{Codec}
-use Rattle.vx_plan.specs.PlanData.{Setting, Pair, Item, Plan, Node, Fault, fault, many_chunks, forbidden_encoding, at_chunk}
+use Rattle.vx_plan.specs.PlanData.{Setting, Pair, Item, Node, Fault, fault, many_chunks, forbidden_encoding, at_chunk}
 use Rattle.vx_plan.specs.Way.{FlatOptions}
 
 -- a chunk's segment

@@ -1,5 +1,5 @@
 -- Segments get their numbers in order of path.
-use Rattle.std.specs.Prelude.{ℕ, zero, suc, ◌+◌, ◌-◌, nat_lt, bytes_eq, if◌then◌else◌, List, [], ◌∷◌, ◌++◌, length, Option, Some, None}
+use Rattle.std.specs.Prelude.{ℕ, zero, suc, ◌+◌, ◌-◌, nat_lt, bytes_eq, if◌then◌else◌, List, [], ◌∷◌, Option, Some, None}
 use Rattle.vx_path.specs.Sort.{sort_by}
 use Rattle.vx_tree.specs.LayoutTree.{Lay, renamed}
 use Rattle.vx_plan.specs.PlanData.{Pair, Plan, stored}

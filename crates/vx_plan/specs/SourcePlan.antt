@@ -1,5 +1,5 @@
 -- What is written of a source's batches.
-use Rattle.std.specs.Prelude.{ℕ, suc, ◌+◌, Bool, true, false, if◌then◌else◌, List, [], ◌∷◌, ◌++◌, length}
+use Rattle.std.specs.Prelude.{ℕ, suc, Bool, if◌then◌else◌, List, [], ◌∷◌, ◌++◌, length}
 use Rattle.vx_model.specs.Ty.{Ty, ty_eq}
 use Rattle.vx_model.specs.Val.{Val}
 use Rattle.vx_model.specs.Piece.{Piece, piece_type, row_values}

@@ -1,18 +1,19 @@
 -- The laws of what is written.
-use Rattle.std.specs.Prelude.{ℕ, ◌+◌, ◌<◌, ◌≡◌, Bool, true, false, List, [], ◌∷◌, ◌++◌, length, Some}
+use Rattle.std.specs.Prelude.{ℕ, ◌<◌, ◌≤◌, ◌≡◌, Bool, true, false, List, [], ◌++◌, length, Some}
 use Rattle.vx_model.specs.Ty.{Ty}
 use Rattle.vx_model.specs.Piece.{Piece}
 use Rattle.vx_path.specs.Lists.{In, Each}
 use Rattle.vx_path.specs.Path.{Scattered, Region}
 use Rattle.vx_tree.specs.LayoutTree.{row_count, layout_type}
 use Rattle.vx_tree.specs.Rows.{rows}
-use Rattle.vx_plan.specs.PlanData.{Setting, Item, Pair, Plan, paths, places, row_total, stream_values}
+use Rattle.vx_plan.specs.PlanData.{Setting, Item, Pair, Plan, paths, places, stream_values}
 use Rattle.vx_plan.specs.Way.{Way, ZonedOptions}
+use Rattle.vx_plan.specs.Admitted.{is_admitted}
 use Rattle.vx_plan.specs.ZonedNode.{recorded, zone_faults, zone_records}
 use Rattle.vx_plan.specs.ZonesHold.{zones_of, records_of, ZonesHold}
 use Rattle.vx_plan.specs.SourcePlan.{source_plan, batch_items, root_eof, source_values}
 use Rattle.vx_plan.specs.Number.{sorted, segments, numbered, segment_at}
-use Rattle.vx_plan.specs.Valid.{Valid, Fit, AllOf, Keeps}
+use Rattle.vx_plan.specs.Valid.{Fit, AllOf, Keeps}
 
 -- The rows of the numbered layout are the batches' rows, in order.
 abbrev pub RowsComeBack : Type 0
@@ -35,6 +36,7 @@ pub record Within (p q : Plan) : Type 0 where
   pub pairs : (x : Pair) → In x p.pairs → In x q.pairs
   pub faultless : q.faults ≡ [] → p.faults ≡ []
   pub fit : q.faults ≡ [] → Fit q.numbers → Fit p.numbers
+  pub reserved : p.reserved ≤ q.reserved
 
 abbrev pub PrefixWithin : Type 0
 PrefixWithin = (s : Setting) (w : Way) (t : Ty) (m : Bool) (taken later : List Piece) (ended : Bool)
@@ -62,8 +64,8 @@ abbrev pub RecordsAreOfZones : Type 0
 RecordsAreOfZones = (s : Setting) (o : ZonedOptions) (t : Ty) (items : List Item) → 0 < length (recorded o t) → zone_faults o.zone_len (recorded o t) items ≡ []
     → zone_records s t (recorded o t) items ≡ records_of s t (recorded o t) (zones_of (length items) o.zone_len (stream_values items))
 
--- Each zoned node of the numbered layout has a table of the records of exactly the rows of its zones.
+-- Each zoned node of the numbered layout, those of zone tables too, has a table of the records of exactly the rows of its zones.
 abbrev pub ZonesAreTrue : Type 0
-ZonesAreTrue = (s : Setting) (w : Way) (t : Ty) (m : Bool) (batches : List Piece) (first : ℕ) → Keeps s → AllOf t batches
+ZonesAreTrue = (s : Setting) (w : Way) (t : Ty) (m : Bool) (batches : List Piece) (first : ℕ) → Keeps s → is_admitted w ≡ true → AllOf t batches
     → (source_plan s w t m batches true).faults ≡ [] → Fit (source_plan s w t m batches true).numbers
     → ZonesHold s (segment_at first (segments (source_plan s w t m batches true))) (numbered (source_plan s w t m batches true) first)

@@ -5,7 +5,7 @@ use Rattle.vx_model.specs.Piece.{Piece, piece_type, row_values}
 use Rattle.vx_path.specs.Lists.{In}
 use Rattle.vx_tree.specs.Real.{Of}
 use Rattle.vx_tree.specs.Codec.{Lawful}
-use Rattle.vx_plan.specs.PlanData.{Setting, Item, Plan, Fault, What}
+use Rattle.vx_plan.specs.PlanData.{Setting, Fault, What}
 use Rattle.vx_plan.specs.Way.{Way}
 use Rattle.vx_plan.specs.SourcePlan.{source_plan}
 

@@ -1,10 +1,10 @@
 -- A zoned node keeps a record a chunk beside its child.
-use Rattle.std.specs.Prelude.{ℕ, ◌+◌, ◌==◌, ◌||◌, ◌&&◌, nat_lt, bytes_eq, Bool, true, false, if◌then◌else◌, List, [], ◌∷◌, ◌++◌, length, Option, Some, None}
+use Rattle.std.specs.Prelude.{ℕ, ◌+◌, ◌==◌, ◌||◌, nat_lt, bytes_eq, Bool, true, false, if◌then◌else◌, List, [], ◌∷◌, ◌++◌, length, Option, Some, None}
 use Rattle.vx_model.specs.Ty.{Ty}
 use Rattle.vx_model.specs.Val.{Val}
 use Rattle.vx_model.specs.Piece.{cells, row_values}
 use Rattle.vx_path.specs.Path.{Eof, inside, next, under, raised}
-use Rattle.vx_tree.specs.LayoutTree.{Lay, zoned_layout}
+use Rattle.vx_tree.specs.LayoutTree.{zoned_layout}
 use Rattle.vx_record.specs.Aggregate.{Aggregate, Column, held_aggregates, default_aggregates, aggregate_id}
 use Rattle.vx_record.specs.Record.{zone_record}
 use Rattle.vx_record.specs.ZoneTable.{Filled, kept_columns, table_type, table_specs, table_piece}
@@ -34,19 +34,22 @@ abbrev pub forbidden_faults : Option (List (List ℕ)) → List Column → List 
 forbidden_faults allowed [] = []
 forbidden_faults allowed (a ∷ columns) = if allows allowed a.0 then forbidden_faults allowed columns else fault (forbidden_aggregate (aggregate_id a.0)) at_start ∷ []
 
-abbrev pub is_last : List Item → Bool
-is_last [] = true
-is_last (c ∷ cs) = false
+-- an empty chunk, or one longer than the zone
+abbrev pub is_no_zone : ℕ → ℕ → Bool
+is_no_zone zone n = (n == 0) || nat_lt zone n
 
--- an empty chunk, one longer than the zone, or a shorter one that another follows
-abbrev pub is_cut_wrong : ℕ → ℕ → Bool → Bool
-is_cut_wrong zone n last = (n == 0) || (nat_lt zone n || (nat_lt n zone && (if last then false else true)))
+abbrev pub cut_fault : ℕ → List ℕ → List Fault
+cut_fault n path = fault (zone_cut n) (at_chunk path) ∷ []
 
--- the first chunk that isn't a zone
+-- The first chunk that isn't a zone: it is refused itself, or, where it is a shorter one, once another follows. So the
+-- fault stands at that other chunk.
 abbrev pub cut_faults : ℕ → List Item → List Fault
 cut_faults zone [] = []
-cut_faults zone (c ∷ cs) =
-    if is_cut_wrong zone (length (cells c.1)) (is_last cs) then fault (zone_cut (length (cells c.1))) (at_chunk c.0) ∷ [] else cut_faults zone cs
+cut_faults zone (c ∷ []) = if is_no_zone zone (length (cells c.1)) then cut_fault (length (cells c.1)) c.0 else []
+cut_faults zone (c ∷ d ∷ cs) =
+    if is_no_zone zone (length (cells c.1)) then cut_fault (length (cells c.1)) c.0
+    else if nat_lt (length (cells c.1)) zone then cut_fault (length (cells c.1)) d.0
+    else cut_faults zone (d ∷ cs)
 
 -- only where there is something to record
 abbrev pub zone_faults : ℕ → List Column → List Item → List Fault

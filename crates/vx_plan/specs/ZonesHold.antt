@@ -1,14 +1,15 @@
 -- What each zoned node of a layout promises.
-use Rattle.std.specs.Prelude.{ℕ, zero, suc, ◌+◌, ◌*◌, ◌<◌, ◌≤◌, length, ◌≡◌, Bool, true, false, List, [], ◌∷◌, take, drop, Option, Some}
+use Rattle.std.specs.Prelude.{ℕ, zero, suc, ◌+◌, ◌*◌, ◌<◌, ◌≤◌, length, ◌≡◌, true, List, [], ◌∷◌, take, drop, Option, Some}
+use Rattle.vx_model.specs.Words.{all_by}
 use Rattle.vx_model.specs.Ty.{Ty}
 use Rattle.vx_model.specs.Val.{Val}
 use Rattle.vx_model.specs.Piece.{row_values}
-use Rattle.vx_tree.specs.LayoutTree.{Kind, flat_kind, chunked_kind, struct_kind, list_kind, dict_kind, zoned_kind, stats_kind, foreign_kind, Lay, Lays, layout, no_layouts, child, Spec}
+use Rattle.vx_tree.specs.LayoutTree.{Kind, zoned_kind, Lay, Lays, layout, no_layouts, child, layout_type, Spec}
 use Rattle.vx_tree.specs.Rows.{rows}
-use Rattle.vx_record.specs.Aggregate.{Column}
+use Rattle.vx_record.specs.Aggregate.{Aggregate, Column, held_aggregates, has_options}
 use Rattle.vx_record.specs.Record.{zone_record}
-use Rattle.vx_record.specs.ZoneTable.{Filled, kept_columns, table_specs, table_piece}
-use Rattle.vx_table.specs.Statements.{SmallColumns}
+use Rattle.vx_record.specs.ZoneTable.{Filled, kept_columns, table_specs, table_type, table_piece}
+use Rattle.vx_record.specs.Statements.{AllValues}
 use Rattle.vx_plan.specs.PlanData.{Setting}
 
 -- consecutive stretches of so many rows, the last of what is left
@@ -24,38 +25,38 @@ abbrev pub records_of : Setting → Ty → List Column → List (List Val) → L
 records_of s t columns [] = []
 records_of s t columns (vs ∷ zones) = zone_record s.hash t vs columns ∷ records_of s t columns zones
 
--- A zoned node: record z is of the rows, as the data child gives them, from z * zone_len to the next zone or the end; the
--- kept columns of these records are the table, and the zones child gives its rows.
-pub record IsZoned {A : Type 0} (s : Setting) (look : A → Option (List ℕ)) (zone_len : ℕ) (specs : List Spec) (t : Ty) (data_child zones : Lay A) : Type 0 where
-  pub columns : List Column
+-- A zoned node of n rows: record z is of the rows, as the data child gives them, from z * zone_len to the next zone or the
+-- end; the kept columns of these records are the table, and the zones child gives its rows.
+pub record IsZoned {A : Type 0} (s : Setting) (look : A → Option (List ℕ)) (zone_len : ℕ) (specs : List Spec) (t : Ty) (n : ℕ) (data_child zones : Lay A) : Type 0 where
+  -- those that were asked for; the type can hold some of them
+  pub aggregates : List Aggregate
+  pub options : all_by has_options aggregates ≡ true
   pub values : List Val
   pub count : ℕ
   pub table : List Filled
   pub data_rows : rows s.codec look data_child ≡ Some values
+  pub row_count : length values ≡ n
+  pub of_type : AllValues t values
   pub all_zones : IsZoneCount (length values) zone_len count
-  pub kept : kept_columns columns (records_of s t columns (zones_of count zone_len values)) ≡ Some table
+  pub kept : kept_columns (held_aggregates aggregates t) (records_of s t (held_aggregates aggregates t) (zones_of count zone_len values)) ≡ Some table
   pub specs_are : specs ≡ table_specs table
-  -- where filters have fewer than 2^32 blocks
-  pub zones_rows : SmallColumns columns → rows s.codec look zones ≡ Some (row_values (table_piece table count))
+  pub zones_type : layout_type zones ≡ table_type table
+  pub zones_rows : rows s.codec look zones ≡ Some (row_values (table_piece table count))
 
-abbrev pub OwnZones : {A : Type 0} → Setting → (A → Option (List ℕ)) → Kind → Ty → Lays A → Type 0
-OwnZones s look (zoned_kind zone_len specs) t (child data_child (child zones no_layouts)) = IsZoned s look zone_len specs t data_child zones
-OwnZones s look k t ls = Unit {0}
+-- ---- each zoned node of a layout, those of zone tables too
 
-abbrev pub is_zoned : Kind → Bool
-is_zoned (zoned_kind zone_len specs) = true
-is_zoned k = false
+-- what is said of a zoned node: of its zone length, specs, type, rows, data and zones
+abbrev pub OfZoned : {A : Type 0} → (ℕ → List Spec → Ty → ℕ → Lay A → Lay A → Type 0) → Kind → Ty → ℕ → Lays A → Type 0
+OfZoned P (zoned_kind zone_len specs) t n (child data_child (child zones no_layouts)) = P zone_len specs t n data_child zones
+OfZoned P k t n ls = Unit {0}
 
-abbrev pub unless : Bool → Type 0 → Type 0
-unless true X = Unit {0}
-unless false X = X
-
--- each zoned node of the layout that isn't in a zone table
 abbrev mutual
-  pub ZonesHold : {A : Type 0} → Setting → (A → Option (List ℕ)) → Lay A → Type 0
-  ZonesHold s look (layout k t n names ls) = OwnZones s look k t ls × AllZonesHold s look (is_zoned k) ls
+  pub EachZoned : {A : Type 0} → (ℕ → List Spec → Ty → ℕ → Lay A → Lay A → Type 0) → Lay A → Type 0
+  EachZoned P (layout k t n names ls) = OfZoned P k t n ls × AllZoned P ls
 
-  -- of the first layout alone, or of all
-  pub AllZonesHold : {A : Type 0} → Setting → (A → Option (List ℕ)) → Bool → Lays A → Type 0
-  AllZonesHold s look first no_layouts = Unit {0}
-  AllZonesHold s look first (child l ls) = ZonesHold s look l × unless first (AllZonesHold s look false ls)
+  pub AllZoned : {A : Type 0} → (ℕ → List Spec → Ty → ℕ → Lay A → Lay A → Type 0) → Lays A → Type 0
+  AllZoned P no_layouts = Unit {0}
+  AllZoned P (child l ls) = EachZoned P l × AllZoned P ls
+
+abbrev pub ZonesHold : {A : Type 0} → Setting → (A → Option (List ℕ)) → Lay A → Type 0
+ZonesHold s look l = EachZoned (IsZoned s look) l

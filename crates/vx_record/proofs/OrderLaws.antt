@@ -1,14 +1,13 @@
 -- The laws of the order of values.
-use Rattle.std.proofs.Common.{◌≡◌, ◌≢◌, ℕ, zero, suc, ◌+◌, ◌<◌, ◌≤◌, ◌⊎◌, ◌&&◌, ◌||◌, Bool, true, false, not, List, [], ◌∷◌, ◌++◌, length, refl, sym, ap, ap₂, ◌∙◌, subst, inl, inr, ⊎_elim, arith}
+use Rattle.std.proofs.Common.{◌≡◌, ◌⊎◌, ◌&&◌, ◌||◌, Bool, true, false, not, List, [], ◌∷◌, refl, sym, ap, ◌∙◌, subst, inl, inr, ⊎_elim, arith}
 use Rattle.std.specs.Prelude.{if◌then◌else◌, int_lt, ℤ}
 use Rattle.std.proofs.lemmas.Bool.{cases_Bool, true≢false}
 use Rattle.std.proofs.lemmas.Int.{ints}
 use Rattle.vx_model.specs.Val.{Val, null_value, bool_value, int_value, text_value, bytes_value, list_value, struct_value}
-use Rattle.vx_path.specs.Lists.{In}
-use Rattle.vx_path.specs.Path.{path_le, path_lt}
+use Rattle.vx_path.specs.Path.{path_le}
 use Rattle.vx_path.proofs.Path.{path_le-refl, path_le-trans, path_le-total, path_le-antisym}
 use Rattle.vx_record.specs.ValueOrder.{value_le, value_lt, value_same, greater, lesser, greatest, least}
-use Rattle.vx_record.specs.Statements.{Sort, truths, numbers, texts, blobs, nested, has_sort, AllSort, Literal}
+use Rattle.vx_record.proofs.Sorts.{Sort, truths, numbers, texts, blobs, nested, has_sort, AllSort, Literal}
 
 clash : (b : Bool) → not b ≡ true → b ≡ true → ⊥
 clash true h e = true≢false (sym h)

@@ -1,124 +1,23 @@
--- Bounds hold, filters contain, and pruning is sound.
-use Rattle.std.proofs.Common.{◌≡◌, ◌≢◌, ℕ, zero, suc, ◌+◌, ◌*◌, ◌/◌, ◌<◌, ◌≤◌, ◌-◌, ◌^◌, ◌⊎◌, ◌&&◌, ◌||◌, Bool, true, false, not, List, [], ◌∷◌, ◌++◌, length, take, Option, Some, None, refl, sym, ap, ap₂, ◌∙◌, subst, inl, inr, ⊎_elim, arith, eqb-true}
-use Rattle.std.specs.Prelude.{if◌then◌else◌, nat_le, ◌==◌, pos, Contains}
-use Rattle.std.specs.Option.{option_map, option_to_list}
-use Rattle.std.specs.Str.{is_utf8, chars, encode_utf8_all}
-use Rattle.std.proofs.lemmas.Bool.{cases_Bool, true≢false, or_cases}
-use Rattle.std.proofs.lemmas.Str.{encodes-chars, IsUtf8-from_is_utf8}
-use Rattle.std.proofs.Math.Nat.{div-lt_iff_lt-mul, mul-le-mul_left}
-use Rattle.vx_model.specs.Ty.{Ty}
+-- Pruning is sound.
+use Rattle.std.proofs.Common.{◌≡◌, ℕ, ◌+◌, ◌≤◌, ◌⊎◌, ◌&&◌, ◌||◌, Bool, true, false, not, List, [], ◌∷◌, length, Option, Some, None, refl, sym, ap, ap₂, ◌∙◌, subst, inl, inr, ⊎_elim, arith, eqb-true}
+use Rattle.std.specs.Prelude.{pos}
+use Rattle.std.proofs.lemmas.Bool.{true≢false, or_cases}
+use Rattle.vx_model.specs.Ty.{Ty, boolean, primitive, utf8, binary, list, struct, extension}
 use Rattle.vx_model.specs.Val.{Val, null_value, bool_value, int_value, text_value, bytes_value, list_value, struct_value}
 use Rattle.vx_path.specs.Lists.{In}
-use Rattle.vx_path.specs.Path.{path_le}
-use Rattle.vx_path.proofs.Path.{path_le-refl}
-use Rattle.vx_path.proofs.Lists.{in_left, in_right, in_contains}
-use Rattle.vx_bloom.specs.Values.{value_hash, value_hashes, may_contain_hash, hashed_bytes}
-use Rattle.vx_bloom.specs.Filter.{filter_of, block_of, may_contain}
-use Rattle.vx_bloom.proofs.Filters.{contains_inserted}
+use Rattle.vx_bloom.specs.Values.{value_hashes}
+use Rattle.vx_bloom.specs.Bytes.{filter_bytes}
+use Rattle.vx_bloom.specs.Filter.{filter_of}
 use Rattle.vx_record.specs.Aggregate.{Aggregate, maximum, minimum, bounded_maximum, bounded_minimum, null_count, sum, bloom}
-use Rattle.vx_record.specs.ValueOrder.{value_le, value_lt, value_same, greatest, least}
-use Rattle.vx_record.specs.Bounds.{upper_bound, lower_bound, raised_last, byte_rises, char_rises, next_char, front_chars, bytes_or_null, text_or_null}
+use Rattle.vx_record.specs.ValueOrder.{value_le, value_lt, value_same}
 use Rattle.vx_record.specs.Record.{aggregate_value, nulls}
-use Rattle.vx_record.specs.Pruning.{Predicate, ZoneRecord, eq, not_eq, lt, lt_eq, gt, gt_eq, is_null, is_not_null, both, either, negated, both_of, either_of, not_of, compared, is_null_row, says, upper_passes, lower_passes, some_upper, some_lower, counts, null_count_is, ruled_out, pushed, opposite, falsified}
-use Rattle.vx_record.specs.Statements.{Sort, truths, numbers, texts, blobs, nested, has_sort, AllSort, Literal, Literals, IsRecord, PruningIsSound, FilterContains, BoundsHold}
-use Rattle.vx_record.proofs.OrderLaws.{lt_not_ge, le_trans, literal_refl, Pair, pair_of, not_lt, not_le, Under, Over, Top, Bottom, greatest_top, least_bottom, same_equal}
-use Rattle.vx_record.proofs.TextOrder.{bytes_below, chars_below, front_below, take_below}
-
--- ---- bounds
-
-upper_bytes : (n : ℕ) (t : List ℕ) (o : Option (List ℕ)) → raised_last byte_rises suc (take n t) ≡ o → (bytes_or_null o ≡ null_value → ⊥) → value_le (bytes_value t) (bytes_or_null o) ≡ true
-upper_bytes n t None e h = absurd (h refl)
-upper_bytes n t (Some r) e h = bytes_below n t r e
-
-upper_text : (n : ℕ) (t : List ℕ) → is_utf8 t ≡ true → (o : Option (List ℕ)) → raised_last char_rises next_char (front_chars n (chars t)) ≡ o → (text_or_null o ≡ null_value → ⊥) → value_le (text_value t) (text_or_null o) ≡ true
-upper_text n t u None e h = absurd (h refl)
-upper_text n t u (Some r) e h = subst (λ z. path_le z (encode_utf8_all r) ≡ true) (encodes-chars t (IsUtf8-from_is_utf8 t u)) (chars_below n (chars t) r e)
-
-upper_at : (s : Sort) (n : ℕ) (g : Val) → Literal s g → has_sort s g ≡ true → (upper_bound n g ≡ null_value → ⊥) → value_le g (upper_bound n g) ≡ true
-upper_at truths n (bool_value b) l k h = literal_refl truths (bool_value b) l
-upper_at numbers n (int_value b) l k h = literal_refl numbers (int_value b) l
-upper_at texts n (text_value t) l k h = go (nat_le (length t) n) h
-  where
-    go : (b : Bool) → ((if b then text_value t else text_or_null (raised_last char_rises next_char (front_chars n (chars t)))) ≡ null_value → ⊥)
-        → value_le (text_value t) (if b then text_value t else text_or_null (raised_last char_rises next_char (front_chars n (chars t)))) ≡ true
-    go true h = path_le-refl t
-    go false h = upper_text n t k (raised_last char_rises next_char (front_chars n (chars t))) refl h
-upper_at blobs n (bytes_value t) l k h = go (nat_le (length t) n) h
-  where
-    go : (b : Bool) → ((if b then bytes_value t else bytes_or_null (raised_last byte_rises suc (take n t))) ≡ null_value → ⊥)
-        → value_le (bytes_value t) (if b then bytes_value t else bytes_or_null (raised_last byte_rises suc (take n t))) ≡ true
-    go true h = path_le-refl t
-    go false h = upper_bytes n t (raised_last byte_rises suc (take n t)) refl h
-upper_at s n g l k h = absurd l
-
-lower_at : (s : Sort) (n : ℕ) (g : Val) → Literal s g → has_sort s g ≡ true → value_le (lower_bound n g) g ≡ true
-lower_at truths n (bool_value b) l k = literal_refl truths (bool_value b) l
-lower_at numbers n (int_value b) l k = literal_refl numbers (int_value b) l
-lower_at texts n (text_value t) l k = go (nat_le (length t) n)
-  where
-    go : (b : Bool) → value_le (if b then text_value t else text_value (encode_utf8_all (front_chars n (chars t)))) (text_value t) ≡ true
-    go true = path_le-refl t
-    go false = subst (λ z. path_le (encode_utf8_all (front_chars n (chars t))) z ≡ true) (encodes-chars t (IsUtf8-from_is_utf8 t k)) (front_below n (chars t))
-lower_at blobs n (bytes_value t) l k = take_below n t
-lower_at s n g l k = absurd l
-
-under_in : (g : Val) (vs : List Val) (v : Val) → Under g vs → In v vs → (v ≡ null_value → ⊥) → value_le v g ≡ true
-under_in g [] v u i n = absurd i
-under_in g (w ∷ vs) v u i n = ⊎_elim (λ e. ⊎_elim (λ z. absurd (n (e ∙ z))) (λ l. subst (λ z. value_le z g ≡ true) (sym e) l) u.0) (λ j. under_in g vs v u.1 j n) i
-
-over_in : (g : Val) (vs : List Val) (v : Val) → Over g vs → In v vs → (v ≡ null_value → ⊥) → value_le g v ≡ true
-over_in g [] v u i n = absurd i
-over_in g (w ∷ vs) v u i n = ⊎_elim (λ e. ⊎_elim (λ z. absurd (n (e ∙ z))) (λ l. subst (λ z. value_le g z ≡ true) (sym e) l) u.0) (λ j. over_in g vs v u.1 j n) i
-
-le_null : (v : Val) → value_le v null_value ≡ true → ⊥
-le_null null_value h = true≢false (sym h)
-le_null (bool_value b) h = true≢false (sym h)
-le_null (int_value b) h = true≢false (sym h)
-le_null (text_value b) h = true≢false (sym h)
-le_null (bytes_value b) h = true≢false (sym h)
-le_null (list_value b) h = true≢false (sym h)
-le_null (struct_value b) h = true≢false (sym h)
-
-module _ (s : Sort) (n : s ≡ nested → ⊥) (vs : List Val) (all : AllSort s vs) where
-  at_most : (v : Val) → In v vs → (v ≡ null_value → ⊥) → value_le v (greatest vs) ≡ true
-  at_most v i m = ⊎_elim (λ t. under_in (greatest vs) vs v t.1 i m) (λ t. under_in (greatest vs) vs v t.2 i m) (greatest_top s n vs all)
-
-  at_least : (v : Val) → In v vs → (v ≡ null_value → ⊥) → value_le (least vs) v ≡ true
-  at_least v i m = ⊎_elim (λ t. over_in (least vs) vs v t.1 i m) (λ t. over_in (least vs) vs v t.2 i m) (least_bottom s n vs all)
-
-  within_upper : (k : ℕ) (v : Val) → In v vs → (v ≡ null_value → ⊥) → (upper_bound k (greatest vs) ≡ null_value → ⊥) → value_le v (upper_bound k (greatest vs)) ≡ true
-  within_upper k v i m h = ⊎_elim
-      (λ t. absurd (le_null v (subst (λ z. value_le v z ≡ true) t.0 (at_most v i m))))
-      (λ t. le_trans v (greatest vs) (upper_bound k (greatest vs)) (at_most v i m) (upper_at s k (greatest vs) t.0 t.1 h)) (greatest_top s n vs all)
-
-  within_lower : (k : ℕ) (v : Val) → In v vs → (v ≡ null_value → ⊥) → value_le (lower_bound k (least vs)) v ≡ true
-  within_lower k v i m = ⊎_elim
-      (λ t. absurd (true≢false (sym (subst (λ z. value_le z v ≡ true) t.0 (at_least v i m)))))
-      (λ t. le_trans (lower_bound k (least vs)) (least vs) v (lower_at s k (least vs) t.0 t.1) (at_least v i m)) (least_bottom s n vs all)
-
-pub bounds_hold : BoundsHold
-bounds_hold s n vs v nest all i m = ((λ h. within_upper s nest vs all n v i m h), within_lower s nest vs all n v i m)
-
--- ---- filters
-
-hash_in : (hash : List ℕ → ℕ) (t : Ty) (vs : List Val) (v : Val) (h : ℕ) → In v vs → value_hash hash t v ≡ Some h → In h (value_hashes hash t vs)
-hash_in hash t [] v h i e = absurd i
-hash_in hash t (w ∷ vs) v h i e = ⊎_elim
-    (λ s. in_left h (option_to_list (value_hash hash t w)) (value_hashes hash t vs) (subst (λ z. In h (option_to_list z)) (sym e ∙ ap (value_hash hash t) s) (inl refl)))
-    (λ j. in_right h (option_to_list (value_hash hash t w)) (value_hashes hash t vs) (hash_in hash t vs v h j e)) i
-
-block_low : (blocks h : ℕ) → h < 2 ^ 64 → 0 < blocks → block_of blocks h < blocks
-block_low blocks h small some =
-    let q : h / 2 ^ 32 < 2 ^ 32 = omega arith in
-    (div-lt_iff_lt-mul {k = 2 ^ 32} {x = h / 2 ^ 32 * blocks} {y = blocks} (omega arith)).1 (times (h / 2 ^ 32) blocks q some)
-  where
-    times : (a b : ℕ) → a < 2 ^ 32 → 0 < b → a * b < b * 2 ^ 32
-    times a b l m = omega (arith, mul-le-mul_left b (let k : a ≤ 2 ^ 32 - 1 = omega arith in k))
-
-pub filter_contains : FilterContains
-filter_contains hash t blocks vs v h i e small some =
-    ap (may_contain_hash (filter_of blocks (value_hashes hash t vs))) e
-    ∙ contains_inserted blocks (value_hashes hash t vs) h (block_low blocks h small some) (in_contains h (value_hashes hash t vs) (hash_in hash t vs v h i e))
+use Rattle.vx_record.specs.Pruning.{Predicate, ZoneRecord, eq, not_eq, lt, lt_eq, gt, gt_eq, is_null, is_not_null, both, either, negated, both_of, either_of, not_of, compared, is_null_row, says, upper_passes, lower_passes, some_upper, some_lower, counts, null_count_is, ruled_out, pushed, opposite}
+use Rattle.vx_record.specs.Pruning.{has_order, predicate_fits, bytes_lack, lacks, some_filter_lacks}
+use Rattle.vx_record.specs.Statements.{AllValues, SmallHash, IsRecord, PruningIsSound, is_pushed, NotIsPushed}
+use Rattle.vx_record.proofs.Sorts.{Sort, truths, numbers, texts, blobs, nested, has_sort, AllSort, Literal, Literals, sort_of, value_sort, values_sort, literals_sort, value_in}
+use Rattle.vx_record.proofs.OrderLaws.{lt_not_ge, le_trans, Pair, pair_of, not_lt, not_le, same_equal}
+use Rattle.vx_record.proofs.BoundLaws.{at_most, at_least, within_upper, within_lower}
+use Rattle.vx_record.proofs.FilterLaws.{stored_contains}
 
 -- ---- Not at the leaves
 
@@ -392,13 +291,40 @@ not_null_row w h e = true≢false (some_same (sym (subst (λ z. Some (not (is_nu
     some_same : {a b : Bool} → Some a ≡ Some b → a ≡ b
     some_same h = cc
 
-module _ (hash : List ℕ → ℕ) (t : Ty) (s : Sort) (vs : List Val) (r : ZoneRecord) (excludes : Val → Bool) (all : AllSort s vs) (rec : IsRecord hash t vs r)
-    (excluded : (v w : Val) → excludes v ≡ true → In w vs → value_same w v ≡ true → ⊥) where
+-- no value of the zone is the same as one that a filter of its record lacks
+filter_found : (hash : List ℕ → ℕ) (t : Ty) (vs : List Val) (v : Val) → SmallHash hash → has_order t ≡ true → AllValues t vs → In v vs → (v ≡ null_value → ⊥)
+    → (r : ZoneRecord) → IsRecord hash t vs r → some_filter_lacks hash t v r ≡ true → ⊥
+filter_found hash t vs v small o all i n [] rec h = true≢false (sym h)
+filter_found hash t vs v small o all i n (a ∷ r) rec h =
+    ⊎_elim (λ x. one a.0 a.1 rec.0 x) (λ x. filter_found hash t vs v small o all i n r rec.1 x) (or_cases (lacks hash t v a.0 a.1) (some_filter_lacks hash t v r) h)
+  where
+    stored : (k : ℕ) (b : List ℕ) → bytes_value b ≡ aggregate_value hash t vs (bloom k) → bytes_lack hash t v b ≡ true → ⊥
+    stored k b e h =
+        let same : b ≡ filter_bytes (filter_of k (value_hashes hash t vs)) = cc in
+        stored_contains hash t k vs v small o all i n (subst (λ z. bytes_lack hash t v z ≡ true) same h)
+
+    one : (a : Aggregate) (u : Val) → u ≡ aggregate_value hash t vs a → lacks hash t v a u ≡ true → ⊥
+    one (bloom k) (bytes_value b) e h = stored k b e h
+    one (bloom k) null_value e h = true≢false (sym h)
+    one (bloom k) (bool_value b) e h = true≢false (sym h)
+    one (bloom k) (int_value b) e h = true≢false (sym h)
+    one (bloom k) (text_value b) e h = true≢false (sym h)
+    one (bloom k) (list_value b) e h = true≢false (sym h)
+    one (bloom k) (struct_value b) e h = true≢false (sym h)
+    one maximum u e h = true≢false (sym h)
+    one minimum u e h = true≢false (sym h)
+    one (bounded_maximum k) u e h = true≢false (sym h)
+    one (bounded_minimum k) u e h = true≢false (sym h)
+    one null_count u e h = true≢false (sym h)
+    one sum u e h = true≢false (sym h)
+
+module _ (hash : List ℕ → ℕ) (t : Ty) (s : Sort) (vs : List Val) (r : ZoneRecord) (all : AllSort s vs) (rec : IsRecord hash t vs r)
+    (excluded : (v : Val) → Literal s v → In v vs → some_filter_lacks hash t v r ≡ true → ⊥) where
   -- every row is null
   nulls_only : null_count_is (length vs) r ≡ true → (w : Val) → In w vs → (w ≡ null_value → ⊥) → ⊥
   nulls_only h w i m = m (all_null vs (count_found hash t vs (length vs) r rec h) w i)
 
-  rules : (p : Predicate) → Literals s p → ruled_out excludes r (length vs) p ≡ true → (w : Val) → In w vs → says p w ≡ Some true → ⊥
+  rules : (p : Predicate) → Literals s p → ruled_out hash t r (length vs) p ≡ true → (w : Val) → In w vs → says p w ≡ Some true → ⊥
   rules (eq v) l h w i e =
       let c : (w ≡ null_value → ⊥) × (value_same w v ≡ true) = said w (value_same w v) e in
       let low : value_le w v ≡ true = left_part (value_le w v) (value_le v w) c.1 in
@@ -408,8 +334,8 @@ module _ (hash : List ℕ → ℕ) (t : Ty) (s : Sort) (vs : List Val) (r : Zone
       (λ x. let u = upper_found hash t s vs all (not_nested s v l) (λ u. value_lt u v) r rec x in lt_not_ge u.0 v u.1 (le_trans v w u.0 high (u.2 w i c.0)))
       (λ x. let u = lower_found hash t s vs all (not_nested s v l) (λ u. value_lt v u) r rec x in lt_not_ge v u.0 u.1 (le_trans u.0 w v (u.2 w i c.0) low))
       (or_cases (some_upper (λ u. value_lt u v) r) (some_lower (λ u. value_lt v u) r) b))
-      (λ b. ⊎_elim (λ x. excluded v w x i c.1) (λ x. nulls_only x w i c.0) (or_cases (excludes v) (null_count_is (length vs) r) b))
-      (or_cases (some_upper (λ u. value_lt u v) r || some_lower (λ u. value_lt v u) r) (excludes v || null_count_is (length vs) r) h)
+      (λ b. ⊎_elim (λ x. excluded v l (subst (λ z. In z vs) (same_equal w v c.1) i) x) (λ x. nulls_only x w i c.0) (or_cases (some_filter_lacks hash t v r) (null_count_is (length vs) r) b))
+      (or_cases (some_upper (λ u. value_lt u v) r || some_lower (λ u. value_lt v u) r) (some_filter_lacks hash t v r || null_count_is (length vs) r) h)
   rules (not_eq v) l h w i e =
       let c : (w ≡ null_value → ⊥) × (not (value_same w v) ≡ true) = said w (not (value_same w v)) e in
       ⊎_elim
@@ -445,10 +371,10 @@ module _ (hash : List ℕ → ℕ) (t : Ty) (s : Sort) (vs : List Val) (r : Zone
   rules is_not_null l h w i e = nulls_only h w i (not_null_row w e)
   rules (both p q) l h w i e =
       let c : (says p w ≡ Some true) × (says q w ≡ Some true) = both_true (says p w) (says q w) e in
-      ⊎_elim (λ x. rules p l.0 x w i c.0) (λ x. rules q l.1 x w i c.1) (or_cases (ruled_out excludes r (length vs) p) (ruled_out excludes r (length vs) q) h)
+      ⊎_elim (λ x. rules p l.0 x w i c.0) (λ x. rules q l.1 x w i c.1) (or_cases (ruled_out hash t r (length vs) p) (ruled_out hash t r (length vs) q) h)
   rules (either p q) l h w i e =
-      ⊎_elim (λ c. rules p l.0 (left_part (ruled_out excludes r (length vs) p) (ruled_out excludes r (length vs) q) h) w i c)
-      (λ c. rules q l.1 (right_part (ruled_out excludes r (length vs) p) (ruled_out excludes r (length vs) q) h) w i c) (either_true (says p w) (says q w) e)
+      ⊎_elim (λ c. rules p l.0 (left_part (ruled_out hash t r (length vs) p) (ruled_out hash t r (length vs) q) h) w i c)
+      (λ c. rules q l.1 (right_part (ruled_out hash t r (length vs) p) (ruled_out hash t r (length vs) q) h) w i c) (either_true (says p w) (says q w) e)
   rules (negated p) l h w i e = true≢false (sym h)
 
 mutual
@@ -478,10 +404,105 @@ mutual
   opposite_literals s (either p q) l = (opposite_literals s p l.0, opposite_literals s q l.1)
   opposite_literals s (negated p) l = pushed_literals s p l
 
-sort_in : (s : Sort) (vs : List Val) (w : Val) → AllSort s vs → In w vs → has_sort s w ≡ true
-sort_in s [] w a i = absurd i
-sort_in s (v ∷ vs) w a i = ⊎_elim (λ e. ap (has_sort s) e ∙ a.0) (λ j. sort_in s vs w a.1 j) i
+literal_not_null : (s : Sort) (v : Val) → Literal s v → v ≡ null_value → ⊥
+literal_not_null truths (bool_value b) l e = true≢false (ap is_null_row (sym e))
+literal_not_null numbers (int_value b) l e = true≢false (ap is_null_row (sym e))
+literal_not_null texts (text_value b) l e = true≢false (ap is_null_row (sym e))
+literal_not_null blobs (bytes_value b) l e = true≢false (ap is_null_row (sym e))
+literal_not_null s v l e = absurd l
+
+-- a type with a literal has an order
+literal_order : (t : Ty) (v : Val) → Literal (sort_of t) v → has_order t ≡ true
+literal_order (boolean n) v l = refl
+literal_order (primitive p n) v l = refl
+literal_order (utf8 n) v l = refl
+literal_order (binary n) v l = refl
+literal_order (list t n) v l = absurd (not_nested nested v l refl)
+literal_order (struct fs n) v l = absurd (not_nested nested v l refl)
+literal_order (extension tag t) v l = literal_order t v l
 
 pub pruning_is_sound : PruningIsSound
-pruning_is_sound hash t s vs r excludes p all l rec excluded h w i e =
-    rules hash t s vs r excludes all rec excluded (pushed p) (pushed_literals s p l) h w i (pushed_says s w (sort_in s vs w all i) p l ∙ e)
+pruning_is_sound hash t p vs r small all fits rec h w i e =
+    let s : Sort = sort_of t in
+    let l : Literals (sort_of t) p = literals_sort t p fits in
+    rules hash t (sort_of t) vs r (values_sort t vs all) rec
+    (λ v k j x. filter_found hash t vs v small (literal_order t v k) all j (literal_not_null (sort_of t) v k) r rec x)
+    (pushed p) (pushed_literals (sort_of t) p l) h w i (pushed_says (sort_of t) w (value_sort t w (value_in t vs w all i)) p l ∙ e)
+
+-- ---- Not at the leaves
+
+front : (a b : Bool) → (a && b) ≡ true → a ≡ true
+front true b e = refl
+front false b e = e
+
+back : (a b : Bool) → (a && b) ≡ true → b ≡ true
+back true b e = e
+back false b e = cc
+
+both_hold : (a b : Bool) → a ≡ true → b ≡ true → (a && b) ≡ true
+both_hold a b e f = rw (e, f) refl
+
+mutual
+  pushed_leaves : (p : Predicate) → is_pushed (pushed p) ≡ true
+  pushed_leaves (eq v) = refl
+  pushed_leaves (not_eq v) = refl
+  pushed_leaves (lt v) = refl
+  pushed_leaves (lt_eq v) = refl
+  pushed_leaves (gt v) = refl
+  pushed_leaves (gt_eq v) = refl
+  pushed_leaves is_null = refl
+  pushed_leaves is_not_null = refl
+  pushed_leaves (both p q) = both_hold (is_pushed (pushed p)) (is_pushed (pushed q)) (pushed_leaves p) (pushed_leaves q)
+  pushed_leaves (either p q) = both_hold (is_pushed (pushed p)) (is_pushed (pushed q)) (pushed_leaves p) (pushed_leaves q)
+  pushed_leaves (negated p) = opposite_leaves p
+
+  opposite_leaves : (p : Predicate) → is_pushed (opposite p) ≡ true
+  opposite_leaves (eq v) = refl
+  opposite_leaves (not_eq v) = refl
+  opposite_leaves (lt v) = refl
+  opposite_leaves (lt_eq v) = refl
+  opposite_leaves (gt v) = refl
+  opposite_leaves (gt_eq v) = refl
+  opposite_leaves is_null = refl
+  opposite_leaves is_not_null = refl
+  opposite_leaves (both p q) = both_hold (is_pushed (opposite p)) (is_pushed (opposite q)) (opposite_leaves p) (opposite_leaves q)
+  opposite_leaves (either p q) = both_hold (is_pushed (opposite p)) (is_pushed (opposite q)) (opposite_leaves p) (opposite_leaves q)
+  opposite_leaves (negated p) = pushed_leaves p
+
+mutual
+  pushed_fits : (t : Ty) (p : Predicate) → predicate_fits t p ≡ true → predicate_fits t (pushed p) ≡ true
+  pushed_fits t (eq v) h = h
+  pushed_fits t (not_eq v) h = h
+  pushed_fits t (lt v) h = h
+  pushed_fits t (lt_eq v) h = h
+  pushed_fits t (gt v) h = h
+  pushed_fits t (gt_eq v) h = h
+  pushed_fits t is_null h = h
+  pushed_fits t is_not_null h = h
+  pushed_fits t (both p q) h =
+      both_hold (predicate_fits t (pushed p)) (predicate_fits t (pushed q)) (pushed_fits t p (front (predicate_fits t p) (predicate_fits t q) h)) (pushed_fits t q (back (predicate_fits t p) (predicate_fits t q) h))
+  pushed_fits t (either p q) h =
+      both_hold (predicate_fits t (pushed p)) (predicate_fits t (pushed q)) (pushed_fits t p (front (predicate_fits t p) (predicate_fits t q) h)) (pushed_fits t q (back (predicate_fits t p) (predicate_fits t q) h))
+  pushed_fits t (negated p) h = opposite_fits t p h
+
+  opposite_fits : (t : Ty) (p : Predicate) → predicate_fits t p ≡ true → predicate_fits t (opposite p) ≡ true
+  opposite_fits t (eq v) h = h
+  opposite_fits t (not_eq v) h = h
+  opposite_fits t (lt v) h = h
+  opposite_fits t (lt_eq v) h = h
+  opposite_fits t (gt v) h = h
+  opposite_fits t (gt_eq v) h = h
+  opposite_fits t is_null h = h
+  opposite_fits t is_not_null h = h
+  opposite_fits t (both p q) h =
+      both_hold (predicate_fits t (opposite p)) (predicate_fits t (opposite q)) (opposite_fits t p (front (predicate_fits t p) (predicate_fits t q) h)) (opposite_fits t q (back (predicate_fits t p) (predicate_fits t q) h))
+  opposite_fits t (either p q) h =
+      both_hold (predicate_fits t (opposite p)) (predicate_fits t (opposite q)) (opposite_fits t p (front (predicate_fits t p) (predicate_fits t q) h)) (opposite_fits t q (back (predicate_fits t p) (predicate_fits t q) h))
+  opposite_fits t (negated p) h = pushed_fits t p h
+
+pub not_is_pushed : NotIsPushed
+not_is_pushed t p = record {
+  leaves = pushed_leaves p;
+  fits = pushed_fits t p;
+  same = λ f w h. pushed_says (sort_of t) w (value_sort t w h) p (literals_sort t p f);
+}

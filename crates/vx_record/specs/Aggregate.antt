@@ -1,10 +1,10 @@
 -- Aggregates of zones: names, options and the type of their values.
-use Rattle.std.specs.Prelude.{ℕ, Bool, true, List, [], ◌∷◌, ◌++◌, map, codes, Option, Some, None}
-use Rattle.std.specs.Int.{w32, to_le_bytes}
+use Rattle.std.specs.Prelude.{ℕ, ◌^◌, ◌&&◌, ◌==◌, nat_lt, bytes_eq, Bool, true, if◌then◌else◌, List, [], ◌∷◌, ◌++◌, length, take, drop, codes, Option, Some, None}
+use Rattle.std.specs.Int.{w32, to_le_bytes, from_le_bytes}
 use Rattle.std.specs.Fmt.{decimal}
 use Rattle.vx_model.specs.declared.ptype.PType.{PType}
-use Rattle.vx_model.specs.declared.ptype.PType.TheVariants.{U8, U16, U32, U64, I8, I16, I32, I64}
-use Rattle.vx_model.specs.Ty.{Ty, boolean, primitive, utf8, binary, list, struct, extension}
+use Rattle.vx_model.specs.declared.ptype.PType.TheVariants.{U8, U16, U32, U64, I64}
+use Rattle.vx_model.specs.Ty.{Ty, boolean, primitive, utf8, binary, extension}
 use Rattle.vx_tree.specs.LayoutTree.{Spec}
 
 pub data Aggregate : Type 0 where
@@ -45,6 +45,46 @@ option_bytes a = []
 
 abbrev pub spec : Aggregate → Spec
 spec a = record { id = aggregate_id a; options = option_bytes a }
+
+-- a bound and a number of blocks from 1 to 2^32 - 1
+abbrev pub has_options : Aggregate → Bool
+has_options (bounded_maximum n) = nat_lt 0 n && nat_lt n (2 ^ 32)
+has_options (bounded_minimum n) = nat_lt 0 n && nat_lt n (2 ^ 32)
+has_options (bloom n) = nat_lt 0 n && nat_lt n (2 ^ 32)
+has_options a = true
+
+-- ---- the aggregate that a spec names, if there is one
+
+abbrev pub without_options : Aggregate → List ℕ → Option Aggregate
+without_options a [] = Some a
+without_options a (b ∷ bytes) = None
+
+-- a number of four bytes that isn't 0, and the given bytes behind it
+abbrev pub with_number : (ℕ → Aggregate) → List ℕ → List ℕ → Option Aggregate
+with_number f rest bytes =
+    if (length bytes == length (0 ∷ 0 ∷ 0 ∷ 0 ∷ rest)) && (bytes_eq (drop 4 bytes) rest && nat_lt 0 (from_le_bytes w32 (take 4 bytes)))
+    then Some (f (from_le_bytes w32 (take 4 bytes)))
+    else None
+
+abbrev pub aggregate_of : Spec → Option Aggregate
+aggregate_of s =
+    if bytes_eq s.id (codes "vortex.max") then without_options maximum s.options
+    else if bytes_eq s.id (codes "vortex.min") then without_options minimum s.options
+    else if bytes_eq s.id (codes "vortex.bounded_max") then with_number bounded_maximum [] s.options
+    else if bytes_eq s.id (codes "vortex.bounded_min") then with_number bounded_minimum [] s.options
+    else if bytes_eq s.id (codes "vortex.null_count") then without_options null_count s.options
+    else if bytes_eq s.id (codes "vortex.sum") then without_options sum s.options
+    else if bytes_eq s.id (codes "vortex.bloom_filter.sbbf") then with_number bloom (0 ∷ 0 ∷ 0 ∷ 0 ∷ []) s.options
+    else None
+
+-- of each spec, where all are known
+abbrev pub one_more : Option Aggregate → Option (List Aggregate) → Option (List Aggregate)
+one_more (Some a) (Some aggregates) = Some (a ∷ aggregates)
+one_more a aggregates = None
+
+abbrev pub aggregates_of : List Spec → Option (List Aggregate)
+aggregates_of [] = Some []
+aggregates_of (s ∷ specs) = one_more (aggregate_of s) (aggregates_of specs)
 
 -- ---- the type of the values, always nullable; none where the column's type has none; an extension has its storage's
 

@@ -4,4 +4,5 @@ pub mod Bounds
 pub mod Record
 pub mod ZoneTable
 pub mod Pruning
+pub mod ZoneMap
 pub mod Statements

@@ -1,9 +1,10 @@
 -- Predicates over a column, and which zones a record rules out.
-use Rattle.std.specs.Prelude.{ℕ, ◌&&◌, ◌||◌, ◌==◌, ◌%◌, ◌/◌, ◌^◌, nat_lt, Bool, true, false, not, if◌then◌else◌, List, [], ◌∷◌, length, Option, Some, None, pos}
-use Rattle.vx_model.specs.Ty.{Ty}
-use Rattle.vx_model.specs.Val.{Val, null_value, bool_value, int_value, text_value, bytes_value, list_value, struct_value}
-use Rattle.vx_bloom.specs.Values.{value_hash, may_contain_hash}
-use Rattle.vx_record.specs.Aggregate.{Aggregate, maximum, minimum, bounded_maximum, bounded_minimum, null_count, sum, bloom}
+use Rattle.std.specs.Prelude.{ℕ, ◌&&◌, ◌||◌, ◌==◌, ◌%◌, ◌/◌, ◌^◌, nat_lt, Bool, true, false, not, List, [], ◌∷◌, length, Option, Some, None, pos}
+use Rattle.vx_model.specs.Ty.{Ty, list, struct, extension}
+use Rattle.vx_model.specs.Val.{Val, null_value, int_value, bytes_value}
+use Rattle.vx_bloom.specs.Bytes.{filter_at}
+use Rattle.vx_bloom.specs.Values.{value_fits, value_hash, may_contain_hash}
+use Rattle.vx_record.specs.Aggregate.{Aggregate, maximum, minimum, bounded_maximum, bounded_minimum, null_count, bloom}
 use Rattle.vx_record.specs.ValueOrder.{value_le, value_lt, value_same}
 
 pub data Predicate : Type 0 where
@@ -59,7 +60,34 @@ says (both p q) v = both_of (says p v) (says q v)
 says (either p q) v = either_of (says p v) (says q v)
 says (negated p) v = not_of (says p v)
 
--- ---- the table
+-- ---- which predicates may be asked of a column
+
+-- values of the type are compared: seen through extensions it is no list and no struct
+abbrev pub has_order : Ty → Bool
+has_order (list t n) = false
+has_order (struct fs n) = false
+has_order (extension tag t) = has_order t
+has_order t = true
+
+-- the values are compared, and this is one that isn't null
+abbrev pub is_literal : Ty → Val → Bool
+is_literal t v = has_order t && (not (is_null_row v) && value_fits t v)
+
+-- each comparison is with a literal
+abbrev pub predicate_fits : Ty → Predicate → Bool
+predicate_fits t (eq v) = is_literal t v
+predicate_fits t (not_eq v) = is_literal t v
+predicate_fits t (lt v) = is_literal t v
+predicate_fits t (lt_eq v) = is_literal t v
+predicate_fits t (gt v) = is_literal t v
+predicate_fits t (gt_eq v) = is_literal t v
+predicate_fits t is_null = true
+predicate_fits t is_not_null = true
+predicate_fits t (both p q) = predicate_fits t p && predicate_fits t q
+predicate_fits t (either p q) = predicate_fits t p && predicate_fits t q
+predicate_fits t (negated p) = predicate_fits t p
+
+-- ---- what a zone's record tells
 
 -- a zone's record: its aggregates with their values
 abbrev pub ZoneRecord : Type 0
@@ -84,7 +112,7 @@ abbrev pub some_lower : (Val → Bool) → ZoneRecord → Bool
 some_lower f [] = false
 some_lower f (a ∷ r) = lower_passes f a.0 a.1 || some_lower f r
 
--- whether a null count is n
+-- whether a null count is n; one that is null tells nothing
 abbrev pub counts : ℕ → Aggregate → Val → Bool
 counts n null_count (int_value (pos k)) = k == n
 counts n a v = false
@@ -93,19 +121,38 @@ abbrev pub null_count_is : ℕ → ZoneRecord → Bool
 null_count_is n [] = false
 null_count_is n (a ∷ r) = counts n a.0 a.1 || null_count_is n r
 
--- which zones the table rules out for a predicate on the leaves, `excludes` telling which literals the filters exclude
-abbrev pub ruled_out : (Val → Bool) → ZoneRecord → ℕ → Predicate → Bool
-ruled_out excludes r n (eq v) = (some_upper (λ u. value_lt u v) r || some_lower (λ l. value_lt v l) r) || (excludes v || null_count_is n r)
-ruled_out excludes r n (not_eq v) = (some_upper (λ u. value_same u v) r && some_lower (λ l. value_same l v) r) || null_count_is n r
-ruled_out excludes r n (lt v) = some_lower (λ l. value_le v l) r || null_count_is n r
-ruled_out excludes r n (lt_eq v) = some_lower (λ l. value_lt v l) r || null_count_is n r
-ruled_out excludes r n (gt v) = some_upper (λ u. value_le u v) r || null_count_is n r
-ruled_out excludes r n (gt_eq v) = some_upper (λ u. value_lt u v) r || null_count_is n r
-ruled_out excludes r n is_null = null_count_is 0 r
-ruled_out excludes r n is_not_null = null_count_is n r
-ruled_out excludes r n (both p q) = ruled_out excludes r n p || ruled_out excludes r n q
-ruled_out excludes r n (either p q) = ruled_out excludes r n p && ruled_out excludes r n q
-ruled_out excludes r n (negated p) = false
+-- so many bytes are those of a filter: of one block up to 2^32 - 1
+abbrev pub is_filter_length : ℕ → Bool
+is_filter_length n = (n % 32 == 0) && (nat_lt 0 n && nat_lt (n / 32) (2 ^ 32))
+
+-- whether a stored filter, read with its own number of blocks, lacks the value; other bytes tell nothing
+abbrev pub bytes_lack : (List ℕ → ℕ) → Ty → Val → List ℕ → Bool
+bytes_lack hash t v bytes = is_filter_length (length bytes) && not (may_contain_hash (filter_at bytes) (value_hash hash t v))
+
+-- nor does null
+abbrev pub lacks : (List ℕ → ℕ) → Ty → Val → Aggregate → Val → Bool
+lacks hash t v (bloom n) (bytes_value bytes) = bytes_lack hash t v bytes
+lacks hash t v a u = false
+
+abbrev pub some_filter_lacks : (List ℕ → ℕ) → Ty → Val → ZoneRecord → Bool
+some_filter_lacks hash t v [] = false
+some_filter_lacks hash t v (a ∷ r) = lacks hash t v a.0 a.1 || some_filter_lacks hash t v r
+
+-- ---- which zones are ruled out
+
+-- the table, for a predicate without Not: r is the record of a zone of n rows
+abbrev pub ruled_out : (List ℕ → ℕ) → Ty → ZoneRecord → ℕ → Predicate → Bool
+ruled_out hash t r n (eq v) = (some_upper (λ u. value_lt u v) r || some_lower (λ l. value_lt v l) r) || (some_filter_lacks hash t v r || null_count_is n r)
+ruled_out hash t r n (not_eq v) = (some_upper (λ u. value_same u v) r && some_lower (λ l. value_same l v) r) || null_count_is n r
+ruled_out hash t r n (lt v) = some_lower (λ l. value_le v l) r || null_count_is n r
+ruled_out hash t r n (lt_eq v) = some_lower (λ l. value_lt v l) r || null_count_is n r
+ruled_out hash t r n (gt v) = some_upper (λ u. value_le u v) r || null_count_is n r
+ruled_out hash t r n (gt_eq v) = some_upper (λ u. value_lt u v) r || null_count_is n r
+ruled_out hash t r n is_null = null_count_is 0 r
+ruled_out hash t r n is_not_null = null_count_is n r
+ruled_out hash t r n (both p q) = ruled_out hash t r n p || ruled_out hash t r n q
+ruled_out hash t r n (either p q) = ruled_out hash t r n p && ruled_out hash t r n q
+ruled_out hash t r n (negated p) = false
 
 -- Not is pushed to the leaves
 abbrev mutual
@@ -135,6 +182,6 @@ abbrev mutual
   opposite is_null = is_not_null
   opposite is_not_null = is_null
 
--- whether the record of a zone of n rows rules the predicate out
-abbrev pub falsified : (Val → Bool) → ZoneRecord → ℕ → Predicate → Bool
-falsified excludes r n p = ruled_out excludes r n (pushed p)
+-- whether the record of a zone of n rows rules the predicate out, on a column of the type
+abbrev pub falsified : (List ℕ → ℕ) → Ty → Predicate → ZoneRecord → ℕ → Bool
+falsified hash t p r n = ruled_out hash t r n (pushed p)

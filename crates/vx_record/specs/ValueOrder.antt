@@ -1,6 +1,6 @@
 -- The order of values of one kind: false before true, integers by size, texts and bytes by their bytes.
-use Rattle.std.specs.Prelude.{◌&&◌, ◌||◌, Bool, true, false, not, if◌then◌else◌, List, [], ◌∷◌, int_lt, int_le}
-use Rattle.vx_model.specs.Val.{Val, null_value, bool_value, int_value, text_value, bytes_value, list_value, struct_value}
+use Rattle.std.specs.Prelude.{◌&&◌, ◌||◌, Bool, false, not, if◌then◌else◌, List, [], ◌∷◌, int_lt}
+use Rattle.vx_model.specs.Val.{Val, null_value, bool_value, int_value, text_value, bytes_value}
 use Rattle.vx_path.specs.Path.{path_le, path_lt}
 
 -- values of two kinds aren't compared

@@ -1,12 +1,12 @@
 -- The value of each aggregate is one of its type.
-use Rattle.std.proofs.Common.{◌≡◌, ◌≢◌, ℕ, zero, suc, ◌+◌, ◌-◌, ◌*◌, ◌/◌, ◌%◌, ◌<◌, ◌≤◌, ◌^◌, ◌⊎◌, ◌&&◌, ◌||◌, Bool, true, false, not, cond, ltb, leb, List, [], ◌∷◌, ◌++◌, map, length, take, drop, Option, Some, None, refl, sym, ap, ap₂, ◌∙◌, subst, inl, inr, ⊎_elim, arith, length-append, length-take}
-use Rattle.std.specs.Prelude.{if◌then◌else◌, nat_le, nat_lt, min, pos, ℤ}
+use Rattle.std.proofs.Common.{◌≡◌, ◌≢◌, ℕ, zero, suc, ◌+◌, ◌-◌, ◌*◌, ◌/◌, ◌%◌, ◌<◌, ◌≤◌, ◌^◌, ◌⊎◌, ◌&&◌, Bool, true, false, List, [], ◌∷◌, ◌++◌, map, length, take, Option, Some, None, refl, sym, ap, subst, inl, inr, ⊎_elim, arith, length-append, length-take}
+use Rattle.std.specs.Prelude.{if◌then◌else◌, nat_le, min, pos, ℤ}
 use Rattle.std.specs.Char.{encode_utf8, IsScalar}
 use Rattle.std.specs.Str.{is_utf8, chars, encode_utf8_all, all_scalars}
-use Rattle.std.proofs.lemmas.Bool.{cases_Bool, true≢false, cases_lt}
+use Rattle.std.proofs.lemmas.Bool.{true≢false, cases_lt}
 use Rattle.std.proofs.lemmas.Bool.Decides.{nat_tests}
 use Rattle.std.proofs.lemmas.List.{append-nil, length-map}
-use Rattle.std.proofs.lemmas.Str.{IsUtf8-from_is_utf8, is_utf8-from_IsUtf8, scalars-chars, encodes-chars}
+use Rattle.std.proofs.lemmas.Str.{IsUtf8-from_is_utf8, is_utf8-from_IsUtf8, scalars-chars}
 use Rattle.std.specs.Int.{bytes_low_first, byte_at}
 use Rattle.std.specs.List.{flat_map, range_with_len}
 use Rattle.std.proofs.lemmas.List.FromFn.{length-range_with_len}
@@ -22,7 +22,7 @@ use Rattle.vx_model.specs.declared.ptype.PType.TheVariants.{U64}
 use Rattle.vx_model.specs.Words.{all_by}
 use Rattle.vx_model.specs.Numbers.{int_fits}
 use Rattle.vx_model.specs.Ty.{Ty, boolean, primitive, utf8, binary, list, struct, extension}
-use Rattle.vx_model.specs.Tree.{Tree, null_cell, bool_cell, int_cell, text_cell, bytes_cell, list_cell, struct_cell, fits}
+use Rattle.vx_model.specs.Tree.{Tree, null_cell, bool_cell, int_cell, text_cell, bytes_cell, fits}
 use Rattle.vx_model.specs.Val.{Val, value, null_value, bool_value, int_value, text_value, bytes_value, list_value, struct_value}
 use Rattle.vx_tree.specs.Real.{is_byte, is_length, is_real_cell}
 use Rattle.vx_record.specs.Aggregate.{Aggregate, maximum, minimum, bounded_maximum, bounded_minimum, null_count, sum, bloom, bound_state, byte_bound_state, sum_state, sum_of_type, filter_state, state_type}
@@ -95,12 +95,12 @@ pick : (b : Bool) (v w : Val) → ((if b then v else w) ≡ v) ⊎ ((if b then v
 pick true v w = inl refl
 pick false v w = inr refl
 
-greater_among : (v w : Val) → (greater v w ≡ v) ⊎ (greater v w ≡ w)
+pub greater_among : (v w : Val) → (greater v w ≡ v) ⊎ (greater v w ≡ w)
 greater_among null_value w = inr refl
 greater_among v null_value = inl refl
 greater_among v w = ⊎_elim (λ a. inr a) (λ a. inl a) (pick (value_le v w) w v)
 
-lesser_among : (v w : Val) → (lesser v w ≡ v) ⊎ (lesser v w ≡ w)
+pub lesser_among : (v w : Val) → (lesser v w ≡ v) ⊎ (lesser v w ≡ w)
 lesser_among null_value w = inr refl
 lesser_among v null_value = inl refl
 lesser_among v w = pick (value_le v w) v w

@@ -1,25 +1,23 @@
 -- The table of the records of zones is a whole chunk.
-use Rattle.std.proofs.Common.{◌≡◌, ℕ, zero, suc, ◌+◌, ◌<◌, ◌≤◌, ◌^◌, ◌⊎◌, ◌&&◌, Bool, true, false, List, [], ◌∷◌, ◌++◌, map, length, Option, Some, None, refl, sym, ap, ap₂, ◌∙◌, subst, inl, inr, ⊎_elim, arith, eq-eqb}
+use Rattle.std.proofs.Common.{◌≡◌, ℕ, suc, ◌<◌, ◌^◌, ◌&&◌, Bool, true, false, List, [], ◌∷◌, ◌++◌, map, length, Option, Some, None, refl, sym, ap, ◌∙◌, subst, inl, inr, ⊎_elim, arith, eq-eqb}
 use Rattle.std.specs.Prelude.{if◌then◌else◌, nat_lt, ◌==◌}
 use Rattle.std.proofs.lemmas.List.{length-map}
 use Rattle.std.proofs.lemmas.Bool.Decides.{nat_tests}
 use Rattle.std.proofs.lemmas.Option.{none-some, same_Some}
 use Rattle.vx_model.specs.Words.{all_by, head_or, tail}
-use Rattle.vx_model.specs.Ty.{Ty, Tys, struct, no_fields, field, ty_eq}
+use Rattle.vx_model.specs.Ty.{Ty, ty_eq}
 use Rattle.vx_model.specs.TyLaws.{ty_eq_decides}
 use Rattle.vx_model.specs.Tree.{Tree, fits}
 use Rattle.vx_model.specs.Val.{Val, value, null_value}
-use Rattle.vx_model.specs.Piece.{Piece, Pieces, plain_piece, struct_piece, pieces_of, pieces_in, cells, is_sound, are_sound, match_fields, are_flags, piece_type}
+use Rattle.vx_model.specs.Piece.{plain_piece, pieces_of, pieces_in, is_sound, are_sound, match_fields, are_flags}
 use Rattle.vx_path.specs.Lists.{In}
-use Rattle.vx_path.specs.Sort.{sort_by}
 use Rattle.vx_path.proofs.Sort.{from_sorted}
-use Rattle.vx_path.proofs.Lists.{in_cases}
-use Rattle.vx_tree.specs.Real.{Of, Whole, is_real_cell, is_real, are_real}
+use Rattle.vx_tree.specs.Real.{Of, is_real_cell, are_real}
 use Rattle.vx_record.specs.Aggregate.{Aggregate, Column, with_state, held_aggregates, state_type}
-use Rattle.vx_record.specs.Record.{aggregate_value, zone_record}
+use Rattle.vx_record.specs.Record.{zone_record}
 use Rattle.vx_record.specs.ZoneTable.{Filled, name_of, filled, is_null_value, some_values, ordered, state_cell, table_fields, table_type, table_columns, any_columns, kept_columns, table_piece}
-use Rattle.vx_table.specs.Statements.{Zone, Zones, SmallFilter, SmallFilters, SmallColumns, records, TablesAreWhole}
-use Rattle.vx_table.proofs.StateCells.{Holds, AllHold, aggregate_held}
+use Rattle.vx_table.specs.Statements.{Zones, SmallFilter, SmallFilters, records, TablesAreWhole}
+use Rattle.vx_table.proofs.StateCells.{AllHold, aggregate_held}
 
 both : (a b : Bool) → a ≡ true → b ≡ true → (a && b) ≡ true
 both a b e f = rw (e, f) refl
@@ -34,7 +32,7 @@ abbrev pub Columns : Ty → List Column → Type 0
 Columns t [] = Unit {0}
 Columns t (a ∷ columns) = (state_type a.0 t ≡ Some a.1) × SmallFilter a.0 × Columns t columns
 
-columns_are : (t : Ty) (aggregates : List Aggregate) → SmallFilters aggregates → Columns t (held_aggregates aggregates t)
+pub columns_are : (t : Ty) (aggregates : List Aggregate) → SmallFilters aggregates → Columns t (held_aggregates aggregates t)
 columns_are t [] h = tt
 columns_are t (a ∷ aggregates) h = go (state_type a t) refl (columns_are t aggregates h.1)
   where
@@ -66,7 +64,7 @@ filled_good hash t (a ∷ columns) zs c z f i = ⊎_elim
     }))
     (λ j. filled_good hash t columns zs c.2 z f (subst (λ r. In f (filled columns r)) (tails_are hash t a columns zs) j)) i
 
-from_some : (f : Filled) (cs : List Filled) → In f (some_values cs) → In f cs
+pub from_some : (f : Filled) (cs : List Filled) → In f (some_values cs) → In f cs
 from_some f [] i = i
 from_some f (c ∷ cs) i = go (all_by is_null_value c.values) (from_some f cs) i
   where
@@ -74,7 +72,7 @@ from_some f (c ∷ cs) i = go (all_by is_null_value c.values) (from_some f cs) i
     go true r j = inr (r j)
     go false r j = ⊎_elim (λ e. inl e) (λ k. inr (r k)) j
 
-any_same : (cs : List Filled) (table : List Filled) → any_columns cs ≡ Some table → cs ≡ table
+pub any_same : (cs : List Filled) (table : List Filled) → any_columns cs ≡ Some table → cs ≡ table
 any_same [] table e = absurd (none-some table e)
 any_same (c ∷ cs) table e = same_Some (c ∷ cs) table e
 
@@ -135,13 +133,3 @@ table_whole hash t columns zs table are z short e =
 
 pub tables_are_whole : TablesAreWhole
 tables_are_whole hash t aggregates zs table small z short e = table_whole hash t (held_aggregates aggregates t) zs table (columns_are t aggregates small) z short e
-
--- the aggregates that a type can hold, with filters of few blocks
-pub small_columns : (t : Ty) (aggregates : List Aggregate) → SmallColumns (held_aggregates aggregates t) → Columns t (held_aggregates aggregates t)
-small_columns t [] h = tt
-small_columns t (a ∷ aggregates) h = go (state_type a t) refl h (small_columns t aggregates)
-  where
-    go : (o : Option Ty) → state_type a t ≡ o → SmallColumns (with_state a o ++ held_aggregates aggregates t) → (SmallColumns (held_aggregates aggregates t) → Columns t (held_aggregates aggregates t))
-        → Columns t (with_state a o ++ held_aggregates aggregates t)
-    go None e h rest = rest h
-    go (Some u) e h rest = (e, h.0, rest h.1)

@@ -1,11 +1,11 @@
 -- Zone tables are whole chunks.
-use Rattle.std.specs.Prelude.{◌≡◌, ℕ, ◌^◌, ◌<◌, Bool, true, List, [], ◌∷◌, length, map, Option, Some}
+use Rattle.std.specs.Prelude.{◌≡◌, ℕ, ◌^◌, ◌<◌, true, List, [], ◌∷◌, length, map, Some}
 use Rattle.vx_model.specs.Words.{all_by}
 use Rattle.vx_model.specs.Ty.{Ty}
 use Rattle.vx_model.specs.Tree.{Tree, fits}
 use Rattle.vx_model.specs.Val.{Val, value}
 use Rattle.vx_tree.specs.Real.{Of, is_real_cell}
-use Rattle.vx_record.specs.Aggregate.{Aggregate, maximum, minimum, bounded_maximum, bounded_minimum, null_count, sum, bloom, Column, held_aggregates}
+use Rattle.vx_record.specs.Aggregate.{Aggregate, bloom, Column, held_aggregates}
 use Rattle.vx_record.specs.Record.{zone_record}
 use Rattle.vx_record.specs.ZoneTable.{Filled, kept_columns, table_type, table_piece}
 
@@ -27,11 +27,6 @@ SmallFilter a = Unit {0}
 abbrev pub SmallFilters : List Aggregate → Type 0
 SmallFilters [] = Unit {0}
 SmallFilters (a ∷ aggregates) = SmallFilter a × SmallFilters aggregates
-
--- the same of the columns of a record
-abbrev pub SmallColumns : List Column → Type 0
-SmallColumns [] = Unit {0}
-SmallColumns (a ∷ columns) = SmallFilter a.0 × SmallColumns columns
 
 abbrev pub records : (List ℕ → ℕ) → Ty → List Column → List (List Tree) → List (List Val)
 records hash t columns [] = []

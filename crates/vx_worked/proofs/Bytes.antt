@@ -6,12 +6,14 @@ use Rattle.vx_model.specs.declared.encoding.EncodingId.{EncodingId}
 use Rattle.vx_model.specs.declared.encoding.EncodingId.TheVariants as encodings
 use Rattle.vx_model.specs.Ty.{Ty, primitive, list, struct, field, no_fields}
 use Rattle.vx_model.specs.Tree.{Tree, int_cell}
-use Rattle.vx_model.specs.Piece.{Piece, plain_piece, list_piece}
+use Rattle.vx_model.specs.Piece.{Piece, plain_piece, chunked_piece, pieces_of, list_piece}
+use Rattle.vx_tree.specs.LayoutTree.{flat_layout}
 use Rattle.vx_types.specs.Segment.{encode, tree_bytes, refused}
-use Rattle.vx_plan.specs.PlanData.{Setting, paths}
-use Rattle.vx_plan.specs.Way.{Way, ZonedOptions, flat, chunked, zoned, listed}
-use Rattle.vx_plan.specs.SourcePlan.{source_plan}
-use Rattle.vx_plan.specs.Number.{segments}
+use Rattle.vx_plan.specs.PlanData.{Setting, Item, paths}
+use Rattle.vx_plan.specs.GroupNode.{grouped_stream}
+use Rattle.vx_plan.specs.Way.{Way, ZonedOptions, flat, chunked, grouped, into_one, zoned, listed}
+use Rattle.vx_plan.specs.SourcePlan.{source_plan, batch_items}
+use Rattle.vx_plan.specs.Number.{segments, numbered}
 
 every_encoding : List EncodingId
 every_encoding = encodings.Plain ∷ encodings.Constant ∷ encodings.Dict ∷ encodings.Chunked ∷ encodings.List ∷ encodings.Struct ∷ encodings.Extension ∷ []
@@ -44,6 +46,37 @@ one_segment : segments (source_plan setting chunks (primitive I64 false) false (
     ≡ ((7 ∷ replicate 7 0) ++ ((1 ∷ 0 ∷ 0 ∷ []) ++ ((1 ∷ replicate 7 0) ++ ((0 ∷ 1 ∷ []) ++ ((8 ∷ replicate 7 0) ++ (replicate 8 0 ++ (29 ∷ replicate 7 0))))))) ∷ []
 unfolding setting chunks i64s
 one_segment = refl
+
+-- a plain node of one row: its place, rows, extra byte, one buffer of eight bytes, no children
+one_node : List ℕ
+one_node = (0 ∷ 0 ∷ []) ++ ((1 ∷ replicate 7 0) ++ ((0 ∷ 1 ∷ []) ++ ((8 ∷ replicate 7 0) ++ replicate 8 0)))
+
+-- ---- collected: one chunk at the last one's path, in the chunked encoding, a segment of 101 bytes
+
+both_batches : List Piece
+both_batches = i64s (1 ∷ []) ∷ i64s (2 ∷ []) ∷ []
+
+collected_paths : paths (source_plan setting (grouped into_one chunks) (primitive I64 false) false both_batches true).pairs ≡ (0 ∷ 1 ∷ []) ∷ []
+unfolding setting chunks i64s both_batches
+collected_paths = refl
+
+collected_layout : numbered (source_plan setting (grouped into_one chunks) (primitive I64 false) false both_batches true) 0 ≡ flat_layout (primitive I64 false) 2 every_encoding None 0
+unfolding setting chunks i64s both_batches every_encoding
+collected_layout = refl
+
+collected_chunk : map (λ (i : Item). i.1) (grouped_stream into_one (primitive I64 false) (batch_items 0 both_batches) true) ≡ chunked_piece (primitive I64 false) (pieces_of both_batches) ∷ []
+unfolding i64s both_batches
+collected_chunk = refl
+
+-- both buffers, then the tree: the flag, the chunked node of two rows without buffers and with two children, two plain nodes of one row
+collected_segment : segments (source_plan setting (grouped into_one chunks) (primitive I64 false) false both_batches true)
+    ≡ (((1 ∷ replicate 7 0) ++ (2 ∷ replicate 7 0)) ++ ((1 ∷ []) ++ (((3 ∷ 0 ∷ []) ++ ((2 ∷ replicate 7 0) ++ ((0 ∷ 0 ∷ []) ++ (2 ∷ replicate 7 0)))) ++ (one_node ++ (one_node ++ (77 ∷ replicate 7 0)))))) ∷ []
+unfolding setting chunks i64s both_batches one_node
+collected_segment = refl
+
+collected_length : map length (segments (source_plan setting (grouped into_one chunks) (primitive I64 false) false both_batches true)) ≡ 101 ∷ []
+unfolding setting chunks i64s both_batches
+collected_length = refl
 
 -- ---- zones of three rows
 

@@ -1,4 +1,4 @@
-use Rattle.vx_record.proofs.PruneLaws.{bounds_hold}
+use Rattle.vx_record.proofs.BoundLaws.{bounds_hold}
 use Rattle.vx_record.proofs.bounds_hold.Goals as goal
 
 pub returns : goal.returns

@@ -1,4 +1,4 @@
-use Rattle.vx_record.proofs.PruneLaws.{filter_contains}
+use Rattle.vx_record.proofs.FilterLaws.{filter_contains}
 use Rattle.vx_record.proofs.filters_contain_values.Goals as goal
 
 pub returns : goal.returns

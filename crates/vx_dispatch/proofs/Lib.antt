@@ -1,0 +1,4 @@
+pub mod Lookups
+pub mod DispatchLaws
+pub mod AdmittedLaws
+mod Examples

@@ -1,0 +1,4 @@
+pub mod Same
+pub mod Dictionaries
+pub mod ImageLaws
+mod Examples

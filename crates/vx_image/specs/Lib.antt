@@ -1,0 +1,2 @@
+pub mod TableImage
+pub mod Statements

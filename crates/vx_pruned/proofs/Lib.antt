@@ -1,0 +1,4 @@
+pub mod TableRows
+pub mod ZoneRows
+pub mod PrunedLaws
+mod Examples
