@@ -1,8 +1,12 @@
 //! Jobs, and what the program prints for them.
 
+use crate::i64_type;
 use std::alloc::{AllocError, Global};
 use std::test::Fail;
+use vx_layout::{ChunkedLayout, Layout};
+use vx_report::report;
 use vx_run::{ByteInput, ByteOutput, Status, run};
+use vx_types::{Blob, Text, Value};
 
 /// Runs the words on the input, which gives and takes at most so many bytes a call.
 fn outcome(
@@ -42,6 +46,8 @@ segments
 0 070000000000000001000001000000000000000001080000000000000000000000000000001d00000000000000
 zones
 trace
+rows
+7
 ";
 
 const TWO_REPORT: &str = "layout
@@ -53,6 +59,10 @@ segments
 1 030000000000000001000001000000000000000001080000000000000000000000000000001d00000000000000
 zones
 trace
+rows
+1
+2
+3
 ";
 
 const NONE_REPORT: &str = "layout
@@ -60,6 +70,7 @@ vortex.chunked, dtype: i64, rows: 0
 segments
 zones
 trace
+rows
 ";
 
 const UNBUILT: &str = "refused Unbuilt
@@ -135,5 +146,49 @@ fn failures_of_input_and_output(rt: HostRuntime) -> Result<(), Fail> {
         let (status, _) = outcome(rt.alloc(), "write", ONE, 30, [u64::MAX, call])?;
         assert_eq!(rt; status, Status::OutputFault);
     }
+    Ok(())
+}
+
+const EVERY_KIND: &str = "layout
+vortex.chunked, dtype: i64, rows: 0
+segments
+zones
+trace
+rows
+null
+true
+false
+-170141183460469231731687303715884105728
+\"a\\\"\\\\\\n\\u0001é\"
+\"00ff1a\"
+[]
+[[1,null],[\"\"]]
+";
+
+/// Rows of each kind of value; lists and structs hold others.
+fn every_kind(alloc: Global) -> Result<Vec<Value>, AllocError> {
+    let text = Text::from_str(alloc, "a\"\\\n\u{1}é")?;
+    let bytes = Blob::from_slice(alloc, &[0, 255, 26])?;
+    let first = vec![in alloc; Value::Int(1), Value::Null]?;
+    let second = vec![in alloc; Value::Utf8(Text::from_str(alloc, "")?)]?;
+    let nested = vec![in alloc; Value::Struct(first), Value::List(second)]?;
+    let mut rows = Vec::new(alloc);
+    rows.push(Value::Null)?;
+    rows.push(Value::Bool(true))?;
+    rows.push(Value::Bool(false))?;
+    rows.push(Value::Int(i128::MIN))?;
+    rows.push(Value::Utf8(text))?;
+    rows.push(Value::Binary(bytes))?;
+    rows.push(Value::List(Vec::new(alloc)))?;
+    rows.push(Value::Struct(nested))?;
+    Ok(rows)
+}
+
+#[test]
+fn rows_of_every_kind(rt: HostRuntime) -> Result<(), Fail> {
+    let alloc = rt.alloc();
+    let layout = Layout::Chunked(ChunkedLayout::new(0, i64_type(), Vec::new(alloc))?);
+    let text = report(alloc, 0, &layout, &[], &every_kind(alloc)?)?;
+    assert_eq!(rt; text.as_str(), EVERY_KIND);
     Ok(())
 }
