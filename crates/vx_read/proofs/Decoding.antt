@@ -1,5 +1,5 @@
 -- Segments of other types than 64-bit integers without null aren't decoded yet.
-use Rattle.std.proofs.Common.{◌≡◌, ℕ, Bool, true, false, List, Option, None, refl}
+use Rattle.std.proofs.Common.{◌≡◌, ℕ, true, false, List, None, refl}
 use Rattle.std.specs.Prelude.{Result, Ok, Err}
 use Rattle.vx_model.specs.declared.encoding.EncodingId.{EncodingId}
 use Rattle.vx_model.specs.declared.ptype.PType.{PType}

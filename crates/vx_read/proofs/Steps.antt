@@ -5,11 +5,11 @@ use Rattle.std.specs.Prelude.{option_map}
 use Rattle.vx_model.specs.Val.{Val}
 use Rattle.vx_tree.specs.LayoutTree.{Lay, Lays, layout, no_layouts, child, lays_of, layout_type, row_count, chunked_layout}
 use Rattle.vx_tree.specs.Codec.{Codec}
-use Rattle.vx_tree.specs.Rows.{and_then, all_there, counted, chunked_rows, joined, rows, each_rows}
+use Rattle.vx_tree.specs.Rows.{and_then, all_there, counted, chunked_rows, rows, each_rows}
 use Rattle.vx_layout.proofs.Views.{lay_flat, lay_chunked}
 use Rattle.vx_layout.specs.declared.layout.Layout.{Layout}
 use Rattle.vx_layout.specs.LayoutView.{lay}
-use Rattle.vx_read.specs.Reading.{ReadFault, first_of, count_fault, first_fault, first_below, joined_rows}
+use Rattle.vx_read.specs.Reading.{first_of, count_fault, first_fault, first_below, joined_rows}
 
 -- how many nodes
 abbrev mutual
