@@ -11,23 +11,33 @@ use vx_types::{Blob, Text, Value};
 /// Runs the words on the input, which gives and takes at most so many bytes a call.
 fn outcome(
     alloc: Global,
-    word: &str,
-    job: &str,
+    words: &[&str],
+    job: &[u8],
     most: u64,
     fail: [u64; 2],
 ) -> Result<(Status, ByteOutput), AllocError> {
-    let mut words = Vec::new(alloc);
-    words.push(String::from_str(alloc, word)?)?;
+    let mut owned = Vec::new(alloc);
+    for word in words {
+        owned.push(String::from_str(alloc, word)?)?;
+    }
     let [input_fails, output_fails] = fail;
-    let mut failing_reads = Vec::new(alloc);
-    failing_reads.push(input_fails)?;
-    let mut failing_writes = Vec::new(alloc);
-    failing_writes.push(output_fails)?;
+    let failing_reads = vec![in alloc; input_fails]?;
+    let failing_writes = vec![in alloc; output_fails]?;
     let most = most.max(1);
-    let mut input = ByteInput::new(Vec::from_slice(alloc, job.as_bytes())?, most, failing_reads);
+    let mut input = ByteInput::new(Vec::from_slice(alloc, job)?, most, failing_reads);
     let mut output = ByteOutput::new(most, failing_writes);
-    let status = run(alloc, &words, &mut input, &mut output);
+    let status = run(alloc, &owned, &mut input, &mut output);
     Ok((status, output))
+}
+
+/// Runs the one command on the input.
+fn written(
+    alloc: Global,
+    job: &[u8],
+    most: u64,
+    fail: [u64; 2],
+) -> Result<(Status, ByteOutput), AllocError> {
+    outcome(alloc, &["write"], job, most, fail)
 }
 
 /// No call fails.
@@ -82,7 +92,7 @@ trace
 fn reports_columns(rt: HostRuntime) -> Result<(), Fail> {
     for (job, report) in [(ONE, ONE_REPORT), (TWO, TWO_REPORT), (NONE, NONE_REPORT)] {
         for most in [1, 7, 4096] {
-            let (status, output) = outcome(rt.alloc(), "write", job, most, NEVER)?;
+            let (status, output) = written(rt.alloc(), job.as_bytes(), most, NEVER)?;
             assert_eq!(rt; status, Status::Done);
             assert_eq!(rt; output.bytes(), report.as_bytes());
         }
@@ -100,7 +110,7 @@ fn names_the_refused_place(rt: HostRuntime) -> Result<(), Fail> {
         ("7", "bad job at job\n"),
         ("null", "bad job at job\n"),
     ] {
-        let (status, output) = outcome(rt.alloc(), "write", job, 64, NEVER)?;
+        let (status, output) = written(rt.alloc(), job.as_bytes(), 64, NEVER)?;
         assert_eq!(rt; status, Status::BadJob);
         assert_eq!(rt; output.bytes(), line.as_bytes());
     }
@@ -119,7 +129,7 @@ fn other_objects_are_not_built(rt: HostRuntime) -> Result<(), Fail> {
         "{\"schema\":\"i64\",\"strategy\":{\"chunked\":\"flat\"},\"batches\":[[9223372036854775808]]}",
         "{\"schema\":\"i64\",\"strategy\":{\"chunked\":\"flat\"},\"batches\":[[7]],\"next\":0}",
     ] {
-        let (status, output) = outcome(rt.alloc(), "write", job, 64, NEVER)?;
+        let (status, output) = written(rt.alloc(), job.as_bytes(), 64, NEVER)?;
         assert_eq!(rt; status, Status::Refused);
         assert_eq!(rt; output.bytes(), UNBUILT.as_bytes());
     }
@@ -128,23 +138,70 @@ fn other_objects_are_not_built(rt: HostRuntime) -> Result<(), Fail> {
 
 #[test]
 fn other_words_print_the_usage(rt: HostRuntime) -> Result<(), Fail> {
-    let (status, output) = outcome(rt.alloc(), "gen", ONE, 64, NEVER)?;
-    assert_eq!(rt; status, Status::Usage);
-    assert_eq!(rt;
-        output.bytes(),
-        "usage: vx_tool write | gen N | tree\n".as_bytes()
-    );
+    let alloc = rt.alloc();
+    for words in [
+        [].as_slice(),
+        &["gen"],
+        &["gen", "7"],
+        &["tree"],
+        &["write", "write"],
+        &["--help"],
+        &[""],
+    ] {
+        let (status, output) = outcome(alloc, words, ONE.as_bytes(), 64, [0, u64::MAX])?;
+        assert_eq!(rt; status, Status::Usage);
+        assert_eq!(rt;
+            output.bytes(),
+            "usage: vx_tool write | gen N | tree\n".as_bytes()
+        );
+    }
     Ok(())
 }
 
 #[test]
 fn failures_of_input_and_output(rt: HostRuntime) -> Result<(), Fail> {
-    for call in 0..3 {
-        let (status, output) = outcome(rt.alloc(), "write", ONE, 30, [call, u64::MAX])?;
-        assert_eq!(rt; status, Status::InputFault);
-        assert_eq!(rt; output.bytes().len(), 0);
-        let (status, _) = outcome(rt.alloc(), "write", ONE, 30, [u64::MAX, call])?;
-        assert_eq!(rt; status, Status::OutputFault);
+    for call in 0..8 {
+        let (status, output) = written(rt.alloc(), ONE.as_bytes(), 30, [call, u64::MAX])?;
+        let reads = call < 4;
+        assert_eq!(rt;
+            status,
+            if reads {
+                Status::InputFault
+            } else {
+                Status::Done
+            }
+        );
+        assert_eq!(rt; output.bytes().is_empty(), reads);
+        let (status, output) = written(rt.alloc(), ONE.as_bytes(), 30, [u64::MAX, call])?;
+        let writes = call < 6;
+        assert_eq!(rt;
+            status,
+            if writes {
+                Status::OutputFault
+            } else {
+                Status::Done
+            }
+        );
+        assert_eq!(rt; ONE_REPORT.as_bytes().starts_with(output.bytes()), true);
+    }
+    Ok(())
+}
+
+/// So many lists, one in the other.
+fn nested(alloc: Global, depth: usize) -> Result<Vec<u8>, AllocError> {
+    let mut text = vec![in alloc; b'['; depth]?;
+    let ends = vec![in alloc; b']'; depth]?;
+    text.extend_from_slice(&ends)?;
+    Ok(text)
+}
+
+#[test]
+fn deep_jobs(rt: HostRuntime) -> Result<(), Fail> {
+    let alloc = rt.alloc();
+    for (depth, line) in [(127, "bad job at job\n"), (128, "bad job at json\n")] {
+        let (status, output) = written(alloc, &nested(alloc, depth)?, 4096, NEVER)?;
+        assert_eq!(rt; status, Status::BadJob);
+        assert_eq!(rt; output.bytes(), line.as_bytes());
     }
     Ok(())
 }
