@@ -81,7 +81,6 @@ fn joined_rows(
 }
 
 /// The rows of the segment.
-
 fn flat_rows(
     alloc: Global,
     dtype: &DType,
