@@ -1,2 +1,1 @@
 pub mod ReadSteps
-pub mod Lines

@@ -1,3 +1,2 @@
 pub mod JobText
 pub mod JobRead
-pub mod Report

@@ -1,10 +1,8 @@
-//! Jobs of the program, read from JSON, and its reports.
+//! Jobs of the program, read from JSON.
 #![tactic(auto)]
 
 mod error;
 mod job;
-mod report_text;
 
 pub use error::JobError;
 pub use job::{Job, LIMIT, read_job};
-pub use report_text::{refused_report, report};

@@ -26,7 +26,7 @@ pub enum LayoutError {
 impl ChunkedLayout {
     ghost use Rattle.std.specs.Prelude.{◌≡◌, ◌↔◌, map, IfOk, IfErr, IsOk};
     ghost use Rattle.vx_model.specs.TyView.{ty};
-    ghost use Rattle.vx_tree.specs.LayoutTree.{chunked_layout};
+    ghost use Rattle.vx_tree.specs.LayoutTree.{chunked_layout, layout_type, row_count};
     ghost use Rattle.vx_layout.specs.LayoutView.{lay, chunked_lay};
     ghost use Rattle.vx_layout.specs.Errors.{CountsRows, rows_in};
 
@@ -53,6 +53,14 @@ impl ChunkedLayout {
                 needs: row_count as u128,
             })
         }
+    }
+
+    /// The layouts that stand one behind the other.
+    #[tactic(auto, using(crate::proofs::Views::lay_rules))]
+    pub fn children(&self) -> &[Layout]
+        ensures { chunked_lay self.now ≡ chunked_layout (layout_type (chunked_lay self.now)) (row_count (chunked_lay self.now)) (map lay result.now) }
+    {
+        &self.children
     }
 }
 

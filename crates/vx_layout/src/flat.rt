@@ -11,10 +11,10 @@ pub struct FlatLayout {
 }
 
 impl FlatLayout {
-    ghost use Rattle.std.specs.Prelude.{◌≡◌, None};
+    ghost use Rattle.std.specs.Prelude.{◌≡◌, None, [], ◌∷◌};
     ghost use Rattle.vx_model.specs.TyView.{ty};
-    ghost use Rattle.vx_tree.specs.LayoutTree.{flat_layout};
-    ghost use Rattle.vx_layout.specs.FlatView.{flat_lay};
+    ghost use Rattle.vx_tree.specs.LayoutTree.{flat_layout, segments_of};
+    ghost use Rattle.vx_layout.specs.FlatView.{flat_lay, listed_in};
 
     /// A layout of `row_count` rows in the segment, whose encodings are places in `ctx`. Takes no memory.
     pub fn new(row_count: u64, dtype: DType, segment_id: SegmentId, ctx: ArrayContext) -> FlatLayout
@@ -27,5 +27,19 @@ impl FlatLayout {
             ctx,
             array_tree: None,
         }
+    }
+
+    /// The number of its segment.
+    pub fn segment_id(&self) -> SegmentId
+        ensures { segments_of (flat_lay self.now) ≡ result.0 ∷ [] }
+    {
+        self.segment_id
+    }
+
+    /// The encodings that the segment names by their places.
+    pub fn array_ctx(&self) -> &ArrayContext
+        ensures { result.now ≡ listed_in (flat_lay self.now) }
+    {
+        &self.ctx
     }
 }

@@ -1,5 +1,6 @@
 use crate::chunked::ChunkedLayout;
 use crate::flat::FlatLayout;
+use vx_types::DType;
 
 /// A tree that says how to read rows back. Built for two kinds so far.
 #[derive(Debug, Drop)]
@@ -11,7 +12,8 @@ pub enum Layout {
 
 impl Layout {
     ghost use Rattle.std.specs.Prelude.{◌≡◌};
-    ghost use Rattle.vx_tree.specs.LayoutTree.{row_count};
+    ghost use Rattle.vx_model.specs.TyView.{ty};
+    ghost use Rattle.vx_tree.specs.LayoutTree.{layout_type, row_count};
     ghost use Rattle.vx_layout.specs.LayoutView.{lay};
 
     /// Rows that the layout gives.
@@ -22,6 +24,17 @@ impl Layout {
         match self {
             Layout::Flat(flat) => flat.row_count,
             Layout::Chunked(chunked) => chunked.row_count,
+        }
+    }
+
+    /// The type of its rows.
+    #[tactic(auto, using(crate::proofs::Views::lay_rules))]
+    pub fn dtype(&self) -> &DType
+        ensures { ty result.now ≡ layout_type (lay self.now) }
+    {
+        match self {
+            Layout::Flat(flat) => &flat.dtype,
+            Layout::Chunked(chunked) => &chunked.dtype,
         }
     }
 }

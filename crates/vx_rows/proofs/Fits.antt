@@ -1,11 +1,9 @@
 -- The cells of 64-bit integers fit their type.
-use Rattle.std.proofs.Common.{◌≡◌, ◌++◌, ◌∷◌, ◌&&◌, [], Bool, true, false, List, refl, rules}
-use Rattle.std.specs.Prelude.{IsTrue}
+use Rattle.std.proofs.Common.{◌≡◌, false, rules}
 use Rattle.std.proofs.lemmas.List.{map_push}
 use Rattle.vx_model.specs.declared.dtype.DType as dt
 use Rattle.vx_model.specs.declared.ptype.PType.TheVariants.{I64}
 use Rattle.vx_model.specs.declared.ptype.Nullability.TheVariants.{NonNullable}
-use Rattle.vx_model.specs.Words.{all_by}
 use Rattle.vx_model.specs.Ty.{primitive}
 use Rattle.vx_model.specs.TyView.{ty}
 use Rattle.vx_types.proofs.Cells.{tree_int}

@@ -1,13 +1,17 @@
-//! Tests that cross crates: jobs and their reports, and refusals of writes.
+//! Tests that cross crates: jobs and their reports, columns read back, and refusals of writes.
 #![tactic(auto)]
 
-ghost use Rattle.std.specs.Prelude.{◌≡◌, false};
+ghost use Rattle.std.specs.Prelude.{◌≡◌, false, IfOk};
 ghost use Rattle.vx_model.specs.declared.ptype.PType.TheVariants.{I64};
 ghost use Rattle.vx_model.specs.Ty.{primitive};
 ghost use Rattle.vx_model.specs.TyView.{ty};
+ghost use Rattle.vx_model.specs.Piece.{piece_type};
+ghost use Rattle.vx_types.specs.ChunkView.{piece};
 
 #[cfg(test)]
 mod calls;
+#[cfg(test)]
+mod reading;
 #[cfg(test)]
 mod refusals;
 #[cfg(test)]
@@ -26,7 +30,9 @@ pub fn i64_type() -> DType
 
 /// A plain chunk of these integers.
 #[tactic(auto, using(crate::proofs::Fits::fit_rules))]
-pub fn integers(alloc: Global, numbers: &[i64]) -> Result<Chunk, AllocError> {
+pub fn integers(alloc: Global, numbers: &[i64]) -> Result<Chunk, AllocError>
+    ensures { IfOk result (λ c. piece_type (piece c) ≡ primitive I64 false) }
+{
     let mut cells = Vec::with_capacity(alloc, numbers.len())?;
     for number in numbers {
         cells.push(Cell::Int(i128::from(*number)))?;

@@ -105,6 +105,7 @@ fn failing_sinks(rt: HostRuntime) -> Result<(), Fail> {
         (0u64, "SinkFault", 0usize),
         (1, "SinkFault", 1),
         (2, "Ok", 2),
+        (3, "Ok", 2),
     ] {
         let mut source = ListSource::new(i64_type(), two_batches(alloc)?, Vec::new(alloc));
         let mut sink = MemorySink::new(0, one(alloc, call)?);

@@ -1,29 +1,43 @@
 //! Jobs, and what the program prints for them.
 
+use crate::i64_type;
 use std::alloc::{AllocError, Global};
 use std::test::Fail;
+use vx_layout::{ChunkedLayout, Layout};
+use vx_report::report;
 use vx_run::{ByteInput, ByteOutput, Status, run};
+use vx_types::{Blob, Text, Value};
 
 /// Runs the words on the input, which gives and takes at most so many bytes a call.
 fn outcome(
     alloc: Global,
-    word: &str,
-    job: &str,
+    words: &[&str],
+    job: &[u8],
     most: u64,
     fail: [u64; 2],
 ) -> Result<(Status, ByteOutput), AllocError> {
-    let mut words = Vec::new(alloc);
-    words.push(String::from_str(alloc, word)?)?;
+    let mut owned = Vec::new(alloc);
+    for word in words {
+        owned.push(String::from_str(alloc, word)?)?;
+    }
     let [input_fails, output_fails] = fail;
-    let mut failing_reads = Vec::new(alloc);
-    failing_reads.push(input_fails)?;
-    let mut failing_writes = Vec::new(alloc);
-    failing_writes.push(output_fails)?;
+    let failing_reads = vec![in alloc; input_fails]?;
+    let failing_writes = vec![in alloc; output_fails]?;
     let most = most.max(1);
-    let mut input = ByteInput::new(Vec::from_slice(alloc, job.as_bytes())?, most, failing_reads);
+    let mut input = ByteInput::new(Vec::from_slice(alloc, job)?, most, failing_reads);
     let mut output = ByteOutput::new(most, failing_writes);
-    let status = run(alloc, &words, &mut input, &mut output);
+    let status = run(alloc, &owned, &mut input, &mut output);
     Ok((status, output))
+}
+
+/// Runs the one command on the input.
+fn written(
+    alloc: Global,
+    job: &[u8],
+    most: u64,
+    fail: [u64; 2],
+) -> Result<(Status, ByteOutput), AllocError> {
+    outcome(alloc, &["write"], job, most, fail)
 }
 
 /// No call fails.
@@ -42,6 +56,8 @@ segments
 0 070000000000000001000001000000000000000001080000000000000000000000000000001d00000000000000
 zones
 trace
+rows
+7
 ";
 
 const TWO_REPORT: &str = "layout
@@ -53,6 +69,10 @@ segments
 1 030000000000000001000001000000000000000001080000000000000000000000000000001d00000000000000
 zones
 trace
+rows
+1
+2
+3
 ";
 
 const NONE_REPORT: &str = "layout
@@ -60,6 +80,7 @@ vortex.chunked, dtype: i64, rows: 0
 segments
 zones
 trace
+rows
 ";
 
 const UNBUILT: &str = "refused Unbuilt
@@ -71,7 +92,7 @@ trace
 fn reports_columns(rt: HostRuntime) -> Result<(), Fail> {
     for (job, report) in [(ONE, ONE_REPORT), (TWO, TWO_REPORT), (NONE, NONE_REPORT)] {
         for most in [1, 7, 4096] {
-            let (status, output) = outcome(rt.alloc(), "write", job, most, NEVER)?;
+            let (status, output) = written(rt.alloc(), job.as_bytes(), most, NEVER)?;
             assert_eq!(rt; status, Status::Done);
             assert_eq!(rt; output.bytes(), report.as_bytes());
         }
@@ -89,7 +110,7 @@ fn names_the_refused_place(rt: HostRuntime) -> Result<(), Fail> {
         ("7", "bad job at job\n"),
         ("null", "bad job at job\n"),
     ] {
-        let (status, output) = outcome(rt.alloc(), "write", job, 64, NEVER)?;
+        let (status, output) = written(rt.alloc(), job.as_bytes(), 64, NEVER)?;
         assert_eq!(rt; status, Status::BadJob);
         assert_eq!(rt; output.bytes(), line.as_bytes());
     }
@@ -108,7 +129,7 @@ fn other_objects_are_not_built(rt: HostRuntime) -> Result<(), Fail> {
         "{\"schema\":\"i64\",\"strategy\":{\"chunked\":\"flat\"},\"batches\":[[9223372036854775808]]}",
         "{\"schema\":\"i64\",\"strategy\":{\"chunked\":\"flat\"},\"batches\":[[7]],\"next\":0}",
     ] {
-        let (status, output) = outcome(rt.alloc(), "write", job, 64, NEVER)?;
+        let (status, output) = written(rt.alloc(), job.as_bytes(), 64, NEVER)?;
         assert_eq!(rt; status, Status::Refused);
         assert_eq!(rt; output.bytes(), UNBUILT.as_bytes());
     }
@@ -117,23 +138,114 @@ fn other_objects_are_not_built(rt: HostRuntime) -> Result<(), Fail> {
 
 #[test]
 fn other_words_print_the_usage(rt: HostRuntime) -> Result<(), Fail> {
-    let (status, output) = outcome(rt.alloc(), "gen", ONE, 64, NEVER)?;
-    assert_eq!(rt; status, Status::Usage);
-    assert_eq!(rt;
-        output.bytes(),
-        "usage: vx_tool write | gen N | tree\n".as_bytes()
-    );
+    let alloc = rt.alloc();
+    for words in [
+        [].as_slice(),
+        &["gen"],
+        &["gen", "7"],
+        &["tree"],
+        &["write", "write"],
+        &["--help"],
+        &[""],
+    ] {
+        let (status, output) = outcome(alloc, words, ONE.as_bytes(), 64, [0, u64::MAX])?;
+        assert_eq!(rt; status, Status::Usage);
+        assert_eq!(rt;
+            output.bytes(),
+            "usage: vx_tool write | gen N | tree\n".as_bytes()
+        );
+    }
     Ok(())
 }
 
 #[test]
 fn failures_of_input_and_output(rt: HostRuntime) -> Result<(), Fail> {
-    for call in 0..3 {
-        let (status, output) = outcome(rt.alloc(), "write", ONE, 30, [call, u64::MAX])?;
-        assert_eq!(rt; status, Status::InputFault);
-        assert_eq!(rt; output.bytes().len(), 0);
-        let (status, _) = outcome(rt.alloc(), "write", ONE, 30, [u64::MAX, call])?;
-        assert_eq!(rt; status, Status::OutputFault);
+    for call in 0..8 {
+        let (status, output) = written(rt.alloc(), ONE.as_bytes(), 30, [call, u64::MAX])?;
+        let reads = call < 4;
+        assert_eq!(rt;
+            status,
+            if reads {
+                Status::InputFault
+            } else {
+                Status::Done
+            }
+        );
+        assert_eq!(rt; output.bytes().is_empty(), reads);
+        let (status, output) = written(rt.alloc(), ONE.as_bytes(), 30, [u64::MAX, call])?;
+        let writes = call < 6;
+        assert_eq!(rt;
+            status,
+            if writes {
+                Status::OutputFault
+            } else {
+                Status::Done
+            }
+        );
+        assert_eq!(rt; ONE_REPORT.as_bytes().starts_with(output.bytes()), true);
     }
+    Ok(())
+}
+
+/// So many lists, one in the other.
+fn nested(alloc: Global, depth: usize) -> Result<Vec<u8>, AllocError> {
+    let mut text = vec![in alloc; b'['; depth]?;
+    let ends = vec![in alloc; b']'; depth]?;
+    text.extend_from_slice(&ends)?;
+    Ok(text)
+}
+
+#[test]
+fn deep_jobs(rt: HostRuntime) -> Result<(), Fail> {
+    let alloc = rt.alloc();
+    for (depth, line) in [(127, "bad job at job\n"), (128, "bad job at json\n")] {
+        let (status, output) = written(alloc, &nested(alloc, depth)?, 4096, NEVER)?;
+        assert_eq!(rt; status, Status::BadJob);
+        assert_eq!(rt; output.bytes(), line.as_bytes());
+    }
+    Ok(())
+}
+
+const EVERY_KIND: &str = "layout
+vortex.chunked, dtype: i64, rows: 0
+segments
+zones
+trace
+rows
+null
+true
+false
+-170141183460469231731687303715884105728
+\"a\\\"\\\\\\n\\u0001é\"
+\"00ff1a\"
+[]
+[[1,null],[\"\"]]
+";
+
+/// Rows of each kind of value; lists and structs hold others.
+fn every_kind(alloc: Global) -> Result<Vec<Value>, AllocError> {
+    let text = Text::from_str(alloc, "a\"\\\n\u{1}é")?;
+    let bytes = Blob::from_slice(alloc, &[0, 255, 26])?;
+    let first = vec![in alloc; Value::Int(1), Value::Null]?;
+    let second = vec![in alloc; Value::Utf8(Text::from_str(alloc, "")?)]?;
+    let nested = vec![in alloc; Value::Struct(first), Value::List(second)]?;
+    let mut rows = Vec::new(alloc);
+    rows.push(Value::Null)?;
+    rows.push(Value::Bool(true))?;
+    rows.push(Value::Bool(false))?;
+    rows.push(Value::Int(i128::MIN))?;
+    rows.push(Value::Utf8(text))?;
+    rows.push(Value::Binary(bytes))?;
+    rows.push(Value::List(Vec::new(alloc)))?;
+    rows.push(Value::Struct(nested))?;
+    Ok(rows)
+}
+
+#[test]
+fn rows_of_every_kind(rt: HostRuntime) -> Result<(), Fail> {
+    let alloc = rt.alloc();
+    let layout = Layout::Chunked(ChunkedLayout::new(0, i64_type(), Vec::new(alloc))?);
+    let text = report(alloc, 0, &layout, &[], &every_kind(alloc)?)?;
+    assert_eq!(rt; text.as_str(), EVERY_KIND);
     Ok(())
 }

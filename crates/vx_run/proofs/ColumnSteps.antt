@@ -1,6 +1,6 @@
 -- What is shown of a column, and which errors never come.
 use Rattle.std.proofs.Common.{◌≡◌, ℕ, Bool, true, false, cond, List, [], ◌∷◌, ◌++◌, length, map, Option, Some, None, refl, sym, ap, subst, ◌∙◌, ltb, rules}
-use Rattle.std.specs.Prelude.{option_map, option_and_then, codes}
+use Rattle.std.specs.Prelude.{option_map, option_and_then, codes, is_some, IsSome}
 use Rattle.serde_json.specs.Find.{as_array, get_member}
 use Rattle.serde_json.specs.Data.{Data, null, boolean, number, string, array, object, Items, no_items, item}
 use Rattle.serde_json.specs.Read.{read}
@@ -12,30 +12,63 @@ use Rattle.vx_model.specs.TyView.{ty}
 use Rattle.vx_model.specs.Ty.{Ty}
 use Rattle.vx_model.specs.Piece.{Piece, piece_type, plain_piece}
 use Rattle.vx_model.specs.Tree.{Tree}
+use Rattle.vx_model.specs.Val.{Val}
 use Rattle.vx_types.specs.declared.chunk.Chunk.{Chunk}
 use Rattle.vx_types.specs.ChunkView.{piece}
 use Rattle.vx_types.specs.Segment.{refused}
 use Rattle.vx_tree.specs.LayoutTree.{Lay}
+use Rattle.vx_tree.specs.Rows.{rows}
+use Rattle.vx_segment.specs.Codec.{segment_codec}
 use Rattle.vx_plan.specs.PlanData.{Setting}
 use Rattle.vx_plan.specs.Way.{Way}
-use Rattle.vx_plan.specs.SourcePlan.{source_plan, taken_plan}
-use Rattle.vx_plan.specs.Number.{segments, numbered}
+use Rattle.vx_plan.specs.SourcePlan.{source_plan, taken_plan, source_values}
+use Rattle.vx_plan.specs.Number.{segments, numbered, segment_at}
 use Rattle.vx_plan.specs.Valid.{OfSchema, Valid}
 use Rattle.vx_sink.specs.Told.{before_told, then_told}
-use Rattle.vx_write.specs.Stream.{TookLast, Stands}
+use Rattle.vx_write.specs.Stream.{Writes, TookLast, Stands}
 use Rattle.vx_job.specs.JobText.{JobForm, column, unbuilt, not_json, limit, job, job_of, column_of, batches_of, piece_of, cell_of, each, is_one_column}
-use Rattle.vx_job.specs.Report.{report, refused_report}
-use Rattle.vx_run.specs.Answers.{all_encodings, i64_type, chunked_flat, column_plan, column_report, TooManyFor}
+use Rattle.vx_report.specs.Report.{report, refused_report}
+use Rattle.vx_run.specs.Answers.{all_encodings, i64_type, chunked_flat, column_plan, IsReport, TooManyFor}
 
+-- a setting that writes all encodings
+abbrev pub plain_setting : Setting
+plain_setting = record { codec = segment_codec; encodings = all_encodings; allowed = None; image = λ which p. p; hash = λ bytes. 0 }
+
+pub writes_all : Writes all_encodings plain_setting
+writes_all = record { encodes = refl; trees = refl; refuses = refl; listed = refl }
+
+told_all : {old new : Option (List (List ℕ))} {shown bs : List (List ℕ)} → old ≡ Some [] → new ≡ Some shown → new ≡ then_told old bs → shown ≡ bs
+told_all {shown = shown} {bs = bs} none told stored = let all : Some shown ≡ Some bs = sym told ∙ (stored ∙ ap (λ o. then_told o bs) none) in cc
+
+-- the rows of what was written, from the segments of a sink that was empty
+rows_there : (l : Lay ℕ) (shown bs : List (List ℕ)) (vs : List Val) {first : ℕ} {old new : Option (List (List ℕ))} → first ≡ 0 → old ≡ Some [] → new ≡ Some shown → new ≡ then_told old bs
+    → rows segment_codec (segment_at first bs) l ≡ Some vs → rows segment_codec (segment_at 0 shown) l ≡ Some vs
+rows_there l shown bs vs zero_first none told stored back =
+    ap (λ (cs : List (List ℕ)). rows segment_codec (segment_at 0 cs) l) (told_all none told stored) ∙ (sym (ap (λ (n : ℕ). rows segment_codec (segment_at n bs) l) zero_first) ∙ back)
+
+pub rows_told : (xs : List Piece) {l : Lay ℕ} {shown : List (List ℕ)} {w : Way} {t : Ty} {first : ℕ} {old new : Option (List (List ℕ))}
+    → w ≡ chunked_flat → t ≡ i64_type → first ≡ 0 → old ≡ Some [] → new ≡ Some shown → l ≡ numbered (source_plan plain_setting w t false xs true) first
+    → new ≡ then_told old (segments (source_plan plain_setting w t false xs true)) → rows segment_codec (segment_at first (segments (source_plan plain_setting w t false xs true))) l ≡ Some (source_values xs)
+    → IsSome (rows segment_codec (segment_at 0 shown) l)
+rows_told xs {l = l} {shown = shown} {w = w} {t = t} strategy type zero_first none told laid stored back =
+    ap is_some (rows_there l shown (segments (source_plan plain_setting w t false xs true)) (source_values xs) zero_first none told stored back)
+
+-- what is printed of a written column
 pub column_shown : (s : Setting) (xs : List Piece) {text : List ℕ} {l : Lay ℕ} {shown : List (List ℕ)} {w : Way} {t : Ty} {first : ℕ} {old new : Option (List (List ℕ))}
-    → w ≡ chunked_flat → t ≡ i64_type → first ≡ 0 → old ≡ Some [] → new ≡ Some shown → text ≡ report 0 l shown
-    → l ≡ numbered (source_plan s w t false xs true) first → new ≡ then_told old (segments (source_plan s w t false xs true)) → text ≡ column_report s xs
-column_shown s xs {l = l} {shown = shown} {w = w} {t = t} {first = first} {old = old} {new = new} strategy type zero_first none told is laid stored =
+    → w ≡ chunked_flat → t ≡ i64_type → first ≡ 0 → old ≡ Some [] → new ≡ Some shown → Some text ≡ option_map (report 0 l shown) (rows segment_codec (segment_at 0 shown) l)
+    → l ≡ numbered (source_plan s w t false xs true) first → new ≡ then_told old (segments (source_plan s w t false xs true))
+    → rows segment_codec (segment_at first (segments (source_plan s w t false xs true))) l ≡ Some (source_values xs) → IsReport s xs text
+column_shown s xs {text = text} {l = l} {shown = shown} {w = w} {t = t} {first = first} {old = old} {new = new} strategy type zero_first none told is laid stored back =
     let same : source_plan s w t false xs true ≡ column_plan s xs = ap (λ (v : Way). source_plan s v t false xs true) strategy ∙ ap (λ (u : Ty). source_plan s chunked_flat u false xs true) type in
     let layout : l ≡ numbered (column_plan s xs) 0 = laid ∙ (ap (λ (n : ℕ). numbered (source_plan s w t false xs true) n) zero_first ∙ ap (λ p. numbered p 0) same) in
-    let all : Some shown ≡ Some (segments (column_plan s xs)) = sym told ∙ (stored ∙ (ap (λ o. then_told o (segments (source_plan s w t false xs true))) none ∙ ap (λ p. Some (segments p)) same)) in
-    let stored_all : shown ≡ segments (column_plan s xs) = cc in
-    is ∙ (ap (λ (k : Lay ℕ). report 0 k shown) layout ∙ ap (λ (bs : List (List ℕ)). report 0 (numbered (column_plan s xs) 0) bs) stored_all)
+    let stored_all : shown ≡ segments (column_plan s xs) = told_all none told stored ∙ ap segments same in
+    let read : rows segment_codec (segment_at 0 shown) l ≡ Some (source_values xs) = rows_there l shown (segments (source_plan s w t false xs true)) (source_values xs) zero_first none told stored back in
+    let printed : Some text ≡ Some (report 0 l shown (source_values xs)) = is ∙ ap (option_map (report 0 l shown)) read in
+    let text_is : text ≡ report 0 l shown (source_values xs) = cc in
+    record {
+      read = sym (ap (λ (k : Lay ℕ). rows segment_codec (segment_at 0 shown) k) layout ∙ ap (λ (bs : List (List ℕ)). rows segment_codec (segment_at 0 bs) (numbered (column_plan s xs) 0)) stored_all) ∙ read;
+      shown = text_is ∙ (ap (λ (k : Lay ℕ). report 0 k shown (source_values xs)) layout ∙ ap (λ (bs : List (List ℕ)). report 0 (numbered (column_plan s xs) 0) bs (source_values xs)) stored_all);
+    }
 
 told_parts : (taken : List Piece) (a c : Option (List Piece)) (xs : List Piece) → a ≡ before_told taken c → a ≡ Some xs → (zs : List Piece) × (xs ≡ taken ++ zs)
 told_parts taken a None xs e f = absurd (let g : None ≡ Some xs = sym e ∙ f in cc)

@@ -1,2 +1,3 @@
+pub mod BackSteps
 pub mod ColumnSteps
 pub mod RunSteps

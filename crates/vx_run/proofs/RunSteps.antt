@@ -1,5 +1,5 @@
 -- Steps of reading and writing bytes.
-use Rattle.std.proofs.Common.{◌≡◌, ℕ, ◌+◌, ◌-◌, ◌≤◌, ◌<◌, List, [], ◌∷◌, ◌++◌, length, take, drop, Option, Some, None, refl, sym, ap, subst, inl, inr, ◌∙◌, arith, append_assoc, ltb, Bool, true, false}
+use Rattle.std.proofs.Common.{◌≡◌, ℕ, ◌+◌, ◌-◌, ◌≤◌, ◌<◌, List, [], ◌∷◌, ◌++◌, length, take, drop, Option, Some, None, refl, sym, ap, subst, inl, inr, ◌∙◌, arith, append_assoc, ltb, Bool, true, false, lit≤}
 use Rattle.std.proofs.lemmas.List.{append-nil, take-append-drop, length-take, length-drop, length-append, take_at, drop-drop, nil_from_length}
 use Rattle.std.specs.Io.KnownBytes.{Keeps, Appends, Consumes}
 use Rattle.vx_job.specs.JobText.{JobForm, not_json, not_object, unbuilt, column, limit, job}
@@ -14,7 +14,7 @@ use Rattle.vx_write.specs.Stream.{Writes}
 use Rattle.vx_run.specs.declared.status.Status.{Status}
 use Rattle.vx_run.specs.declared.status.Status.TheVariants.{Done, Usage, BadJob, Refused, InputFault, OutputFault, OutOfMemory}
 use Rattle.vx_run.specs.Answers.{IsAnswer, ColumnAnswer, all_encodings, chunked_flat, i64_type}
-use Rattle.vx_run.specs.Running.{HasRead, Finishes, Ends, is_output_fault}
+use Rattle.vx_run.specs.Running.{HasRead, Took, Finishes, Ends, is_output_fault, is_usage}
 
 pub consumes_none : (a : Option (List ℕ)) → Consumes a a []
 consumes_none None = tt
@@ -134,8 +134,51 @@ read_front bytes copied at n behind fits is =
 pub at_end : (bytes : List ℕ) (at : ℕ) → length bytes ≤ at → drop at bytes ≡ []
 at_end bytes at le = nil_from_length (drop at bytes) (omega (arith, length-drop at bytes))
 
-pub ruleset read_rules = (append_assoc, append-nil)
+-- ---- what was taken from the input
+
+pub took_none : (a : Option (List ℕ)) → Took a a
+took_none a = record { bytes = []; consumed = consumes_none a; short = lit≤ tt }
+
+pub took_read : (a b : Option (List ℕ)) (bytes : List ℕ) → HasRead a b bytes → Took a b
+took_read a b bytes h = record { bytes = bytes; consumed = h.consumed; short = h.short }
+
+pub took_so_far : (a b : Option (List ℕ)) (bytes : List ℕ) → Consumes a b bytes → length bytes ≤ limit + 1 → Took a b
+took_so_far a b bytes consumed short = record { bytes = bytes; consumed = consumed; short = short }
+
+consumes_kept : (a b c : Option (List ℕ)) (bytes : List ℕ) → Consumes a b bytes → Keeps b c → Consumes a c bytes
+consumes_kept None b c bytes h k = tt
+consumes_kept (Some xs) None c bytes h k = absurd h
+consumes_kept (Some xs) (Some ys) None bytes h k = absurd k
+consumes_kept (Some xs) (Some ys) (Some zs) bytes h k = h ∙ ap (λ (r : List ℕ). bytes ++ r) (sym k)
+
+-- and a read that failed
+pub took_kept : (a b c : Option (List ℕ)) (bytes : List ℕ) → Consumes a b bytes → Keeps b c → length bytes ≤ limit + 1 → Took a c
+took_kept a b c bytes consumed kept short = record { bytes = bytes; consumed = consumes_kept a b c bytes consumed kept; short = short }
+
+-- ---- an answer of the command isn't the usage's
+
+not_usage : (j : JobForm) (text : List ℕ) → IsAnswer j Usage text → ⊥
+not_usage not_json text h = let e : Usage ≡ BadJob = h.0 in cc
+not_usage not_object text h = let e : Usage ≡ BadJob = h.0 in cc
+not_usage unbuilt text h = let e : Usage ≡ Refused = h.0 in cc
+not_usage (column batches) text h = h
+
+other_than_usage : (j : JobForm) (status : Status) (text : List ℕ) → IsAnswer j status text → is_usage status ≡ false
+other_than_usage j Usage text answers = absurd (not_usage j text answers)
+other_than_usage j Done text answers = refl
+other_than_usage j BadJob text answers = refl
+other_than_usage j Refused text answers = refl
+other_than_usage j InputFault text answers = refl
+other_than_usage j OutputFault text answers = refl
+other_than_usage j OutOfMemory text answers = refl
+
+pub ends_known : (j : JobForm) (status : Status) (text : List ℕ) (before now : Option (List ℕ)) (result : Status) → IsAnswer j status text → Finishes status text before now result → is_usage result ≡ false
+ends_known j status text before now result answers (inl all) = ap is_usage all.0 ∙ other_than_usage j status text answers
+ends_known j status text before now result answers (inr (inl failed, front)) = ap is_usage failed
+ends_known j status text before now result answers (inr (inr memory, front)) = ap is_usage memory
+
+pub ruleset read_rules = (append_assoc, append-nil, took_so_far, took_kept)
 
 pub ruleset write_rules = (append_assoc, append-nil, take_then)
 
-pub ruleset run_rules = (append-nil)
+pub ruleset run_rules = (append-nil, took_none, took_read)

@@ -1,18 +1,20 @@
 -- Which text belongs to which status.
-use Rattle.std.specs.Prelude.{◌≡◌, ℕ, ◌++◌, true, false, List, [], ◌∷◌, codes}
+use Rattle.std.specs.Prelude.{◌≡◌, ℕ, ◌++◌, true, false, List, [], ◌∷◌, codes, Some}
 use Rattle.vx_model.specs.declared.encoding.EncodingId.{EncodingId}
 use Rattle.vx_model.specs.declared.encoding.EncodingId.TheVariants as encodings
 use Rattle.vx_model.specs.declared.ptype.PType.TheVariants.{I64}
 use Rattle.vx_model.specs.Ty.{Ty, primitive}
 use Rattle.vx_model.specs.Piece.{Piece}
+use Rattle.vx_tree.specs.Rows.{rows}
+use Rattle.vx_segment.specs.Codec.{segment_codec}
 use Rattle.vx_plan.specs.PlanData.{Setting, Plan}
 use Rattle.vx_plan.specs.Way.{Way, flat, chunked}
-use Rattle.vx_plan.specs.SourcePlan.{source_plan, taken_plan}
-use Rattle.vx_plan.specs.Number.{segments, numbered}
+use Rattle.vx_plan.specs.SourcePlan.{source_plan, taken_plan, source_values}
+use Rattle.vx_plan.specs.Number.{segments, numbered, segment_at}
 use Rattle.vx_plan.specs.Valid.{Valid}
 use Rattle.vx_write.specs.Stream.{Writes}
 use Rattle.vx_job.specs.JobText.{JobForm, not_json, not_object, unbuilt, column}
-use Rattle.vx_job.specs.Report.{report, refused_report}
+use Rattle.vx_report.specs.Report.{report, refused_report}
 use Rattle.vx_run.specs.declared.status.Status.{Status}
 use Rattle.vx_run.specs.declared.status.Status.TheVariants.{Done, Usage, BadJob, Refused, InputFault, OutputFault, OutOfMemory}
 
@@ -30,9 +32,11 @@ chunked_flat = chunked (flat (record { padding = true; inline = false }))
 abbrev pub column_plan : Setting → List Piece → Plan
 column_plan s batches = source_plan s chunked_flat i64_type false batches true
 
--- the report of the plan of the batches, numbered from 0
-abbrev pub column_report : Setting → List Piece → List ℕ
-column_report s batches = report 0 (numbered (column_plan s batches) 0) (segments (column_plan s batches))
+-- The report of the plan of the batches, numbered from 0. The rows that it shows are those that the layout gives from
+-- the segments, and these are the batches' rows.
+pub record IsReport (s : Setting) (batches : List Piece) (text : List ℕ) : Type 0 where
+  pub read : rows segment_codec (segment_at 0 (segments (column_plan s batches))) (numbered (column_plan s batches) 0) ≡ Some (source_values batches)
+  pub shown : text ≡ report 0 (numbered (column_plan s batches) 0) (segments (column_plan s batches)) (source_values batches)
 
 -- A refused report of a column: its numbers don't fit, and the segments are the first of those of the batches taken.
 pub record TooManyFor (s : Setting) (batches : List Piece) (text : List ℕ) : Type 0 where
@@ -47,7 +51,7 @@ pub record TooManyFor (s : Setting) (batches : List Piece) (text : List ℕ) : T
 
 -- what is printed of a column, for each setting that writes all encodings
 abbrev pub ColumnAnswer : List Piece → Status → List ℕ → Type 0
-ColumnAnswer batches Done text = (s : Setting) → Writes all_encodings s → text ≡ column_report s batches
+ColumnAnswer batches Done text = (s : Setting) → Writes all_encodings s → IsReport s batches text
 ColumnAnswer batches Refused text = (s : Setting) → Writes all_encodings s → TooManyFor s batches text
 ColumnAnswer batches Usage text = ⊥
 ColumnAnswer batches BadJob text = ⊥

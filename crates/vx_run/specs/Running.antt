@@ -18,6 +18,10 @@ abbrev pub is_input_fault : Status → Bool
 is_input_fault InputFault = true
 is_input_fault s = false
 
+abbrev pub is_usage : Status → Bool
+is_usage Usage = true
+is_usage s = false
+
 abbrev pub is_output_fault : Status → Bool
 is_output_fault OutputFault = true
 is_output_fault s = false
@@ -51,6 +55,12 @@ pub record HasRead (before now : Option (List ℕ)) (bytes : List ℕ) : Type 0 
   pub consumed : Consumes before now bytes
   pub short : length bytes ≤ limit + 1
   pub ended : length bytes ≤ limit → IsAtEnd now
+
+-- What was taken from the input: at most one byte past the limit.
+pub record Took (before now : Option (List ℕ)) : Type 0 where
+  pub bytes : List ℕ
+  pub consumed : Consumes before now bytes
+  pub short : length bytes ≤ limit + 1
 
 -- whether a status of the command `write` says that the input was read
 abbrev pub has_read : Status → Bool

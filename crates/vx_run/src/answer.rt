@@ -1,19 +1,28 @@
 //! What the command `write` answers to a job.
 
-ghost use Rattle.std.specs.Prelude.{◌≡◌, string_bytes, map, List, IfOk};
+ghost use Rattle.std.specs.Prelude.{◌≡◌, string_bytes, map, List, Some, IsSome, IfOk, option_map};
 ghost use Rattle.vx_model.specs.Piece.{Piece};
+ghost use Rattle.vx_model.specs.TreeView.{val};
 ghost use Rattle.vx_types.specs.ChunkView.{piece};
+ghost use Rattle.vx_tree.specs.Rows.{rows};
+ghost use Rattle.vx_segment.specs.Codec.{segment_codec};
+ghost use Rattle.vx_layout.specs.LayoutView.{lay};
+ghost use Rattle.vx_plan.specs.Number.{segment_at};
 ghost use Rattle.vx_plan.specs.Valid.{OfSchema};
 ghost use Rattle.vx_sink.specs.ContextView.{listed};
 ghost use Rattle.vx_job.specs.JobText.{job};
+ghost use Rattle.vx_report.specs.Report.{report};
 ghost use Rattle.vx_write.specs.StrategyView.{way};
 ghost use Rattle.vx_run.specs.Answers.{IsAnswer, ColumnAnswer, all_encodings, i64_type, chunked_flat};
 
 use crate::status::Status;
 use std::alloc::{AllocError, Global};
-use vx_job::{Job, JobError, read_job, refused_report, report};
+use vx_job::{Job, JobError, read_job};
+use vx_layout::Layout;
+use vx_read::{ReadError, SegmentMap, read_rows};
+use vx_report::{refused_report, report};
 use vx_sink::{LayoutWriterContext, ListSource, MemorySink, PlainCompressor};
-use vx_types::{ArrayContext, Chunk, DType, EncodingId, Nullability, PType};
+use vx_types::{ArrayContext, Blob, Chunk, DType, EncodingId, Nullability, PType, Value};
 use vx_write::{
     BuildError, ChunkedLayoutStrategy, FlatLayoutStrategy, Strategy, WriteError, write_stream,
 };
@@ -77,7 +86,7 @@ fn write_batches(alloc: Global, batches: Vec<Chunk>) -> Result<Answer, AllocErro
         &mut compressor,
     ) {
         Ok(written) => {
-            let text = report(alloc, 0, &written.layout, sink.segments())?;
+            let text = written_report(alloc, &written.layout, sink.segments())?;
             Ok(Answer {
                 status: Status::Done,
                 text,
@@ -102,6 +111,33 @@ fn write_batches(alloc: Global, batches: Vec<Chunk>) -> Result<Answer, AllocErro
             WriteError::ForbiddenEncoding(_) => unreachable!(),
             WriteError::Unbuilt => unreachable!(),
         },
+    }
+}
+
+/// The report, with the rows that are read back from the segments.
+fn written_report(alloc: Global, layout: &Layout, segments: &[Blob]) -> Result<String, AllocError>
+    requires { IsSome (rows segment_codec (segment_at 0 segments.now) (lay layout.now)) }
+    ensures { IfOk result (λ text. Some (string_bytes text) ≡ option_map (report 0 (lay layout.now) segments.now) (rows segment_codec (segment_at 0 segments.now) (lay layout.now))) }
+{
+    let rows = read_back(alloc, layout, segments)?;
+    report(alloc, 0, layout, segments, &rows)
+}
+
+/// The rows that a layout gives from segments that are numbered from 0.
+#[tactic(auto, using(crate::proofs::BackSteps::back_rules))]
+fn read_back(alloc: Global, layout: &Layout, segments: &[Blob]) -> Result<Vec<Value>, AllocError>
+    requires { IsSome (rows segment_codec (segment_at 0 segments.now) (lay layout.now)) }
+    ensures { IfOk result (λ v. rows segment_codec (segment_at 0 segments.now) (lay layout.now) ≡ Some (map val v.items)) }
+{
+    let mut list = Vec::with_capacity(alloc, segments.len())?;
+    for segment in segments {
+        list.push(segment.clone()?)?;
+    }
+    match read_rows(alloc, layout, &SegmentMap { first: 0, list }) {
+        Ok(rows) => Ok(rows),
+        Err(ReadError::OutOfMemory) => Err(AllocError),
+        Err(ReadError::NoSegment(_) | ReadError::BadSegment(_)) => unreachable!(),
+        Err(ReadError::Rows { .. }) => unreachable!(),
     }
 }
 

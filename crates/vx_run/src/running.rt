@@ -12,7 +12,7 @@ ghost use Rattle.vx_run.specs.declared.status.Status.{Status};
 ghost use Rattle.vx_run.specs.declared.status.Status.TheVariants as statuses;
 ghost use Rattle.vx_run.specs.Answers.{IsText, IsAnswer, all_encodings, chunked_flat, i64_type};
 ghost use Rattle.vx_run.specs.Failures.{input_failed, output_failed};
-ghost use Rattle.vx_run.specs.Running.{is_write, usage, is_input_fault, is_output_fault, Ends, HasRead, has_read, Finishes, AppendsFront};
+ghost use Rattle.vx_run.specs.Running.{is_write, usage, is_input_fault, is_output_fault, is_usage, Ends, Took, HasRead, has_read, Finishes, AppendsFront};
 
 use crate::answer::answer_to;
 use crate::input::{Input, InputFailure};
@@ -34,11 +34,16 @@ pub fn run<I: Input, O: Output>(
     ensures input_count { Counts (I.faults input.old) (I.faults input.new) (is_input_fault result) }
     ensures output_count { Counts (O.faults output.old) (O.faults output.new) (is_output_fault result) }
     ensures ended { is_write (map string_bytes words.now) ≡ true → has_read result ≡ true → IsAtEnd (I.to_come input.new) }
+    ensures judged { is_write (map string_bytes words.now) ≡ true → result ≡ statuses.BadJob
+        → (bytes : List ℕ) × HasRead (I.to_come input.old) (I.to_come input.new) bytes }
+    ensures took { Took (I.to_come input.old) (I.to_come input.new) }
+    ensures known { is_write (map string_bytes words.now) ≡ true → is_usage result ≡ false }
     ensures ran { (bytes : List ℕ) → is_write (map string_bytes words.now) ≡ true → I.to_come input.old ≡ Some bytes
         → Ends (IsAnswer (job bytes)) (O.written output.old) (O.written output.new) result }
     ensures used { is_write (map string_bytes words.now) ≡ false
         → Ends (IsText statuses.Usage usage) (O.written output.old) (O.written output.new) result }
     ensures unread { is_write (map string_bytes words.now) ≡ false → is_input_fault result ≡ false }
+    ensures untaken { is_write (map string_bytes words.now) ≡ false → I.to_come input.new ≡ I.to_come input.old }
     ensures complete { (bytes : List ℕ) (batches : List Piece) (s : Setting) (tracker : ℕ) → is_write (map string_bytes words.now) ≡ true
         → I.to_come input.old ≡ Some bytes → job bytes ≡ column batches
         → Writes all_encodings s → Valid s chunked_flat i64_type false 0 tracker batches
@@ -75,6 +80,7 @@ fn is_write(words: &[String]) -> bool
 #[tactic(auto, using(crate::proofs::RunSteps::read_rules))]
 fn read_all<I: Input>(alloc: Global, input: &mut I) -> Result<Vec<u8>, InputFailure>
     ensures read { IfOk result (λ bytes. HasRead (I.to_come input.old) (I.to_come input.new) bytes.items) }
+    ensures took { OnErr result (Took (I.to_come input.old) (I.to_come input.new)) }
     ensures count { Counts (I.faults input.old) (I.faults input.new) (input_failed result) }
 {
     let mut bytes = Vec::new(alloc);

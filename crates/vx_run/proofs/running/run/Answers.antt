@@ -2,7 +2,7 @@ use Rattle.std.proofs.Common.{ap, subst, sym, ◌∙◌}
 use Rattle.std.specs.Prelude.{string_bytes}
 use Rattle.vx_job.specs.JobText.{JobForm, job}
 use Rattle.vx_run.specs.Answers.{IsAnswer}
-use Rattle.vx_run.proofs.RunSteps.{read_job_is, ends_so, done_or_memory}
+use Rattle.vx_run.proofs.RunSteps.{read_job_is, ends_so, ends_known, done_or_memory}
 use Rattle.vx_run.proofs.running.run.Goals as goal
 
 pub returns-in-Ok-answer_to-clause-ran : goal.returns-in-Ok-answer_to-clause-ran
@@ -16,3 +16,9 @@ returns-in-Ok-answer_to-clause-complete g c bytes batches s tracker is_write tol
     let same = read_job_is (g.I.Input.to_come c.args.input.now) (g.I.Input.to_come c.read_all.new.input) bytes c.in-Ok.bytes.items told c.in-Ok.ensures.read in
     let answers = subst (λ (j : JobForm). IsAnswer j c.in-Ok-answer_to.answer.status (string_bytes c.in-Ok-answer_to.answer.text)) (ap job c.deref.ensures.value ∙ sym same) c.in-Ok-answer_to.ensures in
     done_or_memory (job bytes) batches s tracker c.in-Ok-answer_to.answer.status (string_bytes c.in-Ok-answer_to.answer.text) _ _ c.finish-in-Ok-answer_to.result _ _ is writes valid answers (rw c.deref-in-Ok-answer_to.ensures at c.finish-in-Ok-answer_to.ensures.wrote) c.finish-in-Ok-answer_to.ensures.count calm_output
+
+pub returns-in-Ok-answer_to-clause-judged : goal.returns-in-Ok-answer_to-clause-judged
+returns-in-Ok-answer_to-clause-judged g c is_write bad = (c.in-Ok.bytes.items, c.in-Ok.ensures.read)
+
+pub returns-in-Ok-answer_to-clause-known : goal.returns-in-Ok-answer_to-clause-known
+returns-in-Ok-answer_to-clause-known g c is_write = ends_known _ c.in-Ok-answer_to.answer.status (string_bytes c.in-Ok-answer_to.answer.text) _ _ c.finish-in-Ok-answer_to.result c.in-Ok-answer_to.ensures (rw c.deref-in-Ok-answer_to.ensures at c.finish-in-Ok-answer_to.ensures.wrote)

@@ -1,7 +1,7 @@
 -- Steps of the loop over segments.
 use Rattle.std.proofs.Common.{◌≡◌, ℕ, ◌+◌, ◌<◌, List, ◌++◌, length, get_or, drop, refl, append_assoc, suc, arith}
 use Rattle.std.proofs.lemmas.List.{drop_more, append-nil}
-use Rattle.vx_job.specs.Report.{segment_line, segment_lines}
+use Rattle.vx_report.specs.Report.{segment_line, segment_lines}
 
 pub drop_lines : (first : ℕ) (bs : List (List ℕ)) (i : ℕ) (b : List ℕ) → i < length bs → b ≡ get_or bs i b
     → segment_lines (first + i) (drop i bs) ≡ segment_line (first + i) b ++ segment_lines (first + (i + 1)) (drop (i + 1) bs)

@@ -1,0 +1,4 @@
+pub mod SegmentView
+pub mod Integers
+pub mod Reading
+pub mod Answers

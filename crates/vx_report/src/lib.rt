@@ -1,0 +1,7 @@
+//! The text of reports: what was written, and the rows that are read from it.
+#![tactic(auto)]
+
+mod report_text;
+mod row_text;
+
+pub use report_text::{refused_report, report};
