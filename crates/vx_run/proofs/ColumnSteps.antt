@@ -1,11 +1,12 @@
 -- What is shown of a column, and which errors never come.
-use Rattle.std.proofs.Common.{◌≡◌, ℕ, Bool, true, false, cond, List, [], ◌∷◌, ◌++◌, length, map, Option, Some, None, refl, sym, ap, subst, ◌∙◌, ltb, rules}
-use Rattle.std.specs.Prelude.{option_map, option_and_then, codes, is_some, IsSome}
+use Rattle.std.proofs.Common.{◌≡◌, ℕ, ◌-◌, ◌^◌, ◌&&◌, nat_lt, Bool, true, false, cond, List, [], ◌∷◌, ◌++◌, length, map, Option, Some, None, refl, sym, ap, subst, ◌∙◌, ltb, rules}
+use Rattle.std.specs.Prelude.{option_map, option_and_then, codes, is_some, IsSome, IsTrue}
 use Rattle.serde_json.specs.Find.{as_array, get_member}
 use Rattle.serde_json.specs.Data.{Data, null, boolean, number, string, array, object, Items, no_items, item}
 use Rattle.serde_json.specs.Read.{read}
 use Rattle.std.specs.Str.{is_utf8}
 use Rattle.vx_model.specs.declared.dtype.DType as dt
+use Rattle.vx_model.specs.declared.encoding.EncodingId.{EncodingId}
 use Rattle.vx_model.specs.declared.ptype.PType.TheVariants.{I64}
 use Rattle.vx_model.specs.declared.ptype.Nullability.TheVariants.{NonNullable}
 use Rattle.vx_model.specs.TyView.{ty}
@@ -25,10 +26,13 @@ use Rattle.vx_plan.specs.SourcePlan.{source_plan, taken_plan, source_values}
 use Rattle.vx_plan.specs.Number.{segments, numbered, segment_at}
 use Rattle.vx_plan.specs.Valid.{OfSchema, Valid}
 use Rattle.vx_sink.specs.Told.{before_told, then_told}
-use Rattle.vx_write.specs.Stream.{Writes, TookLast, Stands}
+use Rattle.vx_sink.specs.Fails.{fails_at}
+use Rattle.vx_write.specs.Stream.{Writes, HasCause, MayCome, TookLast, Stands}
+use Rattle.vx_write.specs.declared.error.WriteError.{WriteError}
+use Rattle.vx_write.specs.declared.error.WriteError.TheVariants as errors
 use Rattle.vx_job.specs.JobText.{JobForm, column, unbuilt, not_json, limit, job, job_of, column_of, batches_of, piece_of, cell_of, each, is_one_column}
 use Rattle.vx_report.specs.Report.{report, refused_report}
-use Rattle.vx_run.specs.Answers.{all_encodings, i64_type, chunked_flat, column_plan, IsReport, TooManyFor}
+use Rattle.vx_run.specs.Answers.{all_encodings, i64_type, chunked_flat, column_plan, IsReport, TooManyFor, IsColumnError, is_too_large}
 
 -- a setting that writes all encodings
 abbrev pub plain_setting : Setting
@@ -114,6 +118,35 @@ pub last_plain : (cs : List Chunk) {a c : Option (List Piece)} {b : Piece} → a
 last_plain cs {a} {c} {b} told last =
     let parts = told_parts (last.front ++ b ∷ []) a c (map piece cs) last.came told in
     plain_at cs last.front b parts.0 parts.1
+
+pub column_error : (e : WriteError) (next : ℕ) {t : Ty} {ids : List EncodingId} {unbuilt : Type 0} {a c : Option (List Piece)} {source sink : Type 0} → HasCause t ids unbuilt next a c e → MayCome source sink e
+    → (source → ⊥) → (sink → ⊥) → ((b : Piece) → TookLast a c b → piece_type b ≡ t) → ((b : Piece) → TookLast a c b → refused ids b ≡ None) → (unbuilt → ⊥) → IsColumnError e
+column_error (errors.TooLarge n) next cause may no_source no_sink typed plain built = tt
+column_error errors.OutOfMemory next cause may no_source no_sink typed plain built = tt
+column_error errors.SourceFault next cause may no_source no_sink typed plain built = absurd (no_source may)
+column_error errors.SinkFault next cause may no_source no_sink typed plain built = absurd (no_sink may)
+column_error errors.CompressFault next cause may no_source no_sink typed plain built = absurd cause
+column_error (errors.BatchType b) next cause may no_source no_sink typed plain built = absurd (cause.0 (typed (piece b) cause.1))
+column_error errors.NotStruct next cause may no_source no_sink typed plain built = absurd cause
+column_error (errors.DuplicateField name) next cause may no_source no_sink typed plain built = absurd cause
+column_error errors.ManyChunks next cause may no_source no_sink typed plain built = absurd cause
+column_error errors.EmptyList next cause may no_source no_sink typed plain built = absurd cause
+column_error (errors.ZoneCut n) next cause may no_source no_sink typed plain built = absurd cause
+column_error (errors.ForbiddenAggregate id) next cause may no_source no_sink typed plain built = absurd cause
+column_error (errors.ForbiddenEncoding id) next cause may no_source no_sink typed plain built = absurd (let other : None ≡ Some id = sym (plain cause.0 cause.2) ∙ cause.1 in cc)
+column_error errors.Unbuilt next cause may no_source no_sink typed plain built = absurd (built cause)
+
+pub large_is : (e : WriteError) → is_too_large e ≡ true → (n : ℕ) × (e ≡ errors.TooLarge n)
+large_is (errors.TooLarge n) h = (n, refl)
+large_is errors.OutOfMemory h = absurd (let f : false ≡ true = h in cc)
+large_is e h = absurd (let f : false ≡ true = h in cc)
+
+pub never_listed : (list : List ℕ) (k : ℕ) → list ≡ [] → IsTrue (fails_at list k) → ⊥
+never_listed list k none h = by_test (nat_lt k (2 ^ 64 - 1)) (rw none at h)
+  where
+    by_test : (b : Bool) → IsTrue (b && false) → ⊥
+    by_test true h = let f : false ≡ true = h in cc
+    by_test false h = let f : false ≡ true = h in cc
 
 -- ---- the batches of a job have its type
 

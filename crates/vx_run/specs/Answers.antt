@@ -1,5 +1,5 @@
 -- Which text belongs to which status.
-use Rattle.std.specs.Prelude.{◌≡◌, ℕ, ◌++◌, true, false, List, [], ◌∷◌, codes, Some}
+use Rattle.std.specs.Prelude.{◌≡◌, ℕ, ◌++◌, Bool, true, false, List, [], ◌∷◌, codes, Some}
 use Rattle.vx_model.specs.declared.encoding.EncodingId.{EncodingId}
 use Rattle.vx_model.specs.declared.encoding.EncodingId.TheVariants as encodings
 use Rattle.vx_model.specs.declared.ptype.PType.TheVariants.{I64}
@@ -13,6 +13,8 @@ use Rattle.vx_plan.specs.SourcePlan.{source_plan, taken_plan, source_values}
 use Rattle.vx_plan.specs.Number.{segments, numbered, segment_at}
 use Rattle.vx_plan.specs.Valid.{Valid}
 use Rattle.vx_write.specs.Stream.{Writes}
+use Rattle.vx_write.specs.declared.error.WriteError.{WriteError}
+use Rattle.vx_write.specs.declared.error.WriteError.TheVariants as errors
 use Rattle.vx_job.specs.JobText.{JobForm, not_json, not_object, unbuilt, column}
 use Rattle.vx_report.specs.Report.{report, refused_report}
 use Rattle.vx_run.specs.declared.status.Status.{Status}
@@ -48,6 +50,16 @@ pub record TooManyFor (s : Setting) (batches : List Piece) (text : List ℕ) : T
   pub prefix : segments (taken_plan s chunked_flat i64_type false taken false) ≡ appended ++ more
   pub shown : text ≡ refused_report (codes "TooLarge") 0 appended
   pub not_valid : (tracker : ℕ) → ¬ (Valid s chunked_flat i64_type false 0 tracker batches)
+
+abbrev pub is_too_large : WriteError → Bool
+is_too_large (errors.TooLarge n) = true
+is_too_large e = false
+
+-- why the write of a column is refused: its numbers don't fit, or memory runs out
+abbrev pub IsColumnError : WriteError → Type 0
+IsColumnError (errors.TooLarge n) = Unit {0}
+IsColumnError errors.OutOfMemory = Unit {0}
+IsColumnError e = ⊥
 
 -- what is printed of a column, for each setting that writes all encodings
 abbrev pub ColumnAnswer : List Piece → Status → List ℕ → Type 0

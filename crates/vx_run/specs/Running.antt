@@ -56,6 +56,10 @@ pub record HasRead (before now : Option (List ℕ)) (bytes : List ℕ) : Type 0 
   pub short : length bytes ≤ limit + 1
   pub ended : length bytes ≤ limit → IsAtEnd now
 
+-- some call may fail
+abbrev pub MayFail : (ℕ → Type 0) → Type 0
+MayFail may = (k : ℕ) × may k
+
 -- What was taken from the input: at most one byte past the limit.
 pub record Took (before now : Option (List ℕ)) : Type 0 where
   pub bytes : List ℕ

@@ -1,6 +1,6 @@
 //! What the command `write` answers to a job.
 
-ghost use Rattle.std.specs.Prelude.{◌≡◌, string_bytes, map, List, Some, IsSome, IfOk, option_map};
+ghost use Rattle.std.specs.Prelude.{◌≡◌, string_bytes, map, List, true, codes, Some, IsSome, IfOk, option_map};
 ghost use Rattle.vx_model.specs.Piece.{Piece};
 ghost use Rattle.vx_model.specs.TreeView.{val};
 ghost use Rattle.vx_types.specs.ChunkView.{piece};
@@ -11,9 +11,10 @@ ghost use Rattle.vx_plan.specs.Number.{segment_at};
 ghost use Rattle.vx_plan.specs.Valid.{OfSchema};
 ghost use Rattle.vx_sink.specs.ContextView.{listed};
 ghost use Rattle.vx_job.specs.JobText.{job};
-ghost use Rattle.vx_report.specs.Report.{report};
+ghost use Rattle.vx_report.specs.Report.{report, refused_report};
 ghost use Rattle.vx_write.specs.StrategyView.{way};
-ghost use Rattle.vx_run.specs.Answers.{IsAnswer, ColumnAnswer, all_encodings, i64_type, chunked_flat};
+ghost use Rattle.vx_run.specs.declared.status.Status.TheVariants as statuses;
+ghost use Rattle.vx_run.specs.Answers.{IsText, IsAnswer, ColumnAnswer, IsColumnError, is_too_large, all_encodings, i64_type, chunked_flat};
 
 use crate::status::Status;
 use std::alloc::{AllocError, Global};
@@ -92,25 +93,31 @@ fn write_batches(alloc: Global, batches: Vec<Chunk>) -> Result<Answer, AllocErro
                 text,
             })
         }
-        Err(refused) => match refused.error {
-            WriteError::OutOfMemory => Err(AllocError),
-            WriteError::TooLarge(_) => {
-                let text = refused_report(alloc, "TooLarge", 0, sink.segments())?;
-                Ok(Answer {
-                    status: Status::Refused,
-                    text,
-                })
-            }
-            WriteError::SourceFault | WriteError::SinkFault | WriteError::CompressFault =>
-                unreachable!(),
-            WriteError::BatchType(_) => unreachable!(),
-            WriteError::NotStruct | WriteError::DuplicateField(_) | WriteError::ManyChunks =>
-                unreachable!(),
-            WriteError::EmptyList | WriteError::ZoneCut(_) | WriteError::ForbiddenAggregate(_) =>
-                unreachable!(),
-            WriteError::ForbiddenEncoding(_) => unreachable!(),
-            WriteError::Unbuilt => unreachable!(),
-        },
+        Err(refused) => refusal(alloc, refused.error, sink.segments()),
+    }
+}
+
+/// The report of a write that was refused: of a column that is only for numbers that don't fit.
+fn refusal(alloc: Global, error: WriteError, segments: &[Blob]) -> Result<Answer, AllocError>
+    requires { IsColumnError error }
+    ensures { IfOk result (λ a. (is_too_large error ≡ true) × IsText statuses.Refused (refused_report (codes "TooLarge") 0 segments.now) a.status (string_bytes a.text)) }
+{
+    match error {
+        WriteError::TooLarge(_) => {
+            let text = refused_report(alloc, "TooLarge", 0, segments)?;
+            Ok(Answer {
+                status: Status::Refused,
+                text,
+            })
+        }
+        WriteError::OutOfMemory => Err(AllocError),
+        WriteError::SourceFault | WriteError::SinkFault | WriteError::CompressFault =>
+            unreachable!(),
+        WriteError::BatchType(_) | WriteError::NotStruct | WriteError::DuplicateField(_) =>
+            unreachable!(),
+        WriteError::ManyChunks | WriteError::EmptyList | WriteError::ZoneCut(_) => unreachable!(),
+        WriteError::ForbiddenAggregate(_) | WriteError::ForbiddenEncoding(_) => unreachable!(),
+        WriteError::Unbuilt => unreachable!(),
     }
 }
 

@@ -1,4 +1,4 @@
-ghost use Rattle.std.specs.Prelude.{ℕ, List, Option};
+ghost use Rattle.std.specs.Prelude.{◌≡◌, ℕ, ◌+◌, ◌≤◌, ◌^◌, List, Option, IsTrue, IfOk};
 ghost use Rattle.std.specs.Io.{ReadsAtMost};
 ghost use Rattle.std.specs.Io.KnownBytes.{ReadConsumes};
 ghost use Rattle.vx_sink.specs.Counts.{Counts};
@@ -24,10 +24,20 @@ pub trait Input {
     /// How often the input failed.
     ghost faults: { Self → ℕ };
 
+    /// Whether the call after so many others may fail.
+    ghost may_fail: { Self → ℕ → Type 0 };
+
+    /// The most bytes that a call gives, which no call changes.
+    ghost most: { Self → ℕ } = { λ _. 2 ^ 64 };
+
     /// Reads the next bytes into the front of the buffer, and gives their number: 0, for a buffer that has room,
     /// at the end alone.
     fn read(&mut self, buf: &mut [u8]) -> Result<u64, InputFailure>
         ensures bound { ReadsAtMost result buf.new }
         ensures bytes { ReadConsumes (to_come self.old) (to_come self.new) result buf.new }
-        ensures cause { Counts (faults self.old) (faults self.new) (input_failed result) };
+        ensures few { IfOk result (λ n. n ≤ most self.old) }
+        ensures most { most self.new ≡ most self.old }
+        ensures cause { Counts (faults self.old) (faults self.new) (input_failed result) }
+        ensures fails { IsTrue (input_failed result) → may_fail self.old 0 }
+        ensures later { (k : ℕ) → may_fail self.new k → may_fail self.old (k + 1) };
 }

@@ -1,6 +1,7 @@
 //! Inputs and outputs in memory.
 
-ghost use Rattle.std.specs.Prelude.{◌≡◌, ◌<◌, ◌≤◌, Some, [], drop, length};
+ghost use Rattle.std.specs.Prelude.{◌≡◌, ℕ, ◌+◌, ◌<◌, ◌≤◌, Some, [], drop, length, IsTrue};
+ghost use Rattle.vx_sink.specs.Fails.{fails_at};
 
 use crate::input::{Input, InputFailure};
 use crate::output::{Output, OutputFailure};
@@ -23,6 +24,8 @@ impl ByteInput {
         requires { 0 < most }
         ensures to_come { ⟦<ByteInput as Input>⟧.to_come result ≡ Some bytes.items }
         ensures faults { ⟦<ByteInput as Input>⟧.faults result ≡ 0 }
+        ensures may_fail { (k : ℕ) → ⟦<ByteInput as Input>⟧.may_fail result k → IsTrue (fails_at fail.items k) }
+        ensures most { ⟦<ByteInput as Input>⟧.most result ≡ most }
     {
         ByteInput {
             bytes,
@@ -37,6 +40,10 @@ impl Input for ByteInput {
     ghost to_come = { λ s. Some (drop s.at s.bytes.items) };
 
     ghost faults = { λ s. s.fails.count };
+
+    ghost may_fail = { λ s k. IsTrue (fails_at s.fails.list.items (s.fails.calls + k)) };
+
+    ghost most = { λ s. s.most };
 
     #[tactic(auto, using(crate::proofs::RunSteps::read_front, crate::proofs::RunSteps::at_end))]
     fn read(&mut self, buf: &mut [u8]) -> Result<u64, InputFailure> {
@@ -68,6 +75,8 @@ impl ByteOutput {
         requires { 0 < most }
         ensures written { ⟦<ByteOutput as Output>⟧.written result ≡ Some [] }
         ensures faults { ⟦<ByteOutput as Output>⟧.faults result ≡ 0 }
+        ensures may_fail { (k : ℕ) → ⟦<ByteOutput as Output>⟧.may_fail result k → IsTrue (fails_at fail.items k) }
+        ensures most { ⟦<ByteOutput as Output>⟧.most result ≡ most }
     {
         let written = Vec::new(*fail.allocator());
         ByteOutput {
@@ -88,6 +97,10 @@ impl Output for ByteOutput {
     ghost written = { λ s. Some s.written.items };
 
     ghost faults = { λ s. s.fails.count };
+
+    ghost may_fail = { λ s k. IsTrue (fails_at s.fails.list.items (s.fails.calls + k)) };
+
+    ghost most = { λ s. s.most };
 
     fn write(&mut self, bytes: &[u8]) -> Result<u64, OutputFailure> {
         if self.fails.call() {

@@ -1,4 +1,4 @@
-ghost use Rattle.std.specs.Prelude.{ℕ, ◌<◌, List, Option, length, IfOk};
+ghost use Rattle.std.specs.Prelude.{◌≡◌, ℕ, ◌+◌, ◌<◌, ◌≤◌, ◌^◌, List, Option, length, IsTrue, IfOk};
 ghost use Rattle.std.specs.Io.{WritesAtMost};
 ghost use Rattle.std.specs.Io.KnownBytes.{WriteAppends};
 ghost use Rattle.vx_sink.specs.Counts.{Counts};
@@ -24,10 +24,20 @@ pub trait Output {
     /// How often the output failed.
     ghost faults: { Self → ℕ };
 
+    /// Whether the call after so many others may fail.
+    ghost may_fail: { Self → ℕ → Type 0 };
+
+    /// The most bytes that a call takes, which no call changes.
+    ghost most: { Self → ℕ } = { λ _. 2 ^ 64 };
+
     /// Writes bytes from the front of the piece, and gives their number: at least one of a piece that isn't empty.
     fn write(&mut self, bytes: &[u8]) -> Result<u64, OutputFailure>
         ensures bound { WritesAtMost result bytes.now }
         ensures some { 0 < length bytes.now → IfOk result (λ n. 0 < n) }
         ensures bytes { WriteAppends (written self.old) (written self.new) result bytes.now }
-        ensures cause { Counts (faults self.old) (faults self.new) (output_failed result) };
+        ensures few { IfOk result (λ n. n ≤ most self.old) }
+        ensures most { most self.new ≡ most self.old }
+        ensures cause { Counts (faults self.old) (faults self.new) (output_failed result) }
+        ensures fails { IsTrue (output_failed result) → may_fail self.old 0 }
+        ensures later { (k : ℕ) → may_fail self.new k → may_fail self.old (k + 1) };
 }

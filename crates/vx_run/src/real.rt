@@ -15,7 +15,8 @@ pub struct RealInput<R: Read> {
 
 impl<R: Read> RealInput<R> {
     pub fn new(inner: R) -> RealInput<R>
-        ensures { ⟦<RealInput<R> as Input>⟧.faults result ≡ 0 }
+        ensures to_come { ⟦<RealInput<R> as Input>⟧.to_come result ≡ R.remaining inner }
+        ensures faults { ⟦<RealInput<R> as Input>⟧.faults result ≡ 0 }
     {
         RealInput { inner, faults: 0 }
     }
@@ -25,6 +26,8 @@ impl<R: Read> Input for RealInput<R> {
     ghost to_come = { λ s. R.remaining s.inner };
 
     ghost faults = { λ s. s.faults };
+
+    ghost may_fail = { λ _ _. Unit {0} };
 
     fn read(&mut self, buf: &mut [u8]) -> Result<u64, InputFailure> {
         match self.inner.read(buf) {
@@ -46,7 +49,8 @@ pub struct RealOutput<W: Write> {
 
 impl<W: Write> RealOutput<W> {
     pub fn new(inner: W) -> RealOutput<W>
-        ensures { ⟦<RealOutput<W> as Output>⟧.faults result ≡ 0 }
+        ensures written { ⟦<RealOutput<W> as Output>⟧.written result ≡ W.contents inner }
+        ensures faults { ⟦<RealOutput<W> as Output>⟧.faults result ≡ 0 }
     {
         RealOutput { inner, faults: 0 }
     }
@@ -56,6 +60,8 @@ impl<W: Write> Output for RealOutput<W> {
     ghost written = { λ s. W.contents s.inner };
 
     ghost faults = { λ s. s.faults };
+
+    ghost may_fail = { λ _ _. Unit {0} };
 
     fn write(&mut self, bytes: &[u8]) -> Result<u64, OutputFailure> {
         match self.inner.write(bytes) {

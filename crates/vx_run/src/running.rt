@@ -12,7 +12,7 @@ ghost use Rattle.vx_run.specs.declared.status.Status.{Status};
 ghost use Rattle.vx_run.specs.declared.status.Status.TheVariants as statuses;
 ghost use Rattle.vx_run.specs.Answers.{IsText, IsAnswer, all_encodings, chunked_flat, i64_type};
 ghost use Rattle.vx_run.specs.Failures.{input_failed, output_failed};
-ghost use Rattle.vx_run.specs.Running.{is_write, usage, is_input_fault, is_output_fault, is_usage, Ends, Took, HasRead, has_read, Finishes, AppendsFront};
+ghost use Rattle.vx_run.specs.Running.{is_write, usage, is_input_fault, is_output_fault, is_usage, Ends, MayFail, Took, HasRead, has_read, Finishes, AppendsFront};
 
 use crate::answer::answer_to;
 use crate::input::{Input, InputFailure};
@@ -33,6 +33,8 @@ pub fn run<I: Input, O: Output>(
 ) -> Status
     ensures input_count { Counts (I.faults input.old) (I.faults input.new) (is_input_fault result) }
     ensures output_count { Counts (O.faults output.old) (O.faults output.new) (is_output_fault result) }
+    ensures may_input { is_input_fault result ≡ true → MayFail (I.may_fail input.old) }
+    ensures may_output { is_output_fault result ≡ true → MayFail (O.may_fail output.old) }
     ensures ended { is_write (map string_bytes words.now) ≡ true → has_read result ≡ true → IsAtEnd (I.to_come input.new) }
     ensures judged { is_write (map string_bytes words.now) ≡ true → result ≡ statuses.BadJob
         → (bytes : List ℕ) × HasRead (I.to_come input.old) (I.to_come input.new) bytes }
@@ -82,6 +84,7 @@ fn read_all<I: Input>(alloc: Global, input: &mut I) -> Result<Vec<u8>, InputFail
     ensures read { IfOk result (λ bytes. HasRead (I.to_come input.old) (I.to_come input.new) bytes.items) }
     ensures took { OnErr result (Took (I.to_come input.old) (I.to_come input.new)) }
     ensures count { Counts (I.faults input.old) (I.faults input.new) (input_failed result) }
+    ensures may { input_failed result ≡ true → MayFail (I.may_fail input.old) }
 {
     let mut bytes = Vec::new(alloc);
     let mut buffer = [0u8; 4096];
@@ -104,6 +107,7 @@ fn read_all<I: Input>(alloc: Global, input: &mut I) -> Result<Vec<u8>, InputFail
 fn finish<O: Output>(output: &mut O, status: Status, text: &str) -> Status
     requires { is_output_fault status ≡ false }
     ensures count { Counts (O.faults output.old) (O.faults output.new) (is_output_fault result) }
+    ensures may { is_output_fault result ≡ true → MayFail (O.may_fail output.old) }
     ensures wrote { Finishes status text.now (O.written output.old) (O.written output.new) result }
 {
     match write_all(output, text.as_bytes()) {
@@ -118,6 +122,7 @@ fn write_all<O: Output>(output: &mut O, bytes: &[u8]) -> Result<(), OutputFailur
     ensures all { OnOk result (Appends (O.written output.old) (O.written output.new) bytes.now) }
     ensures front { OnErr result (AppendsFront (O.written output.old) (O.written output.new) bytes.now) }
     ensures count { Counts (O.faults output.old) (O.faults output.new) (output_failed result) }
+    ensures may { output_failed result ≡ true → MayFail (O.may_fail output.old) }
 {
     let mut at = 0;
     'writes: while at < bytes.len() {

@@ -1,7 +1,11 @@
-use Rattle.std.proofs.Common.{◌≡◌, map, refl, sym, ◌∙◌, None, Some, arith}
+use Rattle.std.proofs.Common.{◌≡◌, map, true, false, refl, sym, subst, ◌∙◌, arith}
+use Rattle.std.proofs.lemmas.Result.{IfOk-weaker}
+use Rattle.std.specs.Prelude.{string_bytes}
+use Rattle.vx_run.specs.declared.status.Status.{Status}
+use Rattle.vx_run.specs.Answers.{ColumnAnswer}
 use Rattle.vx_write.specs.declared.error.WriteError.TheVariants as errors
 use Rattle.vx_types.specs.ChunkView.{piece}
-use Rattle.vx_run.proofs.ColumnSteps.{column_shown, rows_told, plain_setting, writes_all, refused_shown, last_typed, last_plain, i64_is}
+use Rattle.vx_run.proofs.ColumnSteps.{column_shown, rows_told, plain_setting, writes_all, refused_shown, column_error, large_is, never_listed, last_typed, last_plain, i64_is}
 use Rattle.vx_run.proofs.answer.write_batches.Goals as goal
 
 pub written_report-requires : goal.written_report-requires
@@ -14,18 +18,20 @@ returns-in-Ok c s writes = column_shown s (map piece c.args.batches.items) c.in_
     (c.in-Ok.ensures.layout s (map piece c.args.batches.items) (rw c.in_ok-ctx.ensures writes) c.new-source.ensures.batches) (c.in-Ok.ensures.segments s (map piece c.args.batches.items) (rw c.in_ok-ctx.ensures writes) c.new-source.ensures.batches)
     (c.in-Ok.ensures.rows s (map piece c.args.batches.items) (rw c.in_ok-ctx.ensures writes) c.new-source.ensures.batches)
 
-pub returns-in-TooLarge : goal.returns-in-TooLarge
-returns-in-TooLarge c s writes = refused_shown s (map piece c.args.batches.items) c.in_ok-strategy.ensures (c.new-source.ensures.kind ∙ i64_is) c.new-source.ensures.batches c.new-sink.ensures.segments c.segments-in-TooLarge.ensures c.in_ok-text-in-TooLarge.ensures
+pub refusal-requires : goal.refusal-requires
+refusal-requires c = column_error c.in-Err.refused.error _ c.in-Err.ensures.cause c.in-Err.ensures.may
+    (λ h. never_listed _ _ c.new.ensures.items (c.new-source.ensures.may_fail _ h))
+    (λ h. never_listed _ _ c.new-2.ensures.items (c.new-sink.ensures.may_fail _ h))
+    (λ b last. last_typed c.requires c.new-source.ensures.batches last ∙ sym (c.new-source.ensures.kind ∙ i64_is))
+    (λ b last. rw c.in_ok-ctx.ensures (last_plain c.args.batches.items c.new-source.ensures.batches last))
+    (λ h. let f : true ≡ false = rw (c.in_ok-strategy.ensures, c.new-source.ensures.kind, i64_is) at h in cc)
+
+pub returns : goal.returns
+returns c = IfOk-weaker c.refusal.result _ _ (λ a h.
+    let large = large_is c.in-Err.refused.error h.0 in
+    subst (λ (status : Status). ColumnAnswer (map piece c.args.batches.items) status (string_bytes a.text)) (sym h.1.0) (λ s writes.
+    refused_shown s (map piece c.args.batches.items) c.in_ok-strategy.ensures (c.new-source.ensures.kind ∙ i64_is) c.new-source.ensures.batches c.new-sink.ensures.segments c.segments-in-Err.ensures h.1.1
     (c.in-Err.ensures.prefix s (rw c.in_ok-ctx.ensures writes))
-    (λ tracker valid. let never : c.in-Err.refused.error ≡ errors.OutOfMemory = c.in-Err.ensures.complete s tracker (map piece c.args.batches.items) (rw c.in_ok-ctx.ensures writes) c.new-source.ensures.batches (rw (c.in_ok-strategy.ensures, c.new-source.ensures.kind, i64_is) refl) (rw (c.in_ok-strategy.ensures, c.new-source.ensures.kind, i64_is, c.new-sink.ensures.next) valid) (rw c.in-TooLarge.is at c.in-Err.ensures.source_count, rw c.new-source.ensures.faults (omega arith)) (rw c.in-TooLarge.is at c.in-Err.ensures.sink_count, rw c.new-sink.ensures.faults (omega arith)) in
-    let other : errors.TooLarge c.in-TooLarge.field-0 ≡ errors.OutOfMemory = sym c.in-TooLarge.is ∙ never in cc)
-
-pub unreachable-requires-in-BatchType : goal.unreachable-requires-in-BatchType
-unreachable-requires-in-BatchType c =
-    let cause = rw c.in-BatchType.is at c.in-Err.ensures.cause in
-    cause.0 (last_typed c.requires c.new-source.ensures.batches cause.1 ∙ sym (c.new-source.ensures.kind ∙ i64_is))
-
-pub unreachable-requires-in-ForbiddenEncoding : goal.unreachable-requires-in-ForbiddenEncoding
-unreachable-requires-in-ForbiddenEncoding c =
-    let cause = rw (c.in-ForbiddenEncoding.is, c.in_ok-ctx.ensures) at c.in-Err.ensures.cause in
-    let other : None ≡ Some c.in-ForbiddenEncoding.field-0 = sym (last_plain c.args.batches.items c.new-source.ensures.batches cause.2) ∙ cause.1 in cc
+    (λ tracker valid.
+    let memory : c.in-Err.refused.error ≡ errors.OutOfMemory = c.in-Err.ensures.complete s tracker (map piece c.args.batches.items) (rw c.in_ok-ctx.ensures writes) c.new-source.ensures.batches (rw (c.in_ok-strategy.ensures, c.new-source.ensures.kind, i64_is) refl) (rw (c.in_ok-strategy.ensures, c.new-source.ensures.kind, i64_is, c.new-sink.ensures.next) valid) (rw large.1 at c.in-Err.ensures.source_count, rw c.new-source.ensures.faults (omega arith)) (rw large.1 at c.in-Err.ensures.sink_count, rw c.new-sink.ensures.faults (omega arith)) in
+    let other : errors.TooLarge large.0 ≡ errors.OutOfMemory = sym large.1 ∙ memory in cc))) c.refusal.ensures

@@ -1,11 +1,13 @@
-use Rattle.std.proofs.Common.{◌≡◌, ◌-◌, ◌≤◌, length, take}
+use Rattle.std.proofs.Common.{◌≡◌, ℕ, ◌-◌, ◌≤◌, length, take}
 use Rattle.std.specs.Io.KnownBytes.{Appends}
+use Rattle.vx_run.specs.Running.{MayFail}
 use Rattle.vx_run.proofs.running.write_all.Given as goal
 
 abbrev pub invariant-writes : goal.invariant-writes
 invariant-writes g l = record {
   wrote : Appends (g.O.Output.written l.fn.output) (g.O.Output.written l.output) (take l.at l.bytes);
   count : g.O.Output.faults l.output ≡ g.O.Output.faults l.fn.output;
+  may : (k : ℕ) → g.O.Output.may_fail l.output k → MayFail (g.O.Output.may_fail l.fn.output);
   within : l.at ≤ length l.bytes;
 }
 
