@@ -1,0 +1,4 @@
+pub mod FlatLists
+pub mod NodeArrays
+pub mod Strategies
+pub mod ArrayLaws

@@ -1,0 +1,20 @@
+-- The array trees of what was written.
+use Rattle.std.specs.Prelude.{ℕ, ◌≡◌, Bool, true, List, [], Some, None}
+use Rattle.vx_model.specs.Ty.{Ty}
+use Rattle.vx_model.specs.Piece.{Piece}
+use Rattle.vx_plan.specs.PlanData.{Setting}
+use Rattle.vx_plan.specs.Way.{Way}
+use Rattle.vx_plan.specs.SourcePlan.{source_plan}
+use Rattle.vx_plan.specs.Number.{segments, numbered, segment_at}
+use Rattle.vx_arrays.specs.Flats.{flats, FlatsHold}
+
+-- a chunk is encoded where no encoding is refused
+abbrev pub Encodes : Setting → Type 0
+Encodes s = (padding : Bool) (p : Piece) → s.codec.refused s.encodings p ≡ None → (b : List ℕ) × (s.codec.encode s.encodings padding p ≡ Some b)
+
+-- Each flat node of the numbered layout, those of zone tables too, has an array tree exactly where the strategy's node
+-- inlines, and it is the tree part of the node's segment.
+abbrev pub ArrayTrees : Type 0
+ArrayTrees = (s : Setting) (w : Way) (t : Ty) (m : Bool) (batches : List Piece) (first : ℕ) → Encodes s
+    → (source_plan s w t m batches true).faults ≡ []
+    → FlatsHold s (flats w) (segment_at first (segments (source_plan s w t m batches true))) (numbered (source_plan s w t m batches true) first)
