@@ -63,9 +63,9 @@ right_true false b e = absurd (cc e)
 
 in_range : (n : ℕ) → (nat_lt 0 n && nat_lt n (2 ^ 32)) ≡ true → (0 < n) × (n < 2 ^ 32)
 in_range n e = (
-    let h = left_true (nat_lt 0 n) (nat_lt n (2 ^ 32)) e in grind (arith, nat_tests),
-    let h = right_true (nat_lt 0 n) (nat_lt n (2 ^ 32)) e in grind (arith, nat_tests),
-  )
+  let h = left_true (nat_lt 0 n) (nat_lt n (2 ^ 32)) e in grind (arith, nat_tests),
+  let h = right_true (nat_lt 0 n) (nat_lt n (2 ^ 32)) e in grind (arith, nat_tests),
+)
 
 -- a bound's options are no others than these
 bounds_only : (a : Aggregate) (options : List ℕ) → sort a ≡ 4 → ((n : ℕ) → 0 < n → n < 2 ^ 32 → to_le_bytes w32 n ≡ options → ⊥)
