@@ -1,5 +1,5 @@
 -- The array trees of what was written.
-use Rattle.std.proofs.Common.{◌≡◌, ℕ, Bool, true, List, []}
+use Rattle.std.proofs.Common.{◌≡◌, true}
 use Rattle.vx_model.specs.Ty.{Ty}
 use Rattle.vx_path.specs.Lists.{In}
 use Rattle.vx_plan.specs.PlanData.{Setting, Plan}

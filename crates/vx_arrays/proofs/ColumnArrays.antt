@@ -2,8 +2,8 @@
 use Rattle.std.proofs.Common.{◌≡◌, ℕ, suc, ◌<◌, ◌^◌, ◌||◌, Bool, true, false, List, [], ◌∷◌, ◌++◌, length, Option, Some, None, arith}
 use Rattle.vx_model.specs.Ty.{Ty, Tys, boolean, no_fields, field, struct, list}
 use Rattle.vx_path.specs.Path.{Eof, inside, next}
-use Rattle.vx_rules.specs.Stream.{Chunks, stream_cells}
-use Rattle.vx_rules.specs.Columns.{Split, struct_splits, list_splits, column, other_columns, all_elements, offset_type}
+use Rattle.vx_rules.specs.Stream.{stream_cells}
+use Rattle.vx_rules.specs.Columns.{Split, struct_splits, list_splits, column, other_columns, offset_type}
 use Rattle.vx_rules.proofs.ColumnStreams.{field_streams, StreamsOf, streams_are, chunk_cells, struct_shows, nullable_shows, validity_stream, elements_stream, offsets_stream, list_validity_stream}
 use Rattle.vx_plan.specs.PlanData.{Setting, Item, Plan, Node, row_total}
 use Rattle.vx_plan.specs.Way.{FlatOptions}

@@ -1,9 +1,9 @@
 -- Array trees of a small layout, computed. The codec here spells each cell by a zero, and a tree part by the padding and the rows.
-use Rattle.std.proofs.Common.{◌≡◌, ℕ, Bool, true, false, List, [], ◌∷◌, length, map, Option, Some, None, refl}
+use Rattle.std.proofs.Common.{◌≡◌, true, false, List, [], ◌∷◌, length, map, Some, None, refl}
 use Rattle.std.specs.Prelude.{if◌then◌else◌, pos}
 use Rattle.vx_model.specs.declared.ptype.PType.TheVariants.{I32}
 use Rattle.vx_model.specs.declared.encoding.EncodingId.TheVariants.{Plain}
-use Rattle.vx_model.specs.Ty.{Ty, primitive}
+use Rattle.vx_model.specs.Ty.{primitive}
 use Rattle.vx_model.specs.Tree.{int_cell}
 use Rattle.vx_model.specs.Piece.{Piece, plain_piece, cells}
 use Rattle.vx_tree.specs.LayoutTree.{flat_layout, chunked_layout}
@@ -42,20 +42,17 @@ batches = plain_piece (primitive I32 false) (int_cell (pos 1) ∷ int_cell (pos 
 
 -- those of the data, then those of the table
 listed_flats : flats (zoned zones_of_2 (chunked (flat inlining)) (flat plain)) ≡ inlining ∷ plain ∷ []
+unfolding zones_of_2 inlining plain
 listed_flats = refl
 
 inlined_trees : numbered (source_plan setting (chunked (flat inlining)) (primitive I32 false) false batches true) 5
     ≡ chunked_layout (primitive I32 false) 3
     (flat_layout (primitive I32 false) 2 (Plain ∷ []) (Some (1 ∷ 2 ∷ [])) 5 ∷ flat_layout (primitive I32 false) 1 (Plain ∷ []) (Some (1 ∷ 1 ∷ [])) 6 ∷ [])
-inlined_trees = by_compute
-  where
-    unfolding setting
-    unfolding inlining
-    unfolding batches
-    by_compute : _
-    by_compute = refl
+unfolding setting inlining batches
+inlined_trees = refl
 
 plain_trees : numbered (source_plan setting (chunked (flat plain)) (primitive I32 false) false batches true) 5
     ≡ chunked_layout (primitive I32 false) 3
     (flat_layout (primitive I32 false) 2 (Plain ∷ []) None 5 ∷ flat_layout (primitive I32 false) 1 (Plain ∷ []) None 6 ∷ [])
+unfolding setting plain batches
 plain_trees = refl

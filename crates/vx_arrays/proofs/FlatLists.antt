@@ -1,5 +1,5 @@
 -- Several layouts, and layouts with other names.
-use Rattle.std.proofs.Common.{◌≡◌, ℕ, List, [], ◌∷◌, map, Option, ap}
+use Rattle.std.proofs.Common.{ℕ, List, [], ◌∷◌, map, Option, ap}
 use Rattle.vx_model.specs.Ty.{Ty}
 use Rattle.vx_tree.specs.LayoutTree.{Kind, flat_kind, chunked_kind, struct_kind, list_kind, dict_kind, zoned_kind, stats_kind, foreign_kind, Lay, Lays, layout, no_layouts, child, lays_of, gathered, renamed, each_renamed}
 use Rattle.vx_plan.specs.PlanData.{Setting}

@@ -4,3 +4,4 @@ pub mod NodeArrays
 pub mod ColumnArrays
 pub mod Strategies
 pub mod ArrayLaws
+mod Examples

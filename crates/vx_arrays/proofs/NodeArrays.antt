@@ -27,9 +27,9 @@ use Rattle.vx_plan.specs.DictNode.{is_dictionary, run_plan, run_plans, dict_numb
 use Rattle.vx_plan.specs.ZonedNode.{recorded, forbidden_faults, zone_faults, zone_records, table_items, with_table, table_of, zoned_node}
 use Rattle.vx_plan.proofs.PlanLists.{ItemsOf, Holds, nil_left, nil_right, fit_left, fit_right, holds_left, holds_right, row_total_cells}
 use Rattle.vx_plan.proofs.FlatLaws.{cons_nil}
-use Rattle.vx_arrays.specs.Flats.{IsFlat, FlatsHold}
+use Rattle.vx_arrays.specs.Flats.{FlatsHold}
 use Rattle.vx_arrays.specs.Statements.{Encodes}
-use Rattle.vx_arrays.proofs.FlatLists.{AllHold, all_flats, gathered_flats}
+use Rattle.vx_arrays.proofs.FlatLists.{AllHold, gathered_flats}
 use Rattle.vx_arrays.proofs.ZoneTables.{whole_table}
 
 -- What is said of a node at a type: each flat node of what it gives is as the strategy has it.

@@ -10,7 +10,7 @@ use Rattle.vx_rules.specs.Runs.{DictOptions, code_type}
 use Rattle.vx_plan.specs.PlanData.{Setting, Node}
 use Rattle.vx_plan.specs.Way.{Way, Ways, Wraps, FlatOptions, ZonedOptions, Grouping, flat, chunked, grouped, compressed, coded, zoned, structured, listed, tabled, no_ways, way_at, no_wraps, wrap_grouped, wrap_zoned}
 use Rattle.vx_plan.specs.Admitted.{is_admitted, are_admitted, wraps_admitted, are_apart, is_admitted_grouping, is_admitted_zoned}
-use Rattle.vx_plan.specs.Walk.{Named, Around, same_names, find, duplicate, chosen, field_nodes, of_struct, of_list, of_dict, in_lists, of_table, of_tables, walk, walk_named, walk_wraps}
+use Rattle.vx_plan.specs.Walk.{Named, Around, same_names, find, duplicate, chosen, field_nodes, of_struct, of_list, of_dict, in_lists, of_table, of_tables, walk_named, walk_wraps}
 use Rattle.vx_plan.specs.FlatNode.{flat_node}
 use Rattle.vx_plan.specs.ChunkedNode.{chunked_node}
 use Rattle.vx_plan.specs.GroupNode.{grouped_node, compressed_node}
