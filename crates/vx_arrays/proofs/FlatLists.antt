@@ -1,29 +1,29 @@
 -- Several layouts, and layouts with other names.
-use Rattle.std.proofs.Common.{◌≡◌, ℕ, List, [], ◌∷◌, map, Option, ap}
+use Rattle.std.proofs.Common.{ℕ, List, [], ◌∷◌, map, Option, ap}
 use Rattle.vx_model.specs.Ty.{Ty}
 use Rattle.vx_tree.specs.LayoutTree.{Kind, flat_kind, chunked_kind, struct_kind, list_kind, dict_kind, zoned_kind, stats_kind, foreign_kind, Lay, Lays, layout, no_layouts, child, lays_of, gathered, renamed, each_renamed}
 use Rattle.vx_plan.specs.PlanData.{Setting}
 use Rattle.vx_plan.specs.Way.{FlatOptions}
 use Rattle.vx_arrays.specs.Flats.{IsFlat, OfFlat, AllFlat, FlatsHold}
 
-abbrev pub AllHold : {A : Type 0} → Setting → List FlatOptions → (A → Option (List ℕ)) → List (Lay A) → Type 0
-AllHold s options look [] = Unit {0}
-AllHold s options look (l ∷ ls) = FlatsHold s options look l × AllHold s options look ls
+abbrev pub AllHold : {A : Type 0} → Setting → List FlatOptions → Type 0 → (A → Option (List ℕ)) → List (Lay A) → Type 0
+AllHold s options Good look [] = Unit {0}
+AllHold s options Good look (l ∷ ls) = FlatsHold s options Good look l × AllHold s options Good look ls
 
-pub all_flats : {A : Type 0} (s : Setting) (options : List FlatOptions) (look : A → Option (List ℕ)) (ls : List (Lay A)) → AllHold s options look ls → AllFlat (IsFlat s options look) (lays_of ls)
-all_flats s options look [] h = tt
-all_flats s options look (l ∷ ls) h = (h.0, all_flats s options look ls h.1)
+pub all_flats : {A : Type 0} (s : Setting) (options : List FlatOptions) (Good : Type 0) (look : A → Option (List ℕ)) (ls : List (Lay A)) → AllHold s options Good look ls → AllFlat (IsFlat s options Good look) (lays_of ls)
+all_flats s options Good look [] h = tt
+all_flats s options Good look (l ∷ ls) h = (h.0, all_flats s options Good look ls h.1)
 
-pub gathered_flats : {A : Type 0} (s : Setting) (options : List FlatOptions) (look : A → Option (List ℕ)) (t : Ty) (n : ℕ) (ls : List (Lay A)) → AllHold s options look ls → FlatsHold s options look (gathered t n ls)
-gathered_flats s options look t n [] h = (tt, tt)
-gathered_flats s options look t n (l ∷ []) h = h.0
-gathered_flats s options look t n (l ∷ k ∷ ls) h = (tt, all_flats s options look (l ∷ k ∷ ls) h)
+pub gathered_flats : {A : Type 0} (s : Setting) (options : List FlatOptions) (Good : Type 0) (look : A → Option (List ℕ)) (t : Ty) (n : ℕ) (ls : List (Lay A)) → AllHold s options Good look ls → FlatsHold s options Good look (gathered t n ls)
+gathered_flats s options Good look t n [] h = (tt, tt)
+gathered_flats s options Good look t n (l ∷ []) h = h.0
+gathered_flats s options Good look t n (l ∷ k ∷ ls) h = (tt, all_flats s options Good look (l ∷ k ∷ ls) h)
 
 -- ---- other names
 
-flat_renamed : {A B : Type 0} (s : Setting) (options : List FlatOptions) (look : B → Option (List ℕ)) (f : A → B) (k : Kind) (t : Ty) (n : ℕ) (names : List A)
-    → OfFlat (IsFlat s options (λ a. look (f a))) k t n names → OfFlat (IsFlat s options look) k t n (map f names)
-flat_renamed s options look f (flat_kind encodings tree) t n names h = record {
+flat_renamed : {A B : Type 0} (s : Setting) (options : List FlatOptions) (Good : Type 0) (look : B → Option (List ℕ)) (f : A → B) (k : Kind) (t : Ty) (n : ℕ) (names : List A)
+    → OfFlat (IsFlat s options Good (λ a. look (f a))) k t n names → OfFlat (IsFlat s options Good look) k t n (map f names)
+flat_renamed s options Good look f (flat_kind encodings tree) t n names h = record {
   node = h.node;
   name = f h.name;
   chunk = h.chunk;
@@ -34,20 +34,21 @@ flat_renamed s options look f (flat_kind encodings tree) t n names h = record {
   stored = h.stored;
   encoded = h.encoded;
   row_count = h.row_count;
+  of_type = h.of_type;
   array_tree = h.array_tree;
 }
-flat_renamed s options look f chunked_kind t n names h = tt
-flat_renamed s options look f struct_kind t n names h = tt
-flat_renamed s options look f list_kind t n names h = tt
-flat_renamed s options look f (dict_kind all) t n names h = tt
-flat_renamed s options look f (zoned_kind zone_len specs) t n names h = tt
-flat_renamed s options look f (stats_kind zone_len stats) t n names h = tt
-flat_renamed s options look f (foreign_kind id metadata) t n names h = tt
+flat_renamed s options Good look f chunked_kind t n names h = tt
+flat_renamed s options Good look f struct_kind t n names h = tt
+flat_renamed s options Good look f list_kind t n names h = tt
+flat_renamed s options Good look f (dict_kind all) t n names h = tt
+flat_renamed s options Good look f (zoned_kind zone_len specs) t n names h = tt
+flat_renamed s options Good look f (stats_kind zone_len stats) t n names h = tt
+flat_renamed s options Good look f (foreign_kind id metadata) t n names h = tt
 
 mutual
-  pub flats_renamed : {A B : Type 0} (s : Setting) (options : List FlatOptions) (look : B → Option (List ℕ)) (f : A → B) (l : Lay A) → FlatsHold s options (λ a. look (f a)) l → FlatsHold s options look (renamed f l)
-  flats_renamed s options look f (layout k t n names ls) h = (flat_renamed s options look f k t n names h.0, all_renamed s options look f ls h.1)
+  pub flats_renamed : {A B : Type 0} (s : Setting) (options : List FlatOptions) (Good : Type 0) (look : B → Option (List ℕ)) (f : A → B) (l : Lay A) → FlatsHold s options Good (λ a. look (f a)) l → FlatsHold s options Good look (renamed f l)
+  flats_renamed s options Good look f (layout k t n names ls) h = (flat_renamed s options Good look f k t n names h.0, all_renamed s options Good look f ls h.1)
 
-  all_renamed : {A B : Type 0} (s : Setting) (options : List FlatOptions) (look : B → Option (List ℕ)) (f : A → B) (ls : Lays A) → AllFlat (IsFlat s options (λ a. look (f a))) ls → AllFlat (IsFlat s options look) (each_renamed f ls)
-  all_renamed s options look f no_layouts h = tt
-  all_renamed s options look f (child l ls) h = (flats_renamed s options look f l h.0, all_renamed s options look f ls h.1)
+  all_renamed : {A B : Type 0} (s : Setting) (options : List FlatOptions) (Good : Type 0) (look : B → Option (List ℕ)) (f : A → B) (ls : Lays A) → AllFlat (IsFlat s options Good (λ a. look (f a))) ls → AllFlat (IsFlat s options Good look) (each_renamed f ls)
+  all_renamed s options Good look f no_layouts h = tt
+  all_renamed s options Good look f (child l ls) h = (flats_renamed s options Good look f l h.0, all_renamed s options Good look f ls h.1)

@@ -5,6 +5,7 @@ use Rattle.vx_model.specs.Ty.{Ty}
 use Rattle.vx_model.specs.Piece.{Piece, cells}
 use Rattle.vx_path.specs.Lists.{In}
 use Rattle.vx_tree.specs.LayoutTree.{Kind, flat_kind, Lay, Lays, layout, no_layouts, child}
+use Rattle.vx_tree.specs.Real.{Of}
 use Rattle.vx_plan.specs.PlanData.{Setting}
 use Rattle.vx_plan.specs.Way.{Way, Ways, Wraps, FlatOptions, flat, chunked, grouped, compressed, coded, zoned, structured, listed, tabled, no_ways, way_at, no_wraps, wrap_grouped, wrap_zoned}
 
@@ -31,8 +32,9 @@ abbrev mutual
   wrap_flats (wrap_zoned o stats ws) = flats stats ++ wrap_flats ws
 
 -- A flat node of n rows: it is of a flat node of the strategy and has one segment, which is a chunk of so many rows as that
--- node encodes it; and it has an array tree exactly where that node inlines, the tree part of this segment.
-pub record IsFlat {A : Type 0} (s : Setting) (options : List FlatOptions) (look : A → Option (List ℕ)) (encodings : List EncodingId) (tree : Option (List ℕ)) (t : Ty) (n : ℕ) (names : List A) : Type 0 where
+-- node encodes it; and it has an array tree exactly where that node inlines, the tree part of this segment. Where all is
+-- good, the chunk is a whole one of the type.
+pub record IsFlat {A : Type 0} (s : Setting) (options : List FlatOptions) (Good : Type 0) (look : A → Option (List ℕ)) (encodings : List EncodingId) (tree : Option (List ℕ)) (t : Ty) (n : ℕ) (names : List A) : Type 0 where
   pub node : FlatOptions
   pub name : A
   pub chunk : Piece
@@ -43,6 +45,7 @@ pub record IsFlat {A : Type 0} (s : Setting) (options : List FlatOptions) (look 
   pub stored : look name ≡ Some bytes
   pub encoded : s.codec.encode s.encodings node.padding chunk ≡ Some bytes
   pub row_count : length (cells chunk) ≡ n
+  pub of_type : Good → Of t chunk
   pub array_tree : tree ≡ (if node.inline then Some (s.codec.tree_part s.encodings node.padding chunk) else None)
 
 -- ---- each flat node of a layout, those of zone tables too
@@ -60,5 +63,5 @@ abbrev mutual
   AllFlat P no_layouts = Unit {0}
   AllFlat P (child l ls) = EachFlat P l × AllFlat P ls
 
-abbrev pub FlatsHold : {A : Type 0} → Setting → List FlatOptions → (A → Option (List ℕ)) → Lay A → Type 0
-FlatsHold s options look l = EachFlat (IsFlat s options look) l
+abbrev pub FlatsHold : {A : Type 0} → Setting → List FlatOptions → Type 0 → (A → Option (List ℕ)) → Lay A → Type 0
+FlatsHold s options Good look l = EachFlat (IsFlat s options Good look) l

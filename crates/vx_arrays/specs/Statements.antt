@@ -4,6 +4,8 @@ use Rattle.vx_model.specs.Ty.{Ty}
 use Rattle.vx_model.specs.Piece.{Piece}
 use Rattle.vx_plan.specs.PlanData.{Setting}
 use Rattle.vx_plan.specs.Way.{Way}
+use Rattle.vx_plan.specs.Admitted.{is_admitted}
+use Rattle.vx_plan.specs.Valid.{Fit, AllOf, Keeps}
 use Rattle.vx_plan.specs.SourcePlan.{source_plan}
 use Rattle.vx_plan.specs.Number.{segments, numbered, segment_at}
 use Rattle.vx_arrays.specs.Flats.{flats, FlatsHold}
@@ -12,9 +14,16 @@ use Rattle.vx_arrays.specs.Flats.{flats, FlatsHold}
 abbrev pub Encodes : Setting → Type 0
 Encodes s = (padding : Bool) (p : Piece) → s.codec.refused s.encodings p ≡ None → (b : List ℕ) × (s.codec.encode s.encodings padding p ≡ Some b)
 
+-- where chunks of the layout are known to be whole ones of their types
+pub record Good (s : Setting) (w : Way) (t : Ty) (m : Bool) (batches : List Piece) : Type 0 where
+  pub keeps : Keeps s
+  pub admitted : is_admitted w ≡ true
+  pub of_schema : AllOf t batches
+  pub fit : Fit (source_plan s w t m batches true).numbers
+
 -- Each flat node of the numbered layout, those of zone tables too, has an array tree exactly where the strategy's node
 -- inlines, and it is the tree part of the node's segment.
 abbrev pub ArrayTrees : Type 0
 ArrayTrees = (s : Setting) (w : Way) (t : Ty) (m : Bool) (batches : List Piece) (first : ℕ) → Encodes s
     → (source_plan s w t m batches true).faults ≡ []
-    → FlatsHold s (flats w) (segment_at first (segments (source_plan s w t m batches true))) (numbered (source_plan s w t m batches true) first)
+    → FlatsHold s (flats w) (Good s w t m batches) (segment_at first (segments (source_plan s w t m batches true))) (numbered (source_plan s w t m batches true) first)
