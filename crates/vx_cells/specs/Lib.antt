@@ -1,0 +1,4 @@
+pub mod Reading
+pub mod Filled
+pub mod Views
+pub mod Columns

@@ -1,0 +1,17 @@
+pub mod Sound
+pub mod NodeSound
+pub mod Lengths
+pub mod Codes
+pub mod Parts
+pub mod Offsets
+pub mod Depths
+pub mod CellsFit
+pub mod RowSteps
+pub mod RowGoals
+pub mod SliceLaws
+pub mod SliceSound
+pub mod SliceSteps
+pub mod ConcatSteps
+pub mod FlagSteps
+pub mod FieldSteps
+pub mod Copies

@@ -1,0 +1,10 @@
+pub mod PieceCode
+pub mod ChunkView
+pub mod Depth
+pub mod NodeDepth
+pub mod Conditions
+pub mod Encoded
+pub mod Rows
+pub mod Slice
+pub mod Concat
+pub mod Parts

@@ -1,0 +1,75 @@
+//! The fields of a struct chunk.
+
+ghost use Rattle.std.specs.Prelude.{◌≡◌, map, IsTrue, IfOk, IfErr};
+ghost use Rattle.vx_model.specs.Ty.{is_struct, tys_of};
+ghost use Rattle.vx_model.specs.TyView.{ty, field_ty};
+ghost use Rattle.vx_model.specs.Piece.{piece_type, cells as cells_in};
+ghost use Rattle.vx_columns.specs.Columns.{trees_in};
+ghost use Rattle.vx_chunk.specs.Parts.{field_pieces, plain_fields, struct_fields, typed_columns, columns_fit};
+
+use crate::copy::copy_all;
+use crate::error::ChunkError;
+use crate::node::{Chunk, Node};
+use std::alloc::{AllocError, Global};
+use vx_columns::columns_of;
+use vx_model::{Cell, DType, StructField};
+
+impl Chunk {
+    /// The fields of a struct chunk in order, those of invalid rows too: its own chunks where it is held as a struct,
+    /// else plain ones. All are copies.
+    pub fn fields(&self, alloc: Global) -> Result<Vec<Chunk>, ChunkError>
+        requires { IsTrue (is_struct (piece_type self.now)) }
+        ensures fields { IfOk result (λ v. v.items ≡ field_pieces (struct_fields (piece_type self.now)) self.now) }
+        ensures memory { IfErr result (λ e. e ≡ ChunkError.OutOfMemory) }
+    {
+        if let Node::Struct { fields, .. } = &self.node {
+            return Ok(copy_all(fields)?);
+        }
+        Ok(self.plain_fields(alloc)?)
+    }
+
+    fn plain_fields(&self, alloc: Global) -> Result<Vec<Chunk>, ChunkError>
+        requires { IsTrue (is_struct (piece_type self.now)) }
+        ensures fields { IfOk result (λ v. v.items ≡ plain_fields (struct_fields (piece_type self.now)) (cells_in self.now)) }
+        ensures memory { IfErr result (λ e. e ≡ ChunkError.OutOfMemory) }
+    {
+        self.sound();
+        let types = types_of(self.dtype());
+        let cells = self.cells(alloc)?;
+        let columns = columns_of(alloc, cells, types.len())?;
+        Ok(typed(alloc, types, columns)?)
+    }
+}
+
+/// The fields of a struct type.
+#[tactic(auto, using(vx_model::proofs::Views::view_rules))]
+fn types_of(dtype: &DType) -> &[StructField]
+    requires { IsTrue (is_struct (ty dtype.now)) }
+    ensures { tys_of (map field_ty result.now) ≡ struct_fields (ty dtype.now) }
+{
+    match dtype {
+        DType::Struct(fields, _) => &fields.fields,
+        DType::Bool(_) | DType::Primitive(..) | DType::Utf8(_) | DType::Binary(_) => unreachable!(),
+        DType::List(..) | DType::Extension(_) => unreachable!(),
+    }
+}
+
+/// A plain chunk of each column.
+#[tactic(auto, using(crate::proofs::FieldSteps::field_rules))]
+fn typed(
+    alloc: Global,
+    types: &[StructField],
+    columns: Vec<Vec<Cell>>,
+) -> Result<Vec<Chunk>, AllocError>
+    requires { IsTrue (columns_fit (tys_of (map field_ty types.now)) (map trees_in columns.items)) }
+    ensures { IfOk result (λ v. v.items ≡ typed_columns (tys_of (map field_ty types.now)) (map trees_in columns.items)) }
+{
+    let mut chunks = Vec::with_capacity(alloc, types.len())?;
+    let mut i = 0;
+    for column in columns {
+        let dtype = types[i].dtype.clone()?;
+        chunks.push(Chunk::plain(dtype, column))?;
+        i += 1;
+    }
+    Ok(chunks)
+}

@@ -1,0 +1,63 @@
+//! Which rows of lists and structs are valid.
+
+ghost use Rattle.std.specs.Prelude.{◌≡◌, ◌++◌, map, IsTrue, IfOk, IfErr, OnOk};
+ghost use Rattle.vx_model.specs.Ty.{is_struct};
+ghost use Rattle.vx_model.specs.Piece.{piece_type, pieces_of, cells as cells_in, joined_cells};
+ghost use Rattle.vx_columns.specs.Parts.{flag_of as is_valid};
+ghost use Rattle.vx_chunk.specs.Parts.{validity_piece};
+
+use crate::error::ChunkError;
+use crate::node::{Chunk, Node};
+use std::alloc::{AllocError, Global};
+use vx_columns::{bool_cells, flag_of, push_flags, push_row_flags, push_same_flag};
+use vx_model::{DType, Nullability};
+
+impl Chunk {
+    /// One Bool a row of a struct chunk, plain: whether the row is valid, all true where the type isn't nullable.
+    pub fn validity(&self, alloc: Global) -> Result<Chunk, ChunkError>
+        requires { IsTrue (is_struct (piece_type self.now)) }
+        ensures flags { IfOk result (λ c. c ≡ validity_piece self.now) }
+        ensures memory { IfErr result (λ e. e ≡ ChunkError.OutOfMemory) }
+    {
+        let flags = flags(self, alloc)?;
+        let cells = bool_cells(alloc, &flags)?;
+        Ok(Chunk::plain(DType::Bool(Nullability::NonNullable), cells))
+    }
+}
+
+/// A flag a row: whether it is no invalid list or struct.
+#[tactic(auto, using(crate::proofs::FlagSteps::flag_rules))]
+pub(crate) fn flags(chunk: &Chunk, alloc: Global) -> Result<Vec<bool>, AllocError>
+    ensures { IfOk result (λ v. v.items ≡ map is_valid (cells_in chunk.now)) }
+{
+    let mut flags = Vec::with_capacity(alloc, chunk.len() as usize)?;
+    push_valid(chunk, &mut flags)?;
+    Ok(flags)
+}
+
+#[cycle(flags)]
+#[tactic(auto, using(crate::proofs::FlagSteps::flag_rules))]
+fn push_valid(chunk: &Chunk, out: &mut Vec<bool>) -> Result<(), AllocError>
+    ensures { OnOk result (out.new.items ≡ out.old.items ++ map is_valid (cells_in chunk.now)) }
+{
+    match &chunk.node {
+        Node::Plain { cells, .. } => push_flags(cells, out),
+        Node::Constant { cell, rows, .. } => push_same_flag(flag_of(cell), *rows, out),
+        Node::Dict { codes, .. } => push_same_flag(true, codes.len(), out),
+        Node::Chunked { parts, .. } => push_parts_valid(parts, out),
+        Node::List { offsets, valid, .. } => push_row_flags(valid, (offsets.len() - 1) as u64, out),
+        Node::Struct { valid, rows, .. } => push_row_flags(valid, *rows, out),
+        Node::Extension { storage, .. } => push_valid(storage, out),
+    }
+}
+
+#[cycle(flags)]
+#[tactic(auto, using(crate::proofs::FlagSteps::flag_rules))]
+fn push_parts_valid(parts: &[Chunk], out: &mut Vec<bool>) -> Result<(), AllocError>
+    ensures { OnOk result (out.new.items ≡ out.old.items ++ map is_valid (joined_cells (pieces_of parts.now))) }
+{
+    for part in parts {
+        push_valid(part, out)?;
+    }
+    Ok(())
+}

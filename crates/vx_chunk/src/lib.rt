@@ -1,0 +1,20 @@
+//! Chunks: rows of one type, in seven encodings.
+#![tactic(auto)]
+
+mod canon;
+mod chunk;
+mod concat;
+pub mod conditions;
+mod copy;
+mod error;
+mod fields;
+mod flags;
+mod node;
+mod reads;
+mod rows;
+mod slice;
+mod values;
+
+pub use error::ChunkError;
+pub use node::{Chunk, Node};
+pub use reads::all_sound;

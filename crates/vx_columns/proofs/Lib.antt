@@ -1,0 +1,9 @@
+pub mod Tests
+pub mod Windows
+pub mod RowWindows
+pub mod Steps
+pub mod ListSteps
+pub mod CutSteps
+pub mod PartSteps
+pub mod CountSteps
+pub mod ValueSteps

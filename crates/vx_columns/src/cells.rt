@@ -1,0 +1,36 @@
+//! Copies of cells.
+
+ghost use Rattle.std.specs.Prelude.{◌≡◌, ◌++◌, map, replicate, IfOk, OnOk};
+ghost use Rattle.vx_model.specs.TreeView.{tree};
+
+use std::alloc::{AllocError, Global};
+use vx_model::Cell;
+
+#[tactic(auto, using(crate::proofs::Steps::push_rules))]
+pub fn copy_cells(alloc: Global, cells: &[Cell]) -> Result<Vec<Cell>, AllocError>
+    ensures { IfOk result (λ v. map tree v.items ≡ map tree cells.now) }
+{
+    let mut copies = Vec::with_capacity(alloc, cells.len())?;
+    push_cells(cells, &mut copies)?;
+    Ok(copies)
+}
+
+#[tactic(auto, using(crate::proofs::Steps::push_rules))]
+pub fn push_cells(cells: &[Cell], out: &mut Vec<Cell>) -> Result<(), AllocError>
+    ensures { OnOk result (map tree out.new.items ≡ map tree out.old.items ++ map tree cells.now) }
+{
+    for cell in cells {
+        out.push(cell.clone()?)?;
+    }
+    Ok(())
+}
+
+#[tactic(auto, using(crate::proofs::Steps::push_rules))]
+pub fn push_copies(cell: &Cell, count: u64, out: &mut Vec<Cell>) -> Result<(), AllocError>
+    ensures { OnOk result (map tree out.new.items ≡ map tree out.old.items ++ replicate count (tree cell.now)) }
+{
+    for _i in 0..count {
+        out.push(cell.clone()?)?;
+    }
+    Ok(())
+}

@@ -1,0 +1,5 @@
+pub mod Head
+pub mod Segment
+pub mod Encoding
+pub mod Written
+pub mod Views
