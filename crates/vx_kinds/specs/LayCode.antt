@@ -1,0 +1,245 @@
+-- Layouts as trees of numbers, one to one: by this a proof tells two layouts apart.
+use Rattle.std.specs.Prelude.{◌≡◌, ℕ, zero, suc, Bool, true, false, List, [], ◌∷◌, Option, Some, None, refl}
+use Rattle.std.specs.Coded.{Coded, code_by}
+use base.Stored.{Gv, gnil, gnum, gcons}
+use denote.Struct.Codes.{itself}
+use Rattle.vx_model.specs.declared.encoding.EncodingId.{EncodingId}
+use Rattle.vx_model.specs.declared.encoding.EncodingId.TheVariants as encodings
+use Rattle.vx_model.specs.declared.ptype.PType.{PType}
+use Rattle.vx_model.specs.declared.ptype.PType.TheVariants.{U8, U16, U32, U64, I8, I16, I32, I64}
+use Rattle.vx_model.specs.Ty.{Ty, Tys, boolean, primitive, utf8, binary, list, struct, extension, no_fields, field}
+use Rattle.vx_tree.specs.LayoutTree.{Spec, Kind, flat_kind, chunked_kind, struct_kind, list_kind, dict_kind, zoned_kind, stats_kind, foreign_kind, Lay, Lays, layout, no_layouts, child}
+
+-- ---- parts
+
+abbrev pub flag : Bool → Gv
+flag true = gnum 1
+flag false = gnum 0
+
+abbrev pub flag_of : Gv → Bool
+flag_of (gnum (suc n)) = true
+flag_of g = false
+
+pub flag_back : (b : Bool) → flag_of (flag b) ≡ b
+flag_back true = refl
+flag_back false = refl
+
+abbrev pub number_of : Gv → ℕ
+number_of (gnum n) = n
+number_of g = 0
+
+abbrev pub numbers : List ℕ → Gv
+numbers [] = gnil
+numbers (n ∷ ns) = gcons (gnum n) (numbers ns)
+
+abbrev pub numbers_of : Gv → List ℕ
+numbers_of (gcons a b) = number_of a ∷ numbers_of b
+numbers_of g = []
+
+pub numbers_back : (ns : List ℕ) → numbers_of (numbers ns) ≡ ns
+numbers_back [] = refl
+numbers_back (n ∷ ns) = cc (numbers_back ns)
+
+abbrev pub ptype : PType → ℕ
+ptype U8 = 0
+ptype U16 = 1
+ptype U32 = 2
+ptype U64 = 3
+ptype I8 = 4
+ptype I16 = 5
+ptype I32 = 6
+ptype I64 = 7
+
+abbrev pub ptype_of : Gv → PType
+ptype_of (gnum zero) = U8
+ptype_of (gnum (suc zero)) = U16
+ptype_of (gnum (suc (suc zero))) = U32
+ptype_of (gnum (suc (suc (suc zero)))) = U64
+ptype_of (gnum (suc (suc (suc (suc zero))))) = I8
+ptype_of (gnum (suc (suc (suc (suc (suc zero)))))) = I16
+ptype_of (gnum (suc (suc (suc (suc (suc (suc zero))))))) = I32
+ptype_of g = I64
+
+pub ptype_back : (p : PType) → ptype_of (gnum (ptype p)) ≡ p
+ptype_back U8 = refl
+ptype_back U16 = refl
+ptype_back U32 = refl
+ptype_back U64 = refl
+ptype_back I8 = refl
+ptype_back I16 = refl
+ptype_back I32 = refl
+ptype_back I64 = refl
+
+-- ---- types
+
+abbrev mutual
+  pub ty_code : Ty → Gv
+  ty_code (boolean n) = gcons (gnum 0) (flag n)
+  ty_code (primitive p n) = gcons (gnum 1) (gcons (gnum (ptype p)) (flag n))
+  ty_code (utf8 n) = gcons (gnum 2) (flag n)
+  ty_code (binary n) = gcons (gnum 3) (flag n)
+  ty_code (list t n) = gcons (gnum 4) (gcons (ty_code t) (flag n))
+  ty_code (struct fs n) = gcons (gnum 5) (gcons (tys_code fs) (flag n))
+  ty_code (extension tag t) = gcons (gnum 6) (gcons (numbers tag) (ty_code t))
+
+  pub tys_code : Tys → Gv
+  tys_code no_fields = gnil
+  tys_code (field name t fs) = gcons (numbers name) (gcons (ty_code t) (tys_code fs))
+
+abbrev mutual
+  pub ty_of : Gv → Ty
+  ty_of (gcons (gnum zero) n) = boolean (flag_of n)
+  ty_of (gcons (gnum (suc zero)) (gcons p n)) = primitive (ptype_of p) (flag_of n)
+  ty_of (gcons (gnum (suc (suc zero))) n) = utf8 (flag_of n)
+  ty_of (gcons (gnum (suc (suc (suc zero)))) n) = binary (flag_of n)
+  ty_of (gcons (gnum (suc (suc (suc (suc zero))))) (gcons t n)) = list (ty_of t) (flag_of n)
+  ty_of (gcons (gnum (suc (suc (suc (suc (suc zero)))))) (gcons fs n)) = struct (tys_of_code fs) (flag_of n)
+  ty_of (gcons (gnum (suc (suc (suc (suc (suc (suc k))))))) (gcons tag t)) = extension (numbers_of tag) (ty_of t)
+  ty_of g = boolean false
+
+  pub tys_of_code : Gv → Tys
+  tys_of_code (gcons name (gcons t fs)) = field (numbers_of name) (ty_of t) (tys_of_code fs)
+  tys_of_code g = no_fields
+
+mutual
+  pub ty_back : (t : Ty) → ty_of (ty_code t) ≡ t
+  ty_back (boolean n) = cc (flag_back n)
+  ty_back (primitive p n) = cc (ptype_back p, flag_back n)
+  ty_back (utf8 n) = cc (flag_back n)
+  ty_back (binary n) = cc (flag_back n)
+  ty_back (list t n) = cc (ty_back t, flag_back n)
+  ty_back (struct fs n) = cc (tys_back fs, flag_back n)
+  ty_back (extension tag t) = cc (numbers_back tag, ty_back t)
+
+  pub tys_back : (fs : Tys) → tys_of_code (tys_code fs) ≡ fs
+  tys_back no_fields = refl
+  tys_back (field name t fs) = cc (numbers_back name, ty_back t, tys_back fs)
+
+-- ---- kinds
+
+abbrev pub encoding : EncodingId → ℕ
+encoding encodings.Plain = 0
+encoding encodings.Constant = 1
+encoding encodings.Dict = 2
+encoding encodings.Chunked = 3
+encoding encodings.List = 4
+encoding encodings.Struct = 5
+encoding encodings.Extension = 6
+
+abbrev pub encoding_of : Gv → EncodingId
+encoding_of (gnum zero) = encodings.Plain
+encoding_of (gnum (suc zero)) = encodings.Constant
+encoding_of (gnum (suc (suc zero))) = encodings.Dict
+encoding_of (gnum (suc (suc (suc zero)))) = encodings.Chunked
+encoding_of (gnum (suc (suc (suc (suc zero))))) = encodings.List
+encoding_of (gnum (suc (suc (suc (suc (suc zero)))))) = encodings.Struct
+encoding_of g = encodings.Extension
+
+pub encoding_back : (e : EncodingId) → encoding_of (gnum (encoding e)) ≡ e
+encoding_back encodings.Plain = refl
+encoding_back encodings.Constant = refl
+encoding_back encodings.Dict = refl
+encoding_back encodings.Chunked = refl
+encoding_back encodings.List = refl
+encoding_back encodings.Struct = refl
+encoding_back encodings.Extension = refl
+
+abbrev pub ids : List EncodingId → Gv
+ids [] = gnil
+ids (e ∷ es) = gcons (gnum (encoding e)) (ids es)
+
+abbrev pub ids_of : Gv → List EncodingId
+ids_of (gcons a b) = encoding_of a ∷ ids_of b
+ids_of g = []
+
+pub ids_back : (es : List EncodingId) → ids_of (ids es) ≡ es
+ids_back [] = refl
+ids_back (e ∷ es) = cc (encoding_back e, ids_back es)
+
+abbrev pub maybe : Option (List ℕ) → Gv
+maybe None = gnil
+maybe (Some s) = gcons gnil (numbers s)
+
+abbrev pub maybe_of : Gv → Option (List ℕ)
+maybe_of (gcons a b) = Some (numbers_of b)
+maybe_of g = None
+
+pub maybe_back : (o : Option (List ℕ)) → maybe_of (maybe o) ≡ o
+maybe_back None = refl
+maybe_back (Some s) = cc (numbers_back s)
+
+abbrev pub spec_of : Gv → Gv → Spec
+spec_of a b = record { id = numbers_of a; options = numbers_of b }
+
+abbrev pub specs : List Spec → Gv
+specs [] = gnil
+specs (s ∷ ss) = gcons (gcons (numbers s.id) (numbers s.options)) (specs ss)
+
+abbrev pub specs_of : Gv → List Spec
+specs_of (gcons (gcons a b) c) = spec_of a b ∷ specs_of c
+specs_of g = []
+
+pub specs_back : (ss : List Spec) → specs_of (specs ss) ≡ ss
+specs_back [] = refl
+specs_back (s ∷ ss) = rw (numbers_back s.id, numbers_back s.options, specs_back ss) refl
+
+abbrev pub kind_code : Kind → Gv
+kind_code (flat_kind es tree) = gcons (gnum 0) (gcons (ids es) (maybe tree))
+kind_code chunked_kind = gcons (gnum 1) gnil
+kind_code struct_kind = gcons (gnum 2) gnil
+kind_code list_kind = gcons (gnum 3) gnil
+kind_code (dict_kind all) = gcons (gnum 4) (flag all)
+kind_code (zoned_kind n ss) = gcons (gnum 5) (gcons (gnum n) (specs ss))
+kind_code (stats_kind n ss) = gcons (gnum 6) (gcons (gnum n) (numbers ss))
+kind_code (foreign_kind id metadata) = gcons (gnum 7) (gcons (numbers id) (numbers metadata))
+
+abbrev pub kind_of : Gv → Kind
+kind_of (gcons (gnum zero) (gcons es tree)) = flat_kind (ids_of es) (maybe_of tree)
+kind_of (gcons (gnum (suc zero)) g) = chunked_kind
+kind_of (gcons (gnum (suc (suc zero))) g) = struct_kind
+kind_of (gcons (gnum (suc (suc (suc zero)))) g) = list_kind
+kind_of (gcons (gnum (suc (suc (suc (suc zero))))) all) = dict_kind (flag_of all)
+kind_of (gcons (gnum (suc (suc (suc (suc (suc zero)))))) (gcons n ss)) = zoned_kind (number_of n) (specs_of ss)
+kind_of (gcons (gnum (suc (suc (suc (suc (suc (suc zero))))))) (gcons n ss)) = stats_kind (number_of n) (numbers_of ss)
+kind_of (gcons (gnum (suc (suc (suc (suc (suc (suc (suc k)))))))) (gcons id metadata)) = foreign_kind (numbers_of id) (numbers_of metadata)
+kind_of g = chunked_kind
+
+pub kind_back : (k : Kind) → kind_of (kind_code k) ≡ k
+kind_back (flat_kind es tree) = cc (ids_back es, maybe_back tree)
+kind_back chunked_kind = refl
+kind_back struct_kind = refl
+kind_back list_kind = refl
+kind_back (dict_kind all) = cc (flag_back all)
+kind_back (zoned_kind n ss) = cc (specs_back ss)
+kind_back (stats_kind n ss) = cc (numbers_back ss)
+kind_back (foreign_kind id metadata) = cc (numbers_back id, numbers_back metadata)
+
+-- ---- layouts
+
+abbrev mutual
+  pub to_code : Lay ℕ → Gv
+  to_code (layout k t n names ls) = gcons (kind_code k) (gcons (ty_code t) (gcons (gnum n) (gcons (numbers names) (to_codes ls))))
+
+  pub to_codes : Lays ℕ → Gv
+  to_codes no_layouts = gnil
+  to_codes (child l ls) = gcons (to_code l) (to_codes ls)
+
+abbrev mutual
+  pub of_code : Gv → Lay ℕ
+  of_code (gcons k (gcons t (gcons n (gcons names ls)))) = layout (kind_of k) (ty_of t) (number_of n) (numbers_of names) (of_codes ls)
+  of_code g = layout chunked_kind (boolean false) 0 [] no_layouts
+
+  pub of_codes : Gv → Lays ℕ
+  of_codes (gcons l ls) = child (of_code l) (of_codes ls)
+  of_codes g = no_layouts
+
+mutual
+  pub code_back : (l : Lay ℕ) → of_code (to_code l) ≡ l
+  code_back (layout k t n names ls) = cc (kind_back k, ty_back t, numbers_back names, codes_back ls)
+
+  pub codes_back : (ls : Lays ℕ) → of_codes (to_codes ls) ≡ ls
+  codes_back no_layouts = refl
+  codes_back (child l ls) = cc (code_back l, codes_back ls)
+
+abbrev pub lay_code : Coded (Lay ℕ)
+lay_code = code_by Gv itself to_code of_code code_back

@@ -1,0 +1,9 @@
+pub mod FlatView
+pub mod LayCode
+pub mod LayDepth
+pub mod LayoutView
+pub mod DepthFalls
+pub mod Children
+pub mod Made
+pub mod SpecView
+pub mod Views

@@ -1,0 +1,72 @@
+use crate::error::LayoutError;
+use crate::layout::Layout;
+use crate::total::total_rows;
+use std::marker::Model;
+use vx_model::{DType, SegmentId};
+
+/// Layouts one behind the other.
+#[derive(Debug, Drop)]
+#[cycle(layout)]
+pub struct ChunkedLayout {
+    pub(crate) row_count: u64,
+    pub(crate) dtype: DType,
+    pub(crate) segment_ids: Vec<SegmentId>,
+    pub(crate) children: Vec<Layout>,
+}
+
+impl Model for ChunkedLayout {
+    ghost use Rattle.std.specs.Prelude.{ℕ, ◌≡◌, map};
+    ghost use Rattle.vx_tree.specs.LayoutTree.{Lay};
+    ghost use Rattle.vx_kinds.specs.LayCode.{lay_code};
+
+    ghost Value = { Lay ℕ };
+
+    ghost coded = { lay_code };
+
+    ghost use Rattle.vx_model.specs.Words.{total_by};
+    ghost use Rattle.vx_tree.specs.LayoutTree.{row_count as rows, chunked_kind};
+    ghost use Rattle.vx_kinds.specs.LayoutView.{lay, seen};
+
+    ghost view = { λ c. seen chunked_kind c.dtype c.row_count c.segment_ids c.children };
+
+    ghost invariant = { λ c. total_by rows (map lay c.children.items) ≡ c.row_count };
+
+    ghost use Rattle.vx_kinds.specs.LayDepth.{depth};
+
+    ghost size = { depth };
+
+    ghost use Rattle.vx_kinds.specs.DepthFalls.{children_fall};
+
+    ghost size_decreases = { λ c h. children_fall c.children.items };
+}
+
+impl ChunkedLayout {
+    ghost use Rattle.std.specs.Prelude.{map};
+    ghost use Rattle.vx_model.specs.TyView.{ty};
+    ghost use Rattle.vx_kinds.specs.LayoutView.{lay};
+    ghost use Rattle.vx_kinds.specs.Made.{make_chunked};
+    ghost use Rattle.vx_kinds.specs.Views.{Gives, itself};
+
+    /// The children in order. Refuses `RowCount` exactly where their rows don't sum to `row_count`. Takes no memory.
+    pub fn new(
+        row_count: u64,
+        dtype: DType,
+        children: Vec<Layout>,
+    ) -> Result<ChunkedLayout, LayoutError>
+        ensures { Gives itself result (make_chunked (ty dtype) row_count (map lay children.items)) }
+    {
+        let has = total_rows(&children);
+        if has != row_count as u128 {
+            return Err(LayoutError::RowCount {
+                has,
+                needs: row_count as u128,
+            });
+        }
+        Ok(ChunkedLayout {
+            row_count,
+            dtype,
+            segment_ids: Vec::new(*children.allocator()),
+            children,
+        })
+    }
+}

@@ -1,0 +1,65 @@
+use crate::error::LayoutError;
+use crate::layout::Layout;
+use crate::shape::{integer_type, is_primitive, pair};
+use std::alloc::Global;
+use std::marker::Model;
+use vx_model::{DType, SegmentId};
+
+/// Values, and a code a row.
+#[derive(Debug, Drop)]
+#[cycle(layout)]
+pub struct DictLayout {
+    pub(crate) row_count: u64,
+    pub(crate) dtype: DType,
+    pub(crate) segment_ids: Vec<SegmentId>,
+    pub(crate) children: Vec<Layout>,
+    pub(crate) all_values_referenced: bool,
+}
+
+impl Model for DictLayout {
+    ghost use Rattle.std.specs.Prelude.{ℕ};
+    ghost use Rattle.vx_tree.specs.LayoutTree.{Lay};
+    ghost use Rattle.vx_kinds.specs.LayCode.{lay_code};
+
+    ghost Value = { Lay ℕ };
+
+    ghost coded = { lay_code };
+
+    ghost use Rattle.vx_tree.specs.LayoutTree.{dict_kind};
+    ghost use Rattle.vx_kinds.specs.LayoutView.{seen};
+
+    ghost view = { λ c. seen (dict_kind c.all_values_referenced) c.dtype c.row_count c.segment_ids c.children };
+
+    ghost use Rattle.vx_kinds.specs.LayDepth.{depth};
+
+    ghost size = { depth };
+
+    ghost use Rattle.vx_kinds.specs.DepthFalls.{children_fall};
+
+    ghost size_decreases = { λ c h. children_fall c.children.items };
+}
+
+impl DictLayout {
+    ghost use Rattle.vx_kinds.specs.LayoutView.{lay};
+    ghost use Rattle.vx_kinds.specs.Made.{make_dict};
+    ghost use Rattle.vx_kinds.specs.Views.{Gives, itself};
+
+    /// Of the values' type and the codes' rows. Refuses `ChildType` where the codes are no integers.
+    pub fn new(alloc: Global, values: Layout, codes: Layout) -> Result<DictLayout, LayoutError>
+        ensures { Gives itself result (make_dict (lay values) (lay codes)) }
+    {
+        if !is_primitive(codes.dtype()) {
+            return Err(LayoutError::ChildType {
+                has: codes.dtype().clone()?,
+                needs: integer_type(),
+            });
+        }
+        Ok(DictLayout {
+            row_count: codes.row_count(),
+            dtype: values.dtype().clone()?,
+            segment_ids: Vec::new(alloc),
+            children: pair(alloc, values, codes)?,
+            all_values_referenced: false,
+        })
+    }
+}

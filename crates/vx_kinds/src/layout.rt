@@ -1,0 +1,182 @@
+use crate::chunked::ChunkedLayout;
+use crate::dict::DictLayout;
+use crate::flat::FlatLayout;
+use crate::foreign::ForeignLayout;
+use crate::kind::LayoutKind;
+use crate::list::ListLayout;
+use crate::stats::LegacyStatsLayout;
+use crate::structs::StructLayout;
+use crate::zoned::ZonedLayout;
+use vx_model::{DType, SegmentId};
+
+/// A tree that says how to read rows back. Its leaves name segments.
+#[derive(Debug, Drop)]
+#[cycle(layout)]
+pub enum Layout {
+    Flat(FlatLayout),
+    Chunked(ChunkedLayout),
+    Struct(StructLayout),
+    List(ListLayout),
+    Dict(DictLayout),
+    Zoned(ZonedLayout),
+    LegacyStats(LegacyStatsLayout),
+    Foreign(ForeignLayout),
+}
+
+impl Layout {
+    ghost use Rattle.std.specs.Prelude.{◌≡◌, ◌≢◌, ◌↔◌, ◌<◌, map, length, IsTrue, MatchOption};
+    ghost use Rattle.vx_model.specs.TyView.{ty};
+    ghost use Rattle.vx_tree.specs.LayoutTree.{layout_kind, layout_type, row_count as rows, segments_of, children_of, kind_id};
+    ghost use Rattle.vx_kinds.specs.Children.{kind_name, is_flat, rows_at};
+    ghost use Rattle.vx_kinds.specs.LayoutView.{lay, number};
+
+    /// Rows that the layout gives.
+    #[tactic(auto, unfolding(crate::specs::LayoutView::lay))]
+    pub fn row_count(&self) -> u64
+        ensures { result ≡ rows (lay self.now) }
+    {
+        match self {
+            Layout::Flat(flat) => flat.row_count,
+            Layout::Chunked(inner) => inner.row_count,
+            Layout::Struct(inner) => inner.row_count,
+            Layout::List(inner) => inner.row_count,
+            Layout::Dict(inner) => inner.row_count,
+            Layout::Zoned(inner) => inner.row_count,
+            Layout::LegacyStats(inner) => inner.row_count,
+            Layout::Foreign(inner) => inner.row_count,
+        }
+    }
+
+    /// The type of its rows.
+    #[tactic(auto, unfolding(crate::specs::LayoutView::lay))]
+    pub fn dtype(&self) -> &DType
+        ensures { ty result.now ≡ layout_type (lay self.now) }
+    {
+        match self {
+            Layout::Flat(flat) => &flat.dtype,
+            Layout::Chunked(inner) => &inner.dtype,
+            Layout::Struct(inner) => &inner.dtype,
+            Layout::List(inner) => &inner.dtype,
+            Layout::Dict(inner) => &inner.dtype,
+            Layout::Zoned(inner) => &inner.dtype,
+            Layout::LegacyStats(inner) => &inner.dtype,
+            Layout::Foreign(inner) => &inner.dtype,
+        }
+    }
+
+    #[tactic(auto, unfolding(crate::specs::LayoutView::lay))]
+    pub fn kind(&self) -> LayoutKind
+        ensures { result ≡ kind_name (layout_kind (lay self.now)) }
+    {
+        match self {
+            Layout::Flat(_) => LayoutKind::Flat,
+            Layout::Chunked(_) => LayoutKind::Chunked,
+            Layout::Struct(_) => LayoutKind::Struct,
+            Layout::List(_) => LayoutKind::List,
+            Layout::Dict(_) => LayoutKind::Dict,
+            Layout::Zoned(_) => LayoutKind::Zoned,
+            Layout::LegacyStats(_) => LayoutKind::LegacyStats,
+            Layout::Foreign(_) => LayoutKind::Foreign,
+        }
+    }
+
+    #[tactic(auto, unfolding(crate::specs::LayoutView::lay))]
+    pub fn encoding_id(&self) -> &str
+        ensures { result.now ≡ kind_id (layout_kind (lay self.now)) }
+    {
+        match self {
+            Layout::Flat(_) => "vortex.flat",
+            Layout::Chunked(_) => "vortex.chunked",
+            Layout::Struct(_) => "vortex.struct",
+            Layout::List(_) => "vortex.list",
+            Layout::Dict(_) => "vortex.dict",
+            Layout::Zoned(_) => "vortex.zoned",
+            Layout::LegacyStats(_) => "vortex.stats",
+            Layout::Foreign(foreign) => foreign.id.as_str(),
+        }
+    }
+
+    /// The segments of the layout itself.
+    #[tactic(auto, unfolding(crate::specs::LayoutView::lay))]
+    pub fn segment_ids(&self) -> &[SegmentId]
+        ensures { map number result.now ≡ segments_of (lay self.now) }
+    {
+        match self {
+            Layout::Flat(flat) => std::slice::from_ref(&flat.segment_id),
+            Layout::Chunked(inner) => &inner.segment_ids,
+            Layout::Struct(inner) => &inner.segment_ids,
+            Layout::List(inner) => &inner.segment_ids,
+            Layout::Dict(inner) => &inner.segment_ids,
+            Layout::Zoned(inner) => &inner.segment_ids,
+            Layout::LegacyStats(inner) => &inner.segment_ids,
+            Layout::Foreign(inner) => &inner.segment_ids,
+        }
+    }
+
+    /// The children that are present, in slot order.
+    #[tactic(auto, using(crate::proofs::Steps::lays_rules), unfolding(crate::specs::LayoutView::lay))]
+    pub(crate) fn owned(&self) -> &[Layout]
+        ensures { map lay result.now ≡ children_of (lay self.now) }
+    {
+        match self {
+            Layout::Flat(flat) => &[],
+            Layout::Chunked(inner) => &inner.children,
+            Layout::Struct(inner) => &inner.children,
+            Layout::List(inner) => &inner.children,
+            Layout::Dict(inner) => &inner.children,
+            Layout::Zoned(inner) => &inner.children,
+            Layout::LegacyStats(inner) => &inner.children,
+            Layout::Foreign(inner) => &inner.children,
+        }
+    }
+
+    /// How many children are present.
+    pub fn nchildren(&self) -> u64
+        ensures { result ≡ length (children_of (lay self.now)) }
+    {
+        self.owned().len() as u64
+    }
+
+    /// Rows of the child at the place, which is below `nchildren`.
+    #[tactic(auto, using(crate::proofs::Steps::rows_rules))]
+    pub fn child_row_count(&self, i: u64) -> u64
+        requires { i < length (children_of (lay self.now)) }
+        ensures { result ≡ rows_at (children_of (lay self.now)) i }
+    {
+        self.owned()[i as usize].row_count()
+    }
+
+    /// Whether readers may not split its rows.
+    #[tactic(auto, unfolding(crate::specs::LayoutView::lay))]
+    pub fn is_indivisible(&self) -> bool
+        ensures { result ≡ is_flat (layout_kind (lay self.now)) }
+    {
+        match self {
+            Layout::Flat(_) => true,
+            Layout::Chunked(_) | Layout::Struct(_) | Layout::List(_) | Layout::Dict(_) => false,
+            Layout::Zoned(_) | Layout::LegacyStats(_) | Layout::Foreign(_) => false,
+        }
+    }
+
+    pub fn is(&self, kind: LayoutKind) -> bool
+        ensures { IsTrue result ↔ (kind_name (layout_kind (lay self.now)) ≡ kind) }
+    {
+        self.kind() == kind
+    }
+
+    /// The layout itself, where it is of the kind.
+    pub fn as_opt(&self, kind: LayoutKind) -> Option<&Layout>
+        ensures { MatchOption result (kind_name (layout_kind (lay self.now)) ≢ kind) (λ l. (l.now ≡ self.now) × (kind_name (layout_kind (lay self.now)) ≡ kind)) }
+    {
+        if self.is(kind) { Some(self) } else { None }
+    }
+
+    /// `is` tests the condition.
+    pub fn as_(&self, kind: LayoutKind) -> &Layout
+        requires { kind_name (layout_kind (lay self.now)) ≡ kind }
+        ensures { result.now ≡ self.now }
+    {
+        let _ = kind;
+        self
+    }
+}

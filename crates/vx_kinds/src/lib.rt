@@ -1,0 +1,31 @@
+//! Layouts of all kinds in memory: constructors, and what a layout tells of itself.
+#![tactic(auto)]
+
+mod child_type;
+mod chunked;
+mod dict;
+mod error;
+mod flat;
+mod foreign;
+mod kind;
+mod layout;
+mod list;
+mod shape;
+mod slots;
+mod stats;
+mod structs;
+mod total;
+mod zoned;
+
+pub use child_type::LayoutChildType;
+pub use chunked::ChunkedLayout;
+pub use dict::DictLayout;
+pub use error::LayoutError;
+pub use flat::FlatLayout;
+pub use foreign::ForeignLayout;
+pub use kind::LayoutKind;
+pub use layout::Layout;
+pub use list::ListLayout;
+pub use stats::LegacyStatsLayout;
+pub use structs::StructLayout;
+pub use zoned::ZonedLayout;

@@ -1,0 +1,85 @@
+use crate::error::LayoutError;
+use crate::layout::Layout;
+use crate::shape::{integer_type, is_primitive, list_children, present, validity_count};
+use std::alloc::Global;
+use std::marker::Model;
+use vx_model::{DType, SegmentId};
+
+/// Elements, offsets, and a validity where the type is nullable.
+#[derive(Debug, Drop)]
+#[cycle(layout)]
+pub struct ListLayout {
+    pub(crate) row_count: u64,
+    pub(crate) dtype: DType,
+    pub(crate) segment_ids: Vec<SegmentId>,
+    pub(crate) children: Vec<Layout>,
+}
+
+impl Model for ListLayout {
+    ghost use Rattle.std.specs.Prelude.{ℕ};
+    ghost use Rattle.vx_tree.specs.LayoutTree.{Lay};
+    ghost use Rattle.vx_kinds.specs.LayCode.{lay_code};
+
+    ghost Value = { Lay ℕ };
+
+    ghost coded = { lay_code };
+
+    ghost use Rattle.vx_tree.specs.LayoutTree.{list_kind};
+    ghost use Rattle.vx_kinds.specs.LayoutView.{seen};
+
+    ghost view = { λ c. seen list_kind c.dtype c.row_count c.segment_ids c.children };
+
+    ghost use Rattle.vx_kinds.specs.LayDepth.{depth};
+
+    ghost size = { depth };
+
+    ghost use Rattle.vx_kinds.specs.DepthFalls.{children_fall};
+
+    ghost size_decreases = { λ c h. children_fall c.children.items };
+}
+
+impl ListLayout {
+    ghost use Rattle.std.specs.Prelude.{option_map};
+    ghost use Rattle.vx_model.specs.TyView.{ty};
+    ghost use Rattle.vx_kinds.specs.LayoutView.{lay};
+    ghost use Rattle.vx_kinds.specs.Made.{make_list};
+    ghost use Rattle.vx_kinds.specs.Views.{Gives, itself};
+
+    /// One row less than offsets, at least none. Refuses `NotAList`, then `ChildCount` where a validity is missing or too
+    /// many, then `ChildType` where the offsets are no integers.
+    pub fn new(
+        alloc: Global,
+        dtype: DType,
+        elements: Layout,
+        offsets: Layout,
+        validity: Option<Layout>,
+    ) -> Result<ListLayout, LayoutError>
+        ensures { Gives itself result (make_list (ty dtype) (lay elements) (lay offsets) (option_map lay validity)) }
+    {
+        if !dtype.is_list() {
+            return Err(LayoutError::NotAList);
+        }
+        let needs = validity_count(&dtype);
+        let has = present(&validity);
+        if has != needs {
+            return Err(LayoutError::ChildCount {
+                has: 2 + has,
+                needs: 2 + needs,
+            });
+        }
+        if !is_primitive(offsets.dtype()) {
+            return Err(LayoutError::ChildType {
+                has: offsets.dtype().clone()?,
+                needs: integer_type(),
+            });
+        }
+        let row_count = offsets.row_count().saturating_sub(1);
+        let children = list_children(alloc, elements, offsets, validity)?;
+        Ok(ListLayout {
+            row_count,
+            dtype,
+            segment_ids: Vec::new(alloc),
+            children,
+        })
+    }
+}

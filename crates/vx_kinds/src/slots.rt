@@ -1,0 +1,201 @@
+//! The slots of a layout.
+
+ghost use Rattle.std.specs.Prelude.{◌≡◌, ◌<◌, ◌^◌, map, length, Some, IfOk};
+ghost use Rattle.vx_model.specs.Ty.{nullable};
+ghost use Rattle.vx_model.specs.TyView.{ty, field_ty};
+ghost use Rattle.vx_kinds.specs.declared.child_type.LayoutChildType.TheVariants.{Auxiliary, Transparent};
+ghost use Rattle.vx_kinds.specs.Children.{below as below_count, struct_place as place_in_struct, list_place as place_in_list, chunk_type as type_of_chunk, field_type as type_of_field, struct_type as type_in_struct, list_type as type_in_list, dict_type as type_in_dict, zoned_type as type_in_zoned, foreign_type as type_in_foreign, fields_of};
+ghost use Rattle.vx_kinds.specs.LayoutView.{lay};
+ghost use Rattle.vx_tree.specs.LayoutTree.{row_count};
+ghost use Rattle.vx_model.specs.Words.{total_by};
+
+use crate::child_type::LayoutChildType;
+use crate::layout::Layout;
+use crate::shape::field_count;
+use crate::total::rows_before;
+use std::alloc::{AllocError, Global};
+use vx_model::{DType, StructField, Text};
+
+impl Layout {
+    ghost use Rattle.std.specs.Prelude.{◌≡◌, IfOk};
+    ghost use Rattle.vx_kinds.specs.Children.{slots, slot_place, slot_type as type_in_slot};
+    ghost use Rattle.vx_kinds.specs.LayoutView.{lay};
+
+    /// How many slots there are, also those that have no child.
+    #[tactic(auto, using(crate::proofs::Steps::slot_rules), unfolding(crate::specs::LayoutView::lay))]
+    pub fn nslots(&self) -> u64
+        ensures { result ≡ slots (lay self.now) }
+    {
+        match self {
+            Layout::Flat(_) => 0,
+            Layout::Chunked(chunked) => chunked.children.len() as u64,
+            Layout::Struct(strukt) => field_count(&strukt.dtype) as u64 + 1,
+            Layout::List(_) => 3,
+            Layout::Dict(_) | Layout::Zoned(_) | Layout::LegacyStats(_) => 2,
+            Layout::Foreign(foreign) => foreign.children.len() as u64,
+        }
+    }
+
+    /// The place among the children of the child in the slot.
+    #[tactic(auto, using(crate::proofs::Steps::slot_rules), unfolding(crate::specs::LayoutView::lay))]
+    pub fn slot_to_child(&self, slot: u64) -> Option<u64>
+        ensures { result ≡ slot_place (lay self.now) slot }
+    {
+        match self {
+            Layout::Flat(_) => None,
+            Layout::Chunked(chunked) => below(chunked.children.len() as u64, slot),
+            Layout::Struct(strukt) => struct_place(&strukt.dtype, slot),
+            Layout::List(list) => list_place(&list.dtype, slot),
+            Layout::Dict(_) | Layout::Zoned(_) | Layout::LegacyStats(_) => below(2, slot),
+            Layout::Foreign(foreign) => below(foreign.children.len() as u64, slot),
+        }
+    }
+
+    /// What a child in the slot is, also where there is none.
+    #[tactic(auto, using(crate::proofs::Steps::slot_rules), unfolding(crate::specs::LayoutView::lay))]
+    pub fn slot_type(
+        &self,
+        alloc: Global,
+        slot: u64,
+    ) -> Result<Option<LayoutChildType>, AllocError>
+        ensures { IfOk result (λ o. o ≡ type_in_slot (lay self.now) slot) }
+    {
+        match self {
+            Layout::Flat(_) => Ok(None),
+            Layout::Chunked(chunked) => Ok(chunk_type(&chunked.children, slot)),
+            Layout::Struct(strukt) => struct_type(alloc, &strukt.dtype, slot),
+            Layout::List(_) => list_type(alloc, slot),
+            Layout::Dict(_) => dict_type(alloc, slot),
+            Layout::Zoned(_) | Layout::LegacyStats(_) => zoned_type(alloc, slot),
+            Layout::Foreign(foreign) => foreign_type(alloc, foreign.children.len() as u64, slot),
+        }
+    }
+}
+
+fn below(count: u64, place: u64) -> Option<u64>
+    ensures { result ≡ below_count count place }
+{
+    if place < count { Some(place) } else { None }
+}
+
+fn struct_place(dtype: &DType, slot: u64) -> Option<u64>
+    ensures { result ≡ place_in_struct (nullable (ty dtype.now)) (length (fields_of (ty dtype.now))) slot }
+{
+    let count = field_count(dtype) as u64;
+    if dtype.is_nullable() {
+        below(count + 1, slot)
+    } else if slot == 0 {
+        None
+    } else {
+        below(count, slot - 1)
+    }
+}
+
+fn list_place(dtype: &DType, slot: u64) -> Option<u64>
+    ensures { result ≡ place_in_list (nullable (ty dtype.now)) slot }
+{
+    if dtype.is_nullable() { below(3, slot) } else { below(2, slot) }
+}
+
+#[tactic(auto, using(crate::proofs::Steps::slot_rules))]
+fn chunk_type(chunks: &[Layout], slot: u64) -> Option<LayoutChildType>
+    requires { total_by row_count (map lay chunks.now) < 2 ^ 64 }
+    ensures { result ≡ type_of_chunk (map lay chunks.now) slot }
+{
+    if slot < chunks.len() as u64 {
+        Some(LayoutChildType::Chunk((slot, rows_before(chunks, slot as usize))))
+    } else {
+        None
+    }
+}
+
+fn auxiliary(alloc: Global, name: &str) -> Result<Option<LayoutChildType>, AllocError>
+    ensures { IfOk result (λ o. o ≡ Some (Auxiliary name.now)) }
+{
+    Ok(Some(LayoutChildType::Auxiliary(Text::from_str(alloc, name)?)))
+}
+
+fn transparent(alloc: Global, name: &str) -> Result<Option<LayoutChildType>, AllocError>
+    ensures { IfOk result (λ o. o ≡ Some (Transparent name.now)) }
+{
+    Ok(Some(LayoutChildType::Transparent(Text::from_str(alloc, name)?)))
+}
+
+#[tactic(auto, using(crate::proofs::Steps::field_rules))]
+fn struct_type(
+    alloc: Global,
+    dtype: &DType,
+    slot: u64,
+) -> Result<Option<LayoutChildType>, AllocError>
+    ensures { IfOk result (λ o. o ≡ type_in_struct (fields_of (ty dtype.now)) slot) }
+{
+    if slot == 0 {
+        return auxiliary(alloc, "validity");
+    }
+    match dtype {
+        DType::Struct(fields, _) => field_type(&fields.fields, slot - 1),
+        DType::Bool(_) | DType::Primitive(..) | DType::Utf8(_) | DType::Binary(_) => Ok(None),
+        DType::List(..) | DType::Extension(_) => Ok(None),
+    }
+}
+
+#[tactic(auto, using(crate::proofs::Steps::name_rules))]
+fn field_type(fields: &[StructField], i: u64) -> Result<Option<LayoutChildType>, AllocError>
+    ensures { IfOk result (λ o. o ≡ type_of_field (map field_ty fields.now) i) }
+{
+    if i < fields.len() as u64 {
+        let name = fields[i as usize].name.clone()?;
+        Ok(Some(LayoutChildType::Field(name)))
+    } else {
+        Ok(None)
+    }
+}
+
+fn list_type(alloc: Global, slot: u64) -> Result<Option<LayoutChildType>, AllocError>
+    ensures { IfOk result (λ o. o ≡ type_in_list slot) }
+{
+    if slot == 0 {
+        auxiliary(alloc, "elements")
+    } else if slot == 1 {
+        auxiliary(alloc, "offsets")
+    } else if slot == 2 {
+        auxiliary(alloc, "validity")
+    } else {
+        Ok(None)
+    }
+}
+
+fn dict_type(alloc: Global, slot: u64) -> Result<Option<LayoutChildType>, AllocError>
+    ensures { IfOk result (λ o. o ≡ type_in_dict slot) }
+{
+    if slot == 0 {
+        auxiliary(alloc, "values")
+    } else if slot == 1 {
+        transparent(alloc, "codes")
+    } else {
+        Ok(None)
+    }
+}
+
+fn zoned_type(alloc: Global, slot: u64) -> Result<Option<LayoutChildType>, AllocError>
+    ensures { IfOk result (λ o. o ≡ type_in_zoned slot) }
+{
+    if slot == 0 {
+        transparent(alloc, "data")
+    } else if slot == 1 {
+        auxiliary(alloc, "zones")
+    } else {
+        Ok(None)
+    }
+}
+
+fn foreign_type(alloc: Global, count: u64, slot: u64) -> Result<Option<LayoutChildType>, AllocError>
+    ensures { IfOk result (λ o. o ≡ type_in_foreign count slot) }
+{
+    if slot < count {
+        let name = Text::from(format!(in alloc; "[{slot}]")?);
+        Ok(Some(LayoutChildType::Auxiliary(name)))
+    } else {
+        Ok(None)
+    }
+}

@@ -1,0 +1,76 @@
+use crate::error::LayoutError;
+use crate::layout::Layout;
+use crate::shape::pair;
+use std::alloc::Global;
+use std::marker::Model;
+use vx_aggregate::{Stat, legacy_stats_table_dtype};
+use vx_model::{DType, SegmentId};
+
+/// A column, and an older table with statistics of each of its zones.
+#[derive(Debug, Drop)]
+#[cycle(layout)]
+pub struct LegacyStatsLayout {
+    pub(crate) row_count: u64,
+    pub(crate) dtype: DType,
+    pub(crate) segment_ids: Vec<SegmentId>,
+    pub(crate) children: Vec<Layout>,
+    pub(crate) zone_len: u32,
+    pub(crate) stats: Vec<Stat>,
+}
+
+impl Model for LegacyStatsLayout {
+    ghost use Rattle.std.specs.Prelude.{ℕ, map};
+    ghost use Rattle.vx_tree.specs.LayoutTree.{Lay};
+    ghost use Rattle.vx_kinds.specs.LayCode.{lay_code};
+
+    ghost Value = { Lay ℕ };
+
+    ghost coded = { lay_code };
+
+    ghost use Rattle.vx_tree.specs.LayoutTree.{stats_kind};
+    ghost use Rattle.vx_aggregate.specs.Stats.{stat_number};
+    ghost use Rattle.vx_kinds.specs.LayoutView.{seen};
+
+    ghost view = { λ c. seen (stats_kind c.zone_len (map stat_number c.stats.items)) c.dtype c.row_count c.segment_ids c.children };
+
+    ghost use Rattle.vx_kinds.specs.LayDepth.{depth};
+
+    ghost size = { depth };
+
+    ghost use Rattle.vx_kinds.specs.DepthFalls.{children_fall};
+
+    ghost size_decreases = { λ c h. children_fall c.children.items };
+}
+
+impl LegacyStatsLayout {
+    ghost use Rattle.vx_kinds.specs.LayoutView.{lay};
+    ghost use Rattle.vx_kinds.specs.Made.{make_stats};
+    ghost use Rattle.vx_kinds.specs.Views.{Gives, itself};
+
+    /// Of the column's type and rows. Refuses `ChildType` where the zones aren't of the statistics' table type.
+    pub fn new(
+        alloc: Global,
+        column: Layout,
+        zones: Layout,
+        zone_len: u32,
+        stats: Vec<Stat>,
+    ) -> Result<LegacyStatsLayout, LayoutError>
+        ensures { Gives itself result (make_stats (lay column) (lay zones) zone_len stats.items) }
+    {
+        let needs = legacy_stats_table_dtype(alloc, column.dtype(), &stats)?;
+        if *zones.dtype() != needs {
+            return Err(LayoutError::ChildType {
+                has: zones.dtype().clone()?,
+                needs,
+            });
+        }
+        Ok(LegacyStatsLayout {
+            row_count: column.row_count(),
+            dtype: column.dtype().clone()?,
+            segment_ids: Vec::new(alloc),
+            children: pair(alloc, column, zones)?,
+            zone_len,
+            stats,
+        })
+    }
+}

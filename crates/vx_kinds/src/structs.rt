@@ -1,0 +1,70 @@
+use crate::error::LayoutError;
+use crate::layout::Layout;
+use crate::shape::struct_children;
+use std::marker::Model;
+use vx_model::{DType, SegmentId};
+
+/// A validity where the type is nullable, then a layout a field.
+#[derive(Debug, Drop)]
+#[cycle(layout)]
+pub struct StructLayout {
+    pub(crate) row_count: u64,
+    pub(crate) dtype: DType,
+    pub(crate) segment_ids: Vec<SegmentId>,
+    pub(crate) children: Vec<Layout>,
+}
+
+impl Model for StructLayout {
+    ghost use Rattle.std.specs.Prelude.{ℕ};
+    ghost use Rattle.vx_tree.specs.LayoutTree.{Lay};
+    ghost use Rattle.vx_kinds.specs.LayCode.{lay_code};
+
+    ghost Value = { Lay ℕ };
+
+    ghost coded = { lay_code };
+
+    ghost use Rattle.vx_tree.specs.LayoutTree.{struct_kind};
+    ghost use Rattle.vx_kinds.specs.LayoutView.{seen};
+
+    ghost view = { λ c. seen struct_kind c.dtype c.row_count c.segment_ids c.children };
+
+    ghost use Rattle.vx_kinds.specs.LayDepth.{depth};
+
+    ghost size = { depth };
+
+    ghost use Rattle.vx_kinds.specs.DepthFalls.{children_fall};
+
+    ghost size_decreases = { λ c h. children_fall c.children.items };
+}
+
+impl StructLayout {
+    ghost use Rattle.std.specs.Prelude.{map};
+    ghost use Rattle.vx_model.specs.TyView.{ty};
+    ghost use Rattle.vx_kinds.specs.LayoutView.{lay};
+    ghost use Rattle.vx_kinds.specs.Made.{make_struct};
+    ghost use Rattle.vx_kinds.specs.Views.{Gives, itself};
+
+    /// Refuses `NotAStruct`, then `ChildCount`. Takes no memory.
+    pub fn new(
+        row_count: u64,
+        dtype: DType,
+        children: Vec<Layout>,
+    ) -> Result<StructLayout, LayoutError>
+        ensures { Gives itself result (make_struct (ty dtype) row_count (map lay children.items)) }
+    {
+        if !dtype.is_struct() {
+            return Err(LayoutError::NotAStruct);
+        }
+        let has = children.len() as u64;
+        let needs = struct_children(&dtype);
+        if has != needs {
+            return Err(LayoutError::ChildCount { has, needs });
+        }
+        Ok(StructLayout {
+            row_count,
+            dtype,
+            segment_ids: Vec::new(*children.allocator()),
+            children,
+        })
+    }
+}
