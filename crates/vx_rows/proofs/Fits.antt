@@ -15,7 +15,7 @@ use Rattle.vx_job.proofs.ReadSteps.{fits_more}
 pub i64_is : ty (dt.Primitive I64 NonNullable) ≡ primitive I64 false
 i64_is = search (rules, dt.the_lemmas)
 
-tree_int : (n : ℤ) → tree (cl.Int n) ≡ int_cell n
+pub tree_int : (n : ℤ) → tree (cl.Int n) ≡ int_cell n
 tree_int n = search (rules, cl.the_lemmas)
 
 pub ruleset fit_rules = (fits_more, map_push, tree_int)
