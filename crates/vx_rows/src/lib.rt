@@ -11,6 +11,8 @@ ghost use Rattle.vx_chunk.specs.ChunkView.{piece};
 #[cfg(test)]
 mod calls;
 #[cfg(test)]
+mod flat_rows;
+#[cfg(test)]
 mod reading;
 #[cfg(test)]
 mod refusals;
