@@ -115,7 +115,10 @@ fn flat_layouts_of_every_type(rt: HostRuntime) -> Result<(), Fail> {
     let alloc = rt.alloc();
     let blob = Cell::Binary(Blob::from_slice(alloc, &[0, 255])?);
     let binary = plain(DType::Binary(NO), vec![in alloc; blob]?)?;
-    let flags = plain(DType::Bool(YES), vec![in alloc; Cell::Bool(true), Cell::Null]?)?;
+    let flags = plain(
+        DType::Bool(YES),
+        vec![in alloc; Cell::Bool(true), Cell::Null]?,
+    )?;
     let table = [
         (binary, "binary, rows: 1", "\"00ff\"\n"),
         (flags, "bool?, rows: 2", "true\nnull\n"),
@@ -125,7 +128,9 @@ fn flat_layouts_of_every_type(rt: HostRuntime) -> Result<(), Fail> {
         (extended(alloc)?, "ext(t, utf8?), rows: 2", "\"x\"\nnull\n"),
     ];
     for (chunk, head, rows) in &table {
-        let text = format!(in alloc; "layout\nvortex.flat, dtype: {head}, segment: 0\nsegments\nzones\ntrace\nrows\n{rows}")?;
+        let text = format!(in alloc;
+            "layout\nvortex.flat, dtype: {head}, segment: 0\nsegments\nzones\ntrace\nrows\n{rows}"
+        )?;
         assert_eq!(rt; printed(alloc, chunk)?.as_str(), text.as_str());
     }
     Ok(())

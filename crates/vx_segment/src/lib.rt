@@ -7,10 +7,10 @@ mod law;
 mod node;
 mod pieces;
 mod rest;
-mod segment;
-mod simple;
 #[cfg(test)]
 mod samples;
+mod segment;
+mod simple;
 #[cfg(test)]
 mod tests;
 mod tree;

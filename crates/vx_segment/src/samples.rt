@@ -64,11 +64,7 @@ pub(crate) fn dictionary(alloc: Global) -> Result<Chunk, Fail> {
     Ok(Chunk::dict(alloc, codes, values)?)
 }
 
-pub(crate) fn list_type(
-    alloc: Global,
-    items: DType,
-    nullable: Nullability,
-) -> Result<DType, Fail> {
+pub(crate) fn list_type(alloc: Global, items: DType, nullable: Nullability) -> Result<DType, Fail> {
     Ok(DType::List(Box::new(alloc, items)?, nullable))
 }
 

@@ -123,7 +123,7 @@ fn damaged_texts(rt: HostRuntime) -> Result<(), Fail> {
         (40, 28, Told::Byte(33)),
         (47, 1, Told::Byte(40)),
     ];
-    assert!(rt; are_fault_in(alloc, &words, &table)?);
+    assert!(rt; are_told(alloc, &words, &table)?);
     for end in 0..48 {
         assert!(rt; fault_in(alloc, words.dtype(), TEXTS.split_at(end).0)? != Told::Nothing);
     }
@@ -150,7 +150,7 @@ fn damaged_dictionaries(rt: HostRuntime) -> Result<(), Fail> {
         (75, 3, Told::Node(2)),
         (77, 1, Told::Node(2)),
     ];
-    assert!(rt; are_fault_in(alloc, &dictionary(alloc)?, &table)?);
+    assert!(rt; are_told(alloc, &dictionary(alloc)?, &table)?);
     Ok(())
 }
 
@@ -167,7 +167,7 @@ fn damaged_lists(rt: HostRuntime) -> Result<(), Fail> {
         (57, 1, Told::Node(1)),
         (66, 0, Told::Byte(77)),
     ];
-    assert!(rt; are_fault_in(alloc, &rows, &table)?);
+    assert!(rt; are_told(alloc, &rows, &table)?);
     let nested = lists(alloc, YES, pairs(alloc)?, &[0, 1, 3], &[true, false])?;
     let table = [
         (24, 2, Told::Node(0)),
@@ -180,6 +180,6 @@ fn damaged_lists(rt: HostRuntime) -> Result<(), Fail> {
         (145, 2, Told::Node(1)),
         (155, 1, Told::Byte(49)),
     ];
-    assert!(rt; are_fault_in(alloc, &nested, &table)?);
+    assert!(rt; are_told(alloc, &nested, &table)?);
     Ok(())
 }
