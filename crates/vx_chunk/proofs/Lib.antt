@@ -14,4 +14,6 @@ pub mod SliceSteps
 pub mod ConcatSteps
 pub mod FlagSteps
 pub mod FieldSteps
+pub mod SizeSteps
+pub mod SizeLaws
 pub mod Copies

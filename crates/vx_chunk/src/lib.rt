@@ -12,6 +12,7 @@ mod flags;
 mod node;
 mod reads;
 mod rows;
+mod sizes;
 mod slice;
 mod values;
 
