@@ -16,4 +16,5 @@ pub mod FlagSteps
 pub mod FieldSteps
 pub mod SizeSteps
 pub mod SizeLaws
+pub mod ElementSteps
 pub mod Copies

@@ -27,7 +27,7 @@ take_both {X} (suc m) n [] = rw (take_all {A = X} (suc m + n) [] (omega arith), 
 take_both (suc m) n (x ∷ xs) = let e : suc m + n ≡ suc (m + n) = omega arith in rw e (ap (λ r. x ∷ r) (take_both m n xs))
 
 -- two spans one behind the other
-joined_spans : {X : Type 0} (a b c : ℕ) (xs : List X) → a ≤ b → b ≤ c → window a c xs ≡ window a b xs ++ window b c xs
+pub joined_spans : {X : Type 0} (a b c : ℕ) (xs : List X) → a ≤ b → b ≤ c → window a c xs ≡ window a b xs ++ window b c xs
 joined_spans a b c xs le more =
     let e : c - a ≡ (b - a) + (c - b) = omega arith in
     let f : a + (b - a) ≡ b = omega arith in

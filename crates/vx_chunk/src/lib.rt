@@ -6,6 +6,7 @@ mod chunk;
 mod concat;
 pub mod conditions;
 mod copy;
+mod elements;
 mod error;
 mod fields;
 mod flags;
