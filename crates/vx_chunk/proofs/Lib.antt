@@ -17,4 +17,5 @@ pub mod FieldSteps
 pub mod SizeSteps
 pub mod SizeLaws
 pub mod ElementSteps
+pub mod Joined
 pub mod Copies

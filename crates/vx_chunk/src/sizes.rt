@@ -222,8 +222,8 @@ fn value_bytes(values: &Chunk, code: &Cell) -> u128
         return cell_size(values.dtype(), &Cell::Null);
     }
     match &values.node {
-        Node::Plain { dtype, cells } => cell_size(dtype, &cells[*place as usize]),
-        Node::Constant { dtype, cell, .. } => cell_size(dtype, cell),
+        Node::Plain { cells, .. } => cell_size(values.dtype(), &cells[*place as usize]),
+        Node::Constant { cell, .. } => cell_size(values.dtype(), cell),
         Node::Dict { .. } | Node::Chunked { .. } | Node::List { .. } => unreachable!(),
         Node::Struct { .. } | Node::Extension { .. } => unreachable!(),
     }
