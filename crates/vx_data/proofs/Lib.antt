@@ -1,0 +1,4 @@
+pub mod Sizes
+pub mod Objects
+pub mod Lists
+pub mod TypeSteps

@@ -1,0 +1,20 @@
+-- Objects by their keys. An object has each key once.
+use Rattle.std.specs.Prelude.{ℕ, ◌&&◌, ◌==◌, Bool, true, List, [], ◌∷◌, length, Option, Some, None, is_some, option_and_then}
+use Rattle.serde_json.specs.Data.{Data, Members}
+use Rattle.serde_json.specs.Find.{get_member, as_str}
+use Rattle.serde_json.specs.Events.{members_len}
+
+infixl 10 ◌>>=◌
+abbrev pub ◌>>=◌ : {A B : Type 0} → Option A → (A → Option B) → Option B
+o >>= f = option_and_then f o
+
+abbrev pub text_in : List ℕ → Members → Option (List ℕ)
+text_in k ms = get_member k ms >>= as_str
+
+abbrev pub have_keys : List (List ℕ) → Members → Bool
+have_keys [] ms = true
+have_keys (k ∷ ks) ms = is_some (get_member k ms) && have_keys ks ms
+
+-- exactly these keys, which differ
+abbrev pub has_keys : List (List ℕ) → Members → Bool
+has_keys ks ms = (members_len ms == length ks) && have_keys ks ms

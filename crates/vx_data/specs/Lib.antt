@@ -1,0 +1,4 @@
+pub mod Views
+pub mod Keys
+pub mod Lists
+pub mod Types
