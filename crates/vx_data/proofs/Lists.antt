@@ -13,7 +13,7 @@ use Rattle.vx_data.specs.Views.{Fails}
 abbrev pub with_front : {A : Type 0} → List A → Option (List A) → Option (List A)
 with_front front read = option_map (λ more. front ++ more) read
 
-regroup : {A : Type 0} (front : List A) (x : A) (read : Option (List A)) → with_front front (first_and (Some x) read) ≡ with_front (front ++ x ∷ []) read
+pub regroup : {A : Type 0} (front : List A) (x : A) (read : Option (List A)) → with_front front (first_and (Some x) read) ≡ with_front (front ++ x ∷ []) read
 unfolding first_and
 regroup front x None = refl
 regroup front x (Some ys) = ap Some (sym (append_assoc front (x ∷ []) ys))
