@@ -18,7 +18,7 @@ use Rattle.vx_data.specs.declared.error.DataError.{DataError}
 use Rattle.vx_data.specs.declared.error.DataError.TheVariants as errors
 use Rattle.vx_data.specs.Views.{Fails}
 use Rattle.vx_data.proofs.Objects.{key_rules}
-use Rattle.vx_data.proofs.Lists.{with_front, regroup, each_goes_on, each_stops}
+use Rattle.vx_data.proofs.Items.{with_front, regroup, each_goes_on, each_stops}
 
 pub tree_null : tree cl.Null ≡ null_cell
 tree_null = search (rules, cl.the_lemmas)

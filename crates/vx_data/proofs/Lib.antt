@@ -1,5 +1,7 @@
 pub mod Sizes
 pub mod Objects
-pub mod Lists
+pub mod Items
 pub mod TypeSteps
 pub mod CellSteps
+pub mod ChunkFits
+pub mod ChunkSteps

@@ -9,7 +9,7 @@ use Rattle.vx_data.specs.Keys.{◌>>=◌}
 use Rattle.vx_data.specs.Lists.{each, first_and, pair_of}
 use Rattle.vx_data.specs.Types.{type_of, type_at, fields_of, fields_at, fields_in, field_of, field_in, named_type}
 use Rattle.vx_data.proofs.Objects.{at_first, key_rules}
-use Rattle.vx_data.proofs.Lists.{each_goes_on, each_stops, list_rules}
+use Rattle.vx_data.proofs.Items.{each_goes_on, each_stops, list_rules}
 use Rattle.vx_data.proofs.Sizes.{get_size, item_size}
 
 pub type_at_is : (k : List ℕ) (ms : Members) → type_at k ms ≡ (get_member k ms >>= type_of)

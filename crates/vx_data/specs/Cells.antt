@@ -3,12 +3,12 @@ use Rattle.std.specs.Prelude.{ℕ, ℤ, Bool, true, false, if◌then◌else◌, 
 use Rattle.hex.specs.Hex.{decode_of}
 use Rattle.hex.specs.declared.error.FromHexError.{FromHexError}
 use Rattle.serde_json.specs.Data.{Data, null, boolean as bool, number, string, array, object, Items, no_items, item, Members}
-use Rattle.serde_json.specs.Find.{get_member, as_integer, as_array}
+use Rattle.serde_json.specs.Find.{get_member, as_integer}
 use Rattle.vx_model.specs.declared.ptype.PType.{PType}
 use Rattle.vx_model.specs.Numbers.{int_fits}
 use Rattle.vx_model.specs.Ty.{Ty, Tys, boolean, primitive, utf8, binary, list, struct, extension, no_fields, field}
 use Rattle.vx_model.specs.Tree.{Tree, null_cell, bool_cell, int_cell, text_cell, bytes_cell, list_cell, struct_cell, no_cells, trees_of}
-use Rattle.vx_data.specs.Keys.{◌>>=◌, has_keys}
+use Rattle.vx_data.specs.Keys.{◌>>=◌, has_keys, array_in}
 use Rattle.vx_data.specs.Lists.{first_and, each}
 
 -- a leaf's null, where the type is nullable
@@ -48,7 +48,7 @@ bytes_of n d = None
 
 -- {"invalid": [..]}
 abbrev pub invalid_in : Members → Option Items
-invalid_in ms = if has_keys (codes "invalid" ∷ []) ms then (get_member (codes "invalid") ms >>= as_array) else None
+invalid_in ms = if has_keys (codes "invalid" ∷ []) ms then array_in (codes "invalid") ms else None
 
 abbrev pub list_with : Bool → Option (List Tree) → Option Tree
 list_with valid None = None
@@ -94,3 +94,6 @@ abbrev mutual
   pub field_cells : Tys → Items → Option (List Tree)
   field_cells no_fields = none_left
   field_cells (field name t fs) = first_then (cell_of t) (field_cells fs)
+
+abbrev pub cell_in : Ty → List ℕ → Members → Option Tree
+cell_in t k ms = get_member k ms >>= cell_of t

@@ -13,7 +13,7 @@ ghost use Rattle.vx_data.specs.Cells.{null_of, bool_of, ranged, int_of, text_of,
 ghost use Rattle.vx_data.specs.Views.{Gives};
 
 use crate::error::DataError;
-use crate::keys::{has_one, member};
+use crate::keys::{array_at, has_one};
 use hex::FromHexError;
 use serde_json::{Map, Number, Value};
 use std::alloc::Global;
@@ -120,10 +120,7 @@ fn invalid_cells(members: &Map<String, Value>) -> Option<&Vec<Value>>
     if !has_one(members, "invalid") {
         return None;
     }
-    match member(members, "invalid") {
-        Some(value) => value.as_array(),
-        None => None,
-    }
+    array_at(members, "invalid")
 }
 
 /// The cell of the type that the value says.

@@ -1,5 +1,6 @@
 use std::alloc::{AllocError, AllocFailed};
 use thiserror::Error;
+use vx_chunk::ChunkError;
 
 /// Why a JSON value gives nothing.
 #[derive(Debug, Drop, Error)]
@@ -30,5 +31,20 @@ impl<T: Drop> From<AllocFailed<T>> for DataError {
 
     fn from(_error: AllocFailed<T>) -> DataError {
         DataError::OutOfMemory
+    }
+}
+
+/// Too many rows are a wrong value.
+impl From<ChunkError> for DataError {
+    ghost use Rattle.std.specs.Prelude.{◌≡◌};
+    ghost use Rattle.vx_data.specs.Causes.{of_chunk};
+
+    ghost from_gives = { λ c e. e ≡ of_chunk c };
+
+    fn from(error: ChunkError) -> DataError {
+        match error {
+            ChunkError::TooLarge(_) => DataError::Wrong,
+            ChunkError::OutOfMemory => DataError::OutOfMemory,
+        }
     }
 }

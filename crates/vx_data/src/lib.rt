@@ -2,10 +2,14 @@
 #![tactic(auto)]
 
 mod cells;
+mod chunks;
+mod encodings;
 mod error;
 mod keys;
+mod lists;
 mod types;
 
 pub use cells::read_cell;
+pub use chunks::read_chunk;
 pub use error::DataError;
 pub use types::read_type;

@@ -7,7 +7,7 @@ use Rattle.vx_model.specs.TyView.{ty, field_ty}
 use Rattle.vx_model.specs.TreeView.{tree}
 use Rattle.vx_data.specs.Lists.{each}
 use Rattle.vx_data.specs.Cells.{cell_of, field_cells}
-use Rattle.vx_data.proofs.Lists.{each_goes_on}
+use Rattle.vx_data.proofs.Items.{each_goes_on}
 use Rattle.vx_data.proofs.CellSteps.{fields_go_on, fields_stop}
 use Rattle.vx_data.proofs.cells.+cells.Goals as goal
 

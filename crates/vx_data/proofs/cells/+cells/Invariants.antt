@@ -5,7 +5,7 @@ use Rattle.vx_model.specs.TyView.{ty, field_ty}
 use Rattle.vx_model.specs.TreeView.{tree}
 use Rattle.vx_data.specs.Lists.{each}
 use Rattle.vx_data.specs.Cells.{cell_of, field_cells}
-use Rattle.vx_data.proofs.Lists.{with_front}
+use Rattle.vx_data.proofs.Items.{with_front}
 use Rattle.vx_data.proofs.CellSteps.{rest_at}
 use Rattle.vx_data.proofs.cells.+cells.Given as goal
 

@@ -5,7 +5,7 @@ use Rattle.serde_json.specs.View.{items_view}
 use Rattle.vx_model.specs.TyView.{field_ty}
 use Rattle.vx_data.specs.Lists.{each}
 use Rattle.vx_data.specs.Types.{field_of}
-use Rattle.vx_data.proofs.Lists.{each_goes_on, each_stops}
+use Rattle.vx_data.proofs.Items.{each_goes_on, each_stops}
 use Rattle.vx_data.proofs.types.+types.Goals as goal
 
 pub read_fields-returns-in_err-read_field : goal.read_fields-returns-in_err-read_field

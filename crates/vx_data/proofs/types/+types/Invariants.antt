@@ -3,7 +3,7 @@ use Rattle.serde_json.specs.View.{view, items_view, members_view}
 use Rattle.vx_model.specs.TyView.{field_ty}
 use Rattle.vx_data.specs.Lists.{each}
 use Rattle.vx_data.specs.Types.{field_of}
-use Rattle.vx_data.proofs.Lists.{with_front}
+use Rattle.vx_data.proofs.Items.{with_front}
 use Rattle.vx_data.proofs.Sizes.{size, items_size, members_size}
 use Rattle.vx_data.proofs.types.+types.Given as goal
 

@@ -24,7 +24,7 @@ each_goes_on f vs i v front x all lt is e so_far =
     let step : with_front front (each f (items_view (drop i vs))) ≡ with_front (front ++ x ∷ []) (each f (items_view (drop (i + 1) vs))) = rw (drop_more vs i v lt, ← is, e) (regroup front x (each f (items_view (drop (i + 1) vs)))) in
     sym step ∙ so_far
 
-each_none : {A : Type 0} (f : Data → Option A) (vs : List Value) (i : ℕ) (v : Value) (front : List A) (all : Option (List A)) → i < length vs → v ≡ get_or vs i v
+pub each_none : {A : Type 0} (f : Data → Option A) (vs : List Value) (i : ℕ) (v : Value) (front : List A) (all : Option (List A)) → i < length vs → v ≡ get_or vs i v
     → f (view v) ≡ None → with_front front (each f (items_view (drop i vs))) ≡ all → all ≡ None
 unfolding first_and
 each_none f vs i v front all lt is e so_far = sym so_far ∙ rw (drop_more vs i v lt, ← is, e) refl
@@ -35,4 +35,4 @@ pub each_stops : {A : Type 0} (error : DataError) (f : Data → Option A) (vs : 
 each_stops errors.Wrong f vs i v front all lt is e so_far = each_none f vs i v front all lt is e so_far
 each_stops errors.OutOfMemory f vs i v front all lt is e so_far = tt
 
-pub ruleset list_rules = (each_goes_on, each_stops, map_push, append-nil)
+pub ruleset list_rules = (each_goes_on, each_none, each_stops, map_push, append-nil)
