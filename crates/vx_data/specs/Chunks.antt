@@ -168,6 +168,9 @@ abbrev mutual
 abbrev pub batch_as : Members → Ty → Option Piece
 batch_as ms t = get_member (codes "chunk") ms >>= chunk_of t
 
+abbrev pub typed_batch : Members → Option Piece
+typed_batch ms = (get_member (codes "as") ms >>= type_of) >>= batch_as ms
+
 abbrev pub batch_of : Ty → Data → Option Piece
-batch_of t (object ms) = if has_keys (codes "as" ∷ codes "chunk" ∷ []) ms then (get_member (codes "as") ms >>= type_of) >>= batch_as ms else chunk_of t (object ms)
+batch_of t (object ms) = if has_keys (codes "as" ∷ codes "chunk" ∷ []) ms then typed_batch ms else chunk_of t (object ms)
 batch_of t d = chunk_of t d

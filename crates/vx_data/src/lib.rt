@@ -1,6 +1,7 @@
 //! Types, cells, chunks and batches of a job, read from JSON.
 #![tactic(auto)]
 
+mod batches;
 mod cells;
 mod chunks;
 mod encodings;
@@ -9,6 +10,7 @@ mod keys;
 mod lists;
 mod types;
 
+pub use batches::{read_batch, read_batches};
 pub use cells::read_cell;
 pub use chunks::read_chunk;
 pub use error::DataError;
