@@ -5,3 +5,4 @@ pub mod TypeSteps
 pub mod CellSteps
 pub mod ChunkFits
 pub mod ChunkSteps
+pub mod ChunkTypes

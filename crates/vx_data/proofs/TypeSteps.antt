@@ -1,12 +1,12 @@
 -- Steps of the reader of types.
-use Rattle.std.proofs.Common.{◌≡◌, ℕ, List, Option, Some, None, nat_cmp, refl}
+use Rattle.std.proofs.Common.{◌≡◌, ℕ, List, nat_cmp, refl}
 use Rattle.std.specs.Cmp.Lexicographic.{slice_cmp}
 use Rattle.std.proofs.lemmas.Map.Text.{is_eq-slice_cmp}
-use Rattle.serde_json.specs.Data.{Data, array, Items, no_items, item, Members, no_members, member}
+use Rattle.serde_json.specs.Data.{Items, no_items, item, Members, no_members, member}
 use Rattle.serde_json.specs.Find.{get_member, as_str}
 use Rattle.vx_model.proofs.Views.{view_rules}
 use Rattle.vx_data.specs.Keys.{◌>>=◌}
-use Rattle.vx_data.specs.Lists.{each, first_and, pair_of}
+use Rattle.vx_data.specs.Lists.{each, pair_of}
 use Rattle.vx_data.specs.Types.{type_of, type_at, fields_of, fields_at, fields_in, field_of, field_in, named_type}
 use Rattle.vx_data.proofs.Objects.{at_first, key_rules}
 use Rattle.vx_data.proofs.Items.{each_goes_on, each_stops, list_rules}

@@ -1,5 +1,5 @@
 -- Objects by their keys. An object has each key once.
-use Rattle.std.specs.Prelude.{ℕ, ◌&&◌, ◌==◌, Bool, true, List, [], ◌∷◌, length, Option, Some, None, is_some, option_and_then}
+use Rattle.std.specs.Prelude.{ℕ, ◌&&◌, ◌==◌, Bool, true, List, [], ◌∷◌, length, Option, is_some, option_and_then}
 use Rattle.serde_json.specs.Data.{Data, Items, Members}
 use Rattle.serde_json.specs.Find.{get_member, as_str, as_array, as_object, as_number, as_u64}
 use Rattle.serde_json.specs.Events.{members_len}

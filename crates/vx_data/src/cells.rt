@@ -1,11 +1,11 @@
 //! Cells.
 
-ghost use Rattle.std.specs.Prelude.{◌≡◌, map, option_map};
+ghost use Rattle.std.specs.Prelude.{◌≡◌, map, option_map, IsTrue, IfOk};
 ghost use Rattle.serde_json.specs.Find.{as_integer};
 ghost use Rattle.serde_json.specs.View.{view, number_view, members_view, items_view};
 ghost use Rattle.hex.specs.Hex.{decode_of};
 ghost use Rattle.vx_model.specs.Ty.{tys_of};
-ghost use Rattle.vx_model.specs.Tree.{bytes_cell};
+ghost use Rattle.vx_model.specs.Tree.{fits};
 ghost use Rattle.vx_model.specs.TyView.{ty, field_ty};
 ghost use Rattle.vx_model.specs.TreeView.{tree};
 ghost use Rattle.vx_data.specs.Lists.{each};
@@ -124,9 +124,17 @@ fn invalid_cells(members: &Map<String, Value>) -> Option<&Vec<Value>>
 }
 
 /// The cell of the type that the value says.
+#[tactic(auto, using(crate::proofs::ChunkFits::fit_rules))]
+pub fn read_cell(alloc: Global, dtype: &DType, value: &Value) -> Result<Cell, DataError>
+    ensures exact { Gives tree result (cell_of (ty dtype.now) (view value.now)) }
+    ensures fits { IfOk result (λ c. IsTrue (fits (ty dtype.now) (tree c))) }
+{
+    cell_from(alloc, dtype, value)
+}
+
 #[cycle(cells)]
 #[tactic(auto, using(crate::proofs::CellSteps::cell_rules))]
-pub fn read_cell(alloc: Global, dtype: &DType, value: &Value) -> Result<Cell, DataError>
+fn cell_from(alloc: Global, dtype: &DType, value: &Value) -> Result<Cell, DataError>
     ensures { Gives tree result (cell_of (ty dtype.now) (view value.now)) }
 {
     match dtype {
@@ -136,7 +144,7 @@ pub fn read_cell(alloc: Global, dtype: &DType, value: &Value) -> Result<Cell, Da
         DType::Binary(n) => read_bytes(alloc, n.is_nullable(), value),
         DType::List(items, n) => read_list(alloc, items, n.is_nullable(), value),
         DType::Struct(fields, n) => read_struct(alloc, &fields.fields, n.is_nullable(), value),
-        DType::Extension(ext) => read_cell(alloc, &ext.storage, value),
+        DType::Extension(ext) => cell_from(alloc, &ext.storage, value),
     }
 }
 
@@ -178,7 +186,7 @@ pub(crate) fn read_cells(
 {
     let mut cells = Vec::with_capacity(alloc, values.len())?;
     for value in values {
-        cells.push(read_cell(alloc, dtype, value)?)?;
+        cells.push(cell_from(alloc, dtype, value)?)?;
     }
     Ok(cells)
 }
@@ -223,7 +231,7 @@ fn read_fields(
     }
     let mut cells = Vec::with_capacity(alloc, fields.len())?;
     for i in 0..fields.len() {
-        cells.push(read_cell(alloc, &fields[i].dtype, &values[i])?)?;
+        cells.push(cell_from(alloc, &fields[i].dtype, &values[i])?)?;
     }
     Ok(cells)
 }

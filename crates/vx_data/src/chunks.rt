@@ -1,10 +1,10 @@
 //! Chunks.
 
-ghost use Rattle.std.specs.Prelude.{◌≡◌, ℕ, List, codes, map, IfSome, IfNone, false};
+ghost use Rattle.std.specs.Prelude.{◌≡◌, ℕ, List, codes, map, IfSome, IfNone, IfOk, false};
 ghost use Rattle.serde_json.specs.Data.{object};
 ghost use Rattle.serde_json.specs.View.{view, items_view, members_view};
 ghost use Rattle.vx_model.specs.Ty.{Ty, tys_of};
-ghost use Rattle.vx_model.specs.Piece.{Piece, has_elements, has_fields, has_storage};
+ghost use Rattle.vx_model.specs.Piece.{Piece, piece_type, has_elements, has_fields, has_storage};
 ghost use Rattle.vx_model.specs.TyView.{ty, field_ty};
 ghost use Rattle.vx_data.specs.Lists.{each};
 ghost use Rattle.vx_data.specs.Chunks.{has_parts as are_parts, inner_type, dict_of, chunked_of, extension_of, codes_in, chunk_of, chunk_at, chunks_at, list_at, struct_at, columns_at, columns_in};
@@ -24,9 +24,17 @@ use vx_chunk::Chunk;
 use vx_model::{DType, StructField};
 
 /// The chunk of the type that the value says. Too many rows are a wrong value.
+#[tactic(auto, using(crate::proofs::ChunkTypes::type_rules))]
+pub fn read_chunk(alloc: Global, dtype: &DType, value: &Value) -> Result<Chunk, DataError>
+    ensures exact { Gives (λ c. c) result (chunk_of (ty dtype.now) (view value.now)) }
+    ensures typed { IfOk result (λ c. piece_type c ≡ ty dtype.now) }
+{
+    chunk_from(alloc, dtype, value)
+}
+
 #[cycle(chunks)]
 #[tactic(auto, using(crate::proofs::ChunkSteps::chunk_rules))]
-pub fn read_chunk(alloc: Global, dtype: &DType, value: &Value) -> Result<Chunk, DataError>
+fn chunk_from(alloc: Global, dtype: &DType, value: &Value) -> Result<Chunk, DataError>
     ensures { Gives (λ c. c) result (chunk_of (ty dtype.now) (view value.now)) }
 {
     match value {
@@ -78,7 +86,7 @@ fn read_chunk_at(
     ensures { Gives (λ c. c) result (chunk_at (ty dtype.now) key.now (members_view members.now.entries)) }
 {
     match member(members, key) {
-        Some(value) => read_chunk(alloc, dtype, value),
+        Some(value) => chunk_from(alloc, dtype, value),
         None => Err(DataError::Wrong),
     }
 }
@@ -117,7 +125,7 @@ fn read_chunks(alloc: Global, dtype: &DType, values: &[Value]) -> Result<Vec<Chu
 {
     let mut parts = Vec::with_capacity(alloc, values.len())?;
     for value in values {
-        parts.push(read_chunk(alloc, dtype, value)?)?;
+        parts.push(chunk_from(alloc, dtype, value)?)?;
     }
     Ok(parts)
 }
@@ -252,7 +260,7 @@ fn read_columns(
     }
     let mut columns = Vec::with_capacity(alloc, types.len())?;
     for i in 0..types.len() {
-        columns.push(read_chunk(alloc, &types[i].dtype, &values[i])?)?;
+        columns.push(chunk_from(alloc, &types[i].dtype, &values[i])?)?;
     }
     Ok(columns)
 }

@@ -9,8 +9,8 @@ use Rattle.vx_data.proofs.Sizes.{size, items_size, members_size}
 use Rattle.vx_data.proofs.ChunkSteps.{rest_at}
 use Rattle.vx_data.proofs.chunks.+chunks.Given as goal
 
-abbrev pub decreases-read_chunk : goal.decreases-read_chunk
-decreases-read_chunk l = 4 * size (view l.value.now)
+abbrev pub decreases-chunk_from : goal.decreases-chunk_from
+decreases-chunk_from l = 4 * size (view l.value.now)
 
 abbrev pub decreases-read_encoded : goal.decreases-read_encoded
 decreases-read_encoded l = 4 * members_size (members_view l.members.now.entries) + 3
