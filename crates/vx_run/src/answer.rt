@@ -3,7 +3,7 @@
 ghost use Rattle.std.specs.Prelude.{◌≡◌, string_bytes, map, List, true, codes, Some, IsSome, IfOk, option_map};
 ghost use Rattle.vx_model.specs.Piece.{Piece};
 ghost use Rattle.vx_model.specs.TreeView.{val};
-ghost use Rattle.vx_types.specs.ChunkView.{piece};
+ghost use Rattle.vx_chunk.specs.ChunkView.{piece};
 ghost use Rattle.vx_tree.specs.Rows.{rows};
 ghost use Rattle.vx_segment.specs.Codec.{segment_codec};
 ghost use Rattle.vx_layout.specs.LayoutView.{lay};

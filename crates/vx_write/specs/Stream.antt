@@ -5,8 +5,8 @@ use Rattle.vx_model.specs.declared.ptype.PType.{PType}
 use Rattle.vx_model.specs.declared.ptype.PType.TheVariants.{I64}
 use Rattle.vx_model.specs.Ty.{Ty, primitive}
 use Rattle.vx_model.specs.Piece.{Piece, piece_type, cells}
-use Rattle.vx_types.specs.ChunkView.{piece}
-use Rattle.vx_types.specs.Segment.{encode, refused, tree_bytes}
+use Rattle.vx_chunk.specs.ChunkView.{piece}
+use Rattle.vx_encode.specs.Segment.{encode, refused, tree_bytes}
 use Rattle.vx_plan.specs.PlanData.{Setting, Plan}
 use Rattle.vx_plan.specs.Way.{Way, flat, chunked}
 use Rattle.vx_plan.specs.InOrder.{batch_rows}
