@@ -54,11 +54,14 @@ impl DictLayout {
                 needs: integer_type(),
             });
         }
+        let row_count = codes.row_count();
+        let dtype = values.dtype().clone()?;
+        let children = pair(alloc, values, codes)?;
         Ok(DictLayout {
-            row_count: codes.row_count(),
-            dtype: values.dtype().clone()?,
+            row_count,
+            dtype,
             segment_ids: Vec::new(alloc),
-            children: pair(alloc, values, codes)?,
+            children,
             all_values_referenced: false,
         })
     }

@@ -64,11 +64,14 @@ impl LegacyStatsLayout {
                 needs,
             });
         }
+        let row_count = column.row_count();
+        let dtype = column.dtype().clone()?;
+        let children = pair(alloc, column, zones)?;
         Ok(LegacyStatsLayout {
-            row_count: column.row_count(),
-            dtype: column.dtype().clone()?,
+            row_count,
+            dtype,
             segment_ids: Vec::new(alloc),
-            children: pair(alloc, column, zones)?,
+            children,
             zone_len,
             stats,
         })

@@ -68,11 +68,14 @@ impl ZonedLayout {
                 needs,
             });
         }
+        let row_count = column.row_count();
+        let dtype = column.dtype().clone()?;
+        let children = pair(alloc, column, zones)?;
         Ok(ZonedLayout {
-            row_count: column.row_count(),
-            dtype: column.dtype().clone()?,
+            row_count,
+            dtype,
             segment_ids: Vec::new(alloc),
-            children: pair(alloc, column, zones)?,
+            children,
             zone_len: zone_len.get(),
             aggregates: aggregate_fns,
         })
