@@ -5,4 +5,3 @@ pub mod Fixed
 pub mod Refused
 pub mod Paths
 pub mod Steps
-pub mod Lost
