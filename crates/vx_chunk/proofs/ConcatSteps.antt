@@ -1,10 +1,9 @@
 -- Parts of chunks, one behind the other.
 use Rattle.std.proofs.Common.{◌≡◌, ℕ, ◌&&◌, Bool, true, false, List, [], ◌∷◌, ◌++◌, length, refl, ap, sym, ◌∙◌, subst, append_assoc, append-nil}
 use Rattle.std.specs.Prelude.{not}
-use Rattle.vx_model.specs.Words.{all_by}
 use Rattle.vx_model.specs.Ty.{Ty, ty_eq}
 use Rattle.vx_model.specs.Tree.{Tree}
-use Rattle.vx_model.specs.Piece.{Piece, Pieces, plain_piece, constant_piece, dict_piece, chunked_piece, list_piece, struct_piece, extension_piece, pieces_of, pieces_in, piece_type, cells, joined_cells, is_chunked, is_sound, are_sound, are_parts}
+use Rattle.vx_model.specs.Piece.{Piece, plain_piece, constant_piece, dict_piece, chunked_piece, list_piece, struct_piece, extension_piece, pieces_of, pieces_in, piece_type, cells, joined_cells, is_chunked, is_sound, are_sound, are_parts}
 use Rattle.vx_columns.proofs.Tests.{left_true, right_true, both_true}
 use Rattle.vx_chunk.specs.Conditions.{are_of_type, IsPast, IsTooLarge}
 use Rattle.vx_chunk.specs.declared.error.ChunkError.{ChunkError}

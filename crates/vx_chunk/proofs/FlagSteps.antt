@@ -2,15 +2,14 @@
 use Rattle.std.proofs.Common.{◌≡◌, ℕ, zero, suc, ◌+◌, ◌-◌, ◌<◌, ◌≤◌, ◌&&◌, Bool, true, false, List, [], ◌∷◌, ◌++◌, length, take, drop, get_or, map, refl, ap, sym, ◌∙◌, arith, append_assoc, append-nil, rules}
 use Rattle.std.specs.Prelude.{replicate, pos, negsuc}
 use Rattle.std.proofs.lemmas.List.{drop_more, length-map, map-append}
-use Rattle.std.proofs.lemmas.Bool.{true≢false}
 use Rattle.vx_model.specs.declared.dtype.DType as dt
 use Rattle.vx_model.specs.declared.ptype.Nullability.TheVariants.{NonNullable}
 use Rattle.vx_model.specs.TyView.{ty}
-use Rattle.vx_model.specs.Words.{head_or, tail, all_by}
+use Rattle.vx_model.specs.Words.{tail, all_by}
 use Rattle.vx_model.specs.Ty.{Ty, boolean, primitive, utf8, binary, list, struct, extension}
 use Rattle.vx_model.specs.Tree.{Tree, null_cell, bool_cell, int_cell, text_cell, bytes_cell, list_cell, struct_cell, fits}
 use Rattle.vx_model.specs.Piece.{Piece, pieces_of, cells, joined_cells, list_rows, struct_rows, picked, cell_at, is_dict_type}
-use Rattle.vx_columns.specs.Parts.{flag_of, row_flags, elements_of, all_elements, ends}
+use Rattle.vx_columns.specs.Parts.{flag_of, row_flags, elements_of}
 use Rattle.vx_columns.proofs.Tests.{left_true, right_true}
 use Rattle.vx_columns.proofs.Steps.{map-replicate}
 use Rattle.vx_chunk.proofs.Depths.{depth_in}

@@ -14,4 +14,8 @@ pub mod SliceSteps
 pub mod ConcatSteps
 pub mod FlagSteps
 pub mod FieldSteps
+pub mod SizeSteps
+pub mod SizeLaws
+pub mod ElementSteps
+pub mod Joined
 pub mod Copies

@@ -33,7 +33,7 @@ abbrev pub IsTooLarge : ℕ → ChunkError → Type 0
 IsTooLarge n (TooLarge m) = (2 ^ 64 ≤ n) × (m ≡ n)
 IsTooLarge n OutOfMemory = Unit {0}
 
--- the same of a number that is told up to the greatest u128
-abbrev pub IsFarTooLarge : ℕ → ChunkError → Type 0
-IsFarTooLarge n (TooLarge m) = (2 ^ 64 ≤ n) × (m ≡ min n (2 ^ 128 - 1))
-IsFarTooLarge n OutOfMemory = Unit {0}
+-- refused since the number is above the greatest u64, and for nothing else; one above the greatest u128 is told as that
+abbrev pub IsFarPast : ℕ → ChunkError → Type 0
+IsFarPast n (TooLarge m) = (2 ^ 64 ≤ n) × (m ≡ min n (2 ^ 128 - 1))
+IsFarPast n OutOfMemory = ⊥

@@ -8,3 +8,4 @@ pub mod Rows
 pub mod Slice
 pub mod Concat
 pub mod Parts
+pub mod Sizes

@@ -2,7 +2,7 @@
 use Rattle.std.specs.Prelude.{◌&&◌, Bool, true, false, List, [], ◌∷◌, map}
 use Rattle.vx_model.specs.Words.{all_by}
 use Rattle.vx_model.specs.Ty.{Ty, Tys, boolean, list, struct, no_fields, field}
-use Rattle.vx_model.specs.Tree.{Tree, Trees, null_cell, bool_cell, struct_cell, cell, fits}
+use Rattle.vx_model.specs.Tree.{Tree, null_cell, bool_cell, struct_cell, cell, fits}
 use Rattle.vx_model.specs.Piece.{Piece, struct_piece, plain_piece, pieces_in, cells}
 use Rattle.vx_columns.specs.Parts.{flag_of}
 

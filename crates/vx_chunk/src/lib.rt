@@ -6,15 +6,24 @@ mod chunk;
 mod concat;
 pub mod conditions;
 mod copy;
+mod elements;
 mod error;
 mod fields;
 mod flags;
+mod laws;
 mod node;
 mod reads;
 mod rows;
+mod sizes;
 mod slice;
 mod values;
 
 pub use error::ChunkError;
+pub use laws::{rows_follow_cells, sizes_add_up};
 pub use node::{Chunk, Node};
 pub use reads::all_sound;
+
+#[cfg(test)]
+mod fixtures;
+#[cfg(test)]
+mod tests;

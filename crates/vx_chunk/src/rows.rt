@@ -46,7 +46,12 @@ pub(crate) fn cells_between(
 
 #[cycle(cells)]
 #[tactic(auto, using(crate::proofs::RowSteps::row_rules))]
-fn push_between(chunk: &Chunk, from: u64, to: u64, out: &mut Vec<Cell>) -> Result<(), AllocError>
+pub(crate) fn push_between(
+    chunk: &Chunk,
+    from: u64,
+    to: u64,
+    out: &mut Vec<Cell>,
+) -> Result<(), AllocError>
     requires order { from ≤ to }
     requires within { to ≤ length (cells_in chunk.now) }
     ensures { OnOk result (map tree out.new.items ≡ map tree out.old.items ++ window from to (cells_in chunk.now)) }

@@ -1,7 +1,7 @@
--- Sums that stand still at the greatest u128.
-use Rattle.std.proofs.Common.{◌≡◌, ℕ, zero, suc, ◌+◌, ◌-◌, ◌*◌, ◌<◌, ◌≤◌, ◌^◌, min, List, [], ◌∷◌, ◌++◌, length, take, drop, get_or, map, refl, ap, sym, ◌∙◌, arith, length-append, append_assoc, append-nil}
+-- How many elements lists have.
+use Rattle.std.proofs.Common.{◌≡◌, ℕ, zero, suc, ◌+◌, ◌*◌, ◌<◌, List, [], ◌∷◌, ◌++◌, length, take, get_or, map, refl, arith, length-append, append_assoc, append-nil}
 use Rattle.std.specs.Prelude.{replicate}
-use Rattle.std.proofs.lemmas.List.{take_more, map_more, map-append}
+use Rattle.std.proofs.lemmas.List.{take_more, map-append}
 use Rattle.vx_model.specs.Tree.{Tree}
 use Rattle.vx_model.specs.declared.cell.Cell.{Cell}
 use Rattle.vx_model.specs.TreeView.{tree}

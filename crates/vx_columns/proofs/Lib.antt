@@ -7,3 +7,4 @@ pub mod CutSteps
 pub mod PartSteps
 pub mod CountSteps
 pub mod ValueSteps
+pub mod SizeSteps

@@ -5,6 +5,7 @@ mod cells;
 mod cuts;
 mod lists;
 mod parts;
+mod sizes;
 mod structs;
 mod values;
 
@@ -17,5 +18,6 @@ pub use parts::{
     bool_cells, columns_of, count_elements, element_len, flag_of, push_apart, push_copies_apart,
     push_flags, push_row_flags, push_same_flag,
 };
+pub use sizes::{cell_size, cells_size, null_byte};
 pub use structs::{empty_rows, push_each, push_structs};
 pub use values::{into_value, into_values};

@@ -1,6 +1,6 @@
 //! Lists and structs of cells taken apart.
 
-ghost use Rattle.std.specs.Prelude.{◌≡◌, ◌∷◌, [], ◌++◌, ◌+◌, ◌-◌, ◌^◌, min, length, map, replicate, IsTrue, IfOk, OnOk};
+ghost use Rattle.std.specs.Prelude.{◌≡◌, ◌≤◌, ◌∷◌, [], ◌++◌, ◌+◌, ◌-◌, ◌*◌, ◌^◌, length, map, replicate, IsTrue, IfOk, OnOk};
 ghost use Rattle.vx_model.specs.Words.{all_by};
 ghost use Rattle.vx_model.specs.Tree.{bool_cell};
 ghost use Rattle.vx_model.specs.TreeView.{tree};
@@ -67,14 +67,15 @@ pub fn bool_cells(alloc: Global, flags: &[bool]) -> Result<Vec<Cell>, AllocError
     Ok(cells)
 }
 
-/// Elements of all lists, at most the greatest u128.
+/// Elements of all lists. No list has more than the greatest u64.
 #[tactic(auto, using(crate::proofs::CountSteps::count_rules))]
 pub fn count_elements(cells: &[Cell]) -> u128
-    ensures { result ≡ min (length (all_elements (map tree cells.now))) (2 ^ 128 - 1) }
+    ensures count { result ≡ length (all_elements (map tree cells.now)) }
+    ensures bound { result ≤ length cells.now * (2 ^ 64 - 1) }
 {
     let mut total: u128 = 0;
     for cell in cells {
-        total = total.saturating_add(u128::from(element_len(cell)));
+        total += u128::from(element_len(cell));
     }
     total
 }

@@ -1,6 +1,6 @@
 -- What the reader of jobs answers.
 use Rattle.std.specs.Prelude.{◌≡◌, map, Result, Ok, Err}
-use Rattle.vx_types.specs.ChunkView.{piece}
+use Rattle.vx_chunk.specs.ChunkView.{piece}
 use Rattle.vx_job.specs.JobText.{JobForm, not_json, not_object, unbuilt, column}
 use Rattle.vx_job.specs.declared.job.Job.{Job}
 use Rattle.vx_job.specs.declared.job.Job.TheVariants as jobs

@@ -7,7 +7,7 @@ ghost use Rattle.vx_model.specs.Words.{all_by};
 ghost use Rattle.vx_model.specs.Ty.{primitive};
 ghost use Rattle.vx_model.specs.Tree.{fits};
 ghost use Rattle.vx_model.specs.TreeView.{tree};
-ghost use Rattle.vx_types.specs.ChunkView.{piece};
+ghost use Rattle.vx_chunk.specs.ChunkView.{piece};
 ghost use Rattle.vx_job.specs.JobText.{job, job_of, cell_of, piece_of, each, is_text, is_chunked_flat};
 ghost use Rattle.vx_job.specs.JobRead.{JobRead};
 

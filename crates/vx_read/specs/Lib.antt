@@ -1,4 +1,3 @@
 pub mod SegmentView
-pub mod Integers
 pub mod Reading
 pub mod Answers

@@ -4,14 +4,12 @@ ghost use Rattle.std.specs.Prelude.{◌≡◌, map, IfOk, option_map, Some};
 ghost use Rattle.vx_model.specs.TyView.{ty};
 ghost use Rattle.vx_model.specs.TreeView.{val};
 ghost use Rattle.vx_model.specs.Piece.{cells};
-ghost use Rattle.vx_types.specs.ChunkView.{piece};
 ghost use Rattle.vx_tree.specs.LayoutTree.{lays_of, layout_type, segments_of};
 ghost use Rattle.vx_tree.specs.Rows.{rows, flat_rows, counted};
 ghost use Rattle.vx_segment.specs.Codec.{segment_codec, cells_read};
 ghost use Rattle.vx_segment.specs.Segment.{decode as segment_of};
 ghost use Rattle.vx_layout.specs.FlatView.{flat_lay, listed_in};
 ghost use Rattle.vx_layout.specs.LayoutView.{lay};
-ghost use Rattle.vx_read.specs.Integers.{is_decoded};
 ghost use Rattle.vx_read.specs.SegmentView.{segment_in};
 ghost use Rattle.vx_read.specs.Reading.{first_fault, first_below, joined_rows, flat_fault, count_fault};
 ghost use Rattle.vx_read.specs.Answers.{GivesRows, TellsFault};
@@ -21,7 +19,7 @@ use crate::segments::SegmentMap;
 use std::alloc::{AllocError, Global};
 use vx_layout::{FlatLayout, Layout};
 use vx_segment::{DecodeError, decode_segment};
-use vx_types::{ArrayContext, Chunk, DType, Nullability, PType, Value};
+use vx_types::{ArrayContext, Chunk, DType, Value};
 
 /// The rows of a layout, read from its segments.
 #[cycle(reading)]
@@ -95,38 +93,26 @@ fn flat_rows(
         return Err(ReadError::NoSegment(number));
     };
     match decoded(alloc, flat.array_ctx(), dtype, segment.as_slice())? {
-        Some(chunk) => Ok(chunk.rows_of()?),
+        Some(chunk) => match chunk.rows_of(alloc) {
+            Ok(rows) => Ok(rows),
+            Err(_) => Err(ReadError::OutOfMemory),
+        },
         None => Err(ReadError::BadSegment(number)),
     }
 }
 
-/// The chunk of a type that a segment is. Segments of other types than 64-bit integers without null aren't decoded yet.
-#[tactic(auto, using(crate::proofs::Decoding::decoded_rules))]
+/// The chunk of a type that a segment is.
 fn decoded(
     alloc: Global,
     ctx: &ArrayContext,
     dtype: &DType,
     bytes: &[u8],
 ) -> Result<Option<Chunk>, AllocError>
-    ensures { IfOk result (λ o. option_map (λ c. cells (piece c)) o ≡ cells_read (segment_of ctx.now (ty dtype.now) bytes.now)) }
+    ensures { IfOk result (λ o. option_map (λ c. cells c) o ≡ cells_read (segment_of ctx.now (ty dtype.now) bytes.now)) }
 {
-    if !is_decoded(dtype) {
-        return Ok(None);
-    }
     match decode_segment(alloc, ctx, dtype, bytes) {
         Ok(chunk) => Ok(Some(chunk)),
         Err(DecodeError::Grammar(_) | DecodeError::BadType(_)) => Ok(None),
         Err(DecodeError::OutOfMemory) => Err(AllocError),
-    }
-}
-
-fn is_decoded(dtype: &DType) -> bool
-    ensures { result ≡ is_decoded (ty dtype.now) }
-{
-    match dtype {
-        DType::Primitive(PType::I64, Nullability::NonNullable) => true,
-        DType::Primitive(_, _) => false,
-        DType::Bool(_) | DType::Utf8(_) | DType::Binary(_) => false,
-        DType::List(..) | DType::Struct(..) | DType::Extension(_) => false,
     }
 }

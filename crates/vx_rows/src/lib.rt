@@ -6,10 +6,12 @@ ghost use Rattle.vx_model.specs.declared.ptype.PType.TheVariants.{I64};
 ghost use Rattle.vx_model.specs.Ty.{primitive};
 ghost use Rattle.vx_model.specs.TyView.{ty};
 ghost use Rattle.vx_model.specs.Piece.{piece_type};
-ghost use Rattle.vx_types.specs.ChunkView.{piece};
+ghost use Rattle.vx_chunk.specs.ChunkView.{piece};
 
 #[cfg(test)]
 mod calls;
+#[cfg(test)]
+mod flat_rows;
 #[cfg(test)]
 mod reading;
 #[cfg(test)]

@@ -4,6 +4,7 @@ use crate::{i64_type, integers};
 use std::alloc::{AllocError, Global};
 use std::test::Fail;
 use vx_layout::{FlatLayout, Layout};
+use vx_nodes::{ChunkedLayoutStrategy, FlatLayoutStrategy};
 use vx_read::{ReadError, SegmentMap, read_rows};
 use vx_segment::{DecodeError, buffer_lengths, decode_segment};
 use vx_sink::{LayoutWriterContext, ListSource, MemorySink, PlainCompressor};
@@ -11,7 +12,7 @@ use vx_types::{
     ArrayContext, Blob, Chunk, DType, EncodingId, Nullability, PType, SegmentId, Value,
     encode_segment,
 };
-use vx_write::{ChunkedLayoutStrategy, FlatLayoutStrategy, write_stream};
+use vx_write::write_stream;
 
 fn context(alloc: Global) -> Result<ArrayContext, Fail> {
     Ok(ArrayContext::try_new(Vec::from_slice(alloc, EncodingId::ALL.as_slice())?)?)

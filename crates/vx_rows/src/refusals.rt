@@ -3,11 +3,10 @@
 use crate::{i64_type, integers};
 use std::alloc::{AllocError, Global};
 use std::test::Fail;
+use vx_nodes::{ChunkedLayoutStrategy, FlatLayoutStrategy, Strategy};
 use vx_sink::{LayoutWriterContext, ListSource, MemorySink, PlainCompressor, SegmentSink};
 use vx_types::{ArrayContext, Chunk, DType, EncodingId, Nullability, PType};
-use vx_write::{
-    ChunkedLayoutStrategy, FlatLayoutStrategy, Refused, Strategy, WriteError, Written, write_stream,
-};
+use vx_write::{Refused, WriteError, Written, write_stream};
 
 fn chunked_flat(alloc: Global) -> Result<Strategy, Fail> {
     let flat = FlatLayoutStrategy::default().into_strategy();

@@ -11,12 +11,11 @@ use Rattle.vx_model.specs.declared.ptype.PType.TheVariants.{I64}
 use Rattle.vx_model.specs.declared.ptype.Nullability.TheVariants.{NonNullable}
 use Rattle.vx_model.specs.TyView.{ty}
 use Rattle.vx_model.specs.Ty.{Ty}
-use Rattle.vx_model.specs.Piece.{Piece, piece_type, plain_piece}
+use Rattle.vx_model.specs.Piece.{Piece, Pieces, plain_piece, constant_piece, dict_piece, chunked_piece, list_piece, struct_piece, extension_piece, no_pieces, part, piece_type}
 use Rattle.vx_model.specs.Tree.{Tree}
 use Rattle.vx_model.specs.Val.{Val}
-use Rattle.vx_types.specs.declared.chunk.Chunk.{Chunk}
-use Rattle.vx_types.specs.ChunkView.{piece}
-use Rattle.vx_types.specs.Segment.{refused}
+use Rattle.vx_chunk.specs.ChunkView.{piece}
+use Rattle.vx_encode.specs.Segment.{refused, refused_below}
 use Rattle.vx_tree.specs.LayoutTree.{Lay}
 use Rattle.vx_tree.specs.Rows.{rows}
 use Rattle.vx_segment.specs.Codec.{segment_codec}
@@ -108,16 +107,23 @@ last_typed {t} {xs} {a} {c} {b} typed told last =
     let parts = told_parts (last.front ++ b ∷ []) a c xs last.came told in
     typed_at t last.front b parts.0 (subst (OfSchema t) parts.1 typed)
 
-plain_at : (cs : List Chunk) (front : List Piece) (b : Piece) (zs : List Piece) → map piece cs ≡ (front ++ b ∷ []) ++ zs → refused all_encodings b ≡ None
-plain_at [] [] b zs e = absurd cc
-plain_at [] (x ∷ front) b zs e = absurd cc
-plain_at (k ∷ cs) [] b zs e = let same : piece k ≡ b = cc in subst (λ (q : Piece). refused all_encodings q ≡ None) same refl
-plain_at (k ∷ cs) (x ∷ front) b zs e = plain_at cs front b zs cc
+-- the context that lists every encoding refuses none
+mutual
+  none_refused : (p : Piece) → refused all_encodings p ≡ None
+  none_refused (plain_piece t cs) = refl
+  none_refused (constant_piece t c n) = refl
+  none_refused (dict_piece codes values) = rw (none_refused codes, none_refused values) refl
+  none_refused (chunked_piece t ps) = none_below ps
+  none_refused (list_piece t e offsets valid) = none_refused e
+  none_refused (struct_piece t ps valid n) = none_below ps
+  none_refused (extension_piece t p) = none_refused p
 
-pub last_plain : (cs : List Chunk) {a c : Option (List Piece)} {b : Piece} → a ≡ Some (map piece cs) → TookLast a c b → refused all_encodings b ≡ None
-last_plain cs {a} {c} {b} told last =
-    let parts = told_parts (last.front ++ b ∷ []) a c (map piece cs) last.came told in
-    plain_at cs last.front b parts.0 parts.1
+  none_below : (ps : Pieces) → refused_below all_encodings ps ≡ None
+  none_below no_pieces = refl
+  none_below (part p ps) = rw (none_refused p, none_below ps) refl
+
+pub last_listed : {a c : Option (List Piece)} {b : Piece} → TookLast a c b → refused all_encodings b ≡ None
+last_listed {b = b} last = none_refused b
 
 pub column_error : (e : WriteError) (next : ℕ) {t : Ty} {ids : List EncodingId} {unbuilt : Type 0} {a c : Option (List Piece)} {source sink : Type 0} → HasCause t ids unbuilt next a c e → MayCome source sink e
     → (source → ⊥) → (sink → ⊥) → ((b : Piece) → TookLast a c b → piece_type b ≡ t) → ((b : Piece) → TookLast a c b → refused ids b ≡ None) → (unbuilt → ⊥) → IsColumnError e

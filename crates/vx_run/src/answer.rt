@@ -3,7 +3,7 @@
 ghost use Rattle.std.specs.Prelude.{◌≡◌, string_bytes, map, List, true, codes, Some, IsSome, IfOk, option_map};
 ghost use Rattle.vx_model.specs.Piece.{Piece};
 ghost use Rattle.vx_model.specs.TreeView.{val};
-ghost use Rattle.vx_types.specs.ChunkView.{piece};
+ghost use Rattle.vx_chunk.specs.ChunkView.{piece};
 ghost use Rattle.vx_tree.specs.Rows.{rows};
 ghost use Rattle.vx_segment.specs.Codec.{segment_codec};
 ghost use Rattle.vx_layout.specs.LayoutView.{lay};
@@ -12,7 +12,7 @@ ghost use Rattle.vx_plan.specs.Valid.{OfSchema};
 ghost use Rattle.vx_sink.specs.ContextView.{listed};
 ghost use Rattle.vx_job.specs.JobText.{job};
 ghost use Rattle.vx_report.specs.Report.{report, refused_report};
-ghost use Rattle.vx_write.specs.StrategyView.{way};
+ghost use Rattle.vx_nodes.specs.StrategyView.{way};
 ghost use Rattle.vx_run.specs.declared.status.Status.TheVariants as statuses;
 ghost use Rattle.vx_run.specs.Answers.{IsText, IsAnswer, ColumnAnswer, IsColumnError, is_too_large, all_encodings, i64_type, chunked_flat};
 
@@ -20,13 +20,12 @@ use crate::status::Status;
 use std::alloc::{AllocError, Global};
 use vx_job::{Job, JobError, read_job};
 use vx_layout::Layout;
+use vx_nodes::{ChunkedLayoutStrategy, FlatLayoutStrategy, Strategy};
 use vx_read::{ReadError, SegmentMap, read_rows};
 use vx_report::{refused_report, report};
 use vx_sink::{LayoutWriterContext, ListSource, MemorySink, PlainCompressor};
 use vx_types::{ArrayContext, Blob, Chunk, DType, EncodingId, Nullability, PType, Value};
-use vx_write::{
-    BuildError, ChunkedLayoutStrategy, FlatLayoutStrategy, Strategy, WriteError, write_stream,
-};
+use vx_write::{WriteError, write_stream};
 
 /// A status, and the text that is printed before it.
 #[derive(Debug, Drop)]
@@ -154,7 +153,7 @@ fn chunked_over_flat(alloc: Global) -> Result<Strategy, AllocError>
     let flat = FlatLayoutStrategy::default().into_strategy();
     match ChunkedLayoutStrategy::new(alloc, flat) {
         Ok(chunked) => Ok(chunked.into_strategy()),
-        Err(BuildError::OutOfMemory) => Err(AllocError),
+        Err(_) => Err(AllocError),
     }
 }
 

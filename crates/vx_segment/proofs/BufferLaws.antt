@@ -5,7 +5,7 @@ use Rattle.std.specs.Int.{w64, from_le_bytes}
 use Rattle.std.proofs.lemmas.Bool.{eqb-true, ltb-false, le-ltb}
 use Rattle.std.proofs.lemmas.List.{nil_from_length, length-append, length-take, length-drop, length-replicate, take-append-drop, take_at, drop_at, drop-drop}
 use Rattle.vx_model.specs.Tree.{u64_bytes}
-use Rattle.vx_types.specs.Segment.{padding_at, laid_out}
+use Rattle.vx_encode.specs.Segment.{padding_at, laid_out}
 use Rattle.vx_segment.specs.Reading.{Fault, bad_grammar, ◌>>=◌}
 use Rattle.vx_segment.specs.Segment.{set_byte, buffer_at, buffers_at, halves_at, halves_of}
 use Rattle.vx_segment.proofs.BufferSteps.{buffer_is}

@@ -2,7 +2,7 @@
 use Rattle.std.proofs.Common.{◌≡◌, ℕ, zero, suc, ◌-◌, ◌+◌, ◌%◌, ◌≤◌, ◌<◌, Bool, true, false, cond, eqb, List, [], ◌∷◌, ◌++◌, length, get_or, take, drop, map, Option, Some, None, Result, Ok, Err, refl, sym, ap, ◌∙◌, append_assoc, arith, ltb}
 use Rattle.std.proofs.lemmas.Bool.{ltb-false, eqb-true, ne_eqb}
 use Rattle.std.proofs.lemmas.List.{append-nil, drop_more, length-replicate, length-drop, drop_all}
-use Rattle.vx_types.specs.Segment.{padding_at}
+use Rattle.vx_encode.specs.Segment.{padding_at}
 use Rattle.vx_segment.specs.declared.node.Node.{Node}
 use Rattle.vx_segment.specs.declared.error.DecodeError.{DecodeError}
 use Rattle.vx_segment.specs.Reading.{Fault, bad_grammar, ◌>>=◌}

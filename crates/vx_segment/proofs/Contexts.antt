@@ -4,7 +4,7 @@ use Rattle.vx_model.specs.declared.encoding.EncodingId.{EncodingId}
 use Rattle.vx_model.specs.declared.encoding.EncodingId.TheVariants as ids
 use Rattle.vx_model.specs.Numbers.{encoding_eq}
 use Rattle.vx_model.specs.Distinct.{is_listed, repeat_after, first_repeat}
-use Rattle.vx_types.specs.Segment.{place_of}
+use Rattle.vx_model.specs.Places.{place_of}
 
 -- 1 where the encoding isn't among those
 abbrev missing : EncodingId → List EncodingId → ℕ
@@ -26,7 +26,7 @@ or_true : (b : Bool) → (b || true) ≡ true
 or_true true = refl
 or_true false = refl
 
-listed_push : (d e : EncodingId) (es : List EncodingId) → is_listed d (es ++ e ∷ []) ≡ (is_listed d es || encoding_eq e d)
+pub listed_push : (d e : EncodingId) (es : List EncodingId) → is_listed d (es ++ e ∷ []) ≡ (is_listed d es || encoding_eq e d)
 listed_push d e [] = or_false (encoding_eq e d)
 listed_push d e (f ∷ es) = ap (λ (b : Bool). encoding_eq f d || b) (listed_push d e es) ∙ either (encoding_eq f d) (is_listed d es) (encoding_eq e d)
 

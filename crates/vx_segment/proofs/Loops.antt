@@ -3,7 +3,8 @@ use Rattle.std.proofs.Common.{◌≡◌, ℕ, zero, suc, ◌-◌, ◌+◌, ◌�
 use Rattle.std.proofs.lemmas.List.{append-nil, map_push}
 use Rattle.vx_segment.specs.declared.error.DecodeError.{DecodeError}
 use Rattle.vx_segment.specs.declared.error.DecodeError.TheVariants as errors
-use Rattle.vx_segment.specs.Reading.{Fault, bad_grammar, bad_type, ◌>>=◌, many_at, Head, node_at, nodes_at}
+use Rattle.vx_segment.specs.Reading.{Fault, bad_grammar, bad_type, ◌>>=◌, many_at, node_at, nodes_at}
+use Rattle.vx_encode.specs.Head.{Head}
 use Rattle.vx_segment.specs.Views.{Fails}
 
 -- what was read before, and what is still read

@@ -6,8 +6,10 @@ use Rattle.std.proofs.lemmas.Bool.{eqb-true}
 use Rattle.std.proofs.lemmas.List.{append-nil, nil_from_length, length-append}
 use Rattle.vx_model.specs.Words.{joined_by}
 use Rattle.vx_model.specs.Tree.{bit, u64_bytes}
-use Rattle.vx_segment.specs.Reading.{bad_grammar, ◌>>=◌, number_at, byte_at, flag_at, many_at, Head, node_at, nodes_at, RawTree, tree_at}
-use Rattle.vx_segment.specs.Spelled.{head_spelling, are_trees, tree_spelling, IsHead}
+use Rattle.vx_segment.specs.Reading.{bad_grammar, ◌>>=◌, number_at, byte_at, flag_at, many_at, node_at, nodes_at, RawTree, tree_at}
+use Rattle.vx_encode.specs.Head.{Head}
+use Rattle.vx_encode.specs.Head.{head_spelling}
+use Rattle.vx_segment.specs.Spelled.{are_trees, tree_spelling, IsHead}
 use Rattle.vx_segment.proofs.Fields.{IsBytes, bind_ok, guard_ended, ok_is, Takes, Takes-then, wide16, number_takes, number_again, u64_takes, u64_again, byte_takes, flag_takes, flag_again, many_takes, many_again}
 
 node_takes : (stop : ℕ) (bytes : List ℕ) (x : Head × List ℕ) → IsBytes bytes → node_at stop bytes ≡ Ok x → Takes bytes (head_spelling x.0) x.1
@@ -71,7 +73,7 @@ nodes_again (suc fuel) (suc pending) stop (n ∷ ns) rest le trees fits =
     ap (nodes_at (suc fuel) (suc pending) stop) (append_assoc (head_spelling n) (joined_by head_spelling ns) rest) ∙ rw (node_again stop n (joined_by head_spelling ns ++ rest) fits.0, nodes_again fuel (pending + n.children) stop ns rest (omega (arith, le)) trees fits.1) refl
 
 -- a node has a byte at least
-enough : (ns : List Head) → length ns ≤ length (joined_by head_spelling ns)
+pub enough : (ns : List Head) → length ns ≤ length (joined_by head_spelling ns)
 enough [] = omega arith
 enough (n ∷ ns) =
     let first : length (joined_by head_spelling (n ∷ ns)) ≡ length (head_spelling n) + length (joined_by head_spelling ns) = length-append (head_spelling n) (joined_by head_spelling ns) in

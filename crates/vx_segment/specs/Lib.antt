@@ -1,4 +1,6 @@
 pub mod Reading
+pub mod Pieces
+pub mod TypeDepth
 pub mod Segment
 pub mod Codec
 pub mod Examples

@@ -2,6 +2,7 @@
 -- segment: `stop` is the place at which the bytes that are read end, so what is left tells the place of a field.
 use Rattle.std.specs.Prelude.{ℕ, zero, suc, ◌+◌, ◌-◌, Bool, true, false, List, [], ◌∷◌, length, take, drop, Result, Ok, Err, nat_lt, ◌==◌, if◌then◌else◌}
 use Rattle.std.specs.Int.{Width, w16, w64, byte_len, from_le_bytes}
+use Rattle.vx_encode.specs.Head.{Head}
 
 pub data Fault : Type 0 where
   -- the bytes are no segment, from this place on
@@ -39,18 +40,6 @@ many_at read (suc n) bytes = do
   Ok (first.0 ∷ others.0, others.1)
 
 -- ---- the tree of encodings
-
--- A node without its children, which are the nodes behind it.
-pub record Head : Type 0 where
-  -- the encoding's place in the context
-  pub index : ℕ
-  pub rows : ℕ
-  -- one byte more
-  pub extra : ℕ
-  -- the lengths of its buffers
-  pub lengths : List ℕ
-  -- how many children it has
-  pub children : ℕ
 
 unfoldable pub node_at : ℕ → List ℕ → Result (Head × List ℕ) Fault
 node_at stop bytes = do

@@ -1,15 +1,13 @@
 -- Reading a segment: its tree, its buffers, and the chunk that they are.
-use Rattle.std.specs.Prelude.{ℕ, zero, suc, ◌+◌, ◌-◌, ◌&&◌, Bool, false, List, [], ◌∷◌, ◌++◌, length, take, drop, Option, Some, None, Result, Ok, Err, nat_lt, ◌==◌, if◌then◌else◌}
-use Rattle.std.specs.Int.{w64, from_le_bytes, cast_signed}
+use Rattle.std.specs.Prelude.{ℕ, zero, suc, ◌+◌, ◌-◌, Bool, List, [], ◌∷◌, ◌++◌, length, take, drop, Option, Some, None, Result, Ok, Err, nat_lt, ◌==◌, if◌then◌else◌}
+use Rattle.std.specs.Int.{w64, from_le_bytes}
 use Rattle.vx_model.specs.declared.encoding.EncodingId.{EncodingId}
-use Rattle.vx_model.specs.declared.encoding.EncodingId.TheVariants.{Plain}
-use Rattle.vx_model.specs.declared.ptype.PType.TheVariants.{I64}
-use Rattle.vx_model.specs.Ty.{Ty, primitive}
-use Rattle.vx_model.specs.Tree.{Tree, int_cell}
-use Rattle.vx_model.specs.Piece.{Piece, plain_piece}
-use Rattle.vx_types.specs.Segment.{padding_at}
-use Rattle.vx_types.specs.Encoding.{listed_place}
-use Rattle.vx_segment.specs.Reading.{Fault, bad_grammar, bad_type, ◌>>=◌, many_at, Head, RawTree, tree_at}
+use Rattle.vx_model.specs.Ty.{Ty}
+use Rattle.vx_model.specs.Piece.{Piece}
+use Rattle.vx_encode.specs.Head.{Head}
+use Rattle.vx_encode.specs.Segment.{padding_at}
+use Rattle.vx_segment.specs.Reading.{Fault, bad_grammar, ◌>>=◌, RawTree, tree_at}
+use Rattle.vx_segment.specs.Pieces.{piece_at}
 
 -- ---- the buffers, from the place `at` on
 
@@ -64,46 +62,16 @@ raw_of bytes = do
   buffers ← buffers_at tree.padded 0 (lengths_of tree.nodes) halves.0
   Ok (record { tree = tree; buffers = buffers })
 
--- ---- the chunk of a type. So far a plain node of 64-bit integers without null is built.
+-- ---- the chunk of a type
 
--- a cell of the type, for the node of this number
-abbrev pub cell_at : ℕ → List ℕ → Result (Tree × List ℕ) Fault
-cell_at node bytes =
-    if nat_lt (length bytes) 8 then Err (bad_type node) else Ok (int_cell (cast_signed w64 (from_le_bytes w64 (take 8 bytes))), drop 8 bytes)
+unfoldable pub piece_in : List EncodingId → Ty → Raw → Result Piece Fault
+piece_in ctx t raw = do
+  read ← piece_at (record { ids = ctx; total = length raw.tree.nodes }) t (record { nodes = raw.tree.nodes; buffers = raw.buffers })
+  Ok read.0
 
--- so many cells, and nothing behind them
-unfoldable pub cells_of : ℕ → ℕ → List ℕ → Result (List Tree) Fault
-cells_of node rows bytes = do
-  cells ← many_at (cell_at node) rows bytes
-  if length cells.1 == 0 then Ok cells.0 else Err (bad_type node)
-
--- whether an encoding that is at this place, where it is listed, has the index
-abbrev pub is_at : ℕ → Option ℕ → Bool
-is_at index None = false
-is_at index (Some place) = place == index
-
--- whether the node's index, extra byte and counts are those of a plain chunk
-abbrev pub is_plain_head : List EncodingId → Head → Bool
-is_plain_head ctx n = is_at n.index (listed_place Plain ctx) && ((n.extra == 0) && ((length n.lengths == 1) && (n.children == 0)))
-
-unfoldable pub plain_cells : List EncodingId → List Head → List (List ℕ) → Result (List Tree) Fault
-plain_cells ctx (n ∷ ns) (b ∷ bs) = if is_plain_head ctx n then cells_of 0 n.rows b else Err (bad_type 0)
-plain_cells ctx ns bs = Err (bad_type 0)
-
--- The plain chunk of 64-bit integers that a segment is, or the first fault. The other encodings of these integers
--- are refused like one that isn't in the context.
-unfoldable pub decode_integers : List EncodingId → List ℕ → Result (List Tree) Fault
-decode_integers ctx bytes = do
-  raw ← raw_of bytes
-  plain_cells ctx raw.tree.nodes raw.buffers
-
-abbrev pub as_plain : Ty → Result (List Tree) Fault → Result Piece Fault
-as_plain t (Ok cs) = Ok (plain_piece t cs)
-as_plain t (Err f) = Err f
-
+-- the chunk of the type that a segment is, or the first fault
 abbrev pub decode : List EncodingId → Ty → List ℕ → Result Piece Fault
-decode ctx (primitive I64 false) bytes = as_plain (primitive I64 false) (decode_integers ctx bytes)
-decode ctx t bytes = as_plain t (raw_of bytes >>= λ raw. Err (bad_type 0))
+decode ctx t bytes = raw_of bytes >>= piece_in ctx t
 
 -- the lengths of all buffers of a segment
 abbrev pub segment_lengths : List ℕ → Result (List ℕ) Fault

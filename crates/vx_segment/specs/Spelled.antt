@@ -1,13 +1,10 @@
 -- What a tree of encodings is spelled as: the spelling that the reader takes back.
-use Rattle.std.specs.Prelude.{ℕ, zero, suc, ◌+◌, ◌<◌, ◌^◌, Bool, true, false, List, [], ◌∷◌, ◌++◌, length}
-use Rattle.std.specs.Int.{w16, to_le_bytes}
+use Rattle.std.specs.Prelude.{ℕ, zero, suc, ◌+◌, ◌<◌, ◌^◌, Bool, true, false, List, [], ◌∷◌, length}
 use Rattle.std.specs.List.{AllByRecursion}
 use Rattle.vx_model.specs.Words.{joined_by}
-use Rattle.vx_model.specs.Tree.{bit, u64_bytes}
-use Rattle.vx_segment.specs.Reading.{Head, RawTree}
-
-abbrev pub head_spelling : Head → List ℕ
-head_spelling n = to_le_bytes w16 n.index ++ (u64_bytes n.rows ++ (n.extra ∷ length n.lengths ∷ (joined_by u64_bytes n.lengths ++ u64_bytes n.children)))
+use Rattle.vx_model.specs.Tree.{bit}
+use Rattle.vx_encode.specs.Head.{Head, head_spelling}
+use Rattle.vx_segment.specs.Reading.{RawTree}
 
 -- whether nodes in pre-order are so many whole trees
 abbrev pub are_trees : ℕ → List Head → Bool

@@ -1,11 +1,17 @@
 -- What the readers return, as contracts see it.
-use Rattle.std.specs.Prelude.{◌≡◌, map, Result, Ok, Err}
+use Rattle.std.specs.Prelude.{◌≡◌, ℕ, map, Result, Ok, Err}
+use Rattle.vx_cells.specs.declared.error.CellError.{CellError}
+use Rattle.vx_cells.specs.declared.error.CellError.TheVariants as cells
 use Rattle.vx_segment.specs.declared.node.Node.{Node}
 use Rattle.vx_segment.specs.declared.node.EncodingTree.{EncodingTree}
 use Rattle.vx_segment.specs.declared.node.RawSegment.{RawSegment}
 use Rattle.vx_segment.specs.declared.error.DecodeError.{DecodeError}
 use Rattle.vx_segment.specs.declared.error.DecodeError.TheVariants as errors
-use Rattle.vx_segment.specs.Reading.{Fault, bad_grammar, bad_type, Head, RawTree}
+use Rattle.vx_segment.specs.Reading.{Fault, bad_grammar, bad_type, RawTree}
+use Rattle.vx_encode.specs.Head.{Head}
+use Rattle.vx_segment.specs.declared.rest.Frame.{Frame as HeldFrame}
+use Rattle.vx_segment.specs.declared.rest.Rest.{Rest as HeldRest}
+use Rattle.vx_segment.specs.Pieces.{Frame, Rest}
 use Rattle.vx_segment.specs.Segment.{Raw}
 
 -- the same fault; want of memory is free
@@ -27,3 +33,14 @@ raw_tree t = record { padded = t.padded; nodes = map head t.nodes.items }
 
 abbrev pub raw : RawSegment → Raw
 raw s = record { tree = raw_tree s.tree; buffers = map (λ b. b.now) s.buffers.items }
+
+abbrev pub frame : HeldFrame → Frame
+frame f = record { ids = f.ids.now; total = f.total }
+
+abbrev pub rest : HeldRest → Rest
+rest r = record { nodes = map head r.nodes.now; buffers = map (λ b. b.now) r.buffers.now }
+
+-- the fault of node k where its cells can't be read
+abbrev pub given_of : ℕ → CellError → DecodeError → Type 0
+given_of k cells.NoCells e = e ≡ errors.BadType k
+given_of k cells.OutOfMemory e = e ≡ errors.OutOfMemory

@@ -1,7 +1,7 @@
 //! Reading the buffers that a tree names.
 
 ghost use Rattle.std.specs.Prelude.{◌≡◌, ◌+◌, ◌<◌, ◌^◌, length, map, IfOk};
-ghost use Rattle.vx_types.specs.Segment.{padding_at};
+ghost use Rattle.vx_encode.specs.Segment.{padding_at};
 ghost use Rattle.vx_segment.specs.Segment.{set_byte as first_set, buffer_at as buffer_from, buffers_at, lengths_of};
 ghost use Rattle.vx_segment.specs.Views.{Gives, head};
 

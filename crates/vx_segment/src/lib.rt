@@ -3,15 +3,20 @@
 
 mod buffers;
 mod error;
-mod integers;
 mod law;
 mod node;
+mod pieces;
+mod rest;
+#[cfg(test)]
+mod samples;
 mod segment;
+mod simple;
+#[cfg(test)]
+mod tests;
 mod tree;
+#[cfg(test)]
+mod types_tests;
 
 pub use error::DecodeError;
 pub use law::{segment_examples, segments_read_back};
 pub use segment::{buffer_lengths, decode_segment, tree_buffer_lengths};
-
-#[cfg(test)]
-mod tests;

@@ -1,6 +1,7 @@
 use super::*;
+use crate::samples::context;
 use std::test::*;
-use vx_model::{ArrayContext, DType, EncodingId, Nullability, PType, Value};
+use vx_model::{DType, Nullability, PType, Value};
 
 /// The integers 1 and 2, in one plain node.
 const SEGMENT: [u8; 53] = [
@@ -22,15 +23,6 @@ const TREE: [u8; 49] = [
 
 const I64: DType = DType::Primitive(PType::I64, Nullability::NonNullable);
 
-fn default_context(rt: &HostRuntime) -> Result<ArrayContext, Fail> {
-    let ids = Vec::from_slice(rt.alloc(), EncodingId::ALL.as_slice())?;
-    Ok(
-        ArrayContext::try_new(ids)
-            .ok()
-            .ok_or("no encoding is listed twice")?,
-    )
-}
-
 /// A copy with one byte changed.
 fn changed(rt: &HostRuntime, bytes: &[u8], place: usize, byte: u8) -> Result<Vec<u8>, Fail> {
     let mut copy = Vec::from_slice(rt.alloc(), bytes)?;
@@ -42,7 +34,7 @@ fn changed(rt: &HostRuntime, bytes: &[u8], place: usize, byte: u8) -> Result<Vec
 
 fn fault(rt: &HostRuntime, bytes: &[u8]) -> Result<DecodeError, Fail> {
     Ok(
-        decode_segment(rt.alloc(), &default_context(rt)?, &I64, bytes)
+        decode_segment(rt.alloc(), &context(rt.alloc())?, &I64, bytes)
             .err()
             .ok_or("a fault is there")?,
     )
@@ -55,10 +47,10 @@ fn first_length(rt: &HostRuntime, bytes: &[u8]) -> Result<u64, DecodeError> {
 
 #[test]
 fn rows_are_read(rt: HostRuntime) -> Result<(), Fail> {
-    let chunk = decode_segment(rt.alloc(), &default_context(&rt)?, &I64, &SEGMENT)
+    let chunk = decode_segment(rt.alloc(), &context(rt.alloc())?, &I64, &SEGMENT)
         .ok()
         .ok_or("the bytes are a segment")?;
-    let rows = chunk.rows_of()?;
+    let rows = chunk.rows_of(rt.alloc())?;
     assert_eq!(rt; rows.len(), 2);
     assert!(rt; matches!(rows.first(), Some(Value::Int(1))));
     assert!(rt; matches!(rows.last(), Some(Value::Int(2))));

@@ -1,7 +1,7 @@
 -- What a compressor answers.
 use Rattle.std.specs.Prelude.{◌≡◌, Bool, true, false, IsTrue, Result, Ok, Err, refl}
 use Rattle.vx_model.specs.Piece.{Piece, piece_type, row_values, is_sound}
-use Rattle.vx_types.specs.declared.chunk.Chunk.{Chunk}
+use Rattle.vx_chunk.specs.declared.node.Chunk.{Chunk}
 use Rattle.vx_sink.specs.declared.compressor.CompressError.{CompressError}
 use Rattle.vx_sink.specs.declared.compressor.CompressError.TheVariants.{Failed, OutOfMemory}
 

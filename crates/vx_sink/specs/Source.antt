@@ -1,8 +1,8 @@
 -- What a source answers.
 use Rattle.std.specs.Prelude.{◌≡◌, ℕ, ◌<◌, ◌≤◌, Bool, true, false, List, [], ◌∷◌, Option, Some, None, Result, Ok, Err}
 use Rattle.vx_model.specs.Piece.{Piece}
-use Rattle.vx_types.specs.declared.chunk.Chunk.{Chunk}
-use Rattle.vx_types.specs.ChunkView.{piece}
+use Rattle.vx_chunk.specs.declared.node.Chunk.{Chunk}
+use Rattle.vx_chunk.specs.ChunkView.{piece}
 use Rattle.vx_sink.specs.declared.source.SourceError.{SourceError}
 use Rattle.vx_sink.specs.declared.source.SourceError.TheVariants.{Failed, OutOfMemory}
 use Rattle.vx_sink.specs.Told.{before_told, NoneTold}

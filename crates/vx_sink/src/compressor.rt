@@ -1,6 +1,6 @@
 ghost use Rattle.std.specs.Prelude.{◌≡◌, ℕ, ◌+◌, IfOk, IsTrue};
 ghost use Rattle.vx_model.specs.Piece.{Piece, is_sound};
-ghost use Rattle.vx_types.specs.ChunkView.{piece};
+ghost use Rattle.vx_chunk.specs.ChunkView.{piece};
 ghost use Rattle.vx_sink.specs.Counts.{Counts};
 ghost use Rattle.vx_sink.specs.Compressor.{compress_failed, SameRows};
 

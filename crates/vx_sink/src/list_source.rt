@@ -1,7 +1,7 @@
 ghost use Rattle.std.specs.Prelude.{◌≡◌, ℕ, ◌+◌, Some, map, length, IsTrue};
 ghost use Rattle.std.specs.Vec.Iter.{into_iter_items};
 ghost use Rattle.vx_model.specs.TyView.{ty};
-ghost use Rattle.vx_types.specs.ChunkView.{piece};
+ghost use Rattle.vx_chunk.specs.ChunkView.{piece};
 ghost use Rattle.vx_sink.specs.Fails.{fails_at};
 
 use crate::fails::Fails;

@@ -1,13 +1,8 @@
-//! Chunks of rows, and the bytes of a segment.
+//! Types, cells, chunks and the segments that chunks are written as: the names that callers use.
 #![tactic(auto)]
 
-mod chunk;
-mod copy;
-mod encode;
-mod rows;
-
-pub use chunk::Chunk;
-pub use encode::{EncodeError, encode_segment};
+pub use vx_chunk::{Chunk, ChunkError, Node, conditions};
+pub use vx_encode::{EncodeError, encode_segment};
 pub use vx_model::{
     ArrayContext, Blob, Cell, ContextError, DType, EncodingId, ExtDType, FieldName, IdTooLarge,
     Nullability, PType, SegmentId, StructField, StructFields, Text, Value,

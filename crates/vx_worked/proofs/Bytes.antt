@@ -8,7 +8,7 @@ use Rattle.vx_model.specs.Ty.{Ty, primitive, list, struct, field, no_fields}
 use Rattle.vx_model.specs.Tree.{Tree, int_cell}
 use Rattle.vx_model.specs.Piece.{Piece, plain_piece, chunked_piece, pieces_of, list_piece}
 use Rattle.vx_tree.specs.LayoutTree.{flat_layout}
-use Rattle.vx_types.specs.Segment.{encode, tree_bytes, refused}
+use Rattle.vx_encode.specs.Segment.{encode, tree_bytes, refused}
 use Rattle.vx_plan.specs.PlanData.{Setting, Item, paths}
 use Rattle.vx_plan.specs.GroupNode.{grouped_stream}
 use Rattle.vx_plan.specs.Way.{Way, ZonedOptions, flat, chunked, grouped, into_one, zoned, listed}

@@ -7,7 +7,7 @@ use Rattle.vx_model.specs.declared.encoding.EncodingId.{EncodingId}
 use Rattle.vx_model.specs.Ty.{Ty}
 use Rattle.vx_model.specs.Val.{Val, value}
 use Rattle.vx_model.specs.Piece.{Piece, piece_type, cells, row_values}
-use Rattle.vx_types.specs.Segment.{encode, segment_bytes, bytes_unless}
+use Rattle.vx_encode.specs.Segment.{encode, segment_bytes, bytes_unless}
 use Rattle.vx_tree.specs.Codec.{Codec}
 use Rattle.vx_tree.specs.LayoutTree.{lays_of, flat_layout, chunked_layout, gathered}
 use Rattle.vx_tree.specs.Rows.{rows, each_rows, all_there, joined}

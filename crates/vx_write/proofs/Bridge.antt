@@ -6,7 +6,7 @@ use Rattle.vx_model.specs.declared.ptype.PType.TheVariants.{U8, U16, U32, U64, I
 use Rattle.vx_model.specs.Ty.{Ty, boolean, primitive, utf8, binary, list, struct, extension}
 use Rattle.vx_model.specs.TyLaws.{ty_eq_decides}
 use Rattle.vx_model.specs.Piece.{Piece, piece_type}
-use Rattle.vx_types.specs.Segment.{encode, refused, bytes_unless, segment_bytes}
+use Rattle.vx_encode.specs.Segment.{encode, refused, bytes_unless, segment_bytes}
 use Rattle.vx_path.specs.Lists.{In}
 use Rattle.vx_tree.specs.LayoutTree.{Lay, gathered}
 use Rattle.vx_plan.specs.PlanData.{Setting, Fault}

@@ -1,3 +1,4 @@
+pub mod RealIntegers
 pub mod Ways
 pub mod Steps
 pub mod Back

@@ -10,12 +10,11 @@ use Rattle.vx_model.specs.Tree.{Tree}
 use Rattle.vx_model.specs.TreeView.{tree}
 use Rattle.vx_model.specs.TyView.{ty}
 use Rattle.vx_model.specs.Piece.{Piece, plain_piece, piece_type, cells, is_sound}
-use Rattle.vx_types.specs.declared.chunk.Chunk.{Chunk}
-use Rattle.vx_types.specs.ChunkView.{piece}
-use Rattle.vx_segment.specs.Codec.{IsPlain, segment_codec}
-use Rattle.vx_segment.proofs.Answering.{is_codec}
+use Rattle.vx_segment.specs.Codec.{segment_codec}
+use Rattle.vx_segment.proofs.SegmentLaws.{is_lawful}
+use Rattle.vx_write.proofs.RealIntegers.{integers_whole}
 use Rattle.vx_tree.specs.Codec.{Codec}
-use Rattle.vx_types.specs.Segment.{encode, refused}
+use Rattle.vx_encode.specs.Segment.{encode, refused}
 use Rattle.vx_tree.specs.LayoutTree.{Lay}
 use Rattle.vx_plan.specs.InOrder.{batch_rows}
 use Rattle.vx_layout.specs.Errors.{rows_in}
@@ -67,18 +66,13 @@ back-append k ids [] b all one = one
 back-append k ids (x ∷ xs) b all one = (all.0, back-append k ids xs b all.1 one)
 
 -- a chunk of 64-bit integers is read back from its segment
-pub chunk_back : (ids : List EncodingId) (c : Chunk) (bytes : List ℕ) → first_repeat ids ≡ None → IsTrue (is_sound (piece c)) → piece_type (piece c) ≡ primitive I64 false
-    → encode ids true (piece c) ≡ Some bytes → length bytes < 2 ^ 64 → ReadsBack segment_codec ids (piece c ∷ [])
-chunk_back ids c bytes distinct sound typed encoded short = (λ other is. (is_codec ids distinct).again true (piece c) other plain is (let same : bytes ≡ other = one_value (sym encoded ∙ is) in subst (λ (b : List ℕ). length b < 2 ^ 64) same short), tt)
+pub chunk_back : (ids : List EncodingId) (p : Piece) (bytes : List ℕ) → first_repeat ids ≡ None → IsTrue (is_sound p) → piece_type p ≡ primitive I64 false
+    → encode ids true p ≡ Some bytes → length bytes < 2 ^ 64 → ReadsBack segment_codec ids (p ∷ [])
+chunk_back ids p bytes distinct sound typed encoded short =
+    (λ other is. (is_lawful ids distinct).again true p other (integers_whole p I64 false sound typed) is (let same : bytes ≡ other = one_value (sym encoded ∙ is) in subst (λ (b : List ℕ). length b < 2 ^ 64) same short), tt)
   where
     one_value : {a b : List ℕ} → Some a ≡ Some b → a ≡ b
     one_value e = cc
-
-    is_plain : (t : Ty) (cs : List Tree) → IsTrue (is_sound (plain_piece t cs)) → t ≡ primitive I64 false → IsPlain (plain_piece t cs)
-    is_plain t cs whole is = (cs, ap (λ (u : Ty). plain_piece u cs) is, subst (λ (u : Ty). IsTrue (is_sound (plain_piece u cs))) is whole)
-
-    plain : IsPlain (piece c)
-    plain = is_plain (ty c.dtype) (map tree c.cells.items) sound typed
 
 pub not_false : (b : Bool) → false ≡ not b → b ≡ true
 not_false true e = refl

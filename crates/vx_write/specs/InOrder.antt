@@ -3,7 +3,7 @@ use Rattle.std.specs.Prelude.{◌≡◌, ℕ, suc, ◌+◌, ◌≤◌, true, Lis
 use Rattle.vx_model.specs.declared.encoding.EncodingId.{EncodingId}
 use Rattle.vx_model.specs.Ty.{Ty}
 use Rattle.vx_model.specs.Piece.{Piece, piece_type, cells}
-use Rattle.vx_types.specs.Segment.{encode, refused}
+use Rattle.vx_encode.specs.Segment.{encode, refused}
 use Rattle.vx_tree.specs.Codec.{Codec}
 use Rattle.vx_tree.specs.LayoutTree.{Lay, flat_layout, gathered}
 use Rattle.vx_segment.specs.Codec.{segment_codec}

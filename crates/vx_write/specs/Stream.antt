@@ -1,18 +1,17 @@
 -- What `write_stream` answers.
-use Rattle.std.specs.Prelude.{◌≡◌, ℕ, ◌+◌, ◌^◌, ◌≤◌, ◌⊎◌, ◌&&◌, Bool, true, false, List, [], ◌∷◌, ◌++◌, length, Option, Some}
+use Rattle.std.specs.Prelude.{◌≡◌, ℕ, ◌+◌, ◌^◌, ◌≤◌, ◌⊎◌, ◌&&◌, not, Bool, true, false, List, [], ◌∷◌, ◌++◌, length, Option, Some}
 use Rattle.vx_model.specs.declared.encoding.EncodingId.{EncodingId}
 use Rattle.vx_model.specs.declared.ptype.PType.{PType}
 use Rattle.vx_model.specs.declared.ptype.PType.TheVariants.{I64}
 use Rattle.vx_model.specs.Ty.{Ty, primitive}
 use Rattle.vx_model.specs.Piece.{Piece, piece_type, cells}
-use Rattle.vx_types.specs.ChunkView.{piece}
-use Rattle.vx_types.specs.Segment.{encode, refused, tree_bytes}
+use Rattle.vx_chunk.specs.ChunkView.{piece}
+use Rattle.vx_encode.specs.Segment.{encode, refused, tree_bytes}
 use Rattle.vx_plan.specs.PlanData.{Setting, Plan}
-use Rattle.vx_plan.specs.Way.{Way, flat, chunked}
+use Rattle.vx_plan.specs.Way.{Way, FlatOptions, flat, chunked}
 use Rattle.vx_plan.specs.InOrder.{batch_rows}
 use Rattle.vx_plan.specs.Number.{segments}
 use Rattle.vx_sink.specs.Told.{before_told, then_told}
-use Rattle.vx_write.specs.FlatView.{is_default}
 use Rattle.vx_write.specs.declared.error.WriteError.{WriteError}
 use Rattle.vx_write.specs.declared.error.WriteError.TheVariants.{SourceFault, SinkFault, CompressFault, BatchType, NotStruct, DuplicateField, ManyChunks, EmptyList, ZoneCut, ForbiddenAggregate, ForbiddenEncoding, TooLarge, OutOfMemory, Unbuilt}
 
@@ -25,6 +24,9 @@ pub record Writes (ids : List EncodingId) (s : Setting) : Type 0 where
   pub listed : s.encodings ≡ ids
 
 -- ---- which forms are built: chunking over flat with its default options, and 64-bit integers without null
+
+abbrev pub is_default : FlatOptions → Bool
+is_default o = o.padding && not o.inline
 
 abbrev pub is_flat_default : Way → Bool
 is_flat_default (flat o) = is_default o

@@ -2,12 +2,10 @@
 #![tactic(auto)]
 
 mod error;
-mod strategy;
 mod stream;
 mod trace;
 mod write;
 
 pub use error::WriteError;
-pub use strategy::{BuildError, ChunkedLayoutStrategy, FlatLayoutStrategy, Strategy};
 pub use trace::{ActionKind, Step};
 pub use write::{Refused, Written, write_stream};

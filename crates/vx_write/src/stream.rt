@@ -5,8 +5,8 @@ ghost use Rattle.vx_model.specs.declared.ptype.PType.TheVariants.{I64};
 ghost use Rattle.vx_model.specs.Ty.{primitive};
 ghost use Rattle.vx_model.specs.TyView.{ty};
 ghost use Rattle.vx_model.specs.Piece.{Piece, piece_type, cells};
-ghost use Rattle.vx_types.specs.ChunkView.{piece};
-ghost use Rattle.vx_types.specs.Segment.{refused};
+ghost use Rattle.vx_chunk.specs.ChunkView.{piece};
+ghost use Rattle.vx_encode.specs.Segment.{refused};
 ghost use Rattle.vx_tree.specs.LayoutTree.{gathered};
 ghost use Rattle.vx_layout.specs.LayoutView.{lay};
 ghost use Rattle.vx_layout.specs.Errors.{rows_in};
@@ -56,6 +56,8 @@ pub(crate) fn write_column<B: BatchSource, S: SegmentSink>(
         };
         let (batch, total) = admit(source.dtype(), batch, rows)?;
         let flat = write_batch(alloc, ctx, &batch, sink)?;
+        // Its memory is given back before the next batch is asked for.
+        drop(batch);
         rows = total;
         flats.push(flat).unwrap();
     }

@@ -14,16 +14,17 @@ ghost use Rattle.vx_sink.specs.Counts.{Counts, IsCalm};
 ghost use Rattle.vx_sink.specs.Told.{then_told, NoneTold};
 ghost use Rattle.vx_sink.specs.ContextView.{listed};
 ghost use Rattle.vx_write.specs.declared.error.WriteError.TheVariants.{OutOfMemory};
-ghost use Rattle.vx_write.specs.StrategyView.{way};
+ghost use Rattle.vx_nodes.specs.StrategyView.{way};
 ghost use Rattle.vx_write.specs.Causes.{errs, is_source_fault, is_sink_fault, is_unbuilt};
-ghost use Rattle.vx_write.specs.Stream.{Writes, Stands, HasCause, MayCome, is_built, is_built_type};
+ghost use Rattle.vx_nodes.specs.OptionViews.{flat_options};
+ghost use Rattle.vx_write.specs.Stream.{Writes, Stands, HasCause, MayCome, is_default as is_default_flat, is_flat_default, is_built, is_built_type};
 
 use crate::error::WriteError;
-use crate::strategy::Strategy;
 use crate::stream::write_column;
 use crate::trace::Step;
 use std::alloc::Global;
 use vx_layout::Layout;
+use vx_nodes::{FlatLayoutStrategy, Strategy};
 use vx_sink::{BatchSource, CompressorPlugin, LayoutWriterContext, SegmentSink};
 use vx_types::{DType, Nullability, PType};
 
@@ -116,17 +117,35 @@ pub fn write_stream<B: BatchSource, S: SegmentSink, C: CompressorPlugin>(
     }
 }
 
-#[tactic(auto, using(crate::proofs::Ways::way_rules))]
 fn is_built(strategy: &Strategy, dtype: &DType) -> bool
     ensures { result ≡ is_built (way strategy.now) (ty dtype.now) }
 {
     match strategy {
-        Strategy::Flat(_) => false,
-        Strategy::Chunked(chunked) => match &*chunked.chunk_strategy {
-            Strategy::Flat(flat) => flat.is_default() && is_built_type(dtype),
-            Strategy::Chunked(_) => false,
-        },
+        Strategy::Chunked(chunked) => {
+            is_flat_default(chunked.chunk_strategy.strategy()) && is_built_type(dtype)
+        }
+        Strategy::Flat(_) | Strategy::Struct(_) | Strategy::List(_) | Strategy::Dict(_) => false,
+        Strategy::Zoned(_) | Strategy::Repartition(_) | Strategy::Buffered(_) => false,
+        Strategy::Collect(_) | Strategy::Compressing(_) | Strategy::Table(_) => false,
     }
+}
+
+fn is_flat_default(strategy: &Strategy) -> bool
+    ensures { result ≡ is_flat_default (way strategy.now) }
+{
+    match strategy {
+        Strategy::Flat(flat) => is_default(flat),
+        Strategy::Chunked(_) | Strategy::Struct(_) | Strategy::List(_) | Strategy::Dict(_) => false,
+        Strategy::Zoned(_) | Strategy::Repartition(_) | Strategy::Buffered(_) => false,
+        Strategy::Collect(_) | Strategy::Compressing(_) | Strategy::Table(_) => false,
+    }
+}
+
+/// Whether buffers are padded, and the layout keeps no tree.
+fn is_default(flat: &FlatLayoutStrategy) -> bool
+    ensures { result ≡ is_default_flat (flat_options flat.now) }
+{
+    flat.include_padding && !flat.inline_array_node
 }
 
 fn is_built_type(dtype: &DType) -> bool

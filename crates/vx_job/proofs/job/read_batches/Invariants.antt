@@ -1,6 +1,6 @@
 use Rattle.std.proofs.Common.{◌≡◌, drop, map}
 use Rattle.serde_json.specs.View.{items_view}
-use Rattle.vx_types.specs.ChunkView.{piece}
+use Rattle.vx_chunk.specs.ChunkView.{piece}
 use Rattle.vx_job.specs.JobText.{each, piece_of}
 use Rattle.vx_job.proofs.ReadSteps.{with_front}
 use Rattle.vx_job.proofs.job.read_batches.Given as goal

@@ -1,5 +1,5 @@
 use Rattle.std.proofs.Common.{map}
-use Rattle.vx_types.specs.ChunkView.{piece}
+use Rattle.vx_chunk.specs.ChunkView.{piece}
 use Rattle.vx_run.proofs.ColumnSteps.{job_schema}
 use Rattle.vx_run.proofs.answer.answer_to.Goals as goal
 

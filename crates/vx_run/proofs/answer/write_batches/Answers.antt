@@ -4,8 +4,8 @@ use Rattle.std.specs.Prelude.{string_bytes}
 use Rattle.vx_run.specs.declared.status.Status.{Status}
 use Rattle.vx_run.specs.Answers.{ColumnAnswer}
 use Rattle.vx_write.specs.declared.error.WriteError.TheVariants as errors
-use Rattle.vx_types.specs.ChunkView.{piece}
-use Rattle.vx_run.proofs.ColumnSteps.{column_shown, rows_told, plain_setting, writes_all, refused_shown, column_error, large_is, never_listed, last_typed, last_plain, i64_is}
+use Rattle.vx_chunk.specs.ChunkView.{piece}
+use Rattle.vx_run.proofs.ColumnSteps.{column_shown, rows_told, plain_setting, writes_all, refused_shown, column_error, large_is, never_listed, last_typed, last_listed, i64_is}
 use Rattle.vx_run.proofs.answer.write_batches.Goals as goal
 
 pub written_report-requires : goal.written_report-requires
@@ -23,7 +23,7 @@ refusal-requires c = column_error c.in-Err.refused.error _ c.in-Err.ensures.caus
     (λ h. never_listed _ _ c.new.ensures.items (c.new-source.ensures.may_fail _ h))
     (λ h. never_listed _ _ c.new-2.ensures.items (c.new-sink.ensures.may_fail _ h))
     (λ b last. last_typed c.requires c.new-source.ensures.batches last ∙ sym (c.new-source.ensures.kind ∙ i64_is))
-    (λ b last. rw c.in_ok-ctx.ensures (last_plain c.args.batches.items c.new-source.ensures.batches last))
+    (λ b last. rw c.in_ok-ctx.ensures (last_listed last))
     (λ h. let f : true ≡ false = rw (c.in_ok-strategy.ensures, c.new-source.ensures.kind, i64_is) at h in cc)
 
 pub returns : goal.returns

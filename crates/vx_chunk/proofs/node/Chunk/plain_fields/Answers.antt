@@ -1,6 +1,4 @@
-use Rattle.std.proofs.Common.{◌≡◌, length, map, sym, ap, ◌∙◌}
-use Rattle.vx_model.specs.Ty.{tys_of}
-use Rattle.vx_model.specs.TyView.{ty, field_ty}
+use Rattle.std.proofs.Common.{◌≡◌, length, sym, ap, ◌∙◌}
 use Rattle.vx_model.specs.Piece.{piece_type, cells}
 use Rattle.vx_chunk.specs.Parts.{struct_fields}
 use Rattle.vx_chunk.proofs.CellsFit.{cells_fit}

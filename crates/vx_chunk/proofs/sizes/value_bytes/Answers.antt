@@ -1,0 +1,11 @@
+use Rattle.std.proofs.Common.{sym, ◌∙◌}
+use Rattle.vx_model.specs.TreeView.{tree}
+use Rattle.vx_model.specs.Piece.{cells}
+use Rattle.vx_chunk.proofs.Codes.{tree_null}
+use Rattle.vx_chunk.proofs.RowSteps.{picked_past}
+use Rattle.vx_chunk.proofs.sizes.value_bytes.Goals as goal
+
+pub returns-then-not-is_code : goal.returns-then-not-is_code
+returns-then-not-is_code c =
+    rw (picked_past (cells c.args.values.now) c.len.result (tree c.args.code.now) c.len.ensures.rows (sym c.is_code.ensures ∙ c.if-not-is_code.true), ← tree_null, ← c.dtype-then-not-is_code.ensures)
+    c.cell_size-then-not-is_code.ensures

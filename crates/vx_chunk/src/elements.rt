@@ -1,0 +1,173 @@
+//! The elements of list chunks.
+
+ghost use Rattle.std.specs.Prelude.{◌≡◌, ◌∷◌, ◌++◌, ◌<◌, ◌≤◌, ◌-◌, ◌*◌, ◌^◌, length, map, replicate, IsTrue, IfOk, IfErr, OnOk};
+ghost use Rattle.vx_model.specs.Words.{head_or, tail};
+ghost use Rattle.vx_model.specs.Ty.{is_list};
+ghost use Rattle.vx_model.specs.TyView.{ty};
+ghost use Rattle.vx_model.specs.TreeView.{tree};
+ghost use Rattle.vx_model.specs.Piece.{piece_type, pieces_of, plain_piece, cells as cells_in, joined_cells, are_offsets};
+ghost use Rattle.vx_columns.specs.Window.{window, last_of, counted, Within};
+ghost use Rattle.vx_columns.specs.Parts.{flag_of as is_valid, all_elements, ends};
+ghost use Rattle.vx_chunk.specs.Conditions.{IsTooLarge};
+ghost use Rattle.vx_chunk.specs.Parts.{element_type};
+
+use crate::error::ChunkError;
+use crate::flags::flags;
+use crate::node::{Chunk, Node};
+use crate::rows::push_between;
+use std::alloc::{AllocError, Global};
+use vx_columns::{
+    count_elements, element_len, push_apart, push_copies_apart, push_counted, push_same_offset,
+};
+use vx_model::{Cell, DType};
+
+impl Chunk {
+    /// The elements of all rows of a list chunk, plain, those of invalid rows too; where each row's begin, and where
+    /// the last row's end; and whether each row is valid, all true where the type isn't nullable.
+    #[tactic(auto, using(crate::proofs::ElementSteps::span_rules))]
+    pub fn list_parts(&self, alloc: Global) -> Result<(Chunk, Vec<u64>, Vec<bool>), ChunkError>
+        requires { IsTrue (is_list (piece_type self.now)) }
+        ensures elements { IfOk result (λ r. r.0 ≡ plain_piece (element_type (piece_type self.now)) (all_elements (cells_in self.now))) }
+        ensures offsets { IfOk result (λ r. r.1.items ≡ 0 ∷ ends 0 (cells_in self.now)) }
+        ensures valid { IfOk result (λ r. r.2.items ≡ map is_valid (cells_in self.now)) }
+        ensures fits { IfOk result (λ r. length (all_elements (cells_in self.now)) < 2 ^ 64) }
+        ensures refused { IfErr result (IsTooLarge (length (all_elements (cells_in self.now)))) }
+    {
+        self.sound();
+        let count = element_count(self);
+        if count > u128::from(u64::MAX) {
+            return Err(ChunkError::TooLarge(count));
+        }
+        let dtype = items_of(self.dtype()).clone()?;
+        let mut elements = Vec::with_capacity(alloc, count as usize)?;
+        let mut offsets = Vec::with_capacity(alloc, (self.len() as usize).saturating_add(1))?;
+        offsets.push(0)?;
+        push_lists_apart(self, &mut elements, &mut offsets)?;
+        let valid = flags(self, alloc)?;
+        Ok((Chunk::plain(dtype, elements), offsets, valid))
+    }
+}
+
+/// The type of a list's elements.
+#[tactic(auto, using(vx_model::proofs::Views::view_rules))]
+fn items_of(dtype: &DType) -> &DType
+    requires { IsTrue (is_list (ty dtype.now)) }
+    ensures { ty result.now ≡ element_type (ty dtype.now) }
+{
+    match dtype {
+        DType::List(items, _) => items,
+        DType::Bool(_) | DType::Primitive(..) | DType::Utf8(_) | DType::Binary(_) => unreachable!(),
+        DType::Struct(..) | DType::Extension(_) => unreachable!(),
+    }
+}
+
+/// Elements of all rows.
+#[cycle(counts)]
+#[tactic(auto, using(crate::proofs::ElementSteps::element_rules))]
+fn element_count(chunk: &Chunk) -> u128
+    ensures count { result ≡ length (all_elements (cells_in chunk.now)) }
+    ensures bound { result ≤ length (cells_in chunk.now) * (2 ^ 64 - 1) }
+{
+    match &chunk.node {
+        Node::Plain { cells, .. } => count_elements(cells),
+        Node::Constant { cell, rows, .. } => copied_elements(cell, *rows),
+        Node::Dict { .. } | Node::Struct { .. } => 0,
+        Node::Chunked { parts, .. } => elements_in(parts),
+        Node::List { offsets, .. } => span_len(offsets),
+        Node::Extension { storage, .. } => element_count(storage),
+    }
+}
+
+/// How far it is from the first place to the last.
+#[tactic(auto, using(crate::proofs::ElementSteps::span_rules))]
+fn span_len(places: &[u64]) -> u128
+    requires some { 1 ≤ length places.now }
+    requires ascend { Within (head_or 0 places.now) (last_of places.now) places.now }
+    ensures span { result ≡ last_of places.now - head_or 0 places.now }
+    ensures bound { result ≤ (length places.now - 1) * (2 ^ 64 - 1) }
+{
+    u128::from(places[places.len() - 1] - places[0])
+}
+
+#[tactic(auto, using(crate::proofs::ElementSteps::element_rules))]
+fn copied_elements(cell: &Cell, rows: u64) -> u128
+    ensures count { result ≡ length (all_elements (replicate rows (tree cell.now))) }
+    ensures bound { result ≤ rows * (2 ^ 64 - 1) }
+{
+    u128::from(rows) * u128::from(element_len(cell))
+}
+
+#[cycle(counts)]
+#[tactic(auto, using(crate::proofs::ElementSteps::element_rules))]
+fn elements_in(parts: &[Chunk]) -> u128
+    requires { length (joined_cells (pieces_of parts.now)) < 2 ^ 64 }
+    ensures count { result ≡ length (all_elements (joined_cells (pieces_of parts.now))) }
+    ensures bound { result ≤ length (joined_cells (pieces_of parts.now)) * (2 ^ 64 - 1) }
+{
+    let mut total: u128 = 0;
+    for part in parts {
+        total += element_count(part);
+    }
+    total
+}
+
+/// The elements of all rows behind the elements, and where each row's end behind the offsets.
+#[cycle(apart)]
+#[tactic(auto, using(crate::proofs::ElementSteps::element_rules))]
+fn push_lists_apart(
+    chunk: &Chunk,
+    elements: &mut Vec<Cell>,
+    offsets: &mut Vec<u64>,
+) -> Result<(), AllocError>
+    ensures elements { OnOk result (map tree elements.new.items ≡ map tree elements.old.items ++ all_elements (cells_in chunk.now)) }
+    ensures offsets { OnOk result (offsets.new.items ≡ offsets.old.items ++ ends (length elements.old.items) (cells_in chunk.now)) }
+{
+    match &chunk.node {
+        Node::Plain { cells, .. } => push_apart(cells, elements, offsets),
+        Node::Constant { cell, rows, .. } => push_copies_apart(cell, *rows, elements, offsets),
+        Node::Dict { codes, .. } => {
+            push_same_offset(elements.len() as u64, codes.len(), offsets)
+        }
+        Node::Chunked { parts, .. } => push_parts_apart(parts, elements, offsets),
+        Node::List {
+            elements: source,
+            offsets: spans,
+            ..
+        } => push_spans(source, spans, elements, offsets),
+        Node::Struct { rows, .. } => push_same_offset(elements.len() as u64, *rows, offsets),
+        Node::Extension { storage, .. } => push_lists_apart(storage, elements, offsets),
+    }
+}
+
+#[cycle(apart)]
+#[tactic(auto, using(crate::proofs::ElementSteps::element_rules))]
+fn push_parts_apart(
+    parts: &[Chunk],
+    elements: &mut Vec<Cell>,
+    offsets: &mut Vec<u64>,
+) -> Result<(), AllocError>
+    ensures elements { OnOk result (map tree elements.new.items ≡ map tree elements.old.items ++ all_elements (joined_cells (pieces_of parts.now))) }
+    ensures offsets { OnOk result (offsets.new.items ≡ offsets.old.items ++ ends (length elements.old.items) (joined_cells (pieces_of parts.now))) }
+{
+    for part in parts {
+        push_lists_apart(part, elements, offsets)?;
+    }
+    Ok(())
+}
+
+/// The elements from the first place to the last, and the places but the first, counted from where these begin.
+#[tactic(auto, using(crate::proofs::ElementSteps::span_rules))]
+fn push_spans(
+    source: &Chunk,
+    places: &[u64],
+    elements: &mut Vec<Cell>,
+    offsets: &mut Vec<u64>,
+) -> Result<(), AllocError>
+    requires { IsTrue (are_offsets (length (cells_in source.now)) places.now) }
+    ensures elements { OnOk result (map tree elements.new.items ≡ map tree elements.old.items ++ window (head_or 0 places.now) (last_of places.now) (cells_in source.now)) }
+    ensures offsets { OnOk result (offsets.new.items ≡ offsets.old.items ++ counted (length elements.old.items) (head_or 0 places.now) (tail places.now)) }
+{
+    let base = elements.len() as u64;
+    push_between(source, places[0], places[places.len() - 1], elements)?;
+    push_counted(base, places, offsets)
+}

@@ -1,0 +1,230 @@
+//! Sizes of chunks.
+
+ghost use Rattle.std.specs.Prelude.{◌≡◌, ◌↔◌, ◌<◌, ◌≤◌, ◌^◌, ◌-◌, ◌*◌, min, length, map, IsTrue, IsOk, IfOk, IfErr};
+ghost use Rattle.vx_model.specs.Words.{total_by, head_or};
+ghost use Rattle.vx_model.specs.Ty.{nullable};
+ghost use Rattle.vx_model.specs.Tree.{cell_size as size_of, null_byte as byte_of};
+ghost use Rattle.vx_model.specs.TyView.{ty};
+ghost use Rattle.vx_model.specs.TreeView.{tree};
+ghost use Rattle.vx_model.specs.Piece.{piece_type, pieces_of, cells as cells_in, picked, row_size, held, held_parts, is_simple, are_offsets};
+ghost use Rattle.vx_columns.specs.Window.{window, last_of};
+ghost use Rattle.vx_chunk.specs.Conditions.{IsPast, IsFarPast};
+ghost use Rattle.vx_chunk.specs.Rows.{have_rows};
+ghost use Rattle.vx_chunk.specs.Sizes.{span_size, span_sizes, each_span_size};
+
+use crate::conditions::is_code;
+use crate::error::ChunkError;
+use crate::node::{Chunk, Node};
+use vx_columns::{cell_size, cells_size, offsets_between};
+use vx_model::{Cell, DType};
+
+impl Chunk {
+    /// Bytes that the chunk takes as it is held, takes no memory: a constant's cell and a dictionary's values count
+    /// once.
+    pub fn nbytes(&self) -> Result<u64, ChunkError>
+        ensures ok { IfOk result (λ n. n ≡ held self.now) }
+        ensures fits { IsOk result ↔ (held self.now < 2 ^ 64) }
+        ensures refused { IfErr result (IsFarPast (held self.now)) }
+    {
+        in_u64(held_bytes(self))
+    }
+
+    /// The sum of the rows' sizes, takes no memory: a constant's cell and a dictionary's values count once a row.
+    pub fn row_size(&self) -> Result<u64, ChunkError>
+        ensures ok { IfOk result (λ n. n ≡ row_size self.now) }
+        ensures fits { IsOk result ↔ (row_size self.now < 2 ^ 64) }
+        ensures refused { IfErr result (IsFarPast (row_size self.now)) }
+    {
+        in_u64(rows_bytes(self))
+    }
+}
+
+fn in_u64(bytes: u128) -> Result<u64, ChunkError>
+    ensures ok { IfOk result (λ n. n ≡ bytes) }
+    ensures fits { IsOk result ↔ (bytes < 2 ^ 64) }
+    ensures refused { IfErr result (IsPast bytes) }
+{
+    if bytes > u128::from(u64::MAX) {
+        return Err(ChunkError::TooLarge(bytes));
+    }
+    Ok(bytes as u64)
+}
+
+/// The held size, at most the greatest u128.
+#[cycle(held)]
+#[tactic(auto, using(crate::proofs::SizeSteps::held_rules))]
+fn held_bytes(chunk: &Chunk) -> u128
+    ensures { result ≡ min (held chunk.now) (2 ^ 128 - 1) }
+{
+    match &chunk.node {
+        Node::Plain { dtype, cells } => cells_size(dtype, cells),
+        Node::Constant { dtype, cell, .. } => cell_size(dtype, cell),
+        Node::Dict { codes, values } => held_bytes(codes).saturating_add(held_bytes(values)),
+        Node::Chunked { parts, .. } => all_held(parts),
+        Node::List {
+            elements,
+            offsets,
+            valid,
+            ..
+        } => held_bytes(elements).saturating_add(8 * offsets.len() as u128 + valid.len() as u128),
+        Node::Struct { fields, valid, .. } => all_held(fields).saturating_add(valid.len() as u128),
+        Node::Extension { storage, .. } => held_bytes(storage),
+    }
+}
+
+#[cycle(held)]
+#[tactic(auto, using(crate::proofs::SizeSteps::held_rules))]
+fn all_held(chunks: &[Chunk]) -> u128
+    ensures { result ≡ min (held_parts (pieces_of chunks.now)) (2 ^ 128 - 1) }
+{
+    let mut total: u128 = 0;
+    for chunk in chunks {
+        total = total.saturating_add(held_bytes(chunk));
+    }
+    total
+}
+
+/// The row size, at most the greatest u128.
+fn rows_bytes(chunk: &Chunk) -> u128
+    ensures { result ≡ min (row_size chunk.now) (2 ^ 128 - 1) }
+{
+    span_bytes(chunk, 0, chunk.len())
+}
+
+/// The size of rows `from` to `to`, at most the greatest u128.
+#[cycle(spans)]
+#[tactic(auto, using(crate::proofs::SizeSteps::span_rules))]
+fn span_bytes(chunk: &Chunk, from: u64, to: u64) -> u128
+    requires order { from ≤ to }
+    requires within { to ≤ length (cells_in chunk.now) }
+    ensures { result ≡ min (span_size chunk.now from to) (2 ^ 128 - 1) }
+{
+    match &chunk.node {
+        Node::Plain { dtype, cells } => cells_size(dtype, &cells[from as usize..to as usize]),
+        Node::Constant { dtype, cell, .. } => times(to - from, cell_size(dtype, cell)),
+        Node::Dict { codes, values } => values_bytes(codes, values, from, to),
+        Node::Chunked { parts, .. } => parts_bytes(parts, from, to),
+        Node::List {
+            dtype,
+            elements,
+            offsets,
+            ..
+        } => {
+            let offsets = offsets_between(offsets, from, to);
+            let heads = times(to - from, 8 + null_byte(dtype));
+            elements_bytes(elements, offsets).saturating_add(heads)
+        }
+        Node::Struct { dtype, fields, .. } => {
+            let flags = times(to - from, null_byte(dtype));
+            fields_bytes(fields, from, to).saturating_add(flags)
+        }
+        Node::Extension { storage, .. } => span_bytes(storage, from, to),
+    }
+}
+
+fn times(rows: u64, bytes: u128) -> u128
+    ensures { result ≡ min (rows * bytes) (2 ^ 128 - 1) }
+{
+    u128::from(rows).saturating_mul(bytes)
+}
+
+/// One byte where the type has a null.
+fn null_byte(dtype: &DType) -> u128
+    ensures { result ≡ byte_of (nullable (ty dtype.now)) }
+{
+    if dtype.is_nullable() { 1 } else { 0 }
+}
+
+#[cycle(spans)]
+#[tactic(auto, using(crate::proofs::SizeSteps::span_rules))]
+fn parts_bytes(parts: &[Chunk], from: u64, to: u64) -> u128
+    requires { from ≤ to }
+    ensures { result ≡ min (span_sizes (pieces_of parts.now) from to) (2 ^ 128 - 1) }
+{
+    let mut total: u128 = 0;
+    let mut start = from;
+    let mut end = to;
+    for part in parts {
+        let rows = part.len();
+        total = total.saturating_add(span_bytes(part, start.min(rows), end.min(rows)));
+        start = start.saturating_sub(rows);
+        end = end.saturating_sub(rows);
+    }
+    total
+}
+
+/// The elements from the first offset to the last.
+#[cycle(spans)]
+#[tactic(auto, using(crate::proofs::SizeSteps::span_rules))]
+fn elements_bytes(elements: &Chunk, offsets: &[u64]) -> u128
+    requires { IsTrue (are_offsets (length (cells_in elements.now)) offsets.now) }
+    ensures { result ≡ min (span_size elements.now (head_or 0 offsets.now) (last_of offsets.now)) (2 ^ 128 - 1) }
+{
+    span_bytes(elements, offsets[0], offsets[offsets.len() - 1])
+}
+
+#[cycle(spans)]
+#[tactic(auto, using(crate::proofs::SizeSteps::span_rules))]
+fn fields_bytes(fields: &[Chunk], from: u64, to: u64) -> u128
+    requires order { from ≤ to }
+    requires within { IsTrue (have_rows to fields.now) }
+    ensures { result ≡ min (each_span_size (pieces_of fields.now) from to) (2 ^ 128 - 1) }
+{
+    let mut total: u128 = 0;
+    for field in fields {
+        total = total.saturating_add(span_bytes(field, from, to));
+    }
+    total
+}
+
+/// The values at the codes of rows `from` to `to`.
+#[tactic(auto, using(crate::proofs::SizeSteps::value_rules))]
+fn values_bytes(codes: &Chunk, values: &Chunk, from: u64, to: u64) -> u128
+    requires codes { IsTrue (is_simple codes.now) }
+    requires values { IsTrue (is_simple values.now) }
+    requires order { from ≤ to }
+    requires within { to ≤ length (cells_in codes.now) }
+    ensures { result ≡ min (total_by (size_of (piece_type values.now)) (map (picked (cells_in values.now)) (window from to (cells_in codes.now)))) (2 ^ 128 - 1) }
+{
+    match &codes.node {
+        Node::Plain { cells, .. } => picked_bytes(values, &cells[from as usize..to as usize]),
+        Node::Constant { cell, .. } => times(to - from, value_bytes(values, cell)),
+        Node::Dict { .. } | Node::Chunked { .. } | Node::List { .. } => unreachable!(),
+        Node::Struct { .. } | Node::Extension { .. } => unreachable!(),
+    }
+}
+
+#[tactic(auto, using(crate::proofs::SizeSteps::value_rules))]
+fn picked_bytes(values: &Chunk, codes: &[Cell]) -> u128
+    requires { IsTrue (is_simple values.now) }
+    ensures { result ≡ min (total_by (size_of (piece_type values.now)) (map (picked (cells_in values.now)) (map tree codes.now))) (2 ^ 128 - 1) }
+{
+    if let Some(size) = values.dtype().element_size() {
+        return times(codes.len() as u64, u128::from(size));
+    }
+    let mut total: u128 = 0;
+    for code in codes {
+        total = total.saturating_add(value_bytes(values, code));
+    }
+    total
+}
+
+/// The value at a code; null where it is none.
+#[tactic(auto, using(crate::proofs::SizeSteps::value_rules))]
+fn value_bytes(values: &Chunk, code: &Cell) -> u128
+    requires { IsTrue (is_simple values.now) }
+    ensures { result ≡ min (size_of (piece_type values.now) (picked (cells_in values.now) (tree code.now))) (2 ^ 128 - 1) }
+{
+    let Cell::Int(place) = code else {
+        return cell_size(values.dtype(), &Cell::Null);
+    };
+    if !is_code(code, values.len()) {
+        return cell_size(values.dtype(), &Cell::Null);
+    }
+    match &values.node {
+        Node::Plain { cells, .. } => cell_size(values.dtype(), &cells[*place as usize]),
+        Node::Constant { cell, .. } => cell_size(values.dtype(), cell),
+        Node::Dict { .. } | Node::Chunked { .. } | Node::List { .. } => unreachable!(),
+        Node::Struct { .. } | Node::Extension { .. } => unreachable!(),
+    }
+}

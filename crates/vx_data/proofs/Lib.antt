@@ -1,0 +1,8 @@
+pub mod Sizes
+pub mod Objects
+pub mod Items
+pub mod TypeSteps
+pub mod CellSteps
+pub mod ChunkFits
+pub mod ChunkSteps
+pub mod ChunkTypes

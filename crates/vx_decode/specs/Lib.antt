@@ -1,8 +1,0 @@
-pub mod Reading
-pub mod Pieces
-pub mod TypeDepth
-pub mod Segment
-pub mod Codec
-pub mod Examples
-pub mod Spelled
-pub mod Views

@@ -1,0 +1,4 @@
+pub mod FieldLaws
+pub mod Loops
+pub mod NodeLaws
+pub mod Nodes

@@ -1,0 +1,8 @@
+use Rattle.std.proofs.Common.{◌≡◌, ◌-◌}
+use Rattle.std.specs.Int.{w32}
+use Rattle.vx_layout_bytes.specs.Reading.{number_at, many_at}
+use Rattle.vx_layout_bytes.proofs.Loops.{with_front}
+use Rattle.vx_layout_bytes.proofs.fields.many_segments.Given as goal
+
+abbrev pub invariant-loop : goal.invariant-loop
+invariant-loop l = with_front l.segments.items (many_at (number_at w32 l.stop) (l.count - l.counter) l.rest) ≡ many_at (number_at w32 l.stop) l.count l.bytes

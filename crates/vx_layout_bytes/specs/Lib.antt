@@ -1,0 +1,5 @@
+pub mod Node
+pub mod Values
+pub mod Spelled
+pub mod Reading
+pub mod Views

@@ -1,4 +1,0 @@
-pub mod Cells
-pub mod PlainSegment
-pub mod RowSteps
-pub mod Examples

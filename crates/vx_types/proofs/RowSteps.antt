@@ -1,5 +1,0 @@
--- The values of cells, one by one.
-use Rattle.std.proofs.lemmas.List.{map_push, map_more}
-use Rattle.vx_model.proofs.CellViews.{values_in-trees_of, tree_list, tree_struct, val_list, val_struct}
-
-pub ruleset value_rules = (map_push, map_more, values_in-trees_of, tree_list, tree_struct, val_list, val_struct)

@@ -1,6 +1,0 @@
-use Rattle.std.proofs.Common.{◌≡◌, map, take}
-use Rattle.vx_model.specs.TreeView.{tree}
-use Rattle.vx_types.proofs.copy.+copy.Given as goal
-
-abbrev pub invariant-copy_cells-loop-cell : goal.invariant-copy_cells-loop-cell
-invariant-copy_cells-loop-cell l = map tree l.copies.items ≡ map tree (take l.cell-index l.cells.items)

@@ -1,3 +1,0 @@
-pub mod ChunkView
-pub mod Segment
-pub mod Encoding
