@@ -59,15 +59,21 @@ fields_back (f ∷ fs) = ap (λ r. f ∷ r) (fields_back fs)
 
 pub ruleset field_rules = (view_rules, fields_back, length-map)
 
-pub field_found : (fs : List StructField) (i : ℕ) (f : StructField) → i < length fs → f ≡ get_or fs i f → field_type (map field_ty fs) i ≡ Some (Field f.name)
-field_found [] i f lt is = absurd (omega (arith, lt))
-field_found (g ∷ fs) zero f lt is = rw (field_ty_is g, is) refl
-field_found (g ∷ fs) (suc i) f lt is = field_found fs i f (omega (arith, lt)) is
+found : (fs : List StructField) (i : ℕ) (f : StructField) → i < length fs → f ≡ get_or fs i f → field_type (map field_ty fs) i ≡ Some (Field f.name)
+found [] i f lt is = absurd (omega (arith, lt))
+found (g ∷ fs) zero f lt is = rw (field_ty_is g, is) refl
+found (g ∷ fs) (suc i) f lt is = found fs i f (omega (arith, lt)) is
 
-pub field_past : (fs : List Named) (i : ℕ) → length fs ≤ i → field_type fs i ≡ None
-field_past [] i le = refl
-field_past (f ∷ fs) zero le = absurd (omega (arith, le))
-field_past (f ∷ fs) (suc i) le = field_past fs i (omega (arith, le))
+pub field_found : (fs : List StructField) (ns : List Named) (i : ℕ) (f : StructField) → map field_ty fs ≡ ns → i < length fs → f ≡ get_or fs i f → field_type ns i ≡ Some (Field f.name)
+field_found fs ns i f all lt is = rw (← all) (found fs i f lt is)
+
+past : (fs : List Named) (i : ℕ) → length fs ≤ i → field_type fs i ≡ None
+past [] i le = refl
+past (f ∷ fs) zero le = absurd (omega (arith, le))
+past (f ∷ fs) (suc i) le = past fs i (omega (arith, le))
+
+pub field_past : (fs : List StructField) (ns : List Named) (i : ℕ) → map field_ty fs ≡ ns → length fs ≤ i → field_type ns i ≡ None
+field_past fs ns i all le = past ns i (rw (← all, length-map fs field_ty) le)
 
 pub ruleset name_rules = (field_found, field_past, length-map)
 

@@ -37,10 +37,6 @@ kind_name (zoned_kind zone_len specs) = kinds.Zoned
 kind_name (stats_kind zone_len stats) = kinds.LegacyStats
 kind_name (foreign_kind id metadata) = kinds.Foreign
 
-abbrev pub is_flat : Kind → Bool
-is_flat (flat_kind encodings tree) = true
-is_flat k = false
-
 -- ---- slots
 
 -- the fields of a struct

@@ -1,7 +1,11 @@
+ghost use Rattle.std.specs.Prelude.{◌≡◌, IfOk};
+ghost use Rattle.vx_tree.specs.LayoutTree.{dict_layout, layout_type, row_count};
+ghost use Rattle.vx_kinds.specs.LayoutView.{lay};
+
 use crate::error::LayoutError;
 use crate::layout::Layout;
 use crate::shape::{integer_type, is_primitive, pair};
-use std::alloc::Global;
+use std::alloc::{AllocError, Global};
 use std::marker::Model;
 use vx_model::{DType, SegmentId};
 
@@ -40,7 +44,6 @@ impl Model for DictLayout {
 }
 
 impl DictLayout {
-    ghost use Rattle.vx_kinds.specs.LayoutView.{lay};
     ghost use Rattle.vx_kinds.specs.Made.{make_dict};
     ghost use Rattle.vx_kinds.specs.Views.{Gives, itself};
 
@@ -54,15 +57,21 @@ impl DictLayout {
                 needs: integer_type(),
             });
         }
-        let row_count = codes.row_count();
-        let dtype = values.dtype().clone()?;
-        let children = pair(alloc, values, codes)?;
-        Ok(DictLayout {
-            row_count,
-            dtype,
-            segment_ids: Vec::new(alloc),
-            children,
-            all_values_referenced: false,
-        })
+        Ok(dict_of(alloc, values, codes)?)
     }
+}
+
+fn dict_of(alloc: Global, values: Layout, codes: Layout) -> Result<DictLayout, AllocError>
+    ensures { IfOk result (λ d. d ≡ dict_layout (layout_type (lay values)) (row_count (lay codes)) (lay values) (lay codes)) }
+{
+    let row_count = codes.row_count();
+    let dtype = values.dtype().clone()?;
+    let children = pair(alloc, values, codes)?;
+    Ok(DictLayout {
+        row_count,
+        dtype,
+        segment_ids: Vec::new(alloc),
+        children,
+        all_values_referenced: false,
+    })
 }

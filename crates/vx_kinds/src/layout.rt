@@ -27,7 +27,8 @@ impl Layout {
     ghost use Rattle.std.specs.Prelude.{◌≡◌, ◌≢◌, ◌↔◌, ◌<◌, map, length, IsTrue, MatchOption};
     ghost use Rattle.vx_model.specs.TyView.{ty};
     ghost use Rattle.vx_tree.specs.LayoutTree.{layout_kind, layout_type, row_count as rows, segments_of, children_of, kind_id};
-    ghost use Rattle.vx_kinds.specs.Children.{kind_name, is_flat, rows_at};
+    ghost use Rattle.vx_kinds.specs.Children.{kind_name, rows_at};
+    ghost use Rattle.vx_kinds.specs.declared.kind.LayoutKind.TheVariants.{Flat};
     ghost use Rattle.vx_kinds.specs.LayoutView.{lay, number};
 
     /// Rows that the layout gives.
@@ -70,13 +71,13 @@ impl Layout {
     {
         match self {
             Layout::Flat(_) => LayoutKind::Flat,
-            Layout::Chunked(_) => LayoutKind::Chunked,
-            Layout::Struct(_) => LayoutKind::Struct,
-            Layout::List(_) => LayoutKind::List,
-            Layout::Dict(_) => LayoutKind::Dict,
-            Layout::Zoned(_) => LayoutKind::Zoned,
-            Layout::LegacyStats(_) => LayoutKind::LegacyStats,
-            Layout::Foreign(_) => LayoutKind::Foreign,
+            Layout::Chunked(ChunkedLayout { row_count: _rows, .. }) => LayoutKind::Chunked,
+            Layout::Struct(StructLayout { row_count: _rows, .. }) => LayoutKind::Struct,
+            Layout::List(ListLayout { row_count: _rows, .. }) => LayoutKind::List,
+            Layout::Dict(DictLayout { row_count: _rows, .. }) => LayoutKind::Dict,
+            Layout::Zoned(ZonedLayout { row_count: _rows, .. }) => LayoutKind::Zoned,
+            Layout::LegacyStats(LegacyStatsLayout { row_count: _rows, .. }) => LayoutKind::LegacyStats,
+            Layout::Foreign(ForeignLayout { row_count: _rows, .. }) => LayoutKind::Foreign,
         }
     }
 
@@ -86,12 +87,12 @@ impl Layout {
     {
         match self {
             Layout::Flat(_) => "vortex.flat",
-            Layout::Chunked(_) => "vortex.chunked",
-            Layout::Struct(_) => "vortex.struct",
-            Layout::List(_) => "vortex.list",
-            Layout::Dict(_) => "vortex.dict",
-            Layout::Zoned(_) => "vortex.zoned",
-            Layout::LegacyStats(_) => "vortex.stats",
+            Layout::Chunked(ChunkedLayout { row_count: _rows, .. }) => "vortex.chunked",
+            Layout::Struct(StructLayout { row_count: _rows, .. }) => "vortex.struct",
+            Layout::List(ListLayout { row_count: _rows, .. }) => "vortex.list",
+            Layout::Dict(DictLayout { row_count: _rows, .. }) => "vortex.dict",
+            Layout::Zoned(ZonedLayout { row_count: _rows, .. }) => "vortex.zoned",
+            Layout::LegacyStats(LegacyStatsLayout { row_count: _rows, .. }) => "vortex.stats",
             Layout::Foreign(foreign) => foreign.id.as_str(),
         }
     }
@@ -119,7 +120,7 @@ impl Layout {
         ensures { map lay result.now ≡ children_of (lay self.now) }
     {
         match self {
-            Layout::Flat(flat) => &[],
+            Layout::Flat(_) => &[],
             Layout::Chunked(inner) => &inner.children,
             Layout::Struct(inner) => &inner.children,
             Layout::List(inner) => &inner.children,
@@ -147,15 +148,10 @@ impl Layout {
     }
 
     /// Whether readers may not split its rows.
-    #[tactic(auto, unfolding(crate::specs::LayoutView::lay))]
     pub fn is_indivisible(&self) -> bool
-        ensures { result ≡ is_flat (layout_kind (lay self.now)) }
+        ensures { IsTrue result ↔ (kind_name (layout_kind (lay self.now)) ≡ Flat) }
     {
-        match self {
-            Layout::Flat(_) => true,
-            Layout::Chunked(_) | Layout::Struct(_) | Layout::List(_) | Layout::Dict(_) => false,
-            Layout::Zoned(_) | Layout::LegacyStats(_) | Layout::Foreign(_) => false,
-        }
+        self.is(LayoutKind::Flat)
     }
 
     pub fn is(&self, kind: LayoutKind) -> bool

@@ -10,9 +10,13 @@ ghost use Rattle.vx_tree.specs.LayoutTree.{row_count};
 ghost use Rattle.vx_model.specs.Words.{total_by};
 
 use crate::child_type::LayoutChildType;
+use crate::dict::DictLayout;
 use crate::layout::Layout;
+use crate::list::ListLayout;
 use crate::shape::field_count;
+use crate::stats::LegacyStatsLayout;
 use crate::total::rows_before;
+use crate::zoned::ZonedLayout;
 use std::alloc::{AllocError, Global};
 use vx_model::{DType, StructField, Text};
 
@@ -30,8 +34,10 @@ impl Layout {
             Layout::Flat(_) => 0,
             Layout::Chunked(chunked) => chunked.children.len() as u64,
             Layout::Struct(strukt) => field_count(&strukt.dtype) as u64 + 1,
-            Layout::List(_) => 3,
-            Layout::Dict(_) | Layout::Zoned(_) | Layout::LegacyStats(_) => 2,
+            Layout::List(ListLayout { row_count: _rows, .. }) => 3,
+            Layout::Dict(DictLayout { row_count: _rows, .. }) => 2,
+            Layout::Zoned(ZonedLayout { row_count: _rows, .. }) => 2,
+            Layout::LegacyStats(LegacyStatsLayout { row_count: _rows, .. }) => 2,
             Layout::Foreign(foreign) => foreign.children.len() as u64,
         }
     }
@@ -46,7 +52,9 @@ impl Layout {
             Layout::Chunked(chunked) => below(chunked.children.len() as u64, slot),
             Layout::Struct(strukt) => struct_place(&strukt.dtype, slot),
             Layout::List(list) => list_place(&list.dtype, slot),
-            Layout::Dict(_) | Layout::Zoned(_) | Layout::LegacyStats(_) => below(2, slot),
+            Layout::Dict(DictLayout { row_count: _rows, .. }) => below(2, slot),
+            Layout::Zoned(ZonedLayout { row_count: _rows, .. }) => below(2, slot),
+            Layout::LegacyStats(LegacyStatsLayout { row_count: _rows, .. }) => below(2, slot),
             Layout::Foreign(foreign) => below(foreign.children.len() as u64, slot),
         }
     }
@@ -62,11 +70,12 @@ impl Layout {
     {
         match self {
             Layout::Flat(_) => Ok(None),
-            Layout::Chunked(chunked) => Ok(chunk_type(&chunked.children, slot)),
+            Layout::Chunked(chunked) => Ok(chunk_type(&chunked.children, chunked.row_count, slot)),
             Layout::Struct(strukt) => struct_type(alloc, &strukt.dtype, slot),
-            Layout::List(_) => list_type(alloc, slot),
-            Layout::Dict(_) => dict_type(alloc, slot),
-            Layout::Zoned(_) | Layout::LegacyStats(_) => zoned_type(alloc, slot),
+            Layout::List(ListLayout { row_count: _rows, .. }) => list_type(alloc, slot),
+            Layout::Dict(DictLayout { row_count: _rows, .. }) => dict_type(alloc, slot),
+            Layout::Zoned(ZonedLayout { row_count: _rows, .. }) => zoned_type(alloc, slot),
+            Layout::LegacyStats(LegacyStatsLayout { row_count: _rows, .. }) => zoned_type(alloc, slot),
             Layout::Foreign(foreign) => foreign_type(alloc, foreign.children.len() as u64, slot),
         }
     }
@@ -98,12 +107,13 @@ fn list_place(dtype: &DType, slot: u64) -> Option<u64>
 }
 
 #[tactic(auto, using(crate::proofs::Steps::slot_rules))]
-fn chunk_type(chunks: &[Layout], slot: u64) -> Option<LayoutChildType>
-    requires { total_by row_count (map lay chunks.now) < 2 ^ 64 }
+fn chunk_type(chunks: &[Layout], rows: u64, slot: u64) -> Option<LayoutChildType>
+    requires { total_by row_count (map lay chunks.now) ≡ rows }
     ensures { result ≡ type_of_chunk (map lay chunks.now) slot }
 {
     if slot < chunks.len() as u64 {
-        Some(LayoutChildType::Chunk((slot, rows_before(chunks, slot as usize))))
+        let offset = rows_before(chunks, rows, slot as usize);
+        Some(LayoutChildType::Chunk((slot, offset)))
     } else {
         None
     }
@@ -121,7 +131,6 @@ fn transparent(alloc: Global, name: &str) -> Result<Option<LayoutChildType>, All
     Ok(Some(LayoutChildType::Transparent(Text::from_str(alloc, name)?)))
 }
 
-#[tactic(auto, using(crate::proofs::Steps::field_rules))]
 fn struct_type(
     alloc: Global,
     dtype: &DType,
@@ -130,19 +139,29 @@ fn struct_type(
     ensures { IfOk result (λ o. o ≡ type_in_struct (fields_of (ty dtype.now)) slot) }
 {
     if slot == 0 {
-        return auxiliary(alloc, "validity");
+        auxiliary(alloc, "validity")
+    } else {
+        field_type(dtype, slot - 1)
     }
+}
+
+/// The fields of a struct type; another type has none.
+#[tactic(auto, using(crate::proofs::Steps::field_rules))]
+fn fields_in(dtype: &DType) -> &[StructField]
+    ensures { map field_ty result.now ≡ fields_of (ty dtype.now) }
+{
     match dtype {
-        DType::Struct(fields, _) => field_type(&fields.fields, slot - 1),
-        DType::Bool(_) | DType::Primitive(..) | DType::Utf8(_) | DType::Binary(_) => Ok(None),
-        DType::List(..) | DType::Extension(_) => Ok(None),
+        DType::Struct(fields, _) => &fields.fields,
+        DType::Bool(_) | DType::Primitive(..) | DType::Utf8(_) | DType::Binary(_) => &[],
+        DType::List(..) | DType::Extension(_) => &[],
     }
 }
 
 #[tactic(auto, using(crate::proofs::Steps::name_rules))]
-fn field_type(fields: &[StructField], i: u64) -> Result<Option<LayoutChildType>, AllocError>
-    ensures { IfOk result (λ o. o ≡ type_of_field (map field_ty fields.now) i) }
+fn field_type(dtype: &DType, i: u64) -> Result<Option<LayoutChildType>, AllocError>
+    ensures { IfOk result (λ o. o ≡ type_of_field (fields_of (ty dtype.now)) i) }
 {
+    let fields = fields_in(dtype);
     if i < fields.len() as u64 {
         let name = fields[i as usize].name.clone()?;
         Ok(Some(LayoutChildType::Field(name)))

@@ -18,16 +18,17 @@ pub(crate) fn total_rows(layouts: &[Layout]) -> u128
     rows
 }
 
-/// Rows of the first layouts.
+/// Rows of the first layouts, of `rows` together.
 #[tactic(auto, using(crate::proofs::Steps::offset_rules))]
-pub(crate) fn rows_before(layouts: &[Layout], place: usize) -> u64
+pub(crate) fn rows_before(layouts: &[Layout], rows: u64, place: usize) -> u64
     requires within { place ≤ length layouts.now }
-    requires fit { total_by row_count (map lay layouts.now) < 2 ^ 64 }
+    requires all { total_by row_count (map lay layouts.now) ≡ rows }
     ensures { result ≡ total_by row_count (take place (map lay layouts.now)) }
 {
-    let mut rows = 0u64;
+    let _ = rows;
+    let mut before = 0u64;
     for i in 0..place {
-        rows += layouts[i].row_count();
+        before += layouts[i].row_count();
     }
-    rows
+    before
 }

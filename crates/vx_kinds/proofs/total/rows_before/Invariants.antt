@@ -5,4 +5,4 @@ use Rattle.vx_kinds.specs.LayoutView.{lay}
 use Rattle.vx_kinds.proofs.total.rows_before.Given as goal
 
 abbrev pub invariant-loop-i : goal.invariant-loop-i
-invariant-loop-i l = l.rows ≡ total_by row_count (take l.i (map lay l.layouts))
+invariant-loop-i l = l.before ≡ total_by row_count (take l.i (map lay l.layouts))
