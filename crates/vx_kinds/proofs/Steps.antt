@@ -18,6 +18,7 @@ pub drop_rows : (ls : List Layout) (i : ℕ) (l : Layout) → i < length ls → 
 drop_rows ls i l lt is = rw (drop_more ls i l lt, ← is) refl
 
 pub ruleset lays_rules = (lays_in-lays_of)
+
 pub ruleset sum_rules = (drop_rows, drop_all)
 
 -- ---- the first of them

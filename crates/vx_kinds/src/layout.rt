@@ -71,13 +71,48 @@ impl Layout {
     {
         match self {
             Layout::Flat(_) => LayoutKind::Flat,
-            Layout::Chunked(ChunkedLayout { row_count: _rows, .. }) => LayoutKind::Chunked,
-            Layout::Struct(StructLayout { row_count: _rows, .. }) => LayoutKind::Struct,
-            Layout::List(ListLayout { row_count: _rows, .. }) => LayoutKind::List,
-            Layout::Dict(DictLayout { row_count: _rows, .. }) => LayoutKind::Dict,
-            Layout::Zoned(ZonedLayout { row_count: _rows, .. }) => LayoutKind::Zoned,
-            Layout::LegacyStats(LegacyStatsLayout { row_count: _rows, .. }) => LayoutKind::LegacyStats,
-            Layout::Foreign(ForeignLayout { row_count: _rows, .. }) => LayoutKind::Foreign,
+            Layout::Chunked(
+                ChunkedLayout {
+                    row_count: _rows,
+                    ..
+                },
+            ) => LayoutKind::Chunked,
+            Layout::Struct(
+                StructLayout {
+                    row_count: _rows,
+                    ..
+                },
+            ) => LayoutKind::Struct,
+            Layout::List(
+                ListLayout {
+                    row_count: _rows,
+                    ..
+                },
+            ) => LayoutKind::List,
+            Layout::Dict(
+                DictLayout {
+                    row_count: _rows,
+                    ..
+                },
+            ) => LayoutKind::Dict,
+            Layout::Zoned(
+                ZonedLayout {
+                    row_count: _rows,
+                    ..
+                },
+            ) => LayoutKind::Zoned,
+            Layout::LegacyStats(
+                LegacyStatsLayout {
+                    row_count: _rows,
+                    ..
+                },
+            ) => LayoutKind::LegacyStats,
+            Layout::Foreign(
+                ForeignLayout {
+                    row_count: _rows,
+                    ..
+                },
+            ) => LayoutKind::Foreign,
         }
     }
 
@@ -87,12 +122,42 @@ impl Layout {
     {
         match self {
             Layout::Flat(_) => "vortex.flat",
-            Layout::Chunked(ChunkedLayout { row_count: _rows, .. }) => "vortex.chunked",
-            Layout::Struct(StructLayout { row_count: _rows, .. }) => "vortex.struct",
-            Layout::List(ListLayout { row_count: _rows, .. }) => "vortex.list",
-            Layout::Dict(DictLayout { row_count: _rows, .. }) => "vortex.dict",
-            Layout::Zoned(ZonedLayout { row_count: _rows, .. }) => "vortex.zoned",
-            Layout::LegacyStats(LegacyStatsLayout { row_count: _rows, .. }) => "vortex.stats",
+            Layout::Chunked(
+                ChunkedLayout {
+                    row_count: _rows,
+                    ..
+                },
+            ) => "vortex.chunked",
+            Layout::Struct(
+                StructLayout {
+                    row_count: _rows,
+                    ..
+                },
+            ) => "vortex.struct",
+            Layout::List(
+                ListLayout {
+                    row_count: _rows,
+                    ..
+                },
+            ) => "vortex.list",
+            Layout::Dict(
+                DictLayout {
+                    row_count: _rows,
+                    ..
+                },
+            ) => "vortex.dict",
+            Layout::Zoned(
+                ZonedLayout {
+                    row_count: _rows,
+                    ..
+                },
+            ) => "vortex.zoned",
+            Layout::LegacyStats(
+                LegacyStatsLayout {
+                    row_count: _rows,
+                    ..
+                },
+            ) => "vortex.stats",
             Layout::Foreign(foreign) => foreign.id.as_str(),
         }
     }

@@ -14,6 +14,8 @@ mod shape;
 mod slots;
 mod stats;
 mod structs;
+#[cfg(test)]
+mod tests;
 mod total;
 mod zoned;
 

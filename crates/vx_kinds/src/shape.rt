@@ -81,11 +81,7 @@ pub(crate) fn list_children(
     }
 }
 
-pub(crate) fn pair(
-    alloc: Global,
-    first: Layout,
-    second: Layout,
-) -> Result<Vec<Layout>, AllocError>
+pub(crate) fn pair(alloc: Global, first: Layout, second: Layout) -> Result<Vec<Layout>, AllocError>
     ensures { IfOk result (λ v. map lay v.items ≡ lay first ∷ lay second ∷ []) }
 {
     let mut children = Vec::with_capacity(alloc, 2)?;

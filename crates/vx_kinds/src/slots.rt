@@ -34,10 +34,30 @@ impl Layout {
             Layout::Flat(_) => 0,
             Layout::Chunked(chunked) => chunked.children.len() as u64,
             Layout::Struct(strukt) => field_count(&strukt.dtype) as u64 + 1,
-            Layout::List(ListLayout { row_count: _rows, .. }) => 3,
-            Layout::Dict(DictLayout { row_count: _rows, .. }) => 2,
-            Layout::Zoned(ZonedLayout { row_count: _rows, .. }) => 2,
-            Layout::LegacyStats(LegacyStatsLayout { row_count: _rows, .. }) => 2,
+            Layout::List(
+                ListLayout {
+                    row_count: _rows,
+                    ..
+                },
+            ) => 3,
+            Layout::Dict(
+                DictLayout {
+                    row_count: _rows,
+                    ..
+                },
+            ) => 2,
+            Layout::Zoned(
+                ZonedLayout {
+                    row_count: _rows,
+                    ..
+                },
+            ) => 2,
+            Layout::LegacyStats(
+                LegacyStatsLayout {
+                    row_count: _rows,
+                    ..
+                },
+            ) => 2,
             Layout::Foreign(foreign) => foreign.children.len() as u64,
         }
     }
@@ -52,30 +72,61 @@ impl Layout {
             Layout::Chunked(chunked) => below(chunked.children.len() as u64, slot),
             Layout::Struct(strukt) => struct_place(&strukt.dtype, slot),
             Layout::List(list) => list_place(&list.dtype, slot),
-            Layout::Dict(DictLayout { row_count: _rows, .. }) => below(2, slot),
-            Layout::Zoned(ZonedLayout { row_count: _rows, .. }) => below(2, slot),
-            Layout::LegacyStats(LegacyStatsLayout { row_count: _rows, .. }) => below(2, slot),
+            Layout::Dict(
+                DictLayout {
+                    row_count: _rows,
+                    ..
+                },
+            ) => below(2, slot),
+            Layout::Zoned(
+                ZonedLayout {
+                    row_count: _rows,
+                    ..
+                },
+            ) => below(2, slot),
+            Layout::LegacyStats(
+                LegacyStatsLayout {
+                    row_count: _rows,
+                    ..
+                },
+            ) => below(2, slot),
             Layout::Foreign(foreign) => below(foreign.children.len() as u64, slot),
         }
     }
 
     /// What a child in the slot is, also where there is none.
     #[tactic(auto, using(crate::proofs::Steps::slot_rules), unfolding(crate::specs::LayoutView::lay))]
-    pub fn slot_type(
-        &self,
-        alloc: Global,
-        slot: u64,
-    ) -> Result<Option<LayoutChildType>, AllocError>
+    pub fn slot_type(&self, alloc: Global, slot: u64) -> Result<Option<LayoutChildType>, AllocError>
         ensures { IfOk result (λ o. o ≡ type_in_slot (lay self.now) slot) }
     {
         match self {
             Layout::Flat(_) => Ok(None),
             Layout::Chunked(chunked) => Ok(chunk_type(&chunked.children, chunked.row_count, slot)),
             Layout::Struct(strukt) => struct_type(alloc, &strukt.dtype, slot),
-            Layout::List(ListLayout { row_count: _rows, .. }) => list_type(alloc, slot),
-            Layout::Dict(DictLayout { row_count: _rows, .. }) => dict_type(alloc, slot),
-            Layout::Zoned(ZonedLayout { row_count: _rows, .. }) => zoned_type(alloc, slot),
-            Layout::LegacyStats(LegacyStatsLayout { row_count: _rows, .. }) => zoned_type(alloc, slot),
+            Layout::List(
+                ListLayout {
+                    row_count: _rows,
+                    ..
+                },
+            ) => list_type(alloc, slot),
+            Layout::Dict(
+                DictLayout {
+                    row_count: _rows,
+                    ..
+                },
+            ) => dict_type(alloc, slot),
+            Layout::Zoned(
+                ZonedLayout {
+                    row_count: _rows,
+                    ..
+                },
+            ) => zoned_type(alloc, slot),
+            Layout::LegacyStats(
+                LegacyStatsLayout {
+                    row_count: _rows,
+                    ..
+                },
+            ) => zoned_type(alloc, slot),
             Layout::Foreign(foreign) => foreign_type(alloc, foreign.children.len() as u64, slot),
         }
     }
@@ -103,7 +154,11 @@ fn struct_place(dtype: &DType, slot: u64) -> Option<u64>
 fn list_place(dtype: &DType, slot: u64) -> Option<u64>
     ensures { result ≡ place_in_list (nullable (ty dtype.now)) slot }
 {
-    if dtype.is_nullable() { below(3, slot) } else { below(2, slot) }
+    if dtype.is_nullable() {
+        below(3, slot)
+    } else {
+        below(2, slot)
+    }
 }
 
 #[tactic(auto, using(crate::proofs::Steps::slot_rules))]

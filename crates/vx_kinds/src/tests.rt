@@ -1,0 +1,247 @@
+// Each kind once, and each refusal.
+
+use crate::shape::pair;
+use crate::{
+    ChunkedLayout, DictLayout, FlatLayout, ForeignLayout, Layout, LayoutError, LayoutKind,
+    LegacyStatsLayout, ListLayout, StructLayout, ZonedLayout,
+};
+use std::alloc::Global;
+use std::num::NonZeroU32;
+use std::test::Fail;
+use vx_aggregate::{AggregateFn, Stat, aggregate_stats_table_dtype, legacy_stats_table_dtype};
+use vx_model::{
+    ArrayContext, Blob, DType, Nullability, PType, SegmentId, StructField, StructFields, Text,
+};
+
+fn integers() -> DType {
+    DType::Primitive(PType::U8, Nullability::NonNullable)
+}
+
+fn texts() -> DType {
+    DType::Utf8(Nullability::NonNullable)
+}
+
+fn list_of(alloc: Global, nullability: Nullability) -> Result<DType, Fail> {
+    Ok(DType::List(Box::new(alloc, integers())?, nullability))
+}
+
+/// A struct with one field.
+fn record(alloc: Global) -> Result<DType, Fail> {
+    let name = Text::from_str(alloc, "a")?;
+    let mut fields = Vec::new(alloc);
+    fields.push(StructField {
+        name,
+        dtype: integers(),
+    })?;
+    Ok(DType::Struct(StructFields { fields }, Nullability::NonNullable))
+}
+
+fn flat(alloc: Global, rows: u64, dtype: DType) -> Result<Layout, Fail> {
+    let ctx = ArrayContext::try_new(Vec::new(alloc))?;
+    Ok(Layout::Flat(FlatLayout::new(rows, dtype, SegmentId(0), ctx)))
+}
+
+fn one(alloc: Global, layout: Layout) -> Result<Vec<Layout>, Fail> {
+    let mut layouts = Vec::new(alloc);
+    layouts.push(layout)?;
+    Ok(layouts)
+}
+
+fn max(alloc: Global) -> Result<Vec<AggregateFn>, Fail> {
+    let mut aggregates = Vec::new(alloc);
+    aggregates.push(AggregateFn::Max)?;
+    Ok(aggregates)
+}
+
+fn max_stat(alloc: Global) -> Result<Vec<Stat>, Fail> {
+    let mut stats = Vec::new(alloc);
+    stats.push(Stat::Max)?;
+    Ok(stats)
+}
+
+fn chunked(alloc: Global) -> Result<Layout, Fail> {
+    let first = flat(alloc, 3, integers())?;
+    let chunks = pair(alloc, first, flat(alloc, 4, integers())?)?;
+    Ok(Layout::Chunked(ChunkedLayout::new(7, integers(), chunks)?))
+}
+
+fn structs(alloc: Global) -> Result<Layout, Fail> {
+    let dtype = record(alloc)?;
+    let children = one(alloc, flat(alloc, 3, integers())?)?;
+    Ok(Layout::Struct(StructLayout::new(3, dtype, children)?))
+}
+
+fn list(alloc: Global) -> Result<Layout, Fail> {
+    let dtype = list_of(alloc, Nullability::NonNullable)?;
+    let elements = flat(alloc, 5, integers())?;
+    let offsets = flat(alloc, 4, integers())?;
+    Ok(Layout::List(ListLayout::new(alloc, dtype, elements, offsets, None)?))
+}
+
+fn dict(alloc: Global) -> Result<Layout, Fail> {
+    let values = flat(alloc, 2, texts())?;
+    let codes = flat(alloc, 4, integers())?;
+    Ok(Layout::Dict(DictLayout::new(alloc, values, codes)?))
+}
+
+fn zoned(alloc: Global) -> Result<Layout, Fail> {
+    let aggregates = max(alloc)?;
+    let table = aggregate_stats_table_dtype(alloc, &integers(), &aggregates)?;
+    let column = flat(alloc, 4, integers())?;
+    let zones = flat(alloc, 2, table)?;
+    let made = ZonedLayout::try_new(alloc, column, zones, NonZeroU32::MIN, aggregates)?;
+    Ok(Layout::Zoned(made))
+}
+
+fn legacy(alloc: Global) -> Result<Layout, Fail> {
+    let stats = max_stat(alloc)?;
+    let table = legacy_stats_table_dtype(alloc, &integers(), &stats)?;
+    let column = flat(alloc, 4, integers())?;
+    let zones = flat(alloc, 2, table)?;
+    let made = LegacyStatsLayout::new(alloc, column, zones, 2, stats)?;
+    Ok(Layout::LegacyStats(made))
+}
+
+fn foreign(alloc: Global) -> Result<Layout, Fail> {
+    let id = Text::from_str(alloc, "x.y")?;
+    let metadata = Blob::from_slice(alloc, &[1])?;
+    let children = one(alloc, flat(alloc, 1, texts())?)?;
+    let made = ForeignLayout::new(4, texts(), Vec::new(alloc), children, id, metadata);
+    Ok(Layout::Foreign(made))
+}
+
+/// The id, the rows, the children and what is in each slot; one without a child has a dash.
+fn told(alloc: Global, layout: &Layout) -> Result<String, Fail> {
+    let id = layout.encoding_id();
+    let rows = layout.row_count();
+    let mut text = format!(in alloc; "{id} {rows} {}:", layout.nchildren())?;
+    for slot in 0..layout.nslots() {
+        if let Some(child) = layout.slot_type(alloc, slot)? {
+            text.push_str(" ")?;
+            text.push_str(child.name(alloc)?.as_str())?;
+            if let Some(offset) = child.row_offset() {
+                text.push_str(format!(in alloc; "@{offset}")?.as_str())?;
+            }
+            if layout.slot_to_child(slot).is_none() {
+                text.push_str("-")?;
+            }
+        }
+    }
+    Ok(text)
+}
+
+#[test]
+fn plain_kinds(rt: HostRuntime) -> Result<(), Fail> {
+    let alloc = rt.alloc();
+    let layout = flat(alloc, 4, texts())?;
+    assert!(rt; layout.is_indivisible() && layout.is(LayoutKind::Flat));
+    assert_eq!(rt; told(alloc, &layout)?.as_str(), "vortex.flat 4 0:");
+    let layout = chunked(alloc)?;
+    assert!(rt; !layout.is_indivisible());
+    assert_eq!(rt;
+        told(alloc, &layout)?.as_str(),
+        "vortex.chunked 7 2: [0]@0 [1]@3"
+    );
+    let layout = foreign(alloc)?;
+    assert_eq!(rt; told(alloc, &layout)?.as_str(), "x.y 4 1: [0]");
+    Ok(())
+}
+
+#[test]
+fn nested_kinds(rt: HostRuntime) -> Result<(), Fail> {
+    let alloc = rt.alloc();
+    let layout = structs(alloc)?;
+    assert_eq!(rt;
+        told(alloc, &layout)?.as_str(),
+        "vortex.struct 3 1: validity- a@0"
+    );
+    let layout = list(alloc)?;
+    assert_eq!(rt;
+        told(alloc, &layout)?.as_str(),
+        "vortex.list 3 2: elements offsets validity-"
+    );
+    let layout = dict(alloc)?;
+    assert_eq!(rt;
+        told(alloc, &layout)?.as_str(),
+        "vortex.dict 4 2: values codes@0"
+    );
+    Ok(())
+}
+
+#[test]
+fn kinds_with_zones(rt: HostRuntime) -> Result<(), Fail> {
+    let alloc = rt.alloc();
+    let layout = zoned(alloc)?;
+    assert_eq!(rt;
+        told(alloc, &layout)?.as_str(),
+        "vortex.zoned 4 2: data@0 zones"
+    );
+    let layout = legacy(alloc)?;
+    assert_eq!(rt;
+        told(alloc, &layout)?.as_str(),
+        "vortex.stats 4 2: data@0 zones"
+    );
+    Ok(())
+}
+
+#[test]
+fn other_counts(rt: HostRuntime) -> Result<(), Fail> {
+    let alloc = rt.alloc();
+    let chunks = one(alloc, flat(alloc, 7, integers())?)?;
+    let none = ChunkedLayout::new(8, integers(), chunks);
+    assert!(rt; matches!(&none, Err(LayoutError::RowCount { has: 7, needs: 8 })));
+    let none = StructLayout::new(3, integers(), Vec::new(alloc));
+    assert!(rt; matches!(&none, Err(LayoutError::NotAStruct)));
+    let none = StructLayout::new(3, record(alloc)?, Vec::new(alloc));
+    assert!(rt; matches!(&none, Err(LayoutError::ChildCount { has: 0, needs: 1 })));
+    Ok(())
+}
+
+fn bad_list(alloc: Global, dtype: DType, offsets: DType) -> Result<LayoutError, Fail> {
+    let elements = flat(alloc, 5, integers())?;
+    let offsets = flat(alloc, 4, offsets)?;
+    match ListLayout::new(alloc, dtype, elements, offsets, None) {
+        Err(error) => Ok(error),
+        Ok(_) => Err(Fail::from("a list")),
+    }
+}
+
+#[test]
+fn other_lists(rt: HostRuntime) -> Result<(), Fail> {
+    let alloc = rt.alloc();
+    let error = bad_list(alloc, texts(), integers())?;
+    assert!(rt; matches!(&error, LayoutError::NotAList));
+    let error = bad_list(alloc, list_of(alloc, Nullability::Nullable)?, integers())?;
+    assert!(rt; matches!(&error, LayoutError::ChildCount { has: 2, needs: 3 }));
+    let error = bad_list(alloc, list_of(alloc, Nullability::NonNullable)?, texts())?;
+    assert!(rt; matches!(&error, LayoutError::ChildType { .. }));
+    Ok(())
+}
+
+#[test]
+fn other_types(rt: HostRuntime) -> Result<(), Fail> {
+    let alloc = rt.alloc();
+    let none = DictLayout::new(alloc, flat(alloc, 2, texts())?, flat(alloc, 4, texts())?);
+    assert!(rt; matches!(&none, Err(LayoutError::ChildType { .. })));
+    Ok(())
+}
+
+#[test]
+fn other_zones(rt: HostRuntime) -> Result<(), Fail> {
+    let alloc = rt.alloc();
+    let column = flat(alloc, 4, integers())?;
+    let zones = flat(alloc, 2, texts())?;
+    let none = ZonedLayout::try_new(alloc, column, zones, NonZeroU32::MIN, max(alloc)?);
+    assert!(rt; matches!(&none, Err(LayoutError::ChildType { .. })));
+    Ok(())
+}
+
+#[test]
+fn other_statistics(rt: HostRuntime) -> Result<(), Fail> {
+    let alloc = rt.alloc();
+    let column = flat(alloc, 4, integers())?;
+    let zones = flat(alloc, 2, texts())?;
+    let none = LegacyStatsLayout::new(alloc, column, zones, 2, max_stat(alloc)?);
+    assert!(rt; matches!(&none, Err(LayoutError::ChildType { .. })));
+    Ok(())
+}
