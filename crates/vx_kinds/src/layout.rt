@@ -70,49 +70,15 @@ impl Layout {
         ensures { result ≡ kind_name (layout_kind (lay self.now)) }
     {
         match self {
+            // A field is named in each pattern, here and below, so that the proof sees into the layout.
             Layout::Flat(_) => LayoutKind::Flat,
-            Layout::Chunked(
-                ChunkedLayout {
-                    row_count: _rows,
-                    ..
-                },
-            ) => LayoutKind::Chunked,
-            Layout::Struct(
-                StructLayout {
-                    row_count: _rows,
-                    ..
-                },
-            ) => LayoutKind::Struct,
-            Layout::List(
-                ListLayout {
-                    row_count: _rows,
-                    ..
-                },
-            ) => LayoutKind::List,
-            Layout::Dict(
-                DictLayout {
-                    row_count: _rows,
-                    ..
-                },
-            ) => LayoutKind::Dict,
-            Layout::Zoned(
-                ZonedLayout {
-                    row_count: _rows,
-                    ..
-                },
-            ) => LayoutKind::Zoned,
-            Layout::LegacyStats(
-                LegacyStatsLayout {
-                    row_count: _rows,
-                    ..
-                },
-            ) => LayoutKind::LegacyStats,
-            Layout::Foreign(
-                ForeignLayout {
-                    row_count: _rows,
-                    ..
-                },
-            ) => LayoutKind::Foreign,
+            Layout::Chunked(ChunkedLayout { row_count, .. }) => LayoutKind::Chunked,
+            Layout::Struct(StructLayout { row_count, .. }) => LayoutKind::Struct,
+            Layout::List(ListLayout { row_count, .. }) => LayoutKind::List,
+            Layout::Dict(DictLayout { row_count, .. }) => LayoutKind::Dict,
+            Layout::Zoned(ZonedLayout { row_count, .. }) => LayoutKind::Zoned,
+            Layout::LegacyStats(LegacyStatsLayout { row_count, .. }) => LayoutKind::LegacyStats,
+            Layout::Foreign(ForeignLayout { row_count, .. }) => LayoutKind::Foreign,
         }
     }
 
@@ -122,42 +88,12 @@ impl Layout {
     {
         match self {
             Layout::Flat(_) => "vortex.flat",
-            Layout::Chunked(
-                ChunkedLayout {
-                    row_count: _rows,
-                    ..
-                },
-            ) => "vortex.chunked",
-            Layout::Struct(
-                StructLayout {
-                    row_count: _rows,
-                    ..
-                },
-            ) => "vortex.struct",
-            Layout::List(
-                ListLayout {
-                    row_count: _rows,
-                    ..
-                },
-            ) => "vortex.list",
-            Layout::Dict(
-                DictLayout {
-                    row_count: _rows,
-                    ..
-                },
-            ) => "vortex.dict",
-            Layout::Zoned(
-                ZonedLayout {
-                    row_count: _rows,
-                    ..
-                },
-            ) => "vortex.zoned",
-            Layout::LegacyStats(
-                LegacyStatsLayout {
-                    row_count: _rows,
-                    ..
-                },
-            ) => "vortex.stats",
+            Layout::Chunked(ChunkedLayout { row_count, .. }) => "vortex.chunked",
+            Layout::Struct(StructLayout { row_count, .. }) => "vortex.struct",
+            Layout::List(ListLayout { row_count, .. }) => "vortex.list",
+            Layout::Dict(DictLayout { row_count, .. }) => "vortex.dict",
+            Layout::Zoned(ZonedLayout { row_count, .. }) => "vortex.zoned",
+            Layout::LegacyStats(LegacyStatsLayout { row_count, .. }) => "vortex.stats",
             Layout::Foreign(foreign) => foreign.id.as_str(),
         }
     }

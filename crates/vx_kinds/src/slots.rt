@@ -34,30 +34,10 @@ impl Layout {
             Layout::Flat(_) => 0,
             Layout::Chunked(chunked) => chunked.children.len() as u64,
             Layout::Struct(strukt) => field_count(&strukt.dtype) as u64 + 1,
-            Layout::List(
-                ListLayout {
-                    row_count: _rows,
-                    ..
-                },
-            ) => 3,
-            Layout::Dict(
-                DictLayout {
-                    row_count: _rows,
-                    ..
-                },
-            ) => 2,
-            Layout::Zoned(
-                ZonedLayout {
-                    row_count: _rows,
-                    ..
-                },
-            ) => 2,
-            Layout::LegacyStats(
-                LegacyStatsLayout {
-                    row_count: _rows,
-                    ..
-                },
-            ) => 2,
+            Layout::List(ListLayout { row_count, .. }) => 3,
+            Layout::Dict(DictLayout { row_count, .. }) => 2,
+            Layout::Zoned(ZonedLayout { row_count, .. }) => 2,
+            Layout::LegacyStats(LegacyStatsLayout { row_count, .. }) => 2,
             Layout::Foreign(foreign) => foreign.children.len() as u64,
         }
     }
@@ -72,24 +52,9 @@ impl Layout {
             Layout::Chunked(chunked) => below(chunked.children.len() as u64, slot),
             Layout::Struct(strukt) => struct_place(&strukt.dtype, slot),
             Layout::List(list) => list_place(&list.dtype, slot),
-            Layout::Dict(
-                DictLayout {
-                    row_count: _rows,
-                    ..
-                },
-            ) => below(2, slot),
-            Layout::Zoned(
-                ZonedLayout {
-                    row_count: _rows,
-                    ..
-                },
-            ) => below(2, slot),
-            Layout::LegacyStats(
-                LegacyStatsLayout {
-                    row_count: _rows,
-                    ..
-                },
-            ) => below(2, slot),
+            Layout::Dict(DictLayout { row_count, .. }) => below(2, slot),
+            Layout::Zoned(ZonedLayout { row_count, .. }) => below(2, slot),
+            Layout::LegacyStats(LegacyStatsLayout { row_count, .. }) => below(2, slot),
             Layout::Foreign(foreign) => below(foreign.children.len() as u64, slot),
         }
     }
@@ -103,30 +68,10 @@ impl Layout {
             Layout::Flat(_) => Ok(None),
             Layout::Chunked(chunked) => Ok(chunk_type(&chunked.children, chunked.row_count, slot)),
             Layout::Struct(strukt) => struct_type(alloc, &strukt.dtype, slot),
-            Layout::List(
-                ListLayout {
-                    row_count: _rows,
-                    ..
-                },
-            ) => list_type(alloc, slot),
-            Layout::Dict(
-                DictLayout {
-                    row_count: _rows,
-                    ..
-                },
-            ) => dict_type(alloc, slot),
-            Layout::Zoned(
-                ZonedLayout {
-                    row_count: _rows,
-                    ..
-                },
-            ) => zoned_type(alloc, slot),
-            Layout::LegacyStats(
-                LegacyStatsLayout {
-                    row_count: _rows,
-                    ..
-                },
-            ) => zoned_type(alloc, slot),
+            Layout::List(ListLayout { row_count, .. }) => list_type(alloc, slot),
+            Layout::Dict(DictLayout { row_count, .. }) => dict_type(alloc, slot),
+            Layout::Zoned(ZonedLayout { row_count, .. }) => zoned_type(alloc, slot),
+            Layout::LegacyStats(LegacyStatsLayout { row_count, .. }) => zoned_type(alloc, slot),
             Layout::Foreign(foreign) => foreign_type(alloc, foreign.children.len() as u64, slot),
         }
     }

@@ -130,57 +130,45 @@ fn told(alloc: Global, layout: &Layout) -> Result<String, Fail> {
     Ok(text)
 }
 
+fn tells(alloc: Global, layout: Layout, text: &str) -> Result<bool, Fail> {
+    Ok(told(alloc, &layout)?.as_str() == text)
+}
+
 #[test]
 fn plain_kinds(rt: HostRuntime) -> Result<(), Fail> {
     let alloc = rt.alloc();
-    let layout = flat(alloc, 4, texts())?;
-    assert!(rt; layout.is_indivisible() && layout.is(LayoutKind::Flat));
-    assert_eq!(rt; told(alloc, &layout)?.as_str(), "vortex.flat 4 0:");
-    let layout = chunked(alloc)?;
-    assert!(rt; !layout.is_indivisible());
-    assert_eq!(rt;
-        told(alloc, &layout)?.as_str(),
-        "vortex.chunked 7 2: [0]@0 [1]@3"
-    );
-    let layout = foreign(alloc)?;
-    assert_eq!(rt; told(alloc, &layout)?.as_str(), "x.y 4 1: [0]");
+    assert!(rt; tells(alloc, flat(alloc, 4, texts())?, "vortex.flat 4 0:")?);
+    assert!(rt; tells(alloc, chunked(alloc)?, "vortex.chunked 7 2: [0]@0 [1]@3")?);
+    assert!(rt; tells(alloc, foreign(alloc)?, "x.y 4 1: [0]")?);
     Ok(())
 }
 
 #[test]
 fn nested_kinds(rt: HostRuntime) -> Result<(), Fail> {
     let alloc = rt.alloc();
-    let layout = structs(alloc)?;
-    assert_eq!(rt;
-        told(alloc, &layout)?.as_str(),
-        "vortex.struct 3 1: validity- a@0"
+    assert!(rt; tells(alloc, structs(alloc)?, "vortex.struct 3 1: validity- a@0")?);
+    assert!(rt;
+        tells(
+            alloc,
+            list(alloc)?,
+            "vortex.list 3 2: elements offsets validity-"
+        )?
     );
-    let layout = list(alloc)?;
-    assert_eq!(rt;
-        told(alloc, &layout)?.as_str(),
-        "vortex.list 3 2: elements offsets validity-"
-    );
-    let layout = dict(alloc)?;
-    assert_eq!(rt;
-        told(alloc, &layout)?.as_str(),
-        "vortex.dict 4 2: values codes@0"
-    );
+    assert!(rt; tells(alloc, dict(alloc)?, "vortex.dict 4 2: values codes@0")?);
     Ok(())
 }
 
 #[test]
-fn kinds_with_zones(rt: HostRuntime) -> Result<(), Fail> {
+fn zoned_kind(rt: HostRuntime) -> Result<(), Fail> {
     let alloc = rt.alloc();
-    let layout = zoned(alloc)?;
-    assert_eq!(rt;
-        told(alloc, &layout)?.as_str(),
-        "vortex.zoned 4 2: data@0 zones"
-    );
-    let layout = legacy(alloc)?;
-    assert_eq!(rt;
-        told(alloc, &layout)?.as_str(),
-        "vortex.stats 4 2: data@0 zones"
-    );
+    assert!(rt; tells(alloc, zoned(alloc)?, "vortex.zoned 4 2: data@0 zones")?);
+    Ok(())
+}
+
+#[test]
+fn legacy_kind(rt: HostRuntime) -> Result<(), Fail> {
+    let alloc = rt.alloc();
+    assert!(rt; tells(alloc, legacy(alloc)?, "vortex.stats 4 2: data@0 zones")?);
     Ok(())
 }
 
