@@ -1,12 +1,12 @@
 -- Steps of the loops over layouts.
-use Rattle.std.proofs.Common.{◌≡◌, ℕ, zero, suc, ◌+◌, ◌<◌, ◌≤◌, List, [], ◌∷◌, length, get_or, take, drop, map, Some, None, refl, ap, rules, arith}
+use Rattle.std.proofs.Common.{◌≡◌, ℕ, zero, suc, ◌+◌, ◌<◌, ◌≤◌, List, [], ◌∷◌, length, get_or, take, drop, map, Some, None, refl, ap, arith}
 use Rattle.std.proofs.lemmas.List.{drop_more, drop_all, map_push, length-map}
 use Rattle.vx_model.specs.Words.{total_by}
 use Rattle.vx_model.specs.declared.dtype.StructField.{StructField}
 use Rattle.vx_model.specs.TyView.{field_ty}
 use Rattle.vx_model.specs.Ty.{Named, tys_of, fields_in}
 use Rattle.vx_model.proofs.Views.{view_rules, field_ty_is}
-use Rattle.vx_tree.specs.LayoutTree.{Lay, lays_of, lays_in, row_count}
+use Rattle.vx_tree.specs.LayoutTree.{Lay, row_count}
 use Rattle.vx_tree.proofs.LayoutLaws.{lays_in-lays_of}
 use Rattle.vx_kinds.specs.declared.layout.Layout.{Layout}
 use Rattle.vx_kinds.specs.LayoutView.{lay}

@@ -1,5 +1,5 @@
 -- Each child of a layout is less deep, so a walk down it ends.
-use Rattle.std.specs.Prelude.{ℕ, ◌+◌, ◌≤◌, max, map, List, [], ◌∷◌}
+use Rattle.std.specs.Prelude.{◌≤◌, max, map, List, [], ◌∷◌}
 use Rattle.std.proofs.Common.{arith}
 use denote.Param.Weighed.{most}
 use Rattle.vx_tree.specs.LayoutTree.{lays_of}
@@ -7,7 +7,7 @@ use Rattle.vx_kinds.specs.declared.layout.Layout.{Layout}
 use Rattle.vx_kinds.specs.declared.layout.Layout.TheVariants as layouts
 use Rattle.vx_kinds.specs.declared.chunked.ChunkedLayout.TheDeep.{deep-Layout}
 use Rattle.vx_kinds.specs.LayoutView.{lay}
-use Rattle.vx_kinds.specs.LayDepth.{depth, depths}
+use Rattle.vx_kinds.specs.LayDepth.{depths}
 
 most_deep : (ls : List Layout) → most deep-Layout ls ≤ depths (lays_of (map lay ls))
 unfolding lay

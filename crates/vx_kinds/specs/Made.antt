@@ -1,9 +1,9 @@
 -- The layouts that constructors make of parts, and what they refuse first.
-use Rattle.std.specs.Prelude.{ℕ, ◌+◌, ◌-◌, ◌==◌, ◌||◌, not, Bool, true, false, if◌then◌else◌, List, [], ◌∷◌, length, map, Option, Some, None, is_some, Result, Ok, Err}
+use Rattle.std.specs.Prelude.{ℕ, ◌+◌, ◌-◌, ◌==◌, not, Bool, true, false, if◌then◌else◌, List, [], ◌∷◌, length, map, Option, Some, None, Result, Ok, Err}
 use Rattle.vx_model.specs.declared.ptype.PType.TheVariants.{U64}
 use Rattle.vx_model.specs.Words.{total_by}
 use Rattle.vx_model.specs.Ty.{Ty, primitive, nullable, is_list, is_struct, ty_eq}
-use Rattle.vx_tree.specs.LayoutTree.{Lay, Spec, layout, lays_of, no_layouts, child, stats_kind, row_count, layout_type, chunked_layout, struct_layout, list_layout, dict_layout, zoned_layout}
+use Rattle.vx_tree.specs.LayoutTree.{Lay, layout, no_layouts, child, stats_kind, row_count, layout_type, chunked_layout, struct_layout, list_layout, dict_layout, zoned_layout}
 use Rattle.vx_record.specs.Aggregate.{Aggregate, spec}
 use Rattle.vx_aggregate.specs.declared.stat.Stat.{Stat}
 use Rattle.vx_aggregate.specs.Stats.{stat_number}
