@@ -1,5 +1,5 @@
 -- Why a constructor refuses; want of memory is free.
-use Rattle.std.specs.Prelude.{◌≡◌, ℕ, ◌<◌, ◌≤◌, ◌^◌, ◌⊎◌, true, List, [], ◌∷◌, Some}
+use Rattle.std.specs.Prelude.{◌≡◌, ℕ, ◌<◌, ◌≤◌, ◌^◌, ◌⊎◌, true, false, List, [], ◌∷◌, Some}
 use Rattle.vx_plan.specs.Way.{Ways}
 use Rattle.vx_plan.specs.Admitted.{is_root}
 use Rattle.vx_nodes.specs.Overridden.{Names, PathWay, Fits, first_overlap, appended}
@@ -36,7 +36,7 @@ NoZonesOf o e = ⊥
 -- the root is looked at first; then the first standing path that overlaps is told, and the new one
 abbrev pub OverrideRefused : Ways → Names → BuildError → Type 0
 OverrideRefused ws path RootPath = is_root path ≡ true
-OverrideRefused ws path (OverlappingPath standing new) = (new ≡ path) × (first_overlap path ws ≡ Some standing)
+OverrideRefused ws path (OverlappingPath standing new) = (new ≡ path) × (is_root path ≡ false) × (first_overlap path ws ≡ Some standing)
 OverrideRefused ws path OutOfMemory = Unit {0}
 OverrideRefused ws path e = ⊥
 

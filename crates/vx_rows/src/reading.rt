@@ -4,7 +4,7 @@ use crate::{i64_type, integers};
 use std::alloc::{AllocError, Global};
 use std::test::Fail;
 use vx_layout::{FlatLayout, Layout};
-use vx_nodes::{ChunkedLayoutStrategy, FlatLayoutStrategy};
+use vx_nodes::{ChunkedLayoutStrategy, FlatLayoutStrategy, Strategy};
 use vx_read::{ReadError, SegmentMap, read_rows};
 use vx_segment::{DecodeError, buffer_lengths, decode_segment};
 use vx_sink::{LayoutWriterContext, ListSource, MemorySink, PlainCompressor};
@@ -18,30 +18,45 @@ fn context(alloc: Global) -> Result<ArrayContext, Fail> {
     Ok(ArrayContext::try_new(Vec::from_slice(alloc, EncodingId::ALL.as_slice())?)?)
 }
 
-/// Writes the batches, and reads their rows back.
-fn written_rows(alloc: Global, first: u32, batches: Vec<Chunk>) -> Result<Vec<Value>, Fail> {
+fn chunked_flat(alloc: Global) -> Result<Strategy, Fail> {
     let flat = FlatLayoutStrategy::default().into_strategy();
-    let strategy = ChunkedLayoutStrategy::new(alloc, flat)?.into_strategy();
+    Ok(ChunkedLayoutStrategy::new(alloc, flat)?.into_strategy())
+}
+
+/// Writes the batches to the sink.
+fn written(alloc: Global, batches: Vec<Chunk>, sink: &mut MemorySink) -> Result<Layout, Fail> {
     let mut ctx = LayoutWriterContext::new(context(alloc)?);
     let mut source = ListSource::new(i64_type(), batches, Vec::new(alloc));
-    let mut sink = MemorySink::new(u64::from(first), Vec::new(alloc));
     let mut compressor = PlainCompressor::new(Vec::new(alloc));
-    let Ok(written) = write_stream(
+    let strategy = chunked_flat(alloc)?;
+    match write_stream(
         alloc,
         &strategy,
         &mut ctx,
         &mut source,
-        &mut sink,
+        sink,
         &[],
         &mut compressor,
-    ) else {
-        return Err(Fail::from("the batches are written"));
-    };
+    ) {
+        Ok(written) => Ok(written.layout),
+        Err(_) => Err(Fail::from("the batches are written")),
+    }
+}
+
+fn copies(alloc: Global, segments: &[Blob]) -> Result<Vec<Blob>, Fail> {
     let mut list = Vec::new(alloc);
-    for segment in sink.segments() {
+    for segment in segments {
         list.push(segment.clone()?)?;
     }
-    Ok(read_rows(alloc, &written.layout, &SegmentMap { first, list })?)
+    Ok(list)
+}
+
+/// Writes the batches, and reads their rows back.
+fn written_rows(alloc: Global, first: u32, batches: Vec<Chunk>) -> Result<Vec<Value>, Fail> {
+    let mut sink = MemorySink::new(u64::from(first), Vec::new(alloc));
+    let layout = written(alloc, batches, &mut sink)?;
+    let list = copies(alloc, sink.segments())?;
+    Ok(read_rows(alloc, &layout, &SegmentMap { first, list })?)
 }
 
 /// The batches of these lists of numbers.

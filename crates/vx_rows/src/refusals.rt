@@ -71,7 +71,12 @@ fn name(written: &Result<Written, Refused>) -> &'static str {
 #[test]
 fn failing_sources(rt: HostRuntime) -> Result<(), Fail> {
     let alloc = rt.alloc();
-    for (call, segments) in [(0u64, 0usize), (1, 1), (2, 2)] {
+    for (call, wanted, segments) in [
+        (0u64, "SourceFault", 0usize),
+        (1, "SourceFault", 1),
+        (2, "SourceFault", 2),
+        (3, "Ok", 2),
+    ] {
         let mut source = ListSource::new(i64_type(), two_batches(alloc)?, one(alloc, call)?);
         let mut sink = MemorySink::new(0, Vec::new(alloc));
         let result = write(
@@ -81,19 +86,9 @@ fn failing_sources(rt: HostRuntime) -> Result<(), Fail> {
             &mut source,
             &mut sink,
         )?;
-        assert_eq!(rt; name(&result), "SourceFault");
+        assert_eq!(rt; name(&result), wanted);
         assert_eq!(rt; sink.segments().len(), segments);
     }
-    let mut source = ListSource::new(i64_type(), two_batches(alloc)?, one(alloc, 3)?);
-    let mut sink = MemorySink::new(0, Vec::new(alloc));
-    let result = write(
-        alloc,
-        EncodingId::Plain,
-        &chunked_flat(alloc)?,
-        &mut source,
-        &mut sink,
-    )?;
-    assert_eq!(rt; name(&result), "Ok");
     Ok(())
 }
 

@@ -89,7 +89,7 @@ one_told ws p more causes.ZeroBlockLen h = absurd h
 one_told ws p more causes.ZeroConcurrency h = absurd h
 one_told ws p more (causes.ZoneLength n) h = absurd h
 one_told ws p more causes.RootPath h = not_apart _ (λ a. let below = last_below p.0 p.1 ws (front_apart (appended ws p.0 p.1) more a) in absurd (cc (h, below)))
-one_told ws p more (causes.OverlappingPath standing new) h = not_apart _ (λ a. let free = last_free p.0 p.1 ws (front_apart (appended ws p.0 p.1) more a) in let found = h.1 in absurd (cc (found, free)))
+one_told ws p more (causes.OverlappingPath standing new) h = not_apart _ (λ a. let free = last_free p.0 p.1 ws (front_apart (appended ws p.0 p.1) more a) in let found = h.2 in absurd (cc (found, free)))
 
 some_told : (ws : Ways) (ps : List PathWay) (e : BuildError) → OverridesRefused ws ps e → Tells e (are_apart (all_appended ws ps))
 some_told ws [] e h = memory_told e (are_apart ws) h

@@ -1,0 +1,86 @@
+-- The values at the keys of a job.
+use Rattle.std.specs.Prelude.{ℕ, ◌+◌, ◌||◌, ◌==◌, Bool, false, if◌then◌else◌, List, [], ◌∷◌, codes, bytes_eq, Option, Some, None, is_some, is_none, option_map, option_and_then}
+use Rattle.serde_json.specs.Data.{Data, Members}
+use Rattle.serde_json.specs.Find.{get_member, as_str}
+use Rattle.serde_json.specs.Events.{members_len}
+use Rattle.vx_model.specs.declared.encoding.EncodingId.{EncodingId}
+use Rattle.vx_model.specs.declared.encoding.EncodingId.TheVariants as encodings
+use Rattle.vx_model.specs.Numbers.{encoding_id}
+use Rattle.vx_model.specs.Distinct.{first_repeat}
+use Rattle.vx_record.specs.Aggregate.{aggregate_id, maximum, minimum, bounded_maximum, bounded_minimum, null_count, sum, bloom}
+use Rattle.vx_strategy.specs.Parts.{given, when, all, at, whole, whole_below, or_null, has_members}
+
+-- ---- keys
+
+abbrev pub one_if : Bool → ℕ
+one_if b = if b then 1 else 0
+
+-- how many of the keys there are
+abbrev pub count_of : List (List ℕ) → Members → ℕ
+count_of [] ms = 0
+count_of (k ∷ ks) ms = one_if (is_some (get_member k ms)) + count_of ks ms
+
+-- no keys but these, since an object has each key once
+unfoldable pub has_only : List (List ℕ) → Members → Bool
+has_only ks ms = count_of ks ms == members_len ms
+
+abbrev pub keys : List (List ℕ)
+keys = codes "schema" ∷ codes "strategy" ∷ codes "batches" ∷ codes "schedule" ∷ codes "encodings" ∷ codes "aggregates" ∷ codes "marked" ∷ codes "next" ∷ codes "faults" ∷ []
+
+-- ---- values
+
+-- the value f of what stands at a key, or this one where nothing does
+unfoldable pub or_default : {A : Type 0} → A → (Data → Option A) → Option Data → Option A
+or_default x f None = Some x
+or_default x f (Some d) = f d
+
+abbrev pub all_encodings : List EncodingId
+all_encodings = encodings.Plain ∷ encodings.Constant ∷ encodings.Dict ∷ encodings.Chunked ∷ encodings.List ∷ encodings.Struct ∷ encodings.Extension ∷ []
+
+unfoldable pub first_named : List ℕ → List EncodingId → Option EncodingId
+first_named name [] = None
+first_named name (e ∷ es) = if bytes_eq name (encoding_id e) then Some e else first_named name es
+
+-- the encoding of a name
+unfoldable pub encoding_of : Data → Option EncodingId
+encoding_of d = option_and_then (λ name. first_named name all_encodings) (as_str d)
+
+unfoldable pub distinct : List EncodingId → Option (List EncodingId)
+distinct es = when (is_none (first_repeat es)) (Some es)
+
+unfoldable pub encodings_of : Data → Option (List EncodingId)
+encodings_of d = option_and_then distinct (all encoding_of d)
+
+abbrev pub aggregate_ids : List (List ℕ)
+aggregate_ids = aggregate_id maximum ∷ aggregate_id minimum ∷ aggregate_id (bounded_maximum 1) ∷ aggregate_id (bounded_minimum 1) ∷ aggregate_id null_count ∷ aggregate_id sum ∷ aggregate_id (bloom 1) ∷ []
+
+unfoldable pub is_among : List ℕ → List (List ℕ) → Bool
+is_among name [] = false
+is_among name (id ∷ ids) = bytes_eq name id || is_among name ids
+
+-- a known id
+abbrev pub known : List ℕ → Option (List ℕ)
+known name = when (is_among name aggregate_ids) (Some name)
+
+unfoldable pub id_of : Data → Option (List ℕ)
+id_of d = option_and_then known (as_str d)
+
+-- ids, or null
+unfoldable pub aggregates_of : Data → Option (Option (List (List ℕ)))
+aggregates_of d = or_null (all id_of) d
+
+-- 0 to 2^32
+unfoldable pub next_of : Data → Option ℕ
+next_of d = whole_below 4294967297 d
+
+-- the calls that fail, by their numbers
+pub record FailingCalls : Type 0 where
+  pub source : List ℕ
+  pub sink : List ℕ
+  pub compress : List ℕ
+
+abbrev pub failing : List ℕ → List ℕ → List ℕ → FailingCalls
+failing source sink compress = record { source = source; sink = sink; compress = compress }
+
+unfoldable pub faults_of : Data → Option FailingCalls
+faults_of d = when (has_members 3 d) (given (given (option_map failing (at (all whole) (codes "source") d)) (at (all whole) (codes "sink") d)) (at (all whole) (codes "compress") d))

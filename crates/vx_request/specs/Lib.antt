@@ -1,0 +1,5 @@
+pub mod JobParts
+pub mod JobText
+pub mod JobView
+pub mod Refusals
+pub mod KeyNames

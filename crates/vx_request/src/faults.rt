@@ -1,0 +1,7 @@
+/// The calls that fail, by their numbers from 0 on.
+#[derive(Debug, Drop)]
+pub struct Faults {
+    pub source: Vec<u64>,
+    pub sink: Vec<u64>,
+    pub compress: Vec<u64>,
+}

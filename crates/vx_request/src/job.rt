@@ -1,0 +1,177 @@
+//! What the program is asked to write.
+
+ghost use Rattle.std.specs.Prelude.{◌≡◌, ◌≤◌, ◌+◌, is_some};
+ghost use Rattle.serde_json.specs.Find.{get_member};
+ghost use Rattle.serde_json.specs.View.{view, members_view};
+ghost use Rattle.vx_model.specs.TyView.{ty};
+ghost use Rattle.vx_nodes.specs.StrategyView.{way};
+ghost use Rattle.vx_request.specs.JobParts.{has_only, keys, one_if};
+ghost use Rattle.vx_request.specs.JobText.{job, job_of, job_in, schema_in, strategy_in, batches_in};
+ghost use Rattle.vx_request.specs.JobView.{Gives, job_view};
+
+use crate::error::{JobError, Key};
+use crate::faults::Faults;
+use crate::options::read_options;
+use crate::values::member;
+use serde_json::{Category, Map, Value};
+use std::alloc::Global;
+use vx_chunk::Chunk;
+use vx_data::{read_batches, read_type};
+use vx_model::{ArrayContext, DType, Text};
+use vx_nodes::Strategy;
+use vx_strategy::read_strategy;
+
+/// The longest input, in bytes.
+pub const LIMIT: usize = 67_108_864;
+
+/// What the program is asked to write, and how.
+#[derive(Debug, Drop)]
+pub struct Job {
+    pub schema: DType,
+    pub strategy: Strategy,
+    /// Each of the schema, or of the type that it names.
+    pub batches: Vec<Chunk>,
+    /// The picks among the tasks that are ready.
+    pub schedule: Vec<u64>,
+    pub encodings: ArrayContext,
+    /// The ids of the aggregates that may be recorded; nothing: no limit.
+    pub aggregates: Option<Vec<Text>>,
+    /// Whether a nullable struct stands above.
+    pub marked: bool,
+    /// The number of the first segment, at most 2^32.
+    pub next: u64,
+    /// The calls that fail.
+    pub faults: Faults,
+}
+
+/// The job that the bytes are. Keys are checked in the order of the struct; an unknown key comes before a missing one.
+#[tactic(auto, using(crate::proofs::JobSteps::job_rules))]
+pub fn read_job(alloc: Global, bytes: &[u8]) -> Result<Job, JobError>
+    ensures { Gives job_view result (job bytes.now) }
+{
+    if bytes.len() > LIMIT {
+        return Err(JobError::Wrong(Key::Json));
+    }
+    let Ok(text) = str::from_utf8(bytes) else {
+        return Err(JobError::Wrong(Key::Json));
+    };
+    match Value::from_str(alloc, text) {
+        Ok(value) => read_value(alloc, &value),
+        Err(error) => match error.classify() {
+            Category::Memory => Err(JobError::OutOfMemory),
+            Category::Syntax | Category::Eof | Category::Data | Category::Io => Err(JobError::Wrong(
+                Key::Json,
+            )),
+        },
+    }
+}
+
+#[tactic(auto, using(vx_strategy::proofs::PartSteps::part_rules), unfolding(crate::specs::JobText::job_of))]
+fn read_value(alloc: Global, value: &Value) -> Result<Job, JobError>
+    ensures { Gives job_view result (job_of (view value.now)) }
+{
+    match value {
+        Value::Object(members) => {
+            if !has_known(members) {
+                return Err(JobError::Wrong(Key::Job));
+            }
+            read_members(alloc, members)
+        }
+        Value::Null | Value::Bool(_) | Value::Number(_) | Value::String(_) | Value::Array(_) => Err(
+            JobError::Wrong(Key::Job),
+        ),
+    }
+}
+
+/// Whether there are no other keys.
+#[tactic(auto, using(crate::proofs::JobSteps::key_rules), unfolding(crate::specs::JobParts::has_only))]
+fn has_known(members: &Map<String, Value>) -> bool
+    ensures { result ≡ has_only keys (members_view members.now.entries) }
+{
+    let required = count(members, "schema")
+        + count(members, "strategy")
+        + count(members, "batches");
+    let choices = count(members, "schedule")
+        + count(members, "encodings")
+        + count(members, "aggregates");
+    let others = count(members, "marked") + count(members, "next") + count(members, "faults");
+    required + choices + others == members.len()
+}
+
+/// How often the key is there.
+fn count(members: &Map<String, Value>, key: &str) -> usize
+    ensures count { result ≡ one_if (is_some (get_member key.now (members_view members.now.entries))) }
+    ensures small { result ≤ 1 }
+{
+    match member(members, key) {
+        Some(_) => 1,
+        None => 0,
+    }
+}
+
+#[tactic(auto, unfolding(crate::specs::JobText::job_in))]
+fn read_members(alloc: Global, members: &Map<String, Value>) -> Result<Job, JobError>
+    ensures { Gives job_view result (job_in (members_view members.now.entries)) }
+{
+    let schema = schema_in(alloc, members)?;
+    let strategy = strategy_in(alloc, members)?;
+    let batches = batches_in(alloc, &schema, members)?;
+    let options = read_options(alloc, members)?;
+    Ok(Job {
+        schema,
+        strategy,
+        batches,
+        schedule: options.schedule,
+        encodings: options.encodings,
+        aggregates: options.aggregates,
+        marked: options.marked,
+        next: options.next,
+        faults: options.faults,
+    })
+}
+
+#[tactic(auto, unfolding(crate::specs::JobText::schema_in))]
+fn schema_in(alloc: Global, members: &Map<String, Value>) -> Result<DType, JobError>
+    ensures { Gives ty result (schema_in (members_view members.now.entries)) }
+{
+    let Some(value) = member(members, "schema") else {
+        return Err(JobError::Wrong(Key::Schema));
+    };
+    match read_type(alloc, value) {
+        Ok(schema) => Ok(schema),
+        Err(error) => Err(JobError::at(Key::Schema, error)),
+    }
+}
+
+#[tactic(auto, unfolding(crate::specs::JobText::strategy_in))]
+fn strategy_in(alloc: Global, members: &Map<String, Value>) -> Result<Strategy, JobError>
+    ensures { Gives way result (strategy_in (members_view members.now.entries)) }
+{
+    let Some(value) = member(members, "strategy") else {
+        return Err(JobError::Wrong(Key::Strategy));
+    };
+    match read_strategy(alloc, value) {
+        Ok(strategy) => Ok(strategy),
+        Err(error) => Err(JobError::at_strategy(error)),
+    }
+}
+
+#[tactic(auto, unfolding(crate::specs::JobText::batches_in, crate::specs::JobText::batches_of))]
+fn batches_in(
+    alloc: Global,
+    schema: &DType,
+    members: &Map<String, Value>,
+) -> Result<Vec<Chunk>, JobError>
+    ensures { Gives (λ v. v.items) result (batches_in (ty schema.now) (members_view members.now.entries)) }
+{
+    let Some(value) = member(members, "batches") else {
+        return Err(JobError::Wrong(Key::Batches));
+    };
+    let Some(items) = value.as_array() else {
+        return Err(JobError::Wrong(Key::Batches));
+    };
+    match read_batches(alloc, schema, items) {
+        Ok(batches) => Ok(batches),
+        Err(error) => Err(JobError::at(Key::Batches, error)),
+    }
+}
