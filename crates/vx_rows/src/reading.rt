@@ -152,7 +152,12 @@ fn segments_are_read_back(rt: HostRuntime) -> Result<(), Fail> {
     assert_eq!(rt; chunk.len(), 2);
     assert!(rt;
         matches!(
-            decode_segment(alloc, &ctx, &i64_type(), segment.split_at(7).0),
+            decode_segment(
+                alloc,
+                &ctx,
+                &i64_type(),
+                segment.split_at(segment.len().min(7)).0
+            ),
             Err(DecodeError::Grammar(0))
         )
     );
