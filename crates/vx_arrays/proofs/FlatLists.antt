@@ -1,7 +1,7 @@
 -- Several layouts, and layouts with other names.
 use Rattle.std.proofs.Common.{ℕ, List, [], ◌∷◌, map, Option, ap}
 use Rattle.vx_model.specs.Ty.{Ty}
-use Rattle.vx_tree.specs.LayoutTree.{Kind, flat_kind, chunked_kind, struct_kind, list_kind, dict_kind, zoned_kind, stats_kind, foreign_kind, Lay, Lays, layout, no_layouts, child, lays_of, gathered, renamed, each_renamed}
+use Rattle.vx_tree.specs.LayoutTree.{Kind, flat_kind, chunked_kind, struct_kind, list_kind, dict_kind, zoned_kind, unread_zoned_kind, stats_kind, foreign_kind, refused_kind, Lay, Lays, layout, no_layouts, child, lays_of, gathered, renamed, each_renamed}
 use Rattle.vx_plan.specs.PlanData.{Setting}
 use Rattle.vx_plan.specs.Way.{FlatOptions}
 use Rattle.vx_arrays.specs.Flats.{IsFlat, OfFlat, AllFlat, FlatsHold}
@@ -42,8 +42,10 @@ flat_renamed s options Good look f struct_kind t n names h = tt
 flat_renamed s options Good look f list_kind t n names h = tt
 flat_renamed s options Good look f (dict_kind all) t n names h = tt
 flat_renamed s options Good look f (zoned_kind zone_len specs) t n names h = tt
+flat_renamed s options Good look f (unread_zoned_kind metadata) t n names h = tt
 flat_renamed s options Good look f (stats_kind zone_len stats) t n names h = tt
 flat_renamed s options Good look f (foreign_kind id metadata) t n names h = tt
+flat_renamed s options Good look f (refused_kind is_flat refusal) t n names h = tt
 
 mutual
   pub flats_renamed : {A B : Type 0} (s : Setting) (options : List FlatOptions) (Good : Type 0) (look : B → Option (List ℕ)) (f : A → B) (l : Lay A) → FlatsHold s options Good (λ a. look (f a)) l → FlatsHold s options Good look (renamed f l)

@@ -1,7 +1,7 @@
 -- The text of a layout's tree. Built for flat and chunked layouts so far; other kinds have none.
 use Rattle.std.specs.Prelude.{ℕ, suc, Bool, true, false, nat_lt, if◌then◌else◌, List, [], ◌∷◌, ◌++◌, codes, decimal}
 use Rattle.vx_model.specs.Ty.{Ty}
-use Rattle.vx_tree.specs.LayoutTree.{Kind, flat_kind, chunked_kind, struct_kind, list_kind, dict_kind, zoned_kind, stats_kind, foreign_kind, Lay, Lays, layout, no_layouts, child}
+use Rattle.vx_tree.specs.LayoutTree.{Kind, flat_kind, chunked_kind, struct_kind, list_kind, dict_kind, zoned_kind, unread_zoned_kind, stats_kind, foreign_kind, refused_kind, Lay, Lays, layout, no_layouts, child}
 use Rattle.vx_model.specs.Shown.{type_text}
 
 abbrev pub count_lays : {A : Type 0} → Lays A → ℕ
@@ -29,8 +29,10 @@ node_text verbose struct_kind t rows segments children = []
 node_text verbose list_kind t rows segments children = []
 node_text verbose (dict_kind all) t rows segments children = []
 node_text verbose (zoned_kind zone_len specs) t rows segments children = []
+node_text verbose (unread_zoned_kind metadata) t rows segments children = []
 node_text verbose (stats_kind zone_len stats) t rows segments children = []
 node_text verbose (foreign_kind id metadata) t rows segments children = []
+node_text verbose (refused_kind is_flat refusal) t rows segments children = []
 
 -- a branch to a child that others follow, and to the last one
 abbrev pub branch : List ℕ

@@ -10,7 +10,7 @@ use Rattle.vx_model.specs.Piece.{Piece, piece_type, row_values}
 use Rattle.vx_path.specs.Lists.{In}
 use Rattle.vx_path.specs.Path.{meets, Scattered, Region, under, raised}
 use Rattle.vx_path.proofs.Path.{under_apart}
-use Rattle.vx_tree.specs.LayoutTree.{Kind, flat_kind, chunked_kind, struct_kind, list_kind, dict_kind, zoned_kind, stats_kind, foreign_kind, Lay, Lays, layout, no_layouts, child, renamed, each_renamed, row_count, layout_type}
+use Rattle.vx_tree.specs.LayoutTree.{Kind, flat_kind, chunked_kind, struct_kind, list_kind, dict_kind, zoned_kind, unread_zoned_kind, stats_kind, foreign_kind, refused_kind, Lay, Lays, layout, no_layouts, child, renamed, each_renamed, row_count, layout_type}
 use Rattle.vx_plan.specs.ZonesHold.{OfZoned, IsZoned, AllZoned, ZonesHold}
 use Rattle.vx_plan.specs.Admitted.{is_admitted}
 use Rattle.vx_tree.specs.Rows.{rows, and_then, counted, kind_rows, each_rows}
@@ -194,8 +194,10 @@ zoned_renamed s look f chunked_kind t n ls h = tt
 zoned_renamed s look f struct_kind t n ls h = tt
 zoned_renamed s look f list_kind t n ls h = tt
 zoned_renamed s look f (dict_kind all) t n ls h = tt
+zoned_renamed s look f (unread_zoned_kind metadata) t n ls h = tt
 zoned_renamed s look f (stats_kind zone_len stats) t n ls h = tt
 zoned_renamed s look f (foreign_kind id metadata) t n ls h = tt
+zoned_renamed s look f (refused_kind is_flat refusal) t n ls h = tt
 
 mutual
   zones_renamed : {A B : Type 0} (s : Setting) (look : B → Option (List ℕ)) (f : A → B) (l : Lay A) → ZonesHold s (λ a. look (f a)) l → ZonesHold s look (renamed f l)

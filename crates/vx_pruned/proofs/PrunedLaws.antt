@@ -4,7 +4,7 @@ use Rattle.vx_model.specs.Ty.{Ty}
 use Rattle.vx_model.specs.Val.{Val, struct_value, vals_of}
 use Rattle.vx_model.specs.Piece.{row_values}
 use Rattle.vx_path.specs.Lists.{In}
-use Rattle.vx_tree.specs.LayoutTree.{Kind, flat_kind, chunked_kind, struct_kind, list_kind, dict_kind, zoned_kind, stats_kind, foreign_kind, Lay, Lays, layout, no_layouts, child, Spec}
+use Rattle.vx_tree.specs.LayoutTree.{Kind, flat_kind, chunked_kind, struct_kind, list_kind, dict_kind, zoned_kind, unread_zoned_kind, stats_kind, foreign_kind, refused_kind, Lay, Lays, layout, no_layouts, child, Spec}
 use Rattle.vx_tree.specs.Rows.{rows, and_then}
 use Rattle.vx_record.specs.Aggregate.{Aggregate}
 use Rattle.vx_record.specs.ZoneTable.{Filled, table_piece}
@@ -109,8 +109,10 @@ of_prunable s small look chunked_kind t n ls h = tt
 of_prunable s small look struct_kind t n ls h = tt
 of_prunable s small look list_kind t n ls h = tt
 of_prunable s small look (dict_kind all) t n ls h = tt
+of_prunable s small look (unread_zoned_kind metadata) t n ls h = tt
 of_prunable s small look (stats_kind zone_len stats) t n ls h = tt
 of_prunable s small look (foreign_kind id metadata) t n ls h = tt
+of_prunable s small look (refused_kind is_flat refusal) t n ls h = tt
 
 mutual
   each_prunable : {A : Type 0} (s : Setting) → SmallHash s.hash → (look : A → Option (List ℕ)) (l : Lay A) → EachZoned (IsZoned s look) l → EachZoned (IsPrunable s look) l

@@ -6,7 +6,7 @@ use Rattle.vx_model.specs.declared.encoding.EncodingId.{EncodingId}
 use Rattle.vx_model.specs.Ty.{Ty}
 use Rattle.vx_model.specs.Tree.{Tree}
 use Rattle.vx_model.specs.Val.{Val}
-use Rattle.vx_tree.specs.LayoutTree.{Kind, flat_kind, chunked_kind, struct_kind, list_kind, dict_kind, zoned_kind, stats_kind, foreign_kind, Lay, Lays, layout, no_layouts, child}
+use Rattle.vx_tree.specs.LayoutTree.{Kind, flat_kind, chunked_kind, struct_kind, list_kind, dict_kind, zoned_kind, unread_zoned_kind, stats_kind, foreign_kind, refused_kind, Lay, Lays, layout, no_layouts, child}
 use Rattle.vx_tree.specs.Codec.{Codec}
 use Rattle.vx_tree.specs.Rows.{and_then, all_there, chunked_rows, kind_rows, each_rows}
 
@@ -49,8 +49,10 @@ kind_fault c look struct_kind t names below = None
 kind_fault c look list_kind t names below = None
 kind_fault c look (dict_kind all) t names below = None
 kind_fault c look (zoned_kind zone_len specs) t names below = None
+kind_fault c look (unread_zoned_kind metadata) t names below = None
 kind_fault c look (stats_kind zone_len stats) t names below = None
 kind_fault c look (foreign_kind id metadata) t names below = None
+kind_fault c look (refused_kind is_flat refusal) t names below = None
 
 -- the first fault of a layout, `look` giving the bytes of a segment
 abbrev mutual

@@ -2,7 +2,7 @@
 use Rattle.std.proofs.Common.{◌≡◌, ℕ, List, [], ◌∷◌, map, Option, refl, ap, ap₂, ◌∙◌}
 use Rattle.vx_model.specs.Ty.{Ty}
 use Rattle.vx_model.specs.Val.{Val}
-use Rattle.vx_tree.specs.LayoutTree.{Kind, flat_kind, chunked_kind, struct_kind, list_kind, dict_kind, zoned_kind, stats_kind, foreign_kind, Lay, Lays, layout, no_layouts, child, lays_of, lays_in, renamed, each_renamed, gathered, row_count}
+use Rattle.vx_tree.specs.LayoutTree.{Kind, flat_kind, chunked_kind, struct_kind, list_kind, dict_kind, zoned_kind, unread_zoned_kind, stats_kind, foreign_kind, refused_kind, Lay, Lays, layout, no_layouts, child, lays_of, lays_in, renamed, each_renamed, gathered, row_count}
 use Rattle.vx_tree.specs.Codec.{Codec}
 use Rattle.vx_tree.specs.Rows.{and_then, counted, kind_rows, rows, each_rows, flat_rows}
 
@@ -16,8 +16,10 @@ flat_rows-map c look f struct_kind t n names parts = refl
 flat_rows-map c look f list_kind t n names parts = refl
 flat_rows-map c look f (dict_kind all) t n names parts = refl
 flat_rows-map c look f (zoned_kind zone_len specs) t n names parts = refl
+flat_rows-map c look f (unread_zoned_kind metadata) t n names parts = refl
 flat_rows-map c look f (stats_kind zone_len stats) t n names parts = refl
 flat_rows-map c look f (foreign_kind id metadata) t n names parts = refl
+flat_rows-map c look f (refused_kind is_flat refusal) t n names parts = refl
 
 mutual
   -- the rows of a renamed layout are those with the names looked up as they were

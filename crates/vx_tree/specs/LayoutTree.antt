@@ -4,6 +4,7 @@ use Rattle.std.specs.Prelude.{ℕ, Bool, true, false, List, [], ◌∷◌, ◌++
 use Rattle.vx_model.specs.declared.encoding.EncodingId.{EncodingId}
 use Rattle.vx_model.specs.Ty.{Ty}
 use Rattle.vx_model.specs.Words.{total_by}
+use Rattle.vx_tree.specs.Refusal.{Refusal}
 
 -- an aggregate of a zone table as a layout's metadata names it
 pub record Spec : Type 0 where
@@ -22,10 +23,14 @@ pub data Kind : Type 0 where
   dict_kind : Bool → Kind
   -- data, zones; the zone length and the aggregates of the table's columns
   zoned_kind : ℕ → List Spec → Kind
+  -- data, zones of an unknown form: metadata that names an aggregate that isn't known, as it was found
+  unread_zoned_kind : List ℕ → Kind
   -- data, zones; the zone length and the numbers of the statistics
   stats_kind : ℕ → List ℕ → Kind
   -- any id, with the metadata as it was found
   foreign_kind : List ℕ → List ℕ → Kind
+  -- a node that was read from bytes and can't be built: whether it would be flat, and the refusal
+  refused_kind : Bool → Refusal → Kind
 
 mutual
   -- kind, type, rows, segments, children in slot order
@@ -103,5 +108,7 @@ kind_id struct_kind = codes "vortex.struct"
 kind_id list_kind = codes "vortex.list"
 kind_id (dict_kind all) = codes "vortex.dict"
 kind_id (zoned_kind zone_len specs) = codes "vortex.zoned"
+kind_id (unread_zoned_kind metadata) = codes "vortex.zoned"
 kind_id (stats_kind zone_len stats) = codes "vortex.stats"
 kind_id (foreign_kind id metadata) = id
+kind_id (refused_kind is_flat refusal) = []

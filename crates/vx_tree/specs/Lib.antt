@@ -1,3 +1,4 @@
+pub mod Refusal
 pub mod LayoutTree
 pub mod Real
 pub mod Codec

@@ -1,5 +1,5 @@
 -- The rows that a layout gives: from its segments, by its kind. There are none where a segment is missing or isn't
--- spelled by the grammar, where counts, codes or offsets don't agree, and below a foreign node.
+-- spelled by the grammar, where counts, codes or offsets don't agree, and at a foreign node or one that can't be built.
 use Rattle.std.specs.Prelude.{ℕ, zero, suc, ◌-◌, ◌==◌, ◌&&◌, nat_le, Bool, true, false, if◌then◌else◌, List, [], ◌∷◌, ◌++◌, length, map, take, drop, Option, Some, None, pos}
 use Rattle.vx_model.specs.declared.encoding.EncodingId.{EncodingId}
 use Rattle.vx_model.specs.Words.{all_by, head_or, tail}
@@ -7,7 +7,7 @@ use Rattle.vx_model.specs.Ty.{Ty, nullable}
 use Rattle.vx_model.specs.Tree.{Tree}
 use Rattle.vx_model.specs.Piece.{are_offsets}
 use Rattle.vx_model.specs.Val.{Val, null_value, bool_value, int_value, list_value, struct_value, vals_of, value}
-use Rattle.vx_tree.specs.LayoutTree.{Kind, flat_kind, chunked_kind, struct_kind, list_kind, dict_kind, zoned_kind, stats_kind, foreign_kind, Lay, Lays, layout, no_layouts, child}
+use Rattle.vx_tree.specs.LayoutTree.{Kind, flat_kind, chunked_kind, struct_kind, list_kind, dict_kind, zoned_kind, unread_zoned_kind, stats_kind, foreign_kind, refused_kind, Lay, Lays, layout, no_layouts, child}
 use Rattle.vx_tree.specs.Codec.{Codec}
 
 abbrev pub and_then : {A B : Type 0} → (A → Option B) → Option A → Option B
@@ -133,8 +133,10 @@ kind_rows c look struct_kind t n names parts = and_then (struct_rows (nullable t
 kind_rows c look list_kind t n names parts = and_then (list_rows (nullable t) n) (all_there parts)
 kind_rows c look (dict_kind all) t n names parts = and_then dict_rows (all_there parts)
 kind_rows c look (zoned_kind zone_len specs) t n names parts = data_rows parts
+kind_rows c look (unread_zoned_kind metadata) t n names parts = data_rows parts
 kind_rows c look (stats_kind zone_len stats) t n names parts = data_rows parts
 kind_rows c look (foreign_kind id metadata) t n names parts = None
+kind_rows c look (refused_kind is_flat refusal) t n names parts = None
 
 -- the rows of a layout, `look` giving the bytes of a segment
 abbrev mutual
