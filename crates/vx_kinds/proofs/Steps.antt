@@ -1,5 +1,5 @@
 -- Steps of the loops over layouts.
-use Rattle.std.proofs.Common.{◌≡◌, ℕ, zero, suc, ◌+◌, ◌<◌, ◌≤◌, List, [], ◌∷◌, length, get_or, take, drop, map, Some, None, refl, ap, arith}
+use Rattle.std.proofs.Common.{◌≡◌, ℕ, zero, suc, ◌+◌, ◌<◌, ◌≤◌, List, [], ◌∷◌, length, get_or, take, drop, map, Some, None, Ok, refl, ap, arith}
 use Rattle.std.proofs.lemmas.List.{drop_more, drop_all, map_push, length-map}
 use Rattle.vx_model.specs.Words.{total_by}
 use Rattle.vx_model.specs.declared.dtype.StructField.{StructField}
@@ -10,7 +10,7 @@ use Rattle.vx_tree.specs.LayoutTree.{Lay, row_count}
 use Rattle.vx_tree.proofs.LayoutLaws.{lays_in-lays_of}
 use Rattle.vx_kinds.specs.declared.layout.Layout.{Layout}
 use Rattle.vx_kinds.specs.LayoutView.{lay}
-use Rattle.vx_kinds.specs.Children.{rows_at, field_type}
+use Rattle.vx_kinds.specs.Children.{rows_at, field_type, answered, child_in}
 use Rattle.vx_kinds.specs.declared.child_type.LayoutChildType.TheVariants.{Field}
 
 pub drop_rows : (ls : List Layout) (i : ℕ) (l : Layout) → i < length ls → l ≡ get_or ls i l
@@ -81,3 +81,12 @@ pub ruleset name_rules = (field_found, field_past, length-map)
 pub ruleset slot_rules = (lays_in-lays_of, length-map)
 
 pub ruleset pair_rules = (map_push)
+
+-- ---- a child
+
+pub kept_child : (ls : List Layout) (i : ℕ) (l : Layout) → i < length ls → l ≡ get_or ls i l → answered (lay l) ≡ Ok (lay l) → child_in (map lay ls) i ≡ Ok (lay l)
+kept_child [] i l lt is b = absurd (omega (arith, lt))
+kept_child (x ∷ ls) zero l lt is b = rw (← is) b
+kept_child (x ∷ ls) (suc i) l lt is b = kept_child ls i l (omega (arith, lt)) is b
+
+pub ruleset child_rules = (kept_child, length-map)

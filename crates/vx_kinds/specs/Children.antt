@@ -1,8 +1,9 @@
 -- The slots of a layout, and what a child in a slot is to it.
-use Rattle.std.specs.Prelude.{ℕ, zero, suc, ◌+◌, ◌-◌, ◌==◌, Bool, if◌then◌else◌, nat_lt, List, [], ◌∷◌, ◌++◌, codes, decimal, length, take, Option, Some, None}
+use Rattle.std.specs.Prelude.{ℕ, zero, suc, ◌+◌, ◌-◌, ◌==◌, Bool, if◌then◌else◌, nat_lt, List, [], ◌∷◌, ◌++◌, codes, decimal, length, take, Option, Some, None, Result, Ok, Err}
 use Rattle.vx_model.specs.Words.{total_by}
 use Rattle.vx_model.specs.Ty.{Ty, Named, struct, fields_in, nullable}
-use Rattle.vx_tree.specs.LayoutTree.{Kind, flat_kind, chunked_kind, struct_kind, list_kind, dict_kind, zoned_kind, stats_kind, foreign_kind, Lay, layout, lays_in, row_count}
+use Rattle.vx_tree.specs.Refusal.{Refusal, slot_range}
+use Rattle.vx_tree.specs.LayoutTree.{Kind, flat_kind, chunked_kind, struct_kind, list_kind, dict_kind, zoned_kind, unread_zoned_kind, stats_kind, foreign_kind, refused_kind, Lay, layout, lays_in, row_count}
 use Rattle.vx_kinds.specs.declared.child_type.LayoutChildType.{LayoutChildType}
 use Rattle.vx_kinds.specs.declared.child_type.LayoutChildType.TheVariants.{Transparent, Auxiliary, Chunk, Field}
 use Rattle.vx_kinds.specs.declared.kind.LayoutKind.{LayoutKind}
@@ -27,6 +28,7 @@ child_offset (Field name) = Some 0
 
 -- ---- kinds by name
 
+-- a node that can't be built is no layout in memory, and has none of these
 abbrev pub kind_name : Kind → LayoutKind
 kind_name (flat_kind encodings tree) = kinds.Flat
 kind_name chunked_kind = kinds.Chunked
@@ -34,8 +36,10 @@ kind_name struct_kind = kinds.Struct
 kind_name list_kind = kinds.List
 kind_name (dict_kind all) = kinds.Dict
 kind_name (zoned_kind zone_len specs) = kinds.Zoned
+kind_name (unread_zoned_kind metadata) = kinds.Zoned
 kind_name (stats_kind zone_len stats) = kinds.LegacyStats
 kind_name (foreign_kind id metadata) = kinds.Foreign
+kind_name (refused_kind is_flat refusal) = kinds.Foreign
 
 -- ---- slots
 
@@ -51,8 +55,10 @@ kind_slots struct_kind t count = length (fields_of t) + 1
 kind_slots list_kind t count = 3
 kind_slots (dict_kind all) t count = 2
 kind_slots (zoned_kind zone_len specs) t count = 2
+kind_slots (unread_zoned_kind metadata) t count = 2
 kind_slots (stats_kind zone_len stats) t count = 2
 kind_slots (foreign_kind id metadata) t count = count
+kind_slots (refused_kind is_flat refusal) t count = 0
 
 abbrev pub slots : Lay ℕ → ℕ
 slots (layout k t n names ls) = kind_slots k t (length (lays_in ls))
@@ -77,8 +83,10 @@ kind_place struct_kind t count slot = struct_place (nullable t) (length (fields_
 kind_place list_kind t count slot = list_place (nullable t) slot
 kind_place (dict_kind all) t count slot = below 2 slot
 kind_place (zoned_kind zone_len specs) t count slot = below 2 slot
+kind_place (unread_zoned_kind metadata) t count slot = below 2 slot
 kind_place (stats_kind zone_len stats) t count slot = below 2 slot
 kind_place (foreign_kind id metadata) t count slot = below count slot
+kind_place (refused_kind is_flat refusal) t count slot = None
 
 abbrev pub slot_place : Lay ℕ → ℕ → Option ℕ
 slot_place (layout k t n names ls) slot = kind_place k t (length (lays_in ls)) slot
@@ -123,8 +131,10 @@ kind_type struct_kind t ls slot = struct_type (fields_of t) slot
 kind_type list_kind t ls slot = list_type slot
 kind_type (dict_kind all) t ls slot = dict_type slot
 kind_type (zoned_kind zone_len specs) t ls slot = zoned_type slot
+kind_type (unread_zoned_kind metadata) t ls slot = zoned_type slot
 kind_type (stats_kind zone_len stats) t ls slot = zoned_type slot
 kind_type (foreign_kind id metadata) t ls slot = foreign_type (length ls) slot
+kind_type (refused_kind is_flat refusal) t ls slot = None
 
 abbrev pub slot_type : Lay ℕ → ℕ → Option LayoutChildType
 slot_type (layout k t n names ls) slot = kind_type k t (lays_in ls) slot
@@ -135,3 +145,24 @@ abbrev pub rows_at : List (Lay ℕ) → ℕ → ℕ
 rows_at [] i = 0
 rows_at (l ∷ ls) zero = row_count l
 rows_at (l ∷ ls) (suc i) = rows_at ls i
+
+-- ---- a child
+
+-- what asking for a child answers: the layout, or why it can't be built
+abbrev pub answered : Lay ℕ → Result (Lay ℕ) Refusal
+answered (layout (flat_kind encodings tree) t n names ls) = Ok (layout (flat_kind encodings tree) t n names ls)
+answered (layout chunked_kind t n names ls) = Ok (layout chunked_kind t n names ls)
+answered (layout struct_kind t n names ls) = Ok (layout struct_kind t n names ls)
+answered (layout list_kind t n names ls) = Ok (layout list_kind t n names ls)
+answered (layout (dict_kind all) t n names ls) = Ok (layout (dict_kind all) t n names ls)
+answered (layout (zoned_kind zone_len specs) t n names ls) = Ok (layout (zoned_kind zone_len specs) t n names ls)
+answered (layout (unread_zoned_kind metadata) t n names ls) = Ok (layout (unread_zoned_kind metadata) t n names ls)
+answered (layout (stats_kind zone_len stats) t n names ls) = Ok (layout (stats_kind zone_len stats) t n names ls)
+answered (layout (foreign_kind id metadata) t n names ls) = Ok (layout (foreign_kind id metadata) t n names ls)
+answered (layout (refused_kind is_flat refusal) t n names ls) = Err refusal
+
+-- the child at the place; where there is none, a refusal that names the place
+abbrev pub child_in : List (Lay ℕ) → ℕ → Result (Lay ℕ) Refusal
+child_in [] i = Err (slot_range i 0)
+child_in (l ∷ ls) zero = answered l
+child_in (l ∷ ls) (suc i) = child_in ls i

@@ -8,7 +8,8 @@ use Rattle.vx_model.specs.declared.encoding.EncodingId.TheVariants as encodings
 use Rattle.vx_model.specs.declared.ptype.PType.{PType}
 use Rattle.vx_model.specs.declared.ptype.PType.TheVariants.{U8, U16, U32, U64, I8, I16, I32, I64}
 use Rattle.vx_model.specs.Ty.{Ty, Tys, boolean, primitive, utf8, binary, list, struct, extension, no_fields, field}
-use Rattle.vx_tree.specs.LayoutTree.{Spec, Kind, flat_kind, chunked_kind, struct_kind, list_kind, dict_kind, zoned_kind, stats_kind, foreign_kind, Lay, Lays, layout, no_layouts, child}
+use Rattle.vx_tree.specs.Refusal.{Refusal, bad_grammar, too_deep, too_many_nodes, unknown_index, unregistered, not_permitted, child_count, child_type, other_rows, segment_count, bad_metadata, unknown_aggregate, slot_range, field_not_found, no_list, no_struct}
+use Rattle.vx_tree.specs.LayoutTree.{Spec, Kind, flat_kind, chunked_kind, struct_kind, list_kind, dict_kind, zoned_kind, unread_zoned_kind, stats_kind, foreign_kind, refused_kind, Lay, Lays, layout, no_layouts, child}
 
 -- ---- parts
 
@@ -115,6 +116,71 @@ mutual
   tys_back no_fields = refl
   tys_back (field name t fs) = cc (numbers_back name, ty_back t, tys_back fs)
 
+-- ---- refusals: those of a number, of bytes, of two numbers, of two types, and of nothing
+
+abbrev pub refusal : Refusal → Gv
+refusal (bad_grammar n) = gcons (gnum 0) (gcons (gnum 0) (gnum n))
+refusal (too_deep n) = gcons (gnum 0) (gcons (gnum 1) (gnum n))
+refusal (too_many_nodes n) = gcons (gnum 0) (gcons (gnum 2) (gnum n))
+refusal (unknown_index n) = gcons (gnum 0) (gcons (gnum 3) (gnum n))
+refusal (segment_count n) = gcons (gnum 0) (gcons (gnum 4) (gnum n))
+refusal (unregistered s) = gcons (gnum 1) (gcons (gnum 0) (numbers s))
+refusal (not_permitted s) = gcons (gnum 1) (gcons (gnum 1) (numbers s))
+refusal (bad_metadata s) = gcons (gnum 1) (gcons (gnum 2) (numbers s))
+refusal (unknown_aggregate s) = gcons (gnum 1) (gcons (gnum 3) (numbers s))
+refusal (field_not_found s) = gcons (gnum 1) (gcons (gnum 4) (numbers s))
+refusal (child_count a b) = gcons (gnum 2) (gcons (gnum 0) (gcons (gnum a) (gnum b)))
+refusal (other_rows a b) = gcons (gnum 2) (gcons (gnum 1) (gcons (gnum a) (gnum b)))
+refusal (slot_range a b) = gcons (gnum 2) (gcons (gnum 2) (gcons (gnum a) (gnum b)))
+refusal (child_type t u) = gcons (gnum 3) (gcons (ty_code t) (ty_code u))
+refusal no_list = gcons (gnum 4) gnil
+refusal no_struct = gcons (gnum 5) gnil
+
+abbrev pub of_number : Gv → ℕ → Refusal
+of_number (gnum zero) n = bad_grammar n
+of_number (gnum (suc zero)) n = too_deep n
+of_number (gnum (suc (suc zero))) n = too_many_nodes n
+of_number (gnum (suc (suc (suc zero)))) n = unknown_index n
+of_number g n = segment_count n
+
+abbrev pub of_bytes : Gv → List ℕ → Refusal
+of_bytes (gnum zero) s = unregistered s
+of_bytes (gnum (suc zero)) s = not_permitted s
+of_bytes (gnum (suc (suc zero))) s = bad_metadata s
+of_bytes (gnum (suc (suc (suc zero)))) s = unknown_aggregate s
+of_bytes g s = field_not_found s
+
+abbrev pub of_pair : Gv → ℕ → ℕ → Refusal
+of_pair (gnum zero) a b = child_count a b
+of_pair (gnum (suc zero)) a b = other_rows a b
+of_pair g a b = slot_range a b
+
+abbrev pub refusal_of : Gv → Refusal
+refusal_of (gcons (gnum zero) (gcons k n)) = of_number k (number_of n)
+refusal_of (gcons (gnum (suc zero)) (gcons k s)) = of_bytes k (numbers_of s)
+refusal_of (gcons (gnum (suc (suc zero))) (gcons k (gcons a b))) = of_pair k (number_of a) (number_of b)
+refusal_of (gcons (gnum (suc (suc (suc zero)))) (gcons t u)) = child_type (ty_of t) (ty_of u)
+refusal_of (gcons (gnum (suc (suc (suc (suc zero))))) g) = no_list
+refusal_of g = no_struct
+
+pub refusal_back : (r : Refusal) → refusal_of (refusal r) ≡ r
+refusal_back (bad_grammar n) = refl
+refusal_back (too_deep n) = refl
+refusal_back (too_many_nodes n) = refl
+refusal_back (unknown_index n) = refl
+refusal_back (segment_count n) = refl
+refusal_back (unregistered s) = cc (numbers_back s)
+refusal_back (not_permitted s) = cc (numbers_back s)
+refusal_back (bad_metadata s) = cc (numbers_back s)
+refusal_back (unknown_aggregate s) = cc (numbers_back s)
+refusal_back (field_not_found s) = cc (numbers_back s)
+refusal_back (child_count a b) = refl
+refusal_back (other_rows a b) = refl
+refusal_back (slot_range a b) = refl
+refusal_back (child_type t u) = cc (ty_back t, ty_back u)
+refusal_back no_list = refl
+refusal_back no_struct = refl
+
 -- ---- kinds
 
 abbrev pub encoding : EncodingId → ℕ
@@ -192,6 +258,8 @@ kind_code (dict_kind all) = gcons (gnum 4) (flag all)
 kind_code (zoned_kind n ss) = gcons (gnum 5) (gcons (gnum n) (specs ss))
 kind_code (stats_kind n ss) = gcons (gnum 6) (gcons (gnum n) (numbers ss))
 kind_code (foreign_kind id metadata) = gcons (gnum 7) (gcons (numbers id) (numbers metadata))
+kind_code (unread_zoned_kind metadata) = gcons (gnum 8) (numbers metadata)
+kind_code (refused_kind is_flat r) = gcons (gnum 9) (gcons (flag is_flat) (refusal r))
 
 abbrev pub kind_of : Gv → Kind
 kind_of (gcons (gnum zero) (gcons es tree)) = flat_kind (ids_of es) (maybe_of tree)
@@ -201,7 +269,9 @@ kind_of (gcons (gnum (suc (suc (suc zero)))) g) = list_kind
 kind_of (gcons (gnum (suc (suc (suc (suc zero))))) all) = dict_kind (flag_of all)
 kind_of (gcons (gnum (suc (suc (suc (suc (suc zero)))))) (gcons n ss)) = zoned_kind (number_of n) (specs_of ss)
 kind_of (gcons (gnum (suc (suc (suc (suc (suc (suc zero))))))) (gcons n ss)) = stats_kind (number_of n) (numbers_of ss)
-kind_of (gcons (gnum (suc (suc (suc (suc (suc (suc (suc k)))))))) (gcons id metadata)) = foreign_kind (numbers_of id) (numbers_of metadata)
+kind_of (gcons (gnum (suc (suc (suc (suc (suc (suc (suc zero)))))))) (gcons id metadata)) = foreign_kind (numbers_of id) (numbers_of metadata)
+kind_of (gcons (gnum (suc (suc (suc (suc (suc (suc (suc (suc zero))))))))) metadata) = unread_zoned_kind (numbers_of metadata)
+kind_of (gcons (gnum (suc (suc (suc (suc (suc (suc (suc (suc (suc k)))))))))) (gcons is_flat r)) = refused_kind (flag_of is_flat) (refusal_of r)
 kind_of g = chunked_kind
 
 pub kind_back : (k : Kind) → kind_of (kind_code k) ≡ k
@@ -213,6 +283,8 @@ kind_back (dict_kind all) = cc (flag_back all)
 kind_back (zoned_kind n ss) = cc (specs_back ss)
 kind_back (stats_kind n ss) = cc (numbers_back ss)
 kind_back (foreign_kind id metadata) = cc (numbers_back id, numbers_back metadata)
+kind_back (unread_zoned_kind metadata) = cc (numbers_back metadata)
+kind_back (refused_kind is_flat r) = cc (flag_back is_flat, refusal_back r)
 
 -- ---- layouts
 

@@ -4,6 +4,7 @@ pub mod LayDepth
 pub mod LayoutView
 pub mod DepthFalls
 pub mod Children
+pub mod ChildView
 pub mod Made
 pub mod SpecView
 pub mod Views

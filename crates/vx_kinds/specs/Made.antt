@@ -3,22 +3,13 @@ use Rattle.std.specs.Prelude.{ℕ, ◌+◌, ◌-◌, ◌==◌, not, Bool, true, 
 use Rattle.vx_model.specs.declared.ptype.PType.TheVariants.{U64}
 use Rattle.vx_model.specs.Words.{total_by}
 use Rattle.vx_model.specs.Ty.{Ty, primitive, nullable, is_list, is_struct, ty_eq}
+use Rattle.vx_tree.specs.Refusal.{Refusal, child_count, child_type, other_rows, no_list, no_struct}
 use Rattle.vx_tree.specs.LayoutTree.{Lay, layout, no_layouts, child, stats_kind, row_count, layout_type, chunked_layout, struct_layout, list_layout, dict_layout, zoned_layout}
 use Rattle.vx_record.specs.Aggregate.{Aggregate, spec}
 use Rattle.vx_aggregate.specs.declared.stat.Stat.{Stat}
 use Rattle.vx_aggregate.specs.Stats.{stat_number}
 use Rattle.vx_aggregate.specs.Tables.{stats_table, legacy_table}
 use Rattle.vx_kinds.specs.Children.{fields_of}
-
-pub data Refusal : Type 0 where
-  -- how many children there are, and how many there must be
-  child_count : ℕ → ℕ → Refusal
-  -- the type that a child has, and the one that it must have
-  child_type : Ty → Ty → Refusal
-  -- the children's rows, and those that they must have
-  other_rows : ℕ → ℕ → Refusal
-  no_list : Refusal
-  no_struct : Refusal
 
 abbrev pub Made : Type 0
 Made = Result (Lay ℕ) Refusal

@@ -1,17 +1,49 @@
 use std::alloc::{AllocError, AllocFailed};
 use thiserror::Error;
-use vx_model::DType;
+use vx_model::{Blob, DType, FieldName, Text};
 
-/// Why parts make no layout.
+/// Why there is no layout: of parts, of bytes, or in a context. Places count bytes from 0.
 #[derive(Debug, Drop, Error)]
 pub enum LayoutError {
+    /// The bytes are no node from here on.
+    #[error("no layout at byte {0}")]
+    Grammar(u64),
+    /// The node that starts here is deeper than the limit.
+    #[error("too deep at byte {0}")]
+    TooDeep(u64),
+    /// The node that starts here is one more than the limit.
+    #[error("too many nodes at byte {0}")]
+    TooManyNodes(u64),
+    /// No id stands at this place of the context.
+    #[error("no id has the index {0}")]
+    UnknownIndex(u16),
+    /// The session doesn't know the kind of this id.
+    #[error("a kind is not registered")]
+    Unregistered(Text),
+    /// The context doesn't list this id.
+    #[error("a kind is not permitted")]
+    NotPermitted(Text),
     #[error("there are {has} children and not {needs}")]
     ChildCount { has: u64, needs: u64 },
     #[error("a child has another type than it must have")]
     ChildType { has: DType, needs: DType },
-    /// The children's rows don't sum to the layout's.
-    #[error("the children have {has} rows and not {needs}")]
+    /// The rows that there are aren't those that there must be.
+    #[error("there are {has} rows and not {needs}")]
     RowCount { has: u128, needs: u128 },
+    /// A flat layout has one segment.
+    #[error("there are {0} segments and not one")]
+    SegmentCount(u64),
+    /// Bytes that no metadata of the kind has.
+    #[error("the metadata is wrong")]
+    Metadata(Blob),
+    /// The id of an aggregate that isn't known, or whose options none has.
+    #[error("an aggregate is not known")]
+    UnknownAggregate(Text),
+    #[error("there is no child {index} of {children}")]
+    SlotRange { index: u64, children: u64 },
+    /// The struct has no field of this name.
+    #[error("a field is not found")]
+    FieldNotFound(FieldName),
     #[error("the type is no list")]
     NotAList,
     #[error("the type is no struct")]

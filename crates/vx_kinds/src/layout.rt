@@ -1,5 +1,7 @@
+use crate::child::LayoutChild;
 use crate::chunked::ChunkedLayout;
 use crate::dict::DictLayout;
+use crate::error::LayoutError;
 use crate::flat::FlatLayout;
 use crate::foreign::ForeignLayout;
 use crate::kind::LayoutKind;
@@ -24,10 +26,12 @@ pub enum Layout {
 }
 
 impl Layout {
-    ghost use Rattle.std.specs.Prelude.{◌≡◌, ◌≢◌, ◌↔◌, ◌<◌, map, length, IsTrue, MatchOption};
+    ghost use Rattle.std.specs.Prelude.{◌≡◌, ◌≢◌, ◌↔◌, ◌<◌, map, length, Ok, IsTrue, MatchOption};
     ghost use Rattle.vx_model.specs.TyView.{ty};
     ghost use Rattle.vx_tree.specs.LayoutTree.{layout_kind, layout_type, row_count as rows, segments_of, children_of, kind_id};
-    ghost use Rattle.vx_kinds.specs.Children.{kind_name, rows_at};
+    ghost use Rattle.vx_kinds.specs.Children.{kind_name, rows_at, answered, child_in};
+    ghost use Rattle.vx_kinds.specs.ChildView.{child_lay};
+    ghost use Rattle.vx_kinds.specs.Views.{Gives};
     ghost use Rattle.vx_kinds.specs.declared.kind.LayoutKind.TheVariants.{Flat};
     ghost use Rattle.vx_kinds.specs.LayoutView.{lay, number};
 
@@ -146,6 +150,34 @@ impl Layout {
         ensures { result ≡ rows_at (children_of (lay self.now)) i }
     {
         self.owned()[i as usize].row_count()
+    }
+
+    /// The child at the place, which is below `nchildren`, or why it can't be built.
+    #[tactic(auto, using(crate::proofs::Steps::child_rules), unfolding(crate::specs::ChildView::child_lay))]
+    pub fn child(&self, i: u64) -> Result<LayoutChild<'_>, LayoutError>
+        requires { i < length (children_of (lay self.now)) }
+        ensures { Gives child_lay result (child_in (children_of (lay self.now)) i) }
+    {
+        let child = &self.owned()[i as usize];
+        child.built();
+        Ok(LayoutChild::Kept(child))
+    }
+
+    /// A layout in memory is no node that can't be built.
+    #[tactic(auto, unfolding(crate::specs::LayoutView::lay))]
+    pub(crate) fn built(&self)
+        ensures { answered (lay self.now) ≡ Ok (lay self.now) }
+    {
+        match self {
+            Layout::Flat(_) => (),
+            Layout::Chunked(ChunkedLayout { row_count, .. }) => (),
+            Layout::Struct(StructLayout { row_count, .. }) => (),
+            Layout::List(ListLayout { row_count, .. }) => (),
+            Layout::Dict(DictLayout { row_count, .. }) => (),
+            Layout::Zoned(ZonedLayout { row_count, .. }) => (),
+            Layout::LegacyStats(LegacyStatsLayout { row_count, .. }) => (),
+            Layout::Foreign(ForeignLayout { row_count, .. }) => (),
+        }
     }
 
     /// Whether readers may not split its rows.

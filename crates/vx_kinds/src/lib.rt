@@ -1,6 +1,7 @@
 //! Layouts of all kinds in memory: constructors, and what a layout tells of itself.
 #![tactic(auto)]
 
+mod child;
 mod child_type;
 mod chunked;
 mod dict;
@@ -19,6 +20,7 @@ mod tests;
 mod total;
 mod zoned;
 
+pub use child::LayoutChild;
 pub use child_type::LayoutChildType;
 pub use chunked::ChunkedLayout;
 pub use dict::DictLayout;
