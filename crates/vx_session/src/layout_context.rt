@@ -1,0 +1,130 @@
+//! The ids that nodes name by their places.
+
+ghost use Rattle.std.specs.Prelude.{◌≡◌, ◌≤◌, length, IfOk};
+ghost use Rattle.vx_session.specs.Ids.{is_listed as listed, are_distinct as distinct, place_of};
+
+use std::alloc::AllocError;
+use std::marker::Model;
+use vx_model::Text;
+
+/// Ids in an order of their own, none of them twice. In bytes an id is its place here.
+#[derive(Debug, Drop)]
+pub struct LayoutContext {
+    ids: Vec<Text>,
+}
+
+impl Model for LayoutContext {
+    ghost use Rattle.std.specs.Prelude.{ℕ, List, IsTrue};
+    ghost use Rattle.vx_session.specs.Ids.{is_context};
+
+    ghost Value = { List (List ℕ) };
+
+    ghost view = { λ c. c.ids.items };
+
+    ghost invariant = { λ c. IsTrue (is_context c.ids.items) };
+}
+
+impl LayoutContext {
+    ghost use Rattle.std.specs.Prelude.{◌≡◌, IsTrue, option_map};
+    ghost use Rattle.vx_session.specs.Ids.{is_context, id_at, place_of};
+
+    /// Whether the ids are distinct and at most 65,536.
+    pub fn is_context(ids: &[Text]) -> bool
+        ensures { result ≡ is_context ids.now }
+    {
+        ids.len() <= 65_536 && are_distinct(ids)
+    }
+
+    /// `is_context` tests the condition. Takes no memory.
+    pub fn new(ids: Vec<Text>) -> LayoutContext
+        requires { IsTrue (is_context ids.items) }
+        ensures { result ≡ ids.items }
+    {
+        LayoutContext { ids }
+    }
+
+    pub fn ids(&self) -> &[Text]
+        ensures ids { result.now ≡ self.now }
+        ensures few { IsTrue (is_context self.now) }
+    {
+        self.ids.as_slice()
+    }
+
+    /// The id at the place.
+    #[tactic(auto, using(crate::proofs::Lists::id_rules))]
+    pub fn id(&self, place: u16) -> Option<&Text>
+        ensures { option_map (λ t. t.now) result ≡ id_at self.now place }
+    {
+        if (place as usize) < self.ids.len() {
+            Some(&self.ids[place as usize])
+        } else {
+            None
+        }
+    }
+
+    /// The place of an id, where it is listed.
+    pub fn place(&self, id: &str) -> Option<u16>
+        ensures { result ≡ place_of id.now self.now }
+    {
+        find_place(&self.ids, id)
+    }
+}
+
+impl Clone for LayoutContext {
+    ghost is_clone = { λ c copy. copy ≡ c };
+
+    fn clone(&self) -> Result<LayoutContext, AllocError> {
+        Ok(LayoutContext {
+            ids: copy_ids(&self.ids)?,
+        })
+    }
+}
+
+#[tactic(auto, using(crate::proofs::Lists::copy_rules))]
+pub(crate) fn copy_ids(ids: &Vec<Text>) -> Result<Vec<Text>, AllocError>
+    ensures { IfOk result (λ v. v.items ≡ ids.now.items) }
+{
+    let mut copies = Vec::with_capacity(*ids.allocator(), ids.len())?;
+    for id in ids {
+        copies.push(id.clone()?)?;
+    }
+    Ok(copies)
+}
+
+#[tactic(auto, using(crate::proofs::Lists::distinct_rules))]
+fn are_distinct(ids: &[Text]) -> bool
+    ensures { result ≡ distinct ids.now }
+{
+    for i in 0..ids.len() {
+        if is_listed(&ids[i + 1..], &ids[i]) {
+            return false;
+        }
+    }
+    true
+}
+
+#[tactic(auto, using(crate::proofs::Lists::listed_rules))]
+pub(crate) fn is_listed(ids: &[Text], id: &Text) -> bool
+    ensures { result ≡ listed id.now ids.now }
+{
+    for other in ids {
+        if other == id {
+            return true;
+        }
+    }
+    false
+}
+
+/// There are at most 65,536 ids.
+#[tactic(auto, using(crate::proofs::Lists::place_rules))]
+fn find_place(ids: &[Text], id: &str) -> Option<u16>
+    requires { length ids.now ≤ 65536 }
+    ensures { result ≡ place_of id.now ids.now }
+{
+    for i in 0..ids.len() {
+        if ids[i].as_str() == id {
+            return Some(i as u16);
+        }
+    }
+    None
+}
