@@ -123,6 +123,7 @@ fn gather(dtype: &DType, rows: u64, mut flats: Vec<Layout>) -> Result<Layout, Wr
     }
     match ChunkedLayout::new(rows, dtype.clone()?, flats) {
         Ok(chunked) => Ok(Layout::Chunked(chunked)),
-        Err(_) => unreachable!(),
+        // The rows add up, so memory alone can be wanting.
+        Err(_) => Err(WriteError::OutOfMemory),
     }
 }
