@@ -15,9 +15,9 @@ use Rattle.vx_segment.proofs.SegmentLaws.{is_lawful}
 use Rattle.vx_write.proofs.RealIntegers.{integers_whole}
 use Rattle.vx_tree.specs.Codec.{Codec}
 use Rattle.vx_encode.specs.Segment.{encode, refused}
-use Rattle.vx_tree.specs.LayoutTree.{Lay}
+use Rattle.vx_tree.specs.LayoutTree.{Lay, row_count}
 use Rattle.vx_plan.specs.InOrder.{batch_rows}
-use Rattle.vx_layout.specs.Errors.{rows_in}
+use Rattle.vx_model.specs.Words.{total_by}
 use Rattle.vx_sink.specs.Told.{before_told, then_told}
 use Rattle.vx_write.specs.InOrder.{stored_of, flats_of, AllWritten, ReadsBack, Done, BatchWritten, Halted}
 use Rattle.vx_write.specs.declared.error.WriteError.{WriteError}
@@ -98,12 +98,12 @@ goes_on {ids} {t} {first} {flats} {total} {a} {b} {s} {u} p l c v next d came ty
 
 -- ---- the layouts have the rows of the batches
 
-flats_rows : (ids : List EncodingId) (t : Ty) (first : ℕ) (bs : List Piece) → rows_in (flats_of ids t first bs) ≡ batch_rows bs
+flats_rows : (ids : List EncodingId) (t : Ty) (first : ℕ) (bs : List Piece) → total_by row_count (flats_of ids t first bs) ≡ batch_rows bs
 flats_rows ids t first [] = refl
 flats_rows ids t first (b ∷ bs) = rw (flats_rows ids t (suc first) bs) refl
 
 pub done_rows : {ids : List EncodingId} {t : Ty} {first : ℕ} {flats : List (Lay ℕ)} {total : ℕ} {a b : Option (List Piece)} {s u : Option (List (List ℕ))}
-    → Done ids t first flats total a b s u → rows_in flats ≡ total
+    → Done ids t first flats total a b s u → total_by row_count flats ≡ total
 done_rows {ids} {t} {first} d = rw (d.laid, d.rows) (flats_rows ids t first d.taken)
 
 -- ---- the last batch taken isn't written

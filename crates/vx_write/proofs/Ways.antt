@@ -1,8 +1,7 @@
 -- Layouts that are gathered.
 use Rattle.std.proofs.Common.{◌≡◌, ℕ, List, [], ◌∷◌, ◌++◌, length, map, refl}
-use Rattle.vx_layout.specs.declared.layout.Layout.{Layout}
-use Rattle.vx_layout.specs.LayoutView.{lay}
-use Rattle.vx_layout.proofs.Views.{lay_rules}
+use Rattle.vx_kinds.specs.declared.layout.Layout.{Layout}
+use Rattle.vx_kinds.specs.LayoutView.{lay}
 use Rattle.vx_model.specs.Ty.{Ty}
 use Rattle.vx_tree.specs.LayoutTree.{Lay, gathered, chunked_layout}
 
@@ -16,4 +15,4 @@ gathered_more t n [] h = refl
 gathered_more t n (l ∷ []) h = absurd (h refl)
 gathered_more t n (l ∷ k ∷ ls) h = refl
 
-pub ruleset gather_rules = (gathered_one, gathered_more, lay_rules)
+pub ruleset gather_rules = (gathered_one, gathered_more)

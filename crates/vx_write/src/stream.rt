@@ -7,9 +7,9 @@ ghost use Rattle.vx_model.specs.TyView.{ty};
 ghost use Rattle.vx_model.specs.Piece.{Piece, piece_type, cells};
 ghost use Rattle.vx_chunk.specs.ChunkView.{piece};
 ghost use Rattle.vx_encode.specs.Segment.{refused};
-ghost use Rattle.vx_tree.specs.LayoutTree.{gathered};
-ghost use Rattle.vx_layout.specs.LayoutView.{lay};
-ghost use Rattle.vx_layout.specs.Errors.{rows_in};
+ghost use Rattle.vx_tree.specs.LayoutTree.{gathered, row_count};
+ghost use Rattle.vx_kinds.specs.LayoutView.{lay};
+ghost use Rattle.vx_model.specs.Words.{total_by};
 ghost use Rattle.vx_plan.specs.InOrder.{batch_rows};
 ghost use Rattle.vx_sink.specs.Counts.{Counts, IsCalm};
 ghost use Rattle.vx_write.specs.declared.error.WriteError.TheVariants.{OutOfMemory};
@@ -19,7 +19,7 @@ ghost use Rattle.vx_write.specs.Stream.{HasCause, MayCome, NotAdmitted, NotWritt
 
 use crate::error::WriteError;
 use std::alloc::Global;
-use vx_layout::{ChunkedLayout, FlatLayout, Layout};
+use vx_kinds::{ChunkedLayout, FlatLayout, Layout};
 use vx_sink::{BatchSource, SegmentSink};
 use vx_types::{ArrayContext, Chunk, DType, encode_segment};
 
@@ -82,7 +82,7 @@ fn admit(dtype: &DType, batch: Chunk, rows: u64) -> Result<(Chunk, u64), WriteEr
 }
 
 /// Appends the batch's segment. All memory is taken before the sink is called.
-#[tactic(auto, using(vx_layout::proofs::Views::lay_rules, crate::proofs::Steps::chunk_back))]
+#[tactic(auto, using(crate::proofs::Steps::chunk_back), unfolding(vx_kinds::specs::LayoutView::lay))]
 fn write_batch<S: SegmentSink>(
     alloc: Global,
     ctx: &ArrayContext,
@@ -112,9 +112,9 @@ fn write_batch<S: SegmentSink>(
 }
 
 /// One layout is given itself, none or several are chunked.
-#[tactic(auto, using(crate::proofs::Ways::gather_rules))]
+#[tactic(auto, using(crate::proofs::Ways::gather_rules), unfolding(vx_kinds::specs::LayoutView::lay))]
 fn gather(dtype: &DType, rows: u64, mut flats: Vec<Layout>) -> Result<Layout, WriteError>
-    requires { rows_in (map lay flats.items) ≡ rows }
+    requires { total_by row_count (map lay flats.items) ≡ rows }
     ensures ok { IfOk result (λ l. lay l ≡ gathered (ty dtype.now) rows (map lay flats.items)) }
     ensures err { IfErr result (λ e. e ≡ OutOfMemory) }
 {
@@ -123,6 +123,7 @@ fn gather(dtype: &DType, rows: u64, mut flats: Vec<Layout>) -> Result<Layout, Wr
     }
     match ChunkedLayout::new(rows, dtype.clone()?, flats) {
         Ok(chunked) => Ok(Layout::Chunked(chunked)),
-        Err(_) => unreachable!(),
+        // The rows add up, so memory alone can be wanting.
+        Err(_) => Err(WriteError::OutOfMemory),
     }
 }

@@ -3,7 +3,7 @@
 ghost use Rattle.std.specs.Prelude.{◌≡◌, ℕ, ◌+◌, ◌-◌, ◌↔◌, Some, true, false, List, [], length, IsTrue, IfOk, IfErr, OnOk, OnErr, IsErr, MatchResult};
 ghost use Rattle.vx_model.specs.TyView.{ty};
 ghost use Rattle.vx_model.specs.Piece.{Piece};
-ghost use Rattle.vx_layout.specs.LayoutView.{lay};
+ghost use Rattle.vx_kinds.specs.LayoutView.{lay};
 ghost use Rattle.vx_plan.specs.PlanData.{Setting};
 ghost use Rattle.vx_tree.specs.Rows.{rows};
 ghost use Rattle.vx_segment.specs.Codec.{segment_codec};
@@ -23,7 +23,7 @@ use crate::error::WriteError;
 use crate::stream::write_column;
 use crate::trace::Step;
 use std::alloc::Global;
-use vx_layout::Layout;
+use vx_kinds::Layout;
 use vx_nodes::{FlatLayoutStrategy, Strategy};
 use vx_sink::{BatchSource, CompressorPlugin, LayoutWriterContext, SegmentSink};
 use vx_types::{DType, Nullability, PType};

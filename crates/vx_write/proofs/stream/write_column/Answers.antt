@@ -5,7 +5,7 @@ use Rattle.vx_encode.specs.Segment.{refused}
 use Rattle.vx_write.specs.InOrder.{BatchWritten}
 use Rattle.std.proofs.lemmas.Result.{err_from_is_err_and}
 use Rattle.vx_chunk.specs.ChunkView.{piece}
-use Rattle.vx_layout.specs.LayoutView.{lay}
+use Rattle.vx_kinds.specs.LayoutView.{lay}
 use Rattle.vx_write.specs.Stream.{NotWritten}
 use Rattle.vx_write.proofs.Steps.{done_rows, halted_last, admit_cause, write_cause, next_is_told, never_admits, goes_on}
 use Rattle.vx_write.proofs.stream.write_column.Goals as goal

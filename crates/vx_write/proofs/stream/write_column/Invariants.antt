@@ -1,5 +1,5 @@
 use Rattle.std.proofs.Common.{◌≡◌, ℕ, ◌+◌, length, map}
-use Rattle.vx_layout.specs.LayoutView.{lay}
+use Rattle.vx_kinds.specs.LayoutView.{lay}
 use Rattle.vx_write.specs.InOrder.{Done}
 use Rattle.vx_write.proofs.stream.write_column.Given as goal
 

@@ -1,5 +1,5 @@
 use Rattle.std.proofs.Common.{◌∙◌, sym}
-use Rattle.vx_layout.specs.LayoutView.{lay}
+use Rattle.vx_kinds.specs.LayoutView.{lay}
 use Rattle.vx_sink.specs.ContextView.{listed}
 use Rattle.vx_nodes.specs.StrategyView.{way}
 use Rattle.vx_write.proofs.Bridge.{built, layout_is, rows_are, segments_are, numbers_are, stands, can_write, stands_still}
