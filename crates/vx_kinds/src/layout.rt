@@ -165,7 +165,7 @@ impl Layout {
 
     /// A layout in memory is no node that can't be built.
     #[tactic(auto, unfolding(crate::specs::LayoutView::lay))]
-    pub(crate) fn built(&self)
+    pub fn built(&self)
         ensures { answered (lay self.now) ≡ Ok (lay self.now) }
     {
         match self {

@@ -7,6 +7,7 @@ mod chunked;
 mod dict;
 mod error;
 mod flat;
+mod flat_view;
 mod foreign;
 mod kind;
 mod layout;
