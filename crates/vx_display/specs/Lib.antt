@@ -1,0 +1,4 @@
+pub mod Building
+pub mod Lengths
+pub mod Text
+pub mod Views

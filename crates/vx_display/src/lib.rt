@@ -1,0 +1,14 @@
+//! The text of a layout's tree: a line a node, in pre-order.
+#![tactic(auto)]
+
+mod building;
+mod display;
+mod label;
+mod lengths;
+mod node;
+mod style;
+#[cfg(test)]
+mod tests;
+mod tree;
+
+pub use display::{DisplayLayoutTree, LayoutDisplay};
