@@ -1,80 +1,108 @@
 -- What job the bytes of an input are.
-use Rattle.std.specs.Prelude.{ℕ, ◌&&◌, ◌==◌, nat_lt, Bool, false, if◌then◌else◌, List, [], ◌∷◌, length, codes, bytes_eq, Option, Some, None, option_map, option_and_then}
+use Rattle.std.specs.Prelude.{ℕ, nat_lt, Bool, false, if◌then◌else◌, List, [], length, codes, Option, Some, None, option_and_then, Result, Ok, Err}
 use Rattle.std.specs.Str.{is_utf8}
-use Rattle.serde_json.specs.Data.{Data, null, boolean, number, string, array, object, Items, no_items, item, Members}
-use Rattle.serde_json.specs.Find.{get_member, as_number, as_i64, as_array}
+use Rattle.serde_json.specs.Data.{Data, null, boolean, number, string, array, object, Members}
+use Rattle.serde_json.specs.Find.{get_member, as_bool, as_array}
 use Rattle.serde_json.specs.Read.{read}
-use Rattle.serde_json.specs.Events.{members_len}
-use Rattle.vx_model.specs.declared.ptype.PType.TheVariants.{I64}
-use Rattle.vx_model.specs.Ty.{primitive}
-use Rattle.vx_model.specs.Tree.{Tree, int_cell}
-use Rattle.vx_model.specs.Piece.{Piece, plain_piece}
+use Rattle.vx_model.specs.declared.encoding.EncodingId.{EncodingId}
+use Rattle.vx_model.specs.Ty.{Ty}
+use Rattle.vx_model.specs.Piece.{Piece}
+use Rattle.vx_plan.specs.Way.{Way}
+use Rattle.vx_data.specs.Lists.{each}
+use Rattle.vx_data.specs.Types.{type_of}
+use Rattle.vx_data.specs.Chunks.{batch_of}
+use Rattle.vx_strategy.specs.Parts.{all, whole}
+use Rattle.vx_strategy.specs.StrategyText.{strategy_of}
+use Rattle.vx_job.specs.declared.error.Key.{Key}
+use Rattle.vx_job.specs.declared.error.Key.TheVariants as places
+use Rattle.vx_job.specs.JobParts.{has_only, keys, or_default, all_encodings, encodings_of, aggregates_of, next_of, FailingCalls, failing, faults_of}
 
-pub data JobForm : Type 0 where
-  -- no JSON of at most 127 nested levels, or too long
-  not_json : JobForm
-  not_object : JobForm
-  -- an object of a form that isn't built
-  unbuilt : JobForm
-  -- the batches of one column of 64-bit integers, chunked, each chunk flat
-  column : List Piece → JobForm
+-- how a job is written
+pub record JobOptions : Type 0 where
+  pub schedule : List ℕ
+  pub encodings : List EncodingId
+  -- None: no limit
+  pub aggregates : Option (List (List ℕ))
+  pub marked : Bool
+  pub next : ℕ
+  pub faults : FailingCalls
+
+pub record JobData : Type 0 where
+  pub schema : Ty
+  pub strategy : Way
+  pub batches : List Piece
+  pub options : JobOptions
+
+-- ---- one key after the other
+
+abbrev pub found : {A : Type 0} → Key → Option A → Result A Key
+found key None = Err key
+found key (Some x) = Ok x
+
+abbrev pub and_then : {A B : Type 0} → Result A Key → (A → Result B Key) → Result B Key
+and_then (Err key) f = Err key
+and_then (Ok x) f = f x
+
+unfoldable pub schema_in : Members → Result Ty Key
+schema_in ms = found places.Schema (option_and_then type_of (get_member (codes "schema") ms))
+
+unfoldable pub strategy_in : Members → Result Way Key
+strategy_in ms = found places.Strategy (option_and_then strategy_of (get_member (codes "strategy") ms))
+
+-- a list of batches of the schema
+unfoldable pub batches_of : Ty → Data → Option (List Piece)
+batches_of t d = option_and_then (each (batch_of t)) (as_array d)
+
+unfoldable pub batches_in : Ty → Members → Result (List Piece) Key
+batches_in t ms = found places.Batches (option_and_then (batches_of t) (get_member (codes "batches") ms))
+
+unfoldable pub schedule_in : Members → Result (List ℕ) Key
+schedule_in ms = found places.Schedule (or_default [] (all whole) (get_member (codes "schedule") ms))
+
+unfoldable pub encodings_in : Members → Result (List EncodingId) Key
+encodings_in ms = found places.Encodings (or_default all_encodings encodings_of (get_member (codes "encodings") ms))
+
+unfoldable pub aggregates_in : Members → Result (Option (List (List ℕ))) Key
+aggregates_in ms = found places.Aggregates (or_default None aggregates_of (get_member (codes "aggregates") ms))
+
+unfoldable pub marked_in : Members → Result Bool Key
+marked_in ms = found places.Marked (or_default false as_bool (get_member (codes "marked") ms))
+
+unfoldable pub next_in : Members → Result ℕ Key
+next_in ms = found places.Next (or_default 0 next_of (get_member (codes "next") ms))
+
+unfoldable pub faults_in : Members → Result FailingCalls Key
+faults_in ms = found places.Faults (or_default (failing [] [] []) faults_of (get_member (codes "faults") ms))
+
+unfoldable pub options_in : Members → Result JobOptions Key
+options_in ms =
+    and_then (schedule_in ms) (λ schedule. and_then (encodings_in ms) (λ ids. and_then (aggregates_in ms) (λ aggregates.
+    and_then (marked_in ms) (λ marked. and_then (next_in ms) (λ next. and_then (faults_in ms) (λ faults.
+    Ok (record { schedule = schedule; encodings = ids; aggregates = aggregates; marked = marked; next = next; faults = faults })))))))
+
+-- the keys are checked in order, and the first that is missing or wrong is told
+unfoldable pub job_in : Members → Result JobData Key
+job_in ms =
+    and_then (schema_in ms) (λ schema. and_then (strategy_in ms) (λ strategy. and_then (batches_in schema ms) (λ batches. and_then (options_in ms) (λ options.
+    Ok (record { schema = schema; strategy = strategy; batches = batches; options = options })))))
+
+-- another key comes before one that is missing
+unfoldable pub job_of : Data → Result JobData Key
+job_of null = Err places.Job
+job_of (boolean b) = Err places.Job
+job_of (number n) = Err places.Job
+job_of (string s) = Err places.Job
+job_of (array ds) = Err places.Job
+job_of (object ms) = if has_only keys ms then job_in ms else Err places.Job
+
+abbrev pub job_read : Option Data → Result JobData Key
+job_read None = Err places.Json
+job_read (Some d) = job_of d
 
 -- the longest input, in bytes
 abbrev pub limit : ℕ
 limit = 67108864
 
--- f of each item, where each has one
-abbrev pub each : {A : Type 0} → (Data → Option A) → Items → Option (List A)
-each f no_items = Some []
-each f (item d ds) = option_and_then (λ x. option_map (λ xs. x ∷ xs) (each f ds)) (f d)
-
--- a whole number of 64 bits
-abbrev pub cell_of : Data → Option Tree
-cell_of d = option_map int_cell (option_and_then as_i64 (as_number d))
-
--- a batch is a list of whole numbers
-abbrev pub piece_of : Data → Option Piece
-piece_of d = option_map (plain_piece (primitive I64 false)) (option_and_then (each cell_of) (as_array d))
-
-abbrev pub batches_of : Data → Option (List Piece)
-batches_of d = option_and_then (each piece_of) (as_array d)
-
-abbrev pub is_text : List ℕ → Option Data → Bool
-is_text text None = false
-is_text text (Some null) = false
-is_text text (Some (boolean b)) = false
-is_text text (Some (number n)) = false
-is_text text (Some (string s)) = bytes_eq s text
-is_text text (Some (array ds)) = false
-is_text text (Some (object ms)) = false
-
--- {"chunked":"flat"}
-abbrev pub is_chunked_flat : Option Data → Bool
-is_chunked_flat None = false
-is_chunked_flat (Some null) = false
-is_chunked_flat (Some (boolean b)) = false
-is_chunked_flat (Some (number n)) = false
-is_chunked_flat (Some (string s)) = false
-is_chunked_flat (Some (array ds)) = false
-is_chunked_flat (Some (object ms)) = (members_len ms == 1) && is_text (codes "flat") (get_member (codes "chunked") ms)
-
--- exactly the keys schema, strategy and batches, with the schema and the strategy that are built
-abbrev pub is_one_column : Members → Bool
-is_one_column ms = (members_len ms == 3) && (is_text (codes "i64") (get_member (codes "schema") ms) && is_chunked_flat (get_member (codes "strategy") ms))
-
-abbrev pub column_of : Option (List Piece) → JobForm
-column_of None = unbuilt
-column_of (Some bs) = column bs
-
-abbrev pub job_of : Option Data → JobForm
-job_of None = not_json
-job_of (Some null) = not_object
-job_of (Some (boolean b)) = not_object
-job_of (Some (number n)) = not_object
-job_of (Some (string s)) = not_object
-job_of (Some (array ds)) = not_object
-job_of (Some (object ms)) = if is_one_column ms then column_of (option_and_then batches_of (get_member (codes "batches") ms)) else unbuilt
-
--- the job that the bytes are
-abbrev pub job : List ℕ → JobForm
-job bytes = if nat_lt limit (length bytes) then not_json else (if is_utf8 bytes then job_of (read bytes) else not_json)
+-- the job that the bytes are, or the first key at fault
+abbrev pub job : List ℕ → Result JobData Key
+job bytes = if nat_lt limit (length bytes) then Err places.Json else (if is_utf8 bytes then job_read (read bytes) else Err places.Json)

@@ -1,2 +1,5 @@
+pub mod JobParts
 pub mod JobText
-pub mod JobRead
+pub mod JobView
+pub mod Refusals
+pub mod KeyNames

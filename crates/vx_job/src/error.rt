@@ -1,15 +1,56 @@
 use std::alloc::AllocError;
 use thiserror::Error;
+use vx_data::DataError;
+use vx_strategy::StrategyError;
 
-/// Why bytes are no job. The name of the refused place is `key`.
+/// A place in a job.
+#[derive(Clone, Copy, Debug, PartialEq, Eq)]
+pub enum Key {
+    /// The bytes: too long, no UTF-8, or no JSON of at most 127 nested levels.
+    Json,
+    /// The value: no object, or one with another key.
+    Job,
+    Schema,
+    Strategy,
+    Batches,
+    Schedule,
+    Encodings,
+    Aggregates,
+    Marked,
+    Next,
+    Faults,
+}
+
+impl Key {
+    ghost use Rattle.std.specs.Prelude.{◌≡◌};
+    ghost use Rattle.vx_job.specs.KeyNames.{key_name};
+
+    /// The name of the place in reports.
+    pub fn name(self) -> &'static str
+        ensures { result.now ≡ key_name self }
+    {
+        match self {
+            Key::Json => "json",
+            Key::Job => "job",
+            Key::Schema => "schema",
+            Key::Strategy => "strategy",
+            Key::Batches => "batches",
+            Key::Schedule => "schedule",
+            Key::Encodings => "encodings",
+            Key::Aggregates => "aggregates",
+            Key::Marked => "marked",
+            Key::Next => "next",
+            Key::Faults => "faults",
+        }
+    }
+}
+
+/// Why bytes are no job.
 #[derive(Debug, Drop, Error)]
 pub enum JobError {
-    /// The bytes are too long, no UTF-8, or no JSON of at most 127 nested levels.
-    #[error("the bytes are not JSON")]
-    Json,
-    /// The JSON value is no object.
-    #[error("the job is not an object")]
-    Job,
+    /// The first place that is missing or wrong.
+    #[error("the job is wrong at {0:?}")]
+    Wrong(Key),
     #[error("out of memory")]
     OutOfMemory,
 }
@@ -22,5 +63,28 @@ impl From<AllocError> for JobError {
 
     fn from(_error: AllocError) -> JobError {
         JobError::OutOfMemory
+    }
+}
+
+impl JobError {
+    ghost use Rattle.std.specs.Prelude.{◌≡◌};
+    ghost use Rattle.vx_job.specs.Refusals.{refusal, strategy_refusal};
+
+    pub(crate) fn at(key: Key, error: DataError) -> JobError
+        ensures { result ≡ refusal key error }
+    {
+        match error {
+            DataError::Wrong => JobError::Wrong(key),
+            DataError::OutOfMemory => JobError::OutOfMemory,
+        }
+    }
+
+    pub(crate) fn at_strategy(error: StrategyError) -> JobError
+        ensures { result ≡ strategy_refusal error }
+    {
+        match error {
+            StrategyError::Wrong => JobError::Wrong(Key::Strategy),
+            StrategyError::OutOfMemory => JobError::OutOfMemory,
+        }
     }
 }

@@ -1,144 +1,177 @@
 //! What the program is asked to write.
 
-ghost use Rattle.std.specs.Prelude.{◌≡◌, map, IfOk, IfSome, IsTrue, option_map, Some, false};
-ghost use Rattle.serde_json.specs.View.{view, items_view};
-ghost use Rattle.vx_model.specs.declared.ptype.PType.TheVariants.{I64};
-ghost use Rattle.vx_model.specs.Words.{all_by};
-ghost use Rattle.vx_model.specs.Ty.{primitive};
-ghost use Rattle.vx_model.specs.Tree.{fits};
-ghost use Rattle.vx_model.specs.TreeView.{tree};
-ghost use Rattle.vx_chunk.specs.ChunkView.{piece};
-ghost use Rattle.vx_job.specs.JobText.{job, job_of, cell_of, piece_of, each, is_text, is_chunked_flat};
-ghost use Rattle.vx_job.specs.JobRead.{JobRead};
+ghost use Rattle.std.specs.Prelude.{◌≡◌, ◌≤◌, ◌+◌, is_some};
+ghost use Rattle.serde_json.specs.Find.{get_member};
+ghost use Rattle.serde_json.specs.View.{view, members_view};
+ghost use Rattle.vx_model.specs.TyView.{ty};
+ghost use Rattle.vx_nodes.specs.StrategyView.{way};
+ghost use Rattle.vx_job.specs.JobParts.{has_only, keys, one_if};
+ghost use Rattle.vx_job.specs.JobText.{job, job_of, job_in, schema_in, strategy_in, batches_in};
+ghost use Rattle.vx_job.specs.JobView.{Gives, job_view};
 
-use crate::error::JobError;
-use serde_json::{Category, Value};
-use std::alloc::{AllocError, Global};
-use vx_types::{Cell, Chunk, DType, Nullability, PType};
+use crate::error::{JobError, Key};
+use crate::faults::Faults;
+use crate::options::read_options;
+use crate::values::member;
+use serde_json::{Category, Map, Value};
+use std::alloc::Global;
+use vx_chunk::Chunk;
+use vx_data::{read_batches, read_type};
+use vx_model::{ArrayContext, DType, Text};
+use vx_nodes::Strategy;
+use vx_strategy::read_strategy;
 
 /// The longest input, in bytes.
 pub const LIMIT: usize = 67_108_864;
 
-/// A job whose form is known.
+/// What the program is asked to write, and how.
 #[derive(Debug, Drop)]
-pub enum Job {
-    /// A form that isn't built.
-    Unbuilt,
-    /// The batches of one column of 64-bit integers, for chunking over flat.
-    Column(Vec<Chunk>),
+pub struct Job {
+    pub schema: DType,
+    pub strategy: Strategy,
+    /// Each of the schema, or of the type that it names.
+    pub batches: Vec<Chunk>,
+    /// The picks among the tasks that are ready.
+    pub schedule: Vec<u64>,
+    pub encodings: ArrayContext,
+    /// The ids of the aggregates that may be recorded; nothing: no limit.
+    pub aggregates: Option<Vec<Text>>,
+    /// Whether a nullable struct stands above.
+    pub marked: bool,
+    /// The number of the first segment, at most 2^32.
+    pub next: u64,
+    /// The calls that fail.
+    pub faults: Faults,
 }
 
-/// The job that the bytes are.
-#[tactic(auto, using(crate::proofs::ReadSteps::job_rules))]
+/// The job that the bytes are. Keys are checked in the order of the struct; an unknown key comes before a missing one.
+#[tactic(auto, using(crate::proofs::JobSteps::job_rules))]
 pub fn read_job(alloc: Global, bytes: &[u8]) -> Result<Job, JobError>
-    ensures { JobRead result (job bytes.now) }
+    ensures { Gives job_view result (job bytes.now) }
 {
     if bytes.len() > LIMIT {
-        return Err(JobError::Json);
+        return Err(JobError::Wrong(Key::Json));
     }
     let Ok(text) = str::from_utf8(bytes) else {
-        return Err(JobError::Json);
+        return Err(JobError::Wrong(Key::Json));
     };
     match Value::from_str(alloc, text) {
         Ok(value) => read_value(alloc, &value),
         Err(error) => match error.classify() {
             Category::Memory => Err(JobError::OutOfMemory),
-            Category::Syntax | Category::Eof | Category::Data | Category::Io => Err(JobError::Json),
+            Category::Syntax | Category::Eof | Category::Data | Category::Io => Err(JobError::Wrong(
+                Key::Json,
+            )),
         },
     }
 }
 
-#[tactic(auto, using(crate::proofs::ReadSteps::value_rules))]
+#[tactic(auto, using(vx_strategy::proofs::PartSteps::part_rules), unfolding(crate::specs::JobText::job_of))]
 fn read_value(alloc: Global, value: &Value) -> Result<Job, JobError>
-    ensures { JobRead result (job_of (Some (view value.now))) }
-{
-    let Some(members) = value.as_object() else {
-        return Err(JobError::Job);
-    };
-    let is_column = members.len() == 3
-        && is_text(value.get("schema"), "i64")
-        && is_chunked_flat(value.get("strategy"));
-    if !is_column {
-        return Ok(Job::Unbuilt);
-    }
-    let Some(batches) = value.get("batches") else {
-        return Ok(Job::Unbuilt);
-    };
-    let Some(items) = batches.as_array() else {
-        return Ok(Job::Unbuilt);
-    };
-    match read_batches(alloc, items)? {
-        Some(batches) => Ok(Job::Column(batches)),
-        None => Ok(Job::Unbuilt),
-    }
-}
-
-#[tactic(auto, using(crate::proofs::ReadSteps::value_rules))]
-fn is_text(value: Option<&Value>, text: &str) -> bool
-    ensures { result ≡ is_text text.now (option_map (λ v. view v.now) value.entry) }
+    ensures { Gives job_view result (job_of (view value.now)) }
 {
     match value {
-        Some(Value::String(found)) => found.as_str() == text,
-        Some(Value::Null | Value::Bool(_) | Value::Number(_) | Value::Array(_) | Value::Object(_))
-        | None => false,
+        Value::Object(members) => {
+            if !has_known(members) {
+                return Err(JobError::Wrong(Key::Job));
+            }
+            read_members(alloc, members)
+        }
+        Value::Null | Value::Bool(_) | Value::Number(_) | Value::String(_) | Value::Array(_) => Err(
+            JobError::Wrong(Key::Job),
+        ),
     }
 }
 
-#[tactic(auto, using(crate::proofs::ReadSteps::value_rules))]
-fn is_chunked_flat(value: Option<&Value>) -> bool
-    ensures { result ≡ is_chunked_flat (option_map (λ v. view v.now) value.entry) }
+/// Whether there are no other keys.
+#[tactic(auto, using(crate::proofs::JobSteps::key_rules), unfolding(crate::specs::JobParts::has_only))]
+fn has_known(members: &Map<String, Value>) -> bool
+    ensures { result ≡ has_only keys (members_view members.now.entries) }
 {
-    let Some(value) = value else {
-        return false;
+    let required = count(members, "schema")
+        + count(members, "strategy")
+        + count(members, "batches");
+    let choices = count(members, "schedule")
+        + count(members, "encodings")
+        + count(members, "aggregates");
+    let others = count(members, "marked") + count(members, "next") + count(members, "faults");
+    required + choices + others == members.len()
+}
+
+/// How often the key is there.
+fn count(members: &Map<String, Value>, key: &str) -> usize
+    ensures count { result ≡ one_if (is_some (get_member key.now (members_view members.now.entries))) }
+    ensures small { result ≤ 1 }
+{
+    match member(members, key) {
+        Some(_) => 1,
+        None => 0,
+    }
+}
+
+#[tactic(auto, unfolding(crate::specs::JobText::job_in))]
+fn read_members(alloc: Global, members: &Map<String, Value>) -> Result<Job, JobError>
+    ensures { Gives job_view result (job_in (members_view members.now.entries)) }
+{
+    let schema = schema_in(alloc, members)?;
+    let strategy = strategy_in(alloc, members)?;
+    let batches = batches_in(alloc, &schema, members)?;
+    let options = read_options(alloc, members)?;
+    Ok(Job {
+        schema,
+        strategy,
+        batches,
+        schedule: options.schedule,
+        encodings: options.encodings,
+        aggregates: options.aggregates,
+        marked: options.marked,
+        next: options.next,
+        faults: options.faults,
+    })
+}
+
+#[tactic(auto, unfolding(crate::specs::JobText::schema_in))]
+fn schema_in(alloc: Global, members: &Map<String, Value>) -> Result<DType, JobError>
+    ensures { Gives ty result (schema_in (members_view members.now.entries)) }
+{
+    let Some(value) = member(members, "schema") else {
+        return Err(JobError::Wrong(Key::Schema));
     };
-    match value {
-        Value::Object(members) => members.len() == 1 && is_text(value.get("chunked"), "flat"),
-        Value::Null | Value::Bool(_) | Value::Number(_) | Value::String(_) | Value::Array(_) =>
-            false,
+    match read_type(alloc, value) {
+        Ok(schema) => Ok(schema),
+        Err(error) => Err(JobError::at(Key::Schema, error)),
     }
 }
 
-/// The batches, where each is a list of whole numbers of 64 bits.
-#[tactic(auto, using(crate::proofs::ReadSteps::list_rules))]
-fn read_batches(alloc: Global, items: &[Value]) -> Result<Option<Vec<Chunk>>, AllocError>
-    ensures { IfOk result (λ o. option_map (λ v. map piece v.items) o ≡ each piece_of (items_view items.now)) }
+#[tactic(auto, unfolding(crate::specs::JobText::strategy_in))]
+fn strategy_in(alloc: Global, members: &Map<String, Value>) -> Result<Strategy, JobError>
+    ensures { Gives way result (strategy_in (members_view members.now.entries)) }
 {
-    let mut batches = Vec::with_capacity(alloc, items.len())?;
-    for item in items {
-        let Some(batch) = read_batch(alloc, item)? else {
-            return Ok(None);
-        };
-        batches.push(batch)?;
+    let Some(value) = member(members, "strategy") else {
+        return Err(JobError::Wrong(Key::Strategy));
+    };
+    match read_strategy(alloc, value) {
+        Ok(strategy) => Ok(strategy),
+        Err(error) => Err(JobError::at_strategy(error)),
     }
-    Ok(Some(batches))
 }
 
-fn read_batch(alloc: Global, value: &Value) -> Result<Option<Chunk>, AllocError>
-    ensures { IfOk result (λ o. option_map piece o ≡ piece_of (view value.now)) }
+#[tactic(auto, unfolding(crate::specs::JobText::batches_in, crate::specs::JobText::batches_of))]
+fn batches_in(
+    alloc: Global,
+    schema: &DType,
+    members: &Map<String, Value>,
+) -> Result<Vec<Chunk>, JobError>
+    ensures { Gives (λ v. v.items) result (batches_in (ty schema.now) (members_view members.now.entries)) }
 {
+    let Some(value) = member(members, "batches") else {
+        return Err(JobError::Wrong(Key::Batches));
+    };
     let Some(items) = value.as_array() else {
-        return Ok(None);
+        return Err(JobError::Wrong(Key::Batches));
     };
-    let Some(cells) = read_cells(alloc, items)? else {
-        return Ok(None);
-    };
-    Ok(Some(Chunk::plain(
-        DType::Primitive(PType::I64, Nullability::NonNullable),
-        cells,
-    )))
-}
-
-#[tactic(auto, using(crate::proofs::ReadSteps::list_rules))]
-fn read_cells(alloc: Global, items: &[Value]) -> Result<Option<Vec<Cell>>, AllocError>
-    ensures cells { IfOk result (λ o. option_map (λ v. map tree v.items) o ≡ each cell_of (items_view items.now)) }
-    ensures fit { IfOk result (λ o. IfSome o (λ v. IsTrue (all_by (fits (primitive I64 false)) (map tree v.items)))) }
-{
-    let mut cells = Vec::with_capacity(alloc, items.len())?;
-    for item in items {
-        let Some(number) = item.as_i64() else {
-            return Ok(None);
-        };
-        cells.push(Cell::Int(i128::from(number)))?;
+    match read_batches(alloc, schema, items) {
+        Ok(batches) => Ok(batches),
+        Err(error) => Err(JobError::at(Key::Batches, error)),
     }
-    Ok(Some(cells))
 }

@@ -5,6 +5,7 @@ use Rattle.vx_tree.specs.LayoutTree.{Lay}
 use Rattle.vx_model.specs.Val.{Val}
 use Rattle.vx_layout.specs.Display.{tree_text}
 use Rattle.vx_report.specs.RowText.{row_lines}
+use Rattle.vx_report.specs.ZoneText.{zone_tables, zone_lines}
 
 -- a segment's number and its bytes as hex text
 abbrev pub segment_line : ℕ → List ℕ → List ℕ
@@ -15,10 +16,10 @@ abbrev pub segment_lines : ℕ → List (List ℕ) → List ℕ
 segment_lines n [] = []
 segment_lines n (b ∷ bs) = segment_line n b ++ segment_lines (suc n) bs
 
--- the layout's verbose tree, the segments from the first number on, and the rows; no zone tables, and no steps
-abbrev pub report : ℕ → Lay ℕ → List (List ℕ) → List Val → List ℕ
-report first l segments rows =
-    codes "layout\n" ++ (tree_text true [] [] l ++ (codes "segments\n" ++ (segment_lines first segments ++ (codes "zones\ntrace\nrows\n" ++ row_lines rows))))
+-- the layout's verbose tree, the segments from the first number on, the zone tables with their rows, and the rows; no steps
+abbrev pub report : ℕ → Lay ℕ → List (List ℕ) → List (List Val) → List Val → List ℕ
+report first l segments tables rows =
+    codes "layout\n" ++ (tree_text true [] [] l ++ (codes "segments\n" ++ (segment_lines first segments ++ (codes "zones\n" ++ (zone_lines 0 (zone_tables l) tables ++ (codes "trace\nrows\n" ++ row_lines rows))))))
 
 -- the refusal's name and the segments that were appended
 abbrev pub refused_report : List ℕ → ℕ → List (List ℕ) → List ℕ

@@ -1,8 +1,9 @@
 //! The text that the program prints.
 
-ghost use Rattle.std.specs.Prelude.{◌≡◌, ◌++◌, ◌+◌, ◌<◌, ◌^◌, string_bytes, map, length, IfOk, OnOk};
+ghost use Rattle.std.specs.Prelude.{◌≡◌, ◌++◌, ◌+◌, ◌<◌, ◌^◌, [], string_bytes, map, length, IfOk, OnOk};
 ghost use Rattle.vx_model.specs.TreeView.{val};
 ghost use Rattle.vx_layout.specs.LayoutView.{lay};
+ghost use Rattle.vx_report.specs.ZoneText.{zone_tables};
 ghost use Rattle.vx_report.specs.Report.{report, refused_report, segment_line, segment_lines};
 
 use crate::row_text::push_rows;
@@ -11,6 +12,8 @@ use vx_layout::Layout;
 use vx_types::{Blob, Value};
 
 /// The report of a write whose first segment has the number `first`, with the rows that were read back.
+///
+/// It prints no zone table yet: no layout that is written so far has one.
 #[tactic(auto, using(crate::proofs::Lines::text_rules))]
 pub fn report(
     alloc: Global,
@@ -19,15 +22,17 @@ pub fn report(
     segments: &[Blob],
     rows: &[Value],
 ) -> Result<String, AllocError>
-    requires { first + length segments.now < 2 ^ 64 }
-    ensures { IfOk result (λ text. string_bytes text ≡ report first (lay layout.now) segments.now (map val rows.now)) }
+    requires numbered { first + length segments.now < 2 ^ 64 }
+    requires no_tables { zone_tables (lay layout.now) ≡ [] }
+    ensures { IfOk result (λ text. string_bytes text ≡ report first (lay layout.now) segments.now [] (map val rows.now)) }
 {
     let mut out = String::from_str(alloc, "layout\n")?;
     let tree = layout.display_tree_verbose(alloc, true)?;
     out.push_str(tree.as_str())?;
     out.push_str("segments\n")?;
     push_segments(alloc, &mut out, first, segments)?;
-    out.push_str("zones\ntrace\nrows\n")?;
+    out.push_str("zones\n")?;
+    out.push_str("trace\nrows\n")?;
     push_rows(alloc, &mut out, rows)?;
     Ok(out)
 }

@@ -1,47 +1,13 @@
 //! Jobs, and what the program prints for them.
 
 use crate::i64_type;
+use crate::program::{NEVER, outcome, written};
 use std::alloc::{AllocError, Global};
 use std::test::Fail;
 use vx_layout::{ChunkedLayout, Layout};
 use vx_report::report;
-use vx_run::{ByteInput, ByteOutput, Status, run};
+use vx_run::Status;
 use vx_types::{Blob, Text, Value};
-
-/// Runs the words on the input, which gives and takes at most so many bytes a call.
-fn outcome(
-    alloc: Global,
-    words: &[&str],
-    job: &[u8],
-    most: u64,
-    fail: [u64; 2],
-) -> Result<(Status, ByteOutput), AllocError> {
-    let mut owned = Vec::new(alloc);
-    for word in words {
-        owned.push(String::from_str(alloc, word)?)?;
-    }
-    let [input_fails, output_fails] = fail;
-    let failing_reads = vec![in alloc; input_fails]?;
-    let failing_writes = vec![in alloc; output_fails]?;
-    let most = most.max(1);
-    let mut input = ByteInput::new(Vec::from_slice(alloc, job)?, most, failing_reads);
-    let mut output = ByteOutput::new(most, failing_writes);
-    let status = run(alloc, &owned, &mut input, &mut output);
-    Ok((status, output))
-}
-
-/// Runs the one command on the input.
-fn written(
-    alloc: Global,
-    job: &[u8],
-    most: u64,
-    fail: [u64; 2],
-) -> Result<(Status, ByteOutput), AllocError> {
-    outcome(alloc, &["write"], job, most, fail)
-}
-
-/// No call fails.
-const NEVER: [u64; 2] = [u64::MAX, u64::MAX];
 
 const ONE: &str = "{\"schema\":\"i64\",\"strategy\":{\"chunked\":\"flat\"},\"batches\":[[7]]}";
 
@@ -83,11 +49,6 @@ trace
 rows
 ";
 
-const UNBUILT: &str = "refused Unbuilt
-segments
-trace
-";
-
 #[test]
 fn reports_columns(rt: HostRuntime) -> Result<(), Fail> {
     for (job, report) in [(ONE, ONE_REPORT), (TWO, TWO_REPORT), (NONE, NONE_REPORT)] {
@@ -113,25 +74,6 @@ fn names_the_refused_place(rt: HostRuntime) -> Result<(), Fail> {
         let (status, output) = written(rt.alloc(), job.as_bytes(), 64, NEVER)?;
         assert_eq!(rt; status, Status::BadJob);
         assert_eq!(rt; output.bytes(), line.as_bytes());
-    }
-    Ok(())
-}
-
-#[test]
-fn other_objects_are_not_built(rt: HostRuntime) -> Result<(), Fail> {
-    for job in [
-        "{}",
-        "{\"schema\":\"u8\",\"strategy\":{\"chunked\":\"flat\"},\"batches\":[[7]]}",
-        "{\"schema\":\"i64\",\"strategy\":\"flat\",\"batches\":[[7]]}",
-        "{\"schema\":\"i64\",\"strategy\":{\"chunked\":\"flat\",\"other\":1},\"batches\":[[7]]}",
-        "{\"schema\":\"i64\",\"strategy\":{\"chunked\":\"flat\"},\"batches\":[7]}",
-        "{\"schema\":\"i64\",\"strategy\":{\"chunked\":\"flat\"},\"batches\":[[7.5]]}",
-        "{\"schema\":\"i64\",\"strategy\":{\"chunked\":\"flat\"},\"batches\":[[9223372036854775808]]}",
-        "{\"schema\":\"i64\",\"strategy\":{\"chunked\":\"flat\"},\"batches\":[[7]],\"next\":0}",
-    ] {
-        let (status, output) = written(rt.alloc(), job.as_bytes(), 64, NEVER)?;
-        assert_eq!(rt; status, Status::Refused);
-        assert_eq!(rt; output.bytes(), UNBUILT.as_bytes());
     }
     Ok(())
 }

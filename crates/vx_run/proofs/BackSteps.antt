@@ -1,5 +1,5 @@
 -- Rows that are read back from the segments of a write.
-use Rattle.std.proofs.Common.{◌≡◌, ℕ, zero, suc, ◌-◌, List, [], ◌∷◌, Option, Some, None, refl, sym, ap, ◌∙◌}
+use Rattle.std.proofs.Common.{◌≡◌, ℕ, zero, suc, ◌-◌, ◌<◌, nat_lt, length, Bool, true, false, cond, List, [], ◌∷◌, Option, Some, None, refl, sym, ap, ◌∙◌, arith}
 use Rattle.std.proofs.lemmas.List.{append-nil, take_more}
 use Rattle.std.specs.Prelude.{slice_get}
 use mathlib.Core.Path.{fun_ext}
@@ -15,10 +15,20 @@ element_is [] n = refl
 element_is (x ∷ xs) zero = refl
 element_is (x ∷ xs) (suc n) = element_is xs n
 
--- a map of segments that are numbered from 0
-pub rows_in_map : (m : SegmentMap) (bs : List (List ℕ)) (l : Lay ℕ) → m.first ≡ 0 → m.list.items ≡ bs → rows segment_codec (segment_in m) l ≡ rows segment_codec (segment_at 0 bs) l
-rows_in_map m bs l first items =
-    let each : (n : ℕ) → segment_in m n ≡ segment_at 0 bs n = λ n. rw (first, items, element_is bs (n - 0)) refl in
+-- a map of the segments, and where there are none a map from any number
+pub rows_in_map : (m : SegmentMap) (bs : List (List ℕ)) (first : ℕ) (l : Lay ℕ) → m.list.items ≡ bs → (0 < length bs → m.first ≡ first)
+    → rows segment_codec (segment_in m) l ≡ rows segment_codec (segment_at first bs) l
+rows_in_map m [] first l items same =
+    let each : (n : ℕ) → segment_in m n ≡ segment_at first [] n = λ n. rw items (none_there (nat_lt n m.first) (nat_lt n first)) in
+    ap (λ (look : ℕ → Option (List ℕ)). rows segment_codec look l) (fun_ext each)
+  where
+    none_there : (b d : Bool) → cond {A = Option (List ℕ)} b None None ≡ cond d None None
+    none_there true true = refl
+    none_there true false = refl
+    none_there false true = refl
+    none_there false false = refl
+rows_in_map m (b ∷ bs) first l items same =
+    let each : (n : ℕ) → segment_in m n ≡ segment_at first (b ∷ bs) n = λ n. rw (same (omega arith), items, element_is (b ∷ bs) (n - first)) refl in
     ap (λ (look : ℕ → Option (List ℕ)). rows segment_codec look l) (fun_ext each)
 
 pub ruleset back_rules = (rows_in_map, append-nil, take_more)

@@ -1,3 +1,3 @@
 pub mod BackSteps
-pub mod ColumnSteps
+pub mod JobSteps
 pub mod RunSteps

@@ -2,18 +2,19 @@
 use Rattle.std.proofs.Common.{◌≡◌, ℕ, ◌+◌, ◌-◌, ◌≤◌, ◌<◌, List, [], ◌∷◌, ◌++◌, length, take, drop, Option, Some, None, refl, sym, ap, subst, inl, inr, ◌∙◌, arith, append_assoc, ltb, Bool, true, false, lit≤}
 use Rattle.std.proofs.lemmas.List.{append-nil, take-append-drop, length-take, length-drop, length-append, take_at, drop-drop, nil_from_length}
 use Rattle.std.specs.Io.KnownBytes.{Keeps, Appends, Consumes}
-use Rattle.vx_job.specs.JobText.{JobForm, not_json, not_object, unbuilt, column, limit, job}
+use Rattle.std.specs.Prelude.{Result, Ok, Err}
+use Rattle.vx_job.specs.declared.error.Key.{Key}
+use Rattle.vx_job.specs.JobText.{JobData, limit, job}
 use Rattle.std.proofs.Math.Seq.{take-add}
 use Rattle.std.proofs.lemmas.Bool.{ltb-true, ltb-false, lt-ltb}
 use Rattle.std.specs.Prelude.{◌⊎◌}
-use Rattle.vx_model.specs.Piece.{Piece}
 use Rattle.vx_plan.specs.PlanData.{Setting}
 use Rattle.vx_plan.specs.Valid.{Valid}
 use Rattle.vx_sink.specs.Counts.{Counts, IsCalm}
-use Rattle.vx_write.specs.Stream.{Writes}
+use Rattle.vx_write.specs.Stream.{Writes, is_built}
 use Rattle.vx_run.specs.declared.status.Status.{Status}
 use Rattle.vx_run.specs.declared.status.Status.TheVariants.{Done, Usage, BadJob, Refused, InputFault, OutputFault, OutOfMemory}
-use Rattle.vx_run.specs.Answers.{IsAnswer, ColumnAnswer, all_encodings, chunked_flat, i64_type}
+use Rattle.vx_run.specs.Answers.{IsAnswer, JobAnswer, SetsNoFaults}
 use Rattle.vx_run.specs.Running.{HasRead, Took, Finishes, Ends, is_output_fault, is_usage}
 
 pub consumes_none : (a : Option (List ℕ)) → Consumes a a []
@@ -69,25 +70,19 @@ read_job_is (Some all) (Some more) bytes read told h =
 
 -- ---- how a run ends
 
-not_input : (j : JobForm) (text : List ℕ) → IsAnswer j InputFault text → ⊥
-not_input not_json text h = let e : InputFault ≡ BadJob = h.0 in cc
-not_input not_object text h = let e : InputFault ≡ BadJob = h.0 in cc
-not_input unbuilt text h = let e : InputFault ≡ Refused = h.0 in cc
-not_input (column batches) text h = h
+not_input : (j : Result JobData Key) (text : List ℕ) → IsAnswer j InputFault text → ⊥
+not_input (Err key) text h = let e : InputFault ≡ BadJob = h.0 in cc
+not_input (Ok j) text h = h
 
-not_output : (j : JobForm) (text : List ℕ) → IsAnswer j OutputFault text → ⊥
-not_output not_json text h = let e : OutputFault ≡ BadJob = h.0 in cc
-not_output not_object text h = let e : OutputFault ≡ BadJob = h.0 in cc
-not_output unbuilt text h = let e : OutputFault ≡ Refused = h.0 in cc
-not_output (column batches) text h = h
+not_output : (j : Result JobData Key) (text : List ℕ) → IsAnswer j OutputFault text → ⊥
+not_output (Err key) text h = let e : OutputFault ≡ BadJob = h.0 in cc
+not_output (Ok j) text h = h
 
-not_memory : (j : JobForm) (text : List ℕ) → IsAnswer j OutOfMemory text → ⊥
-not_memory not_json text h = let e : OutOfMemory ≡ BadJob = h.0 in cc
-not_memory not_object text h = let e : OutOfMemory ≡ BadJob = h.0 in cc
-not_memory unbuilt text h = let e : OutOfMemory ≡ Refused = h.0 in cc
-not_memory (column batches) text h = h
+not_memory : (j : Result JobData Key) (text : List ℕ) → IsAnswer j OutOfMemory text → ⊥
+not_memory (Err key) text h = let e : OutOfMemory ≡ BadJob = h.0 in cc
+not_memory (Ok j) text h = h
 
-wrote_it : (j : JobForm) (status : Status) (text : List ℕ) (before now : Option (List ℕ)) → IsAnswer j status text → Appends before now text → Ends (IsAnswer j) before now status
+wrote_it : (j : Result JobData Key) (status : Status) (text : List ℕ) (before now : Option (List ℕ)) → IsAnswer j status text → Appends before now text → Ends (IsAnswer j) before now status
 wrote_it j Done text before now answers wrote = record { text = text; answers = answers; wrote = wrote }
 wrote_it j Usage text before now answers wrote = record { text = text; answers = answers; wrote = wrote }
 wrote_it j BadJob text before now answers wrote = record { text = text; answers = answers; wrote = wrote }
@@ -96,7 +91,7 @@ wrote_it j InputFault text before now answers wrote = absurd (not_input j text a
 wrote_it j OutputFault text before now answers wrote = absurd (not_output j text answers)
 wrote_it j OutOfMemory text before now answers wrote = absurd (not_memory j text answers)
 
-pub ends_so : (j : JobForm) (status : Status) (text : List ℕ) (before now : Option (List ℕ)) (result : Status) → IsAnswer j status text → Finishes status text before now result → Ends (IsAnswer j) before now result
+pub ends_so : (j : Result JobData Key) (status : Status) (text : List ℕ) (before now : Option (List ℕ)) (result : Status) → IsAnswer j status text → Finishes status text before now result → Ends (IsAnswer j) before now result
 ends_so j status text before now result answers (inl all) = subst (Ends (IsAnswer j) before now) (sym all.0) (wrote_it j status text before now answers all.1)
 ends_so j status text before now result answers (inr (inl failed, front)) = subst (Ends (IsAnswer j) before now) (sym failed) (record { status = status; text = text; answers = answers; count = front.count; wrote = front.wrote })
 ends_so j status text before now result answers (inr (inr memory, front)) = subst (Ends (IsAnswer j) before now) (sym memory) (inr (record { status = status; text = text; answers = answers; count = front.count; wrote = front.wrote }))
@@ -106,23 +101,24 @@ no_fault before now result e counts calm =
     let rose : Counts before now true = subst (λ (r : Status). Counts before now (is_output_fault r)) e counts in
     absurd (omega (arith, rose.0, rose.1, calm.0, calm.1))
 
-valid_done : (batches : List Piece) (s : Setting) (tracker : ℕ) (status : Status) (text : List ℕ) → Writes all_encodings s → Valid s chunked_flat i64_type false 0 tracker batches → ColumnAnswer batches status text → status ≡ Done
-valid_done batches s tracker Done text writes valid answers = refl
-valid_done batches s tracker Refused text writes valid answers = absurd ((answers s writes).not_valid tracker valid)
-valid_done batches s tracker Usage text writes valid answers = absurd answers
-valid_done batches s tracker BadJob text writes valid answers = absurd answers
-valid_done batches s tracker InputFault text writes valid answers = absurd answers
-valid_done batches s tracker OutputFault text writes valid answers = absurd answers
-valid_done batches s tracker OutOfMemory text writes valid answers = absurd answers
+valid_done : (j : JobData) (s : Setting) (tracker : ℕ) (status : Status) (text : List ℕ) → Writes j.options.encodings s → is_built j.strategy j.schema ≡ true → SetsNoFaults j
+    → Valid s j.strategy j.schema j.options.marked j.options.next tracker j.batches → JobAnswer j status text → status ≡ Done
+valid_done j s tracker Done text writes form no_faults valid answers = refl
+valid_done j s tracker Refused text writes form no_faults valid answers = absurd (answers.not_valid s tracker writes form no_faults valid)
+valid_done j s tracker Usage text writes form no_faults valid answers = absurd answers
+valid_done j s tracker BadJob text writes form no_faults valid answers = absurd answers
+valid_done j s tracker InputFault text writes form no_faults valid answers = absurd answers
+valid_done j s tracker OutputFault text writes form no_faults valid answers = absurd answers
+valid_done j s tracker OutOfMemory text writes form no_faults valid answers = absurd answers
 
-pub done_or_memory : (j : JobForm) (batches : List Piece) (s : Setting) (tracker : ℕ) (status : Status) (text : List ℕ) (before now : Option (List ℕ)) (result : Status) (faults faults_now : ℕ)
-    → j ≡ column batches → Writes all_encodings s → Valid s chunked_flat i64_type false 0 tracker batches → IsAnswer j status text → Finishes status text before now result
-    → Counts faults faults_now (is_output_fault result) → IsCalm faults faults_now → (result ≡ Done) ⊎ (result ≡ OutOfMemory)
-done_or_memory j batches s tracker status text before now result faults faults_now is writes valid answers (inl all) counts calm =
-    let column_answers : ColumnAnswer batches status text = subst (λ (k : JobForm). IsAnswer k status text) is answers in
-    inl (all.0 ∙ valid_done batches s tracker status text writes valid column_answers)
-done_or_memory j batches s tracker status text before now result faults faults_now is writes valid answers (inr (inl failed, front)) counts calm = absurd (no_fault faults faults_now result failed counts calm)
-done_or_memory j batches s tracker status text before now result faults faults_now is writes valid answers (inr (inr memory, front)) counts calm = inr memory
+pub done_or_memory : (r : Result JobData Key) (j : JobData) (s : Setting) (tracker : ℕ) (status : Status) (text : List ℕ) (before now : Option (List ℕ)) (result : Status) (faults faults_now : ℕ)
+    → r ≡ Ok j → Writes j.options.encodings s → is_built j.strategy j.schema ≡ true → SetsNoFaults j → Valid s j.strategy j.schema j.options.marked j.options.next tracker j.batches
+    → IsAnswer r status text → Finishes status text before now result → Counts faults faults_now (is_output_fault result) → IsCalm faults faults_now → (result ≡ Done) ⊎ (result ≡ OutOfMemory)
+done_or_memory r j s tracker status text before now result faults faults_now is writes form no_faults valid answers (inl all) counts calm =
+    let job_answers : JobAnswer j status text = subst (λ (k : Result JobData Key). IsAnswer k status text) is answers in
+    inl (all.0 ∙ valid_done j s tracker status text writes form no_faults valid job_answers)
+done_or_memory r j s tracker status text before now result faults faults_now is writes form no_faults valid answers (inr (inl failed, front)) counts calm = absurd (no_fault faults faults_now result failed counts calm)
+done_or_memory r j s tracker status text before now result faults faults_now is writes form no_faults valid answers (inr (inr memory, front)) counts calm = inr memory
 
 -- ---- an input in memory
 
@@ -157,13 +153,11 @@ took_kept a b c bytes consumed kept short = record { bytes = bytes; consumed = c
 
 -- ---- an answer of the command isn't the usage's
 
-not_usage : (j : JobForm) (text : List ℕ) → IsAnswer j Usage text → ⊥
-not_usage not_json text h = let e : Usage ≡ BadJob = h.0 in cc
-not_usage not_object text h = let e : Usage ≡ BadJob = h.0 in cc
-not_usage unbuilt text h = let e : Usage ≡ Refused = h.0 in cc
-not_usage (column batches) text h = h
+not_usage : (j : Result JobData Key) (text : List ℕ) → IsAnswer j Usage text → ⊥
+not_usage (Err key) text h = let e : Usage ≡ BadJob = h.0 in cc
+not_usage (Ok j) text h = h
 
-other_than_usage : (j : JobForm) (status : Status) (text : List ℕ) → IsAnswer j status text → is_usage status ≡ false
+other_than_usage : (j : Result JobData Key) (status : Status) (text : List ℕ) → IsAnswer j status text → is_usage status ≡ false
 other_than_usage j Usage text answers = absurd (not_usage j text answers)
 other_than_usage j Done text answers = refl
 other_than_usage j BadJob text answers = refl
@@ -172,7 +166,7 @@ other_than_usage j InputFault text answers = refl
 other_than_usage j OutputFault text answers = refl
 other_than_usage j OutOfMemory text answers = refl
 
-pub ends_known : (j : JobForm) (status : Status) (text : List ℕ) (before now : Option (List ℕ)) (result : Status) → IsAnswer j status text → Finishes status text before now result → is_usage result ≡ false
+pub ends_known : (j : Result JobData Key) (status : Status) (text : List ℕ) (before now : Option (List ℕ)) (result : Status) → IsAnswer j status text → Finishes status text before now result → is_usage result ≡ false
 ends_known j status text before now result answers (inl all) = ap is_usage all.0 ∙ other_than_usage j status text answers
 ends_known j status text before now result answers (inr (inl failed, front)) = ap is_usage failed
 ends_known j status text before now result answers (inr (inr memory, front)) = ap is_usage memory
@@ -182,3 +176,5 @@ pub ruleset read_rules = (append_assoc, append-nil, took_so_far, took_kept)
 pub ruleset write_rules = (append_assoc, append-nil, take_then)
 
 pub ruleset run_rules = (append-nil, took_none, took_read)
+
+pub ruleset text_rules = (append_assoc)

@@ -1,86 +1,140 @@
 -- Which text belongs to which status.
-use Rattle.std.specs.Prelude.{◌≡◌, ℕ, ◌++◌, Bool, true, false, List, [], ◌∷◌, codes, Some}
-use Rattle.vx_model.specs.declared.encoding.EncodingId.{EncodingId}
-use Rattle.vx_model.specs.declared.encoding.EncodingId.TheVariants as encodings
-use Rattle.vx_model.specs.declared.ptype.PType.TheVariants.{I64}
-use Rattle.vx_model.specs.Ty.{Ty, primitive}
-use Rattle.vx_model.specs.Piece.{Piece}
-use Rattle.vx_tree.specs.Rows.{rows}
+use Rattle.std.specs.Prelude.{◌≡◌, ℕ, ◌+◌, ◌++◌, ◌^◌, ◌≤◌, ◌⊎◌, Bool, true, false, not, List, [], ◌∷◌, length, codes, Option, Some, IsTrue, Result, Ok, Err}
+use Rattle.vx_model.specs.Piece.{Piece, piece_type}
+use Rattle.vx_chunk.specs.ChunkView.{piece}
+use Rattle.vx_encode.specs.Segment.{refused}
+use Rattle.vx_model.specs.Val.{Val}
+use Rattle.vx_tree.specs.Rows.{rows, all_there}
 use Rattle.vx_segment.specs.Codec.{segment_codec}
 use Rattle.vx_plan.specs.PlanData.{Setting, Plan}
-use Rattle.vx_plan.specs.Way.{Way, flat, chunked}
 use Rattle.vx_plan.specs.SourcePlan.{source_plan, taken_plan, source_values}
 use Rattle.vx_plan.specs.Number.{segments, numbered, segment_at}
+use Rattle.vx_plan.specs.InOrder.{batch_rows}
 use Rattle.vx_plan.specs.Valid.{Valid}
-use Rattle.vx_write.specs.Stream.{Writes}
+use Rattle.vx_sink.specs.Fails.{fails_at}
+use Rattle.vx_write.specs.Stream.{Writes, is_built}
+use Rattle.vx_write.specs.Causes.{is_unbuilt}
 use Rattle.vx_write.specs.declared.error.WriteError.{WriteError}
 use Rattle.vx_write.specs.declared.error.WriteError.TheVariants as errors
-use Rattle.vx_job.specs.JobText.{JobForm, not_json, not_object, unbuilt, column}
+use Rattle.vx_job.specs.declared.error.Key.{Key}
+use Rattle.vx_job.specs.JobParts.{failing}
+use Rattle.vx_job.specs.JobText.{JobData}
+use Rattle.vx_job.specs.KeyNames.{key_name}
 use Rattle.vx_report.specs.Report.{report, refused_report}
+use Rattle.vx_report.specs.ZoneText.{ZoneTable, zone_tables}
 use Rattle.vx_run.specs.declared.status.Status.{Status}
 use Rattle.vx_run.specs.declared.status.Status.TheVariants.{Done, Usage, BadJob, Refused, InputFault, OutputFault, OutOfMemory}
 
--- all encodings, in their default order
-abbrev pub all_encodings : List EncodingId
-all_encodings = encodings.Plain ∷ encodings.Constant ∷ encodings.Dict ∷ encodings.Chunked ∷ encodings.List ∷ encodings.Struct ∷ encodings.Extension ∷ []
+-- ---- a job that is written
 
-abbrev pub i64_type : Ty
-i64_type = primitive I64 false
+-- the plan of the job's batches
+abbrev pub job_plan : Setting → JobData → Plan
+job_plan s j = source_plan s j.strategy j.schema j.options.marked j.batches true
 
--- chunking over flat with its default options
-abbrev pub chunked_flat : Way
-chunked_flat = chunked (flat (record { padding = true; inline = false }))
+-- the rows of each zone table
+abbrev pub table_rows : (ℕ → Option (List ℕ)) → List ZoneTable → List (Option (List Val))
+table_rows look [] = []
+table_rows look (z ∷ zs) = rows segment_codec look z.rows ∷ table_rows look zs
 
-abbrev pub column_plan : Setting → List Piece → Plan
-column_plan s batches = source_plan s chunked_flat i64_type false batches true
+-- The report of the plan of the job's batches, numbered from the job's first number. The rows and the zone tables that
+-- it shows are those that the layout gives from the segments, and the rows are the batches' rows.
+pub record IsReport (s : Setting) (j : JobData) (text : List ℕ) : Type 0 where
+  pub read : rows segment_codec (segment_at j.options.next (segments (job_plan s j))) (numbered (job_plan s j) j.options.next) ≡ Some (source_values j.batches)
+  pub tables : List (List Val)
+  pub tables_read : all_there (table_rows (segment_at j.options.next (segments (job_plan s j))) (zone_tables (numbered (job_plan s j) j.options.next))) ≡ Some tables
+  pub shown : text ≡ report j.options.next (numbered (job_plan s j) j.options.next) (segments (job_plan s j)) tables (source_values j.batches)
 
--- The report of the plan of the batches, numbered from 0. The rows that it shows are those that the layout gives from
--- the segments, and these are the batches' rows.
-pub record IsReport (s : Setting) (batches : List Piece) (text : List ℕ) : Type 0 where
-  pub read : rows segment_codec (segment_at 0 (segments (column_plan s batches))) (numbered (column_plan s batches) 0) ≡ Some (source_values batches)
-  pub shown : text ≡ report 0 (numbered (column_plan s batches) 0) (segments (column_plan s batches)) (source_values batches)
+-- ---- a job whose write is refused
 
--- A refused report of a column: its numbers don't fit, and the segments are the first of those of the batches taken.
-pub record TooManyFor (s : Setting) (batches : List Piece) (text : List ℕ) : Type 0 where
+-- how a refusal is named
+abbrev pub refusal_name : WriteError → List ℕ
+refusal_name errors.SourceFault = codes "SourceFault"
+refusal_name errors.SinkFault = codes "SinkFault"
+refusal_name errors.CompressFault = codes "CompressFault"
+refusal_name (errors.BatchType c) = codes "BatchType"
+refusal_name errors.NotStruct = codes "NotStruct"
+refusal_name (errors.DuplicateField name) = codes "DuplicateField"
+refusal_name errors.ManyChunks = codes "ManyChunks"
+refusal_name errors.EmptyList = codes "EmptyList"
+refusal_name (errors.ZoneCut n) = codes "ZoneCut"
+refusal_name (errors.ForbiddenAggregate id) = codes "ForbiddenAggregate"
+refusal_name (errors.ForbiddenEncoding id) = codes "ForbiddenEncoding"
+refusal_name (errors.TooLarge n) = codes "TooLarge"
+refusal_name errors.OutOfMemory = codes "OutOfMemory"
+refusal_name errors.Unbuilt = codes "Unbuilt"
+
+abbrev pub is_memory : WriteError → Bool
+is_memory errors.OutOfMemory = true
+is_memory e = false
+
+-- this is the last of the batches taken
+pub record IsLast (taken : List Piece) (b : Piece) : Type 0 where
+  pub front : List Piece
+  pub is : taken ≡ front ++ b ∷ []
+
+-- Why a job is refused, where these batches were taken and so many segments stand. Of a source and a sink the call
+-- behind so many segments is one that the job lets fail.
+abbrev pub RefusedFor : JobData → List Piece → ℕ → WriteError → Type 0
+RefusedFor j taken stand errors.SourceFault = IsTrue (fails_at j.options.faults.source stand)
+RefusedFor j taken stand errors.SinkFault = IsTrue (fails_at j.options.faults.sink stand)
+RefusedFor j taken stand (errors.BatchType c) = (¬ (piece_type (piece c) ≡ j.schema)) × IsLast taken (piece c)
+RefusedFor j taken stand (errors.ForbiddenEncoding id) = (b : Piece) × (refused j.options.encodings b ≡ Some id) × IsLast taken b
+RefusedFor j taken stand (errors.TooLarge n) = ((n ≡ j.options.next + stand) × (2 ^ 32 ≤ n)) ⊎ ((n ≡ batch_rows taken) × (2 ^ 64 ≤ n))
+RefusedFor j taken stand errors.Unbuilt = (taken ≡ []) × (stand ≡ 0)
+RefusedFor j taken stand errors.CompressFault = ⊥
+RefusedFor j taken stand errors.NotStruct = ⊥
+RefusedFor j taken stand (errors.DuplicateField name) = ⊥
+RefusedFor j taken stand errors.ManyChunks = ⊥
+RefusedFor j taken stand errors.EmptyList = ⊥
+RefusedFor j taken stand (errors.ZoneCut n) = ⊥
+RefusedFor j taken stand (errors.ForbiddenAggregate id) = ⊥
+RefusedFor j taken stand errors.OutOfMemory = ⊥
+
+-- the job lets no call fail
+abbrev pub SetsNoFaults : JobData → Type 0
+SetsNoFaults j = j.options.faults ≡ failing [] [] []
+
+-- these segments come first
+pub record Begins (front all : List (List ℕ)) : Type 0 where
+  pub more : List (List ℕ)
+  pub is : all ≡ front ++ more
+
+-- A refused report of a job: the refusal's name, which has its cause, and the segments that stand, which are the first
+-- of the plan of the batches taken.
+pub record IsRefusal (j : JobData) (text : List ℕ) : Type 0 where
+  pub error : WriteError
   pub taken : List Piece
   pub later : List Piece
-  pub parts : batches ≡ taken ++ later
-  pub appended : List (List ℕ)
-  pub more : List (List ℕ)
-  pub prefix : segments (taken_plan s chunked_flat i64_type false taken false) ≡ appended ++ more
-  pub shown : text ≡ refused_report (codes "TooLarge") 0 appended
-  pub not_valid : (tracker : ℕ) → ¬ (Valid s chunked_flat i64_type false 0 tracker batches)
+  pub parts : j.batches ≡ taken ++ later
+  pub stand : List (List ℕ)
+  pub prefix : (s : Setting) → Writes j.options.encodings s → Begins stand (segments (taken_plan s j.strategy j.schema j.options.marked taken false))
+  pub cause : RefusedFor j taken (length stand) error
+  -- a form that isn't built is refused as that and as nothing else
+  pub built : is_built j.strategy j.schema ≡ not (is_unbuilt error)
+  pub shown : text ≡ refused_report (refusal_name error) j.options.next stand
+  pub not_valid : (s : Setting) (tracker : ℕ) → Writes j.options.encodings s → is_built j.strategy j.schema ≡ true → SetsNoFaults j
+      → ¬ (Valid s j.strategy j.schema j.options.marked j.options.next tracker j.batches)
 
-abbrev pub is_too_large : WriteError → Bool
-is_too_large (errors.TooLarge n) = true
-is_too_large e = false
+-- ---- what is printed
 
--- why the write of a column is refused: its numbers don't fit, or memory runs out
-abbrev pub IsColumnError : WriteError → Type 0
-IsColumnError (errors.TooLarge n) = Unit {0}
-IsColumnError errors.OutOfMemory = Unit {0}
-IsColumnError e = ⊥
+-- what is printed of a job, for each setting that writes its encodings
+abbrev pub JobAnswer : JobData → Status → List ℕ → Type 0
+JobAnswer j Done text = (is_built j.strategy j.schema ≡ true) × ((s : Setting) → Writes j.options.encodings s → IsReport s j text)
+JobAnswer j Refused text = IsRefusal j text
+JobAnswer j Usage text = ⊥
+JobAnswer j BadJob text = ⊥
+JobAnswer j InputFault text = ⊥
+JobAnswer j OutputFault text = ⊥
+JobAnswer j OutOfMemory text = ⊥
 
--- what is printed of a column, for each setting that writes all encodings
-abbrev pub ColumnAnswer : List Piece → Status → List ℕ → Type 0
-ColumnAnswer batches Done text = (s : Setting) → Writes all_encodings s → IsReport s batches text
-ColumnAnswer batches Refused text = (s : Setting) → Writes all_encodings s → TooManyFor s batches text
-ColumnAnswer batches Usage text = ⊥
-ColumnAnswer batches BadJob text = ⊥
-ColumnAnswer batches InputFault text = ⊥
-ColumnAnswer batches OutputFault text = ⊥
-ColumnAnswer batches OutOfMemory text = ⊥
+abbrev pub bad_job : Key → List ℕ
+bad_job key = codes "bad job at " ++ (key_name key ++ codes "\n")
 
-abbrev pub bad_job : List ℕ → List ℕ
-bad_job key = codes "bad job at " ++ (key ++ codes "\n")
-
--- what is printed of bad jobs and of forms that aren't built
+-- one text for one status
 abbrev pub IsText : Status → List ℕ → Status → List ℕ → Type 0
 IsText wanted line status text = (status ≡ wanted) × (text ≡ line)
 
--- which text belongs to which status of the command `write`
-abbrev pub IsAnswer : JobForm → Status → List ℕ → Type 0
-IsAnswer not_json status text = IsText BadJob (bad_job (codes "json")) status text
-IsAnswer not_object status text = IsText BadJob (bad_job (codes "job")) status text
-IsAnswer unbuilt status text = IsText Refused (refused_report (codes "Unbuilt") 0 []) status text
-IsAnswer (column batches) status text = ColumnAnswer batches status text
+-- which text belongs to which status of the command `write`, by the job that the input is or its first key at fault
+abbrev pub IsAnswer : Result JobData Key → Status → List ℕ → Type 0
+IsAnswer (Err key) status text = IsText BadJob (bad_job key) status text
+IsAnswer (Ok j) status text = JobAnswer j status text

@@ -1,16 +1,15 @@
 //! The program.
 
-ghost use Rattle.std.specs.Prelude.{◌≡◌, ℕ, ◌+◌, ◌≤◌, ◌<◌, ◌⊎◌, true, false, List, Some, map, length, string_bytes, IsTrue, IfOk, OnOk, OnErr};
+ghost use Rattle.std.specs.Prelude.{◌≡◌, ℕ, ◌+◌, ◌≤◌, ◌<◌, ◌⊎◌, true, false, List, Some, Ok, map, length, string_bytes, IsTrue, IfOk, OnOk, OnErr};
 ghost use Rattle.std.specs.Io.KnownBytes.{Keeps, Appends, IsAtEnd};
-ghost use Rattle.vx_model.specs.Piece.{Piece};
 ghost use Rattle.vx_plan.specs.PlanData.{Setting};
 ghost use Rattle.vx_plan.specs.Valid.{Valid};
 ghost use Rattle.vx_sink.specs.Counts.{Counts, IsCalm};
-ghost use Rattle.vx_write.specs.Stream.{Writes};
-ghost use Rattle.vx_job.specs.JobText.{job, column, limit};
+ghost use Rattle.vx_write.specs.Stream.{Writes, is_built};
+ghost use Rattle.vx_job.specs.JobText.{JobData, job, limit};
 ghost use Rattle.vx_run.specs.declared.status.Status.{Status};
 ghost use Rattle.vx_run.specs.declared.status.Status.TheVariants as statuses;
-ghost use Rattle.vx_run.specs.Answers.{IsText, IsAnswer, all_encodings, chunked_flat, i64_type};
+ghost use Rattle.vx_run.specs.Answers.{IsText, IsAnswer, SetsNoFaults};
 ghost use Rattle.vx_run.specs.Failures.{input_failed, output_failed};
 ghost use Rattle.vx_run.specs.Running.{is_write, usage, is_input_fault, is_output_fault, is_usage, Ends, MayFail, Took, HasRead, has_read, Finishes, AppendsFront};
 
@@ -46,9 +45,10 @@ pub fn run<I: Input, O: Output>(
         → Ends (IsText statuses.Usage usage) (O.written output.old) (O.written output.new) result }
     ensures unread { is_write (map string_bytes words.now) ≡ false → is_input_fault result ≡ false }
     ensures untaken { is_write (map string_bytes words.now) ≡ false → I.to_come input.new ≡ I.to_come input.old }
-    ensures complete { (bytes : List ℕ) (batches : List Piece) (s : Setting) (tracker : ℕ) → is_write (map string_bytes words.now) ≡ true
-        → I.to_come input.old ≡ Some bytes → job bytes ≡ column batches
-        → Writes all_encodings s → Valid s chunked_flat i64_type false 0 tracker batches
+    ensures complete { (bytes : List ℕ) (j : JobData) (s : Setting) (tracker : ℕ) → is_write (map string_bytes words.now) ≡ true
+        → I.to_come input.old ≡ Some bytes → job bytes ≡ Ok j
+        → Writes j.options.encodings s → is_built j.strategy j.schema ≡ true → SetsNoFaults j
+        → Valid s j.strategy j.schema j.options.marked j.options.next tracker j.batches
         → IsCalm (I.faults input.old) (I.faults input.new) → IsCalm (O.faults output.old) (O.faults output.new)
         → (result ≡ statuses.Done) ⊎ (result ≡ statuses.OutOfMemory) }
 {

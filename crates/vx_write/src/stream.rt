@@ -1,6 +1,6 @@
 //! One column of 64-bit integers, batch by batch.
 
-ghost use Rattle.std.specs.Prelude.{◌≡◌, ℕ, ◌+◌, ◌-◌, ◌<◌, ◌≤◌, ◌^◌, ◌⊎◌, ◌↔◌, Some, None, true, false, List, map, length, is_ok, if◌then◌else◌, IsTrue, IfOk, IfErr, OnOk, OnErr};
+ghost use Rattle.std.specs.Prelude.{◌≡◌, ℕ, ◌+◌, ◌-◌, ◌<◌, ◌≤◌, ◌^◌, ◌⊎◌, ◌↔◌, max, Some, None, true, false, List, map, length, is_ok, if◌then◌else◌, IsTrue, IfOk, IfErr, OnOk, OnErr};
 ghost use Rattle.vx_model.specs.declared.ptype.PType.TheVariants.{I64};
 ghost use Rattle.vx_model.specs.Ty.{primitive};
 ghost use Rattle.vx_model.specs.TyView.{ty};
@@ -37,6 +37,7 @@ pub(crate) fn write_column<B: BatchSource, S: SegmentSink>(
         (B.to_come source.old) (B.to_come source.new) (S.segments sink.old) (S.segments sink.new)) }
     ensures err { OnErr result (Halted ctx.now (B.kind source.old) (S.next sink.old) (S.next sink.new)
         (B.to_come source.old) (B.to_come source.new) (S.segments sink.old) (S.segments sink.new)) }
+    ensures last { S.next sink.new ≤ max (S.next sink.old) (2 ^ 32) }
     ensures source_count { Counts (B.faults source.old) (B.faults source.new) (errs is_source_fault result) }
     ensures sink_count { Counts (S.faults sink.old) (S.faults sink.new) (errs is_sink_fault result) }
     ensures cause { IfErr result (HasCause (B.kind source.old) ctx.now ⊥ (S.next sink.new) (B.to_come source.old) (B.to_come source.new)) }
@@ -93,6 +94,7 @@ fn write_batch<S: SegmentSink>(
     ensures ok { IfOk result (λ l. BatchWritten ctx.now (S.next sink.old) (piece batch.now) (lay l) (S.segments sink.old) (S.segments sink.new)) }
     ensures same { OnErr result (S.segments sink.new ≡ S.segments sink.old) }
     ensures next { S.next sink.new ≡ (if is_ok result then S.next sink.old + 1 else S.next sink.old) }
+    ensures last { OnOk result (S.next sink.new ≤ 2 ^ 32) }
     ensures count { Counts (S.faults sink.old) (S.faults sink.new) (errs is_sink_fault result) }
     ensures cause { IfErr result (NotWritten ctx.now (S.next sink.old) (piece batch.now)) }
     ensures may { IsTrue (errs is_sink_fault result) → S.may_fail sink.old 0 }

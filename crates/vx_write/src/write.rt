@@ -1,6 +1,6 @@
 //! The one call that writes a stream.
 
-ghost use Rattle.std.specs.Prelude.{◌≡◌, ℕ, ◌+◌, ◌-◌, ◌↔◌, Some, true, false, List, [], length, IsTrue, IfOk, IfErr, OnOk, OnErr, IsErr, MatchResult};
+ghost use Rattle.std.specs.Prelude.{◌≡◌, ℕ, ◌+◌, ◌-◌, ◌≤◌, ◌^◌, ◌↔◌, max, Some, true, false, List, [], length, IsTrue, IfOk, IfErr, OnOk, OnErr, IsErr, MatchResult};
 ghost use Rattle.vx_model.specs.TyView.{ty};
 ghost use Rattle.vx_model.specs.Piece.{Piece};
 ghost use Rattle.vx_kinds.specs.LayoutView.{lay};
@@ -74,6 +74,8 @@ pub fn write_stream<B: BatchSource, S: SegmentSink, C: CompressorPlugin>(
         → rows segment_codec (segment_at (S.next sink.old) (segments (source_plan s (way strategy.now) (B.kind source.old) false xs true))) (lay w.layout)
         ≡ Some (source_values xs)) }
     ensures ended { OnOk result (NoneTold (B.to_come source.new)) }
+    // No segment has a number past the last.
+    ensures last { S.next sink.new ≤ max (S.next sink.old) (2 ^ 32) }
 
     // A fault is told by its count, and after anything else the counts are as before.
     ensures source_count { Counts (B.faults source.old) (B.faults source.new) (errs (λ r. is_source_fault r.error) result) }
@@ -93,6 +95,7 @@ pub fn write_stream<B: BatchSource, S: SegmentSink, C: CompressorPlugin>(
     ensures unbuilt { is_built (way strategy.now) (B.kind source.old) ≡ false → IfErr result (λ r. is_unbuilt r.error ≡ true) }
     ensures unbuilt_is_err { is_built (way strategy.now) (B.kind source.old) ≡ false → IsErr result }
     ensures unasked { is_built (way strategy.now) (B.kind source.old) ≡ false → B.to_come source.new ≡ B.to_come source.old }
+    ensures unsunk { is_built (way strategy.now) (B.kind source.old) ≡ false → S.next sink.new ≡ S.next sink.old }
 
     // Valid input, where nothing fails, gives Ok or want of memory.
     ensures complete { (s : Setting) (tracker : ℕ) (xs : List Piece) → Writes (listed ctx.old) s → B.to_come source.old ≡ Some xs

@@ -1,5 +1,5 @@
 use Rattle.serde_json.specs.View.{view}
-use Rattle.vx_job.proofs.ReadSteps.{job_is}
+use Rattle.vx_job.proofs.JobSteps.{job_is}
 use Rattle.vx_job.proofs.job.read_job.Goals as goal
 
 pub returns-in-Ok-from_str : goal.returns-in-Ok-from_str

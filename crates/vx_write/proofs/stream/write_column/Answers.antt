@@ -59,6 +59,7 @@ batches-preserved g c =
       source_count = c.in_ok-batch.ensures.cause ∙ c.batches.invariant.source_count;
       sink_count = c.in_ok-flat.ensures.count ∙ c.batches.invariant.sink_count;
       next = omega (arith, c.in_ok-flat.ensures.next, c.batches.invariant.next, count);
+      last = omega (arith, c.in_ok-flat.ensures.last);
       source_may = λ k may. subst (λ (n : ℕ). g.B.BatchSource.may_fail c.args.source.now n) (omega (arith, count)) (c.batches.invariant.source_may (k + 1) (c.next.ensures.later k may));
       sink_may = λ k may. subst (λ (n : ℕ). g.S.SegmentSink.may_fail c.args.sink.now n) (omega (arith, count)) (c.batches.invariant.sink_may (k + 1) (c.in_ok-flat.ensures.later k may));
       done = rw (views, c.in_ok-batch-2.ensures.rows) more;

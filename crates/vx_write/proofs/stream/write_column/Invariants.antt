@@ -1,4 +1,4 @@
-use Rattle.std.proofs.Common.{◌≡◌, ℕ, ◌+◌, length, map}
+use Rattle.std.proofs.Common.{◌≡◌, ℕ, ◌+◌, ◌≤◌, ◌^◌, max, length, map}
 use Rattle.vx_kinds.specs.LayoutView.{lay}
 use Rattle.vx_write.specs.InOrder.{Done}
 use Rattle.vx_write.proofs.stream.write_column.Given as goal
@@ -9,6 +9,7 @@ invariant-batches g l = record {
   source_count : g.B.BatchSource.faults l.source ≡ g.B.BatchSource.faults l.fn.source;
   sink_count : g.S.SegmentSink.faults l.sink ≡ g.S.SegmentSink.faults l.fn.sink;
   next : g.S.SegmentSink.next l.sink ≡ g.S.SegmentSink.next l.fn.sink + length l.flats.items;
+  last : g.S.SegmentSink.next l.sink ≤ max (g.S.SegmentSink.next l.fn.sink) (2 ^ 32);
   source_may : (k : ℕ) → g.B.BatchSource.may_fail l.source k → g.B.BatchSource.may_fail l.fn.source (length l.flats.items + k);
   sink_may : (k : ℕ) → g.S.SegmentSink.may_fail l.sink k → g.S.SegmentSink.may_fail l.fn.sink (length l.flats.items + k);
   done : Done l.ctx (g.B.BatchSource.kind l.fn.source) (g.S.SegmentSink.next l.fn.sink) (map lay l.flats.items) l.rows

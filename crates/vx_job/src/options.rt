@@ -1,0 +1,134 @@
+//! How a job is written: the keys that have defaults.
+
+ghost use Rattle.std.specs.Prelude.{◌≡◌, Ok};
+ghost use Rattle.serde_json.specs.View.{view, members_view};
+ghost use Rattle.vx_job.specs.JobParts.{all_encodings};
+ghost use Rattle.vx_job.specs.JobText.{schedule_in, encodings_in, aggregates_in, marked_in, next_in, faults_in, options_in};
+ghost use Rattle.vx_job.specs.JobView.{Gives, faults_view, ids_view, read_view};
+
+use crate::error::{JobError, Key};
+use crate::faults::Faults;
+use crate::values::{
+    member, read_aggregates, read_encodings, read_faults, read_flag, read_next, read_numbers,
+};
+use serde_json::{Map, Value};
+use std::alloc::Global;
+use vx_model::{ArrayContext, EncodingId, Text};
+
+/// The keys that have defaults.
+#[derive(Debug, Drop)]
+pub(crate) struct Options {
+    pub schedule: Vec<u64>,
+    pub encodings: ArrayContext,
+    pub aggregates: Option<Vec<Text>>,
+    pub marked: bool,
+    pub next: u64,
+    pub faults: Faults,
+}
+
+#[tactic(auto, unfolding(crate::specs::JobText::schedule_in, crate::specs::JobParts::or_default))]
+fn schedule_in(alloc: Global, members: &Map<String, Value>) -> Result<Vec<u64>, JobError>
+    ensures { Gives (λ v. v.items) result (schedule_in (members_view members.now.entries)) }
+{
+    let Some(value) = member(members, "schedule") else {
+        return Ok(Vec::new(alloc));
+    };
+    match read_numbers(alloc, value) {
+        Ok(numbers) => Ok(numbers),
+        Err(error) => Err(JobError::at(Key::Schedule, error)),
+    }
+}
+
+#[tactic(auto, unfolding(crate::specs::JobText::encodings_in, crate::specs::JobParts::or_default))]
+fn encodings_in(alloc: Global, members: &Map<String, Value>) -> Result<ArrayContext, JobError>
+    ensures { Gives (λ c. c) result (encodings_in (members_view members.now.entries)) }
+{
+    let Some(value) = member(members, "encodings") else {
+        return default_encodings(alloc);
+    };
+    match read_encodings(alloc, value) {
+        Ok(encodings) => Ok(encodings),
+        Err(error) => Err(JobError::at(Key::Encodings, error)),
+    }
+}
+
+/// All, in their default order.
+fn default_encodings(alloc: Global) -> Result<ArrayContext, JobError>
+    ensures { Gives (λ c. c) result (Ok all_encodings) }
+{
+    let ids = Vec::from_slice(alloc, &EncodingId::ALL)?;
+    match ArrayContext::try_new(ids) {
+        Ok(context) => Ok(context),
+        Err(_) => Err(JobError::Wrong(Key::Encodings)),
+    }
+}
+
+#[tactic(auto, unfolding(crate::specs::JobText::aggregates_in, crate::specs::JobParts::or_default))]
+fn aggregates_in(alloc: Global, members: &Map<String, Value>) -> Result<Option<Vec<Text>>, JobError>
+    ensures { Gives ids_view result (aggregates_in (members_view members.now.entries)) }
+{
+    let Some(value) = member(members, "aggregates") else {
+        return Ok(None);
+    };
+    match read_aggregates(alloc, value) {
+        Ok(ids) => Ok(ids),
+        Err(error) => Err(JobError::at(Key::Aggregates, error)),
+    }
+}
+
+#[tactic(auto, unfolding(crate::specs::JobText::marked_in, crate::specs::JobParts::or_default))]
+fn marked_in(members: &Map<String, Value>) -> Result<bool, JobError>
+    ensures { Gives (λ b. b) result (marked_in (members_view members.now.entries)) }
+{
+    let Some(value) = member(members, "marked") else {
+        return Ok(false);
+    };
+    match read_flag(value) {
+        Ok(flag) => Ok(flag),
+        Err(error) => Err(JobError::at(Key::Marked, error)),
+    }
+}
+
+#[tactic(auto, unfolding(crate::specs::JobText::next_in, crate::specs::JobParts::or_default))]
+fn next_in(members: &Map<String, Value>) -> Result<u64, JobError>
+    ensures { Gives (λ n. n) result (next_in (members_view members.now.entries)) }
+{
+    let Some(value) = member(members, "next") else {
+        return Ok(0);
+    };
+    match read_next(value) {
+        Ok(number) => Ok(number),
+        Err(error) => Err(JobError::at(Key::Next, error)),
+    }
+}
+
+#[tactic(auto, unfolding(crate::specs::JobText::faults_in, crate::specs::JobParts::or_default))]
+fn faults_in(alloc: Global, members: &Map<String, Value>) -> Result<Faults, JobError>
+    ensures { Gives faults_view result (faults_in (members_view members.now.entries)) }
+{
+    let Some(value) = member(members, "faults") else {
+        return Ok(Faults {
+            source: Vec::new(alloc),
+            sink: Vec::new(alloc),
+            compress: Vec::new(alloc),
+        });
+    };
+    match read_faults(alloc, value) {
+        Ok(faults) => Ok(faults),
+        Err(error) => Err(JobError::at(Key::Faults, error)),
+    }
+}
+
+#[tactic(auto, unfolding(crate::specs::JobText::options_in))]
+pub(crate) fn read_options(alloc: Global, members: &Map<String, Value>) -> Result<Options, JobError>
+    ensures { Gives read_view result (options_in (members_view members.now.entries)) }
+{
+    Ok(Options {
+        schedule: schedule_in(alloc, members)?,
+        encodings: encodings_in(alloc, members)?,
+        aggregates: aggregates_in(alloc, members)?,
+        marked: marked_in(members)?,
+        next: next_in(members)?,
+        faults: faults_in(alloc, members)?,
+    })
+}

@@ -1,0 +1,6 @@
+use Rattle.std.proofs.Common.{rules}
+use Rattle.vx_report.proofs.Lines.{text_rules}
+use Rattle.vx_report.proofs.report_text.report.Goals as goal
+
+pub returns : goal.returns
+returns c = rw c.requires.no_tables (search (rules, text_rules))

@@ -1,5 +1,0 @@
-use Rattle.vx_request.proofs.Names.{named_all}
-use Rattle.vx_request.proofs.values.encoding_named.Goals as goal
-
-pub returns : goal.returns
-returns c = named_all c.from_id.result c.args.name.now c.from_id.ensures.found c.from_id.ensures.none

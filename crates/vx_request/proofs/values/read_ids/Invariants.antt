@@ -1,9 +1,0 @@
-use Rattle.std.proofs.Common.{◌≡◌, drop}
-use Rattle.serde_json.specs.View.{items_view}
-use Rattle.vx_strategy.specs.Parts.{each}
-use Rattle.vx_request.specs.JobParts.{encoding_of}
-use Rattle.vx_strategy.proofs.ListSteps.{with_front}
-use Rattle.vx_request.proofs.values.read_ids.Given as goal
-
-abbrev pub invariant-loop-item : goal.invariant-loop-item
-invariant-loop-item l = with_front l.ids.items (each encoding_of (items_view (drop l.item-index l.items))) ≡ each encoding_of (items_view l.items)

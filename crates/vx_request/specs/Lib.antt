@@ -1,5 +1,0 @@
-pub mod JobParts
-pub mod JobText
-pub mod JobView
-pub mod Refusals
-pub mod KeyNames
