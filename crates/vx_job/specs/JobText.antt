@@ -86,23 +86,26 @@ job_in ms =
     and_then (schema_in ms) (λ schema. and_then (strategy_in ms) (λ strategy. and_then (batches_in schema ms) (λ batches. and_then (options_in ms) (λ options.
     Ok (record { schema = schema; strategy = strategy; batches = batches; options = options })))))
 
--- another key comes before one that is missing
-unfoldable pub job_of : Data → Result JobData Key
-job_of null = Err places.Job
-job_of (boolean b) = Err places.Job
-job_of (number n) = Err places.Job
-job_of (string s) = Err places.Job
-job_of (array ds) = Err places.Job
-job_of (object ms) = if has_only keys ms then job_in ms else Err places.Job
+-- the members of an object that has no keys but these; another key comes before one that is missing
+unfoldable pub object_of : List (List ℕ) → Data → Result Members Key
+object_of ks null = Err places.Job
+object_of ks (boolean b) = Err places.Job
+object_of ks (number n) = Err places.Job
+object_of ks (string s) = Err places.Job
+object_of ks (array ds) = Err places.Job
+object_of ks (object ms) = if has_only ks ms then Ok ms else Err places.Job
 
-abbrev pub job_read : Option Data → Result JobData Key
-job_read None = Err places.Json
-job_read (Some d) = job_of d
+unfoldable pub job_of : Data → Result JobData Key
+job_of d = and_then (object_of keys d) job_in
 
 -- the longest input, in bytes
 abbrev pub limit : ℕ
 limit = 67108864
 
+-- the JSON value that the bytes of an input are
+abbrev pub json_of : List ℕ → Result Data Key
+json_of bytes = if nat_lt limit (length bytes) then Err places.Json else (if is_utf8 bytes then found places.Json (read bytes) else Err places.Json)
+
 -- the job that the bytes are, or the first key at fault
 abbrev pub job : List ℕ → Result JobData Key
-job bytes = if nat_lt limit (length bytes) then Err places.Json else (if is_utf8 bytes then job_read (read bytes) else Err places.Json)
+job bytes = and_then (json_of bytes) job_of

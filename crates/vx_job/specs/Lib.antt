@@ -3,3 +3,5 @@ pub mod JobText
 pub mod JobView
 pub mod Refusals
 pub mod KeyNames
+pub mod TreeText
+pub mod TreeView

@@ -19,6 +19,13 @@ pub enum Key {
     Marked,
     Next,
     Faults,
+    Dtype,
+    Bytes,
+    Layouts,
+    Registered,
+    AllowUnknown,
+    Depth,
+    Nodes,
 }
 
 impl Key {
@@ -41,6 +48,13 @@ impl Key {
             Key::Marked => "marked",
             Key::Next => "next",
             Key::Faults => "faults",
+            Key::Dtype => "dtype",
+            Key::Bytes => "bytes",
+            Key::Layouts => "layouts",
+            Key::Registered => "registered",
+            Key::AllowUnknown => "allow_unknown",
+            Key::Depth => "depth",
+            Key::Nodes => "nodes",
         }
     }
 }

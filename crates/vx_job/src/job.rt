@@ -1,28 +1,25 @@
 //! What the program is asked to write.
 
-ghost use Rattle.std.specs.Prelude.{◌≡◌, ◌≤◌, ◌+◌, is_some};
-ghost use Rattle.serde_json.specs.Find.{get_member};
+ghost use Rattle.std.specs.Prelude.{◌≡◌};
 ghost use Rattle.serde_json.specs.View.{view, members_view};
 ghost use Rattle.vx_model.specs.TyView.{ty};
 ghost use Rattle.vx_nodes.specs.StrategyView.{way};
-ghost use Rattle.vx_job.specs.JobParts.{has_only, keys, one_if};
-ghost use Rattle.vx_job.specs.JobText.{job, job_of, job_in, schema_in, strategy_in, batches_in};
+ghost use Rattle.vx_job.specs.JobParts.{has_only, keys};
+ghost use Rattle.vx_job.specs.JobText.{job, job_of, job_in, object_of, schema_in, strategy_in, batches_in};
 ghost use Rattle.vx_job.specs.JobView.{Gives, job_view};
 
 use crate::error::{JobError, Key};
 use crate::faults::Faults;
+use crate::json::{count, read_json};
 use crate::options::read_options;
 use crate::values::member;
-use serde_json::{Category, Map, Value};
+use serde_json::{Map, Value};
 use std::alloc::Global;
 use vx_chunk::Chunk;
 use vx_data::{read_batches, read_type};
 use vx_model::{ArrayContext, DType, Text};
 use vx_nodes::Strategy;
 use vx_strategy::read_strategy;
-
-/// The longest input, in bytes.
-pub const LIMIT: usize = 67_108_864;
 
 /// What the program is asked to write, and how.
 #[derive(Debug, Drop)]
@@ -45,41 +42,30 @@ pub struct Job {
 }
 
 /// The job that the bytes are. Keys are checked in the order of the struct; an unknown key comes before a missing one.
-#[tactic(auto, using(crate::proofs::JobSteps::job_rules))]
 pub fn read_job(alloc: Global, bytes: &[u8]) -> Result<Job, JobError>
     ensures { Gives job_view result (job bytes.now) }
 {
-    if bytes.len() > LIMIT {
-        return Err(JobError::Wrong(Key::Json));
-    }
-    let Ok(text) = str::from_utf8(bytes) else {
-        return Err(JobError::Wrong(Key::Json));
-    };
-    match Value::from_str(alloc, text) {
-        Ok(value) => read_value(alloc, &value),
-        Err(error) => match error.classify() {
-            Category::Memory => Err(JobError::OutOfMemory),
-            Category::Syntax | Category::Eof | Category::Data | Category::Io => Err(JobError::Wrong(
-                Key::Json,
-            )),
-        },
-    }
+    read_value(alloc, &read_json(alloc, bytes)?)
 }
 
-#[tactic(auto, using(vx_strategy::proofs::PartSteps::part_rules), unfolding(crate::specs::JobText::job_of))]
+#[tactic(auto, unfolding(crate::specs::JobText::job_of))]
 fn read_value(alloc: Global, value: &Value) -> Result<Job, JobError>
     ensures { Gives job_view result (job_of (view value.now)) }
 {
+    read_members(alloc, object(value)?)
+}
+
+/// The members of an object with a job's keys alone.
+#[tactic(auto, unfolding(crate::specs::JobText::object_of))]
+fn object(value: &Value) -> Result<&Map<String, Value>, JobError>
+    ensures { Gives (λ m. members_view m.now.entries) result (object_of keys (view value.now)) }
+{
     match value {
-        Value::Object(members) => {
-            if !has_known(members) {
-                return Err(JobError::Wrong(Key::Job));
-            }
-            read_members(alloc, members)
-        }
-        Value::Null | Value::Bool(_) | Value::Number(_) | Value::String(_) | Value::Array(_) => Err(
-            JobError::Wrong(Key::Job),
-        ),
+        Value::Object(members) if has_known(members) => Ok(members),
+        Value::Object(_) | Value::Null | Value::Bool(_) | Value::Number(_) => Err(JobError::Wrong(
+            Key::Job,
+        )),
+        Value::String(_) | Value::Array(_) => Err(JobError::Wrong(Key::Job)),
     }
 }
 
@@ -96,17 +82,6 @@ fn has_known(members: &Map<String, Value>) -> bool
         + count(members, "aggregates");
     let others = count(members, "marked") + count(members, "next") + count(members, "faults");
     required + choices + others == members.len()
-}
-
-/// How often the key is there.
-fn count(members: &Map<String, Value>, key: &str) -> usize
-    ensures count { result ≡ one_if (is_some (get_member key.now (members_view members.now.entries))) }
-    ensures small { result ≤ 1 }
-{
-    match member(members, key) {
-        Some(_) => 1,
-        None => 0,
-    }
 }
 
 #[tactic(auto, unfolding(crate::specs::JobText::job_in))]

@@ -40,7 +40,10 @@ fn schedule_in(alloc: Global, members: &Map<String, Value>) -> Result<Vec<u64>, 
 }
 
 #[tactic(auto, unfolding(crate::specs::JobText::encodings_in, crate::specs::JobParts::or_default))]
-fn encodings_in(alloc: Global, members: &Map<String, Value>) -> Result<ArrayContext, JobError>
+pub(crate) fn encodings_in(
+    alloc: Global,
+    members: &Map<String, Value>,
+) -> Result<ArrayContext, JobError>
     ensures { Gives (λ c. c) result (encodings_in (members_view members.now.entries)) }
 {
     let Some(value) = member(members, "encodings") else {

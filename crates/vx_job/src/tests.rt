@@ -1,5 +1,5 @@
 // A whole job, and the first place at fault.
-use crate::{JobError, read_job};
+use crate::{JobError, read_job, read_tree_job};
 use std::alloc::{AllocError, Global};
 use std::test::Fail;
 
@@ -73,6 +73,60 @@ fn jobs(rt: HostRuntime) -> Result<(), Fail> {
         ),
     ] {
         assert_eq!(rt; place(rt.alloc(), json)?, wanted);
+    }
+    Ok(())
+}
+
+fn tree_place(alloc: Global, json: &str) -> Result<&'static str, Fail> {
+    match read_tree_job(alloc, json.as_bytes()) {
+        Ok(_) => Ok(""),
+        Err(JobError::Wrong(key)) => Ok(key.name()),
+        Err(JobError::OutOfMemory) => Err(AllocError.into()),
+    }
+}
+
+#[test]
+fn tree_jobs(rt: HostRuntime) -> Result<(), Fail> {
+    for (json, wanted) in [
+        (r#"{"dtype": "i64", "bytes": "", "layouts": []}"#, ""),
+        (
+            r#"{"dtype": "i64", "bytes": "0A0b", "layouts": ["vortex.flat", "other"], "encodings": [], "registered": ["vortex.flat", "vortex.flat"], "allow_unknown": true, "depth": 1024, "nodes": 18446744073709551615}"#,
+            "",
+        ),
+        ("{", "json"),
+        ("1", "job"),
+        (
+            r#"{"dtype": "i64", "bytes": "", "layouts": [], "schema": 1}"#,
+            "job",
+        ),
+        (r#"{"bytes": "0", "layouts": []}"#, "dtype"),
+        (r#"{"dtype": "i64", "bytes": "0", "layouts": 1}"#, "bytes"),
+        (
+            r#"{"dtype": "i64", "bytes": "00", "layouts": ["a", "a"]}"#,
+            "layouts",
+        ),
+        (
+            r#"{"dtype": "i64", "bytes": "00", "layouts": ["a"], "encodings": ["a"]}"#,
+            "encodings",
+        ),
+        (
+            r#"{"dtype": "i64", "bytes": "00", "layouts": ["a"], "registered": ["a"]}"#,
+            "registered",
+        ),
+        (
+            r#"{"dtype": "i64", "bytes": "00", "layouts": ["a"], "allow_unknown": 1}"#,
+            "allow_unknown",
+        ),
+        (
+            r#"{"dtype": "i64", "bytes": "00", "layouts": ["a"], "depth": 1025}"#,
+            "depth",
+        ),
+        (
+            r#"{"dtype": "i64", "bytes": "00", "layouts": ["a"], "nodes": -1}"#,
+            "nodes",
+        ),
+    ] {
+        assert_eq!(rt; tree_place(rt.alloc(), json)?, wanted);
     }
     Ok(())
 }

@@ -31,7 +31,7 @@ pub(crate) fn read_items(value: &Value) -> Result<&[Value], DataError>
     }
 }
 
-fn read_number(value: &Value) -> Result<u64, DataError>
+pub(crate) fn read_number(value: &Value) -> Result<u64, DataError>
     ensures { Gives (λ n. n) result (whole (view value.now)) }
 {
     match value.as_u64() {

@@ -2,13 +2,14 @@
 
 ghost use Rattle.std.specs.Prelude.{◌≡◌, ◌++◌, ◌+◌, ◌<◌, ◌^◌, [], string_bytes, map, length, IfOk, OnOk};
 ghost use Rattle.vx_model.specs.TreeView.{val};
-ghost use Rattle.vx_layout.specs.LayoutView.{lay};
+ghost use Rattle.vx_kinds.specs.LayoutView.{lay};
 ghost use Rattle.vx_report.specs.ZoneText.{zone_tables};
 ghost use Rattle.vx_report.specs.Report.{report, refused_report, segment_line, segment_lines};
 
 use crate::row_text::push_rows;
 use std::alloc::{AllocError, Global};
-use vx_layout::Layout;
+use vx_display::LayoutDisplay;
+use vx_kinds::Layout;
 use vx_types::{Blob, Value};
 
 /// The report of a write whose first segment has the number `first`, with the rows that were read back.

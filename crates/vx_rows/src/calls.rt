@@ -4,7 +4,8 @@ use crate::{i64_type, integers};
 use std::alloc::Global;
 use std::convert::TryFrom;
 use std::test::Fail;
-use vx_layout::{ChunkedLayout, FlatLayout, Layout, LayoutError};
+use vx_display::LayoutDisplay;
+use vx_kinds::{ChunkedLayout, FlatLayout, Layout, LayoutError};
 use vx_sink::{CompressError, CompressorPlugin, LayoutWriterContext, PlainCompressor};
 use vx_types::{
     ArrayContext, Blob, Cell, Chunk, ContextError, EncodingId, SegmentId, Text, encode_segment,

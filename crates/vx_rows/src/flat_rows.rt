@@ -2,7 +2,7 @@
 
 use std::alloc::Global;
 use std::test::Fail;
-use vx_layout::{FlatLayout, Layout};
+use vx_kinds::{FlatLayout, Layout};
 use vx_read::{SegmentMap, read_rows};
 use vx_report::report;
 use vx_types::{

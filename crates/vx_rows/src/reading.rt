@@ -3,7 +3,7 @@
 use crate::{i64_type, integers};
 use std::alloc::{AllocError, Global};
 use std::test::Fail;
-use vx_layout::{FlatLayout, Layout};
+use vx_kinds::{FlatLayout, Layout};
 use vx_nodes::{ChunkedLayoutStrategy, FlatLayoutStrategy, Strategy};
 use vx_read::{ReadError, SegmentMap, read_rows};
 use vx_segment::{DecodeError, buffer_lengths, decode_segment};

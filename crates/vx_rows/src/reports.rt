@@ -4,7 +4,7 @@ use crate::i64_type;
 use crate::program::{NEVER, outcome, written};
 use std::alloc::{AllocError, Global};
 use std::test::Fail;
-use vx_layout::{ChunkedLayout, Layout};
+use vx_kinds::{ChunkedLayout, Layout};
 use vx_report::report;
 use vx_run::Status;
 use vx_types::{Blob, Text, Value};

@@ -4,7 +4,7 @@ ghost use Rattle.std.specs.Prelude.{◌≡◌, ◌+◌, ◌<◌, ◌^◌, ◌≤
 ghost use Rattle.vx_model.specs.TreeView.{val};
 ghost use Rattle.vx_tree.specs.Rows.{rows};
 ghost use Rattle.vx_segment.specs.Codec.{segment_codec};
-ghost use Rattle.vx_layout.specs.LayoutView.{lay};
+ghost use Rattle.vx_kinds.specs.LayoutView.{lay};
 ghost use Rattle.vx_plan.specs.Number.{segment_at};
 ghost use Rattle.vx_job.specs.JobText.{job};
 ghost use Rattle.vx_job.specs.JobView.{job_view};
@@ -16,7 +16,7 @@ ghost use Rattle.vx_run.specs.Answers.{IsText, IsAnswer, JobAnswer, bad_job, ref
 use crate::status::Status;
 use std::alloc::{AllocError, Global};
 use vx_job::{Job, JobError, Key, read_job};
-use vx_layout::Layout;
+use vx_kinds::Layout;
 use vx_read::{ReadError, SegmentMap, read_rows};
 use vx_report::{refused_report, report};
 use vx_sink::{LayoutWriterContext, ListSource, MemorySink, PlainCompressor};
@@ -164,6 +164,7 @@ fn read_back(
         Ok(rows) => Ok(rows),
         Err(ReadError::OutOfMemory) => Err(AllocError),
         Err(ReadError::NoSegment(_) | ReadError::BadSegment(_)) => unreachable!(),
-        Err(ReadError::Rows { .. }) => unreachable!(),
+        Err(ReadError::Rows { .. } | ReadError::Foreign(_) | ReadError::Layout(_)) =>
+            unreachable!(),
     }
 }

@@ -1,7 +1,7 @@
 use Rattle.std.proofs.Common.{◌≡◌, true, false, Some, sym, ap, subst, ◌∙◌}
 use Rattle.std.proofs.lemmas.Result.{IfOk-weaker}
 use Rattle.std.specs.Prelude.{string_bytes}
-use Rattle.vx_layout.specs.LayoutView.{lay}
+use Rattle.vx_kinds.specs.LayoutView.{lay}
 use Rattle.vx_job.specs.JobText.{JobData}
 use Rattle.vx_job.specs.JobView.{job_view}
 use Rattle.vx_run.specs.declared.status.Status.{Status}

@@ -1,4 +1,0 @@
-pub mod FlatView
-pub mod LayoutView
-pub mod Errors
-pub mod Display
