@@ -1,25 +1,52 @@
--- What `read_rows` answers.
-use Rattle.std.specs.Prelude.{◌≡◌, List, map, Option, Some, None, Result, Ok, Err}
+-- What reading answers.
+use Rattle.std.specs.Prelude.{◌≡◌, List, Option, Some, None, Result, Ok, Err}
 use Rattle.std.specs.Global.{Vec}
 use Rattle.vx_model.specs.declared.row_value.Value.{Value}
 use Rattle.vx_model.specs.Val.{Val}
-use Rattle.vx_model.specs.TreeView.{val}
+use Rattle.vx_tree.specs.Refusal.{Refusal}
+use Rattle.vx_kinds.specs.declared.error.LayoutError.{LayoutError}
+use Rattle.vx_kinds.specs.declared.error.LayoutError.TheVariants as errors
+use Rattle.vx_kinds.specs.Views.{Fails}
 use Rattle.vx_read.specs.declared.error.ReadError.{ReadError}
-use Rattle.vx_read.specs.declared.error.ReadError.TheVariants.{NoSegment, BadSegment, Rows, OutOfMemory}
-use Rattle.vx_read.specs.Reading.{ReadFault, no_segment, bad_segment, other_rows}
+use Rattle.vx_read.specs.declared.error.ReadError.TheVariants.{Foreign, NoSegment, BadSegment, Rows, Layout, OutOfMemory}
+use Rattle.vx_read.specs.Reading.{ReadFault, foreign, no_segment, bad_segment, other_rows, no_layout}
+use Rattle.vx_read.specs.Parts.{rows_in}
+
+-- why a node can't be built, where this is the fault
+abbrev pub refusal_in : Option ReadFault → Result (Option ReadFault) Refusal
+refusal_in (Some (no_layout refusal)) = Err refusal
+refusal_in fault = Ok fault
+
+abbrev pub IsRefusal : LayoutError → Option ReadFault → Type 0
+IsRefusal errors.OutOfMemory fault = ⊥
+IsRefusal e fault = Fails e (refusal_in fault)
+
+-- the error is this fault; want of memory is free
+abbrev pub IsFault : ReadError → Option ReadFault → Type 0
+IsFault (Foreign id) fault = fault ≡ Some (foreign id)
+IsFault (NoSegment n) fault = fault ≡ Some (no_segment n)
+IsFault (BadSegment n) fault = fault ≡ Some (bad_segment n)
+IsFault (Rows has needs) fault = fault ≡ Some (other_rows has needs)
+IsFault (Layout e) fault = IsRefusal e fault
+IsFault OutOfMemory fault = Unit {0}
+
+-- a refusal as an error of reading
+abbrev pub read_error : LayoutError → ReadError
+read_error errors.OutOfMemory = OutOfMemory
+read_error e = Layout e
+
+-- no fault where the answer is Ok, else this one
+abbrev pub TellsFault : {A : Type 0} → Result A ReadError → Option ReadFault → Type 0
+TellsFault (Ok x) fault = fault ≡ None
+TellsFault (Err e) fault = IsFault e fault
 
 -- the rows where there are any, else an error; want of memory is free
 abbrev pub GivesRows : Result (Vec Value) ReadError → Option (List Val) → Type 0
-GivesRows (Ok v) rows = rows ≡ Some (map val v.items)
-GivesRows (Err (NoSegment n)) rows = rows ≡ None
-GivesRows (Err (BadSegment n)) rows = rows ≡ None
-GivesRows (Err (Rows has needs)) rows = rows ≡ None
+GivesRows (Ok v) rows = rows ≡ Some (rows_in v)
 GivesRows (Err OutOfMemory) rows = Unit {0}
+GivesRows (Err e) rows = rows ≡ None
 
--- no fault where there are rows, else this one
-abbrev pub TellsFault : Result (Vec Value) ReadError → Option ReadFault → Type 0
-TellsFault (Ok v) fault = fault ≡ None
-TellsFault (Err (NoSegment n)) fault = fault ≡ Some (no_segment n)
-TellsFault (Err (BadSegment n)) fault = fault ≡ Some (bad_segment n)
-TellsFault (Err (Rows has needs)) fault = fault ≡ Some (other_rows has needs)
-TellsFault (Err OutOfMemory) fault = Unit {0}
+-- the value, seen by `view`, or the fault
+abbrev pub Reads : {X A : Type 0} → (X → A) → Result X ReadError → Option A → Option ReadFault → Type 0
+Reads view (Ok x) value fault = value ≡ Some (view x)
+Reads view (Err e) value fault = IsFault e fault

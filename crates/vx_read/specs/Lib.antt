@@ -1,3 +1,5 @@
 pub mod SegmentView
 pub mod Reading
+pub mod Parts
 pub mod Answers
+pub mod Agreement

@@ -1,10 +1,18 @@
 //! Reading rows back: a layout and its segments give the rows that were written.
 #![tactic(auto)]
 
+mod counts;
+mod dicts;
 mod error;
+mod flat;
+mod law;
+mod lists;
+mod nodes;
 mod reading;
 mod segments;
+mod structs;
 
 pub use error::ReadError;
+pub use law::rows_without_fault;
 pub use reading::read_rows;
 pub use segments::SegmentMap;

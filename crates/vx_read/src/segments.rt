@@ -2,7 +2,7 @@ ghost use Rattle.std.specs.Prelude.{◌≡◌};
 ghost use Rattle.std.specs.Option.{option_copied};
 ghost use Rattle.vx_read.specs.SegmentView.{segment_in};
 
-use vx_types::Blob;
+use vx_model::Blob;
 
 /// Segments with numbers that follow one another.
 #[derive(Debug, Drop)]

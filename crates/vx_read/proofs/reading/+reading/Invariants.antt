@@ -1,21 +1,24 @@
-use Rattle.std.proofs.Common.{◌≡◌, drop, map}
-use Rattle.vx_model.specs.TreeView.{val}
-use Rattle.vx_tree.specs.LayoutTree.{lays_of}
+use Rattle.std.proofs.Common.{◌≡◌, ◌+◌, ◌*◌, length, take, drop, map}
+use Rattle.vx_tree.specs.LayoutTree.{children_of}
+use Rattle.vx_tree.specs.Rows.{all_there, rows}
+use Rattle.vx_kinds.specs.LayoutView.{lay}
+use Rattle.vx_kinds.specs.LayDepth.{depth}
 use Rattle.vx_segment.specs.Codec.{segment_codec}
-use Rattle.vx_layout.specs.LayoutView.{lay}
 use Rattle.vx_read.specs.SegmentView.{segment_in}
-use Rattle.vx_read.specs.Reading.{joined_rows, first_below}
-use Rattle.vx_read.proofs.Steps.{size, sizes, before}
+use Rattle.vx_read.specs.Parts.{rows_in, first_parts, first_faults}
+use Rattle.vx_read.specs.Reading.{first_in, first_fault}
+use Rattle.vx_read.proofs.DictSteps.{before}
 use Rattle.vx_read.proofs.reading.+reading.Given as goal
 
-abbrev pub decreases-read_rows : goal.decreases-read_rows
-decreases-read_rows l = size (lay l.layout.now)
+abbrev pub decreases-rows_of : goal.decreases-rows_of
+decreases-rows_of l = 2 * depth (lay l.layout.now) + 1
 
-abbrev pub decreases-joined_rows : goal.decreases-joined_rows
-decreases-joined_rows l = sizes (lays_of (map lay l.layouts.now))
+abbrev pub decreases-parts_of : goal.decreases-parts_of
+decreases-parts_of l = 2 * depth (lay l.layout.now)
 
-abbrev pub invariant-joined_rows-loop-layout : goal.invariant-joined_rows-loop-layout
-invariant-joined_rows-loop-layout l = record {
-  rows : before (map val l.rows.items) (joined_rows segment_codec (segment_in l.segments) (lays_of (map lay (drop l.layout-index l.layouts)))) ≡ joined_rows segment_codec (segment_in l.segments) (lays_of (map lay l.layouts));
-  faults : first_below segment_codec (segment_in l.segments) (lays_of (map lay (drop l.layout-index l.layouts))) ≡ first_below segment_codec (segment_in l.segments) (lays_of (map lay l.layouts));
+abbrev pub invariant-parts_of-loop-i : goal.invariant-parts_of-loop-i
+invariant-parts_of-loop-i l = record {
+  count : length l.parts.items ≡ l.i;
+  parts : before (map rows_in l.parts.items) (all_there (map (rows segment_codec (segment_in l.segments)) (drop l.i (take l.count (children_of (lay l.layout)))))) ≡ first_parts segment_codec (segment_in l.segments) l.count (lay l.layout);
+  faults : first_in (map (first_fault segment_codec (segment_in l.segments)) (drop l.i (take l.count (children_of (lay l.layout))))) ≡ first_faults segment_codec (segment_in l.segments) l.count (lay l.layout);
 }
