@@ -1,11 +1,10 @@
 -- Steps of picking values by codes.
 use Rattle.std.proofs.Common.{◌≡◌, ℕ, zero, suc, ◌+◌, ◌-◌, ◌<◌, ◌≤◌, Bool, true, false, List, [], ◌∷◌, ◌++◌, length, get_or, drop, map, Option, Some, None, refl, ap, sym, ◌∙◌, arith, rules, append_assoc}
-use Rattle.std.specs.Prelude.{option_map, nat_lt, pos, negsuc}
+use Rattle.std.specs.Prelude.{option_map, nat_lt, pos}
 use Rattle.std.proofs.lemmas.List.{drop_more, drop_all, length-map, append-nil, map-append}
 use Rattle.std.proofs.lemmas.Bool.Decides.{nat_tests}
 use Rattle.vx_model.specs.declared.row_value.Value.{Value}
-use Rattle.vx_model.specs.declared.row_value.Value as vl
-use Rattle.vx_model.specs.Val.{Val, null_value, int_value}
+use Rattle.vx_model.specs.Val.{Val}
 use Rattle.vx_model.specs.TreeView.{val}
 use Rattle.vx_model.proofs.CellViews.{val_list, val_struct}
 use Rattle.vx_tree.specs.Rows.{and_then, all_there, value_at, picked}

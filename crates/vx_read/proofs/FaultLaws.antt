@@ -1,10 +1,10 @@
 -- A layout has rows exactly where nothing in it is at fault.
-use Rattle.std.proofs.Common.{◌≡◌, ℕ, zero, suc, ◌+◌, ◌-◌, ◌<◌, ◌≤◌, ◌==◌, ◌&&◌, not, Bool, true, false, if◌then◌else◌, List, [], ◌∷◌, ◌++◌, length, map, take, drop, Option, Some, None, refl, sym, ap, subst, ◌∙◌, arith, eq-eqb}
+use Rattle.std.proofs.Common.{◌≡◌, ℕ, zero, suc, ◌+◌, ◌-◌, ◌==◌, ◌&&◌, not, Bool, true, false, if◌then◌else◌, List, [], ◌∷◌, length, map, take, Option, Some, None, refl, sym, ap, subst, ◌∙◌, arith, eq-eqb}
 use Rattle.std.proofs.lemmas.List.{length-map}
-use Rattle.std.specs.Prelude.{nat_le, nat_lt, ℤ, pos, negsuc}
+use Rattle.std.specs.Prelude.{nat_le, nat_lt, pos, negsuc}
 use Rattle.std.proofs.lemmas.Bool.Decides.{nat_tests}
 use Rattle.vx_model.specs.declared.encoding.EncodingId.{EncodingId}
-use Rattle.vx_model.specs.Words.{all_by, head_or, tail}
+use Rattle.vx_model.specs.Words.{all_by, tail}
 use Rattle.vx_model.specs.Ty.{Ty, nullable}
 use Rattle.vx_model.specs.Tree.{Tree}
 use Rattle.vx_model.specs.Piece.{are_offsets}
@@ -12,9 +12,9 @@ use Rattle.vx_model.specs.Val.{Val, null_value, bool_value, int_value, text_valu
 use Rattle.vx_tree.specs.LayoutTree.{Kind, flat_kind, chunked_kind, struct_kind, list_kind, dict_kind, zoned_kind, unread_zoned_kind, stats_kind, foreign_kind, refused_kind, Lay, Lays, layout, no_layouts, child, lays_in}
 use Rattle.vx_tree.specs.Refusal.{child_count}
 use Rattle.vx_tree.specs.Codec.{Codec}
-use Rattle.vx_tree.specs.Rows.{and_then, all_there, counted, joined, chunked_rows, kept_rows, under_validity, zipped, has_count, fields_rows, struct_rows, offset_of, offsets_agree, spans, spans_between, lists_of, list_rows, value_at, picked, dict_rows, data_rows, flat_rows, segment_rows, kind_rows, rows, each_rows}
-use Rattle.vx_read.specs.Reading.{ReadFault, other_rows, no_layout, first_of, first_in, count_fault, counts_fault, decoded_fault, segment_fault, flat_fault, children_fault, list_children, validity_fault, own_fault, read_ones, number_of, natural, offset_fault, offsets_fault, ends_fault, place_fault, code_fault, codes_fault, list_fault, dict_fault, parts_fault, first_fault, each_fault}
-use Rattle.vx_read.specs.Agreement.{is_there, RowsWithoutFault}
+use Rattle.vx_tree.specs.Rows.{and_then, all_there, counted, joined, chunked_rows, kept_rows, under_validity, zipped, has_count, struct_rows, offset_of, offsets_agree, spans, spans_between, lists_of, list_rows, value_at, picked, dict_rows, data_rows, flat_rows, segment_rows, rows, each_rows}
+use Rattle.vx_read.specs.Reading.{ReadFault, other_rows, no_layout, first_of, first_in, count_fault, counts_fault, decoded_fault, segment_fault, flat_fault, children_fault, list_children, validity_fault, offset_fault, offsets_fault, ends_fault, place_fault, code_fault, codes_fault, list_fault, dict_fault, first_fault, each_fault}
+use Rattle.vx_read.specs.Agreement.{is_there}
 
 -- no fault
 abbrev pub fits : Option ReadFault → Bool

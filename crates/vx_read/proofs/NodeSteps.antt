@@ -1,5 +1,5 @@
 -- Steps of putting a node's rows together.
-use Rattle.std.proofs.Common.{◌≡◌, ℕ, zero, suc, ◌+◌, ◌-◌, ◌<◌, ◌≤◌, ◌==◌, ◌&&◌, Bool, true, false, if◌then◌else◌, List, [], ◌∷◌, length, get_or, map, Option, Some, None, Result, Ok, Err, refl, sym, ap, ◌∙◌, arith, eq-eqb}
+use Rattle.std.proofs.Common.{◌≡◌, ℕ, zero, suc, ◌-◌, ◌≤◌, ◌==◌, ◌&&◌, Bool, true, false, if◌then◌else◌, List, [], ◌∷◌, length, get_or, map, Option, Some, None, Result, Ok, Err, refl, sym, ap, ◌∙◌, arith, eq-eqb}
 use Rattle.std.specs.Prelude.{IsTrue}
 use Rattle.std.specs.List.{remove}
 use Rattle.std.proofs.lemmas.List.{length-map}
@@ -10,17 +10,17 @@ use Rattle.vx_model.specs.Words.{all_by, head_or}
 use Rattle.vx_model.specs.Val.{Val}
 use Rattle.vx_model.specs.TreeView.{val}
 use Rattle.vx_tree.specs.Refusal.{child_count}
-use Rattle.vx_tree.specs.LayoutTree.{Kind, flat_kind, chunked_kind, struct_kind, list_kind, dict_kind, zoned_kind, unread_zoned_kind, stats_kind, foreign_kind, refused_kind, Lay, layout, layout_kind, kind_id}
+use Rattle.vx_tree.specs.LayoutTree.{flat_kind, chunked_kind, struct_kind, list_kind, dict_kind, zoned_kind, unread_zoned_kind, stats_kind, foreign_kind, refused_kind, Lay, layout, layout_kind, kind_id}
 use Rattle.vx_tree.specs.Codec.{Codec}
 use Rattle.vx_kinds.specs.Children.{kind_name, answered}
 use Rattle.vx_kinds.specs.declared.kind.LayoutKind.TheVariants as kinds
 use Rattle.vx_tree.specs.Rows.{and_then, all_there, counted, kept_rows, under_validity, zipped, has_count, struct_rows, lists_of, list_rows, picked, dict_rows}
 use Rattle.vx_read.specs.declared.error.ReadError.{ReadError}
-use Rattle.vx_read.specs.Reading.{ReadFault, foreign, no_layout, first_of, count_fault, counts_fault, children_fault, validity_fault, ends_fault, offsets_fault, list_fault, codes_fault, dict_fault, first_fault}
+use Rattle.vx_read.specs.Reading.{ReadFault, foreign, first_of, count_fault, counts_fault, children_fault, validity_fault, ends_fault, offsets_fault, list_fault, codes_fault, dict_fault, first_fault}
 use Rattle.vx_read.specs.Agreement.{is_there}
-use Rattle.vx_read.specs.Parts.{rows_in, parts_in}
+use Rattle.vx_read.specs.Parts.{rows_in}
 use Rattle.vx_read.specs.Answers.{refusal_in, IsFault, Reads}
-use Rattle.vx_read.proofs.FaultLaws.{fits, fits_both, faultless, has_count_fits, all_fit, counted_whole, zipped_length, kept_length, ends_fits, lists_length, plain_there, picked_length, valid_length}
+use Rattle.vx_read.proofs.FaultLaws.{fits, faultless, has_count_fits, all_fit, counted_whole, zipped_length, kept_length, ends_fits, lists_length, plain_there, picked_length, valid_length}
 use Rattle.vx_read.proofs.FaultSteps.{first_stays, second_stays}
 
 -- ---- the node itself

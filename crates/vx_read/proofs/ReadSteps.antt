@@ -4,11 +4,11 @@ use Rattle.std.proofs.lemmas.List.{take_all, drop_all, append-nil, map-append, l
 use Rattle.std.specs.Global.{Vec}
 use Rattle.vx_model.specs.declared.row_value.Value.{Value}
 use Rattle.vx_model.specs.Words.{head_or}
-use Rattle.vx_model.specs.Ty.{Ty, nullable}
+use Rattle.vx_model.specs.Ty.{nullable}
 use Rattle.vx_model.specs.TyView.{ty}
 use Rattle.vx_model.specs.Val.{Val}
 use Rattle.vx_tree.specs.Refusal.{Refusal, bad_grammar, too_deep, too_many_nodes, unknown_index, unregistered, not_permitted, child_count, child_type, other_rows, segment_count, bad_metadata, unknown_aggregate, slot_range, field_not_found, no_list, no_struct}
-use Rattle.vx_tree.specs.LayoutTree.{Kind, flat_kind, chunked_kind, struct_kind, list_kind, dict_kind, zoned_kind, unread_zoned_kind, stats_kind, foreign_kind, refused_kind, Lay, Lays, layout, no_layouts, child, lays_in, children_of, layout_kind, layout_type, row_count, kind_id}
+use Rattle.vx_tree.specs.LayoutTree.{Kind, flat_kind, chunked_kind, struct_kind, list_kind, dict_kind, zoned_kind, unread_zoned_kind, stats_kind, foreign_kind, refused_kind, Lay, Lays, layout, no_layouts, child, lays_in, children_of, layout_kind, layout_type, row_count}
 use Rattle.vx_tree.specs.Codec.{Codec}
 use Rattle.vx_tree.specs.Rows.{and_then, all_there, counted, joined, chunked_rows, struct_rows, list_rows, dict_rows, rows, each_rows}
 use Rattle.vx_kinds.specs.Children.{kind_name, answered, child_in}
@@ -18,11 +18,11 @@ use Rattle.vx_kinds.specs.declared.error.LayoutError.TheVariants as errors
 use Rattle.vx_kinds.specs.Views.{Fails}
 use Rattle.vx_kinds.specs.LayDepth.{depth, depths}
 use Rattle.vx_read.specs.declared.error.ReadError.{ReadError}
-use Rattle.vx_read.specs.Reading.{ReadFault, foreign, no_layout, first_of, first_in, count_fault, counts_fault, children_fault, list_children, validity_fault, list_fault, dict_fault, first_fault, each_fault}
+use Rattle.vx_read.specs.Reading.{ReadFault, first_of, first_in, count_fault, counts_fault, children_fault, list_children, validity_fault, list_fault, dict_fault, first_fault, each_fault}
 use Rattle.vx_read.specs.Agreement.{is_there}
-use Rattle.vx_read.specs.Parts.{rows_in, parts_in, first_parts, first_faults}
+use Rattle.vx_read.specs.Parts.{rows_in, first_parts, first_faults}
 use Rattle.vx_read.specs.Answers.{refusal_in, IsFault, read_error, Reads}
-use Rattle.vx_read.proofs.FaultLaws.{Agree, fits, faultless, rows_agree, each_agrees}
+use Rattle.vx_read.proofs.FaultLaws.{Agree, faultless, rows_agree, each_agrees}
 use Rattle.vx_read.proofs.FaultSteps.{first_stays, second_stays}
 use Rattle.vx_read.proofs.DictSteps.{before, before_both, next_there}
 

@@ -6,7 +6,7 @@ use Rattle.std.specs.declared.collections.VecDeque.{VecDeque}
 use Rattle.vx_model.specs.declared.row_value.Value.{Value}
 use Rattle.vx_model.specs.declared.row_value.Value as vl
 use Rattle.vx_model.specs.Words.{head_or, tail}
-use Rattle.vx_model.specs.Val.{Val, null_value, bool_value, struct_value, vals_of}
+use Rattle.vx_model.specs.Val.{Val, null_value, bool_value}
 use Rattle.vx_model.specs.TreeView.{val}
 use Rattle.vx_model.proofs.CellViews.{val_list, val_struct, copy_rules}
 use Rattle.vx_tree.specs.Rows.{zipped, kept, kept_rows}

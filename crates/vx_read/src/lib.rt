@@ -11,6 +11,8 @@ mod nodes;
 mod reading;
 mod segments;
 mod structs;
+#[cfg(test)]
+mod tests;
 
 pub use error::ReadError;
 pub use law::rows_without_fault;

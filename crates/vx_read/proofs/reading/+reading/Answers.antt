@@ -1,11 +1,10 @@
 -- A child that can't be built.
-use Rattle.std.proofs.Common.{subst, ◌<◌, arith, length}
+use Rattle.std.proofs.Common.{◌<◌, arith, length}
 use Rattle.vx_tree.specs.LayoutTree.{children_of}
 use Rattle.vx_kinds.specs.LayoutView.{lay}
 use Rattle.vx_segment.specs.Codec.{segment_codec}
 use Rattle.vx_read.specs.SegmentView.{segment_in}
 use Rattle.vx_read.specs.Parts.{parts_in, first_parts, first_faults}
-use Rattle.vx_read.specs.Answers.{IsFault, read_error}
 use Rattle.vx_read.proofs.FaultSteps.{passed_on}
 use Rattle.vx_read.proofs.ReadSteps.{refused_at}
 use Rattle.vx_read.proofs.reading.+reading.Goals as goal
