@@ -24,6 +24,7 @@ pub trait LayoutDisplay {
     /// Without rows, metadata and segments of other layouts than flat ones.
     fn display_tree(&self, alloc: Global) -> Result<Text, AllocError>;
 
+    /// With `verbose` each node tells these too.
     fn display_tree_verbose(&self, alloc: Global, verbose: bool) -> Result<Text, AllocError>;
 
     /// Verbose, with the lengths of the buffers of each flat layout: by its array tree, else by its segment, which is
