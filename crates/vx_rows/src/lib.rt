@@ -13,6 +13,8 @@ mod built;
 #[cfg(test)]
 mod calls;
 #[cfg(test)]
+mod columns;
+#[cfg(test)]
 mod flat_rows;
 #[cfg(test)]
 mod jobs;

@@ -1,3 +1,4 @@
 pub mod Causes
 pub mod InOrder
 pub mod Stream
+pub mod ColumnCount
