@@ -8,7 +8,6 @@ mod dict;
 mod display;
 mod error;
 mod flat;
-mod flat_view;
 mod foreign;
 mod kind;
 mod layout;
