@@ -29,6 +29,10 @@ fn codes_type() -> DType {
     DType::Primitive(PType::U8, Nullability::Nullable)
 }
 
+fn offsets_type() -> DType {
+    DType::Primitive(PType::U64, Nullability::NonNullable)
+}
+
 fn flags() -> DType {
     DType::Bool(Nullability::NonNullable)
 }
@@ -99,46 +103,56 @@ fn segments(alloc: Global) -> Result<SegmentMap, Fail> {
     Ok(SegmentMap { first: 4, list })
 }
 
+/// The text of a flat layout in the segment of the number.
+fn text_of(alloc: Global, number: u32) -> Result<Result<Text, ReadError>, Fail> {
+    let segments = segments(alloc)?;
+    let layout = flat(alloc, 1, integers(), number)?;
+    Ok(layout.display_tree_with_segments(alloc, &segments))
+}
+
 #[test]
 fn lengths_by_segment(rt: HostRuntime) -> Result<(), Fail> {
-    let alloc = rt.alloc();
-    let segments = segments(alloc)?;
-    let layout = flat(alloc, 1, integers(), 4)?;
-    let text = layout.display_tree_with_segments(alloc, &segments)?;
+    let text = text_of(rt.alloc(), 4)??;
     let expected = "vortex.flat, dtype: i64, rows: 1, segment 4, buffers=[8B], total=8B\n";
     assert!(rt; text.as_str() == expected);
-    let bad = flat(alloc, 1, integers(), 5)?.display_tree_with_segments(alloc, &segments);
-    assert!(rt; matches!(&bad, Err(ReadError::BadSegment(5))));
-    let missing = flat(alloc, 1, integers(), 6)?.display_tree_with_segments(alloc, &segments);
-    assert!(rt; matches!(&missing, Err(ReadError::NoSegment(6))));
     Ok(())
+}
+
+#[test]
+fn segments_at_fault(rt: HostRuntime) -> Result<(), Fail> {
+    assert!(rt; matches!(&text_of(rt.alloc(), 5)?, Err(ReadError::BadSegment(5))));
+    assert!(rt; matches!(&text_of(rt.alloc(), 6)?, Err(ReadError::NoSegment(6))));
+    Ok(())
+}
+
+/// A flat layout that keeps the array tree of its segment.
+fn with_tree(alloc: Global) -> Result<Layout, Fail> {
+    let ctx = ArrayContext::try_new(Vec::new(alloc))?;
+    let tree = Some(Blob::from_slice(alloc, &SEGMENT[8..37])?);
+    let flat = FlatLayout::new_with_metadata(1, integers(), SegmentId(9), ctx, tree);
+    Ok(Layout::Flat(flat))
 }
 
 #[test]
 fn lengths_by_tree(rt: HostRuntime) -> Result<(), Fail> {
     let alloc = rt.alloc();
-    let ctx = ArrayContext::try_new(Vec::new(alloc))?;
-    let tree = Some(Blob::from_slice(alloc, &SEGMENT[8..37])?);
-    let flat = FlatLayout::new_with_metadata(1, integers(), SegmentId(9), ctx, tree);
-    let layout = Layout::Flat(flat);
+    let layout = with_tree(alloc)?;
     let expected =
         "vortex.flat, dtype: i64, metadata: 30 bytes, rows: 1, segment 9, buffers=[8B], total=8B\n";
     assert!(rt; shows_all(alloc, &layout, expected)?);
-    let none = SegmentMap {
-        first: 0,
-        list: Vec::new(alloc),
-    };
-    let text = layout.display_tree_with_segments(alloc, &none)?;
-    assert!(rt; text.as_str() == expected);
     Ok(())
+}
+
+fn chunked(alloc: Global) -> Result<Layout, Fail> {
+    let first = flat(alloc, 3, integers(), 0)?;
+    let chunks = pair(alloc, first, flat(alloc, 4, integers(), 1)?)?;
+    Ok(Layout::Chunked(ChunkedLayout::new(7, integers(), chunks)?))
 }
 
 #[test]
 fn chunked_kind(rt: HostRuntime) -> Result<(), Fail> {
     let alloc = rt.alloc();
-    let first = flat(alloc, 3, integers(), 0)?;
-    let chunks = pair(alloc, first, flat(alloc, 4, integers(), 1)?)?;
-    let layout = Layout::Chunked(ChunkedLayout::new(7, integers(), chunks)?);
+    let layout = chunked(alloc)?;
     assert!(rt;
         shows(
             alloc,
@@ -149,13 +163,21 @@ fn chunked_kind(rt: HostRuntime) -> Result<(), Fail> {
     Ok(())
 }
 
+fn fields(alloc: Global) -> Result<Vec<Layout>, Fail> {
+    let first = flat(alloc, 3, integers(), 0)?;
+    pair(alloc, first, flat(alloc, 3, texts(), 1)?)
+}
+
+fn structs(alloc: Global) -> Result<Layout, Fail> {
+    let dtype = record(alloc, Nullability::NonNullable)?;
+    let children = fields(alloc)?;
+    Ok(Layout::Struct(StructLayout::new(3, dtype, children)?))
+}
+
 #[test]
 fn struct_kind(rt: HostRuntime) -> Result<(), Fail> {
     let alloc = rt.alloc();
-    let first = flat(alloc, 3, integers(), 0)?;
-    let children = pair(alloc, first, flat(alloc, 3, texts(), 1)?)?;
-    let dtype = record(alloc, Nullability::NonNullable)?;
-    let layout = Layout::Struct(StructLayout::new(3, dtype, children)?);
+    let layout = structs(alloc)?;
     assert!(rt; layout.nslots() == 3);
     assert!(rt;
         shows(
@@ -167,14 +189,17 @@ fn struct_kind(rt: HostRuntime) -> Result<(), Fail> {
     Ok(())
 }
 
+fn nullable_structs(alloc: Global) -> Result<Layout, Fail> {
+    let dtype = record(alloc, Nullability::Nullable)?;
+    let mut children = fields(alloc)?;
+    children.insert(0, flat(alloc, 3, flags(), 2)?)?;
+    Ok(Layout::Struct(StructLayout::new(3, dtype, children)?))
+}
+
 #[test]
 fn nullable_struct(rt: HostRuntime) -> Result<(), Fail> {
     let alloc = rt.alloc();
-    let validity = flat(alloc, 3, flags(), 2)?;
-    let mut children = pair(alloc, validity, flat(alloc, 3, integers(), 0)?)?;
-    children.push(flat(alloc, 3, texts(), 1)?)?;
-    let dtype = record(alloc, Nullability::Nullable)?;
-    let layout = Layout::Struct(StructLayout::new(3, dtype, children)?);
+    let layout = nullable_structs(alloc)?;
     assert!(rt;
         shows(
             alloc,
@@ -185,19 +210,18 @@ fn nullable_struct(rt: HostRuntime) -> Result<(), Fail> {
     Ok(())
 }
 
+fn list(alloc: Global) -> Result<Layout, Fail> {
+    let elements = flat(alloc, 5, integers(), 0)?;
+    let offsets = flat(alloc, 4, offsets_type(), 1)?;
+    let validity = Some(flat(alloc, 3, flags(), 2)?);
+    let dtype = DType::List(Box::new(alloc, integers())?, Nullability::Nullable);
+    Ok(Layout::List(ListLayout::new(alloc, dtype, elements, offsets, validity)?))
+}
+
 #[test]
 fn list_kind(rt: HostRuntime) -> Result<(), Fail> {
     let alloc = rt.alloc();
-    let dtype = DType::List(Box::new(alloc, integers())?, Nullability::Nullable);
-    let elements = flat(alloc, 5, integers(), 0)?;
-    let offsets = flat(
-        alloc,
-        4,
-        DType::Primitive(PType::U64, Nullability::NonNullable),
-        1,
-    )?;
-    let validity = Some(flat(alloc, 3, flags(), 2)?);
-    let layout = Layout::List(ListLayout::new(alloc, dtype, elements, offsets, validity)?);
+    let layout = list(alloc)?;
     assert!(rt;
         shows_all(
             alloc,
@@ -288,10 +312,10 @@ fn legacy_kind(rt: HostRuntime) -> Result<(), Fail> {
     Ok(())
 }
 
-fn foreign(alloc: Global) -> Result<Layout, Fail> {
+fn foreign_child(alloc: Global) -> Result<Layout, Fail> {
     let id = Text::from_str(alloc, "vortex.test.foreign_child_layout")?;
     let metadata = Blob::from_slice(alloc, &[9])?;
-    let inner = ForeignLayout::new(
+    let made = ForeignLayout::new(
         3,
         integers(),
         Vec::new(alloc),
@@ -299,15 +323,24 @@ fn foreign(alloc: Global) -> Result<Layout, Fail> {
         id,
         metadata,
     );
-    let mut children = Vec::new(alloc);
-    children.push(Layout::Foreign(inner))?;
+    Ok(Layout::Foreign(made))
+}
+
+fn own_segments(alloc: Global) -> Result<Vec<SegmentId>, Fail> {
     let mut segments = Vec::new(alloc);
     segments.push(SegmentId(7))?;
     segments.push(SegmentId(8))?;
+    Ok(segments)
+}
+
+fn foreign(alloc: Global) -> Result<Layout, Fail> {
+    let mut children = Vec::new(alloc);
+    children.push(foreign_child(alloc)?)?;
+    let segments = own_segments(alloc)?;
     let id = Text::from_str(alloc, "vortex.test.foreign_layout")?;
     let metadata = Blob::from_slice(alloc, &[1, 2, 3])?;
-    let outer = ForeignLayout::new(10, integers(), segments, children, id, metadata);
-    Ok(Layout::Foreign(outer))
+    let made = ForeignLayout::new(10, integers(), segments, children, id, metadata);
+    Ok(Layout::Foreign(made))
 }
 
 #[test]
