@@ -1,0 +1,17 @@
+-- What bytes are built into is spelled as these bytes.
+use Rattle.std.specs.Prelude.{◌≡◌, ℕ, ◌<◌, true, List, get_or, Ok}
+use Rattle.vx_model.specs.Ty.{Ty}
+use Rattle.vx_tree.specs.LayoutTree.{Lay}
+use Rattle.vx_session.specs.Ids.{are_distinct}
+use Rattle.vx_session.specs.Scope.{Scope}
+use Rattle.vx_layout_codec.specs.Permitted.{built}
+use Rattle.vx_layout_codec.specs.Bytes.{bytes_in}
+use Rattle.vx_layout_codec.specs.Parsed.{parsed}
+
+-- each number is a byte
+abbrev pub AreBytes : List ℕ → Type 0
+AreBytes bytes = (i : ℕ) → get_or bytes i 0 < 256
+
+abbrev pub ParsedIsSpelled : Type 0
+ParsedIsSpelled = (s : Scope) (t : Ty) (deep nodes : ℕ) (bytes : List ℕ) (l : Lay ℕ) → are_distinct s.ids ≡ true → AreBytes bytes
+    → parsed s t deep nodes bytes ≡ Ok l → built l ≡ Ok tt → bytes_in s.ids l ≡ Ok bytes

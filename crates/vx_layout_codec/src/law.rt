@@ -1,0 +1,10 @@
+//! What holds of all bytes.
+
+ghost use Rattle.vx_layout_codec.specs.Again.{ParsedIsSpelled};
+
+/// A law, no work: a layout that bytes are built into, and of which every node can be built, is spelled as these bytes in
+/// the same context. So a layout has one spelling.
+#[tactic(auto, using(crate::proofs::SpelledAgain::again_rules))]
+pub fn parsed_is_spelled()
+    ensures { ParsedIsSpelled }
+{}
