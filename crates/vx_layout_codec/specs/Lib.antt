@@ -1,0 +1,5 @@
+pub mod Permitted
+pub mod NodeOf
+pub mod Bytes
+pub mod Parsed
+pub mod Views

@@ -1,0 +1,7 @@
+//! The bytes of layouts.
+#![tactic(auto)]
+
+mod permitted;
+mod spell;
+
+pub use spell::layout_bytes;

@@ -1,0 +1,55 @@
+//! Whether a context lists the ids of all nodes of a layout.
+
+ghost use Rattle.std.specs.Prelude.{◌≡◌, ◌<◌, length, IfOk};
+ghost use Rattle.vx_tree.specs.LayoutTree.{children_of, layout_kind, kind_id};
+ghost use Rattle.vx_kinds.specs.Children.{child_in};
+ghost use Rattle.vx_kinds.specs.LayoutView.{lay};
+ghost use Rattle.vx_kinds.specs.Views.{Gives};
+ghost use Rattle.vx_layout_codec.specs.Permitted.{listed, permitted};
+ghost use Rattle.vx_layout_codec.specs.Views.{children_answer, kept};
+
+use std::alloc::{AllocError, Global};
+use vx_kinds::{Layout, LayoutChild, LayoutError};
+use vx_model::Text;
+use vx_session::LayoutContext;
+
+/// The first id in pre-order that isn't listed. A node that can't be built has no id.
+#[tactic(auto, using(crate::proofs::WalkSteps::walk_rules))]
+pub(crate) fn check_permitted(
+    alloc: Global,
+    layout: &Layout,
+    ctx: &LayoutContext,
+) -> Result<(), LayoutError>
+    ensures { Gives (λ u. u) result (permitted ctx.now (lay layout.now)) }
+{
+    layout.built();
+    check_listed(alloc, layout.encoding_id(), ctx)?;
+    for i in 0..layout.nchildren() {
+        match built_child(layout, i)? {
+            Some(child) => check_permitted(alloc, child.layout(), ctx)?,
+            None => (),
+        }
+    }
+    Ok(())
+}
+
+fn check_listed(alloc: Global, id: &str, ctx: &LayoutContext) -> Result<(), LayoutError>
+    ensures { Gives (λ u. u) result (listed ctx.now id.now) }
+{
+    match ctx.place(id) {
+        Some(_) => Ok(()),
+        None => Err(LayoutError::NotPermitted(Text::from_str(alloc, id)?)),
+    }
+}
+
+/// The child at the place, where it can be built.
+fn built_child(layout: &Layout, i: u64) -> Result<Option<LayoutChild<'_>>, AllocError>
+    requires { i < length (children_of (lay layout.now)) }
+    ensures { IfOk result (λ child. kept child ≡ children_answer (child_in (children_of (lay layout.now)) i)) }
+{
+    match layout.child(i) {
+        Ok(child) => Ok(Some(child)),
+        Err(LayoutError::OutOfMemory) => Err(AllocError),
+        Err(_) => Ok(None),
+    }
+}

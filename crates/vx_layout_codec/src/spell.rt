@@ -1,0 +1,78 @@
+//! Spelling a layout in a context.
+
+ghost use Rattle.std.specs.Prelude.{◌≡◌, map, IfOk};
+ghost use Rattle.vx_tree.specs.LayoutTree.{layout_kind, row_count, segments_of, children_of};
+ghost use Rattle.vx_layout_bytes.specs.Node.{node, nodes_of};
+ghost use Rattle.vx_layout_bytes.specs.Views.{raw};
+ghost use Rattle.vx_kinds.specs.LayoutView.{lay, number};
+ghost use Rattle.vx_kinds.specs.Views.{Gives};
+ghost use Rattle.vx_layout_codec.specs.Permitted.{built};
+ghost use Rattle.vx_layout_codec.specs.NodeOf.{own_in, node_in};
+ghost use Rattle.vx_layout_codec.specs.Bytes.{unless_refused, bytes_in};
+
+use crate::permitted::check_permitted;
+use std::alloc::{AllocError, Global};
+use vx_kinds::{Layout, LayoutError};
+use vx_layout_bytes::{RawNode, write_node};
+use vx_model::{Blob, SegmentId};
+use vx_session::LayoutContext;
+
+/// The bytes of the layout, in which each id is its place in the context.
+pub fn layout_bytes(
+    alloc: Global,
+    layout: &Layout,
+    ctx: &LayoutContext,
+) -> Result<Vec<u8>, LayoutError>
+    ensures { Gives (λ v. v.items) result (bytes_in ctx.now (lay layout.now)) }
+{
+    check_permitted(alloc, layout, ctx)?;
+    let node = node_of(alloc, layout, ctx)?;
+    Ok(write_node(alloc, &node)?)
+}
+
+/// The node that the layout is. An id that the context doesn't list is taken as the first one.
+#[tactic(auto, using(crate::proofs::WalkSteps::node_rules))]
+fn node_of(alloc: Global, layout: &Layout, ctx: &LayoutContext) -> Result<RawNode, LayoutError>
+    ensures { Gives raw result (unless_refused (built (lay layout.now)) (node_in ctx.now (lay layout.now))) }
+{
+    layout.built();
+    let mut children = Vec::new(alloc);
+    for i in 0..layout.nchildren() {
+        let child = layout.child(i)?;
+        children.push(node_of(alloc, child.layout(), ctx)?)?;
+    }
+    Ok(own_node(alloc, layout, ctx, children)?)
+}
+
+/// The layout's own node, above these children.
+#[tactic(auto, using(crate::proofs::WalkSteps::own_rules))]
+fn own_node(
+    alloc: Global,
+    layout: &Layout,
+    ctx: &LayoutContext,
+    children: Vec<RawNode>,
+) -> Result<RawNode, AllocError>
+    ensures { IfOk result (λ n. raw n ≡ node (own_in ctx.now (lay layout.now)) (nodes_of (map raw children.items))) }
+{
+    let index = ctx.place(layout.encoding_id()).unwrap_or(0);
+    let metadata = Blob::from(layout.metadata(alloc)?);
+    let segments = numbers_of(alloc, layout.segment_ids())?;
+    Ok(RawNode {
+        index,
+        rows: layout.row_count(),
+        metadata,
+        segments,
+        children,
+    })
+}
+
+#[tactic(auto, using(crate::proofs::WalkSteps::number_rules))]
+fn numbers_of(alloc: Global, segment_ids: &[SegmentId]) -> Result<Vec<u32>, AllocError>
+    ensures { IfOk result (λ v. v.items ≡ map number segment_ids.now) }
+{
+    let mut numbers = Vec::with_capacity(alloc, segment_ids.len())?;
+    for segment in segment_ids {
+        numbers.push(segment.0)?;
+    }
+    Ok(numbers)
+}
