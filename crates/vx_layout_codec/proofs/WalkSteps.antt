@@ -1,5 +1,5 @@
 -- Steps of the walks over the nodes of a layout.
-use Rattle.std.proofs.Common.{◌≡◌, ℕ, zero, suc, ◌+◌, ◌<◌, List, [], ◌∷◌, ◌++◌, length, take, drop, map, Option, Some, None, Result, Ok, Err, refl, sym, ◌∙◌, ◌≤◌, ap, arith}
+use Rattle.std.proofs.Common.{◌≡◌, ℕ, zero, suc, ◌+◌, ◌<◌, List, [], ◌∷◌, ◌++◌, length, drop, Option, Some, None, Result, Ok, Err, refl, sym, ◌∙◌, ◌≤◌, ap, arith}
 use Rattle.std.proofs.lemmas.List.{map_push, take_more, drop_all, append-nil}
 use Rattle.vx_tree.specs.Refusal.{Refusal}
 use Rattle.vx_tree.specs.LayoutTree.{flat_kind, chunked_kind, struct_kind, list_kind, dict_kind, zoned_kind, unread_zoned_kind, stats_kind, foreign_kind, refused_kind, Lay, Lays, layout, no_layouts, child, lays_of, lays_in, layout_kind, kind_id, children_of}

@@ -1,7 +1,9 @@
-//! The bytes of layouts.
+//! The bytes of layouts, both ways: a layout is spelled in a context, and bytes are read and built in a session.
 #![tactic(auto)]
 
+mod parse;
 mod permitted;
 mod spell;
 
+pub use parse::{layout_from_flatbuffer, layout_from_flatbuffer_with_options};
 pub use spell::layout_bytes;
