@@ -48,7 +48,7 @@ unknown id h = rw (differs maximum id h, differs minimum id h, differs (bounded_
 
 -- ---- options that none of the id has
 
-abbrev Means : Spec → Aggregate → Type 0
+abbrev pub Means : Spec → Aggregate → Type 0
 Means s a = (aggregate_id a ≡ s.id) × (option_bytes a ≡ s.options) × (has_options a ≡ true)
 
 one_of : (b : Bool) (x y : Option Aggregate) (P : Type 0) (a : Aggregate) → (b ≡ true → x ≡ Some a → P) → (y ≡ Some a → P) → (if b then x else y) ≡ Some a → P
@@ -136,7 +136,7 @@ min_bound = record { id = λ n. refl; bytes = λ n. none_behind (to_le_bytes w32
 filter : Numbered bloom (0 ∷ 0 ∷ 0 ∷ 0 ∷ [])
 filter = record { id = λ n. refl; bytes = λ n. refl; range = λ n. refl }
 
-means : (s : Spec) (a : Aggregate) → ((i : ℕ) → get_or s.options i 0 < 256) → aggregate_of s ≡ Some a → Means s a
+pub means : (s : Spec) (a : Aggregate) → ((i : ℕ) → get_or s.options i 0 < 256) → aggregate_of s ≡ Some a → Means s a
 means s a few =
     one_of _ _ _ (Means s a) a (plain maximum a s refl refl)
     (one_of _ _ _ (Means s a) a (plain minimum a s refl refl)
