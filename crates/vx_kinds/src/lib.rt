@@ -1,27 +1,34 @@
 //! Layouts of all kinds in memory: constructors, and what a layout tells of itself.
 #![tactic(auto)]
 
+mod build;
+mod checks;
 mod child;
 mod child_type;
+mod children;
 mod chunked;
 mod dict;
 mod error;
 mod flat;
 mod foreign;
+mod foreign_nodes;
 mod kind;
 mod layout;
 mod list;
 mod shape;
+mod parts;
 mod slots;
 mod stats;
 mod structs;
 #[cfg(test)]
 mod tests;
 mod total;
+mod viewed;
 mod zoned;
 
 pub use child::LayoutChild;
 pub use child_type::LayoutChildType;
+pub use children::{LayoutChildren, ViewedChildren, layout_children};
 pub use chunked::ChunkedLayout;
 pub use dict::DictLayout;
 pub use error::LayoutError;
