@@ -10,3 +10,5 @@ pub mod ChildView
 pub mod Made
 pub mod SpecView
 pub mod Views
+pub mod Shown
+pub mod ErrorNames

@@ -52,6 +52,36 @@ pub enum LayoutError {
     OutOfMemory,
 }
 
+impl LayoutError {
+    ghost use Rattle.std.specs.Prelude.{◌≡◌};
+    ghost use Rattle.vx_kinds.specs.ErrorNames.{error_name};
+
+    /// The name of the variant.
+    pub fn name(&self) -> &'static str
+        ensures { result.now ≡ error_name self.now }
+    {
+        match self {
+            LayoutError::Grammar(_) => "Grammar",
+            LayoutError::TooDeep(_) => "TooDeep",
+            LayoutError::TooManyNodes(_) => "TooManyNodes",
+            LayoutError::UnknownIndex(_) => "UnknownIndex",
+            LayoutError::Unregistered(_) => "Unregistered",
+            LayoutError::NotPermitted(_) => "NotPermitted",
+            LayoutError::ChildCount { .. } => "ChildCount",
+            LayoutError::ChildType { .. } => "ChildType",
+            LayoutError::RowCount { .. } => "RowCount",
+            LayoutError::SegmentCount(_) => "SegmentCount",
+            LayoutError::Metadata(_) => "Metadata",
+            LayoutError::UnknownAggregate(_) => "UnknownAggregate",
+            LayoutError::SlotRange { .. } => "SlotRange",
+            LayoutError::FieldNotFound(_) => "FieldNotFound",
+            LayoutError::NotAList => "NotAList",
+            LayoutError::NotAStruct => "NotAStruct",
+            LayoutError::OutOfMemory => "OutOfMemory",
+        }
+    }
+}
+
 impl From<AllocError> for LayoutError {
     ghost use Rattle.std.specs.Prelude.{◌≡◌};
     ghost use Rattle.vx_kinds.specs.declared.error.LayoutError.TheVariants.{OutOfMemory};

@@ -34,6 +34,7 @@ impl Layout {
     ghost use Rattle.vx_kinds.specs.ChildView.{child_lay};
     ghost use Rattle.vx_kinds.specs.Views.{Gives};
     ghost use Rattle.vx_kinds.specs.declared.kind.LayoutKind.TheVariants.{Flat};
+    ghost use Rattle.vx_kinds.specs.FlatView.{flat_lay};
     ghost use Rattle.vx_kinds.specs.LayoutView.{lay, number};
 
     /// Rows that the layout gives.
@@ -178,7 +179,7 @@ impl Layout {
 
     /// A layout in memory is no node that can't be built.
     #[tactic(auto, unfolding(crate::specs::LayoutView::lay))]
-    pub(crate) fn built(&self)
+    pub fn built(&self)
         ensures { answered (lay self.now) ≡ Ok (lay self.now) }
     {
         match self {
@@ -211,6 +212,23 @@ impl Layout {
         ensures { MatchOption result (kind_name (layout_kind (lay self.now)) ≢ kind) (λ l. (l.now ≡ self.now) × (kind_name (layout_kind (lay self.now)) ≡ kind)) }
     {
         if self.is(kind) { Some(self) } else { None }
+    }
+
+    /// The flat layout that it is, where it is one.
+    #[tactic(auto, unfolding(crate::specs::LayoutView::lay))]
+    pub fn as_flat(&self) -> Option<&FlatLayout>
+        ensures { MatchOption result (kind_name (layout_kind (lay self.now)) ≢ Flat) (λ flat. lay self.now ≡ flat_lay flat.now) }
+    {
+        match self {
+            Layout::Flat(flat) => Some(flat),
+            Layout::Chunked(ChunkedLayout { row_count, .. }) => None,
+            Layout::Struct(StructLayout { row_count, .. }) => None,
+            Layout::List(ListLayout { row_count, .. }) => None,
+            Layout::Dict(DictLayout { row_count, .. }) => None,
+            Layout::Zoned(ZonedLayout { row_count, .. }) => None,
+            Layout::LegacyStats(LegacyStatsLayout { row_count, .. }) => None,
+            Layout::Foreign(ForeignLayout { row_count, .. }) => None,
+        }
     }
 
     /// `is` tests the condition.

@@ -33,6 +33,11 @@ impl Model for LegacyStatsLayout {
 
     ghost view = { λ c. seen (stats_kind c.zone_len (map stat_number c.stats.items)) c.dtype c.row_count c.segment_ids c.children };
 
+    ghost use Rattle.std.specs.Prelude.{IsTrue};
+    ghost use Rattle.vx_metadata.specs.Values.{are_in_order};
+
+    ghost invariant = { λ c. IsTrue (are_in_order c.stats.items) };
+
     ghost use Rattle.vx_kinds.specs.LayDepth.{depth};
 
     ghost size = { depth };
@@ -43,11 +48,14 @@ impl Model for LegacyStatsLayout {
 }
 
 impl LegacyStatsLayout {
+    ghost use Rattle.std.specs.Prelude.{IsTrue};
+    ghost use Rattle.vx_metadata.specs.Values.{are_in_order};
     ghost use Rattle.vx_kinds.specs.LayoutView.{lay};
     ghost use Rattle.vx_kinds.specs.Made.{make_stats};
     ghost use Rattle.vx_kinds.specs.Views.{Gives, itself};
 
-    /// Of the column's type and rows. Refuses `ChildType` where the zones aren't of the statistics' table type.
+    /// Of the column's type and rows. The statistics are in order, each once (`vx_metadata::are_in_order`). Refuses
+    /// `ChildType` where the zones aren't of their table type.
     pub fn new(
         alloc: Global,
         column: Layout,
@@ -55,6 +63,7 @@ impl LegacyStatsLayout {
         zone_len: u32,
         stats: Vec<Stat>,
     ) -> Result<LegacyStatsLayout, LayoutError>
+        requires { IsTrue (are_in_order stats.items) }
         ensures { Gives itself result (make_stats (lay column) (lay zones) zone_len stats.items) }
     {
         let needs = legacy_stats_table_dtype(alloc, column.dtype(), &stats)?;

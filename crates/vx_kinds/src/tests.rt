@@ -1,5 +1,8 @@
 // Each kind once, and each refusal.
 
+ghost use Rattle.std.specs.Prelude.{◌≡◌, ◌∷◌, [], length, IfOk};
+ghost use Rattle.vx_aggregate.specs.declared.stat.Stat.TheVariants as stats;
+
 use crate::shape::pair;
 use crate::{
     ChunkedLayout, DictLayout, FlatLayout, ForeignLayout, Layout, LayoutError, LayoutKind,
@@ -47,13 +50,17 @@ fn one(alloc: Global, layout: Layout) -> Result<Vec<Layout>, Fail> {
     Ok(layouts)
 }
 
-fn max(alloc: Global) -> Result<Vec<AggregateFn>, Fail> {
+fn max(alloc: Global) -> Result<Vec<AggregateFn>, Fail>
+    ensures { IfOk result (λ v. length v.items ≡ 1) }
+{
     let mut aggregates = Vec::new(alloc);
     aggregates.push(AggregateFn::Max)?;
     Ok(aggregates)
 }
 
-fn max_stat(alloc: Global) -> Result<Vec<Stat>, Fail> {
+fn max_stat(alloc: Global) -> Result<Vec<Stat>, Fail>
+    ensures { IfOk result (λ v. v.items ≡ stats.Max ∷ []) }
+{
     let mut stats = Vec::new(alloc);
     stats.push(Stat::Max)?;
     Ok(stats)
@@ -162,6 +169,30 @@ fn nested_kinds(rt: HostRuntime) -> Result<(), Fail> {
 fn zoned_kind(rt: HostRuntime) -> Result<(), Fail> {
     let alloc = rt.alloc();
     assert!(rt; tells(alloc, zoned(alloc)?, "vortex.zoned 4 2: data@0 zones")?);
+    Ok(())
+}
+
+#[test]
+fn kept_bytes(rt: HostRuntime) -> Result<(), Fail> {
+    let alloc = rt.alloc();
+    let bytes = legacy(alloc)?.metadata(alloc)?;
+    assert!(rt; bytes.as_slice() == [2, 0, 0, 0, 1].as_slice());
+    let bytes = dict(alloc)?.metadata(alloc)?;
+    assert!(rt; bytes.as_slice() == [0, 0, 0].as_slice());
+    let bytes = zoned(alloc)?.metadata(alloc)?;
+    assert!(rt; bytes.len() == 27);
+    Ok(())
+}
+
+#[test]
+fn one_line(rt: HostRuntime) -> Result<(), Fail> {
+    let alloc = rt.alloc();
+    let layout = flat(alloc, 4, texts())?;
+    let text = format!(in alloc; "{layout}")?;
+    assert!(rt; text.as_str() == "vortex.flat(utf8, rows=4, segments=[0])");
+    let layout = chunked(alloc)?;
+    let text = format!(in alloc; "{layout}")?;
+    assert!(rt; text.as_str() == "vortex.chunked(u8, rows=7)");
     Ok(())
 }
 

@@ -34,6 +34,11 @@ impl Model for ZonedLayout {
 
     ghost view = { λ c. seen (zoned_kind c.zone_len (specs_of c.aggregates)) c.dtype c.row_count c.segment_ids c.children };
 
+    ghost use Rattle.std.specs.Prelude.{◌<◌, ◌^◌, length};
+
+    // A number of aggregates stands in four bytes of metadata.
+    ghost invariant = { λ c. length c.aggregates.items < 2 ^ 32 };
+
     ghost use Rattle.vx_kinds.specs.LayDepth.{depth};
 
     ghost size = { depth };
@@ -44,14 +49,15 @@ impl Model for ZonedLayout {
 }
 
 impl ZonedLayout {
-    ghost use Rattle.std.specs.Prelude.{map};
+    ghost use Rattle.std.specs.Prelude.{◌<◌, ◌^◌, length, map};
     ghost use Rattle.std.specs.Int.NonZero.{non_zero_u32_get};
     ghost use Rattle.vx_aggregate.specs.AggregateView.{aggregate};
     ghost use Rattle.vx_kinds.specs.LayoutView.{lay};
     ghost use Rattle.vx_kinds.specs.Made.{make_zoned};
     ghost use Rattle.vx_kinds.specs.Views.{Gives, itself};
 
-    /// Of the column's type and rows. Refuses `ChildType` where the zones aren't of the aggregates' table type.
+    /// Of the column's type and rows. There are fewer than 2^32 aggregates. Refuses `ChildType` where the zones aren't of
+    /// their table type.
     pub fn try_new(
         alloc: Global,
         column: Layout,
@@ -59,6 +65,7 @@ impl ZonedLayout {
         zone_len: NonZeroU32,
         aggregate_fns: Vec<AggregateFn>,
     ) -> Result<ZonedLayout, LayoutError>
+        requires { length aggregate_fns.items < 2 ^ 32 }
         ensures { Gives itself result (make_zoned (lay column) (lay zones) (non_zero_u32_get zone_len) (map aggregate aggregate_fns.items)) }
     {
         let needs = aggregate_stats_table_dtype(alloc, column.dtype(), &aggregate_fns)?;

@@ -1,6 +1,6 @@
 -- What nodes are seen as, and steps of the loops.
 use Rattle.std.proofs.Common.{◌≡◌, ℕ, suc, ◌+◌, ◌<◌, List, [], ◌∷◌, ◌++◌, length, get_or, drop, map, refl, ap, rules, append_assoc}
-use Rattle.std.proofs.lemmas.List.{append-nil, drop_more, drop_all, length-map}
+use Rattle.std.proofs.lemmas.List.{append-nil, drop_more, drop_all, length-map, map_push, map_more}
 use Rattle.std.specs.Int.{w16, to_le_bytes}
 use Rattle.vx_model.specs.Words.{joined_by}
 use Rattle.vx_model.specs.Tree.{u64_bytes}
@@ -36,3 +36,5 @@ pub ruleset field_rules = (append_assoc, append-nil, drop_all, drop_segments)
 pub ruleset own_rules = (append_assoc, head_is)
 
 pub ruleset write_rules = (append_assoc, append-nil, drop_all, drop_spelled, spelled_is)
+
+pub ruleset copy_rules = (map_push, map_more, raw_is)

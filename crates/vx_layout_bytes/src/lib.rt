@@ -1,6 +1,7 @@
 //! The bytes of a layout as a tree of plain nodes, both ways. What a node's index stands for is not known here.
 #![tactic(auto)]
 
+mod copy;
 mod error;
 mod fields;
 mod node;

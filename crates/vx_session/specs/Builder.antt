@@ -1,5 +1,5 @@
 -- What a node of bytes is built into.
-use Rattle.std.specs.Prelude.{ℕ, Bool, true, false, if◌then◌else◌, List, [], ◌∷◌, Option, Some, None, Result, Ok, Err}
+use Rattle.std.specs.Prelude.{ℕ, Bool, false, if◌then◌else◌, List, [], ◌∷◌, Option, Some, None, Result, Ok, Err}
 use Rattle.vx_model.specs.Ty.{Ty}
 use Rattle.vx_tree.specs.LayoutTree.{Lay, Lays, layout, no_layouts, child, foreign_kind, refused_kind}
 use Rattle.vx_tree.specs.Refusal.{Refusal, unknown_index, unregistered}
@@ -58,11 +58,15 @@ known_id ids index = known index (id_at ids index)
     known index None = Err (unknown_index index)
     known index (Some id) = Ok id
 
+-- what a node is built of at a type
+abbrev pub own_parts : Own → List Kid → Ty → Parts
+own_parts o ks t = record { dtype = t; rows = o.rows; segments = o.segments; kids = ks }
+
 -- what the node is where its id isn't registered, and what its kind builds
 abbrev pub build_registered : Scope → Own → List Kid → List ℕ → Made → Ty → Option LayoutEncoding → Made
 build_registered s o ks id other t None = if s.allow_unknown then other else Err (unregistered id)
 build_registered s o ks id other t (Some kind) =
-    build_kind kind s.context (record { dtype = t; rows = o.rows; segments = o.segments; kids = ks }) o.metadata
+    build_kind kind s.context (own_parts o ks t) o.metadata
 
 abbrev pub build_own : Scope → Own → List Kid → (Ty → Made) → Ty → Made
 build_own s o ks other t = do
@@ -87,7 +91,7 @@ kid_of s o build = record {
   rows = o.rows;
   is_flat = is_flat_node s o;
   build = build;
-  stands = λ t. built_or_refused (is_flat_node s o) o t (build t)
+  stands = λ t. built_or_refused (is_flat_node s o) o t (build t);
 }
 
 abbrev pub own_of : Node → Own
@@ -101,3 +105,7 @@ abbrev mutual
   pub kids : Scope → Nodes → List Kid
   kids s no_nodes = []
   kids s (first n ns) = kid_of s (own_of n) (builder s n) ∷ kids s ns
+
+-- what the node is built of at the type
+abbrev pub node_parts : Scope → Ty → Node → Parts
+node_parts s t (node o ns) = own_parts o (kids s ns) t

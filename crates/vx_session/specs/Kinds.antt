@@ -1,5 +1,6 @@
 -- What each kind is built into, and what it refuses first.
-use Rattle.std.specs.Prelude.{ℕ, ◌+◌, ◌-◌, ◌&&◌, Bool, true, false, if◌then◌else◌, List, [], ◌∷◌, ◌++◌, codes, bytes_eq, length, map, Option, Some, None, Result, Ok, Err}
+use Rattle.std.specs.Prelude.{ℕ, ◌+◌, ◌-◌, ◌&&◌, Bool, false, if◌then◌else◌, List, [], ◌∷◌, ◌++◌, codes, length, map, Option, Some, None, Result, Ok, Err}
+use Rattle.vx_model.specs.declared.ptype.PType.{PType}
 use Rattle.vx_model.specs.Words.{total_by}
 use Rattle.vx_model.specs.Ty.{Ty, Tys, boolean, primitive, struct, no_fields, field, nullable, is_list, is_struct}
 use Rattle.vx_model.specs.Ty as types
@@ -9,7 +10,6 @@ use Rattle.vx_record.specs.Aggregate.{Aggregate, aggregate_of, spec}
 use Rattle.vx_aggregate.specs.Stats.{stat_number}
 use Rattle.vx_aggregate.specs.Tables.{stats_table, legacy_table}
 use Rattle.vx_metadata.specs.Reading.{flat_in, list_in, dict_in, zoned_in, legacy_in}
-use Rattle.vx_metadata.specs.Values.{Zoned}
 use Rattle.vx_session.specs.declared.encoding.LayoutEncoding.{LayoutEncoding}
 use Rattle.vx_session.specs.declared.encoding.LayoutEncoding.TheVariants as kinds
 use Rattle.vx_session.specs.Ids.{is_listed}
@@ -90,17 +90,21 @@ build_validity p =
       Ok (validity ∷ []))
     else Ok []
 
--- there is an offset more than rows
+-- with offsets of the integer type; there is an offset more than rows
+unfoldable pub build_offsets : Parts → PType → Made
+build_offsets p offsets = do
+  count ← has_children (2 + length (validity_types p.dtype)) p.kids
+  elements ← child_at p.kids 0 (element_type p.dtype)
+  ends ← child_at p.kids 1 (primitive offsets false)
+  rows ← has_rows (row_count ends - 1) p.rows
+  validity ← build_validity p
+  layout_of list_kind p (elements ∷ ends ∷ validity)
+
 unfoldable pub build_list : Parts → List ℕ → Made
 build_list p metadata = do
   offsets ← spelled metadata (list_in metadata)
   of_lists ← needs (is_list p.dtype) no_list
-  count ← has_children (2 + length (validity_types p.dtype)) p.kids
-  elements ← child_at p.kids 0 (element_type p.dtype)
-  ends ← child_at p.kids 1 (primitive offsets.offsets_ptype false)
-  rows ← has_rows (row_count ends - 1) p.rows
-  validity ← build_validity p
-  layout_of list_kind p (elements ∷ ends ∷ validity)
+  build_offsets p offsets.offsets_ptype
 
 -- ---- dictionaries
 
@@ -119,16 +123,19 @@ build_dict p metadata = do
 abbrev pub names_aggregate : List ℕ → Bool
 names_aggregate id = is_listed id (codes "vortex.max" ∷ codes "vortex.min" ∷ codes "vortex.bounded_max" ∷ codes "vortex.bounded_min" ∷ codes "vortex.null_count" ∷ codes "vortex.sum" ∷ codes "vortex.bloom_filter.sbbf" ∷ [])
 
--- the aggregate with its options; an unknown one where it is let through
+-- the aggregate with its options
 abbrev pub with_options : Spec → Option Aggregate → Result (Option Aggregate) Refusal
 with_options s None = Err (unknown_aggregate s.id)
 with_options s (Some a) = Ok (Some a)
 
+-- nothing for an unknown one, where those are let through
+abbrev pub let_through : Context → Spec → Result (Option Aggregate) Refusal
+let_through c s = if c.allow_unknown then Ok None else Err (unknown_aggregate s.id)
+
 unfoldable pub read_spec : Context → Spec → Result (Option Aggregate) Refusal
 read_spec c s =
     if is_listed s.id c.aggregates && names_aggregate s.id then with_options s (aggregate_of s)
-    else if c.allow_unknown then Ok None
-    else Err (unknown_aggregate s.id)
+    else let_through c s
 
 abbrev pub in_front : Aggregate → Option (List Aggregate) → Result (Option (List Aggregate)) Refusal
 in_front a None = Ok None

@@ -5,4 +5,4 @@ pub mod Made
 pub mod Kinds
 pub mod Builder
 pub mod Views
--- pub mod Aggregates
+pub mod Aggregates

@@ -1,5 +1,5 @@
 -- What is made of parts, or the refusal that comes first; and children, each with what it builds.
-use Rattle.std.specs.Prelude.{ℕ, zero, suc, ◌+◌, ◌==◌, Bool, true, false, List, [], ◌∷◌, length, Option, Some, None, Result, Ok, Err}
+use Rattle.std.specs.Prelude.{ℕ, zero, suc, ◌==◌, Bool, true, false, List, [], ◌∷◌, length, Option, Some, None, Result, Ok, Err}
 use Rattle.vx_model.specs.Ty.{Ty}
 use Rattle.vx_tree.specs.LayoutTree.{Lay}
 use Rattle.vx_tree.specs.Refusal.{Refusal, child_count, other_rows, segment_count, bad_metadata, slot_range}

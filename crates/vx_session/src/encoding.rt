@@ -13,7 +13,9 @@ pub enum LayoutEncoding {
 }
 
 pub type LayoutVTablePlugin = LayoutEncoding;
+
 pub type LayoutVTableRef = LayoutEncoding;
+
 pub type LayoutEncodingRef = LayoutEncoding;
 
 impl LayoutEncoding {

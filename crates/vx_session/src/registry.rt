@@ -27,7 +27,9 @@ impl LayoutRegistry {
     pub(crate) fn new(alloc: Global) -> LayoutRegistry
         ensures { result ≡ [] }
     {
-        LayoutRegistry { kinds: Vec::new(alloc) }
+        LayoutRegistry {
+            kinds: Vec::new(alloc),
+        }
     }
 
     /// The kind that is registered under the id.
