@@ -533,7 +533,7 @@ parsed_again s t deep nodes bytes l d fits e b = go (root_at deep nodes bytes) r
     go (Ok n) is = let p : parsed s t deep nodes bytes ≡ builder s n t = rw is refl in spelled_by s n t bytes l d fits (root_takes deep nodes bytes n fits is).1 (sym p ∙ e) b
     go (Err fault) is = let p : parsed s t deep nodes bytes ≡ Err (refused_by fault) = rw is refl in absurd (cc (p, e))
 
-the_law : ParsedIsSpelled
+pub the_law : ParsedIsSpelled
 the_law s t deep nodes bytes l distinct fits made whole = parsed_again s t deep nodes bytes l distinct fits made whole
 
 pub ruleset again_rules = (the_law)
