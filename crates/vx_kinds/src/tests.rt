@@ -172,27 +172,42 @@ fn zoned_kind(rt: HostRuntime) -> Result<(), Fail> {
     Ok(())
 }
 
+fn metadata_is(alloc: Global, layout: Layout, bytes: &[u8]) -> Result<bool, Fail> {
+    Ok(layout.metadata(alloc)?.as_slice() == bytes)
+}
+
 #[test]
 fn kept_bytes(rt: HostRuntime) -> Result<(), Fail> {
     let alloc = rt.alloc();
-    let bytes = legacy(alloc)?.metadata(alloc)?;
-    assert!(rt; bytes.as_slice() == [2, 0, 0, 0, 1].as_slice());
-    let bytes = dict(alloc)?.metadata(alloc)?;
-    assert!(rt; bytes.as_slice() == [0, 0, 0].as_slice());
+    assert!(rt; metadata_is(alloc, legacy(alloc)?, &[2, 0, 0, 0, 1])?);
+    assert!(rt; metadata_is(alloc, dict(alloc)?, &[0, 0, 0])?);
+    Ok(())
+}
+
+#[test]
+fn kept_specs(rt: HostRuntime) -> Result<(), Fail> {
+    let alloc = rt.alloc();
     let bytes = zoned(alloc)?.metadata(alloc)?;
     assert!(rt; bytes.len() == 27);
     Ok(())
+}
+
+fn is_shown(alloc: Global, layout: Layout, text: &str) -> Result<bool, Fail> {
+    Ok(format!(in alloc; "{layout}")?.as_str() == text)
 }
 
 #[test]
 fn one_line(rt: HostRuntime) -> Result<(), Fail> {
     let alloc = rt.alloc();
     let layout = flat(alloc, 4, texts())?;
-    let text = format!(in alloc; "{layout}")?;
-    assert!(rt; text.as_str() == "vortex.flat(utf8, rows=4, segments=[0])");
-    let layout = chunked(alloc)?;
-    let text = format!(in alloc; "{layout}")?;
-    assert!(rt; text.as_str() == "vortex.chunked(u8, rows=7)");
+    assert!(rt; is_shown(alloc, layout, "vortex.flat(utf8, rows=4, segments=[0])")?);
+    Ok(())
+}
+
+#[test]
+fn one_line_without_segments(rt: HostRuntime) -> Result<(), Fail> {
+    let alloc = rt.alloc();
+    assert!(rt; is_shown(alloc, chunked(alloc)?, "vortex.chunked(u8, rows=7)")?);
     Ok(())
 }
 

@@ -36,24 +36,22 @@ fn encodings(alloc: Global) -> Result<ArrayContext, Fail> {
     Ok(ArrayContext::try_new(ids)?)
 }
 
+const IDS: [&str; 7] = [
+    "vortex.flat",
+    "vortex.chunked",
+    "vortex.struct",
+    "vortex.list",
+    "vortex.dict",
+    "vortex.zoned",
+    "vortex.stats",
+];
+
 #[test]
 fn kinds(rt: HostRuntime) -> Result<(), Fail> {
     let alloc = rt.alloc();
-    let ids = texts(
-        alloc,
-        &[
-            "vortex.flat",
-            "vortex.chunked",
-            "vortex.struct",
-            "vortex.list",
-            "vortex.dict",
-            "vortex.zoned",
-            "vortex.stats",
-        ],
-    )?;
-    for i in 0..LayoutEncoding::ALL.len() {
+    for i in 0..7 {
         let kind = LayoutEncoding::ALL[i];
-        assert_eq!(rt; kind.id(), ids[i].as_str());
+        assert_eq!(rt; kind.id(), IDS[i]);
         assert_eq!(rt; format!(in alloc; "{kind}")?.as_str(), kind.id());
         assert_eq!(rt; kind.is_indivisible(), kind.is(LayoutEncoding::Flat));
     }
