@@ -82,6 +82,13 @@ fn flat_kind(rt: HostRuntime) -> Result<(), Fail> {
     let alloc = rt.alloc();
     let layout = flat(alloc, 1, integers(), 0)?;
     assert!(rt; shows(alloc, &layout, "vortex.flat, dtype: i64, segment: 0\n")?);
+    Ok(())
+}
+
+#[test]
+fn verbose(rt: HostRuntime) -> Result<(), Fail> {
+    let alloc = rt.alloc();
+    let layout = flat(alloc, 1, integers(), 0)?;
     assert!(rt;
         shows_all(
             alloc,
@@ -89,7 +96,18 @@ fn flat_kind(rt: HostRuntime) -> Result<(), Fail> {
             "vortex.flat, dtype: i64, rows: 1, segment: 0\n"
         )?
     );
-    let kept = DisplayLayoutTree::new(alloc, &layout, false)?;
+    Ok(())
+}
+
+fn kept(alloc: Global) -> Result<DisplayLayoutTree, Fail> {
+    let layout = flat(alloc, 1, integers(), 0)?;
+    Ok(DisplayLayoutTree::new(alloc, &layout, false)?)
+}
+
+#[test]
+fn kept_text(rt: HostRuntime) -> Result<(), Fail> {
+    let alloc = rt.alloc();
+    let kept = kept(alloc)?;
     let text = format!(in alloc; "{kept}")?;
     assert!(rt; text.as_str() == "vortex.flat, dtype: i64, segment: 0\n");
     Ok(())
@@ -210,12 +228,21 @@ fn nullable_struct(rt: HostRuntime) -> Result<(), Fail> {
     Ok(())
 }
 
-fn list(alloc: Global) -> Result<Layout, Fail> {
+fn elements_and_offsets(alloc: Global) -> Result<(Layout, Layout), Fail> {
     let elements = flat(alloc, 5, integers(), 0)?;
     let offsets = flat(alloc, 4, offsets_type(), 1)?;
-    let validity = Some(flat(alloc, 3, flags(), 2)?);
-    let dtype = DType::List(Box::new(alloc, integers())?, Nullability::Nullable);
-    Ok(Layout::List(ListLayout::new(alloc, dtype, elements, offsets, validity)?))
+    Ok((elements, offsets))
+}
+
+fn list_of(alloc: Global, dtype: DType) -> Result<Layout, Fail> {
+    let (elements, offsets) = elements_and_offsets(alloc)?;
+    Ok(Layout::List(ListLayout::new(alloc, dtype, elements, offsets, None)?))
+}
+
+/// Elements in segment 0, offsets in segment 1.
+fn list(alloc: Global) -> Result<Layout, Fail> {
+    let dtype = DType::List(Box::new(alloc, integers())?, Nullability::NonNullable);
+    list_of(alloc, dtype)
 }
 
 #[test]
@@ -226,7 +253,7 @@ fn list_kind(rt: HostRuntime) -> Result<(), Fail> {
         shows_all(
             alloc,
             &layout,
-            "vortex.list, dtype: list(i64)?, children: 3, metadata: 1 bytes, rows: 3\n├── elements: vortex.flat, dtype: i64, rows: 5, segment: 0\n├── offsets: vortex.flat, dtype: u64, rows: 4, segment: 1\n└── validity: vortex.flat, dtype: bool, rows: 3, segment: 2\n"
+            "vortex.list, dtype: list(i64), children: 2, metadata: 1 bytes, rows: 3\n├── elements: vortex.flat, dtype: i64, rows: 5, segment: 0\n└── offsets: vortex.flat, dtype: u64, rows: 4, segment: 1\n"
         )?
     );
     Ok(())

@@ -53,7 +53,11 @@ fn flat(
     cells: Vec<Cell>,
 ) -> Result<Layout, Fail> {
     let rows = cells.len() as u64;
-    let number = SegmentId(segments.first.saturating_add(segments.list.len() as u32));
+    let number = SegmentId(
+        segments
+            .first
+            .saturating_add(u32::try_from(segments.list.len()).unwrap_or(u32::MAX)),
+    );
     if !fits(&dtype, &cells) {
         return Err(Fail::from("the cells fit"));
     }

@@ -19,6 +19,7 @@ fn context(alloc: Global) -> Result<ArrayContext, Fail> {
 }
 
 /// The report of the rows that are read from the chunk's segment.
+#[tactic(auto, unfolding(vx_kinds::specs::LayoutView::lay))]
 fn printed(alloc: Global, chunk: &Chunk) -> Result<String, Fail> {
     let ctx = context(alloc)?;
     let segment = Blob::from(encode_segment(alloc, &ctx, chunk, true)?);

@@ -1,10 +1,14 @@
 //! Jobs, and what the program prints for them.
 
+ghost use Rattle.std.specs.Prelude.{◌≡◌, [], IfOk};
+ghost use Rattle.vx_kinds.specs.LayoutView.{lay};
+ghost use Rattle.vx_report.specs.ZoneText.{zone_tables};
+
 use crate::i64_type;
 use crate::program::{NEVER, outcome, written};
 use std::alloc::{AllocError, Global};
 use std::test::Fail;
-use vx_kinds::{ChunkedLayout, Layout};
+use vx_kinds::{ChunkedLayout, Layout, LayoutError};
 use vx_report::report;
 use vx_run::Status;
 use vx_types::{Blob, Text, Value};
@@ -183,10 +187,19 @@ fn every_kind(alloc: Global) -> Result<Vec<Value>, AllocError> {
     Ok(rows)
 }
 
+/// A layout without chunks.
+#[tactic(auto, unfolding(vx_kinds::specs::LayoutView::lay))]
+fn no_chunks(alloc: Global) -> Result<Layout, LayoutError>
+    ensures { IfOk result (λ l. zone_tables (lay l) ≡ []) }
+{
+    let chunked = ChunkedLayout::new(0, i64_type(), Vec::new(alloc))?;
+    Ok(Layout::Chunked(chunked))
+}
+
 #[test]
 fn rows_of_every_kind(rt: HostRuntime) -> Result<(), Fail> {
     let alloc = rt.alloc();
-    let layout = Layout::Chunked(ChunkedLayout::new(0, i64_type(), Vec::new(alloc))?);
+    let layout = no_chunks(alloc)?;
     let text = report(alloc, 0, &layout, &[], &every_kind(alloc)?)?;
     assert_eq!(rt; text.as_str(), EVERY_KIND);
     Ok(())
