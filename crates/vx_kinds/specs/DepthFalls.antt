@@ -2,10 +2,14 @@
 use Rattle.std.specs.Prelude.{◌≤◌, max, map, List, [], ◌∷◌}
 use Rattle.std.proofs.Common.{arith}
 use denote.Param.Weighed.{most}
+use Rattle.vx_model.specs.Ty.{Ty}
 use Rattle.vx_tree.specs.LayoutTree.{lays_of}
+use Rattle.vx_kinds.specs.declared.children.LayoutChildren.{LayoutChildren}
+use Rattle.vx_kinds.specs.declared.children.LayoutChildren.TheVariants as children
+use Rattle.vx_kinds.specs.KidsView.{chunks, fields}
 use Rattle.vx_kinds.specs.declared.layout.Layout.{Layout}
 use Rattle.vx_kinds.specs.declared.layout.Layout.TheVariants as layouts
-use Rattle.vx_kinds.specs.declared.chunked.ChunkedLayout.TheDeep.{deep-Layout}
+use Rattle.vx_kinds.specs.declared.chunked.ChunkedLayout.TheDeep.{deep-Layout, deep-LayoutChildren}
 use Rattle.vx_kinds.specs.LayoutView.{lay}
 use Rattle.vx_kinds.specs.LayDepth.{depths}
 
@@ -23,3 +27,17 @@ most_deep (layouts.Foreign l ∷ ls) = omega (arith, most_deep ls)
 
 pub children_fall : (ls : List Layout) → max (most deep-Layout ls) 0 ≤ depths (lays_of (map lay ls))
 children_fall ls = omega (arith, most_deep ls)
+
+all_deep : (t : Ty) (c : LayoutChildren) → deep-LayoutChildren c ≤ depths (lays_of (chunks t c))
+all_deep t (children.Owned v) = omega (arith, most_deep v.items)
+all_deep t (children.Viewed v) = omega arith
+
+pub chunks_fall : (t : Ty) (c : LayoutChildren) → max (deep-LayoutChildren c) 0 ≤ depths (lays_of (chunks t c))
+chunks_fall t c = omega (arith, all_deep t c)
+
+each_deep : (t : Ty) (c : LayoutChildren) → deep-LayoutChildren c ≤ depths (lays_of (fields t c))
+each_deep t (children.Owned v) = omega (arith, most_deep v.items)
+each_deep t (children.Viewed v) = omega arith
+
+pub fields_fall : (t : Ty) (c : LayoutChildren) → max (deep-LayoutChildren c) 0 ≤ depths (lays_of (fields t c))
+fields_fall t c = omega (arith, each_deep t c)

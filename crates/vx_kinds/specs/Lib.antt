@@ -2,6 +2,8 @@ pub mod FlatView
 pub mod LayCode
 pub mod LayDepth
 pub mod LayoutView
+pub mod KidsView
+pub mod PartsView
 pub mod DepthFalls
 pub mod Children
 pub mod ChildView

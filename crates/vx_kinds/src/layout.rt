@@ -1,4 +1,5 @@
 use crate::child::LayoutChild;
+use crate::children::{kept_child, kept_rows};
 use crate::chunked::ChunkedLayout;
 use crate::dict::DictLayout;
 use crate::error::LayoutError;
@@ -120,48 +121,60 @@ impl Layout {
         }
     }
 
-    /// The children that are present, in slot order.
-    #[tactic(auto, using(crate::proofs::Steps::lays_rules), unfolding(crate::specs::LayoutView::lay))]
-    pub(crate) fn owned(&self) -> &[Layout]
-        ensures { map lay result.now ≡ children_of (lay self.now) }
-    {
-        match self {
-            Layout::Flat(_) => &[],
-            Layout::Chunked(inner) => &inner.children,
-            Layout::Struct(inner) => &inner.children,
-            Layout::List(inner) => &inner.children,
-            Layout::Dict(inner) => &inner.children,
-            Layout::Zoned(inner) => &inner.children,
-            Layout::LegacyStats(inner) => &inner.children,
-            Layout::Foreign(inner) => &inner.children,
-        }
-    }
-
     /// How many children are present.
+    #[tactic(auto, using(crate::proofs::KidSteps::place_rules), unfolding(crate::specs::LayoutView::lay))]
     pub fn nchildren(&self) -> u64
         ensures { result ≡ length (children_of (lay self.now)) }
     {
-        self.owned().len() as u64
+        match self {
+            Layout::Flat(_) => 0,
+            Layout::Chunked(inner) => inner.children.nchildren(),
+            Layout::Struct(inner) => inner.children.nchildren(),
+            Layout::List(inner) => inner.children.len() as u64,
+            Layout::Dict(inner) => inner.children.len() as u64,
+            Layout::Zoned(inner) => inner.children.len() as u64,
+            Layout::LegacyStats(inner) => inner.children.len() as u64,
+            Layout::Foreign(inner) => inner.children.len() as u64,
+        }
     }
 
     /// Rows of the child at the place, which is below `nchildren`.
-    #[tactic(auto, using(crate::proofs::Steps::rows_rules))]
+    #[tactic(auto, using(crate::proofs::KidSteps::place_rules), unfolding(crate::specs::LayoutView::lay))]
     pub fn child_row_count(&self, i: u64) -> u64
         requires { i < length (children_of (lay self.now)) }
         ensures { result ≡ rows_at (children_of (lay self.now)) i }
     {
-        self.owned()[i as usize].row_count()
+        match self {
+            Layout::Flat(_) => 0,
+            Layout::Chunked(inner) => inner.children.child_row_count(i),
+            Layout::Struct(inner) => inner.children.child_row_count(i),
+            Layout::List(inner) => kept_rows(&inner.children, i),
+            Layout::Dict(inner) => kept_rows(&inner.children, i),
+            Layout::Zoned(inner) => kept_rows(&inner.children, i),
+            Layout::LegacyStats(inner) => kept_rows(&inner.children, i),
+            Layout::Foreign(inner) => kept_rows(&inner.children, i),
+        }
     }
 
     /// The child at the place, which is below `nchildren`, or why it can't be built.
-    #[tactic(auto, using(crate::proofs::Steps::child_rules), unfolding(crate::specs::ChildView::child_lay))]
+    #[tactic(auto, using(crate::proofs::KidSteps::place_rules), unfolding(crate::specs::LayoutView::lay))]
     pub fn child(&self, i: u64) -> Result<LayoutChild<'_>, LayoutError>
         requires { i < length (children_of (lay self.now)) }
         ensures { Gives child_lay result (child_in (children_of (lay self.now)) i) }
     {
-        let child = &self.owned()[i as usize];
-        child.built();
-        Ok(LayoutChild::Kept(child))
+        match self {
+            Layout::Flat(_) => Err(LayoutError::SlotRange {
+                index: i,
+                children: 0,
+            }),
+            Layout::Chunked(inner) => inner.children.chunk(i, &inner.dtype),
+            Layout::Struct(inner) => inner.children.field(i, &inner.dtype),
+            Layout::List(inner) => kept_child(&inner.children, i),
+            Layout::Dict(inner) => kept_child(&inner.children, i),
+            Layout::Zoned(inner) => kept_child(&inner.children, i),
+            Layout::LegacyStats(inner) => kept_child(&inner.children, i),
+            Layout::Foreign(inner) => kept_child(&inner.children, i),
+        }
     }
 
     /// A layout in memory is no node that can't be built.

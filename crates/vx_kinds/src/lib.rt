@@ -1,18 +1,24 @@
 //! Layouts of all kinds in memory: constructors, and what a layout tells of itself.
 #![tactic(auto)]
 
+mod alone;
+mod build;
+mod checks;
 mod child;
 mod child_type;
+mod children;
 mod chunked;
 mod dict;
 mod display;
 mod error;
 mod flat;
 mod foreign;
+mod foreign_nodes;
 mod kind;
 mod layout;
 mod list;
 mod metadata;
+mod parts;
 mod shape;
 mod slots;
 mod stats;
@@ -20,10 +26,13 @@ mod structs;
 #[cfg(test)]
 mod tests;
 mod total;
+mod viewed;
 mod zoned;
 
+pub use build::build_node;
 pub use child::LayoutChild;
 pub use child_type::LayoutChildType;
+pub use children::{LayoutChildren, ViewedChildren, layout_children};
 pub use chunked::ChunkedLayout;
 pub use dict::DictLayout;
 pub use display::SegmentList;
@@ -33,6 +42,7 @@ pub use foreign::ForeignLayout;
 pub use kind::LayoutKind;
 pub use layout::Layout;
 pub use list::ListLayout;
+pub use parts::{LayoutDeserializeArgs, LayoutParts};
 pub use stats::LegacyStatsLayout;
 pub use structs::StructLayout;
 pub use zoned::ZonedLayout;

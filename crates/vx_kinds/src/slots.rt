@@ -5,11 +5,12 @@ ghost use Rattle.vx_model.specs.Ty.{nullable};
 ghost use Rattle.vx_model.specs.TyView.{ty, field_ty};
 ghost use Rattle.vx_kinds.specs.declared.child_type.LayoutChildType.TheVariants.{Auxiliary, Transparent};
 ghost use Rattle.vx_kinds.specs.Children.{below as below_count, struct_place as place_in_struct, list_place as place_in_list, chunk_type as type_of_chunk, field_type as type_of_field, struct_type as type_in_struct, list_type as type_in_list, dict_type as type_in_dict, zoned_type as type_in_zoned, foreign_type as type_in_foreign, fields_of};
-ghost use Rattle.vx_kinds.specs.LayoutView.{lay};
+ghost use Rattle.vx_kinds.specs.KidsView.{chunks};
 ghost use Rattle.vx_tree.specs.LayoutTree.{row_count};
 ghost use Rattle.vx_model.specs.Words.{total_by};
 
 use crate::child_type::LayoutChildType;
+use crate::children::LayoutChildren;
 use crate::dict::DictLayout;
 use crate::layout::Layout;
 use crate::list::ListLayout;
@@ -26,13 +27,13 @@ impl Layout {
     ghost use Rattle.vx_kinds.specs.LayoutView.{lay};
 
     /// How many slots there are, also those that have no child.
-    #[tactic(auto, using(crate::proofs::Steps::slot_rules), unfolding(crate::specs::LayoutView::lay))]
+    #[tactic(auto, using(crate::proofs::KidSteps::slot_rules), unfolding(crate::specs::LayoutView::lay))]
     pub fn nslots(&self) -> u64
         ensures { result ≡ slots (lay self.now) }
     {
         match self {
             Layout::Flat(_) => 0,
-            Layout::Chunked(chunked) => chunked.children.len() as u64,
+            Layout::Chunked(chunked) => chunked.children.nchildren(),
             Layout::Struct(strukt) => field_count(&strukt.dtype) as u64 + 1,
             Layout::List(ListLayout { row_count, .. }) => 3,
             Layout::Dict(DictLayout { row_count, .. }) => 2,
@@ -43,13 +44,13 @@ impl Layout {
     }
 
     /// The place among the children of the child in the slot.
-    #[tactic(auto, using(crate::proofs::Steps::slot_rules), unfolding(crate::specs::LayoutView::lay))]
+    #[tactic(auto, using(crate::proofs::KidSteps::slot_rules), unfolding(crate::specs::LayoutView::lay))]
     pub fn slot_to_child(&self, slot: u64) -> Option<u64>
         ensures { result ≡ slot_place (lay self.now) slot }
     {
         match self {
             Layout::Flat(_) => None,
-            Layout::Chunked(chunked) => below(chunked.children.len() as u64, slot),
+            Layout::Chunked(chunked) => below(chunked.children.nchildren(), slot),
             Layout::Struct(strukt) => struct_place(&strukt.dtype, slot),
             Layout::List(list) => list_place(&list.dtype, slot),
             Layout::Dict(DictLayout { row_count, .. }) => below(2, slot),
@@ -60,13 +61,13 @@ impl Layout {
     }
 
     /// What a child in the slot is, also where there is none.
-    #[tactic(auto, using(crate::proofs::Steps::slot_rules), unfolding(crate::specs::LayoutView::lay))]
+    #[tactic(auto, using(crate::proofs::KidSteps::slot_rules), unfolding(crate::specs::LayoutView::lay))]
     pub fn slot_type(&self, alloc: Global, slot: u64) -> Result<Option<LayoutChildType>, AllocError>
         ensures { IfOk result (λ o. o ≡ type_in_slot (lay self.now) slot) }
     {
         match self {
             Layout::Flat(_) => Ok(None),
-            Layout::Chunked(chunked) => Ok(chunk_type(&chunked.children, chunked.row_count, slot)),
+            Layout::Chunked(chunked) => Ok(chunk_type(&chunked.dtype, &chunked.children, chunked.row_count, slot)),
             Layout::Struct(strukt) => struct_type(alloc, &strukt.dtype, slot),
             Layout::List(ListLayout { row_count, .. }) => list_type(alloc, slot),
             Layout::Dict(DictLayout { row_count, .. }) => dict_type(alloc, slot),
@@ -106,13 +107,20 @@ fn list_place(dtype: &DType, slot: u64) -> Option<u64>
     }
 }
 
-#[tactic(auto, using(crate::proofs::Steps::slot_rules))]
-fn chunk_type(chunks: &[Layout], rows: u64, slot: u64) -> Option<LayoutChildType>
-    requires { total_by row_count (map lay chunks.now) ≡ rows }
-    ensures { result ≡ type_of_chunk (map lay chunks.now) slot }
+/// Where the children are chunks of the type.
+#[tactic(auto, using(crate::proofs::KidSteps::chunk_rules))]
+fn chunk_type(
+    dtype: &DType,
+    children: &LayoutChildren,
+    rows: u64,
+    slot: u64,
+) -> Option<LayoutChildType>
+    requires { total_by row_count (chunks (ty dtype.now) children.now) ≡ rows }
+    ensures { result ≡ type_of_chunk (chunks (ty dtype.now) children.now) slot }
 {
-    if slot < chunks.len() as u64 {
-        let offset = rows_before(chunks, rows, slot as usize);
+    let _ = dtype;
+    if slot < children.nchildren() {
+        let offset = rows_before(children, rows, slot);
         Some(LayoutChildType::Chunk((slot, offset)))
     } else {
         None

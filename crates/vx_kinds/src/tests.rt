@@ -6,7 +6,7 @@ ghost use Rattle.vx_aggregate.specs.declared.stat.Stat.TheVariants as stats;
 use crate::shape::pair;
 use crate::{
     ChunkedLayout, DictLayout, FlatLayout, ForeignLayout, Layout, LayoutError, LayoutKind,
-    LegacyStatsLayout, ListLayout, StructLayout, ZonedLayout,
+    LegacyStatsLayout, ListLayout, StructLayout, ZonedLayout, layout_children,
 };
 use std::alloc::Global;
 use std::num::NonZeroU32;
@@ -69,7 +69,7 @@ fn max_stat(alloc: Global) -> Result<Vec<Stat>, Fail>
 fn chunked(alloc: Global) -> Result<Layout, Fail> {
     let first = flat(alloc, 3, integers())?;
     let chunks = pair(alloc, first, flat(alloc, 4, integers())?)?;
-    Ok(Layout::Chunked(ChunkedLayout::new(7, integers(), chunks)?))
+    Ok(Layout::Chunked(ChunkedLayout::new(7, integers(), layout_children(chunks))?))
 }
 
 fn structs(alloc: Global) -> Result<Layout, Fail> {
@@ -222,7 +222,7 @@ fn legacy_kind(rt: HostRuntime) -> Result<(), Fail> {
 fn other_counts(rt: HostRuntime) -> Result<(), Fail> {
     let alloc = rt.alloc();
     let chunks = one(alloc, flat(alloc, 7, integers())?)?;
-    let none = ChunkedLayout::new(8, integers(), chunks);
+    let none = ChunkedLayout::new(8, integers(), layout_children(chunks));
     assert!(rt; matches!(&none, Err(LayoutError::RowCount { has: 7, needs: 8 })));
     let none = StructLayout::new(3, integers(), Vec::new(alloc));
     assert!(rt; matches!(&none, Err(LayoutError::NotAStruct)));
