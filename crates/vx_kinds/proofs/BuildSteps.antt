@@ -1,15 +1,11 @@
 -- What a node is built into, by its id.
-use Rattle.std.proofs.Common.{◌≡◌, ℕ, suc, ◌+◌, ◌-◌, length, Bool, true, false, List, [], ◌∷◌, map, Option, Some, None, Result, Ok, Err, refl, sym, ◌∙◌, ap, arith}
-use Rattle.vx_model.specs.declared.ptype.PType.{PType}
+use Rattle.std.proofs.Common.{◌≡◌, ℕ, suc, ◌+◌, ◌-◌, ◌≤◌, ◌++◌, length, Bool, true, false, List, [], ◌∷◌, map, Option, Some, None, Result, Ok, Err, refl, sym, ◌∙◌, ap, arith}
+use Rattle.std.proofs.lemmas.List.{append-nil, map_push}
+use Rattle.std.specs.Prelude.{max, if◌then◌else◌}
 use Rattle.vx_model.specs.Words.{total_by}
-use Rattle.vx_model.specs.Ty.{Ty, boolean, primitive, nullable, is_struct}
+use Rattle.vx_model.specs.Ty.{Ty, is_struct}
 use Rattle.vx_model.specs.TyView.{ty}
-use Rattle.vx_tree.specs.LayoutTree.{Lay, row_count, chunked_kind, struct_kind, list_kind, dict_kind, stats_kind}
-use Rattle.vx_aggregate.specs.declared.stat.Stat.{Stat}
-use Rattle.vx_aggregate.specs.Stats.{stat_number}
-use Rattle.vx_aggregate.specs.Tables.{legacy_table}
-use Rattle.vx_metadata.specs.declared.dict.DictLayoutMetadata.{DictLayoutMetadata}
-use Rattle.vx_metadata.specs.Reading.{dict_in, legacy_in}
+use Rattle.vx_tree.specs.LayoutTree.{Lay, row_count, chunked_kind, struct_kind}
 use Rattle.vx_tree.specs.Refusal.{Refusal, unknown_index, unregistered}
 use Rattle.vx_layout_bytes.specs.declared.node.RawNode.{RawNode, out-RawNode}
 use Rattle.vx_layout_bytes.specs.Node.{Own, Node, node, nodes_of}
@@ -19,37 +15,75 @@ use Rattle.vx_layout_bytes.proofs.Nodes.{raw_is}
 use Rattle.vx_session.specs.declared.encoding.LayoutEncoding.{LayoutEncoding}
 use Rattle.vx_session.specs.Ids.{id_at}
 use Rattle.vx_session.specs.Encodings.{kind_of}
-use Rattle.vx_session.specs.Scope.{Scope}
-use Rattle.vx_session.specs.Made.{Made, Kid, kid_rows, spelled, has_children, has_rows, all_have_rows}
-use Rattle.vx_session.specs.Kinds.{Parts, nothing_in, struct_types, element_type, build_kind, build_chunked, build_struct, build_offsets, build_dict, build_stats}
-use Rattle.vx_session.specs.Builder.{builder, build_foreign, build_registered, known_id, own_of, node_parts, own_parts, kids}
+use Rattle.vx_session.specs.Scope.{Scope, Context}
+use Rattle.vx_session.specs.Made.{Made, ◌>>=◌, Kid, kid_rows, spelled, has_children, has_rows, all_have_rows}
+use Rattle.vx_session.specs.Kinds.{Parts, nothing_in, struct_types, build_kind, build_chunked, build_struct}
+use Rattle.vx_session.specs.Builder.{builder, build_foreign, build_registered, known_id, own_of, own_parts, node_parts, kids}
 use Rattle.vx_kinds.specs.declared.error.LayoutError.{LayoutError}
 use Rattle.vx_kinds.specs.declared.parts.LayoutParts.{LayoutParts}
-use Rattle.vx_kinds.specs.declared.parts.OneChild.{OneChild}
-use Rattle.vx_kinds.specs.declared.parts.OneChild.TheVariants as ones
+use Rattle.vx_kinds.specs.declared.open.Wanted.{Wanted}
+use Rattle.vx_kinds.specs.declared.open.Open.{Open}
 use Rattle.vx_kinds.specs.Views.{Fails}
+use Rattle.vx_kinds.specs.NodeKind.{kind_there, node_kind}
 use Rattle.vx_kinds.specs.LayoutView.{seen_layout}
 use Rattle.vx_kinds.specs.KidsView.{layout_kids, chunks, fields}
-use Rattle.vx_kinds.specs.PartsView.{parts_of, one_kid, one_built}
+use Rattle.vx_kinds.specs.PartsView.{parts_of, one_built, one_depth}
+use Rattle.vx_kinds.specs.OpenView.{Children, rows_ruled, wanted_built, all_built, wanted_depths, framed, open_made}
 use Rattle.vx_kinds.proofs.KidSteps.{chunks_are, fields_are, fails_by}
 
-pub node_unknown : (s : Scope) (n : RawNode) (t : Ty) → id_at s.ids (out-RawNode n).index ≡ None → builder s (raw n) t ≡ Err (unknown_index (out-RawNode n).index)
-node_unknown s n t none = rw (raw_is n, none) refl
+-- ---- the kind of a node
 
-pub node_unregistered : (s : Scope) (n : RawNode) (t : Ty) (id : List ℕ) → id_at s.ids (out-RawNode n).index ≡ Some id → kind_of id s.registered ≡ None → s.allow_unknown ≡ false
-    → builder s (raw n) t ≡ Err (unregistered id)
-node_unregistered s n t id found none refused = rw (raw_is n, found, none, refused) refl
+pub index_unknown : (s : Scope) (index : ℕ) → id_at s.ids index ≡ None → node_kind s index ≡ Err (unknown_index index)
+index_unknown s index none = rw none refl
 
-pub node_foreign : (s : Scope) (n : RawNode) (t : Ty) (id : List ℕ) → id_at s.ids (out-RawNode n).index ≡ Some id → kind_of id s.registered ≡ None → s.allow_unknown ≡ true
-    → builder s (raw n) t ≡ build_foreign s.ids (raw n) t
-node_foreign s n t id found none allowed = rw (raw_is n, found, none, allowed) refl
+pub kind_found : (s : Scope) (index : ℕ) (id : List ℕ) (kind : LayoutEncoding) → id_at s.ids index ≡ Some id → kind_of id s.registered ≡ Some kind → node_kind s index ≡ Ok (Some kind)
+kind_found s index id kind found known = rw (found, known) refl
 
-pub node_built : (s : Scope) (n : RawNode) (t : Ty) (id : List ℕ) (kind : LayoutEncoding) (p : Parts) (metadata : List ℕ)
-    → id_at s.ids (out-RawNode n).index ≡ Some id → kind_of id s.registered ≡ Some kind → p ≡ node_parts s t (raw n) → metadata ≡ (own_of (raw n)).metadata
-    → builder s (raw n) t ≡ build_kind kind s.context p metadata
-node_built s n t id kind p metadata found known parts kept = rw (parts, kept, raw_is n, found, known) refl
+pub kind_unregistered : (s : Scope) (index : ℕ) (id : List ℕ) → id_at s.ids index ≡ Some id → kind_of id s.registered ≡ None → s.allow_unknown ≡ false → node_kind s index ≡ Err (unregistered id)
+kind_unregistered s index id found none refused = rw (found, none, refused) refl
 
-pub ruleset node_rules = (node_unknown, node_unregistered)
+pub kind_unknown : (s : Scope) (index : ℕ) (id : List ℕ) → id_at s.ids index ≡ Some id → kind_of id s.registered ≡ None → s.allow_unknown ≡ true → node_kind s index ≡ Ok None
+kind_unknown s index id found none allowed = rw (found, none, allowed) refl
+
+pub ruleset found_rules = (index_unknown, kind_found, kind_unregistered, kind_unknown)
+
+-- what is built of a node of the kind
+abbrev built_by : Scope → Own → List Kid → Made → Ty → Option LayoutEncoding → Made
+built_by s o ks other t None = other
+built_by s o ks other t (Some kind) = build_kind kind s.context (own_parts o ks t) o.metadata
+
+by_leave : (b : Bool) (s : Scope) (o : Own) (ks : List Kid) (other : Made) (t : Ty) (refusal : Refusal) → (if b then other else Err refusal) ≡ ((if b then Ok None else Err refusal) >>= built_by s o ks other t)
+by_leave true s o ks other t refusal = refl
+by_leave false s o ks other t refusal = refl
+
+by_kind : (s : Scope) (o : Own) (ks : List Kid) (other : Made) (t : Ty) (id : List ℕ) (k : Option LayoutEncoding) → build_registered s o ks id other t k ≡ (kind_there s id k >>= built_by s o ks other t)
+by_kind s o ks other t id (Some kind) = refl
+by_kind s o ks other t id None = by_leave s.allow_unknown s o ks other t (unregistered id)
+
+by_id : (s : Scope) (o : Own) (ks : List Kid) (other : Made) (t : Ty) (r : Result (List ℕ) Refusal)
+    → (r >>= λ id. build_registered s o ks id other t (kind_of id s.registered)) ≡ ((r >>= λ id. kind_there s id (kind_of id s.registered)) >>= built_by s o ks other t)
+by_id s o ks other t (Ok id) = by_kind s o ks other t id (kind_of id s.registered)
+by_id s o ks other t (Err e) = refl
+
+node_is : (s : Scope) (n : Node) (t : Ty) → builder s n t ≡ (node_kind s (own_of n).index >>= built_by s (own_of n) (node_parts s t n).kids (build_foreign s.ids n t) t)
+node_is s (node o ns) t = by_id s o (kids s ns) (build_foreign s.ids (node o ns) t) t (known_id s.ids o.index)
+
+own_index : (n : RawNode) → (own_of (raw n)).index ≡ (out-RawNode n).index
+own_index n = rw (raw_is n) refl
+
+own_parts_are : (s : Scope) (n : Node) (t : Ty) → own_parts (own_of n) (node_parts s t n).kids t ≡ node_parts s t n
+own_parts_are s (node o ns) t = refl
+
+pub node_kind_fails : (e : LayoutError) (s : Scope) (n : RawNode) (t : Ty) → Fails e (node_kind s (out-RawNode n).index) → Fails e (builder s (raw n) t)
+node_kind_fails e s n t h = fails_by e (node_kind s (out-RawNode n).index) (builder s (raw n) t) (λ x made. node_is s (raw n) t ∙ rw (own_index n, made) refl) h
+
+pub node_foreign : (s : Scope) (n : RawNode) (t : Ty) → node_kind s (out-RawNode n).index ≡ Ok None → builder s (raw n) t ≡ build_foreign s.ids (raw n) t
+node_foreign s n t is = node_is s (raw n) t ∙ rw (own_index n, is) refl
+
+pub node_built : (s : Scope) (n : RawNode) (t : Ty) (kind : LayoutEncoding) (c : Context) (p : Parts) (metadata : List ℕ) → node_kind s (out-RawNode n).index ≡ Ok (Some kind)
+    → c ≡ s.context → p ≡ node_parts s t (raw n) → metadata ≡ (own_of (raw n)).metadata → builder s (raw n) t ≡ build_kind kind c p metadata
+node_built s n t kind c p metadata is within parts kept =
+    node_is s (raw n) t ∙ rw (own_index n, is, own_parts_are s (raw n) t, within, parts, kept) refl
 
 -- the nodes that a build is still over
 pub parts_depth : (n : RawNode) → depth (raw n) ≡ depths (nodes_of (map raw (out-RawNode n).children.items)) + 1
@@ -70,56 +104,66 @@ pub struct_made : (p : LayoutParts) (m : List ℕ) (needed : ℕ) → spelled m 
 unfolding build_struct
 struct_made p m needed e s is count rows same = rw (e, s, ← is, count, rows, fields_are (ty p.dtype) p.children same) refl
 
-pub dict_made : (p : LayoutParts) (m : List ℕ) (d : DictLayoutMetadata) (a b : Kid) (values places : Lay ℕ) → spelled m (dict_in m) ≡ Ok d → layout_kids p.children ≡ a ∷ b ∷ []
-    → a.build (ty p.dtype) ≡ Ok values → b.build (primitive d.codes_ptype d.is_nullable_codes) ≡ Ok places → has_rows (row_count places) p.row_count ≡ Ok tt
-    → build_dict (parts_of p) m ≡ Ok (seen_layout (dict_kind d.all_values_referenced) p.dtype p.row_count p.segment_ids (values ∷ places ∷ []))
-unfolding build_dict
-dict_made p m d a b values places e ks f g h = rw (e, ks, f, g, h) refl
+-- ---- the children, and the layout of them
 
-pub stats_made : (p : LayoutParts) (m : List ℕ) (kept : ℕ × List Stat) (a b : Kid) (column zones : Lay ℕ) → spelled m (legacy_in m) ≡ Ok kept → layout_kids p.children ≡ a ∷ b ∷ []
-    → a.build (ty p.dtype) ≡ Ok column → b.build (legacy_table (ty p.dtype) kept.1) ≡ Ok zones
-    → build_stats (parts_of p) m ≡ Ok (seen_layout (stats_kind kept.0 (map stat_number kept.1)) p.dtype p.row_count p.segment_ids (column ∷ zones ∷ []))
-unfolding build_stats
-stats_made p m kept a b column zones e ks f g = rw (e, ks, f, g) refl
+pub open_fails : (e : LayoutError) (o : Open) → Fails e (all_built o.wanted.items) → Fails e (open_made o)
+open_fails e o h = fails_by e (all_built o.wanted.items) (open_made o) (λ x made. rw made refl) h
 
-pub plain_made : (p : LayoutParts) (offsets : PType) (a b : Kid) (elements ends : Lay ℕ) → nullable (ty p.dtype) ≡ false → layout_kids p.children ≡ a ∷ b ∷ []
-    → a.build (element_type (ty p.dtype)) ≡ Ok elements → b.build (primitive offsets false) ≡ Ok ends → has_rows (row_count ends - 1) p.row_count ≡ Ok tt
-    → build_offsets (parts_of p) offsets ≡ Ok (seen_layout list_kind p.dtype p.row_count p.segment_ids (elements ∷ ends ∷ []))
-unfolding build_offsets
-plain_made p offsets a b elements ends n ks f g h = rw (n, ks, f, g, h) refl
+pub open_is : (o : Open) (ls : List (Lay ℕ)) → all_built o.wanted.items ≡ Ok ls → open_made o ≡ Ok (framed o.frame ls)
+open_is o ls is = rw is refl
 
-pub nullable_made : (p : LayoutParts) (offsets : PType) (a b d : Kid) (elements ends validity : Lay ℕ) → nullable (ty p.dtype) ≡ true → layout_kids p.children ≡ a ∷ b ∷ d ∷ []
-    → a.build (element_type (ty p.dtype)) ≡ Ok elements → b.build (primitive offsets false) ≡ Ok ends → has_rows (row_count ends - 1) p.row_count ≡ Ok tt → d.build (boolean false) ≡ Ok validity → has_rows (row_count validity) p.row_count ≡ Ok tt
-    → build_offsets (parts_of p) offsets ≡ Ok (seen_layout list_kind p.dtype p.row_count p.segment_ids (elements ∷ ends ∷ validity ∷ []))
-unfolding build_offsets
-nullable_made p offsets a b d elements ends validity n ks f g h i j = rw (n, ks, f, g, h, i, j) refl
+pub ruleset open_rules = (open_fails, open_is)
 
--- ---- refusals of each step
+-- ---- children one by one
 
-pub dict_metadata_fails : (e : LayoutError) (p : LayoutParts) (m : List ℕ) → Fails e (spelled m (dict_in m)) → Fails e (build_dict (parts_of p) m)
-unfolding build_dict
-dict_metadata_fails e p m h = fails_by e (spelled m (dict_in m)) (build_dict (parts_of p) m) (λ x made. rw made refl) h
+-- what is built already, in front of what comes
+abbrev pub so_far : List (Lay ℕ) → Children → Children
+so_far ls c = c >>= λ ms. Ok (ls ++ ms)
 
-pub dict_count_fails : (e : LayoutError) (p : LayoutParts) (m : List ℕ) (d : DictLayoutMetadata) → spelled m (dict_in m) ≡ Ok d → Fails e (has_children 2 (layout_kids p.children)) → Fails e (build_dict (parts_of p) m)
-unfolding build_dict
-dict_count_fails e p m d is h = fails_by e (has_children 2 (layout_kids p.children)) (build_dict (parts_of p) m) (λ x made. rw (is, made) refl) h
+pub so_far_none : (c : Children) → c ≡ so_far [] c
+so_far_none (Ok ls) = refl
+so_far_none (Err e) = refl
 
-pub dict_values_fail : (e : LayoutError) (p : LayoutParts) (m : List ℕ) (d : DictLayoutMetadata) (a b : Kid) → spelled m (dict_in m) ≡ Ok d → layout_kids p.children ≡ a ∷ b ∷ [] → Fails e (a.build (ty p.dtype)) → Fails e (build_dict (parts_of p) m)
-unfolding build_dict
-dict_values_fail e p m d a b is ks h = fails_by e (a.build (ty p.dtype)) (build_dict (parts_of p) m) (λ x made. rw (is, ks, made) refl) h
+pub so_far_all : (ls : List (Lay ℕ)) → so_far ls (Ok []) ≡ Ok ls
+so_far_all ls = rw (append-nil ls) refl
 
-pub dict_codes_fail : (e : LayoutError) (p : LayoutParts) (m : List ℕ) (d : DictLayoutMetadata) (a b : Kid) (values : Lay ℕ) → spelled m (dict_in m) ≡ Ok d → layout_kids p.children ≡ a ∷ b ∷ [] → a.build (ty p.dtype) ≡ Ok values
-    → Fails e (b.build (primitive d.codes_ptype d.is_nullable_codes)) → Fails e (build_dict (parts_of p) m)
-unfolding build_dict
-dict_codes_fail e p m d a b values is ks f h = fails_by e (b.build (primitive d.codes_ptype d.is_nullable_codes)) (build_dict (parts_of p) m) (λ x made. rw (is, ks, f, made) refl) h
+pub so_far_end : (all : Children) (ls : List (Lay ℕ)) (ws : List Wanted) → all ≡ so_far ls (all_built ws) → length ws ≡ 0 → all ≡ Ok ls
+so_far_end all ls [] is none = is ∙ so_far_all ls
+so_far_end all ls (w ∷ ws) is none = absurd (omega (arith, none))
 
-pub dict_rows_fail : (e : LayoutError) (p : LayoutParts) (m : List ℕ) (d : DictLayoutMetadata) (a b : Kid) (values places : Lay ℕ) → spelled m (dict_in m) ≡ Ok d → layout_kids p.children ≡ a ∷ b ∷ [] → a.build (ty p.dtype) ≡ Ok values
-    → b.build (primitive d.codes_ptype d.is_nullable_codes) ≡ Ok places → Fails e (has_rows (row_count places) p.row_count) → Fails e (build_dict (parts_of p) m)
-unfolding build_dict
-dict_rows_fail e p m d a b values places is ks f g h = fails_by e (has_rows (row_count places) p.row_count) (build_dict (parts_of p) m) (λ x made. rw (is, ks, f, g, made) refl) h
+so_far_more : (ls : List (Lay ℕ)) (l : Lay ℕ) (c : Children) → so_far ls (c >>= λ ms. Ok (l ∷ ms)) ≡ so_far (ls ++ l ∷ []) c
+so_far_more ls l (Ok ms) = rw (append_one ls l ms) refl
+  where
+    append_one : (xs : List (Lay ℕ)) (x : Lay ℕ) (ys : List (Lay ℕ)) → xs ++ x ∷ ys ≡ (xs ++ x ∷ []) ++ ys
+    append_one [] x ys = refl
+    append_one (z ∷ xs) x ys = ap (λ r. z ∷ r) (append_one xs x ys)
+so_far_more ls l (Err e) = refl
 
--- a child by itself
-pub one_is : (c : OneChild) (t : Ty) → one_built c t ≡ (one_kid c).build t
-unfolding one_built
-one_is (ones.Kept l) t = refl
-one_is (ones.Node scope n) t = refl
+pub so_far_built : (all : Children) (ls : List (Lay ℕ)) (ws : List Wanted) (w : Wanted) (rest : List Wanted) (l : Lay ℕ) → all ≡ so_far ls (all_built ws) → ws ≡ w ∷ rest → wanted_built w ≡ Ok l → all ≡ so_far (ls ++ l ∷ []) (all_built rest)
+so_far_built all ls ws w rest l is next built = is ∙ rw (next, built) (so_far_more ls l (all_built rest))
+
+pub so_far_fails : (e : LayoutError) (all : Children) (ls : List (Lay ℕ)) (ws : List Wanted) (w : Wanted) (rest : List Wanted) → all ≡ so_far ls (all_built ws) → ws ≡ w ∷ rest → Fails e (wanted_built w) → Fails e all
+so_far_fails e all ls ws w rest is next h = fails_by e (wanted_built w) all (λ x made. is ∙ rw (next, made) refl) h
+
+pub first_depth : (ws : List Wanted) (w : Wanted) (rest : List Wanted) (deep : ℕ) → wanted_depths ws ≤ deep → ws ≡ w ∷ rest → one_depth w.child ≤ deep
+first_depth [] w rest deep le next = absurd (cc next)
+first_depth (x ∷ xs) w rest deep le next = let same : w ≡ x = cc next in rw same (omega (arith, le))
+
+pub rest_depth : (ws : List Wanted) (w : Wanted) (rest : List Wanted) (deep : ℕ) → wanted_depths ws ≤ deep → ws ≡ w ∷ rest → wanted_depths rest ≤ deep
+rest_depth [] w rest deep le next = absurd (cc next)
+rest_depth (x ∷ xs) w rest deep le next = let same : rest ≡ xs = cc next in rw same (omega (arith, le))
+
+pub ruleset all_rules = (so_far_none, so_far_all, so_far_built, so_far_fails, first_depth, rest_depth, map_push)
+
+-- ---- one child
+
+pub wanted_fails : (e : LayoutError) (w : Wanted) → Fails e (one_built w.child (ty w.dtype)) → Fails e (wanted_built w)
+wanted_fails e w h = fails_by e (one_built w.child (ty w.dtype)) (wanted_built w) (λ x made. rw made refl) h
+
+pub wanted_rows_fail : (e : LayoutError) (w : Wanted) (l : Lay ℕ) → one_built w.child (ty w.dtype) ≡ Ok l → Fails e (rows_ruled w.rows (row_count l)) → Fails e (wanted_built w)
+wanted_rows_fail e w l is h = fails_by e (rows_ruled w.rows (row_count l)) (wanted_built w) (λ x made. rw (is, made) refl) h
+
+pub wanted_is : (w : Wanted) (l : Lay ℕ) → one_built w.child (ty w.dtype) ≡ Ok l → rows_ruled w.rows (row_count l) ≡ Ok tt → wanted_built w ≡ Ok l
+wanted_is w l is rows = rw (is, rows) refl
+
+pub ruleset wanted_rules = (wanted_fails, wanted_rows_fail, wanted_is)

@@ -3,7 +3,10 @@ pub mod LayCode
 pub mod LayDepth
 pub mod LayoutView
 pub mod KidsView
+pub mod NodeKind
+pub mod ZonedView
 pub mod PartsView
+pub mod OpenView
 pub mod DepthFalls
 pub mod Children
 pub mod ChildView

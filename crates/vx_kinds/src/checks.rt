@@ -1,10 +1,12 @@
 //! Checks of parts, and metadata as layouts need it.
 
-ghost use Rattle.std.specs.Prelude.{map};
+ghost use Rattle.std.specs.Prelude.{◌≡◌, ◌<◌, ◌^◌, length, map, IfOk, IfSome};
 ghost use Rattle.vx_metadata.specs.Reading.{flat_in, list_in, dict_in, zoned_in, legacy_in};
-ghost use Rattle.vx_metadata.specs.Views.{kept_tree, the_same, zoned};
+ghost use Rattle.vx_metadata.specs.Views.{kept_tree, the_same, zoned, spec_of};
 ghost use Rattle.vx_session.specs.Made.{spelled, has_children as counted, has_rows as rows_counted, all_have_rows as all_rows, one_segment as the_segment};
-ghost use Rattle.vx_session.specs.Kinds.{nothing_in};
+ghost use Rattle.vx_session.specs.Aggregates.{all_named};
+ghost use Rattle.vx_session.specs.Kinds.{nothing_in, read_specs as specs_read};
+ghost use Rattle.vx_session.specs.Views.{context};
 ghost use Rattle.vx_kinds.specs.KidsView.{layout_kids};
 ghost use Rattle.vx_kinds.specs.LayoutView.{number};
 ghost use Rattle.vx_kinds.specs.Views.{Gives, done};
@@ -12,11 +14,13 @@ ghost use Rattle.vx_kinds.specs.Views.{Gives, done};
 use crate::children::LayoutChildren;
 use crate::error::LayoutError;
 use std::alloc::Global;
+use vx_aggregate::AggregateFn;
 use vx_metadata::{
-    DictLayoutMetadata, FlatLayoutMetadata, LegacyStatsMetadata, ListLayoutMetadata, MetadataError,
+    AggregateSpec, DictLayoutMetadata, FlatLayoutMetadata, LegacyStatsMetadata, ListLayoutMetadata, MetadataError,
     ZonedMetadata,
 };
 use vx_model::{Blob, SegmentId};
+use vx_session::{AggregatesError, LayoutBuildContext};
 
 pub(crate) fn has_children(children: &LayoutChildren, needs: u64) -> Result<(), LayoutError>
     ensures { Gives done result (counted needs (layout_kids children.now)) }
@@ -104,7 +108,8 @@ pub(crate) fn dict_metadata(alloc: Global, bytes: &[u8]) -> Result<DictLayoutMet
 }
 
 pub(crate) fn zoned_metadata(alloc: Global, bytes: &[u8]) -> Result<ZonedMetadata, LayoutError>
-    ensures { Gives zoned result (spelled bytes.now (zoned_in bytes.now)) }
+    ensures exact { Gives zoned result (spelled bytes.now (zoned_in bytes.now)) }
+    ensures few { IfOk result (λ m. length m.specs.items < 2 ^ 32) }
 {
     match ZonedMetadata::deserialize(alloc, bytes) {
         Ok(metadata) => Ok(metadata),
@@ -120,5 +125,22 @@ pub(crate) fn stats_metadata(alloc: Global, bytes: &[u8]) -> Result<LegacyStatsM
         Ok(metadata) => Ok(metadata),
         Err(MetadataError::Metadata(kept)) => Err(LayoutError::Metadata(kept)),
         Err(MetadataError::OutOfMemory) => Err(LayoutError::OutOfMemory),
+    }
+}
+
+/// The aggregates of the specs; nothing where one is unknown and let through.
+#[tactic(auto, using(crate::proofs::OpenSteps::named_rules))]
+pub(crate) fn known_aggregates(
+    alloc: Global,
+    within: &LayoutBuildContext,
+    specs: &[AggregateSpec],
+) -> Result<Option<Vec<AggregateFn>>, LayoutError>
+    ensures exact { Gives all_named result (specs_read (context within.now) (map spec_of specs.now)) }
+    ensures count { IfOk result (λ o. IfSome o (λ v. length v.items ≡ length specs.now)) }
+{
+    match within.read_specs(alloc, specs) {
+        Ok(aggregates) => Ok(aggregates),
+        Err(AggregatesError::UnknownAggregate(id)) => Err(LayoutError::UnknownAggregate(id)),
+        Err(AggregatesError::OutOfMemory) => Err(LayoutError::OutOfMemory),
     }
 }

@@ -40,13 +40,14 @@ pub fn layout_children(children: Vec<Layout>) -> LayoutChildren
 }
 
 impl LayoutChildren {
-    ghost use Rattle.std.specs.Prelude.{◌≡◌, ◌<◌, length};
+    ghost use Rattle.std.specs.Prelude.{◌≡◌, ◌<◌, ◌^◌, length};
     ghost use Rattle.vx_session.specs.Made.{rows_at};
     ghost use Rattle.vx_kinds.specs.KidsView.{layout_kids};
 
     #[tactic(auto, using(crate::proofs::KidSteps::rows_rules))]
     pub fn nchildren(&self) -> u64
-        ensures { result ≡ length (layout_kids self.now) }
+        ensures count { result ≡ length (layout_kids self.now) }
+        ensures few { result < 2 ^ 63 }
     {
         match self {
             LayoutChildren::Owned(layouts) => layouts.len() as u64,

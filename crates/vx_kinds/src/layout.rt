@@ -9,7 +9,7 @@ use crate::kind::LayoutKind;
 use crate::list::ListLayout;
 use crate::stats::LegacyStatsLayout;
 use crate::structs::StructLayout;
-use crate::zoned::ZonedLayout;
+use crate::zoned::{ZoneTable, ZonedLayout};
 use vx_model::{DType, SegmentId};
 
 /// A tree that says how to read rows back. Its leaves name segments.
@@ -82,7 +82,8 @@ impl Layout {
             Layout::Struct(StructLayout { row_count, .. }) => LayoutKind::Struct,
             Layout::List(ListLayout { row_count, .. }) => LayoutKind::List,
             Layout::Dict(DictLayout { row_count, .. }) => LayoutKind::Dict,
-            Layout::Zoned(ZonedLayout { row_count, .. }) => LayoutKind::Zoned,
+            Layout::Zoned(ZonedLayout { table: ZoneTable::Read, .. }) => LayoutKind::Zoned,
+            Layout::Zoned(ZonedLayout { table: ZoneTable::Unread(_), .. }) => LayoutKind::Zoned,
             Layout::LegacyStats(LegacyStatsLayout { row_count, .. }) => LayoutKind::LegacyStats,
             Layout::Foreign(ForeignLayout { row_count, .. }) => LayoutKind::Foreign,
         }
@@ -98,7 +99,8 @@ impl Layout {
             Layout::Struct(StructLayout { row_count, .. }) => "vortex.struct",
             Layout::List(ListLayout { row_count, .. }) => "vortex.list",
             Layout::Dict(DictLayout { row_count, .. }) => "vortex.dict",
-            Layout::Zoned(ZonedLayout { row_count, .. }) => "vortex.zoned",
+            Layout::Zoned(ZonedLayout { table: ZoneTable::Read, .. }) => "vortex.zoned",
+            Layout::Zoned(ZonedLayout { table: ZoneTable::Unread(_), .. }) => "vortex.zoned",
             Layout::LegacyStats(LegacyStatsLayout { row_count, .. }) => "vortex.stats",
             Layout::Foreign(foreign) => foreign.id.as_str(),
         }
@@ -132,7 +134,7 @@ impl Layout {
             Layout::Struct(inner) => inner.children.nchildren(),
             Layout::List(inner) => inner.children.len() as u64,
             Layout::Dict(inner) => inner.children.len() as u64,
-            Layout::Zoned(inner) => inner.children.len() as u64,
+            Layout::Zoned(inner) => inner.nchildren(),
             Layout::LegacyStats(inner) => inner.children.len() as u64,
             Layout::Foreign(inner) => inner.children.len() as u64,
         }
@@ -150,7 +152,7 @@ impl Layout {
             Layout::Struct(inner) => inner.children.child_row_count(i),
             Layout::List(inner) => kept_rows(&inner.children, i),
             Layout::Dict(inner) => kept_rows(&inner.children, i),
-            Layout::Zoned(inner) => kept_rows(&inner.children, i),
+            Layout::Zoned(inner) => inner.child_row_count(i),
             Layout::LegacyStats(inner) => kept_rows(&inner.children, i),
             Layout::Foreign(inner) => kept_rows(&inner.children, i),
         }
@@ -171,7 +173,7 @@ impl Layout {
             Layout::Struct(inner) => inner.children.field(i, &inner.dtype),
             Layout::List(inner) => kept_child(&inner.children, i),
             Layout::Dict(inner) => kept_child(&inner.children, i),
-            Layout::Zoned(inner) => kept_child(&inner.children, i),
+            Layout::Zoned(inner) => inner.child(i),
             Layout::LegacyStats(inner) => kept_child(&inner.children, i),
             Layout::Foreign(inner) => kept_child(&inner.children, i),
         }
@@ -188,7 +190,8 @@ impl Layout {
             Layout::Struct(StructLayout { row_count, .. }) => (),
             Layout::List(ListLayout { row_count, .. }) => (),
             Layout::Dict(DictLayout { row_count, .. }) => (),
-            Layout::Zoned(ZonedLayout { row_count, .. }) => (),
+            Layout::Zoned(ZonedLayout { table: ZoneTable::Read, .. }) => (),
+            Layout::Zoned(ZonedLayout { table: ZoneTable::Unread(_), .. }) => (),
             Layout::LegacyStats(LegacyStatsLayout { row_count, .. }) => (),
             Layout::Foreign(ForeignLayout { row_count, .. }) => (),
         }
@@ -225,7 +228,8 @@ impl Layout {
             Layout::Struct(StructLayout { row_count, .. }) => None,
             Layout::List(ListLayout { row_count, .. }) => None,
             Layout::Dict(DictLayout { row_count, .. }) => None,
-            Layout::Zoned(ZonedLayout { row_count, .. }) => None,
+            Layout::Zoned(ZonedLayout { table: ZoneTable::Read, .. }) => None,
+            Layout::Zoned(ZonedLayout { table: ZoneTable::Unread(_), .. }) => None,
             Layout::LegacyStats(LegacyStatsLayout { row_count, .. }) => None,
             Layout::Foreign(ForeignLayout { row_count, .. }) => None,
         }

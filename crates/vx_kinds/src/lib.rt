@@ -18,6 +18,8 @@ mod kind;
 mod layout;
 mod list;
 mod metadata;
+mod open;
+mod opened;
 mod parts;
 mod shape;
 mod slots;

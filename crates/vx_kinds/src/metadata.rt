@@ -18,6 +18,7 @@ use crate::dict::DictLayout;
 use crate::layout::Layout;
 use crate::list::ListLayout;
 use crate::structs::StructLayout;
+use crate::zoned::ZoneTable;
 use std::alloc::{AllocError, Global};
 use vx_aggregate::{AggregateFn, Stat};
 use vx_metadata::{
@@ -48,7 +49,10 @@ impl Layout {
                 second_integers(&dict.children),
                 dict.all_values_referenced,
             ),
-            Layout::Zoned(zoned) => zoned_metadata(alloc, zoned.zone_len, &zoned.aggregates),
+            Layout::Zoned(zoned) => match &zoned.table {
+                ZoneTable::Read => zoned_metadata(alloc, zoned.zone_len, &zoned.aggregates),
+                ZoneTable::Unread(unread) => Vec::from_slice(alloc, unread.metadata.as_slice()),
+            },
             Layout::LegacyStats(stats) => stats_metadata(alloc, stats.zone_len, &stats.stats),
             Layout::Foreign(foreign) => Vec::from_slice(alloc, foreign.metadata.as_slice()),
         }

@@ -17,7 +17,7 @@ use crate::list::ListLayout;
 use crate::shape::field_count;
 use crate::stats::LegacyStatsLayout;
 use crate::total::rows_before;
-use crate::zoned::ZonedLayout;
+use crate::zoned::{ZoneTable, ZonedLayout};
 use std::alloc::{AllocError, Global};
 use vx_model::{DType, StructField, Text};
 
@@ -37,7 +37,8 @@ impl Layout {
             Layout::Struct(strukt) => field_count(&strukt.dtype) as u64 + 1,
             Layout::List(ListLayout { row_count, .. }) => 3,
             Layout::Dict(DictLayout { row_count, .. }) => 2,
-            Layout::Zoned(ZonedLayout { row_count, .. }) => 2,
+            Layout::Zoned(ZonedLayout { table: ZoneTable::Read, .. }) => 2,
+            Layout::Zoned(ZonedLayout { table: ZoneTable::Unread(_), .. }) => 2,
             Layout::LegacyStats(LegacyStatsLayout { row_count, .. }) => 2,
             Layout::Foreign(foreign) => foreign.children.len() as u64,
         }
@@ -54,7 +55,8 @@ impl Layout {
             Layout::Struct(strukt) => struct_place(&strukt.dtype, slot),
             Layout::List(list) => list_place(&list.dtype, slot),
             Layout::Dict(DictLayout { row_count, .. }) => below(2, slot),
-            Layout::Zoned(ZonedLayout { row_count, .. }) => below(2, slot),
+            Layout::Zoned(ZonedLayout { table: ZoneTable::Read, .. }) => below(2, slot),
+            Layout::Zoned(ZonedLayout { table: ZoneTable::Unread(_), .. }) => below(2, slot),
             Layout::LegacyStats(LegacyStatsLayout { row_count, .. }) => below(2, slot),
             Layout::Foreign(foreign) => below(foreign.children.len() as u64, slot),
         }
@@ -71,7 +73,8 @@ impl Layout {
             Layout::Struct(strukt) => struct_type(alloc, &strukt.dtype, slot),
             Layout::List(ListLayout { row_count, .. }) => list_type(alloc, slot),
             Layout::Dict(DictLayout { row_count, .. }) => dict_type(alloc, slot),
-            Layout::Zoned(ZonedLayout { row_count, .. }) => zoned_type(alloc, slot),
+            Layout::Zoned(ZonedLayout { table: ZoneTable::Read, .. }) => zoned_type(alloc, slot),
+            Layout::Zoned(ZonedLayout { table: ZoneTable::Unread(_), .. }) => zoned_type(alloc, slot),
             Layout::LegacyStats(LegacyStatsLayout { row_count, .. }) => zoned_type(alloc, slot),
             Layout::Foreign(foreign) => foreign_type(alloc, foreign.children.len() as u64, slot),
         }
