@@ -1,6 +1,6 @@
 //! What layouts of one kind tell besides what all do.
 
-ghost use Rattle.std.specs.Prelude.{◌≡◌, Some, map, slice_get, option_map, IfOk};
+ghost use Rattle.std.specs.Prelude.{◌≡◌, ◌++◌, Some, map, slice_get, option_map, IfOk};
 ghost use Rattle.vx_model.specs.TyView.{ty, field_ty};
 ghost use Rattle.vx_aggregate.specs.AggregateView.{aggregate};
 ghost use Rattle.vx_aggregate.specs.Stats.{stat_number};
@@ -12,7 +12,7 @@ ghost use Rattle.vx_kinds.specs.Children.{fields_of, rows_at};
 ghost use Rattle.vx_kinds.specs.Copies.{with_chunks};
 ghost use Rattle.vx_kinds.specs.FlatView.{flat_lay};
 ghost use Rattle.vx_kinds.specs.LayoutView.{lay};
-ghost use Rattle.vx_kinds.specs.Own.{all_referenced, zone_length, aggregate_specs, stat_aggregates, all_numbered};
+ghost use Rattle.vx_kinds.specs.Own.{all_referenced, zone_length, aggregate_specs, stat_aggregates, all_numbered, numbered};
 ghost use Rattle.vx_kinds.specs.Views.{Gives, itself};
 
 use crate::children::layout_children;
@@ -24,6 +24,7 @@ use crate::foreign::ForeignLayout;
 use crate::layout::Layout;
 use crate::list::ListLayout;
 use crate::rebuilt::same_segments;
+use crate::slots::fields_in;
 use crate::stats::LegacyStatsLayout;
 use crate::structs::StructLayout;
 use crate::total::total_rows;
@@ -93,15 +94,10 @@ impl StructLayout {
     }
 
     /// The fields of its type.
-    #[tactic(auto, using(crate::proofs::Steps::field_rules))]
     pub fn struct_fields(&self) -> &[StructField]
         ensures { map field_ty result.now ≡ fields_of (layout_type self.now) }
     {
-        match &self.dtype {
-            DType::Struct(fields, _) => &fields.fields,
-            DType::Bool(_) | DType::Primitive(..) | DType::Utf8(_) | DType::Binary(_) => &[],
-            DType::List(..) | DType::Extension(_) => &[],
-        }
+        fields_in(&self.dtype)
     }
 }
 
@@ -135,7 +131,11 @@ impl ListLayout {
     pub fn validity(&self) -> Option<&Layout>
         ensures { option_map (λ l. lay l.now) result ≡ slice_get (children_of self.now) 2 }
     {
-        self.children.get(VALIDITY_CHILD_INDEX as usize)
+        if self.children.len() > VALIDITY_CHILD_INDEX as usize {
+            Some(&self.children[VALIDITY_CHILD_INDEX as usize])
+        } else {
+            None
+        }
     }
 
     /// The integers of the offsets.
@@ -264,11 +264,22 @@ fn aggregates_of(alloc: Global, stats: &[Stat]) -> Result<Vec<AggregateFn>, Allo
 {
     let mut aggregates = Vec::new(alloc);
     for stat in stats {
-        if let Some(aggregate) = stat.aggregate_fn() {
-            aggregates.push(aggregate)?;
-        }
+        push_aggregate(&mut aggregates, *stat)?;
     }
     Ok(aggregates)
+}
+
+#[tactic(auto, using(crate::proofs::OwnSteps::one_rules))]
+fn push_aggregate(aggregates: &mut Vec<AggregateFn>, stat: Stat) -> Result<(), AllocError>
+    ensures { IfOk result (λ u. map aggregate aggregates.new.items ≡ map aggregate aggregates.old.items ++ numbered (stat_number stat)) }
+{
+    match stat.aggregate_fn() {
+        Some(aggregate) => {
+            aggregates.push(aggregate)?;
+            Ok(())
+        }
+        None => Ok(()),
+    }
 }
 
 impl ForeignLayout {

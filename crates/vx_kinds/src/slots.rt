@@ -155,7 +155,7 @@ fn struct_type(
 
 /// The fields of a struct type; another type has none.
 #[tactic(auto, using(crate::proofs::Steps::field_rules))]
-fn fields_in(dtype: &DType) -> &[StructField]
+pub(crate) fn fields_in(dtype: &DType) -> &[StructField]
     ensures { map field_ty result.now ≡ fields_of (ty dtype.now) }
 {
     match dtype {
