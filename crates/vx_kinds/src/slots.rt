@@ -67,7 +67,12 @@ impl Layout {
     {
         match self {
             Layout::Flat(_) => Ok(None),
-            Layout::Chunked(chunked) => Ok(chunk_type(&chunked.dtype, &chunked.children, chunked.row_count, slot)),
+            Layout::Chunked(chunked) => Ok(chunk_type(
+                &chunked.dtype,
+                &chunked.children,
+                chunked.row_count,
+                slot,
+            )),
             Layout::Struct(strukt) => struct_type(alloc, &strukt.dtype, slot),
             Layout::List(ListLayout { row_count, .. }) => list_type(alloc, slot),
             Layout::Dict(DictLayout { row_count, .. }) => dict_type(alloc, slot),
