@@ -39,7 +39,8 @@ use Rattle.vx_kinds.specs.declared.zoned.ZoneTable.{ZoneTable}
 use Rattle.vx_kinds.specs.declared.zoned.ZoneTable.TheVariants as tables
 use Rattle.vx_kinds.specs.ZonedView.{no_columns, zoned_children}
 use Rattle.vx_kinds.specs.PartsView.{one_kid, one_built, one_depth, children_depth, parts_of}
-use Rattle.vx_kinds.specs.OpenView.{Children, rows_ruled, pair_kids, triple_kids, list_kids, column_kids, with_rows, wanted_built, all_built, wanted_depths, in_front}
+use Rattle.vx_kinds.specs.OpenView.{Children, rows_ruled, pair_kids, triple_kids, list_kids, column_kids, with_rows, wanted_built, all_built, wanted_depths, in_front, fits}
+use Rattle.vx_kinds.specs.declared.open.Frame.{Frame}
 use Rattle.vx_kinds.proofs.KidSteps.{fails_by, length-owned, length-kids}
 use Rattle.vx_kinds.proofs.PartSteps.{count_is, counted}
 
@@ -160,10 +161,13 @@ pub pair_depth : (deep : ℕ) (a b : OneChild) (t u : DType) (rule : RowsRule) (
     → wanted_depths ws ≤ deep
 pair_depth deep a b t u rule ws vs us none first all x y = rw (all, first, none) (omega (arith, x, y))
 
+pub pair_length : (a b : OneChild) (t u : DType) (rule : RowsRule) (ws vs us : List Wanted) → us ≡ [] → vs ≡ us ++ wanted a t rules.Any ∷ [] → ws ≡ vs ++ wanted b u rule ∷ [] → length ws ≡ 2
+pair_length a b t u rule ws vs us none first all = rw (all, first, none) refl
+
 pub pair_fails : (e : LayoutError) (ks : List Kid) (t u : Ty) (rule : RowsRule) → Fails e (has_children 2 ks) → Fails e (pair_kids ks t u rule)
 pair_fails e ks t u rule h = fails_by e (has_children 2 ks) (pair_kids ks t u rule) (λ x made. rw made refl) h
 
-pub ruleset pair_rules = (pair_wanted, pair_depth, pair_fails)
+pub ruleset pair_rules = (pair_wanted, pair_depth, pair_length, pair_fails)
 
 -- ---- three
 
@@ -194,10 +198,13 @@ pub triple_depth : (deep : ℕ) (a b c : OneChild) (t u v : DType) (n : ℕ) (ws
     → one_depth a ≤ deep → one_depth b ≤ deep → one_depth c ≤ deep → wanted_depths ws ≤ deep
 triple_depth deep a b c t u v n ws vs us ts none first second all x y z = rw (all, second, first, none) (omega (arith, x, y, z))
 
+pub triple_length : (a b c : OneChild) (t u v : DType) (n : ℕ) (ws vs us ts : List Wanted) → ts ≡ [] → us ≡ ts ++ wanted a t rules.Any ∷ [] → vs ≡ us ++ wanted b u (rules.OneMore n) ∷ [] → ws ≡ vs ++ wanted c v (rules.Same n) ∷ [] → length ws ≡ 3
+triple_length a b c t u v n ws vs us ts none first second all = rw (all, second, first, none) refl
+
 pub triple_fails : (e : LayoutError) (ks : List Kid) (t u : Ty) (n : ℕ) → Fails e (has_children 3 ks) → Fails e (triple_kids ks t u n)
 triple_fails e ks t u n h = fails_by e (has_children 3 ks) (triple_kids ks t u n) (λ x made. rw made refl) h
 
-pub ruleset triple_rules = (triple_wanted, triple_depth, triple_fails)
+pub ruleset triple_rules = (triple_wanted, triple_depth, triple_length, triple_fails)
 
 -- ---- a child that stands fns it is
 
@@ -274,11 +281,10 @@ pub list_children_fail : (e : LayoutError) (p : LayoutParts) (m : List ℕ) (o :
     → Fails e (list_kids (layout_kids p.children) (ty p.dtype) (primitive o.offsets_ptype false) p.row_count) → Fails e (build_list (parts_of p) m)
 list_children_fail e p m o is list h = then_fails e _ _ _ (list_then (parts_of p) m o is list) h
 
-pub list_opens : (p : LayoutParts) (m : List ℕ) (o : ListLayoutMetadata) (u : Ty) (ws : List Wanted) (old : List Layout) → spelled m (list_in m) ≡ Ok o → is_list (ty p.dtype) ≡ true → u ≡ primitive o.offsets_ptype false
+pub list_opens : (p : LayoutParts) (m : List ℕ) (o : ListLayoutMetadata) (u : Ty) (ws : List Wanted) → spelled m (list_in m) ≡ Ok o → is_list (ty p.dtype) ≡ true → u ≡ primitive o.offsets_ptype false
     → list_kids (layout_kids p.children) (ty p.dtype) u p.row_count ≡ all_built ws
-    → old ≡ []
-    → build_list (parts_of p) m ≡ (all_built ws >>= λ ls. Ok (in_front ls (layout list_kind (ty p.dtype) p.row_count (map number p.segment_ids.items) (lays_of (map lay old)))))
-list_opens p m o u ws old is list ends all same = then_opens _ ws list_kind (parts_of p) _ old (list_then (parts_of p) m o is list) (rw (← ends) all) same
+    → build_list (parts_of p) m ≡ (all_built ws >>= λ ls. Ok (in_front ls (layout list_kind (ty p.dtype) p.row_count (map number p.segment_ids.items) no_layouts)))
+list_opens p m o u ws is list ends all = then_opens _ ws list_kind (parts_of p) _ [] (list_then (parts_of p) m o is list) (rw (← ends) all) refl
 
 pub ruleset list_rules = (list_metadata_fails, other_type, list_children_fail, list_opens)
 
@@ -382,3 +388,17 @@ all_read c [] fns e = none_are fns e
 all_read c (s ∷ ss) fns e = first_read s (read_spec c s) (read_specs c ss) fns (length ss) (all_read c ss) e
 
 pub ruleset named_rules = (all_read, length-map)
+
+-- ---- as many layouts as children that are wanted
+
+bound_length : (r : Made) (c : Children) (n : ℕ) (ls : List (Lay ℕ)) → ((ms : List (Lay ℕ)) → c ≡ Ok ms → length ms ≡ n) → (r >>= λ l. c >>= λ ms. Ok (l ∷ ms)) ≡ Ok ls → length ls ≡ suc n
+bound_length (Ok l) (Ok ms) n ls h e = let same : ls ≡ l ∷ ms = cc e in rw same (ap suc (h ms refl))
+bound_length (Ok l) (Err x) n ls h e = absurd (cc e)
+bound_length (Err x) c n ls h e = absurd (cc e)
+
+pub built_length : (ws : List Wanted) (ls : List (Lay ℕ)) → all_built ws ≡ Ok ls → length ls ≡ length ws
+built_length [] ls e = let same : ls ≡ [] = cc e in rw same refl
+built_length (w ∷ ws) ls e = bound_length (wanted_built w) (all_built ws) (length ws) ls (built_length ws) e
+
+pub fits_built : (f : Frame) (ws : List Wanted) (ls : List Layout) → all_built ws ≡ Ok (map lay ls) → fits f (length ws) → fits f (length ls)
+fits_built f ws ls e h = rw (sym (length-map ls lay) ∙ built_length ws (map lay ls) e) h

@@ -15,3 +15,9 @@ pub mod SpecView
 pub mod Views
 pub mod Shown
 pub mod ErrorNames
+pub mod Present
+pub mod PreOrder
+pub mod Copies
+pub mod Own
+pub mod SlotWalk
+pub mod TreeWalk

@@ -1,8 +1,10 @@
 -- Layouts whose children are still to be built, as contracts see them.
-use Rattle.std.specs.Prelude.{◌≡◌, ◌≤◌, ℕ, ◌-◌, max, false, List, [], ◌∷◌, ◌++◌, Result, Ok, Err, if◌then◌else◌}
+use Rattle.std.specs.Prelude.{◌≡◌, ◌≤◌, ℕ, ◌+◌, ◌-◌, length, max, false, List, [], ◌∷◌, ◌++◌, Result, Ok, Err, if◌then◌else◌}
 use Rattle.vx_model.specs.Ty.{Ty, nullable}
 use Rattle.vx_model.specs.TyView.{ty}
-use Rattle.vx_tree.specs.LayoutTree.{Lay, layout, row_count, lays_of, lays_in}
+use Rattle.vx_tree.specs.LayoutTree.{Lay, layout, list_kind, row_count, lays_of, lays_in}
+use Rattle.vx_kinds.specs.LayoutView.{seen_layout}
+use Rattle.vx_kinds.specs.Made.{validity_count}
 use Rattle.vx_tree.specs.Refusal.{Refusal}
 use Rattle.vx_session.specs.Made.{Made, ◌>>=◌, Kid, child_at, standing_at, has_children, has_rows}
 use Rattle.vx_session.specs.Kinds.{element_type, validity_type}
@@ -83,7 +85,7 @@ abbrev pub in_front : List (Lay ℕ) → Lay ℕ → Lay ℕ
 in_front ls (layout k t n names ms) = layout k t n names (lays_of (ls ++ lays_in ms))
 
 abbrev pub frame_lay : Frame → Lay ℕ
-frame_lay (frames.List l) = l
+frame_lay (frames.List h) = seen_layout list_kind h.dtype h.row_count h.segment_ids []
 frame_lay (frames.Dict d) = d
 frame_lay (frames.Zoned z) = z
 frame_lay (frames.LegacyStats s) = s
@@ -94,7 +96,14 @@ framed f ls = in_front ls (frame_lay f)
 abbrev pub open_made : Open → Made
 open_made o = all_built o.wanted.items >>= λ ls. Ok (framed o.frame ls)
 
+-- so many children are a list's of the type
+abbrev pub fits : Frame → ℕ → Type 0
+fits (frames.List h) n = n ≡ 2 + validity_count (ty h.dtype)
+fits (frames.Dict d) n = Unit {0}
+fits (frames.Zoned z) n = Unit {0}
+fits (frames.LegacyStats s) n = Unit {0}
+
 -- What is opened is what is made, and its children are no deeper than the nodes.
 abbrev pub Opens : Result Open LayoutError → Made → ℕ → Type 0
-Opens (Ok o) made deep = (made ≡ open_made o) × (wanted_depths o.wanted.items ≤ deep)
+Opens (Ok o) made deep = (made ≡ open_made o) × (wanted_depths o.wanted.items ≤ deep) × fits o.frame (length o.wanted.items)
 Opens (Err e) made deep = Fails e made

@@ -1,6 +1,6 @@
 //! Building layouts from nodes of bytes, and from parts.
 
-ghost use Rattle.std.specs.Prelude.{◌≡◌, ◌+◌, IfOk};
+ghost use Rattle.std.specs.Prelude.{◌≡◌, ◌+◌, length, IfOk};
 ghost use Rattle.vx_model.specs.TyView.{ty};
 ghost use Rattle.vx_layout_bytes.specs.Values.{depth};
 ghost use Rattle.vx_layout_bytes.specs.Views.{raw};
@@ -10,7 +10,7 @@ ghost use Rattle.vx_session.specs.Kinds.{build_kind as kind_built};
 ghost use Rattle.vx_kinds.specs.KidsView.{owned_kid};
 ghost use Rattle.vx_kinds.specs.LayoutView.{lay};
 ghost use Rattle.vx_kinds.specs.NodeKind.{node_kind, the_kind};
-ghost use Rattle.vx_kinds.specs.OpenView.{open_made, all_built, wanted_built};
+ghost use Rattle.vx_kinds.specs.OpenView.{open_made, fits, all_built, wanted_built};
 ghost use Rattle.vx_kinds.specs.PartsView.{parts_of, one_built, children_depth};
 ghost use Rattle.vx_kinds.specs.Views.{Gives, all_lays};
 
@@ -139,6 +139,7 @@ pub(crate) fn build_kind(
 #[cycle(build)]
 #[tactic(none)]
 fn build_open(alloc: Global, frame: Open) -> Result<Layout, LayoutError>
+    requires { fits frame.frame (length frame.wanted.items) }
     ensures { Gives lay result (open_made frame) }
 {
     let Open { frame, wanted } = frame;

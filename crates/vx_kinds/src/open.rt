@@ -1,12 +1,12 @@
 //! Layouts whose children are still to be built, and what each child must be.
 
-ghost use Rattle.std.specs.Prelude.{◌≡◌, ◌≤◌, ◌∷◌, ◌++◌, [], map, IfOk, OnOk, MatchResult};
+ghost use Rattle.std.specs.Prelude.{◌≡◌, ◌≤◌, ◌∷◌, ◌++◌, [], length, map, IfOk, OnOk, MatchResult};
 ghost use Rattle.vx_model.specs.Ty.{Ty};
 ghost use Rattle.vx_model.specs.TyView.{ty};
 ghost use Rattle.vx_session.specs.Kinds.{validity_type};
 ghost use Rattle.vx_kinds.specs.KidsView.{chunks, layout_kids};
 ghost use Rattle.vx_kinds.specs.LayoutView.{lay};
-ghost use Rattle.vx_kinds.specs.OpenView.{rows_ruled, pair_kids, triple_kids, all_built, wanted_depths, framed};
+ghost use Rattle.vx_kinds.specs.OpenView.{rows_ruled, pair_kids, triple_kids, all_built, wanted_depths, framed, fits};
 ghost use Rattle.vx_kinds.specs.PartsView.{one_kid, one_depth, one_built, children_depth};
 ghost use Rattle.vx_kinds.specs.Views.{Gives, Fails, done};
 
@@ -20,7 +20,7 @@ use crate::parts::{OneChild, three, two};
 use crate::stats::LegacyStatsLayout;
 use crate::zoned::ZonedLayout;
 use std::alloc::{AllocError, Global};
-use vx_model::{DType, Nullability};
+use vx_model::{DType, Nullability, SegmentId};
 
 /// What the rows of a child must be.
 #[derive(Clone, Copy, Debug)]
@@ -40,10 +40,18 @@ pub(crate) struct Wanted {
     pub(crate) rows: RowsRule,
 }
 
+/// A list layout without its children.
+#[derive(Debug, Drop)]
+pub(crate) struct ListHead {
+    pub(crate) row_count: u64,
+    pub(crate) dtype: DType,
+    pub(crate) segment_ids: Vec<SegmentId>,
+}
+
 /// A layout without the children that are to be built.
 #[derive(Debug, Drop)]
 pub(crate) enum Frame {
-    List(ListLayout),
+    List(ListHead),
     Dict(DictLayout),
     Zoned(ZonedLayout),
     LegacyStats(LegacyStatsLayout),
@@ -81,7 +89,7 @@ pub(crate) fn pair_of(
     rows: RowsRule,
 ) -> Result<Vec<Wanted>, LayoutError>
     ensures { MatchResult result
-        (λ v. (pair_kids (layout_kids children) (ty first_type) (ty second_type) rows ≡ all_built v.items) × (wanted_depths v.items ≤ children_depth children))
+        (λ v. (pair_kids (layout_kids children) (ty first_type) (ty second_type) rows ≡ all_built v.items) × (wanted_depths v.items ≤ children_depth children) × (length v.items ≡ 2))
         (λ e. Fails e (pair_kids (layout_kids children) (ty first_type) (ty second_type) rows)) }
 {
     let (first, second) = two(children)?;
@@ -101,7 +109,7 @@ pub(crate) fn triple_of(
     rows: u64,
 ) -> Result<Vec<Wanted>, LayoutError>
     ensures { MatchResult result
-        (λ v. (triple_kids (layout_kids children) (ty first_type) (ty second_type) rows ≡ all_built v.items) × (wanted_depths v.items ≤ children_depth children))
+        (λ v. (triple_kids (layout_kids children) (ty first_type) (ty second_type) rows ≡ all_built v.items) × (wanted_depths v.items ≤ children_depth children) × (length v.items ≡ 3))
         (λ e. Fails e (triple_kids (layout_kids children) (ty first_type) (ty second_type) rows)) }
 {
     let (first, second, third) = three(children)?;
@@ -154,15 +162,17 @@ pub(crate) fn standing(alloc: Global, child: OneChild) -> Result<LayoutChildren,
 
 /// The layout with the built children in front of those that it has.
 pub(crate) fn with_built(frame: Frame, built: Vec<Layout>) -> Result<Layout, AllocError>
+    requires { fits frame (length built.items) }
     ensures { IfOk result (λ l. lay l ≡ framed frame (map lay built.items)) }
 {
     let mut children = built;
     match frame {
-        Frame::List(mut list) => {
-            children.append(&mut list.children)?;
-            list.children = children;
-            Ok(Layout::List(list))
-        }
+        Frame::List(head) => Ok(Layout::List(ListLayout {
+            row_count: head.row_count,
+            dtype: head.dtype,
+            segment_ids: head.segment_ids,
+            children,
+        })),
         Frame::Dict(mut dict) => {
             children.append(&mut dict.children)?;
             dict.children = children;

@@ -1,6 +1,6 @@
 //! Kinds that are built of their children: what is refused before them, and what is wanted.
 
-ghost use Rattle.std.specs.Prelude.{◌≡◌, ◌≤◌, ◌<◌, ◌^◌, false, length, map, Some, None, IfSome, MatchResult};
+ghost use Rattle.std.specs.Prelude.{◌≡◌, ◌≤◌, ◌<◌, ◌^◌, false, ◌+◌, length, map, Some, None, IfSome, MatchResult};
 ghost use Rattle.vx_aggregate.specs.AggregateView.{aggregate};
 ghost use Rattle.vx_model.specs.Ty.{Ty, primitive};
 ghost use Rattle.vx_model.specs.TyView.{ty};
@@ -9,6 +9,7 @@ ghost use Rattle.vx_session.specs.Views.{context as context_of};
 ghost use Rattle.vx_session.specs.Kinds.{build_list as list_built, element_type as type_of_elements, build_dict as dict_built, build_stats as stats_built, build_zoned as zoned_built, build_zones as zones_built};
 ghost use Rattle.vx_kinds.specs.declared.error.LayoutError.TheVariants.{OutOfMemory};
 ghost use Rattle.vx_kinds.specs.KidsView.{layout_kids};
+ghost use Rattle.vx_kinds.specs.Made.{validity_count};
 ghost use Rattle.vx_kinds.specs.OpenView.{Opens, list_kids, column_kids, column_made, all_built, wanted_depths};
 ghost use Rattle.vx_kinds.specs.PartsView.{parts_of, children_depth};
 ghost use Rattle.vx_kinds.specs.Views.{Fails};
@@ -20,8 +21,7 @@ use crate::checks::{
 use crate::children::LayoutChildren;
 use crate::dict::DictLayout;
 use crate::error::LayoutError;
-use crate::list::ListLayout;
-use crate::open::{Frame, Open, RowsRule, Wanted, pair_of, standing, triple_of, want};
+use crate::open::{Frame, ListHead, Open, RowsRule, Wanted, pair_of, standing, triple_of, want};
 use crate::parts::{LayoutParts, two};
 use crate::stats::LegacyStatsLayout;
 use crate::zoned::{UnreadZones, ZoneTable, ZonedLayout};
@@ -102,11 +102,10 @@ pub(crate) fn open_list(
     }
     let ends = offsets_type(offsets.offsets_ptype);
     let wanted = list_children(alloc, parts.children, &parts.dtype, ends, parts.row_count)?;
-    let frame = Frame::List(ListLayout {
+    let frame = Frame::List(ListHead {
         row_count: parts.row_count,
         dtype: parts.dtype,
         segment_ids: parts.segment_ids,
-        children: Vec::new(alloc),
     });
     Ok(Open { frame, wanted })
 }
@@ -126,7 +125,7 @@ fn list_children(
     rows: u64,
 ) -> Result<Vec<Wanted>, LayoutError>
     ensures { MatchResult result
-        (λ v. (list_kids (layout_kids children) (ty dtype.now) (ty ends) rows ≡ all_built v.items) × (wanted_depths v.items ≤ children_depth children))
+        (λ v. (list_kids (layout_kids children) (ty dtype.now) (ty ends) rows ≡ all_built v.items) × (wanted_depths v.items ≤ children_depth children) × (length v.items ≡ 2 + validity_count (ty dtype.now)))
         (λ e. Fails e (list_kids (layout_kids children) (ty dtype.now) (ty ends) rows)) }
 {
     let elements = element_type(dtype).clone()?;

@@ -69,7 +69,12 @@ impl Layout {
     {
         match self {
             Layout::Flat(_) => Ok(None),
-            Layout::Chunked(chunked) => Ok(chunk_type(&chunked.dtype, &chunked.children, chunked.row_count, slot)),
+            Layout::Chunked(chunked) => Ok(chunk_type(
+                &chunked.dtype,
+                &chunked.children,
+                chunked.row_count,
+                slot,
+            )),
             Layout::Struct(strukt) => struct_type(alloc, &strukt.dtype, slot),
             Layout::List(ListLayout { row_count, .. }) => list_type(alloc, slot),
             Layout::Dict(DictLayout { row_count, .. }) => dict_type(alloc, slot),
@@ -158,7 +163,7 @@ fn struct_type(
 
 /// The fields of a struct type; another type has none.
 #[tactic(auto, using(crate::proofs::Steps::field_rules))]
-fn fields_in(dtype: &DType) -> &[StructField]
+pub(crate) fn fields_in(dtype: &DType) -> &[StructField]
     ensures { map field_ty result.now ≡ fields_of (ty dtype.now) }
 {
     match dtype {

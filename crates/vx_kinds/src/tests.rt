@@ -3,6 +3,8 @@
 ghost use Rattle.std.specs.Prelude.{◌≡◌, ◌∷◌, [], length, IfOk};
 ghost use Rattle.vx_aggregate.specs.declared.stat.Stat.TheVariants as stats;
 
+mod walks;
+
 use crate::shape::pair;
 use crate::{
     ChunkedLayout, DictLayout, FlatLayout, ForeignLayout, Layout, LayoutError, LayoutKind,

@@ -79,22 +79,22 @@ build_kind-returns-in_err-open_stats-in-LegacyStats t c =
 pub build_kind-build_open-requires : goal.build_kind-build_open-requires
 build_kind-build_open-requires t c =
     let lt : 8 * wanted_depths c.in_ok-open_list-in-List.field-0.wanted.items + 4 < t = omega (arith, c.decreases, c.in_ok-open_list-in-List.ensures.1) in
-    (lt, tt)
+    (lt, c.in_ok-open_list-in-List.ensures.2)
 
 pub build_kind-build_open-requires-in-Dict : goal.build_kind-build_open-requires-in-Dict
 build_kind-build_open-requires-in-Dict t c =
     let lt : 8 * wanted_depths c.in_ok-open_dict-in-Dict.field-0.wanted.items + 4 < t = omega (arith, c.decreases, c.in_ok-open_dict-in-Dict.ensures.1) in
-    (lt, tt)
+    (lt, c.in_ok-open_dict-in-Dict.ensures.2)
 
 pub build_kind-build_open-requires-in-Zoned : goal.build_kind-build_open-requires-in-Zoned
 build_kind-build_open-requires-in-Zoned t c =
     let lt : 8 * wanted_depths c.in_ok-open_zoned-in-Zoned.field-0.wanted.items + 4 < t = omega (arith, c.decreases, c.in_ok-open_zoned-in-Zoned.ensures.1) in
-    (lt, tt)
+    (lt, c.in_ok-open_zoned-in-Zoned.ensures.2)
 
 pub build_kind-build_open-requires-in-LegacyStats : goal.build_kind-build_open-requires-in-LegacyStats
 build_kind-build_open-requires-in-LegacyStats t c =
     let lt : 8 * wanted_depths c.in_ok-open_stats-in-LegacyStats.field-0.wanted.items + 4 < t = omega (arith, c.decreases, c.in_ok-open_stats-in-LegacyStats.ensures.1) in
-    (lt, tt)
+    (lt, c.in_ok-open_stats-in-LegacyStats.ensures.2)
 
 pub build_kind-returns-in-Flat : goal.build_kind-returns-in-Flat
 build_kind-returns-in-Flat t c = rw c.in-Flat.is c.build_flat.ensures

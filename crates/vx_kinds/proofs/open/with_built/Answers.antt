@@ -1,17 +1,11 @@
 use Rattle.std.proofs.Common.{map}
 use Rattle.vx_model.specs.TyView.{ty}
-use Rattle.vx_tree.specs.LayoutTree.{list_kind, dict_kind, stats_kind}
+use Rattle.vx_tree.specs.LayoutTree.{dict_kind, stats_kind}
 use Rattle.vx_aggregate.specs.Stats.{stat_number}
 use Rattle.vx_kinds.specs.LayoutView.{lay, number}
 use Rattle.vx_kinds.specs.ZonedView.{kind_of_zones}
 use Rattle.vx_kinds.proofs.OpenSteps.{framed_with, framed_zoned}
 use Rattle.vx_kinds.proofs.open.with_built.Goals as goal
-
-pub returns-in_ok-append-in-List : goal.returns-in_ok-append-in-List
-unfolding lay
-returns-in_ok-append-in-List c =
-    let l = c.list.inside in
-    rw (c.in-List.is, ← c.list.view_is) (framed_with list_kind (ty l.dtype) l.row_count (map number l.segment_ids.items) c.append.new.self.items c.args.built.items l.children.items c.in_ok-append-in-List.ensures.items)
 
 pub returns-in_ok-append-in-Dict : goal.returns-in_ok-append-in-Dict
 unfolding lay

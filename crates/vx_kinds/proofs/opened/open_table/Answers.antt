@@ -7,4 +7,4 @@ use Rattle.vx_kinds.proofs.opened.open_table.Goals as goal
 pub returns : goal.returns
 returns c =
     let made = table_opens c.args.parts c.args.metadata.now c.args.zone_len (map aggregate c.args.aggregates.items) (ty c.in_ok-column.column) (ty c.in_ok-table.table) c.in_ok-wanted.wanted.items c.new.result.items c.requires.count c.in_ok-column.ensures.cases (rw (← c.deref.ensures.value) c.in_ok-table.ensures) c.in_ok-wanted.ensures.0 c.new.ensures.items in
-    (made, c.in_ok-wanted.ensures.1)
+    (made, c.in_ok-wanted.ensures.1, tt)
