@@ -3,7 +3,7 @@
 use crate::{layout_bytes, parsed_is_spelled};
 use std::alloc::Global;
 use std::test::Fail;
-use vx_kinds::{ChunkedLayout, FlatLayout, ForeignLayout, Layout, LayoutError};
+use vx_kinds::{ChunkedLayout, FlatLayout, ForeignLayout, Layout, LayoutError, layout_children};
 use vx_model::{ArrayContext, Blob, DType, Nullability, PType, SegmentId, Text};
 use vx_session::LayoutContext;
 
@@ -44,7 +44,7 @@ fn flat(alloc: Global, rows: u64, segment: u32) -> Result<Layout, Fail> {
 
 fn chunked(alloc: Global) -> Result<Layout, Fail> {
     let children = vec![in alloc; flat(alloc, 2, 0)?, flat(alloc, 1, 1)?]?;
-    Ok(Layout::Chunked(ChunkedLayout::new(3, integers(), children)?))
+    Ok(Layout::Chunked(ChunkedLayout::new(3, integers(), layout_children(children))?))
 }
 
 fn foreign(alloc: Global) -> Result<Layout, Fail> {
