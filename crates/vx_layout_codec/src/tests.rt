@@ -8,25 +8,25 @@ use vx_model::{ArrayContext, Blob, DType, Nullability, PType, SegmentId, Text};
 use vx_session::LayoutContext;
 
 /// A root of 10 rows in segment 7 with a child of 3 rows, both with metadata of their own.
-const FOREIGN: [u8; 76] = [
+pub(crate) const FOREIGN: [u8; 76] = [
     0, 0, 10, 0, 0, 0, 0, 0, 0, 0, 3, 0, 0, 0, 0, 0, 0, 0, 1, 2, 3, 1, 0, 0, 0, 0, 0, 0, 0, 7, 0,
     0, 0, 1, 0, 0, 0, 0, 0, 0, 0, 1, 0, 3, 0, 0, 0, 0, 0, 0, 0, 1, 0, 0, 0, 0, 0, 0, 0, 9, 0, 0, 0,
     0, 0, 0, 0, 0, 0, 0, 0, 0, 0, 0, 0, 0,
 ];
 
 /// Three rows in chunks of two and one.
-const CHUNKED: [u8; 110] = [
+pub(crate) const CHUNKED: [u8; 110] = [
     0, 0, 3, 0, 0, 0, 0, 0, 0, 0, 0, 0, 0, 0, 0, 0, 0, 0, 0, 0, 0, 0, 0, 0, 0, 0, 2, 0, 0, 0, 0, 0,
     0, 0, 1, 0, 2, 0, 0, 0, 0, 0, 0, 0, 0, 0, 0, 0, 0, 0, 0, 0, 1, 0, 0, 0, 0, 0, 0, 0, 0, 0, 0, 0,
     0, 0, 0, 0, 0, 0, 0, 0, 1, 0, 1, 0, 0, 0, 0, 0, 0, 0, 0, 0, 0, 0, 0, 0, 0, 0, 1, 0, 0, 0, 0, 0,
     0, 0, 1, 0, 0, 0, 0, 0, 0, 0, 0, 0, 0, 0,
 ];
 
-fn integers() -> DType {
+pub(crate) fn integers() -> DType {
     DType::Primitive(PType::I64, Nullability::NonNullable)
 }
 
-fn ids(alloc: Global, names: &[&str]) -> Result<LayoutContext, Fail> {
+pub(crate) fn ids(alloc: Global, names: &[&str]) -> Result<LayoutContext, Fail> {
     let mut ids = Vec::new(alloc);
     for name in names {
         ids.push(Text::from_str(alloc, name)?)?;

@@ -89,7 +89,7 @@ fn other_words_print_the_usage(rt: HostRuntime) -> Result<(), Fail> {
         [].as_slice(),
         &["gen"],
         &["gen", "7"],
-        &["tree"],
+        &["tree", "tree"],
         &["write", "write"],
         &["--help"],
         &[""],
