@@ -12,6 +12,7 @@ use vx_model::{ArrayContext, Text};
 use vx_session::{LayoutContext, LayoutSession, Session};
 
 /// What bytes are read in.
+#[derive(Drop)]
 pub(crate) struct Known {
     pub ids: LayoutContext,
     pub ctx: ArrayContext,
@@ -19,7 +20,7 @@ pub(crate) struct Known {
 }
 
 /// The ids, and all kinds or none.
-pub(crate) fn known(alloc: Global, names: &[&str], all: bool) -> Result<Known, Fail> {
+pub(crate) fn make_known(alloc: Global, names: &[&str], all: bool) -> Result<Known, Fail> {
     let layouts = if all {
         LayoutSession::default(alloc)?
     } else {
@@ -63,8 +64,8 @@ pub(crate) fn parsed(
 }
 
 /// The fault in words, or nothing.
-pub(crate) fn fault(alloc: Global, result: Result<Layout, LayoutError>) -> Result<String, Fail> {
-    match result {
+pub(crate) fn fault(alloc: Global, answer: Result<Layout, LayoutError>) -> Result<String, Fail> {
+    match answer {
         Ok(_layout) => Ok(String::new(alloc)),
         Err(error) => Ok(format!(in alloc; "{error:?}")?),
     }
@@ -89,7 +90,7 @@ fn field_of(at: usize) -> usize {
 #[test]
 fn cuts(rt: HostRuntime) -> Result<(), Fail> {
     let alloc = rt.alloc();
-    let known = known(alloc, &CHUNK_IDS, true)?;
+    let known = make_known(alloc, &CHUNK_IDS, true)?;
     for cut in 0..CHUNKED.len() {
         let start = field_of(cut);
         let refused = parsed(alloc, &CHUNKED[..cut], &known, false);
@@ -101,7 +102,7 @@ fn cuts(rt: HostRuntime) -> Result<(), Fail> {
 #[test]
 fn a_byte_more(rt: HostRuntime) -> Result<(), Fail> {
     let alloc = rt.alloc();
-    let known = known(alloc, &CHUNK_IDS, true)?;
+    let known = make_known(alloc, &CHUNK_IDS, true)?;
     let mut longer = Vec::from_slice(alloc, &CHUNKED)?;
     longer.push(0)?;
     let refused = parsed(alloc, &longer, &known, false);
@@ -122,7 +123,7 @@ pub(crate) fn greatest(alloc: Global, start: usize, width: usize) -> Result<Vec<
 #[test]
 fn greatest_lengths(rt: HostRuntime) -> Result<(), Fail> {
     let alloc = rt.alloc();
-    let known = known(alloc, &CHUNK_IDS, true)?;
+    let known = make_known(alloc, &CHUNK_IDS, true)?;
     // Lengths of metadata, numbers of segments and of children.
     for (start, wanted) in [
         (10, "Grammar(18)"),
@@ -163,7 +164,7 @@ pub(crate) fn within(
 #[test]
 fn limits(rt: HostRuntime) -> Result<(), Fail> {
     let alloc = rt.alloc();
-    let known = known(alloc, &CHUNK_IDS, true)?;
+    let known = make_known(alloc, &CHUNK_IDS, true)?;
     for (depth, nodes, wanted) in [
         (0, 0, "TooDeep(0)"),
         (1, 0, "TooManyNodes(0)"),
