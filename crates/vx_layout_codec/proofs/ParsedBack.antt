@@ -148,8 +148,12 @@ struct_back : (p : Parts) (ls : List (Lay ℕ)) → AreKids p.kids ls → is_str
 unfolding build_struct
 struct_back p ls are of_structs types rows =
     let count : length p.kids ≡ length (struct_types p.dtype) = same_count p.kids ls are ∙ (sym (types_count ls) ∙ ap length types) in
-    rw (of_structs, needs_met (length p.kids) (length (struct_types p.dtype)) (child_count (length p.kids) (length (struct_types p.dtype))) count, rows_back p.rows p.kids ls are rows,
-        each_back (struct_types p.dtype) p.kids ls are types) refl
+    rw (
+      of_structs,
+      needs_met (length p.kids) (length (struct_types p.dtype)) (child_count (length p.kids) (length (struct_types p.dtype))) count,
+      rows_back p.rows p.kids ls are rows,
+      each_back (struct_types p.dtype) p.kids ls are types,
+    ) refl
 
 no_types : (ls : List (Lay ℕ)) → types_of ls ≡ [] → [] ≡ ls
 no_types [] e = refl
@@ -178,9 +182,13 @@ offsets_back p integers x y vs are one other types rows flags =
     let more : length vs ≡ length (validity_types p.dtype) = sym (types_count vs) ∙ ap length types in
     let all = same_count p.kids (x ∷ y ∷ vs) are in
     let count : length p.kids ≡ 2 + length (validity_types p.dtype) = omega (arith, all, more) in
-    rw (needs_met (length p.kids) (2 + length (validity_types p.dtype)) (child_count (length p.kids) (2 + length (validity_types p.dtype))) count,
-        child_zero p.kids x (y ∷ vs) (element_type p.dtype) are one, child_one p.kids x y vs (primitive integers false) are other,
-        needs_met (row_count y - 1) p.rows (other_rows (row_count y - 1) p.rows) rows, validity_back p x y vs are types flags) refl
+    rw (
+      needs_met (length p.kids) (2 + length (validity_types p.dtype)) (child_count (length p.kids) (2 + length (validity_types p.dtype))) count,
+      child_zero p.kids x (y ∷ vs) (element_type p.dtype) are one,
+      child_one p.kids x y vs (primitive integers false) are other,
+      needs_met (row_count y - 1) p.rows (other_rows (row_count y - 1) p.rows) rows,
+      validity_back p x y vs are types flags,
+    ) refl
 
 list_back : (p : Parts) (integers : PType) (x y : Lay ℕ) (vs : List (Lay ℕ)) → AreKids p.kids (x ∷ y ∷ vs) → is_list p.dtype ≡ true
     → types_of (x ∷ y ∷ vs) ≡ element_type p.dtype ∷ primitive integers false ∷ validity_types p.dtype → row_count y - 1 ≡ p.rows → HaveRows p.rows vs
@@ -198,8 +206,14 @@ unfolding build_dict
 dict_back p all integers null x y are types rows =
     let one : layout_type x ≡ p.dtype = cc types in
     let other : layout_type y ≡ primitive integers null = cc types in
-    rw (other, dict_again (codes_kept (primitive integers null) all), needs_met (length p.kids) 2 (child_count (length p.kids) 2) (same_count p.kids (x ∷ y ∷ []) are),
-        child_zero p.kids x (y ∷ []) p.dtype are one, child_one p.kids x y [] (primitive integers null) are other, needs_met (row_count y) p.rows (other_rows (row_count y) p.rows) rows) refl
+    rw (
+      other,
+      dict_again (codes_kept (primitive integers null) all),
+      needs_met (length p.kids) 2 (child_count (length p.kids) 2) (same_count p.kids (x ∷ y ∷ []) are),
+      child_zero p.kids x (y ∷ []) p.dtype are one,
+      child_one p.kids x y [] (primitive integers null) are other,
+      needs_met (row_count y) p.rows (other_rows (row_count y) p.rows) rows,
+    ) refl
 
 zoned_back : (c : Context) (p : Parts) (zone_len : ℕ) (specs : List Spec) (aggregates : List Aggregate) (x y : Lay ℕ) → IsZoned (record { zone_len = zone_len; specs = specs })
     → read_specs c specs ≡ Ok (Some aggregates) → map spec aggregates ≡ specs → AreKids p.kids (x ∷ y ∷ []) → types_of (x ∷ y ∷ []) ≡ p.dtype ∷ stats_table p.dtype aggregates ∷ [] → row_count x ≡ p.rows
@@ -208,9 +222,15 @@ unfolding build_zoned
 zoned_back c p zone_len specs aggregates x y fits read named are types rows =
     let one : layout_type x ≡ p.dtype = cc types in
     let other : layout_type y ≡ stats_table p.dtype aggregates = cc types in
-    rw (zoned_again (record { zone_len = zone_len; specs = specs }) fits, needs_met (length p.kids) 2 (child_count (length p.kids) 2) (same_count p.kids (x ∷ y ∷ []) are),
-        needs_met (rows_at p.kids 0) p.rows (other_rows (rows_at p.kids 0) p.rows) (rows_zero p.kids x (y ∷ []) are ∙ rows), read,
-        child_zero p.kids x (y ∷ []) p.dtype are one, child_one p.kids x y [] (stats_table p.dtype aggregates) are other, named) refl
+    rw (
+      zoned_again (record { zone_len = zone_len; specs = specs }) fits,
+      needs_met (length p.kids) 2 (child_count (length p.kids) 2) (same_count p.kids (x ∷ y ∷ []) are),
+      needs_met (rows_at p.kids 0) p.rows (other_rows (rows_at p.kids 0) p.rows) (rows_zero p.kids x (y ∷ []) are ∙ rows),
+      read,
+      child_zero p.kids x (y ∷ []) p.dtype are one,
+      child_one p.kids x y [] (stats_table p.dtype aggregates) are other,
+      named,
+    ) refl
 
 unread_back : (c : Context) (p : Parts) (metadata : List ℕ) (zoned : Zoned) (x y : Lay ℕ) → zoned_in metadata ≡ Some zoned → read_specs c zoned.specs ≡ Ok None → AreKids p.kids (x ∷ y ∷ [])
     → types_of (x ∷ y ∷ []) ≡ p.dtype ∷ struct no_fields false ∷ [] → row_count x ≡ p.rows → build_zoned c p metadata ≡ of_kind (unread_zoned_kind metadata) p (x ∷ y ∷ [])
@@ -218,9 +238,14 @@ unfolding build_zoned
 unread_back c p metadata zoned x y is read are types rows =
     let one : layout_type x ≡ p.dtype = cc types in
     let other : layout_type y ≡ struct no_fields false = cc types in
-    rw (is, needs_met (length p.kids) 2 (child_count (length p.kids) 2) (same_count p.kids (x ∷ y ∷ []) are),
-        needs_met (rows_at p.kids 0) p.rows (other_rows (rows_at p.kids 0) p.rows) (rows_zero p.kids x (y ∷ []) are ∙ rows), read,
-        child_zero p.kids x (y ∷ []) p.dtype are one, standing_one p.kids x y (struct no_fields false) are other) refl
+    rw (
+      is,
+      needs_met (length p.kids) 2 (child_count (length p.kids) 2) (same_count p.kids (x ∷ y ∷ []) are),
+      needs_met (rows_at p.kids 0) p.rows (other_rows (rows_at p.kids 0) p.rows) (rows_zero p.kids x (y ∷ []) are ∙ rows),
+      read,
+      child_zero p.kids x (y ∷ []) p.dtype are one,
+      standing_one p.kids x y (struct no_fields false) are other,
+    ) refl
 
 same_bits : (ss : List Stat) → total_by number_bit (map stat_number ss) ≡ total_by stat_bit ss
 same_bits [] = refl
@@ -232,8 +257,13 @@ unfolding build_stats
 stats_back p zone_len stats x y short order are types =
     let one : layout_type x ≡ p.dtype = cc types in
     let other : layout_type y ≡ legacy_table p.dtype stats = cc types in
-    rw (same_bits stats, legacy_again zone_len stats short order, needs_met (length p.kids) 2 (child_count (length p.kids) 2) (same_count p.kids (x ∷ y ∷ []) are),
-        child_zero p.kids x (y ∷ []) p.dtype are one, child_one p.kids x y [] (legacy_table p.dtype stats) are other) refl
+    rw (
+      same_bits stats,
+      legacy_again zone_len stats short order,
+      needs_met (length p.kids) 2 (child_count (length p.kids) 2) (same_count p.kids (x ∷ y ∷ []) are),
+      child_zero p.kids x (y ∷ []) p.dtype are one,
+      child_one p.kids x y [] (legacy_table p.dtype stats) are other,
+    ) refl
 
 -- ---- ids
 

@@ -94,7 +94,11 @@ fn cuts(rt: HostRuntime) -> Result<(), Fail> {
     for cut in 0..CHUNKED.len() {
         let start = field_of(cut);
         let refused = parsed(alloc, &CHUNKED[..cut], &known, false);
-        assert_eq!(rt; fault(alloc, refused)?, format!(in alloc; "Grammar({start})")?, "cut at {cut}");
+        assert_eq!(rt;
+            fault(alloc, refused)?,
+            format!(in alloc; "Grammar({start})")?,
+            "cut at {cut}"
+        );
     }
     Ok(())
 }
