@@ -1,5 +1,6 @@
 -- What is shown of a layout that was refused.
 use Rattle.std.proofs.Common.{◌≡◌, ℕ, List, Ok, Err, refl}
+use Rattle.std.proofs.lemmas.List.{map_more}
 use Rattle.vx_session.specs.Made.{Made}
 use Rattle.vx_kinds.specs.Views.{Fails}
 use Rattle.vx_kinds.specs.ErrorNames.{error_name}
@@ -28,3 +29,5 @@ refusal_shown (errors.FieldNotFound a) made status text h other is = rw h is
 refusal_shown errors.NotAList made status text h other is = rw h is
 refusal_shown errors.NotAStruct made status text h other is = rw h is
 refusal_shown errors.OutOfMemory made status text h other is = absurd (other refl)
+
+pub ruleset copy_rules = (map_more)

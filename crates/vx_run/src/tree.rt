@@ -1,6 +1,6 @@
 //! What the command `tree` answers to the bytes of a layout.
 
-ghost use Rattle.std.specs.Prelude.{◌≡◌, ◌≤◌, ◌++◌, true, map, codes, string_bytes, IfOk};
+ghost use Rattle.std.specs.Prelude.{◌≡◌, ◌≤◌, ◌++◌, true, [], map, codes, string_bytes, IfOk};
 ghost use Rattle.vx_session.specs.Encodings.{with_kinds};
 ghost use Rattle.vx_kinds.specs.declared.error.LayoutError.TheVariants as layout_errors;
 ghost use Rattle.vx_kinds.specs.ErrorNames.{error_name};
@@ -22,17 +22,6 @@ use vx_kinds::{Layout, LayoutError};
 use vx_layout_codec::layout_from_flatbuffer_with_options;
 use vx_model::Text;
 use vx_session::{LayoutEncoding, LayoutSession, Session};
-
-/// The ids of all aggregates.
-const AGGREGATES: [&str; 7] = [
-    "vortex.max",
-    "vortex.min",
-    "vortex.bounded_max",
-    "vortex.bounded_min",
-    "vortex.null_count",
-    "vortex.sum",
-    "vortex.bloom_filter.sbbf",
-];
 
 /// The answer to the bytes of an input.
 pub(crate) fn tree_answer(alloc: Global, bytes: &[u8]) -> Result<Answer, AllocError>
@@ -96,14 +85,31 @@ fn session(
     })
 }
 
+/// The ids of all aggregates.
 fn aggregates(alloc: Global) -> Result<Vec<Text>, AllocError>
     ensures { IfOk result (λ v. v.items ≡ aggregate_ids) }
 {
-    let mut ids = Vec::with_capacity(alloc, AGGREGATES.len())?;
-    for id in &AGGREGATES {
-        ids.push(Text::from_str(alloc, id)?)?;
+    let ids = [
+        "vortex.max",
+        "vortex.min",
+        "vortex.bounded_max",
+        "vortex.bounded_min",
+        "vortex.null_count",
+        "vortex.sum",
+        "vortex.bloom_filter.sbbf",
+    ];
+    texts(alloc, &ids)
+}
+
+#[tactic(auto, using(crate::proofs::TreeSteps::copy_rules))]
+fn texts(alloc: Global, names: &[&str]) -> Result<Vec<Text>, AllocError>
+    ensures { IfOk result (λ v. v.items ≡ map (λ n. n.now) names.now) }
+{
+    let mut texts = Vec::with_capacity(alloc, names.len())?;
+    for name in names {
+        texts.push(Text::from_str(alloc, name)?)?;
     }
-    Ok(ids)
+    Ok(texts)
 }
 
 /// The verbose tree.
