@@ -172,7 +172,7 @@ or_memory is (inr e) = inr e
 valid_done : (j : JobData) (s : Setting) (tracker : ℕ) (status : Status) (text : List ℕ) → Writes j.options.encodings s → is_built j.strategy j.schema ≡ true → SetsNoFaults j
     → Valid s j.strategy j.schema j.options.marked j.options.next tracker j.batches → JobAnswer j status text → status ≡ Done
 valid_done j s tracker Done text writes form no_faults valid answers = refl
-valid_done j s tracker Refused text writes form no_faults valid answers = absurd (answers.not_valid s tracker writes form no_faults valid)
+valid_done j s tracker Refused text writes form no_faults valid answers = absurd (answers.refused.not_valid s tracker writes form no_faults valid)
 valid_done j s tracker Usage text writes form no_faults valid answers = absurd answers
 valid_done j s tracker BadJob text writes form no_faults valid answers = absurd answers
 valid_done j s tracker InputFault text writes form no_faults valid answers = absurd answers
