@@ -7,7 +7,9 @@ use vx_run::Status;
 /// What is asked, with the bytes of a flat layout of 7 rows in segment 9, and what more stands behind them.
 fn flat(alloc: Global, more: &str) -> Result<String, AllocError> {
     let bytes = "0000070000000000000000000000000000000100000000000000090000000000000000000000";
-    format!(in alloc; "{{\"dtype\": \"i64\", \"layouts\": [\"vortex.flat\"], \"bytes\": \"{bytes}\"{more}}}")
+    format!(in alloc;
+        "{{\"dtype\": \"i64\", \"layouts\": [\"vortex.flat\"], \"bytes\": \"{bytes}\"{more}}}"
+    )
 }
 
 /// Whether the command ends with this status and prints this text.
@@ -30,7 +32,10 @@ fn places_at_fault(rt: HostRuntime) -> Result<(), Fail> {
         assert_eq!(rt; shows(alloc, asked, Status::BadJob, line)?, true, "{asked}");
     }
     let deep = flat(alloc, ", \"depth\": 1025, \"nodes\": -1")?;
-    assert_eq!(rt; shows(alloc, &deep, Status::BadJob, "bad job at depth\n")?, true);
+    assert_eq!(rt;
+        shows(alloc, &deep, Status::BadJob, "bad job at depth\n")?,
+        true
+    );
     Ok(())
 }
 
@@ -38,13 +43,20 @@ fn places_at_fault(rt: HostRuntime) -> Result<(), Fail> {
 fn bytes_that_are_no_layout(rt: HostRuntime) -> Result<(), Fail> {
     let alloc = rt.alloc();
     let short = r#"{"dtype": "i64", "layouts": [], "bytes": "00"}"#;
-    assert_eq!(rt; shows(alloc, short, Status::Refused, "refused Grammar\n")?, true);
+    assert_eq!(rt;
+        shows(alloc, short, Status::Refused, "refused Grammar\n")?,
+        true
+    );
     for (more, line) in [
         (", \"depth\": 0", "refused TooDeep\n"),
         (", \"nodes\": 0", "refused TooManyNodes\n"),
     ] {
         let asked = flat(alloc, more)?;
-        assert_eq!(rt; shows(alloc, &asked, Status::Refused, line)?, true, "{more}");
+        assert_eq!(rt;
+            shows(alloc, &asked, Status::Refused, line)?,
+            true,
+            "{more}"
+        );
     }
     Ok(())
 }

@@ -22,7 +22,7 @@ tree_scope j = record {
   ids = j.layouts;
   registered = with_kinds j.options.registered [];
   context = record { encodings = j.options.encodings; aggregates = aggregate_ids; allow_unknown = j.options.allow_unknown };
-  allow_unknown = j.options.allow_unknown
+  allow_unknown = j.options.allow_unknown;
 }
 
 -- the layout that the bytes are at the type and within the limits, or why they are none

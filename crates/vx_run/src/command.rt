@@ -38,11 +38,7 @@ fn command_named(word: &str) -> Option<Command>
 }
 
 /// The command's answer to the bytes of an input.
-pub(crate) fn answer_by(
-    alloc: Global,
-    command: Command,
-    bytes: &[u8],
-) -> Result<Answer, AllocError>
+pub(crate) fn answer_by(alloc: Global, command: Command, bytes: &[u8]) -> Result<Answer, AllocError>
     ensures { IfOk result (λ a. Answers command bytes.now a.status (string_bytes a.text)) }
 {
     match command {
