@@ -6,7 +6,6 @@ use Rattle.std.specs.Prelude.{map, option_map, IsTrue, ◌⊎◌}
 use Rattle.vx_model.specs.declared.encoding.EncodingId.{EncodingId}
 use Rattle.vx_model.specs.Ty.{Ty}
 use Rattle.vx_model.specs.Piece.{Piece}
-use Rattle.vx_model.specs.Val.{Val}
 use Rattle.vx_path.specs.Path.{Eof, inside, next}
 use Rattle.vx_tree.specs.LayoutTree.{Lay, lays_of, gathered, renamed, each_renamed}
 use Rattle.vx_tree.specs.Rows.{rows, all_there}

@@ -1,5 +1,5 @@
 -- What is shown of a layout that was refused.
-use Rattle.std.proofs.Common.{◌≡◌, ℕ, List, Ok, Err, refl}
+use Rattle.std.proofs.Common.{◌≡◌, ℕ, List, refl}
 use Rattle.std.proofs.lemmas.List.{map_more}
 use Rattle.vx_session.specs.Made.{Made}
 use Rattle.vx_kinds.specs.Views.{Fails}

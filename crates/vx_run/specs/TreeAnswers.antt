@@ -1,7 +1,7 @@
 -- What the command `tree` prints, and its status.
 use Rattle.std.specs.Prelude.{ℕ, ◌++◌, true, List, [], ◌∷◌, codes, Result, Ok, Err}
 use Rattle.vx_session.specs.Encodings.{with_kinds}
-use Rattle.vx_session.specs.Scope.{Context, Scope}
+use Rattle.vx_session.specs.Scope.{Scope}
 use Rattle.vx_session.specs.Made.{Made}
 use Rattle.vx_kinds.specs.ErrorNames as layout_errors
 use Rattle.vx_layout_codec.specs.Parsed.{parsed}

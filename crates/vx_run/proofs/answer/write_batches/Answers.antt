@@ -1,7 +1,7 @@
 use Rattle.std.proofs.Common.{◌≡◌, true, false, Some, ap, ◌∙◌}
 use Rattle.vx_job.specs.JobText.{JobData}
 use Rattle.vx_job.specs.JobView.{job_view}
-use Rattle.vx_run.proofs.JobSteps.{Start, same_pieces, all_written, write_halts}
+use Rattle.vx_run.proofs.JobSteps.{same_pieces, all_written, write_halts}
 use Rattle.vx_run.proofs.answer.write_batches.Goals as goal
 
 pub returns-in-Ok-clause-ok : goal.returns-in-Ok-clause-ok
