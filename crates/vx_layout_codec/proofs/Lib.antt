@@ -1,2 +1,4 @@
 pub mod WalkSteps
 pub mod SpelledAgain
+pub mod AnswerSteps
+pub mod ParsedBack

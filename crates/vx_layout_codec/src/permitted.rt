@@ -26,7 +26,11 @@ pub(crate) fn check_permitted(
     check_listed(alloc, layout.encoding_id(), ctx)?;
     for i in 0..layout.nchildren() {
         match built_child(layout, i)? {
-            Some(child) => check_permitted(alloc, child.layout(), ctx)?,
+            Some(child) => {
+                let checked = check_permitted(alloc, child.layout(), ctx);
+                drop(child);
+                checked?;
+            }
             None => (),
         }
     }

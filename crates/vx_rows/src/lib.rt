@@ -26,6 +26,8 @@ mod reading;
 mod refusals;
 #[cfg(test)]
 mod reports;
+#[cfg(test)]
+mod trees;
 
 use std::alloc::{AllocError, Global};
 use vx_types::{Cell, Chunk, DType, Nullability, PType};

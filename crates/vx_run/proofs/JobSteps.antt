@@ -2,11 +2,10 @@
 use Rattle.std.proofs.Common.{◌≡◌, ℕ, ◌+◌, ◌-◌, ◌≤◌, ◌<◌, ◌^◌, ◌&&◌, nat_lt, max, not, Bool, true, false, List, [], ◌∷◌, ◌++◌, length, Option, Some, None, refl, sym, ap, subst, ◌∙◌, arith, inl, inr}
 use Rattle.std.proofs.lemmas.List.{append_cancel_right}
 use Rattle.vx_chunk.specs.ChunkView.{piece}
-use Rattle.std.specs.Prelude.{map, option_map, is_some, IsSome, IsTrue, ◌⊎◌}
+use Rattle.std.specs.Prelude.{map, option_map, IsTrue, ◌⊎◌}
 use Rattle.vx_model.specs.declared.encoding.EncodingId.{EncodingId}
 use Rattle.vx_model.specs.Ty.{Ty}
 use Rattle.vx_model.specs.Piece.{Piece}
-use Rattle.vx_model.specs.Val.{Val}
 use Rattle.vx_path.specs.Path.{Eof, inside, next}
 use Rattle.vx_tree.specs.LayoutTree.{Lay, lays_of, gathered, renamed, each_renamed}
 use Rattle.vx_tree.specs.Rows.{rows, all_there}
@@ -31,7 +30,9 @@ use Rattle.vx_job.specs.JobParts.{FailingCalls}
 use Rattle.vx_job.specs.JobText.{JobData}
 use Rattle.vx_report.specs.Report.{report, refused_report}
 use Rattle.vx_report.specs.ZoneText.{ZoneTable, zone_tables, tables_below}
-use Rattle.vx_run.specs.Answers.{job_plan, table_rows, IsReport, refusal_name, is_memory, IsLast, RefusedFor, Begins, IsRefusal}
+use Rattle.vx_run.specs.declared.status.Status.{Status}
+use Rattle.vx_run.specs.declared.status.Status.TheVariants.{Done, Refused}
+use Rattle.vx_run.specs.Answers.{job_plan, table_rows, IsWritten, IsReport, refusal_name, is_memory, IsLast, RefusedFor, Begins, IsRefused, Halts, JobAnswer, IsText}
 
 -- a setting that writes these encodings
 abbrev pub plain_setting : List EncodingId → Setting
@@ -82,10 +83,14 @@ no_tables s w t m xs first h =
     subst (λ (v : Way). zone_tables (numbered (source_plan s v t m xs true) first) ≡ []) (sym b.chunks)
     (no_tables_in s b.options t m (row_total (batch_items 0 xs)) (batch_items 0 xs) root_eof (number_of (source_plan s (chunked (flat b.options)) t m xs true).pairs first))
 
-pub none_told : (s : Setting) (j : JobData) (t : Ty) (first : ℕ) {l : Lay ℕ} → is_built j.strategy t ≡ true → l ≡ numbered (source_plan s j.strategy t false j.batches true) first → zone_tables l ≡ []
-none_told s j t first form laid = ap zone_tables laid ∙ no_tables s j.strategy t false j.batches first form
+-- ---- what a write of a job starts from
 
--- ---- a job that was written
+pub record Start (j : JobData) (ids : List EncodingId) (t : Ty) (first : ℕ) (came : Option (List Piece)) (old : Option (List (List ℕ))) : Type 0 where
+  pub listed : ids ≡ j.options.encodings
+  pub schema : t ≡ j.schema
+  pub numbers : first ≡ j.options.next
+  pub batches : came ≡ Some j.batches
+  pub none : old ≡ Some []
 
 -- a chunk is seen as its piece
 pub same_pieces : (xs : List Piece) → map piece xs ≡ xs
@@ -95,48 +100,70 @@ same_pieces (x ∷ xs) = ap (λ (ys : List Piece). x ∷ ys) (same_pieces xs)
 told_all : {old new : Option (List (List ℕ))} {shown bs : List (List ℕ)} → old ≡ Some [] → new ≡ Some shown → new ≡ then_told old bs → shown ≡ bs
 told_all {shown = shown} {bs = bs} none told stored = let all : Some shown ≡ Some bs = sym told ∙ (stored ∙ ap (λ o. then_told o bs) none) in cc
 
--- the rows of what was written, from the segments of a sink that was empty
-rows_there : (l : Lay ℕ) (shown bs : List (List ℕ)) (vs : List Val) (first number : ℕ) {old new : Option (List (List ℕ))} → first ≡ number → old ≡ Some [] → new ≡ Some shown → new ≡ then_told old bs
-    → rows segment_codec (segment_at first bs) l ≡ Some vs → rows segment_codec (segment_at number shown) l ≡ Some vs
-rows_there l shown bs vs first number same none told stored back =
-    ap (λ (cs : List (List ℕ)). rows segment_codec (segment_at number cs) l) (told_all none told stored) ∙ (sym (ap (λ (n : ℕ). rows segment_codec (segment_at n bs) l) same) ∙ back)
+-- the numbers of what was written fit
+fitting : (first now : ℕ) (shown bs : List (List ℕ)) → shown ≡ bs → now ≡ first + length bs → now ≤ max first (2 ^ 32) → first + length shown ≤ max first (2 ^ 32)
+fitting first now shown bs same count last = rw (same, ← count) last
 
-pub rows_told : (j : JobData) (first : ℕ) (l : Lay ℕ) (bs : List (List ℕ)) {shown : List (List ℕ)} {old new : Option (List (List ℕ))}
-    → first ≡ j.options.next → old ≡ Some [] → new ≡ Some shown → new ≡ then_told old bs → rows segment_codec (segment_at first bs) l ≡ Some (source_values j.batches)
-    → IsSome (rows segment_codec (segment_at j.options.next shown) l)
-rows_told j first l bs {shown} same none told stored back = ap is_some (rows_there l shown bs (source_values j.batches) first j.options.next same none told stored back)
-
--- the numbers of what was written
-pub numbers_told : (j : JobData) (first now : ℕ) (bs : List (List ℕ)) {shown : List (List ℕ)} {old new : Option (List (List ℕ))}
-    → first ≡ j.options.next → old ≡ Some [] → new ≡ Some shown → new ≡ then_told old bs → now ≡ first + length bs → now ≤ max first (2 ^ 32)
-    → j.options.next + length shown ≤ max j.options.next (2 ^ 32)
-numbers_told j first now bs {shown} same none told stored count last =
-    let all : length shown ≡ length bs = ap length (told_all none told stored) in
-    rw (← same, all, ← count) last
-
-pub job_shown : (s : Setting) (j : JobData) {text : List ℕ} {l : Lay ℕ} {shown : List (List ℕ)} {t : Ty} {first : ℕ} {old new : Option (List (List ℕ))}
-    → is_built j.strategy j.schema ≡ true → t ≡ j.schema → first ≡ j.options.next → old ≡ Some [] → new ≡ Some shown
-    → Some text ≡ option_map (report j.options.next l shown []) (rows segment_codec (segment_at j.options.next shown) l)
-    → l ≡ numbered (source_plan s j.strategy t false j.batches true) first → new ≡ then_told old (segments (source_plan s j.strategy t false j.batches true))
-    → rows segment_codec (segment_at first (segments (source_plan s j.strategy t false j.batches true))) l ≡ Some (source_values j.batches) → IsReport s j text
-job_shown s j {text} {l} {shown} {t} {first} {old} {new} form type same none told is laid stored back =
-    let plan : source_plan s j.strategy t false j.batches true ≡ job_plan s j = ap (λ (u : Ty). source_plan s j.strategy u false j.batches true) type ∙ sym (same_marked s j.strategy j.schema j.options.marked j.batches true form) in
-    let layout : l ≡ numbered (job_plan s j) j.options.next = laid ∙ (ap (λ (n : ℕ). numbered (source_plan s j.strategy t false j.batches true) n) same ∙ ap (λ (p : Plan). numbered p j.options.next) plan) in
-    let all : shown ≡ segments (job_plan s j) = told_all none told stored ∙ ap segments plan in
-    let read : rows segment_codec (segment_at j.options.next shown) l ≡ Some (source_values j.batches) = rows_there l shown (segments (source_plan s j.strategy t false j.batches true)) (source_values j.batches) first j.options.next same none told stored back in
-    let printed : Some text ≡ Some (report j.options.next l shown [] (source_values j.batches)) = is ∙ ap (option_map (report j.options.next l shown [])) read in
-    let text_is : text ≡ report j.options.next l shown [] (source_values j.batches) = cc in
-    let none_there : zone_tables (numbered (job_plan s j) j.options.next) ≡ [] = no_tables s j.strategy j.schema j.options.marked j.batches j.options.next form in
-    record {
-      read = sym (ap (λ (k : Lay ℕ). rows segment_codec (segment_at j.options.next shown) k) layout ∙ ap (λ (bs : List (List ℕ)). rows segment_codec (segment_at j.options.next bs) (numbered (job_plan s j) j.options.next)) all) ∙ read;
-      tables = [];
-      tables_read = ap (λ (zs : List ZoneTable). all_there (table_rows (segment_at j.options.next (segments (job_plan s j))) zs)) none_there;
-      shown = text_is ∙ (ap (λ (k : Lay ℕ). report j.options.next k shown [] (source_values j.batches)) layout ∙ ap (λ (bs : List (List ℕ)). report j.options.next (numbered (job_plan s j) j.options.next) bs [] (source_values j.batches)) all);
-    }
-
-pub is_true : (b : Bool) → (b ≡ false → ⊥) → b ≡ true
+is_true : (b : Bool) → (b ≡ false → ⊥) → b ≡ true
 is_true true h = refl
 is_true false h = absurd (h refl)
+
+-- ---- a job that was written
+
+written_so : (j : JobData) {now : ℕ} {old new : Option (List (List ℕ))} {l : Lay ℕ} {stored : List (List ℕ)} → old ≡ Some [] → new ≡ Some stored → is_built j.strategy j.schema ≡ true
+    → ((s : Setting) → Writes j.options.encodings s → l ≡ numbered (source_plan s j.strategy j.schema false j.batches true) j.options.next)
+    → ((s : Setting) → Writes j.options.encodings s → new ≡ then_told old (segments (source_plan s j.strategy j.schema false j.batches true)))
+    → ((s : Setting) → Writes j.options.encodings s → now ≡ j.options.next + length (segments (source_plan s j.strategy j.schema false j.batches true)))
+    → ((s : Setting) → Writes j.options.encodings s → rows segment_codec (segment_at j.options.next (segments (source_plan s j.strategy j.schema false j.batches true))) l ≡ Some (source_values j.batches))
+    → now ≤ max j.options.next (2 ^ 32) → IsWritten j l stored
+written_so j {now} {old} {new} {l} {stored} none told form laid appended numbers back last =
+    let plain : Setting = plain_setting j.options.encodings in
+    let writes : Writes j.options.encodings plain = writes_all j.options.encodings in
+    let same : (s : Setting) → source_plan s j.strategy j.schema false j.batches true ≡ job_plan s j = λ s. sym (same_marked s j.strategy j.schema j.options.marked j.batches true form) in
+    let all : stored ≡ segments (source_plan plain j.strategy j.schema false j.batches true) = told_all none told (appended plain writes) in
+    record {
+      form = form;
+      laid = λ s w. laid s w ∙ ap (λ (p : Plan). numbered p j.options.next) (same s);
+      appended = λ s w. told_all none told (appended s w) ∙ ap segments (same s);
+      read = ap (λ (bs : List (List ℕ)). rows segment_codec (segment_at j.options.next bs) l) all ∙ back plain writes;
+      numbers = fitting j.options.next now stored (segments (source_plan plain j.strategy j.schema false j.batches true)) all (numbers plain writes) last;
+      no_tables = ap zone_tables (laid plain writes) ∙ no_tables plain j.strategy j.schema false j.batches j.options.next form;
+    }
+
+pub all_written : (j : JobData) {ids : List EncodingId} {t : Ty} {first now : ℕ} {came : Option (List Piece)} {old new : Option (List (List ℕ))} {l : Lay ℕ} {stored : List (List ℕ)}
+    → Start j ids t first came old → new ≡ Some stored → (is_built j.strategy t ≡ false → ⊥)
+    → ((s : Setting) (xs : List Piece) → Writes ids s → came ≡ Some xs → l ≡ numbered (source_plan s j.strategy t false xs true) first)
+    → ((s : Setting) (xs : List Piece) → Writes ids s → came ≡ Some xs → new ≡ then_told old (segments (source_plan s j.strategy t false xs true)))
+    → ((s : Setting) (xs : List Piece) → Writes ids s → came ≡ Some xs → now ≡ first + length (segments (source_plan s j.strategy t false xs true)))
+    → ((s : Setting) (xs : List Piece) → Writes ids s → came ≡ Some xs → rows segment_codec (segment_at first (segments (source_plan s j.strategy t false xs true))) l ≡ Some (source_values xs))
+    → now ≤ max first (2 ^ 32) → IsWritten j l stored
+all_written j {t = t} start told unbuilt laid appended numbers back last =
+    written_so j start.none told (is_true (is_built j.strategy j.schema) (λ f. unbuilt (ap (is_built j.strategy) start.schema ∙ f)))
+    (λ s w. rw (start.schema, start.numbers) at (laid s j.batches (rw start.listed w) start.batches))
+    (λ s w. rw start.schema at (appended s j.batches (rw start.listed w) start.batches))
+    (λ s w. rw (start.schema, start.numbers) at (numbers s j.batches (rw start.listed w) start.batches))
+    (λ s w. rw (start.schema, start.numbers) at (back s j.batches (rw start.listed w) start.batches))
+    (rw start.numbers at last)
+
+report_so : (s : Setting) (j : JobData) {l : Lay ℕ} {stored : List (List ℕ)} {text : List ℕ} → IsWritten j l stored → Writes j.options.encodings s
+    → text ≡ report j.options.next l stored [] (source_values j.batches) → IsReport s j text
+report_so s j {l} {stored} w writes is =
+    let layout : l ≡ numbered (job_plan s j) j.options.next = w.laid s writes in
+    let all : stored ≡ segments (job_plan s j) = w.appended s writes in
+    record {
+      read = sym (ap (λ (k : Lay ℕ). rows segment_codec (segment_at j.options.next stored) k) layout ∙ ap (λ (bs : List (List ℕ)). rows segment_codec (segment_at j.options.next bs) (numbered (job_plan s j) j.options.next)) all) ∙ w.read;
+      tables = [];
+      tables_read = ap (λ (zs : List ZoneTable). all_there (table_rows (segment_at j.options.next (segments (job_plan s j))) zs)) (sym (ap zone_tables layout) ∙ w.no_tables);
+      shown = is ∙ (ap (λ (k : Lay ℕ). report j.options.next k stored [] (source_values j.batches)) layout ∙ ap (λ (bs : List (List ℕ)). report j.options.next (numbered (job_plan s j) j.options.next) bs [] (source_values j.batches)) all);
+    }
+
+-- the report of what was written is the job's answer
+pub report_answers : (j : JobData) {l : Lay ℕ} {stored : List (List ℕ)} {status : Status} {text : List ℕ} → IsWritten j l stored
+    → (status ≡ Done) × (Some text ≡ option_map (report j.options.next l stored []) (rows segment_codec (segment_at j.options.next stored) l)) → JobAnswer j status text
+report_answers j {l} {stored} {status} {text} w h =
+    let printed : Some text ≡ Some (report j.options.next l stored [] (source_values j.batches)) = h.1 ∙ ap (option_map (report j.options.next l stored [])) w.read in
+    let text_is : text ≡ report j.options.next l stored [] (source_values j.batches) = cc in
+    subst (λ (st : Status). JobAnswer j st text) (sym h.0) (w.form, λ s writes. report_so s j w writes text_is)
 
 -- ---- a job that was refused
 
@@ -232,64 +259,76 @@ never_listed list k none h = by_test (nat_lt k (2 ^ 64 - 1)) (rw none at h)
     by_test true h = let f : false ≡ true = h in cc
     by_test false h = let f : false ≡ true = h in cc
 
-refused_so : (j : JobData) (e : WriteError) {text : List ℕ} {shown : List (List ℕ)} {now : ℕ} {a c : Option (List Piece)} {old new : Option (List (List ℕ))} (source sink : ℕ → Type 0)
-    → a ≡ Some j.batches → old ≡ Some [] → new ≡ Some shown
-    → text ≡ refused_report (refusal_name e) j.options.next shown → is_memory e ≡ false
+refused_so : (j : JobData) (e : WriteError) {stood : List (List ℕ)} {now : ℕ} {a c : Option (List Piece)} {old new : Option (List (List ℕ))} (source sink : ℕ → Type 0)
+    → a ≡ Some j.batches → old ≡ Some [] → new ≡ Some stood → is_memory e ≡ false
     → ((k : ℕ) → source k → IsTrue (fails_at j.options.faults.source k)) → ((k : ℕ) → sink k → IsTrue (fails_at j.options.faults.sink k))
     → ((s : Setting) → Writes j.options.encodings s → Stands (λ taken. taken_plan s j.strategy j.schema false taken false) j.options.next now a c old new)
     → HasCause j.schema j.options.encodings (is_built j.strategy j.schema ≡ false) now a c e → MayCome (source (now - j.options.next)) (sink (now - j.options.next)) e
     → (is_built j.strategy j.schema ≡ false → is_unbuilt e ≡ true) → (is_built j.strategy j.schema ≡ false → c ≡ a) → (is_built j.strategy j.schema ≡ false → now ≡ j.options.next)
     → ((s : Setting) (tracker : ℕ) → Writes j.options.encodings s → is_built j.strategy j.schema ≡ true → Valid s j.strategy j.schema false j.options.next tracker j.batches
     → is_source_fault e ≡ false → is_sink_fault e ≡ false → e ≡ errors.OutOfMemory)
-    → IsRefusal j text
-refused_so j e {text} {shown} {now} {a} {c} {old} {new} source sink is none told text_is memory of_source of_sink stands cause may unbuilt unasked unsunk complete =
+    → IsRefused j e stood
+refused_so j e {stood} {now} {a} {c} {old} {new} source sink is none told memory of_source of_sink stands cause may unbuilt unasked unsunk complete =
     let h : Stands (λ taken. taken_plan (plain_setting j.options.encodings) j.strategy j.schema false taken false) j.options.next now a c old new = stands (plain_setting j.options.encodings) (writes_all j.options.encodings) in
     let parts = told_parts h.taken a c j.batches h.came is in
-    let stand : shown ≡ h.appended = told_all none told h.stands in
-    let count : now ≡ j.options.next + length shown = h.numbers ∙ ap (λ (bs : List (List ℕ)). j.options.next + length bs) (sym stand) in
-    let calls : now - j.options.next ≡ length shown = omega (arith, count) in
-    let none_stand : is_built j.strategy j.schema ≡ false → length shown ≡ 0 = λ f. omega (arith, count, unsunk f) in
-    let no_call : (k : ℕ) → e ≡ errors.OutOfMemory → ⊥ = λ k out. (let f : true ≡ false = ap is_memory (sym out) ∙ memory in cc) in
+    let stand : stood ≡ h.appended = told_all none told h.stands in
+    let count : now ≡ j.options.next + length stood = h.numbers ∙ ap (λ (bs : List (List ℕ)). j.options.next + length bs) (sym stand) in
+    let calls : now - j.options.next ≡ length stood = omega (arith, count) in
+    let none_stand : is_built j.strategy j.schema ≡ false → length stood ≡ 0 = λ f. omega (arith, count, unsunk f) in
+    let no_call : e ≡ errors.OutOfMemory → ⊥ = λ out. (let f : true ≡ false = ap is_memory (sym out) ∙ memory in cc) in
     record {
-      error = e;
       taken = h.taken;
       later = parts.0;
       parts = parts.1;
-      stand = shown;
       prefix = λ s writes.
           let other = stands s writes in
           let taken_is : other.taken ≡ h.taken = same_taken other.taken h.taken a c j.batches is other.came h.came in
-          let stand_is : other.appended ≡ shown = sym (told_all none told other.stands) in
-          begins s j h.taken shown other.more (λ f. no_items shown (none_stand f))
+          let stand_is : other.appended ≡ stood = sym (told_all none told other.stands) in
+          begins s j h.taken stood other.more (λ f. no_items stood (none_stand f))
           (ap (λ (ps : List Piece). segments (taken_plan s j.strategy j.schema false ps false)) (sym taken_is) ∙ (other.prefix ∙ ap (λ (bs : List (List ℕ)). bs ++ other.more) stand_is));
-      cause = cause_for e j h.taken (length shown) now a c is h.came count memory
-          (λ m. of_source (length shown) (subst source calls m)) (λ m. of_sink (length shown) (subst sink calls m))
+      cause = cause_for e j h.taken (length stood) now a c is h.came count memory
+          (λ m. of_source (length stood) (subst source calls m)) (λ m. of_sink (length stood) (subst sink calls m))
           (λ f. (none_taken h.taken a c j.batches is h.came (unasked f), none_stand f)) cause may;
       built = built_is (is_built j.strategy j.schema) (is_unbuilt e) unbuilt (unbuilt_cause e j.schema j.options.encodings now a c cause);
-      shown = text_is;
       not_valid = λ s tracker writes form no_faults valid.
-          no_call 0 (complete s tracker writes form (unmarked s j.strategy j.schema j.options.marked j.options.next tracker j.batches form valid)
+          no_call (complete s tracker writes form (unmarked s j.strategy j.schema j.options.marked j.options.next tracker j.batches form valid)
           (no_source e (sink (now - j.options.next)) may (λ m. never_listed j.options.faults.source (now - j.options.next) (ap (λ (f : FailingCalls). f.source) no_faults) (of_source (now - j.options.next) m)))
           (no_sink e (source (now - j.options.next)) may (λ m. never_listed j.options.faults.sink (now - j.options.next) (ap (λ (f : FailingCalls). f.sink) no_faults) (of_sink (now - j.options.next) m))));
     }
 
-pub refused_shown : (j : JobData) (e : WriteError) {text : List ℕ} {shown : List (List ℕ)} {t : Ty} {first now : ℕ} {a c : Option (List Piece)} {old new : Option (List (List ℕ))} (source sink : ℕ → Type 0)
-    → t ≡ j.schema → first ≡ j.options.next → a ≡ Some j.batches → old ≡ Some [] → new ≡ Some shown
-    → text ≡ refused_report (refusal_name e) j.options.next shown → is_memory e ≡ false
-    → ((k : ℕ) → source k → IsTrue (fails_at j.options.faults.source k)) → ((k : ℕ) → sink k → IsTrue (fails_at j.options.faults.sink k))
-    → ((s : Setting) → Writes j.options.encodings s → Stands (λ taken. taken_plan s j.strategy t false taken false) first now a c old new)
-    → HasCause t j.options.encodings (is_built j.strategy t ≡ false) now a c e → MayCome (source (now - first)) (sink (now - first)) e
+-- which calls of the source and the sink fail, and whether one did
+pub record Failing (j : JobData) (e : WriteError) (source sink : ℕ → Type 0) (source_before source_now sink_before sink_now : ℕ) : Type 0 where
+  pub of_source : (k : ℕ) → source k → IsTrue (fails_at j.options.faults.source k)
+  pub of_sink : (k : ℕ) → sink k → IsTrue (fails_at j.options.faults.sink k)
+  pub source_none : source_before ≡ 0
+  pub sink_none : sink_before ≡ 0
+  pub source_count : Counts source_before source_now (is_source_fault e)
+  pub sink_count : Counts sink_before sink_now (is_sink_fault e)
+
+pub write_halts : (j : JobData) (e : WriteError) {ids : List EncodingId} {t : Ty} {first now : ℕ} {a c : Option (List Piece)} {old new : Option (List (List ℕ))} {stood : List (List ℕ)}
+    (source sink : ℕ → Type 0) {source_before source_now sink_before sink_now : ℕ}
+    → Start j ids t first a old → Failing j e source sink source_before source_now sink_before sink_now → new ≡ Some stood
+    → ((s : Setting) → Writes ids s → Stands (λ taken. taken_plan s j.strategy t false taken false) first now a c old new)
+    → HasCause t ids (is_built j.strategy t ≡ false) now a c e → MayCome (source (now - first)) (sink (now - first)) e
     → (is_built j.strategy t ≡ false → is_unbuilt e ≡ true) → (is_built j.strategy t ≡ false → c ≡ a) → (is_built j.strategy t ≡ false → now ≡ first)
-    → ((s : Setting) (tracker : ℕ) → Writes j.options.encodings s → is_built j.strategy t ≡ true → Valid s j.strategy t false first tracker j.batches
-    → is_source_fault e ≡ false → is_sink_fault e ≡ false → e ≡ errors.OutOfMemory)
-    → IsRefusal j text
-refused_shown j e {t = t} {first = first} {now = now} {a = a} {c = c} {old = old} {new = new} source sink type same is none told text_is memory of_source of_sink stands cause may unbuilt unasked unsunk complete =
-    let back : is_built j.strategy j.schema ≡ is_built j.strategy t = ap (λ (u : Ty). is_built j.strategy u) (sym type) in
-    refused_so j e source sink is none told text_is memory of_source of_sink
-    (λ s writes. subst (λ (n : ℕ). Stands (λ taken. taken_plan s j.strategy j.schema false taken false) n now a c old new) same
-    (subst (λ (u : Ty). Stands (λ taken. taken_plan s j.strategy u false taken false) first now a c old new) type (stands s writes)))
-    (subst (λ (u : Ty). HasCause u j.options.encodings (is_built j.strategy u ≡ false) now a c e) type cause)
-    (subst (λ (n : ℕ). MayCome (source (now - n)) (sink (now - n)) e) same may)
-    (λ f. unbuilt (sym back ∙ f)) (λ f. unasked (sym back ∙ f)) (λ f. unsunk (sym back ∙ f) ∙ same)
-    (λ s tracker writes form valid. complete s tracker writes (sym back ∙ form)
-    (subst (λ (n : ℕ). Valid s j.strategy t false n tracker j.batches) (sym same) (subst (λ (u : Ty). Valid s j.strategy u false j.options.next tracker j.batches) (sym type) valid)))
+    → ((s : Setting) (tracker : ℕ) (xs : List Piece) → Writes ids s → a ≡ Some xs → is_built j.strategy t ≡ true → Valid s j.strategy t false first tracker xs
+    → IsCalm source_before source_now → IsCalm sink_before sink_now → e ≡ errors.OutOfMemory)
+    → now ≤ max first (2 ^ 32) → Halts j e stood
+write_halts j e {t = t} {first = first} {now = now} {a = a} {c = c} {old = old} {new = new} {stood = stood} source sink start failing told stands cause may unbuilt unasked unsunk complete last =
+    let h = stands (plain_setting j.options.encodings) (rw start.listed (writes_all j.options.encodings)) in
+    let back : is_built j.strategy j.schema ≡ is_built j.strategy t = ap (is_built j.strategy) (sym start.schema) in
+    record {
+      numbers = rw start.numbers at (fitting first now stood h.appended (told_all start.none told h.stands) h.numbers last);
+      refused = λ memory. refused_so j e source sink start.batches start.none told memory failing.of_source failing.of_sink
+          (λ s w. rw (start.schema, start.numbers) at (stands s (rw start.listed w)))
+          (rw (start.schema, start.listed) at cause) (rw start.numbers at may)
+          (λ f. unbuilt (sym back ∙ f)) (λ f. unasked (sym back ∙ f)) (λ f. unsunk (sym back ∙ f) ∙ start.numbers)
+          (λ s tracker w form valid no_source no_sink. complete s tracker j.batches (rw start.listed w) start.batches (sym back ∙ form) (rw (start.schema, start.numbers) valid)
+          (calm _ _ _ no_source failing.source_none failing.source_count) (calm _ _ _ no_sink failing.sink_none failing.sink_count));
+    }
+
+-- the refused report is the job's answer
+pub refusal_answers : (j : JobData) (e : WriteError) {stood : List (List ℕ)} {status : Status} {text : List ℕ} → Halts j e stood
+    → (is_memory e ≡ false) × IsText Refused (refused_report (refusal_name e) j.options.next stood) status text → JobAnswer j status text
+refusal_answers j e {stood} {status} {text} halts h =
+    subst (λ (st : Status). JobAnswer j st text) (sym h.1.0) (record { error = e; stand = stood; refused = halts.refused h.0; shown = h.1.1 })

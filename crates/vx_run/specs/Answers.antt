@@ -1,9 +1,10 @@
 -- Which text belongs to which status.
-use Rattle.std.specs.Prelude.{◌≡◌, ℕ, ◌+◌, ◌++◌, ◌^◌, ◌≤◌, ◌⊎◌, Bool, true, false, not, List, [], ◌∷◌, length, codes, Option, Some, IsTrue, Result, Ok, Err}
+use Rattle.std.specs.Prelude.{◌≡◌, ℕ, ◌+◌, ◌++◌, ◌^◌, ◌≤◌, ◌⊎◌, max, Bool, true, false, not, List, [], ◌∷◌, length, codes, Option, Some, IsTrue, Result, Ok, Err}
 use Rattle.vx_model.specs.Piece.{Piece, piece_type}
 use Rattle.vx_chunk.specs.ChunkView.{piece}
 use Rattle.vx_encode.specs.Segment.{refused}
 use Rattle.vx_model.specs.Val.{Val}
+use Rattle.vx_tree.specs.LayoutTree.{Lay}
 use Rattle.vx_tree.specs.Rows.{rows, all_there}
 use Rattle.vx_segment.specs.Codec.{segment_codec}
 use Rattle.vx_plan.specs.PlanData.{Setting, Plan}
@@ -35,6 +36,16 @@ job_plan s j = source_plan s j.strategy j.schema j.options.marked j.batches true
 abbrev pub table_rows : (ℕ → Option (List ℕ)) → List ZoneTable → List (Option (List Val))
 table_rows look [] = []
 table_rows look (z ∷ zs) = rows segment_codec look z.rows ∷ table_rows look zs
+
+-- A write of the job's batches came to its end: the layout and the segments are those of the job's plan, numbered from
+-- the job's first number, and they give the batches' rows.
+pub record IsWritten (j : JobData) (l : Lay ℕ) (stored : List (List ℕ)) : Type 0 where
+  pub form : is_built j.strategy j.schema ≡ true
+  pub laid : (s : Setting) → Writes j.options.encodings s → l ≡ numbered (job_plan s j) j.options.next
+  pub appended : (s : Setting) → Writes j.options.encodings s → stored ≡ segments (job_plan s j)
+  pub read : rows segment_codec (segment_at j.options.next stored) l ≡ Some (source_values j.batches)
+  pub numbers : j.options.next + length stored ≤ max j.options.next (2 ^ 32)
+  pub no_tables : zone_tables l ≡ []
 
 -- The report of the plan of the job's batches, numbered from the job's first number. The rows and the zone tables that
 -- it shows are those that the layout gives from the segments, and the rows are the batches' rows.
@@ -99,21 +110,30 @@ pub record Begins (front all : List (List ℕ)) : Type 0 where
   pub more : List (List ℕ)
   pub is : all ≡ front ++ more
 
--- A refused report of a job: the refusal's name, which has its cause, and the segments that stand, which are the first
--- of the plan of the batches taken.
-pub record IsRefusal (j : JobData) (text : List ℕ) : Type 0 where
-  pub error : WriteError
+-- A write of the job's batches was refused: the refusal has its cause, and the segments that stand are the first of the
+-- plan of the batches taken.
+pub record IsRefused (j : JobData) (error : WriteError) (stand : List (List ℕ)) : Type 0 where
   pub taken : List Piece
   pub later : List Piece
   pub parts : j.batches ≡ taken ++ later
-  pub stand : List (List ℕ)
   pub prefix : (s : Setting) → Writes j.options.encodings s → Begins stand (segments (taken_plan s j.strategy j.schema j.options.marked taken false))
   pub cause : RefusedFor j taken (length stand) error
   -- a form that isn't built is refused as that and as nothing else
   pub built : is_built j.strategy j.schema ≡ not (is_unbuilt error)
-  pub shown : text ≡ refused_report (refusal_name error) j.options.next stand
   pub not_valid : (s : Setting) (tracker : ℕ) → Writes j.options.encodings s → is_built j.strategy j.schema ≡ true → SetsNoFaults j
       → ¬ (Valid s j.strategy j.schema j.options.marked j.options.next tracker j.batches)
+
+-- A write of the job's batches ended early, refused or out of memory; the numbers of the segments that stand fit.
+pub record Halts (j : JobData) (error : WriteError) (stand : List (List ℕ)) : Type 0 where
+  pub numbers : j.options.next + length stand ≤ max j.options.next (2 ^ 32)
+  pub refused : is_memory error ≡ false → IsRefused j error stand
+
+-- A refused report of a job: the refusal's name, and the segments that stand.
+pub record IsRefusal (j : JobData) (text : List ℕ) : Type 0 where
+  pub error : WriteError
+  pub stand : List (List ℕ)
+  pub refused : IsRefused j error stand
+  pub shown : text ≡ refused_report (refusal_name error) j.options.next stand
 
 -- ---- what is printed
 

@@ -1,6 +1,6 @@
 //! What the command `write` answers to a job.
 
-ghost use Rattle.std.specs.Prelude.{◌≡◌, ◌+◌, ◌<◌, ◌^◌, ◌≤◌, max, false, [], string_bytes, map, length, Some, IsSome, IfOk, option_map};
+ghost use Rattle.std.specs.Prelude.{◌≡◌, ℕ, ◌+◌, ◌<◌, ◌^◌, ◌≤◌, max, false, List, [], string_bytes, map, length, Some, IsSome, IfOk, IfErr, option_map};
 ghost use Rattle.vx_model.specs.TreeView.{val};
 ghost use Rattle.vx_tree.specs.Rows.{rows};
 ghost use Rattle.vx_segment.specs.Codec.{segment_codec};
@@ -11,7 +11,7 @@ ghost use Rattle.vx_job.specs.JobView.{job_view};
 ghost use Rattle.vx_report.specs.Report.{report, refused_report};
 ghost use Rattle.vx_report.specs.ZoneText.{zone_tables};
 ghost use Rattle.vx_run.specs.declared.status.Status.TheVariants as statuses;
-ghost use Rattle.vx_run.specs.Answers.{IsText, IsAnswer, JobAnswer, bad_job, refusal_name, is_memory};
+ghost use Rattle.vx_run.specs.Answers.{IsText, IsAnswer, JobAnswer, IsWritten, Halts, bad_job, refusal_name, is_memory};
 
 use crate::status::Status;
 use std::alloc::{AllocError, Global};
@@ -19,7 +19,7 @@ use vx_job::{Job, JobError, Key, read_job};
 use vx_kinds::Layout;
 use vx_read::{ReadError, SegmentMap, read_rows};
 use vx_report::{refused_report, report};
-use vx_sink::{LayoutWriterContext, ListSource, MemorySink, PlainCompressor};
+use vx_sink::{LayoutWriterContext, ListSource, MemorySink, PlainCompressor, SegmentSink};
 use vx_types::{Blob, Value};
 use vx_write::{WriteError, write_stream};
 
@@ -42,7 +42,7 @@ pub(crate) fn answer_to(alloc: Global, bytes: &[u8]) -> Result<Answer, AllocErro
 }
 
 #[tactic(auto, using(crate::proofs::RunSteps::text_rules))]
-fn bad_job(alloc: Global, key: Key) -> Result<Answer, AllocError>
+pub(crate) fn bad_job(alloc: Global, key: Key) -> Result<Answer, AllocError>
     ensures { IfOk result (λ a. IsText statuses.BadJob (bad_job key) a.status (string_bytes a.text)) }
 {
     let mut text = String::from_str(alloc, "bad job at ")?;
@@ -58,6 +58,20 @@ fn bad_job(alloc: Global, key: Key) -> Result<Answer, AllocError>
 fn write_job(alloc: Global, job: Job) -> Result<Answer, AllocError>
     ensures { IfOk result (λ a. JobAnswer (job_view job) a.status (string_bytes a.text)) }
 {
+    let first = job.next;
+    match write_batches(alloc, job) {
+        Ok((layout, sink)) => written(alloc, first, &layout, sink.segments()),
+        Err((error, sink)) => refusal(alloc, first, error, sink.segments()),
+    }
+}
+
+/// Writes the job's batches into a sink of its own, and gives the sink too.
+fn write_batches(alloc: Global, job: Job) -> Result<(Layout, MemorySink), (WriteError, MemorySink)>
+    ensures ok { IfOk result (λ w. (stored : List (List ℕ)) → ⟦<MemorySink as SegmentSink>⟧.segments w.1 ≡ Some stored
+        → IsWritten (job_view job) (lay w.0) stored) }
+    ensures err { IfErr result (λ r. (stored : List (List ℕ)) → ⟦<MemorySink as SegmentSink>⟧.segments r.1 ≡ Some stored
+        → Halts (job_view job) r.0 stored) }
+{
     let mut ctx = LayoutWriterContext::new(job.encodings);
     let faults = job.faults;
     let mut source = ListSource::new(job.schema, job.batches, faults.source);
@@ -72,14 +86,8 @@ fn write_job(alloc: Global, job: Job) -> Result<Answer, AllocError>
         &job.schedule,
         &mut compressor,
     ) {
-        Ok(written) => {
-            let text = written_report(alloc, job.next, &written.layout, sink.segments())?;
-            Ok(Answer {
-                status: Status::Done,
-                text,
-            })
-        }
-        Err(refused) => refusal(alloc, job.next, refused.error, sink.segments()),
+        Ok(written) => Ok((written.layout, sink)),
+        Err(refused) => Err((refused.error, sink)),
     }
 }
 
@@ -126,20 +134,25 @@ fn refusal_name(error: &WriteError) -> &'static str
     }
 }
 
-/// The report, with the rows that are read back from the segments.
-fn written_report(
+/// The report of what was written, with the rows that are read back from the segments.
+fn written(
     alloc: Global,
     first: u64,
     layout: &Layout,
     segments: &[Blob],
-) -> Result<String, AllocError>
+) -> Result<Answer, AllocError>
     requires readable { IsSome (rows segment_codec (segment_at first segments.now) (lay layout.now)) }
     requires numbered { first + length segments.now ≤ max first (2 ^ 32) }
     requires no_tables { zone_tables (lay layout.now) ≡ [] }
-    ensures { IfOk result (λ text. Some (string_bytes text) ≡ option_map (report first (lay layout.now) segments.now []) (rows segment_codec (segment_at first segments.now) (lay layout.now))) }
+    ensures { IfOk result (λ a. (a.status ≡ statuses.Done) × (Some (string_bytes a.text)
+        ≡ option_map (report first (lay layout.now) segments.now []) (rows segment_codec (segment_at first segments.now) (lay layout.now)))) }
 {
     let rows = read_back(alloc, first, layout, segments)?;
-    report(alloc, first, layout, segments, &rows)
+    let text = report(alloc, first, layout, segments, &rows)?;
+    Ok(Answer {
+        status: Status::Done,
+        text,
+    })
 }
 
 /// The rows that a layout gives from segments that are numbered from the first.
