@@ -1,6 +1,8 @@
 //! The bytes of layouts, both ways: a layout is spelled in a context, and bytes are read and built in a session.
 #![tactic(auto)]
 
+#[cfg(test)]
+mod built_tests;
 mod law;
 mod parse;
 #[cfg(test)]
