@@ -21,11 +21,22 @@ use vx_read::{ReadError, SegmentMap};
 /// The text of a layout's tree: a line a node, in pre-order, each ended by a newline. A tree that can't be built is one
 /// line that names the first refusal.
 pub trait LayoutDisplay {
+    ghost use Rattle.std.specs.Prelude.{◌≡◌, ℕ, IfOk, false};
+    ghost use Rattle.vx_tree.specs.LayoutTree.{Lay};
+    ghost use Rattle.vx_read.specs.SegmentView.{segment_in};
+    ghost use Rattle.vx_display.specs.Text.{display_text, display_with};
+    ghost use Rattle.vx_display.specs.Views.{GivesText};
+
+    // The layout that is shown.
+    ghost shown: { Self → Lay ℕ };
+
     /// Without rows, metadata and segments of other layouts than flat ones.
-    fn display_tree(&self, alloc: Global) -> Result<Text, AllocError>;
+    fn display_tree(&self, alloc: Global) -> Result<Text, AllocError>
+        ensures { IfOk result (λ text. text ≡ display_text false (shown self.now)) };
 
     /// With `verbose` each node tells these too.
-    fn display_tree_verbose(&self, alloc: Global, verbose: bool) -> Result<Text, AllocError>;
+    fn display_tree_verbose(&self, alloc: Global, verbose: bool) -> Result<Text, AllocError>
+        ensures { IfOk result (λ text. text ≡ display_text verbose (shown self.now)) };
 
     /// Verbose, with the lengths of the buffers of each flat layout: by its array tree, else by its segment, which is
     /// then asked for.
@@ -33,12 +44,16 @@ pub trait LayoutDisplay {
         &self,
         alloc: Global,
         segments: &SegmentMap,
-    ) -> Result<Text, ReadError>;
+    ) -> Result<Text, ReadError>
+        ensures { GivesText result (display_with (segment_in segments.now) (shown self.now)) };
 }
 
 impl LayoutDisplay for Layout {
     ghost use Rattle.std.specs.Prelude.{◌≡◌, IfOk, false};
     ghost use Rattle.vx_kinds.specs.LayoutView.{lay};
+
+    ghost shown = { lay };
+
     ghost use Rattle.vx_read.specs.SegmentView.{segment_in};
     ghost use Rattle.vx_display.specs.Text.{display_text, display_with};
     ghost use Rattle.vx_display.specs.Views.{GivesText};

@@ -7,7 +7,7 @@ use std::test::Fail;
 use vx_aggregate::{AggregateFn, Stat, aggregate_stats_table_dtype, legacy_stats_table_dtype};
 use vx_kinds::{
     ChunkedLayout, DictLayout, FlatLayout, ForeignLayout, Layout, LegacyStatsLayout, ListLayout,
-    StructLayout, ZonedLayout,
+    StructLayout, ZonedLayout, layout_children,
 };
 use vx_metadata::are_in_order;
 use vx_model::{
@@ -164,7 +164,7 @@ fn lengths_by_tree(rt: HostRuntime) -> Result<(), Fail> {
 fn chunked(alloc: Global) -> Result<Layout, Fail> {
     let first = flat(alloc, 3, integers(), 0)?;
     let chunks = pair(alloc, first, flat(alloc, 4, integers(), 1)?)?;
-    Ok(Layout::Chunked(ChunkedLayout::new(7, integers(), chunks)?))
+    Ok(Layout::Chunked(ChunkedLayout::new(7, integers(), layout_children(chunks))?))
 }
 
 #[test]
@@ -263,7 +263,7 @@ fn list_kind(rt: HostRuntime) -> Result<(), Fail> {
 fn dict(alloc: Global) -> Result<Layout, Fail> {
     let first = flat(alloc, 1, texts(), 0)?;
     let chunks = pair(alloc, first, flat(alloc, 1, texts(), 1)?)?;
-    let values = Layout::Chunked(ChunkedLayout::new(2, texts(), chunks)?);
+    let values = Layout::Chunked(ChunkedLayout::new(2, texts(), layout_children(chunks))?);
     let codes = flat(alloc, 4, codes_type(), 2)?;
     Ok(Layout::Dict(DictLayout::new(alloc, values, codes)?))
 }

@@ -1,5 +1,5 @@
 -- A layout as contracts see it.
-use Rattle.std.specs.Prelude.{ℕ, map}
+use Rattle.std.specs.Prelude.{ℕ, List, map}
 use Rattle.std.specs.Global.{Vec}
 use Rattle.vx_model.specs.declared.dtype.DType.{DType}
 use Rattle.vx_model.specs.declared.segment.SegmentId.{SegmentId}
@@ -23,5 +23,9 @@ abbrev pub number : SegmentId → ℕ
 number s = s.0
 
 -- a layout of the kind with such parts
+abbrev pub seen_layout : Kind → DType → ℕ → Vec SegmentId → List (Lay ℕ) → Lay ℕ
+seen_layout k t n segments ls = layout k (ty t) n (map number segments.items) (lays_of ls)
+
+-- the same of children that are kept
 abbrev pub seen : Kind → DType → ℕ → Vec SegmentId → Vec Layout → Lay ℕ
 seen k t n segments children = layout k (ty t) n (map number segments.items) (lays_of (map lay children.items))

@@ -2,6 +2,11 @@ pub mod FlatView
 pub mod LayCode
 pub mod LayDepth
 pub mod LayoutView
+pub mod KidsView
+pub mod NodeKind
+pub mod ZonedView
+pub mod PartsView
+pub mod OpenView
 pub mod DepthFalls
 pub mod Children
 pub mod ChildView
@@ -10,3 +15,9 @@ pub mod SpecView
 pub mod Views
 pub mod Shown
 pub mod ErrorNames
+pub mod Present
+pub mod PreOrder
+pub mod Copies
+pub mod Own
+pub mod SlotWalk
+pub mod TreeWalk

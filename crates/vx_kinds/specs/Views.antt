@@ -1,7 +1,10 @@
 -- What constructors answer, as contracts see it.
-use Rattle.std.specs.Prelude.{◌≡◌, ℕ, Result, Ok, Err}
+use Rattle.std.specs.Prelude.{◌≡◌, ℕ, List, map, Result, Ok, Err}
+use Rattle.std.specs.Global.{Vec}
 use Rattle.vx_model.specs.TyView.{ty}
 use Rattle.vx_tree.specs.LayoutTree.{Lay}
+use Rattle.vx_kinds.specs.declared.layout.Layout.{Layout}
+use Rattle.vx_kinds.specs.LayoutView.{lay}
 use Rattle.vx_kinds.specs.declared.error.LayoutError.{LayoutError}
 use Rattle.vx_kinds.specs.declared.error.LayoutError.TheVariants as errors
 use Rattle.vx_tree.specs.Refusal.{Refusal, bad_grammar, too_deep, too_many_nodes, unknown_index, unregistered, not_permitted, child_count, child_type, other_rows, segment_count, bad_metadata, unknown_aggregate, slot_range, field_not_found, no_list, no_struct}
@@ -33,3 +36,10 @@ Gives view (Err e) made = Fails e made
 
 abbrev pub itself : Lay ℕ → Lay ℕ
 itself l = l
+
+-- an answer without a value
+abbrev pub done : {X : Type 0} → X → Unit {0}
+done x = tt
+
+abbrev pub all_lays : Vec Layout → List (Lay ℕ)
+all_lays v = map lay v.items

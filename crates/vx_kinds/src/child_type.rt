@@ -2,7 +2,7 @@ use std::alloc::{AllocError, Global};
 use vx_model::{FieldName, Text};
 
 /// What a child is to its layout.
-#[derive(Debug, Drop)]
+#[derive(Debug, PartialEq, Eq, Drop)]
 pub enum LayoutChildType {
     /// It has the layout's own rows.
     Transparent(Text),

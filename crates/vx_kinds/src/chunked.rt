@@ -1,5 +1,5 @@
+use crate::children::LayoutChildren;
 use crate::error::LayoutError;
-use crate::layout::Layout;
 use crate::total::total_rows;
 use std::marker::Model;
 use vx_model::{DType, SegmentId};
@@ -11,11 +11,11 @@ pub struct ChunkedLayout {
     pub(crate) row_count: u64,
     pub(crate) dtype: DType,
     pub(crate) segment_ids: Vec<SegmentId>,
-    pub(crate) children: Vec<Layout>,
+    pub(crate) children: LayoutChildren,
 }
 
 impl Model for ChunkedLayout {
-    ghost use Rattle.std.specs.Prelude.{ℕ, ◌≡◌, map};
+    ghost use Rattle.std.specs.Prelude.{ℕ, ◌≡◌};
     ghost use Rattle.vx_tree.specs.LayoutTree.{Lay};
     ghost use Rattle.vx_kinds.specs.LayCode.{lay_code};
 
@@ -25,35 +25,37 @@ impl Model for ChunkedLayout {
 
     ghost use Rattle.vx_model.specs.Words.{total_by};
     ghost use Rattle.vx_tree.specs.LayoutTree.{row_count as rows, chunked_kind};
-    ghost use Rattle.vx_kinds.specs.LayoutView.{lay, seen};
+    ghost use Rattle.vx_model.specs.TyView.{ty};
+    ghost use Rattle.vx_kinds.specs.LayoutView.{seen_layout};
+    ghost use Rattle.vx_kinds.specs.KidsView.{chunks};
 
-    ghost view = { λ c. seen chunked_kind c.dtype c.row_count c.segment_ids c.children };
+    ghost view = { λ c. seen_layout chunked_kind c.dtype c.row_count c.segment_ids (chunks (ty c.dtype) c.children) };
 
-    ghost invariant = { λ c. total_by rows (map lay c.children.items) ≡ c.row_count };
+    ghost invariant = { λ c. total_by rows (chunks (ty c.dtype) c.children) ≡ c.row_count };
 
     ghost use Rattle.vx_kinds.specs.LayDepth.{depth};
 
     ghost size = { depth };
 
-    ghost use Rattle.vx_kinds.specs.DepthFalls.{children_fall};
+    ghost use Rattle.vx_kinds.specs.DepthFalls.{chunks_fall};
 
-    ghost size_decreases = { λ c h. children_fall c.children.items };
+    ghost size_decreases = { λ c h. chunks_fall (ty c.dtype) c.children };
 }
 
 impl ChunkedLayout {
-    ghost use Rattle.std.specs.Prelude.{map};
     ghost use Rattle.vx_model.specs.TyView.{ty};
-    ghost use Rattle.vx_kinds.specs.LayoutView.{lay};
+    ghost use Rattle.vx_kinds.specs.KidsView.{chunks};
     ghost use Rattle.vx_kinds.specs.Made.{make_chunked};
     ghost use Rattle.vx_kinds.specs.Views.{Gives, itself};
 
     /// The children in order. Refuses `RowCount` exactly where their rows don't sum to `row_count`. Takes no memory.
+    #[tactic(auto, using(crate::proofs::KidSteps::chunk_rules))]
     pub fn new(
         row_count: u64,
         dtype: DType,
-        children: Vec<Layout>,
+        children: LayoutChildren,
     ) -> Result<ChunkedLayout, LayoutError>
-        ensures { Gives itself result (make_chunked (ty dtype) row_count (map lay children.items)) }
+        ensures { Gives itself result (make_chunked (ty dtype) row_count (chunks (ty dtype) children)) }
     {
         let has = total_rows(&children);
         if has != row_count as u128 {
@@ -65,7 +67,7 @@ impl ChunkedLayout {
         Ok(ChunkedLayout {
             row_count,
             dtype,
-            segment_ids: Vec::new(*children.allocator()),
+            segment_ids: Vec::new(children.allocator()),
             children,
         })
     }

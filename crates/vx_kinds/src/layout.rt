@@ -1,4 +1,5 @@
 use crate::child::LayoutChild;
+use crate::children::{kept_child, kept_rows};
 use crate::chunked::ChunkedLayout;
 use crate::dict::DictLayout;
 use crate::error::LayoutError;
@@ -8,7 +9,7 @@ use crate::kind::LayoutKind;
 use crate::list::ListLayout;
 use crate::stats::LegacyStatsLayout;
 use crate::structs::StructLayout;
-use crate::zoned::ZonedLayout;
+use crate::zoned::{ZoneTable, ZonedLayout};
 use vx_model::{DType, SegmentId};
 
 /// A tree that says how to read rows back. Its leaves name segments.
@@ -81,7 +82,18 @@ impl Layout {
             Layout::Struct(StructLayout { row_count, .. }) => LayoutKind::Struct,
             Layout::List(ListLayout { row_count, .. }) => LayoutKind::List,
             Layout::Dict(DictLayout { row_count, .. }) => LayoutKind::Dict,
-            Layout::Zoned(ZonedLayout { row_count, .. }) => LayoutKind::Zoned,
+            Layout::Zoned(
+                ZonedLayout {
+                    table: ZoneTable::Read,
+                    ..
+                },
+            ) => LayoutKind::Zoned,
+            Layout::Zoned(
+                ZonedLayout {
+                    table: ZoneTable::Unread(_),
+                    ..
+                },
+            ) => LayoutKind::Zoned,
             Layout::LegacyStats(LegacyStatsLayout { row_count, .. }) => LayoutKind::LegacyStats,
             Layout::Foreign(ForeignLayout { row_count, .. }) => LayoutKind::Foreign,
         }
@@ -97,7 +109,18 @@ impl Layout {
             Layout::Struct(StructLayout { row_count, .. }) => "vortex.struct",
             Layout::List(ListLayout { row_count, .. }) => "vortex.list",
             Layout::Dict(DictLayout { row_count, .. }) => "vortex.dict",
-            Layout::Zoned(ZonedLayout { row_count, .. }) => "vortex.zoned",
+            Layout::Zoned(
+                ZonedLayout {
+                    table: ZoneTable::Read,
+                    ..
+                },
+            ) => "vortex.zoned",
+            Layout::Zoned(
+                ZonedLayout {
+                    table: ZoneTable::Unread(_),
+                    ..
+                },
+            ) => "vortex.zoned",
             Layout::LegacyStats(LegacyStatsLayout { row_count, .. }) => "vortex.stats",
             Layout::Foreign(foreign) => foreign.id.as_str(),
         }
@@ -120,48 +143,60 @@ impl Layout {
         }
     }
 
-    /// The children that are present, in slot order.
-    #[tactic(auto, using(crate::proofs::Steps::lays_rules), unfolding(crate::specs::LayoutView::lay))]
-    pub(crate) fn owned(&self) -> &[Layout]
-        ensures { map lay result.now ≡ children_of (lay self.now) }
-    {
-        match self {
-            Layout::Flat(_) => &[],
-            Layout::Chunked(inner) => &inner.children,
-            Layout::Struct(inner) => &inner.children,
-            Layout::List(inner) => &inner.children,
-            Layout::Dict(inner) => &inner.children,
-            Layout::Zoned(inner) => &inner.children,
-            Layout::LegacyStats(inner) => &inner.children,
-            Layout::Foreign(inner) => &inner.children,
-        }
-    }
-
     /// How many children are present.
+    #[tactic(auto, using(crate::proofs::KidSteps::place_rules), unfolding(crate::specs::LayoutView::lay))]
     pub fn nchildren(&self) -> u64
         ensures { result ≡ length (children_of (lay self.now)) }
     {
-        self.owned().len() as u64
+        match self {
+            Layout::Flat(_) => 0,
+            Layout::Chunked(inner) => inner.children.nchildren(),
+            Layout::Struct(inner) => inner.children.nchildren(),
+            Layout::List(inner) => inner.children.len() as u64,
+            Layout::Dict(inner) => inner.children.len() as u64,
+            Layout::Zoned(inner) => inner.nchildren(),
+            Layout::LegacyStats(inner) => inner.children.len() as u64,
+            Layout::Foreign(inner) => inner.children.len() as u64,
+        }
     }
 
     /// Rows of the child at the place, which is below `nchildren`.
-    #[tactic(auto, using(crate::proofs::Steps::rows_rules))]
+    #[tactic(auto, using(crate::proofs::KidSteps::place_rules), unfolding(crate::specs::LayoutView::lay))]
     pub fn child_row_count(&self, i: u64) -> u64
         requires { i < length (children_of (lay self.now)) }
         ensures { result ≡ rows_at (children_of (lay self.now)) i }
     {
-        self.owned()[i as usize].row_count()
+        match self {
+            Layout::Flat(_) => 0,
+            Layout::Chunked(inner) => inner.children.child_row_count(i),
+            Layout::Struct(inner) => inner.children.child_row_count(i),
+            Layout::List(inner) => kept_rows(&inner.children, i),
+            Layout::Dict(inner) => kept_rows(&inner.children, i),
+            Layout::Zoned(inner) => inner.child_row_count(i),
+            Layout::LegacyStats(inner) => kept_rows(&inner.children, i),
+            Layout::Foreign(inner) => kept_rows(&inner.children, i),
+        }
     }
 
     /// The child at the place, which is below `nchildren`, or why it can't be built.
-    #[tactic(auto, using(crate::proofs::Steps::child_rules), unfolding(crate::specs::ChildView::child_lay))]
+    #[tactic(auto, using(crate::proofs::KidSteps::place_rules), unfolding(crate::specs::LayoutView::lay))]
     pub fn child(&self, i: u64) -> Result<LayoutChild<'_>, LayoutError>
         requires { i < length (children_of (lay self.now)) }
         ensures { Gives child_lay result (child_in (children_of (lay self.now)) i) }
     {
-        let child = &self.owned()[i as usize];
-        child.built();
-        Ok(LayoutChild::Kept(child))
+        match self {
+            Layout::Flat(_) => Err(LayoutError::SlotRange {
+                index: i,
+                children: 0,
+            }),
+            Layout::Chunked(inner) => inner.children.chunk(i, &inner.dtype),
+            Layout::Struct(inner) => inner.children.field(i, &inner.dtype),
+            Layout::List(inner) => kept_child(&inner.children, i),
+            Layout::Dict(inner) => kept_child(&inner.children, i),
+            Layout::Zoned(inner) => inner.child(i),
+            Layout::LegacyStats(inner) => kept_child(&inner.children, i),
+            Layout::Foreign(inner) => kept_child(&inner.children, i),
+        }
     }
 
     /// A layout in memory is no node that can't be built.
@@ -175,7 +210,18 @@ impl Layout {
             Layout::Struct(StructLayout { row_count, .. }) => (),
             Layout::List(ListLayout { row_count, .. }) => (),
             Layout::Dict(DictLayout { row_count, .. }) => (),
-            Layout::Zoned(ZonedLayout { row_count, .. }) => (),
+            Layout::Zoned(
+                ZonedLayout {
+                    table: ZoneTable::Read,
+                    ..
+                },
+            ) => (),
+            Layout::Zoned(
+                ZonedLayout {
+                    table: ZoneTable::Unread(_),
+                    ..
+                },
+            ) => (),
             Layout::LegacyStats(LegacyStatsLayout { row_count, .. }) => (),
             Layout::Foreign(ForeignLayout { row_count, .. }) => (),
         }
@@ -212,7 +258,18 @@ impl Layout {
             Layout::Struct(StructLayout { row_count, .. }) => None,
             Layout::List(ListLayout { row_count, .. }) => None,
             Layout::Dict(DictLayout { row_count, .. }) => None,
-            Layout::Zoned(ZonedLayout { row_count, .. }) => None,
+            Layout::Zoned(
+                ZonedLayout {
+                    table: ZoneTable::Read,
+                    ..
+                },
+            ) => None,
+            Layout::Zoned(
+                ZonedLayout {
+                    table: ZoneTable::Unread(_),
+                    ..
+                },
+            ) => None,
             Layout::LegacyStats(LegacyStatsLayout { row_count, .. }) => None,
             Layout::Foreign(ForeignLayout { row_count, .. }) => None,
         }

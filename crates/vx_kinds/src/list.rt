@@ -29,6 +29,12 @@ impl Model for ListLayout {
 
     ghost view = { λ c. seen list_kind c.dtype c.row_count c.segment_ids c.children };
 
+    ghost use Rattle.std.specs.Prelude.{◌≡◌, ◌+◌, length};
+    ghost use Rattle.vx_model.specs.TyView.{ty};
+    ghost use Rattle.vx_kinds.specs.Made.{validity_count};
+
+    ghost invariant = { λ c. length c.children.items ≡ 2 + validity_count (ty c.dtype) };
+
     ghost use Rattle.vx_kinds.specs.LayDepth.{depth};
 
     ghost size = { depth };

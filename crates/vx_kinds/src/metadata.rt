@@ -18,6 +18,7 @@ use crate::dict::DictLayout;
 use crate::layout::Layout;
 use crate::list::ListLayout;
 use crate::structs::StructLayout;
+use crate::zoned::ZoneTable;
 use std::alloc::{AllocError, Global};
 use vx_aggregate::{AggregateFn, Stat};
 use vx_metadata::{
@@ -39,16 +40,19 @@ impl Layout {
             Layout::Flat(flat) => flat_metadata(alloc, flat.array_tree()),
             Layout::Chunked(ChunkedLayout { row_count, .. }) => Ok(Vec::new(alloc)),
             Layout::Struct(StructLayout { row_count, .. }) => Ok(Vec::new(alloc)),
-            Layout::List(ListLayout { row_count, .. }) => {
-                let (offsets, _) = second_integers(self);
+            Layout::List(list) => {
+                let (offsets, _) = second_integers(&list.children);
                 ListLayoutMetadata::new(offsets).serialize(alloc)
             }
             Layout::Dict(dict) => dict_metadata(
                 alloc,
-                second_integers(self),
+                second_integers(&dict.children),
                 dict.all_values_referenced,
             ),
-            Layout::Zoned(zoned) => zoned_metadata(alloc, zoned.zone_len, &zoned.aggregates),
+            Layout::Zoned(zoned) => match &zoned.table {
+                ZoneTable::Read => zoned_metadata(alloc, zoned.zone_len, &zoned.aggregates),
+                ZoneTable::Unread(unread) => Vec::from_slice(alloc, unread.metadata.as_slice()),
+            },
             Layout::LegacyStats(stats) => stats_metadata(alloc, stats.zone_len, &stats.stats),
             Layout::Foreign(foreign) => Vec::from_slice(alloc, foreign.metadata.as_slice()),
         }
@@ -69,11 +73,11 @@ fn flat_metadata(alloc: Global, array_tree: &Option<Blob>) -> Result<Vec<u8>, Al
 
 /// The integers of the second child, and whether they are nullable: of a list's offsets, of a dictionary's codes.
 #[tactic(auto, using(crate::proofs::MetadataSteps::second_rules))]
-fn second_integers(layout: &Layout) -> (PType, bool)
-    ensures integers { result.0 ≡ integers_of (second_type (children_of (lay layout.now))) }
-    ensures nullable { result.1 ≡ nullable (second_type (children_of (lay layout.now))) }
+fn second_integers(children: &[Layout]) -> (PType, bool)
+    ensures integers { result.0 ≡ integers_of (second_type (map lay children.now)) }
+    ensures nullable { result.1 ≡ nullable (second_type (map lay children.now)) }
 {
-    match layout.owned().get(1) {
+    match children.get(1) {
         Some(child) => (integers_in(child.dtype()), child.dtype().is_nullable()),
         None => (PType::U64, false),
     }

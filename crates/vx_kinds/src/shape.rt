@@ -4,11 +4,12 @@ ghost use Rattle.std.specs.Prelude.{◌≡◌, ◌+◌, ◌<◌, ◌^◌, ◌∷
 ghost use Rattle.vx_model.specs.TyView.{ty};
 ghost use Rattle.vx_kinds.specs.Children.{fields_of};
 ghost use Rattle.vx_kinds.specs.LayoutView.{lay};
+ghost use Rattle.vx_kinds.specs.ZonedView.{no_columns as columnless};
 ghost use Rattle.vx_kinds.specs.Made.{listed, integer_type as integers, is_primitive as primitive_type, struct_children as children_needed, validity_count as validities};
 
 use crate::layout::Layout;
 use std::alloc::{AllocError, Global};
-use vx_model::{DType, Nullability, PType};
+use vx_model::{DType, Nullability, PType, StructFields};
 
 /// The type that is told where integers are missing.
 pub(crate) fn integer_type() -> DType
@@ -26,6 +27,17 @@ pub(crate) fn is_primitive(dtype: &DType) -> bool
         DType::Bool(_) | DType::Utf8(_) | DType::Binary(_) => false,
         DType::List(..) | DType::Struct(..) | DType::Extension(_) => false,
     }
+}
+
+/// The type of a table of no aggregates.
+#[tactic(auto, using(vx_model::proofs::Views::view_rules))]
+pub(crate) fn no_columns(alloc: Global) -> DType
+    ensures { ty result ≡ columnless }
+{
+    let fields = StructFields {
+        fields: Vec::new(alloc),
+    };
+    DType::Struct(fields, Nullability::NonNullable)
 }
 
 /// One where the type is nullable.

@@ -5,18 +5,19 @@ ghost use Rattle.vx_model.specs.Ty.{nullable};
 ghost use Rattle.vx_model.specs.TyView.{ty, field_ty};
 ghost use Rattle.vx_kinds.specs.declared.child_type.LayoutChildType.TheVariants.{Auxiliary, Transparent};
 ghost use Rattle.vx_kinds.specs.Children.{below as below_count, struct_place as place_in_struct, list_place as place_in_list, chunk_type as type_of_chunk, field_type as type_of_field, struct_type as type_in_struct, list_type as type_in_list, dict_type as type_in_dict, zoned_type as type_in_zoned, foreign_type as type_in_foreign, fields_of};
-ghost use Rattle.vx_kinds.specs.LayoutView.{lay};
+ghost use Rattle.vx_kinds.specs.KidsView.{chunks};
 ghost use Rattle.vx_tree.specs.LayoutTree.{row_count};
 ghost use Rattle.vx_model.specs.Words.{total_by};
 
 use crate::child_type::LayoutChildType;
+use crate::children::LayoutChildren;
 use crate::dict::DictLayout;
 use crate::layout::Layout;
 use crate::list::ListLayout;
 use crate::shape::field_count;
 use crate::stats::LegacyStatsLayout;
 use crate::total::rows_before;
-use crate::zoned::ZonedLayout;
+use crate::zoned::{ZoneTable, ZonedLayout};
 use std::alloc::{AllocError, Global};
 use vx_model::{DType, StructField, Text};
 
@@ -26,51 +27,89 @@ impl Layout {
     ghost use Rattle.vx_kinds.specs.LayoutView.{lay};
 
     /// How many slots there are, also those that have no child.
-    #[tactic(auto, using(crate::proofs::Steps::slot_rules), unfolding(crate::specs::LayoutView::lay))]
+    #[tactic(auto, using(crate::proofs::KidSteps::slot_rules), unfolding(crate::specs::LayoutView::lay))]
     pub fn nslots(&self) -> u64
         ensures { result ≡ slots (lay self.now) }
     {
         match self {
             Layout::Flat(_) => 0,
-            Layout::Chunked(chunked) => chunked.children.len() as u64,
+            Layout::Chunked(chunked) => chunked.children.nchildren(),
             Layout::Struct(strukt) => field_count(&strukt.dtype) as u64 + 1,
             Layout::List(ListLayout { row_count, .. }) => 3,
             Layout::Dict(DictLayout { row_count, .. }) => 2,
-            Layout::Zoned(ZonedLayout { row_count, .. }) => 2,
+            Layout::Zoned(
+                ZonedLayout {
+                    table: ZoneTable::Read,
+                    ..
+                },
+            ) => 2,
+            Layout::Zoned(
+                ZonedLayout {
+                    table: ZoneTable::Unread(_),
+                    ..
+                },
+            ) => 2,
             Layout::LegacyStats(LegacyStatsLayout { row_count, .. }) => 2,
             Layout::Foreign(foreign) => foreign.children.len() as u64,
         }
     }
 
     /// The place among the children of the child in the slot.
-    #[tactic(auto, using(crate::proofs::Steps::slot_rules), unfolding(crate::specs::LayoutView::lay))]
+    #[tactic(auto, using(crate::proofs::KidSteps::slot_rules), unfolding(crate::specs::LayoutView::lay))]
     pub fn slot_to_child(&self, slot: u64) -> Option<u64>
         ensures { result ≡ slot_place (lay self.now) slot }
     {
         match self {
             Layout::Flat(_) => None,
-            Layout::Chunked(chunked) => below(chunked.children.len() as u64, slot),
+            Layout::Chunked(chunked) => below(chunked.children.nchildren(), slot),
             Layout::Struct(strukt) => struct_place(&strukt.dtype, slot),
             Layout::List(list) => list_place(&list.dtype, slot),
             Layout::Dict(DictLayout { row_count, .. }) => below(2, slot),
-            Layout::Zoned(ZonedLayout { row_count, .. }) => below(2, slot),
+            Layout::Zoned(
+                ZonedLayout {
+                    table: ZoneTable::Read,
+                    ..
+                },
+            ) => below(2, slot),
+            Layout::Zoned(
+                ZonedLayout {
+                    table: ZoneTable::Unread(_),
+                    ..
+                },
+            ) => below(2, slot),
             Layout::LegacyStats(LegacyStatsLayout { row_count, .. }) => below(2, slot),
             Layout::Foreign(foreign) => below(foreign.children.len() as u64, slot),
         }
     }
 
     /// What a child in the slot is, also where there is none.
-    #[tactic(auto, using(crate::proofs::Steps::slot_rules), unfolding(crate::specs::LayoutView::lay))]
+    #[tactic(auto, using(crate::proofs::KidSteps::slot_rules), unfolding(crate::specs::LayoutView::lay))]
     pub fn slot_type(&self, alloc: Global, slot: u64) -> Result<Option<LayoutChildType>, AllocError>
         ensures { IfOk result (λ o. o ≡ type_in_slot (lay self.now) slot) }
     {
         match self {
             Layout::Flat(_) => Ok(None),
-            Layout::Chunked(chunked) => Ok(chunk_type(&chunked.children, chunked.row_count, slot)),
+            Layout::Chunked(chunked) => Ok(chunk_type(
+                &chunked.dtype,
+                &chunked.children,
+                chunked.row_count,
+                slot,
+            )),
             Layout::Struct(strukt) => struct_type(alloc, &strukt.dtype, slot),
             Layout::List(ListLayout { row_count, .. }) => list_type(alloc, slot),
             Layout::Dict(DictLayout { row_count, .. }) => dict_type(alloc, slot),
-            Layout::Zoned(ZonedLayout { row_count, .. }) => zoned_type(alloc, slot),
+            Layout::Zoned(
+                ZonedLayout {
+                    table: ZoneTable::Read,
+                    ..
+                },
+            ) => zoned_type(alloc, slot),
+            Layout::Zoned(
+                ZonedLayout {
+                    table: ZoneTable::Unread(_),
+                    ..
+                },
+            ) => zoned_type(alloc, slot),
             Layout::LegacyStats(LegacyStatsLayout { row_count, .. }) => zoned_type(alloc, slot),
             Layout::Foreign(foreign) => foreign_type(alloc, foreign.children.len() as u64, slot),
         }
@@ -106,13 +145,20 @@ fn list_place(dtype: &DType, slot: u64) -> Option<u64>
     }
 }
 
-#[tactic(auto, using(crate::proofs::Steps::slot_rules))]
-fn chunk_type(chunks: &[Layout], rows: u64, slot: u64) -> Option<LayoutChildType>
-    requires { total_by row_count (map lay chunks.now) ≡ rows }
-    ensures { result ≡ type_of_chunk (map lay chunks.now) slot }
+/// Where the children are chunks of the type.
+#[tactic(auto, using(crate::proofs::KidSteps::chunk_rules))]
+fn chunk_type(
+    dtype: &DType,
+    children: &LayoutChildren,
+    rows: u64,
+    slot: u64,
+) -> Option<LayoutChildType>
+    requires { total_by row_count (chunks (ty dtype.now) children.now) ≡ rows }
+    ensures { result ≡ type_of_chunk (chunks (ty dtype.now) children.now) slot }
 {
-    if slot < chunks.len() as u64 {
-        let offset = rows_before(chunks, rows, slot as usize);
+    let _ = dtype;
+    if slot < children.nchildren() {
+        let offset = rows_before(children, rows, slot);
         Some(LayoutChildType::Chunk((slot, offset)))
     } else {
         None
@@ -147,7 +193,7 @@ fn struct_type(
 
 /// The fields of a struct type; another type has none.
 #[tactic(auto, using(crate::proofs::Steps::field_rules))]
-fn fields_in(dtype: &DType) -> &[StructField]
+pub(crate) fn fields_in(dtype: &DType) -> &[StructField]
     ensures { map field_ty result.now ≡ fields_of (ty dtype.now) }
 {
     match dtype {

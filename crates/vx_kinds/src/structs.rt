@@ -1,3 +1,4 @@
+use crate::children::LayoutChildren;
 use crate::error::LayoutError;
 use crate::layout::Layout;
 use crate::shape::struct_children;
@@ -11,7 +12,7 @@ pub struct StructLayout {
     pub(crate) row_count: u64,
     pub(crate) dtype: DType,
     pub(crate) segment_ids: Vec<SegmentId>,
-    pub(crate) children: Vec<Layout>,
+    pub(crate) children: LayoutChildren,
 }
 
 impl Model for StructLayout {
@@ -24,17 +25,23 @@ impl Model for StructLayout {
     ghost coded = { lay_code };
 
     ghost use Rattle.vx_tree.specs.LayoutTree.{struct_kind};
-    ghost use Rattle.vx_kinds.specs.LayoutView.{seen};
+    ghost use Rattle.std.specs.Prelude.{◌≡◌, length};
+    ghost use Rattle.vx_model.specs.TyView.{ty};
+    ghost use Rattle.vx_session.specs.Kinds.{struct_types};
+    ghost use Rattle.vx_kinds.specs.LayoutView.{seen_layout};
+    ghost use Rattle.vx_kinds.specs.KidsView.{fields, layout_kids};
 
-    ghost view = { λ c. seen struct_kind c.dtype c.row_count c.segment_ids c.children };
+    ghost view = { λ c. seen_layout struct_kind c.dtype c.row_count c.segment_ids (fields (ty c.dtype) c.children) };
+
+    ghost invariant = { λ c. length (layout_kids c.children) ≡ length (struct_types (ty c.dtype)) };
 
     ghost use Rattle.vx_kinds.specs.LayDepth.{depth};
 
     ghost size = { depth };
 
-    ghost use Rattle.vx_kinds.specs.DepthFalls.{children_fall};
+    ghost use Rattle.vx_kinds.specs.DepthFalls.{fields_fall};
 
-    ghost size_decreases = { λ c h. children_fall c.children.items };
+    ghost size_decreases = { λ c h. fields_fall (ty c.dtype) c.children };
 }
 
 impl StructLayout {
@@ -45,6 +52,7 @@ impl StructLayout {
     ghost use Rattle.vx_kinds.specs.Views.{Gives, itself};
 
     /// Refuses `NotAStruct`, then `ChildCount`. Takes no memory.
+    #[tactic(auto, using(crate::proofs::KidSteps::field_rules))]
     pub fn new(
         row_count: u64,
         dtype: DType,
@@ -64,7 +72,7 @@ impl StructLayout {
             row_count,
             dtype,
             segment_ids: Vec::new(*children.allocator()),
-            children,
+            children: LayoutChildren::Owned(children),
         })
     }
 }

@@ -1,34 +1,35 @@
-//! Rows of layouts together.
+//! Rows of children together.
 
-ghost use Rattle.std.specs.Prelude.{◌≡◌, ◌≤◌, ◌<◌, ◌^◌, map, length, take};
+ghost use Rattle.std.specs.Prelude.{◌≡◌, ◌≤◌, ◌<◌, ◌^◌, length, take};
 ghost use Rattle.vx_model.specs.Words.{total_by};
-ghost use Rattle.vx_tree.specs.LayoutTree.{row_count};
-ghost use Rattle.vx_kinds.specs.LayoutView.{lay};
+ghost use Rattle.vx_session.specs.Made.{kid_rows};
+ghost use Rattle.vx_kinds.specs.KidsView.{layout_kids};
 
-use crate::layout::Layout;
+use crate::children::LayoutChildren;
 
-#[tactic(auto, using(crate::proofs::Steps::sum_rules))]
-pub(crate) fn total_rows(layouts: &[Layout]) -> u128
-    ensures { result ≡ total_by row_count (map lay layouts.now) }
+#[tactic(auto, using(crate::proofs::KidSteps::sum_rules))]
+pub(crate) fn total_rows(children: &LayoutChildren) -> u128
+    ensures { result ≡ total_by kid_rows (layout_kids children.now) }
 {
+    let count = children.nchildren();
     let mut rows = 0u128;
-    for layout in layouts {
-        rows += layout.row_count() as u128;
+    for i in 0..count {
+        rows += children.child_row_count(i) as u128;
     }
     rows
 }
 
-/// Rows of the first layouts, of `rows` together.
-#[tactic(auto, using(crate::proofs::Steps::offset_rules))]
-pub(crate) fn rows_before(layouts: &[Layout], rows: u64, place: usize) -> u64
-    requires within { place ≤ length layouts.now }
-    requires all { total_by row_count (map lay layouts.now) ≡ rows }
-    ensures { result ≡ total_by row_count (take place (map lay layouts.now)) }
+/// Rows of the first children, of `rows` together.
+#[tactic(auto, using(crate::proofs::KidSteps::sum_rules))]
+pub(crate) fn rows_before(children: &LayoutChildren, rows: u64, place: u64) -> u64
+    requires within { place ≤ length (layout_kids children.now) }
+    requires all { total_by kid_rows (layout_kids children.now) ≡ rows }
+    ensures { result ≡ total_by kid_rows (take place (layout_kids children.now)) }
 {
     let _ = rows;
     let mut before = 0u64;
     for i in 0..place {
-        before += layouts[i].row_count();
+        before += children.child_row_count(i);
     }
     before
 }

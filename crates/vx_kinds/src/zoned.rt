@@ -1,11 +1,29 @@
+use crate::child::LayoutChild;
+use crate::children::{LayoutChildren, kept_child, kept_rows};
 use crate::error::LayoutError;
 use crate::layout::Layout;
-use crate::shape::pair;
+use crate::shape::{no_columns, pair};
 use std::alloc::Global;
 use std::marker::Model;
 use std::num::NonZeroU32;
 use vx_aggregate::{AggregateFn, aggregate_stats_table_dtype};
-use vx_model::{DType, SegmentId};
+use vx_model::{Blob, DType, SegmentId};
+
+/// A table that records an aggregate that isn't known: its metadata, and the table as it was found.
+#[derive(Debug, Drop)]
+#[cycle(layout)]
+pub struct UnreadZones {
+    pub(crate) metadata: Blob,
+    pub(crate) zones: LayoutChildren,
+}
+
+/// Whether the table of the zones is read.
+#[derive(Debug, Drop)]
+#[cycle(layout)]
+pub enum ZoneTable {
+    Read,
+    Unread(UnreadZones),
+}
 
 /// A column, and a table with what is recorded of each of its zones.
 #[derive(Debug, Drop)]
@@ -17,6 +35,7 @@ pub struct ZonedLayout {
     pub(crate) children: Vec<Layout>,
     pub(crate) zone_len: u32,
     pub(crate) aggregates: Vec<AggregateFn>,
+    pub(crate) table: ZoneTable,
 }
 
 impl Model for ZonedLayout {
@@ -28,11 +47,10 @@ impl Model for ZonedLayout {
 
     ghost coded = { lay_code };
 
-    ghost use Rattle.vx_tree.specs.LayoutTree.{zoned_kind};
-    ghost use Rattle.vx_kinds.specs.LayoutView.{seen};
-    ghost use Rattle.vx_kinds.specs.SpecView.{specs_of};
+    ghost use Rattle.vx_kinds.specs.LayoutView.{seen_layout};
+    ghost use Rattle.vx_kinds.specs.ZonedView.{kind_of_zones, zoned_children};
 
-    ghost view = { λ c. seen (zoned_kind c.zone_len (specs_of c.aggregates)) c.dtype c.row_count c.segment_ids c.children };
+    ghost view = { λ c. seen_layout (kind_of_zones c.zone_len c.aggregates c.table) c.dtype c.row_count c.segment_ids (zoned_children c.children c.table) };
 
     ghost use Rattle.std.specs.Prelude.{◌<◌, ◌^◌, length};
 
@@ -43,9 +61,9 @@ impl Model for ZonedLayout {
 
     ghost size = { depth };
 
-    ghost use Rattle.vx_kinds.specs.DepthFalls.{children_fall};
+    ghost use Rattle.vx_kinds.specs.DepthFalls.{zones_fall};
 
-    ghost size_decreases = { λ c h. children_fall c.children.items };
+    ghost size_decreases = { λ c h. zones_fall c.children c.table };
 }
 
 impl ZonedLayout {
@@ -85,6 +103,63 @@ impl ZonedLayout {
             children,
             zone_len: zone_len.get(),
             aggregates: aggregate_fns,
+            table: ZoneTable::Read,
         })
+    }
+}
+
+impl ZonedLayout {
+    ghost use Rattle.std.specs.Prelude.{◌≡◌, ◌<◌, length};
+    ghost use Rattle.vx_tree.specs.LayoutTree.{children_of};
+    ghost use Rattle.vx_kinds.specs.Children.{rows_at, child_in};
+    ghost use Rattle.vx_kinds.specs.ChildView.{child_lay};
+    ghost use Rattle.vx_kinds.specs.Views.{Gives};
+
+    #[tactic(auto, using(crate::proofs::ZonedSteps::zoned_rules))]
+    pub(crate) fn nchildren(&self) -> u64
+        ensures { result ≡ length (children_of self.now) }
+    {
+        let kept = self.children.len() as u64;
+        match &self.table {
+            ZoneTable::Read => kept,
+            ZoneTable::Unread(unread) => kept + unread.zones.nchildren(),
+        }
+    }
+
+    #[tactic(auto, using(crate::proofs::ZonedSteps::zoned_rules))]
+    pub(crate) fn child_row_count(&self, i: u64) -> u64
+        requires { i < length (children_of self.now) }
+        ensures { result ≡ rows_at (children_of self.now) i }
+    {
+        let kept = self.children.len() as u64;
+        match &self.table {
+            ZoneTable::Read => kept_rows(&self.children, i),
+            ZoneTable::Unread(unread) => {
+                if i < kept {
+                    kept_rows(&self.children, i)
+                } else {
+                    unread.zones.child_row_count(i - kept)
+                }
+            }
+        }
+    }
+
+    #[tactic(auto, using(crate::proofs::ZonedSteps::zoned_rules))]
+    pub(crate) fn child(&self, i: u64) -> Result<LayoutChild<'_>, LayoutError>
+        requires { i < length (children_of self.now) }
+        ensures { Gives child_lay result (child_in (children_of self.now) i) }
+    {
+        let kept = self.children.len() as u64;
+        match &self.table {
+            ZoneTable::Read => kept_child(&self.children, i),
+            ZoneTable::Unread(unread) => {
+                if i < kept {
+                    kept_child(&self.children, i)
+                } else {
+                    let dtype = no_columns(*self.children.allocator());
+                    unread.zones.chunk(i - kept, &dtype)
+                }
+            }
+        }
     }
 }

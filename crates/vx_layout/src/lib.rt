@@ -1,13 +1,46 @@
-//! Layouts, what they are built in, their texts and their rows: the names that callers use.
+//! Layouts, what they are built in, their bytes, their texts and their rows: the names that callers use.
 #![tactic(auto)]
 
+pub use vx_aggregate::{
+    AggregateFn, SpecError, Stat, aggregate_stats_table_dtype, default_zoned_aggregate_fns,
+    legacy_stats_table_dtype,
+};
 pub use vx_display::{DisplayLayoutTree, LayoutDisplay};
 pub use vx_kinds::{
-    ChunkedLayout, DictLayout, FlatLayout, ForeignLayout, Layout, LayoutChild, LayoutChildType,
-    LayoutError, LayoutKind, LegacyStatsLayout, ListLayout, SegmentList, StructLayout, ZonedLayout,
+    ChildNames, ChildRowOffsets, ChildTypes, ChunkedLayout, DepthFirst, DictLayout,
+    ELEMENTS_CHILD_INDEX, FlatLayout, ForeignLayout, Layout, LayoutChild, LayoutChildType,
+    LayoutChildren, LayoutDeserializeArgs, LayoutEncodingExt, LayoutError, LayoutKind, LayoutParts,
+    LegacyStatsLayout, ListLayout, NUM_CHILDREN_NON_NULLABLE, OFFSETS_CHILD_INDEX, SegmentList,
+    StructLayout, VALIDITY_CHILD_INDEX, ZonedLayout, layout_children,
+};
+pub use vx_layout_bytes::Limits;
+pub use vx_layout_codec::{
+    layout_bytes, layout_from_flatbuffer, layout_from_flatbuffer_with_options,
+};
+pub use vx_metadata::{
+    AggregateSpec, DictLayoutMetadata, FlatLayoutMetadata, LegacyStatsMetadata, ListLayoutMetadata,
+    MetadataError, ZonedMetadata,
 };
 pub use vx_read::{ReadError, SegmentMap, read_rows};
 pub use vx_session::{
-    LayoutBuildContext, LayoutContext, LayoutEncoding, LayoutRegistry, LayoutSession,
-    LayoutSessionExt, Scope, Session,
+    LayoutBuildContext, LayoutContext, LayoutEncoding, LayoutEncodingRef, LayoutRegistry,
+    LayoutSession, LayoutSessionExt, LayoutVTablePlugin, LayoutVTableRef, Scope, Session,
 };
+
+#[cfg(test)]
+mod tests;
+
+/// A layout, as the Rust crate names one that is shared.
+pub type LayoutRef = Layout;
+
+/// A layout, as the Rust crate names one of any kind.
+pub type DynLayout = Layout;
+
+/// The id of a layout's kind.
+pub type LayoutId = vx_model::Text;
+
+/// The same.
+pub type LayoutEncodingId = vx_model::Text;
+
+/// The segments of a layout itself.
+pub type SegmentIds = Vec<vx_model::SegmentId>;

@@ -1,2 +1,2 @@
 pub mod WalkSteps
-pub mod SpelledAgain
+pub mod AnswerSteps

@@ -10,9 +10,9 @@ use Rattle.vx_kinds.specs.LayDepth.{depth, depths}
 use Rattle.vx_kinds.specs.Views.{Fails}
 use Rattle.vx_kinds.specs.declared.error.LayoutError.{LayoutError}
 use Rattle.vx_kinds.specs.declared.error.LayoutError.TheVariants as errors
-use Rattle.vx_layout_codec.specs.Permitted.{Checked, and_checked, refusal_in, listed, permitted, all_permitted, built, all_built}
-use Rattle.vx_layout_codec.specs.NodeOf.{own_in, node_in, nodes_in}
-use Rattle.vx_layout_codec.specs.Bytes.{unless_refused}
+use Rattle.vx_layout_spelling.specs.Permitted.{Checked, and_checked, refusal_in, listed, permitted, all_permitted, built, all_built}
+use Rattle.vx_layout_spelling.specs.NodeOf.{own_in, node_in, nodes_in}
+use Rattle.vx_layout_spelling.specs.Bytes.{unless_refused}
 use Rattle.vx_kinds.specs.ChildView.{child_lay}
 use Rattle.vx_kinds.specs.declared.child.LayoutChild.{LayoutChild}
 use Rattle.vx_layout_codec.specs.Views.{children_answer, kept}

@@ -5,7 +5,7 @@ ghost use Rattle.vx_tree.specs.LayoutTree.{children_of, layout_kind, kind_id};
 ghost use Rattle.vx_kinds.specs.Children.{child_in};
 ghost use Rattle.vx_kinds.specs.LayoutView.{lay};
 ghost use Rattle.vx_kinds.specs.Views.{Gives};
-ghost use Rattle.vx_layout_codec.specs.Permitted.{listed, permitted};
+ghost use Rattle.vx_layout_spelling.specs.Permitted.{listed, permitted};
 ghost use Rattle.vx_layout_codec.specs.Views.{children_answer, kept};
 
 use std::alloc::{AllocError, Global};
@@ -26,7 +26,11 @@ pub(crate) fn check_permitted(
     check_listed(alloc, layout.encoding_id(), ctx)?;
     for i in 0..layout.nchildren() {
         match built_child(layout, i)? {
-            Some(child) => check_permitted(alloc, child.layout(), ctx)?,
+            Some(child) => {
+                let checked = check_permitted(alloc, child.layout(), ctx);
+                drop(child);
+                checked?;
+            }
             None => (),
         }
     }

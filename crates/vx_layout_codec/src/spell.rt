@@ -6,9 +6,9 @@ ghost use Rattle.vx_layout_bytes.specs.Node.{node, nodes_of};
 ghost use Rattle.vx_layout_bytes.specs.Views.{raw};
 ghost use Rattle.vx_kinds.specs.LayoutView.{lay, number};
 ghost use Rattle.vx_kinds.specs.Views.{Gives};
-ghost use Rattle.vx_layout_codec.specs.Permitted.{built};
-ghost use Rattle.vx_layout_codec.specs.NodeOf.{own_in, node_in};
-ghost use Rattle.vx_layout_codec.specs.Bytes.{unless_refused, bytes_in};
+ghost use Rattle.vx_layout_spelling.specs.Permitted.{built};
+ghost use Rattle.vx_layout_spelling.specs.NodeOf.{own_in, node_in};
+ghost use Rattle.vx_layout_spelling.specs.Bytes.{unless_refused, bytes_in};
 
 use crate::permitted::check_permitted;
 use std::alloc::{AllocError, Global};

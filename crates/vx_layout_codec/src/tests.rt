@@ -1,32 +1,32 @@
 // Worked bytes of layouts, and the ids that a context doesn't list.
 
-use crate::{layout_bytes, parsed_is_spelled};
+use crate::layout_bytes;
 use std::alloc::Global;
 use std::test::Fail;
-use vx_kinds::{ChunkedLayout, FlatLayout, ForeignLayout, Layout, LayoutError};
+use vx_kinds::{ChunkedLayout, FlatLayout, ForeignLayout, Layout, LayoutError, layout_children};
 use vx_model::{ArrayContext, Blob, DType, Nullability, PType, SegmentId, Text};
 use vx_session::LayoutContext;
 
 /// A root of 10 rows in segment 7 with a child of 3 rows, both with metadata of their own.
-const FOREIGN: [u8; 76] = [
+pub(crate) const FOREIGN: [u8; 76] = [
     0, 0, 10, 0, 0, 0, 0, 0, 0, 0, 3, 0, 0, 0, 0, 0, 0, 0, 1, 2, 3, 1, 0, 0, 0, 0, 0, 0, 0, 7, 0,
     0, 0, 1, 0, 0, 0, 0, 0, 0, 0, 1, 0, 3, 0, 0, 0, 0, 0, 0, 0, 1, 0, 0, 0, 0, 0, 0, 0, 9, 0, 0, 0,
     0, 0, 0, 0, 0, 0, 0, 0, 0, 0, 0, 0, 0,
 ];
 
 /// Three rows in chunks of two and one.
-const CHUNKED: [u8; 110] = [
+pub(crate) const CHUNKED: [u8; 110] = [
     0, 0, 3, 0, 0, 0, 0, 0, 0, 0, 0, 0, 0, 0, 0, 0, 0, 0, 0, 0, 0, 0, 0, 0, 0, 0, 2, 0, 0, 0, 0, 0,
     0, 0, 1, 0, 2, 0, 0, 0, 0, 0, 0, 0, 0, 0, 0, 0, 0, 0, 0, 0, 1, 0, 0, 0, 0, 0, 0, 0, 0, 0, 0, 0,
     0, 0, 0, 0, 0, 0, 0, 0, 1, 0, 1, 0, 0, 0, 0, 0, 0, 0, 0, 0, 0, 0, 0, 0, 0, 0, 1, 0, 0, 0, 0, 0,
     0, 0, 1, 0, 0, 0, 0, 0, 0, 0, 0, 0, 0, 0,
 ];
 
-fn integers() -> DType {
+pub(crate) fn integers() -> DType {
     DType::Primitive(PType::I64, Nullability::NonNullable)
 }
 
-fn ids(alloc: Global, names: &[&str]) -> Result<LayoutContext, Fail> {
+pub(crate) fn ids(alloc: Global, names: &[&str]) -> Result<LayoutContext, Fail> {
     let mut ids = Vec::new(alloc);
     for name in names {
         ids.push(Text::from_str(alloc, name)?)?;
@@ -44,7 +44,7 @@ fn flat(alloc: Global, rows: u64, segment: u32) -> Result<Layout, Fail> {
 
 fn chunked(alloc: Global) -> Result<Layout, Fail> {
     let children = vec![in alloc; flat(alloc, 2, 0)?, flat(alloc, 1, 1)?]?;
-    Ok(Layout::Chunked(ChunkedLayout::new(3, integers(), children)?))
+    Ok(Layout::Chunked(ChunkedLayout::new(3, integers(), layout_children(children))?))
 }
 
 fn foreign(alloc: Global) -> Result<Layout, Fail> {
@@ -78,7 +78,6 @@ fn foreign_root(rt: HostRuntime) -> Result<(), Fail> {
     )?;
     let bytes = layout_bytes(alloc, &foreign(alloc)?, &ids)?;
     assert!(rt; bytes.as_slice() == FOREIGN.as_slice());
-    parsed_is_spelled();
     Ok(())
 }
 

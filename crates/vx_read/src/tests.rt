@@ -9,7 +9,7 @@ use vx_chunk::Chunk;
 use vx_encode::encode_segment;
 use vx_kinds::{
     ChunkedLayout, DictLayout, FlatLayout, ForeignLayout, Layout, LegacyStatsLayout, ListLayout,
-    StructLayout, ZonedLayout,
+    StructLayout, ZonedLayout, layout_children,
 };
 use vx_model::{
     ArrayContext, Blob, Cell, DType, EncodingId, Nullability, PType, SegmentId, StructField,
@@ -119,7 +119,7 @@ fn rows_of_chunks(rt: HostRuntime) -> Result<(), Fail> {
     let first = ints(alloc, &mut segments, &[1, -9])?;
     assert_eq!(rt; text(alloc, &first, &segments)?.as_str(), "[Int(1), Null]");
     let chunks = both(alloc, first, ints(alloc, &mut segments, &[3])?)?;
-    let layout = Layout::Chunked(ChunkedLayout::new(3, MAYBE, chunks)?);
+    let layout = Layout::Chunked(ChunkedLayout::new(3, MAYBE, layout_children(chunks))?);
     assert_eq!(rt;
         text(alloc, &layout, &segments)?.as_str(),
         "[Int(1), Null, Int(3)]"

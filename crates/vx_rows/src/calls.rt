@@ -5,7 +5,7 @@ use std::alloc::Global;
 use std::convert::TryFrom;
 use std::test::Fail;
 use vx_display::LayoutDisplay;
-use vx_kinds::{ChunkedLayout, FlatLayout, Layout, LayoutError};
+use vx_kinds::{ChunkedLayout, FlatLayout, Layout, LayoutError, layout_children};
 use vx_sink::{CompressError, CompressorPlugin, LayoutWriterContext, PlainCompressor};
 use vx_types::{
     ArrayContext, Blob, Cell, Chunk, ContextError, EncodingId, SegmentId, Text, encode_segment,
@@ -77,7 +77,7 @@ fn one_row(alloc: Global, row_count: u64) -> Result<Result<ChunkedLayout, Layout
     let ctx = context(alloc, EncodingId::Dict)??;
     let mut children = Vec::new(alloc);
     children.push(Layout::Flat(FlatLayout::new(1, i64_type(), SegmentId(0), ctx)))?;
-    Ok(ChunkedLayout::new(row_count, i64_type(), children))
+    Ok(ChunkedLayout::new(row_count, i64_type(), layout_children(children)))
 }
 
 #[test]

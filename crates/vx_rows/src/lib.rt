@@ -19,6 +19,8 @@ mod flat_rows;
 #[cfg(test)]
 mod jobs;
 #[cfg(test)]
+mod parsed;
+#[cfg(test)]
 mod program;
 #[cfg(test)]
 mod reading;
@@ -26,6 +28,8 @@ mod reading;
 mod refusals;
 #[cfg(test)]
 mod reports;
+#[cfg(test)]
+mod trees;
 
 use std::alloc::{AllocError, Global};
 use vx_types::{Cell, Chunk, DType, Nullability, PType};

@@ -14,7 +14,7 @@ use vx_types::{
 };
 use vx_write::write_stream;
 
-fn context(alloc: Global) -> Result<ArrayContext, Fail> {
+pub(crate) fn context(alloc: Global) -> Result<ArrayContext, Fail> {
     Ok(ArrayContext::try_new(Vec::from_slice(alloc, EncodingId::ALL.as_slice())?)?)
 }
 
@@ -24,7 +24,11 @@ fn chunked_flat(alloc: Global) -> Result<Strategy, Fail> {
 }
 
 /// Writes the batches to the sink.
-fn written(alloc: Global, batches: Vec<Chunk>, sink: &mut MemorySink) -> Result<Layout, Fail> {
+pub(crate) fn written(
+    alloc: Global,
+    batches: Vec<Chunk>,
+    sink: &mut MemorySink,
+) -> Result<Layout, Fail> {
     let mut ctx = LayoutWriterContext::new(context(alloc)?);
     let mut source = ListSource::new(i64_type(), batches, Vec::new(alloc));
     let mut compressor = PlainCompressor::new(Vec::new(alloc));
@@ -43,7 +47,7 @@ fn written(alloc: Global, batches: Vec<Chunk>, sink: &mut MemorySink) -> Result<
     }
 }
 
-fn copies(alloc: Global, segments: &[Blob]) -> Result<Vec<Blob>, Fail> {
+pub(crate) fn copies(alloc: Global, segments: &[Blob]) -> Result<Vec<Blob>, Fail> {
     let mut list = Vec::new(alloc);
     for segment in segments {
         list.push(segment.clone()?)?;
@@ -60,7 +64,7 @@ fn written_rows(alloc: Global, first: u32, batches: Vec<Chunk>) -> Result<Vec<Va
 }
 
 /// The batches of these lists of numbers.
-fn batches(alloc: Global, lists: &[&[i64]]) -> Result<Vec<Chunk>, AllocError> {
+pub(crate) fn batches(alloc: Global, lists: &[&[i64]]) -> Result<Vec<Chunk>, AllocError> {
     let mut batches = Vec::new(alloc);
     for numbers in lists {
         batches.push(integers(alloc, numbers)?)?;
@@ -69,7 +73,7 @@ fn batches(alloc: Global, lists: &[&[i64]]) -> Result<Vec<Chunk>, AllocError> {
 }
 
 /// The numbers, or 0 where a row is none.
-fn numbers(alloc: Global, rows: &[Value]) -> Result<Vec<i128>, AllocError> {
+pub(crate) fn numbers(alloc: Global, rows: &[Value]) -> Result<Vec<i128>, AllocError> {
     let mut numbers = Vec::new(alloc);
     for row in rows {
         let number = match row {

@@ -8,7 +8,7 @@ use crate::i64_type;
 use crate::program::{NEVER, outcome, written};
 use std::alloc::{AllocError, Global};
 use std::test::Fail;
-use vx_kinds::{ChunkedLayout, Layout, LayoutError};
+use vx_kinds::{ChunkedLayout, Layout, LayoutError, layout_children};
 use vx_report::report;
 use vx_run::Status;
 use vx_types::{Blob, Text, Value};
@@ -89,7 +89,7 @@ fn other_words_print_the_usage(rt: HostRuntime) -> Result<(), Fail> {
         [].as_slice(),
         &["gen"],
         &["gen", "7"],
-        &["tree"],
+        &["tree", "tree"],
         &["write", "write"],
         &["--help"],
         &[""],
@@ -192,7 +192,7 @@ fn every_kind(alloc: Global) -> Result<Vec<Value>, AllocError> {
 fn no_chunks(alloc: Global) -> Result<Layout, LayoutError>
     ensures { IfOk result (λ l. zone_tables (lay l) ≡ []) }
 {
-    let chunked = ChunkedLayout::new(0, i64_type(), Vec::new(alloc))?;
+    let chunked = ChunkedLayout::new(0, i64_type(), layout_children(Vec::new(alloc)))?;
     Ok(Layout::Chunked(chunked))
 }
 

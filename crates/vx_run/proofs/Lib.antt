@@ -1,3 +1,4 @@
 pub mod BackSteps
 pub mod JobSteps
 pub mod RunSteps
+pub mod TreeSteps

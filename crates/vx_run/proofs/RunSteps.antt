@@ -4,7 +4,9 @@ use Rattle.std.proofs.lemmas.List.{append-nil, take-append-drop, length-take, le
 use Rattle.std.specs.Io.KnownBytes.{Keeps, Appends, Consumes}
 use Rattle.std.specs.Prelude.{Result, Ok, Err}
 use Rattle.vx_job.specs.declared.error.Key.{Key}
-use Rattle.vx_job.specs.JobText.{JobData, limit, job}
+use Rattle.vx_job.specs.JobText.{JobData, limit, json_of, and_then, job_of, job}
+use Rattle.vx_job.specs.TreeText.{TreeData, tree_of, tree_job}
+use Rattle.serde_json.specs.Data.{Data}
 use Rattle.std.proofs.Math.Seq.{take-add}
 use Rattle.std.proofs.lemmas.Bool.{ltb-true, ltb-false, lt-ltb}
 use Rattle.std.specs.Prelude.{◌⊎◌}
@@ -14,8 +16,13 @@ use Rattle.vx_sink.specs.Counts.{Counts, IsCalm}
 use Rattle.vx_write.specs.Stream.{Writes, is_built}
 use Rattle.vx_run.specs.declared.status.Status.{Status}
 use Rattle.vx_run.specs.declared.status.Status.TheVariants.{Done, Usage, BadJob, Refused, InputFault, OutputFault, OutOfMemory}
+use Rattle.vx_session.specs.Made.{Made}
+use Rattle.vx_run.specs.declared.command.Command.{Command}
+use Rattle.vx_run.specs.declared.command.Command.TheVariants.{Write, Tree}
 use Rattle.vx_run.specs.Answers.{IsAnswer, JobAnswer, SetsNoFaults}
-use Rattle.vx_run.specs.Running.{HasRead, Took, Finishes, Ends, is_output_fault, is_usage}
+use Rattle.vx_run.specs.TreeAnswers.{made_status, job_layout, IsTreeAnswer, tree_status}
+use Rattle.vx_run.specs.Commands.{Answers}
+use Rattle.vx_run.specs.Running.{HasRead, Took, Finishes, Ends, is_input_fault, is_output_fault, is_usage}
 
 pub consumes_none : (a : Option (List ℕ)) → Consumes a a []
 consumes_none None = tt
@@ -47,60 +54,109 @@ keeps_after (Some zs) (Some ws) (Some us) xs h k = k ∙ h
 pub take_then : (bytes : List ℕ) (at n : ℕ) → take at bytes ++ take n (drop at bytes) ≡ take (at + n) bytes
 take_then bytes at n = sym (take-add at n bytes)
 
--- ---- what was read is the job that the input tells
+-- ---- what was read is what the input tells
 
-same_job : (read more : List ℕ) → (length read ≤ limit → more ≡ []) → job (read ++ more) ≡ job read
-same_job read more ended = by_length (ltb limit (length read)) refl
+same_value : (read more : List ℕ) → (length read ≤ limit → more ≡ []) → json_of (read ++ more) ≡ json_of read
+same_value read more ended = by_length (ltb limit (length read)) refl
   where
-    by_length : (b : Bool) → ltb limit (length read) ≡ b → job (read ++ more) ≡ job read
+    by_length : (b : Bool) → ltb limit (length read) ≡ b → json_of (read ++ more) ≡ json_of read
     by_length true e =
         let long : limit < length read = ltb-true limit (length read) e in
         let longer : ltb limit (length (read ++ more)) ≡ true = lt-ltb limit (length (read ++ more)) (omega (arith, length-append read more)) in
         rw (longer, e) refl
     by_length false e =
         let short : length read ≤ limit = ltb-false limit (length read) e in
-        ap job (ap (λ (r : List ℕ). read ++ r) (ended short) ∙ append-nil read)
+        ap json_of (ap (λ (r : List ℕ). read ++ r) (ended short) ∙ append-nil read)
 
-pub read_job_is : (before now : Option (List ℕ)) (bytes read : List ℕ) → before ≡ Some bytes → HasRead before now read → job bytes ≡ job read
-read_job_is None now bytes read told h = absurd cc
-read_job_is (Some all) None bytes read told h = absurd h.consumed
-read_job_is (Some all) (Some more) bytes read told h =
+read_value_is : (before now : Option (List ℕ)) (bytes read : List ℕ) → before ≡ Some bytes → HasRead before now read → json_of read ≡ json_of bytes
+read_value_is None now bytes read told h = absurd cc
+read_value_is (Some all) None bytes read told h = absurd h.consumed
+read_value_is (Some all) (Some more) bytes read told h =
     let same : all ≡ bytes = cc in
-    ap job (sym same ∙ h.consumed) ∙ same_job read more h.ended
+    sym (ap json_of (sym same ∙ h.consumed) ∙ same_value read more h.ended)
+
+pub answers_told : (c : Command) (before now : Option (List ℕ)) (bytes read : List ℕ) (status : Status) (text : List ℕ) → before ≡ Some bytes → HasRead before now read
+    → Answers c read status text → Answers c bytes status text
+answers_told Write before now bytes read status text told h answers = subst (λ (d : Result Data Key). IsAnswer (and_then d job_of) status text) (read_value_is before now bytes read told h) answers
+answers_told Tree before now bytes read status text told h answers = subst (λ (d : Result Data Key). IsTreeAnswer (and_then d tree_of) status text) (read_value_is before now bytes read told h) answers
+
+-- ---- statuses of answers
+
+is_answered : Status → Bool
+is_answered Done = true
+is_answered BadJob = true
+is_answered Refused = true
+is_answered Usage = false
+is_answered InputFault = false
+is_answered OutputFault = false
+is_answered OutOfMemory = false
+
+job_answered : (r : Result JobData Key) (status : Status) (text : List ℕ) → IsAnswer r status text → is_answered status ≡ true
+unfolding is_answered
+job_answered (Err key) status text h = ap is_answered h.0
+job_answered (Ok j) Done text h = refl
+job_answered (Ok j) Refused text h = refl
+job_answered (Ok j) Usage text h = absurd h
+job_answered (Ok j) BadJob text h = absurd h
+job_answered (Ok j) InputFault text h = absurd h
+job_answered (Ok j) OutputFault text h = absurd h
+job_answered (Ok j) OutOfMemory text h = absurd h
+
+made_answered : (made : Made) → is_answered (made_status made) ≡ true
+unfolding is_answered
+made_answered (Ok l) = refl
+made_answered (Err refusal) = refl
+
+tree_status_is : (r : Result TreeData Key) (status : Status) (text : List ℕ) → IsTreeAnswer r status text → status ≡ tree_status r
+tree_status_is (Err key) status text h = h.0
+tree_status_is (Ok j) status text h = h.0
+
+tree_answered : (r : Result TreeData Key) (status : Status) (text : List ℕ) → IsTreeAnswer r status text → is_answered status ≡ true
+unfolding is_answered
+tree_answered (Err key) status text h = ap is_answered h.0
+tree_answered (Ok j) status text h = ap is_answered h.0 ∙ made_answered (job_layout j)
+
+answered : (c : Command) (bytes : List ℕ) (status : Status) (text : List ℕ) → Answers c bytes status text → is_answered status ≡ true
+answered Write bytes status text h = job_answered (job bytes) status text h
+answered Tree bytes status text h = tree_answered (tree_job bytes) status text h
 
 -- ---- how a run ends
 
-not_input : (j : Result JobData Key) (text : List ℕ) → IsAnswer j InputFault text → ⊥
-not_input (Err key) text h = let e : InputFault ≡ BadJob = h.0 in cc
-not_input (Ok j) text h = h
+wrote_it : (P : Status → List ℕ → Type 0) (status : Status) (text : List ℕ) (before now : Option (List ℕ)) → is_answered status ≡ true → P status text → Appends before now text → Ends P before now status
+unfolding is_answered
+wrote_it P Done text before now is answers wrote = record { text = text; answers = answers; wrote = wrote }
+wrote_it P Usage text before now is answers wrote = record { text = text; answers = answers; wrote = wrote }
+wrote_it P BadJob text before now is answers wrote = record { text = text; answers = answers; wrote = wrote }
+wrote_it P Refused text before now is answers wrote = record { text = text; answers = answers; wrote = wrote }
+wrote_it P InputFault text before now is answers wrote = absurd (cc is)
+wrote_it P OutputFault text before now is answers wrote = absurd (cc is)
+wrote_it P OutOfMemory text before now is answers wrote = absurd (cc is)
 
-not_output : (j : Result JobData Key) (text : List ℕ) → IsAnswer j OutputFault text → ⊥
-not_output (Err key) text h = let e : OutputFault ≡ BadJob = h.0 in cc
-not_output (Ok j) text h = h
+pub ends_so : (c : Command) (bytes : List ℕ) (status : Status) (text : List ℕ) (before now : Option (List ℕ)) (result : Status) → Answers c bytes status text → Finishes status text before now result
+    → Ends (Answers c bytes) before now result
+ends_so c bytes status text before now result answers (inl all) = subst (Ends (Answers c bytes) before now) (sym all.0) (wrote_it (Answers c bytes) status text before now (answered c bytes status text answers) answers all.1)
+ends_so c bytes status text before now result answers (inr (inl failed, front)) = subst (Ends (Answers c bytes) before now) (sym failed) (record { status = status; text = text; answers = answers; count = front.count; wrote = front.wrote })
+ends_so c bytes status text before now result answers (inr (inr memory, front)) = subst (Ends (Answers c bytes) before now) (sym memory) (inr (record { status = status; text = text; answers = answers; count = front.count; wrote = front.wrote }))
 
-not_memory : (j : Result JobData Key) (text : List ℕ) → IsAnswer j OutOfMemory text → ⊥
-not_memory (Err key) text h = let e : OutOfMemory ≡ BadJob = h.0 in cc
-not_memory (Ok j) text h = h
+not_usage : (status : Status) → is_answered status ≡ true → is_usage status ≡ false
+unfolding is_answered
+not_usage Usage is = absurd (cc is)
+not_usage Done is = refl
+not_usage BadJob is = refl
+not_usage Refused is = refl
+not_usage InputFault is = refl
+not_usage OutputFault is = refl
+not_usage OutOfMemory is = refl
 
-wrote_it : (j : Result JobData Key) (status : Status) (text : List ℕ) (before now : Option (List ℕ)) → IsAnswer j status text → Appends before now text → Ends (IsAnswer j) before now status
-wrote_it j Done text before now answers wrote = record { text = text; answers = answers; wrote = wrote }
-wrote_it j Usage text before now answers wrote = record { text = text; answers = answers; wrote = wrote }
-wrote_it j BadJob text before now answers wrote = record { text = text; answers = answers; wrote = wrote }
-wrote_it j Refused text before now answers wrote = record { text = text; answers = answers; wrote = wrote }
-wrote_it j InputFault text before now answers wrote = absurd (not_input j text answers)
-wrote_it j OutputFault text before now answers wrote = absurd (not_output j text answers)
-wrote_it j OutOfMemory text before now answers wrote = absurd (not_memory j text answers)
+pub ends_known : (c : Command) (bytes : List ℕ) (status : Status) (text : List ℕ) (before now : Option (List ℕ)) (result : Status) → Answers c bytes status text → Finishes status text before now result → is_usage result ≡ false
+ends_known c bytes status text before now result answers (inl all) = ap is_usage all.0 ∙ not_usage status (answered c bytes status text answers)
+ends_known c bytes status text before now result answers (inr (inl failed, front)) = ap is_usage failed
+ends_known c bytes status text before now result answers (inr (inr memory, front)) = ap is_usage memory
 
-pub ends_so : (j : Result JobData Key) (status : Status) (text : List ℕ) (before now : Option (List ℕ)) (result : Status) → IsAnswer j status text → Finishes status text before now result → Ends (IsAnswer j) before now result
-ends_so j status text before now result answers (inl all) = subst (Ends (IsAnswer j) before now) (sym all.0) (wrote_it j status text before now answers all.1)
-ends_so j status text before now result answers (inr (inl failed, front)) = subst (Ends (IsAnswer j) before now) (sym failed) (record { status = status; text = text; answers = answers; count = front.count; wrote = front.wrote })
-ends_so j status text before now result answers (inr (inr memory, front)) = subst (Ends (IsAnswer j) before now) (sym memory) (inr (record { status = status; text = text; answers = answers; count = front.count; wrote = front.wrote }))
+no_fault : (before now : ℕ) → Counts before now true → IsCalm before now → ⊥
+no_fault before now rose calm = absurd (omega (arith, rose.0, rose.1, calm.0, calm.1))
 
-no_fault : (before now : ℕ) (result : Status) → result ≡ OutputFault → Counts before now (is_output_fault result) → IsCalm before now → ⊥
-no_fault before now result e counts calm =
-    let rose : Counts before now true = subst (λ (r : Status). Counts before now (is_output_fault r)) e counts in
-    absurd (omega (arith, rose.0, rose.1, calm.0, calm.1))
-
+-- which text belongs to a valid job: that of what is done
 valid_done : (j : JobData) (s : Setting) (tracker : ℕ) (status : Status) (text : List ℕ) → Writes j.options.encodings s → is_built j.strategy j.schema ≡ true → SetsNoFaults j
     → Valid s j.strategy j.schema j.options.marked j.options.next tracker j.batches → JobAnswer j status text → status ≡ Done
 valid_done j s tracker Done text writes form no_faults valid answers = refl
@@ -111,14 +167,30 @@ valid_done j s tracker InputFault text writes form no_faults valid answers = abs
 valid_done j s tracker OutputFault text writes form no_faults valid answers = absurd answers
 valid_done j s tracker OutOfMemory text writes form no_faults valid answers = absurd answers
 
-pub done_or_memory : (r : Result JobData Key) (j : JobData) (s : Setting) (tracker : ℕ) (status : Status) (text : List ℕ) (before now : Option (List ℕ)) (result : Status) (faults faults_now : ℕ)
-    → r ≡ Ok j → Writes j.options.encodings s → is_built j.strategy j.schema ≡ true → SetsNoFaults j → Valid s j.strategy j.schema j.options.marked j.options.next tracker j.batches
-    → IsAnswer r status text → Finishes status text before now result → Counts faults faults_now (is_output_fault result) → IsCalm faults faults_now → (result ≡ Done) ⊎ (result ≡ OutOfMemory)
-done_or_memory r j s tracker status text before now result faults faults_now is writes form no_faults valid answers (inl all) counts calm =
-    let job_answers : JobAnswer j status text = subst (λ (k : Result JobData Key). IsAnswer k status text) is answers in
-    inl (all.0 ∙ valid_done j s tracker status text writes form no_faults valid job_answers)
-done_or_memory r j s tracker status text before now result faults faults_now is writes form no_faults valid answers (inr (inl failed, front)) counts calm = absurd (no_fault faults faults_now result failed counts calm)
-done_or_memory r j s tracker status text before now result faults faults_now is writes form no_faults valid answers (inr (inr memory, front)) counts calm = inr memory
+-- Where nothing fails, a run whose answers all have one status ends with it, or memory ran out.
+calm_end : (P : Status → List ℕ → Type 0) (wanted : Status) → ((status : Status) (text : List ℕ) → P status text → status ≡ wanted) → (before now : Option (List ℕ)) (result : Status) (ins ins_now outs outs_now : ℕ)
+    → Ends P before now result → Counts ins ins_now (is_input_fault result) → IsCalm ins ins_now → Counts outs outs_now (is_output_fault result) → IsCalm outs outs_now → (result ≡ wanted) ⊎ (result ≡ OutOfMemory)
+calm_end P wanted only before now Done ins ins_now outs outs_now ends rose calm risen still = inl (only Done ends.text ends.answers)
+calm_end P wanted only before now Usage ins ins_now outs outs_now ends rose calm risen still = inl (only Usage ends.text ends.answers)
+calm_end P wanted only before now BadJob ins ins_now outs outs_now ends rose calm risen still = inl (only BadJob ends.text ends.answers)
+calm_end P wanted only before now Refused ins ins_now outs outs_now ends rose calm risen still = inl (only Refused ends.text ends.answers)
+calm_end P wanted only before now InputFault ins ins_now outs outs_now ends rose calm risen still = absurd (no_fault ins ins_now rose calm)
+calm_end P wanted only before now OutputFault ins ins_now outs outs_now ends rose calm risen still = absurd (no_fault outs outs_now risen still)
+calm_end P wanted only before now OutOfMemory ins ins_now outs outs_now ends rose calm risen still = inr refl
+
+pub written_or_memory : (bytes : List ℕ) (j : JobData) (s : Setting) (tracker : ℕ) (before now : Option (List ℕ)) (result : Status) (ins ins_now outs outs_now : ℕ)
+    → job bytes ≡ Ok j → Writes j.options.encodings s → is_built j.strategy j.schema ≡ true → SetsNoFaults j → Valid s j.strategy j.schema j.options.marked j.options.next tracker j.batches
+    → Ends (Answers Write bytes) before now result → Counts ins ins_now (is_input_fault result) → IsCalm ins ins_now → Counts outs outs_now (is_output_fault result) → IsCalm outs outs_now
+    → (result ≡ Done) ⊎ (result ≡ OutOfMemory)
+written_or_memory bytes j s tracker before now result ins ins_now outs outs_now is writes form no_faults valid =
+    calm_end (Answers Write bytes) Done (λ status text answers. valid_done j s tracker status text writes form no_faults valid (subst (λ (k : Result JobData Key). IsAnswer k status text) is answers))
+    before now result ins ins_now outs outs_now
+
+pub shown_or_memory : (bytes : List ℕ) (before now : Option (List ℕ)) (result : Status) (ins ins_now outs outs_now : ℕ)
+    → Ends (Answers Tree bytes) before now result → Counts ins ins_now (is_input_fault result) → IsCalm ins ins_now → Counts outs outs_now (is_output_fault result) → IsCalm outs outs_now
+    → (result ≡ tree_status (tree_job bytes)) ⊎ (result ≡ OutOfMemory)
+shown_or_memory bytes before now result ins ins_now outs outs_now =
+    calm_end (Answers Tree bytes) (tree_status (tree_job bytes)) (λ status text answers. tree_status_is (tree_job bytes) status text answers) before now result ins ins_now outs outs_now
 
 -- ---- an input in memory
 
@@ -150,26 +222,6 @@ consumes_kept (Some xs) (Some ys) (Some zs) bytes h k = h ∙ ap (λ (r : List �
 -- and a read that failed
 pub took_kept : (a b c : Option (List ℕ)) (bytes : List ℕ) → Consumes a b bytes → Keeps b c → length bytes ≤ limit + 1 → Took a c
 took_kept a b c bytes consumed kept short = record { bytes = bytes; consumed = consumes_kept a b c bytes consumed kept; short = short }
-
--- ---- an answer of the command isn't the usage's
-
-not_usage : (j : Result JobData Key) (text : List ℕ) → IsAnswer j Usage text → ⊥
-not_usage (Err key) text h = let e : Usage ≡ BadJob = h.0 in cc
-not_usage (Ok j) text h = h
-
-other_than_usage : (j : Result JobData Key) (status : Status) (text : List ℕ) → IsAnswer j status text → is_usage status ≡ false
-other_than_usage j Usage text answers = absurd (not_usage j text answers)
-other_than_usage j Done text answers = refl
-other_than_usage j BadJob text answers = refl
-other_than_usage j Refused text answers = refl
-other_than_usage j InputFault text answers = refl
-other_than_usage j OutputFault text answers = refl
-other_than_usage j OutOfMemory text answers = refl
-
-pub ends_known : (j : Result JobData Key) (status : Status) (text : List ℕ) (before now : Option (List ℕ)) (result : Status) → IsAnswer j status text → Finishes status text before now result → is_usage result ≡ false
-ends_known j status text before now result answers (inl all) = ap is_usage all.0 ∙ other_than_usage j status text answers
-ends_known j status text before now result answers (inr (inl failed, front)) = ap is_usage failed
-ends_known j status text before now result answers (inr (inr memory, front)) = ap is_usage memory
 
 pub ruleset read_rules = (append_assoc, append-nil, took_so_far, took_kept)
 

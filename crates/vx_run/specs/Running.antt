@@ -1,15 +1,9 @@
 -- What a run of the program does.
-use Rattle.std.specs.Prelude.{◌≡◌, ℕ, ◌+◌, ◌≤◌, ◌⊎◌, Bool, true, false, List, [], ◌∷◌, codes, length, take, bytes_eq, Option}
+use Rattle.std.specs.Prelude.{◌≡◌, ℕ, ◌+◌, ◌≤◌, ◌⊎◌, Bool, true, false, List, codes, length, take, Option}
 use Rattle.std.specs.Io.KnownBytes.{Keeps, Appends, Consumes, IsAtEnd}
 use Rattle.vx_job.specs.JobText.{limit}
 use Rattle.vx_run.specs.declared.status.Status.{Status}
 use Rattle.vx_run.specs.declared.status.Status.TheVariants.{Done, Usage, BadJob, Refused, InputFault, OutputFault, OutOfMemory}
-
--- the words are the one command `write`
-abbrev pub is_write : List (List ℕ) → Bool
-is_write [] = false
-is_write (word ∷ []) = bytes_eq word (codes "write")
-is_write (word ∷ other ∷ words) = false
 
 abbrev pub usage : List ℕ
 usage = codes "usage: vx_tool write | gen N | tree\n"
@@ -66,7 +60,7 @@ pub record Took (before now : Option (List ℕ)) : Type 0 where
   pub consumed : Consumes before now bytes
   pub short : length bytes ≤ limit + 1
 
--- whether a status of the command `write` says that the input was read
+-- whether a status of a command says that the input was read
 abbrev pub has_read : Status → Bool
 has_read Done = true
 has_read Refused = true

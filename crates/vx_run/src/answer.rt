@@ -42,7 +42,7 @@ pub(crate) fn answer_to(alloc: Global, bytes: &[u8]) -> Result<Answer, AllocErro
 }
 
 #[tactic(auto, using(crate::proofs::RunSteps::text_rules))]
-fn bad_job(alloc: Global, key: Key) -> Result<Answer, AllocError>
+pub(crate) fn bad_job(alloc: Global, key: Key) -> Result<Answer, AllocError>
     ensures { IfOk result (λ a. IsText statuses.BadJob (bad_job key) a.status (string_bytes a.text)) }
 {
     let mut text = String::from_str(alloc, "bad job at ")?;

@@ -2,13 +2,16 @@
 #![tactic(auto)]
 
 mod answer;
+mod command;
 mod input;
 mod memory;
 mod output;
 mod real;
 mod running;
 mod status;
+mod tree;
 
+pub use command::Command;
 pub use input::{Input, InputFailure};
 pub use memory::{ByteInput, ByteOutput};
 pub use output::{Output, OutputFailure};

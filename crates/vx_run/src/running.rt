@@ -1,19 +1,24 @@
 //! The program.
 
-ghost use Rattle.std.specs.Prelude.{◌≡◌, ℕ, ◌+◌, ◌≤◌, ◌<◌, ◌⊎◌, true, false, List, Some, Ok, map, length, string_bytes, IsTrue, IfOk, OnOk, OnErr};
+ghost use Rattle.std.specs.Prelude.{◌≡◌, ℕ, ◌+◌, ◌≤◌, ◌<◌, ◌⊎◌, true, false, List, Some, None, Ok, map, length, is_some, string_bytes, IsTrue, IfOk, OnOk, OnErr};
 ghost use Rattle.std.specs.Io.KnownBytes.{Keeps, Appends, IsAtEnd};
 ghost use Rattle.vx_plan.specs.PlanData.{Setting};
 ghost use Rattle.vx_plan.specs.Valid.{Valid};
 ghost use Rattle.vx_sink.specs.Counts.{Counts, IsCalm};
 ghost use Rattle.vx_write.specs.Stream.{Writes, is_built};
 ghost use Rattle.vx_job.specs.JobText.{JobData, job, limit};
+ghost use Rattle.vx_job.specs.TreeText.{tree_job};
 ghost use Rattle.vx_run.specs.declared.status.Status.{Status};
 ghost use Rattle.vx_run.specs.declared.status.Status.TheVariants as statuses;
-ghost use Rattle.vx_run.specs.Answers.{IsText, IsAnswer, SetsNoFaults};
+ghost use Rattle.vx_run.specs.declared.command.Command.{Command};
+ghost use Rattle.vx_run.specs.declared.command.Command.TheVariants as commands;
+ghost use Rattle.vx_run.specs.Answers.{IsText, SetsNoFaults};
+ghost use Rattle.vx_run.specs.Commands.{command_of, Answers};
 ghost use Rattle.vx_run.specs.Failures.{input_failed, output_failed};
-ghost use Rattle.vx_run.specs.Running.{is_write, usage, is_input_fault, is_output_fault, is_usage, Ends, MayFail, Took, HasRead, has_read, Finishes, AppendsFront};
+ghost use Rattle.vx_run.specs.TreeAnswers.{tree_status};
+ghost use Rattle.vx_run.specs.Running.{usage, is_input_fault, is_output_fault, is_usage, Ends, MayFail, Took, HasRead, has_read, Finishes, AppendsFront};
 
-use crate::answer::answer_to;
+use crate::command::{Command, answer_by, command_of};
 use crate::input::{Input, InputFailure};
 use crate::output::{Output, OutputFailure};
 use crate::status::Status;
@@ -22,7 +27,7 @@ use vx_job::LIMIT;
 
 /// Does what the words say with the input and the output, and gives the exit status.
 ///
-/// The one command so far is `write`: it reads a job, writes it, and prints the report. Other words print the usage.
+/// A command is one word: it reads its input to the end and prints its answer. Other words print the usage.
 #[tactic(auto, using(crate::proofs::RunSteps::run_rules))]
 pub fn run<I: Input, O: Output>(
     alloc: Global,
@@ -34,47 +39,62 @@ pub fn run<I: Input, O: Output>(
     ensures output_count { Counts (O.faults output.old) (O.faults output.new) (is_output_fault result) }
     ensures may_input { is_input_fault result ≡ true → MayFail (I.may_fail input.old) }
     ensures may_output { is_output_fault result ≡ true → MayFail (O.may_fail output.old) }
-    ensures ended { is_write (map string_bytes words.now) ≡ true → has_read result ≡ true → IsAtEnd (I.to_come input.new) }
-    ensures judged { is_write (map string_bytes words.now) ≡ true → result ≡ statuses.BadJob
+    ensures ended { is_some (command_of (map string_bytes words.now)) ≡ true → has_read result ≡ true → IsAtEnd (I.to_come input.new) }
+    ensures judged { is_some (command_of (map string_bytes words.now)) ≡ true → result ≡ statuses.BadJob
         → (bytes : List ℕ) × HasRead (I.to_come input.old) (I.to_come input.new) bytes }
     ensures took { Took (I.to_come input.old) (I.to_come input.new) }
-    ensures known { is_write (map string_bytes words.now) ≡ true → is_usage result ≡ false }
-    ensures ran { (bytes : List ℕ) → is_write (map string_bytes words.now) ≡ true → I.to_come input.old ≡ Some bytes
-        → Ends (IsAnswer (job bytes)) (O.written output.old) (O.written output.new) result }
-    ensures used { is_write (map string_bytes words.now) ≡ false
+    ensures known { is_some (command_of (map string_bytes words.now)) ≡ true → is_usage result ≡ false }
+    ensures ran { (command : Command) (bytes : List ℕ) → command_of (map string_bytes words.now) ≡ Some command → I.to_come input.old ≡ Some bytes
+        → Ends (Answers command bytes) (O.written output.old) (O.written output.new) result }
+    ensures used { command_of (map string_bytes words.now) ≡ None
         → Ends (IsText statuses.Usage usage) (O.written output.old) (O.written output.new) result }
-    ensures unread { is_write (map string_bytes words.now) ≡ false → is_input_fault result ≡ false }
-    ensures untaken { is_write (map string_bytes words.now) ≡ false → I.to_come input.new ≡ I.to_come input.old }
-    ensures complete { (bytes : List ℕ) (j : JobData) (s : Setting) (tracker : ℕ) → is_write (map string_bytes words.now) ≡ true
+    ensures unread { command_of (map string_bytes words.now) ≡ None → is_input_fault result ≡ false }
+    ensures untaken { command_of (map string_bytes words.now) ≡ None → I.to_come input.new ≡ I.to_come input.old }
+    ensures complete { (bytes : List ℕ) (j : JobData) (s : Setting) (tracker : ℕ) → command_of (map string_bytes words.now) ≡ Some commands.Write
         → I.to_come input.old ≡ Some bytes → job bytes ≡ Ok j
         → Writes j.options.encodings s → is_built j.strategy j.schema ≡ true → SetsNoFaults j
         → Valid s j.strategy j.schema j.options.marked j.options.next tracker j.batches
         → IsCalm (I.faults input.old) (I.faults input.new) → IsCalm (O.faults output.old) (O.faults output.new)
         → (result ≡ statuses.Done) ⊎ (result ≡ statuses.OutOfMemory) }
+    ensures told { (bytes : List ℕ) → command_of (map string_bytes words.now) ≡ Some commands.Tree → I.to_come input.old ≡ Some bytes
+        → IsCalm (I.faults input.old) (I.faults input.new) → IsCalm (O.faults output.old) (O.faults output.new)
+        → (result ≡ tree_status (tree_job bytes)) ⊎ (result ≡ statuses.OutOfMemory) }
 {
-    if !is_write(words) {
-        return finish(
+    match command_of(words) {
+        Some(command) => run_command(alloc, command, input, output),
+        None => finish(
             output,
             Status::Usage,
             "usage: vx_tool write | gen N | tree\n",
-        );
+        ),
     }
+}
+
+/// Reads the input to its end, and prints the command's answer.
+fn run_command<I: Input, O: Output>(
+    alloc: Global,
+    command: Command,
+    input: &mut I,
+    output: &mut O,
+) -> Status
+    ensures input_count { Counts (I.faults input.old) (I.faults input.new) (is_input_fault result) }
+    ensures output_count { Counts (O.faults output.old) (O.faults output.new) (is_output_fault result) }
+    ensures may_input { is_input_fault result ≡ true → MayFail (I.may_fail input.old) }
+    ensures may_output { is_output_fault result ≡ true → MayFail (O.may_fail output.old) }
+    ensures ended { has_read result ≡ true → IsAtEnd (I.to_come input.new) }
+    ensures judged { result ≡ statuses.BadJob → (bytes : List ℕ) × HasRead (I.to_come input.old) (I.to_come input.new) bytes }
+    ensures took { Took (I.to_come input.old) (I.to_come input.new) }
+    ensures known { is_usage result ≡ false }
+    ensures ran { (bytes : List ℕ) → I.to_come input.old ≡ Some bytes
+        → Ends (Answers command bytes) (O.written output.old) (O.written output.new) result }
+{
     match read_all(alloc, input) {
-        Ok(bytes) => match answer_to(alloc, &bytes) {
+        Ok(bytes) => match answer_by(alloc, command, &bytes) {
             Ok(answer) => finish(output, answer.status, &answer.text),
             Err(_) => Status::OutOfMemory,
         },
         Err(InputFailure::Failed) => Status::InputFault,
         Err(InputFailure::OutOfMemory) => Status::OutOfMemory,
-    }
-}
-
-fn is_write(words: &[String]) -> bool
-    ensures { result ≡ is_write (map string_bytes words.now) }
-{
-    match words {
-        [word] => word.as_str() == "write",
-        [] | [_, _, ..] => false,
     }
 }
 

@@ -19,7 +19,7 @@ ghost use Rattle.vx_write.specs.Stream.{HasCause, MayCome, NotAdmitted, NotWritt
 
 use crate::error::WriteError;
 use std::alloc::Global;
-use vx_kinds::{ChunkedLayout, FlatLayout, Layout, LayoutError};
+use vx_kinds::{ChunkedLayout, FlatLayout, Layout, LayoutError, layout_children};
 use vx_sink::{BatchSource, SegmentSink};
 use vx_types::{ArrayContext, Chunk, DType, encode_segment};
 
@@ -123,7 +123,7 @@ fn gather(dtype: &DType, rows: u64, mut flats: Vec<Layout>) -> Result<Layout, Wr
     if flats.len() == 1 {
         return Ok(flats.pop().unwrap());
     }
-    match ChunkedLayout::new(rows, dtype.clone()?, flats) {
+    match ChunkedLayout::new(rows, dtype.clone()?, layout_children(flats)) {
         Ok(chunked) => Ok(Layout::Chunked(chunked)),
         Err(LayoutError::OutOfMemory) => Err(WriteError::OutOfMemory),
         // The rows add up.

@@ -1,11 +1,11 @@
-use Rattle.std.proofs.Common.{◌≡◌, ◌+◌, ◌-◌, ◌*◌, ◌^◌, ◌≤◌, drop, map}
+use Rattle.std.proofs.Common.{◌≡◌, ◌-◌, ◌*◌, ◌^◌, ◌≤◌, take}
 use Rattle.vx_model.specs.Words.{total_by}
-use Rattle.vx_tree.specs.LayoutTree.{row_count}
-use Rattle.vx_kinds.specs.LayoutView.{lay}
+use Rattle.vx_session.specs.Made.{kid_rows}
+use Rattle.vx_kinds.specs.KidsView.{layout_kids}
 use Rattle.vx_kinds.proofs.total.total_rows.Given as goal
 
-abbrev pub invariant-loop-layout : goal.invariant-loop-layout
-invariant-loop-layout l = record {
-  sum : l.rows + total_by row_count (map lay (drop l.layout-index l.layouts)) ≡ total_by row_count (map lay l.layouts);
-  most : l.rows ≤ l.layout-index * (2 ^ 64 - 1);
+abbrev pub invariant-loop-i : goal.invariant-loop-i
+invariant-loop-i l = record {
+  sum : l.rows ≡ total_by kid_rows (take l.i (layout_kids l.children));
+  most : l.rows ≤ l.i * (2 ^ 64 - 1);
 }

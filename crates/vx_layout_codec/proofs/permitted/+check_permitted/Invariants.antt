@@ -2,7 +2,7 @@ use Rattle.std.proofs.Common.{◌≡◌, drop}
 use Rattle.vx_tree.specs.LayoutTree.{lays_of, children_of}
 use Rattle.vx_kinds.specs.LayoutView.{lay}
 use Rattle.vx_kinds.specs.LayDepth.{depth}
-use Rattle.vx_layout_codec.specs.Permitted.{permitted, all_permitted}
+use Rattle.vx_layout_spelling.specs.Permitted.{permitted, all_permitted}
 use Rattle.vx_layout_codec.proofs.permitted.+check_permitted.Given as goal
 
 abbrev pub decreases-check_permitted : goal.decreases-check_permitted

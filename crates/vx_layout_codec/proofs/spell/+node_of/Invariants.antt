@@ -3,8 +3,8 @@ use Rattle.vx_tree.specs.LayoutTree.{lays_of, children_of}
 use Rattle.vx_layout_bytes.specs.Views.{raw}
 use Rattle.vx_kinds.specs.LayoutView.{lay}
 use Rattle.vx_kinds.specs.LayDepth.{depth}
-use Rattle.vx_layout_codec.specs.Permitted.{built, all_built}
-use Rattle.vx_layout_codec.specs.NodeOf.{nodes_in}
+use Rattle.vx_layout_spelling.specs.Permitted.{built, all_built}
+use Rattle.vx_layout_spelling.specs.NodeOf.{nodes_in}
 use Rattle.vx_layout_codec.proofs.WalkSteps.{onto}
 use Rattle.vx_layout_codec.proofs.spell.+node_of.Given as goal
 

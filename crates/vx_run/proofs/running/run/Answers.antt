@@ -1,26 +1,26 @@
-use Rattle.std.proofs.Common.{ap, subst, sym, ◌∙◌}
-use Rattle.std.specs.Prelude.{string_bytes}
-use Rattle.std.specs.Prelude.{Result}
-use Rattle.vx_job.specs.declared.error.Key.{Key}
-use Rattle.vx_job.specs.JobText.{JobData, job}
-use Rattle.vx_run.specs.Answers.{IsAnswer}
-use Rattle.vx_run.proofs.RunSteps.{read_job_is, ends_so, ends_known, done_or_memory}
+use Rattle.std.proofs.Common.{◌≡◌, subst}
+use Rattle.vx_run.specs.declared.command.Command.{Command}
+use Rattle.vx_run.specs.declared.command.Command.TheVariants.{Write, Tree}
+use Rattle.vx_run.specs.Running.{Ends}
+use Rattle.vx_run.specs.Commands.{Answers}
+use Rattle.vx_run.proofs.RunSteps.{written_or_memory, shown_or_memory}
 use Rattle.vx_run.proofs.running.run.Goals as goal
 
-pub returns-in-Ok-answer_to-clause-ran : goal.returns-in-Ok-answer_to-clause-ran
-returns-in-Ok-answer_to-clause-ran g c bytes is_write told =
-    let same = read_job_is (g.I.Input.to_come c.args.input.now) (g.I.Input.to_come c.read_all.new.input) bytes c.in-Ok.bytes.items told c.in-Ok.ensures.read in
-    let answers = subst (λ (j : Result JobData Key). IsAnswer j c.in-Ok-answer_to.answer.status (string_bytes c.in-Ok-answer_to.answer.text)) (ap job c.deref.ensures.value ∙ sym same) c.in-Ok-answer_to.ensures in
-    ends_so (job bytes) c.in-Ok-answer_to.answer.status (string_bytes c.in-Ok-answer_to.answer.text) _ _ c.finish-in-Ok-answer_to.result answers (rw c.deref-in-Ok-answer_to.ensures at c.finish-in-Ok-answer_to.ensures.wrote)
+pub returns-in-Some-clause-ran : goal.returns-in-Some-clause-ran
+returns-in-Some-clause-ran g c command bytes is told =
+    let same : c.in-Some.command ≡ command = cc (c.in-Some.ensures, is) in
+    subst (λ (k : Command). Ends (Answers k bytes) (g.O.Output.written c.args.output.now) (g.O.Output.written c.run_command.new.output) c.run_command.result) same (c.run_command.ensures.ran bytes told)
 
-pub returns-in-Ok-answer_to-clause-complete : goal.returns-in-Ok-answer_to-clause-complete
-returns-in-Ok-answer_to-clause-complete g c bytes j s tracker is_write told is writes form no_faults valid calm_input calm_output =
-    let same = read_job_is (g.I.Input.to_come c.args.input.now) (g.I.Input.to_come c.read_all.new.input) bytes c.in-Ok.bytes.items told c.in-Ok.ensures.read in
-    let answers = subst (λ (j : Result JobData Key). IsAnswer j c.in-Ok-answer_to.answer.status (string_bytes c.in-Ok-answer_to.answer.text)) (ap job c.deref.ensures.value ∙ sym same) c.in-Ok-answer_to.ensures in
-    done_or_memory (job bytes) j s tracker c.in-Ok-answer_to.answer.status (string_bytes c.in-Ok-answer_to.answer.text) _ _ c.finish-in-Ok-answer_to.result _ _ is writes form no_faults valid answers (rw c.deref-in-Ok-answer_to.ensures at c.finish-in-Ok-answer_to.ensures.wrote) c.finish-in-Ok-answer_to.ensures.count calm_output
+pub returns-in-Some-clause-complete : goal.returns-in-Some-clause-complete
+returns-in-Some-clause-complete g c bytes j s tracker writing told is writes form no_faults valid calm_input calm_output =
+    let same : c.in-Some.command ≡ Write = cc (c.in-Some.ensures, writing) in
+    written_or_memory bytes j s tracker (g.O.Output.written c.args.output.now) (g.O.Output.written c.run_command.new.output) c.run_command.result _ _ _ _ is writes form no_faults valid
+    (subst (λ (k : Command). Ends (Answers k bytes) (g.O.Output.written c.args.output.now) (g.O.Output.written c.run_command.new.output) c.run_command.result) same (c.run_command.ensures.ran bytes told))
+    c.run_command.ensures.input_count calm_input c.run_command.ensures.output_count calm_output
 
-pub returns-in-Ok-answer_to-clause-judged : goal.returns-in-Ok-answer_to-clause-judged
-returns-in-Ok-answer_to-clause-judged g c is_write bad = (c.in-Ok.bytes.items, c.in-Ok.ensures.read)
-
-pub returns-in-Ok-answer_to-clause-known : goal.returns-in-Ok-answer_to-clause-known
-returns-in-Ok-answer_to-clause-known g c is_write = ends_known _ c.in-Ok-answer_to.answer.status (string_bytes c.in-Ok-answer_to.answer.text) _ _ c.finish-in-Ok-answer_to.result c.in-Ok-answer_to.ensures (rw c.deref-in-Ok-answer_to.ensures at c.finish-in-Ok-answer_to.ensures.wrote)
+pub returns-in-Some-clause-told : goal.returns-in-Some-clause-told
+returns-in-Some-clause-told g c bytes showing told calm_input calm_output =
+    let same : c.in-Some.command ≡ Tree = cc (c.in-Some.ensures, showing) in
+    shown_or_memory bytes (g.O.Output.written c.args.output.now) (g.O.Output.written c.run_command.new.output) c.run_command.result _ _ _ _
+    (subst (λ (k : Command). Ends (Answers k bytes) (g.O.Output.written c.args.output.now) (g.O.Output.written c.run_command.new.output) c.run_command.result) same (c.run_command.ensures.ran bytes told))
+    c.run_command.ensures.input_count calm_input c.run_command.ensures.output_count calm_output

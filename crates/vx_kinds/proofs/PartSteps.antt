@@ -1,0 +1,95 @@
+-- Children taken out one by one, and checks of parts.
+use Rattle.std.proofs.Common.{◌≡◌, ◌≢◌, ℕ, zero, suc, ◌+◌, ◌<◌, ◌≤◌, ◌++◌, Bool, true, false, List, [], ◌∷◌, length, get_or, drop, map, Result, Ok, Err, refl, sym, ◌∙◌, ap, arith, length-append}
+use Rattle.std.specs.Prelude.{◌==◌, nat_eq}
+use Rattle.std.proofs.lemmas.List.{length-map}
+use Rattle.std.proofs.lemmas.Bool.Decides.{nat_tests}
+use Rattle.vx_tree.specs.Refusal.{Refusal, child_count, other_rows}
+use Rattle.vx_layout_bytes.specs.declared.node.RawNode.{RawNode}
+use Rattle.vx_layout_bytes.specs.Node.{Node, nodes_of}
+use Rattle.vx_layout_bytes.specs.Values.{depth, depths}
+use Rattle.vx_layout_bytes.specs.Views.{raw}
+use Rattle.vx_session.specs.Scope.{Scope}
+use Rattle.vx_session.specs.Made.{Made, ◌>>=◌, Kid, needs, rows_at, has_children, has_rows, all_have_rows}
+use Rattle.vx_session.specs.Builder.{kids, kid_of, own_of, builder}
+use Rattle.vx_kinds.specs.declared.layout.Layout.{Layout}
+use Rattle.vx_kinds.specs.LayoutView.{lay}
+use Rattle.vx_kinds.specs.KidsView.{owned_kid, owned_kids}
+use Rattle.vx_kinds.proofs.KidSteps.{length-owned, length-kids}
+
+-- ---- from the end
+
+pub last_two : {T : Type 0} (xs ys zs : List T) (a b : T) → length xs ≡ 2 → xs ≡ ys ++ b ∷ [] → ys ≡ zs ++ a ∷ [] → xs ≡ a ∷ b ∷ []
+last_two xs ys [] a b l e f = e ∙ ap (λ r. r ++ b ∷ []) f
+last_two xs ys (z ∷ zs) a b l e f = absurd (omega (arith, l, ap length e, ap length f, length-append ys (b ∷ []), length-append zs (a ∷ [])))
+
+pub last_three : {T : Type 0} (xs ys zs us : List T) (a b c : T) → length xs ≡ 3 → xs ≡ ys ++ c ∷ [] → ys ≡ zs ++ b ∷ [] → zs ≡ us ++ a ∷ [] → xs ≡ a ∷ b ∷ c ∷ []
+last_three xs ys zs us a b c l e f g =
+    let two : length ys ≡ 2 = omega (arith, l, ap length e, length-append ys (c ∷ [])) in
+    e ∙ ap (λ r. r ++ c ∷ []) (last_two ys zs us a b two f g)
+
+pub ruleset pop_rules = (last_two, last_three)
+
+-- ---- two and three
+
+pub owned_two : (ls : List Layout) (a b : Layout) → ls ≡ a ∷ b ∷ [] → owned_kids (map lay ls) ≡ owned_kid (lay a) ∷ owned_kid (lay b) ∷ []
+owned_two ls a b is = rw is refl
+
+pub owned_three : (ls : List Layout) (a b c : Layout) → ls ≡ a ∷ b ∷ c ∷ [] → owned_kids (map lay ls) ≡ owned_kid (lay a) ∷ owned_kid (lay b) ∷ owned_kid (lay c) ∷ []
+owned_three ls a b c is = rw is refl
+
+abbrev node_kid : Scope → RawNode → Kid
+node_kid s n = kid_of s (own_of (raw n)) (builder s (raw n))
+
+pub viewed_two : (s : Scope) (ns : List RawNode) (a b : RawNode) → ns ≡ a ∷ b ∷ [] → kids s (nodes_of (map raw ns)) ≡ kid_of s (own_of (raw a)) (builder s (raw a)) ∷ kid_of s (own_of (raw b)) (builder s (raw b)) ∷ []
+viewed_two s ns a b is = rw is refl
+
+pub viewed_three : (s : Scope) (ns : List RawNode) (a b c : RawNode) → ns ≡ a ∷ b ∷ c ∷ []
+    → kids s (nodes_of (map raw ns)) ≡ kid_of s (own_of (raw a)) (builder s (raw a)) ∷ kid_of s (own_of (raw b)) (builder s (raw b)) ∷ kid_of s (own_of (raw c)) (builder s (raw c)) ∷ []
+viewed_three s ns a b c is = rw is refl
+
+pub deep_of_two : (ns : List RawNode) (a b : RawNode) → ns ≡ a ∷ b ∷ [] → (depth (raw a) ≤ depths (nodes_of (map raw ns))) × (depth (raw b) ≤ depths (nodes_of (map raw ns)))
+deep_of_two ns a b is = rw is (omega arith, omega arith)
+
+pub deep_of_three : (ns : List RawNode) (a b c : RawNode) → ns ≡ a ∷ b ∷ c ∷ []
+    → (depth (raw a) ≤ depths (nodes_of (map raw ns))) × (depth (raw b) ≤ depths (nodes_of (map raw ns))) × (depth (raw c) ≤ depths (nodes_of (map raw ns)))
+deep_of_three ns a b c is = rw is (omega arith, omega arith, omega arith)
+
+other_count : (b : Bool) (has n : ℕ) → ((has == n) ≡ b) → (has ≡ n → ⊥) → (has == n) ≡ false
+other_count true has n e h = absurd (h (grind (arith, nat_tests, e)))
+other_count false has n e h = e
+
+pub miscounted : (ks : List Kid) (has n : ℕ) → has ≡ length ks → (length ks ≡ n → ⊥) → has_children n ks ≡ Err (child_count has n)
+miscounted ks has n e h = rw (other_count (length ks == n) (length ks) n refl h, e) refl
+
+pub ruleset two_rules = (owned_two, viewed_two, deep_of_two, miscounted, length-owned, length-kids, length-map)
+
+pub ruleset three_rules = (owned_three, viewed_three, deep_of_three, miscounted, length-owned, length-kids, length-map)
+
+-- ---- checks
+
+pub counted : (ks : List Kid) (n : ℕ) → length ks ≡ n → has_children n ks ≡ Ok tt
+counted ks n e = go (length ks == n) refl
+  where
+    go : (b : Bool) → (length ks == n) ≡ b → has_children n ks ≡ Ok tt
+    go true is = rw is refl
+    go false is = absurd (grind (arith, nat_tests, is, e))
+
+pub drop_kids : (ks : List Kid) (n i : ℕ) → i < length ks → all_have_rows n (drop i ks) ≡ (has_rows (rows_at ks i) n >>= λ ok. all_have_rows n (drop (i + 1) ks))
+drop_kids [] n i lt = absurd (omega (arith, lt))
+drop_kids (k ∷ ks) n zero lt = refl
+drop_kids (k ∷ ks) n (suc i) lt = let e : suc i + 1 ≡ suc (i + 1) = omega arith in rw e (drop_kids ks n i (omega (arith, lt)))
+
+pub drop_none : (ks : List Kid) (n i : ℕ) → length ks ≤ i → all_have_rows n (drop i ks) ≡ Ok tt
+drop_none [] n zero le = refl
+drop_none [] n (suc i) le = refl
+drop_none (k ∷ ks) n zero le = absurd (omega (arith, le))
+drop_none (k ∷ ks) n (suc i) le = drop_none ks n i (omega (arith, le))
+
+pub ruleset check_rules = (miscounted, counted, drop_kids, drop_none)
+
+pub count_is : (ks : List Kid) (n : ℕ) → has_children n ks ≡ Ok tt → length ks ≡ n
+count_is ks n e = go (length ks == n) refl
+  where
+    go : (b : Bool) → (length ks == n) ≡ b → length ks ≡ n
+    go true is = grind (arith, nat_tests, is)
+    go false is = let h : has_children n ks ≡ Err (child_count (length ks) n) = rw is refl in absurd (cc (h, e))

@@ -1,0 +1,17 @@
+use Rattle.std.proofs.Common.{◌≡◌, refl, sym, ◌∙◌, map}
+use Rattle.vx_model.specs.Words.{total_by}
+use Rattle.vx_tree.specs.LayoutTree.{row_count, layout_type}
+use Rattle.vx_session.specs.Made.{kid_rows}
+use Rattle.vx_kinds.specs.declared.children.LayoutChildren.{LayoutChildren}
+use Rattle.vx_kinds.specs.declared.children.LayoutChildren.TheVariants as children
+use Rattle.vx_kinds.specs.LayoutView.{lay}
+use Rattle.vx_kinds.specs.KidsView.{layout_kids}
+use Rattle.vx_kinds.proofs.KidSteps.{chunk_sum}
+use Rattle.vx_kinds.proofs.OwnSteps.{other_chunks}
+use Rattle.vx_kinds.proofs.chunked.ChunkedLayout.with_children.Goals as goal
+
+pub returns-then-has-needs : goal.returns-then-has-needs
+returns-then-has-needs c =
+    let sum : c.total_rows-has.result ≡ total_by row_count (map lay c.args.children.items) =
+    c.total_rows-has.ensures ∙ rw c.layout_children-children.ensures (sym (chunk_sum (layout_type c.args.self.now) (children.Owned c.args.children))) in
+    other_chunks c.args.self.now (map lay c.args.children.items) c.total_rows-has.result c.self.inside.row_count (rw (← c.self.view_is) refl) sum c.if-has-needs.true

@@ -1,0 +1,71 @@
+-- Children as contracts see them.
+use Rattle.std.specs.Prelude.{ℕ, zero, suc, Bool, true, false, if◌then◌else◌, List, [], ◌∷◌, map, Result, Ok, Err}
+use Rattle.std.specs.Global.{Vec}
+use Rattle.vx_model.specs.Ty.{Ty, ty_eq}
+use Rattle.vx_tree.specs.LayoutTree.{Kind, flat_kind, Lay, layout, layout_kind, layout_type, row_count}
+use Rattle.vx_tree.specs.Refusal.{child_type, slot_range}
+use Rattle.vx_layout_bytes.specs.Node.{nodes_of}
+use Rattle.vx_layout_bytes.specs.Views.{raw}
+use Rattle.vx_session.specs.Views.{scope_of}
+use Rattle.vx_session.specs.Made.{Made, Kid, all_stand, each_stands}
+use Rattle.vx_session.specs.Kinds.{struct_types, validity_type}
+use Rattle.vx_session.specs.Builder.{kids}
+use Rattle.vx_kinds.specs.declared.layout.Layout.{Layout}
+use Rattle.vx_kinds.specs.declared.children.LayoutChildren.{LayoutChildren}
+use Rattle.vx_kinds.specs.declared.children.LayoutChildren.TheVariants as children
+use Rattle.vx_kinds.specs.declared.children.ViewedChildren.{ViewedChildren}
+use Rattle.vx_kinds.specs.LayoutView.{lay}
+use Rattle.vx_kinds.specs.Children.{answered}
+
+abbrev pub is_flat_kind : Kind → Bool
+is_flat_kind (flat_kind encodings tree) = true
+is_flat_kind k = false
+
+-- a layout that is kept stands as it is, and has one type
+abbrev pub owned_kid : Lay ℕ → Kid
+owned_kid l = record {
+  rows = row_count l;
+  is_flat = is_flat_kind (layout_kind l);
+  build = λ t. if ty_eq (layout_type l) t then Ok l else Err (child_type (layout_type l) t);
+  stands = λ t. l;
+}
+
+abbrev pub owned_kids : List (Lay ℕ) → List Kid
+owned_kids [] = []
+owned_kids (l ∷ ls) = owned_kid l ∷ owned_kids ls
+
+abbrev pub viewed_kids : ViewedChildren → List Kid
+viewed_kids v = kids (scope_of v.scope.value) (nodes_of (map raw v.nodes.items))
+
+abbrev pub layout_kids : LayoutChildren → List Kid
+layout_kids (children.Owned v) = owned_kids (map lay v.items)
+layout_kids (children.Viewed v) = viewed_kids v
+
+-- as chunks of one type
+abbrev pub chunks : Ty → LayoutChildren → List (Lay ℕ)
+chunks t (children.Owned v) = map lay v.items
+chunks t (children.Viewed v) = all_stand t (viewed_kids v)
+
+-- as a validity, where the struct type is nullable, and fields
+abbrev pub fields : Ty → LayoutChildren → List (Lay ℕ)
+fields t (children.Owned v) = map lay v.items
+fields t (children.Viewed v) = each_stands (struct_types t) (viewed_kids v)
+
+-- ---- a child that is asked for
+
+-- what building answers: the layout, or why there is none
+abbrev pub built : Made → Made
+built (Ok l) = answered l
+built (Err refusal) = Err refusal
+
+-- the child at the place, at its own type
+abbrev pub answer_at : List Kid → ℕ → Ty → Made
+answer_at [] i t = Err (slot_range i 0)
+answer_at (k ∷ ks) zero t = answered (k.stands t)
+answer_at (k ∷ ks) (suc i) t = answer_at ks i t
+
+-- the type at the place
+abbrev pub type_at : List Ty → ℕ → Ty
+type_at [] i = validity_type
+type_at (t ∷ ts) zero = t
+type_at (t ∷ ts) (suc i) = type_at ts i

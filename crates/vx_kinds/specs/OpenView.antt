@@ -1,0 +1,109 @@
+-- Layouts whose children are still to be built, as contracts see them.
+use Rattle.std.specs.Prelude.{◌≡◌, ◌≤◌, ℕ, ◌+◌, ◌-◌, length, max, false, List, [], ◌∷◌, ◌++◌, Result, Ok, Err, if◌then◌else◌}
+use Rattle.vx_model.specs.Ty.{Ty, nullable}
+use Rattle.vx_model.specs.TyView.{ty}
+use Rattle.vx_tree.specs.LayoutTree.{Lay, layout, list_kind, row_count, lays_of, lays_in}
+use Rattle.vx_kinds.specs.LayoutView.{seen_layout}
+use Rattle.vx_kinds.specs.Made.{validity_count}
+use Rattle.vx_tree.specs.Refusal.{Refusal}
+use Rattle.vx_session.specs.Made.{Made, ◌>>=◌, Kid, child_at, standing_at, has_children, has_rows}
+use Rattle.vx_session.specs.Kinds.{element_type, validity_type}
+use Rattle.vx_kinds.specs.declared.error.LayoutError.{LayoutError}
+use Rattle.vx_kinds.specs.declared.open.RowsRule.{RowsRule}
+use Rattle.vx_kinds.specs.declared.open.RowsRule.TheVariants as rules
+use Rattle.vx_kinds.specs.declared.open.Wanted.{Wanted}
+use Rattle.vx_kinds.specs.declared.open.Frame.{Frame}
+use Rattle.vx_kinds.specs.declared.open.Frame.TheVariants as frames
+use Rattle.vx_kinds.specs.declared.open.Open.{Open}
+use Rattle.vx_kinds.specs.declared.children.LayoutChildren.{LayoutChildren}
+use Rattle.vx_kinds.specs.KidsView.{chunks}
+use Rattle.vx_kinds.specs.PartsView.{one_built, one_depth}
+use Rattle.vx_kinds.specs.Views.{Fails}
+
+abbrev pub Children : Type 0
+Children = Result (List (Lay ℕ)) Refusal
+
+-- ---- rows
+
+abbrev pub rows_ruled : RowsRule → ℕ → Result (Unit {0}) Refusal
+rows_ruled rules.Any n = Ok tt
+rows_ruled (rules.Same rows) n = has_rows n rows
+rows_ruled (rules.OneMore rows) n = has_rows (n - 1) rows
+
+-- ---- two children, and three
+
+abbrev pub pair_kids : List Kid → Ty → Ty → RowsRule → Children
+pair_kids ks t u rule = do
+  count ← has_children 2 ks
+  a ← child_at ks 0 t
+  b ← child_at ks 1 u
+  rows ← rows_ruled rule (row_count b)
+  Ok (a ∷ b ∷ [])
+
+abbrev pub triple_kids : List Kid → Ty → Ty → ℕ → Children
+triple_kids ks t u n = do
+  count ← has_children 3 ks
+  a ← child_at ks 0 t
+  b ← child_at ks 1 u
+  rows ← has_rows (row_count b - 1) n
+  c ← child_at ks 2 validity_type
+  same ← has_rows (row_count c) n
+  Ok (a ∷ b ∷ c ∷ [])
+
+-- elements, ends of the integers, and validity where the type is nullable
+abbrev pub list_kids : List Kid → Ty → Ty → ℕ → Children
+list_kids ks t ends n =
+    if nullable t then triple_kids ks (element_type t) ends n else pair_kids ks (element_type t) ends (rules.OneMore n)
+
+-- the column, and a table of no aggregates as it stands
+abbrev pub column_kids : List Kid → Ty → Ty → Children
+column_kids ks t u = child_at ks 0 t >>= λ a. Ok (a ∷ standing_at ks 1 u)
+
+-- ---- children that are to be built
+
+abbrev pub with_rows : RowsRule → Lay ℕ → Made
+with_rows rule l = rows_ruled rule (row_count l) >>= λ ok. Ok l
+
+abbrev pub wanted_built : Wanted → Made
+wanted_built w = one_built w.child (ty w.dtype) >>= with_rows w.rows
+
+abbrev pub all_built : List Wanted → Children
+all_built [] = Ok []
+all_built (w ∷ ws) = wanted_built w >>= λ l. all_built ws >>= λ ls. Ok (l ∷ ls)
+
+-- the built ones, and others that stand behind them
+abbrev pub column_made : List Wanted → Ty → LayoutChildren → Children
+column_made ws t zones = all_built ws >>= λ ls. Ok (ls ++ chunks t zones)
+
+abbrev pub wanted_depths : List Wanted → ℕ
+wanted_depths [] = 0
+wanted_depths (w ∷ ws) = max (one_depth w.child) (wanted_depths ws)
+
+-- ---- layouts without them
+
+abbrev pub in_front : List (Lay ℕ) → Lay ℕ → Lay ℕ
+in_front ls (layout k t n names ms) = layout k t n names (lays_of (ls ++ lays_in ms))
+
+abbrev pub frame_lay : Frame → Lay ℕ
+frame_lay (frames.List h) = seen_layout list_kind h.dtype h.row_count h.segment_ids []
+frame_lay (frames.Dict d) = d
+frame_lay (frames.Zoned z) = z
+frame_lay (frames.LegacyStats s) = s
+
+abbrev pub framed : Frame → List (Lay ℕ) → Lay ℕ
+framed f ls = in_front ls (frame_lay f)
+
+abbrev pub open_made : Open → Made
+open_made o = all_built o.wanted.items >>= λ ls. Ok (framed o.frame ls)
+
+-- so many children are a list's of the type
+abbrev pub fits : Frame → ℕ → Type 0
+fits (frames.List h) n = n ≡ 2 + validity_count (ty h.dtype)
+fits (frames.Dict d) n = Unit {0}
+fits (frames.Zoned z) n = Unit {0}
+fits (frames.LegacyStats s) n = Unit {0}
+
+-- What is opened is what is made, and its children are no deeper than the nodes.
+abbrev pub Opens : Result Open LayoutError → Made → ℕ → Type 0
+Opens (Ok o) made deep = (made ≡ open_made o) × (wanted_depths o.wanted.items ≤ deep) × fits o.frame (length o.wanted.items)
+Opens (Err e) made deep = Fails e made

@@ -1,0 +1,27 @@
+-- What a parser answers is spelled as its bytes.
+use Rattle.std.proofs.Common.{◌≡◌, ℕ, ◌^◌, Bool, true, false, List, length, Result, Ok, Err}
+use Rattle.std.specs.Prelude.{◌&&◌, not, nat_lt, IfOk, IsTrue}
+use Rattle.vx_model.specs.Ty.{Ty}
+use Rattle.vx_session.specs.Ids.{are_distinct, is_context}
+use Rattle.vx_session.specs.Scope.{Scope}
+use Rattle.vx_kinds.specs.Views.{Gives}
+use Rattle.vx_kinds.specs.LayoutView.{lay}
+use Rattle.vx_kinds.specs.declared.layout.Layout.{Layout}
+use Rattle.vx_kinds.specs.declared.error.LayoutError.{LayoutError}
+use Rattle.vx_layout_spelling.specs.Permitted.{built}
+use Rattle.vx_layout_spelling.specs.Bytes.{bytes_in}
+use Rattle.vx_layout_spelling.specs.Parsed.{parsed}
+use Rattle.vx_layout_spelling.specs.Again.{AreBytes}
+use Rattle.vx_layout_spelling.proofs.SpelledAgain.{the_law}
+
+distinct_of : (ids : List (List ℕ)) → IsTrue (is_context ids) → are_distinct ids ≡ true
+distinct_of ids h = both (not (nat_lt (2 ^ 16) (length ids))) (are_distinct ids) h
+  where
+    both : (a b : Bool) → IsTrue (a && b) → b ≡ true
+    both true b h = h
+    both false b h = absurd (cc h)
+
+pub answer_again : (s : Scope) (t : Ty) (deep nodes : ℕ) (bytes : List ℕ) (r : Result Layout LayoutError) → IsTrue (is_context s.ids) → AreBytes bytes → Gives lay r (parsed s t deep nodes bytes)
+    → IfOk r (λ l. built (lay l) ≡ Ok tt → bytes_in s.ids (lay l) ≡ Ok bytes)
+answer_again s t deep nodes bytes (Ok l) d fits h = λ b. the_law s t deep nodes bytes (lay l) (distinct_of s.ids d) fits h b
+answer_again s t deep nodes bytes (Err e) d fits h = tt

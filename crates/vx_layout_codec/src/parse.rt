@@ -1,0 +1,89 @@
+//! Reading a layout from bytes.
+
+ghost use Rattle.std.specs.Prelude.{◌≡◌, ◌≤◌, false, Ok, IfOk};
+ghost use Rattle.vx_model.specs.TyView.{ty};
+ghost use Rattle.vx_layout_bytes.specs.Views.{raw};
+ghost use Rattle.vx_session.specs.Views.{scope_in, scope_of};
+ghost use Rattle.vx_kinds.specs.LayoutView.{lay};
+ghost use Rattle.vx_kinds.specs.Views.{Gives};
+ghost use Rattle.vx_layout_spelling.specs.Permitted.{built};
+ghost use Rattle.vx_layout_spelling.specs.Bytes.{bytes_in};
+ghost use Rattle.vx_layout_spelling.specs.Parsed.{node_within, parsed};
+
+use std::alloc::Global;
+use std::rc::Rc;
+use vx_kinds::{Layout, LayoutError, build_node};
+use vx_layout_bytes::{GrammarError, Limits, RawNode, read_nodes};
+use vx_model::{ArrayContext, DType};
+use vx_session::{LayoutContext, Scope, Session};
+
+/// As `layout_from_flatbuffer_with_options`, where every id must be registered.
+pub fn layout_from_flatbuffer(
+    alloc: Global,
+    bytes: &[u8],
+    dtype: &DType,
+    layout_ctx: &LayoutContext,
+    ctx: &ArrayContext,
+    session: &Session,
+    limits: Limits,
+) -> Result<Layout, LayoutError>
+    requires { limits.depth ≤ 1024 }
+    ensures again { IfOk result (λ l. built (lay l) ≡ Ok tt → bytes_in layout_ctx.now (lay l) ≡ Ok bytes.now) }
+    ensures exact { Gives lay result (parsed (scope_in layout_ctx.now ctx.now session.now false) (ty dtype.now) limits.depth limits.nodes bytes.now) }
+{
+    layout_from_flatbuffer_with_options(
+        alloc, bytes, dtype, layout_ctx, ctx, session, limits, false,
+    )
+}
+
+/// The layout of the type that the bytes spell. Nothing is built before all of them are read. Where `allow_unknown`, a
+/// node whose id isn't registered is kept as it is found, with all below it.
+pub fn layout_from_flatbuffer_with_options(
+    alloc: Global,
+    bytes: &[u8],
+    dtype: &DType,
+    layout_ctx: &LayoutContext,
+    ctx: &ArrayContext,
+    session: &Session,
+    limits: Limits,
+    allow_unknown: bool,
+) -> Result<Layout, LayoutError>
+    requires { limits.depth ≤ 1024 }
+    // A layout of which each node can be built is spelled as these bytes.
+    ensures again { IfOk result (λ l. built (lay l) ≡ Ok tt → bytes_in layout_ctx.now (lay l) ≡ Ok bytes.now) }
+    ensures exact { Gives lay result (parsed (scope_in layout_ctx.now ctx.now session.now allow_unknown) (ty dtype.now) limits.depth limits.nodes bytes.now) }
+{
+    layout_ctx.ids();
+    let scope = Scope::new(layout_ctx, ctx, session, allow_unknown)?;
+    read_in(alloc, bytes, dtype, scope, limits)
+}
+
+/// The layout of the type that the bytes spell in the scope.
+fn read_in(
+    alloc: Global,
+    bytes: &[u8],
+    dtype: &DType,
+    scope: Scope,
+    limits: Limits,
+) -> Result<Layout, LayoutError>
+    requires { limits.depth ≤ 1024 }
+    ensures { Gives lay result (parsed (scope_of scope) (ty dtype.now) limits.depth limits.nodes bytes.now) }
+{
+    let node = read_within(alloc, bytes, limits)?;
+    let scope = Rc::new(alloc, scope)?;
+    build_node(alloc, &scope, dtype, node)
+}
+
+/// The node that all of the bytes are.
+fn read_within(alloc: Global, bytes: &[u8], limits: Limits) -> Result<RawNode, LayoutError>
+    requires { limits.depth ≤ 1024 }
+    ensures { Gives raw result (node_within limits.depth limits.nodes bytes.now) }
+{
+    match read_nodes(alloc, bytes, limits) {
+        Ok(node) => Ok(node),
+        Err(GrammarError::Grammar(place)) => Err(LayoutError::Grammar(place)),
+        Err(GrammarError::TooDeep(place)) => Err(LayoutError::TooDeep(place)),
+        Err(GrammarError::TooManyNodes(place)) => Err(LayoutError::TooManyNodes(place)),
+        Err(GrammarError::OutOfMemory) => Err(LayoutError::OutOfMemory),
+    }
+}

@@ -1,0 +1,2 @@
+pub mod SpelledAgain
+pub mod ParsedBack

@@ -1,0 +1,99 @@
+-- A small zoned layout, written and read again, computed. The codec here spells each cell by a zero.
+use Rattle.std.proofs.Common.{◌≡◌, ℕ, true, false, List, [], ◌∷◌, map, Some, None, Ok, refl, arith}
+use Rattle.std.specs.Prelude.{codes, pos}
+use Rattle.std.specs.Char.{encode_utf8}
+use Rattle.std.specs.Str.{chars, is_utf8}
+use Rattle.vx_model.specs.declared.ptype.PType.TheVariants.{I32}
+use Rattle.vx_model.specs.declared.encoding.EncodingId.TheVariants.{Plain}
+use Rattle.vx_model.specs.Ty.{primitive}
+use Rattle.vx_model.specs.Tree.{int_cell}
+use Rattle.vx_model.specs.Piece.{Piece, plain_piece, cells}
+use Rattle.vx_tree.specs.LayoutTree.{Lay}
+use Rattle.vx_record.specs.Aggregate.{Aggregate, maximum, minimum, bounded_maximum, bounded_minimum, null_count, sum, bloom, aggregate_id}
+use Rattle.vx_cells.specs.Reading as fields
+use Rattle.vx_cells.specs.Reading.{front_at}
+use Rattle.vx_metadata.specs.Reading.{count_at, string_at, name_at, spec_at, zoned_body}
+use Rattle.vx_layout_bytes.specs.Spelled.{spelling}
+use Rattle.vx_layout_bytes.specs.Reading.{many_at, numbered_at, segments_at, own_at, many_nodes, none_at, node_with, root_at}
+use Rattle.vx_session.specs.declared.encoding.LayoutEncoding.{LayoutEncoding}
+use Rattle.vx_session.specs.declared.encoding.LayoutEncoding.TheVariants as kinds
+use Rattle.vx_session.specs.Encodings.{all_encodings}
+use Rattle.vx_session.specs.Ids.{is_listed}
+use Rattle.vx_session.specs.Scope.{Scope}
+use Rattle.vx_session.specs.Kinds.{read_spec, build_flat, build_chunked, build_zoned}
+use Rattle.vx_layout_spelling.specs.Sound.{Knows}
+use Rattle.vx_layout_spelling.specs.NodeOf.{node_in}
+use Rattle.vx_layout_spelling.specs.Parsed.{parsed}
+use Rattle.vx_plan.specs.PlanData.{Setting}
+use Rattle.vx_plan.specs.Way.{FlatOptions, ZonedOptions, flat, chunked, zoned}
+use Rattle.vx_plan.specs.SourcePlan.{source_plan}
+use Rattle.vx_plan.specs.Number.{numbered}
+use Rattle.vx_written.specs.Knowing.{KnowsSetting, FewAggregates}
+
+setting : Setting
+setting = record {
+  codec = record {
+    encode = λ es padding p. Some (map (λ c. 0) (cells p));
+    tree_part = λ es padding p. [];
+    refused = λ es p. None;
+    decode = λ es t b. None;
+  };
+  encodings = Plain ∷ [];
+  allowed = None;
+  image = λ which p. p;
+  hash = λ b. 0;
+}
+
+scope : Scope
+scope = record {
+  ids = codes "vortex.flat" ∷ codes "vortex.zoned" ∷ codes "vortex.chunked" ∷ [];
+  registered = all_encodings;
+  context = record { encodings = Plain ∷ []; aggregates = map aggregate_id (maximum ∷ minimum ∷ bounded_maximum 1 ∷ bounded_minimum 1 ∷ null_count ∷ sum ∷ bloom 1 ∷ []); allow_unknown = false };
+  allow_unknown = false;
+}
+
+plain : FlatOptions
+plain = record { padding = false; inline = false }
+
+zones_of_2 : ZonedOptions
+zones_of_2 = record { zone_len = 2; aggregates = None; concurrency = 1 }
+
+-- of two rows and of one
+batches : List Piece
+batches = plain_piece (primitive I32 false) (int_cell (pos 1) ∷ int_cell (pos 2) ∷ []) ∷ plain_piece (primitive I32 false) (int_cell (pos 3) ∷ []) ∷ []
+
+abbrev written : Lay ℕ
+written = numbered (source_plan setting (zoned zones_of_2 (chunked (flat plain)) (flat plain)) (primitive I32 false) false batches true) 7
+
+kind_known : (kind : LayoutEncoding) → Knows scope kind
+unfolding scope
+kind_known kinds.Flat = refl
+kind_known kinds.Chunked = refl
+kind_known kinds.Struct = refl
+kind_known kinds.List = refl
+kind_known kinds.Dict = refl
+kind_known kinds.Zoned = refl
+kind_known kinds.LegacyStats = refl
+
+aggregate_known : (a : Aggregate) → is_listed (aggregate_id a) scope.context.aggregates ≡ true
+unfolding scope
+aggregate_known maximum = refl
+aggregate_known minimum = refl
+aggregate_known (bounded_maximum n) = refl
+aggregate_known (bounded_minimum n) = refl
+aggregate_known null_count = refl
+aggregate_known sum = refl
+aggregate_known (bloom n) = refl
+
+-- the scope knows what the setting writes with
+setting_known : KnowsSetting scope setting
+unfolding scope setting
+setting_known = record { kinds = kind_known; encodings = refl; aggregates = λ a h. aggregate_known a }
+
+few : FewAggregates written
+unfolding setting plain zones_of_2 batches
+few = (omega arith, ((tt, ((tt, tt), ((tt, tt), tt))), ((tt, tt), tt)))
+
+again : parsed scope (primitive I32 false) 3 5 (spelling (node_in scope.ids written)) ≡ Ok written
+unfolding scope setting plain zones_of_2 batches is_utf8 chars encode_utf8 front_at fields.many_at count_at string_at name_at spec_at zoned_body many_at numbered_at segments_at own_at many_nodes none_at node_with root_at read_spec build_flat build_chunked build_zoned
+again = refl

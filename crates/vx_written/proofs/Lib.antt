@@ -1,0 +1,7 @@
+pub mod Layouts
+pub mod Streams
+pub mod TableSpecs
+pub mod NodeLayouts
+pub mod ColumnLayouts
+pub mod WrittenLaws
+mod Examples
