@@ -113,15 +113,20 @@ impl Session {
 
 /// The part of a session that is of layouts.
 pub trait LayoutSessionExt {
-    fn layouts(&self) -> &LayoutSession;
+    ghost use Rattle.std.specs.Prelude.{◌≡◌, List};
+    ghost use Rattle.vx_session.specs.declared.encoding.LayoutEncoding.{LayoutEncoding};
+
+    // The kinds that are registered, in their order.
+    ghost kinds: { Self → List LayoutEncoding };
+
+    fn layouts(&self) -> &LayoutSession
+        ensures { result.now ≡ kinds self.now };
 }
 
 impl LayoutSessionExt for Session {
-    ghost use Rattle.std.specs.Prelude.{◌≡◌};
+    ghost kinds = { λ s. s.layouts };
 
-    fn layouts(&self) -> &LayoutSession
-        ensures { result.now ≡ self.now.layouts }
-    {
+    fn layouts(&self) -> &LayoutSession {
         &self.layouts
     }
 }
