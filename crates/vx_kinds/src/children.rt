@@ -32,6 +32,17 @@ pub struct ViewedChildren {
     pub(crate) nodes: Vec<RawNode>,
 }
 
+impl ViewedChildren {
+    ghost use Rattle.std.specs.Prelude.{◌≡◌};
+
+    /// Nodes that bytes spell, and what they are built in. Takes no memory.
+    pub fn new(scope: Rc<Scope>, nodes: Vec<RawNode>) -> ViewedChildren
+        ensures { result ≡ record { scope = scope; nodes = nodes } }
+    {
+        ViewedChildren { scope, nodes }
+    }
+}
+
 /// Children that are kept.
 pub fn layout_children(children: Vec<Layout>) -> LayoutChildren
     ensures { result ≡ children_variants.Owned children }

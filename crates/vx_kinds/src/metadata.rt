@@ -85,7 +85,7 @@ fn second_integers(children: &[Layout]) -> (PType, bool)
 
 /// The integers of the type; U64 where it has none.
 #[tactic(auto, using(vx_model::proofs::Views::view_rules))]
-fn integers_in(dtype: &DType) -> PType
+pub(crate) fn integers_in(dtype: &DType) -> PType
     ensures { result ≡ integers_of (ty dtype.now) }
 {
     match dtype {

@@ -23,6 +23,7 @@ use crate::flat::FlatLayout;
 use crate::foreign::ForeignLayout;
 use crate::layout::Layout;
 use crate::list::ListLayout;
+use crate::metadata::integers_in;
 use crate::rebuilt::same_segments;
 use crate::slots::fields_in;
 use crate::stats::LegacyStatsLayout;
@@ -157,18 +158,6 @@ impl ListLayout {
                 &self.dtype,
             DType::Struct(..) | DType::Extension(_) => &self.dtype,
         }
-    }
-}
-
-/// The integers of the type; U64 where it has none.
-#[tactic(auto, using(vx_model::proofs::Views::view_rules))]
-fn integers_in(dtype: &DType) -> PType
-    ensures { result ≡ integers_of (ty dtype.now) }
-{
-    match dtype {
-        DType::Primitive(ptype, _) => *ptype,
-        DType::Bool(_) | DType::Utf8(_) | DType::Binary(_) => PType::U64,
-        DType::List(..) | DType::Struct(..) | DType::Extension(_) => PType::U64,
     }
 }
 

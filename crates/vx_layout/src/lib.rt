@@ -11,9 +11,9 @@ pub use vx_kinds::{
     ELEMENTS_CHILD_INDEX, FlatLayout, ForeignLayout, Layout, LayoutChild, LayoutChildType,
     LayoutChildren, LayoutDeserializeArgs, LayoutEncodingExt, LayoutError, LayoutKind, LayoutParts,
     LegacyStatsLayout, ListLayout, NUM_CHILDREN_NON_NULLABLE, OFFSETS_CHILD_INDEX, SegmentList,
-    StructLayout, VALIDITY_CHILD_INDEX, ZonedLayout, layout_children,
+    StructLayout, VALIDITY_CHILD_INDEX, ViewedChildren, ZonedLayout, layout_children,
 };
-pub use vx_layout_bytes::Limits;
+pub use vx_layout_bytes::{GrammarError, Limits, RawNode, read_nodes};
 pub use vx_layout_codec::{
     layout_bytes, layout_from_flatbuffer, layout_from_flatbuffer_with_options,
 };
