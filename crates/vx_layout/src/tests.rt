@@ -3,6 +3,7 @@
 ghost use Rattle.std.specs.Prelude.{◌≡◌, ◌∷◌, [], length, IfOk};
 ghost use Rattle.vx_aggregate.specs.declared.stat.Stat.TheVariants as stats;
 
+mod nodes;
 mod own;
 mod parts;
 mod walks;

@@ -123,6 +123,24 @@ fn kinds(rt: HostRuntime) -> Result<(), Fail> {
     Ok(())
 }
 
+/// The id of a layout that is taken as one of the kind.
+fn taken_as(layout: &Layout, kind: LayoutKind) -> &str {
+    if layout.is(kind) {
+        layout.as_(kind).encoding_id()
+    } else {
+        ""
+    }
+}
+
+#[test]
+fn taken_as_kinds(rt: HostRuntime) -> Result<(), Fail> {
+    let alloc = rt.alloc();
+    let layout = chunked(alloc)?;
+    assert_eq!(rt; taken_as(&layout, LayoutKind::Chunked), "vortex.chunked");
+    assert_eq!(rt; taken_as(&layout, LayoutKind::Flat), "");
+    Ok(())
+}
+
 /// A copy of children that are kept: how many, the rows of the first, whether they may be split.
 fn copied_children(alloc: Global) -> Result<String, Fail> {
     let children = layout_children(one(alloc, flat(alloc, 7, integers())?)?);
