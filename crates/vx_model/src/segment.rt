@@ -1,6 +1,7 @@
 ghost use Rattle.std.specs.Prelude.{◌≡◌, ◌<◌, ◌≤◌, ◌^◌, ℕ, IfErr, MatchResult};
 
 use std::convert::TryFrom;
+use std::default::Default;
 use std::fmt;
 use std::ops::Deref;
 use thiserror::Error;
@@ -13,6 +14,14 @@ pub struct SegmentId(pub u32);
 #[derive(Debug, Drop, Error)]
 #[error("{0} is no segment number")]
 pub struct IdTooLarge(pub usize);
+
+impl Default for SegmentId {
+    ghost is_default = { λ id. id.0 ≡ 0 };
+
+    fn default() -> SegmentId {
+        SegmentId(0)
+    }
+}
 
 impl From<u32> for SegmentId {
     ghost from_gives = { λ n id. id.0 ≡ n };
