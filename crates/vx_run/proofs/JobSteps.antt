@@ -1,30 +1,32 @@
 -- What is shown of a job that was written, and of one that was refused.
-use Rattle.std.proofs.Common.{◌≡◌, ℕ, ◌+◌, ◌-◌, ◌≤◌, ◌<◌, ◌^◌, ◌&&◌, nat_lt, max, not, Bool, true, false, List, [], ◌∷◌, ◌++◌, length, Option, Some, None, refl, sym, ap, subst, ◌∙◌, arith, inl, inr}
+use Rattle.std.proofs.Common.{◌≡◌, ℕ, suc, ◌+◌, ◌-◌, ◌≤◌, ◌<◌, ◌^◌, ◌&&◌, nat_lt, max, not, Bool, true, false, List, [], ◌∷◌, ◌++◌, length, Option, Some, None, refl, sym, ap, subst, ◌∙◌, arith, inl, inr}
 use Rattle.std.proofs.lemmas.List.{append_cancel_right}
 use Rattle.vx_chunk.specs.ChunkView.{piece}
 use Rattle.std.specs.Prelude.{map, option_map, IsTrue, ◌⊎◌}
 use Rattle.vx_model.specs.declared.encoding.EncodingId.{EncodingId}
 use Rattle.vx_model.specs.Ty.{Ty}
 use Rattle.vx_model.specs.Piece.{Piece}
+use Rattle.vx_encode.specs.Segment.{encode, refused, bytes_unless, segment_bytes}
 use Rattle.vx_path.specs.Path.{Eof, inside, next}
 use Rattle.vx_tree.specs.LayoutTree.{Lay, lays_of, gathered, renamed, each_renamed}
 use Rattle.vx_tree.specs.Rows.{rows, all_there}
 use Rattle.vx_segment.specs.Codec.{segment_codec}
-use Rattle.vx_plan.specs.PlanData.{Setting, Plan, Item, row_total}
+use Rattle.vx_plan.specs.PlanData.{Setting, Plan, Fault, Item, row_total}
 use Rattle.vx_plan.specs.Way.{Way, FlatOptions, flat, chunked}
 use Rattle.vx_plan.specs.ChunkedNode.{whole, chunk_plans, chunked_numbers, all_layouts}
-use Rattle.vx_plan.specs.FlatNode.{flat_node}
+use Rattle.vx_plan.specs.FlatNode.{flat_node, refused_at}
 use Rattle.vx_plan.specs.SourcePlan.{source_plan, taken_plan, source_values, of_schema, batch_items, root_eof, with_root}
 use Rattle.vx_plan.specs.Number.{segments, numbered, number_of, segment_at}
-use Rattle.vx_plan.specs.InOrder.{batch_rows}
+use Rattle.vx_plan.specs.InOrder.{InOrder, ChunksInOrder, batch_rows, batch_segments, batch_refusals}
 use Rattle.vx_plan.specs.Valid.{Fit, Valid}
 use Rattle.vx_sink.specs.Counts.{Counts, IsCalm}
 use Rattle.vx_sink.specs.Fails.{fails_at}
 use Rattle.vx_sink.specs.Told.{before_told, then_told}
-use Rattle.vx_write.specs.Stream.{Writes, HasCause, MayCome, TookLast, TookRows, Stands, is_built}
+use Rattle.vx_write.specs.Stream.{Writes, HasCause, MayCome, BehindBatch, TookLast, TookRows, NeedsNumber, WasValid, Stands, is_built}
 use Rattle.vx_write.specs.Causes.{is_source_fault, is_sink_fault, is_unbuilt}
 use Rattle.vx_write.specs.declared.error.WriteError.{WriteError}
 use Rattle.vx_write.specs.declared.error.WriteError.TheVariants as errors
+use Rattle.vx_write.proofs.Steps.{none_more}
 use Rattle.vx_write.proofs.Bridge.{built}
 use Rattle.vx_job.specs.JobParts.{FailingCalls}
 use Rattle.vx_job.specs.JobText.{JobData}
@@ -32,7 +34,7 @@ use Rattle.vx_report.specs.Report.{report, refused_report}
 use Rattle.vx_report.specs.ZoneText.{ZoneTable, zone_tables, tables_below}
 use Rattle.vx_run.specs.declared.status.Status.{Status}
 use Rattle.vx_run.specs.declared.status.Status.TheVariants.{Done, Refused}
-use Rattle.vx_run.specs.Answers.{job_plan, table_rows, IsWritten, IsReport, refusal_name, is_memory, IsLast, RefusedFor, Begins, IsRefused, Halts, JobAnswer, IsText}
+use Rattle.vx_run.specs.Answers.{job_plan, table_rows, NoneFails, IsWritten, IsReport, refusal_name, is_memory, IsLast, NumberPasses, RowsPass, RefusedFor, batches_given, Begins, IsRefused, Halts, JobAnswer, IsText}
 
 -- a setting that writes these encodings
 abbrev pub plain_setting : List EncodingId → Setting
@@ -83,6 +85,53 @@ no_tables s w t m xs first h =
     subst (λ (v : Way). zone_tables (numbered (source_plan s v t m xs true) first) ≡ []) (sym b.chunks)
     (no_tables_in s b.options t m (row_total (batch_items 0 xs)) (batch_items 0 xs) root_eof (number_of (source_plan s (chunked (flat b.options)) t m xs true).pairs first))
 
+-- ---- and a segment a batch
+
+none_at : (path : List ℕ) (r : Option EncodingId) (rest : List Fault) → refused_at path r ++ rest ≡ [] → (r ≡ None) × (rest ≡ [])
+none_at path None rest e = (refl, e)
+none_at path (Some id) rest e = absurd cc
+
+encoded : (ids : List EncodingId) (s : Setting) → Writes ids s → (padding : Bool) (p : Piece) → s.codec.refused s.encodings p ≡ None → (bytes : List ℕ) × (s.codec.encode s.encodings padding p ≡ Some bytes)
+encoded ids s w padding p none =
+    let refused_is : s.codec.refused s.encodings p ≡ refused ids p = rw (w.refuses, w.listed) refl in
+    let encode_is : s.codec.encode s.encodings padding p ≡ encode ids padding p = rw (w.encodes, w.listed) refl in
+    (segment_bytes ids padding p, encode_is ∙ ap (λ (r : Option EncodingId). bytes_unless r (segment_bytes ids padding p)) (sym refused_is ∙ none))
+
+batch_count : (ids : List EncodingId) (s : Setting) → Writes ids s → (o : FlatOptions) (i : ℕ) (xs : List Piece) → batch_refusals s i xs ≡ [] → length (batch_segments s o xs) ≡ length xs
+batch_count ids s w o i [] none = refl
+batch_count ids s w o i (p ∷ ps) none =
+    let split = none_at (0 ∷ i ∷ []) (s.codec.refused s.encodings p) (batch_refusals s (suc i) ps) none in
+    let bytes = encoded ids s w o.padding p split.0 in
+    rw (bytes.1, batch_count ids s w o (suc i) ps split.1) refl
+
+segment_count : ChunksInOrder → (ids : List EncodingId) (s : Setting) → Writes ids s → (w : Way) (t : Ty) (xs : List Piece) → is_built w t ≡ true → (source_plan s w t false xs true).faults ≡ []
+    → length (segments (source_plan s w t false xs true)) ≡ length xs
+segment_count law ids s writes w t xs form none =
+    let b = built w t form in
+    let io : InOrder s b.options w t false xs true = subst (λ (v : Way). InOrder s b.options v t false xs true) (sym b.chunks) (law s b.options (flat b.options) t false xs true refl) in
+    ap length io.segments ∙ batch_count ids s writes b.options 0 xs (sym io.faults ∙ none)
+
+-- ---- calls that pass are none that the job lets fail
+
+-- the calls of the source and the sink that must fail are those that the job lets fail
+pub record Forced (j : JobData) (source sink : ℕ → Type 0) : Type 0 where
+  pub of_source : (k : ℕ) → IsTrue (fails_at j.options.faults.source k) → source k
+  pub of_sink : (k : ℕ) → IsTrue (fails_at j.options.faults.sink k) → sink k
+
+none_fails : (j : JobData) (source sink : ℕ → Type 0) (asked appended : ℕ) → Forced j source sink → ((k : ℕ) → k < asked → ¬ (source k)) → ((k : ℕ) → k < appended → ¬ (sink k)) → NoneFails j asked appended
+none_fails j source sink asked appended forced no_source no_sink = record {
+  source = λ k less listed. no_source k less (forced.of_source k listed);
+  sink = λ k less listed. no_sink k less (forced.of_sink k listed);
+}
+
+-- and the one behind the last, where the refusal came behind a batch
+given_passed : (e : WriteError) (stand : ℕ) (must : ℕ → Type 0) → ((k : ℕ) → k < stand → ¬ (must k)) → BehindBatch (must stand) e → (k : ℕ) → k < batches_given e stand → ¬ (must k)
+given_passed (errors.BatchType b) stand must passed behind = none_more must stand passed behind
+given_passed (errors.ForbiddenEncoding id) stand must passed behind = none_more must stand passed behind
+given_passed (errors.TooLarge n) stand must passed behind = none_more must stand passed behind
+given_passed errors.SinkFault stand must passed behind = none_more must stand passed behind
+given_passed e stand must passed behind = passed
+
 -- ---- what a write of a job starts from
 
 pub record Start (j : JobData) (ids : List EncodingId) (t : Ty) (first : ℕ) (came : Option (List Piece)) (old : Option (List (List ℕ))) : Type 0 where
@@ -110,17 +159,26 @@ is_true false h = absurd (h refl)
 
 -- ---- a job that was written
 
-written_so : (j : JobData) {now : ℕ} {old new : Option (List (List ℕ))} {l : Lay ℕ} {stored : List (List ℕ)} → old ≡ Some [] → new ≡ Some stored → is_built j.strategy j.schema ≡ true
+-- No call that must fail is among those of a write that came to its end, where the next number rose from the first.
+pub record Passed (first now : ℕ) (source sink : ℕ → Type 0) : Type 0 where
+  pub batches : (k : ℕ) → k < now - first → ¬ (source k)
+  pub ended : ¬ (source (now - first))
+  pub appends : (k : ℕ) → k < now - first → ¬ (sink k)
+
+written_so : (j : JobData) {now : ℕ} {old new : Option (List (List ℕ))} {l : Lay ℕ} {stored : List (List ℕ)} {source sink : ℕ → Type 0} → old ≡ Some [] → new ≡ Some stored → is_built j.strategy j.schema ≡ true
     → ((s : Setting) → Writes j.options.encodings s → l ≡ numbered (source_plan s j.strategy j.schema false j.batches true) j.options.next)
     → ((s : Setting) → Writes j.options.encodings s → new ≡ then_told old (segments (source_plan s j.strategy j.schema false j.batches true)))
     → ((s : Setting) → Writes j.options.encodings s → now ≡ j.options.next + length (segments (source_plan s j.strategy j.schema false j.batches true)))
     → ((s : Setting) → Writes j.options.encodings s → rows segment_codec (segment_at j.options.next (segments (source_plan s j.strategy j.schema false j.batches true))) l ≡ Some (source_values j.batches))
-    → now ≤ max j.options.next (2 ^ 32) → IsWritten j l stored
-written_so j {now} {old} {new} {l} {stored} none told form laid appended numbers back last =
+    → now ≤ max j.options.next (2 ^ 32) → length (segments (source_plan (plain_setting j.options.encodings) j.strategy j.schema false j.batches true)) ≡ length j.batches
+    → Forced j source sink → Passed j.options.next now source sink → IsWritten j l stored
+written_so j {now} {old} {new} {l} {stored} {source} {sink} none told form laid appended numbers back last each forced passed =
     let plain : Setting = plain_setting j.options.encodings in
     let writes : Writes j.options.encodings plain = writes_all j.options.encodings in
     let same : (s : Setting) → source_plan s j.strategy j.schema false j.batches true ≡ job_plan s j = λ s. sym (same_marked s j.strategy j.schema j.options.marked j.batches true form) in
     let all : stored ≡ segments (source_plan plain j.strategy j.schema false j.batches true) = told_all none told (appended plain writes) in
+    let count : length stored ≡ length j.batches = ap length all ∙ each in
+    let reached : now ≡ j.options.next + length stored = numbers plain writes ∙ ap (λ (bs : List (List ℕ)). j.options.next + length bs) (sym all) in
     record {
       form = form;
       laid = λ s w. laid s w ∙ ap (λ (p : Plan). numbered p j.options.next) (same s);
@@ -128,22 +186,32 @@ written_so j {now} {old} {new} {l} {stored} none told form laid appended numbers
       read = ap (λ (bs : List (List ℕ)). rows segment_codec (segment_at j.options.next bs) l) all ∙ back plain writes;
       numbers = fitting j.options.next now stored (segments (source_plan plain j.strategy j.schema false j.batches true)) all (numbers plain writes) last;
       no_tables = ap zone_tables (laid plain writes) ∙ no_tables plain j.strategy j.schema false j.batches j.options.next form;
+      calls = none_fails j source sink (length j.batches + 1) (length stored) forced
+          (λ k less. none_more source (now - j.options.next) passed.batches passed.ended k (omega (arith, less, count, reached)))
+          (λ k less. passed.appends k (omega (arith, less, reached)));
     }
 
-pub all_written : (j : JobData) {ids : List EncodingId} {t : Ty} {first now : ℕ} {came : Option (List Piece)} {old new : Option (List (List ℕ))} {l : Lay ℕ} {stored : List (List ℕ)}
+pub all_written : (j : JobData) {ids : List EncodingId} {t : Ty} {first now : ℕ} {came : Option (List Piece)} {old new : Option (List (List ℕ))} {l : Lay ℕ} {stored : List (List ℕ)} (source sink : ℕ → Type 0)
     → Start j ids t first came old → new ≡ Some stored → (is_built j.strategy t ≡ false → ⊥)
     → ((s : Setting) (xs : List Piece) → Writes ids s → came ≡ Some xs → l ≡ numbered (source_plan s j.strategy t false xs true) first)
     → ((s : Setting) (xs : List Piece) → Writes ids s → came ≡ Some xs → new ≡ then_told old (segments (source_plan s j.strategy t false xs true)))
     → ((s : Setting) (xs : List Piece) → Writes ids s → came ≡ Some xs → now ≡ first + length (segments (source_plan s j.strategy t false xs true)))
     → ((s : Setting) (xs : List Piece) → Writes ids s → came ≡ Some xs → rows segment_codec (segment_at first (segments (source_plan s j.strategy t false xs true))) l ≡ Some (source_values xs))
-    → now ≤ max first (2 ^ 32) → IsWritten j l stored
-all_written j {t = t} start told unbuilt laid appended numbers back last =
-    written_so j start.none told (is_true (is_built j.strategy j.schema) (λ f. unbuilt (ap (is_built j.strategy) start.schema ∙ f)))
+    → now ≤ max first (2 ^ 32)
+    → ((s : Setting) (xs : List Piece) → Writes ids s → came ≡ Some xs → WasValid s j.strategy t first xs)
+    → ChunksInOrder → Forced j source sink → Passed first now source sink → IsWritten j l stored
+all_written j {t = t} {first = first} {now = now} source sink start told unbuilt laid appended numbers back last valid law forced passed =
+    let form : is_built j.strategy j.schema ≡ true = is_true (is_built j.strategy j.schema) (λ f. unbuilt (ap (is_built j.strategy) start.schema ∙ f)) in
+    let plain : Setting = plain_setting j.options.encodings in
+    let came_valid : WasValid plain j.strategy j.schema first j.batches = rw start.schema at (valid plain j.batches (rw start.listed (writes_all j.options.encodings)) start.batches) in
+    written_so j start.none told form
     (λ s w. rw (start.schema, start.numbers) at (laid s j.batches (rw start.listed w) start.batches))
     (λ s w. rw start.schema at (appended s j.batches (rw start.listed w) start.batches))
     (λ s w. rw (start.schema, start.numbers) at (numbers s j.batches (rw start.listed w) start.batches))
     (λ s w. rw (start.schema, start.numbers) at (back s j.batches (rw start.listed w) start.batches))
     (rw start.numbers at last)
+    (segment_count law j.options.encodings plain (writes_all j.options.encodings) j.strategy j.schema j.batches form came_valid.faultless)
+    forced (subst (λ (n : ℕ). Passed n now source sink) start.numbers passed)
 
 report_so : (s : Setting) (j : JobData) {l : Lay ℕ} {stored : List (List ℕ)} {text : List ℕ} → IsWritten j l stored → Writes j.options.encodings s
     → text ≡ report j.options.next l stored [] (source_values j.batches) → IsReport s j text
@@ -163,7 +231,11 @@ pub report_answers : (j : JobData) {l : Lay ℕ} {stored : List (List ℕ)} {sta
 report_answers j {l} {stored} {status} {text} w h =
     let printed : Some text ≡ Some (report j.options.next l stored [] (source_values j.batches)) = h.1 ∙ ap (option_map (report j.options.next l stored [])) w.read in
     let text_is : text ≡ report j.options.next l stored [] (source_values j.batches) = cc in
-    subst (λ (st : Status). JobAnswer j st text) (sym h.0) (w.form, λ s writes. report_so s j w writes text_is)
+    subst (λ (st : Status). JobAnswer j st text) (sym h.0) (record {
+      form = w.form;
+      calls = λ s writes. subst (λ (bs : List (List ℕ)). NoneFails j (length j.batches + 1) (length bs)) (w.appended s writes) w.calls;
+      told = λ s writes. report_so s j w writes text_is;
+    })
 
 -- ---- a job that was refused
 
@@ -202,14 +274,29 @@ built_is true false h k = refl
 built_is false true h k = refl
 built_is false false h k = absurd (never_both false (h refl) refl)
 
-last_is : (taken : List Piece) (a c : Option (List Piece)) (xs : List Piece) {b : Piece} → a ≡ Some xs → a ≡ before_told taken c → TookLast a c b → IsLast taken b
-last_is taken a c xs {b} is came last = record { front = last.front; is = same_taken taken (last.front ++ b ∷ []) a c xs is came last.came }
+last_is : (j : JobData) (taken : List Piece) (a c : Option (List Piece)) {b : Piece} → a ≡ Some j.batches → a ≡ before_told taken c → TookLast j.schema j.options.encodings a c b → IsLast j taken b
+last_is j taken a c {b} is came last = record { front = last.front; is = same_taken taken (last.front ++ b ∷ []) a c j.batches is came last.came; written = last.written }
+
+number_for : (j : JobData) (taken : List Piece) (stand n now : ℕ) (a c : Option (List Piece)) → a ≡ Some j.batches → a ≡ before_told taken c → now ≡ j.options.next + stand
+    → NeedsNumber j.schema j.options.encodings now a c n → NumberPasses j taken stand n
+number_for j taken stand n now a c is came count h = record {
+  batch = h.batch;
+  last = last_is j taken a c is came h.last;
+  typed = h.typed;
+  allowed = h.listed;
+  number = h.number ∙ count;
+  large = h.large;
+}
+
+rows_for : (j : JobData) (taken : List Piece) (n : ℕ) (a c : Option (List Piece)) → a ≡ Some j.batches → a ≡ before_told taken c → TookRows j.schema j.options.encodings a c n → RowsPass j taken n
+rows_for j taken n a c is came h =
+    let last : IsLast j taken h.batch = last_is j taken a c is came h.last in
+    record { batch = h.batch; last = last; typed = h.typed; rows = h.rows ∙ ap batch_rows (sym last.is); large = h.large }
 
 large_for : (j : JobData) (taken : List Piece) (stand n now : ℕ) (a c : Option (List Piece)) → a ≡ Some j.batches → a ≡ before_told taken c → now ≡ j.options.next + stand
-    → ((n ≡ now) × (2 ^ 32 ≤ n)) ⊎ TookRows a c n → RefusedFor j taken stand (errors.TooLarge n)
-large_for j taken stand n now a c is came count (inl h) = inl (h.0 ∙ count, h.1)
-large_for j taken stand n now a c is came count (inr h) =
-    inr (h.rows ∙ ap batch_rows (same_taken h.taken taken a c j.batches is h.came came), h.large)
+    → NeedsNumber j.schema j.options.encodings now a c n ⊎ TookRows j.schema j.options.encodings a c n → RefusedFor j taken stand (errors.TooLarge n)
+large_for j taken stand n now a c is came count (inl h) = inl (number_for j taken stand n now a c is came count h)
+large_for j taken stand n now a c is came count (inr h) = inr (rows_for j taken n a c is came h)
 
 cause_for : (e : WriteError) (j : JobData) (taken : List Piece) (stand now : ℕ) {unbuilt : Type 0} (a c : Option (List Piece)) {source sink : Type 0}
     → a ≡ Some j.batches → a ≡ before_told taken c → now ≡ j.options.next + stand → is_memory e ≡ false
@@ -218,14 +305,14 @@ cause_for : (e : WriteError) (j : JobData) (taken : List Piece) (stand now : ℕ
 cause_for errors.SourceFault j taken stand now a c is came count memory of_source of_sink unasked cause may = of_source may
 cause_for errors.SinkFault j taken stand now a c is came count memory of_source of_sink unasked cause may = of_sink may
 cause_for errors.CompressFault j taken stand now a c is came count memory of_source of_sink unasked cause may = absurd cause
-cause_for (errors.BatchType b) j taken stand now a c is came count memory of_source of_sink unasked cause may = (cause.0, last_is taken a c j.batches is came cause.1)
+cause_for (errors.BatchType b) j taken stand now a c is came count memory of_source of_sink unasked cause may = (cause.0, last_is j taken a c is came cause.1)
 cause_for errors.NotStruct j taken stand now a c is came count memory of_source of_sink unasked cause may = absurd cause
 cause_for (errors.DuplicateField name) j taken stand now a c is came count memory of_source of_sink unasked cause may = absurd cause
 cause_for errors.ManyChunks j taken stand now a c is came count memory of_source of_sink unasked cause may = absurd cause
 cause_for errors.EmptyList j taken stand now a c is came count memory of_source of_sink unasked cause may = absurd cause
 cause_for (errors.ZoneCut n) j taken stand now a c is came count memory of_source of_sink unasked cause may = absurd cause
 cause_for (errors.ForbiddenAggregate id) j taken stand now a c is came count memory of_source of_sink unasked cause may = absurd cause
-cause_for (errors.ForbiddenEncoding id) j taken stand now a c is came count memory of_source of_sink unasked cause may = (cause.0, cause.1, last_is taken a c j.batches is came cause.2)
+cause_for (errors.ForbiddenEncoding id) j taken stand now a c is came count memory of_source of_sink unasked cause may = record { batch = cause.batch; last = last_is j taken a c is came cause.last; typed = cause.typed; first = cause.first }
 cause_for (errors.TooLarge n) j taken stand now a c is came count memory of_source of_sink unasked cause may = large_for j taken stand n now a c is came count cause
 cause_for errors.OutOfMemory j taken stand now a c is came count memory of_source of_sink unasked cause may = absurd (let f : true ≡ false = memory in cc)
 cause_for errors.Unbuilt j taken stand now a c is came count memory of_source of_sink unasked cause may = unasked cause
@@ -259,16 +346,23 @@ never_listed list k none h = by_test (nat_lt k (2 ^ 64 - 1)) (rw none at h)
     by_test true h = let f : false ≡ true = h in cc
     by_test false h = let f : false ≡ true = h in cc
 
-refused_so : (j : JobData) (e : WriteError) {stood : List (List ℕ)} {now : ℕ} {a c : Option (List Piece)} {old new : Option (List (List ℕ))} (source sink : ℕ → Type 0)
+-- No call that must fail is among those of a write before it was refused.
+pub record PassedBefore (first now : ℕ) (source sink : ℕ → Type 0) (e : WriteError) : Type 0 where
+  pub batches : (k : ℕ) → k < now - first → ¬ (source k)
+  pub behind : BehindBatch (source (now - first)) e
+  pub appends : (k : ℕ) → k < now - first → ¬ (sink k)
+
+refused_so : (j : JobData) (e : WriteError) {stood : List (List ℕ)} {now : ℕ} {a c : Option (List Piece)} {old new : Option (List (List ℕ))} (source sink must_source must_sink : ℕ → Type 0)
     → a ≡ Some j.batches → old ≡ Some [] → new ≡ Some stood → is_memory e ≡ false
     → ((k : ℕ) → source k → IsTrue (fails_at j.options.faults.source k)) → ((k : ℕ) → sink k → IsTrue (fails_at j.options.faults.sink k))
     → ((s : Setting) → Writes j.options.encodings s → Stands (λ taken. taken_plan s j.strategy j.schema false taken false) j.options.next now a c old new)
     → HasCause j.schema j.options.encodings (is_built j.strategy j.schema ≡ false) now a c e → MayCome (source (now - j.options.next)) (sink (now - j.options.next)) e
+    → Forced j must_source must_sink → PassedBefore j.options.next now must_source must_sink e
     → (is_built j.strategy j.schema ≡ false → is_unbuilt e ≡ true) → (is_built j.strategy j.schema ≡ false → c ≡ a) → (is_built j.strategy j.schema ≡ false → now ≡ j.options.next)
     → ((s : Setting) (tracker : ℕ) → Writes j.options.encodings s → is_built j.strategy j.schema ≡ true → Valid s j.strategy j.schema false j.options.next tracker j.batches
     → is_source_fault e ≡ false → is_sink_fault e ≡ false → e ≡ errors.OutOfMemory)
     → IsRefused j e stood
-refused_so j e {stood} {now} {a} {c} {old} {new} source sink is none told memory of_source of_sink stands cause may unbuilt unasked unsunk complete =
+refused_so j e {stood} {now} {a} {c} {old} {new} source sink must_source must_sink is none told memory of_source of_sink stands cause may forced refuses unbuilt unasked unsunk complete =
     let h : Stands (λ taken. taken_plan (plain_setting j.options.encodings) j.strategy j.schema false taken false) j.options.next now a c old new = stands (plain_setting j.options.encodings) (writes_all j.options.encodings) in
     let parts = told_parts h.taken a c j.batches h.came is in
     let stand : stood ≡ h.appended = told_all none told h.stands in
@@ -289,6 +383,9 @@ refused_so j e {stood} {now} {a} {c} {old} {new} source sink is none told memory
       cause = cause_for e j h.taken (length stood) now a c is h.came count memory
           (λ m. of_source (length stood) (subst source calls m)) (λ m. of_sink (length stood) (subst sink calls m))
           (λ f. (none_taken h.taken a c j.batches is h.came (unasked f), none_stand f)) cause may;
+      calls = subst (λ (n : ℕ). NoneFails j (batches_given e n) n) calls
+          (none_fails j must_source must_sink (batches_given e (now - j.options.next)) (now - j.options.next) forced
+          (given_passed e (now - j.options.next) must_source refuses.batches refuses.behind) refuses.appends);
       built = built_is (is_built j.strategy j.schema) (is_unbuilt e) unbuilt (unbuilt_cause e j.schema j.options.encodings now a c cause);
       not_valid = λ s tracker writes form no_faults valid.
           no_call (complete s tracker writes form (unmarked s j.strategy j.schema j.options.marked j.options.next tracker j.batches form valid)
@@ -306,22 +403,24 @@ pub record Failing (j : JobData) (e : WriteError) (source sink : ℕ → Type 0)
   pub sink_count : Counts sink_before sink_now (is_sink_fault e)
 
 pub write_halts : (j : JobData) (e : WriteError) {ids : List EncodingId} {t : Ty} {first now : ℕ} {a c : Option (List Piece)} {old new : Option (List (List ℕ))} {stood : List (List ℕ)}
-    (source sink : ℕ → Type 0) {source_before source_now sink_before sink_now : ℕ}
+    (source sink must_source must_sink : ℕ → Type 0) {source_before source_now sink_before sink_now : ℕ}
     → Start j ids t first a old → Failing j e source sink source_before source_now sink_before sink_now → new ≡ Some stood
     → ((s : Setting) → Writes ids s → Stands (λ taken. taken_plan s j.strategy t false taken false) first now a c old new)
     → HasCause t ids (is_built j.strategy t ≡ false) now a c e → MayCome (source (now - first)) (sink (now - first)) e
+    → Forced j must_source must_sink → PassedBefore first now must_source must_sink e
     → (is_built j.strategy t ≡ false → is_unbuilt e ≡ true) → (is_built j.strategy t ≡ false → c ≡ a) → (is_built j.strategy t ≡ false → now ≡ first)
     → ((s : Setting) (tracker : ℕ) (xs : List Piece) → Writes ids s → a ≡ Some xs → is_built j.strategy t ≡ true → Valid s j.strategy t false first tracker xs
     → IsCalm source_before source_now → IsCalm sink_before sink_now → e ≡ errors.OutOfMemory)
     → now ≤ max first (2 ^ 32) → Halts j e stood
-write_halts j e {t = t} {first = first} {now = now} {a = a} {c = c} {old = old} {new = new} {stood = stood} source sink start failing told stands cause may unbuilt unasked unsunk complete last =
+write_halts j e {t = t} {first = first} {now = now} {a = a} {c = c} {old = old} {new = new} {stood = stood} source sink must_source must_sink start failing told stands cause may forced refuses unbuilt unasked unsunk complete last =
     let h = stands (plain_setting j.options.encodings) (rw start.listed (writes_all j.options.encodings)) in
     let back : is_built j.strategy j.schema ≡ is_built j.strategy t = ap (is_built j.strategy) (sym start.schema) in
     record {
       numbers = rw start.numbers at (fitting first now stood h.appended (told_all start.none told h.stands) h.numbers last);
-      refused = λ memory. refused_so j e source sink start.batches start.none told memory failing.of_source failing.of_sink
+      refused = λ memory. refused_so j e source sink must_source must_sink start.batches start.none told memory failing.of_source failing.of_sink
           (λ s w. rw (start.schema, start.numbers) at (stands s (rw start.listed w)))
           (rw (start.schema, start.listed) at cause) (rw start.numbers at may)
+          forced (subst (λ (n : ℕ). PassedBefore n now must_source must_sink e) start.numbers refuses)
           (λ f. unbuilt (sym back ∙ f)) (λ f. unasked (sym back ∙ f)) (λ f. unsunk (sym back ∙ f) ∙ start.numbers)
           (λ s tracker w form valid no_source no_sink. complete s tracker j.batches (rw start.listed w) start.batches (sym back ∙ form) (rw (start.schema, start.numbers) valid)
           (calm _ _ _ no_source failing.source_none failing.source_count) (calm _ _ _ no_sink failing.sink_none failing.sink_count));

@@ -204,14 +204,18 @@ at_end bytes at le = nil_from_length (drop at bytes) (omega (arith, length-drop 
 
 -- ---- what was taken from the input
 
-pub took_none : (a : Option (List ℕ)) → Took a a
-took_none a = record { bytes = []; consumed = consumes_none a; short = lit≤ tt }
+pub took_none : (most : ℕ) (a : Option (List ℕ)) → Took most a a
+took_none most a = record { bytes = []; consumed = consumes_none a; short = omega arith }
 
-pub took_read : (a b : Option (List ℕ)) (bytes : List ℕ) → HasRead a b bytes → Took a b
+pub took_read : (a b : Option (List ℕ)) (bytes : List ℕ) → HasRead a b bytes → Took (limit + 1) a b
 took_read a b bytes h = record { bytes = bytes; consumed = h.consumed; short = h.short }
 
-pub took_so_far : (a b : Option (List ℕ)) (bytes : List ℕ) → Consumes a b bytes → length bytes ≤ limit + 1 → Took a b
+pub took_so_far : (a b : Option (List ℕ)) (bytes : List ℕ) → Consumes a b bytes → length bytes ≤ limit → Took limit a b
 took_so_far a b bytes consumed short = record { bytes = bytes; consumed = consumed; short = short }
+
+-- a byte more than was taken may have been
+pub took_less : (a b : Option (List ℕ)) → Took limit a b → Took (limit + 1) a b
+took_less a b h = record { bytes = h.bytes; consumed = h.consumed; short = omega (arith, h.short) }
 
 consumes_kept : (a b c : Option (List ℕ)) (bytes : List ℕ) → Consumes a b bytes → Keeps b c → Consumes a c bytes
 consumes_kept None b c bytes h k = tt
@@ -220,13 +224,13 @@ consumes_kept (Some xs) (Some ys) None bytes h k = absurd k
 consumes_kept (Some xs) (Some ys) (Some zs) bytes h k = h ∙ ap (λ (r : List ℕ). bytes ++ r) (sym k)
 
 -- and a read that failed
-pub took_kept : (a b c : Option (List ℕ)) (bytes : List ℕ) → Consumes a b bytes → Keeps b c → length bytes ≤ limit + 1 → Took a c
+pub took_kept : (a b c : Option (List ℕ)) (bytes : List ℕ) → Consumes a b bytes → Keeps b c → length bytes ≤ limit → Took limit a c
 took_kept a b c bytes consumed kept short = record { bytes = bytes; consumed = consumes_kept a b c bytes consumed kept; short = short }
 
 pub ruleset read_rules = (append_assoc, append-nil, took_so_far, took_kept)
 
 pub ruleset write_rules = (append_assoc, append-nil, take_then)
 
-pub ruleset run_rules = (append-nil, took_none, took_read)
+pub ruleset run_rules = (append-nil, took_none, took_read, took_less)
 
 pub ruleset text_rules = (append_assoc)

@@ -1,5 +1,6 @@
 -- Which text belongs to which status.
-use Rattle.std.specs.Prelude.{◌≡◌, ℕ, ◌+◌, ◌++◌, ◌^◌, ◌≤◌, ◌⊎◌, max, Bool, true, false, not, List, [], ◌∷◌, length, codes, Option, Some, IsTrue, Result, Ok, Err}
+use Rattle.std.specs.Prelude.{◌≡◌, ℕ, ◌+◌, ◌++◌, ◌^◌, ◌≤◌, ◌<◌, ◌⊎◌, max, Bool, true, false, not, List, [], ◌∷◌, length, codes, Option, Some, None, IsTrue, Result, Ok, Err}
+use Rattle.vx_model.specs.declared.encoding.EncodingId.{EncodingId}
 use Rattle.vx_model.specs.Piece.{Piece, piece_type}
 use Rattle.vx_chunk.specs.ChunkView.{piece}
 use Rattle.vx_encode.specs.Segment.{refused}
@@ -15,6 +16,7 @@ use Rattle.vx_plan.specs.Valid.{Valid}
 use Rattle.vx_sink.specs.Fails.{fails_at}
 use Rattle.vx_write.specs.Stream.{Writes, is_built}
 use Rattle.vx_write.specs.Causes.{is_unbuilt}
+use Rattle.vx_write.specs.InOrder.{AllWritten}
 use Rattle.vx_write.specs.declared.error.WriteError.{WriteError}
 use Rattle.vx_write.specs.declared.error.WriteError.TheVariants as errors
 use Rattle.vx_job.specs.declared.error.Key.{Key}
@@ -37,6 +39,11 @@ abbrev pub table_rows : (ℕ → Option (List ℕ)) → List ZoneTable → List 
 table_rows look [] = []
 table_rows look (z ∷ zs) = rows segment_codec look z.rows ∷ table_rows look zs
 
+-- The job lets none of these calls fail: so many first ones of the source, and so many first ones of the sink.
+pub record NoneFails (j : JobData) (asked appended : ℕ) : Type 0 where
+  pub source : (k : ℕ) → k < asked → ¬ (IsTrue (fails_at j.options.faults.source k))
+  pub sink : (k : ℕ) → k < appended → ¬ (IsTrue (fails_at j.options.faults.sink k))
+
 -- A write of the job's batches came to its end: the layout and the segments are those of the job's plan, numbered from
 -- the job's first number, and they give the batches' rows.
 pub record IsWritten (j : JobData) (l : Lay ℕ) (stored : List (List ℕ)) : Type 0 where
@@ -46,6 +53,8 @@ pub record IsWritten (j : JobData) (l : Lay ℕ) (stored : List (List ℕ)) : Ty
   pub read : rows segment_codec (segment_at j.options.next stored) l ≡ Some (source_values j.batches)
   pub numbers : j.options.next + length stored ≤ max j.options.next (2 ^ 32)
   pub no_tables : zone_tables l ≡ []
+  -- the source was asked for each batch and for the end, and the sink for each segment
+  pub calls : NoneFails j (length j.batches + 1) (length stored)
 
 -- The report of the plan of the job's batches, numbered from the job's first number. The rows and the zone tables that
 -- it shows are those that the layout gives from the segments, and the rows are the batches' rows.
@@ -54,6 +63,12 @@ pub record IsReport (s : Setting) (j : JobData) (text : List ℕ) : Type 0 where
   pub tables : List (List Val)
   pub tables_read : all_there (table_rows (segment_at j.options.next (segments (job_plan s j))) (zone_tables (numbered (job_plan s j) j.options.next))) ≡ Some tables
   pub shown : text ≡ report j.options.next (numbered (job_plan s j) j.options.next) (segments (job_plan s j)) tables (source_values j.batches)
+
+-- The job is written and told: its form is built, and none of the calls for it fails.
+pub record IsDone (j : JobData) (text : List ℕ) : Type 0 where
+  pub form : is_built j.strategy j.schema ≡ true
+  pub calls : (s : Setting) → Writes j.options.encodings s → NoneFails j (length j.batches + 1) (length (segments (job_plan s j)))
+  pub told : (s : Setting) → Writes j.options.encodings s → IsReport s j text
 
 -- ---- a job whose write is refused
 
@@ -78,19 +93,44 @@ abbrev pub is_memory : WriteError → Bool
 is_memory errors.OutOfMemory = true
 is_memory e = false
 
--- this is the last of the batches taken
-pub record IsLast (taken : List Piece) (b : Piece) : Type 0 where
+-- This is the last of the batches taken. Those before it are of the schema and can be encoded.
+pub record IsLast (j : JobData) (taken : List Piece) (b : Piece) : Type 0 where
   pub front : List Piece
   pub is : taken ≡ front ++ b ∷ []
+  pub written : AllWritten j.options.encodings j.schema front
+
+-- the last batch taken is of the schema, and this is its first encoding outside the job's list
+pub record Forbids (j : JobData) (taken : List Piece) (id : EncodingId) : Type 0 where
+  pub batch : Piece
+  pub last : IsLast j taken batch
+  pub typed : piece_type batch ≡ j.schema
+  pub first : refused j.options.encodings batch ≡ Some id
+
+-- the last batch taken is of the schema and can be encoded, and its segment's number passes 32 bits
+pub record NumberPasses (j : JobData) (taken : List Piece) (stand n : ℕ) : Type 0 where
+  pub batch : Piece
+  pub last : IsLast j taken batch
+  pub typed : piece_type batch ≡ j.schema
+  pub allowed : refused j.options.encodings batch ≡ None
+  pub number : n ≡ j.options.next + stand
+  pub large : 2 ^ 32 ≤ n
+
+-- the batches taken are of the schema, and their rows pass 64 bits
+pub record RowsPass (j : JobData) (taken : List Piece) (n : ℕ) : Type 0 where
+  pub batch : Piece
+  pub last : IsLast j taken batch
+  pub typed : piece_type batch ≡ j.schema
+  pub rows : n ≡ batch_rows taken
+  pub large : 2 ^ 64 ≤ n
 
 -- Why a job is refused, where these batches were taken and so many segments stand. Of a source and a sink the call
 -- behind so many segments is one that the job lets fail.
 abbrev pub RefusedFor : JobData → List Piece → ℕ → WriteError → Type 0
 RefusedFor j taken stand errors.SourceFault = IsTrue (fails_at j.options.faults.source stand)
 RefusedFor j taken stand errors.SinkFault = IsTrue (fails_at j.options.faults.sink stand)
-RefusedFor j taken stand (errors.BatchType c) = (¬ (piece_type (piece c) ≡ j.schema)) × IsLast taken (piece c)
-RefusedFor j taken stand (errors.ForbiddenEncoding id) = (b : Piece) × (refused j.options.encodings b ≡ Some id) × IsLast taken b
-RefusedFor j taken stand (errors.TooLarge n) = ((n ≡ j.options.next + stand) × (2 ^ 32 ≤ n)) ⊎ ((n ≡ batch_rows taken) × (2 ^ 64 ≤ n))
+RefusedFor j taken stand (errors.BatchType c) = (¬ (piece_type (piece c) ≡ j.schema)) × IsLast j taken (piece c)
+RefusedFor j taken stand (errors.ForbiddenEncoding id) = Forbids j taken id
+RefusedFor j taken stand (errors.TooLarge n) = NumberPasses j taken stand n ⊎ RowsPass j taken n
 RefusedFor j taken stand errors.Unbuilt = (taken ≡ []) × (stand ≡ 0)
 RefusedFor j taken stand errors.CompressFault = ⊥
 RefusedFor j taken stand errors.NotStruct = ⊥
@@ -100,6 +140,15 @@ RefusedFor j taken stand errors.EmptyList = ⊥
 RefusedFor j taken stand (errors.ZoneCut n) = ⊥
 RefusedFor j taken stand (errors.ForbiddenAggregate id) = ⊥
 RefusedFor j taken stand errors.OutOfMemory = ⊥
+
+-- How often the source gave a batch before the refusal, where so many segments stand: once for each, and once more where
+-- the refusal came behind a batch.
+abbrev pub batches_given : WriteError → ℕ → ℕ
+batches_given (errors.BatchType c) stand = stand + 1
+batches_given (errors.ForbiddenEncoding id) stand = stand + 1
+batches_given (errors.TooLarge n) stand = stand + 1
+batches_given errors.SinkFault stand = stand + 1
+batches_given e stand = stand
 
 -- the job lets no call fail
 abbrev pub SetsNoFaults : JobData → Type 0
@@ -118,6 +167,8 @@ pub record IsRefused (j : JobData) (error : WriteError) (stand : List (List ℕ)
   pub parts : j.batches ≡ taken ++ later
   pub prefix : (s : Setting) → Writes j.options.encodings s → Begins stand (segments (taken_plan s j.strategy j.schema j.options.marked taken false))
   pub cause : RefusedFor j taken (length stand) error
+  -- the calls before the refusal: those that gave a batch, and those that took a segment
+  pub calls : NoneFails j (batches_given error (length stand)) (length stand)
   -- a form that isn't built is refused as that and as nothing else
   pub built : is_built j.strategy j.schema ≡ not (is_unbuilt error)
   pub not_valid : (s : Setting) (tracker : ℕ) → Writes j.options.encodings s → is_built j.strategy j.schema ≡ true → SetsNoFaults j
@@ -139,7 +190,7 @@ pub record IsRefusal (j : JobData) (text : List ℕ) : Type 0 where
 
 -- what is printed of a job, for each setting that writes its encodings
 abbrev pub JobAnswer : JobData → Status → List ℕ → Type 0
-JobAnswer j Done text = (is_built j.strategy j.schema ≡ true) × ((s : Setting) → Writes j.options.encodings s → IsReport s j text)
+JobAnswer j Done text = IsDone j text
 JobAnswer j Refused text = IsRefusal j text
 JobAnswer j Usage text = ⊥
 JobAnswer j BadJob text = ⊥

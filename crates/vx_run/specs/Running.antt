@@ -54,11 +54,11 @@ pub record HasRead (before now : Option (List ℕ)) (bytes : List ℕ) : Type 0 
 abbrev pub MayFail : (ℕ → Type 0) → Type 0
 MayFail may = (k : ℕ) × may k
 
--- What was taken from the input: at most one byte past the limit.
-pub record Took (before now : Option (List ℕ)) : Type 0 where
+-- What was taken from the input: at most so many bytes.
+pub record Took (most : ℕ) (before now : Option (List ℕ)) : Type 0 where
   pub bytes : List ℕ
   pub consumed : Consumes before now bytes
-  pub short : length bytes ≤ limit + 1
+  pub short : length bytes ≤ most
 
 -- whether a status of a command says that the input was read
 abbrev pub has_read : Status → Bool

@@ -72,6 +72,7 @@ fn write_batches(alloc: Global, job: Job) -> Result<(Layout, MemorySink), (Write
     ensures err { IfErr result (λ r. (stored : List (List ℕ)) → ⟦<MemorySink as SegmentSink>⟧.segments r.1 ≡ Some stored
         → Halts (job_view job) r.0 stored) }
 {
+    vx_plan::chunks_stand_in_order();
     let mut ctx = LayoutWriterContext::new(job.encodings);
     let faults = job.faults;
     let mut source = ListSource::new(job.schema, job.batches, faults.source);

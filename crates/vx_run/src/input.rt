@@ -27,6 +27,9 @@ pub trait Input {
     /// Whether the call after so many others may fail.
     ghost may_fail: { Self → ℕ → Type 0 };
 
+    /// Whether the call after so many others must fail.
+    ghost must_fail: { Self → ℕ → Type 0 } = { λ _ _. ⊥ };
+
     /// The most bytes that a call gives, which no call changes.
     ghost most: { Self → ℕ } = { λ _. 2 ^ 64 };
 
@@ -39,5 +42,7 @@ pub trait Input {
         ensures most { most self.new ≡ most self.old }
         ensures cause { Counts (faults self.old) (faults self.new) (input_failed result) }
         ensures fails { IsTrue (input_failed result) → may_fail self.old 0 }
-        ensures later { (k : ℕ) → may_fail self.new k → may_fail self.old (k + 1) };
+        ensures later { (k : ℕ) → may_fail self.new k → may_fail self.old (k + 1) }
+        ensures must { must_fail self.old 0 → IsTrue (input_failed result) }
+        ensures must_later { (k : ℕ) → must_fail self.old (k + 1) → must_fail self.new k };
 }

@@ -25,6 +25,7 @@ impl ByteInput {
         ensures to_come { ⟦<ByteInput as Input>⟧.to_come result ≡ Some bytes.items }
         ensures faults { ⟦<ByteInput as Input>⟧.faults result ≡ 0 }
         ensures may_fail { (k : ℕ) → ⟦<ByteInput as Input>⟧.may_fail result k → IsTrue (fails_at fail.items k) }
+        ensures must_fail { (k : ℕ) → IsTrue (fails_at fail.items k) → ⟦<ByteInput as Input>⟧.must_fail result k }
         ensures most { ⟦<ByteInput as Input>⟧.most result ≡ most }
     {
         ByteInput {
@@ -42,6 +43,8 @@ impl Input for ByteInput {
     ghost faults = { λ s. s.fails.count };
 
     ghost may_fail = { λ s k. IsTrue (fails_at s.fails.list.items (s.fails.calls + k)) };
+
+    ghost must_fail = { λ s k. IsTrue (fails_at s.fails.list.items (s.fails.calls + k)) };
 
     ghost most = { λ s. s.most };
 
@@ -76,6 +79,7 @@ impl ByteOutput {
         ensures written { ⟦<ByteOutput as Output>⟧.written result ≡ Some [] }
         ensures faults { ⟦<ByteOutput as Output>⟧.faults result ≡ 0 }
         ensures may_fail { (k : ℕ) → ⟦<ByteOutput as Output>⟧.may_fail result k → IsTrue (fails_at fail.items k) }
+        ensures must_fail { (k : ℕ) → IsTrue (fails_at fail.items k) → ⟦<ByteOutput as Output>⟧.must_fail result k }
         ensures most { ⟦<ByteOutput as Output>⟧.most result ≡ most }
     {
         let written = Vec::new(*fail.allocator());
@@ -99,6 +103,8 @@ impl Output for ByteOutput {
     ghost faults = { λ s. s.fails.count };
 
     ghost may_fail = { λ s k. IsTrue (fails_at s.fails.list.items (s.fails.calls + k)) };
+
+    ghost must_fail = { λ s k. IsTrue (fails_at s.fails.list.items (s.fails.calls + k)) };
 
     ghost most = { λ s. s.most };
 

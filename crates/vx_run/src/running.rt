@@ -42,7 +42,8 @@ pub fn run<I: Input, O: Output>(
     ensures ended { is_some (command_of (map string_bytes words.now)) ≡ true → has_read result ≡ true → IsAtEnd (I.to_come input.new) }
     ensures judged { is_some (command_of (map string_bytes words.now)) ≡ true → result ≡ statuses.BadJob
         → (bytes : List ℕ) × HasRead (I.to_come input.old) (I.to_come input.new) bytes }
-    ensures took { Took (I.to_come input.old) (I.to_come input.new) }
+    ensures took { Took (limit + 1) (I.to_come input.old) (I.to_come input.new) }
+    ensures early { is_input_fault result ≡ true → Took limit (I.to_come input.old) (I.to_come input.new) }
     ensures known { is_some (command_of (map string_bytes words.now)) ≡ true → is_usage result ≡ false }
     ensures ran { (command : Command) (bytes : List ℕ) → command_of (map string_bytes words.now) ≡ Some command → I.to_come input.old ≡ Some bytes
         → Ends (Answers command bytes) (O.written output.old) (O.written output.new) result }
@@ -50,6 +51,7 @@ pub fn run<I: Input, O: Output>(
         → Ends (IsText statuses.Usage usage) (O.written output.old) (O.written output.new) result }
     ensures unread { command_of (map string_bytes words.now) ≡ None → is_input_fault result ≡ false }
     ensures untaken { command_of (map string_bytes words.now) ≡ None → I.to_come input.new ≡ I.to_come input.old }
+    ensures untouched { command_of (map string_bytes words.now) ≡ None → input.new ≡ input.old }
     ensures complete { (bytes : List ℕ) (j : JobData) (s : Setting) (tracker : ℕ) → command_of (map string_bytes words.now) ≡ Some commands.Write
         → I.to_come input.old ≡ Some bytes → job bytes ≡ Ok j
         → Writes j.options.encodings s → is_built j.strategy j.schema ≡ true → SetsNoFaults j
@@ -71,6 +73,7 @@ pub fn run<I: Input, O: Output>(
 }
 
 /// Reads the input to its end, and prints the command's answer.
+#[tactic(auto, using(crate::proofs::RunSteps::run_rules))]
 fn run_command<I: Input, O: Output>(
     alloc: Global,
     command: Command,
@@ -83,7 +86,8 @@ fn run_command<I: Input, O: Output>(
     ensures may_output { is_output_fault result ≡ true → MayFail (O.may_fail output.old) }
     ensures ended { has_read result ≡ true → IsAtEnd (I.to_come input.new) }
     ensures judged { result ≡ statuses.BadJob → (bytes : List ℕ) × HasRead (I.to_come input.old) (I.to_come input.new) bytes }
-    ensures took { Took (I.to_come input.old) (I.to_come input.new) }
+    ensures took { Took (limit + 1) (I.to_come input.old) (I.to_come input.new) }
+    ensures early { is_input_fault result ≡ true → Took limit (I.to_come input.old) (I.to_come input.new) }
     ensures known { is_usage result ≡ false }
     ensures ran { (bytes : List ℕ) → I.to_come input.old ≡ Some bytes
         → Ends (Answers command bytes) (O.written output.old) (O.written output.new) result }
@@ -102,7 +106,7 @@ fn run_command<I: Input, O: Output>(
 #[tactic(auto, using(crate::proofs::RunSteps::read_rules))]
 fn read_all<I: Input>(alloc: Global, input: &mut I) -> Result<Vec<u8>, InputFailure>
     ensures read { IfOk result (λ bytes. HasRead (I.to_come input.old) (I.to_come input.new) bytes.items) }
-    ensures took { OnErr result (Took (I.to_come input.old) (I.to_come input.new)) }
+    ensures took { OnErr result (Took limit (I.to_come input.old) (I.to_come input.new)) }
     ensures count { Counts (I.faults input.old) (I.faults input.new) (input_failed result) }
     ensures may { input_failed result ≡ true → MayFail (I.may_fail input.old) }
 {
