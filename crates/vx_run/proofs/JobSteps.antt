@@ -362,7 +362,7 @@ refused_so : (j : JobData) (e : WriteError) {stood : List (List ℕ)} {now : ℕ
     → ((s : Setting) (tracker : ℕ) → Writes j.options.encodings s → is_built j.strategy j.schema ≡ true → Valid s j.strategy j.schema false j.options.next tracker j.batches
     → is_source_fault e ≡ false → is_sink_fault e ≡ false → e ≡ errors.OutOfMemory)
     → IsRefused j e stood
-refused_so j e {stood} {now} {a} {c} {old} {new} source sink must_source must_sink is none told memory of_source of_sink stands cause may forced refuses unbuilt unasked unsunk complete =
+refused_so j e {stood} {now} {a} {c} {old} {new} source sink must_source must_sink is none told memory of_source of_sink stands cause may forced before unbuilt unasked unsunk complete =
     let h : Stands (λ taken. taken_plan (plain_setting j.options.encodings) j.strategy j.schema false taken false) j.options.next now a c old new = stands (plain_setting j.options.encodings) (writes_all j.options.encodings) in
     let parts = told_parts h.taken a c j.batches h.came is in
     let stand : stood ≡ h.appended = told_all none told h.stands in
@@ -385,7 +385,7 @@ refused_so j e {stood} {now} {a} {c} {old} {new} source sink must_source must_si
           (λ f. (none_taken h.taken a c j.batches is h.came (unasked f), none_stand f)) cause may;
       calls = subst (λ (n : ℕ). NoneFails j (batches_given e n) n) calls
           (none_fails j must_source must_sink (batches_given e (now - j.options.next)) (now - j.options.next) forced
-          (given_passed e (now - j.options.next) must_source refuses.batches refuses.behind) refuses.appends);
+          (given_passed e (now - j.options.next) must_source before.batches before.behind) before.appends);
       built = built_is (is_built j.strategy j.schema) (is_unbuilt e) unbuilt (unbuilt_cause e j.schema j.options.encodings now a c cause);
       not_valid = λ s tracker writes form no_faults valid.
           no_call (complete s tracker writes form (unmarked s j.strategy j.schema j.options.marked j.options.next tracker j.batches form valid)
@@ -412,7 +412,7 @@ pub write_halts : (j : JobData) (e : WriteError) {ids : List EncodingId} {t : Ty
     → ((s : Setting) (tracker : ℕ) (xs : List Piece) → Writes ids s → a ≡ Some xs → is_built j.strategy t ≡ true → Valid s j.strategy t false first tracker xs
     → IsCalm source_before source_now → IsCalm sink_before sink_now → e ≡ errors.OutOfMemory)
     → now ≤ max first (2 ^ 32) → Halts j e stood
-write_halts j e {t = t} {first = first} {now = now} {a = a} {c = c} {old = old} {new = new} {stood = stood} source sink must_source must_sink start failing told stands cause may forced refuses unbuilt unasked unsunk complete last =
+write_halts j e {t = t} {first = first} {now = now} {a = a} {c = c} {old = old} {new = new} {stood = stood} source sink must_source must_sink start failing told stands cause may forced before unbuilt unasked unsunk complete last =
     let h = stands (plain_setting j.options.encodings) (rw start.listed (writes_all j.options.encodings)) in
     let back : is_built j.strategy j.schema ≡ is_built j.strategy t = ap (is_built j.strategy) (sym start.schema) in
     record {
@@ -420,7 +420,7 @@ write_halts j e {t = t} {first = first} {now = now} {a = a} {c = c} {old = old} 
       refused = λ memory. refused_so j e source sink must_source must_sink start.batches start.none told memory failing.of_source failing.of_sink
           (λ s w. rw (start.schema, start.numbers) at (stands s (rw start.listed w)))
           (rw (start.schema, start.listed) at cause) (rw start.numbers at may)
-          forced (subst (λ (n : ℕ). PassedBefore n now must_source must_sink e) start.numbers refuses)
+          forced (subst (λ (n : ℕ). PassedBefore n now must_source must_sink e) start.numbers before)
           (λ f. unbuilt (sym back ∙ f)) (λ f. unasked (sym back ∙ f)) (λ f. unsunk (sym back ∙ f) ∙ start.numbers)
           (λ s tracker w form valid no_source no_sink. complete s tracker j.batches (rw start.listed w) start.batches (sym back ∙ form) (rw (start.schema, start.numbers) valid)
           (calm _ _ _ no_source failing.source_none failing.source_count) (calm _ _ _ no_sink failing.sink_none failing.sink_count));
