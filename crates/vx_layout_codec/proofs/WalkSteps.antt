@@ -206,7 +206,7 @@ refused_there : {A : Type 0} (b : Checked) (x : A) (r : Refusal) → unless_refu
 refused_there (Ok u) x r e = absurd (cc e)
 refused_there (Err q) x r e = cc e
 
-built_there : {A : Type 0} (b : Checked) (x y : A) → unless_refused b x ≡ Ok y → (b ≡ Ok tt) × (x ≡ y)
+pub built_there : {A : Type 0} (b : Checked) (x y : A) → unless_refused b x ≡ Ok y → (b ≡ Ok tt) × (x ≡ y)
 built_there (Ok u) x y e = (refl, cc e)
 built_there (Err q) x y e = absurd (cc e)
 
