@@ -19,7 +19,7 @@ pub use vx_layout_codec::{
 };
 pub use vx_metadata::{
     AggregateSpec, DictLayoutMetadata, FlatLayoutMetadata, LegacyStatsMetadata, ListLayoutMetadata,
-    MetadataError, ZonedMetadata,
+    MetadataError, ZonedMetadata, are_in_order,
 };
 pub use vx_read::{ReadError, SegmentMap, read_rows};
 pub use vx_session::{
