@@ -16,6 +16,7 @@ use Rattle.vx_layout_spelling.specs.Bytes.{unless_refused}
 use Rattle.vx_kinds.specs.ChildView.{child_lay}
 use Rattle.vx_kinds.specs.declared.child.LayoutChild.{LayoutChild}
 use Rattle.vx_layout_codec.specs.Views.{children_answer, kept}
+use Rattle.vx_layout_codec.proofs.FitSteps.{below_more}
 
 pub lays_back : (ls : Lays ℕ) → lays_of (lays_in ls) ≡ ls
 lays_back no_layouts = refl
@@ -206,7 +207,7 @@ refused_there : {A : Type 0} (b : Checked) (x : A) (r : Refusal) → unless_refu
 refused_there (Ok u) x r e = absurd (cc e)
 refused_there (Err q) x r e = cc e
 
-pub built_there : {A : Type 0} (b : Checked) (x y : A) → unless_refused b x ≡ Ok y → (b ≡ Ok tt) × (x ≡ y)
+built_there : {A : Type 0} (b : Checked) (x y : A) → unless_refused b x ≡ Ok y → (b ≡ Ok tt) × (x ≡ y)
 built_there (Ok u) x y e = (refl, cc e)
 built_there (Err q) x y e = absurd (cc e)
 
@@ -250,4 +251,4 @@ pub ruleset node_rules = (built_is, drop_built, drop_refused, drop_nodes, node_i
 
 pub ruleset own_rules = (raw_is)
 
-pub ruleset number_rules = (map_push, take_more)
+pub ruleset number_rules = (map_push, take_more, below_more)

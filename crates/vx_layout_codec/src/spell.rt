@@ -1,6 +1,7 @@
 //! Spelling a layout in a context.
 
-ghost use Rattle.std.specs.Prelude.{◌≡◌, map, IfOk};
+ghost use Rattle.std.specs.Prelude.{◌≡◌, ◌<◌, ◌^◌, map, IfOk};
+ghost use Rattle.std.specs.List.{AllByRecursion};
 ghost use Rattle.vx_tree.specs.LayoutTree.{layout_kind, row_count, segments_of, children_of};
 ghost use Rattle.vx_layout_bytes.specs.Node.{node, nodes_of};
 ghost use Rattle.vx_layout_bytes.specs.Values.{Fits, AllFit};
@@ -73,7 +74,8 @@ fn own_node(
 
 #[tactic(auto, using(crate::proofs::WalkSteps::number_rules))]
 fn numbers_of(alloc: Global, segment_ids: &[SegmentId]) -> Result<Vec<u32>, AllocError>
-    ensures { IfOk result (λ v. v.items ≡ map number segment_ids.now) }
+    ensures numbers { IfOk result (λ v. v.items ≡ map number segment_ids.now) }
+    ensures fits { IfOk result (λ v. AllByRecursion (λ n. n < 2 ^ 32) v.items) }
 {
     let mut numbers = Vec::with_capacity(alloc, segment_ids.len())?;
     for segment in segment_ids {
