@@ -12,11 +12,11 @@ source_failed (Ok x) = false
 source_failed (Err Failed) = true
 source_failed (Err OutOfMemory) = false
 
--- a batch lowers the number of batches left, and nothing raises it
+-- a batch lowers the number of batches left, the end doesn't raise it, and an error leaves it
 abbrev pub Falls : ℕ → ℕ → Result (Option Chunk) SourceError → Type 0
 Falls before now (Ok (Some b)) = now < before
 Falls before now (Ok None) = now ≤ before
-Falls before now (Err e) = now ≤ before
+Falls before now (Err e) = now ≡ before
 
 -- a batch is the first of those told; at the end none is left; an error changes nothing
 abbrev pub GivesNext : Option (List Piece) → Option (List Piece) → Result (Option Chunk) SourceError → Type 0

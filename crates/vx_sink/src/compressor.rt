@@ -54,13 +54,18 @@ pub trait CompressorPlugin {
     /// Whether the call after so many others may fail.
     ghost may_fail: { Self → ℕ → Type 0 };
 
+    /// Whether the call after so many others must fail.
+    ghost must_fail: { Self → ℕ → Type 0 } = { λ _ _. ⊥ };
+
     /// The chunk's image under the number.
     fn compress_chunk(&mut self, which: u32, chunk: &Chunk) -> Result<Chunk, CompressError>
         ensures kind { kind self.new ≡ kind self.old }
         ensures image { IfOk result (λ c. piece c ≡ image (kind self.old) which (piece chunk.now)) }
         ensures cause { Counts (faults self.old) (faults self.new) (compress_failed result) }
         ensures fails { IsTrue (compress_failed result) → may_fail self.old 0 }
-        ensures later { (k : ℕ) → may_fail self.new k → may_fail self.old (k + 1) };
+        ensures later { (k : ℕ) → may_fail self.new k → may_fail self.old (k + 1) }
+        ensures must { must_fail self.old 0 → IsTrue (compress_failed result) }
+        ensures must_later { (k : ℕ) → must_fail self.old (k + 1) → must_fail self.new k };
 
     /// An image is a whole chunk of the same type and row values.
     ghost keeps: { (k which : ℕ) (p : Piece) → IsTrue (is_sound p) → SameRows p (image k which p) };

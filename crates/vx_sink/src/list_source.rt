@@ -25,6 +25,7 @@ impl ListSource {
         ensures left { ⟦<ListSource as BatchSource>⟧.left result ≡ length batches.items }
         ensures faults { ⟦<ListSource as BatchSource>⟧.faults result ≡ 0 }
         ensures may_fail { (k : ℕ) → ⟦<ListSource as BatchSource>⟧.may_fail result k → IsTrue (fails_at fail.items k) }
+        ensures must_fail { (k : ℕ) → IsTrue (fails_at fail.items k) → ⟦<ListSource as BatchSource>⟧.must_fail result k }
     {
         ListSource {
             dtype,
@@ -44,6 +45,8 @@ impl BatchSource for ListSource {
     ghost faults = { λ s. s.fails.count };
 
     ghost may_fail = { λ s k. IsTrue (fails_at s.fails.list.items (s.fails.calls + k)) };
+
+    ghost must_fail = { λ s k. IsTrue (fails_at s.fails.list.items (s.fails.calls + k)) };
 
     fn dtype(&self) -> &DType {
         &self.dtype

@@ -20,6 +20,7 @@ impl MemorySink {
         ensures segments { ⟦<MemorySink as SegmentSink>⟧.segments result ≡ Some [] }
         ensures faults { ⟦<MemorySink as SegmentSink>⟧.faults result ≡ 0 }
         ensures may_fail { (k : ℕ) → ⟦<MemorySink as SegmentSink>⟧.may_fail result k → IsTrue (fails_at fail.items k) }
+        ensures must_fail { (k : ℕ) → IsTrue (fails_at fail.items k) → ⟦<MemorySink as SegmentSink>⟧.must_fail result k }
     {
         let segments = Vec::new(*fail.allocator());
         MemorySink {
@@ -44,6 +45,8 @@ impl SegmentSink for MemorySink {
     ghost faults = { λ s. s.fails.count };
 
     ghost may_fail = { λ s k. IsTrue (fails_at s.fails.list.items (s.fails.calls + k)) };
+
+    ghost must_fail = { λ s k. IsTrue (fails_at s.fails.list.items (s.fails.calls + k)) };
 
     fn next_id(&self) -> u64 {
         self.next

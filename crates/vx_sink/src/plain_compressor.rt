@@ -18,6 +18,7 @@ impl PlainCompressor {
         ensures kind { ⟦<PlainCompressor as CompressorPlugin>⟧.kind result ≡ 0 }
         ensures faults { ⟦<PlainCompressor as CompressorPlugin>⟧.faults result ≡ 0 }
         ensures may_fail { (k : ℕ) → ⟦<PlainCompressor as CompressorPlugin>⟧.may_fail result k → IsTrue (fails_at fail.items k) }
+        ensures must_fail { (k : ℕ) → IsTrue (fails_at fail.items k) → ⟦<PlainCompressor as CompressorPlugin>⟧.must_fail result k }
     {
         PlainCompressor {
             fails: Fails::new(fail),
@@ -33,6 +34,8 @@ impl CompressorPlugin for PlainCompressor {
     ghost faults = { λ c. c.fails.count };
 
     ghost may_fail = { λ c k. IsTrue (fails_at c.fails.list.items (c.fails.calls + k)) };
+
+    ghost must_fail = { λ c k. IsTrue (fails_at c.fails.list.items (c.fails.calls + k)) };
 
     ghost keeps = { λ _ _ p sound. same_rows p sound };
 

@@ -52,6 +52,9 @@ pub trait SegmentSink {
     /// Whether the append after so many others may fail.
     ghost may_fail: { Self → ℕ → Type 0 };
 
+    /// Whether the append after so many others must fail.
+    ghost must_fail: { Self → ℕ → Type 0 } = { λ _ _. ⊥ };
+
     /// Of a borrowed sink the name of the borrow, which no call exchanges for another.
     ghost borrow: { Self → ℕ } = { λ _. 0 };
 
@@ -68,6 +71,8 @@ pub trait SegmentSink {
         ensures cause { Counts (faults self.old) (faults self.new) (sink_failed result) }
         ensures fails { IsTrue (sink_failed result) → may_fail self.old 0 }
         ensures later { (k : ℕ) → may_fail self.new k → may_fail self.old (k + 1) }
+        ensures must { must_fail self.old 0 → IsTrue (sink_failed result) }
+        ensures must_later { (k : ℕ) → must_fail self.old (k + 1) → must_fail self.new k }
         ensures borrow { borrow self.new ≡ borrow self.old };
 }
 
@@ -79,6 +84,8 @@ impl<S: SegmentSink> SegmentSink for &mut S {
     ghost faults = { λ s. S.faults s.now };
 
     ghost may_fail = { λ s k. S.may_fail s.now k };
+
+    ghost must_fail = { λ s k. S.must_fail s.now k };
 
     ghost borrow = { λ s. s.ghost_name };
 

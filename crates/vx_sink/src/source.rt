@@ -35,16 +35,21 @@ pub trait BatchSource {
     /// Whether the call after so many others may fail.
     ghost may_fail: { Self → ℕ → Type 0 };
 
+    /// Whether the call after so many others must fail.
+    ghost must_fail: { Self → ℕ → Type 0 } = { λ _ _. ⊥ };
+
     /// The type of the batches.
     fn dtype(&self) -> &DType
         ensures { ty result.now ≡ kind self.now };
 
-    /// The next batch, or `None` at the end. An error takes no batch.
+    /// The next batch, or `None` at the end. An error changes nothing but the count of faults.
     fn next(&mut self) -> Result<Option<Chunk>, SourceError>
         ensures kind { kind self.new ≡ kind self.old }
         ensures falls { Falls (left self.old) (left self.new) result }
         ensures batch { GivesNext (to_come self.old) (to_come self.new) result }
         ensures cause { Counts (faults self.old) (faults self.new) (source_failed result) }
         ensures fails { IsTrue (source_failed result) → may_fail self.old 0 }
-        ensures later { (k : ℕ) → may_fail self.new k → may_fail self.old (k + 1) };
+        ensures later { (k : ℕ) → may_fail self.new k → may_fail self.old (k + 1) }
+        ensures must { must_fail self.old 0 → IsTrue (source_failed result) }
+        ensures must_later { (k : ℕ) → must_fail self.old (k + 1) → must_fail self.new k };
 }

@@ -1,5 +1,5 @@
 -- From the batches in order to the plan.
-use Rattle.std.proofs.Common.{◌≡◌, ℕ, suc, ◌+◌, ◌≤◌, ◌<◌, ◌^◌, ◌&&◌, Bool, true, false, not, List, [], ◌∷◌, ◌++◌, length, Option, Some, None, refl, sym, ap, subst, ◌∙◌, arith, inl, inr}
+use Rattle.std.proofs.Common.{◌≡◌, ℕ, suc, ◌+◌, ◌≤◌, ◌<◌, ◌^◌, max, ◌&&◌, Bool, true, false, not, List, [], ◌∷◌, ◌++◌, length, Option, Some, None, refl, sym, ap, subst, ◌∙◌, arith, inl, inr}
 use Rattle.std.proofs.lemmas.List.{append-nil}
 use Rattle.vx_model.specs.declared.encoding.EncodingId.{EncodingId}
 use Rattle.vx_model.specs.declared.ptype.PType.TheVariants.{U8, U16, U32, U64, I8, I16, I32, I64}
@@ -15,15 +15,16 @@ use Rattle.vx_plan.specs.FlatNode.{refused_at, inlined}
 use Rattle.vx_plan.specs.SourcePlan.{source_plan, taken_plan, of_schema}
 use Rattle.vx_plan.specs.InOrder.{InOrder, ChunksInOrder, batch_rows, batch_segments, batch_refusals, batch_flats, batch_pairs}
 use Rattle.vx_plan.specs.Number.{segments, numbered, segment_at}
-use Rattle.vx_plan.specs.Valid.{Fit, OfSchema, Valid}
+use Rattle.vx_plan.specs.Valid.{Fit, OfSchema, AllOf, Valid}
 use Rattle.vx_plan.specs.SourcePlan.{source_values}
 use Rattle.vx_tree.specs.Rows.{rows}
 use Rattle.vx_sink.specs.Told.{before_told, then_told, NoneTold}
 use Rattle.vx_write.proofs.Steps.{stored-append, told_same, then_same}
-use Rattle.vx_write.specs.InOrder.{stored_of, flats_of, AllWritten, ReadsBack, Finished, Halted}
+use Rattle.vx_write.specs.InOrder.{stored_of, flats_of, AllWritten, ReadsBack, AllShort, Finished, Halted}
 use Rattle.vx_segment.specs.Codec.{segment_codec}
 use Rattle.vx_write.proofs.Back.{rows_back}
-use Rattle.vx_write.specs.Stream.{Writes, Stands, is_built, is_built_way, is_built_type}
+use Rattle.vx_write.proofs.Numbers.{Short, numbers_fit, nothing_held}
+use Rattle.vx_write.specs.Stream.{Writes, WasValid, Stands, is_built, is_built_way, is_built_type}
 
 -- ---- which strategies are built
 
@@ -133,6 +134,13 @@ module _ (ids : List EncodingId) (s : Setting) (writes : Writes ids s) (w : Way)
   pairs_count i t [] all = refl
   pairs_count i t (p ∷ bs) all = rw (encode_is b.options.padding p, all.1, pairs_count (suc i) t bs all.2) refl
 
+  shorts_are : (t : Ty) (bs : List Piece) → AllShort ids bs → Short s b.options t bs
+  shorts_are t [] all = tt
+  shorts_are t (p ∷ bs) all = (
+    λ bytes is. all.0 bytes (sym (encode_is b.options.padding p ∙ ap (λ (padding : Bool). encode ids padding p) b.padded) ∙ is),
+    shorts_are t bs all.1,
+  )
+
   -- all batches were written
   module _ (t : Ty) (first next : ℕ) (l : Lay ℕ) (a c : Option (List Piece)) (before now : Option (List (List ℕ))) (xs : List Piece) (told : a ≡ Some xs) (f : Finished ids t first next l a c before now) where
     taken_all : f.taken ≡ xs
@@ -153,6 +161,22 @@ module _ (ids : List EncodingId) (s : Setting) (writes : Writes ids s) (w : Way)
 
     pub numbers_are : next ≡ first + length (segments (source_plan s w t false xs true))
     numbers_are = f.numbers ∙ ap (λ (n : ℕ). first + n) (ap length taken_all ∙ (sym (stored_count t xs all_written) ∙ ap length (sym (stored_is xs) ∙ sym (in_order t xs true).segments)))
+
+    -- they were valid, since the next number passes 32 bits only where it did before
+    pub was_valid : next ≤ max first (2 ^ 32) → WasValid s w t first xs
+    was_valid last =
+        let io = in_order t xs true in
+        let count : first + length xs ≤ max first (2 ^ 32) = rw (f.numbers, taken_all) at last in
+        let pairs : length (source_plan s w t false xs true).pairs ≡ length xs = ap length io.pairs ∙ pairs_count 0 t xs all_written in
+        let short : Short s b.options t xs = shorts_are t xs (subst (AllShort ids) taken_all f.short) in
+        let fit : Fit (source_plan s (chunked (flat b.options)) t false xs true).numbers = numbers_fit s b.options t xs short (subst (λ (bs : List Piece). batch_rows bs < 2 ^ 64) taken_all f.rows) (omega arith) in
+        record {
+          faultless = io.faults ∙ refusals_none 0 t xs all_written;
+          whole = subst (AllOf t) taken_all f.whole;
+          numbered = rw pairs count;
+          fit = subst (λ (v : Way). Fit (source_plan s v t false xs true).numbers) (sym b.chunks) fit;
+          reserved = subst (λ (v : Way). (source_plan s v t false xs true).reserved ≡ 0) (sym b.chunks) (nothing_held s b.options t xs);
+        }
 
   -- what stands after a refusal
   pub stands : (t : Ty) (first next : ℕ) (a c : Option (List Piece)) (before now : Option (List (List ℕ))) → Halted ids t first next a c before now

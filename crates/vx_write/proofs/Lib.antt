@@ -2,4 +2,5 @@ pub mod RealIntegers
 pub mod Ways
 pub mod Steps
 pub mod Back
+pub mod Numbers
 pub mod Bridge

@@ -1,6 +1,6 @@
 -- The cells of a sound chunk of integers are real: they are numbers or null.
-use Rattle.std.proofs.Common.{◌≡◌, ℕ, ◌&&◌, Bool, true, false, not, List, [], ◌∷◌, length, refl, sym, ap, subst, ◌∙◌}
-use Rattle.std.specs.Prelude.{IsTrue, nat_lt, ◌^◌}
+use Rattle.std.proofs.Common.{◌≡◌, ◌&&◌, Bool, true, not, List, [], ◌∷◌, refl, subst, ◌∙◌}
+use Rattle.std.specs.Prelude.{IsTrue}
 use Rattle.vx_model.specs.Words.{all_by}
 use Rattle.vx_model.specs.declared.ptype.PType.{PType}
 use Rattle.vx_model.specs.Ty.{Ty, primitive, list, struct, extension, boolean, utf8, binary, ty_eq}

@@ -1,30 +1,33 @@
 -- One more batch, and what stands at the end of a write.
-use Rattle.std.proofs.Common.{◌≡◌, ℕ, suc, ◌+◌, ◌≤◌, ◌<◌, ◌^◌, List, [], ◌∷◌, ◌++◌, length, Option, Some, None, refl, sym, ap, subst, Bool, true, false, not, ◌∙◌, arith, add-zero, append_assoc, inl, inr}
-use Rattle.std.specs.Prelude.{IsTrue, map}
+use Rattle.std.proofs.Common.{◌≡◌, ℕ, suc, ◌+◌, ◌≤◌, ◌<◌, ◌^◌, List, [], ◌∷◌, ◌++◌, length, Option, Some, None, refl, sym, subst, Bool, true, false, not, ◌∙◌, arith, add-zero, append_assoc, below_more, inl, inr}
+use Rattle.std.specs.Prelude.{IsTrue}
 use Rattle.std.proofs.lemmas.List.{append-nil, length-append}
 use Rattle.vx_model.specs.declared.encoding.EncodingId.{EncodingId}
-use Rattle.vx_model.specs.Ty.{Ty, primitive}
+use Rattle.vx_model.specs.Ty.{Ty, primitive, ty_eq}
+use Rattle.vx_model.specs.TyLaws.{ty_eq_decides}
 use Rattle.vx_model.specs.declared.ptype.PType.TheVariants.{I64}
 use Rattle.vx_model.specs.Distinct.{first_repeat}
-use Rattle.vx_model.specs.Tree.{Tree}
-use Rattle.vx_model.specs.TreeView.{tree}
 use Rattle.vx_model.specs.TyView.{ty}
-use Rattle.vx_model.specs.Piece.{Piece, plain_piece, piece_type, cells, is_sound}
+use Rattle.vx_model.specs.declared.dtype.DType.{DType}
+use Rattle.std.specs.Ordering.{on}
+use Rattle.vx_model.specs.Piece.{Piece, piece_type, cells, is_sound}
 use Rattle.vx_segment.specs.Codec.{segment_codec}
 use Rattle.vx_segment.proofs.SegmentLaws.{is_lawful}
 use Rattle.vx_write.proofs.RealIntegers.{integers_whole}
 use Rattle.vx_tree.specs.Codec.{Codec}
+use Rattle.vx_tree.specs.Real.{Whole, Of}
 use Rattle.vx_encode.specs.Segment.{encode, refused}
 use Rattle.vx_tree.specs.LayoutTree.{Lay, row_count}
 use Rattle.vx_plan.specs.InOrder.{batch_rows}
+use Rattle.vx_plan.specs.Valid.{AllOf}
 use Rattle.vx_model.specs.Words.{total_by}
 use Rattle.vx_sink.specs.Told.{before_told, then_told}
-use Rattle.vx_write.specs.InOrder.{stored_of, flats_of, AllWritten, ReadsBack, Done, BatchWritten, Halted}
+use Rattle.vx_write.specs.InOrder.{stored_of, flats_of, AllWritten, ReadsBack, AllShort, Done, BatchWritten, Halted}
 use Rattle.vx_write.specs.declared.error.WriteError.{WriteError}
 use Rattle.vx_write.specs.declared.error.WriteError.TheVariants as errors
-use Rattle.vx_write.specs.Stream.{TookLast, HasCause, NotAdmitted, NotWritten}
+use Rattle.vx_write.specs.Stream.{TookLast, HasCause, BehindBatch, NotAdmitted, NotWritten}
 
-told_more : (xs ys : List Piece) (a b c : Option (List Piece)) → a ≡ before_told xs b → b ≡ before_told ys c → a ≡ before_told (xs ++ ys) c
+pub told_more : (xs ys : List Piece) (a b c : Option (List Piece)) → a ≡ before_told xs b → b ≡ before_told ys c → a ≡ before_told (xs ++ ys) c
 told_more xs ys a b None e f = e ∙ (rw f refl)
 told_more xs ys a b (Some zs) e f = e ∙ (rw (f, append_assoc) refl)
 
@@ -57,6 +60,9 @@ rows-append : (xs ys : List Piece) → batch_rows (xs ++ ys) ≡ batch_rows xs +
 rows-append [] ys = omega arith
 rows-append (x ∷ xs) ys = rw (rows-append xs ys) (omega arith)
 
+one_value : {a b : List ℕ} → Some a ≡ Some b → a ≡ b
+one_value e = cc
+
 written-append : (ids : List EncodingId) (t : Ty) (xs : List Piece) (b : Piece) → AllWritten ids t xs → piece_type b ≡ t → refused ids b ≡ None → AllWritten ids t (xs ++ b ∷ [])
 written-append ids t [] b all typed listed = (typed, listed, tt)
 written-append ids t (x ∷ xs) b all typed listed = (all.0, all.1, written-append ids t xs b all.2 typed listed)
@@ -65,21 +71,38 @@ back-append : (k : Codec) (ids : List EncodingId) (xs : List Piece) (b : Piece) 
 back-append k ids [] b all one = one
 back-append k ids (x ∷ xs) b all one = (all.0, back-append k ids xs b all.1 one)
 
+whole-append : (t : Ty) (xs : List Piece) (b : Piece) → AllOf t xs → Of t b → AllOf t (xs ++ b ∷ [])
+whole-append t [] b all one = (one, tt)
+whole-append t (x ∷ xs) b all one = (all.0, whole-append t xs b all.1 one)
+
+short-append : (ids : List EncodingId) (xs : List Piece) (b : Piece) (bytes : List ℕ) → AllShort ids xs → encode ids true b ≡ Some bytes → length bytes < 2 ^ 64
+    → AllShort ids (xs ++ b ∷ [])
+short-append ids [] b bytes all encoded short = (
+  λ other is. (let same : bytes ≡ other = one_value (sym encoded ∙ is) in subst (λ (c : List ℕ). length c < 2 ^ 64) same short),
+  tt,
+)
+short-append ids (x ∷ xs) b bytes all encoded short = (all.0, short-append ids xs b bytes all.1 encoded short)
+
+-- a chunk of 64-bit integers in memory is a whole chunk
+pub chunk_whole : (p : Piece) → IsTrue (is_sound p) → piece_type p ≡ primitive I64 false → Whole p
+chunk_whole p sound typed = integers_whole p I64 false sound typed
+
 -- a chunk of 64-bit integers is read back from its segment
 pub chunk_back : (ids : List EncodingId) (p : Piece) (bytes : List ℕ) → first_repeat ids ≡ None → IsTrue (is_sound p) → piece_type p ≡ primitive I64 false
     → encode ids true p ≡ Some bytes → length bytes < 2 ^ 64 → ReadsBack segment_codec ids (p ∷ [])
 chunk_back ids p bytes distinct sound typed encoded short =
-    (λ other is. (is_lawful ids distinct).again true p other (integers_whole p I64 false sound typed) is (let same : bytes ≡ other = one_value (sym encoded ∙ is) in subst (λ (b : List ℕ). length b < 2 ^ 64) same short), tt)
-  where
-    one_value : {a b : List ℕ} → Some a ≡ Some b → a ≡ b
-    one_value e = cc
+    (λ other is. (is_lawful ids distinct).again true p other (chunk_whole p sound typed) is (let same : bytes ≡ other = one_value (sym encoded ∙ is) in subst (λ (b : List ℕ). length b < 2 ^ 64) same short), tt)
 
 pub not_false : (b : Bool) → false ≡ not b → b ≡ true
 not_false true e = refl
 not_false false e = e
 
+-- two types that aren't told apart
+pub same_type : (d e : DType) (t : Ty) → ty d ≡ t → false ≡ not (on ty ty_eq d e) → t ≡ ty e
+same_type d e t is same = sym is ∙ (ty_eq_decides (ty d) (ty e)).0 (not_false (ty_eq (ty d) (ty e)) same)
+
 pub begins : (ids : List EncodingId) (t : Ty) (first : ℕ) (a : Option (List Piece)) (s : Option (List (List ℕ))) → Done ids t first [] 0 a a s s
-begins ids t first a s = record { taken = []; came = told_same a; count = refl; laid = refl; appended = then_same s; rows = refl; written = tt; back = tt }
+begins ids t first a s = record { taken = []; came = told_same a; count = refl; laid = refl; appended = then_same s; rows = refl; written = tt; whole = tt; short = tt; back = tt }
 
 pub goes_on : {ids : List EncodingId} {t : Ty} {first : ℕ} {flats : List (Lay ℕ)} {total : ℕ} {a b : Option (List Piece)} {s u : Option (List (List ℕ))}
     (p : Piece) (l : Lay ℕ) (c : Option (List Piece)) (v : Option (List (List ℕ))) (next : ℕ) → Done ids t first flats total a b s u
@@ -93,6 +116,8 @@ goes_on {ids} {t} {first} {flats} {total} {a} {b} {s} {u} p l c v next d came ty
   appended = rw (stored-append ids d.taken (p ∷ []), stored_one ids p w.bytes w.encoded) (then_more (stored_of ids d.taken) (w.bytes ∷ []) s u v d.appended w.appended);
   rows = rw (rows-append d.taken (p ∷ []), ← d.rows) (omega arith);
   written = written-append ids t d.taken p d.written typed w.listed;
+  whole = whole-append t d.taken p d.whole (record { typed = typed; whole = w.whole });
+  short = short-append ids d.taken p w.bytes d.short w.encoded w.short;
   back = back-append segment_codec ids d.taken p d.back w.back;
 }
 
@@ -105,6 +130,10 @@ flats_rows ids t first (b ∷ bs) = rw (flats_rows ids t (suc first) bs) refl
 pub done_rows : {ids : List EncodingId} {t : Ty} {first : ℕ} {flats : List (Lay ℕ)} {total : ℕ} {a b : Option (List Piece)} {s u : Option (List (List ℕ))}
     → Done ids t first flats total a b s u → total_by row_count flats ≡ total
 done_rows {ids} {t} {first} d = rw (d.laid, d.rows) (flats_rows ids t first d.taken)
+
+pub rows_fit : {ids : List EncodingId} {t : Ty} {first : ℕ} {flats : List (Lay ℕ)} {total : ℕ} {a b : Option (List Piece)} {s u : Option (List (List ℕ))}
+    (d : Done ids t first flats total a b s u) → total < 2 ^ 64 → batch_rows d.taken < 2 ^ 64
+rows_fit d below = rw (← d.rows) below
 
 -- ---- the last batch taken isn't written
 
@@ -121,21 +150,22 @@ halted_last {a = a} {b = b} p c v next d came same number = record {
   numbers = rw (← d.count) number;
 }
 
-pub took_last : {ids : List EncodingId} {t : Ty} {first : ℕ} {flats : List (Lay ℕ)} {total : ℕ} {a b : Option (List Piece)} {s u : Option (List (List ℕ))}
-    (p : Piece) (c : Option (List Piece)) → Done ids t first flats total a b s u → b ≡ before_told (p ∷ []) c → TookLast a c p
-took_last {a = a} {b = b} p c d came = record { front = d.taken; came = told_more d.taken (p ∷ []) a b c d.came came }
+abbrev pub took_last : {ids : List EncodingId} {t : Ty} {first : ℕ} {flats : List (Lay ℕ)} {total : ℕ} {a b : Option (List Piece)} {s u : Option (List (List ℕ))}
+    (p : Piece) (c : Option (List Piece)) → Done ids t first flats total a b s u → b ≡ before_told (p ∷ []) c → TookLast t ids a c p
+took_last {a = a} {b = b} p c d came = record { front = d.taken; came = told_more d.taken (p ∷ []) a b c d.came came; written = d.written }
 
 pub admit_cause : {ids : List EncodingId} {t : Ty} {first : ℕ} {flats : List (Lay ℕ)} {total : ℕ} {a b : Option (List Piece)} {s u : Option (List (List ℕ))}
     (p : Piece) (c : Option (List Piece)) (next : ℕ) (r : Ty) (e : WriteError) → Done ids t first flats total a b s u
     → b ≡ before_told (p ∷ []) c → r ≡ t → NotAdmitted r p total e → HasCause t ids ⊥ next a c e
-admit_cause {t = t} {a = a} p c next r (errors.BatchType chunk) d came typed h =
-    let Q : Piece → Type 0 = λ q. (¬ (piece_type q ≡ t)) × TookLast a c q in
+admit_cause {ids = ids} {t = t} {a = a} p c next r (errors.BatchType chunk) d came typed h =
+    let Q : Piece → Type 0 = λ q. (¬ (piece_type q ≡ t)) × TookLast t ids a c q in
     subst Q (sym h.0) (λ same. h.1 (same ∙ sym typed), took_last p c d came)
-admit_cause {a = a} {b = b} p c next r (errors.TooLarge n) d came typed h = inr (record {
-  taken = d.taken ++ p ∷ [];
-  came = told_more d.taken (p ∷ []) a b c d.came came;
-  rows = rw (rows-append d.taken (p ∷ []), ← d.rows, h.0) (omega arith);
-  large = h.1;
+admit_cause p c next r (errors.TooLarge n) d came typed h = inr (record {
+  batch = p;
+  last = took_last p c d came;
+  typed = h.0 ∙ typed;
+  rows = rw (rows-append d.taken (p ∷ []), ← d.rows, h.1) (omega arith);
+  large = h.2;
 })
 admit_cause p c next r errors.SourceFault d came typed h = tt
 admit_cause p c next r errors.SinkFault d came typed h = tt
@@ -152,21 +182,47 @@ admit_cause p c next r errors.Unbuilt d came typed h = h
 
 pub write_cause : {ids : List EncodingId} {t : Ty} {first : ℕ} {flats : List (Lay ℕ)} {total : ℕ} {a b : Option (List Piece)} {s u : Option (List (List ℕ))}
     (p : Piece) (c : Option (List Piece)) (next : ℕ) (e : WriteError) → Done ids t first flats total a b s u
-    → b ≡ before_told (p ∷ []) c → NotWritten ids next p e → HasCause t ids ⊥ next a c e
-write_cause p c next (errors.ForbiddenEncoding id) d came h = (p, h, took_last p c d came)
-write_cause p c next (errors.TooLarge n) d came h = inl h
-write_cause p c next errors.SinkFault d came h = tt
-write_cause p c next errors.OutOfMemory d came h = tt
-write_cause p c next errors.SourceFault d came h = tt
-write_cause p c next errors.Unbuilt d came h = h
-write_cause p c next (errors.BatchType chunk) d came h = absurd h
-write_cause p c next errors.CompressFault d came h = h
-write_cause p c next errors.NotStruct d came h = h
-write_cause p c next (errors.DuplicateField name) d came h = h
-write_cause p c next errors.ManyChunks d came h = h
-write_cause p c next errors.EmptyList d came h = h
-write_cause p c next (errors.ZoneCut n) d came h = h
-write_cause p c next (errors.ForbiddenAggregate id) d came h = h
+    → b ≡ before_told (p ∷ []) c → piece_type p ≡ t → NotWritten ids next p e → HasCause t ids ⊥ next a c e
+write_cause p c next (errors.ForbiddenEncoding id) d came typed h = record { batch = p; last = took_last p c d came; typed = typed; first = h }
+write_cause p c next (errors.TooLarge n) d came typed h = inl (record { batch = p; last = took_last p c d came; typed = typed; listed = h.0; number = h.1; large = h.2 })
+write_cause p c next errors.SinkFault d came typed h = tt
+write_cause p c next errors.OutOfMemory d came typed h = tt
+write_cause p c next errors.SourceFault d came typed h = tt
+write_cause p c next errors.Unbuilt d came typed h = h
+write_cause p c next (errors.BatchType chunk) d came typed h = absurd h
+write_cause p c next errors.CompressFault d came typed h = h
+write_cause p c next errors.NotStruct d came typed h = h
+write_cause p c next (errors.DuplicateField name) d came typed h = h
+write_cause p c next errors.ManyChunks d came typed h = h
+write_cause p c next errors.EmptyList d came typed h = h
+write_cause p c next (errors.ZoneCut n) d came typed h = h
+write_cause p c next (errors.ForbiddenAggregate id) d came typed h = h
+
+-- ---- no call that must fail is passed over
+
+-- an error of a batch that was admitted or not comes behind the batch
+pub behind_batch : (e : WriteError) (must : Type 0) → ¬ must → BehindBatch must e
+behind_batch (errors.BatchType chunk) must never = never
+behind_batch (errors.TooLarge n) must never = never
+behind_batch (errors.ForbiddenEncoding id) must never = never
+behind_batch errors.SinkFault must never = never
+behind_batch errors.SourceFault must never = tt
+behind_batch errors.CompressFault must never = tt
+behind_batch errors.NotStruct must never = tt
+behind_batch (errors.DuplicateField name) must never = tt
+behind_batch errors.ManyChunks must never = tt
+behind_batch errors.EmptyList must never = tt
+behind_batch (errors.ZoneCut n) must never = tt
+behind_batch (errors.ForbiddenAggregate id) must never = tt
+behind_batch errors.OutOfMemory must never = tt
+behind_batch errors.Unbuilt must never = tt
+
+-- `before` speaks of the calls from the first, `now` of those behind n of them
+pub passed : (before now : ℕ → Type 0) (n : ℕ) → ((k : ℕ) → before (n + k) → now k) → ¬ now 0 → ¬ before n
+passed before now n later never due = never (later 0 (subst before (omega arith) due))
+
+pub more_passed : (before now : ℕ → Type 0) (n : ℕ) → ((k : ℕ) → k < n → ¬ before k) → ((k : ℕ) → before (n + k) → now k) → ¬ now 0 → (k : ℕ) → k < n + 1 → ¬ before k
+more_passed before now n all later never k below = below_more (λ (j : ℕ). ¬ before j) n all (passed before now n later never) k below
 
 -- ---- where all batches told can be written
 
@@ -201,7 +257,7 @@ next_is_told {ids} {t} {a = a} {b = b} p c xs d came told all =
 pub never_admits : {ids : List EncodingId} {t : Ty} {p : Piece} {taken xs : List Piece} (total : ℕ) (r : Ty) (e : WriteError) → NextIsTold ids t p taken xs
     → total ≡ batch_rows taken → r ≡ t → batch_rows xs < 2 ^ 64 → NotAdmitted r p total e → ⊥
 never_admits total r (errors.BatchType chunk) n is typed fits h = h.1 (n.typed ∙ sym typed)
-never_admits total r (errors.TooLarge k) n is typed fits h = omega (arith, n.rows, h.0, h.1)
+never_admits total r (errors.TooLarge k) n is typed fits h = omega (arith, n.rows, h.1, h.2)
 never_admits total r errors.SourceFault n is typed fits h = h
 never_admits total r errors.SinkFault n is typed fits h = h
 never_admits total r errors.CompressFault n is typed fits h = h
@@ -215,4 +271,6 @@ never_admits total r (errors.ForbiddenEncoding id) n is typed fits h = h
 never_admits total r errors.OutOfMemory n is typed fits h = h
 never_admits total r errors.Unbuilt n is typed fits h = h
 
-pub ruleset step_rules = (begins, goes_on)
+pub ruleset step_rules = (begins, goes_on, rows_fit)
+
+pub ruleset batch_rules = (chunk_back, chunk_whole)

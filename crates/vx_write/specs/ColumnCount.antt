@@ -1,5 +1,5 @@
 -- How many columns a strategy writes side by side.
-use Rattle.std.specs.Prelude.{ℕ, ◌+◌, if◌then◌else◌, List, length, Option, Some, None}
+use Rattle.std.specs.Prelude.{ℕ, ◌+◌, if◌then◌else◌, length, Option, Some, None}
 use Rattle.vx_model.specs.Ty.{Ty, struct, fields_in}
 use Rattle.vx_plan.specs.Way.{Way, structured, tabled}
 

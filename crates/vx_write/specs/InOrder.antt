@@ -1,13 +1,15 @@
 -- What one column's batches give, in order, and how far a write has come.
-use Rattle.std.specs.Prelude.{◌≡◌, ℕ, suc, ◌+◌, ◌≤◌, true, List, [], ◌∷◌, ◌++◌, length, Option, Some, None}
+use Rattle.std.specs.Prelude.{◌≡◌, ℕ, suc, ◌+◌, ◌^◌, ◌<◌, ◌≤◌, true, List, [], ◌∷◌, ◌++◌, length, Option, Some, None}
 use Rattle.vx_model.specs.declared.encoding.EncodingId.{EncodingId}
 use Rattle.vx_model.specs.Ty.{Ty}
 use Rattle.vx_model.specs.Piece.{Piece, piece_type, cells}
 use Rattle.vx_encode.specs.Segment.{encode, refused}
 use Rattle.vx_tree.specs.Codec.{Codec}
+use Rattle.vx_tree.specs.Real.{Whole}
 use Rattle.vx_tree.specs.LayoutTree.{Lay, flat_layout, gathered}
 use Rattle.vx_segment.specs.Codec.{segment_codec}
 use Rattle.vx_plan.specs.InOrder.{there, batch_rows}
+use Rattle.vx_plan.specs.Valid.{AllOf}
 use Rattle.vx_sink.specs.Told.{before_told, then_told, NoneTold}
 
 -- the padded segments of the batches
@@ -30,6 +32,11 @@ abbrev pub ReadsBack : Codec → List EncodingId → List Piece → Type 0
 ReadsBack c ids [] = Unit {0}
 ReadsBack c ids (b ∷ bs) = ((bytes : List ℕ) → encode ids true b ≡ Some bytes → c.decode ids (piece_type b) bytes ≡ Some (cells b)) × ReadsBack c ids bs
 
+-- each batch's padded segment has a length of 64 bits
+abbrev pub AllShort : List EncodingId → List Piece → Type 0
+AllShort ids [] = Unit {0}
+AllShort ids (b ∷ bs) = ((bytes : List ℕ) → encode ids true b ≡ Some bytes → length bytes < 2 ^ 64) × AllShort ids bs
+
 -- How far a write has come: the batches taken, each written as a segment and a flat layout.
 pub record Done (ids : List EncodingId) (t : Ty) (first : ℕ) (flats : List (Lay ℕ)) (total : ℕ) (to_come_before to_come_now : Option (List Piece)) (before now : Option (List (List ℕ))) : Type 0 where
   pub taken : List Piece
@@ -39,6 +46,8 @@ pub record Done (ids : List EncodingId) (t : Ty) (first : ℕ) (flats : List (La
   pub appended : now ≡ then_told before (stored_of ids taken)
   pub rows : total ≡ batch_rows taken
   pub written : AllWritten ids t taken
+  pub whole : AllOf t taken
+  pub short : AllShort ids taken
   pub back : ReadsBack segment_codec ids taken
 
 -- A batch was written as the segment of the next number.
@@ -47,6 +56,8 @@ pub record BatchWritten (ids : List EncodingId) (next : ℕ) (p : Piece) (l : La
   pub bytes : List ℕ
   pub encoded : encode ids true p ≡ Some bytes
   pub listed : refused ids p ≡ None
+  pub whole : Whole p
+  pub short : length bytes < 2 ^ 64
   pub appended : now ≡ then_told before (bytes ∷ [])
   pub back : ReadsBack segment_codec ids (p ∷ [])
 
@@ -58,6 +69,9 @@ pub record Finished (ids : List EncodingId) (t : Ty) (first next : ℕ) (l : Lay
   pub laid : l ≡ gathered t (batch_rows taken) (flats_of ids t first taken)
   pub appended : now ≡ then_told before (stored_of ids taken)
   pub written : AllWritten ids t taken
+  pub whole : AllOf t taken
+  pub short : AllShort ids taken
+  pub rows : batch_rows taken < 2 ^ 64
   pub back : ReadsBack segment_codec ids taken
   pub numbers : next ≡ first + length taken
 

@@ -1,5 +1,5 @@
 -- What `write_stream` answers.
-use Rattle.std.specs.Prelude.{◌≡◌, ℕ, ◌+◌, ◌^◌, ◌≤◌, ◌⊎◌, ◌&&◌, not, Bool, true, false, List, [], ◌∷◌, ◌++◌, length, Option, Some}
+use Rattle.std.specs.Prelude.{◌≡◌, ℕ, ◌+◌, ◌^◌, ◌≤◌, ◌⊎◌, ◌&&◌, not, max, Bool, true, false, List, [], ◌∷◌, ◌++◌, length, Option, Some, None}
 use Rattle.vx_model.specs.declared.encoding.EncodingId.{EncodingId}
 use Rattle.vx_model.specs.declared.ptype.PType.{PType}
 use Rattle.vx_model.specs.declared.ptype.PType.TheVariants.{I64}
@@ -11,7 +11,10 @@ use Rattle.vx_plan.specs.PlanData.{Setting, Plan}
 use Rattle.vx_plan.specs.Way.{Way, FlatOptions, flat, chunked}
 use Rattle.vx_plan.specs.InOrder.{batch_rows}
 use Rattle.vx_plan.specs.Number.{segments}
+use Rattle.vx_plan.specs.SourcePlan.{source_plan}
+use Rattle.vx_plan.specs.Valid.{Fit, AllOf}
 use Rattle.vx_sink.specs.Told.{before_told, then_told}
+use Rattle.vx_write.specs.InOrder.{AllWritten}
 use Rattle.vx_write.specs.declared.error.WriteError.{WriteError}
 use Rattle.vx_write.specs.declared.error.WriteError.TheVariants.{SourceFault, SinkFault, CompressFault, BatchType, NotStruct, DuplicateField, ManyChunks, EmptyList, ZoneCut, ForbiddenAggregate, ForbiddenEncoding, TooLarge, OutOfMemory, Unbuilt}
 
@@ -50,24 +53,42 @@ is_built w t = is_built_way w && is_built_type t
 
 -- ---- refusals
 
--- the last batch taken
-pub record TookLast (to_come_before to_come_now : Option (List Piece)) (b : Piece) : Type 0 where
+-- The last batch taken. Those before it are of the type and can be encoded.
+pub record TookLast (t : Ty) (ids : List EncodingId) (to_come_before to_come_now : Option (List Piece)) (b : Piece) : Type 0 where
   pub front : List Piece
   pub came : to_come_before ≡ before_told (front ++ b ∷ []) to_come_now
+  pub written : AllWritten ids t front
 
--- the rows of the batches taken, which don't fit 64 bits
-pub record TookRows (to_come_before to_come_now : Option (List Piece)) (n : ℕ) : Type 0 where
-  pub taken : List Piece
-  pub came : to_come_before ≡ before_told taken to_come_now
-  pub rows : n ≡ batch_rows taken
+-- the first encoding that isn't listed, of the last batch taken, which is of the type
+pub record NotListed (t : Ty) (ids : List EncodingId) (to_come_before to_come_now : Option (List Piece)) (id : EncodingId) : Type 0 where
+  pub batch : Piece
+  pub last : TookLast t ids to_come_before to_come_now batch
+  pub typed : piece_type batch ≡ t
+  pub first : refused ids batch ≡ Some id
+
+-- the rows of the batches taken, which are all of the type and don't fit 64 bits
+pub record TookRows (t : Ty) (ids : List EncodingId) (to_come_before to_come_now : Option (List Piece)) (n : ℕ) : Type 0 where
+  pub batch : Piece
+  pub last : TookLast t ids to_come_before to_come_now batch
+  pub typed : piece_type batch ≡ t
+  pub rows : n ≡ batch_rows (last.front ++ batch ∷ [])
   pub large : 2 ^ 64 ≤ n
+
+-- the next segment's number, which doesn't fit 32 bits, and which the last batch taken needs: it can be encoded
+pub record NeedsNumber (t : Ty) (ids : List EncodingId) (next : ℕ) (to_come_before to_come_now : Option (List Piece)) (n : ℕ) : Type 0 where
+  pub batch : Piece
+  pub last : TookLast t ids to_come_before to_come_now batch
+  pub typed : piece_type batch ≡ t
+  pub listed : refused ids batch ≡ None
+  pub number : n ≡ next
+  pub large : 2 ^ 32 ≤ n
 
 -- the cause of an error: a table, one line an error; faults are told by counts, and want of memory is free;
 -- `unbuilt` says that a form isn't built
 abbrev pub HasCause : Ty → List EncodingId → Type 0 → ℕ → Option (List Piece) → Option (List Piece) → WriteError → Type 0
-HasCause t ids unbuilt next before now (BatchType c) = (¬ (piece_type (piece c) ≡ t)) × TookLast before now (piece c)
-HasCause t ids unbuilt next before now (ForbiddenEncoding id) = (b : Piece) × (refused ids b ≡ Some id) × TookLast before now b
-HasCause t ids unbuilt next before now (TooLarge n) = ((n ≡ next) × (2 ^ 32 ≤ n)) ⊎ TookRows before now n
+HasCause t ids unbuilt next before now (BatchType c) = (¬ (piece_type (piece c) ≡ t)) × TookLast t ids before now (piece c)
+HasCause t ids unbuilt next before now (ForbiddenEncoding id) = NotListed t ids before now id
+HasCause t ids unbuilt next before now (TooLarge n) = NeedsNumber t ids next before now n ⊎ TookRows t ids before now n
 HasCause t ids unbuilt next before now SourceFault = Unit {0}
 HasCause t ids unbuilt next before now SinkFault = Unit {0}
 HasCause t ids unbuilt next before now OutOfMemory = Unit {0}
@@ -86,6 +107,24 @@ MayCome source sink SourceFault = source
 MayCome source sink SinkFault = sink
 MayCome source sink e = Unit {0}
 
+-- an error that comes behind a batch: the source's call that gave this batch wasn't one that must fail
+abbrev pub BehindBatch : Type 0 → WriteError → Type 0
+BehindBatch must_fail (BatchType c) = ¬ must_fail
+BehindBatch must_fail (ForbiddenEncoding id) = ¬ must_fail
+BehindBatch must_fail (TooLarge n) = ¬ must_fail
+BehindBatch must_fail SinkFault = ¬ must_fail
+BehindBatch must_fail e = Unit {0}
+
+-- An input whose write came to its end was valid: the plan of all batches has no fault and stores so many segments, every
+-- batch is a whole chunk of the type, and all numbers fit. Nothing is held back. The next number itself may pass 32 bits
+-- where no segment needs it.
+pub record WasValid (s : Setting) (w : Way) (t : Ty) (first : ℕ) (batches : List Piece) : Type 0 where
+  pub faultless : (source_plan s w t false batches true).faults ≡ []
+  pub whole : AllOf t batches
+  pub numbered : first + length (source_plan s w t false batches true).pairs ≤ max first (2 ^ 32)
+  pub fit : Fit (source_plan s w t false batches true).numbers
+  pub reserved : (source_plan s w t false batches true).reserved ≡ 0
+
 -- What stands after a refusal: the segments appended are the first of those that the batches taken give.
 pub record Stands (plan_of : List Piece → Plan) (first next : ℕ) (to_come_before to_come_now : Option (List Piece)) (before now : Option (List (List ℕ))) : Type 0 where
   pub taken : List Piece
@@ -101,13 +140,13 @@ pub record Stands (plan_of : List Piece → Plan) (first next : ℕ) (to_come_be
 -- why a batch isn't admitted
 abbrev pub NotAdmitted : Ty → Piece → ℕ → WriteError → Type 0
 NotAdmitted t p rows (BatchType c) = (piece c ≡ p) × (¬ (piece_type p ≡ t))
-NotAdmitted t p rows (TooLarge n) = (n ≡ rows + length (cells p)) × (2 ^ 64 ≤ n)
+NotAdmitted t p rows (TooLarge n) = (piece_type p ≡ t) × (n ≡ rows + length (cells p)) × (2 ^ 64 ≤ n)
 NotAdmitted t p rows e = ⊥
 
 -- why an admitted batch isn't written
 abbrev pub NotWritten : List EncodingId → ℕ → Piece → WriteError → Type 0
 NotWritten ids next p (ForbiddenEncoding id) = refused ids p ≡ Some id
-NotWritten ids next p (TooLarge n) = (n ≡ next) × (2 ^ 32 ≤ n)
+NotWritten ids next p (TooLarge n) = (refused ids p ≡ None) × (n ≡ next) × (2 ^ 32 ≤ n)
 NotWritten ids next p SinkFault = Unit {0}
 NotWritten ids next p OutOfMemory = Unit {0}
 NotWritten ids next p e = ⊥

@@ -15,7 +15,7 @@ ghost use Rattle.vx_sink.specs.Counts.{Counts, IsCalm};
 ghost use Rattle.vx_write.specs.declared.error.WriteError.TheVariants.{OutOfMemory};
 ghost use Rattle.vx_write.specs.Causes.{errs, is_source_fault, is_sink_fault};
 ghost use Rattle.vx_write.specs.InOrder.{AllWritten, BatchWritten, Finished, Halted};
-ghost use Rattle.vx_write.specs.Stream.{HasCause, MayCome, NotAdmitted, NotWritten, is_built_type};
+ghost use Rattle.vx_write.specs.Stream.{HasCause, MayCome, BehindBatch, NotAdmitted, NotWritten, is_built_type};
 
 use crate::error::WriteError;
 use std::alloc::Global;
@@ -38,11 +38,16 @@ pub(crate) fn write_column<B: BatchSource, S: SegmentSink>(
     ensures err { OnErr result (Halted ctx.now (B.kind source.old) (S.next sink.old) (S.next sink.new)
         (B.to_come source.old) (B.to_come source.new) (S.segments sink.old) (S.segments sink.new)) }
     ensures last { S.next sink.new ≤ max (S.next sink.old) (2 ^ 32) }
+    ensures borrow { S.borrow sink.new ≡ S.borrow sink.old }
     ensures source_count { Counts (B.faults source.old) (B.faults source.new) (errs is_source_fault result) }
     ensures sink_count { Counts (S.faults sink.old) (S.faults sink.new) (errs is_sink_fault result) }
     ensures cause { IfErr result (HasCause (B.kind source.old) ctx.now ⊥ (S.next sink.new) (B.to_come source.old) (B.to_come source.new)) }
     ensures may { IfErr result (MayCome (B.may_fail source.old (S.next sink.new - S.next sink.old))
         (S.may_fail sink.old (S.next sink.new - S.next sink.old))) }
+    ensures must_source { (k : ℕ) → k < S.next sink.new - S.next sink.old → ¬ B.must_fail source.old k }
+    ensures must_sink { (k : ℕ) → k < S.next sink.new - S.next sink.old → ¬ S.must_fail sink.old k }
+    ensures must_end { OnOk result (¬ B.must_fail source.old (S.next sink.new - S.next sink.old)) }
+    ensures must_refused { IfErr result (BehindBatch (B.must_fail source.old (S.next sink.new - S.next sink.old))) }
     ensures complete { (xs : List Piece) → B.to_come source.old ≡ Some xs → AllWritten ctx.now (B.kind source.old) xs
         → S.next sink.old + length xs ≤ 2 ^ 32 → batch_rows xs < 2 ^ 64
         → IsCalm (B.faults source.old) (B.faults source.new) → IsCalm (S.faults sink.old) (S.faults sink.new)
@@ -70,20 +75,22 @@ fn admit(dtype: &DType, batch: Chunk, rows: u64) -> Result<(Chunk, u64), WriteEr
     ensures same { IfOk result (λ r. piece r.0 ≡ piece batch) }
     ensures typed { OnOk result (piece_type (piece batch) ≡ ty dtype.now) }
     ensures rows { IfOk result (λ r. r.1 ≡ rows + length (cells (piece batch))) }
+    ensures fits { IfOk result (λ r. r.1 < 2 ^ 64) }
     ensures cause { IfErr result (NotAdmitted (ty dtype.now) (piece batch) rows) }
 {
     if batch.dtype() != dtype {
         return Err(WriteError::BatchType(batch));
     }
     let total = rows as u128 + batch.len() as u128;
-    if total > 18_446_744_073_709_551_615 {
+    let too_many = total > 18_446_744_073_709_551_615;
+    if too_many {
         return Err(WriteError::TooLarge(total));
     }
     Ok((batch, total as u64))
 }
 
 /// Appends the batch's segment. All memory is taken before the sink is called.
-#[tactic(auto, using(crate::proofs::Steps::chunk_back), unfolding(vx_kinds::specs::LayoutView::lay))]
+#[tactic(auto, using(crate::proofs::Steps::batch_rules), unfolding(vx_kinds::specs::LayoutView::lay))]
 fn write_batch<S: SegmentSink>(
     alloc: Global,
     ctx: &ArrayContext,
@@ -99,6 +106,9 @@ fn write_batch<S: SegmentSink>(
     ensures cause { IfErr result (NotWritten ctx.now (S.next sink.old) (piece batch.now)) }
     ensures may { IsTrue (errs is_sink_fault result) → S.may_fail sink.old 0 }
     ensures later { (k : ℕ) → OnOk result (S.may_fail sink.new k → S.may_fail sink.old (k + 1)) }
+    ensures must { OnOk result (¬ S.must_fail sink.old 0) }
+    ensures must_later { (k : ℕ) → OnOk result (S.must_fail sink.old (k + 1) → S.must_fail sink.new k) }
+    ensures borrow { S.borrow sink.new ≡ S.borrow sink.old }
     ensures complete { refused ctx.now (piece batch.now) ≡ None → S.next sink.old < 2 ^ 32 → IsCalm (S.faults sink.old) (S.faults sink.new)
         → IfErr result (λ e. e ≡ OutOfMemory) }
 {

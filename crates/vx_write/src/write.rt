@@ -1,6 +1,6 @@
 //! The one call that writes a stream.
 
-ghost use Rattle.std.specs.Prelude.{◌≡◌, ℕ, ◌+◌, ◌-◌, ◌≤◌, ◌^◌, ◌↔◌, max, Some, true, false, List, [], length, IsTrue, IfOk, IfErr, OnOk, OnErr, IsErr, MatchResult};
+ghost use Rattle.std.specs.Prelude.{◌≡◌, ℕ, ◌+◌, ◌-◌, ◌<◌, ◌≤◌, ◌^◌, ◌↔◌, max, Some, true, false, List, [], length, IsTrue, IfOk, IfErr, OnOk, OnErr, IsErr, MatchResult};
 ghost use Rattle.vx_model.specs.TyView.{ty};
 ghost use Rattle.vx_model.specs.Piece.{Piece};
 ghost use Rattle.vx_kinds.specs.LayoutView.{lay};
@@ -17,7 +17,7 @@ ghost use Rattle.vx_write.specs.declared.error.WriteError.TheVariants.{OutOfMemo
 ghost use Rattle.vx_nodes.specs.StrategyView.{way};
 ghost use Rattle.vx_write.specs.Causes.{errs, is_source_fault, is_sink_fault, is_unbuilt};
 ghost use Rattle.vx_nodes.specs.OptionViews.{flat_options};
-ghost use Rattle.vx_write.specs.Stream.{Writes, Stands, HasCause, MayCome, is_default as is_default_flat, is_flat_default, is_built, is_built_type};
+ghost use Rattle.vx_write.specs.Stream.{Writes, WasValid, Stands, HasCause, MayCome, BehindBatch, is_default as is_default_flat, is_flat_default, is_built, is_built_type};
 
 use crate::error::WriteError;
 use crate::stream::write_column;
@@ -76,11 +76,15 @@ pub fn write_stream<B: BatchSource, S: SegmentSink, C: CompressorPlugin>(
     ensures ended { OnOk result (NoneTold (B.to_come source.new)) }
     // No segment has a number past the last.
     ensures last { S.next sink.new ≤ max (S.next sink.old) (2 ^ 32) }
+    ensures borrow { S.borrow sink.new ≡ S.borrow sink.old }
+    // Ok comes of valid input alone.
+    ensures valid { OnOk result ((s : Setting) (xs : List Piece) → Writes (listed ctx.old) s → B.to_come source.old ≡ Some xs
+        → WasValid s (way strategy.now) (B.kind source.old) (S.next sink.old) xs) }
 
     // A fault is told by its count, and after anything else the counts are as before.
     ensures source_count { Counts (B.faults source.old) (B.faults source.new) (errs (λ r. is_source_fault r.error) result) }
     ensures sink_count { Counts (S.faults sink.old) (S.faults sink.new) (errs (λ r. is_sink_fault r.error) result) }
-    ensures compress_count { C.faults compressor.new ≡ C.faults compressor.old }
+    ensures compressor { compressor.new ≡ compressor.old }
 
     // After a refusal the segments appended are the first of the plan of the batches taken.
     ensures prefix { OnErr result ((s : Setting) → Writes (listed ctx.old) s
@@ -90,12 +94,17 @@ pub fn write_stream<B: BatchSource, S: SegmentSink, C: CompressorPlugin>(
         (is_built (way strategy.now) (B.kind source.old) ≡ false) (S.next sink.new) (B.to_come source.old) (B.to_come source.new) r.error) }
     ensures may { IfErr result (λ r. MayCome (B.may_fail source.old (S.next sink.new - S.next sink.old))
         (S.may_fail sink.old (S.next sink.new - S.next sink.old)) r.error) }
+    // No call that must fail is passed over.
+    ensures must_source { (k : ℕ) → k < S.next sink.new - S.next sink.old → ¬ B.must_fail source.old k }
+    ensures must_sink { (k : ℕ) → k < S.next sink.new - S.next sink.old → ¬ S.must_fail sink.old k }
+    ensures must_end { OnOk result (¬ B.must_fail source.old (S.next sink.new - S.next sink.old)) }
+    ensures must_refused { IfErr result (λ r. BehindBatch (B.must_fail source.old (S.next sink.new - S.next sink.old)) r.error) }
 
     // A form that isn't built is refused before the source is asked.
     ensures unbuilt { is_built (way strategy.now) (B.kind source.old) ≡ false → IfErr result (λ r. is_unbuilt r.error ≡ true) }
     ensures unbuilt_is_err { is_built (way strategy.now) (B.kind source.old) ≡ false → IsErr result }
-    ensures unasked { is_built (way strategy.now) (B.kind source.old) ≡ false → B.to_come source.new ≡ B.to_come source.old }
-    ensures unsunk { is_built (way strategy.now) (B.kind source.old) ≡ false → S.next sink.new ≡ S.next sink.old }
+    ensures unasked { is_built (way strategy.now) (B.kind source.old) ≡ false → source.new ≡ source.old }
+    ensures unsunk { is_built (way strategy.now) (B.kind source.old) ≡ false → sink.new ≡ sink.old }
 
     // Valid input, where nothing fails, gives Ok or want of memory.
     ensures complete { (s : Setting) (tracker : ℕ) (xs : List Piece) → Writes (listed ctx.old) s → B.to_come source.old ≡ Some xs

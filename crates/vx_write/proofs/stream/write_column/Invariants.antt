@@ -1,4 +1,4 @@
-use Rattle.std.proofs.Common.{◌≡◌, ℕ, ◌+◌, ◌≤◌, ◌^◌, max, length, map}
+use Rattle.std.proofs.Common.{◌≡◌, ℕ, ◌+◌, ◌<◌, ◌≤◌, ◌^◌, max, length, map}
 use Rattle.vx_kinds.specs.LayoutView.{lay}
 use Rattle.vx_write.specs.InOrder.{Done}
 use Rattle.vx_write.proofs.stream.write_column.Given as goal
@@ -10,6 +10,12 @@ invariant-batches g l = record {
   sink_count : g.S.SegmentSink.faults l.sink ≡ g.S.SegmentSink.faults l.fn.sink;
   next : g.S.SegmentSink.next l.sink ≡ g.S.SegmentSink.next l.fn.sink + length l.flats.items;
   last : g.S.SegmentSink.next l.sink ≤ max (g.S.SegmentSink.next l.fn.sink) (2 ^ 32);
+  fits : l.rows < 2 ^ 64;
+  borrow : g.S.SegmentSink.borrow l.sink ≡ g.S.SegmentSink.borrow l.fn.sink;
+  source_passed : (k : ℕ) → k < length l.flats.items → ¬ g.B.BatchSource.must_fail l.fn.source k;
+  sink_passed : (k : ℕ) → k < length l.flats.items → ¬ g.S.SegmentSink.must_fail l.fn.sink k;
+  source_must : (k : ℕ) → g.B.BatchSource.must_fail l.fn.source (length l.flats.items + k) → g.B.BatchSource.must_fail l.source k;
+  sink_must : (k : ℕ) → g.S.SegmentSink.must_fail l.fn.sink (length l.flats.items + k) → g.S.SegmentSink.must_fail l.sink k;
   source_may : (k : ℕ) → g.B.BatchSource.may_fail l.source k → g.B.BatchSource.may_fail l.fn.source (length l.flats.items + k);
   sink_may : (k : ℕ) → g.S.SegmentSink.may_fail l.sink k → g.S.SegmentSink.may_fail l.fn.sink (length l.flats.items + k);
   done : Done l.ctx (g.B.BatchSource.kind l.fn.source) (g.S.SegmentSink.next l.fn.sink) (map lay l.flats.items) l.rows
