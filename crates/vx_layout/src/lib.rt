@@ -2,8 +2,8 @@
 #![tactic(auto)]
 
 pub use vx_aggregate::{
-    AggregateFn, SpecError, Stat, aggregate_stats_table_dtype, default_zoned_aggregate_fns,
-    legacy_stats_table_dtype,
+    AggregateFn, MAX_IS_TRUNCATED, MIN_IS_TRUNCATED, SpecError, Stat, aggregate_stats_table_dtype,
+    default_zoned_aggregate_fns, legacy_stats_table_dtype,
 };
 pub use vx_display::{DisplayLayoutTree, LayoutDisplay};
 pub use vx_kinds::{
@@ -19,7 +19,7 @@ pub use vx_layout_codec::{
 };
 pub use vx_metadata::{
     AggregateSpec, DictLayoutMetadata, FlatLayoutMetadata, LegacyStatsMetadata, ListLayoutMetadata,
-    MetadataError, ZonedMetadata,
+    MetadataError, ZonedMetadata, are_in_order,
 };
 pub use vx_read::{ReadError, SegmentMap, read_rows};
 pub use vx_session::{

@@ -5,7 +5,9 @@ ghost use Rattle.vx_aggregate.specs.declared.stat.Stat.TheVariants as stats;
 
 mod nodes;
 mod own;
+mod parsed;
 mod parts;
+mod slots;
 mod walks;
 
 use crate::{

@@ -1,16 +1,22 @@
 -- What a parser answers is spelled as its bytes.
-use Rattle.std.proofs.Common.{◌≡◌, ℕ, ◌^◌, Bool, true, false, List, length, Result, Ok, Err}
+use Rattle.std.proofs.Common.{◌≡◌, ℕ, ◌^◌, Bool, true, false, List, length, Result, Ok, Err, subst}
 use Rattle.std.specs.Prelude.{◌&&◌, not, nat_lt, IfOk, IsTrue}
 use Rattle.vx_model.specs.Ty.{Ty}
 use Rattle.vx_session.specs.Ids.{are_distinct, is_context}
 use Rattle.vx_session.specs.Scope.{Scope}
+use Rattle.vx_session.specs.Builder.{builder}
+use Rattle.vx_layout_bytes.specs.Node.{Node}
+use Rattle.vx_layout_bytes.specs.Reading.{Fault}
+use Rattle.vx_layout_bytes.specs.Spelled.{spelling}
+use Rattle.vx_layout_bytes.specs.Values.{IsWithin}
+use Rattle.vx_layout_bytes.proofs.NodeLaws.{root_again}
 use Rattle.vx_kinds.specs.Views.{Gives}
 use Rattle.vx_kinds.specs.LayoutView.{lay}
 use Rattle.vx_kinds.specs.declared.layout.Layout.{Layout}
 use Rattle.vx_kinds.specs.declared.error.LayoutError.{LayoutError}
 use Rattle.vx_layout_spelling.specs.Permitted.{built}
 use Rattle.vx_layout_spelling.specs.Bytes.{bytes_in}
-use Rattle.vx_layout_spelling.specs.Parsed.{parsed}
+use Rattle.vx_layout_spelling.specs.Parsed.{parsed, built_at, node_or_refusal}
 use Rattle.vx_layout_spelling.specs.Again.{AreBytes}
 use Rattle.vx_layout_spelling.proofs.SpelledAgain.{the_law}
 
@@ -25,3 +31,8 @@ pub answer_again : (s : Scope) (t : Ty) (deep nodes : ℕ) (bytes : List ℕ) (r
     → IfOk r (λ l. built (lay l) ≡ Ok tt → bytes_in s.ids (lay l) ≡ Ok bytes)
 answer_again s t deep nodes bytes (Ok l) d fits h = λ b. the_law s t deep nodes bytes (lay l) (distinct_of s.ids d) fits h b
 answer_again s t deep nodes bytes (Err e) d fits h = tt
+
+pub answer_only : (s : Scope) (t : Ty) (deep nodes : ℕ) (bytes : List ℕ) (r : Result Layout LayoutError) → Gives lay r (parsed s t deep nodes bytes)
+    → (n : Node) → IsWithin deep nodes n → spelling n ≡ bytes → Gives lay r (builder s n t)
+answer_only s t deep nodes bytes r h n within spelled =
+    subst (λ (read : Result Node Fault). Gives lay r (built_at s t (node_or_refusal read))) (root_again deep nodes bytes n within spelled) h

@@ -16,6 +16,7 @@ use Rattle.vx_layout_spelling.specs.Bytes.{unless_refused}
 use Rattle.vx_kinds.specs.ChildView.{child_lay}
 use Rattle.vx_kinds.specs.declared.child.LayoutChild.{LayoutChild}
 use Rattle.vx_layout_codec.specs.Views.{children_answer, kept}
+use Rattle.vx_layout_codec.proofs.FitSteps.{below_more}
 
 pub lays_back : (ls : Lays ℕ) → lays_of (lays_in ls) ≡ ls
 lays_back no_layouts = refl
@@ -250,4 +251,4 @@ pub ruleset node_rules = (built_is, drop_built, drop_refused, drop_nodes, node_i
 
 pub ruleset own_rules = (raw_is)
 
-pub ruleset number_rules = (map_push, take_more)
+pub ruleset number_rules = (map_push, take_more, below_more)

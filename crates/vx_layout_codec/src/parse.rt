@@ -2,7 +2,11 @@
 
 ghost use Rattle.std.specs.Prelude.{◌≡◌, ◌≤◌, false, Ok, IfOk};
 ghost use Rattle.vx_model.specs.TyView.{ty};
+ghost use Rattle.vx_layout_bytes.specs.Node.{Node};
+ghost use Rattle.vx_layout_bytes.specs.Spelled.{spelling};
+ghost use Rattle.vx_layout_bytes.specs.Values.{IsWithin};
 ghost use Rattle.vx_layout_bytes.specs.Views.{raw};
+ghost use Rattle.vx_session.specs.Builder.{builder};
 ghost use Rattle.vx_session.specs.Views.{scope_in, scope_of};
 ghost use Rattle.vx_kinds.specs.LayoutView.{lay};
 ghost use Rattle.vx_kinds.specs.Views.{Gives};
@@ -29,6 +33,8 @@ pub fn layout_from_flatbuffer(
 ) -> Result<Layout, LayoutError>
     requires { limits.depth ≤ 1024 }
     ensures again { IfOk result (λ l. built (lay l) ≡ Ok tt → bytes_in layout_ctx.now (lay l) ≡ Ok bytes.now) }
+    ensures only { (n : Node) → IsWithin limits.depth limits.nodes n → spelling n ≡ bytes.now
+        → Gives lay result (builder (scope_in layout_ctx.now ctx.now session.now false) n (ty dtype.now)) }
     ensures exact { Gives lay result (parsed (scope_in layout_ctx.now ctx.now session.now false) (ty dtype.now) limits.depth limits.nodes bytes.now) }
 {
     layout_from_flatbuffer_with_options(
@@ -51,6 +57,9 @@ pub fn layout_from_flatbuffer_with_options(
     requires { limits.depth ≤ 1024 }
     // A layout of which each node can be built is spelled as these bytes.
     ensures again { IfOk result (λ l. built (lay l) ≡ Ok tt → bytes_in layout_ctx.now (lay l) ≡ Ok bytes.now) }
+    // What spells a node within the limits is refused by the builds alone.
+    ensures only { (n : Node) → IsWithin limits.depth limits.nodes n → spelling n ≡ bytes.now
+        → Gives lay result (builder (scope_in layout_ctx.now ctx.now session.now allow_unknown) n (ty dtype.now)) }
     ensures exact { Gives lay result (parsed (scope_in layout_ctx.now ctx.now session.now allow_unknown) (ty dtype.now) limits.depth limits.nodes bytes.now) }
 {
     layout_ctx.ids();

@@ -1,8 +1,10 @@
 //! Spelling a layout in a context.
 
-ghost use Rattle.std.specs.Prelude.{◌≡◌, map, IfOk};
+ghost use Rattle.std.specs.Prelude.{◌≡◌, ◌<◌, ◌^◌, map, IfOk};
+ghost use Rattle.std.specs.List.{AllByRecursion};
 ghost use Rattle.vx_tree.specs.LayoutTree.{layout_kind, row_count, segments_of, children_of};
 ghost use Rattle.vx_layout_bytes.specs.Node.{node, nodes_of};
+ghost use Rattle.vx_layout_bytes.specs.Values.{Fits, AllFit};
 ghost use Rattle.vx_layout_bytes.specs.Views.{raw};
 ghost use Rattle.vx_kinds.specs.LayoutView.{lay, number};
 ghost use Rattle.vx_kinds.specs.Views.{Gives};
@@ -23,7 +25,9 @@ pub fn layout_bytes(
     layout: &Layout,
     ctx: &LayoutContext,
 ) -> Result<Vec<u8>, LayoutError>
-    ensures { Gives (λ v. v.items) result (bytes_in ctx.now (lay layout.now)) }
+    ensures exact { Gives (λ v. v.items) result (bytes_in ctx.now (lay layout.now)) }
+    // Each number of the node that is spelled fits its field.
+    ensures fits { IfOk result (λ v. Fits (node_in ctx.now (lay layout.now))) }
 {
     check_permitted(alloc, layout, ctx)?;
     let node = node_of(alloc, layout, ctx)?;
@@ -33,7 +37,8 @@ pub fn layout_bytes(
 /// The node that the layout is. An id that the context doesn't list is taken as the first one.
 #[tactic(auto, using(crate::proofs::WalkSteps::node_rules))]
 fn node_of(alloc: Global, layout: &Layout, ctx: &LayoutContext) -> Result<RawNode, LayoutError>
-    ensures { Gives raw result (unless_refused (built (lay layout.now)) (node_in ctx.now (lay layout.now))) }
+    ensures node { Gives raw result (unless_refused (built (lay layout.now)) (node_in ctx.now (lay layout.now))) }
+    ensures fits { IfOk result (λ n. Fits (raw n)) }
 {
     layout.built();
     let mut children = Vec::new(alloc);
@@ -52,7 +57,8 @@ fn own_node(
     ctx: &LayoutContext,
     children: Vec<RawNode>,
 ) -> Result<RawNode, AllocError>
-    ensures { IfOk result (λ n. raw n ≡ node (own_in ctx.now (lay layout.now)) (nodes_of (map raw children.items))) }
+    ensures node { IfOk result (λ n. raw n ≡ node (own_in ctx.now (lay layout.now)) (nodes_of (map raw children.items))) }
+    ensures fits { IfOk result (λ n. AllFit (nodes_of (map raw children.items)) → Fits (raw n)) }
 {
     let index = ctx.place(layout.encoding_id()).unwrap_or(0);
     let metadata = Blob::from(layout.metadata(alloc)?);
@@ -68,7 +74,8 @@ fn own_node(
 
 #[tactic(auto, using(crate::proofs::WalkSteps::number_rules))]
 fn numbers_of(alloc: Global, segment_ids: &[SegmentId]) -> Result<Vec<u32>, AllocError>
-    ensures { IfOk result (λ v. v.items ≡ map number segment_ids.now) }
+    ensures numbers { IfOk result (λ v. v.items ≡ map number segment_ids.now) }
+    ensures fits { IfOk result (λ v. AllByRecursion (λ n. n < 2 ^ 32) v.items) }
 {
     let mut numbers = Vec::with_capacity(alloc, segment_ids.len())?;
     for segment in segment_ids {

@@ -14,13 +14,21 @@ use vx_sink::MemorySink;
 use vx_types::{Blob, Text};
 
 fn ids(alloc: Global) -> Result<LayoutContext, Fail> {
-    let mut ids = Vec::new(alloc);
-    ids.push(Text::from_str(alloc, "vortex.chunked")?)?;
-    ids.push(Text::from_str(alloc, "vortex.flat")?)?;
+    let chunked = Text::from_str(alloc, "vortex.chunked")?;
+    let ids = vec![in alloc; chunked, Text::from_str(alloc, "vortex.flat")?]?;
     if LayoutContext::is_context(&ids) {
         Ok(LayoutContext::new(ids))
     } else {
         Err(Fail::from("the ids are a context"))
+    }
+}
+
+fn flat_ids(alloc: Global) -> Result<LayoutContext, Fail> {
+    let ids = vec![in alloc; Text::from_str(alloc, "vortex.flat")?]?;
+    if LayoutContext::is_context(&ids) {
+        Ok(LayoutContext::new(ids))
+    } else {
+        Err(Fail::from("one id is a context"))
     }
 }
 
@@ -45,6 +53,20 @@ fn lengths_shown(alloc: Global, layout: &Layout, segments: &[Blob]) -> Result<Te
     Ok(layout.display_tree_with_segments(alloc, &SegmentMap { first: 0, list })?)
 }
 
+/// One flat layout of a row.
+const FLAT: [u8; 38] = [
+    0, 0, 1, 0, 0, 0, 0, 0, 0, 0, 0, 0, 0, 0, 0, 0, 0, 0, 1, 0, 0, 0, 0, 0, 0, 0, 0, 0, 0, 0, 0, 0,
+    0, 0, 0, 0, 0, 0,
+];
+
+/// Three rows in chunks of two and one.
+const CHUNKED: [u8; 110] = [
+    0, 0, 3, 0, 0, 0, 0, 0, 0, 0, 0, 0, 0, 0, 0, 0, 0, 0, 0, 0, 0, 0, 0, 0, 0, 0, 2, 0, 0, 0, 0, 0,
+    0, 0, 1, 0, 2, 0, 0, 0, 0, 0, 0, 0, 0, 0, 0, 0, 0, 0, 0, 0, 1, 0, 0, 0, 0, 0, 0, 0, 0, 0, 0, 0,
+    0, 0, 0, 0, 0, 0, 0, 0, 1, 0, 1, 0, 0, 0, 0, 0, 0, 0, 0, 0, 0, 0, 0, 0, 0, 0, 1, 0, 0, 0, 0, 0,
+    0, 0, 1, 0, 0, 0, 0, 0, 0, 0, 0, 0, 0, 0,
+];
+
 #[test]
 fn a_written_layout_again(rt: HostRuntime) -> Result<(), Fail> {
     let alloc = rt.alloc();
@@ -52,7 +74,7 @@ fn a_written_layout_again(rt: HostRuntime) -> Result<(), Fail> {
     let layout = written(alloc, batches(alloc, &[&[1, 2], &[3]])?, &mut sink)?;
     let ids = ids(alloc)?;
     let bytes = layout_bytes(alloc, &layout, &ids)?;
-    assert_eq!(rt; bytes.len(), 110);
+    assert_eq!(rt; bytes.as_slice(), CHUNKED.as_slice());
     let again = parsed(alloc, &bytes, &ids)?;
     assert_eq!(rt;
         shown(alloc, &again)?.as_str(),
@@ -69,7 +91,11 @@ fn one_batch_with_lengths(rt: HostRuntime) -> Result<(), Fail> {
     let alloc = rt.alloc();
     let mut sink = MemorySink::new(0, Vec::new(alloc));
     let layout = written(alloc, batches(alloc, &[&[7]])?, &mut sink)?;
-    assert_eq!(rt; layout_bytes(alloc, &layout, &ids(alloc)?)?.len(), 38);
+    let ids = flat_ids(alloc)?;
+    assert_eq!(rt;
+        layout_bytes(alloc, &layout, &ids)?.as_slice(),
+        FLAT.as_slice()
+    );
     assert_eq!(rt;
         lengths_shown(alloc, &layout, sink.segments())?.as_str(),
         "vortex.flat, dtype: i64, rows: 1, segment 0, buffers=[8B], total=8B\n"

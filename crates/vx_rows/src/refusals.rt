@@ -25,11 +25,11 @@ fn one(alloc: Global, number: u64) -> Result<Vec<u64>, AllocError> {
     Ok(calls)
 }
 
-/// The batches [1] and [2].
+/// The batches [1, 2] and [3].
 fn two_batches(alloc: Global) -> Result<Vec<Chunk>, AllocError> {
     let mut batches = Vec::new(alloc);
-    batches.push(integers(alloc, &[1])?)?;
-    batches.push(integers(alloc, &[2])?)?;
+    batches.push(integers(alloc, &[1, 2])?)?;
+    batches.push(integers(alloc, &[3])?)?;
     Ok(batches)
 }
 
@@ -53,13 +53,18 @@ fn write(
     ))
 }
 
+fn u8_type() -> DType {
+    DType::Primitive(PType::U8, Nullability::NonNullable)
+}
+
+/// Of a batch of another type, where the batch of U8 is handed back.
 fn name(written: &Result<Written, Refused>) -> &'static str {
     match written {
         Ok(_) => "Ok",
         Err(refused) => match &refused.error {
             WriteError::SourceFault => "SourceFault",
             WriteError::SinkFault => "SinkFault",
-            WriteError::BatchType(_) => "BatchType",
+            WriteError::BatchType(batch) if batch.dtype() == &u8_type() => "BatchType",
             WriteError::ForbiddenEncoding(EncodingId::Plain) => "ForbiddenEncoding",
             WriteError::TooLarge(4_294_967_296) => "TooLarge",
             WriteError::Unbuilt => "Unbuilt",
@@ -89,6 +94,25 @@ fn failing_sources(rt: HostRuntime) -> Result<(), Fail> {
         assert_eq!(rt; name(&result), wanted);
         assert_eq!(rt; sink.segments().len(), segments);
     }
+    Ok(())
+}
+
+#[test]
+fn a_source_that_fails_at_its_end(rt: HostRuntime) -> Result<(), Fail> {
+    let alloc = rt.alloc();
+    let mut batches = Vec::new(alloc);
+    batches.push(integers(alloc, &[1])?)?;
+    let mut source = ListSource::new(i64_type(), batches, one(alloc, 1)?);
+    let mut sink = MemorySink::new(0, Vec::new(alloc));
+    let result = write(
+        alloc,
+        EncodingId::Plain,
+        &chunked_flat(alloc)?,
+        &mut source,
+        &mut sink,
+    )?;
+    assert_eq!(rt; name(&result), "SourceFault");
+    assert_eq!(rt; sink.segments().len(), 1);
     Ok(())
 }
 
@@ -139,10 +163,7 @@ fn batches_and_encodings(rt: HostRuntime) -> Result<(), Fail> {
     let alloc = rt.alloc();
     let mut batches = Vec::new(alloc);
     batches.push(integers(alloc, &[1])?)?;
-    batches.push(Chunk::plain(
-        DType::Primitive(PType::U8, Nullability::NonNullable),
-        Vec::new(alloc),
-    ))?;
+    batches.push(Chunk::plain(u8_type(), Vec::new(alloc)))?;
     let mut source = ListSource::new(i64_type(), batches, Vec::new(alloc));
     let mut sink = MemorySink::new(0, Vec::new(alloc));
     let result = write(

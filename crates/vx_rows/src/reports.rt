@@ -73,11 +73,38 @@ fn names_the_refused_place(rt: HostRuntime) -> Result<(), Fail> {
         ("{} {}", "bad job at json\n"),
         ("[]", "bad job at job\n"),
         ("7", "bad job at job\n"),
+        ("true", "bad job at job\n"),
+        ("\"a\"", "bad job at job\n"),
         ("null", "bad job at job\n"),
     ] {
         let (status, output) = written(rt.alloc(), job.as_bytes(), 64, NEVER)?;
         assert_eq!(rt; status, Status::BadJob);
         assert_eq!(rt; output.bytes(), line.as_bytes());
+    }
+    Ok(())
+}
+
+#[test]
+fn bytes_that_are_no_text(rt: HostRuntime) -> Result<(), Fail> {
+    let (status, output) = written(rt.alloc(), &[0x22, 0xff, 0x22], 64, NEVER)?;
+    assert_eq!(rt; status, Status::BadJob);
+    assert_eq!(rt; output.bytes(), "bad job at json\n".as_bytes());
+    Ok(())
+}
+
+#[test]
+fn types_that_are_not_built(rt: HostRuntime) -> Result<(), Fail> {
+    let alloc = rt.alloc();
+    for schema in ["i64?", "u8", "utf8"] {
+        let job = format!(in alloc;
+            "{{\"schema\":\"{schema}\",\"strategy\":{{\"chunked\":\"flat\"}},\"batches\":[]}}"
+        )?;
+        let (status, output) = written(alloc, job.as_bytes(), 64, NEVER)?;
+        assert_eq!(rt; status, Status::Refused);
+        assert_eq!(rt;
+            output.bytes(),
+            "refused Unbuilt\nsegments\ntrace\n".as_bytes()
+        );
     }
     Ok(())
 }

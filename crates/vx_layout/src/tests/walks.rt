@@ -25,7 +25,7 @@ fn push_id(text: &mut String, node: Result<LayoutChild<'_>, AllocError>) -> Resu
     Ok(())
 }
 
-fn walked(alloc: Global, layout: &Layout) -> Result<String, Fail> {
+pub(super) fn walked(alloc: Global, layout: &Layout) -> Result<String, Fail> {
     let mut text = String::new(alloc);
     for node in layout.depth_first_traversal(alloc) {
         push_id(&mut text, node)?;

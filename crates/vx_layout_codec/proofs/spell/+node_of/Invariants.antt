@@ -1,5 +1,7 @@
 use Rattle.std.proofs.Common.{◌≡◌, drop, map}
 use Rattle.vx_tree.specs.LayoutTree.{lays_of, children_of}
+use Rattle.vx_layout_bytes.specs.Node.{nodes_of}
+use Rattle.vx_layout_bytes.specs.Values.{AllFit}
 use Rattle.vx_layout_bytes.specs.Views.{raw}
 use Rattle.vx_kinds.specs.LayoutView.{lay}
 use Rattle.vx_kinds.specs.LayDepth.{depth}
@@ -15,4 +17,5 @@ abbrev pub invariant-loop-i : goal.invariant-loop-i
 invariant-loop-i l = record {
   built : built (lay l.layout) ≡ all_built (lays_of (drop l.i (children_of (lay l.layout))));
   nodes : onto (map raw l.children.items) (nodes_in l.ctx (lays_of (drop l.i (children_of (lay l.layout))))) ≡ nodes_in l.ctx (lays_of (children_of (lay l.layout)));
+  fits : AllFit (nodes_of (map raw l.children.items));
 }
