@@ -1,5 +1,5 @@
 -- What is shown of a job that was written, and of one that was refused.
-use Rattle.std.proofs.Common.{◌≡◌, ℕ, suc, ◌+◌, ◌-◌, ◌≤◌, ◌<◌, ◌^◌, ◌&&◌, nat_lt, max, not, Bool, true, false, List, [], ◌∷◌, ◌++◌, length, Option, Some, None, refl, sym, ap, subst, ◌∙◌, arith, inl, inr}
+use Rattle.std.proofs.Common.{◌≡◌, ℕ, suc, ◌+◌, ◌-◌, ◌≤◌, ◌<◌, ◌^◌, ◌&&◌, nat_lt, max, not, Bool, true, false, List, [], ◌∷◌, ◌++◌, length, Option, Some, None, refl, sym, ap, subst, ◌∙◌, arith, below_more, inl, inr}
 use Rattle.std.proofs.lemmas.List.{append_cancel_right}
 use Rattle.vx_chunk.specs.ChunkView.{piece}
 use Rattle.std.specs.Prelude.{map, option_map, IsTrue, ◌⊎◌}
@@ -26,7 +26,6 @@ use Rattle.vx_write.specs.Stream.{Writes, HasCause, MayCome, BehindBatch, TookLa
 use Rattle.vx_write.specs.Causes.{is_source_fault, is_sink_fault, is_unbuilt}
 use Rattle.vx_write.specs.declared.error.WriteError.{WriteError}
 use Rattle.vx_write.specs.declared.error.WriteError.TheVariants as errors
-use Rattle.vx_write.proofs.Steps.{none_more}
 use Rattle.vx_write.proofs.Bridge.{built}
 use Rattle.vx_job.specs.JobParts.{FailingCalls}
 use Rattle.vx_job.specs.JobText.{JobData}
@@ -123,6 +122,9 @@ none_fails j source sink asked appended forced no_source no_sink = record {
   source = λ k less listed. no_source k less (forced.of_source k listed);
   sink = λ k less listed. no_sink k less (forced.of_sink k listed);
 }
+
+none_more : (must : ℕ → Type 0) (n : ℕ) → ((k : ℕ) → k < n → ¬ (must k)) → ¬ (must n) → (k : ℕ) → k < n + 1 → ¬ (must k)
+none_more must n passed last = below_more (λ (k : ℕ). ¬ (must k)) n passed last
 
 -- and the one behind the last, where the refusal came behind a batch
 given_passed : (e : WriteError) (stand : ℕ) (must : ℕ → Type 0) → ((k : ℕ) → k < stand → ¬ (must k)) → BehindBatch (must stand) e → (k : ℕ) → k < batches_given e stand → ¬ (must k)
@@ -289,9 +291,13 @@ number_for j taken stand n now a c is came count h = record {
 }
 
 rows_for : (j : JobData) (taken : List Piece) (n : ℕ) (a c : Option (List Piece)) → a ≡ Some j.batches → a ≡ before_told taken c → TookRows j.schema j.options.encodings a c n → RowsPass j taken n
-rows_for j taken n a c is came h =
-    let last : IsLast j taken h.batch = last_is j taken a c is came h.last in
-    record { batch = h.batch; last = last; typed = h.typed; rows = h.rows ∙ ap batch_rows (sym last.is); large = h.large }
+rows_for j taken n a c is came h = record {
+  batch = h.batch;
+  last = last_is j taken a c is came h.last;
+  typed = h.typed;
+  rows = h.rows ∙ ap batch_rows (sym (same_taken taken (h.last.front ++ h.batch ∷ []) a c j.batches is came h.last.came));
+  large = h.large;
+}
 
 large_for : (j : JobData) (taken : List Piece) (stand n now : ℕ) (a c : Option (List Piece)) → a ≡ Some j.batches → a ≡ before_told taken c → now ≡ j.options.next + stand
     → NeedsNumber j.schema j.options.encodings now a c n ⊎ TookRows j.schema j.options.encodings a c n → RefusedFor j taken stand (errors.TooLarge n)
