@@ -7,7 +7,7 @@ use Rattle.vx_kinds.specs.LayDepth.{depth, depths}
 use Rattle.vx_kinds.specs.Views.{Fails}
 use Rattle.vx_kinds.specs.declared.error.LayoutError.{LayoutError}
 use Rattle.vx_kinds.specs.declared.error.LayoutError.TheVariants as errors
-use Rattle.vx_layout_spelling.specs.Permitted.{built, all_built, and_checked}
+use Rattle.vx_display.specs.Building.{built, all_built, and_built}
 
 pub lays_back : (ls : Lays ℕ) → lays_of (lays_in ls) ≡ ls
 lays_back no_layouts = refl
@@ -55,7 +55,7 @@ built_is (layout (refused_kind f q) t n names ls) is = cc
 -- ---- the children one by one
 
 pub drop_built : (ls : List (Lay ℕ)) (i : ℕ) (l : Lay ℕ) → i < length ls → child_in ls i ≡ Ok l
-    → all_built (lays_of (drop i ls)) ≡ and_checked (built l) (all_built (lays_of (drop (i + 1) ls)))
+    → all_built (lays_of (drop i ls)) ≡ and_built (built l) (all_built (lays_of (drop (i + 1) ls)))
 drop_built [] i l lt is = absurd (omega (arith, lt))
 drop_built (x ∷ ls) zero l lt is = rw (answered_same x l is) refl
 drop_built (x ∷ ls) (suc i) l lt is = let e : suc i + 1 ≡ suc (i + 1) = omega arith in rw e (drop_built ls i l (omega (arith, lt)) is)

@@ -1,3 +1,4 @@
+pub mod Building
 pub mod Lengths
 pub mod Text
 pub mod Views
