@@ -92,7 +92,7 @@ fn chunks(rt: HostRuntime) -> Result<(), Fail> {
 }
 
 /// The refused id is that of flat layouts.
-fn names_flat(error: &LayoutError) -> bool {
+pub(crate) fn names_flat(error: &LayoutError) -> bool {
     match error {
         LayoutError::NotPermitted(id) => id.as_str() == "vortex.flat",
         _ => false,
