@@ -1,5 +1,4 @@
 pub mod FlatLists
-pub mod ZoneTables
 pub mod NodeArrays
 pub mod ColumnArrays
 pub mod Strategies

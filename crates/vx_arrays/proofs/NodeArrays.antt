@@ -30,7 +30,7 @@ use Rattle.vx_plan.proofs.FlatLaws.{cons_nil}
 use Rattle.vx_arrays.specs.Flats.{FlatsHold}
 use Rattle.vx_arrays.specs.Statements.{Encodes}
 use Rattle.vx_arrays.proofs.FlatLists.{AllHold, gathered_flats}
-use Rattle.vx_arrays.proofs.ZoneTables.{whole_table}
+use Rattle.vx_plan.proofs.ZonedLaws.{whole_table}
 
 -- What is said of a node at a type: each flat node of what it gives is as the strategy has it.
 pub record Arrays (s : Setting) (options : List FlatOptions) (Good : Type 0) (t : Ty) (k : Node) : Type 0 where

@@ -92,7 +92,7 @@ asked_options : (aggregates : Option (List Aggregate)) (t : Ty) → are_admitted
 asked_options None t h = default_options t
 asked_options (Some aggregates) t h = h
 
-options_of : (o : ZonedOptions) (t : Ty) → is_admitted_zoned o ≡ true → all_by has_options (asked o.aggregates t) ≡ true
+pub options_of : (o : ZonedOptions) (t : Ty) → is_admitted_zoned o ≡ true → all_by has_options (asked o.aggregates t) ≡ true
 options_of o t h =
     let a : (nat_lt o.zone_len (2 ^ 32) && (nat_lt 0 o.concurrency && are_admitted_aggregates o.aggregates)) ≡ true = back (nat_lt 0 o.zone_len) _ h in
     let b : (nat_lt 0 o.concurrency && are_admitted_aggregates o.aggregates) ≡ true = back (nat_lt o.zone_len (2 ^ 32)) _ a in
@@ -115,7 +115,7 @@ small_filters [] h = tt
 small_filters (a ∷ aggregates) h = (small_filter a (front (has_options a) (all_by has_options aggregates) h), small_filters aggregates (back (has_options a) (all_by has_options aggregates) h))
 
 -- the table is a whole chunk
-whole_table : (s : Setting) (o : ZonedOptions) (t : Ty) (items : List Item) (cs : List Filled) → ItemsOf t items → length items < 2 ^ 64 → kept_columns (recorded o t) (zone_records s t (recorded o t) items) ≡ Some cs
+pub whole_table : (s : Setting) (o : ZonedOptions) (t : Ty) (items : List Item) (cs : List Filled) → ItemsOf t items → length items < 2 ^ 64 → kept_columns (recorded o t) (zone_records s t (recorded o t) items) ≡ Some cs
     → is_admitted_zoned o ≡ true → Of (table_type cs) (table_piece cs (length items))
 whole_table s o t items cs of short kept h =
     subst (λ n. Of (table_type cs) (table_piece cs n)) (cells_count items)

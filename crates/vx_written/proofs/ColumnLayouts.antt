@@ -2,7 +2,6 @@
 use Rattle.std.proofs.Common.{◌≡◌, ℕ, suc, ◌<◌, ◌^◌, ◌||◌, Bool, true, false, List, [], ◌∷◌, ◌++◌, length, Option, Some, None, sym, ap, ◌∙◌, subst, arith}
 use Rattle.vx_model.specs.Ty.{Ty, Tys, boolean, no_fields, field, struct, list}
 use Rattle.vx_path.specs.Path.{Eof, inside, next}
-use Rattle.vx_session.specs.declared.encoding.LayoutEncoding.TheVariants as kinds
 use Rattle.vx_session.specs.Scope.{Scope}
 use Rattle.vx_session.specs.Kinds.{types_in}
 use Rattle.vx_rules.specs.Stream.{stream_cells}
@@ -15,15 +14,14 @@ use Rattle.vx_plan.specs.ColumnNodes.{marked, column_plans, not_struct_node, str
 use Rattle.vx_plan.proofs.Relate.{Fields}
 use Rattle.vx_plan.proofs.PlanLists.{ItemsOf, nil_left, nil_right, fit_left, fit_right, row_total_cells}
 use Rattle.vx_plan.proofs.FlatLaws.{cons_nil}
-use Rattle.vx_written.specs.Knowing.{KnowsSetting}
 use Rattle.vx_written.proofs.Layouts.{Written, Beside, struct_written, list_written}
 use Rattle.vx_written.proofs.Streams.{EachCounts, fields_count, flags_count, offsets_count}
 use Rattle.vx_written.proofs.NodeLayouts.{Writes}
 
-module _ (s : Scope) (f : List ℕ → ℕ) (st : Setting) (knows : KnowsSetting s st) where
+module _ (s : Scope) (f : List ℕ → ℕ) (st : Setting) where
   -- ---- structs
 
-  fields_written : (fs : Tys) (ks : List Node) → Fields (λ t k. Writes s f st knows t k) fs ks → (m : Bool) (c : ℕ) (xs : List Split) (e : Eof) (n : ℕ)
+  fields_written : (fs : Tys) (ks : List Node) → Fields (λ t k. Writes s f st t k) fs ks → (m : Bool) (c : ℕ) (xs : List Split) (e : Eof) (n : ℕ)
       → StreamsOf fs (field_streams fs c xs) → EachCounts n fs c xs → all_faults (column_plans (marked m ks) c xs true e) ≡ [] → Fit (all_numbers (column_plans (marked m ks) c xs true e))
       → Beside s f n (types_in fs) (all_layouts (column_plans (marked m ks) c xs true e))
   fields_written no_fields [] ws m c xs e n of count clean fit = tt
@@ -43,7 +41,7 @@ module _ (s : Scope) (f : List ℕ → ℕ) (st : Setting) (knows : KnowsSetting
       let r : StreamsOf fs (field_streams fs c xs) × _ = streams_are fs c xs (chunk_cells items) shows in
       (r.0, fields_count fs c xs (all_cells (chunk_cells items)) (row_total items) (ap length (all_chunk_cells items) ∙ sym (row_total_cells items)) r.1)
 
-  nullable_written : (fs : Tys) (v : Node) (ks : List Node) → Writes s f st knows (boolean false) v → Fields (λ t k. Writes s f st knows t k) fs ks → Writes s f st knows (struct fs true) (struct_node fs true None v ks)
+  nullable_written : (fs : Tys) (v : Node) (ks : List Node) → Writes s f st (boolean false) v → Fields (λ t k. Writes s f st t k) fs ks → Writes s f st (struct fs true) (struct_node fs true None v ks)
   nullable_written fs v ks wv ws = record { written = go }
     where
       go : (m : Bool) (items : List Item) (e : Eof) → ItemsOf (struct fs true) items → (struct_node fs true None v ks m items true e).faults ≡ [] → Fit (struct_node fs true None v ks m items true e).numbers
@@ -55,28 +53,28 @@ module _ (s : Scope) (f : List ℕ → ℕ) (st : Setting) (knows : KnowsSetting
           let flags = validity_stream fs items of in
           let fields = fields_stream fs 1 (other_columns xs) items (nullable_shows fs items of) in
           let numbers : Fit (p.numbers ++ all_numbers ps) = fit.1.1.1 in
-          struct_written s f (knows.kinds kinds.Struct) fs true (row_total items) (p.layout ∷ all_layouts ps) (
+          struct_written s f fs true (row_total items) (p.layout ∷ all_layouts ps) (
             subst (λ r. Written s f (boolean false) r p.layout) (flags_count items (column 0 xs) flags.1)
                 (wv.written m (column 0 xs) (inside e) flags.0 (nil_left p.faults (all_faults ps) clean) (fit_left p.numbers (all_numbers ps) numbers)),
             fields_written fs ks ws (m || true) 1 (other_columns xs) (next e) (row_total items) fields.0 fields.1 (nil_right p.faults (all_faults ps) clean) (fit_right p.numbers (all_numbers ps) numbers),
           )
 
-  plain_written : (fs : Tys) (v : Node) (ks : List Node) → Fields (λ t k. Writes s f st knows t k) fs ks → Writes s f st knows (struct fs false) (struct_node fs false None v ks)
+  plain_written : (fs : Tys) (v : Node) (ks : List Node) → Fields (λ t k. Writes s f st t k) fs ks → Writes s f st (struct fs false) (struct_node fs false None v ks)
   plain_written fs v ks ws = record {
     written = λ m items e of clean fit.
         let xs : List Split = struct_splits fs false items in
         let fields = fields_stream fs 0 xs items (struct_shows fs items of) in
-        struct_written s f (knows.kinds kinds.Struct) fs false (row_total items) (all_layouts (column_plans (marked (m || false) ks) 0 xs true e))
+        struct_written s f fs false (row_total items) (all_layouts (column_plans (marked (m || false) ks) 0 xs true e))
         (fields_written fs ks ws (m || false) 0 xs e (row_total items) fields.0 fields.1 clean fit.1.1.1);
   }
 
-  pub struct_writes : (fs : Tys) (n : Bool) (dup : Option (List ℕ)) (v : Node) (ks : List Node) → Writes s f st knows (boolean false) v → Fields (λ t k. Writes s f st knows t k) fs ks
-      → Writes s f st knows (struct fs n) (struct_node fs n dup v ks)
+  pub struct_writes : (fs : Tys) (n : Bool) (dup : Option (List ℕ)) (v : Node) (ks : List Node) → Writes s f st (boolean false) v → Fields (λ t k. Writes s f st t k) fs ks
+      → Writes s f st (struct fs n) (struct_node fs n dup v ks)
   struct_writes fs n (Some name) v ks wv ws = record { written = λ m items e of clean fit. absurd (cons_nil clean) }
   struct_writes fs true None v ks wv ws = nullable_written fs v ks wv ws
   struct_writes fs false None v ks wv ws = plain_written fs v ks ws
 
-  pub not_struct_writes : (t : Ty) → Writes s f st knows t (not_struct_node t)
+  pub not_struct_writes : (t : Ty) → Writes s f st t (not_struct_node t)
   not_struct_writes t = record { written = λ m items e of clean fit. absurd (cons_nil clean) }
 
   -- ---- lists
@@ -84,7 +82,7 @@ module _ (s : Scope) (f : List ℕ → ℕ) (st : Setting) (knows : KnowsSetting
   few_offsets : (items : List Item) → suc (row_total items) < 2 ^ 64 → suc (length (stream_cells items)) < 2 ^ 64
   few_offsets items lt = let count : row_total items ≡ length (stream_cells items) = row_total_cells items in omega arith
 
-  pub list_writes : (t : Ty) (n : Bool) (es os v : Node) → Writes s f st knows t es → Writes s f st knows offset_type os → Writes s f st knows (boolean false) v → Writes s f st knows (list t n) (list_node t n es os v)
+  pub list_writes : (t : Ty) (n : Bool) (es os v : Node) → Writes s f st t es → Writes s f st offset_type os → Writes s f st (boolean false) v → Writes s f st (list t n) (list_node t n es os v)
   list_writes t n es os v we wo wv = record { written = go n }
     where
       go : (n : Bool) (m : Bool) (items : List Item) (e : Eof) → ItemsOf (list t n) items → (list_node t n es os v m items true e).faults ≡ [] → Fit (list_node t n es os v m items true e).numbers
@@ -97,7 +95,7 @@ module _ (s : Scope) (f : List ℕ → ℕ) (st : Setting) (knows : KnowsSetting
           let elements = elements_stream t false true 0 (i ∷ is) of fit.1.0 in
           let offsets = offsets_stream t false i is fit.1.0 (few_offsets (i ∷ is) fit.0) in
           let numbers : Fit (p.numbers ++ (q.numbers ++ [])) = fit.1.1.1.1.1 in
-          list_written s f (knows.kinds kinds.List) t false (row_total (i ∷ is)) (row_total (column 0 xs)) p.layout q.layout []
+          list_written s f t false (row_total (i ∷ is)) (row_total (column 0 xs)) p.layout q.layout []
           (we.written m (column 0 xs) (inside e) elements.0 (nil_left p.faults (q.faults ++ []) clean) (fit_left p.numbers (q.numbers ++ []) numbers))
           (subst (λ r. Written s f offset_type r q.layout) (offsets_count (i ∷ is) (column 1 (other_columns xs)) offsets.1)
           (wo.written m (column 1 (other_columns xs)) (inside (next e)) offsets.0 (nil_left q.faults [] (nil_right p.faults (q.faults ++ []) clean))
@@ -112,7 +110,7 @@ module _ (s : Scope) (f : List ℕ → ℕ) (st : Setting) (knows : KnowsSetting
           let offsets = offsets_stream t true i is fit.1.0 (few_offsets (i ∷ is) fit.0) in
           let flags = list_validity_stream t true 0 (i ∷ is) of in
           let numbers : Fit (p.numbers ++ (q.numbers ++ (r.numbers ++ []))) = fit.1.1.1.1.1 in
-          list_written s f (knows.kinds kinds.List) t true (row_total (i ∷ is)) (row_total (column 0 xs)) p.layout q.layout (r.layout ∷ [])
+          list_written s f t true (row_total (i ∷ is)) (row_total (column 0 xs)) p.layout q.layout (r.layout ∷ [])
           (we.written m (column 0 xs) (inside e) elements.0 (nil_left p.faults (q.faults ++ (r.faults ++ [])) clean) (fit_left p.numbers (q.numbers ++ (r.numbers ++ [])) numbers))
           (subst (λ n. Written s f offset_type n q.layout) (offsets_count (i ∷ is) (column 1 (other_columns xs)) offsets.1)
           (wo.written m (column 1 (other_columns xs)) (inside (next e)) offsets.0 (nil_left q.faults (r.faults ++ []) (nil_right p.faults (q.faults ++ (r.faults ++ [])) clean))

@@ -28,7 +28,7 @@ use Rattle.vx_plan.specs.PlanData.{Setting}
 use Rattle.vx_plan.specs.Way.{FlatOptions, ZonedOptions, flat, chunked, zoned}
 use Rattle.vx_plan.specs.SourcePlan.{source_plan}
 use Rattle.vx_plan.specs.Number.{numbered}
-use Rattle.vx_written.specs.Knowing.{KnowsSetting, FewAggregates}
+use Rattle.vx_written.specs.Knowing.{KnowsLayout}
 
 setting : Setting
 setting = record {
@@ -65,34 +65,10 @@ batches = plain_piece (primitive I32 false) (int_cell (pos 1) ∷ int_cell (pos 
 abbrev written : Lay ℕ
 written = numbered (source_plan setting (zoned zones_of_2 (chunked (flat plain)) (flat plain)) (primitive I32 false) false batches true) 7
 
-kind_known : (kind : LayoutEncoding) → Knows scope kind
-unfolding scope
-kind_known kinds.Flat = refl
-kind_known kinds.Chunked = refl
-kind_known kinds.Struct = refl
-kind_known kinds.List = refl
-kind_known kinds.Dict = refl
-kind_known kinds.Zoned = refl
-kind_known kinds.LegacyStats = refl
-
-aggregate_known : (a : Aggregate) → is_listed (aggregate_id a) scope.context.aggregates ≡ true
-unfolding scope
-aggregate_known maximum = refl
-aggregate_known minimum = refl
-aggregate_known (bounded_maximum n) = refl
-aggregate_known (bounded_minimum n) = refl
-aggregate_known null_count = refl
-aggregate_known sum = refl
-aggregate_known (bloom n) = refl
-
--- the scope knows what the setting writes with
-setting_known : KnowsSetting scope setting
-unfolding scope setting
-setting_known = record { kinds = kind_known; encodings = refl; aggregates = λ a h. aggregate_known a }
-
-few : FewAggregates written
-unfolding setting plain zones_of_2 batches
-few = (omega arith, ((tt, ((tt, tt), ((tt, tt), tt))), ((tt, tt), tt)))
+-- the scope knows the zoned layout, its two chunks and its table
+known : KnowsLayout scope written
+unfolding scope setting plain zones_of_2 batches
+known = ((refl, (omega arith, refl)), ((refl, (((refl, refl), tt), (((refl, refl), tt), tt))), (((refl, refl), tt), tt)))
 
 again : parsed scope (primitive I32 false) 3 5 (spelling (node_in scope.ids written)) ≡ Ok written
 unfolding scope setting plain zones_of_2 batches is_utf8 chars encode_utf8 front_at fields.many_at count_at string_at name_at spec_at zoned_body many_at numbered_at segments_at own_at many_nodes none_at node_with root_at read_spec build_flat build_chunked build_zoned

@@ -5,12 +5,11 @@ use Rattle.vx_model.specs.declared.ptype.PType.TheVariants.{U64}
 use Rattle.vx_model.specs.Words.{total_by}
 use Rattle.vx_model.specs.Ty.{Ty, Tys, primitive, list, struct}
 use Rattle.vx_tree.specs.LayoutTree.{Lay, layout, lays_of, lays_in, layout_type, row_count, chunked_layout, gathered, struct_layout, list_layout, dict_layout, renamed, each_renamed}
-use Rattle.vx_session.specs.declared.encoding.LayoutEncoding.TheVariants as kinds
 use Rattle.vx_session.specs.Scope.{Scope}
 use Rattle.vx_session.specs.Kinds.{struct_types, validity_types}
-use Rattle.vx_layout_spelling.specs.Sound.{Knows, types_of, AreOf, HaveRows, Sound, AreSound}
+use Rattle.vx_layout_spelling.specs.Sound.{types_of, AreOf, HaveRows, Sound, AreSound}
 use Rattle.vx_rules.specs.Columns.{offset_type}
-use Rattle.vx_written.specs.Knowing.{FewAggregates, AllFew}
+use Rattle.vx_written.specs.Knowing.{KnowsLayout, KnowsAll}
 
 -- in the scope, with the segments numbered so
 module _ (s : Scope) (f : List ℕ → ℕ) where
@@ -18,7 +17,7 @@ module _ (s : Scope) (f : List ℕ → ℕ) where
   pub record Written (t : Ty) (n : ℕ) (l : Lay (List ℕ)) : Type 0 where
     pub typed : layout_type l ≡ t
     pub rows : row_count l ≡ n
-    pub sound : FewAggregates (renamed f l) → Sound s (renamed f l)
+    pub sound : KnowsLayout s (renamed f l) → Sound s (renamed f l)
 
   -- layouts with their segments numbered
   abbrev pub kids : List (Lay (List ℕ)) → List (Lay ℕ)
@@ -54,26 +53,26 @@ module _ (s : Scope) (f : List ℕ → ℕ) where
       let sum : n ≡ h.0 + h.1 = h.2 in
       omega arith
 
-  parts_sound : (t : Ty) (n : ℕ) (ls : List (Lay (List ℕ))) → Parts t n ls → AllFew (each_renamed f (lays_of ls)) → AreSound s (each_renamed f (lays_of ls))
-  parts_sound t n [] h few = tt
-  parts_sound t n (l ∷ ls) h few = (h.3.sound few.0, parts_sound t h.1 ls h.4 few.1)
+  parts_sound : (t : Ty) (n : ℕ) (ls : List (Lay (List ℕ))) → Parts t n ls → KnowsAll s (each_renamed f (lays_of ls)) → AreSound s (each_renamed f (lays_of ls))
+  parts_sound t n [] h knows = tt
+  parts_sound t n (l ∷ ls) h knows = (h.3.sound knows.0, parts_sound t h.1 ls h.4 knows.1)
 
-  pub chunked_written : Knows s kinds.Chunked → (t : Ty) (n : ℕ) (ls : List (Lay (List ℕ))) → Parts t n ls → Written t n (chunked_layout t n ls)
-  chunked_written known t n ls h = record {
+  pub chunked_written : (t : Ty) (n : ℕ) (ls : List (Lay (List ℕ))) → Parts t n ls → Written t n (chunked_layout t n ls)
+  chunked_written t n ls h = record {
     typed = refl;
     rows = refl;
-    sound = λ few. (record { known = known; types = parts_types t n ls h; rows = parts_rows t n ls h }, parts_sound t n ls h few.1);
+    sound = λ knows. (record { known = knows.0; types = parts_types t n ls h; rows = parts_rows t n ls h }, parts_sound t n ls h knows.1);
   }
 
   -- one is itself, none or several are chunked
-  pub gathered_written : Knows s kinds.Chunked → (t : Ty) (n : ℕ) (ls : List (Lay (List ℕ))) → Parts t n ls → Written t n (gathered t n ls)
-  gathered_written known t n [] h = chunked_written known t n [] h
-  gathered_written known t n (l ∷ []) h = record {
+  pub gathered_written : (t : Ty) (n : ℕ) (ls : List (Lay (List ℕ))) → Parts t n ls → Written t n (gathered t n ls)
+  gathered_written t n [] h = chunked_written t n [] h
+  gathered_written t n (l ∷ []) h = record {
     typed = h.3.typed;
     rows = let one : row_count l ≡ h.0 = h.3.rows in let sum : n ≡ h.0 + h.1 = h.2 in let none : h.1 ≡ 0 = h.4 in omega arith;
     sound = h.3.sound;
   }
-  gathered_written known t n (l ∷ k ∷ ls) h = chunked_written known t n (l ∷ k ∷ ls) h
+  gathered_written t n (l ∷ k ∷ ls) h = chunked_written t n (l ∷ k ∷ ls) h
 
   -- ---- layouts of these types, each of so many rows
 
@@ -98,26 +97,26 @@ module _ (s : Scope) (f : List ℕ → ℕ) where
   beside_rows n (t ∷ ts) [] h = absurd h
   beside_rows n (t ∷ ts) (l ∷ ls) h = (has_rows t n l h.0, beside_rows n ts ls h.1)
 
-  beside_sound : (n : ℕ) (ts : List Ty) (ls : List (Lay (List ℕ))) → Beside n ts ls → AllFew (each_renamed f (lays_of ls)) → AreSound s (each_renamed f (lays_of ls))
-  beside_sound n [] [] h few = tt
-  beside_sound n [] (l ∷ ls) h few = absurd h
-  beside_sound n (t ∷ ts) [] h few = absurd h
-  beside_sound n (t ∷ ts) (l ∷ ls) h few = (h.0.sound few.0, beside_sound n ts ls h.1 few.1)
+  beside_sound : (n : ℕ) (ts : List Ty) (ls : List (Lay (List ℕ))) → Beside n ts ls → KnowsAll s (each_renamed f (lays_of ls)) → AreSound s (each_renamed f (lays_of ls))
+  beside_sound n [] [] h knows = tt
+  beside_sound n [] (l ∷ ls) h knows = absurd h
+  beside_sound n (t ∷ ts) [] h knows = absurd h
+  beside_sound n (t ∷ ts) (l ∷ ls) h knows = (h.0.sound knows.0, beside_sound n ts ls h.1 knows.1)
 
-  pub struct_written : Knows s kinds.Struct → (fs : Tys) (null : Bool) (n : ℕ) (ls : List (Lay (List ℕ))) → Beside n (struct_types (struct fs null)) ls → Written (struct fs null) n (struct_layout (struct fs null) n ls)
-  struct_written known fs null n ls h = record {
+  pub struct_written : (fs : Tys) (null : Bool) (n : ℕ) (ls : List (Lay (List ℕ))) → Beside n (struct_types (struct fs null)) ls → Written (struct fs null) n (struct_layout (struct fs null) n ls)
+  struct_written fs null n ls h = record {
     typed = refl;
     rows = refl;
-    sound = λ few. (
-      record { known = known; of_structs = refl; types = beside_types n (struct_types (struct fs null)) ls h; rows = beside_rows n (struct_types (struct fs null)) ls h },
-      beside_sound n (struct_types (struct fs null)) ls h few.1,
+    sound = λ knows. (
+      record { known = knows.0; of_structs = refl; types = beside_types n (struct_types (struct fs null)) ls h; rows = beside_rows n (struct_types (struct fs null)) ls h },
+      beside_sound n (struct_types (struct fs null)) ls h knows.1,
     );
   }
 
   -- an offset more than rows
-  pub list_written : Knows s kinds.List → (t : Ty) (null : Bool) (n count : ℕ) (e o : Lay (List ℕ)) (vs : List (Lay (List ℕ))) → Written t count e → Written offset_type (suc n) o → Beside n (validity_types (list t null)) vs
+  pub list_written : (t : Ty) (null : Bool) (n count : ℕ) (e o : Lay (List ℕ)) (vs : List (Lay (List ℕ))) → Written t count e → Written offset_type (suc n) o → Beside n (validity_types (list t null)) vs
       → Written (list t null) n (list_layout (list t null) n (e ∷ o ∷ vs))
-  list_written known t null n count e o vs elements offsets flags =
+  list_written t null n count e o vs elements offsets flags =
       let one : layout_type (renamed f e) ≡ t = has_type t count e elements in
       let two : layout_type (renamed f o) ≡ offset_type = has_type offset_type (suc n) o offsets in
       let others : types_of (kids vs) ≡ validity_types (list t null) = beside_types n (validity_types (list t null)) vs flags in
@@ -125,9 +124,9 @@ module _ (s : Scope) (f : List ℕ → ℕ) where
       record {
         typed = refl;
         rows = refl;
-        sound = λ few. (
+        sound = λ knows. (
           record {
-            known = known;
+            known = knows.0;
             of_lists = refl;
             elements = renamed f e;
             offsets = renamed f o;
@@ -138,19 +137,19 @@ module _ (s : Scope) (f : List ℕ → ℕ) where
             rows = omega arith;
             flags = beside_rows n (validity_types (list t null)) vs flags;
           },
-          (elements.sound few.1.0, (offsets.sound few.1.1.0, beside_sound n (validity_types (list t null)) vs flags few.1.1.1)),
+          (elements.sound knows.1.0, (offsets.sound knows.1.1.0, beside_sound n (validity_types (list t null)) vs flags knows.1.1.1)),
         );
       }
 
-  pub dict_written : Knows s kinds.Dict → (t : Ty) (n count : ℕ) (p : PType) (null : Bool) (values places : Lay (List ℕ)) → Written t count values → Written (primitive p null) n places → Written t n (dict_layout t n values places)
-  dict_written known t n count p null values places vs cs =
+  pub dict_written : (t : Ty) (n count : ℕ) (p : PType) (null : Bool) (values places : Lay (List ℕ)) → Written t count values → Written (primitive p null) n places → Written t n (dict_layout t n values places)
+  dict_written t n count p null values places vs cs =
       let one : layout_type (renamed f values) ≡ t = has_type t count values vs in
       let two : layout_type (renamed f places) ≡ primitive p null = has_type (primitive p null) n places cs in
       record {
         typed = refl;
         rows = refl;
-        sound = λ few. (
-          record { known = known; values = renamed f values; places = renamed f places; are = refl; integers = p; nullable = null; types = cc; rows = has_rows (primitive p null) n places cs },
-          (vs.sound few.1.0, (cs.sound few.1.1.0, tt)),
+        sound = λ knows. (
+          record { known = knows.0; values = renamed f values; places = renamed f places; are = refl; integers = p; nullable = null; types = cc; rows = has_rows (primitive p null) n places cs },
+          (vs.sound knows.1.0, (cs.sound knows.1.1.0, tt)),
         );
       }

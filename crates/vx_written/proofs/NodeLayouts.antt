@@ -11,7 +11,6 @@ use Rattle.vx_path.specs.Path.{Eof, inside, next}
 use Rattle.vx_tree.specs.LayoutTree.{layout_type, dict_layout, renamed}
 use Rattle.vx_record.specs.ZoneTable.{Filled, table_type, kept_columns}
 use Rattle.vx_aggregate.specs.Tables.{stats_table}
-use Rattle.vx_session.specs.declared.encoding.LayoutEncoding.TheVariants as kinds
 use Rattle.vx_session.specs.Scope.{Scope}
 use Rattle.vx_rules.specs.Stream.{Chunks, stream_cells}
 use Rattle.vx_rules.specs.Columns.{offset_cell}
@@ -29,14 +28,13 @@ use Rattle.vx_plan.specs.DictNode.{is_dictionary, run_plan, run_plans, dict_numb
 use Rattle.vx_plan.specs.ZonedNode.{recorded, forbidden_faults, zone_faults, zone_records, table_items, with_table, table_of, zoned_node}
 use Rattle.vx_plan.proofs.PlanLists.{ItemsOf, nil_left, nil_right, fit_left, fit_right, row_total_cells}
 use Rattle.vx_plan.proofs.FlatLaws.{cons_nil}
-use Rattle.vx_arrays.proofs.ZoneTables.{whole_table}
-use Rattle.vx_written.specs.Knowing.{KnowsSetting}
+use Rattle.vx_plan.proofs.ZonedLaws.{whole_table}
 use Rattle.vx_written.proofs.Layouts.{Written, has_type, has_rows, Parts, gathered_written, dict_written}
 use Rattle.vx_written.proofs.Streams.{kept_of, grouped_count, images_of, images_count, rows_of_cells}
 use Rattle.vx_written.proofs.TableSpecs.{AreColumns, are_columns, table_aggregates, type_is, specs_named, specs_read, metadata_fits}
 
--- in a scope that knows the setting, with the segments numbered so
-module _ (s : Scope) (f : List ℕ → ℕ) (st : Setting) (knows : KnowsSetting s st) where
+-- in a scope, with the segments numbered so
+module _ (s : Scope) (f : List ℕ → ℕ) (st : Setting) where
   -- What is said of a node at a type: where its stream has ended without a fault, its layout is sound.
   pub record Writes (t : Ty) (k : Node) : Type 0 where
     pub written : (m : Bool) (items : List Item) (e : Eof) → ItemsOf t items → (k m items true e).faults ≡ [] → Fit (k m items true e).numbers → Written s f t (row_total items) (k m items true e).layout
@@ -48,11 +46,11 @@ module _ (s : Scope) (f : List ℕ → ℕ) (st : Setting) (knows : KnowsSetting
     where
       go : (m : Bool) (items : List Item) (e : Eof) → ItemsOf t items → (flat_node st o t m items true e).faults ≡ [] → Fit (flat_node st o t m items true e).numbers
           → Written s f t (row_total items) (flat_node st o t m items true e).layout
-      go m [] e of clean fit = gathered_written s f (knows.kinds kinds.Chunked) t 0 [] refl
+      go m [] e of clean fit = gathered_written s f t 0 [] refl
       go m (i ∷ []) e of clean fit = record {
         typed = refl;
         rows = let h : length (cells i.1) ≡ length (cells i.1) + 0 = omega arith in h;
-        sound = λ few. (record { known = knows.kinds kinds.Flat; listed = sym knows.encodings; segment = f i.0; one = refl; alone = refl }, tt);
+        sound = λ knows. (record { known = knows.0.0; listed = knows.0.1; segment = f i.0; one = refl; alone = refl }, tt);
       }
       go m (i ∷ j ∷ is) e of clean fit = let g = nil_right (refused_at i.0 (st.codec.refused st.encodings i.1)) _ clean in absurd (cons_nil g)
 
@@ -74,7 +72,7 @@ module _ (s : Scope) (f : List ℕ → ℕ) (st : Setting) (knows : KnowsSetting
   pub chunked_writes : (t : Ty) (k : Node) → Writes t k → Writes t (chunked_node t k)
   chunked_writes t k w = record {
     written = λ m items e of clean fit.
-        gathered_written s f (knows.kinds kinds.Chunked) t (row_total items) (all_layouts (chunk_plans k m items e)) (chunks_written t k w m items e of clean fit.1.1);
+        gathered_written s f t (row_total items) (all_layouts (chunk_plans k m items e)) (chunks_written t k w m items e of clean fit.1.1);
   }
 
   -- ---- other streams
@@ -108,7 +106,7 @@ module _ (s : Scope) (f : List ℕ → ℕ) (st : Setting) (knows : KnowsSetting
   run_written o t ck vk wc wv m codes values true e c oc ov clean fit =
       let p : Plan = ck m codes true (inside e) in
       let q : Plan = vk m values true (inside (next e)) in
-      dict_written s f (knows.kinds kinds.Dict) t (row_total codes) (row_total values) (if nat_le o.max_len 255 then U8 else U16) false q.layout p.layout
+      dict_written s f t (row_total codes) (row_total values) (if nat_le o.max_len 255 then U8 else U16) false q.layout p.layout
       (wv.written m values (inside (next e)) ov (nil_right p.faults q.faults clean) (fit_right p.numbers q.numbers fit))
       (wc.written m codes (inside e) oc (nil_left p.faults q.faults clean) (fit_left p.numbers q.numbers fit))
 
@@ -137,7 +135,7 @@ module _ (s : Scope) (f : List ℕ → ℕ) (st : Setting) (knows : KnowsSetting
           → Written s f t (row_total (i ∷ is)) (runs_node o t ck vk m (i ∷ is) true e).layout
       by_runs m i is e of clean fit =
           let rs : List Run = runs o t (i ∷ is) true in
-          gathered_written s f (knows.kinds kinds.Chunked) t (row_total (i ∷ is)) (all_layouts (run_plans t ck vk m rs e))
+          gathered_written s f t (row_total (i ∷ is)) (all_layouts (run_plans t ck vk m rs e))
           (subst (λ n. Parts s f t n (all_layouts (run_plans t ck vk m rs e))) (sym (row_total_cells (i ∷ is)))
           (runs_written o t ck vk wc wv m rs e (stream_cells (i ∷ is)) (runs_end o t d i is of) clean (fit_right (dict_numbers o t (i ∷ is) true e) (all_numbers (run_plans t ck vk m rs e)) fit)))
 
@@ -155,28 +153,28 @@ module _ (s : Scope) (f : List ℕ → ℕ) (st : Setting) (knows : KnowsSetting
   -- ---- zones
 
   table_written : (o : ZonedOptions) → is_admitted_zoned o ≡ true → (t : Ty) (stats : Ty → Node) → ((u : Ty) → Writes u (stats u)) → (items : List Item) (e : Eof) (p : Plan) (cs : Option (List Filled)) → ItemsOf t items
-      → forbidden_faults st.allowed (recorded o t) ≡ [] → kept_columns (recorded o t) (zone_records st t (recorded o t) items) ≡ cs
+      → kept_columns (recorded o t) (zone_records st t (recorded o t) items) ≡ cs
       → (p.faults ≡ [] → Fit p.numbers → Written s f t (row_total items) p.layout)
       → (with_table st o t stats false items e p cs).faults ≡ [] → Fit (with_table st o t stats false items e p cs).numbers
       → Written s f t (row_total items) (with_table st o t stats false items e p cs).layout
-  table_written o ok t stats ws items e p None of allowed kept w clean fit = w clean fit.1.1
-  table_written o ok t stats ws items e p (Some cs) of allowed kept w clean fit =
+  table_written o ok t stats ws items e p None of kept w clean fit = w clean fit.1.1
+  table_written o ok t stats ws items e p (Some cs) of kept w clean fit =
       let q : Plan = stats (table_type cs) false (table_items cs (length items) e) true (next (next e)) in
-      let are : AreColumns st t cs = are_columns st o t (zone_records st t (recorded o t) items) cs ok allowed kept in
+      let are : AreColumns t cs = are_columns o t (zone_records st t (recorded o t) items) cs ok kept in
       let column : Written s f t (row_total items) p.layout = w (nil_left p.faults q.faults clean) (fit_left p.numbers q.numbers fit.1.1.1) in
       let zones : Written s f (table_type cs) (row_total (table_items cs (length items) e)) q.layout =
       (ws (table_type cs)).written false (table_items cs (length items) e) (next (next e)) (whole_table st o t items cs of fit.1.0 kept ok, tt) (nil_right p.faults q.faults clean) (fit_right p.numbers q.numbers fit.1.1.1) in
       let one : layout_type (renamed f p.layout) ≡ t = has_type s f t (row_total items) p.layout column in
-      let two : layout_type (renamed f q.layout) ≡ stats_table t (table_aggregates cs) = has_type s f (table_type cs) (row_total (table_items cs (length items) e)) q.layout zones ∙ type_is st t cs are in
+      let two : layout_type (renamed f q.layout) ≡ stats_table t (table_aggregates cs) = has_type s f (table_type cs) (row_total (table_items cs (length items) e)) q.layout zones ∙ type_is t cs are in
       record {
         typed = refl;
         rows = refl;
-        sound = λ few. (
+        sound = λ knows. (
           record {
-            known = knows.kinds kinds.Zoned;
-            fits = metadata_fits o cs ok few.0;
+            known = knows.0.0;
+            fits = metadata_fits o cs ok knows.0.1;
             aggregates = table_aggregates cs;
-            read = specs_read s st t knows cs are;
+            read = specs_read s t cs knows.0.2 are;
             named = specs_named cs;
             column = renamed f p.layout;
             zones = renamed f q.layout;
@@ -184,7 +182,7 @@ module _ (s : Scope) (f : List ℕ → ℕ) (st : Setting) (knows : KnowsSetting
             types = cc;
             rows = has_rows s f t (row_total items) p.layout column;
           },
-          (column.sound few.1.0, (zones.sound few.1.1.0, tt)),
+          (column.sound knows.1.0, (zones.sound knows.1.1.0, tt)),
         );
       }
 
@@ -197,6 +195,5 @@ module _ (s : Scope) (f : List ℕ → ℕ) (st : Setting) (knows : KnowsSetting
       go false items e of clean fit =
           let own : List Fault = forbidden_faults st.allowed (recorded o t) ++ zone_faults o.zone_len (recorded o t) items in
           let p : Plan = with_table st o t stats false items e (k false items true (inside e)) (table_of st o t items true) in
-          table_written o ok t stats ws items e (k false items true (inside e)) (table_of st o t items true) of
-          (nil_left (forbidden_faults st.allowed (recorded o t)) (zone_faults o.zone_len (recorded o t) items) (nil_left own p.faults clean)) refl
+          table_written o ok t stats ws items e (k false items true (inside e)) (table_of st o t items true) of refl
           (λ c g. w.written false items (inside e) of c g) (nil_right own p.faults clean) fit

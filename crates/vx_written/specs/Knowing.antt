@@ -1,34 +1,32 @@
--- Scopes that know what a write gives, and layouts that metadata can spell.
-use Rattle.std.specs.Prelude.{◌≡◌, ℕ, ◌<◌, ◌^◌, true, length}
-use Rattle.vx_tree.specs.LayoutTree.{Kind, zoned_kind, Lay, Lays, layout, no_layouts, child}
-use Rattle.vx_record.specs.Aggregate.{Aggregate, aggregate_id}
-use Rattle.vx_session.specs.declared.encoding.LayoutEncoding.{LayoutEncoding}
+-- Scopes that know what a layout is made of, and layouts that metadata can spell.
+use Rattle.std.specs.Prelude.{◌≡◌, ℕ, ◌<◌, ◌^◌, Bool, true, length}
+use Rattle.vx_model.specs.Words.{all_by}
+use Rattle.vx_tree.specs.LayoutTree.{Spec, Kind, flat_kind, chunked_kind, struct_kind, list_kind, dict_kind, zoned_kind, Lay, Lays, layout, no_layouts, child}
+use Rattle.vx_session.specs.declared.encoding.LayoutEncoding.TheVariants as kinds
 use Rattle.vx_session.specs.Ids.{is_listed}
-use Rattle.vx_session.specs.Scope.{Scope}
+use Rattle.vx_session.specs.Scope.{Context, Scope}
 use Rattle.vx_layout_spelling.specs.Sound.{Knows}
-use Rattle.vx_plan.specs.PlanData.{Setting}
-use Rattle.vx_plan.specs.ZonedNode.{allows}
 
--- What the scope must know of the setting of a write.
-pub record KnowsSetting (s : Scope) (st : Setting) : Type 0 where
-  -- each kind is registered under its id
-  pub kinds : (kind : LayoutEncoding) → Knows s kind
-  -- segments name the same encodings by their places
-  pub encodings : s.context.encodings ≡ st.encodings
-  -- each aggregate that zone tables may have is known
-  pub aggregates : (a : Aggregate) → allows st.allowed a ≡ true → is_listed (aggregate_id a) s.context.aggregates ≡ true
+-- the aggregate that a spec names is known
+abbrev pub is_known : Context → Spec → Bool
+is_known c sp = is_listed sp.id c.aggregates
 
--- ---- the number of a table's aggregates fits its field, which has 32 bits
+-- Of a node: its kind is registered under its id. The segments of a flat one name the encodings by the same places. The
+-- aggregates of a zoned one are known, and their number fits its field, which has 32 bits. A write gives no other kind.
+abbrev pub KnowsNode : Scope → Kind → Type 0
+KnowsNode s (flat_kind encodings tree) = Knows s kinds.Flat × (encodings ≡ s.context.encodings)
+KnowsNode s chunked_kind = Knows s kinds.Chunked
+KnowsNode s struct_kind = Knows s kinds.Struct
+KnowsNode s list_kind = Knows s kinds.List
+KnowsNode s (dict_kind all) = Knows s kinds.Dict
+KnowsNode s (zoned_kind zone_len specs) = Knows s kinds.Zoned × (length specs < 2 ^ 32) × (all_by (is_known s.context) specs ≡ true)
+KnowsNode s k = Unit {0}
 
-abbrev pub FewOf : Kind → Type 0
-FewOf (zoned_kind zone_len specs) = length specs < 2 ^ 32
-FewOf k = Unit {0}
-
--- at each zoned node of a layout, those of zone tables too
+-- each node of a layout, those of zone tables too
 abbrev mutual
-  pub FewAggregates : Lay ℕ → Type 0
-  FewAggregates (layout k t n names ls) = FewOf k × AllFew ls
+  pub KnowsLayout : Scope → Lay ℕ → Type 0
+  KnowsLayout s (layout k t n names ls) = KnowsNode s k × KnowsAll s ls
 
-  pub AllFew : Lays ℕ → Type 0
-  AllFew no_layouts = Unit {0}
-  AllFew (child l ls) = FewAggregates l × AllFew ls
+  pub KnowsAll : Scope → Lays ℕ → Type 0
+  KnowsAll s no_layouts = Unit {0}
+  KnowsAll s (child l ls) = KnowsLayout s l × KnowsAll s ls

@@ -13,13 +13,13 @@ use Rattle.vx_plan.specs.Admitted.{is_admitted}
 use Rattle.vx_plan.specs.Valid.{Fit, AllOf, Keeps}
 use Rattle.vx_plan.specs.SourcePlan.{source_plan}
 use Rattle.vx_plan.specs.Number.{numbered}
-use Rattle.vx_written.specs.Knowing.{KnowsSetting, FewAggregates}
+use Rattle.vx_written.specs.Knowing.{KnowsLayout}
 
 -- A write that has no fault gives a layout. Its bytes, parsed at the schema's type and within limits that it keeps, in a
--- scope that knows the setting, are built into the same layout.
+-- scope that knows the layout, are built into the same layout.
 abbrev pub WrittenIsParsed : Type 0
 WrittenIsParsed = (st : Setting) (s : Scope) (w : Way) (t : Ty) (m : Bool) (batches : List Piece) (first deep nodes : ℕ) (bytes : List ℕ)
     → Keeps st → is_admitted w ≡ true → AllOf t batches → (source_plan st w t m batches true).faults ≡ [] → Fit (source_plan st w t m batches true).numbers
-    → KnowsSetting s st → FewAggregates (numbered (source_plan st w t m batches true) first)
+    → KnowsLayout s (numbered (source_plan st w t m batches true) first)
     → IsWithin deep nodes (node_in s.ids (numbered (source_plan st w t m batches true) first)) → bytes_in s.ids (numbered (source_plan st w t m batches true) first) ≡ Ok bytes
     → parsed s t deep nodes bytes ≡ Ok (numbered (source_plan st w t m batches true) first)
