@@ -8,11 +8,14 @@ use Rattle.vx_tree.specs.LayoutTree.{Lay, layout, lays_of, children_of, layout_k
 use Rattle.vx_kinds.specs.Children.{child_in}
 use Rattle.vx_display.specs.declared.style.Stop.{Stop}
 use Rattle.vx_display.specs.declared.style.Stop.TheVariants as stops
-use Rattle.vx_display.specs.Building.{Built, built, all_built}
+use Rattle.vx_layout_spelling.specs.Permitted.{Checked, built, all_built}
 use Rattle.vx_display.specs.Views.{StopsBy, GivesChild}
-use Rattle.vx_display.specs.Lengths.{Look, first_of, kind_fault, first_fault, first_below}
+use Rattle.vx_read.specs.Reading.{first_of}
+use Rattle.vx_display.specs.Lengths.{Look, kind_fault, first_fault, first_below}
 use Rattle.vx_display.specs.Text.{Style, tree_text, children_lines, node_text, branch_to, trunk_by, label, is_last}
-use Rattle.vx_display.proofs.BuildSteps.{lays_back, answered_same, drop_built, drop_refused, build_rules}
+use Rattle.vx_layout_spelling.proofs.ParsedBack.{lays_back}
+use Rattle.vx_walks.proofs.Walks.{answered_same, drop_built, drop_refused}
+use Rattle.vx_display.proofs.BuildSteps.{build_rules}
 
 pub tree_is : (style : Style) (first rest : List ℕ) (l : Lay ℕ)
     → tree_text style first rest l ≡ first ++ (node_text style l ++ (codes "\n" ++ children_lines style rest l 0 (lays_of (children_of l))))
@@ -46,7 +49,7 @@ drop_faults map ls i l lt is = rw (drop_child ls i l lt is) refl
 
 -- ---- a step at child i
 
-err_along : {A : Type 0} (x : Result A Refusal) (b : Built) → ((r : Refusal) → x ≡ Err r → b ≡ Err r) → IsErr x → IsErr b
+err_along : {A : Type 0} (x : Result A Refusal) (b : Checked) → ((r : Refusal) → x ≡ Err r → b ≡ Err r) → IsErr x → IsErr b
 err_along (Ok l) b k h = cc
 err_along (Err r) b k h = rw (k r refl) h
 

@@ -7,7 +7,7 @@ use Rattle.vx_kinds.specs.Views.{Fails}
 use Rattle.vx_kinds.specs.ErrorNames.{error_name}
 use Rattle.vx_kinds.specs.declared.error.LayoutError.{LayoutError}
 use Rattle.vx_kinds.specs.declared.error.LayoutError.TheVariants as errors
-use Rattle.vx_display.specs.Building.{Built}
+use Rattle.vx_layout_spelling.specs.Permitted.{Checked}
 use Rattle.vx_display.specs.Lengths.{SegmentFault, kind_fault, first_fault, first_below}
 use Rattle.vx_display.specs.Text.{unless_refused, unless_refused_or_fault}
 
@@ -40,7 +40,7 @@ mutual
 abbrev pub line_of : LayoutError → List ℕ
 line_of e = codes "Error building layout tree: " ++ (error_name e ++ codes "\n")
 
-pub told_error : (e : LayoutError) (b : Built) (text : List ℕ) → Fails e b → (e ≡ errors.OutOfMemory → ⊥) → unless_refused b text ≡ line_of e
+pub told_error : (e : LayoutError) (b : Checked) (text : List ℕ) → Fails e b → (e ≡ errors.OutOfMemory → ⊥) → unless_refused b text ≡ line_of e
 told_error (errors.Grammar a) b text h ne = rw h refl
 told_error (errors.TooDeep a) b text h ne = rw h refl
 told_error (errors.TooManyNodes a) b text h ne = rw h refl
@@ -59,7 +59,7 @@ told_error errors.NotAList b text h ne = rw h refl
 told_error errors.NotAStruct b text h ne = rw h refl
 told_error errors.OutOfMemory b text h ne = absurd (ne refl)
 
-pub told_error_asking : (e : LayoutError) (b : Built) (fault : Option SegmentFault) (text : List ℕ) → Fails e b → (e ≡ errors.OutOfMemory → ⊥) → unless_refused_or_fault b fault text ≡ Ok (line_of e)
+pub told_error_asking : (e : LayoutError) (b : Checked) (fault : Option SegmentFault) (text : List ℕ) → Fails e b → (e ≡ errors.OutOfMemory → ⊥) → unless_refused_or_fault b fault text ≡ Ok (line_of e)
 told_error_asking (errors.Grammar a) b fault text h ne = rw h refl
 told_error_asking (errors.TooDeep a) b fault text h ne = rw h refl
 told_error_asking (errors.TooManyNodes a) b fault text h ne = rw h refl

@@ -3,6 +3,7 @@ use Rattle.std.specs.Prelude.{ℕ, List, [], ◌∷◌, Option, Some, None, Resu
 use Rattle.vx_tree.specs.LayoutTree.{Kind, flat_kind, chunked_kind, struct_kind, list_kind, dict_kind, zoned_kind, unread_zoned_kind, stats_kind, foreign_kind, refused_kind, Lay, Lays, layout, no_layouts, child}
 use Rattle.vx_segment.specs.Reading.{Fault}
 use Rattle.vx_segment.specs.Segment.{tree_lengths, segment_lengths}
+use Rattle.vx_read.specs.Reading.{first_of}
 
 -- the bytes of the segments that a map has
 abbrev pub Look : Type 0
@@ -21,11 +22,6 @@ by_tree (Some tree) = lengths_in (tree_lengths tree)
 abbrev pub by_segment : Option (List ℕ) → Option (List ℕ)
 by_segment None = None
 by_segment (Some bytes) = lengths_in (segment_lengths bytes)
-
--- the first of two that there is
-abbrev pub first_of : {A : Type 0} → Option A → Option A → Option A
-first_of None later = later
-first_of (Some x) later = Some x
 
 -- of a layout with the array tree and the segment n: by its tree, else by its segment where there is a map
 abbrev pub known : Option Look → Option (List ℕ) → ℕ → Option (List ℕ)

@@ -1,4 +1,3 @@
-pub mod Building
 pub mod Lengths
 pub mod Text
 pub mod Views

@@ -9,7 +9,7 @@ use Rattle.vx_kinds.specs.declared.child_type.LayoutChildType.{LayoutChildType}
 use Rattle.vx_kinds.specs.Children.{child_name, slot_type}
 use Rattle.vx_kinds.specs.Shown.{in_brackets}
 use Rattle.vx_kinds.specs.ErrorNames.{refusal_name}
-use Rattle.vx_display.specs.Building.{Built, built}
+use Rattle.vx_layout_spelling.specs.Permitted.{Checked, built}
 use Rattle.vx_display.specs.Lengths.{Look, known, SegmentFault, first_fault}
 
 -- how a tree is shown
@@ -146,7 +146,7 @@ abbrev mutual
 abbrev pub error_line : Refusal → List ℕ
 error_line r = codes "Error building layout tree: " ++ (refusal_name r ++ codes "\n")
 
-abbrev pub unless_refused : Built → List ℕ → List ℕ
+abbrev pub unless_refused : Checked → List ℕ → List ℕ
 unless_refused (Ok u) text = text
 unless_refused (Err r) text = error_line r
 
@@ -164,7 +164,7 @@ unless_fault (Some fault) text = Err fault
 abbrev pub asking : Look → Style
 asking look = record { verbose = true; map = Some look }
 
-abbrev pub unless_refused_or_fault : Built → Option SegmentFault → List ℕ → Result (List ℕ) SegmentFault
+abbrev pub unless_refused_or_fault : Checked → Option SegmentFault → List ℕ → Result (List ℕ) SegmentFault
 unless_refused_or_fault (Ok u) fault text = unless_fault fault text
 unless_refused_or_fault (Err r) fault text = Ok (error_line r)
 

@@ -11,7 +11,7 @@ use Rattle.vx_read.specs.declared.error.ReadError.TheVariants as read_errors
 use Rattle.vx_display.specs.declared.style.Style.{Style as HeldStyle}
 use Rattle.vx_display.specs.declared.style.Stop.{Stop}
 use Rattle.vx_display.specs.declared.style.Stop.TheVariants as stops
-use Rattle.vx_display.specs.Building.{Built}
+use Rattle.vx_layout_spelling.specs.Permitted.{Checked}
 use Rattle.vx_display.specs.Lengths.{Look, SegmentFault, no_segment, bad_segment}
 use Rattle.vx_display.specs.Text.{Style}
 
@@ -23,14 +23,14 @@ abbrev pub style : HeldStyle → Style
 style s = record { verbose = s.verbose; map = map_of s }
 
 -- The first fault, or that a node can't be built; want of memory is free.
-abbrev pub StopsBy : Stop → Option SegmentFault → Built → Type 0
+abbrev pub StopsBy : Stop → Option SegmentFault → Checked → Type 0
 StopsBy (stops.NoSegment n) fault built = fault ≡ Some (no_segment n)
 StopsBy (stops.BadSegment n) fault built = fault ≡ Some (bad_segment n)
 StopsBy stops.Refused fault built = IsErr built
 StopsBy stops.OutOfMemory fault built = Unit {0}
 
 -- no fault where all was written, and every node was built
-abbrev pub Faults : {X : Type 0} → Result X Stop → Option SegmentFault → Built → Type 0
+abbrev pub Faults : {X : Type 0} → Result X Stop → Option SegmentFault → Checked → Type 0
 Faults (Ok x) fault built = (fault ≡ None) × (built ≡ Ok tt)
 Faults (Err e) fault built = StopsBy e fault built
 

@@ -2,7 +2,7 @@
 
 ghost use Rattle.vx_kinds.specs.LayoutView.{lay};
 ghost use Rattle.vx_kinds.specs.Views.{Gives};
-ghost use Rattle.vx_display.specs.Building.{built as all_built};
+ghost use Rattle.vx_layout_spelling.specs.Permitted.{built as all_built};
 
 use vx_kinds::{Layout, LayoutError};
 

@@ -3,7 +3,7 @@
 ghost use Rattle.std.specs.Prelude.{◌≡◌, ◌++◌, [], codes, IfOk};
 ghost use Rattle.vx_kinds.specs.ErrorNames.{error_name};
 ghost use Rattle.vx_kinds.specs.LayoutView.{lay};
-ghost use Rattle.vx_display.specs.Building.{built as all_built};
+ghost use Rattle.vx_layout_spelling.specs.Permitted.{built as all_built};
 ghost use Rattle.vx_display.specs.Lengths.{first_fault};
 ghost use Rattle.vx_display.specs.Text.{tree_text};
 ghost use Rattle.vx_display.specs.Views.{map_of, style as seen, Faults};

@@ -4,7 +4,7 @@ ghost use Rattle.std.specs.Prelude.{◌≡◌, ◌++◌, ◌+◌, ◌<◌, ◌^�
 ghost use Rattle.vx_tree.specs.LayoutTree.{layout_kind, segments_of, children_of};
 ghost use Rattle.vx_kinds.specs.Children.{child_in};
 ghost use Rattle.vx_kinds.specs.LayoutView.{lay};
-ghost use Rattle.vx_display.specs.Building.{built as all_built};
+ghost use Rattle.vx_layout_spelling.specs.Permitted.{built as all_built};
 ghost use Rattle.vx_display.specs.Lengths.{first_fault, kind_fault};
 ghost use Rattle.vx_display.specs.Text.{tree_text, node_text, branch_to, trunk_by, label as name_of_child};
 ghost use Rattle.vx_display.specs.Views.{map_of, style as seen, Faults, GivesChild};

@@ -24,7 +24,7 @@ pub ruleset root_rules = (root_rest)
 pub pre_order_is : (l : Lay ℕ) → pre_order l ≡ l ∷ below l
 pre_order_is (layout k t n names ls) = refl
 
-made_is : (l c : Lay ℕ) → answered l ≡ Ok c → (l ≡ c) × (is_refused (layout_kind l) ≡ false)
+pub made_is : (l c : Lay ℕ) → answered l ≡ Ok c → (l ≡ c) × (is_refused (layout_kind l) ≡ false)
 made_is (layout (flat_kind e tree) t n names ls) c is = (cc, refl)
 made_is (layout chunked_kind t n names ls) c is = (cc, refl)
 made_is (layout struct_kind t n names ls) c is = (cc, refl)

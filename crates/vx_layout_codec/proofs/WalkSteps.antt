@@ -2,69 +2,25 @@
 use Rattle.std.proofs.Common.{◌≡◌, ℕ, zero, suc, ◌+◌, ◌<◌, List, [], ◌∷◌, ◌++◌, length, drop, Option, Some, None, Result, Ok, Err, refl, sym, ◌∙◌, ◌≤◌, ap, arith}
 use Rattle.std.proofs.lemmas.List.{map_push, take_more, drop_all, append-nil}
 use Rattle.vx_tree.specs.Refusal.{Refusal}
-use Rattle.vx_tree.specs.LayoutTree.{flat_kind, chunked_kind, struct_kind, list_kind, dict_kind, zoned_kind, unread_zoned_kind, stats_kind, foreign_kind, refused_kind, Lay, Lays, layout, no_layouts, child, lays_of, lays_in, layout_kind, kind_id, children_of}
+use Rattle.vx_tree.specs.LayoutTree.{Lay, layout, lays_of, layout_kind, kind_id, children_of}
 use Rattle.vx_layout_bytes.specs.Node.{Node, Nodes, node, no_nodes, first, nodes_of}
 use Rattle.vx_layout_bytes.proofs.Nodes.{raw_is}
 use Rattle.vx_kinds.specs.Children.{answered, child_in}
 use Rattle.vx_kinds.specs.LayDepth.{depth, depths}
 use Rattle.vx_kinds.specs.Views.{Fails}
+use Rattle.vx_kinds.proofs.KidSteps.{fails_by}
 use Rattle.vx_kinds.specs.declared.error.LayoutError.{LayoutError}
-use Rattle.vx_kinds.specs.declared.error.LayoutError.TheVariants as errors
 use Rattle.vx_layout_spelling.specs.Permitted.{Checked, and_checked, refusal_in, listed, permitted, all_permitted, built, all_built}
 use Rattle.vx_layout_spelling.specs.NodeOf.{own_in, node_in, nodes_in}
 use Rattle.vx_layout_spelling.specs.Bytes.{unless_refused}
 use Rattle.vx_kinds.specs.ChildView.{child_lay}
 use Rattle.vx_kinds.specs.declared.child.LayoutChild.{LayoutChild}
+use Rattle.vx_layout_spelling.proofs.ParsedBack.{lays_back}
+use Rattle.vx_walks.proofs.Walks.{answered_same, kind_refused, kind_built, built_is, drop_built, drop_refused, depth_is, child_falls}
 use Rattle.vx_layout_codec.specs.Views.{children_answer, kept}
 use Rattle.vx_layout_codec.proofs.FitSteps.{below_more}
 
-pub lays_back : (ls : Lays ℕ) → lays_of (lays_in ls) ≡ ls
-lays_back no_layouts = refl
-lays_back (child l ls) = ap (λ r. child l r) (lays_back ls)
-
 -- ---- a layout that can be built, and one that can't
-
-pub answered_same : (x l : Lay ℕ) → answered x ≡ Ok l → x ≡ l
-answered_same (layout (flat_kind e tree) t n names ls) l is = cc
-answered_same (layout chunked_kind t n names ls) l is = cc
-answered_same (layout struct_kind t n names ls) l is = cc
-answered_same (layout list_kind t n names ls) l is = cc
-answered_same (layout (dict_kind all) t n names ls) l is = cc
-answered_same (layout (zoned_kind z ss) t n names ls) l is = cc
-answered_same (layout (unread_zoned_kind m) t n names ls) l is = cc
-answered_same (layout (stats_kind z ss) t n names ls) l is = cc
-answered_same (layout (foreign_kind id m) t n names ls) l is = cc
-answered_same (layout (refused_kind f r) t n names ls) l is = cc
-
-pub kind_refused : (x : Lay ℕ) (r : Refusal) → answered x ≡ Err r → refusal_in (layout_kind x) ≡ Some r
-kind_refused (layout (flat_kind e tree) t n names ls) r is = cc
-kind_refused (layout chunked_kind t n names ls) r is = cc
-kind_refused (layout struct_kind t n names ls) r is = cc
-kind_refused (layout list_kind t n names ls) r is = cc
-kind_refused (layout (dict_kind all) t n names ls) r is = cc
-kind_refused (layout (zoned_kind z ss) t n names ls) r is = cc
-kind_refused (layout (unread_zoned_kind m) t n names ls) r is = cc
-kind_refused (layout (stats_kind z ss) t n names ls) r is = cc
-kind_refused (layout (foreign_kind id m) t n names ls) r is = cc
-kind_refused (layout (refused_kind f q) t n names ls) r is = cc
-
-pub kind_built : (x : Lay ℕ) → answered x ≡ Ok x → refusal_in (layout_kind x) ≡ None
-kind_built (layout (flat_kind e tree) t n names ls) is = refl
-kind_built (layout chunked_kind t n names ls) is = refl
-kind_built (layout struct_kind t n names ls) is = refl
-kind_built (layout list_kind t n names ls) is = refl
-kind_built (layout (dict_kind all) t n names ls) is = refl
-kind_built (layout (zoned_kind z ss) t n names ls) is = refl
-kind_built (layout (unread_zoned_kind m) t n names ls) is = refl
-kind_built (layout (stats_kind z ss) t n names ls) is = refl
-kind_built (layout (foreign_kind id m) t n names ls) is = refl
-kind_built (layout (refused_kind f q) t n names ls) is = cc
-
-built_from : (x : Lay ℕ) → refusal_in (layout_kind x) ≡ None → built x ≡ all_built (lays_of (children_of x))
-built_from (layout k t n names ls) is = rw (is, lays_back ls) refl
-
-refused_from : (x : Lay ℕ) (r : Refusal) → refusal_in (layout_kind x) ≡ Some r → built x ≡ Err r
-refused_from (layout k t n names ls) r is = rw is refl
 
 permitted_from : (ids : List (List ℕ)) (x : Lay ℕ) → refusal_in (layout_kind x) ≡ None
     → permitted ids x ≡ and_checked (listed ids (kind_id (layout_kind x))) (all_permitted ids (lays_of (children_of x)))
@@ -73,26 +29,11 @@ permitted_from ids (layout k t n names ls) is = rw (is, lays_back ls) refl
 skipped_from : (ids : List (List ℕ)) (x : Lay ℕ) (r : Refusal) → refusal_in (layout_kind x) ≡ Some r → permitted ids x ≡ Ok tt
 skipped_from ids (layout k t n names ls) r is = rw is refl
 
--- what is built is built where its children are
-pub built_is : (x : Lay ℕ) → answered x ≡ Ok x → built x ≡ all_built (lays_of (children_of x))
-built_is x is = built_from x (kind_built x is)
-
 pub permitted_is : (ids : List (List ℕ)) (x : Lay ℕ) → answered x ≡ Ok x
     → permitted ids x ≡ and_checked (listed ids (kind_id (layout_kind x))) (all_permitted ids (lays_of (children_of x)))
 permitted_is ids x is = permitted_from ids x (kind_built x is)
 
 -- ---- the children one by one
-
-pub drop_built : (ls : List (Lay ℕ)) (i : ℕ) (l : Lay ℕ) → i < length ls → child_in ls i ≡ Ok l
-    → all_built (lays_of (drop i ls)) ≡ and_checked (built l) (all_built (lays_of (drop (i + 1) ls)))
-drop_built [] i l lt is = absurd (omega (arith, lt))
-drop_built (x ∷ ls) zero l lt is = rw (answered_same x l is) refl
-drop_built (x ∷ ls) (suc i) l lt is = let e : suc i + 1 ≡ suc (i + 1) = omega arith in rw e (drop_built ls i l (omega (arith, lt)) is)
-
-pub drop_refused : (ls : List (Lay ℕ)) (i : ℕ) (r : Refusal) → i < length ls → child_in ls i ≡ Err r → all_built (lays_of (drop i ls)) ≡ Err r
-drop_refused [] i r lt is = absurd (omega (arith, lt))
-drop_refused (x ∷ ls) zero r lt is = rw (refused_from x r (kind_refused x r is)) refl
-drop_refused (x ∷ ls) (suc i) r lt is = drop_refused ls i r (omega (arith, lt)) is
 
 pub drop_permitted : (ids : List (List ℕ)) (ls : List (Lay ℕ)) (i : ℕ) (l : Lay ℕ) → i < length ls → children_answer (child_in ls i) ≡ Some l
     → all_permitted ids (lays_of (drop i ls)) ≡ and_checked (permitted ids l) (all_permitted ids (lays_of (drop (i + 1) ls)))
@@ -139,16 +80,6 @@ onto_push (m ∷ ns) n others = ap (λ r. first m r) (onto_push ns n others)
 pub node_is : (ids : List (List ℕ)) (l : Lay ℕ) → node_in ids l ≡ node (own_in ids l) (nodes_in ids (lays_of (children_of l)))
 node_is ids (layout k t n names ls) = rw (lays_back ls) refl
 
--- ---- a child is less deep
-
-pub depth_is : (l : Lay ℕ) → depth l ≡ depths (lays_of (children_of l))
-depth_is (layout k t n names ls) = rw (lays_back ls) refl
-
-pub child_falls : (ls : List (Lay ℕ)) (i : ℕ) (l : Lay ℕ) → child_in ls i ≡ Ok l → depth l < depths (lays_of ls)
-child_falls [] i l is = cc
-child_falls (x ∷ ls) zero l is = rw (← answered_same x l is) (omega arith)
-child_falls (x ∷ ls) (suc i) l is = omega (arith, child_falls ls i l is)
-
 pub told_falls : (ls : List (Lay ℕ)) (i : ℕ) (l : Lay ℕ) → children_answer (child_in ls i) ≡ Some l → depth l < depths (lays_of ls)
 told_falls ls i l is = falls_by ls i l (child_in ls i) refl is
   where
@@ -156,38 +87,17 @@ told_falls ls i l is = falls_by ls i l (child_in ls i) refl is
     falls_by ls i l (Ok m) at is = let same : m ≡ l = cc is in child_falls ls i l (rw (← same) at)
     falls_by ls i l (Err r) at is = cc is
 
--- ---- the same refusal of another
-
-pub fails_along : {A B : Type 0} (e : LayoutError) (m : Result A Refusal) (n : Result B Refusal) → ((r : Refusal) → m ≡ Err r → n ≡ Err r) → Fails e m → Fails e n
-fails_along (errors.Grammar a) m n k h = k _ h
-fails_along (errors.TooDeep a) m n k h = k _ h
-fails_along (errors.TooManyNodes a) m n k h = k _ h
-fails_along (errors.UnknownIndex a) m n k h = k _ h
-fails_along (errors.Unregistered a) m n k h = k _ h
-fails_along (errors.NotPermitted a) m n k h = k _ h
-fails_along (errors.ChildCount a b) m n k h = k _ h
-fails_along (errors.ChildType a b) m n k h = k _ h
-fails_along (errors.RowCount a b) m n k h = k _ h
-fails_along (errors.SegmentCount a) m n k h = k _ h
-fails_along (errors.Metadata a) m n k h = k _ h
-fails_along (errors.UnknownAggregate a) m n k h = k _ h
-fails_along (errors.SlotRange a b) m n k h = k _ h
-fails_along (errors.FieldNotFound a) m n k h = k _ h
-fails_along errors.NotAList m n k h = k _ h
-fails_along errors.NotAStruct m n k h = k _ h
-fails_along errors.OutOfMemory m n k h = h
-
 -- ---- the walk over ids
 
 pub own_fails : (ids : List (List ℕ)) (l : Lay ℕ) (id : List ℕ) (e : LayoutError) → answered l ≡ Ok l → id ≡ kind_id (layout_kind l) → Fails e (listed ids id) → Fails e (permitted ids l)
-own_fails ids l id e b same h = fails_along e (listed ids id) (permitted ids l) (λ r is. rw (permitted_is ids l b, ← same, is) refl) h
+own_fails ids l id e b same h = fails_by e (listed ids id) (permitted ids l) (λ r is. rw (permitted_is ids l b, ← same, is) refl) h
 
 pub own_listed : (ids : List (List ℕ)) (l : Lay ℕ) (id : List ℕ) (u : Unit {0}) → answered l ≡ Ok l → id ≡ kind_id (layout_kind l) → listed ids id ≡ Ok u → permitted ids l ≡ all_permitted ids (lays_of (children_of l))
 own_listed ids l id u b same h = rw (permitted_is ids l b, ← same, h) refl
 
 pub below_unlisted : (ids : List (List ℕ)) (l : Lay ℕ) (i : ℕ) (e : LayoutError) (m : Lay ℕ) → i < length (children_of l) → permitted ids l ≡ all_permitted ids (lays_of (drop i (children_of l)))
     → children_answer (child_in (children_of l) i) ≡ Some m → Fails e (permitted ids m) → Fails e (permitted ids l)
-below_unlisted ids l i e m lt so at h = fails_along e (permitted ids m) (permitted ids l) (λ r is. rw (so, drop_permitted ids (children_of l) i m lt at, is) refl) h
+below_unlisted ids l i e m lt so at h = fails_by e (permitted ids m) (permitted ids l) (λ r is. rw (so, drop_permitted ids (children_of l) i m lt at, is) refl) h
 
 pub next_listed : (ids : List (List ℕ)) (l : Lay ℕ) (i : ℕ) (m : Lay ℕ) (u : Unit {0}) → i < length (children_of l) → permitted ids l ≡ all_permitted ids (lays_of (drop i (children_of l)))
     → children_answer (child_in (children_of l) i) ≡ Some m → permitted ids m ≡ Ok u → permitted ids l ≡ all_permitted ids (lays_of (drop (i + 1) (children_of l)))
@@ -201,7 +111,7 @@ next_skipped ids l i lt so at = rw (so, drop_skipped ids (children_of l) i lt at
 
 pub child_fails : (l : Lay ℕ) (i : ℕ) (e : LayoutError) (n : Node) → i < length (children_of l) → built l ≡ all_built (lays_of (drop i (children_of l)))
     → Fails e (child_in (children_of l) i) → Fails e (unless_refused (built l) n)
-child_fails l i e n lt so h = fails_along e (child_in (children_of l) i) (unless_refused (built l) n) (λ r is. rw (so, drop_refused (children_of l) i r lt is) refl) h
+child_fails l i e n lt so h = fails_by e (child_in (children_of l) i) (unless_refused (built l) n) (λ r is. rw (so, drop_refused (children_of l) i r lt is) refl) h
 
 refused_there : {A : Type 0} (b : Checked) (x : A) (r : Refusal) → unless_refused b x ≡ Err r → b ≡ Err r
 refused_there (Ok u) x r e = absurd (cc e)
@@ -214,7 +124,7 @@ built_there (Err q) x y e = absurd (cc e)
 pub below_fails : (l : Lay ℕ) (i : ℕ) (e : LayoutError) (m : Lay ℕ) (n k : Node) → i < length (children_of l) → built l ≡ all_built (lays_of (drop i (children_of l)))
     → child_in (children_of l) i ≡ Ok m → Fails e (unless_refused (built m) k) → Fails e (unless_refused (built l) n)
 below_fails l i e m n k lt so at h =
-    fails_along e (unless_refused (built m) k) (unless_refused (built l) n) (λ r is. rw (so, drop_built (children_of l) i m lt at, refused_there (built m) k r is) refl) h
+    fails_by e (unless_refused (built m) k) (unless_refused (built l) n) (λ r is. rw (so, drop_built (children_of l) i m lt at, refused_there (built m) k r is) refl) h
 
 pub next_built : (l : Lay ℕ) (i : ℕ) (m : Lay ℕ) (k made : Node) → i < length (children_of l) → built l ≡ all_built (lays_of (drop i (children_of l)))
     → child_in (children_of l) i ≡ Ok m → unless_refused (built m) k ≡ Ok made → built l ≡ all_built (lays_of (drop (i + 1) (children_of l)))

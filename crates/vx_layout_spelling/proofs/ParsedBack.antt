@@ -300,7 +300,7 @@ own_back s o ks other t kind known knows = rw (known, knows) refl
 
 -- ---- foreign nodes
 
-lays_back : (ls : Lays ℕ) → lays_of (lays_in ls) ≡ ls
+pub lays_back : (ls : Lays ℕ) → lays_of (lays_in ls) ≡ ls
 lays_back no_layouts = refl
 lays_back (child l ls) = ap (child l) (lays_back ls)
 

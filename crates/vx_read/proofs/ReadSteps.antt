@@ -17,6 +17,7 @@ use Rattle.vx_kinds.specs.declared.error.LayoutError.{LayoutError}
 use Rattle.vx_kinds.specs.declared.error.LayoutError.TheVariants as errors
 use Rattle.vx_kinds.specs.Views.{Fails}
 use Rattle.vx_kinds.specs.LayDepth.{depth, depths}
+use Rattle.vx_kinds.proofs.TreeSteps.{made_is}
 use Rattle.vx_read.specs.declared.error.ReadError.{ReadError}
 use Rattle.vx_read.specs.Reading.{ReadFault, first_of, first_in, count_fault, counts_fault, children_fault, list_children, validity_fault, list_fault, dict_fault, first_fault, each_fault}
 use Rattle.vx_read.specs.Agreement.{is_there}
@@ -260,16 +261,7 @@ pub ruleset read_rules = (chunked_reads, chunked_stops, struct_reads, struct_sto
 -- ---- the loop over children
 
 answered_is : (x l : Lay ℕ) → answered x ≡ Ok l → x ≡ l
-answered_is (layout (flat_kind encodings tree) t n names ls) l e = cc
-answered_is (layout chunked_kind t n names ls) l e = cc
-answered_is (layout struct_kind t n names ls) l e = cc
-answered_is (layout list_kind t n names ls) l e = cc
-answered_is (layout (dict_kind all) t n names ls) l e = cc
-answered_is (layout (zoned_kind zone_len specs) t n names ls) l e = cc
-answered_is (layout (unread_zoned_kind metadata) t n names ls) l e = cc
-answered_is (layout (stats_kind zone_len stats) t n names ls) l e = cc
-answered_is (layout (foreign_kind id metadata) t n names ls) l e = cc
-answered_is (layout (refused_kind is_flat refusal) t n names ls) l e = cc
+answered_is x l e = (made_is x l e).0
 
 refused_is : (c : Codec) (look : ℕ → Option (List ℕ)) (x : Lay ℕ) (r : Refusal) → answered x ≡ Err r → refusal_in (first_fault c look x) ≡ Err r
 refused_is c look (layout (flat_kind encodings tree) t n names ls) r e = cc

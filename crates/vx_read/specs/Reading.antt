@@ -25,9 +25,9 @@ pub data ReadFault : Type 0 where
   no_layout : Refusal → ReadFault
 
 -- the first of two that there is
-abbrev pub first_of : Option ReadFault → Option ReadFault → Option ReadFault
+abbrev pub first_of : {A : Type 0} → Option A → Option A → Option A
 first_of None later = later
-first_of (Some f) later = Some f
+first_of (Some x) later = Some x
 
 abbrev pub first_in : List (Option ReadFault) → Option ReadFault
 first_in [] = None

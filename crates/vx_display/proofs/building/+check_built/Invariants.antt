@@ -2,7 +2,7 @@ use Rattle.std.proofs.Common.{◌≡◌, drop}
 use Rattle.vx_tree.specs.LayoutTree.{lays_of, children_of}
 use Rattle.vx_kinds.specs.LayoutView.{lay}
 use Rattle.vx_kinds.specs.LayDepth.{depth}
-use Rattle.vx_display.specs.Building.{built, all_built}
+use Rattle.vx_layout_spelling.specs.Permitted.{built, all_built}
 use Rattle.vx_display.proofs.building.+check_built.Given as goal
 
 abbrev pub decreases-check_built : goal.decreases-check_built

@@ -3,7 +3,7 @@ use Rattle.std.specs.Prelude.{string_bytes}
 use Rattle.vx_tree.specs.LayoutTree.{lays_of, children_of}
 use Rattle.vx_kinds.specs.LayoutView.{lay}
 use Rattle.vx_kinds.specs.LayDepth.{depth}
-use Rattle.vx_display.specs.Building.{built, all_built}
+use Rattle.vx_layout_spelling.specs.Permitted.{built, all_built}
 use Rattle.vx_display.specs.Lengths.{first_fault, first_below}
 use Rattle.vx_display.specs.Text.{tree_text, children_lines}
 use Rattle.vx_display.specs.Views.{style, map_of}
