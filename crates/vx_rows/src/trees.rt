@@ -115,3 +115,21 @@ fn a_chunk_that_is_not_built(rt: HostRuntime) -> Result<(), Fail> {
     assert_eq!(rt; shows(alloc, &asked, Status::Done, line)?, true);
     Ok(())
 }
+
+/// A chunked layout of 3 rows: of a flat one of 2 in segment 0, and a flat one of 1 in segment 1.
+const CHUNKS: &str = "0000030000000000000000000000000000000000000000000000020000000000\
+    00000100020000000000000000000000000000000100000000000000000000000000000000000000010001000000000000\
+    0000000000000000000100000000000000010000000000000000000000";
+
+#[test]
+fn chunks_shown(rt: HostRuntime) -> Result<(), Fail> {
+    let alloc = rt.alloc();
+    let ids = "\"vortex.chunked\", \"vortex.flat\"";
+    let mut asked = asked_of(alloc, "\"i64\"", ids, CHUNKS)?;
+    asked.push_str("}")?;
+    let tree = "vortex.chunked, dtype: i64, children: 2, rows: 3\n\
+        ├── [0]: vortex.flat, dtype: i64, rows: 2, segment: 0\n\
+        └── [1]: vortex.flat, dtype: i64, rows: 1, segment: 1\n";
+    assert_eq!(rt; shows(alloc, &asked, Status::Done, tree)?, true);
+    Ok(())
+}
