@@ -150,6 +150,7 @@ impl DisplayLayoutTree {
     ghost use Rattle.vx_kinds.specs.LayoutView.{lay};
     ghost use Rattle.vx_display.specs.Text.{display_text};
 
+    /// Makes the text, of all lines.
     pub fn new(
         alloc: Global,
         layout: &Layout,

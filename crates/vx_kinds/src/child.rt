@@ -12,6 +12,7 @@ impl LayoutChild<'_> {
     ghost use Rattle.vx_kinds.specs.ChildView.{child_lay};
     ghost use Rattle.vx_kinds.specs.LayoutView.{lay};
 
+    /// The layout, wherever it is held.
     pub fn layout(&self) -> &Layout
         ensures { lay result.now ≡ child_lay self.now }
     {

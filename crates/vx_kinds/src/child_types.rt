@@ -48,6 +48,7 @@ impl Layout {
         }
     }
 
+    /// The name of each child, in slot order. Takes no memory before the first.
     pub fn child_names(&self, alloc: Global) -> ChildNames<'_>
         ensures { names_left result ≡ child_names (lay self.now) }
     {

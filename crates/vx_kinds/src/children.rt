@@ -18,6 +18,7 @@ use vx_layout_bytes::RawNode;
 use vx_model::DType;
 use vx_session::Scope;
 
+/// What a chunked or a struct layout has below it.
 #[derive(Debug, Drop)]
 #[cycle(layout)]
 pub enum LayoutChildren {
@@ -55,6 +56,7 @@ impl LayoutChildren {
     ghost use Rattle.vx_session.specs.Made.{rows_at};
     ghost use Rattle.vx_kinds.specs.KidsView.{layout_kids};
 
+    /// How many there are, built or not.
     #[tactic(auto, using(crate::proofs::KidSteps::rows_rules))]
     pub fn nchildren(&self) -> u64
         ensures count { result ≡ length (layout_kids self.now) }

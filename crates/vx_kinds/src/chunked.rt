@@ -43,10 +43,13 @@ impl Model for ChunkedLayout {
 }
 
 impl ChunkedLayout {
+    ghost use Rattle.std.specs.Prelude.{◌≡◌, ◌≢◌, IfErr};
     ghost use Rattle.vx_model.specs.TyView.{ty};
+    ghost use Rattle.vx_tree.specs.LayoutTree.{layout_type, children_of};
     ghost use Rattle.vx_kinds.specs.KidsView.{chunks};
     ghost use Rattle.vx_kinds.specs.Made.{make_chunked};
     ghost use Rattle.vx_kinds.specs.Views.{Gives, itself};
+    ghost use Rattle.vx_kinds.specs.declared.error.LayoutError.TheVariants.{OutOfMemory};
 
     /// The children in order. Refuses `RowCount` exactly where their rows don't sum to `row_count`. Takes no memory.
     #[tactic(auto, using(crate::proofs::KidSteps::chunk_rules))]
@@ -55,7 +58,8 @@ impl ChunkedLayout {
         dtype: DType,
         children: LayoutChildren,
     ) -> Result<ChunkedLayout, LayoutError>
-        ensures { Gives itself result (make_chunked (ty dtype) row_count (chunks (ty dtype) children)) }
+        ensures made { Gives itself result (make_chunked (ty dtype) row_count (chunks (ty dtype) children)) }
+        ensures room { IfErr result (λ e. e ≢ OutOfMemory) }
     {
         let has = total_rows(&children);
         if has != row_count as u128 {
@@ -70,5 +74,13 @@ impl ChunkedLayout {
             segment_ids: Vec::new(children.allocator()),
             children,
         })
+    }
+
+    /// The chunks, built when they are asked for where they are nodes of bytes.
+    #[tactic(auto, using(crate::proofs::KidSteps::place_rules))]
+    pub fn children(&self) -> &LayoutChildren
+        ensures { chunks (layout_type self.now) result.now ≡ children_of self.now }
+    {
+        &self.children
     }
 }

@@ -71,6 +71,7 @@ impl Layout {
         }
     }
 
+    /// An unread zoned layout is `Zoned`.
     #[tactic(auto, unfolding(crate::specs::LayoutView::lay))]
     pub fn kind(&self) -> LayoutKind
         ensures { result ≡ kind_name (layout_kind (lay self.now)) }
@@ -99,6 +100,7 @@ impl Layout {
         }
     }
 
+    /// The id that contexts list, of a foreign layout its own.
     #[tactic(auto, unfolding(crate::specs::LayoutView::lay))]
     pub fn encoding_id(&self) -> &str
         ensures { result.now ≡ kind_id (layout_kind (lay self.now)) }
@@ -234,6 +236,7 @@ impl Layout {
         self.is(LayoutKind::Flat)
     }
 
+    /// Whether it is of the kind.
     pub fn is(&self, kind: LayoutKind) -> bool
         ensures { IsTrue result ↔ (kind_name (layout_kind (lay self.now)) ≡ kind) }
     {

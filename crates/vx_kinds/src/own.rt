@@ -37,8 +37,10 @@ use vx_model::{DType, PType, StructField};
 /// The slots of a list.
 pub const ELEMENTS_CHILD_INDEX: u64 = 0;
 
+/// Where each row ends, from 0.
 pub const OFFSETS_CHILD_INDEX: u64 = 1;
 
+/// Whether each row is valid, where the type is nullable.
 pub const VALIDITY_CHILD_INDEX: u64 = 2;
 
 /// Children of a list whose type isn't nullable.

@@ -45,11 +45,14 @@ impl Model for StructLayout {
 }
 
 impl StructLayout {
-    ghost use Rattle.std.specs.Prelude.{map};
+    ghost use Rattle.std.specs.Prelude.{◌≡◌, ◌≢◌, map, IfErr};
     ghost use Rattle.vx_model.specs.TyView.{ty};
+    ghost use Rattle.vx_tree.specs.LayoutTree.{layout_type, children_of};
+    ghost use Rattle.vx_kinds.specs.KidsView.{fields};
     ghost use Rattle.vx_kinds.specs.LayoutView.{lay};
     ghost use Rattle.vx_kinds.specs.Made.{make_struct};
     ghost use Rattle.vx_kinds.specs.Views.{Gives, itself};
+    ghost use Rattle.vx_kinds.specs.declared.error.LayoutError.TheVariants.{OutOfMemory};
 
     /// Refuses `NotAStruct`, then `ChildCount`. Takes no memory.
     #[tactic(auto, using(crate::proofs::KidSteps::field_rules))]
@@ -58,7 +61,8 @@ impl StructLayout {
         dtype: DType,
         children: Vec<Layout>,
     ) -> Result<StructLayout, LayoutError>
-        ensures { Gives itself result (make_struct (ty dtype) row_count (map lay children.items)) }
+        ensures made { Gives itself result (make_struct (ty dtype) row_count (map lay children.items)) }
+        ensures room { IfErr result (λ e. e ≢ OutOfMemory) }
     {
         if !dtype.is_struct() {
             return Err(LayoutError::NotAStruct);
@@ -74,5 +78,13 @@ impl StructLayout {
             segment_ids: Vec::new(*children.allocator()),
             children: LayoutChildren::Owned(children),
         })
+    }
+
+    /// The validity and the fields, built when they are asked for where they are nodes of bytes.
+    #[tactic(auto, using(crate::proofs::KidSteps::place_rules))]
+    pub fn children(&self) -> &LayoutChildren
+        ensures { fields (layout_type self.now) result.now ≡ children_of self.now }
+    {
+        &self.children
     }
 }

@@ -35,6 +35,7 @@ impl DictLayoutMetadata {
         }
     }
 
+    /// Three bytes.
     pub fn serialize(&self, alloc: Global) -> Result<Vec<u8>, AllocError>
         ensures { IfOk result (λ v. v.items ≡ dict_bytes self.now) }
     {
@@ -46,6 +47,7 @@ impl DictLayoutMetadata {
         Vec::from_slice(alloc, &bytes)
     }
 
+    /// `Metadata` where a byte is no number of an integer type, or a flag above 1, or there are not three.
     pub fn deserialize(alloc: Global, bytes: &[u8]) -> Result<DictLayoutMetadata, MetadataError>
         // What is read has these bytes.
         ensures found { IfOk result (λ m. dict_bytes m ≡ bytes.now) }

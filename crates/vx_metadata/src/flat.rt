@@ -14,6 +14,7 @@ impl FlatLayoutMetadata {
     ghost use Rattle.vx_metadata.specs.Reading.{flat_in};
     ghost use Rattle.vx_metadata.specs.Views.{Gives, kept_tree};
 
+    /// A 1 and the array tree, or nothing.
     pub fn serialize(&self, alloc: Global) -> Result<Vec<u8>, AllocError>
         ensures { IfOk result (λ v. v.items ≡ flat_bytes (kept_tree self.now)) }
     {
@@ -25,6 +26,7 @@ impl FlatLayoutMetadata {
         Ok(out)
     }
 
+    /// `Metadata` where the first byte is no 1. The array tree is not read.
     pub fn deserialize(alloc: Global, bytes: &[u8]) -> Result<FlatLayoutMetadata, MetadataError>
         // What is read has these bytes.
         ensures found { IfOk result (λ m. flat_bytes (kept_tree m) ≡ bytes.now) }

@@ -20,18 +20,21 @@ impl ListLayoutMetadata {
     ghost use Rattle.vx_metadata.specs.Reading.{list_in};
     ghost use Rattle.vx_metadata.specs.Views.{Gives, the_same};
 
+    /// Of a list with offsets of the type.
     pub fn new(offsets_ptype: PType) -> ListLayoutMetadata
         ensures { result.offsets_ptype ≡ offsets_ptype }
     {
         ListLayoutMetadata { offsets_ptype }
     }
 
+    /// One byte.
     pub fn serialize(&self, alloc: Global) -> Result<Vec<u8>, AllocError>
         ensures { IfOk result (λ v. v.items ≡ list_bytes self.now) }
     {
         Vec::from_slice(alloc, &[self.offsets_ptype.number()])
     }
 
+    /// `Metadata` where it is no number of an integer type, or there is not one byte.
     pub fn deserialize(alloc: Global, bytes: &[u8]) -> Result<ListLayoutMetadata, MetadataError>
         // What is read has these bytes.
         ensures found { IfOk result (λ m. list_bytes m ≡ bytes.now) }

@@ -47,12 +47,14 @@ impl LegacyStatsMetadata {
         LegacyStatsMetadata { zone_len, stats }
     }
 
+    /// Rows of a zone.
     pub fn zone_len(&self) -> u32
         ensures { result ≡ self.now.0 }
     {
         self.zone_len
     }
 
+    /// In order, each once.
     pub fn stats(&self) -> &[Stat]
         ensures stats { result.now ≡ self.now.1 }
         ensures ordered { IsTrue (in_order self.now.1) }
@@ -60,6 +62,7 @@ impl LegacyStatsMetadata {
         self.stats.as_slice()
     }
 
+    /// Five bytes.
     pub fn serialize(&self, alloc: Global) -> Result<Vec<u8>, AllocError>
         ensures { IfOk result (λ v. v.items ≡ legacy_bytes self.now) }
     {
@@ -69,6 +72,7 @@ impl LegacyStatsMetadata {
         Ok(out)
     }
 
+    /// `Metadata` where there are not five bytes, or the last has a bit that stands for no statistic.
     pub fn deserialize(alloc: Global, bytes: &[u8]) -> Result<LegacyStatsMetadata, MetadataError>
         // What is read has these bytes.
         ensures found { IfOk result (λ m. legacy_bytes m ≡ bytes.now) }

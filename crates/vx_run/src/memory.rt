@@ -90,6 +90,7 @@ impl ByteOutput {
         }
     }
 
+    /// What was written.
     pub fn bytes(&self) -> &[u8]
         ensures { ⟦<ByteOutput as Output>⟧.written self.now ≡ Some result.now }
     {

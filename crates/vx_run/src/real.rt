@@ -14,6 +14,7 @@ pub struct RealInput<R: Read> {
 }
 
 impl<R: Read> RealInput<R> {
+    /// Nothing is read before the first call.
     pub fn new(inner: R) -> RealInput<R>
         ensures to_come { ⟦<RealInput<R> as Input>⟧.to_come result ≡ R.remaining inner }
         ensures faults { ⟦<RealInput<R> as Input>⟧.faults result ≡ 0 }
@@ -48,6 +49,7 @@ pub struct RealOutput<W: Write> {
 }
 
 impl<W: Write> RealOutput<W> {
+    /// Nothing is written before the first call.
     pub fn new(inner: W) -> RealOutput<W>
         ensures written { ⟦<RealOutput<W> as Output>⟧.written result ≡ W.contents inner }
         ensures faults { ⟦<RealOutput<W> as Output>⟧.faults result ≡ 0 }

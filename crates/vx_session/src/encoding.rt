@@ -12,10 +12,13 @@ pub enum LayoutEncoding {
     LegacyStats,
 }
 
+/// The name of `LayoutEncoding` where kinds are registered.
 pub type LayoutVTablePlugin = LayoutEncoding;
 
+/// The name of `LayoutEncoding` where layouts tell their kind.
 pub type LayoutVTableRef = LayoutEncoding;
 
+/// The name of `LayoutEncoding` where it is handed on.
 pub type LayoutEncodingRef = LayoutEncoding;
 
 impl LayoutEncoding {
@@ -59,6 +62,7 @@ impl LayoutEncoding {
         }
     }
 
+    /// Whether it is the kind.
     pub fn is(self, kind: LayoutEncoding) -> bool
         ensures { IsTrue result ↔ (self ≡ kind) }
     {

@@ -43,6 +43,7 @@ impl LayoutContext {
         LayoutContext { ids }
     }
 
+    /// In their order.
     pub fn ids(&self) -> &[Text]
         ensures ids { result.now ≡ self.now }
         ensures few { IsTrue (is_context self.now) }

@@ -64,6 +64,7 @@ impl LayoutSession {
         Ok(())
     }
 
+    /// The kinds that the session knows, by their ids.
     pub fn registry(&self) -> &LayoutRegistry
         ensures { result.now ≡ self.now }
     {

@@ -14,6 +14,7 @@ pub struct Fails {
 }
 
 impl Fails {
+    /// The numbers of the calls that fail, in any order.
     pub fn new(list: Vec<u64>) -> Fails
         ensures list { result.list.items ≡ list.items }
         ensures calls { result.calls ≡ 0 }

@@ -30,6 +30,7 @@ impl MemorySink {
         }
     }
 
+    /// All that were appended, in order.
     pub fn segments(&self) -> &[Blob]
         ensures { ⟦<MemorySink as SegmentSink>⟧.segments self.now ≡ Some result.now }
     {
