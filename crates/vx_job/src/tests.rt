@@ -27,6 +27,15 @@ fn jobs(rt: HostRuntime) -> Result<(), Fail> {
             r#"{"schema": "i64", "strategy": "flat", "batches": [], "encodings": [], "aggregates": null}"#,
             "",
         ),
+    ] {
+        assert_eq!(rt; place(rt.alloc(), json)?, wanted);
+    }
+    Ok(())
+}
+
+#[test]
+fn jobs_at_fault(rt: HostRuntime) -> Result<(), Fail> {
+    for (json, wanted) in [
         ("", "json"),
         (r#"{"schema": "i64""#, "json"),
         ("[]", "job"),
@@ -39,6 +48,15 @@ fn jobs(rt: HostRuntime) -> Result<(), Fail> {
             r#"{"schema": "i64", "strategy": "flat", "batches": [["a"]]}"#,
             "batches",
         ),
+    ] {
+        assert_eq!(rt; place(rt.alloc(), json)?, wanted);
+    }
+    Ok(())
+}
+
+#[test]
+fn options_at_fault(rt: HostRuntime) -> Result<(), Fail> {
+    for (json, wanted) in [
         (
             r#"{"schema": "i64", "strategy": "flat", "batches": [], "schedule": [-1], "encodings": 1}"#,
             "schedule",
@@ -93,6 +111,15 @@ fn tree_jobs(rt: HostRuntime) -> Result<(), Fail> {
             r#"{"dtype": "i64", "bytes": "0A0b", "layouts": ["vortex.flat", "other"], "encodings": [], "registered": ["vortex.flat", "vortex.flat"], "allow_unknown": true, "depth": 1024, "nodes": 18446744073709551615}"#,
             "",
         ),
+    ] {
+        assert_eq!(rt; tree_place(rt.alloc(), json)?, wanted);
+    }
+    Ok(())
+}
+
+#[test]
+fn tree_jobs_at_fault(rt: HostRuntime) -> Result<(), Fail> {
+    for (json, wanted) in [
         ("{", "json"),
         ("1", "job"),
         (

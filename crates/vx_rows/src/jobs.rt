@@ -66,6 +66,19 @@ fn cells(rt: HostRuntime) -> Result<(), Fail> {
         ),
         (PAIR, r#"[null, "x"]"#, ""),
         (r#"{"ext": "day", "storage": "i32"}"#, "7", ""),
+    ] {
+        let mut batches = String::from_str(rt.alloc(), "[[")?;
+        batches.push_str(cell)?;
+        batches.push_str("]]")?;
+        let job = job(rt.alloc(), schema, "\"flat\"", &batches, "")?;
+        assert!(rt; is_judged(rt.alloc(), &job, key)?);
+    }
+    Ok(())
+}
+
+#[test]
+fn cells_at_fault(rt: HostRuntime) -> Result<(), Fail> {
+    for (schema, cell, key) in [
         (r#""bool""#, "null", "batches"),
         (r#""u8""#, "256", "batches"),
         (r#""i64""#, "9223372036854775808", "batches"),
@@ -123,6 +136,16 @@ fn chunks(rt: HostRuntime) -> Result<(), Fail> {
             "",
         ),
         (r#""i64""#, r#"[{"as": "u8", "chunk": [7]}]"#, ""),
+    ] {
+        let job = job(rt.alloc(), schema, "\"flat\"", batches, "")?;
+        assert!(rt; is_judged(rt.alloc(), &job, key)?);
+    }
+    Ok(())
+}
+
+#[test]
+fn chunks_at_fault(rt: HostRuntime) -> Result<(), Fail> {
+    for (schema, batches, key) in [
         (r#""i64""#, "7", "batches"),
         (r#""i64""#, "[7]", "batches"),
         (r#""i64""#, r#"[{"constant": null, "rows": 3}]"#, "batches"),
@@ -137,6 +160,16 @@ fn chunks(rt: HostRuntime) -> Result<(), Fail> {
             r#"[{"dict": [0], "ptype": "i8", "values": [7]}]"#,
             "batches",
         ),
+    ] {
+        let job = job(rt.alloc(), schema, "\"flat\"", batches, "")?;
+        assert!(rt; is_judged(rt.alloc(), &job, key)?);
+    }
+    Ok(())
+}
+
+#[test]
+fn nested_chunks_at_fault(rt: HostRuntime) -> Result<(), Fail> {
+    for (schema, batches, key) in [
         (r#""i64""#, r#"[{"chunked": [1]}]"#, "batches"),
         (
             r#""i64""#,
@@ -195,6 +228,16 @@ fn strategies(rt: HostRuntime) -> Result<(), Fail> {
             r#"{"compress": {"child": "flat", "which": 0, "concurrency": 1}}"#,
             "",
         ),
+    ] {
+        let job = job(rt.alloc(), "\"i64\"", strategy, "[]", "")?;
+        assert!(rt; is_judged(rt.alloc(), &job, key)?);
+    }
+    Ok(())
+}
+
+#[test]
+fn strategies_at_fault(rt: HostRuntime) -> Result<(), Fail> {
+    for (strategy, key) in [
         ("7", "strategy"),
         (r#""chunked""#, "strategy"),
         (r#"{"flat": {"padding": false}}"#, "strategy"),
@@ -271,6 +314,20 @@ fn tables(rt: HostRuntime) -> Result<(), Fail> {
             r#"[{"zoned": {"stats": "flat", "zone": 1, "aggregates": null, "concurrency": 1}}]"#,
             "",
         ),
+    ] {
+        let alloc = rt.alloc();
+        let strategy = format!(in alloc;
+            "{{\"table\": {{\"validity\": \"flat\", \"leaf\": \"flat\", \"overrides\": {overrides}, \"lists\": {lists}}}}}"
+        )?;
+        let job = job(alloc, "\"i64\"", &strategy, "[]", "")?;
+        assert!(rt; is_judged(alloc, &job, key)?);
+    }
+    Ok(())
+}
+
+#[test]
+fn tables_at_fault(rt: HostRuntime) -> Result<(), Fail> {
+    for (overrides, lists, key) in [
         (r#"[[[], "flat"]]"#, "null", "strategy"),
         (
             r#"[[["a", "b"], "flat"], [["a"], "flat"]]"#,
