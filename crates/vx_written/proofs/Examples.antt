@@ -9,19 +9,15 @@ use Rattle.vx_model.specs.Ty.{primitive}
 use Rattle.vx_model.specs.Tree.{int_cell}
 use Rattle.vx_model.specs.Piece.{Piece, plain_piece, cells}
 use Rattle.vx_tree.specs.LayoutTree.{Lay}
-use Rattle.vx_record.specs.Aggregate.{Aggregate, maximum, minimum, bounded_maximum, bounded_minimum, null_count, sum, bloom, aggregate_id}
+use Rattle.vx_record.specs.Aggregate.{maximum, minimum, bounded_maximum, bounded_minimum, null_count, sum, bloom, aggregate_id}
 use Rattle.vx_cells.specs.Reading as fields
 use Rattle.vx_cells.specs.Reading.{front_at}
 use Rattle.vx_metadata.specs.Reading.{count_at, string_at, name_at, spec_at, zoned_body}
 use Rattle.vx_layout_bytes.specs.Spelled.{spelling}
 use Rattle.vx_layout_bytes.specs.Reading.{many_at, numbered_at, segments_at, own_at, many_nodes, none_at, node_with, root_at}
-use Rattle.vx_session.specs.declared.encoding.LayoutEncoding.{LayoutEncoding}
-use Rattle.vx_session.specs.declared.encoding.LayoutEncoding.TheVariants as kinds
 use Rattle.vx_session.specs.Encodings.{all_encodings}
-use Rattle.vx_session.specs.Ids.{is_listed}
 use Rattle.vx_session.specs.Scope.{Scope}
 use Rattle.vx_session.specs.Kinds.{read_spec, build_flat, build_chunked, build_zoned}
-use Rattle.vx_layout_spelling.specs.Sound.{Knows}
 use Rattle.vx_layout_spelling.specs.NodeOf.{node_in}
 use Rattle.vx_layout_spelling.specs.Parsed.{parsed}
 use Rattle.vx_plan.specs.PlanData.{Setting}
@@ -68,7 +64,7 @@ written = numbered (source_plan setting (zoned zones_of_2 (chunked (flat plain))
 -- the scope knows the zoned layout, its two chunks and its table
 known : KnowsLayout scope written
 unfolding scope setting plain zones_of_2 batches
-known = ((refl, (omega arith, refl)), ((refl, (((refl, refl), tt), (((refl, refl), tt), tt))), (((refl, refl), tt), tt)))
+known = ((refl, omega arith, refl), ((refl, (((refl, refl), tt), (((refl, refl), tt), tt))), (((refl, refl), tt), tt)))
 
 again : parsed scope (primitive I32 false) 3 5 (spelling (node_in scope.ids written)) ≡ Ok written
 unfolding scope setting plain zones_of_2 batches is_utf8 chars encode_utf8 front_at fields.many_at count_at string_at name_at spec_at zoned_body many_at numbered_at segments_at own_at many_nodes none_at node_with root_at read_spec build_flat build_chunked build_zoned
