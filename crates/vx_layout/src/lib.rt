@@ -11,9 +11,9 @@ pub use vx_kinds::{
     ELEMENTS_CHILD_INDEX, FlatLayout, ForeignLayout, Layout, LayoutChild, LayoutChildType,
     LayoutChildren, LayoutDeserializeArgs, LayoutEncodingExt, LayoutError, LayoutKind, LayoutParts,
     LegacyStatsLayout, ListLayout, NUM_CHILDREN_NON_NULLABLE, OFFSETS_CHILD_INDEX, SegmentList,
-    StructLayout, VALIDITY_CHILD_INDEX, ViewedChildren, ZonedLayout, layout_children,
+    StructLayout, VALIDITY_CHILD_INDEX, ViewedChildren, ZonedLayout, build_node, layout_children,
 };
-pub use vx_layout_bytes::{GrammarError, Limits, RawNode, read_nodes};
+pub use vx_layout_bytes::{GrammarError, Limits, RawNode, read_nodes, write_node};
 pub use vx_layout_codec::{
     layout_bytes, layout_from_flatbuffer, layout_from_flatbuffer_with_options,
 };
@@ -23,8 +23,9 @@ pub use vx_metadata::{
 };
 pub use vx_read::{ReadError, SegmentMap, read_rows};
 pub use vx_session::{
-    LayoutBuildContext, LayoutContext, LayoutEncoding, LayoutEncodingRef, LayoutRegistry,
-    LayoutSession, LayoutSessionExt, LayoutVTablePlugin, LayoutVTableRef, Scope, Session,
+    AggregatesError, LayoutBuildContext, LayoutContext, LayoutEncoding, LayoutEncodingRef,
+    LayoutRegistry, LayoutSession, LayoutSessionExt, LayoutVTablePlugin, LayoutVTableRef, Scope,
+    Session,
 };
 
 #[cfg(test)]

@@ -3,11 +3,15 @@
 ghost use Rattle.std.specs.Prelude.{◌≡◌, ◌∷◌, [], length, IfOk};
 ghost use Rattle.vx_aggregate.specs.declared.stat.Stat.TheVariants as stats;
 
+mod builds;
+mod displays;
 mod nodes;
 mod own;
 mod parsed;
 mod parts;
 mod slots;
+mod states;
+mod tables;
 mod walks;
 
 use crate::{

@@ -2,7 +2,8 @@
 
 use super::{integers, texts};
 use crate::{
-    LayoutChildren, LayoutContext, LayoutSession, RawNode, Scope, Session, ViewedChildren,
+    LayoutChildren, LayoutContext, LayoutSession, Limits, RawNode, Scope, Session, ViewedChildren,
+    build_node, read_nodes, write_node,
 };
 use std::alloc::Global;
 use std::rc::Rc;
@@ -96,5 +97,29 @@ fn copies_of_nodes(rt: HostRuntime) -> Result<(), Fail> {
         copied(rt.alloc())?.as_str(),
         "vortex.flat(utf8, rows=7, segments=[3]) true false false 7"
     );
+    Ok(())
+}
+
+/// What is built of a node that is written and read again, or the name of the refusal.
+fn built(alloc: Global, index: u16) -> Result<String, Fail> {
+    let bytes = write_node(alloc, &node(alloc, index)?)?;
+    let node = read_nodes(alloc, &bytes, Limits::default())?;
+    let scope = Rc::new(alloc, scope(alloc)?)?;
+    match build_node(alloc, &scope, &integers(), node) {
+        Ok(layout) => Ok(format!(in alloc; "{layout}")?),
+        Err(error) => Ok(String::from_str(alloc, error.name())?),
+    }
+}
+
+#[test]
+fn built_by_themselves(rt: HostRuntime) -> Result<(), Fail> {
+    let alloc = rt.alloc();
+    for (index, wanted) in [
+        (0, "vortex.flat(u8, rows=7, segments=[3])"),
+        (1, "RowCount"),
+        (2, "UnknownIndex"),
+    ] {
+        assert_eq!(rt; built(alloc, index)?.as_str(), wanted);
+    }
     Ok(())
 }

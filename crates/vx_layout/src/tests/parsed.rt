@@ -10,7 +10,7 @@ use std::alloc::Global;
 use std::test::Fail;
 use vx_model::{ArrayContext, DType, Text};
 
-const KINDS: [&str; 7] = [
+pub(super) const KINDS: [&str; 7] = [
     "vortex.flat",
     "vortex.chunked",
     "vortex.struct",
@@ -20,7 +20,7 @@ const KINDS: [&str; 7] = [
     "vortex.stats",
 ];
 
-fn context(alloc: Global, names: &[&str]) -> Result<LayoutContext, Fail> {
+pub(super) fn context(alloc: Global, names: &[&str]) -> Result<LayoutContext, Fail> {
     let mut ids = Vec::new(alloc);
     for name in names {
         ids.push(Text::from_str(alloc, name)?)?;
@@ -32,7 +32,7 @@ fn context(alloc: Global, names: &[&str]) -> Result<LayoutContext, Fail> {
 }
 
 /// All kinds and the maximum.
-fn session(alloc: Global) -> Result<Session, Fail> {
+pub(super) fn session(alloc: Global) -> Result<Session, Fail> {
     Ok(Session {
         layouts: LayoutSession::default(alloc)?,
         aggregates: vec![in alloc; Text::from_str(alloc, "vortex.max")?]?,
