@@ -290,3 +290,32 @@ fn nodes_of_two_children(rt: HostRuntime) -> Result<(), Fail> {
     }
     Ok(())
 }
+
+/// The rows of the child at the place, asked of the children of what is built, or the name of the refusal.
+fn child_answer(alloc: Global, bytes: &[u8], dtype: &DType, index: u64) -> Result<String, Fail> {
+    let layout = built(alloc, bytes, dtype, false)??;
+    let children = match &layout {
+        Layout::Chunked(chunked) => chunked.children(),
+        Layout::Struct(strukt) => strukt.children(),
+        _ => return Err(Fail::from("children")),
+    };
+    match children.child(index, &integers()) {
+        Ok(child) => Ok(format!(in alloc; "{}", child.layout().row_count())?),
+        Err(error) => Ok(String::from_str(alloc, error.name())?),
+    }
+}
+
+#[test]
+fn children_by_themselves(rt: HostRuntime) -> Result<(), Fail> {
+    let alloc = rt.alloc();
+    let chunks = node(alloc, CHUNKED_ID, 7, &[], &[], &[3, 4])?;
+    let fields = node(alloc, STRUCT_ID, 3, &[], &[], &[3, 3])?;
+    let pair = pair_type(alloc, Nullability::NonNullable)?;
+    assert_eq!(rt; child_answer(alloc, &chunks, &integers(), 1)?.as_str(), "4");
+    assert_eq!(rt;
+        child_answer(alloc, &chunks, &integers(), 2)?.as_str(),
+        "SlotRange"
+    );
+    assert_eq!(rt; child_answer(alloc, &fields, &pair, 0)?.as_str(), "3");
+    Ok(())
+}
