@@ -6,8 +6,6 @@ mod spec;
 mod stat;
 mod state;
 mod table;
-#[cfg(test)]
-mod tests;
 
 pub use aggregate::AggregateFn;
 pub use spec::SpecError;

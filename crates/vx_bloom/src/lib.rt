@@ -7,8 +7,6 @@ mod filter;
 mod options;
 mod partial;
 mod scalar;
-#[cfg(test)]
-mod tests;
 
 pub use filter::BloomFilter;
 pub use options::{BloomOptions, HashFn, OptionsError, UnknownHash};

@@ -11,6 +11,3 @@ pub use columns::{read_flags, read_offsets};
 pub use error::CellError;
 pub use reading::{read_cell, read_cells};
 pub use writing::{push_cell, push_cells};
-
-#[cfg(test)]
-mod tests;

@@ -22,8 +22,3 @@ pub use error::ChunkError;
 pub use laws::{rows_follow_cells, sizes_add_up};
 pub use node::{Chunk, Node};
 pub use reads::all_sound;
-
-#[cfg(test)]
-mod fixtures;
-#[cfg(test)]
-mod tests;

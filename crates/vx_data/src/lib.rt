@@ -15,6 +15,3 @@ pub use cells::read_cell;
 pub use chunks::read_chunk;
 pub use error::DataError;
 pub use types::read_type;
-
-#[cfg(test)]
-mod tests;

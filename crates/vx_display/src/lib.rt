@@ -7,8 +7,6 @@ mod label;
 mod lengths;
 mod node;
 mod style;
-#[cfg(test)]
-mod tests;
 mod tree;
 
 pub use display::{DisplayLayoutTree, LayoutDisplay};

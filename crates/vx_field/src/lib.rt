@@ -3,8 +3,6 @@
 
 mod mask;
 mod path;
-#[cfg(test)]
-mod tests;
 
 pub use mask::FieldMask;
 pub use path::FieldPath;

@@ -6,8 +6,6 @@ ghost use Rattle.vx_hash.specs.XxHash3.{xxhash3_64};
 
 mod long;
 mod short;
-#[cfg(test)]
-mod tests;
 mod words;
 
 /// A hash function of bytes, of 64 bits. Equal bytes have equal hashes.

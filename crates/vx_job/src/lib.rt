@@ -6,8 +6,6 @@ mod faults;
 mod job;
 mod json;
 mod options;
-#[cfg(test)]
-mod tests;
 mod tree;
 mod tree_options;
 mod values;

@@ -96,8 +96,5 @@ pub(crate) fn list_children(
 pub(crate) fn pair(alloc: Global, first: Layout, second: Layout) -> Result<Vec<Layout>, AllocError>
     ensures { IfOk result (λ v. map lay v.items ≡ lay first ∷ lay second ∷ []) }
 {
-    let mut children = Vec::with_capacity(alloc, 2)?;
-    children.push(first)?;
-    children.push(second)?;
-    Ok(children)
+    Ok(vec![in alloc; first, second]?)
 }

@@ -28,9 +28,6 @@ pub use vx_session::{
     Session,
 };
 
-#[cfg(test)]
-mod tests;
-
 /// A layout, as the Rust crate names one that is shared.
 pub type LayoutRef = Layout;
 

@@ -12,6 +12,3 @@ pub use error::GrammarError;
 pub use node::{Limits, RawNode};
 pub use read::read_nodes;
 pub use write::write_node;
-
-#[cfg(test)]
-mod tests;

@@ -16,6 +16,3 @@ pub use flat::FlatLayoutMetadata;
 pub use list::ListLayoutMetadata;
 pub use stats::{LegacyStatsMetadata, are_in_order};
 pub use zoned::{AggregateSpec, ZonedMetadata};
-
-#[cfg(test)]
-mod tests;

@@ -14,8 +14,6 @@ mod overrides;
 mod strategy;
 mod structs;
 mod table;
-#[cfg(test)]
-mod tests;
 mod wrapper;
 mod zoned;
 

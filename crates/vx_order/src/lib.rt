@@ -5,8 +5,6 @@ mod attempt;
 mod errors;
 mod local;
 mod ordered;
-#[cfg(test)]
-mod tests;
 
 pub use attempt::{Attempt, Receipt};
 pub use errors::OrderError;

@@ -132,35 +132,3 @@ pub fn path_le(p: &[u64], q: &[u64]) -> bool
 {
     p.cmp(q).is_le()
 }
-
-#[cfg(test)]
-mod tests {
-    use super::*;
-    use std::test::Fail;
-
-    fn path(rt: &HostRuntime, numbers: &[u64]) -> Result<Path, AllocError> {
-        Path::from_slice(rt.alloc(), numbers)
-    }
-
-    #[test]
-    fn ascend_with_prefixes_first(rt: HostRuntime) -> Result<(), Fail> {
-        let paths = [
-            path(&rt, &[0])?,
-            Path::child(rt.alloc(), &[0], 0)?,
-            path(&rt, &[0, 1])?,
-            path(&rt, &[1])?,
-            path(&rt, &[1, 0])?,
-        ];
-        assert!(rt; paths[0] < paths[1]);
-        assert!(rt; paths[1] < paths[2]);
-        assert!(rt; paths[2] < paths[3]);
-        assert!(rt; paths[3] < paths[4]);
-        assert!(rt; paths[2].clone()? == paths[2]);
-        assert!(rt; path_le(&[0], &[0]) && !path_le(&[0, 0], &[0]));
-        assert_eq!(rt;
-            format!(in rt.alloc(); "{:?}", paths[4])?.as_str(),
-            "[1, 0]"
-        );
-        Ok(())
-    }
-}

@@ -11,8 +11,6 @@ mod nodes;
 mod reading;
 mod segments;
 mod structs;
-#[cfg(test)]
-mod tests;
 
 pub use error::ReadError;
 pub use law::rows_without_fault;

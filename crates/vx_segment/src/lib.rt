@@ -7,15 +7,9 @@ mod law;
 mod node;
 mod pieces;
 mod rest;
-#[cfg(test)]
-mod samples;
 mod segment;
 mod simple;
-#[cfg(test)]
-mod tests;
 mod tree;
-#[cfg(test)]
-mod types_tests;
 
 pub use error::DecodeError;
 pub use law::{segment_examples, segments_read_back};

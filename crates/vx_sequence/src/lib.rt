@@ -7,8 +7,6 @@ mod ids;
 mod pointers;
 pub mod runs;
 mod siblings;
-#[cfg(test)]
-mod tests;
 
 pub use active::Universe;
 pub use errors::SequenceError;

@@ -16,6 +16,3 @@ pub use layout_context::LayoutContext;
 pub use registry::LayoutRegistry;
 pub use scope::Scope;
 pub use session::{LayoutSession, LayoutSessionExt, Session};
-
-#[cfg(test)]
-mod tests;

@@ -6,8 +6,6 @@ mod made;
 mod options;
 mod parts;
 mod strategy;
-#[cfg(test)]
-mod tests;
 
 pub use error::StrategyError;
 pub use options::read_aggregate;
