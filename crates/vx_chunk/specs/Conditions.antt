@@ -28,7 +28,7 @@ abbrev pub IsPast : ℕ → ChunkError → Type 0
 IsPast n (TooLarge m) = (2 ^ 64 ≤ n) × (m ≡ n)
 IsPast n OutOfMemory = ⊥
 
--- the same, where want of memory is free
+-- the same, where memory may run out
 abbrev pub IsTooLarge : ℕ → ChunkError → Type 0
 IsTooLarge n (TooLarge m) = (2 ^ 64 ≤ n) × (m ≡ n)
 IsTooLarge n OutOfMemory = Unit {0}

@@ -3,7 +3,7 @@ use Rattle.std.specs.Prelude.{◌≡◌, Option, Some, None, Result, Ok, Err}
 use Rattle.vx_data.specs.declared.error.DataError.{DataError}
 use Rattle.vx_data.specs.declared.error.DataError.TheVariants as errors
 
--- there is nothing to read; want of memory is free
+-- there is nothing to read; memory may run out
 abbrev pub Fails : {Y : Type 0} → DataError → Option Y → Type 0
 Fails errors.Wrong read = read ≡ None
 Fails errors.OutOfMemory read = Unit {0}

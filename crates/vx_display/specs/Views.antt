@@ -22,7 +22,7 @@ map_of s = option_map (λ m. segment_in m.now) s.segments
 abbrev pub style : HeldStyle → Style
 style s = record { verbose = s.verbose; map = map_of s }
 
--- The first fault, or that a node can't be built; want of memory is free.
+-- The first fault, or that a node can't be built; memory may run out.
 abbrev pub StopsBy : Stop → Option SegmentFault → Checked → Type 0
 StopsBy (stops.NoSegment n) fault built = fault ≡ Some (no_segment n)
 StopsBy (stops.BadSegment n) fault built = fault ≡ Some (bad_segment n)
@@ -34,7 +34,7 @@ abbrev pub Faults : {X : Type 0} → Result X Stop → Option SegmentFault → C
 Faults (Ok x) fault built = (fault ≡ None) × (built ≡ Ok tt)
 Faults (Err e) fault built = StopsBy e fault built
 
--- What `display_tree_with_segments` answers: the text, or the fault. No other error comes but want of memory.
+-- What `display_tree_with_segments` answers: the text, or the fault. No other error comes, unless memory runs out.
 abbrev pub GivesText : Result Text ReadError → Result (List ℕ) SegmentFault → Type 0
 GivesText (Ok text) told = told ≡ Ok text
 GivesText (Err (read_errors.NoSegment n)) told = told ≡ Err (no_segment n)
@@ -42,7 +42,7 @@ GivesText (Err (read_errors.BadSegment n)) told = told ≡ Err (bad_segment n)
 GivesText (Err read_errors.OutOfMemory) told = Unit {0}
 GivesText (Err e) told = ⊥
 
--- a child, or that it can't be built; want of memory is free
+-- a child, or that it can't be built; memory may run out
 abbrev pub GivesChild : Result LayoutChild Stop → Result (Lay ℕ) Refusal → Type 0
 GivesChild (Ok c) told = told ≡ Ok (child_lay c)
 GivesChild (Err stops.Refused) told = IsErr told

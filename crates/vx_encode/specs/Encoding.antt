@@ -4,7 +4,7 @@ use Rattle.vx_model.specs.declared.encoding.EncodingId.{EncodingId}
 use Rattle.vx_encode.specs.declared.error.EncodeError.{EncodeError}
 use Rattle.vx_encode.specs.declared.error.EncodeError.TheVariants.{EncodingNotListed, OutOfMemory}
 
--- the refusal's cause: the first encoding that isn't listed; want of memory is free
+-- the refusal's cause: the first encoding that isn't listed; memory may run out
 abbrev pub HasEncodeCause : Option EncodingId → EncodeError → Type 0
 HasEncodeCause first (EncodingNotListed e) = first ≡ Some e
 HasEncodeCause first OutOfMemory = Unit {0}

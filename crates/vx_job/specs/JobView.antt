@@ -30,7 +30,7 @@ options_view j = record { schedule = j.schedule.items; encodings = j.encodings; 
 abbrev pub job_view : Job → JobData
 job_view j = record { schema = ty j.schema; strategy = way j.strategy; batches = j.batches.items; options = options_view j }
 
--- the same key at fault; want of memory is free
+-- the same key at fault; memory may run out
 abbrev pub Fails : {Y : Type 0} → JobError → Result Y Key → Type 0
 Fails (errors.Wrong key) read = read ≡ Err key
 Fails errors.OutOfMemory read = Unit {0}

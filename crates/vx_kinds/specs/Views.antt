@@ -9,7 +9,7 @@ use Rattle.vx_kinds.specs.declared.error.LayoutError.{LayoutError}
 use Rattle.vx_kinds.specs.declared.error.LayoutError.TheVariants as errors
 use Rattle.vx_tree.specs.Refusal.{Refusal, bad_grammar, too_deep, too_many_nodes, unknown_index, unregistered, not_permitted, child_count, child_type, other_rows, segment_count, bad_metadata, unknown_aggregate, slot_range, field_not_found, no_list, no_struct}
 
--- the same refusal; want of memory is free
+-- the same refusal; memory may run out
 abbrev pub Fails : {A : Type 0} → LayoutError → Result A Refusal → Type 0
 Fails (errors.Grammar place) made = made ≡ Err (bad_grammar place)
 Fails (errors.TooDeep place) made = made ≡ Err (too_deep place)

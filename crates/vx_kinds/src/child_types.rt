@@ -13,14 +13,14 @@ use crate::slot_walk::{Place, Slots};
 use std::alloc::{AllocError, Global};
 use vx_model::Text;
 
-/// What each child is, or want of memory in its place.
+/// What each child is, or `OutOfMemory` in its place.
 #[derive(Debug, Drop)]
 pub struct ChildTypes<'a> {
     alloc: Global,
     slots: Slots<'a>,
 }
 
-/// The name of each child, or want of memory in its place.
+/// The name of each child, or `OutOfMemory` in its place.
 #[derive(Debug, Drop)]
 pub struct ChildNames<'a> {
     types: ChildTypes<'a>,

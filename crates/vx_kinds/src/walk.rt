@@ -10,7 +10,7 @@ use crate::error::LayoutError;
 use crate::layout::Layout;
 use std::alloc::{AllocError, Global};
 
-/// A layout and all below it. After want of memory nothing comes.
+/// A layout and all below it. Once memory ran out nothing comes.
 #[derive(Debug, Drop)]
 pub struct DepthFirst<'a> {
     alloc: Global,

@@ -9,7 +9,7 @@ use Rattle.vx_layout_bytes.specs.Node as nodes
 use Rattle.vx_layout_bytes.specs.Node.{Node, node, nodes_of}
 use Rattle.vx_layout_bytes.specs.Reading.{Fault, bad_grammar, too_deep, too_many}
 
--- the same fault; want of memory is free
+-- the same fault; memory may run out
 abbrev pub Fails : {Y : Type 0} → GrammarError → Result Y Fault → Type 0
 Fails (errors.Grammar place) read = read ≡ Err (bad_grammar place)
 Fails (errors.TooDeep place) read = read ≡ Err (too_deep place)

@@ -10,7 +10,7 @@ use Rattle.vx_metadata.specs.declared.zoned.AggregateSpec.{AggregateSpec}
 use Rattle.vx_metadata.specs.declared.zoned.ZonedMetadata.{ZonedMetadata}
 use Rattle.vx_metadata.specs.Values.{Zoned}
 
--- the refusal of the bytes, which it carries; want of memory is free
+-- the refusal of the bytes, which it carries; memory may run out
 abbrev pub Refuses : List ℕ → MetadataError → Type 0
 Refuses bytes (errors.Metadata kept) = kept ≡ bytes
 Refuses bytes errors.OutOfMemory = Unit {0}

@@ -1,4 +1,4 @@
--- Why a constructor refuses; want of memory is free.
+-- Why a constructor refuses; memory may run out.
 use Rattle.std.specs.Prelude.{◌≡◌, ℕ, ◌<◌, ◌≤◌, ◌^◌, ◌⊎◌, true, false, List, [], ◌∷◌, Some}
 use Rattle.vx_plan.specs.Way.{Ways}
 use Rattle.vx_plan.specs.Admitted.{is_root}

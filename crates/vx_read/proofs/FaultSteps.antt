@@ -36,7 +36,7 @@ real_refusal errors.NotAList h = cc
 real_refusal errors.NotAStruct h = cc
 real_refusal errors.OutOfMemory h = h
 
--- an error that tells no fault is want of memory, which is free
+-- an error that tells no fault says that memory ran out
 free : (e : ReadError) (f : Option ReadFault) → IsFault e None → IsFault e f
 free (Foreign id) f h = cc
 free (NoSegment n) f h = cc

@@ -21,7 +21,7 @@ abbrev pub IsRefusal : LayoutError → Option ReadFault → Type 0
 IsRefusal errors.OutOfMemory fault = ⊥
 IsRefusal e fault = Fails e (refusal_in fault)
 
--- the error is this fault; want of memory is free
+-- the error is this fault; memory may run out
 abbrev pub IsFault : ReadError → Option ReadFault → Type 0
 IsFault (Foreign id) fault = fault ≡ Some (foreign id)
 IsFault (NoSegment n) fault = fault ≡ Some (no_segment n)
@@ -40,7 +40,7 @@ abbrev pub TellsFault : {A : Type 0} → Result A ReadError → Option ReadFault
 TellsFault (Ok x) fault = fault ≡ None
 TellsFault (Err e) fault = IsFault e fault
 
--- the rows where there are any, else an error; want of memory is free
+-- the rows where there are any, else an error; memory may run out
 abbrev pub GivesRows : Result (Vec Value) ReadError → Option (List Val) → Type 0
 GivesRows (Ok v) rows = rows ≡ Some (rows_in v)
 GivesRows (Err OutOfMemory) rows = Unit {0}

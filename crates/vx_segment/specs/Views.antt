@@ -14,7 +14,7 @@ use Rattle.vx_segment.specs.declared.rest.Rest.{Rest as HeldRest}
 use Rattle.vx_segment.specs.Pieces.{Frame, Rest}
 use Rattle.vx_segment.specs.Segment.{Raw}
 
--- the same fault; want of memory is free
+-- the same fault; memory may run out
 abbrev pub Fails : {Y : Type 0} → DecodeError → Result Y Fault → Type 0
 Fails (errors.Grammar place) read = read ≡ Err (bad_grammar place)
 Fails (errors.BadType node) read = read ≡ Err (bad_type node)

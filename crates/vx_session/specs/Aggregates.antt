@@ -17,7 +17,7 @@ IsNamed id options (Ok f) = (names_aggregate id ≡ true) × (aggregate_of (reco
 IsNamed id options (Err spec_errors.UnknownAggregate) = names_aggregate id ≡ false
 IsNamed id options (Err spec_errors.Options) = (names_aggregate id ≡ true) × (aggregate_of (record { id = id; options = options }) ≡ None)
 
--- the same refusal; want of memory is free
+-- the same refusal; memory may run out
 abbrev pub Fails : {A : Type 0} → AggregatesError → Result A Refusal → Type 0
 Fails (errors.UnknownAggregate id) read = read ≡ Err (unknown_aggregate id)
 Fails errors.OutOfMemory read = Unit {0}

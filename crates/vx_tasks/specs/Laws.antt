@@ -52,7 +52,7 @@ EndIsWhole = (f : Forest) (e : Counts) (ms : List Move) → KeepsRules f → Lea
 abbrev pub RunLeads : Type 0
 RunLeads = (f : Forest) (picks : List ℕ) (n : ℕ) → let steps = run f Zeros picks n in Leads f Zeros (moves_of steps) (end_of Zeros steps)
 
--- it stops before so many steps only where no work is left or a refusing action was picked
+-- it stops before so many steps only where no work is left or some action that can be done refuses
 abbrev pub RunStops : Type 0
 RunStops = (f : Forest) (picks : List ℕ) (n : ℕ) → KeepsRules f → let steps = run f Zeros picks n in length steps < n
     → (left f (end_of Zeros steps) ≡ 0) ⊎ ((m : Move) × In m (all_moves f (end_of Zeros steps)) × IsTrue m.action.refuses)

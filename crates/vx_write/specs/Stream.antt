@@ -83,7 +83,7 @@ pub record NeedsNumber (t : Ty) (ids : List EncodingId) (next : ℕ) (to_come_be
   pub number : n ≡ next
   pub large : 2 ^ 32 ≤ n
 
--- the cause of an error: a table, one line an error; faults are told by counts, and want of memory is free;
+-- the cause of an error: a table, one line an error; faults are told by counts, and memory may run out;
 -- `unbuilt` says that a form isn't built
 abbrev pub HasCause : Ty → List EncodingId → Type 0 → ℕ → Option (List Piece) → Option (List Piece) → WriteError → Type 0
 HasCause t ids unbuilt next before now (BatchType c) = (¬ (piece_type (piece c) ≡ t)) × TookLast t ids before now (piece c)

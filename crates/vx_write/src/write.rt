@@ -106,7 +106,7 @@ pub fn write_stream<B: BatchSource, S: SegmentSink, C: CompressorPlugin>(
     ensures unasked { is_built (way strategy.now) (B.kind source.old) ≡ false → source.new ≡ source.old }
     ensures unsunk { is_built (way strategy.now) (B.kind source.old) ≡ false → sink.new ≡ sink.old }
 
-    // Valid input, where nothing fails, gives Ok or want of memory.
+    // Valid input, where nothing fails, gives Ok unless memory runs out.
     ensures complete { (s : Setting) (tracker : ℕ) (xs : List Piece) → Writes (listed ctx.old) s → B.to_come source.old ≡ Some xs
         → is_built (way strategy.now) (B.kind source.old) ≡ true
         → Valid s (way strategy.now) (B.kind source.old) false (S.next sink.old) tracker xs
