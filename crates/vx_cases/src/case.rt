@@ -8,7 +8,7 @@ use anyhow::{Result, bail, ensure};
 use std::alloc::{AllocError, Global};
 
 /// What the program is run on.
-#[derive(Debug, Drop)]
+#[derive(Drop)]
 pub(crate) struct Case {
     pub words: Vec<String>,
     pub input: Vec<u8>,
@@ -16,7 +16,7 @@ pub(crate) struct Case {
 }
 
 /// How the input is given and the output taken.
-#[derive(Debug, Drop)]
+#[derive(Drop)]
 pub(crate) struct Options {
     /// A call reads or writes at most so many bytes.
     pub most: u64,
