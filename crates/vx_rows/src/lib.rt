@@ -9,23 +9,15 @@ ghost use Rattle.vx_model.specs.Piece.{piece_type};
 ghost use Rattle.vx_chunk.specs.ChunkView.{piece};
 
 #[cfg(test)]
-mod built;
-#[cfg(test)]
 mod calls;
 #[cfg(test)]
 mod columns;
 #[cfg(test)]
 mod flat_rows;
 #[cfg(test)]
-mod jobs;
-#[cfg(test)]
 mod parsed;
 #[cfg(test)]
-mod program;
-#[cfg(test)]
 mod reading;
-#[cfg(test)]
-mod refusals;
 #[cfg(test)]
 mod reports;
 #[cfg(test)]
