@@ -1,7 +1,7 @@
 -- Which message belongs to which end.
-use Rattle.std.specs.Prelude.{◌≡◌, ◌==◌, ℕ, ◌⊎◌, List, [], Option, Some, None}
+use Rattle.std.specs.Prelude.{◌≡◌, ◌==◌, ℕ, ◌⊎◌, List, [], ⊤, Option, Some, None}
 use Rattle.std.specs.List.{before_first}
-use Rattle.core.specs.Str.{IsUtf8}
+use Rattle.std.specs.Str.{IsUtf8}
 use Rattle.vx_run.specs.declared.status.Status.{Status}
 use Rattle.vx_run.specs.declared.status.Status.TheVariants as statuses
 use Rattle.vx_messages.specs.declared.message.Message.{Message}

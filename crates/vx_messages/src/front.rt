@@ -36,6 +36,7 @@ impl<O: Output> Front<O> {
     }
 
     /// Adds bytes behind those that are kept, as far as there is room.
+    #[tactic(auto, using(crate::proofs::Kept::kept_more))]
     fn keep(&mut self, bytes: &[u8])
         ensures inner { self.new.inner ≡ self.old.inner }
         ensures front { take self.new.len self.new.kept ≡ take 64 (take self.old.len self.old.kept ++ bytes.now) }

@@ -1,7 +1,6 @@
 //! Which message belongs to which end.
 
 ghost use Rattle.std.specs.Prelude.{◌≡◌};
-ghost use Rattle.std.specs.List.{before_first};
 ghost use Rattle.vx_messages.specs.Messages.{IsMessage, IsLine, first_line};
 
 use crate::advice::{key_advice, refusal_advice};
@@ -53,6 +52,7 @@ fn line_of(answer: &[u8]) -> &str
     }
 }
 
+#[tactic(auto, using(crate::proofs::Kept::whole_line))]
 fn first_line(text: &str) -> &str
     ensures { result.now ≡ first_line text.now }
 {
