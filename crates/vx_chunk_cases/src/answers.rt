@@ -3,7 +3,7 @@
 use crate::given::{bytes_in, chunk_in, dtype_in, every_encoding};
 use crate::parts::{fields, lists, slice, twice};
 use crate::shown::{push_values, shown};
-use crate::word::Word;
+use crate::word::{ChunkWord, Word};
 use serde_json::Value;
 use std::alloc::{AllocError, Global};
 use vx_chunk::{Chunk, ChunkError};
@@ -14,23 +14,23 @@ pub(crate) fn answer(alloc: Global, word: Word, given: &Value) -> anyhow::Result
     match word {
         Word::Nullable => nullable(alloc, given),
         Word::Lengths => lengths(alloc, given),
-        Word::Tree => tree_lengths(alloc, given),
-        _ => chunk_answer(alloc, word, &chunk_in(alloc, given)?),
+        Word::TreeLengths => tree_lengths(alloc, given),
+        Word::Chunk(word) => chunk_answer(alloc, word, &chunk_in(alloc, given)?),
     }
 }
 
-fn chunk_answer(alloc: Global, word: Word, chunk: &Chunk) -> anyhow::Result<String> {
+fn chunk_answer(alloc: Global, word: ChunkWord, chunk: &Chunk) -> anyhow::Result<String> {
     match word {
-        Word::Rows => rows(alloc, chunk),
-        Word::Canon => shown(alloc, &chunk.canon(alloc)?),
-        Word::Twice => twice(alloc, chunk),
-        Word::Slice(from, to) => slice(alloc, chunk, from, to),
-        Word::Sizes => sizes(alloc, chunk),
-        Word::Fields => fields(alloc, chunk),
-        Word::Lists => lists(alloc, chunk),
-        Word::Segment => segment(alloc, chunk, true),
-        Word::Dense => segment(alloc, chunk, false),
-        Word::Cells | Word::Nullable | Word::Lengths | Word::Tree => shown(alloc, chunk),
+        ChunkWord::Rows => rows(alloc, chunk),
+        ChunkWord::Cells => shown(alloc, chunk),
+        ChunkWord::Canon => shown(alloc, &chunk.canon(alloc)?),
+        ChunkWord::Twice => twice(alloc, chunk),
+        ChunkWord::Slice(from, to) => slice(alloc, chunk, from, to),
+        ChunkWord::Sizes => sizes(alloc, chunk),
+        ChunkWord::Fields => fields(alloc, chunk),
+        ChunkWord::Lists => lists(alloc, chunk),
+        ChunkWord::Segment => segment(alloc, chunk, true),
+        ChunkWord::Dense => segment(alloc, chunk, false),
     }
 }
 
