@@ -1,0 +1,41 @@
+//! What a case's object says.
+
+use anyhow::Context;
+use serde_json::Value;
+use std::alloc::Global;
+use vx_chunk::Chunk;
+use vx_data::{read_batch, read_type};
+use vx_model::{ArrayContext, DType, EncodingId};
+use vx_segment::decode_segment;
+
+pub(crate) fn dtype_in(alloc: Global, given: &Value) -> anyhow::Result<DType> {
+    let value = given.get("schema").context("no schema")?;
+    Ok(read_type(alloc, value)?)
+}
+
+pub(crate) fn bytes_in(alloc: Global, given: &Value) -> anyhow::Result<Vec<u8>> {
+    let value = given.get("bytes").context("no batch and no bytes")?;
+    let text = value.as_str().context("bytes are a text")?;
+    Ok(hex::decode(alloc, text)?)
+}
+
+/// The batch, or what the bytes are read as.
+pub(crate) fn chunk_in(alloc: Global, given: &Value) -> anyhow::Result<Chunk> {
+    let dtype = dtype_in(alloc, given)?;
+    match given.get("batch") {
+        Some(batch) => Ok(read_batch(alloc, &dtype, batch)?),
+        None => decoded(alloc, given, &dtype),
+    }
+}
+
+fn decoded(alloc: Global, given: &Value, dtype: &DType) -> anyhow::Result<Chunk> {
+    let bytes = bytes_in(alloc, given)?;
+    let ctx = every_encoding(alloc)?;
+    Ok(decode_segment(alloc, &ctx, dtype, &bytes)?)
+}
+
+/// The context that lists every encoding.
+pub(crate) fn every_encoding(alloc: Global) -> anyhow::Result<ArrayContext> {
+    let ids = Vec::from_slice(alloc, EncodingId::ALL.as_slice())?;
+    Ok(ArrayContext::try_new(ids)?)
+}

@@ -1,0 +1,106 @@
+//! Rows, cells and chunks as text: lists in square brackets, structs in braces, an invalid one behind an exclamation
+//! mark, bytes as hex text.
+
+use serde_json::Value as Json;
+use std::alloc::{AllocError, Global};
+use vx_chunk::Chunk;
+use vx_model::{Cell, Value};
+
+/// Values as the program's report shows a row that is a list.
+#[cycle(values)]
+pub(crate) fn push_values(
+    alloc: Global,
+    out: &mut String,
+    values: &[Value],
+) -> Result<(), AllocError> {
+    out.push_str("[")?;
+    for i in 0..values.len() {
+        push_comma(out, i > 0)?;
+        push_value(alloc, out, &values[i])?;
+    }
+    out.push_str("]")
+}
+
+#[cycle(values)]
+fn push_value(alloc: Global, out: &mut String, value: &Value) -> Result<(), AllocError> {
+    match value {
+        Value::Null => out.push_str("null"),
+        Value::Bool(b) => push_bool(out, *b),
+        Value::Int(n) => push_integer(out, *n),
+        Value::Utf8(text) => push_quoted(alloc, out, text.as_str()),
+        Value::Binary(bytes) => push_hex(alloc, out, bytes.as_slice()),
+        Value::List(values) | Value::Struct(values) => push_values(alloc, out, values),
+    }
+}
+
+#[cycle(cells)]
+fn push_cells(alloc: Global, out: &mut String, cells: &[Cell]) -> Result<(), AllocError> {
+    for i in 0..cells.len() {
+        push_comma(out, i > 0)?;
+        push_cell(alloc, out, &cells[i])?;
+    }
+    Ok(())
+}
+
+#[cycle(cells)]
+fn push_cell(alloc: Global, out: &mut String, cell: &Cell) -> Result<(), AllocError> {
+    match cell {
+        Cell::Null => out.push_str("null"),
+        Cell::Bool(b) => push_bool(out, *b),
+        Cell::Int(n) => push_integer(out, *n),
+        Cell::Utf8(text) => push_quoted(alloc, out, text.as_str()),
+        Cell::Binary(bytes) => push_hex(alloc, out, bytes.as_slice()),
+        Cell::List(valid, cells) => {
+            out.push_str(if *valid { "[" } else { "![" })?;
+            push_cells(alloc, out, cells)?;
+            out.push_str("]")
+        }
+        Cell::Struct(valid, cells) => {
+            out.push_str(if *valid { "{" } else { "!{" })?;
+            push_cells(alloc, out, cells)?;
+            out.push_str("}")
+        }
+    }
+}
+
+fn push_comma(out: &mut String, later: bool) -> Result<(), AllocError> {
+    if later {
+        out.push_str(",")?;
+    }
+    Ok(())
+}
+
+fn push_bool(out: &mut String, flag: bool) -> Result<(), AllocError> {
+    out.push_str(if flag { "true" } else { "false" })
+}
+
+fn push_integer(out: &mut String, number: i128) -> Result<(), AllocError> {
+    write!(out, "{number}")?;
+    Ok(())
+}
+
+fn push_quoted(alloc: Global, out: &mut String, text: &str) -> Result<(), AllocError> {
+    let json = Json::String(String::from_str(alloc, text)?);
+    out.push_str(&json.to_string(alloc)?)
+}
+
+fn push_hex(alloc: Global, out: &mut String, bytes: &[u8]) -> Result<(), AllocError> {
+    let text = hex::encode(alloc, bytes)?;
+    write!(out, "\"{text}\"")?;
+    Ok(())
+}
+
+/// The chunk's encoding, its type and its cells.
+pub(crate) fn push_chunk(alloc: Global, out: &mut String, chunk: &Chunk) -> anyhow::Result<()> {
+    let dtype = chunk.dtype();
+    write!(out, "{} {dtype} [", chunk.encoding().id())?;
+    push_cells(alloc, out, &chunk.cells(alloc)?)?;
+    out.push_str("]")?;
+    Ok(())
+}
+
+pub(crate) fn shown(alloc: Global, chunk: &Chunk) -> anyhow::Result<String> {
+    let mut out = String::new(alloc);
+    push_chunk(alloc, &mut out, chunk)?;
+    Ok(out)
+}
