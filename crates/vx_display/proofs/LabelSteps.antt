@@ -5,7 +5,8 @@ use Rattle.std.specs.Prelude.{if◌then◌else◌}
 use Rattle.vx_model.specs.Ty.{Ty, nullable}
 use Rattle.vx_tree.specs.LayoutTree.{flat_kind, chunked_kind, struct_kind, list_kind, dict_kind, zoned_kind, unread_zoned_kind, stats_kind, foreign_kind, refused_kind, Kind, Lay, layout, children_of, layout_kind}
 use Rattle.vx_kinds.specs.declared.kind.LayoutKind.TheVariants as kinds
-use Rattle.vx_kinds.specs.Children.{kind_name, bracketed}
+use Rattle.vx_kinds.specs.Children.{kind_name}
+use Rattle.vx_layout_slots.specs.Slots.{bracketed}
 use Rattle.vx_display.specs.Text.{label, child_slot}
 
 pub chunk_label : (l : Lay ℕ) (i : ℕ) → kind_name (layout_kind l) ≡ kinds.Chunked → i < length (children_of l) → label l i ≡ bracketed i

@@ -5,8 +5,8 @@ use Rattle.vx_model.specs.Ty.{Ty, nullable}
 use Rattle.vx_tree.specs.Refusal.{Refusal}
 use Rattle.vx_tree.specs.LayoutTree.{Kind, flat_kind, chunked_kind, struct_kind, list_kind, dict_kind, zoned_kind, unread_zoned_kind, stats_kind, foreign_kind, refused_kind, kind_id, Lay, Lays, layout, no_layouts, child, layout_kind, layout_type, row_count, segments_of, children_of}
 use Rattle.vx_metadata.specs.Kept.{metadata_bytes}
-use Rattle.vx_kinds.specs.declared.child_type.LayoutChildType.{LayoutChildType}
-use Rattle.vx_kinds.specs.Children.{child_name, slot_type}
+use Rattle.vx_layout_slots.specs.declared.child_type.LayoutChildType.{LayoutChildType}
+use Rattle.vx_layout_slots.specs.Slots.{child_name, slot_type}
 use Rattle.vx_kinds.specs.Shown.{in_brackets}
 use Rattle.vx_kinds.specs.ErrorNames.{refusal_name}
 use Rattle.vx_layout_spelling.specs.Permitted.{Checked, built}

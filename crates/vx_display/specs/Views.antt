@@ -3,8 +3,8 @@ use Rattle.std.specs.Prelude.{◌≡◌, ℕ, List, Option, Some, None, option_m
 use Rattle.vx_model.specs.declared.text.Text.{Text}
 use Rattle.vx_tree.specs.Refusal.{Refusal}
 use Rattle.vx_tree.specs.LayoutTree.{Lay}
-use Rattle.vx_kinds.specs.declared.child.LayoutChild.{LayoutChild}
-use Rattle.vx_kinds.specs.ChildView.{child_lay}
+use Rattle.vx_layout_build.specs.declared.child.LayoutChild.{LayoutChild}
+use Rattle.vx_layout_build.specs.ChildView.{child_lay}
 use Rattle.vx_read.specs.SegmentView.{segment_in}
 use Rattle.vx_read.specs.declared.error.ReadError.{ReadError}
 use Rattle.vx_read.specs.declared.error.ReadError.TheVariants as read_errors

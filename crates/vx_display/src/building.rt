@@ -5,6 +5,7 @@ ghost use Rattle.vx_kinds.specs.Views.{Gives};
 ghost use Rattle.vx_layout_spelling.specs.Permitted.{built as all_built};
 
 use vx_kinds::{Layout, LayoutError};
+use vx_layout_build::LayoutWalk;
 
 /// The first refusal in pre-order of the nodes.
 #[tactic(auto, using(crate::proofs::BuildSteps::build_rules))]

@@ -3,11 +3,12 @@
 ghost use Rattle.std.specs.Prelude.{◌≡◌, ◌+◌, ◌<◌, ◌^◌, length, IfOk};
 ghost use Rattle.vx_tree.specs.LayoutTree.{layout_kind, layout_type, children_of};
 ghost use Rattle.vx_kinds.specs.LayoutView.{lay};
-ghost use Rattle.vx_kinds.specs.Children.{slot_type};
+ghost use Rattle.vx_layout_slots.specs.Slots.{slot_type};
 ghost use Rattle.vx_display.specs.Text.{child_slot as slot_of_child, name_of, label};
 
 use std::alloc::{AllocError, Global};
 use vx_kinds::{Layout, LayoutKind};
+use vx_layout_slots::LayoutSlots;
 use vx_model::Text;
 
 /// The name of child `i`, by its slot. A chunk's rows are not summed for it.

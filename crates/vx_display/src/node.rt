@@ -16,6 +16,7 @@ use crate::style::{Stop, Style};
 use std::alloc::AllocError;
 use std::fmt::Write;
 use vx_kinds::{FlatLayout, Layout, SegmentList};
+use vx_layout_slots::LayoutSlots;
 use vx_model::{DType, SegmentId};
 
 #[tactic(auto, using(crate::proofs::NodeSteps::node_rules))]

@@ -13,7 +13,8 @@ use crate::label::child_label;
 use crate::node::push_node;
 use crate::style::{Stop, Style};
 use std::alloc::{AllocError, Global};
-use vx_kinds::{Layout, LayoutChild, LayoutError};
+use vx_kinds::{Layout, LayoutError};
+use vx_layout_build::{LayoutChild, LayoutWalk};
 
 /// `first` stands before the layout's own line, and `rest` before those below it.
 #[tactic(auto, using(crate::proofs::TreeSteps::tree_rules))]

@@ -116,8 +116,6 @@ chunk_sum t c =
 
 pub ruleset chunk_rules = (chunk_sum, chunk_total, length-chunks)
 
-pub ruleset slot_rules = (lays_in-lays_of, length-map, length-chunks)
-
 owned_stand : (t : Ty) (ls : List (Lay ℕ)) → ls ≡ all_stand t (owned_kids ls)
 owned_stand t [] = refl
 owned_stand t (l ∷ ls) = ap (λ r. l ∷ r) (owned_stand t ls)
@@ -194,35 +192,11 @@ field_rows_at t (children.Viewed v) i e = field_at (scope_of v.scope.value) (str
 
 pub ruleset place_rules = (lays_in-lays_of, length-map, length-chunks, length-fields, chunk_rows_at, field_rows_at)
 
--- ---- a child that is asked for
+-- ---- a layout by its kind
 
-pub chunk_in : (t : Ty) (ks : List Kid) (i : ℕ) → child_in (all_stand t ks) i ≡ answer_at ks i t
-chunk_in t [] i = refl
-chunk_in t (k ∷ ks) zero = refl
-chunk_in t (k ∷ ks) (suc i) = chunk_in t ks i
+pub ruleset kind_rules = (lays_in-lays_of, chunk_sum)
 
-pub field_in : (ts : List Ty) (ks : List Kid) (i : ℕ) → i < length ks → length ks ≡ length ts → child_in (each_stands ts ks) i ≡ answer_at ks i (type_at ts i)
-field_in [] [] i lt e = absurd (omega (arith, lt))
-field_in [] (k ∷ ks) i lt e = absurd (omega (arith, e))
-field_in (t ∷ ts) [] i lt e = absurd (omega (arith, lt))
-field_in (t ∷ ts) (k ∷ ks) zero lt e = refl
-field_in (t ∷ ts) (k ∷ ks) (suc i) lt e = field_in ts ks i (omega (arith, lt)) (omega (arith, e))
-
-pub ruleset standing_rules = (chunk_in, field_in, length-owned, length-map)
-
-stands_built : (is_one : Bool) (o : Own) (t : Ty) (r : Made) → answered (built_or_refused is_one o t r) ≡ built r
-stands_built is_one o t (Ok l) = refl
-stands_built is_one o t (Err refusal) = refl
-
-pub viewed_answer : (s : Scope) (ns : List RawNode) (i : ℕ) (n : RawNode) (t : Ty) → i < length ns → n ≡ get_or ns i n → answer_at (kids s (nodes_of (map raw ns))) i t ≡ built (builder s (raw n) t)
-viewed_answer s [] i n t lt is = absurd (omega (arith, lt))
-viewed_answer s (x ∷ ns) zero n t lt is = rw is (stands_built (is_flat_node s (own_of (raw x))) (own_of (raw x)) t (builder s (raw x) t))
-viewed_answer s (x ∷ ns) (suc i) n t lt is = viewed_answer s ns i n t (omega (arith, lt)) is
-
--- the answer of a node that is built
-pub answer_is : (s : Scope) (ns : List RawNode) (i : ℕ) (n copy : RawNode) (t : Ty) (l : Lay ℕ) → i < length ns → n ≡ get_or ns i n → raw copy ≡ raw n → builder s (raw copy) t ≡ Ok l → answered l ≡ Ok l
-    → answer_at (kids s (nodes_of (map raw ns))) i t ≡ Ok l
-answer_is s ns i n copy t l lt is same made whole_l = rw (viewed_answer s ns i n t lt is, ← same, made) whole_l
+-- ---- refusals
 
 pub fails_by : {A B : Type 0} (e : LayoutError) (r : Result A Refusal) (total : Result B Refusal) → ((x : Refusal) → r ≡ Err x → total ≡ Err x) → Fails e r → Fails e total
 fails_by (errors.Grammar a) r total carry h = carry _ h
@@ -242,36 +216,3 @@ fails_by (errors.FieldNotFound a) r total carry h = carry _ h
 fails_by errors.NotAList r total carry h = carry _ h
 fails_by errors.NotAStruct r total carry h = carry _ h
 fails_by errors.OutOfMemory r total carry h = tt
-
-pub answer_fails : (e : LayoutError) (s : Scope) (ns : List RawNode) (i : ℕ) (n copy : RawNode) (t : Ty) → i < length ns → n ≡ get_or ns i n → raw copy ≡ raw n → Fails e (builder s (raw copy) t)
-    → Fails e (answer_at (kids s (nodes_of (map raw ns))) i t)
-answer_fails e s ns i n copy t lt is same h = fails_by e (builder s (raw copy) t) (answer_at (kids s (nodes_of (map raw ns))) i t) (λ x made. rw (viewed_answer s ns i n t lt is, ← same, made) refl) h
-
-pub ruleset built_rules = (answer_is, answer_fails, length-kids, length-map)
-
--- ---- types of a struct's children
-
-nth : (fs : List StructField) (i : ℕ) (f : StructField) → i < length fs → f ≡ get_or fs i f → type_at (types_in (tys_of (map field_ty fs))) i ≡ ty f.dtype
-nth [] i f lt is = absurd (omega (arith, lt))
-nth (g ∷ fs) zero f lt is = rw (is, field_ty_is g) refl
-nth (g ∷ fs) (suc i) f lt is = nth fs i f (omega (arith, lt)) is
-
-past : (fs : List StructField) (i : ℕ) → length fs ≤ i → type_at (types_in (tys_of (map field_ty fs))) i ≡ boolean false
-past [] i le = refl
-past (f ∷ fs) zero le = absurd (omega (arith, le))
-past (f ∷ fs) (suc i) le = past fs i (omega (arith, le))
-
-pub nth_type_is : (fs : List StructField) (i : ℕ) (f : StructField) → i < length fs → f ≡ get_or fs i f → ty f.dtype ≡ type_at (types_in (tys_of (map field_ty fs))) i
-nth_type_is fs i f lt is = sym (nth fs i f lt is)
-
-pub past_type_is : (fs : List StructField) (i : ℕ) (d : DType) → length fs ≤ i → ty d ≡ boolean false → ty d ≡ type_at (types_in (tys_of (map field_ty fs))) i
-past_type_is fs i d le is = is ∙ sym (past fs i le)
-
-behind_first : (ts : List Ty) (i : ℕ) → 0 < i → type_at (boolean false ∷ ts) i ≡ type_at ts (i - 1)
-behind_first ts zero lt = absurd (omega (arith, lt))
-behind_first ts (suc i) lt = let e : suc i - 1 ≡ i = omega arith in rw e refl
-
-pub behind_validity : (d : DType) (ts : List Ty) (i : ℕ) → 0 < i → ty d ≡ type_at ts (i - 1) → ty d ≡ type_at (boolean false ∷ ts) i
-behind_validity d ts i lt is = is ∙ sym (behind_first ts i lt)
-
-pub ruleset type_rules = (view_rules, nth_type_is, past_type_is, behind_validity)

@@ -3,7 +3,7 @@ use Rattle.std.proofs.Common.{◌≡◌, ℕ, zero, suc, ◌+◌, ◌-◌, ◌<�
 use Rattle.std.proofs.lemmas.List.{length-map}
 use Rattle.vx_tree.specs.LayoutTree.{Lay}
 use Rattle.vx_tree.proofs.LayoutLaws.{lays_in-lays_of}
-use Rattle.vx_kinds.specs.Children.{rows_at, child_in}
+use Rattle.vx_kinds.specs.Children.{rows_at}
 use Rattle.vx_kinds.proofs.KidSteps.{length-chunks, chunk_rows_at}
 
 pub rows_in_front : (xs ys : List (Lay ℕ)) (i : ℕ) → i < length xs → rows_at (xs ++ ys) i ≡ rows_at xs i
@@ -16,14 +16,4 @@ rows_behind [] ys i le = let e : i ≡ i - 0 = omega arith in ap (λ n. rows_at 
 rows_behind (x ∷ xs) ys zero le = absurd (omega (arith, le))
 rows_behind (x ∷ xs) ys (suc i) le = let e : i - length xs ≡ suc i - suc (length xs) = omega arith in rows_behind xs ys i (omega (arith, le)) ∙ ap (λ n. rows_at ys n) e
 
-pub child_in_front : (xs ys : List (Lay ℕ)) (i : ℕ) → i < length xs → child_in (xs ++ ys) i ≡ child_in xs i
-child_in_front [] ys i lt = absurd (omega (arith, lt))
-child_in_front (x ∷ xs) ys zero lt = refl
-child_in_front (x ∷ xs) ys (suc i) lt = child_in_front xs ys i (omega (arith, lt))
-
-pub child_behind : (xs ys : List (Lay ℕ)) (i : ℕ) → length xs ≤ i → child_in (xs ++ ys) i ≡ child_in ys (i - length xs)
-child_behind [] ys i le = let e : i ≡ i - 0 = omega arith in ap (λ n. child_in ys n) e
-child_behind (x ∷ xs) ys zero le = absurd (omega (arith, le))
-child_behind (x ∷ xs) ys (suc i) le = let e : i - length xs ≡ suc i - suc (length xs) = omega arith in child_behind xs ys i (omega (arith, le)) ∙ ap (λ n. child_in ys n) e
-
-pub ruleset zoned_rules = (lays_in-lays_of, length-map, length-append, length-chunks, chunk_rows_at, rows_in_front, rows_behind, child_in_front, child_behind)
+pub ruleset zoned_rules = (lays_in-lays_of, length-map, length-append, length-chunks, chunk_rows_at, rows_in_front, rows_behind)

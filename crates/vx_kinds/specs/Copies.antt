@@ -32,12 +32,6 @@ SameTable tables.Read (tables.Unread v) = ⊥
 SameTable (tables.Unread u) tables.Read = ⊥
 SameTable (tables.Unread u) (tables.Unread v) = (u.metadata ≡ v.metadata) × SameChildren u.zones v.zones
 
--- whether readers may not split the rows of the child at the place
-abbrev pub is_flat_at : List Kid → ℕ → Bool
-is_flat_at [] i = false
-is_flat_at (k ∷ ks) zero = k.is_flat
-is_flat_at (k ∷ ks) (suc i) = is_flat_at ks i
-
 -- the same layout with these chunks
 abbrev pub with_chunks : Lay ℕ → List (Lay ℕ) → Made
 with_chunks (layout k t n names ls) cs =

@@ -50,22 +50,3 @@ chunks t (children.Viewed v) = all_stand t (viewed_kids v)
 abbrev pub fields : Ty → LayoutChildren → List (Lay ℕ)
 fields t (children.Owned v) = map lay v.items
 fields t (children.Viewed v) = each_stands (struct_types t) (viewed_kids v)
-
--- ---- a child that is asked for
-
--- what building answers: the layout, or why there is none
-abbrev pub built : Made → Made
-built (Ok l) = answered l
-built (Err refusal) = Err refusal
-
--- the child at the place, at its own type
-abbrev pub answer_at : List Kid → ℕ → Ty → Made
-answer_at [] i t = Err (slot_range i 0)
-answer_at (k ∷ ks) zero t = answered (k.stands t)
-answer_at (k ∷ ks) (suc i) t = answer_at ks i t
-
--- the type at the place
-abbrev pub type_at : List Ty → ℕ → Ty
-type_at [] i = validity_type
-type_at (t ∷ ts) zero = t
-type_at (t ∷ ts) (suc i) = type_at ts i

@@ -2,12 +2,10 @@
 
 ghost use Rattle.std.specs.Prelude.{◌≡◌, map, length, IfOk};
 ghost use Rattle.vx_layout_bytes.specs.Views.{raw};
-ghost use Rattle.vx_kinds.specs.ChildView.{child_lay};
 ghost use Rattle.vx_kinds.specs.Copies.{SameChildren, SameNodes, SameTable};
 ghost use Rattle.vx_kinds.specs.FlatView.{flat_lay};
 ghost use Rattle.vx_kinds.specs.LayoutView.{lay};
 
-use crate::child::LayoutChild;
 use crate::children::{LayoutChildren, ViewedChildren};
 use crate::flat::FlatLayout;
 use crate::layout::Layout;
@@ -151,18 +149,5 @@ fn copy_tree(tree: &Option<Blob>) -> Result<Option<Blob>, AllocError>
     match tree {
         Some(bytes) => Ok(Some(bytes.clone()?)),
         None => Ok(None),
-    }
-}
-
-impl LayoutChild<'_> {
-    /// An equal layout by itself; one that was built is not copied.
-    #[tactic(auto, unfolding(crate::specs::ChildView::child_lay))]
-    pub fn into_layout(self) -> Result<Layout, AllocError>
-        ensures { IfOk result (λ l. lay l ≡ child_lay self.entry) }
-    {
-        match self {
-            LayoutChild::Kept(layout) => layout.to_layout(),
-            LayoutChild::Built(layout) => Ok(layout),
-        }
     }
 }

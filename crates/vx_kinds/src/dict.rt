@@ -1,11 +1,7 @@
-ghost use Rattle.std.specs.Prelude.{◌≡◌, IfOk};
-ghost use Rattle.vx_tree.specs.LayoutTree.{dict_layout, layout_type, row_count};
-ghost use Rattle.vx_kinds.specs.LayoutView.{lay};
-
 use crate::error::LayoutError;
 use crate::layout::Layout;
-use crate::shape::{integer_type, is_primitive, pair};
-use std::alloc::{AllocError, Global};
+use crate::shape::{integer_type, is_primitive};
+use std::alloc::Global;
 use std::marker::Model;
 use vx_model::{DType, SegmentId};
 
@@ -44,6 +40,7 @@ impl Model for DictLayout {
 }
 
 impl DictLayout {
+    ghost use Rattle.vx_kinds.specs.LayoutView.{lay};
     ghost use Rattle.vx_kinds.specs.Made.{make_dict};
     ghost use Rattle.vx_kinds.specs.Views.{Gives, itself};
 
@@ -57,21 +54,15 @@ impl DictLayout {
                 needs: integer_type(),
             });
         }
-        Ok(dict_of(alloc, values, codes)?)
+        let row_count = codes.row_count();
+        let children = vec![in alloc; values, codes]?;
+        let dtype = children[0].dtype().clone()?;
+        Ok(DictLayout {
+            row_count,
+            dtype,
+            segment_ids: Vec::new(alloc),
+            children,
+            all_values_referenced: false,
+        })
     }
-}
-
-fn dict_of(alloc: Global, values: Layout, codes: Layout) -> Result<DictLayout, AllocError>
-    ensures { IfOk result (λ d. d ≡ dict_layout (layout_type (lay values)) (row_count (lay codes)) (lay values) (lay codes)) }
-{
-    let row_count = codes.row_count();
-    let dtype = values.dtype().clone()?;
-    let children = pair(alloc, values, codes)?;
-    Ok(DictLayout {
-        row_count,
-        dtype,
-        segment_ids: Vec::new(alloc),
-        children,
-        all_values_referenced: false,
-    })
 }

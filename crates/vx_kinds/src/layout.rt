@@ -1,8 +1,6 @@
-use crate::child::LayoutChild;
-use crate::children::{kept_child, kept_rows};
+use crate::children::kept_rows;
 use crate::chunked::ChunkedLayout;
 use crate::dict::DictLayout;
-use crate::error::LayoutError;
 use crate::flat::FlatLayout;
 use crate::foreign::ForeignLayout;
 use crate::kind::LayoutKind;
@@ -30,9 +28,7 @@ impl Layout {
     ghost use Rattle.std.specs.Prelude.{◌≡◌, ◌≢◌, ◌↔◌, ◌<◌, map, length, Ok, IsTrue, MatchOption};
     ghost use Rattle.vx_model.specs.TyView.{ty};
     ghost use Rattle.vx_tree.specs.LayoutTree.{layout_kind, layout_type, row_count as rows, segments_of, children_of, kind_id};
-    ghost use Rattle.vx_kinds.specs.Children.{kind_name, rows_at, answered, child_in};
-    ghost use Rattle.vx_kinds.specs.ChildView.{child_lay};
-    ghost use Rattle.vx_kinds.specs.Views.{Gives};
+    ghost use Rattle.vx_kinds.specs.Children.{kind_name, rows_at, answered};
     ghost use Rattle.vx_kinds.specs.declared.kind.LayoutKind.TheVariants.{Flat};
     ghost use Rattle.vx_kinds.specs.FlatView.{flat_lay};
     ghost use Rattle.vx_kinds.specs.LayoutView.{lay, number};
@@ -177,27 +173,6 @@ impl Layout {
             Layout::Zoned(inner) => inner.child_row_count(i),
             Layout::LegacyStats(inner) => kept_rows(&inner.children, i),
             Layout::Foreign(inner) => kept_rows(&inner.children, i),
-        }
-    }
-
-    /// The child at the place, which is below `nchildren`, or why it can't be built.
-    #[tactic(auto, using(crate::proofs::KidSteps::place_rules), unfolding(crate::specs::LayoutView::lay))]
-    pub fn child(&self, i: u64) -> Result<LayoutChild<'_>, LayoutError>
-        requires { i < length (children_of (lay self.now)) }
-        ensures { Gives child_lay result (child_in (children_of (lay self.now)) i) }
-    {
-        match self {
-            Layout::Flat(_) => Err(LayoutError::SlotRange {
-                index: i,
-                children: 0,
-            }),
-            Layout::Chunked(inner) => inner.children.chunk(i, &inner.dtype),
-            Layout::Struct(inner) => inner.children.field(i, &inner.dtype),
-            Layout::List(inner) => kept_child(&inner.children, i),
-            Layout::Dict(inner) => kept_child(&inner.children, i),
-            Layout::Zoned(inner) => inner.child(i),
-            Layout::LegacyStats(inner) => kept_child(&inner.children, i),
-            Layout::Foreign(inner) => kept_child(&inner.children, i),
         }
     }
 

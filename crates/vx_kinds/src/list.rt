@@ -1,7 +1,11 @@
+ghost use Rattle.std.specs.Prelude.{◌≡◌, ◌∷◌, map, length, IfOk, option_map};
+ghost use Rattle.vx_kinds.specs.LayoutView.{lay};
+ghost use Rattle.vx_kinds.specs.Made.{listed};
+
 use crate::error::LayoutError;
 use crate::layout::Layout;
-use crate::shape::{integer_type, is_primitive, list_children, present, validity_count};
-use std::alloc::Global;
+use crate::shape::{integer_type, is_primitive, validity_count};
+use std::alloc::{AllocError, Global};
 use std::marker::Model;
 use vx_model::{DType, SegmentId};
 
@@ -87,5 +91,26 @@ impl ListLayout {
             segment_ids: Vec::new(alloc),
             children,
         })
+    }
+}
+
+/// One where there is a layout.
+fn present(layout: &Option<Layout>) -> u64
+    ensures { result ≡ length (listed (option_map lay layout.now)) }
+{
+    if layout.is_some() { 1 } else { 0 }
+}
+
+fn list_children(
+    alloc: Global,
+    elements: Layout,
+    offsets: Layout,
+    validity: Option<Layout>,
+) -> Result<Vec<Layout>, AllocError>
+    ensures { IfOk result (λ v. map lay v.items ≡ lay elements ∷ lay offsets ∷ listed (option_map lay validity)) }
+{
+    match validity {
+        None => Ok(vec![in alloc; elements, offsets]?),
+        Some(validity) => Ok(vec![in alloc; elements, offsets, validity]?),
     }
 }

@@ -23,9 +23,8 @@ use crate::flat::FlatLayout;
 use crate::foreign::ForeignLayout;
 use crate::layout::Layout;
 use crate::list::ListLayout;
-use crate::metadata::integers_in;
 use crate::rebuilt::same_segments;
-use crate::slots::fields_in;
+use crate::shape::{fields_in, integers_in};
 use crate::stats::LegacyStatsLayout;
 use crate::structs::StructLayout;
 use crate::total::total_rows;
@@ -222,17 +221,6 @@ impl ZonedLayout {
     }
 }
 
-/// Rows of the second layout, where there is one.
-#[tactic(auto, using(crate::proofs::OwnSteps::zone_rules))]
-fn second_rows(layouts: &[Layout]) -> u64
-    ensures { result ≡ rows_at (map lay layouts.now) 1 }
-{
-    match layouts.get(1) {
-        Some(layout) => layout.row_count(),
-        None => 0,
-    }
-}
-
 impl LegacyStatsLayout {
     /// Takes no memory.
     #[tactic(auto, unfolding(crate::specs::LayoutView::lay))]
@@ -247,7 +235,10 @@ impl LegacyStatsLayout {
     pub fn nzones(&self) -> u64
         ensures { result ≡ rows_at (children_of self.now) 1 }
     {
-        second_rows(&self.children)
+        match self.children.get(1) {
+            Some(layout) => layout.row_count(),
+            None => 0,
+        }
     }
 
     /// The aggregates of its statistics; one has none.

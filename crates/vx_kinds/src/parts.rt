@@ -1,18 +1,16 @@
-//! What layouts are built of.
+//! What layouts are made of.
 
-ghost use Rattle.std.specs.Prelude.{◌≡◌, ◌≢◌, ◌≤◌, [], ◌∷◌, length, map, MatchOption, MatchResult};
-ghost use Rattle.vx_session.specs.Made.{has_children as children_needed};
-ghost use Rattle.vx_kinds.specs.KidsView.{layout_kids};
-ghost use Rattle.vx_kinds.specs.PartsView.{one_kid, one_depth, children_depth};
-ghost use Rattle.vx_kinds.specs.Views.{Fails};
-
-use crate::children::{LayoutChildren, ViewedChildren};
-use crate::error::LayoutError;
+use crate::children::LayoutChildren;
+use crate::chunked::ChunkedLayout;
+use crate::dict::DictLayout;
 use crate::layout::Layout;
-use std::rc::Rc;
-use vx_layout_bytes::RawNode;
-use vx_model::{DType, SegmentId};
-use vx_session::{LayoutBuildContext, Scope};
+use crate::list::ListLayout;
+use crate::stats::LegacyStatsLayout;
+use crate::structs::StructLayout;
+use crate::zoned::{UnreadZones, ZoneTable, ZonedLayout};
+use std::alloc::Global;
+use vx_aggregate::{AggregateFn, Stat};
+use vx_model::{Blob, DType, SegmentId};
 
 /// What layouts of all kinds have.
 #[derive(Debug, Drop)]
@@ -44,119 +42,94 @@ impl LayoutParts {
     }
 }
 
-/// Parts, and what a build needs besides them.
-#[derive(Debug, Drop)]
-pub struct LayoutDeserializeArgs {
-    pub parts: LayoutParts,
-    pub context: LayoutBuildContext,
+/// What layouts of all kinds have besides children.
+#[derive(Drop)]
+pub struct LayoutHead {
+    pub row_count: u64,
+    pub dtype: DType,
+    pub segment_ids: Vec<SegmentId>,
 }
 
-/// A child by itself.
-#[derive(Debug, Drop)]
-pub(crate) enum OneChild {
-    Kept(Layout),
-    Node(Rc<Scope>, RawNode),
+/// What a layout of a kind is made of, where nothing is tested.
+pub enum KindParts {
+    Chunked(LayoutParts),
+    Struct(LayoutParts),
+    List(LayoutHead, Vec<Layout>),
+    /// With whether all values are referenced.
+    Dict(LayoutHead, Vec<Layout>, bool),
+    /// With the zone length, and what the table records.
+    Zoned(LayoutHead, Vec<Layout>, u32, Vec<AggregateFn>),
+    /// The table isn't read: its metadata, and the table as it was found.
+    Unread(LayoutHead, Vec<Layout>, Blob, LayoutChildren),
+    /// With the zone length, and what the table records.
+    LegacyStats(LayoutHead, Vec<Layout>, u32, Vec<Stat>),
 }
 
-impl OneChild {
+impl Layout {
     ghost use Rattle.std.specs.Prelude.{◌≡◌};
-    ghost use Rattle.vx_kinds.specs.PartsView.{one_kid};
+    ghost use Rattle.vx_kinds.specs.KindView.{IsWhole, whole_lay};
+    ghost use Rattle.vx_kinds.specs.LayoutView.{lay};
 
-    #[tactic(auto, using(crate::proofs::KidSteps::own_rows))]
-    pub(crate) fn row_count(&self) -> u64
-        ensures { result ≡ (one_kid self.now).rows }
+    /// The layout of the parts. Takes no memory.
+    #[tactic(auto, unfolding(crate::specs::LayoutView::lay))]
+    pub fn from_parts(alloc: Global, parts: KindParts) -> Layout
+        requires { IsWhole parts }
+        ensures { lay result ≡ whole_lay parts }
     {
-        match self {
-            OneChild::Kept(layout) => layout.row_count(),
-            OneChild::Node(_, node) => node.rows,
-        }
-    }
-}
-
-/// Both children, where there are two.
-#[tactic(auto, using(crate::proofs::PartSteps::two_rules))]
-pub(crate) fn two(children: LayoutChildren) -> Result<(OneChild, OneChild), LayoutError>
-    ensures { MatchResult result
-        (λ p. (layout_kids children ≡ one_kid p.0 ∷ one_kid p.1 ∷ []) × (one_depth p.0 ≤ children_depth children) × (one_depth p.1 ≤ children_depth children))
-        (λ e. Fails e (children_needed 2 (layout_kids children))) }
-{
-    let has = children.nchildren();
-    match children {
-        LayoutChildren::Owned(layouts) => match take_two(layouts) {
-            Some((first, second)) => Ok((OneChild::Kept(first), OneChild::Kept(second))),
-            None => Err(LayoutError::ChildCount { has, needs: 2 }),
-        },
-        LayoutChildren::Viewed(viewed) => {
-            let ViewedChildren { scope, nodes } = viewed;
-            match take_two(nodes) {
-                Some((first, second)) => {
-                    let same = scope.clone()?;
-                    Ok((OneChild::Node(same, first), OneChild::Node(scope, second)))
-                }
-                None => Err(LayoutError::ChildCount { has, needs: 2 }),
+        match parts {
+            KindParts::Chunked(parts) => Layout::Chunked(ChunkedLayout {
+                row_count: parts.row_count,
+                dtype: parts.dtype,
+                segment_ids: parts.segment_ids,
+                children: parts.children,
+            }),
+            KindParts::Struct(parts) => Layout::Struct(StructLayout {
+                row_count: parts.row_count,
+                dtype: parts.dtype,
+                segment_ids: parts.segment_ids,
+                children: parts.children,
+            }),
+            KindParts::List(head, children) => Layout::List(ListLayout {
+                row_count: head.row_count,
+                dtype: head.dtype,
+                segment_ids: head.segment_ids,
+                children,
+            }),
+            KindParts::Dict(head, children, all_values_referenced) => Layout::Dict(DictLayout {
+                row_count: head.row_count,
+                dtype: head.dtype,
+                segment_ids: head.segment_ids,
+                children,
+                all_values_referenced,
+            }),
+            KindParts::Zoned(head, children, zone_len, aggregates) => Layout::Zoned(ZonedLayout {
+                row_count: head.row_count,
+                dtype: head.dtype,
+                segment_ids: head.segment_ids,
+                children,
+                zone_len,
+                aggregates,
+                table: ZoneTable::Read,
+            }),
+            KindParts::Unread(head, children, metadata, zones) => Layout::Zoned(ZonedLayout {
+                row_count: head.row_count,
+                dtype: head.dtype,
+                segment_ids: head.segment_ids,
+                children,
+                zone_len: 0,
+                aggregates: Vec::new(alloc),
+                table: ZoneTable::Unread(UnreadZones { metadata, zones }),
+            }),
+            KindParts::LegacyStats(head, children, zone_len, stats) => {
+                Layout::LegacyStats(LegacyStatsLayout {
+                    row_count: head.row_count,
+                    dtype: head.dtype,
+                    segment_ids: head.segment_ids,
+                    children,
+                    zone_len,
+                    stats,
+                })
             }
         }
     }
-}
-
-/// All children, where there are three.
-#[tactic(auto, using(crate::proofs::PartSteps::three_rules))]
-pub(crate) fn three(children: LayoutChildren) -> Result<(OneChild, OneChild, OneChild), LayoutError>
-    ensures { MatchResult result
-        (λ p. (layout_kids children ≡ one_kid p.0 ∷ one_kid p.1 ∷ one_kid p.2 ∷ []) × (one_depth p.0 ≤ children_depth children) × (one_depth p.1 ≤ children_depth children) × (one_depth p.2 ≤ children_depth children))
-        (λ e. Fails e (children_needed 3 (layout_kids children))) }
-{
-    let has = children.nchildren();
-    match children {
-        LayoutChildren::Owned(layouts) => match take_three(layouts) {
-            Some((first, second, third)) => Ok((
-                OneChild::Kept(first),
-                OneChild::Kept(second),
-                OneChild::Kept(third),
-            )),
-            None => Err(LayoutError::ChildCount { has, needs: 3 }),
-        },
-        LayoutChildren::Viewed(viewed) => {
-            let ViewedChildren { scope, nodes } = viewed;
-            match take_three(nodes) {
-                Some((first, second, third)) => {
-                    let same = scope.clone()?;
-                    let again = scope.clone()?;
-                    Ok((
-                        OneChild::Node(same, first),
-                        OneChild::Node(again, second),
-                        OneChild::Node(scope, third),
-                    ))
-                }
-                None => Err(LayoutError::ChildCount { has, needs: 3 }),
-            }
-        }
-    }
-}
-
-#[tactic(auto, using(crate::proofs::PartSteps::pop_rules))]
-fn take_two<T: Drop>(items: Vec<T>) -> Option<(T, T)>
-    ensures { MatchOption result (length items.items ≢ 2) (λ p. items.items ≡ p.0 ∷ p.1 ∷ []) }
-{
-    let mut items = items;
-    if items.len() != 2 {
-        return None;
-    }
-    let second = items.pop()?;
-    let first = items.pop()?;
-    Some((first, second))
-}
-
-#[tactic(auto, using(crate::proofs::PartSteps::pop_rules))]
-fn take_three<T: Drop>(items: Vec<T>) -> Option<(T, T, T)>
-    ensures { MatchOption result (length items.items ≢ 3) (λ p. items.items ≡ p.0 ∷ p.1 ∷ p.2 ∷ []) }
-{
-    let mut items = items;
-    if items.len() != 3 {
-        return None;
-    }
-    let third = items.pop()?;
-    let second = items.pop()?;
-    let first = items.pop()?;
-    Some((first, second, third))
 }

@@ -1,6 +1,5 @@
 use crate::error::LayoutError;
 use crate::layout::Layout;
-use crate::shape::pair;
 use std::alloc::Global;
 use std::marker::Model;
 use vx_aggregate::{Stat, legacy_stats_table_dtype};
@@ -75,7 +74,7 @@ impl LegacyStatsLayout {
         }
         let row_count = column.row_count();
         let dtype = column.dtype().clone()?;
-        let children = pair(alloc, column, zones)?;
+        let children = vec![in alloc; column, zones]?;
         Ok(LegacyStatsLayout {
             row_count,
             dtype,

@@ -1,6 +1,6 @@
 //! Rows of children together.
 
-ghost use Rattle.std.specs.Prelude.{◌≡◌, ◌≤◌, ◌<◌, ◌^◌, length, take};
+ghost use Rattle.std.specs.Prelude.{◌≡◌};
 ghost use Rattle.vx_model.specs.Words.{total_by};
 ghost use Rattle.vx_session.specs.Made.{kid_rows};
 ghost use Rattle.vx_kinds.specs.KidsView.{layout_kids};
@@ -8,7 +8,7 @@ ghost use Rattle.vx_kinds.specs.KidsView.{layout_kids};
 use crate::children::LayoutChildren;
 
 #[tactic(auto, using(crate::proofs::KidSteps::sum_rules))]
-pub(crate) fn total_rows(children: &LayoutChildren) -> u128
+pub fn total_rows(children: &LayoutChildren) -> u128
     ensures { result ≡ total_by kid_rows (layout_kids children.now) }
 {
     let count = children.nchildren();
@@ -17,19 +17,4 @@ pub(crate) fn total_rows(children: &LayoutChildren) -> u128
         rows += children.child_row_count(i) as u128;
     }
     rows
-}
-
-/// Rows of the first children, of `rows` together.
-#[tactic(auto, using(crate::proofs::KidSteps::sum_rules))]
-pub(crate) fn rows_before(children: &LayoutChildren, rows: u64, place: u64) -> u64
-    requires within { place ≤ length (layout_kids children.now) }
-    requires all { total_by kid_rows (layout_kids children.now) ≡ rows }
-    ensures { result ≡ total_by kid_rows (take place (layout_kids children.now)) }
-{
-    let _ = rows;
-    let mut before = 0u64;
-    for i in 0..place {
-        before += children.child_row_count(i);
-    }
-    before
 }

@@ -1,8 +1,6 @@
-use crate::child::LayoutChild;
-use crate::children::{LayoutChildren, kept_child, kept_rows};
+use crate::children::{LayoutChildren, kept_rows};
 use crate::error::LayoutError;
 use crate::layout::Layout;
-use crate::shape::{no_columns, pair};
 use std::alloc::Global;
 use std::marker::Model;
 use std::num::NonZeroU32;
@@ -95,7 +93,7 @@ impl ZonedLayout {
         }
         let row_count = column.row_count();
         let dtype = column.dtype().clone()?;
-        let children = pair(alloc, column, zones)?;
+        let children = vec![in alloc; column, zones]?;
         Ok(ZonedLayout {
             row_count,
             dtype,
@@ -111,9 +109,7 @@ impl ZonedLayout {
 impl ZonedLayout {
     ghost use Rattle.std.specs.Prelude.{◌≡◌, ◌<◌, length};
     ghost use Rattle.vx_tree.specs.LayoutTree.{children_of};
-    ghost use Rattle.vx_kinds.specs.Children.{rows_at, child_in};
-    ghost use Rattle.vx_kinds.specs.ChildView.{child_lay};
-    ghost use Rattle.vx_kinds.specs.Views.{Gives};
+    ghost use Rattle.vx_kinds.specs.Children.{rows_at};
 
     #[tactic(auto, using(crate::proofs::ZonedSteps::zoned_rules))]
     pub(crate) fn nchildren(&self) -> u64
@@ -139,25 +135,6 @@ impl ZonedLayout {
                     kept_rows(&self.children, i)
                 } else {
                     unread.zones.child_row_count(i - kept)
-                }
-            }
-        }
-    }
-
-    #[tactic(auto, using(crate::proofs::ZonedSteps::zoned_rules))]
-    pub(crate) fn child(&self, i: u64) -> Result<LayoutChild<'_>, LayoutError>
-        requires { i < length (children_of self.now) }
-        ensures { Gives child_lay result (child_in (children_of self.now) i) }
-    {
-        let kept = self.children.len() as u64;
-        match &self.table {
-            ZoneTable::Read => kept_child(&self.children, i),
-            ZoneTable::Unread(unread) => {
-                if i < kept {
-                    kept_child(&self.children, i)
-                } else {
-                    let dtype = no_columns(*self.children.allocator());
-                    unread.zones.chunk(i - kept, &dtype)
                 }
             }
         }

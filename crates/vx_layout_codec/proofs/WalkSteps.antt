@@ -13,8 +13,8 @@ use Rattle.vx_kinds.specs.declared.error.LayoutError.{LayoutError}
 use Rattle.vx_layout_spelling.specs.Permitted.{Checked, and_checked, refusal_in, listed, permitted, all_permitted, built, all_built}
 use Rattle.vx_layout_spelling.specs.NodeOf.{own_in, node_in, nodes_in}
 use Rattle.vx_layout_spelling.specs.Bytes.{unless_refused}
-use Rattle.vx_kinds.specs.ChildView.{child_lay}
-use Rattle.vx_kinds.specs.declared.child.LayoutChild.{LayoutChild}
+use Rattle.vx_layout_build.specs.ChildView.{child_lay}
+use Rattle.vx_layout_build.specs.declared.child.LayoutChild.{LayoutChild}
 use Rattle.vx_layout_spelling.proofs.ParsedBack.{lays_back}
 use Rattle.vx_walks.proofs.Walks.{answered_same, kind_refused, kind_built, built_is, drop_built, drop_refused, depth_is, child_falls}
 use Rattle.vx_layout_codec.specs.Views.{children_answer, kept}

@@ -2,8 +2,8 @@
 use Rattle.std.specs.Prelude.{ℕ, Option, Some, None, option_map, Result, Ok, Err}
 use Rattle.vx_tree.specs.Refusal.{Refusal}
 use Rattle.vx_tree.specs.LayoutTree.{Lay}
-use Rattle.vx_kinds.specs.declared.child.LayoutChild.{LayoutChild}
-use Rattle.vx_kinds.specs.ChildView.{child_lay}
+use Rattle.vx_layout_build.specs.declared.child.LayoutChild.{LayoutChild}
+use Rattle.vx_layout_build.specs.ChildView.{child_lay}
 
 abbrev pub kept : Option LayoutChild → Option (Lay ℕ)
 kept child = option_map child_lay child

@@ -16,7 +16,8 @@ ghost use Rattle.vx_layout_spelling.specs.Parsed.{node_within, parsed};
 
 use std::alloc::Global;
 use std::rc::Rc;
-use vx_kinds::{Layout, LayoutError, build_node};
+use vx_kinds::{Layout, LayoutError};
+use vx_layout_build::build_node;
 use vx_layout_bytes::{GrammarError, Limits, RawNode, read_nodes};
 use vx_model::{ArrayContext, DType};
 use vx_session::{LayoutContext, Scope, Session};

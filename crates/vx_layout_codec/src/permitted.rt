@@ -9,7 +9,8 @@ ghost use Rattle.vx_layout_spelling.specs.Permitted.{listed, permitted};
 ghost use Rattle.vx_layout_codec.specs.Views.{children_answer, kept};
 
 use std::alloc::{AllocError, Global};
-use vx_kinds::{Layout, LayoutChild, LayoutError};
+use vx_kinds::{Layout, LayoutError};
+use vx_layout_build::{LayoutChild, LayoutWalk};
 use vx_model::Text;
 use vx_session::LayoutContext;
 

@@ -15,6 +15,8 @@ ghost use Rattle.vx_layout_spelling.specs.Bytes.{unless_refused, bytes_in};
 use crate::permitted::check_permitted;
 use std::alloc::{AllocError, Global};
 use vx_kinds::{Layout, LayoutError};
+use vx_layout_build::LayoutWalk;
+use vx_layout_slots::LayoutSlots;
 use vx_layout_bytes::{RawNode, write_node};
 use vx_model::{Blob, SegmentId};
 use vx_session::LayoutContext;

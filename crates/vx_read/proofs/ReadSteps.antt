@@ -17,7 +17,7 @@ use Rattle.vx_kinds.specs.declared.error.LayoutError.{LayoutError}
 use Rattle.vx_kinds.specs.declared.error.LayoutError.TheVariants as errors
 use Rattle.vx_kinds.specs.Views.{Fails}
 use Rattle.vx_kinds.specs.LayDepth.{depth, depths}
-use Rattle.vx_kinds.proofs.TreeSteps.{made_is}
+use Rattle.vx_kinds.proofs.Answered.{made_is}
 use Rattle.vx_read.specs.declared.error.ReadError.{ReadError}
 use Rattle.vx_read.specs.Reading.{ReadFault, first_of, first_in, count_fault, counts_fault, children_fault, list_children, validity_fault, list_fault, dict_fault, first_fault, each_fault}
 use Rattle.vx_read.specs.Agreement.{is_there}

@@ -19,6 +19,7 @@ use crate::nodes::{
 use crate::segments::SegmentMap;
 use std::alloc::Global;
 use vx_kinds::{Layout, LayoutKind};
+use vx_layout_build::LayoutWalk;
 use vx_model::Value;
 
 /// The rows of a layout, read from its segments.

@@ -4,7 +4,7 @@ use Rattle.vx_tree.specs.Refusal.{Refusal}
 use Rattle.vx_tree.specs.LayoutTree.{flat_kind, chunked_kind, struct_kind, list_kind, dict_kind, zoned_kind, unread_zoned_kind, stats_kind, foreign_kind, refused_kind, Lay, Lays, layout, lays_of, layout_kind, children_of}
 use Rattle.vx_kinds.specs.Children.{answered, child_in}
 use Rattle.vx_kinds.specs.LayDepth.{depth, depths}
-use Rattle.vx_kinds.proofs.TreeSteps.{made_is}
+use Rattle.vx_kinds.proofs.Answered.{made_is}
 use Rattle.vx_layout_spelling.specs.Permitted.{and_checked, refusal_in, built, all_built}
 use Rattle.vx_layout_spelling.proofs.ParsedBack.{lays_back}
 

@@ -1,8 +1,0 @@
-use Rattle.std.proofs.Common.{◌≡◌, take, map}
-use Rattle.vx_record.specs.Aggregate.{spec}
-use Rattle.vx_aggregate.specs.AggregateView.{aggregate}
-use Rattle.vx_metadata.specs.Views.{spec_of}
-use Rattle.vx_kinds.proofs.metadata.specs_of.Given as goal
-
-abbrev pub invariant-loop-aggregate : goal.invariant-loop-aggregate
-invariant-loop-aggregate l = map spec_of l.specs.items ≡ map spec (map aggregate (take l.aggregate-index l.aggregates))

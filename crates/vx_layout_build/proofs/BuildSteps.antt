@@ -1,0 +1,179 @@
+-- What a node is built into, by its id.
+use Rattle.std.proofs.Common.{◌≡◌, ℕ, suc, ◌+◌, ◌-◌, ◌≤◌, ◌++◌, length, Bool, true, false, List, [], ◌∷◌, map, Option, Some, None, Result, Ok, Err, refl, sym, ◌∙◌, ap, arith}
+use Rattle.std.proofs.lemmas.List.{append-nil, map_push}
+use Rattle.std.specs.Prelude.{max, if◌then◌else◌}
+use Rattle.vx_model.specs.Words.{total_by}
+use Rattle.vx_model.specs.Ty.{Ty, is_struct}
+use Rattle.vx_model.specs.TyView.{ty}
+use Rattle.vx_tree.specs.LayoutTree.{Lay, row_count, chunked_kind, struct_kind}
+use Rattle.vx_tree.specs.Refusal.{Refusal, unknown_index, unregistered}
+use Rattle.vx_layout_bytes.specs.declared.node.RawNode.{RawNode, out-RawNode}
+use Rattle.vx_layout_bytes.specs.Node.{Own, Node, node, nodes_of}
+use Rattle.vx_layout_bytes.specs.Values.{depth, depths}
+use Rattle.vx_layout_bytes.specs.Views.{raw}
+use Rattle.vx_layout_bytes.proofs.Nodes.{raw_is}
+use Rattle.vx_session.specs.declared.encoding.LayoutEncoding.{LayoutEncoding}
+use Rattle.vx_session.specs.Ids.{id_at}
+use Rattle.vx_session.specs.Encodings.{kind_of}
+use Rattle.vx_session.specs.Scope.{Scope, Context}
+use Rattle.vx_session.specs.Made.{Made, ◌>>=◌, Kid, kid_rows, spelled, has_children, has_rows, all_have_rows}
+use Rattle.vx_session.specs.Kinds.{Parts, nothing_in, struct_types, build_kind, build_chunked, build_struct}
+use Rattle.vx_session.specs.Builder.{builder, build_foreign, build_registered, known_id, own_of, own_parts, node_parts, kids}
+use Rattle.vx_kinds.specs.declared.error.LayoutError.{LayoutError}
+use Rattle.vx_kinds.specs.declared.parts.LayoutParts.{LayoutParts}
+use Rattle.vx_layout_build.specs.declared.open.Wanted.{Wanted}
+use Rattle.vx_layout_build.specs.declared.open.Open.{Open}
+use Rattle.vx_kinds.specs.Views.{Fails}
+use Rattle.vx_layout_build.specs.NodeKind.{kind_there, node_kind}
+use Rattle.vx_kinds.specs.LayoutView.{seen_layout}
+use Rattle.vx_kinds.specs.KidsView.{layout_kids, chunks, fields}
+use Rattle.vx_layout_build.specs.PartsView.{parts_of, one_built, one_depth}
+use Rattle.vx_layout_build.specs.OpenView.{Children, rows_ruled, wanted_built, all_built, wanted_depths, framed, open_made}
+use Rattle.vx_kinds.proofs.KidSteps.{chunks_are, fields_are, fails_by}
+
+-- ---- the kind of a node
+
+pub index_unknown : (s : Scope) (index : ℕ) → id_at s.ids index ≡ None → node_kind s index ≡ Err (unknown_index index)
+index_unknown s index none = rw none refl
+
+pub kind_found : (s : Scope) (index : ℕ) (id : List ℕ) (kind : LayoutEncoding) → id_at s.ids index ≡ Some id → kind_of id s.registered ≡ Some kind → node_kind s index ≡ Ok (Some kind)
+kind_found s index id kind found known = rw (found, known) refl
+
+pub kind_unregistered : (s : Scope) (index : ℕ) (id : List ℕ) → id_at s.ids index ≡ Some id → kind_of id s.registered ≡ None → s.allow_unknown ≡ false → node_kind s index ≡ Err (unregistered id)
+kind_unregistered s index id found none refused = rw (found, none, refused) refl
+
+pub kind_unknown : (s : Scope) (index : ℕ) (id : List ℕ) → id_at s.ids index ≡ Some id → kind_of id s.registered ≡ None → s.allow_unknown ≡ true → node_kind s index ≡ Ok None
+kind_unknown s index id found none allowed = rw (found, none, allowed) refl
+
+pub ruleset found_rules = (index_unknown, kind_found, kind_unregistered, kind_unknown)
+
+-- what is built of a node of the kind
+abbrev built_by : Scope → Own → List Kid → Made → Ty → Option LayoutEncoding → Made
+built_by s o ks other t None = other
+built_by s o ks other t (Some kind) = build_kind kind s.context (own_parts o ks t) o.metadata
+
+by_leave : (b : Bool) (s : Scope) (o : Own) (ks : List Kid) (other : Made) (t : Ty) (refusal : Refusal) → (if b then other else Err refusal) ≡ ((if b then Ok None else Err refusal) >>= built_by s o ks other t)
+by_leave true s o ks other t refusal = refl
+by_leave false s o ks other t refusal = refl
+
+by_kind : (s : Scope) (o : Own) (ks : List Kid) (other : Made) (t : Ty) (id : List ℕ) (k : Option LayoutEncoding) → build_registered s o ks id other t k ≡ (kind_there s id k >>= built_by s o ks other t)
+by_kind s o ks other t id (Some kind) = refl
+by_kind s o ks other t id None = by_leave s.allow_unknown s o ks other t (unregistered id)
+
+by_id : (s : Scope) (o : Own) (ks : List Kid) (other : Made) (t : Ty) (r : Result (List ℕ) Refusal)
+    → (r >>= λ id. build_registered s o ks id other t (kind_of id s.registered)) ≡ ((r >>= λ id. kind_there s id (kind_of id s.registered)) >>= built_by s o ks other t)
+by_id s o ks other t (Ok id) = by_kind s o ks other t id (kind_of id s.registered)
+by_id s o ks other t (Err e) = refl
+
+node_is : (s : Scope) (n : Node) (t : Ty) → builder s n t ≡ (node_kind s (own_of n).index >>= built_by s (own_of n) (node_parts s t n).kids (build_foreign s.ids n t) t)
+node_is s (node o ns) t = by_id s o (kids s ns) (build_foreign s.ids (node o ns) t) t (known_id s.ids o.index)
+
+own_index : (n : RawNode) → (own_of (raw n)).index ≡ (out-RawNode n).index
+own_index n = rw (raw_is n) refl
+
+own_parts_are : (s : Scope) (n : Node) (t : Ty) → own_parts (own_of n) (node_parts s t n).kids t ≡ node_parts s t n
+own_parts_are s (node o ns) t = refl
+
+pub node_kind_fails : (e : LayoutError) (s : Scope) (n : RawNode) (t : Ty) → Fails e (node_kind s (out-RawNode n).index) → Fails e (builder s (raw n) t)
+node_kind_fails e s n t h = fails_by e (node_kind s (out-RawNode n).index) (builder s (raw n) t) (λ x made. node_is s (raw n) t ∙ rw (own_index n, made) refl) h
+
+pub node_foreign : (s : Scope) (n : RawNode) (t : Ty) → node_kind s (out-RawNode n).index ≡ Ok None → builder s (raw n) t ≡ build_foreign s.ids (raw n) t
+node_foreign s n t is = node_is s (raw n) t ∙ rw (own_index n, is) refl
+
+pub node_built : (s : Scope) (n : RawNode) (t : Ty) (kind : LayoutEncoding) (c : Context) (p : Parts) (metadata : List ℕ) → node_kind s (out-RawNode n).index ≡ Ok (Some kind)
+    → c ≡ s.context → p ≡ node_parts s t (raw n) → metadata ≡ (own_of (raw n)).metadata → builder s (raw n) t ≡ build_kind kind c p metadata
+node_built s n t kind c p metadata is within parts kept =
+    node_is s (raw n) t ∙ rw (own_index n, is, own_parts_are s (raw n) t, within, parts, kept) refl
+
+-- the nodes that a build is still over
+pub parts_depth : (n : RawNode) → depth (raw n) ≡ depths (nodes_of (map raw (out-RawNode n).children.items)) + 1
+parts_depth n = rw (raw_is n) (omega arith)
+
+pub ruleset parts_rules = (raw_is, parts_depth)
+
+-- ---- layouts of each kind, where nothing is refused
+
+pub chunked_made : (p : LayoutParts) (m : List ℕ) (has : ℕ) → spelled m (nothing_in m) ≡ Ok tt → has ≡ total_by kid_rows (layout_kids p.children) → has_rows has p.row_count ≡ Ok tt
+    → build_chunked (parts_of p) m ≡ Ok (seen_layout chunked_kind p.dtype p.row_count p.segment_ids (chunks (ty p.dtype) p.children))
+unfolding build_chunked
+chunked_made p m has e sum f = rw (e, ← sum, f, chunks_are (ty p.dtype) p.children) refl
+
+pub struct_made : (p : LayoutParts) (m : List ℕ) (needed : ℕ) → spelled m (nothing_in m) ≡ Ok tt → is_struct (ty p.dtype) ≡ true → needed ≡ length (struct_types (ty p.dtype)) → has_children needed (layout_kids p.children) ≡ Ok tt
+    → all_have_rows p.row_count (layout_kids p.children) ≡ Ok tt → length (layout_kids p.children) ≡ length (struct_types (ty p.dtype))
+    → build_struct (parts_of p) m ≡ Ok (seen_layout struct_kind p.dtype p.row_count p.segment_ids (fields (ty p.dtype) p.children))
+unfolding build_struct
+struct_made p m needed e s is count rows same = rw (e, s, ← is, count, rows, fields_are (ty p.dtype) p.children same) refl
+
+-- ---- the children, and the layout of them
+
+pub open_fails : (e : LayoutError) (o : Open) → Fails e (all_built o.wanted.items) → Fails e (open_made o)
+open_fails e o h = fails_by e (all_built o.wanted.items) (open_made o) (λ x made. rw made refl) h
+
+pub open_is : (o : Open) (ls : List (Lay ℕ)) → all_built o.wanted.items ≡ Ok ls → open_made o ≡ Ok (framed o.frame ls)
+open_is o ls is = rw is refl
+
+pub ruleset open_rules = (open_fails, open_is)
+
+count_of_built : (one : Made) (others : Children) (n : ℕ) (ls : List (Lay ℕ)) → ((ms : List (Lay ℕ)) → others ≡ Ok ms → length ms ≡ n) → (one >>= λ l. others >>= λ ms. Ok (l ∷ ms)) ≡ Ok ls → length ls ≡ suc n
+count_of_built (Err e) others n ls h is = cc
+count_of_built (Ok l) (Err e) n ls h is = cc
+count_of_built (Ok l) (Ok ms) n ls h is = let same : ls ≡ l ∷ ms = cc in let count : length ms ≡ n = h ms refl in rw same (omega (arith, count))
+
+-- as many are built as are wanted
+pub built_count : (ws : List Wanted) (ls : List (Lay ℕ)) → all_built ws ≡ Ok ls → length ls ≡ length ws
+built_count [] ls is = let same : ls ≡ [] = cc in rw same refl
+built_count (w ∷ ws) ls is = count_of_built (wanted_built w) (all_built ws) (length ws) ls (λ ms built. built_count ws ms built) is
+
+-- ---- children one by one
+
+-- what is built already, in front of what comes
+abbrev pub so_far : List (Lay ℕ) → Children → Children
+so_far ls c = c >>= λ ms. Ok (ls ++ ms)
+
+pub so_far_none : (c : Children) → c ≡ so_far [] c
+so_far_none (Ok ls) = refl
+so_far_none (Err e) = refl
+
+pub so_far_all : (ls : List (Lay ℕ)) → so_far ls (Ok []) ≡ Ok ls
+so_far_all ls = rw (append-nil ls) refl
+
+pub so_far_end : (all : Children) (ls : List (Lay ℕ)) (ws : List Wanted) → all ≡ so_far ls (all_built ws) → length ws ≡ 0 → all ≡ Ok ls
+so_far_end all ls [] is none = is ∙ so_far_all ls
+so_far_end all ls (w ∷ ws) is none = absurd (omega (arith, none))
+
+so_far_more : (ls : List (Lay ℕ)) (l : Lay ℕ) (c : Children) → so_far ls (c >>= λ ms. Ok (l ∷ ms)) ≡ so_far (ls ++ l ∷ []) c
+so_far_more ls l (Ok ms) = rw (append_one ls l ms) refl
+  where
+    append_one : (xs : List (Lay ℕ)) (x : Lay ℕ) (ys : List (Lay ℕ)) → xs ++ x ∷ ys ≡ (xs ++ x ∷ []) ++ ys
+    append_one [] x ys = refl
+    append_one (z ∷ xs) x ys = ap (λ r. z ∷ r) (append_one xs x ys)
+so_far_more ls l (Err e) = refl
+
+pub so_far_built : (all : Children) (ls : List (Lay ℕ)) (ws : List Wanted) (w : Wanted) (rest : List Wanted) (l : Lay ℕ) → all ≡ so_far ls (all_built ws) → ws ≡ w ∷ rest → wanted_built w ≡ Ok l → all ≡ so_far (ls ++ l ∷ []) (all_built rest)
+so_far_built all ls ws w rest l is next built = is ∙ rw (next, built) (so_far_more ls l (all_built rest))
+
+pub so_far_fails : (e : LayoutError) (all : Children) (ls : List (Lay ℕ)) (ws : List Wanted) (w : Wanted) (rest : List Wanted) → all ≡ so_far ls (all_built ws) → ws ≡ w ∷ rest → Fails e (wanted_built w) → Fails e all
+so_far_fails e all ls ws w rest is next h = fails_by e (wanted_built w) all (λ x made. is ∙ rw (next, made) refl) h
+
+pub first_depth : (ws : List Wanted) (w : Wanted) (rest : List Wanted) (deep : ℕ) → wanted_depths ws ≤ deep → ws ≡ w ∷ rest → one_depth w.child ≤ deep
+first_depth [] w rest deep le next = absurd (cc next)
+first_depth (x ∷ xs) w rest deep le next = let same : w ≡ x = cc next in rw same (omega (arith, le))
+
+pub rest_depth : (ws : List Wanted) (w : Wanted) (rest : List Wanted) (deep : ℕ) → wanted_depths ws ≤ deep → ws ≡ w ∷ rest → wanted_depths rest ≤ deep
+rest_depth [] w rest deep le next = absurd (cc next)
+rest_depth (x ∷ xs) w rest deep le next = let same : rest ≡ xs = cc next in rw same (omega (arith, le))
+
+pub ruleset all_rules = (so_far_none, so_far_all, so_far_built, so_far_fails, first_depth, rest_depth, map_push)
+
+-- ---- one child
+
+pub wanted_fails : (e : LayoutError) (w : Wanted) → Fails e (one_built w.child (ty w.dtype)) → Fails e (wanted_built w)
+wanted_fails e w h = fails_by e (one_built w.child (ty w.dtype)) (wanted_built w) (λ x made. rw made refl) h
+
+pub wanted_rows_fail : (e : LayoutError) (w : Wanted) (l : Lay ℕ) → one_built w.child (ty w.dtype) ≡ Ok l → Fails e (rows_ruled w.rows (row_count l)) → Fails e (wanted_built w)
+wanted_rows_fail e w l is h = fails_by e (rows_ruled w.rows (row_count l)) (wanted_built w) (λ x made. rw (is, made) refl) h
+
+pub wanted_is : (w : Wanted) (l : Lay ℕ) → one_built w.child (ty w.dtype) ≡ Ok l → rows_ruled w.rows (row_count l) ≡ Ok tt → wanted_built w ≡ Ok l
+wanted_is w l is rows = rw (is, rows) refl
+
+pub ruleset wanted_rules = (wanted_fails, wanted_rows_fail, wanted_is)

@@ -1,0 +1,104 @@
+-- A child of children by themselves.
+use Rattle.std.proofs.Common.{◌≡◌, ◌↔◌, ℕ, zero, suc, ◌+◌, ◌<◌, ◌≤◌, Bool, true, false, IsTrue, List, [], ◌∷◌, length, get_or, map, Option, Some, None, Result, Ok, Err, refl, sym, ◌∙◌, ap, arith}
+use Rattle.std.proofs.lemmas.List.{length-map}
+use Rattle.vx_model.specs.Ty.{Ty, ty_eq}
+use Rattle.vx_tree.specs.Refusal.{slot_range, child_type}
+use Rattle.vx_tree.specs.LayoutTree.{Kind, flat_kind, chunked_kind, struct_kind, list_kind, dict_kind, zoned_kind, unread_zoned_kind, stats_kind, foreign_kind, refused_kind, Lay, layout_kind, layout_type}
+use Rattle.vx_layout_bytes.specs.declared.node.RawNode.{RawNode, out-RawNode}
+use Rattle.vx_layout_bytes.specs.Node.{Node, nodes_of}
+use Rattle.vx_layout_bytes.specs.Views.{raw}
+use Rattle.vx_layout_bytes.proofs.Nodes.{raw_is}
+use Rattle.vx_session.specs.Scope.{Scope}
+use Rattle.vx_session.specs.Made.{Made, Kid, kid_at, built_kid, child_at}
+use Rattle.vx_session.specs.Builder.{kids, own_of, builder, is_flat_node, kid_of}
+use Rattle.vx_kinds.specs.declared.kind.LayoutKind.TheVariants as kinds
+use Rattle.vx_kinds.specs.declared.layout.Layout.{Layout}
+use Rattle.vx_kinds.specs.LayoutView.{lay}
+use Rattle.vx_kinds.specs.KidsView.{is_flat_kind, owned_kid, owned_kids}
+use Rattle.vx_kinds.specs.Children.{kind_name}
+use Rattle.vx_layout_build.specs.Asked.{is_flat_at}
+use Rattle.vx_kinds.proofs.KidSteps.{length-owned, length-kids}
+
+-- ---- past the last
+
+past : (ks : List Kid) (i : ℕ) → length ks ≤ i → kid_at ks i ≡ None
+past [] i le = refl
+past (k ∷ ks) zero le = absurd (omega (arith, le))
+past (k ∷ ks) (suc i) le = past ks i (omega (arith, le))
+
+pub none_at : (ks : List Kid) (i : ℕ) (t : Ty) → length ks ≤ i → child_at ks i t ≡ Err (slot_range i (length ks))
+none_at ks i t le = rw (past ks i le) refl
+
+pub ruleset place_rules = (none_at, length-owned, length-kids, length-map)
+
+-- ---- a layout that is kept
+
+owned_at : (ls : List Layout) (i : ℕ) (l : Layout) → i < length ls → l ≡ get_or ls i l → kid_at (owned_kids (map lay ls)) i ≡ Some (owned_kid (lay l))
+owned_at [] i l lt is = absurd (omega (arith, lt))
+owned_at (x ∷ ls) zero l lt is = rw (← is) refl
+owned_at (x ∷ ls) (suc i) l lt is = owned_at ls i l (omega (arith, lt)) is
+
+pub kept_same : (ls : List Layout) (i : ℕ) (l : Layout) (t : Ty) → i < length ls → l ≡ get_or ls i l → ty_eq (layout_type (lay l)) t ≡ true → child_at (owned_kids (map lay ls)) i t ≡ Ok (lay l)
+kept_same ls i l t lt is same = rw (owned_at ls i l lt is, same) refl
+
+pub kept_other : (ls : List Layout) (i : ℕ) (l : Layout) (t : Ty) → i < length ls → l ≡ get_or ls i l → ty_eq (layout_type (lay l)) t ≡ false
+    → child_at (owned_kids (map lay ls)) i t ≡ Err (child_type (layout_type (lay l)) t)
+kept_other ls i l t lt is other = rw (owned_at ls i l lt is, other) refl
+
+pub ruleset kept_rules = (kept_same, kept_other, length-map)
+
+-- ---- a node
+
+viewed_at : (s : Scope) (ns : List RawNode) (i : ℕ) (n : RawNode) → i < length ns → n ≡ get_or ns i n
+    → kid_at (kids s (nodes_of (map raw ns))) i ≡ Some (kid_of s (own_of (raw n)) (builder s (raw n)))
+viewed_at s [] i n lt is = absurd (omega (arith, lt))
+viewed_at s (x ∷ ns) zero n lt is = rw (← is) refl
+viewed_at s (x ∷ ns) (suc i) n lt is = viewed_at s ns i n (omega (arith, lt)) is
+
+pub node_is : (s : Scope) (ns : List RawNode) (i : ℕ) (n copy : RawNode) (t : Ty) → i < length ns → n ≡ get_or ns i n → raw copy ≡ raw n
+    → builder s (raw copy) t ≡ child_at (kids s (nodes_of (map raw ns))) i t
+node_is s ns i n copy t lt is same = rw (viewed_at s ns i n lt is, same) refl
+
+pub ruleset viewed_rules = (node_is, length-kids, length-map)
+
+-- ---- whether it is flat
+
+flat_named : (b : Bool) (k : Kind) → IsTrue b ↔ (kind_name k ≡ kinds.Flat) → b ≡ is_flat_kind k
+flat_named true (flat_kind e tree) is = refl
+flat_named true chunked_kind is = let h : kinds.Chunked ≡ kinds.Flat = is.0 refl in cc h
+flat_named true struct_kind is = let h : kinds.Struct ≡ kinds.Flat = is.0 refl in cc h
+flat_named true list_kind is = let h : kinds.List ≡ kinds.Flat = is.0 refl in cc h
+flat_named true (dict_kind all) is = let h : kinds.Dict ≡ kinds.Flat = is.0 refl in cc h
+flat_named true (zoned_kind z ss) is = let h : kinds.Zoned ≡ kinds.Flat = is.0 refl in cc h
+flat_named true (unread_zoned_kind m) is = let h : kinds.Zoned ≡ kinds.Flat = is.0 refl in cc h
+flat_named true (stats_kind z ss) is = let h : kinds.LegacyStats ≡ kinds.Flat = is.0 refl in cc h
+flat_named true (foreign_kind id m) is = let h : kinds.Foreign ≡ kinds.Flat = is.0 refl in cc h
+flat_named true (refused_kind f r) is = let h : kinds.Foreign ≡ kinds.Flat = is.0 refl in cc h
+flat_named false (flat_kind e tree) is = is.1 refl
+flat_named false chunked_kind is = refl
+flat_named false struct_kind is = refl
+flat_named false list_kind is = refl
+flat_named false (dict_kind all) is = refl
+flat_named false (zoned_kind z ss) is = refl
+flat_named false (unread_zoned_kind m) is = refl
+flat_named false (stats_kind z ss) is = refl
+flat_named false (foreign_kind id m) is = refl
+flat_named false (refused_kind f r) is = refl
+
+is_flat_of : (ks : List Kid) (i : ℕ) (k : Kid) → kid_at ks i ≡ Some k → is_flat_at ks i ≡ k.is_flat
+is_flat_of [] i k is = cc is
+is_flat_of (x ∷ ks) zero k is = let h : x ≡ k = cc is in rw h refl
+is_flat_of (x ∷ ks) (suc i) k is = is_flat_of ks i k is
+
+pub kept_flat : (ls : List Layout) (i : ℕ) (l : Layout) (b : Bool) → i < length ls → l ≡ get_or ls i l → IsTrue b ↔ (kind_name (layout_kind (lay l)) ≡ kinds.Flat) → b ≡ is_flat_at (owned_kids (map lay ls)) i
+kept_flat ls i l b lt is named = flat_named b (layout_kind (lay l)) named ∙ sym (is_flat_of (owned_kids (map lay ls)) i (owned_kid (lay l)) (owned_at ls i l lt is))
+
+pub node_flat : (s : Scope) (ns : List RawNode) (i : ℕ) (n : RawNode) → i < length ns → n ≡ get_or ns i n → is_flat_node s (own_of (raw n)) ≡ is_flat_at (kids s (nodes_of (map raw ns))) i
+node_flat s ns i n lt is = sym (is_flat_of (kids s (nodes_of (map raw ns))) i (kid_of s (own_of (raw n)) (builder s (raw n))) (viewed_at s ns i n lt is))
+
+pub ruleset flat_rules = (kept_flat, node_flat, length-owned, length-kids, length-map)
+
+pub index_is : (n : RawNode) → (own_of (raw n)).index ≡ (out-RawNode n).index
+index_is n = rw (raw_is n) refl
+
+pub ruleset flat_node_rules = (index_is)

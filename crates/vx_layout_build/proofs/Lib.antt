@@ -1,0 +1,9 @@
+pub mod PartSteps
+pub mod AskedSteps
+pub mod KeptSteps
+pub mod ForeignSteps
+pub mod OpenSteps
+pub mod BuildSteps
+pub mod PresentSteps
+pub mod ChildSteps
+pub mod TreeSteps

@@ -1,0 +1,21 @@
+use Rattle.std.proofs.Common.{◌<◌, ◌∙◌, length, map, arith}
+use Rattle.std.proofs.lemmas.List.{length-map}
+use Rattle.vx_layout_bytes.specs.Views.{raw}
+use Rattle.vx_session.specs.Views.{scope_of}
+use Rattle.vx_kinds.specs.LayoutView.{lay}
+use Rattle.vx_kinds.proofs.KidSteps.{length-owned, length-kids}
+use Rattle.vx_layout_build.proofs.ChildSteps.{kept_flat, node_flat}
+use Rattle.vx_layout_build.proofs.children.LayoutChildren.child_is_indivisible.Goals as goal
+
+pub returns-in-Owned : goal.returns-in-Owned
+returns-in-Owned c =
+    let ls = c.in-Owned.layouts.items in
+    let lt : c.args.index < length ls = omega (arith, rw c.in-Owned.is at c.requires, length-owned (map lay ls), length-map ls lay) in
+    rw c.in-Owned.is (kept_flat ls c.args.index c.index.result.now _ lt c.index.ensures c.is_indivisible.ensures)
+
+pub returns-in-Viewed : goal.returns-in-Viewed
+returns-in-Viewed c =
+    let ns = c.in-Viewed.viewed.nodes.items in
+    let s = scope_of c.in-Viewed.viewed.scope.value in
+    let lt : c.args.index < length ns = omega (arith, rw c.in-Viewed.is at c.requires, length-kids s (map raw ns), length-map ns raw) in
+    rw c.in-Viewed.is (c.is_flat_in.ensures ∙ rw c.deref.ensures (node_flat s ns c.args.index c.index-in-Viewed.result.now lt c.index-in-Viewed.ensures))

@@ -1,0 +1,191 @@
+//! Building layouts from nodes of bytes, and from parts.
+
+ghost use Rattle.std.specs.Prelude.{◌≡◌, ◌+◌, length, IfOk};
+ghost use Rattle.vx_model.specs.TyView.{ty};
+ghost use Rattle.vx_layout_bytes.specs.Values.{depth};
+ghost use Rattle.vx_layout_bytes.specs.Views.{raw};
+ghost use Rattle.vx_session.specs.Views.{scope_of, context as context_of};
+ghost use Rattle.vx_session.specs.Builder.{builder, build_foreign as foreign_built, node_parts, own_of};
+ghost use Rattle.vx_session.specs.Kinds.{build_kind as kind_built};
+ghost use Rattle.vx_kinds.specs.KidsView.{owned_kid};
+ghost use Rattle.vx_kinds.specs.LayoutView.{lay};
+ghost use Rattle.vx_layout_build.specs.NodeKind.{node_kind, the_kind};
+ghost use Rattle.vx_layout_build.specs.OpenView.{open_made, fits, all_built, wanted_built};
+ghost use Rattle.vx_layout_build.specs.PartsView.{parts_of, one_built, children_depth};
+ghost use Rattle.vx_kinds.specs.Views.{Gives, all_lays};
+
+use crate::alone::{build_chunked, build_flat, build_struct};
+use crate::foreign_nodes::{build_foreign, segment_ids};
+use crate::one_child::OneChild;
+use crate::open::{Open, Wanted, with_built};
+use crate::opened::{open_dict, open_list, open_stats, open_zoned};
+use std::alloc::{AllocError, Global};
+use std::rc::Rc;
+use vx_kinds::{Layout, LayoutChildren, LayoutError, LayoutParts, ViewedChildren};
+use vx_layout_bytes::RawNode;
+use vx_model::{Blob, DType};
+use vx_session::{LayoutBuildContext, LayoutEncoding, Scope};
+
+/// The layout that the node is at the type.
+#[cycle(build)]
+#[tactic(none)]
+pub fn build_node(
+    alloc: Global,
+    scope: &Rc<Scope>,
+    dtype: &DType,
+    node: RawNode,
+) -> Result<Layout, LayoutError>
+    ensures { Gives lay result (builder (scope_of scope.now.value) (raw node) (ty dtype.now)) }
+{
+    let kind = kind_of_node(scope, node.index)?;
+    match kind {
+        Some(kind) => {
+            let within = context_in(scope);
+            let (parts, metadata) = parts_of_node(alloc, scope, dtype, node)?;
+            build_kind(alloc, kind, within, parts, metadata.as_slice())
+        }
+        None => foreign_node(alloc, scope, dtype, node),
+    }
+}
+
+/// The kind that the scope registers for the index. None where it registers none, and such nodes are kept.
+#[tactic(auto, using(crate::proofs::BuildSteps::found_rules))]
+fn kind_of_node(scope: &Rc<Scope>, index: u16) -> Result<Option<LayoutEncoding>, LayoutError>
+    ensures { Gives the_kind result (node_kind (scope_of scope.now.value) index) }
+{
+    let Some(id) = scope.ids.id(index) else {
+        return Err(LayoutError::UnknownIndex(index));
+    };
+    match scope.registry.find(id.as_str()) {
+        Some(kind) => Ok(Some(kind)),
+        None => {
+            if scope.allow_unknown {
+                Ok(None)
+            } else {
+                Err(LayoutError::Unregistered(id.clone()?))
+            }
+        }
+    }
+}
+
+fn context_in(scope: &Rc<Scope>) -> &LayoutBuildContext
+    ensures { context_of result.now ≡ (scope_of scope.now.value).context }
+{
+    &scope.context
+}
+
+fn foreign_node(
+    alloc: Global,
+    scope: &Rc<Scope>,
+    dtype: &DType,
+    node: RawNode,
+) -> Result<Layout, LayoutError>
+    ensures { Gives lay result (foreign_built (scope_of scope.now.value).ids (raw node) (ty dtype.now)) }
+{
+    build_foreign(alloc, &scope.ids, dtype, &node)
+}
+
+/// The parts of a layout that is built of the node, and its metadata.
+#[tactic(auto, using(crate::proofs::BuildSteps::parts_rules))]
+fn parts_of_node(
+    alloc: Global,
+    scope: &Rc<Scope>,
+    dtype: &DType,
+    node: RawNode,
+) -> Result<(LayoutParts, Blob), AllocError>
+    ensures { IfOk result (λ p. (parts_of p.0 ≡ node_parts (scope_of scope.now.value) (ty dtype.now) (raw node)) × (p.1 ≡ (own_of (raw node)).metadata) × (children_depth p.0.children + 1 ≡ depth (raw node))) }
+{
+    let segment_ids = segment_ids(alloc, &node.segments)?;
+    let dtype = dtype.clone()?;
+    let scope = scope.clone()?;
+    let parts = LayoutParts {
+        dtype,
+        row_count: node.rows,
+        segment_ids,
+        children: LayoutChildren::Viewed(ViewedChildren::new(scope, node.children)),
+    };
+    Ok((parts, node.metadata))
+}
+
+/// What the kind builds of the parts.
+#[cycle(build)]
+#[tactic(none)]
+pub(crate) fn build_kind(
+    alloc: Global,
+    kind: LayoutEncoding,
+    within: &LayoutBuildContext,
+    parts: LayoutParts,
+    metadata: &[u8],
+) -> Result<Layout, LayoutError>
+    ensures { Gives lay result (kind_built kind (context_of within.now) (parts_of parts) metadata.now) }
+{
+    match kind {
+        LayoutEncoding::Flat => build_flat(alloc, within, parts, metadata),
+        LayoutEncoding::Chunked => build_chunked(alloc, parts, metadata),
+        LayoutEncoding::Struct => build_struct(alloc, parts, metadata),
+        LayoutEncoding::List => build_open(alloc, open_list(alloc, parts, metadata)?),
+        LayoutEncoding::Dict => build_open(alloc, open_dict(alloc, parts, metadata)?),
+        LayoutEncoding::Zoned => build_open(alloc, open_zoned(alloc, within, parts, metadata)?),
+        LayoutEncoding::LegacyStats => build_open(alloc, open_stats(alloc, parts, metadata)?),
+    }
+}
+
+/// The layout with its children.
+#[cycle(build)]
+#[tactic(none)]
+fn build_open(alloc: Global, frame: Open) -> Result<Layout, LayoutError>
+    requires { fits frame.frame (length frame.wanted.items) }
+    ensures { Gives lay result (open_made frame) }
+{
+    let Open { frame, wanted } = frame;
+    let children = build_all(alloc, wanted)?;
+    Ok(with_built(alloc, frame, children))
+}
+
+#[cycle(build)]
+#[tactic(none)]
+fn build_all(alloc: Global, wanted: Vec<Wanted>) -> Result<Vec<Layout>, LayoutError>
+    ensures { Gives all_lays result (all_built wanted.items) }
+{
+    let mut layouts = Vec::with_capacity(alloc, wanted.len())?;
+    for child in wanted {
+        layouts.push(build_wanted(alloc, child)?)?;
+    }
+    Ok(layouts)
+}
+
+#[cycle(build)]
+#[tactic(none)]
+fn build_wanted(alloc: Global, wanted: Wanted) -> Result<Layout, LayoutError>
+    ensures { Gives lay result (wanted_built wanted) }
+{
+    let Wanted { child, dtype, rows } = wanted;
+    let layout = build_one(alloc, child, &dtype)?;
+    rows.check(layout.row_count())?;
+    Ok(layout)
+}
+
+#[cycle(build)]
+#[tactic(none)]
+fn build_one(alloc: Global, child: OneChild, dtype: &DType) -> Result<Layout, LayoutError>
+    ensures { Gives lay result (one_built child (ty dtype.now)) }
+{
+    match child {
+        OneChild::Kept(layout) => kept_as(layout, dtype),
+        OneChild::Node(scope, node) => build_node(alloc, &scope, dtype, node),
+    }
+}
+
+/// The layout, where it is of the type.
+fn kept_as(layout: Layout, dtype: &DType) -> Result<Layout, LayoutError>
+    ensures { Gives lay result ((owned_kid (lay layout)).build (ty dtype.now)) }
+{
+    if layout.dtype() == dtype {
+        Ok(layout)
+    } else {
+        Err(LayoutError::ChildType {
+            has: layout.dtype().clone()?,
+            needs: dtype.clone()?,
+        })
+    }
+}

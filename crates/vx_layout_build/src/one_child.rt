@@ -1,0 +1,107 @@
+//! Children taken out one by one.
+
+ghost use Rattle.std.specs.Prelude.{◌≡◌, ◌≢◌, ◌≤◌, [], ◌∷◌, length, map, MatchOption, MatchResult};
+ghost use Rattle.vx_session.specs.Made.{has_children as children_needed};
+ghost use Rattle.vx_kinds.specs.KidsView.{layout_kids};
+ghost use Rattle.vx_layout_build.specs.PartsView.{one_kid, one_depth, children_depth};
+ghost use Rattle.vx_kinds.specs.Views.{Fails};
+
+use std::rc::Rc;
+use vx_kinds::{Layout, LayoutChildren, LayoutError};
+use vx_layout_bytes::RawNode;
+use vx_session::Scope;
+
+/// A child by itself.
+#[derive(Drop)]
+pub(crate) enum OneChild {
+    Kept(Layout),
+    Node(Rc<Scope>, RawNode),
+}
+
+/// Both children, where there are two.
+#[tactic(auto, using(crate::proofs::PartSteps::two_rules))]
+pub(crate) fn two(children: LayoutChildren) -> Result<(OneChild, OneChild), LayoutError>
+    ensures { MatchResult result
+        (λ p. (layout_kids children ≡ one_kid p.0 ∷ one_kid p.1 ∷ []) × (one_depth p.0 ≤ children_depth children) × (one_depth p.1 ≤ children_depth children))
+        (λ e. Fails e (children_needed 2 (layout_kids children))) }
+{
+    let has = children.nchildren();
+    match children {
+        LayoutChildren::Owned(layouts) => match take_two(layouts) {
+            Some((first, second)) => Ok((OneChild::Kept(first), OneChild::Kept(second))),
+            None => Err(LayoutError::ChildCount { has, needs: 2 }),
+        },
+        LayoutChildren::Viewed(viewed) => {
+            let (scope, nodes) = viewed.into_parts();
+            match take_two(nodes) {
+                Some((first, second)) => {
+                    let same = scope.clone()?;
+                    Ok((OneChild::Node(same, first), OneChild::Node(scope, second)))
+                }
+                None => Err(LayoutError::ChildCount { has, needs: 2 }),
+            }
+        }
+    }
+}
+
+/// All children, where there are three.
+#[tactic(auto, using(crate::proofs::PartSteps::three_rules))]
+pub(crate) fn three(children: LayoutChildren) -> Result<(OneChild, OneChild, OneChild), LayoutError>
+    ensures { MatchResult result
+        (λ p. (layout_kids children ≡ one_kid p.0 ∷ one_kid p.1 ∷ one_kid p.2 ∷ []) × (one_depth p.0 ≤ children_depth children) × (one_depth p.1 ≤ children_depth children) × (one_depth p.2 ≤ children_depth children))
+        (λ e. Fails e (children_needed 3 (layout_kids children))) }
+{
+    let has = children.nchildren();
+    match children {
+        LayoutChildren::Owned(layouts) => match take_three(layouts) {
+            Some((first, second, third)) => Ok((
+                OneChild::Kept(first),
+                OneChild::Kept(second),
+                OneChild::Kept(third),
+            )),
+            None => Err(LayoutError::ChildCount { has, needs: 3 }),
+        },
+        LayoutChildren::Viewed(viewed) => {
+            let (scope, nodes) = viewed.into_parts();
+            match take_three(nodes) {
+                Some((first, second, third)) => {
+                    let same = scope.clone()?;
+                    let again = scope.clone()?;
+                    Ok((
+                        OneChild::Node(same, first),
+                        OneChild::Node(again, second),
+                        OneChild::Node(scope, third),
+                    ))
+                }
+                None => Err(LayoutError::ChildCount { has, needs: 3 }),
+            }
+        }
+    }
+}
+
+#[tactic(auto, using(crate::proofs::PartSteps::pop_rules))]
+fn take_two<T: Drop>(items: Vec<T>) -> Option<(T, T)>
+    ensures { MatchOption result (length items.items ≢ 2) (λ p. items.items ≡ p.0 ∷ p.1 ∷ []) }
+{
+    let mut items = items;
+    if items.len() != 2 {
+        return None;
+    }
+    let second = items.pop()?;
+    let first = items.pop()?;
+    Some((first, second))
+}
+
+#[tactic(auto, using(crate::proofs::PartSteps::pop_rules))]
+fn take_three<T: Drop>(items: Vec<T>) -> Option<(T, T, T)>
+    ensures { MatchOption result (length items.items ≢ 3) (λ p. items.items ≡ p.0 ∷ p.1 ∷ p.2 ∷ []) }
+{
+    let mut items = items;
+    if items.len() != 3 {
+        return None;
+    }
+    let third = items.pop()?;
+    let second = items.pop()?;
+    let first = items.pop()?;
+    Some((first, second, third))
+}

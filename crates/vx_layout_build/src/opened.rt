@@ -1,0 +1,244 @@
+//! Kinds that are built of their children: what is refused before them, and what is wanted.
+
+ghost use Rattle.std.specs.Prelude.{◌≡◌, ◌≤◌, ◌<◌, ◌^◌, false, ◌+◌, length, map, Some, None, IfSome, MatchResult};
+ghost use Rattle.vx_aggregate.specs.AggregateView.{aggregate};
+ghost use Rattle.vx_model.specs.Ty.{Ty, primitive};
+ghost use Rattle.vx_model.specs.TyView.{ty};
+ghost use Rattle.vx_session.specs.Aggregates.{all_named};
+ghost use Rattle.vx_session.specs.Views.{context as context_of};
+ghost use Rattle.vx_session.specs.Kinds.{build_list as list_built, element_type as type_of_elements, build_dict as dict_built, build_stats as stats_built, build_zoned as zoned_built, build_zones as zones_built};
+ghost use Rattle.vx_kinds.specs.declared.error.LayoutError.TheVariants.{OutOfMemory};
+ghost use Rattle.vx_kinds.specs.KidsView.{layout_kids};
+ghost use Rattle.vx_kinds.specs.Made.{validity_count};
+ghost use Rattle.vx_layout_build.specs.OpenView.{Opens, list_kids, column_kids, column_made, all_built, wanted_depths};
+ghost use Rattle.vx_layout_build.specs.PartsView.{parts_of, children_depth};
+ghost use Rattle.vx_kinds.specs.Views.{Fails};
+
+use crate::checks::{
+    dict_metadata, has_children, has_rows, known_aggregates, list_metadata, stats_metadata,
+    zoned_metadata,
+};
+use crate::one_child::two;
+use crate::open::{Frame, Open, RowsRule, Wanted, pair_of, standing, triple_of};
+use std::alloc::Global;
+use vx_aggregate::{AggregateFn, aggregate_stats_table_dtype, legacy_stats_table_dtype};
+use vx_kinds::{LayoutChildren, LayoutError, LayoutHead, LayoutParts, ZonedLayout};
+use vx_metadata::DictLayoutMetadata;
+use vx_model::{Blob, DType, Nullability, PType};
+use vx_session::LayoutBuildContext;
+
+#[tactic(auto, using(crate::proofs::OpenSteps::dict_rules))]
+pub(crate) fn open_dict(
+    alloc: Global,
+    parts: LayoutParts,
+    metadata: &[u8],
+) -> Result<Open, LayoutError>
+    ensures { Opens result (dict_built (parts_of parts) metadata.now) (children_depth parts.children) }
+{
+    let dict = dict_metadata(alloc, metadata)?;
+    let values = parts.dtype.clone()?;
+    let rows = RowsRule::Same(parts.row_count);
+    let wanted = pair_of(alloc, parts.children, values, codes_type(&dict), rows)?;
+    let head = LayoutHead {
+        row_count: parts.row_count,
+        dtype: parts.dtype,
+        segment_ids: parts.segment_ids,
+    };
+    let frame = Frame::Dict(head, dict.all_values_referenced);
+    Ok(Open { frame, wanted })
+}
+
+fn codes_type(dict: &DictLayoutMetadata) -> DType
+    ensures { ty result ≡ primitive dict.now.codes_ptype dict.now.is_nullable_codes }
+{
+    let nullability = if dict.is_nullable_codes {
+        Nullability::Nullable
+    } else {
+        Nullability::NonNullable
+    };
+    DType::Primitive(dict.codes_ptype, nullability)
+}
+
+#[tactic(auto, using(crate::proofs::OpenSteps::stats_rules))]
+pub(crate) fn open_stats(
+    alloc: Global,
+    parts: LayoutParts,
+    metadata: &[u8],
+) -> Result<Open, LayoutError>
+    ensures { Opens result (stats_built (parts_of parts) metadata.now) (children_depth parts.children) }
+{
+    let stats = stats_metadata(alloc, metadata)?;
+    let column = parts.dtype.clone()?;
+    let table = legacy_stats_table_dtype(alloc, &parts.dtype, stats.stats())?;
+    let wanted = pair_of(alloc, parts.children, column, table, RowsRule::Any)?;
+    let kept = Vec::from_slice(alloc, stats.stats())?;
+    let head = LayoutHead {
+        row_count: parts.row_count,
+        dtype: parts.dtype,
+        segment_ids: parts.segment_ids,
+    };
+    let frame = Frame::LegacyStats(head, stats.zone_len(), kept);
+    Ok(Open { frame, wanted })
+}
+
+#[tactic(auto, using(crate::proofs::OpenSteps::list_rules))]
+pub(crate) fn open_list(
+    alloc: Global,
+    parts: LayoutParts,
+    metadata: &[u8],
+) -> Result<Open, LayoutError>
+    ensures { Opens result (list_built (parts_of parts) metadata.now) (children_depth parts.children) }
+{
+    let offsets = list_metadata(alloc, metadata)?;
+    if !parts.dtype.is_list() {
+        return Err(LayoutError::NotAList);
+    }
+    let ends = offsets_type(offsets.offsets_ptype);
+    let wanted = list_children(alloc, parts.children, &parts.dtype, ends, parts.row_count)?;
+    let frame = Frame::List(LayoutHead {
+        row_count: parts.row_count,
+        dtype: parts.dtype,
+        segment_ids: parts.segment_ids,
+    });
+    Ok(Open { frame, wanted })
+}
+
+#[tactic(auto, using(vx_model::proofs::Views::view_rules))]
+fn offsets_type(ptype: PType) -> DType
+    ensures { ty result ≡ primitive ptype false }
+{
+    DType::Primitive(ptype, Nullability::NonNullable)
+}
+
+fn list_children(
+    alloc: Global,
+    children: LayoutChildren,
+    dtype: &DType,
+    ends: DType,
+    rows: u64,
+) -> Result<Vec<Wanted>, LayoutError>
+    ensures { MatchResult result
+        (λ v. (list_kids (layout_kids children) (ty dtype.now) (ty ends) rows ≡ all_built v.items) × (wanted_depths v.items ≤ children_depth children) × (length v.items ≡ 2 + validity_count (ty dtype.now)))
+        (λ e. Fails e (list_kids (layout_kids children) (ty dtype.now) (ty ends) rows)) }
+{
+    let elements = element_type(dtype).clone()?;
+    if dtype.is_nullable() {
+        triple_of(alloc, children, elements, ends, rows)
+    } else {
+        pair_of(alloc, children, elements, ends, RowsRule::OneMore(rows))
+    }
+}
+
+/// The type of a list's elements; another type itself.
+#[tactic(auto, using(vx_model::proofs::Views::view_rules))]
+fn element_type(dtype: &DType) -> &DType
+    ensures { ty result.now ≡ type_of_elements (ty dtype.now) }
+{
+    match dtype {
+        DType::List(items, _) => items,
+        DType::Bool(_) | DType::Primitive(..) | DType::Utf8(_) | DType::Binary(_) => dtype,
+        DType::Struct(..) | DType::Extension(_) => dtype,
+    }
+}
+
+#[tactic(auto, using(crate::proofs::OpenSteps::zoned_rules))]
+pub(crate) fn open_zoned(
+    alloc: Global,
+    within: &LayoutBuildContext,
+    parts: LayoutParts,
+    metadata: &[u8],
+) -> Result<Open, LayoutError>
+    ensures { Opens result (zoned_built (context_of within.now) (parts_of parts) metadata.now) (children_depth parts.children) }
+{
+    let zoned = zoned_metadata(alloc, metadata)?;
+    has_children(&parts.children, 2)?;
+    has_rows(parts.children.child_row_count(0) as u128, parts.row_count)?;
+    let aggregates = known_aggregates(alloc, within, &zoned.specs)?;
+    open_zones(alloc, parts, metadata, zoned.zone_len, aggregates)
+}
+
+/// Zones of a table of the aggregates, where all are known.
+fn open_zones(
+    alloc: Global,
+    parts: LayoutParts,
+    metadata: &[u8],
+    zone_len: u32,
+    aggregates: Option<Vec<AggregateFn>>,
+) -> Result<Open, LayoutError>
+    requires count { length (layout_kids parts.children) ≡ 2 }
+    requires few { IfSome aggregates (λ v. length v.items < 2 ^ 32) }
+    ensures { Opens result (zones_built (parts_of parts) metadata.now zone_len (all_named aggregates)) (children_depth parts.children) }
+{
+    match aggregates {
+        Some(aggregates) => open_table(alloc, parts, metadata, zone_len, aggregates),
+        None => open_unread(alloc, parts, metadata, zone_len),
+    }
+}
+
+/// Zones of a table of the aggregates.
+#[tactic(auto, using(crate::proofs::OpenSteps::table_rules))]
+fn open_table(
+    alloc: Global,
+    parts: LayoutParts,
+    metadata: &[u8],
+    zone_len: u32,
+    aggregates: Vec<AggregateFn>,
+) -> Result<Open, LayoutError>
+    requires count { length (layout_kids parts.children) ≡ 2 }
+    requires few { length aggregates.items < 2 ^ 32 }
+    ensures { Opens result (zones_built (parts_of parts) metadata.now zone_len (Some (map aggregate aggregates.items))) (children_depth parts.children) }
+{
+    let _ = metadata;
+    let column = parts.dtype.clone()?;
+    let table = aggregate_stats_table_dtype(alloc, &parts.dtype, &aggregates)?;
+    let wanted = pair_of(alloc, parts.children, column, table, RowsRule::Any)?;
+    let head = LayoutHead {
+        row_count: parts.row_count,
+        dtype: parts.dtype,
+        segment_ids: parts.segment_ids,
+    };
+    let frame = Frame::Zoned(head, zone_len, aggregates);
+    Ok(Open { frame, wanted })
+}
+
+/// Zones of a table that isn't read: only the column is built.
+#[tactic(auto, using(crate::proofs::OpenSteps::unread_rules))]
+fn open_unread(
+    alloc: Global,
+    parts: LayoutParts,
+    metadata: &[u8],
+    zone_len: u32,
+) -> Result<Open, LayoutError>
+    requires { length (layout_kids parts.children) ≡ 2 }
+    ensures { Opens result (zones_built (parts_of parts) metadata.now zone_len None) (children_depth parts.children) }
+{
+    let _ = zone_len;
+    let metadata = Blob::from_slice(alloc, metadata)?;
+    let column_type = parts.dtype.clone()?;
+    let (wanted, zones) = column_of(alloc, parts.children, column_type)?;
+    let head = LayoutHead {
+        row_count: parts.row_count,
+        dtype: parts.dtype,
+        segment_ids: parts.segment_ids,
+    };
+    let frame = Frame::Unread(head, metadata, zones);
+    Ok(Open { frame, wanted })
+}
+
+/// The first child, which is to be built, and the second as it stands.
+#[tactic(auto, using(crate::proofs::OpenSteps::column_rules))]
+fn column_of(
+    alloc: Global,
+    children: LayoutChildren,
+    dtype: DType,
+) -> Result<(Vec<Wanted>, LayoutChildren), LayoutError>
+    requires { length (layout_kids children) ≡ 2 }
+    ensures { MatchResult result
+        (λ r. ((t : Ty) → column_kids (layout_kids children) (ty dtype) t ≡ column_made r.0.items t r.1) × (wanted_depths r.0.items ≤ children_depth children))
+        (λ e. e ≡ OutOfMemory) }
+{
+    let (column, zones) = two(children)?;
+    let wanted = vec![in alloc; Wanted::new(column, dtype, RowsRule::Any)]?;
+    let zones = standing(alloc, zones)?;
+    Ok((wanted, zones))
+}

@@ -1,0 +1,2 @@
+pub mod MetadataSteps
+pub mod SlotSteps
