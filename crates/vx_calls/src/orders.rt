@@ -64,7 +64,7 @@ fn the_smaller_path_goes_first(rt: HostRuntime) {
     let mut sink = MemorySink::new(0, Vec::new(rt.alloc()));
     let mut order = LocalOrder::new(&mut sink, universe);
 
-    assert!(rt; order.is_least(&first));
+    assert!(rt; first < second && order.is_least(&first));
     let (second, smaller) = waits(&rt, &mut order, second, &[2]);
     assert_eq!(rt; smaller.as_slice(), [0, 0].as_slice());
     let receipt = written(&rt, &mut order, first, &[1]);
@@ -95,6 +95,7 @@ fn refusals_hand_the_id_back(rt: HostRuntime) {
     let below = order.descend(pointer.downgrade()).expect(&rt, "memory");
     let (id, error) = refused(&rt, &mut order, below.downgrade(), &[8]);
     assert!(rt; matches!(error, OrderError::TooLarge(4_294_967_296)));
+    assert_eq!(rt; id.path(), [1, 0].as_slice());
     order.release(id);
     assert_eq!(rt; order.into_sink().segments().len(), 1);
 }

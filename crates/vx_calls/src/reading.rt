@@ -4,7 +4,8 @@ use crate::fixtures::{chunk, context, dtype};
 use std::alloc::Global;
 use std::test::Fail;
 use vx_kinds::{FlatLayout, Layout};
-use vx_read::{SegmentMap, read_rows};
+use vx_model::{DType, Value};
+use vx_read::{ReadError, SegmentMap, read_rows};
 use vx_types::{Blob, SegmentId, encode_segment};
 
 /// A type, a count of rows and a segment's number, the bytes behind the segment 3 of 1 and 2, and what is read.
@@ -27,22 +28,33 @@ fn segments(alloc: Global, behind: &str) -> Result<SegmentMap, Fail> {
     Ok(SegmentMap { first: 3, list })
 }
 
-fn flat(alloc: Global, of: &str, rows: u64, number: u32) -> Result<Layout, Fail> {
-    let dtype = dtype(alloc, of)?;
-    Ok(Layout::Flat(FlatLayout::new(rows, dtype, SegmentId(number), context(alloc)?)))
+/// What is read of the segment of this number, as a flat layout.
+fn read(
+    alloc: Global,
+    dtype: DType,
+    rows: u64,
+    number: u32,
+    behind: &str,
+) -> Result<Result<Vec<Value>, ReadError>, Fail> {
+    let segments = segments(alloc, behind)?;
+    let layout = Layout::Flat(FlatLayout::new(rows, dtype, SegmentId(number), context(alloc)?));
+    Ok(read_rows(alloc, &layout, &segments))
 }
 
-/// What is read of a layout that the words say.
-fn told(alloc: Global, words: &str) -> Result<String, Fail> {
-    let (of, rest) = words.split_once(' ').ok_or("five words")?;
+/// What is read, by the first words of a line.
+fn told(alloc: Global, line: &str) -> Result<String, Fail> {
+    let (of, rest) = line.split_once(' ').ok_or("five words")?;
     let (rows, rest) = rest.split_once(' ').ok_or("five words")?;
     let (number, rest) = rest.split_once(' ').ok_or("five words")?;
     let (behind, _) = rest.split_once(' ').ok_or("five words")?;
-    let layout = flat(alloc, of, rows.parse()?, number.parse()?)?;
-    Ok(match read_rows(alloc, &layout, &segments(alloc, behind)?) {
-        Ok(rows) => format!(in alloc; "{} rows", rows.len())?,
-        Err(error) => format!(in alloc; "{error:?}")?,
-    })
+    let rows = rows.parse()?;
+    let number = number.parse()?;
+    Ok(
+        match read(alloc, dtype(alloc, of)?, rows, number, behind)? {
+            Ok(rows) => format!(in alloc; "{} rows", rows.len())?,
+            Err(error) => format!(in alloc; "{error:?}")?,
+        },
+    )
 }
 
 #[test]

@@ -17,15 +17,22 @@ const ROWS: &str = r#"
 {"struct": [["a", {"list": "u8", "nullable": true}]], "nullable": true} / {"struct": {"fields": [{"list": {"elements": [7, 8], "offsets": [0, 2, 2], "valid": [true, false]}}], "valid": [false, true], "rows": 2}} / {a=list(u8)?}?, rows: 2 / null [null]
 {"ext": "t", "storage": "utf8?"} / {"ext": {"chunked": [{"constant": "x", "rows": 1}, [null]]}} / ext(t, utf8?), rows: 2 / "x" null"#;
 
-/// The report of the rows that are read from the chunk's segment.
-#[tactic(auto, unfolding(vx_kinds::specs::LayoutView::lay))]
-fn printed(alloc: Global, chunk: &Chunk) -> Result<String, Fail> {
+/// The chunk's segment, as the segment 0.
+fn segments_of(alloc: Global, chunk: &Chunk) -> Result<SegmentMap, Fail> {
     let ctx = context(alloc)?;
     let segment = Blob::from(encode_segment(alloc, &ctx, chunk, true)?);
     let list = vec![in alloc; segment]?;
+    Ok(SegmentMap { first: 0, list })
+}
+
+/// The report of the rows that are read from the chunk's segment.
+#[tactic(auto, unfolding(vx_kinds::specs::LayoutView::lay))]
+fn printed(alloc: Global, chunk: &Chunk) -> Result<String, Fail> {
+    let segments = segments_of(alloc, chunk)?;
+    let ctx = context(alloc)?;
     let dtype = chunk.dtype().clone()?;
     let layout = Layout::Flat(FlatLayout::new(chunk.len(), dtype, SegmentId(0), ctx));
-    let rows = read_rows(alloc, &layout, &SegmentMap { first: 0, list })?;
+    let rows = read_rows(alloc, &layout, &segments)?;
     Ok(report(alloc, 0, &layout, &[], &rows)?)
 }
 

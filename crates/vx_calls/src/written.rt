@@ -6,8 +6,8 @@ use std::test::Fail;
 use vx_kinds::Layout;
 use vx_layout_bytes::Limits;
 use vx_layout_codec::{layout_bytes, layout_from_flatbuffer};
-use vx_model::Text;
-use vx_read::{SegmentMap, read_rows};
+use vx_model::{Nullability, PType, Text, Value};
+use vx_read::{ReadError, SegmentMap, read_rows};
 use vx_session::{LayoutContext, LayoutSession, Session};
 use vx_sink::{LayoutWriterContext, ListSource, MemorySink, PlainCompressor};
 use vx_types::{Blob, Chunk, DType};
@@ -84,30 +84,39 @@ fn ids(alloc: Global) -> Result<LayoutContext, Fail> {
     }
 }
 
-/// The layout that the bytes are, in a session of all kinds.
-fn parsed(alloc: Global, bytes: &[u8]) -> Result<Layout, Fail> {
-    let session = Session {
+/// All kinds, and no aggregates.
+fn session(alloc: Global) -> Result<Session, Fail> {
+    Ok(Session {
         layouts: LayoutSession::default(alloc)?,
         aggregates: Vec::new(alloc),
         allow_unknown: false,
-    };
-    let of = dtype(alloc, "\"i64\"")?;
+    })
+}
+
+/// The layout that the bytes are.
+fn parsed(alloc: Global, bytes: &[u8]) -> Result<Layout, Fail> {
+    let ids = ids(alloc)?;
+    let ctx = context(alloc)?;
+    let session = session(alloc)?;
+    let of = DType::Primitive(PType::I64, Nullability::NonNullable);
     let limits = Limits::default();
-    Ok(layout_from_flatbuffer(
-        alloc,
-        bytes,
-        &of,
-        &ids(alloc)?,
-        &context(alloc)?,
-        &session,
-        limits,
-    )?)
+    Ok(layout_from_flatbuffer(alloc, bytes, &of, &ids, &ctx, &session, limits)?)
+}
+
+/// What is read of the layout.
+fn read(
+    alloc: Global,
+    bytes: &str,
+    segments: &SegmentMap,
+) -> Result<Result<Vec<Value>, ReadError>, Fail> {
+    let bytes = hex::decode(alloc, bytes)?;
+    let layout = parsed(alloc, &bytes)?;
+    Ok(read_rows(alloc, &layout, segments))
 }
 
 /// The rows of the layout that the bytes are, or why there are none.
 fn told(alloc: Global, bytes: &str, segments: &SegmentMap) -> Result<String, Fail> {
-    let layout = parsed(alloc, &hex::decode(alloc, bytes)?)?;
-    Ok(match read_rows(alloc, &layout, segments) {
+    Ok(match read(alloc, bytes, segments)? {
         Ok(rows) => format!(in alloc; "{rows:?}")?,
         Err(error) => format!(in alloc; "{error:?}")?,
     })
