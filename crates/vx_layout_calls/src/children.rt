@@ -1,6 +1,6 @@
 // Children by themselves: layouts that are kept, and nodes that are built when they are asked for.
 
-use crate::layouts::{NUMBERS, TEXTS, numbers};
+use crate::layouts::{NUMBERS, TEXTS, encodings, numbers};
 use crate::sessions::scope;
 use std::alloc::Global;
 use std::rc::Rc;
@@ -9,7 +9,7 @@ use vx_layout::{LayoutChildren, RawNode, ViewedChildren, layout_children};
 use vx_model::{Blob, DType};
 
 fn kept(alloc: Global) -> Result<LayoutChildren, Fail> {
-    Ok(layout_children(vec![in alloc; numbers(alloc, 7)?]?))
+    Ok(layout_children(vec![in alloc; numbers(encodings(alloc)?, 7)]?))
 }
 
 /// A node of seven rows in a segment, of the id at the place, above these.

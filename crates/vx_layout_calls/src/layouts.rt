@@ -23,13 +23,12 @@ pub(crate) fn encodings(alloc: Global) -> Result<ArrayContext, Fail> {
 }
 
 /// So many rows of the type in the segment.
-pub(crate) fn flat(alloc: Global, rows: u64, dtype: DType, segment: u32) -> Result<Layout, Fail> {
-    let encodings = encodings(alloc)?;
-    Ok(FlatLayout::new(rows, dtype, SegmentId(segment), encodings).into_layout())
+pub(crate) fn flat(encodings: ArrayContext, rows: u64, dtype: DType, segment: u32) -> Layout {
+    FlatLayout::new(rows, dtype, SegmentId(segment), encodings).into_layout()
 }
 
-pub(crate) fn numbers(alloc: Global, rows: u64) -> Result<Layout, Fail> {
-    flat(alloc, rows, NUMBERS, 0)
+pub(crate) fn numbers(encodings: ArrayContext, rows: u64) -> Layout {
+    flat(encodings, rows, NUMBERS, 0)
 }
 
 pub(crate) fn list_of(
@@ -51,71 +50,86 @@ pub(crate) fn record_of(
     Ok(DType::Struct(StructFields { fields }, nullability))
 }
 
+/// Two layouts of so many rows.
+pub(crate) fn pair(alloc: Global, first: u64, second: u64) -> Result<Vec<Layout>, Fail> {
+    let (one, other) = (encodings(alloc)?, encodings(alloc)?);
+    Ok(vec![in alloc; numbers(one, first), numbers(other, second)]?)
+}
+
 /// Two chunks, of 3 and 4 rows.
 pub(crate) fn chunked(alloc: Global) -> Result<ChunkedLayout, Fail> {
-    let chunks = vec![in alloc; numbers(alloc, 3)?, numbers(alloc, 4)?]?;
+    let chunks = pair(alloc, 3, 4)?;
     Ok(ChunkedLayout::new(7, NUMBERS, layout_children(chunks))?)
 }
 
 /// Three rows with one field.
 pub(crate) fn fields(alloc: Global) -> Result<StructLayout, Fail> {
-    let children = vec![in alloc; numbers(alloc, 3)?]?;
+    let encodings = encodings(alloc)?;
     let dtype = record_of(alloc, NUMBERS, Nullability::NonNullable)?;
+    let children = vec![in alloc; numbers(encodings, 3)]?;
     Ok(StructLayout::new(3, dtype, children)?)
 }
 
 /// Three rows between four offsets.
 pub(crate) fn list(alloc: Global) -> Result<ListLayout, Fail> {
+    let (one, other) = (encodings(alloc)?, encodings(alloc)?);
     let dtype = list_of(alloc, NUMBERS, Nullability::NonNullable)?;
-    let elements = numbers(alloc, 5)?;
-    let offsets = numbers(alloc, 4)?;
-    Ok(ListLayout::new(alloc, dtype, elements, offsets, None)?)
+    Ok(ListLayout::new(alloc, dtype, numbers(one, 5), numbers(other, 4), None)?)
 }
 
 /// Four codes of two values.
 pub(crate) fn dict(alloc: Global) -> Result<DictLayout, Fail> {
-    let values = flat(alloc, 2, TEXTS, 0)?;
-    let codes = numbers(alloc, 4)?;
-    Ok(DictLayout::new(alloc, values, codes)?)
+    let (one, other) = (encodings(alloc)?, encodings(alloc)?);
+    Ok(DictLayout::new(alloc, flat(one, 2, TEXTS, 0), numbers(other, 4))?)
 }
 
 /// Two zones with their maxima.
 pub(crate) fn zoned(alloc: Global) -> Result<ZonedLayout, Fail> {
+    let (one, other) = (encodings(alloc)?, encodings(alloc)?);
     let maxima = vec![in alloc; AggregateFn::Max]?;
     let table = aggregate_stats_table_dtype(alloc, &NUMBERS, &maxima)?;
-    let zones = flat(alloc, 2, table, 0)?;
-    let column = numbers(alloc, 4)?;
+    let (column, zones) = (numbers(one, 4), flat(other, 2, table, 0));
     Ok(ZonedLayout::try_new(alloc, column, zones, NonZeroU32::MIN, maxima)?)
 }
 
 /// The same in an older table.
 pub(crate) fn statistics(alloc: Global) -> Result<LegacyStatsLayout, Fail> {
+    let (one, other) = (encodings(alloc)?, encodings(alloc)?);
     let maxima = vec![in alloc; Stat::Max]?;
     let table = legacy_stats_table_dtype(alloc, &NUMBERS, &maxima)?;
-    let zones = flat(alloc, 2, table, 0)?;
-    let column = numbers(alloc, 4)?;
+    let (column, zones) = (numbers(one, 4), flat(other, 2, table, 0));
     Ok(LegacyStatsLayout::new(alloc, column, zones, 2, maxima)?)
 }
 
-/// Four rows of an unknown kind above these layouts.
-pub(crate) fn foreign(alloc: Global, children: Vec<Layout>) -> Result<Layout, Fail> {
+/// The id and the metadata of an unknown kind.
+fn unknown(alloc: Global) -> Result<(Text, Blob), Fail> {
     let id = Text::from_str(alloc, "x.y")?;
-    let metadata = Blob::from_slice(alloc, &[1])?;
+    Ok((id, Blob::from_slice(alloc, &[1])?))
+}
+
+/// Four rows of an unknown kind above these layouts.
+pub(crate) fn foreign_above(alloc: Global, children: Vec<Layout>) -> Result<Layout, Fail> {
+    let (id, metadata) = unknown(alloc)?;
     let made = ForeignLayout::new(4, TEXTS, Vec::new(alloc), children, id, metadata);
     Ok(made.into_layout())
+}
+
+fn foreign(alloc: Global) -> Result<Layout, Fail> {
+    let children = vec![in alloc; flat(encodings(alloc)?, 1, TEXTS, 0)]?;
+    foreign_above(alloc, children)
 }
 
 /// The layout of the kind that has the id.
 pub(crate) fn made(alloc: Global, id: &str) -> Result<Layout, Fail> {
     match id {
-        "vortex.flat" => flat(alloc, 4, TEXTS, 0),
+        "vortex.flat" => Ok(flat(encodings(alloc)?, 4, TEXTS, 0)),
         "vortex.chunked" => Ok(chunked(alloc)?.into_layout()),
         "vortex.struct" => Ok(fields(alloc)?.into_layout()),
         "vortex.list" => Ok(list(alloc)?.into_layout()),
         "vortex.dict" => Ok(dict(alloc)?.into_layout()),
         "vortex.zoned" => Ok(zoned(alloc)?.into_layout()),
         "vortex.stats" => Ok(statistics(alloc)?.into_layout()),
-        _ => foreign(alloc, vec![in alloc; flat(alloc, 1, TEXTS, 0)?]?),
+        _ => foreign(alloc),
     }
 }
 

@@ -1,7 +1,8 @@
 // What layouts tell besides what stands in their slots, and what they are built of.
 
 use crate::layouts::{
-    NUMBERS, TEXTS, chunked, dict, encodings, fields, flat, list, made, numbers, statistics, zoned,
+    NUMBERS, TEXTS, chunked, dict, encodings, fields, flat, list, made, numbers, pair, statistics,
+    zoned,
 };
 use crate::made::told;
 use std::alloc::Global;
@@ -37,7 +38,7 @@ fn statistics_told(alloc: Global) -> Result<String, Fail> {
 
 /// Chunks with other children, of 4 and 3 rows.
 fn exchanged(alloc: Global) -> Result<Layout, Fail> {
-    let children = vec![in alloc; numbers(alloc, 4)?, numbers(alloc, 3)?]?;
+    let children = pair(alloc, 4, 3)?;
     Ok(chunked(alloc)?.with_children(children)?.into_layout())
 }
 
@@ -98,19 +99,20 @@ fn taken_as_kinds(rt: HostRuntime) -> Result<(), Fail> {
     Ok(())
 }
 
-/// The parts of four rows of a dictionary, where no aggregate is known.
+/// The parts of four rows of a dictionary.
 fn dict_parts(alloc: Global) -> Result<LayoutParts, Fail> {
-    let children = vec![in alloc; flat(alloc, 2, TEXTS, 0)?, numbers(alloc, 4)?]?;
+    let (one, other) = (encodings(alloc)?, encodings(alloc)?);
+    let children = vec![in alloc; flat(one, 2, TEXTS, 0), numbers(other, 4)]?;
     Ok(LayoutParts::new(TEXTS, 4, Vec::new(alloc), layout_children(children)))
 }
 
 /// The parts of seven rows in one chunk.
 fn chunk_parts(alloc: Global) -> Result<LayoutParts, Fail> {
-    let children = vec![in alloc; numbers(alloc, 7)?]?;
+    let children = vec![in alloc; numbers(encodings(alloc)?, 7)]?;
     Ok(LayoutParts::new(NUMBERS, 7, Vec::new(alloc), layout_children(children)))
 }
 
-/// What the kind builds of the parts.
+/// What the kind builds of the parts, where no aggregate is known.
 fn built<K: LayoutEncodingExt>(
     alloc: Global,
     kind: &K,
@@ -128,14 +130,21 @@ fn built<K: LayoutEncodingExt>(
 #[test]
 fn built_of_parts(rt: HostRuntime) -> Result<(), Fail> {
     let alloc = rt.alloc();
-    let dict = built(alloc, &LayoutEncoding::Dict, dict_parts(alloc)?, &[0, 0, 0])?;
+    let codes = &[0, 0, 0];
     assert_eq!(rt;
-        told(alloc, &dict)?.as_str(),
+        told(
+            alloc,
+            &built(alloc, &LayoutEncoding::Dict, dict_parts(alloc)?, codes)?
+        )?
+        .as_str(),
         "vortex.dict 4 2: auxiliary values None Some(0), transparent codes Some(0) Some(1),"
     );
-    let chunks = built(alloc, &LayoutEncoding::Chunked, chunk_parts(alloc)?, &[])?;
     assert_eq!(rt;
-        told(alloc, &chunks)?.as_str(),
+        told(
+            alloc,
+            &built(alloc, &LayoutEncoding::Chunked, chunk_parts(alloc)?, &[])?
+        )?
+        .as_str(),
         "vortex.chunked 7 1: chunk [0] Some(0) Some(0),"
     );
     Ok(())

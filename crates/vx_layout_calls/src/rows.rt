@@ -1,6 +1,6 @@
 // Rows of the kinds that no write makes, and the faults of segments that a caller brings.
 
-use crate::layouts::{cut, encodings, flat, foreign, list_of, record_of};
+use crate::layouts::{cut, encodings, flat, foreign_above, list_of, record_of};
 use std::alloc::Global;
 use std::num::NonZeroU32;
 use std::test::Fail;
@@ -10,7 +10,7 @@ use vx_layout::{
     DictLayout, Layout, LegacyStatsLayout, ListLayout, ReadError, SegmentMap, StructLayout,
     ZonedLayout, aggregate_stats_table_dtype, legacy_stats_table_dtype, read_rows,
 };
-use vx_model::{Blob, Cell, DType, Nullability, PType, fits};
+use vx_model::{ArrayContext, Blob, Cell, DType, Nullability, PType, fits};
 
 const MAYBE: DType = DType::Primitive(PType::I8, Nullability::Nullable);
 
@@ -70,41 +70,45 @@ fn segments(alloc: Global) -> Result<SegmentMap, Fail> {
     Ok(SegmentMap { first: 5, list })
 }
 
+fn column(encodings: ArrayContext, rows: u64, segment: u32) -> Layout {
+    flat(encodings, rows, MAYBE, segment)
+}
+
 /// Two rows, of which the second is null.
 fn fields(alloc: Global) -> Result<Layout, Fail> {
-    let children = vec![in alloc; flat(alloc, 2, FLAGS, 6)?, flat(alloc, 2, MAYBE, 5)?]?;
+    let (one, other) = (encodings(alloc)?, encodings(alloc)?);
     let dtype = record_of(alloc, MAYBE, Nullability::Nullable)?;
+    let children = vec![in alloc; flat(one, 2, FLAGS, 6), column(other, 2, 5)]?;
     Ok(StructLayout::new(2, dtype, children)?.into_layout())
 }
 
 /// The same of lists.
 fn list(alloc: Global) -> Result<Layout, Fail> {
+    let (one, two, three) = (encodings(alloc)?, encodings(alloc)?, encodings(alloc)?);
     let dtype = list_of(alloc, MAYBE, Nullability::Nullable)?;
-    let elements = flat(alloc, 3, MAYBE, 7)?;
-    let offsets = flat(alloc, 3, MAYBE, 8)?;
-    let valid = Some(flat(alloc, 2, FLAGS, 6)?);
+    let (elements, offsets) = (column(one, 3, 7), column(two, 3, 8));
+    let valid = Some(flat(three, 2, FLAGS, 6));
     Ok(ListLayout::new(alloc, dtype, elements, offsets, valid)?.into_layout())
 }
 
 fn dict(alloc: Global) -> Result<Layout, Fail> {
-    let values = flat(alloc, 2, MAYBE, 9)?;
-    let codes = flat(alloc, 3, MAYBE, 10)?;
-    Ok(DictLayout::new(alloc, values, codes)?.into_layout())
+    let (one, other) = (encodings(alloc)?, encodings(alloc)?);
+    Ok(DictLayout::new(alloc, column(one, 2, 9), column(other, 3, 10))?.into_layout())
 }
 
 /// A column beside zones whose segment isn't there.
 fn zoned(alloc: Global) -> Result<Layout, Fail> {
+    let (one, other) = (encodings(alloc)?, encodings(alloc)?);
     let table = aggregate_stats_table_dtype(alloc, &MAYBE, &[])?;
-    let zones = flat(alloc, 1, table, 99)?;
-    let column = flat(alloc, 1, MAYBE, 11)?;
+    let (column, zones) = (column(one, 1, 11), flat(other, 1, table, 99));
     let none = Vec::new(alloc);
     Ok(ZonedLayout::try_new(alloc, column, zones, NonZeroU32::MIN, none)?.into_layout())
 }
 
 fn statistics(alloc: Global) -> Result<Layout, Fail> {
+    let (one, other) = (encodings(alloc)?, encodings(alloc)?);
     let table = legacy_stats_table_dtype(alloc, &MAYBE, &[])?;
-    let zones = flat(alloc, 1, table, 99)?;
-    let column = flat(alloc, 1, MAYBE, 12)?;
+    let (column, zones) = (column(one, 1, 12), flat(other, 1, table, 99));
     let none = Vec::new(alloc);
     Ok(LegacyStatsLayout::new(alloc, column, zones, 2, none)?.into_layout())
 }
@@ -117,10 +121,10 @@ fn named(alloc: Global, name: &str) -> Result<Layout, Fail> {
         "dict" => dict(alloc),
         "zoned" => zoned(alloc),
         "statistics" => statistics(alloc),
-        "missing" => flat(alloc, 2, MAYBE, 99),
-        "of_another_type" => flat(alloc, 2, FLAGS, 5),
-        "too_short" => flat(alloc, 2, MAYBE, 11),
-        _ => foreign(alloc, Vec::new(alloc)),
+        "missing" => Ok(column(encodings(alloc)?, 2, 99)),
+        "of_another_type" => Ok(flat(encodings(alloc)?, 2, FLAGS, 5)),
+        "too_short" => Ok(column(encodings(alloc)?, 2, 11)),
+        _ => foreign_above(alloc, Vec::new(alloc)),
     }
 }
 

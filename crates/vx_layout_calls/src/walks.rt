@@ -1,7 +1,7 @@
 // Children by their slots, and walks over trees.
 
 use crate::children::{viewed, viewed_chunk};
-use crate::layouts::{NUMBERS, chunked, cut, dict, foreign, list, made};
+use crate::layouts::{NUMBERS, chunked, cut, dict, foreign_above, list, made};
 use crate::made::{kind_of, told};
 use std::alloc::{AllocError, Global};
 use std::test::Fail;
@@ -110,7 +110,7 @@ fn walked(alloc: Global, layout: &Layout) -> Result<String, Fail> {
 fn nested(alloc: Global) -> Result<Layout, Fail> {
     let first = list(alloc)?.into_layout();
     let children = vec![in alloc; first, dict(alloc)?.into_layout()]?;
-    foreign(alloc, children)
+    foreign_above(alloc, children)
 }
 
 #[test]
@@ -126,12 +126,13 @@ fn before_their_children(rt: HostRuntime) -> Result<(), Fail> {
 #[test]
 fn chunks_that_are_built_or_not(rt: HostRuntime) -> Result<(), Fail> {
     let alloc = rt.alloc();
-    let built = built_chunks(7, viewed_chunk(alloc)?)?;
     assert_eq!(rt;
-        walked(alloc, &built)?.as_str(),
+        walked(alloc, &built_chunks(7, viewed_chunk(alloc)?)?)?.as_str(),
         "vortex.chunked vortex.chunked vortex.flat "
     );
-    let not_all = built_chunks(21, viewed(alloc)?)?;
-    assert_eq!(rt; walked(alloc, &not_all)?.as_str(), "vortex.chunked ");
+    assert_eq!(rt;
+        walked(alloc, &built_chunks(21, viewed(alloc)?)?)?.as_str(),
+        "vortex.chunked "
+    );
     Ok(())
 }
