@@ -2,7 +2,8 @@
 use Rattle.std.proofs.Common.{◌≡◌, ◌==◌, ℕ, ◌+◌, ◌-◌, ◌≤◌, List, ◌++◌, length, take, sym, ap, subst, ◌∙◌, arith}
 use Rattle.std.specs.Prelude.{min}
 use Rattle.std.specs.List.{position_or_len, before_first}
-use Rattle.std.proofs.lemmas.List.{length-take, take_at, take-append-add, take_min, take_all}
+use Rattle.std.proofs.lemmas.List.{length-take, take_at, take_min, take_all}
+use Rattle.std.proofs.Math.Seq.{take-append-add}
 
 -- as many more as there is room for
 more : (old bytes behind : List ℕ) (len count : ℕ) → length old ≡ len → len ≤ 64 → count ≡ min (64 - len) (length bytes) → take (len + count) (old ++ (take count bytes ++ behind)) ≡ take 64 (old ++ bytes)

@@ -1,0 +1,85 @@
+//! Strategies that a caller makes, by what no job asks for.
+
+use crate::fixtures::dtype;
+use std::alloc::Global;
+use std::test::Fail;
+use vx_field::FieldPath;
+use vx_model::Text;
+use vx_nodes::{
+    BuildError, DictLayoutOptions, FlatLayoutStrategy, RepartitionWriterOptions, Strategy,
+    StructStrategy, TableStrategy, ZonedLayoutOptions, dict_layout_supported,
+};
+use vx_write::column_count;
+
+/// A column's type, the bytes to aim at, the rows of a block of at most 8192, and whether a dictionary holds the type.
+const BLOCKS: &str = "\
+\"i64\" 4096 512 true\n\
+\"i64\" 0 1 true\n\
+\"i64\" - 8192 true\n\
+\"utf8\" 4096 8192 true\n\
+\"bool?\" - 8192 false";
+
+#[test]
+fn block_lengths(rt: HostRuntime) -> Result<(), Fail> {
+    for line in BLOCKS.lines() {
+        let (name, rest) = line.split_once(' ').ok_or("four words")?;
+        let (target, wanted) = rest.split_once(' ').ok_or("four words")?;
+        let (rows, dict) = wanted.split_once(' ').ok_or("four words")?;
+        let options = RepartitionWriterOptions {
+            block_size_minimum: 0,
+            block_len_multiple: 8192,
+            block_size_target: target.parse().ok(),
+            canonicalize: false,
+        };
+        let dtype = dtype(rt.alloc(), name)?;
+        assert_eq!(rt;
+            options.effective_block_len(&dtype),
+            rows.parse::<u64>()?,
+            "{line}"
+        );
+        assert_eq!(rt; dict_layout_supported(&dtype), dict == "true", "{line}");
+    }
+    Ok(())
+}
+
+fn flat() -> Strategy {
+    FlatLayoutStrategy::default().into_strategy()
+}
+
+/// A table whose leaf, validity and lists were set after it was made.
+fn table(alloc: Global) -> Result<TableStrategy, BuildError> {
+    TableStrategy::new(alloc, flat(), flat())?
+        .with_default_strategy(alloc, flat())?
+        .with_validity_strategy(alloc, flat())?
+        .with_list_layout(alloc)
+}
+
+#[test]
+fn writers_of_paths(rt: HostRuntime) -> Result<(), Fail> {
+    let alloc = rt.alloc();
+    let path = FieldPath::from_name(alloc, Text::from_str(alloc, "a")?)?;
+    let copy = path.clone()?;
+    let table = table(alloc)?.with_field_writer(alloc, path, flat())?;
+    match table.with_field_writer(alloc, copy, flat()) {
+        Err(BuildError::OverlappingPath(standing, new)) => {
+            assert!(rt; standing.parts().len() == 1 && new.parts().len() == 1);
+        }
+        _ => return Err("no overlap".into()),
+    }
+    Ok(())
+}
+
+#[test]
+fn writers_of_names(rt: HostRuntime) -> Result<(), Fail> {
+    let alloc = rt.alloc();
+    let two = dtype(alloc, r#"{"struct": [["a", "i64"], ["b", "i64"]]}"#)?;
+    let name = Text::from_str(alloc, "a")?;
+    let strategy = StructStrategy::new(alloc, flat(), flat())?
+        .with_field_writer(alloc, name, flat())?
+        .into_strategy();
+    strategy.admitted();
+    assert_eq!(rt; column_count(&strategy, &two), Some(2));
+    assert_eq!(rt; DictLayoutOptions::default().constraints.max_len, 65535);
+    assert_eq!(rt; ZonedLayoutOptions::default().block_size, 8192);
+    Ok(())
+}
