@@ -5,7 +5,7 @@ use crate::sessions::scope;
 use std::alloc::Global;
 use std::rc::Rc;
 use std::test::Fail;
-use vx_layout::{LayoutChildren, RawNode, ViewedChildren, layout_children};
+use vx_layout::{LayoutChildren, LayoutChildrenWalk, RawNode, ViewedChildren, layout_children};
 use vx_model::{Blob, DType};
 
 fn kept(alloc: Global) -> Result<LayoutChildren, Fail> {

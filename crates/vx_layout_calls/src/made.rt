@@ -3,7 +3,7 @@
 use crate::layouts::{cut, made};
 use std::alloc::Global;
 use std::test::Fail;
-use vx_layout::{Layout, LayoutChildType};
+use vx_layout::{Layout, LayoutChildType, LayoutSlots};
 
 /// Of each kind its id, its rows and its children; of each slot what it is to the layout, its name, the row at which its
 /// child begins and the place of that child.

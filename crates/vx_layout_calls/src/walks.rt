@@ -5,7 +5,9 @@ use crate::layouts::{NUMBERS, chunked, cut, dict, foreign_above, list, made};
 use crate::made::{kind_of, told};
 use std::alloc::{AllocError, Global};
 use std::test::Fail;
-use vx_layout::{ChunkedLayout, Layout, LayoutChild, LayoutChildType, LayoutChildren};
+use vx_layout::{
+    ChunkedLayout, Layout, LayoutChild, LayoutChildType, LayoutChildren, LayoutSlots, LayoutWalk,
+};
 use vx_model::Text;
 
 /// The names of children, where they begin, and what they are to their layout.
