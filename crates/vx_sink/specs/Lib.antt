@@ -5,3 +5,4 @@ pub mod Sink
 pub mod Compressor
 pub mod Fails
 pub mod ContextView
+pub mod Faults
