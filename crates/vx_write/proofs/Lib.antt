@@ -4,3 +4,4 @@ pub mod Steps
 pub mod Back
 pub mod Numbers
 pub mod Bridge
+pub mod Gathered

@@ -2,3 +2,4 @@ pub mod Causes
 pub mod InOrder
 pub mod Stream
 pub mod ColumnCount
+pub mod Asked

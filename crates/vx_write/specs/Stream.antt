@@ -10,8 +10,11 @@ use Rattle.vx_encode.specs.Segment.{encode, refused, tree_bytes}
 use Rattle.vx_plan.specs.PlanData.{Setting, Plan}
 use Rattle.vx_plan.specs.Way.{Way, FlatOptions, flat, chunked}
 use Rattle.vx_plan.specs.InOrder.{batch_rows}
-use Rattle.vx_plan.specs.Number.{segments}
-use Rattle.vx_plan.specs.SourcePlan.{source_plan}
+use Rattle.vx_plan.specs.Number.{segments, numbered, segment_at}
+use Rattle.vx_plan.specs.SourcePlan.{source_plan, source_values}
+use Rattle.vx_tree.specs.LayoutTree.{Lay}
+use Rattle.vx_tree.specs.Rows.{rows}
+use Rattle.vx_segment.specs.Codec.{segment_codec}
 use Rattle.vx_plan.specs.Valid.{Fit, AllOf}
 use Rattle.vx_sink.specs.Told.{before_told, then_told}
 use Rattle.vx_write.specs.InOrder.{AllWritten}
@@ -134,6 +137,28 @@ pub record Stands (plan_of : List Piece → Plan) (first next : ℕ) (to_come_be
   pub prefix : segments (plan_of taken) ≡ appended ++ more
   pub stands : now ≡ then_told before appended
   pub numbers : next ≡ first + length appended
+
+-- ---- what a write gives, in few words
+
+-- Of each setting that writes these encodings, where the source tells its batches: this holds of the plan of them all.
+abbrev pub Planned : List EncodingId → Way → Ty → Option (List Piece) → (Setting → List Piece → Plan → Type 0) → Type 0
+Planned ids w t told P = (s : Setting) (xs : List Piece) → Writes ids s → told ≡ Some xs → P s xs (source_plan s w t false xs true)
+
+-- A write came to its end, by the plan p of all batches.
+pub record Wrote (w : Way) (t : Ty) (first next : ℕ) (before now : Option (List (List ℕ))) (l : Lay ℕ) (s : Setting) (xs : List Piece) (p : Plan) : Type 0 where
+  pub laid : l ≡ numbered p first
+  pub appended : now ≡ then_told before (segments p)
+  pub counted : next ≡ first + length (segments p)
+  pub read_back : rows segment_codec (segment_at first (segments p)) l ≡ Some (source_values xs)
+  pub valid : WasValid s w t first xs
+
+-- how many calls of the source gave an answer before this error, where so many segments stand
+abbrev pub asked_before : WriteError → ℕ → ℕ
+asked_before (BatchType c) n = n + 1
+asked_before (ForbiddenEncoding id) n = n + 1
+asked_before (TooLarge m) n = n + 1
+asked_before SinkFault n = n + 1
+asked_before e n = n
 
 -- ---- the parts of the loop
 

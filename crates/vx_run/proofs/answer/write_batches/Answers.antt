@@ -2,6 +2,7 @@ use Rattle.std.proofs.Common.{◌≡◌, true, false, Some, refl, ap, ◌∙◌}
 use Rattle.vx_job.specs.JobText.{JobData}
 use Rattle.vx_job.specs.JobView.{job_view}
 use Rattle.vx_run.proofs.JobSteps.{same_pieces, all_written, write_halts}
+use Rattle.vx_run.proofs.WriteSteps.{may_come, passed_before, behind_batch, passed_ended, passed_last}
 use Rattle.vx_run.proofs.answer.write_batches.Goals as goal
 
 pub returns-in-Ok-clause-ok : goal.returns-in-Ok-clause-ok
@@ -9,11 +10,12 @@ returns-in-Ok-clause-ok c stored told =
     let j : JobData = job_view c.args.job in
     all_written j _ _
     (record { listed = c.new-ctx.ensures; schema = c.new-source.ensures.kind; numbers = c.new-sink.ensures.next; batches = c.new-source.ensures.batches ∙ ap Some (same_pieces j.batches); none = c.new-sink.ensures.segments })
-    told (λ f. let e : false ≡ true = c.in-Ok.ensures.unbuilt_is_err f in cc)
-    c.in-Ok.ensures.layout c.in-Ok.ensures.segments c.in-Ok.ensures.numbers c.in-Ok.ensures.rows c.in-Ok.ensures.last
-    c.in-Ok.ensures.valid c.chunks_stand_in_order.ensures
+    told (λ f. absurd (c.in-Ok.ensures.unbuilt f).0)
+    (λ s xs w t. (c.in-Ok.ensures.wrote s xs w t).laid) (λ s xs w t. (c.in-Ok.ensures.wrote s xs w t).appended) (λ s xs w t. (c.in-Ok.ensures.wrote s xs w t).counted)
+    (λ s xs w t. (c.in-Ok.ensures.wrote s xs w t).read_back) c.in-Ok.ensures.last
+    (λ s xs w t. (c.in-Ok.ensures.wrote s xs w t).valid) c.chunks_stand_in_order.ensures
     (record { of_source = c.new-source.ensures.must_fail; of_sink = c.new-sink.ensures.must_fail })
-    (record { batches = c.in-Ok.ensures.must_source; ended = c.in-Ok.ensures.must_end; appends = c.in-Ok.ensures.must_sink })
+    (record { batches = passed_ended _ _ c.in-Ok.ensures.source.passed; ended = passed_last _ _ c.in-Ok.ensures.source.passed; appends = c.in-Ok.ensures.sink.passed })
 
 pub returns-clause-err : goal.returns-clause-err
 returns-clause-err c stored told =
@@ -25,10 +27,10 @@ returns-clause-err c stored told =
       of_sink = c.new-sink.ensures.may_fail;
       source_none = c.new-source.ensures.faults;
       sink_none = c.new-sink.ensures.faults;
-      source_count = c.in-Err.ensures.source_count;
-      sink_count = c.in-Err.ensures.sink_count;
+      source_count = c.in-Err.ensures.source.counted;
+      sink_count = c.in-Err.ensures.sink.counted;
     })
-    told c.in-Err.ensures.prefix c.in-Err.ensures.cause c.in-Err.ensures.may
+    told c.in-Err.ensures.stands c.in-Err.ensures.cause (may_come c.in-Err.refused.error _ _ _ c.in-Err.ensures.source.allowed c.in-Err.ensures.sink.allowed)
     (record { of_source = c.new-source.ensures.must_fail; of_sink = c.new-sink.ensures.must_fail })
-    (record { batches = c.in-Err.ensures.must_source; behind = c.in-Err.ensures.must_refused; appends = c.in-Err.ensures.must_sink })
-    c.in-Err.ensures.unbuilt (λ f. rw (c.in-Err.ensures.unasked f) refl) (λ f. rw (c.in-Err.ensures.unsunk f) refl) c.in-Err.ensures.complete c.in-Err.ensures.last
+    (record { batches = passed_before c.in-Err.refused.error _ _ c.in-Err.ensures.source.passed; behind = behind_batch c.in-Err.refused.error _ _ c.in-Err.ensures.source.passed; appends = c.in-Err.ensures.sink.passed })
+    (λ f. (c.in-Err.ensures.unbuilt f).0) (λ f. rw (c.in-Err.ensures.unbuilt f).1.0 refl) (λ f. rw (c.in-Err.ensures.unbuilt f).1.1 refl) (λ s tracker xs w t. c.in-Err.ensures.complete s xs w t tracker) c.in-Err.ensures.last
