@@ -30,6 +30,12 @@ use Rattle.vx_kinds.specs.declared.error.LayoutError.{LayoutError}
 use Rattle.vx_kinds.specs.declared.parts.LayoutParts.{LayoutParts}
 use Rattle.vx_layout_build.specs.declared.one_child.OneChild.TheVariants as ones
 use Rattle.vx_kinds.specs.declared.children.LayoutChildren.{LayoutChildren}
+use Rattle.vx_kinds.specs.declared.children.LayoutChildren.TheVariants as children
+use Rattle.vx_kinds.specs.declared.children.ViewedChildren.{ViewedChildren}
+use Rattle.vx_layout_bytes.specs.declared.node.RawNode.{RawNode}
+use Rattle.vx_layout_bytes.specs.Views.{raw}
+use Rattle.vx_session.specs.Builder.{kid_of, own_of, builder}
+use Rattle.vx_session.specs.Views.{scope_of}
 use Rattle.vx_kinds.specs.declared.layout.Layout.{Layout}
 use Rattle.vx_kinds.specs.LayoutView.{lay, number}
 use Rattle.vx_kinds.specs.KidsView.{layout_kids, chunks}
@@ -197,7 +203,11 @@ pub ruleset triple_rules = (triple_wanted, triple_depth, triple_fails)
 pub standing_kept : (t : Ty) (ls : List Layout) (l : Layout) → ls ≡ l ∷ [] → map lay ls ≡ lay l ∷ []
 standing_kept t ls l is = rw is refl
 
-pub ruleset standing_rules = (standing_kept)
+pub standing_viewed : (t : Ty) (v w : ViewedChildren) (n : RawNode) → v ≡ w → w.nodes.items ≡ n ∷ []
+    → chunks t (children.Viewed v) ≡ (kid_of (scope_of w.scope.value) (own_of (raw n)) (builder (scope_of w.scope.value) (raw n))).stands t ∷ []
+standing_viewed t v w n is nodes = rw (is, nodes) refl
+
+pub ruleset standing_rules = (standing_kept, standing_viewed)
 
 -- ---- dictionaries
 
