@@ -1,7 +1,7 @@
 -- What a node is built into, by its id.
-use Rattle.std.proofs.Common.{◌≡◌, ℕ, suc, ◌+◌, ◌-◌, ◌≤◌, ◌++◌, length, Bool, true, false, List, [], ◌∷◌, map, Option, Some, None, Result, Ok, Err, refl, sym, ◌∙◌, ap, arith}
+use Rattle.std.proofs.Common.{◌≡◌, ℕ, suc, ◌+◌, ◌-◌, ◌≤◌, ◌++◌, length, Bool, true, false, List, [], ◌∷◌, map, Option, Some, None, Result, Ok, Err, refl, ◌∙◌, ap, arith}
 use Rattle.std.proofs.lemmas.List.{append-nil, map_push}
-use Rattle.std.specs.Prelude.{max, if◌then◌else◌, ◌==◌}
+use Rattle.std.specs.Prelude.{if◌then◌else◌, ◌==◌}
 use Rattle.std.proofs.lemmas.Bool.Decides.{nat_tests}
 use Rattle.vx_model.specs.Words.{total_by}
 use Rattle.vx_model.specs.Ty.{Ty, is_struct}

@@ -1,4 +1,4 @@
-use Rattle.std.proofs.Common.{◌+◌, refl, arith}
+use Rattle.std.proofs.Common.{refl, arith}
 use Rattle.vx_kinds.specs.LayoutView.{lay}
 use Rattle.vx_layout_slots.proofs.SlotSteps.{slots_by}
 use Rattle.vx_layout_slots.proofs.slots.slot_count.Goals as goal

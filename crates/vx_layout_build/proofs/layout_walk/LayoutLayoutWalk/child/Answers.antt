@@ -1,4 +1,4 @@
-use Rattle.std.proofs.Common.{◌<◌, length, map, refl, arith}
+use Rattle.std.proofs.Common.{refl, arith}
 use Rattle.std.proofs.lemmas.List.{length-map}
 use Rattle.vx_tree.specs.LayoutTree.{layout_type}
 use Rattle.vx_kinds.specs.LayoutView.{lay}
