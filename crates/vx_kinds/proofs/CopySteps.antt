@@ -1,15 +1,9 @@
 -- Copies are equal.
-use Rattle.std.proofs.Common.{◌≡◌, ℕ, zero, suc, ◌+◌, ◌*◌, ◌<◌, ◌≤◌, ◌++◌, List, [], ◌∷◌, length, get_or, take, drop, map, max, refl, sym, ◌∙◌, ap, arith}
+use Rattle.std.proofs.Common.{◌≡◌, ℕ, zero, suc, ◌+◌, ◌<◌, ◌≤◌, ◌++◌, List, [], ◌∷◌, length, get_or, map, refl, ap, arith}
 use Rattle.std.proofs.lemmas.List.{length-map, map_push, map_more}
 use Rattle.vx_model.specs.Ty.{Ty}
-use Rattle.vx_tree.specs.LayoutTree.{Lay, lays_of, lays_in, children_of}
+use Rattle.vx_tree.specs.LayoutTree.{Lay, lays_of, lays_in}
 use Rattle.vx_tree.proofs.LayoutLaws.{lays_in-lays_of}
-use Rattle.vx_session.specs.Kinds.{struct_types}
-use Rattle.vx_session.specs.Made.{all_stand, each_stands}
-use Rattle.vx_session.specs.Views.{scope_of}
-use Rattle.vx_layout_bytes.specs.Views.{raw}
-use Rattle.vx_layout_bytes.specs.Node.{nodes_of}
-use Rattle.vx_session.specs.Builder.{kids}
 use Rattle.vx_kinds.specs.declared.layout.Layout.{Layout}
 use Rattle.vx_kinds.specs.declared.children.LayoutChildren.{LayoutChildren}
 use Rattle.vx_kinds.specs.declared.children.LayoutChildren.TheVariants as children

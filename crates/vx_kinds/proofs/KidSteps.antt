@@ -1,24 +1,20 @@
 -- Children one by one.
-use Rattle.std.proofs.Common.{◌≡◌, ℕ, zero, suc, ◌+◌, ◌-◌, ◌*◌, ◌^◌, ◌<◌, ◌≤◌, ◌++◌, Bool, true, false, List, [], ◌∷◌, length, get_or, take, drop, map, Some, None, Result, Ok, Err, refl, sym, ◌∙◌, ap, arith}
+use Rattle.std.proofs.Common.{◌≡◌, ℕ, zero, suc, ◌+◌, ◌-◌, ◌<◌, ◌≤◌, ◌++◌, Bool, true, false, List, [], ◌∷◌, length, get_or, take, map, Result, Err, refl, sym, ◌∙◌, ap, arith}
 use Rattle.std.specs.Prelude.{if◌then◌else◌}
-use Rattle.std.proofs.lemmas.List.{length-map, drop_more, take_more}
+use Rattle.std.proofs.lemmas.List.{length-map}
 use Rattle.vx_model.specs.Words.{total_by}
-use Rattle.vx_model.specs.declared.dtype.StructField.{StructField}
-use Rattle.vx_model.specs.declared.dtype.DType.{DType}
-use Rattle.vx_model.specs.Ty.{Ty, Tys, Named, struct, boolean, no_fields, field, fields_in, tys_of, nullable, is_struct}
-use Rattle.vx_model.specs.TyView.{ty, field_ty}
-use Rattle.vx_model.proofs.Views.{view_rules, field_ty_is}
+use Rattle.vx_model.specs.Ty.{Ty, Tys, struct, boolean, no_fields, field, fields_in, nullable}
 use Rattle.vx_tree.specs.Refusal.{Refusal}
-use Rattle.vx_tree.specs.LayoutTree.{Lay, row_count, lays_in}
+use Rattle.vx_tree.specs.LayoutTree.{Lay, row_count}
 use Rattle.vx_tree.proofs.LayoutLaws.{lays_in-lays_of}
 use Rattle.vx_layout_bytes.specs.declared.node.RawNode.{RawNode, out-RawNode}
-use Rattle.vx_layout_bytes.specs.Node.{Own, Node, node, nodes_of}
+use Rattle.vx_layout_bytes.specs.Node.{Node, nodes_of}
 use Rattle.vx_layout_bytes.specs.Views.{raw}
 use Rattle.vx_layout_bytes.proofs.Nodes.{raw_is}
 use Rattle.vx_session.specs.Scope.{Scope}
-use Rattle.vx_session.specs.Made.{Made, Kid, kid_rows, rows_at, all_stand, each_stands}
-use Rattle.vx_session.specs.Kinds.{struct_types, types_in, validity_types, field_types}
-use Rattle.vx_session.specs.Builder.{kids, own_of, builder, built_or_refused, is_flat_node}
+use Rattle.vx_session.specs.Made.{Kid, kid_rows, rows_at, all_stand, each_stands}
+use Rattle.vx_session.specs.Kinds.{struct_types, types_in, field_types}
+use Rattle.vx_session.specs.Builder.{kids, own_of}
 use Rattle.vx_session.proofs.RowsKept.{stands_kept}
 use Rattle.vx_session.specs.Views.{scope_of}
 use Rattle.vx_kinds.specs.declared.error.LayoutError.{LayoutError}
@@ -27,10 +23,10 @@ use Rattle.vx_kinds.specs.declared.layout.Layout.{Layout}
 use Rattle.vx_kinds.specs.declared.children.LayoutChildren.{LayoutChildren}
 use Rattle.vx_kinds.specs.declared.children.LayoutChildren.TheVariants as children
 use Rattle.vx_kinds.specs.LayoutView.{lay}
-use Rattle.vx_kinds.specs.KidsView.{owned_kids, viewed_kids, layout_kids, chunks, fields, built, answer_at, type_at}
-use Rattle.vx_kinds.specs.Children.{answered, child_in, fields_of}
+use Rattle.vx_kinds.specs.KidsView.{owned_kids, viewed_kids, layout_kids, chunks, fields}
+use Rattle.vx_kinds.specs.Children.{fields_of}
 use Rattle.vx_kinds.specs.Children as places
-use Rattle.vx_kinds.specs.Made.{struct_children, validity_count}
+use Rattle.vx_kinds.specs.Made.{struct_children}
 use Rattle.vx_kinds.specs.Views.{Fails}
 
 -- ---- how many, and their rows

@@ -1,13 +1,12 @@
 -- What layouts of one kind tell.
-use Rattle.std.proofs.Common.{◌≡◌, ℕ, zero, suc, ◌+◌, ◌<◌, ◌≤◌, ◌++◌, ◌==◌, Bool, true, false, Result, Ok, Err, List, [], ◌∷◌, length, get_or, take, drop, map, Option, Some, None, refl, sym, ◌∙◌, ap, arith}
+use Rattle.std.proofs.Common.{◌≡◌, ℕ, zero, suc, ◌+◌, ◌<◌, ◌≤◌, ◌++◌, ◌==◌, Bool, true, false, Ok, Err, List, [], ◌∷◌, length, get_or, take, map, Option, Some, None, refl, sym, ◌∙◌, ap, arith}
 use Rattle.std.specs.Prelude.{slice_get, option_map, if◌then◌else◌}
 use Rattle.std.proofs.lemmas.Bool.{eqb-true}
-use Rattle.std.proofs.lemmas.List.{length-map, map_push, append-nil, take_more, take_all, append_assoc}
-use Rattle.vx_model.specs.Ty.{Ty}
+use Rattle.std.proofs.lemmas.List.{length-map, map_push, append-nil, take_all, append_assoc}
 use Rattle.vx_metadata.specs.Kept.{second_type}
 use Rattle.vx_record.specs.Aggregate.{Aggregate}
 use Rattle.vx_model.specs.Words.{total_by}
-use Rattle.vx_tree.specs.Refusal.{Refusal, other_rows}
+use Rattle.vx_tree.specs.Refusal.{other_rows}
 use Rattle.vx_tree.specs.LayoutTree.{Lay, layout, lays_of, row_count, layout_type}
 use Rattle.vx_tree.proofs.LayoutLaws.{lays_in-lays_of}
 use Rattle.vx_aggregate.specs.declared.stat.Stat.{Stat}

@@ -3,7 +3,7 @@ use Rattle.std.proofs.Common.{◌≡◌, ℕ, zero, suc, ◌<◌, List, [], ◌�
 use Rattle.std.proofs.lemmas.List.{length-map}
 use Rattle.vx_model.specs.Ty.{Named, tys_of, fields_in}
 use Rattle.vx_model.proofs.Views.{view_rules}
-use Rattle.vx_tree.specs.LayoutTree.{Lay, row_count}
+use Rattle.vx_tree.specs.LayoutTree.{row_count}
 use Rattle.vx_kinds.specs.declared.layout.Layout.{Layout}
 use Rattle.vx_kinds.specs.LayoutView.{lay}
 use Rattle.vx_kinds.specs.Children.{rows_at}

@@ -2,7 +2,7 @@
 use Rattle.std.specs.Prelude.{ℕ, zero, suc, Bool, true, false, List, [], ◌∷◌, Result, Ok, Err}
 use Rattle.vx_model.specs.Ty.{Ty, Named, struct, fields_in}
 use Rattle.vx_tree.specs.Refusal.{Refusal, slot_range}
-use Rattle.vx_tree.specs.LayoutTree.{Kind, flat_kind, chunked_kind, struct_kind, list_kind, dict_kind, zoned_kind, unread_zoned_kind, stats_kind, foreign_kind, refused_kind, Lay, layout, lays_in, row_count}
+use Rattle.vx_tree.specs.LayoutTree.{Kind, flat_kind, chunked_kind, struct_kind, list_kind, dict_kind, zoned_kind, unread_zoned_kind, stats_kind, foreign_kind, refused_kind, Lay, layout, row_count}
 use Rattle.vx_kinds.specs.declared.kind.LayoutKind.{LayoutKind}
 use Rattle.vx_kinds.specs.declared.kind.LayoutKind.TheVariants as kinds
 

@@ -1,11 +1,11 @@
 -- Copies of children, and of a layout with other children.
-use Rattle.std.specs.Prelude.{◌≡◌, ℕ, zero, suc, ◌==◌, Bool, false, if◌then◌else◌, List, [], ◌∷◌, map, Ok, Err}
+use Rattle.std.specs.Prelude.{◌≡◌, ℕ, ◌==◌, if◌then◌else◌, List, map, Ok, Err}
 use Rattle.vx_model.specs.Words.{total_by}
 use Rattle.vx_tree.specs.Refusal.{other_rows}
 use Rattle.vx_tree.specs.LayoutTree.{Lay, layout, lays_of, row_count}
 use Rattle.vx_layout_bytes.specs.Views.{raw}
 use Rattle.vx_session.specs.Views.{scope_of}
-use Rattle.vx_session.specs.Made.{Made, Kid}
+use Rattle.vx_session.specs.Made.{Made}
 use Rattle.vx_kinds.specs.declared.children.LayoutChildren.{LayoutChildren}
 use Rattle.vx_kinds.specs.declared.children.LayoutChildren.TheVariants as children
 use Rattle.vx_kinds.specs.declared.children.ViewedChildren.{ViewedChildren}

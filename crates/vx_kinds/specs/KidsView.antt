@@ -1,21 +1,18 @@
 -- Children as contracts see them.
-use Rattle.std.specs.Prelude.{ℕ, zero, suc, Bool, true, false, if◌then◌else◌, List, [], ◌∷◌, map, Result, Ok, Err}
-use Rattle.std.specs.Global.{Vec}
+use Rattle.std.specs.Prelude.{ℕ, Bool, true, false, if◌then◌else◌, List, [], ◌∷◌, map, Ok, Err}
 use Rattle.vx_model.specs.Ty.{Ty, ty_eq}
 use Rattle.vx_tree.specs.LayoutTree.{Kind, flat_kind, Lay, layout, layout_kind, layout_type, row_count}
-use Rattle.vx_tree.specs.Refusal.{child_type, slot_range}
+use Rattle.vx_tree.specs.Refusal.{child_type}
 use Rattle.vx_layout_bytes.specs.Node.{nodes_of}
 use Rattle.vx_layout_bytes.specs.Views.{raw}
 use Rattle.vx_session.specs.Views.{scope_of}
-use Rattle.vx_session.specs.Made.{Made, Kid, all_stand, each_stands}
-use Rattle.vx_session.specs.Kinds.{struct_types, validity_type}
+use Rattle.vx_session.specs.Made.{Kid, all_stand, each_stands}
+use Rattle.vx_session.specs.Kinds.{struct_types}
 use Rattle.vx_session.specs.Builder.{kids}
-use Rattle.vx_kinds.specs.declared.layout.Layout.{Layout}
 use Rattle.vx_kinds.specs.declared.children.LayoutChildren.{LayoutChildren}
 use Rattle.vx_kinds.specs.declared.children.LayoutChildren.TheVariants as children
 use Rattle.vx_kinds.specs.declared.children.ViewedChildren.{ViewedChildren}
 use Rattle.vx_kinds.specs.LayoutView.{lay}
-use Rattle.vx_kinds.specs.Children.{answered}
 
 abbrev pub is_flat_kind : Kind → Bool
 is_flat_kind (flat_kind encodings tree) = true

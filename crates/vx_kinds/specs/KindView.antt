@@ -1,16 +1,14 @@
 -- What layouts of the kinds are made of, and what a layout by its kind tells.
-use Rattle.std.specs.Prelude.{◌≡◌, ◌<◌, ◌+◌, ◌^◌, ℕ, IsTrue, List, [], ◌++◌, length, map}
-use Rattle.std.specs.Global.{Vec}
+use Rattle.std.specs.Prelude.{◌≡◌, ◌<◌, ◌+◌, ◌^◌, ℕ, IsTrue, List, ◌++◌, length, map}
 use Rattle.vx_model.specs.Words.{total_by}
 use Rattle.vx_model.specs.TyView.{ty}
-use Rattle.vx_tree.specs.LayoutTree.{Kind, flat_kind, chunked_kind, struct_kind, list_kind, dict_kind, zoned_kind, unread_zoned_kind, stats_kind, foreign_kind, Lay, layout_kind, layout_type, row_count, children_of}
+use Rattle.vx_tree.specs.LayoutTree.{Kind, chunked_kind, struct_kind, list_kind, dict_kind, zoned_kind, unread_zoned_kind, stats_kind, foreign_kind, Lay, layout_kind, layout_type, row_count, children_of}
 use Rattle.vx_record.specs.Aggregate.{spec}
 use Rattle.vx_aggregate.specs.AggregateView.{aggregate}
 use Rattle.vx_aggregate.specs.Stats.{stat_number}
 use Rattle.vx_metadata.specs.Values.{are_in_order}
 use Rattle.vx_session.specs.Made.{kid_rows}
 use Rattle.vx_session.specs.Kinds.{struct_types}
-use Rattle.vx_kinds.specs.declared.layout.Layout.{Layout}
 use Rattle.vx_kinds.specs.declared.parts.LayoutHead.{LayoutHead}
 use Rattle.vx_kinds.specs.declared.parts.KindParts.{KindParts}
 use Rattle.vx_kinds.specs.declared.parts.KindParts.TheVariants as parts

@@ -1,5 +1,5 @@
 -- What layouts of one kind have of their own.
-use Rattle.std.specs.Prelude.{ℕ, ◌==◌, Bool, true, false, if◌then◌else◌, List, [], ◌∷◌, ◌++◌, Option, Some, None}
+use Rattle.std.specs.Prelude.{ℕ, ◌==◌, Bool, false, if◌then◌else◌, List, [], ◌∷◌, ◌++◌}
 use Rattle.vx_tree.specs.LayoutTree.{Spec, Kind, dict_kind, zoned_kind, stats_kind}
 use Rattle.vx_record.specs.Aggregate.{Aggregate, maximum, minimum, null_count, sum}
 

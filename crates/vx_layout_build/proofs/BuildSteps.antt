@@ -1,12 +1,13 @@
 -- What a node is built into, by its id.
-use Rattle.std.proofs.Common.{◌≡◌, ℕ, suc, ◌+◌, ◌-◌, ◌≤◌, ◌++◌, length, Bool, true, false, List, [], ◌∷◌, map, Option, Some, None, Result, Ok, Err, refl, sym, ◌∙◌, ap, arith}
+use Rattle.std.proofs.Common.{◌≡◌, ℕ, suc, ◌+◌, ◌-◌, ◌≤◌, ◌++◌, length, Bool, true, false, List, [], ◌∷◌, map, Option, Some, None, Result, Ok, Err, refl, ◌∙◌, ap, arith}
 use Rattle.std.proofs.lemmas.List.{append-nil, map_push}
-use Rattle.std.specs.Prelude.{max, if◌then◌else◌}
+use Rattle.std.specs.Prelude.{if◌then◌else◌, ◌==◌}
+use Rattle.std.proofs.lemmas.Bool.Decides.{nat_tests}
 use Rattle.vx_model.specs.Words.{total_by}
 use Rattle.vx_model.specs.Ty.{Ty, is_struct}
 use Rattle.vx_model.specs.TyView.{ty}
 use Rattle.vx_tree.specs.LayoutTree.{Lay, row_count, chunked_kind, struct_kind}
-use Rattle.vx_tree.specs.Refusal.{Refusal, unknown_index, unregistered}
+use Rattle.vx_tree.specs.Refusal.{Refusal, unknown_index, unregistered, other_rows}
 use Rattle.vx_layout_bytes.specs.declared.node.RawNode.{RawNode, out-RawNode}
 use Rattle.vx_layout_bytes.specs.Node.{Own, Node, node, nodes_of}
 use Rattle.vx_layout_bytes.specs.Values.{depth, depths}
@@ -21,13 +22,16 @@ use Rattle.vx_session.specs.Kinds.{Parts, nothing_in, struct_types, build_kind, 
 use Rattle.vx_session.specs.Builder.{builder, build_foreign, build_registered, known_id, own_of, own_parts, node_parts, kids}
 use Rattle.vx_kinds.specs.declared.error.LayoutError.{LayoutError}
 use Rattle.vx_kinds.specs.declared.parts.LayoutParts.{LayoutParts}
+use Rattle.vx_kinds.specs.declared.children.LayoutChildren.TheVariants as children
+use Rattle.vx_kinds.specs.declared.children.ViewedChildren.{ViewedChildren}
+use Rattle.vx_session.specs.Views.{scope_of}
 use Rattle.vx_layout_build.specs.declared.open.Wanted.{Wanted}
 use Rattle.vx_layout_build.specs.declared.open.Open.{Open}
 use Rattle.vx_kinds.specs.Views.{Fails}
 use Rattle.vx_layout_build.specs.NodeKind.{kind_there, node_kind}
 use Rattle.vx_kinds.specs.LayoutView.{seen_layout}
 use Rattle.vx_kinds.specs.KidsView.{layout_kids, chunks, fields}
-use Rattle.vx_layout_build.specs.PartsView.{parts_of, one_built, one_depth}
+use Rattle.vx_layout_build.specs.PartsView.{parts_of, one_built, one_depth, children_depth}
 use Rattle.vx_layout_build.specs.OpenView.{Children, rows_ruled, wanted_built, all_built, wanted_depths, framed, open_made}
 use Rattle.vx_kinds.proofs.KidSteps.{chunks_are, fields_are, fails_by}
 
@@ -89,9 +93,22 @@ node_built s n t kind c p metadata is within parts kept =
 pub parts_depth : (n : RawNode) → depth (raw n) ≡ depths (nodes_of (map raw (out-RawNode n).children.items)) + 1
 parts_depth n = rw (raw_is n) (omega arith)
 
-pub ruleset parts_rules = (raw_is, parts_depth)
+pub viewed_kids_are : (v w : ViewedChildren) → v ≡ w → layout_kids (children.Viewed v) ≡ kids (scope_of w.scope.value) (nodes_of (map raw w.nodes.items))
+viewed_kids_are v w is = rw is refl
+
+pub viewed_depth_is : (v w : ViewedChildren) → v ≡ w → children_depth (children.Viewed v) ≡ depths (nodes_of (map raw w.nodes.items))
+viewed_depth_is v w is = rw is refl
+
+pub ruleset parts_rules = (raw_is, parts_depth, viewed_kids_are, viewed_depth_is)
 
 -- ---- layouts of each kind, where nothing is refused
+
+pub rows_are : (has n : ℕ) → has_rows has n ≡ Ok tt → has ≡ n
+rows_are has n e = go (has == n) refl
+  where
+    go : (b : Bool) → (has == n) ≡ b → has ≡ n
+    go true is = grind (arith, nat_tests, is)
+    go false is = let h : has_rows has n ≡ Err (other_rows has n) = rw is refl in absurd (cc (h, e))
 
 pub chunked_made : (p : LayoutParts) (m : List ℕ) (has : ℕ) → spelled m (nothing_in m) ≡ Ok tt → has ≡ total_by kid_rows (layout_kids p.children) → has_rows has p.row_count ≡ Ok tt
     → build_chunked (parts_of p) m ≡ Ok (seen_layout chunked_kind p.dtype p.row_count p.segment_ids (chunks (ty p.dtype) p.children))

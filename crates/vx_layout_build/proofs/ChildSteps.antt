@@ -1,15 +1,15 @@
 -- A child of children by themselves.
-use Rattle.std.proofs.Common.{◌≡◌, ◌↔◌, ℕ, zero, suc, ◌+◌, ◌<◌, ◌≤◌, Bool, true, false, IsTrue, List, [], ◌∷◌, length, get_or, map, Option, Some, None, Result, Ok, Err, refl, sym, ◌∙◌, ap, arith}
+use Rattle.std.proofs.Common.{◌≡◌, ◌↔◌, ℕ, zero, suc, ◌<◌, ◌≤◌, Bool, true, false, IsTrue, List, [], ◌∷◌, length, get_or, map, Some, None, Ok, Err, refl, sym, ◌∙◌, arith}
 use Rattle.std.proofs.lemmas.List.{length-map}
 use Rattle.vx_model.specs.Ty.{Ty, ty_eq}
 use Rattle.vx_tree.specs.Refusal.{slot_range, child_type}
-use Rattle.vx_tree.specs.LayoutTree.{Kind, flat_kind, chunked_kind, struct_kind, list_kind, dict_kind, zoned_kind, unread_zoned_kind, stats_kind, foreign_kind, refused_kind, Lay, layout_kind, layout_type}
+use Rattle.vx_tree.specs.LayoutTree.{Kind, flat_kind, chunked_kind, struct_kind, list_kind, dict_kind, zoned_kind, unread_zoned_kind, stats_kind, foreign_kind, refused_kind, layout_kind, layout_type}
 use Rattle.vx_layout_bytes.specs.declared.node.RawNode.{RawNode, out-RawNode}
-use Rattle.vx_layout_bytes.specs.Node.{Node, nodes_of}
+use Rattle.vx_layout_bytes.specs.Node.{nodes_of}
 use Rattle.vx_layout_bytes.specs.Views.{raw}
 use Rattle.vx_layout_bytes.proofs.Nodes.{raw_is}
 use Rattle.vx_session.specs.Scope.{Scope}
-use Rattle.vx_session.specs.Made.{Made, Kid, kid_at, built_kid, child_at}
+use Rattle.vx_session.specs.Made.{Kid, kid_at, child_at}
 use Rattle.vx_session.specs.Builder.{kids, own_of, builder, is_flat_node, kid_of}
 use Rattle.vx_kinds.specs.declared.kind.LayoutKind.TheVariants as kinds
 use Rattle.vx_kinds.specs.declared.layout.Layout.{Layout}

@@ -1,19 +1,17 @@
 -- Steps over nodes that are kept as they are.
-use Rattle.std.proofs.Common.{◌≡◌, ℕ, zero, suc, ◌+◌, ◌<◌, ◌≤◌, ◌++◌, List, [], ◌∷◌, length, get_or, take, drop, map, Option, Some, None, refl, sym, ◌∙◌, ap, arith}
-use Rattle.std.proofs.lemmas.List.{drop_more, drop_all, take_more, map_push, map_more}
+use Rattle.std.proofs.Common.{◌≡◌, ℕ, zero, suc, ◌+◌, ◌<◌, ◌≤◌, ◌++◌, List, [], ◌∷◌, length, get_or, take, drop, map, refl, arith}
+use Rattle.std.proofs.lemmas.List.{drop_more, drop_all, take_more, map_push}
 use Rattle.vx_model.specs.Ty.{Ty}
-use Rattle.vx_model.specs.declared.segment.SegmentId.{SegmentId}
-use Rattle.vx_tree.specs.LayoutTree.{Lay, Lays, lays_of, lays_in, layout, foreign_kind}
-use Rattle.vx_tree.proofs.LayoutLaws.{lays_in-lays_of}
+use Rattle.vx_tree.specs.LayoutTree.{Lay, lays_of, layout, foreign_kind}
 use Rattle.vx_layout_bytes.specs.declared.node.RawNode.{RawNode, out-RawNode}
-use Rattle.vx_layout_bytes.specs.Node.{Node, node, nodes_of}
+use Rattle.vx_layout_bytes.specs.Node.{nodes_of}
 use Rattle.vx_layout_bytes.specs.Values.{depth, depths}
 use Rattle.vx_layout_bytes.specs.Views.{raw}
 use Rattle.vx_layout_bytes.proofs.Nodes.{raw_is}
 use Rattle.vx_session.specs.Ids.{id_at}
 use Rattle.vx_session.specs.Builder.{unknown_in, unknown_among, unknown_here, earlier, foreign, all_foreign, id_or_none}
 use Rattle.vx_kinds.specs.declared.layout.Layout.{Layout}
-use Rattle.vx_kinds.specs.LayoutView.{lay, number}
+use Rattle.vx_kinds.specs.LayoutView.{lay}
 
 pub unknown_is : (ids : List (List ℕ)) (n : RawNode) → unknown_in ids (raw n) ≡ unknown_here (out-RawNode n).index (id_at ids (out-RawNode n).index) (unknown_among ids (nodes_of (map raw (out-RawNode n).children.items)))
 unknown_is ids n = rw (raw_is n) refl

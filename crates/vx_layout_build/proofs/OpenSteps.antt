@@ -1,14 +1,12 @@
 -- Layouts whose children are still to be built.
-use Rattle.std.proofs.Common.{◌≡◌, ℕ, zero, suc, ◌+◌, ◌-◌, ◌<◌, ◌≤◌, ◌++◌, Bool, true, false, List, [], ◌∷◌, length, map, Option, Some, None, Result, Ok, Err, refl, sym, ◌∙◌, ap, arith}
-use Rattle.std.proofs.lemmas.List.{length-map, append-nil, map-append}
-use Rattle.std.specs.Prelude.{max}
+use Rattle.std.proofs.Common.{◌≡◌, ℕ, suc, ◌+◌, ◌-◌, ◌≤◌, ◌++◌, Bool, true, false, List, [], ◌∷◌, length, map, Option, Some, None, Result, Ok, Err, refl, ◌∙◌, ap, arith}
+use Rattle.std.proofs.lemmas.List.{length-map}
 use Rattle.vx_model.specs.declared.dtype.DType.{DType}
 use Rattle.vx_model.specs.declared.ptype.PType.{PType}
 use Rattle.vx_model.specs.Ty.{Ty, primitive, nullable, is_list}
 use Rattle.vx_model.specs.TyView.{ty}
-use Rattle.vx_tree.specs.LayoutTree.{Kind, Lay, layout, Lays, no_layouts, lays_of, lays_in, row_count, Spec, list_kind, dict_kind, zoned_kind, unread_zoned_kind, stats_kind}
+use Rattle.vx_tree.specs.LayoutTree.{Kind, Lay, layout, lays_of, row_count, Spec, list_kind, dict_kind, zoned_kind, unread_zoned_kind, stats_kind}
 use Rattle.vx_tree.specs.Refusal.{Refusal, no_list}
-use Rattle.vx_tree.proofs.LayoutLaws.{lays_in-lays_of}
 use Rattle.vx_record.specs.Aggregate.{Aggregate, spec}
 use Rattle.vx_aggregate.specs.Stats.{stat_number}
 use Rattle.vx_aggregate.specs.Tables.{stats_table, legacy_table}
@@ -20,8 +18,8 @@ use Rattle.vx_metadata.specs.Values.{Zoned}
 use Rattle.vx_metadata.specs.declared.zoned.AggregateSpec.{AggregateSpec}
 use Rattle.vx_metadata.specs.Views.{spec_of}
 use Rattle.vx_session.specs.Scope.{Context}
-use Rattle.vx_session.specs.Made.{Made, ◌>>=◌, Kid, spelled, needs, child_at, has_children, has_rows, rows_at, standing_at}
-use Rattle.vx_session.specs.Kinds.{Parts, layout_of, element_type, validity_type, build_validity, build_offsets, build_list, build_dict, build_stats, build_zoned, build_zones, read_spec, read_on, in_front as one_in_front, read_specs}
+use Rattle.vx_session.specs.Made.{Made, ◌>>=◌, Kid, spelled, child_at, has_children, has_rows, rows_at, standing_at}
+use Rattle.vx_session.specs.Kinds.{Parts, layout_of, element_type, validity_type, build_offsets, build_list, build_dict, build_stats, build_zoned, build_zones, read_spec, read_on, in_front as one_in_front, read_specs}
 use Rattle.vx_layout_build.specs.declared.open.RowsRule.{RowsRule}
 use Rattle.vx_layout_build.specs.declared.open.RowsRule.TheVariants as rules
 use Rattle.vx_layout_build.specs.declared.open.Wanted.{Wanted}
@@ -29,16 +27,20 @@ use Rattle.vx_layout_build.specs.declared.one_child.OneChild.{OneChild}
 use Rattle.vx_kinds.specs.declared.error.LayoutError.{LayoutError}
 use Rattle.vx_kinds.specs.declared.parts.LayoutParts.{LayoutParts}
 use Rattle.vx_layout_build.specs.declared.one_child.OneChild.TheVariants as ones
-use Rattle.vx_kinds.specs.declared.children.LayoutChildren.{LayoutChildren}
+use Rattle.vx_kinds.specs.declared.children.LayoutChildren.TheVariants as children
+use Rattle.vx_kinds.specs.declared.children.ViewedChildren.{ViewedChildren}
+use Rattle.vx_layout_bytes.specs.declared.node.RawNode.{RawNode}
+use Rattle.vx_layout_bytes.specs.Views.{raw}
+use Rattle.vx_session.specs.Builder.{kid_of, own_of, builder}
+use Rattle.vx_session.specs.Views.{scope_of}
 use Rattle.vx_kinds.specs.declared.layout.Layout.{Layout}
 use Rattle.vx_kinds.specs.LayoutView.{lay, number}
 use Rattle.vx_kinds.specs.KidsView.{layout_kids, chunks}
 use Rattle.vx_kinds.specs.Views.{Fails}
-use Rattle.std.specs.Global.{Vec}
 use Rattle.vx_kinds.specs.ZonedView.{no_columns}
-use Rattle.vx_layout_build.specs.PartsView.{one_kid, one_built, one_depth, children_depth, parts_of}
-use Rattle.vx_layout_build.specs.OpenView.{Children, rows_ruled, pair_kids, triple_kids, list_kids, column_kids, with_rows, wanted_built, all_built, wanted_depths}
-use Rattle.vx_kinds.proofs.KidSteps.{fails_by, length-owned, length-kids}
+use Rattle.vx_layout_build.specs.PartsView.{one_kid, one_built, one_depth, parts_of}
+use Rattle.vx_layout_build.specs.OpenView.{Children, rows_ruled, pair_kids, triple_kids, list_kids, column_kids, with_rows, all_built, wanted_depths}
+use Rattle.vx_kinds.proofs.KidSteps.{fails_by}
 use Rattle.vx_layout_build.proofs.PartSteps.{count_is, counted}
 
 -- ---- children, and then the layout of them
@@ -197,7 +199,11 @@ pub ruleset triple_rules = (triple_wanted, triple_depth, triple_fails)
 pub standing_kept : (t : Ty) (ls : List Layout) (l : Layout) → ls ≡ l ∷ [] → map lay ls ≡ lay l ∷ []
 standing_kept t ls l is = rw is refl
 
-pub ruleset standing_rules = (standing_kept)
+pub standing_viewed : (t : Ty) (v w : ViewedChildren) (n : RawNode) → v ≡ w → w.nodes.items ≡ n ∷ []
+    → chunks t (children.Viewed v) ≡ (kid_of (scope_of w.scope.value) (own_of (raw n)) (builder (scope_of w.scope.value) (raw n))).stands t ∷ []
+standing_viewed t v w n is nodes = rw (is, nodes) refl
+
+pub ruleset standing_rules = (standing_kept, standing_viewed)
 
 -- ---- dictionaries
 

@@ -1,15 +1,15 @@
 -- Children taken out one by one, and checks of parts.
-use Rattle.std.proofs.Common.{◌≡◌, ◌≢◌, ℕ, zero, suc, ◌+◌, ◌<◌, ◌≤◌, ◌++◌, Bool, true, false, List, [], ◌∷◌, length, get_or, drop, map, Result, Ok, Err, refl, sym, ◌∙◌, ap, arith, length-append}
-use Rattle.std.specs.Prelude.{◌==◌, nat_eq}
+use Rattle.std.proofs.Common.{◌≡◌, ℕ, zero, suc, ◌+◌, ◌<◌, ◌≤◌, ◌++◌, Bool, true, false, List, [], ◌∷◌, length, drop, map, Ok, Err, refl, ◌∙◌, ap, arith, length-append}
+use Rattle.std.specs.Prelude.{◌==◌}
 use Rattle.std.proofs.lemmas.List.{length-map}
 use Rattle.std.proofs.lemmas.Bool.Decides.{nat_tests}
-use Rattle.vx_tree.specs.Refusal.{Refusal, child_count, other_rows}
+use Rattle.vx_tree.specs.Refusal.{child_count}
 use Rattle.vx_layout_bytes.specs.declared.node.RawNode.{RawNode}
-use Rattle.vx_layout_bytes.specs.Node.{Node, nodes_of}
+use Rattle.vx_layout_bytes.specs.Node.{nodes_of}
 use Rattle.vx_layout_bytes.specs.Values.{depth, depths}
 use Rattle.vx_layout_bytes.specs.Views.{raw}
 use Rattle.vx_session.specs.Scope.{Scope}
-use Rattle.vx_session.specs.Made.{Made, ◌>>=◌, Kid, needs, rows_at, has_children, has_rows, all_have_rows}
+use Rattle.vx_session.specs.Made.{◌>>=◌, Kid, rows_at, has_children, has_rows, all_have_rows}
 use Rattle.vx_session.specs.Builder.{kids, kid_of, own_of, builder}
 use Rattle.vx_kinds.specs.declared.layout.Layout.{Layout}
 use Rattle.vx_kinds.specs.LayoutView.{lay}

@@ -4,7 +4,7 @@ use Rattle.std.proofs.lemmas.List.{append-nil, append_assoc}
 use Rattle.vx_tree.specs.Refusal.{Refusal}
 use Rattle.vx_tree.specs.LayoutTree.{Lay, children_of}
 use Rattle.vx_session.specs.Made.{◌>>=◌}
-use Rattle.vx_kinds.specs.Children.{answered, child_in}
+use Rattle.vx_kinds.specs.Children.{child_in}
 use Rattle.vx_layout_slots.specs.Slots.{slot_place}
 use Rattle.vx_layout_build.specs.Present.{child_at, child_in_slot, some_child, all_answered}
 use Rattle.vx_kinds.specs.Views.{Fails}

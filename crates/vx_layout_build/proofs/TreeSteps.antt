@@ -1,15 +1,15 @@
 -- Walks over a tree.
-use Rattle.std.proofs.Common.{◌≡◌, ◌≢◌, ℕ, zero, suc, ◌+◌, ◌<◌, ◌≤◌, ◌++◌, Bool, true, false, List, [], ◌∷◌, length, map, Option, Some, None, Result, Ok, Err, refl, sym, ◌∙◌, ap, arith}
-use Rattle.std.specs.Prelude.{◌||◌, if◌then◌else◌, option_map}
+use Rattle.std.proofs.Common.{◌≡◌, ◌≢◌, ℕ, ◌+◌, ◌<◌, ◌++◌, true, false, List, [], ◌∷◌, length, map, Option, Some, None, Result, Ok, Err, refl, sym, ◌∙◌, ap, arith}
+use Rattle.std.specs.Prelude.{option_map}
 use Rattle.std.proofs.lemmas.List.{append-nil, append_assoc, map_push}
 use Rattle.vx_tree.specs.Refusal.{Refusal}
-use Rattle.vx_tree.specs.LayoutTree.{Kind, flat_kind, chunked_kind, struct_kind, list_kind, dict_kind, zoned_kind, unread_zoned_kind, stats_kind, foreign_kind, refused_kind, Lay, Lays, layout, no_layouts, child, layout_kind, lays_in, children_of}
+use Rattle.vx_tree.specs.LayoutTree.{Lay, Lays, layout, no_layouts, child, lays_in, children_of}
 use Rattle.vx_session.specs.Made.{◌>>=◌}
 use Rattle.vx_kinds.specs.declared.error.LayoutError.{LayoutError}
 use Rattle.vx_kinds.specs.declared.error.LayoutError.TheVariants as errors
 use Rattle.vx_layout_build.specs.declared.child.LayoutChild.{LayoutChild}
 use Rattle.vx_layout_build.specs.ChildView.{child_lay}
-use Rattle.vx_kinds.specs.Children.{answered, is_refused}
+use Rattle.vx_kinds.specs.Children.{answered}
 use Rattle.vx_kinds.proofs.Answered.{made_is, refused_is}
 use Rattle.vx_layout_build.specs.PreOrder.{some_refused, pre_order, each_pre_order, below, all_pre_order, stacked, rooted}
 use Rattle.vx_layout_build.specs.Present.{all_answered}

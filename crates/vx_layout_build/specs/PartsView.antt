@@ -1,5 +1,5 @@
 -- Parts as contracts see them.
-use Rattle.std.specs.Prelude.{ℕ, List, map}
+use Rattle.std.specs.Prelude.{ℕ, map}
 use Rattle.vx_model.specs.Ty.{Ty}
 use Rattle.vx_model.specs.TyView.{ty}
 use Rattle.vx_layout_bytes.specs.Node.{nodes_of}

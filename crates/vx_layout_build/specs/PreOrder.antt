@@ -1,5 +1,5 @@
 -- The layouts of a tree in pre-order.
-use Rattle.std.specs.Prelude.{ℕ, Bool, true, false, ◌||◌, if◌then◌else◌, List, [], ◌∷◌, ◌++◌, Option, Some, None}
+use Rattle.std.specs.Prelude.{ℕ, Bool, false, ◌||◌, if◌then◌else◌, List, [], ◌∷◌, ◌++◌, Option, Some, None}
 use Rattle.vx_tree.specs.LayoutTree.{Lay, Lays, layout, no_layouts, child, layout_kind}
 use Rattle.vx_kinds.specs.Children.{is_refused}
 

@@ -15,7 +15,7 @@ use vx_kinds::{
 };
 use vx_session::LayoutBuildContext;
 
-#[tactic(auto, unfolding(vx_kinds::specs::LayoutView::lay, vx_session::specs::Kinds::build_flat))]
+#[tactic(auto, unfolding(vx_session::specs::Kinds::build_flat))]
 pub(crate) fn build_flat(
     alloc: Global,
     within: &LayoutBuildContext,
@@ -38,7 +38,7 @@ pub(crate) fn build_flat(
     Ok(flat.into_layout())
 }
 
-#[tactic(auto, using(vx_kinds::proofs::KidSteps::chunk_rules), unfolding(vx_kinds::specs::LayoutView::lay, vx_session::specs::Kinds::build_chunked))]
+#[tactic(auto, using(vx_kinds::proofs::KidSteps::chunk_rules), unfolding(vx_session::specs::Kinds::build_chunked))]
 pub(crate) fn build_chunked(
     alloc: Global,
     parts: LayoutParts,
@@ -51,7 +51,7 @@ pub(crate) fn build_chunked(
     Ok(Layout::from_parts(alloc, KindParts::Chunked(parts)))
 }
 
-#[tactic(auto, using(vx_kinds::proofs::KidSteps::field_rules), unfolding(vx_kinds::specs::LayoutView::lay, vx_session::specs::Kinds::build_struct))]
+#[tactic(auto, using(vx_kinds::proofs::KidSteps::field_rules), unfolding(vx_session::specs::Kinds::build_struct))]
 pub(crate) fn build_struct(
     alloc: Global,
     parts: LayoutParts,

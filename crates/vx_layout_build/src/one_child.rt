@@ -1,7 +1,12 @@
 //! Children taken out one by one.
 
 ghost use Rattle.std.specs.Prelude.{◌≡◌, ◌≢◌, ◌≤◌, [], ◌∷◌, length, map, MatchOption, MatchResult};
+ghost use Rattle.vx_layout_bytes.specs.Node.{nodes_of};
+ghost use Rattle.vx_layout_bytes.specs.Values.{depths};
+ghost use Rattle.vx_layout_bytes.specs.Views.{raw};
+ghost use Rattle.vx_session.specs.Builder.{kids};
 ghost use Rattle.vx_session.specs.Made.{has_children as children_needed};
+ghost use Rattle.vx_session.specs.Views.{scope_of};
 ghost use Rattle.vx_kinds.specs.KidsView.{layout_kids};
 ghost use Rattle.vx_layout_build.specs.PartsView.{one_kid, one_depth, children_depth};
 ghost use Rattle.vx_kinds.specs.Views.{Fails};
@@ -33,13 +38,7 @@ pub(crate) fn two(children: LayoutChildren) -> Result<(OneChild, OneChild), Layo
         },
         LayoutChildren::Viewed(viewed) => {
             let (scope, nodes) = viewed.into_parts();
-            match take_two(nodes) {
-                Some((first, second)) => {
-                    let same = scope.clone()?;
-                    Ok((OneChild::Node(same, first), OneChild::Node(scope, second)))
-                }
-                None => Err(LayoutError::ChildCount { has, needs: 2 }),
-            }
+            two_nodes(scope, nodes)
         }
     }
 }
@@ -63,19 +62,50 @@ pub(crate) fn three(children: LayoutChildren) -> Result<(OneChild, OneChild, One
         },
         LayoutChildren::Viewed(viewed) => {
             let (scope, nodes) = viewed.into_parts();
-            match take_three(nodes) {
-                Some((first, second, third)) => {
-                    let same = scope.clone()?;
-                    let again = scope.clone()?;
-                    Ok((
-                        OneChild::Node(same, first),
-                        OneChild::Node(again, second),
-                        OneChild::Node(scope, third),
-                    ))
-                }
-                None => Err(LayoutError::ChildCount { has, needs: 3 }),
-            }
+            three_nodes(scope, nodes)
         }
+    }
+}
+
+/// Both nodes, where there are two.
+#[tactic(auto, using(crate::proofs::PartSteps::two_rules))]
+fn two_nodes(scope: Rc<Scope>, nodes: Vec<RawNode>) -> Result<(OneChild, OneChild), LayoutError>
+    ensures { MatchResult result
+        (λ p. (kids (scope_of scope.value) (nodes_of (map raw nodes.items)) ≡ one_kid p.0 ∷ one_kid p.1 ∷ []) × (one_depth p.0 ≤ depths (nodes_of (map raw nodes.items))) × (one_depth p.1 ≤ depths (nodes_of (map raw nodes.items))))
+        (λ e. Fails e (children_needed 2 (kids (scope_of scope.value) (nodes_of (map raw nodes.items))))) }
+{
+    let has = nodes.len() as u64;
+    match take_two(nodes) {
+        Some((first, second)) => {
+            let same = scope.clone()?;
+            Ok((OneChild::Node(same, first), OneChild::Node(scope, second)))
+        }
+        None => Err(LayoutError::ChildCount { has, needs: 2 }),
+    }
+}
+
+/// All nodes, where there are three.
+#[tactic(auto, using(crate::proofs::PartSteps::three_rules))]
+fn three_nodes(
+    scope: Rc<Scope>,
+    nodes: Vec<RawNode>,
+) -> Result<(OneChild, OneChild, OneChild), LayoutError>
+    ensures { MatchResult result
+        (λ p. (kids (scope_of scope.value) (nodes_of (map raw nodes.items)) ≡ one_kid p.0 ∷ one_kid p.1 ∷ one_kid p.2 ∷ []) × (one_depth p.0 ≤ depths (nodes_of (map raw nodes.items))) × (one_depth p.1 ≤ depths (nodes_of (map raw nodes.items))) × (one_depth p.2 ≤ depths (nodes_of (map raw nodes.items))))
+        (λ e. Fails e (children_needed 3 (kids (scope_of scope.value) (nodes_of (map raw nodes.items))))) }
+{
+    let has = nodes.len() as u64;
+    match take_three(nodes) {
+        Some((first, second, third)) => {
+            let same = scope.clone()?;
+            let again = scope.clone()?;
+            Ok((
+                OneChild::Node(same, first),
+                OneChild::Node(again, second),
+                OneChild::Node(scope, third),
+            ))
+        }
+        None => Err(LayoutError::ChildCount { has, needs: 3 }),
     }
 }
 

@@ -56,16 +56,6 @@ pub(crate) struct Open {
     pub(crate) wanted: Vec<Wanted>,
 }
 
-impl Wanted {
-    ghost use Rattle.std.specs.Prelude.{◌≡◌};
-
-    pub(crate) fn new(child: OneChild, dtype: DType, rows: RowsRule) -> Wanted
-        ensures { result ≡ record { child = child; dtype = dtype; rows = rows } }
-    {
-        Wanted { child, dtype, rows }
-    }
-}
-
 impl RowsRule {
     ghost use Rattle.vx_layout_build.specs.OpenView.{rows_ruled};
     ghost use Rattle.vx_kinds.specs.Views.{Gives, done};
@@ -95,8 +85,16 @@ pub(crate) fn pair_of(
         (λ e. Fails e (pair_kids (layout_kids children) (ty first_type) (ty second_type) rows)) }
 {
     let (first, second) = two(children)?;
-    let first = Wanted::new(first, first_type, RowsRule::Any);
-    let second = Wanted::new(second, second_type, rows);
+    let first = Wanted {
+        child: first,
+        dtype: first_type,
+        rows: RowsRule::Any,
+    };
+    let second = Wanted {
+        child: second,
+        dtype: second_type,
+        rows,
+    };
     Ok(vec![in alloc; first, second]?)
 }
 
@@ -114,9 +112,21 @@ pub(crate) fn triple_of(
         (λ e. Fails e (triple_kids (layout_kids children) (ty first_type) (ty second_type) rows)) }
 {
     let (first, second, third) = three(children)?;
-    let first = Wanted::new(first, first_type, RowsRule::Any);
-    let second = Wanted::new(second, second_type, RowsRule::OneMore(rows));
-    let third = Wanted::new(third, flags(), RowsRule::Same(rows));
+    let first = Wanted {
+        child: first,
+        dtype: first_type,
+        rows: RowsRule::Any,
+    };
+    let second = Wanted {
+        child: second,
+        dtype: second_type,
+        rows: RowsRule::OneMore(rows),
+    };
+    let third = Wanted {
+        child: third,
+        dtype: flags(),
+        rows: RowsRule::Same(rows),
+    };
     Ok(vec![in alloc; first, second, third]?)
 }
 
@@ -146,18 +156,19 @@ pub(crate) fn with_built(alloc: Global, frame: Frame, built: Vec<Layout>) -> Lay
     requires { fits frame (length built.items) }
     ensures { lay result ≡ framed frame (map lay built.items) }
 {
-    let parts = match frame {
-        Frame::List(head) => KindParts::List(head, built),
+    match frame {
+        Frame::List(head) => Layout::from_parts(alloc, KindParts::List(head, built)),
         Frame::Dict(head, all_values_referenced) => {
-            KindParts::Dict(head, built, all_values_referenced)
+            Layout::from_parts(alloc, KindParts::Dict(head, built, all_values_referenced))
         }
         Frame::Zoned(head, zone_len, aggregates) => {
-            KindParts::Zoned(head, built, zone_len, aggregates)
+            Layout::from_parts(alloc, KindParts::Zoned(head, built, zone_len, aggregates))
         }
-        Frame::Unread(head, metadata, zones) => KindParts::Unread(head, built, metadata, zones),
+        Frame::Unread(head, metadata, zones) => {
+            Layout::from_parts(alloc, KindParts::Unread(head, built, metadata, zones))
+        }
         Frame::LegacyStats(head, zone_len, stats) => {
-            KindParts::LegacyStats(head, built, zone_len, stats)
+            Layout::from_parts(alloc, KindParts::LegacyStats(head, built, zone_len, stats))
         }
-    };
-    Layout::from_parts(alloc, parts)
+    }
 }

@@ -238,7 +238,12 @@ fn column_of(
         (λ e. e ≡ OutOfMemory) }
 {
     let (column, zones) = two(children)?;
-    let wanted = vec![in alloc; Wanted::new(column, dtype, RowsRule::Any)]?;
+    let column = Wanted {
+        child: column,
+        dtype,
+        rows: RowsRule::Any,
+    };
+    let wanted = vec![in alloc; column]?;
     let zones = standing(alloc, zones)?;
     Ok((wanted, zones))
 }

@@ -1,14 +1,12 @@
 -- Steps of the metadata of layouts.
-use Rattle.std.proofs.Common.{◌≡◌, ℕ, ◌+◌, ◌<◌, ◌^◌, ◌&&◌, Bool, true, List, [], ◌∷◌, length, get_or, take, map, IsTrue, refl, ap, arith, rules}
+use Rattle.std.proofs.Common.{◌≡◌, ◌+◌, true, List, [], ◌∷◌, map, refl, ap, rules}
 use Rattle.std.proofs.lemmas.List.{map_push, length-map}
-use Rattle.std.specs.Int.{w32, to_le_bytes}
 use Rattle.vx_model.specs.Words.{total_by, all_by}
-use Rattle.vx_tree.specs.LayoutTree.{Spec, children_of, lays_of, lays_in, layout_type}
 use Rattle.vx_record.specs.Aggregate.{Aggregate, spec, maximum, minimum, bounded_maximum, bounded_minimum, null_count, sum, bloom}
 use Rattle.vx_aggregate.specs.declared.stat.Stat.{Stat}
 use Rattle.vx_aggregate.specs.declared.stat.Stat.TheVariants as stats
 use Rattle.vx_aggregate.specs.Stats.{stat_number}
-use Rattle.vx_metadata.specs.Kept.{number_bit, second_type}
+use Rattle.vx_metadata.specs.Kept.{number_bit}
 use Rattle.vx_metadata.specs.Spelled.{stat_bit}
 use Rattle.vx_metadata.specs.Values.{is_short_spec}
 

@@ -1,5 +1,5 @@
 -- Walks over slots.
-use Rattle.std.proofs.Common.{◌≡◌, ℕ, zero, suc, ◌+◌, ◌-◌, ◌<◌, ◌≤◌, ◌++◌, ◌==◌, Bool, true, false, IsTrue, ◌↔◌, List, [], ◌∷◌, length, get_or, take, map, Option, Some, None, refl, sym, ◌∙◌, ap, subst, arith}
+use Rattle.std.proofs.Common.{◌≡◌, ℕ, zero, suc, ◌+◌, ◌-◌, ◌<◌, ◌≤◌, ◌==◌, Bool, true, false, List, [], ◌∷◌, length, get_or, take, map, Option, Some, None, refl, sym, ◌∙◌, subst, arith}
 use Rattle.std.specs.Prelude.{if◌then◌else◌, nat_lt, is_some, IsSome, codes}
 use Rattle.std.proofs.lemmas.Bool.{ltb-true, eqb-false}
 use Rattle.vx_model.specs.Words.{total_by}
@@ -10,7 +10,7 @@ use Rattle.vx_layout_slots.specs.declared.child_type.LayoutChildType.TheVariants
 use Rattle.vx_kinds.specs.declared.kind.LayoutKind.TheVariants as kinds
 use Rattle.vx_kinds.specs.Children.{fields_of, kind_name}
 use Rattle.vx_layout_slots.specs.Slots.{slots, kind_slots, slot_place, slot_type, below, bracketed, field_type, kind_place, kind_type, child_offset}
-use Rattle.vx_layout_slots.specs.SlotTypes.{one_type, type_in_slot, types_from, kind_row, chunk_row}
+use Rattle.vx_layout_slots.specs.SlotTypes.{types_from, kind_row, chunk_row}
 use Rattle.vx_layout_slots.specs.SlotWalk.{row_of_slot}
 use Rattle.vx_kinds.specs.declared.children.LayoutChildren.{LayoutChildren}
 use Rattle.vx_kinds.specs.KidsView.{chunks, layout_kids}

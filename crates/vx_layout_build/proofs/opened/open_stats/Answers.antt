@@ -1,4 +1,4 @@
-use Rattle.std.proofs.Common.{◌∙◌, sym}
+use Rattle.std.proofs.Common.{◌∙◌}
 use Rattle.vx_model.specs.TyView.{ty}
 use Rattle.vx_layout_build.proofs.OpenSteps.{stats_opens}
 use Rattle.vx_layout_build.proofs.opened.open_stats.Goals as goal

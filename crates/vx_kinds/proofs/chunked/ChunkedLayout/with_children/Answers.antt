@@ -1,11 +1,8 @@
 use Rattle.std.proofs.Common.{◌≡◌, refl, sym, ◌∙◌, map}
 use Rattle.vx_model.specs.Words.{total_by}
 use Rattle.vx_tree.specs.LayoutTree.{row_count, layout_type}
-use Rattle.vx_session.specs.Made.{kid_rows}
-use Rattle.vx_kinds.specs.declared.children.LayoutChildren.{LayoutChildren}
 use Rattle.vx_kinds.specs.declared.children.LayoutChildren.TheVariants as children
 use Rattle.vx_kinds.specs.LayoutView.{lay}
-use Rattle.vx_kinds.specs.KidsView.{layout_kids}
 use Rattle.vx_kinds.proofs.KidSteps.{chunk_sum}
 use Rattle.vx_kinds.proofs.OwnSteps.{other_chunks}
 use Rattle.vx_kinds.proofs.chunked.ChunkedLayout.with_children.Goals as goal

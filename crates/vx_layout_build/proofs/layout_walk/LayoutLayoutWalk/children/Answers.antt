@@ -5,7 +5,7 @@ use Rattle.vx_tree.specs.LayoutTree.{children_of}
 use Rattle.vx_layout_build.specs.ChildView.{child_lay}
 use Rattle.vx_kinds.specs.LayoutView.{lay}
 use Rattle.vx_layout_build.proofs.PresentSteps.{next_child, child_refused, whole}
-use Rattle.vx_layout_build.proofs.layout.Layout.children.Goals as goal
+use Rattle.vx_layout_build.proofs.layout_walk.LayoutLayoutWalk.children.Goals as goal
 
 pub returns-in_err-child : goal.returns-in_err-child
 returns-in_err-child c =

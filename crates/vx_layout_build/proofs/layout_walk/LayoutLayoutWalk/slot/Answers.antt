@@ -2,7 +2,7 @@ use Rattle.std.proofs.Common.{◌≤◌, length, arith}
 use Rattle.vx_tree.specs.LayoutTree.{children_of}
 use Rattle.vx_kinds.specs.LayoutView.{lay}
 use Rattle.vx_layout_build.proofs.PresentSteps.{past_children}
-use Rattle.vx_layout_build.proofs.layout.Layout.slot.Goals as goal
+use Rattle.vx_layout_build.proofs.layout_walk.LayoutLayoutWalk.slot.Goals as goal
 
 pub returns-then-place-nchildren : goal.returns-then-place-nchildren
 returns-then-place-nchildren c =

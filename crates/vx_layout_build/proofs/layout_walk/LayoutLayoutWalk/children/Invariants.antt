@@ -4,7 +4,7 @@ use Rattle.vx_layout_build.specs.ChildView.{child_lay}
 use Rattle.vx_kinds.specs.LayoutView.{lay}
 use Rattle.vx_layout_build.specs.Present.{all_answered}
 use Rattle.vx_layout_build.proofs.PresentSteps.{onto}
-use Rattle.vx_layout_build.proofs.layout.Layout.children.Given as goal
+use Rattle.vx_layout_build.proofs.layout_walk.LayoutLayoutWalk.children.Given as goal
 
 abbrev pub invariant-loop-i : goal.invariant-loop-i
 invariant-loop-i l = onto (map child_lay l.children.items) (all_answered (drop l.i (children_of (lay l.self)))) ≡ all_answered (children_of (lay l.self))

@@ -5,7 +5,7 @@ use Rattle.vx_session.specs.Views.{scope_of}
 use Rattle.vx_kinds.specs.LayoutView.{lay}
 use Rattle.vx_kinds.proofs.KidSteps.{length-owned, length-kids}
 use Rattle.vx_layout_build.proofs.ChildSteps.{kept_flat, node_flat}
-use Rattle.vx_layout_build.proofs.children.LayoutChildren.child_is_indivisible.Goals as goal
+use Rattle.vx_layout_build.proofs.child_at.LayoutChildrenLayoutChildrenWalk.child_is_indivisible.Goals as goal
 
 pub returns-in-Owned : goal.returns-in-Owned
 returns-in-Owned c =
@@ -18,4 +18,5 @@ returns-in-Viewed c =
     let ns = c.in-Viewed.viewed.nodes.items in
     let s = scope_of c.in-Viewed.viewed.scope.value in
     let lt : c.args.index < length ns = omega (arith, rw c.in-Viewed.is at c.requires, length-kids s (map raw ns), length-map ns raw) in
-    rw c.in-Viewed.is (c.is_flat_in.ensures ∙ rw c.deref.ensures (node_flat s ns c.args.index c.index-in-Viewed.result.now lt c.index-in-Viewed.ensures))
+    let is = rw c.as_parts.ensures.nodes at c.index-in-Viewed.ensures in
+    rw c.in-Viewed.is (c.is_flat_in.ensures ∙ rw (c.deref.ensures, c.as_parts.ensures.scope) (node_flat s ns c.args.index c.index-in-Viewed.result.now lt is))
