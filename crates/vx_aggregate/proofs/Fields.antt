@@ -6,7 +6,7 @@ use Rattle.vx_model.specs.Ty.{Ty, Named}
 use Rattle.vx_model.specs.TyView.{ty}
 use Rattle.vx_model.specs.declared.dtype.DType.{DType}
 use Rattle.vx_model.proofs.Views.{view_rules}
-use Rattle.vx_record.specs.Aggregate.{state_type, with_state, held_aggregates}
+use Rattle.vx_aggregate_spec.specs.Aggregate.{state_type, with_state, held_aggregates}
 use Rattle.vx_aggregate.specs.AggregateView.{aggregate}
 use Rattle.vx_aggregate.specs.Tables.{column_field, stat_fields}
 use Rattle.vx_aggregate.specs.declared.aggregate.AggregateFn.{AggregateFn}

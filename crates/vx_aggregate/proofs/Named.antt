@@ -4,13 +4,13 @@ use Rattle.std.proofs.lemmas.Grind.{common_steps}
 use Rattle.std.specs.Prelude.{◌&&◌, nat_lt, codes, bytes_eq, MatchResult, if◌then◌else◌}
 use Rattle.std.proofs.lemmas.Bool.Decides.{nat_tests}
 use Rattle.std.specs.Int.{w32, to_le_bytes}
-use Rattle.vx_bloom.specs.Bytes.{number_bytes, number_at}
-use Rattle.vx_bloom.specs.Options.{blocks_in, hash_fn_in, hash_number, options_bytes, ReadsOptions}
-use Rattle.vx_bloom.specs.declared.options.BloomOptions.{BloomOptions}
-use Rattle.vx_bloom.specs.declared.options.OptionsError.{OptionsError}
-use Rattle.vx_bloom.specs.declared.options.OptionsError.TheVariants as errors
-use Rattle.vx_bloom.proofs.ReadOptions.{ReadsTwo, reads_two, hash_number_zero}
-use Rattle.vx_record.specs.Aggregate.{Aggregate, aggregate_id, option_bytes, maximum, minimum, bounded_maximum, bounded_minimum, null_count, sum, bloom, has_options}
+use Rattle.vx_bloom_spec.specs.Bytes.{number_bytes, number_at}
+use Rattle.vx_bloom_options.specs.Options.{blocks_in, hash_fn_in, hash_number, options_bytes, ReadsOptions}
+use Rattle.vx_bloom_options.specs.declared.options.BloomOptions.{BloomOptions}
+use Rattle.vx_bloom_options.specs.declared.options.OptionsError.{OptionsError}
+use Rattle.vx_bloom_options.specs.declared.options.OptionsError.TheVariants as errors
+use Rattle.vx_bloom_options.proofs.ReadOptions.{ReadsTwo, reads_two, hash_number_zero}
+use Rattle.vx_aggregate_spec.specs.Aggregate.{Aggregate, aggregate_id, option_bytes, maximum, minimum, bounded_maximum, bounded_minimum, null_count, sum, bloom, has_options}
 use Rattle.vx_aggregate.specs.AggregateView.{aggregate}
 use Rattle.vx_aggregate.specs.Specs.{NamesAggregate}
 use Rattle.vx_aggregate.specs.declared.aggregate.AggregateFn.{AggregateFn}

@@ -1,6 +1,6 @@
 -- An aggregate as contracts see it.
 use Rattle.std.specs.Int.NonZero.{non_zero_u32_get}
-use Rattle.vx_record.specs.Aggregate.{Aggregate, maximum, minimum, bounded_maximum, bounded_minimum, null_count, sum, bloom}
+use Rattle.vx_aggregate_spec.specs.Aggregate.{Aggregate, maximum, minimum, bounded_maximum, bounded_minimum, null_count, sum, bloom}
 use Rattle.vx_aggregate.specs.declared.aggregate.AggregateFn.{AggregateFn}
 use Rattle.vx_aggregate.specs.declared.aggregate.AggregateFn.TheVariants.{Max, Min, BoundedMax, BoundedMin, NullCount, Sum, Bloom}
 

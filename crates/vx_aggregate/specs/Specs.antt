@@ -1,6 +1,6 @@
 -- Which aggregate an id and option bytes name.
 use Rattle.std.specs.Prelude.{◌≡◌, ◌≢◌, ℕ, true, List, Result, Ok, Err}
-use Rattle.vx_record.specs.Aggregate.{Aggregate, aggregate_id, option_bytes, has_options}
+use Rattle.vx_aggregate_spec.specs.Aggregate.{Aggregate, aggregate_id, option_bytes, has_options}
 use Rattle.vx_aggregate.specs.AggregateView.{aggregate}
 use Rattle.vx_aggregate.specs.declared.aggregate.AggregateFn.{AggregateFn}
 use Rattle.vx_aggregate.specs.declared.spec.SpecError.{SpecError}

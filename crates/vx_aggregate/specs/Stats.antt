@@ -2,7 +2,7 @@
 use Rattle.std.specs.Prelude.{ℕ, true, List, codes, Option, Some, None}
 use Rattle.vx_model.specs.declared.ptype.PType.TheVariants.{U64}
 use Rattle.vx_model.specs.Ty.{Ty, primitive}
-use Rattle.vx_record.specs.Aggregate.{Aggregate, maximum, minimum, null_count, sum, state_type}
+use Rattle.vx_aggregate_spec.specs.Aggregate.{Aggregate, maximum, minimum, null_count, sum, state_type}
 use Rattle.vx_aggregate.specs.declared.stat.Stat.{Stat}
 use Rattle.vx_aggregate.specs.declared.stat.Stat.TheVariants as stats
 

@@ -2,7 +2,7 @@
 use Rattle.std.specs.Prelude.{Bool, true, false, List, [], ◌∷◌, codes, map, Option, Some, None}
 use Rattle.vx_model.specs.Words.{joined_by}
 use Rattle.vx_model.specs.Ty.{Ty, Named, boolean, struct, tys_of}
-use Rattle.vx_record.specs.Aggregate.{Aggregate, Column, display, held_aggregates}
+use Rattle.vx_aggregate_spec.specs.Aggregate.{Aggregate, Column, display, held_aggregates}
 use Rattle.vx_aggregate.specs.Stats.{stat_name, stat_state}
 use Rattle.vx_aggregate.specs.declared.stat.Stat.{Stat}
 use Rattle.vx_aggregate.specs.declared.stat.Stat.TheVariants as stats

@@ -22,7 +22,7 @@ pub enum AggregateFn {
 impl AggregateFn {
     ghost use Rattle.std.specs.Prelude.{◌≡◌, IsOkAnd, option_map};
     ghost use Rattle.vx_model.specs.TyView.{ty};
-    ghost use Rattle.vx_record.specs.Aggregate.{aggregate_id, state_type};
+    ghost use Rattle.vx_aggregate_spec.specs.Aggregate.{aggregate_id, state_type};
     ghost use Rattle.vx_aggregate.specs.AggregateView.{aggregate};
 
     pub fn id(&self) -> &'static str
@@ -56,7 +56,7 @@ impl AggregateFn {
 
 impl fmt::Display for AggregateFn {
     ghost use Rattle.std.specs.Prelude.{Some};
-    ghost use Rattle.vx_record.specs.Aggregate.{display};
+    ghost use Rattle.vx_aggregate_spec.specs.Aggregate.{display};
     ghost use Rattle.vx_aggregate.specs.AggregateView.{aggregate};
 
     ghost output = { λ a. Some (display (aggregate a)) };

@@ -3,14 +3,14 @@
 ghost use Rattle.std.specs.Prelude.{◌≡◌, ◌≢◌, ℕ, ◌<◌, ◌^◌, [], MatchResult, MatchOption};
 ghost use Rattle.std.specs.Int.{w32, to_le_bytes};
 ghost use Rattle.std.specs.Int.NonZero.{non_zero_u32_get};
-ghost use Rattle.vx_record.specs.Aggregate.{option_bytes, bloom};
+ghost use Rattle.vx_aggregate_spec.specs.Aggregate.{option_bytes, bloom};
 ghost use Rattle.vx_aggregate.specs.declared.spec.SpecError.TheVariants.{Options};
 
 use crate::aggregate::AggregateFn;
 use std::alloc::{AllocError, Global};
 use std::num::NonZeroU32;
 use thiserror::Error;
-use vx_bloom::{BloomOptions, HashFn};
+use vx_bloom_options::{BloomOptions, HashFn};
 
 /// Why an id and option bytes name no aggregate. The id is looked at first.
 #[derive(Clone, Copy, Debug, PartialEq, Eq, Error)]
@@ -23,12 +23,12 @@ pub enum SpecError {
 
 impl AggregateFn {
     ghost use Rattle.std.specs.Prelude.{◌≡◌, IfOk};
-    ghost use Rattle.vx_record.specs.Aggregate.{option_bytes};
+    ghost use Rattle.vx_aggregate_spec.specs.Aggregate.{option_bytes};
     ghost use Rattle.vx_aggregate.specs.AggregateView.{aggregate};
     ghost use Rattle.vx_aggregate.specs.Specs.{NamesAggregate};
 
     /// The options as bytes: a bound as four bytes, a filter's options as eight, low byte first.
-    #[tactic(auto, unfolding(vx_bloom::specs::Bytes::number_bytes))]
+    #[tactic(auto, unfolding(vx_bloom_spec::specs::Bytes::number_bytes))]
     pub fn options(&self, alloc: Global) -> Result<Vec<u8>, AllocError>
         ensures { IfOk result (λ bytes. bytes.items ≡ option_bytes (aggregate self.now)) }
     {

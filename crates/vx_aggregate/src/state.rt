@@ -2,7 +2,7 @@
 
 ghost use Rattle.std.specs.Prelude.{◌≡◌, option_map};
 ghost use Rattle.vx_model.specs.TyView.{ty};
-ghost use Rattle.vx_record.specs.Aggregate.{bound_state as bounds, byte_bound_state as byte_bounds, sum_state as sums, sum_of_type, sum_type as summed, filter_state as filters};
+ghost use Rattle.vx_aggregate_spec.specs.Aggregate.{bound_state as bounds, byte_bound_state as byte_bounds, sum_state as sums, sum_of_type, sum_type as summed, filter_state as filters};
 
 use vx_model::{DType, Nullability, PType};
 

@@ -3,7 +3,7 @@
 ghost use Rattle.std.specs.Prelude.{◌≡◌, false, [], ◌∷◌, ◌++◌, map, IfOk, OnOk, option_map};
 ghost use Rattle.vx_model.specs.Ty.{boolean};
 ghost use Rattle.vx_model.specs.TyView.{ty, field_ty};
-ghost use Rattle.vx_record.specs.Aggregate.{default_aggregates, state_type, with_state};
+ghost use Rattle.vx_aggregate_spec.specs.Aggregate.{default_aggregates, state_type, with_state};
 ghost use Rattle.vx_aggregate.specs.AggregateView.{aggregate as aggregate_of};
 ghost use Rattle.vx_aggregate.specs.Stats.{stat_state};
 ghost use Rattle.vx_aggregate.specs.Tables.{column_field, stats_table, cut_flag, stat_fields, legacy_table};

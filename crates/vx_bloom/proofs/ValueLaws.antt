@@ -6,14 +6,14 @@ use Rattle.std.proofs.lemmas.List.{append-nil, drop_more}
 use Rattle.vx_model.specs.declared.row_value.Value.{Value}
 use Rattle.vx_model.specs.declared.row_value.Value as vl
 use Rattle.vx_model.specs.TreeView.{val}
-use Rattle.vx_model.specs.Ty.{Ty, boolean, primitive, utf8, binary, list, struct, extension}
-use Rattle.vx_model.specs.Val.{Val, bytes_value}
-use Rattle.vx_bloom.specs.Blocks.{Block}
-use Rattle.vx_bloom.specs.Filter.{filter_of, inserted}
-use Rattle.vx_bloom.specs.Values.{is_hashed, is_unsupported, hashed_bytes, value_hash, value_hashes, all_inserted, any_unsupported}
-use Rattle.vx_bloom.proofs.Filters.{inserted_of}
+use Rattle.vx_model.specs.Ty.{Ty, boolean, primitive, utf8, binary, list, struct, extension, has_order}
+use Rattle.vx_model.specs.ValueData.{ValueData, bytes_value}
+use Rattle.vx_bloom_spec.specs.Blocks.{Block}
+use Rattle.vx_bloom_spec.specs.Filter.{filter_of, inserted}
+use Rattle.vx_bloom_spec.specs.Values.{is_unsupported, hashed_bytes, value_hash, value_hashes, all_inserted, any_unsupported}
+use Rattle.vx_bloom_spec.proofs.Filters.{inserted_of}
 
-unhashed : (t : Ty) (v : Val) → is_hashed t ≡ false → hashed_bytes t v ≡ None
+unhashed : (t : Ty) (v : ValueData) → has_order t ≡ false → hashed_bytes t v ≡ None
 unhashed (boolean n) v e = cc
 unhashed (primitive p n) v e = cc
 unhashed (utf8 n) v e = cc
@@ -22,10 +22,10 @@ unhashed (list t n) v e = refl
 unhashed (struct fs n) v e = refl
 unhashed (extension tag t) v e = unhashed t v e
 
-unsupported_unhashed : (t : Ty) (v : Val) → is_unsupported t v ≡ true → is_hashed t ≡ false
+unsupported_unhashed : (t : Ty) (v : ValueData) → is_unsupported t v ≡ true → has_order t ≡ false
 unsupported_unhashed t v e = grind arith
 
-pub unsupported_none : (hash : List ℕ → ℕ) (t : Ty) (v : Val) → is_unsupported t v ≡ true → value_hash hash t v ≡ None
+pub unsupported_none : (hash : List ℕ → ℕ) (t : Ty) (v : ValueData) → is_unsupported t v ≡ true → value_hash hash t v ≡ None
 unsupported_none hash t v e = ap (option_map hash) (unhashed t v (unsupported_unhashed t v e))
 
 pub all_inserted-append : (blocks : List Block) (xs ys : List ℕ) → all_inserted blocks (xs ++ ys) ≡ all_inserted (all_inserted blocks xs) ys

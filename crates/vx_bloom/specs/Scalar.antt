@@ -1,19 +1,18 @@
 -- What a filter's stored value is, and what reading it answers.
 use Rattle.std.specs.Prelude.{◌≡◌, ◌≢◌, ℕ, ◌/◌, Bool, true, false, if◌then◌else◌, List, [], length, Option, Some, None, Result, Ok, Err}
-use Rattle.vx_model.specs.Ty.{Ty, binary}
-use Rattle.vx_model.specs.Val.{Val, null_value, bytes_value}
+use Rattle.vx_model.specs.Ty.{Ty, binary, has_order}
+use Rattle.vx_model.specs.ValueData.{ValueData, null_value, bytes_value}
 use Rattle.vx_bloom.specs.declared.partial.PartialError.{PartialError}
 use Rattle.vx_bloom.specs.declared.partial.PartialError.TheVariants.{Length, BlockCount, OutOfMemory}
-use Rattle.vx_bloom.specs.Blocks.{Block}
-use Rattle.vx_bloom.specs.Bytes.{filter_bytes, AreBlocks, IsFilterLength}
-use Rattle.vx_bloom.specs.Filter.{filter_of}
-use Rattle.vx_bloom.specs.Values.{is_hashed}
+use Rattle.vx_bloom_spec.specs.Blocks.{Block}
+use Rattle.vx_bloom_spec.specs.Bytes.{filter_bytes, AreBlocks, IsFilterLength}
+use Rattle.vx_bloom_spec.specs.Filter.{filter_of}
 
 -- the type of a column's filter as a value: nullable bytes, for each type whose values are hashed
 abbrev pub filter_type : Ty → Option Ty
-filter_type t = if is_hashed t then Some (binary true) else None
+filter_type t = if has_order t then Some (binary true) else None
 
-abbrev pub is_stored : Val → Bool
+abbrev pub is_stored : ValueData → Bool
 is_stored null_value = true
 is_stored (bytes_value b) = true
 is_stored v = false
@@ -32,7 +31,7 @@ ReadsBytes blocks bytes (Err Length) = ¬ IsFilterLength (length bytes)
 ReadsBytes blocks bytes (Err BlockCount) = IsFilterLength (length bytes) × (length bytes / 32 ≢ blocks)
 ReadsBytes blocks bytes (Err OutOfMemory) = IsFilterLength (length bytes)
 
-abbrev pub ReadsStored : ℕ → Val → Result (List Block) PartialError → Type 0
+abbrev pub ReadsStored : ℕ → ValueData → Result (List Block) PartialError → Type 0
 ReadsStored blocks null_value r = ReadsNull blocks r
 ReadsStored blocks (bytes_value bytes) r = ReadsBytes blocks bytes r
 ReadsStored blocks v r = ⊥

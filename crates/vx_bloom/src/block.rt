@@ -1,8 +1,8 @@
 // Blocks of eight lanes.
 
 ghost use Rattle.std.specs.Prelude.{◌≡◌, ◌==◌, ◌↔◌, ◌<◌, ◌≤◌, ◌^◌, IsTrue, length, bit_and};
-ghost use Rattle.vx_bloom.specs.Filter.{block_of, or_blocks};
-ghost use Rattle.vx_bloom.specs.Blocks.{chosen_bit, mask, no_lanes, full_lanes, or_lanes, covers};
+ghost use Rattle.vx_bloom_spec.specs.Filter.{block_of, or_blocks};
+ghost use Rattle.vx_bloom_spec.specs.Blocks.{chosen_bit, mask, no_lanes, full_lanes, or_lanes, covers};
 
 /// The lanes of a block.
 pub(crate) const LANES: usize = 8;
@@ -21,7 +21,7 @@ const SALTS: Block = [
 ];
 
 #[inline(always)]
-#[tactic(auto, unfolding(crate::specs::Blocks::chosen_bit))]
+#[tactic(auto, unfolding(vx_bloom_spec::specs::Blocks::chosen_bit))]
 fn chosen_bit(hash: u64, salt: u32) -> u32
     ensures { result ≡ chosen_bit hash salt }
 {
@@ -30,7 +30,7 @@ fn chosen_bit(hash: u64, salt: u32) -> u32
 }
 
 #[inline(always)]
-#[tactic(auto, unfolding(crate::specs::Blocks::mask))]
+#[tactic(auto, unfolding(vx_bloom_spec::specs::Blocks::mask))]
 pub(crate) fn mask(hash: u64) -> Block
     ensures { result ≡ mask hash }
 {
@@ -46,7 +46,7 @@ pub(crate) fn mask(hash: u64) -> Block
     ]
 }
 
-#[tactic(auto, unfolding(crate::specs::Blocks::no_lanes))]
+#[tactic(auto, unfolding(vx_bloom_spec::specs::Blocks::no_lanes))]
 pub(crate) fn no_lanes() -> Block
     ensures { result ≡ no_lanes }
 {
@@ -54,7 +54,7 @@ pub(crate) fn no_lanes() -> Block
 }
 
 #[inline(always)]
-#[tactic(auto, unfolding(crate::specs::Blocks::or_lanes))]
+#[tactic(auto, unfolding(vx_bloom_spec::specs::Blocks::or_lanes))]
 pub(crate) fn or_lanes(a: &Block, b: &Block) -> Block
     ensures { result ≡ or_lanes a.now b.now }
 {
@@ -79,7 +79,7 @@ fn lane_covers(lane: u32, bits: u32) -> bool
 
 /// Whether each bit of `bits` is in the block.
 #[inline(always)]
-#[tactic(auto, unfolding(crate::specs::Blocks::covers))]
+#[tactic(auto, unfolding(vx_bloom_spec::specs::Blocks::covers))]
 pub(crate) fn covers(block: &Block, bits: &Block) -> bool
     ensures { result ≡ covers block.now bits.now }
 {
@@ -95,7 +95,7 @@ pub(crate) fn covers(block: &Block, bits: &Block) -> bool
 
 /// Whether each bit of the block is set.
 #[inline(always)]
-#[tactic(auto, unfolding(crate::specs::Blocks::full_lanes))]
+#[tactic(auto, unfolding(vx_bloom_spec::specs::Blocks::full_lanes))]
 pub(crate) fn is_full(block: &Block) -> bool
     ensures { IsTrue result ↔ (block.now ≡ full_lanes) }
 {
@@ -104,7 +104,7 @@ pub(crate) fn is_full(block: &Block) -> bool
 
 /// The block that a hash falls into, of so many.
 #[inline(always)]
-#[tactic(auto, using(crate::proofs::Places::place_rules))]
+#[tactic(auto, using(vx_bloom_spec::proofs::Places::place_rules))]
 pub(crate) fn block_of(hash: u64, blocks: usize) -> usize
     requires some { 1 ≤ blocks }
     requires few { blocks < 2 ^ 32 }
@@ -115,7 +115,7 @@ pub(crate) fn block_of(hash: u64, blocks: usize) -> usize
 }
 
 /// Lays the other blocks over these, one by one.
-#[tactic(auto, using(crate::proofs::Places::or_rules))]
+#[tactic(auto, using(vx_bloom_spec::proofs::Places::or_rules))]
 pub(crate) fn or_into(blocks: &mut Vec<Block>, others: &[Block])
     requires { length blocks.old.items ≡ length others.now }
     ensures { blocks.new.items ≡ or_blocks blocks.old.items others.now }

@@ -1,30 +1,16 @@
-// Numbers of 32 bits and blocks as bytes, low byte first.
+// Blocks as bytes, low byte first.
 
 ghost use Rattle.std.specs.Prelude.{◌≡◌, ◌+◌, ◌*◌, ◌≤◌, ◌++◌, length, OnOk, IfOk};
-ghost use Rattle.vx_bloom.specs.Bytes.{number_bytes, number_at, block_bytes, block_at, filter_bytes, filter_at, AreBlocks};
+ghost use Rattle.vx_bloom_spec.specs.Bytes.{block_bytes, block_at, filter_bytes, filter_at, AreBlocks};
 
 use crate::block::Block;
 use std::alloc::{AllocError, Global};
+use vx_bloom_options::{number_at, push_number};
 
 /// Bytes of a block.
 pub(crate) const BLOCK_LEN: usize = 32;
 
-#[tactic(auto, unfolding(crate::specs::Bytes::number_bytes))]
-pub(crate) fn push_number(out: &mut Vec<u8>, number: u32) -> Result<(), AllocError>
-    ensures { OnOk result (out.new.items ≡ out.old.items ++ number_bytes number) }
-{
-    out.extend_from_slice(&number.to_le_bytes())
-}
-
-#[tactic(auto, unfolding(crate::specs::Bytes::number_at))]
-pub(crate) fn number_at(bytes: &[u8], at: usize) -> u32
-    requires { at + 4 ≤ length bytes.now }
-    ensures { result ≡ number_at bytes.now at }
-{
-    u32::from_le_bytes([bytes[at], bytes[at + 1], bytes[at + 2], bytes[at + 3]])
-}
-
-#[tactic(auto, using(crate::proofs::ReadBack::block_rules), unfolding(crate::specs::Bytes::block_bytes))]
+#[tactic(auto, using(vx_bloom_spec::proofs::ReadBack::block_rules), unfolding(vx_bloom_spec::specs::Bytes::block_bytes))]
 pub(crate) fn push_block(out: &mut Vec<u8>, block: &Block) -> Result<(), AllocError>
     ensures { OnOk result (out.new.items ≡ out.old.items ++ block_bytes block.now) }
 {
@@ -34,7 +20,7 @@ pub(crate) fn push_block(out: &mut Vec<u8>, block: &Block) -> Result<(), AllocEr
     Ok(())
 }
 
-#[tactic(auto, unfolding(crate::specs::Bytes::block_at))]
+#[tactic(auto, unfolding(vx_bloom_spec::specs::Bytes::block_at))]
 pub(crate) fn block_at(bytes: &[u8], at: usize) -> Block
     requires { at + 32 ≤ length bytes.now }
     ensures { result ≡ block_at bytes.now at }
@@ -52,7 +38,7 @@ pub(crate) fn block_at(bytes: &[u8], at: usize) -> Block
 }
 
 // The blocks that the bytes spell.
-#[tactic(auto, using(crate::proofs::ReadBack::blocks_rules))]
+#[tactic(auto, using(vx_bloom_spec::proofs::ReadBack::blocks_rules))]
 pub(crate) fn blocks_at(alloc: Global, bytes: &[u8], count: usize) -> Result<Vec<Block>, AllocError>
     requires { length bytes.now ≡ 32 * count }
     ensures bytes { IfOk result (λ v. filter_bytes v.items ≡ bytes.now) }

@@ -5,18 +5,18 @@ ghost use Rattle.std.specs.Option.{option_map};
 ghost use Rattle.vx_hash.specs.XxHash3.{xxhash3_64};
 ghost use Rattle.vx_model.specs.TyView.{ty};
 ghost use Rattle.vx_model.specs.TreeView.{val};
-ghost use Rattle.vx_model.specs.Val.{bytes_value};
-ghost use Rattle.vx_bloom.specs.Blocks.{Block, full_lanes};
-ghost use Rattle.vx_bloom.specs.Bytes.{filter_bytes, AreBlocks};
-ghost use Rattle.vx_bloom.specs.Filter.{filter_of, or_blocks};
-ghost use Rattle.vx_bloom.specs.Options.{blocks_in};
+ghost use Rattle.vx_model.specs.ValueData.{bytes_value, is_row_value};
+ghost use Rattle.vx_bloom_spec.specs.Blocks.{Block, full_lanes};
+ghost use Rattle.vx_bloom_spec.specs.Bytes.{filter_bytes, AreBlocks};
+ghost use Rattle.vx_bloom_spec.specs.Filter.{filter_of, or_blocks};
+ghost use Rattle.vx_bloom_options.specs.Options.{blocks_in};
 ghost use Rattle.vx_bloom.specs.Scalar.{filter_type, is_stored, ReadsStored};
-ghost use Rattle.vx_bloom.specs.Values.{is_row_value, any_unsupported, value_hashes, all_inserted};
+ghost use Rattle.vx_bloom_spec.specs.Values.{any_unsupported, value_hashes, all_inserted};
 
-use crate::options::BloomOptions;
 use crate::partial::{BlockCount, BloomPartial, PartialError};
-use crate::scalar::{Unsupported, is_hashed, is_unsupported};
+use crate::scalar::{Unsupported, has_order, is_unsupported};
 use std::alloc::{AllocError, Global};
+use vx_bloom_options::BloomOptions;
 use vx_hash::XxHash3_64;
 use vx_model::{Blob, DType, Nullability, Value};
 
@@ -37,7 +37,7 @@ impl BloomFilter {
     pub fn state_dtype(&self, column: &DType) -> Result<Option<DType>, AllocError>
         ensures { IsOkAnd result (λ state. option_map ty state ≡ filter_type (ty column.now)) }
     {
-        if is_hashed(column) {
+        if has_order(column) {
             Ok(Some(DType::Binary(Nullability::Nullable)))
         } else {
             Ok(None)

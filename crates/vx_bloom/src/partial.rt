@@ -2,18 +2,18 @@
 
 ghost use Rattle.std.specs.Prelude.{nat_eq, ◌≡◌, ◌<◌, ◌≢◌, ◌↔◌, ◌++◌, ◌∷◌, [], List, ℕ, IsTrue, All, Contains, length, replicate, IfOk, OnOk, OnErr, IsErr};
 ghost use lib.Pointwise.{pointwise};
-ghost use Rattle.vx_bloom.specs.Blocks.{Block, no_lanes, full_lanes};
-ghost use Rattle.vx_bloom.specs.Bytes.{filter_bytes, filter_at, AreBlocks};
+ghost use Rattle.vx_bloom_spec.specs.Blocks.{Block, no_lanes, full_lanes};
+ghost use Rattle.vx_bloom_spec.specs.Bytes.{filter_bytes, filter_at, AreBlocks};
 ghost use Rattle.vx_bloom.specs.Partial.{ReadsFilter};
-ghost use Rattle.vx_bloom.specs.Filter.{block_of, inserted, may_contain, or_blocks, filter_of, SameElements};
-ghost use Rattle.vx_bloom.specs.Options.{blocks_in};
+ghost use Rattle.vx_bloom_spec.specs.Filter.{block_of, inserted, may_contain, or_blocks, filter_of, SameElements};
+ghost use Rattle.vx_bloom_options.specs.Options.{blocks_in};
 
 use crate::block::{Block, block_of, covers, is_full, mask, no_lanes, or_into, or_lanes};
 use crate::bytes::{BLOCK_LEN, blocks_at, push_block};
-use crate::options::BloomOptions;
 use std::alloc::{AllocError, Global};
 use std::marker::{Model, PhantomData};
 use thiserror::Error;
+use vx_bloom_options::BloomOptions;
 use vx_hash::ByteHash;
 
 /// Two filters that have not the same number of blocks.
@@ -70,7 +70,7 @@ impl<H: ByteHash> Drop for BloomPartial<H> {
 
 impl<H: ByteHash> BloomPartial<H> {
     /// The empty filter with the options' number of blocks.
-    #[tactic(auto, using(crate::proofs::Filters::empty_rules))]
+    #[tactic(auto, using(vx_bloom_spec::proofs::Filters::empty_rules))]
     pub fn from(alloc: Global, options: &BloomOptions) -> Result<BloomPartial<H>, AllocError>
         ensures { IfOk result (λ p. p ≡ filter_of (blocks_in options.now) []) }
     {
@@ -91,7 +91,7 @@ impl<H: ByteHash> BloomPartial<H> {
         self.blocks.len() as u32
     }
 
-    #[tactic(auto, unfolding(crate::specs::Filter::inserted))]
+    #[tactic(auto, unfolding(vx_bloom_spec::specs::Filter::inserted))]
     pub(crate) fn insert_hash(&mut self, hash: u64)
         ensures { self.new ≡ inserted self.old hash }
     {
@@ -99,7 +99,7 @@ impl<H: ByteHash> BloomPartial<H> {
         self.blocks[place] = or_lanes(&self.blocks[place], &mask(hash));
     }
 
-    #[tactic(auto, unfolding(crate::specs::Filter::may_contain))]
+    #[tactic(auto, unfolding(vx_bloom_spec::specs::Filter::may_contain))]
     pub(crate) fn contains_hash(&self, hash: u64) -> bool
         ensures mask { result ≡ may_contain self.now hash }
         ensures within { block_of (length self.now) hash < length self.now }
@@ -109,7 +109,7 @@ impl<H: ByteHash> BloomPartial<H> {
     }
 
     /// Sets the value's mask.
-    #[tactic(auto, using(crate::proofs::Filters::insert_rules))]
+    #[tactic(auto, using(vx_bloom_spec::proofs::Filters::insert_rules))]
     pub fn insert(&mut self, value: &[u8])
         ensures mask { self.new ≡ inserted self.old (H.hash value.now) }
         ensures filter { (blocks : ℕ) (hashes : List ℕ) → self.old ≡ filter_of blocks hashes
@@ -119,7 +119,7 @@ impl<H: ByteHash> BloomPartial<H> {
     }
 
     /// Whether the value's mask is set. It is for each value that was inserted.
-    #[tactic(auto, using(crate::proofs::Filters::contains_rules))]
+    #[tactic(auto, using(vx_bloom_spec::proofs::Filters::contains_rules))]
     pub fn contains(&self, value: &[u8]) -> bool
         ensures mask { result ≡ may_contain self.now (H.hash value.now) }
         ensures inserted { (blocks : ℕ) (hashes : List ℕ) → self.now ≡ filter_of blocks hashes
@@ -129,7 +129,7 @@ impl<H: ByteHash> BloomPartial<H> {
     }
 
     /// Lays the other filter over this one. Refused, it changes nothing.
-    #[tactic(auto, using(crate::proofs::Filters::union_rules))]
+    #[tactic(auto, using(vx_bloom_spec::proofs::Filters::union_rules))]
     pub fn union(&mut self, other: &BloomPartial<H>) -> Result<(), BlockCount>
         ensures refused { IsErr result ↔ (length self.old ≢ length other.now) }
         ensures ok { OnOk result (self.new ≡ or_blocks self.old other.now) }
@@ -152,7 +152,7 @@ impl<H: ByteHash> BloomPartial<H> {
     }
 
     /// The lanes, block after block, each as four bytes, low byte first.
-    #[tactic(auto, using(crate::proofs::ReadBack::filter_rules), unfolding(crate::specs::Bytes::filter_bytes))]
+    #[tactic(auto, using(vx_bloom_spec::proofs::ReadBack::filter_rules), unfolding(vx_bloom_spec::specs::Bytes::filter_bytes))]
     pub fn serialize(&self, alloc: Global) -> Result<Vec<u8>, AllocError>
         ensures { IfOk result (λ v. v.items ≡ filter_bytes self.now) }
     {

@@ -4,10 +4,12 @@ ghost use Rattle.std.specs.Prelude.{◌≡◌, ◌↔◌, ◌||◌, true, ◌++�
 ghost use Rattle.std.specs.Option.{option_map};
 ghost use Rattle.vx_model.specs.Numbers.{int_fits};
 ghost use Rattle.vx_model.specs.TyView.{ty};
-ghost use Rattle.vx_model.specs.Tree.{int_bytes};
+ghost use Rattle.vx_model.specs.CellData.{int_bytes};
 ghost use Rattle.vx_model.specs.TreeView.{val};
-ghost use Rattle.vx_bloom.specs.Filter.{filter_of};
-ghost use Rattle.vx_bloom.specs.Values.{bool_hashed, int_hashed, text_hashed, bytes_hashed, int_value_fits, is_null, is_hashed, is_row_value, is_unsupported, value_hash, value_hashes, all_inserted, may_contain_hash};
+ghost use Rattle.vx_bloom_spec.specs.Filter.{filter_of};
+ghost use Rattle.vx_bloom_spec.specs.Values.{bool_hashed, int_hashed, text_hashed, bytes_hashed, is_unsupported, value_hash, value_hashes, all_inserted, may_contain_hash};
+ghost use Rattle.vx_model.specs.Ty.{has_order};
+ghost use Rattle.vx_model.specs.ValueData.{int_value_fits, is_null_value, is_row_value};
 
 use crate::partial::BloomPartial;
 use thiserror::Error;
@@ -45,7 +47,7 @@ fn bool_value_hash<H: ByteHash>(value: &Value) -> Option<u64>
 }
 
 fn int_value_hash<H: ByteHash>(ptype: PType, value: &Value) -> Option<u64>
-    requires { IsTrue (is_null (val value.now) || int_value_fits ptype true (val value.now)) }
+    requires { IsTrue (is_null_value (val value.now) || int_value_fits ptype true (val value.now)) }
     ensures { result ≡ option_map H.hash (int_hashed ptype (val value.now)) }
 {
     match value {
@@ -73,7 +75,7 @@ fn bytes_value_hash<H: ByteHash>(value: &Value) -> Option<u64>
 }
 
 fn is_null_value(value: &Value) -> bool
-    ensures { result ≡ is_null (val value.now) }
+    ensures { result ≡ is_null_value (val value.now) }
 {
     match value {
         Value::Null => true,
@@ -81,13 +83,13 @@ fn is_null_value(value: &Value) -> bool
     }
 }
 
-pub(crate) fn is_hashed(dtype: &DType) -> bool
-    ensures { result ≡ is_hashed (ty dtype.now) }
+pub(crate) fn has_order(dtype: &DType) -> bool
+    ensures { result ≡ has_order (ty dtype.now) }
 {
     match dtype {
         DType::List(..) | DType::Struct(..) => false,
         DType::Bool(_) | DType::Primitive(..) | DType::Utf8(_) | DType::Binary(_) => true,
-        DType::Extension(ext) => is_hashed(&ext.storage),
+        DType::Extension(ext) => has_order(&ext.storage),
     }
 }
 
@@ -109,7 +111,7 @@ fn value_hash<H: ByteHash>(dtype: &DType, value: &Value) -> Option<u64>
 pub(crate) fn is_unsupported(dtype: &DType, value: &Value) -> bool
     ensures { result ≡ is_unsupported (ty dtype.now) (val value.now) }
 {
-    !is_null_value(value) && !is_hashed(dtype)
+    !is_null_value(value) && !has_order(dtype)
 }
 
 impl<H: ByteHash> BloomPartial<H> {

@@ -2,7 +2,7 @@
 
 use std::alloc::{AllocError, Global};
 use std::test::Fail;
-use vx_field::{FieldMask, FieldPath};
+use vx_field_path::{FieldMask, FieldPath};
 use vx_model::Text;
 
 /// A mask, what it is below its first name, whether it takes every field, and its first name.

@@ -3,10 +3,10 @@
 use serde_json::Value;
 use std::alloc::Global;
 use std::test::Fail;
-use vx_data::{read_batch, read_type};
+use vx_chunk_json::{read_batch, read_type};
 use vx_model::{ArrayContext, DType, EncodingId};
-use vx_nodes::Strategy;
-use vx_strategy::read_strategy;
+use vx_strategy::Strategy;
+use vx_strategy_json::read_strategy;
 use vx_types::Chunk;
 
 pub(crate) fn dtype(alloc: Global, json: &str) -> Result<DType, Fail> {

@@ -2,7 +2,7 @@
 
 ghost use Rattle.std.specs.Prelude.{None, Unit, length};
 ghost use Rattle.vx_model.specs.TyView.{ty};
-ghost use Rattle.vx_sink.specs.Counts.{Counts};
+ghost use Rattle.vx_fault.specs.Counts.{Counts};
 ghost use Rattle.vx_sink.specs.Compressor.{same_rows};
 
 use crate::fixtures::{chunk, context, dtype, strategy};

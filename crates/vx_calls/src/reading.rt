@@ -3,7 +3,7 @@
 use crate::fixtures::{chunk, context, dtype};
 use std::alloc::Global;
 use std::test::Fail;
-use vx_kinds::{FlatLayout, Layout};
+use vx_layout_tree::{FlatLayout, Layout};
 use vx_model::{DType, Value};
 use vx_read::{ReadError, SegmentMap, read_rows};
 use vx_types::{Blob, SegmentId, encode_segment};

@@ -1,10 +1,9 @@
 //! What of a scalar a filter takes.
 
 ghost use Rattle.std.specs.Prelude.{◌≡◌, IsTrue, IfOk, IfSome};
-ghost use Rattle.vx_model.specs.Val.{Val};
+ghost use Rattle.vx_model.specs.ValueData.{ValueData, is_row_value};
 ghost use Rattle.vx_model.specs.TyView.{ty};
 ghost use Rattle.vx_model.specs.TreeView.{val};
-ghost use Rattle.vx_bloom.specs.Values.{is_row_value};
 
 use crate::filters::{Partial, options};
 use std::alloc::{AllocError, Global};
@@ -38,7 +37,7 @@ i64 9223372036854775807 ffffffffffffff7f";
 
 /// The type as one of its own.
 fn extended(alloc: Global, storage: DType) -> Result<DType, AllocError>
-    ensures { IfOk result (λ t. (v : Val) → is_row_value (ty t) v ≡ is_row_value (ty storage) v) }
+    ensures { IfOk result (λ t. (v : ValueData) → is_row_value (ty t) v ≡ is_row_value (ty storage) v) }
 {
     let tag = Text::from_str(alloc, "days")?;
     let storage = Box::new(alloc, storage)?;

@@ -3,9 +3,9 @@
 use crate::fixtures::dtype;
 use std::alloc::{AllocError, Global};
 use std::test::Fail;
-use vx_field::FieldPath;
+use vx_field_path::FieldPath;
 use vx_model::Text;
-use vx_nodes::{
+use vx_strategy::{
     BuildError, DictLayoutOptions, FlatLayoutStrategy, RepartitionWriterOptions, Strategy,
     StructStrategy, TableStrategy, ZonedLayoutOptions, dict_layout_supported,
 };

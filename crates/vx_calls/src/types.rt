@@ -3,7 +3,7 @@
 use crate::fixtures::{chunk, context, dtype};
 use std::alloc::Global;
 use std::test::Fail;
-use vx_kinds::{FlatLayout, Layout};
+use vx_layout_tree::{FlatLayout, Layout};
 use vx_read::{SegmentMap, read_rows};
 use vx_report::report;
 use vx_types::{Blob, Chunk, SegmentId, encode_segment};
@@ -26,7 +26,7 @@ fn segments_of(alloc: Global, chunk: &Chunk) -> Result<SegmentMap, Fail> {
 }
 
 /// The report of the rows that are read from the chunk's segment.
-#[tactic(auto, unfolding(vx_kinds::specs::LayoutView::lay))]
+#[tactic(auto, unfolding(vx_layout_tree::specs::LayoutView::layout_data))]
 fn printed(alloc: Global, chunk: &Chunk) -> Result<String, Fail> {
     let segments = segments_of(alloc, chunk)?;
     let ctx = context(alloc)?;

@@ -3,9 +3,9 @@
 use crate::fixtures::{chunk, context, dtype, strategy};
 use std::alloc::Global;
 use std::test::Fail;
-use vx_kinds::Layout;
 use vx_layout_bytes::Limits;
 use vx_layout_codec::{layout_bytes, layout_from_flatbuffer};
+use vx_layout_tree::Layout;
 use vx_model::{Nullability, PType, Text, Value};
 use vx_read::{ReadError, SegmentMap, read_rows};
 use vx_session::{LayoutContext, LayoutSession, Session};

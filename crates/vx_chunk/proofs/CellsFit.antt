@@ -7,15 +7,15 @@ use Rattle.std.proofs.lemmas.Bool.Decides.{nat_tests}
 use Rattle.vx_model.specs.Words.{all_by, head_or, tail}
 use Rattle.vx_model.specs.Ty.{Ty, Tys, boolean, primitive, utf8, binary, list, struct, extension, no_fields, field, ty_eq}
 use Rattle.vx_model.specs.TyLaws.{ty_eq_decides}
-use Rattle.vx_model.specs.Tree.{Tree, null_cell, bool_cell, int_cell, text_cell, bytes_cell, list_cell, struct_cell, trees_of, items, fits, fields_fit, struct_fits, list_fits, flag_fits}
-use Rattle.vx_model.specs.Piece.{Piece, Pieces, plain_piece, constant_piece, dict_piece, chunked_piece, list_piece, struct_piece, extension_piece, no_pieces, part, pieces_in, piece_type, cells, joined_cells, each_cells, list_rows, struct_rows, picked, cell_at, is_code, are_parts, match_fields, is_sound, are_sound}
+use Rattle.vx_model.specs.CellData.{CellData, null_cell, bool_cell, int_cell, text_cell, bytes_cell, list_cell, struct_cell, trees_of, items, fits, fields_fit, struct_fits, list_fits, flag_fits}
+use Rattle.vx_model.specs.ChunkData.{ChunkData, ChunkList, plain_piece, constant_piece, dict_piece, chunked_piece, list_piece, struct_piece, extension_piece, no_pieces, part, pieces_in, piece_type, cells, joined_cells, each_cells, list_rows, struct_rows, picked, cell_at, is_code, are_parts, match_fields, is_sound, are_sound}
 use Rattle.vx_model.proofs.CellViews.{items_trees_of}
-use Rattle.vx_columns.proofs.Tests.{left_true, right_true, both_true}
+use Rattle.vx_chunk_cells.proofs.Tests.{left_true, right_true, both_true}
 use Rattle.vx_chunk.proofs.Sound.{of_plain, of_constant, of_dict, of_chunked, of_list, of_struct, of_extension}
 use Rattle.vx_chunk.proofs.Lengths.{length-list_rows, length-struct_rows}
 
 -- Cells that a plain chunk of the type can hold
-pub record Fine (t : Ty) (cs : List Tree) : Type 0 where
+pub record Fine (t : Ty) (cs : List CellData) : Type 0 where
   pub fit : all_by (fits t) cs ≡ true
   pub short : length cs < 2 ^ 64
 
@@ -41,7 +41,7 @@ all_replicate f (suc n) x g = both_true (f x) (all_by f (replicate n x)) g (all_
 
 -- ---- dictionaries
 
-cell_at_all : (f : Tree → Bool) (vs : List Tree) (n : ℕ) → all_by f vs ≡ true → n < length vs → f (cell_at vs n) ≡ true
+cell_at_all : (f : CellData → Bool) (vs : List CellData) (n : ℕ) → all_by f vs ≡ true → n < length vs → f (cell_at vs n) ≡ true
 cell_at_all f [] n g lt = absurd (omega arith)
 cell_at_all f (v ∷ vs) zero g lt = left_true (f v) (all_by f vs) g
 cell_at_all f (v ∷ vs) (suc n) g lt = cell_at_all f vs n (right_true (f v) (all_by f vs) g) (omega arith)
@@ -49,7 +49,7 @@ cell_at_all f (v ∷ vs) (suc n) g lt = cell_at_all f vs n (right_true (f v) (al
 lt_test : (m n : ℕ) → nat_lt m n ≡ true → m < n
 lt_test m n h = grind (arith, nat_tests)
 
-picked_all : (f : Tree → Bool) (vs : List Tree) (c : Tree) → all_by f vs ≡ true → is_code (length vs) c ≡ true → f (picked vs c) ≡ true
+picked_all : (f : CellData → Bool) (vs : List CellData) (c : CellData) → all_by f vs ≡ true → is_code (length vs) c ≡ true → f (picked vs c) ≡ true
 picked_all f vs (int_cell (pos n)) g h = cell_at_all f vs n g (lt_test n (length vs) h)
 picked_all f vs (int_cell (negsuc n)) g h = cc
 picked_all f vs null_cell g h = cc
@@ -59,7 +59,7 @@ picked_all f vs (bytes_cell s) g h = cc
 picked_all f vs (list_cell v cs) g h = cc
 picked_all f vs (struct_cell v cs) g h = cc
 
-dict_all : (f : Tree → Bool) (vs codes : List Tree) → all_by f vs ≡ true → all_by (is_code (length vs)) codes ≡ true → all_by f (map (picked vs) codes) ≡ true
+dict_all : (f : CellData → Bool) (vs codes : List CellData) → all_by f vs ≡ true → all_by (is_code (length vs)) codes ≡ true → all_by f (map (picked vs) codes) ≡ true
 dict_all f vs [] g h = refl
 dict_all f vs (c ∷ codes) g h = both_true (f (picked vs c)) (all_by f (map (picked vs) codes))
     (picked_all f vs c g (left_true (is_code (length vs) c) (all_by (is_code (length vs)) codes) h))
@@ -88,7 +88,7 @@ flag_head m (false ∷ valid) (inr e) = cc
 
 -- ---- lists
 
-list_rows_fit : (t : Ty) (m : Bool) (es : List Tree) (offsets : List ℕ) (valid : List Bool) → all_by (fits t) es ≡ true → FlagsOk m valid
+list_rows_fit : (t : Ty) (m : Bool) (es : List CellData) (offsets : List ℕ) (valid : List Bool) → all_by (fits t) es ≡ true → FlagsOk m valid
     → all_by (list_fits m (fits t)) (list_rows es offsets valid) ≡ true
 list_rows_fit t m es [] valid g h = refl
 list_rows_fit t m es (a ∷ []) valid g h = refl
@@ -102,27 +102,27 @@ list_rows_fit t m es (a ∷ b ∷ offsets) valid g h =
 -- ---- structs
 
 -- each field's column fits and has so many rows
-abbrev pub ColumnsFit : Tys → List (List Tree) → ℕ → Type 0
+abbrev pub ColumnsFit : Tys → List (List CellData) → ℕ → Type 0
 ColumnsFit no_fields [] n = Unit {0}
 ColumnsFit no_fields (c ∷ cs) n = ⊥
 ColumnsFit (field name t fs) [] n = ⊥
 ColumnsFit (field name t fs) (c ∷ cs) n = (all_by (fits t) c ≡ true) × (length c ≡ n) × ColumnsFit fs cs n
 
-heads_fit : (fs : Tys) (columns : List (List Tree)) (n : ℕ) → ColumnsFit fs columns (suc n) → fields_fit fs (map (head_or null_cell) columns) ≡ true
+heads_fit : (fs : Tys) (columns : List (List CellData)) (n : ℕ) → ColumnsFit fs columns (suc n) → fields_fit fs (map (head_or null_cell) columns) ≡ true
 heads_fit no_fields [] n h = refl
 heads_fit no_fields (c ∷ cs) n h = absurd h
 heads_fit (field name t fs) [] n h = absurd h
 heads_fit (field name t fs) ([] ∷ cs) n h = let e : 0 ≡ suc n = h.1 in absurd (omega arith)
 heads_fit (field name t fs) ((x ∷ c) ∷ cs) n h = both_true (fits t x) (fields_fit fs (map (head_or null_cell) cs)) (left_true (fits t x) (all_by (fits t) c) h.0) (heads_fit fs cs n h.2)
 
-tails_fit : (fs : Tys) (columns : List (List Tree)) (n : ℕ) → ColumnsFit fs columns (suc n) → ColumnsFit fs (map tail columns) n
+tails_fit : (fs : Tys) (columns : List (List CellData)) (n : ℕ) → ColumnsFit fs columns (suc n) → ColumnsFit fs (map tail columns) n
 tails_fit no_fields [] n h = tt
 tails_fit no_fields (c ∷ cs) n h = absurd h
 tails_fit (field name t fs) [] n h = absurd h
 tails_fit (field name t fs) ([] ∷ cs) n h = let e : 0 ≡ suc n = h.1 in absurd (omega arith)
 tails_fit (field name t fs) ((x ∷ c) ∷ cs) n h = (right_true (fits t x) (all_by (fits t) c) h.0, (let e : suc (length c) ≡ suc n = h.1 in omega arith), tails_fit fs cs n h.2)
 
-struct_rows_fit : (fs : Tys) (m : Bool) (n : ℕ) (columns : List (List Tree)) (valid : List Bool) → ColumnsFit fs columns n → FlagsOk m valid
+struct_rows_fit : (fs : Tys) (m : Bool) (n : ℕ) (columns : List (List CellData)) (valid : List Bool) → ColumnsFit fs columns n → FlagsOk m valid
     → all_by (struct_fits m (fields_fit fs)) (struct_rows n columns valid) ≡ true
 struct_rows_fit fs m zero columns valid g h = refl
 struct_rows_fit fs m (suc n) columns valid g h =
@@ -137,7 +137,7 @@ pub of_type : (s t : Ty) → ty_eq s t ≡ true → s ≡ t
 of_type s t e = (ty_eq_decides s t).0 e
 
 mutual
-  fine : (p : Piece) → is_sound p ≡ true → Fine (piece_type p) (cells p)
+  fine : (p : ChunkData) → is_sound p ≡ true → Fine (piece_type p) (cells p)
   fine (plain_piece t cs) s = let h = of_plain t cs s in record { fit = h.fit; short = h.short }
   fine (constant_piece t c n) s =
       let h = of_constant t c n s in
@@ -188,7 +188,7 @@ mutual
   fine (extension_piece (list t m) p) s = absurd (true≢false (sym (of_extension (list t m) p s).storage))
   fine (extension_piece (struct fs m) p) s = absurd (true≢false (sym (of_extension (struct fs m) p s).storage))
 
-  parts_fit : (t : Ty) (ps : Pieces) → are_sound ps ≡ true → are_parts t (pieces_in ps) ≡ true → all_by (fits t) (joined_cells ps) ≡ true
+  parts_fit : (t : Ty) (ps : ChunkList) → are_sound ps ≡ true → are_parts t (pieces_in ps) ≡ true → all_by (fits t) (joined_cells ps) ≡ true
   parts_fit t no_pieces s h = refl
   parts_fit t (part p ps) s h =
       let typed : piece_type p ≡ t = of_type (piece_type p) t (left_true (ty_eq (piece_type p) t) _ (left_true (ty_eq (piece_type p) t && _) _ h)) in
@@ -196,7 +196,7 @@ mutual
       all_append (fits t) (cells p) (joined_cells ps) (subst (λ u. all_by (fits u) (cells p) ≡ true) typed f.fit)
       (parts_fit t ps (right_true (is_sound p) (are_sound ps) s) (right_true _ (are_parts t (pieces_in ps)) h))
 
-  fields_columns : (fs : Tys) (ps : Pieces) (n : ℕ) → are_sound ps ≡ true → match_fields fs (pieces_in ps) n ≡ true → ColumnsFit fs (each_cells ps) n
+  fields_columns : (fs : Tys) (ps : ChunkList) (n : ℕ) → are_sound ps ≡ true → match_fields fs (pieces_in ps) n ≡ true → ColumnsFit fs (each_cells ps) n
   fields_columns no_fields no_pieces n s h = tt
   fields_columns no_fields (part p ps) n s h = cc
   fields_columns (field name t fs) no_pieces n s h = cc
@@ -209,8 +209,8 @@ mutual
         fields_columns fs ps n (right_true (is_sound p) (are_sound ps) s) (right_true (length (cells p) == n) _ rest),
       )
 
-pub cells_fit : (p : Piece) → is_sound p ≡ true → all_by (fits (piece_type p)) (cells p) ≡ true
+pub cells_fit : (p : ChunkData) → is_sound p ≡ true → all_by (fits (piece_type p)) (cells p) ≡ true
 cells_fit p s = (fine p s).fit
 
-pub cells_short : (p : Piece) → is_sound p ≡ true → length (cells p) < 2 ^ 64
+pub cells_short : (p : ChunkData) → is_sound p ≡ true → length (cells p) < 2 ^ 64
 cells_short p s = (fine p s).short

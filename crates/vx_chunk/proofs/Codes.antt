@@ -3,7 +3,7 @@ use Rattle.std.proofs.Common.{◌≡◌, ℕ, zero, suc, ◌&&◌, ◌||◌, Boo
 use Rattle.std.specs.Prelude.{replicate, ℤ}
 use Rattle.std.proofs.lemmas.Bool.Decides.{nat_tests}
 use Rattle.vx_model.specs.Words.{all_by}
-use Rattle.vx_model.specs.Tree.{Tree, null_cell, int_cell}
+use Rattle.vx_model.specs.CellData.{CellData, null_cell, int_cell}
 use Rattle.vx_model.specs.declared.cell.Cell as cl
 use Rattle.vx_model.specs.TreeView.{tree}
 use Rattle.vx_model.proofs.CellViews.{drop_all_by}
@@ -18,7 +18,7 @@ not_zero : (n : ℕ) → eqb (suc n) 0 ≡ false
 not_zero n = grind (arith, nat_tests)
 
 -- one cell for all rows
-pub all_replicate_is : (f : Tree → Bool) (n : ℕ) (c : Tree) → all_by f (replicate n c) ≡ (eqb n 0 || f c)
+pub all_replicate_is : (f : CellData → Bool) (n : ℕ) (c : CellData) → all_by f (replicate n c) ≡ (eqb n 0 || f c)
 all_replicate_is f zero c = refl
 all_replicate_is f (suc n) c = rw (all_replicate_is f n c, not_zero n) (again (f c) (eqb n 0))
 

@@ -1,14 +1,14 @@
 -- A part is less deep than the parts are.
 use Rattle.std.proofs.Common.{◌≡◌, ℕ, zero, suc, ◌+◌, ◌<◌, ◌≤◌, List, [], ◌∷◌, length, get_or, arith}
-use Rattle.vx_model.specs.Piece.{Piece, pieces_of}
+use Rattle.vx_model.specs.ChunkData.{ChunkData, pieces_of}
 use Rattle.vx_chunk.specs.Depth.{depth, depths}
 
-part_depth : (ps : List Piece) (i : ℕ) (d : Piece) → i < length ps → depth (get_or ps i d) + 1 ≤ depths (pieces_of ps)
+part_depth : (ps : List ChunkData) (i : ℕ) (d : ChunkData) → i < length ps → depth (get_or ps i d) + 1 ≤ depths (pieces_of ps)
 part_depth [] i d lt = absurd (omega arith)
 part_depth (p ∷ ps) zero d lt = omega arith
 part_depth (p ∷ ps) (suc i) d lt = omega (arith, part_depth ps i d (omega arith))
 
-pub depth_in : (ps : List Piece) (i : ℕ) (p : Piece) → p ≡ get_or ps i p → i < length ps → depth p + 1 ≤ depths (pieces_of ps)
+pub depth_in : (ps : List ChunkData) (i : ℕ) (p : ChunkData) → p ≡ get_or ps i p → i < length ps → depth p + 1 ≤ depths (pieces_of ps)
 depth_in ps i p is lt = rw is (part_depth ps i p lt)
 
 pub ruleset depth_rules = (depth_in)

@@ -11,14 +11,14 @@ use Rattle.vx_model.specs.declared.cell.Cell.{Cell}
 use Rattle.vx_model.specs.TreeView.{tree}
 use Rattle.vx_model.specs.Words.{head_or, tail, all_by}
 use Rattle.vx_model.specs.Ty.{Ty, boolean, primitive, utf8, binary, list, struct, extension, is_list}
-use Rattle.vx_model.specs.Tree.{Tree, null_cell, bool_cell, int_cell, text_cell, bytes_cell, list_cell, struct_cell, items, fits, flag_fits}
-use Rattle.vx_model.specs.Piece.{Piece, pieces_of, piece_type, is_sound, cells, joined_cells, list_rows, struct_rows, picked, is_dict_type}
+use Rattle.vx_model.specs.CellData.{CellData, null_cell, bool_cell, int_cell, text_cell, bytes_cell, list_cell, struct_cell, items, fits, flag_fits}
+use Rattle.vx_model.specs.ChunkData.{ChunkData, pieces_of, piece_type, is_sound, cells, joined_cells, list_rows, struct_rows, picked, is_dict_type}
 use Rattle.vx_model.proofs.CellViews.{items_trees_of}
-use Rattle.vx_columns.specs.Window.{window, last_of, Within, counted}
-use Rattle.vx_columns.specs.Parts.{elements_of, all_elements, ends}
-use Rattle.vx_columns.proofs.Tests.{left_true, right_true}
-use Rattle.vx_columns.proofs.Windows.{window-none, length-window}
-use Rattle.vx_columns.proofs.CountSteps.{all_elements-append, ends-append, length-all_elements-replicate}
+use Rattle.vx_chunk_cells.specs.Window.{window, last_of, Within, counted}
+use Rattle.vx_layout_spec.specs.Parts.{elements_of, all_elements, ends}
+use Rattle.vx_chunk_cells.proofs.Tests.{left_true, right_true}
+use Rattle.vx_chunk_cells.proofs.Windows.{window-none, length-window}
+use Rattle.vx_chunk_cells.proofs.CountSteps.{all_elements-append, ends-append, length-all_elements-replicate}
 use Rattle.vx_chunk.specs.Parts.{element_type}
 use Rattle.vx_chunk.proofs.Depths.{depth_in}
 use Rattle.vx_chunk.proofs.Lengths.{length-struct_rows, length-list_rows, drop_joined}
@@ -31,33 +31,33 @@ use Rattle.vx_chunk.proofs.SizeLaws.{joined_spans}
 
 -- ---- no lists
 
-pub picked_elements : (t : Ty) (vs codes : List Tree) → is_dict_type t ≡ true → all_by (fits t) vs ≡ true → all_elements (map (picked vs) codes) ≡ []
+pub picked_elements : (t : Ty) (vs codes : List CellData) → is_dict_type t ≡ true → all_by (fits t) vs ≡ true → all_elements (map (picked vs) codes) ≡ []
 picked_elements t vs [] d h = refl
 picked_elements t vs (c ∷ codes) d h = rw (leaf_elements (picked vs c) (leaf_picked t vs c d h)) (picked_elements t vs codes d h)
 
-pub picked_ends : (t : Ty) (vs codes : List Tree) (from : ℕ) → is_dict_type t ≡ true → all_by (fits t) vs ≡ true → ends from (map (picked vs) codes) ≡ replicate (length codes) from
+pub picked_ends : (t : Ty) (vs codes : List CellData) (from : ℕ) → is_dict_type t ≡ true → all_by (fits t) vs ≡ true → ends from (map (picked vs) codes) ≡ replicate (length codes) from
 picked_ends t vs [] from d h = refl
 picked_ends t vs (c ∷ codes) from d h =
     let e : from + 0 ≡ from = omega arith in
     rw (leaf_elements (picked vs c) (leaf_picked t vs c d h), e) (ap (λ r. from ∷ r) (picked_ends t vs codes from d h))
 
-pub struct_elements : (n : ℕ) (columns : List (List Tree)) (v : List Bool) → all_elements (struct_rows n columns v) ≡ []
+pub struct_elements : (n : ℕ) (columns : List (List CellData)) (v : List Bool) → all_elements (struct_rows n columns v) ≡ []
 struct_elements zero columns v = refl
 struct_elements (suc n) columns v = struct_elements n (map tail columns) (tail v)
 
-pub struct_ends : (n : ℕ) (columns : List (List Tree)) (v : List Bool) (from : ℕ) → ends from (struct_rows n columns v) ≡ replicate n from
+pub struct_ends : (n : ℕ) (columns : List (List CellData)) (v : List Bool) (from : ℕ) → ends from (struct_rows n columns v) ≡ replicate n from
 struct_ends zero columns v from = refl
 struct_ends (suc n) columns v from = let e : from + 0 ≡ from = omega arith in rw e (ap (λ r. from ∷ r) (struct_ends n (map tail columns) (tail v) from))
 
 -- ---- lists
 
-pub list_elements : (es : List Tree) (low : ℕ) (os : List ℕ) (v : List Bool) → Within low (last_of os) os → 1 ≤ length os → all_elements (list_rows es os v) ≡ window (head_or 0 os) (last_of os) es
+pub list_elements : (es : List CellData) (low : ℕ) (os : List ℕ) (v : List Bool) → Within low (last_of os) os → 1 ≤ length os → all_elements (list_rows es os v) ≡ window (head_or 0 os) (last_of os) es
 list_elements es low [] v h some = absurd (omega arith)
 list_elements es low (a ∷ []) v h some = sym (window-none a es)
 list_elements es low (a ∷ b ∷ os) v h some =
     rw (items_trees_of (take (b - a) (drop a es)), list_elements es a (b ∷ os) (tail v) h.2 (omega arith)) (sym (joined_spans a b (last_of (b ∷ os)) es h.2.0 h.2.1))
 
-pub list_ends : (es : List Tree) (base from first low : ℕ) (os : List ℕ) (v : List Bool) → Within low (last_of os) os → last_of os ≤ length es → first ≤ low → from ≡ base + (head_or 0 os - first)
+pub list_ends : (es : List CellData) (base from first low : ℕ) (os : List ℕ) (v : List Bool) → Within low (last_of os) os → last_of os ≤ length es → first ≤ low → from ≡ base + (head_or 0 os - first)
     → ends from (list_rows es os v) ≡ counted base first (tail os)
 list_ends es base from first low [] v h le below e = refl
 list_ends es base from first low (a ∷ []) v h le below e = refl
@@ -72,7 +72,7 @@ list_ends es base from first low (a ∷ b ∷ os) v h le below e =
 
 -- ---- what a node's elements are
 
-pub list_parts_are : (n : Node) (t : DType) (es : Box Piece Global) (offsets : Vec ℕ) (valid : Vec Bool) → n ≡ nd.List t es offsets valid → is_sound (node_piece n) ≡ true
+pub list_parts_are : (n : Node) (t : DType) (es : Box ChunkData Global) (offsets : Vec ℕ) (valid : Vec Bool) → n ≡ nd.List t es offsets valid → is_sound (node_piece n) ≡ true
     → (all_elements (cells (node_piece n)) ≡ window (head_or 0 offsets.items) (last_of offsets.items) (cells es.value)) × ((from : ℕ) → ends from (cells (node_piece n)) ≡ counted from (head_or 0 offsets.items) (tail offsets.items))
 list_parts_are n t es offsets valid e s =
     let os : List ℕ = offsets.items in
@@ -82,7 +82,7 @@ list_parts_are n t es offsets valid e s =
       λ from. rw (list_cells n t es offsets valid e) (list_ends (cells es.value) from from (head_or 0 os) (head_or 0 os) os valid.items span.0 span.1 (omega arith) (omega arith)),
     )
 
-pub list_count : (n : Node) (t : DType) (es : Box Piece Global) (offsets : Vec ℕ) (valid : Vec Bool) → n ≡ nd.List t es offsets valid → is_sound (node_piece n) ≡ true
+pub list_count : (n : Node) (t : DType) (es : Box ChunkData Global) (offsets : Vec ℕ) (valid : Vec Bool) → n ≡ nd.List t es offsets valid → is_sound (node_piece n) ≡ true
     → (length (all_elements (cells (node_piece n))) ≡ last_of offsets.items - head_or 0 offsets.items) × (length (cells (node_piece n)) ≡ length offsets.items - 1)
 list_count n t es offsets valid e s =
     let os : List ℕ = offsets.items in
@@ -92,35 +92,35 @@ list_count n t es offsets valid e s =
       rw (list_cells n t es offsets valid e) (length-list_rows (cells es.value) os valid.items),
     )
 
-pub dict_parts_are : (n : Node) (codes values : Box Piece Global) → n ≡ nd.Dict codes values → is_sound (node_piece n) ≡ true
+pub dict_parts_are : (n : Node) (codes values : Box ChunkData Global) → n ≡ nd.Dict codes values → is_sound (node_piece n) ≡ true
     → (all_elements (cells (node_piece n)) ≡ []) × ((from : ℕ) → ends from (cells (node_piece n)) ≡ replicate (length (cells codes.value)) from)
 dict_parts_are n codes values e s =
     let sound = in_dict n codes values e s in
-    let vs : Piece = values.value in (
+    let vs : ChunkData = values.value in (
       rw (dict_cells n codes values e) (picked_elements (piece_type vs) (cells vs) (cells codes.value) sound.dict_type (cells_fit vs sound.values_sound)),
       λ from. rw (dict_cells n codes values e) (picked_ends (piece_type vs) (cells vs) (cells codes.value) from sound.dict_type (cells_fit vs sound.values_sound)),
     )
 
-pub dict_none : (n : Node) (codes values : Box Piece Global) → n ≡ nd.Dict codes values → is_sound (node_piece n) ≡ true → 0 ≡ length (all_elements (cells (node_piece n)))
+pub dict_none : (n : Node) (codes values : Box ChunkData Global) → n ≡ nd.Dict codes values → is_sound (node_piece n) ≡ true → 0 ≡ length (all_elements (cells (node_piece n)))
 dict_none n codes values e s = rw ((dict_parts_are n codes values e s).0) refl
 
-pub struct_none : (n : Node) (t : DType) (ps : Vec Piece) (valid : Vec Bool) (rows : ℕ) → n ≡ nd.Struct t ps valid rows → 0 ≡ length (all_elements (cells (node_piece n)))
+pub struct_none : (n : Node) (t : DType) (ps : Vec ChunkData) (valid : Vec Bool) (rows : ℕ) → n ≡ nd.Struct t ps valid rows → 0 ≡ length (all_elements (cells (node_piece n)))
 struct_none n t ps valid rows e = rw (struct_cells n t ps valid rows e, struct_elements rows (map cells ps.items) valid.items) refl
 
 -- ---- parts
 
-pub drop_counts : (ps : List Piece) (i : ℕ) (p : Piece) → i < length ps → p ≡ get_or ps i p
+pub drop_counts : (ps : List ChunkData) (i : ℕ) (p : ChunkData) → i < length ps → p ≡ get_or ps i p
     → length (all_elements (joined_cells (pieces_of (drop i ps)))) ≡ length (all_elements (cells p)) + length (all_elements (joined_cells (pieces_of (drop (i + 1) ps))))
 drop_counts ps i p lt is =
     rw (drop_more ps i p lt, ← is, all_elements-append (cells p) (joined_cells (pieces_of (drop (i + 1) ps)))) (length-append (all_elements (cells p)) (all_elements (joined_cells (pieces_of (drop (i + 1) ps)))))
 
 -- one part more
-pub parts_apart : (ps : List Piece) (i : ℕ) (p : Piece) (old new : List Cell) (offsets more : List ℕ) (es : List Tree) (os : List ℕ) → i < length ps → p ≡ get_or ps i p
+pub parts_apart : (ps : List ChunkData) (i : ℕ) (p : ChunkData) (old new : List Cell) (offsets more : List ℕ) (es : List CellData) (os : List ℕ) → i < length ps → p ≡ get_or ps i p
     → map tree new ≡ map tree old ++ all_elements (cells p) → more ≡ offsets ++ ends (length old) (cells p)
     → map tree old ++ all_elements (joined_cells (pieces_of (drop i ps))) ≡ es → offsets ++ ends (length old) (joined_cells (pieces_of (drop i ps))) ≡ os
     → (map tree new ++ all_elements (joined_cells (pieces_of (drop (i + 1) ps))) ≡ es) × (more ++ ends (length new) (joined_cells (pieces_of (drop (i + 1) ps))) ≡ os)
 parts_apart ps i p old new offsets more es os lt is e o h k =
-    let rest : List Tree = joined_cells (pieces_of (drop (i + 1) ps)) in
+    let rest : List CellData = joined_cells (pieces_of (drop (i + 1) ps)) in
     let cut : joined_cells (pieces_of (drop i ps)) ≡ cells p ++ rest = rw (drop_more ps i p lt, ← is) refl in
     let long : length new ≡ length old + length (all_elements (cells p)) =
     sym (length-map new tree) ∙ ap length e ∙ length-append (map tree old) (all_elements (cells p)) ∙ ap (λ m. m + length (all_elements (cells p))) (length-map old tree) in (
@@ -130,7 +130,7 @@ parts_apart ps i p old new offsets more es os lt is e o h k =
 
 -- ---- types
 
-items_fit : (t : Ty) (n : Bool) (c : Tree) → fits (list t n) c ≡ true → all_by (fits t) (elements_of c) ≡ true
+items_fit : (t : Ty) (n : Bool) (c : CellData) → fits (list t n) c ≡ true → all_by (fits t) (elements_of c) ≡ true
 items_fit t n (list_cell valid cs) h = right_true (flag_fits valid n) (all_by (fits t) (items cs)) h
 items_fit t n null_cell h = cc
 items_fit t n (bool_cell b) h = cc
@@ -139,12 +139,12 @@ items_fit t n (text_cell s) h = cc
 items_fit t n (bytes_cell s) h = cc
 items_fit t n (struct_cell valid cs) h = cc
 
-of_lists : (t : Ty) (n : Bool) (cs : List Tree) → all_by (fits (list t n)) cs ≡ true → all_by (fits t) (all_elements cs) ≡ true
+of_lists : (t : Ty) (n : Bool) (cs : List CellData) → all_by (fits (list t n)) cs ≡ true → all_by (fits t) (all_elements cs) ≡ true
 of_lists t n [] h = refl
 of_lists t n (c ∷ cs) h =
     all_append (fits t) (elements_of c) (all_elements cs) (items_fit t n c (left_true (fits (list t n) c) (all_by (fits (list t n)) cs) h)) (of_lists t n cs (right_true (fits (list t n) c) (all_by (fits (list t n)) cs) h))
 
-pub elements_fit : (t : Ty) (cs : List Tree) → is_list t ≡ true → all_by (fits t) cs ≡ true → all_by (fits (element_type t)) (all_elements cs) ≡ true
+pub elements_fit : (t : Ty) (cs : List CellData) → is_list t ≡ true → all_by (fits t) cs ≡ true → all_by (fits (element_type t)) (all_elements cs) ≡ true
 elements_fit (list t n) cs l h = of_lists t n cs h
 elements_fit (boolean n) cs l h = cc
 elements_fit (primitive p n) cs l h = cc

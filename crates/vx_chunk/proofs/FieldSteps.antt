@@ -7,14 +7,15 @@ use Rattle.vx_model.specs.declared.cell.Cell.{Cell}
 use Rattle.vx_model.specs.Words.{all_by, head_or, tail}
 use Rattle.vx_model.specs.Ty.{Ty, Tys, boolean, primitive, utf8, binary, list, struct, extension, no_fields, field, tys_of, is_struct}
 use Rattle.vx_model.specs.TyView.{ty, field_ty}
-use Rattle.vx_model.specs.Tree.{Tree, Trees, null_cell, bool_cell, int_cell, text_cell, bytes_cell, list_cell, struct_cell, no_cells, cell, items, fits, fields_fit, struct_fits, flag_fits}
-use Rattle.vx_model.specs.Piece.{Piece, plain_piece}
+use Rattle.vx_model.specs.CellData.{CellData, CellList, null_cell, bool_cell, int_cell, text_cell, bytes_cell, list_cell, struct_cell, no_cells, cell, items, fits, fields_fit, struct_fits, flag_fits}
+use Rattle.vx_model.specs.ChunkData.{ChunkData, plain_piece}
 use Rattle.vx_model.proofs.Views.{field_ty_is}
-use Rattle.vx_columns.specs.Columns.{trees_in, rows_across}
-use Rattle.vx_columns.specs.Parts.{fields_of, has_width}
-use Rattle.vx_columns.proofs.Tests.{left_true, right_true, both_true}
-use Rattle.vx_columns.proofs.RowWindows.{map_joined}
-use Rattle.vx_chunk.specs.Parts.{first_of, others_of, plain_fields, typed_columns, columns_fit, struct_fields}
+use Rattle.vx_chunk_cells.specs.Columns.{trees_in, rows_across}
+use Rattle.vx_chunk_cells.specs.Parts.{fields_of, has_width}
+use Rattle.vx_chunk_cells.proofs.Tests.{left_true, right_true, both_true}
+use Rattle.vx_chunk_cells.proofs.RowWindows.{map_joined}
+use Rattle.vx_chunk.specs.Parts.{typed_columns, columns_fit, struct_fields}
+use Rattle.vx_layout_spec.specs.Parts.{first_of, others_of, plain_fields}
 
 -- fields of a type
 abbrev pub count_of : Tys → ℕ
@@ -27,13 +28,13 @@ count-tys_of (f ∷ fs) = ap suc (count-tys_of fs)
 
 -- ---- the width of a struct's cells
 
-fits_width : (fs : Tys) (cs : Trees) → fields_fit fs (items cs) ≡ true → length (items cs) ≡ count_of fs
+fits_width : (fs : Tys) (cs : CellList) → fields_fit fs (items cs) ≡ true → length (items cs) ≡ count_of fs
 fits_width no_fields no_cells h = refl
 fits_width no_fields (cell c cs) h = cc
 fits_width (field name t fs) no_cells h = cc
 fits_width (field name t fs) (cell c cs) h = ap suc (fits_width fs cs (right_true (fits t c) (fields_fit fs (items cs)) h))
 
-struct_width : (fs : Tys) (n : Bool) (c : Tree) → struct_fits n (fields_fit fs) c ≡ true → has_width (count_of fs) c ≡ true
+struct_width : (fs : Tys) (n : Bool) (c : CellData) → struct_fits n (fields_fit fs) c ≡ true → has_width (count_of fs) c ≡ true
 struct_width fs n (struct_cell valid cs) h = eq-eqb (length (items cs)) (count_of fs) (fits_width fs cs (right_true (flag_fits valid n) (fields_fit fs (items cs)) h))
 struct_width fs n null_cell h = cc
 struct_width fs n (bool_cell b) h = cc
@@ -42,12 +43,12 @@ struct_width fs n (text_cell s) h = cc
 struct_width fs n (bytes_cell s) h = cc
 struct_width fs n (list_cell v cs) h = cc
 
-all_width : (fs : Tys) (n : Bool) (cs : List Tree) → all_by (struct_fits n (fields_fit fs)) cs ≡ true → all_by (has_width (count_of fs)) cs ≡ true
+all_width : (fs : Tys) (n : Bool) (cs : List CellData) → all_by (struct_fits n (fields_fit fs)) cs ≡ true → all_by (has_width (count_of fs)) cs ≡ true
 all_width fs n [] h = refl
 all_width fs n (c ∷ cs) h =
     both_true (has_width (count_of fs) c) _ (struct_width fs n c (left_true (struct_fits n (fields_fit fs) c) _ h)) (all_width fs n cs (right_true (struct_fits n (fields_fit fs) c) _ h))
 
-pub cells_width : (t : Ty) (cs : List Tree) → is_struct t ≡ true → all_by (fits t) cs ≡ true → all_by (has_width (count_of (struct_fields t))) cs ≡ true
+pub cells_width : (t : Ty) (cs : List CellData) → is_struct t ≡ true → all_by (fits t) cs ≡ true → all_by (has_width (count_of (struct_fields t))) cs ≡ true
 cells_width (struct fs n) cs s h = all_width fs n cs h
 cells_width (boolean n) cs s h = cc
 cells_width (primitive p n) cs s h = cc
@@ -58,7 +59,7 @@ cells_width (extension tag t) cs s h = cc
 
 -- ---- the columns are the fields
 
-first_is : (c : Tree) → head_or null_cell (fields_of c) ≡ first_of c
+first_is : (c : CellData) → head_or null_cell (fields_of c) ≡ first_of c
 first_is (struct_cell valid no_cells) = refl
 first_is (struct_cell valid (cell c cs)) = refl
 first_is null_cell = refl
@@ -68,7 +69,7 @@ first_is (text_cell s) = refl
 first_is (bytes_cell s) = refl
 first_is (list_cell v cs) = refl
 
-others_are : (c : Tree) → tail (fields_of c) ≡ fields_of (others_of c)
+others_are : (c : CellData) → tail (fields_of c) ≡ fields_of (others_of c)
 others_are (struct_cell valid no_cells) = refl
 others_are (struct_cell valid (cell c cs)) = refl
 others_are null_cell = refl
@@ -78,17 +79,17 @@ others_are (text_cell s) = refl
 others_are (bytes_cell s) = refl
 others_are (list_cell v cs) = refl
 
-map_others : (cs : List Tree) → map tail (map fields_of cs) ≡ map fields_of (map others_of cs)
+map_others : (cs : List CellData) → map tail (map fields_of cs) ≡ map fields_of (map others_of cs)
 map_others [] = refl
 map_others (c ∷ cs) = rw (others_are c, map_others cs) refl
 
-pub columns_are : (fs : Tys) (cs : List Tree) → typed_columns fs (rows_across (count_of fs) (map fields_of cs)) ≡ plain_fields fs cs
+pub columns_are : (fs : Tys) (cs : List CellData) → typed_columns fs (rows_across (count_of fs) (map fields_of cs)) ≡ plain_fields fs cs
 columns_are no_fields cs = refl
 columns_are (field name t fs) cs = rw (map_joined (head_or null_cell) fields_of first_of cs first_is, map_others cs, columns_are fs (map others_of cs)) refl
 
 -- ---- the columns fit
 
-first_held : (name : List ℕ) (t : Ty) (fs : Tys) (c : Tree) → fields_fit (field name t fs) (fields_of c) ≡ true → fits t (first_of c) ≡ true
+first_held : (name : List ℕ) (t : Ty) (fs : Tys) (c : CellData) → fields_fit (field name t fs) (fields_of c) ≡ true → fits t (first_of c) ≡ true
 first_held name t fs (struct_cell valid no_cells) h = cc
 first_held name t fs (struct_cell valid (cell c cs)) h = left_true (fits t c) (fields_fit fs (items cs)) h
 first_held name t fs null_cell h = cc
@@ -98,7 +99,7 @@ first_held name t fs (text_cell s) h = cc
 first_held name t fs (bytes_cell s) h = cc
 first_held name t fs (list_cell v cs) h = cc
 
-others_held : (name : List ℕ) (t : Ty) (fs : Tys) (c : Tree) → fields_fit (field name t fs) (fields_of c) ≡ true → fields_fit fs (fields_of (others_of c)) ≡ true
+others_held : (name : List ℕ) (t : Ty) (fs : Tys) (c : CellData) → fields_fit (field name t fs) (fields_of c) ≡ true → fields_fit fs (fields_of (others_of c)) ≡ true
 others_held name t fs (struct_cell valid no_cells) h = cc
 others_held name t fs (struct_cell valid (cell c cs)) h = right_true (fits t c) (fields_fit fs (items cs)) h
 others_held name t fs null_cell h = cc
@@ -109,31 +110,31 @@ others_held name t fs (bytes_cell s) h = cc
 others_held name t fs (list_cell v cs) h = cc
 
 -- each cell holds the fields
-abbrev pub hold : Tys → List Tree → Bool
+abbrev pub hold : Tys → List CellData → Bool
 hold fs [] = true
 hold fs (c ∷ cs) = fields_fit fs (fields_of c) && hold fs cs
 
-hold_first : (name : List ℕ) (t : Ty) (fs : Tys) (cs : List Tree) → hold (field name t fs) cs ≡ true → all_by (fits t) (map first_of cs) ≡ true
+hold_first : (name : List ℕ) (t : Ty) (fs : Tys) (cs : List CellData) → hold (field name t fs) cs ≡ true → all_by (fits t) (map first_of cs) ≡ true
 hold_first name t fs [] h = refl
 hold_first name t fs (c ∷ cs) h =
     both_true (fits t (first_of c)) _ (first_held name t fs c (left_true (fields_fit (field name t fs) (fields_of c)) _ h)) (hold_first name t fs cs (right_true (fields_fit (field name t fs) (fields_of c)) _ h))
 
-hold_others : (name : List ℕ) (t : Ty) (fs : Tys) (cs : List Tree) → hold (field name t fs) cs ≡ true → hold fs (map others_of cs) ≡ true
+hold_others : (name : List ℕ) (t : Ty) (fs : Tys) (cs : List CellData) → hold (field name t fs) cs ≡ true → hold fs (map others_of cs) ≡ true
 hold_others name t fs [] h = refl
 hold_others name t fs (c ∷ cs) h =
     both_true (fields_fit fs (fields_of (others_of c))) _ (others_held name t fs c (left_true (fields_fit (field name t fs) (fields_of c)) _ h)) (hold_others name t fs cs (right_true (fields_fit (field name t fs) (fields_of c)) _ h))
 
-holds_fit : (fs : Tys) (cs : List Tree) → hold fs cs ≡ true → columns_fit fs (rows_across (count_of fs) (map fields_of cs)) ≡ true
+holds_fit : (fs : Tys) (cs : List CellData) → hold fs cs ≡ true → columns_fit fs (rows_across (count_of fs) (map fields_of cs)) ≡ true
 holds_fit no_fields cs h = refl
 holds_fit (field name t fs) cs h =
     rw (map_joined (head_or null_cell) fields_of first_of cs first_is, map_others cs)
     (both_true (all_by (fits t) (map first_of cs)) _ (hold_first name t fs cs h) (holds_fit fs (map others_of cs) (hold_others name t fs cs h)))
 
-struct_holds : (fs : Tys) (n : Bool) (cs : List Tree) → all_by (struct_fits n (fields_fit fs)) cs ≡ true → hold fs cs ≡ true
+struct_holds : (fs : Tys) (n : Bool) (cs : List CellData) → all_by (struct_fits n (fields_fit fs)) cs ≡ true → hold fs cs ≡ true
 struct_holds fs n [] h = refl
 struct_holds fs n (c ∷ cs) h = both_true (fields_fit fs (fields_of c)) _ (of_struct c (left_true (struct_fits n (fields_fit fs) c) _ h)) (struct_holds fs n cs (right_true (struct_fits n (fields_fit fs) c) _ h))
   where
-    of_struct : (c : Tree) → struct_fits n (fields_fit fs) c ≡ true → fields_fit fs (fields_of c) ≡ true
+    of_struct : (c : CellData) → struct_fits n (fields_fit fs) c ≡ true → fields_fit fs (fields_of c) ≡ true
     of_struct (struct_cell valid cs) h = right_true (flag_fits valid n) (fields_fit fs (items cs)) h
     of_struct null_cell h = cc
     of_struct (bool_cell b) h = cc
@@ -142,7 +143,7 @@ struct_holds fs n (c ∷ cs) h = both_true (fields_fit fs (fields_of c)) _ (of_s
     of_struct (bytes_cell s) h = cc
     of_struct (list_cell v cs) h = cc
 
-pub cells_columns : (t : Ty) (cs : List Tree) → is_struct t ≡ true → all_by (fits t) cs ≡ true → columns_fit (struct_fields t) (rows_across (count_of (struct_fields t)) (map fields_of cs)) ≡ true
+pub cells_columns : (t : Ty) (cs : List CellData) → is_struct t ≡ true → all_by (fits t) cs ≡ true → columns_fit (struct_fields t) (rows_across (count_of (struct_fields t)) (map fields_of cs)) ≡ true
 cells_columns (struct fs n) cs s h = holds_fit fs cs (struct_holds fs n cs h)
 cells_columns (boolean n) cs s h = cc
 cells_columns (primitive p n) cs s h = cc
@@ -153,17 +154,17 @@ cells_columns (extension tag t) cs s h = cc
 
 -- ---- one column more
 
-pub column_fits : (fs : List StructField) (i : ℕ) (column : List Tree) (columns : List (List Tree)) → columns_fit (tys_of (map field_ty (drop i fs))) (column ∷ columns) ≡ true → i < length fs
+pub column_fits : (fs : List StructField) (i : ℕ) (column : List CellData) (columns : List (List CellData)) → columns_fit (tys_of (map field_ty (drop i fs))) (column ∷ columns) ≡ true → i < length fs
 column_fits [] zero column columns h = cc
 column_fits [] (suc i) column columns h = cc
 column_fits (f ∷ fs) zero column columns h = omega arith
 column_fits (f ∷ fs) (suc i) column columns h = let lt : i < length fs = column_fits fs i column columns h in omega arith
 
-pub drop_typed : (fs : List StructField) (i : ℕ) (f : StructField) (column : List Tree) (columns : List (List Tree)) → i < length fs → f ≡ get_or fs i f
+pub drop_typed : (fs : List StructField) (i : ℕ) (f : StructField) (column : List CellData) (columns : List (List CellData)) → i < length fs → f ≡ get_or fs i f
     → typed_columns (tys_of (map field_ty (drop i fs))) (column ∷ columns) ≡ plain_piece (ty f.dtype) column ∷ typed_columns (tys_of (map field_ty (drop (i + 1) fs))) columns
 drop_typed fs i f column columns lt is = rw (drop_more fs i f lt, ← is, field_ty_is f) refl
 
-pub drop_fit : (fs : List StructField) (i : ℕ) (f : StructField) (column : List Tree) (columns : List (List Tree)) → i < length fs → f ≡ get_or fs i f
+pub drop_fit : (fs : List StructField) (i : ℕ) (f : StructField) (column : List CellData) (columns : List (List CellData)) → i < length fs → f ≡ get_or fs i f
     → columns_fit (tys_of (map field_ty (drop i fs))) (column ∷ columns) ≡ (all_by (fits (ty f.dtype)) column && columns_fit (tys_of (map field_ty (drop (i + 1) fs))) columns)
 drop_fit fs i f column columns lt is = rw (drop_more fs i f lt, ← is, field_ty_is f) refl
 
@@ -172,7 +173,7 @@ typed_none no_fields = refl
 typed_none (field name t fs) = refl
 
 -- no column is left
-pub all_typed : (chunks target : List Piece) (fs : Tys) (columns : List (Vec Cell)) → length columns ≡ 0 → chunks ++ typed_columns fs (map trees_in columns) ≡ target → chunks ≡ target
+pub all_typed : (chunks target : List ChunkData) (fs : Tys) (columns : List (Vec Cell)) → length columns ≡ 0 → chunks ++ typed_columns fs (map trees_in columns) ≡ target → chunks ≡ target
 all_typed chunks target fs [] e h = sym (append-nil chunks) ∙ (rw (typed_none fs) at h)
 all_typed chunks target fs (c ∷ columns) e h = absurd (omega arith)
 

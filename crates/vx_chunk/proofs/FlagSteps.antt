@@ -7,22 +7,23 @@ use Rattle.vx_model.specs.declared.ptype.Nullability.TheVariants.{NonNullable}
 use Rattle.vx_model.specs.TyView.{ty}
 use Rattle.vx_model.specs.Words.{tail, all_by}
 use Rattle.vx_model.specs.Ty.{Ty, boolean, primitive, utf8, binary, list, struct, extension}
-use Rattle.vx_model.specs.Tree.{Tree, null_cell, bool_cell, int_cell, text_cell, bytes_cell, list_cell, struct_cell, fits}
-use Rattle.vx_model.specs.Piece.{Piece, pieces_of, cells, joined_cells, list_rows, struct_rows, picked, cell_at, is_dict_type}
-use Rattle.vx_columns.specs.Parts.{flag_of, row_flags, elements_of}
-use Rattle.vx_columns.proofs.Tests.{left_true, right_true}
-use Rattle.vx_columns.proofs.Steps.{map-replicate}
+use Rattle.vx_model.specs.CellData.{CellData, null_cell, bool_cell, int_cell, text_cell, bytes_cell, list_cell, struct_cell, fits}
+use Rattle.vx_model.specs.ChunkData.{ChunkData, pieces_of, cells, joined_cells, list_rows, struct_rows, picked, cell_at, is_dict_type}
+use Rattle.vx_chunk_cells.specs.Parts.{row_flags}
+use Rattle.vx_layout_spec.specs.Parts.{flag_of, elements_of}
+use Rattle.vx_chunk_cells.proofs.Tests.{left_true, right_true}
+use Rattle.vx_chunk_cells.proofs.Steps.{map-replicate}
 use Rattle.vx_chunk.proofs.Depths.{depth_in}
 
 -- ---- leaves
 
 -- no list and no struct
-abbrev pub is_leaf : Tree → Bool
+abbrev pub is_leaf : CellData → Bool
 is_leaf (list_cell valid cs) = false
 is_leaf (struct_cell valid cs) = false
 is_leaf c = true
 
-pub leaf_flag : (c : Tree) → is_leaf c ≡ true → flag_of c ≡ true
+pub leaf_flag : (c : CellData) → is_leaf c ≡ true → flag_of c ≡ true
 leaf_flag (list_cell valid cs) h = cc
 leaf_flag (struct_cell valid cs) h = cc
 leaf_flag null_cell h = refl
@@ -31,7 +32,7 @@ leaf_flag (int_cell i) h = refl
 leaf_flag (text_cell s) h = refl
 leaf_flag (bytes_cell s) h = refl
 
-pub leaf_elements : (c : Tree) → is_leaf c ≡ true → elements_of c ≡ []
+pub leaf_elements : (c : CellData) → is_leaf c ≡ true → elements_of c ≡ []
 leaf_elements (list_cell valid cs) h = cc
 leaf_elements (struct_cell valid cs) h = refl
 leaf_elements null_cell h = refl
@@ -40,7 +41,7 @@ leaf_elements (int_cell i) h = refl
 leaf_elements (text_cell s) h = refl
 leaf_elements (bytes_cell s) h = refl
 
-leaf_fits : (t : Ty) (c : Tree) → is_dict_type t ≡ true → fits t c ≡ true → is_leaf c ≡ true
+leaf_fits : (t : Ty) (c : CellData) → is_dict_type t ≡ true → fits t c ≡ true → is_leaf c ≡ true
 leaf_fits (primitive p n) (list_cell valid cs) d h = h
 leaf_fits (primitive p n) (struct_cell valid cs) d h = h
 leaf_fits (utf8 n) (list_cell valid cs) d h = h
@@ -57,13 +58,13 @@ leaf_fits t (int_cell i) d h = refl
 leaf_fits t (text_cell s) d h = refl
 leaf_fits t (bytes_cell s) d h = refl
 
-leaf_at : (t : Ty) (vs : List Tree) (n : ℕ) → is_dict_type t ≡ true → all_by (fits t) vs ≡ true → is_leaf (cell_at vs n) ≡ true
+leaf_at : (t : Ty) (vs : List CellData) (n : ℕ) → is_dict_type t ≡ true → all_by (fits t) vs ≡ true → is_leaf (cell_at vs n) ≡ true
 leaf_at t [] n d h = refl
 leaf_at t (v ∷ vs) zero d h = leaf_fits t v d (left_true (fits t v) (all_by (fits t) vs) h)
 leaf_at t (v ∷ vs) (suc n) d h = leaf_at t vs n d (right_true (fits t v) (all_by (fits t) vs) h)
 
 -- a dictionary's values are leaves
-pub leaf_picked : (t : Ty) (vs : List Tree) (c : Tree) → is_dict_type t ≡ true → all_by (fits t) vs ≡ true → is_leaf (picked vs c) ≡ true
+pub leaf_picked : (t : Ty) (vs : List CellData) (c : CellData) → is_dict_type t ≡ true → all_by (fits t) vs ≡ true → is_leaf (picked vs c) ≡ true
 leaf_picked t vs (int_cell (pos n)) d h = leaf_at t vs n d h
 leaf_picked t vs (int_cell (negsuc n)) d h = refl
 leaf_picked t vs null_cell d h = refl
@@ -75,22 +76,22 @@ leaf_picked t vs (struct_cell v cs) d h = refl
 
 -- ---- flags
 
-pub picked_flags : (t : Ty) (vs codes : List Tree) → is_dict_type t ≡ true → all_by (fits t) vs ≡ true → map flag_of (map (picked vs) codes) ≡ replicate (length codes) true
+pub picked_flags : (t : Ty) (vs codes : List CellData) → is_dict_type t ≡ true → all_by (fits t) vs ≡ true → map flag_of (map (picked vs) codes) ≡ replicate (length codes) true
 picked_flags t vs [] d h = refl
 picked_flags t vs (c ∷ codes) d h = rw (leaf_flag (picked vs c) (leaf_picked t vs c d h), picked_flags t vs codes d h) refl
 
-pub list_flags : (es : List Tree) (os : List ℕ) (v : List Bool) → map flag_of (list_rows es os v) ≡ row_flags (length os - 1) v
+pub list_flags : (es : List CellData) (os : List ℕ) (v : List Bool) → map flag_of (list_rows es os v) ≡ row_flags (length os - 1) v
 list_flags es [] v = refl
 list_flags es (a ∷ []) v = refl
 list_flags es (a ∷ b ∷ os) v =
     let e : length (a ∷ b ∷ os) - 1 ≡ suc (length (b ∷ os) - 1) = omega arith in
     rw (e, list_flags es (b ∷ os) (tail v)) refl
 
-pub struct_flags : (n : ℕ) (columns : List (List Tree)) (v : List Bool) → map flag_of (struct_rows n columns v) ≡ row_flags n v
+pub struct_flags : (n : ℕ) (columns : List (List CellData)) (v : List Bool) → map flag_of (struct_rows n columns v) ≡ row_flags n v
 struct_flags zero columns v = refl
 struct_flags (suc n) columns v = rw (struct_flags n (map tail columns) (tail v)) refl
 
-pub drop_flags : (ps : List Piece) (i : ℕ) (p : Piece) → i < length ps → p ≡ get_or ps i p
+pub drop_flags : (ps : List ChunkData) (i : ℕ) (p : ChunkData) → i < length ps → p ≡ get_or ps i p
     → map flag_of (joined_cells (pieces_of (drop i ps))) ≡ map flag_of (cells p) ++ map flag_of (joined_cells (pieces_of (drop (i + 1) ps)))
 drop_flags ps i p lt is = rw (drop_more ps i p lt, ← is, map-append flag_of (cells p) (joined_cells (pieces_of (drop (i + 1) ps)))) refl
 

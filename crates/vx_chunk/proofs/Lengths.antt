@@ -3,20 +3,20 @@ use Rattle.std.proofs.Common.{◌≡◌, ℕ, zero, suc, ◌+◌, ◌-◌, ◌<�
 use Rattle.std.proofs.lemmas.List.{drop_more, length-map, length-replicate}
 use Rattle.std.specs.Prelude.{Bool}
 use Rattle.vx_model.specs.Words.{tail}
-use Rattle.vx_model.specs.Tree.{Tree}
-use Rattle.vx_model.specs.Piece.{Piece, pieces_of, cells, joined_cells, list_rows, struct_rows}
+use Rattle.vx_model.specs.CellData.{CellData}
+use Rattle.vx_model.specs.ChunkData.{ChunkData, pieces_of, cells, joined_cells, list_rows, struct_rows}
 
-pub length-list_rows : (es : List Tree) (offsets : List ℕ) (valid : List Bool) → length (list_rows es offsets valid) ≡ length offsets - 1
+pub length-list_rows : (es : List CellData) (offsets : List ℕ) (valid : List Bool) → length (list_rows es offsets valid) ≡ length offsets - 1
 length-list_rows es [] valid = refl
 length-list_rows es (a ∷ []) valid = refl
 length-list_rows es (a ∷ b ∷ offsets) valid = let h : length (list_rows es (b ∷ offsets) (tail valid)) ≡ length (b ∷ offsets) - 1 = length-list_rows es (b ∷ offsets) (tail valid) in omega arith
 
-pub length-struct_rows : (n : ℕ) (columns : List (List Tree)) (valid : List Bool) → length (struct_rows n columns valid) ≡ n
+pub length-struct_rows : (n : ℕ) (columns : List (List CellData)) (valid : List Bool) → length (struct_rows n columns valid) ≡ n
 length-struct_rows zero columns valid = refl
 length-struct_rows (suc n) columns valid = ap suc (length-struct_rows n (map tail columns) (tail valid))
 
 -- rows of the parts from place i on, at one more step
-pub drop_joined : (ps : List Piece) (i : ℕ) (p : Piece) → i < length ps → p ≡ get_or ps i p
+pub drop_joined : (ps : List ChunkData) (i : ℕ) (p : ChunkData) → i < length ps → p ≡ get_or ps i p
     → length (joined_cells (pieces_of (drop i ps))) ≡ length (cells p) + length (joined_cells (pieces_of (drop (i + 1) ps)))
 drop_joined ps i p lt is = rw (drop_more ps i p lt, ← is) (length-append (cells p) (joined_cells (pieces_of (drop (i + 1) ps))))
 

@@ -3,9 +3,9 @@ use Rattle.std.proofs.Common.{◌≡◌, ℕ, zero, suc, ◌+◌, ◌-◌, ◌<�
 use Rattle.std.specs.Prelude.{nat_le}
 use Rattle.std.proofs.lemmas.List.{drop_more, drop_all}
 use Rattle.vx_model.specs.Words.{head_or}
-use Rattle.vx_model.specs.Piece.{are_offsets}
-use Rattle.vx_columns.specs.Window.{window, last_of, Within}
-use Rattle.vx_columns.proofs.Tests.{left_true, right_true, both_true, tests_le, le_test}
+use Rattle.vx_model.specs.ChunkData.{are_offsets}
+use Rattle.vx_chunk_cells.specs.Window.{window, last_of, Within}
+use Rattle.vx_chunk_cells.proofs.Tests.{left_true, right_true, both_true, tests_le, le_test}
 
 pub drop_offsets : (count : ℕ) (os : List ℕ) (i : ℕ) → i + 1 < length os → are_offsets count (drop i os) ≡ (nat_le (get_or os i 0) (get_or os (i + 1) 0) && are_offsets count (drop (i + 1) os))
 drop_offsets count os i lt =

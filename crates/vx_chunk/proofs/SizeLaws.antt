@@ -5,14 +5,14 @@ use Rattle.std.proofs.lemmas.List.{length-replicate, take_all, drop-drop}
 use Rattle.std.proofs.lemmas.Bool.{true≢false}
 use Rattle.vx_model.specs.Words.{total_by, head_or, tail}
 use Rattle.vx_model.specs.Ty.{Ty, Tys, boolean, primitive, utf8, binary, list, struct, extension, no_fields, field, ty_eq}
-use Rattle.vx_model.specs.Tree.{Tree, null_cell, trees_of, items, cell_size, fields_size, list_size, struct_size, null_byte}
-use Rattle.vx_model.specs.Piece.{Piece, Pieces, plain_piece, constant_piece, dict_piece, chunked_piece, list_piece, struct_piece, extension_piece, no_pieces, part, pieces_in, piece_type, cells, joined_cells, each_cells, list_rows, struct_rows, picked, row_size, are_parts, match_fields, is_sound, are_sound}
+use Rattle.vx_model.specs.CellData.{CellData, null_cell, trees_of, items, cell_size, fields_size, list_size, struct_size, null_byte}
+use Rattle.vx_model.specs.ChunkData.{ChunkData, ChunkList, plain_piece, constant_piece, dict_piece, chunked_piece, list_piece, struct_piece, extension_piece, no_pieces, part, pieces_in, piece_type, cells, joined_cells, each_cells, list_rows, struct_rows, picked, row_size, are_parts, match_fields, is_sound, are_sound}
 use Rattle.vx_model.proofs.CellViews.{items_trees_of}
-use Rattle.vx_columns.specs.Window.{window, last_of, Within}
-use Rattle.vx_columns.proofs.Tests.{left_true, right_true}
-use Rattle.vx_columns.proofs.Windows.{window-map, window-replicate, window-append, window-nil, window-none, window-all, length-window}
-use Rattle.vx_columns.proofs.RowWindows.{window-list_rows, window-struct_rows}
-use Rattle.vx_columns.proofs.SizeSteps.{total-append, total-replicate}
+use Rattle.vx_chunk_cells.specs.Window.{window, last_of, Within}
+use Rattle.vx_chunk_cells.proofs.Tests.{left_true, right_true}
+use Rattle.vx_chunk_cells.proofs.Windows.{window-map, window-replicate, window-append, window-nil, window-none, window-all, length-window}
+use Rattle.vx_chunk_cells.proofs.RowWindows.{window-list_rows, window-struct_rows}
+use Rattle.vx_chunk_cells.proofs.SizeSteps.{total-append, total-replicate}
 use Rattle.vx_chunk.specs.Sizes.{span_size, span_sizes, each_span_size}
 use Rattle.vx_chunk.proofs.Sound.{of_chunked, of_list, of_struct, of_extension}
 use Rattle.vx_chunk.proofs.CellsFit.{of_type}
@@ -36,7 +36,7 @@ joined_spans a b c xs le more =
 more_times : (k w : ℕ) → suc k * w ≡ w + k * w
 more_times k w = omega arith
 
-list_total : (m : Bool) (f : Tree → ℕ) (es : List Tree) (low : ℕ) (os : List ℕ) (v : List Bool) → Within low (last_of os) os → 1 ≤ length os
+list_total : (m : Bool) (f : CellData → ℕ) (es : List CellData) (low : ℕ) (os : List ℕ) (v : List Bool) → Within low (last_of os) os → 1 ≤ length os
     → total_by (list_size m f) (list_rows es os v) ≡ total_by f (window (head_or 0 os) (last_of os) es) + (length os - 1) * (8 + null_byte m)
 list_total m f es low [] v h some = absurd (omega arith)
 list_total m f es low (a ∷ []) v h some = rw (window-none a es) (omega arith)
@@ -53,31 +53,31 @@ list_total m f es low (a ∷ b ∷ os) v h some =
 -- ---- structs
 
 -- a column a field, of so many cells each
-abbrev Aligned : Tys → List (List Tree) → ℕ → Type 0
+abbrev Aligned : Tys → List (List CellData) → ℕ → Type 0
 Aligned no_fields [] n = Unit {0}
 Aligned no_fields (c ∷ cs) n = ⊥
 Aligned (field name t fs) [] n = ⊥
 Aligned (field name t fs) (c ∷ cs) n = (length c ≡ n) × Aligned fs cs n
 
-abbrev columns_total : Tys → List (List Tree) → ℕ
+abbrev columns_total : Tys → List (List CellData) → ℕ
 columns_total no_fields cs = 0
 columns_total (field name t fs) [] = 0
 columns_total (field name t fs) (c ∷ cs) = total_by (cell_size t) c + columns_total fs cs
 
-no_rows : (fs : Tys) (cs : List (List Tree)) → Aligned fs cs 0 → columns_total fs cs ≡ 0
+no_rows : (fs : Tys) (cs : List (List CellData)) → Aligned fs cs 0 → columns_total fs cs ≡ 0
 no_rows no_fields cs h = refl
 no_rows (field name t fs) [] h = absurd h
 no_rows (field name t fs) ([] ∷ cs) h = let rest : columns_total fs cs ≡ 0 = no_rows fs cs h.1 in omega arith
 no_rows (field name t fs) ((x ∷ c) ∷ cs) h = let e : suc (length c) ≡ 0 = h.0 in absurd (omega arith)
 
-tails_aligned : (fs : Tys) (cs : List (List Tree)) (n : ℕ) → Aligned fs cs (suc n) → Aligned fs (map tail cs) n
+tails_aligned : (fs : Tys) (cs : List (List CellData)) (n : ℕ) → Aligned fs cs (suc n) → Aligned fs (map tail cs) n
 tails_aligned no_fields [] n h = tt
 tails_aligned no_fields (c ∷ cs) n h = absurd h
 tails_aligned (field name t fs) [] n h = absurd h
 tails_aligned (field name t fs) ([] ∷ cs) n h = let e : 0 ≡ suc n = h.0 in absurd (omega arith)
 tails_aligned (field name t fs) ((x ∷ c) ∷ cs) n h = ((let e : suc (length c) ≡ suc n = h.0 in omega arith), tails_aligned fs cs n h.1)
 
-row_and_rest : (fs : Tys) (cs : List (List Tree)) (n : ℕ) → Aligned fs cs (suc n) → columns_total fs cs ≡ fields_size fs (map (head_or null_cell) cs) + columns_total fs (map tail cs)
+row_and_rest : (fs : Tys) (cs : List (List CellData)) (n : ℕ) → Aligned fs cs (suc n) → columns_total fs cs ≡ fields_size fs (map (head_or null_cell) cs) + columns_total fs (map tail cs)
 row_and_rest no_fields [] n h = refl
 row_and_rest no_fields (c ∷ cs) n h = absurd h
 row_and_rest (field name t fs) [] n h = absurd h
@@ -86,7 +86,7 @@ row_and_rest (field name t fs) ((x ∷ c) ∷ cs) n h =
     let rest : columns_total fs cs ≡ fields_size fs (map (head_or null_cell) cs) + columns_total fs (map tail cs) = row_and_rest fs cs n h.1 in
     omega arith
 
-struct_total : (m : Bool) (fs : Tys) (n : ℕ) (cs : List (List Tree)) (v : List Bool) → Aligned fs cs n
+struct_total : (m : Bool) (fs : Tys) (n : ℕ) (cs : List (List CellData)) (v : List Bool) → Aligned fs cs n
     → total_by (struct_size m (fields_size fs)) (struct_rows n cs v) ≡ columns_total fs cs + n * null_byte m
 struct_total m fs zero cs v h = let none : columns_total fs cs ≡ 0 = no_rows fs cs h in omega arith
 struct_total m fs (suc n) cs v h =
@@ -98,7 +98,7 @@ struct_total m fs (suc n) cs v h =
 -- ---- every chunk
 
 mutual
-  pub span_law : (p : Piece) (from to : ℕ) → is_sound p ≡ true → from ≤ to → to ≤ length (cells p) → span_size p from to ≡ total_by (cell_size (piece_type p)) (window from to (cells p))
+  pub span_law : (p : ChunkData) (from to : ℕ) → is_sound p ≡ true → from ≤ to → to ≤ length (cells p) → span_size p from to ≡ total_by (cell_size (piece_type p)) (window from to (cells p))
   span_law (plain_piece t cs) from to s le within = refl
   span_law (constant_piece t c n) from to s le within =
       let rows : to ≤ n = rw (length-replicate n c) at within in
@@ -147,8 +147,8 @@ mutual
   span_law (extension_piece (list t m) p) from to s le within = absurd (true≢false (sym (of_extension (list t m) p s).storage))
   span_law (extension_piece (struct fs m) p) from to s le within = absurd (true≢false (sym (of_extension (struct fs m) p s).storage))
 
-  parts_law : (t : Ty) (ps : Pieces) (from to : ℕ) → are_sound ps ≡ true → are_parts t (pieces_in ps) ≡ true → from ≤ to → span_sizes ps from to ≡ total_by (cell_size t) (window from to (joined_cells ps))
-  parts_law t no_pieces from to s h le = rw (window-nil {X = Tree} from to) refl
+  parts_law : (t : Ty) (ps : ChunkList) (from to : ℕ) → are_sound ps ≡ true → are_parts t (pieces_in ps) ≡ true → from ≤ to → span_sizes ps from to ≡ total_by (cell_size t) (window from to (joined_cells ps))
+  parts_law t no_pieces from to s h le = rw (window-nil {X = CellData} from to) refl
   parts_law t (part p ps) from to s h le =
       let n : ℕ = length (cells p) in
       let typed : piece_type p ≡ t = of_type (piece_type p) t (left_true (ty_eq (piece_type p) t) _ (left_true (ty_eq (piece_type p) t && _) _ h)) in
@@ -158,7 +158,7 @@ mutual
       parts_law t ps (from - n) (to - n) (right_true (is_sound p) (are_sound ps) s) (right_true _ (are_parts t (pieces_in ps)) h) (omega arith) in
       rw (window-append from to (cells p) (joined_cells ps), total-append (cell_size t) (window (min from n) (min to n) (cells p)) (window (from - n) (to - n) (joined_cells ps)), here, there) refl
 
-  each_law : (fs : Tys) (ps : Pieces) (from to n : ℕ) → are_sound ps ≡ true → match_fields fs (pieces_in ps) n ≡ true → from ≤ to → to ≤ n
+  each_law : (fs : Tys) (ps : ChunkList) (from to n : ℕ) → are_sound ps ≡ true → match_fields fs (pieces_in ps) n ≡ true → from ≤ to → to ≤ n
       → Aligned fs (map (window from to) (each_cells ps)) (to - from) × (each_span_size ps from to ≡ columns_total fs (map (window from to) (each_cells ps)))
   each_law no_fields no_pieces from to n s h le within = (tt, refl)
   each_law no_fields (part p ps) from to n s h le within = cc
@@ -172,5 +172,5 @@ mutual
       let there = each_law fs ps from to n (right_true (is_sound p) (are_sound ps) s) (right_true (length (cells p) == n) _ rest) le within in
       ((length-window from to (cells p) (omega arith), there.0), rw (here, there.1) refl)
 
-pub all_rows : (p : Piece) (n : ℕ) → is_sound p ≡ true → n ≡ length (cells p) → span_size p 0 n ≡ row_size p
+pub all_rows : (p : ChunkData) (n : ℕ) → is_sound p ≡ true → n ≡ length (cells p) → span_size p 0 n ≡ row_size p
 all_rows p n s e = span_law p 0 n s (omega arith) (omega arith) ∙ ap (total_by (cell_size (piece_type p))) (window-all n (cells p) e)

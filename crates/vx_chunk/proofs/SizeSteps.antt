@@ -8,35 +8,35 @@ use Rattle.vx_model.specs.declared.dtype.DType.{DType}
 use Rattle.vx_model.specs.Words.{total_by}
 use Rattle.vx_model.specs.Ty.{nullable}
 use Rattle.vx_model.specs.TyView.{ty}
-use Rattle.vx_model.specs.Tree.{Tree, cell_size}
+use Rattle.vx_model.specs.CellData.{CellData, cell_size}
 use Rattle.vx_model.specs.TreeView.{tree}
-use Rattle.vx_model.specs.Piece.{Piece, pieces_of, piece_type, cells, held, held_parts, picked, validity_size, is_sound}
+use Rattle.vx_model.specs.ChunkData.{ChunkData, pieces_of, piece_type, cells, held, held_parts, picked, validity_size, is_sound}
 use Rattle.vx_chunk.specs.declared.node.Node.{Node}
 use Rattle.vx_chunk.specs.declared.node.Node.TheVariants as nd
 use Rattle.vx_chunk.specs.ChunkView.{node_piece}
-use Rattle.vx_columns.specs.Window.{window}
+use Rattle.vx_chunk_cells.specs.Window.{window}
 use Rattle.vx_chunk.proofs.NodeSound.{in_list}
 use Rattle.vx_chunk.specs.Sizes.{span_size, span_sizes, each_span_size}
-use Rattle.vx_columns.proofs.Windows.{window-map, window-replicate}
-use Rattle.vx_columns.proofs.Steps.{map-replicate}
-use Rattle.vx_columns.proofs.SizeSteps.{total_same, total-replicate}
+use Rattle.vx_chunk_cells.proofs.Windows.{window-map, window-replicate}
+use Rattle.vx_chunk_cells.proofs.Steps.{map-replicate}
+use Rattle.vx_chunk_cells.proofs.SizeSteps.{total_same, total-replicate}
 use Rattle.vx_chunk.proofs.Codes.{tree_int, tree_null}
 use Rattle.vx_chunk.proofs.RowSteps.{cell_at_in, cell_at-replicate}
 use Rattle.vx_chunk.proofs.Depths.{depth_in}
 
-pub drop_held : (ps : List Piece) (i : ℕ) (p : Piece) → i < length ps → p ≡ get_or ps i p
+pub drop_held : (ps : List ChunkData) (i : ℕ) (p : ChunkData) → i < length ps → p ≡ get_or ps i p
     → held_parts (pieces_of (drop i ps)) ≡ held p + held_parts (pieces_of (drop (i + 1) ps))
 drop_held ps i p lt is = rw (drop_more ps i p lt, ← is) refl
 
-pub drop_spans : (ps : List Piece) (i from to : ℕ) (p : Piece) → i < length ps → p ≡ get_or ps i p
+pub drop_spans : (ps : List ChunkData) (i from to : ℕ) (p : ChunkData) → i < length ps → p ≡ get_or ps i p
     → span_sizes (pieces_of (drop i ps)) from to ≡ span_size p (min from (length (cells p))) (min to (length (cells p))) + span_sizes (pieces_of (drop (i + 1) ps)) (from - length (cells p)) (to - length (cells p))
 drop_spans ps i from to p lt is = rw (drop_more ps i p lt, ← is) refl
 
-pub drop_each_span : (ps : List Piece) (i from to : ℕ) (p : Piece) → i < length ps → p ≡ get_or ps i p
+pub drop_each_span : (ps : List ChunkData) (i from to : ℕ) (p : ChunkData) → i < length ps → p ≡ get_or ps i p
     → each_span_size (pieces_of (drop i ps)) from to ≡ span_size p from to + each_span_size (pieces_of (drop (i + 1) ps)) from to
 drop_each_span ps i from to p lt is = rw (drop_more ps i p lt, ← is) refl
 
-pub drop_picked : (f : Tree → ℕ) (vs : List Tree) (cs : List Cell) (i : ℕ) (c : Cell) → i < length cs → c ≡ get_or cs i c
+pub drop_picked : (f : CellData → ℕ) (vs : List CellData) (cs : List Cell) (i : ℕ) (c : Cell) → i < length cs → c ≡ get_or cs i c
     → total_by f (map (picked vs) (map tree (drop i cs))) ≡ f (picked vs (tree c)) + total_by f (map (picked vs) (map tree (drop (i + 1) cs)))
 drop_picked f vs cs i c lt is = rw (drop_more cs i c lt, ← is) refl
 
@@ -45,14 +45,14 @@ drop_picked f vs cs i c lt is = rw (drop_more cs i c lt, ← is) refl
 flags_size : (n : Bool) (rows count : ℕ) → (count == (if n then rows else 0)) ≡ true → count ≡ (if n then rows else 0)
 flags_size n rows count h = eqb-true count (if n then rows else 0) h
 
-pub list_held : (n : Node) (t : DType) (es : Box Piece Global) (offsets : Vec ℕ) (valid : Vec Bool) → n ≡ nd.List t es offsets valid → is_sound (node_piece n) ≡ true
+pub list_held : (n : Node) (t : DType) (es : Box ChunkData Global) (offsets : Vec ℕ) (valid : Vec Bool) → n ≡ nd.List t es offsets valid → is_sound (node_piece n) ≡ true
     → held (node_piece n) ≡ held es.value + (8 * length offsets.items + length valid.items)
 list_held n t es offsets valid e s =
     let sound = in_list n t es offsets valid e s in
     let flags : length valid.items ≡ validity_size (ty t) (length offsets.items - 1) = flags_size (nullable (ty t)) (length offsets.items - 1) (length valid.items) sound.flags in
     rw e (omega arith)
 
-pub dict_span : (n : Node) (codes values : Box Piece Global) (from to : ℕ) → n ≡ nd.Dict codes values
+pub dict_span : (n : Node) (codes values : Box ChunkData Global) (from to : ℕ) → n ≡ nd.Dict codes values
     → span_size (node_piece n) from to ≡ total_by (cell_size (piece_type values.value)) (map (picked (cells values.value)) (window from to (cells codes.value)))
 dict_span n codes values from to e = rw e refl
 

@@ -5,21 +5,21 @@ use Rattle.std.proofs.lemmas.List.{length-map, length-replicate, length-take, le
 use Rattle.std.proofs.lemmas.Bool.Decides.{nat_tests}
 use Rattle.vx_model.specs.Words.{head_or}
 use Rattle.vx_model.specs.Ty.{Ty, Tys, boolean, primitive, utf8, binary, list, struct, extension, no_fields, field, ty_eq}
-use Rattle.vx_model.specs.Piece.{Piece, Pieces, plain_piece, constant_piece, dict_piece, chunked_piece, list_piece, struct_piece, extension_piece, no_pieces, part, pieces_in, piece_type, cells, joined_cells, each_cells, list_rows, picked, is_chunked, is_simple, are_offsets, match_fields, has_fields, is_sound, are_sound}
-use Rattle.vx_columns.specs.Window.{window, rebased, last_of}
+use Rattle.vx_model.specs.ChunkData.{ChunkData, ChunkList, plain_piece, constant_piece, dict_piece, chunked_piece, list_piece, struct_piece, extension_piece, no_pieces, part, pieces_in, piece_type, cells, joined_cells, each_cells, list_rows, picked, is_chunked, is_simple, are_offsets, match_fields, has_fields, is_sound, are_sound}
+use Rattle.vx_chunk_cells.specs.Window.{window, rebased, last_of}
 use Rattle.vx_chunk.specs.Slice.{sliced, sliced_parts, sliced_each}
-use Rattle.vx_columns.proofs.Tests.{left_true, right_true}
+use Rattle.vx_chunk_cells.proofs.Tests.{left_true, right_true}
 use Rattle.vx_chunk.proofs.Sound.{of_dict, of_chunked, of_list, of_struct, of_extension}
-use Rattle.vx_columns.proofs.Windows.{window-map, window-replicate, window-append, window-back, window-nil}
-use Rattle.vx_columns.proofs.RowWindows.{window-list_rows, window-struct_rows, list_rows-take_flags, struct_rows-take_flags}
+use Rattle.vx_chunk_cells.proofs.Windows.{window-map, window-replicate, window-append, window-back, window-nil}
+use Rattle.vx_chunk_cells.proofs.RowWindows.{window-list_rows, window-struct_rows, list_rows-take_flags, struct_rows-take_flags}
 use Rattle.vx_chunk.proofs.Lengths.{length-list_rows, length-struct_rows}
 use Rattle.vx_chunk.proofs.Offsets.{offsets_window, offsets_within}
-use Rattle.vx_columns.proofs.ListSteps.{length-rebased}
+use Rattle.vx_chunk_cells.proofs.ListSteps.{length-rebased}
 use Rattle.vx_chunk.proofs.RowGoals.{lists_cut}
 
 -- ---- the type and the encoding stay
 
-pub sliced_type : (p : Piece) (from to : ℕ) → piece_type (sliced p from to) ≡ piece_type p
+pub sliced_type : (p : ChunkData) (from to : ℕ) → piece_type (sliced p from to) ≡ piece_type p
 sliced_type (plain_piece t cs) from to = refl
 sliced_type (constant_piece t c n) from to = refl
 sliced_type (dict_piece codes values) from to = refl
@@ -28,7 +28,7 @@ sliced_type (list_piece t e offsets valid) from to = refl
 sliced_type (struct_piece t ps valid n) from to = refl
 sliced_type (extension_piece t p) from to = refl
 
-pub sliced_simple : (p : Piece) (from to : ℕ) → is_simple (sliced p from to) ≡ is_simple p
+pub sliced_simple : (p : ChunkData) (from to : ℕ) → is_simple (sliced p from to) ≡ is_simple p
 sliced_simple (plain_piece t cs) from to = refl
 sliced_simple (constant_piece t c n) from to = refl
 sliced_simple (dict_piece codes values) from to = refl
@@ -37,7 +37,7 @@ sliced_simple (list_piece t e offsets valid) from to = refl
 sliced_simple (struct_piece t ps valid n) from to = refl
 sliced_simple (extension_piece t p) from to = refl
 
-pub sliced_chunked : (p : Piece) (from to : ℕ) → is_chunked (sliced p from to) ≡ is_chunked p
+pub sliced_chunked : (p : ChunkData) (from to : ℕ) → is_chunked (sliced p from to) ≡ is_chunked p
 sliced_chunked (plain_piece t cs) from to = refl
 sliced_chunked (constant_piece t c n) from to = refl
 sliced_chunked (dict_piece codes values) from to = refl
@@ -49,11 +49,11 @@ sliced_chunked (extension_piece t p) from to = refl
 -- ---- the cells
 
 -- each field has so many rows
-abbrev pub HasRows : ℕ → Pieces → Type 0
+abbrev pub HasRows : ℕ → ChunkList → Type 0
 HasRows n no_pieces = Unit {0}
 HasRows n (part p ps) = (n ≤ length (cells p)) × HasRows n ps
 
-columns_have : (fs : Tys) (ps : Pieces) (n : ℕ) → match_fields fs (pieces_in ps) n ≡ true → HasRows n ps
+columns_have : (fs : Tys) (ps : ChunkList) (n : ℕ) → match_fields fs (pieces_in ps) n ≡ true → HasRows n ps
 columns_have no_fields no_pieces n h = tt
 columns_have no_fields (part p ps) n h = cc
 columns_have (field name t fs) no_pieces n h = cc
@@ -62,7 +62,7 @@ columns_have (field name t fs) (part p ps) n h =
     let same : length (cells p) ≡ n = eqb-true (length (cells p)) n (left_true (length (cells p) == n) _ rest) in
     (omega arith, columns_have fs ps n (right_true (length (cells p) == n) _ rest))
 
-pub have_fields : (t : Ty) (ps : Pieces) (n : ℕ) → has_fields t (pieces_in ps) n ≡ true → HasRows n ps
+pub have_fields : (t : Ty) (ps : ChunkList) (n : ℕ) → has_fields t (pieces_in ps) n ≡ true → HasRows n ps
 have_fields (struct fs m) ps n h = columns_have fs ps n h
 have_fields (boolean m) ps n h = cc
 have_fields (primitive p m) ps n h = cc
@@ -75,7 +75,7 @@ pub at_most : (a b : ℕ) → nat_lt a b ≡ false → b ≤ a
 at_most a b h = grind (arith, nat_tests)
 
 -- a part with a row there is kept, another isn't
-part_choice : (t : Bool) (p q : Piece) (rest : Pieces) (a b : ℕ) → nat_lt a b ≡ t → cells q ≡ window a b (cells p)
+part_choice : (t : Bool) (p q : ChunkData) (rest : ChunkList) (a b : ℕ) → nat_lt a b ≡ t → cells q ≡ window a b (cells p)
     → joined_cells (if t then part q rest else rest) ≡ window a b (cells p) ++ joined_cells rest
 part_choice true p q rest a b h e = rw e refl
 part_choice false p q rest a b h e = rw (window-back a b (cells p) (at_most a b h)) refl
@@ -84,7 +84,7 @@ short_window : (from to : ℕ) (os : List ℕ) → from ≤ to → length (windo
 short_window from to os le = simp (length-take, length-drop) (omega arith)
 
 mutual
-  pub sliced_cells : (p : Piece) (from to : ℕ) → is_sound p ≡ true → from ≤ to → to ≤ length (cells p) → cells (sliced p from to) ≡ window from to (cells p)
+  pub sliced_cells : (p : ChunkData) (from to : ℕ) → is_sound p ≡ true → from ≤ to → to ≤ length (cells p) → cells (sliced p from to) ≡ window from to (cells p)
   sliced_cells (plain_piece t cs) from to s le within = refl
   sliced_cells (constant_piece t c n) from to s le within =
       let rows : to ≤ n = rw (length-replicate n c) at within in
@@ -109,7 +109,7 @@ mutual
       (sym (window-struct_rows from to n (each_cells ps) valid le inside))
   sliced_cells (extension_piece t p) from to s le within = sliced_cells p from to (of_extension t p s).storage_sound le within
 
-  pub parts_cells : (ps : Pieces) (from to : ℕ) → are_sound ps ≡ true → from ≤ to → joined_cells (sliced_parts ps from to) ≡ window from to (joined_cells ps)
+  pub parts_cells : (ps : ChunkList) (from to : ℕ) → are_sound ps ≡ true → from ≤ to → joined_cells (sliced_parts ps from to) ≡ window from to (joined_cells ps)
   parts_cells no_pieces from to s le = sym (window-nil from to)
   parts_cells (part p ps) from to s le =
       let n : ℕ = length (cells p) in
@@ -118,7 +118,7 @@ mutual
       part_choice (nat_lt (min from n) (min to n)) p (sliced p (min from n) (min to n)) (sliced_parts ps (from - n) (to - n)) (min from n) (min to n) refl here
       ∙ ap (λ r. window (min from n) (min to n) (cells p) ++ r) there ∙ sym (window-append from to (cells p) (joined_cells ps))
 
-  fields_cells : (ps : Pieces) (from to n : ℕ) → are_sound ps ≡ true → from ≤ to → to ≤ n → HasRows n ps → each_cells (sliced_each ps from to) ≡ map (window from to) (each_cells ps)
+  fields_cells : (ps : ChunkList) (from to n : ℕ) → are_sound ps ≡ true → from ≤ to → to ≤ n → HasRows n ps → each_cells (sliced_each ps from to) ≡ map (window from to) (each_cells ps)
   fields_cells no_pieces from to n s le within h = refl
   fields_cells (part p ps) from to n s le within h =
       rw (sliced_cells p from to (left_true (is_sound p) (are_sound ps) s) le (omega (arith, h.0)), fields_cells ps from to n (right_true (is_sound p) (are_sound ps) s) le within h.1) refl

@@ -4,19 +4,19 @@ use Rattle.std.specs.Prelude.{nat_le, ◌==◌, not, if◌then◌else◌}
 use Rattle.std.proofs.lemmas.List.{length-map, length-replicate}
 use Rattle.vx_model.specs.Words.{all_by}
 use Rattle.vx_model.specs.Ty.{Ty, Tys, boolean, primitive, utf8, binary, list, struct, extension, no_fields, field, ty_eq, nullable}
-use Rattle.vx_model.specs.Tree.{fits}
+use Rattle.vx_model.specs.CellData.{fits}
 use Rattle.vx_model.specs.Words.{head_or}
-use Rattle.vx_model.specs.Piece.{Piece, Pieces, plain_piece, constant_piece, dict_piece, chunked_piece, list_piece, struct_piece, extension_piece, no_pieces, part, pieces_in, piece_type, cells, joined_cells, each_cells, list_rows, picked, is_code, is_chunked, is_simple, is_code_type, is_dict_type, are_parts, are_flags, are_offsets, has_elements, match_fields, has_fields, is_sound, are_sound}
-use Rattle.vx_columns.specs.Window.{window, rebased, last_of, Within}
+use Rattle.vx_model.specs.ChunkData.{ChunkData, ChunkList, plain_piece, constant_piece, dict_piece, chunked_piece, list_piece, struct_piece, extension_piece, no_pieces, part, pieces_in, piece_type, cells, joined_cells, each_cells, list_rows, picked, is_code, is_chunked, is_simple, is_code_type, is_dict_type, are_parts, are_flags, are_offsets, has_elements, match_fields, has_fields, is_sound, are_sound}
+use Rattle.vx_chunk_cells.specs.Window.{window, rebased, last_of, Within}
 use Rattle.vx_chunk.specs.Slice.{sliced, sliced_parts, sliced_each}
-use Rattle.vx_columns.proofs.Tests.{left_true, right_true, both_true, below_test}
+use Rattle.vx_chunk_cells.proofs.Tests.{left_true, right_true, both_true, below_test}
 use Rattle.vx_chunk.proofs.Sound.{of_plain, of_constant, of_dict, of_chunked, of_list, of_struct, of_extension}
 use Rattle.vx_chunk.proofs.CellsFit.{all_take, all_drop}
-use Rattle.vx_columns.proofs.Windows.{length-window, window-nil}
+use Rattle.vx_chunk_cells.proofs.Windows.{length-window, window-nil}
 use Rattle.vx_chunk.proofs.Lengths.{length-list_rows, length-struct_rows}
 use Rattle.vx_chunk.proofs.Offsets.{offsets_window, offsets_within, lower}
-use Rattle.vx_columns.proofs.Tests.{le_test}
-use Rattle.vx_columns.proofs.ListSteps.{length-rebased}
+use Rattle.vx_chunk_cells.proofs.Tests.{le_test}
+use Rattle.vx_chunk_cells.proofs.ListSteps.{length-rebased}
 use Rattle.vx_chunk.proofs.SliceLaws.{sliced_type, sliced_simple, sliced_chunked, sliced_cells, parts_cells, HasRows, have_fields}
 
 all_window : {X : Type 0} (f : X → Bool) (from to : ℕ) (xs : List X) → all_by f xs ≡ true → all_by f (window from to xs) ≡ true
@@ -44,15 +44,15 @@ flags_window : (t : Ty) (valid : List Bool) (rows from to : ℕ) → are_flags t
 flags_window t valid rows from to h le within = sized (nullable t) valid rows from to h le within
 
 -- one part more where the test holds
-sound_choice : (t : Bool) (p : Piece) (ps : Pieces) → is_sound p ≡ true → are_sound ps ≡ true → are_sound (if t then part p ps else ps) ≡ true
+sound_choice : (t : Bool) (p : ChunkData) (ps : ChunkList) → is_sound p ≡ true → are_sound ps ≡ true → are_sound (if t then part p ps else ps) ≡ true
 sound_choice true p ps h k = both_true (is_sound p) (are_sound ps) h k
 sound_choice false p ps h k = k
 
-typed_choice : (t : Bool) (u : Ty) (p : Piece) (ps : Pieces) → (ty_eq (piece_type p) u && not (is_chunked p)) ≡ true → are_parts u (pieces_in ps) ≡ true → are_parts u (pieces_in (if t then part p ps else ps)) ≡ true
+typed_choice : (t : Bool) (u : Ty) (p : ChunkData) (ps : ChunkList) → (ty_eq (piece_type p) u && not (is_chunked p)) ≡ true → are_parts u (pieces_in ps) ≡ true → are_parts u (pieces_in (if t then part p ps else ps)) ≡ true
 typed_choice true u p ps h k = both_true (ty_eq (piece_type p) u && not (is_chunked p)) _ h k
 typed_choice false u p ps h k = k
 
-parts_typed : (t : Ty) (ps : Pieces) (from to : ℕ) → are_parts t (pieces_in ps) ≡ true → are_parts t (pieces_in (sliced_parts ps from to)) ≡ true
+parts_typed : (t : Ty) (ps : ChunkList) (from to : ℕ) → are_parts t (pieces_in ps) ≡ true → are_parts t (pieces_in (sliced_parts ps from to)) ≡ true
 parts_typed t no_pieces from to h = refl
 parts_typed t (part p ps) from to h =
     let n : ℕ = length (cells p) in
@@ -60,7 +60,7 @@ parts_typed t (part p ps) from to h =
     typed_choice (nat_lt (min from n) (min to n)) t (sliced p (min from n) (min to n)) (sliced_parts ps (from - n) (to - n)) (rw (sliced_type p (min from n) (min to n), sliced_chunked p (min from n) (min to n)) here)
     (parts_typed t ps (from - n) (to - n) (right_true (ty_eq (piece_type p) t && not (is_chunked p)) _ h))
 
-each_matched : (fs : Tys) (ps : Pieces) (from to n : ℕ) → are_sound ps ≡ true → match_fields fs (pieces_in ps) n ≡ true → from ≤ to → to ≤ n → match_fields fs (pieces_in (sliced_each ps from to)) (to - from) ≡ true
+each_matched : (fs : Tys) (ps : ChunkList) (from to n : ℕ) → are_sound ps ≡ true → match_fields fs (pieces_in ps) n ≡ true → from ≤ to → to ≤ n → match_fields fs (pieces_in (sliced_each ps from to)) (to - from) ≡ true
 each_matched no_fields no_pieces from to n s h le within = refl
 each_matched no_fields (part p ps) from to n s h le within = cc
 each_matched (field name t fs) no_pieces from to n s h le within = cc
@@ -73,7 +73,7 @@ each_matched (field name t fs) (part p ps) from to n s h le within =
     (both_true (length (cells (sliced p from to)) == (to - from)) _ (eq-eqb (length (cells (sliced p from to))) (to - from) count)
     (each_matched fs ps from to n (right_true (is_sound p) (are_sound ps) s) (right_true (length (cells p) == n) _ rest) le within))
 
-each_typed : (t : Ty) (ps : Pieces) (from to n : ℕ) → are_sound ps ≡ true → has_fields t (pieces_in ps) n ≡ true → from ≤ to → to ≤ n → has_fields t (pieces_in (sliced_each ps from to)) (to - from) ≡ true
+each_typed : (t : Ty) (ps : ChunkList) (from to n : ℕ) → are_sound ps ≡ true → has_fields t (pieces_in ps) n ≡ true → from ≤ to → to ≤ n → has_fields t (pieces_in (sliced_each ps from to)) (to - from) ≡ true
 each_typed (struct fs m) ps from to n s h le within = each_matched fs ps from to n s h le within
 each_typed (boolean m) ps from to n s h le within = cc
 each_typed (primitive p m) ps from to n s h le within = cc
@@ -83,7 +83,7 @@ each_typed (list t m) ps from to n s h le within = cc
 each_typed (extension tag t) ps from to n s h le within = cc
 
 mutual
-  pub sliced_sound : (p : Piece) (from to : ℕ) → is_sound p ≡ true → from ≤ to → to ≤ length (cells p) → is_sound (sliced p from to) ≡ true
+  pub sliced_sound : (p : ChunkData) (from to : ℕ) → is_sound p ≡ true → from ≤ to → to ≤ length (cells p) → is_sound (sliced p from to) ≡ true
   sliced_sound (plain_piece t cs) from to s le within =
       let h = of_plain t cs s in
       let fewer : length (window from to cs) ≤ length cs = short_window from to cs in
@@ -137,14 +137,14 @@ mutual
       let h = of_extension t p s in
       both_true (is_sound (sliced p from to)) _ (sliced_sound p from to h.storage_sound le within) (rw (sliced_type p from to) h.storage)
 
-  parts_sound : (ps : Pieces) (from to : ℕ) → are_sound ps ≡ true → from ≤ to → are_sound (sliced_parts ps from to) ≡ true
+  parts_sound : (ps : ChunkList) (from to : ℕ) → are_sound ps ≡ true → from ≤ to → are_sound (sliced_parts ps from to) ≡ true
   parts_sound no_pieces from to s le = refl
   parts_sound (part p ps) from to s le =
       let n : ℕ = length (cells p) in
       sound_choice (nat_lt (min from n) (min to n)) (sliced p (min from n) (min to n)) (sliced_parts ps (from - n) (to - n)) (sliced_sound p (min from n) (min to n) (left_true (is_sound p) (are_sound ps) s) (omega arith) (omega arith))
       (parts_sound ps (from - n) (to - n) (right_true (is_sound p) (are_sound ps) s) (omega arith))
 
-  each_sound : (ps : Pieces) (from to n : ℕ) → are_sound ps ≡ true → from ≤ to → to ≤ n → HasRows n ps → are_sound (sliced_each ps from to) ≡ true
+  each_sound : (ps : ChunkList) (from to n : ℕ) → are_sound ps ≡ true → from ≤ to → to ≤ n → HasRows n ps → are_sound (sliced_each ps from to) ≡ true
   each_sound no_pieces from to n s le within h = refl
   each_sound (part p ps) from to n s le within h =
       both_true (is_sound (sliced p from to)) _ (sliced_sound p from to (left_true (is_sound p) (are_sound ps) s) le (omega (arith, h.0)))

@@ -4,9 +4,9 @@ use Rattle.vx_chunk.specs.declared.node.Node.{Node}
 use Rattle.vx_chunk.specs.declared.node.Node.TheVariants.{Plain, Constant, Dict, Chunked, List, Struct, Extension}
 use Rattle.vx_model.specs.TyView.{ty}
 use Rattle.vx_model.specs.TreeView.{tree}
-use Rattle.vx_model.specs.Piece.{Piece, plain_piece, constant_piece, dict_piece, chunked_piece, list_piece, struct_piece, extension_piece, pieces_of}
+use Rattle.vx_model.specs.ChunkData.{ChunkData, plain_piece, constant_piece, dict_piece, chunked_piece, list_piece, struct_piece, extension_piece, pieces_of}
 
-abbrev pub node_piece : Node → Piece
+abbrev pub node_piece : Node → ChunkData
 node_piece (Plain dtype cells) = plain_piece (ty dtype) (map tree cells.items)
 node_piece (Constant dtype cell rows) = constant_piece (ty dtype) (tree cell) rows
 node_piece (Dict codes values) = dict_piece codes.value values.value
@@ -16,5 +16,5 @@ node_piece (Struct dtype fields valid rows) = struct_piece (ty dtype) (pieces_of
 node_piece (Extension dtype storage) = extension_piece (ty dtype) storage.value
 
 -- a chunk is seen as its piece
-abbrev pub piece : Piece → Piece
+abbrev pub piece : ChunkData → ChunkData
 piece p = p

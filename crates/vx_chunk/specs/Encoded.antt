@@ -1,9 +1,9 @@
 -- The encoding of a chunk.
 use Rattle.vx_model.specs.declared.encoding.EncodingId.{EncodingId}
 use Rattle.vx_model.specs.declared.encoding.EncodingId.TheVariants as encodings
-use Rattle.vx_model.specs.Piece.{Piece, plain_piece, constant_piece, dict_piece, chunked_piece, list_piece, struct_piece, extension_piece}
+use Rattle.vx_model.specs.ChunkData.{ChunkData, plain_piece, constant_piece, dict_piece, chunked_piece, list_piece, struct_piece, extension_piece}
 
-abbrev pub encoding_of : Piece → EncodingId
+abbrev pub encoding_of : ChunkData → EncodingId
 encoding_of (plain_piece t cs) = encodings.Plain
 encoding_of (constant_piece t c n) = encodings.Constant
 encoding_of (dict_piece codes values) = encodings.Dict

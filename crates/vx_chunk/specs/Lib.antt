@@ -1,4 +1,4 @@
-pub mod PieceCode
+pub mod ChunkCode
 pub mod ChunkView
 pub mod Depth
 pub mod NodeDepth
@@ -6,6 +6,5 @@ pub mod Conditions
 pub mod Encoded
 pub mod Rows
 pub mod Slice
-pub mod Concat
 pub mod Parts
 pub mod Sizes

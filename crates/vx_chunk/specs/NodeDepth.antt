@@ -7,9 +7,9 @@ use Rattle.vx_chunk.specs.declared.node.Node.TheVariants.{Plain, Constant, Dict,
 use Rattle.vx_chunk.specs.declared.node.Chunk.TheDeep.{deep-Node}
 use Rattle.vx_chunk.specs.ChunkView.{node_piece}
 use Rattle.vx_chunk.specs.Depth.{depth, depths}
-use Rattle.vx_model.specs.Piece.{Piece, pieces_of}
+use Rattle.vx_model.specs.ChunkData.{ChunkData, pieces_of}
 
-most_is : (ps : List Piece) → most (λ p. depth p + 1) ps ≤ depths (pieces_of ps)
+most_is : (ps : List ChunkData) → most (λ p. depth p + 1) ps ≤ depths (pieces_of ps)
 most_is [] = omega arith
 most_is (p ∷ ps) = omega (arith, most_is ps)
 

@@ -1,14 +1,14 @@
 -- Rows of several chunks beside each other.
 use Rattle.std.specs.Prelude.{ℕ, ◌&&◌, nat_le, Bool, true, List, [], ◌∷◌, length}
-use Rattle.vx_model.specs.Tree.{Tree}
-use Rattle.vx_model.specs.Piece.{Piece, cells}
-use Rattle.vx_columns.specs.Window.{window}
+use Rattle.vx_model.specs.CellData.{CellData}
+use Rattle.vx_model.specs.ChunkData.{ChunkData, cells}
+use Rattle.vx_chunk_cells.specs.Window.{window}
 
 -- whether each chunk has so many rows at least
-abbrev pub have_rows : ℕ → List Piece → Bool
+abbrev pub have_rows : ℕ → List ChunkData → Bool
 have_rows n [] = true
 have_rows n (p ∷ ps) = nat_le n (length (cells p)) && have_rows n ps
 
 -- a field's cells from one row to another
-abbrev pub column : ℕ → ℕ → Piece → List Tree
+abbrev pub column : ℕ → ℕ → ChunkData → List CellData
 column from to p = window from to (cells p)

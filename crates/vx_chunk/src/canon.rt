@@ -1,7 +1,7 @@
 //! The plain form of a chunk.
 
 ghost use Rattle.std.specs.Prelude.{◌≡◌, IfOk, IfErr};
-ghost use Rattle.vx_model.specs.Piece.{plain_piece, piece_type, cells};
+ghost use Rattle.vx_model.specs.ChunkData.{plain_piece, piece_type, cells};
 
 use crate::error::ChunkError;
 use crate::node::Chunk;

@@ -2,10 +2,10 @@
 
 ghost use Rattle.std.specs.Prelude.{◌≡◌, ◌<◌, ◌^◌, ◌↔◌, map, length, IsTrue, IsOk, IfOk, IfErr};
 ghost use Rattle.vx_model.specs.Words.{all_by};
-ghost use Rattle.vx_model.specs.Tree.{fits};
+ghost use Rattle.vx_model.specs.CellData.{fits};
 ghost use Rattle.vx_model.specs.TyView.{ty};
 ghost use Rattle.vx_model.specs.TreeView.{tree};
-ghost use Rattle.vx_model.specs.Piece.{plain_piece, constant_piece, dict_piece, chunked_piece, list_piece, struct_piece, extension_piece, pieces_of, joined_cells, are_parts, has_storage, piece_type};
+ghost use Rattle.vx_model.specs.ChunkData.{plain_piece, constant_piece, dict_piece, chunked_piece, list_piece, struct_piece, extension_piece, pieces_of, joined_cells, are_parts, has_storage, piece_type};
 ghost use Rattle.vx_chunk.specs.Conditions.{makes_dict, makes_list, makes_struct, IsPast};
 
 use crate::error::ChunkError;

@@ -2,9 +2,9 @@
 
 ghost use Rattle.std.specs.Prelude.{◌≡◌, ◌++◌, length, IsTrue, IfOk, IfErr, OnOk};
 ghost use Rattle.vx_model.specs.TyView.{ty};
-ghost use Rattle.vx_model.specs.Piece.{chunked_piece, pieces_of, piece_type, cells as cells_in, joined_cells};
+ghost use Rattle.vx_model.specs.ChunkData.{chunked_piece, pieces_of, piece_type, cells as cells_in, joined_cells};
 ghost use Rattle.vx_chunk.specs.Conditions.{are_of_type, IsTooLarge};
-ghost use Rattle.vx_chunk.specs.Concat.{parts_of, flat_parts};
+ghost use Rattle.vx_layout_spec.specs.Parts.{parts_of, all_parts};
 
 use crate::error::ChunkError;
 use crate::node::{Chunk, Node};
@@ -17,7 +17,7 @@ impl Chunk {
     /// `conditions::are_of_type` tests the condition.
     pub fn concat(alloc: Global, dtype: DType, parts: Vec<Chunk>) -> Result<Chunk, ChunkError>
         requires { IsTrue (are_of_type (ty dtype) parts.items) }
-        ensures chunked { IfOk result (λ c. c ≡ chunked_piece (ty dtype) (pieces_of (flat_parts parts.items))) }
+        ensures chunked { IfOk result (λ c. c ≡ chunked_piece (ty dtype) (pieces_of (all_parts parts.items))) }
         ensures cells { IfOk result (λ c. cells_in c ≡ joined_cells (pieces_of parts.items)) }
         ensures refused { IfErr result (IsTooLarge (length (joined_cells (pieces_of parts.items)))) }
     {
@@ -29,7 +29,7 @@ impl Chunk {
 
 #[tactic(auto, using(crate::proofs::ConcatSteps::flat_rules))]
 fn flatten(alloc: Global, parts: Vec<Chunk>) -> Result<Vec<Chunk>, AllocError>
-    ensures { IfOk result (λ v. v.items ≡ flat_parts parts.items) }
+    ensures { IfOk result (λ v. v.items ≡ all_parts parts.items) }
 {
     let mut flat = Vec::with_capacity(alloc, parts.len())?;
     for part in parts {

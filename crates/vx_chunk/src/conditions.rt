@@ -5,7 +5,7 @@ ghost use Rattle.vx_model.specs.Words.{all_by};
 ghost use Rattle.vx_model.specs.Ty.{tys_of, ty_eq};
 ghost use Rattle.vx_model.specs.TyView.{ty, field_ty};
 ghost use Rattle.vx_model.specs.TreeView.{tree};
-ghost use Rattle.vx_model.specs.Piece.{piece_type, cells as cells_in, is_simple, is_chunked, is_unsigned as unsigned, is_code_type as of_codes, is_dict_type as of_values, is_code as is_place, are_parts as are_parts_of, are_offsets as ascend, are_flags as are_flags_of, has_elements as of_elements, has_storage as of_storage, has_fields as of_fields, match_fields as match_types};
+ghost use Rattle.vx_model.specs.ChunkData.{piece_type, cells as cells_in, is_simple, is_chunked, is_unsigned as unsigned, is_code_type as of_codes, is_dict_type as of_values, is_code as is_place, are_parts as are_parts_of, are_offsets as ascend, are_flags as are_flags_of, has_elements as of_elements, has_storage as of_storage, has_fields as of_fields, match_fields as match_types};
 ghost use Rattle.vx_chunk.specs.Conditions.{makes_dict as dict_of, makes_list as list_of, makes_struct as struct_of, are_of_type as all_of_type};
 
 use crate::node::{Chunk, Node};

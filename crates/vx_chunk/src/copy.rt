@@ -5,7 +5,7 @@ ghost use Rattle.vx_chunk.specs.ChunkView.{node_piece};
 
 use crate::node::{Chunk, Node};
 use std::alloc::AllocError;
-use vx_columns::copy_cells;
+use vx_chunk_cells::copy_cells;
 
 impl Clone for Chunk {
     ghost is_clone = { λ c copy. copy ≡ c };

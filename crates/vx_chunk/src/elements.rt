@@ -5,9 +5,9 @@ ghost use Rattle.vx_model.specs.Words.{head_or, tail};
 ghost use Rattle.vx_model.specs.Ty.{is_list};
 ghost use Rattle.vx_model.specs.TyView.{ty};
 ghost use Rattle.vx_model.specs.TreeView.{tree};
-ghost use Rattle.vx_model.specs.Piece.{piece_type, pieces_of, plain_piece, cells as cells_in, joined_cells, are_offsets};
-ghost use Rattle.vx_columns.specs.Window.{window, last_of, counted, Within};
-ghost use Rattle.vx_columns.specs.Parts.{flag_of as is_valid, all_elements, ends};
+ghost use Rattle.vx_model.specs.ChunkData.{piece_type, pieces_of, plain_piece, cells as cells_in, joined_cells, are_offsets};
+ghost use Rattle.vx_chunk_cells.specs.Window.{window, last_of, counted, Within};
+ghost use Rattle.vx_layout_spec.specs.Parts.{flag_of as is_valid, all_elements, ends};
 ghost use Rattle.vx_chunk.specs.Conditions.{IsTooLarge};
 ghost use Rattle.vx_chunk.specs.Parts.{element_type};
 
@@ -16,7 +16,7 @@ use crate::flags::flags;
 use crate::node::{Chunk, Node};
 use crate::rows::push_between;
 use std::alloc::{AllocError, Global};
-use vx_columns::{
+use vx_chunk_cells::{
     count_elements, element_len, push_apart, push_copies_apart, push_counted, push_same_offset,
 };
 use vx_model::{Cell, DType};

@@ -3,15 +3,16 @@
 ghost use Rattle.std.specs.Prelude.{◌≡◌, map, IsTrue, IfOk, IfErr};
 ghost use Rattle.vx_model.specs.Ty.{is_struct, tys_of};
 ghost use Rattle.vx_model.specs.TyView.{ty, field_ty};
-ghost use Rattle.vx_model.specs.Piece.{piece_type, cells as cells_in};
-ghost use Rattle.vx_columns.specs.Columns.{trees_in};
-ghost use Rattle.vx_chunk.specs.Parts.{field_pieces, plain_fields, struct_fields, typed_columns, columns_fit};
+ghost use Rattle.vx_model.specs.ChunkData.{piece_type, cells as cells_in};
+ghost use Rattle.vx_chunk_cells.specs.Columns.{trees_in};
+ghost use Rattle.vx_chunk.specs.Parts.{struct_fields, typed_columns, columns_fit};
+ghost use Rattle.vx_layout_spec.specs.Parts.{field_pieces, plain_fields};
 
 use crate::copy::copy_all;
 use crate::error::ChunkError;
 use crate::node::{Chunk, Node};
 use std::alloc::{AllocError, Global};
-use vx_columns::columns_of;
+use vx_chunk_cells::columns_of;
 use vx_model::{Cell, DType, StructField};
 
 impl Chunk {

@@ -2,14 +2,13 @@
 
 ghost use Rattle.std.specs.Prelude.{◌≡◌, ◌++◌, map, IsTrue, IfOk, IfErr, OnOk};
 ghost use Rattle.vx_model.specs.Ty.{is_struct};
-ghost use Rattle.vx_model.specs.Piece.{piece_type, pieces_of, cells as cells_in, joined_cells};
-ghost use Rattle.vx_columns.specs.Parts.{flag_of as is_valid};
-ghost use Rattle.vx_chunk.specs.Parts.{validity_piece};
+ghost use Rattle.vx_model.specs.ChunkData.{piece_type, pieces_of, cells as cells_in, joined_cells};
+ghost use Rattle.vx_layout_spec.specs.Parts.{flag_of as is_valid, validity_piece};
 
 use crate::error::ChunkError;
 use crate::node::{Chunk, Node};
 use std::alloc::{AllocError, Global};
-use vx_columns::{bool_cells, flag_of, push_flags, push_row_flags, push_same_flag};
+use vx_chunk_cells::{bool_cells, flag_of, push_flags, push_row_flags, push_same_flag};
 use vx_model::{DType, Nullability};
 
 impl Chunk {

@@ -58,10 +58,10 @@ pub struct Chunk {
 
 impl Model for Chunk {
     ghost use Rattle.std.specs.Prelude.{IsTrue};
-    ghost use Rattle.vx_model.specs.Piece.{Piece, is_sound};
-    ghost use Rattle.vx_chunk.specs.PieceCode.{piece_code};
+    ghost use Rattle.vx_model.specs.ChunkData.{ChunkData, is_sound};
+    ghost use Rattle.vx_chunk.specs.ChunkCode.{piece_code};
 
-    ghost Value = { Piece };
+    ghost Value = { ChunkData };
 
     ghost coded = { piece_code };
 

@@ -2,7 +2,7 @@
 
 ghost use Rattle.std.specs.Prelude.{◌≡◌, length, IsTrue};
 ghost use Rattle.vx_model.specs.TyView.{ty};
-ghost use Rattle.vx_model.specs.Piece.{piece_type, pieces_of, cells, joined_cells, is_sound, are_sound, is_simple, is_chunked};
+ghost use Rattle.vx_model.specs.ChunkData.{piece_type, pieces_of, cells, joined_cells, is_sound, are_sound, is_simple, is_chunked};
 ghost use Rattle.vx_chunk.specs.ChunkView.{node_piece};
 ghost use Rattle.vx_chunk.specs.Encoded.{encoding_of};
 

@@ -3,11 +3,11 @@
 ghost use Rattle.std.specs.Prelude.{◌≡◌, ◌↔◌, ◌<◌, ◌≤◌, ◌^◌, ◌-◌, ◌*◌, min, length, map, IsTrue, IsOk, IfOk, IfErr};
 ghost use Rattle.vx_model.specs.Words.{total_by, head_or};
 ghost use Rattle.vx_model.specs.Ty.{nullable};
-ghost use Rattle.vx_model.specs.Tree.{cell_size as size_of, null_byte as byte_of};
+ghost use Rattle.vx_model.specs.CellData.{cell_size as size_of, null_byte as byte_of};
 ghost use Rattle.vx_model.specs.TyView.{ty};
 ghost use Rattle.vx_model.specs.TreeView.{tree};
-ghost use Rattle.vx_model.specs.Piece.{piece_type, pieces_of, cells as cells_in, picked, row_size, held, held_parts, is_simple, are_offsets};
-ghost use Rattle.vx_columns.specs.Window.{window, last_of};
+ghost use Rattle.vx_model.specs.ChunkData.{piece_type, pieces_of, cells as cells_in, picked, row_size, held, held_parts, is_simple, are_offsets};
+ghost use Rattle.vx_chunk_cells.specs.Window.{window, last_of};
 ghost use Rattle.vx_chunk.specs.Conditions.{IsPast, IsFarPast};
 ghost use Rattle.vx_chunk.specs.Rows.{have_rows};
 ghost use Rattle.vx_chunk.specs.Sizes.{span_size, span_sizes, each_span_size};
@@ -15,7 +15,7 @@ ghost use Rattle.vx_chunk.specs.Sizes.{span_size, span_sizes, each_span_size};
 use crate::conditions::is_code;
 use crate::error::ChunkError;
 use crate::node::{Chunk, Node};
-use vx_columns::{cell_size, cells_size, offsets_between};
+use vx_chunk_cells::{cell_size, cells_size, offsets_between};
 use vx_model::{Cell, DType};
 
 impl Chunk {

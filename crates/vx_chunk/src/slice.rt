@@ -4,17 +4,17 @@ ghost use Rattle.std.specs.Prelude.{◌≡◌, ◌≤◌, length, map, IsTrue, I
 ghost use Rattle.vx_model.specs.Words.{head_or};
 ghost use Rattle.vx_model.specs.TyView.{ty};
 ghost use Rattle.vx_model.specs.TreeView.{tree};
-ghost use Rattle.vx_model.specs.Piece.{pieces_of, pieces_in, piece_type, cells as cells_in, is_sound, are_offsets, list_piece};
+ghost use Rattle.vx_model.specs.ChunkData.{pieces_of, pieces_in, piece_type, cells as cells_in, is_sound, are_offsets, list_piece};
 ghost use Rattle.vx_chunk.specs.ChunkView.{node_piece};
 ghost use Rattle.vx_chunk.specs.Encoded.{encoding_of};
-ghost use Rattle.vx_columns.specs.Window.{window, rebased, last_of, Within};
+ghost use Rattle.vx_chunk_cells.specs.Window.{window, rebased, last_of, Within};
 ghost use Rattle.vx_chunk.specs.Rows.{have_rows};
 ghost use Rattle.vx_chunk.specs.Slice.{sliced, sliced_parts, sliced_each};
 
 use crate::error::ChunkError;
 use crate::node::{Chunk, Node};
 use std::alloc::{AllocError, Global};
-use vx_columns::{copy_cells, flags_between, offsets_between, rebase};
+use vx_chunk_cells::{copy_cells, flags_between, offsets_between, rebase};
 use vx_model::DType;
 
 impl Chunk {

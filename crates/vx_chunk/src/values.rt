@@ -2,12 +2,12 @@
 
 ghost use Rattle.std.specs.Prelude.{◌≡◌, map, IfOk, IfErr};
 ghost use Rattle.vx_model.specs.TreeView.{val};
-ghost use Rattle.vx_model.specs.Piece.{row_values};
+ghost use Rattle.vx_model.specs.ChunkData.{row_values};
 
 use crate::error::ChunkError;
 use crate::node::Chunk;
 use std::alloc::Global;
-use vx_columns::into_values;
+use vx_chunk_cells::into_values;
 use vx_model::Value;
 
 impl Chunk {

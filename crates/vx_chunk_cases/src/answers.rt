@@ -7,8 +7,8 @@ use crate::word::{ChunkWord, Word};
 use serde_json::Value;
 use std::alloc::{AllocError, Global};
 use vx_chunk::{Chunk, ChunkError};
-use vx_encode::encode_segment;
-use vx_segment::{buffer_lengths, tree_buffer_lengths};
+use vx_segment_reader::{buffer_lengths, tree_buffer_lengths};
+use vx_segment_writer::encode_segment;
 
 pub(crate) fn answer(alloc: Global, word: Word, given: &Value) -> anyhow::Result<String> {
     match word {

@@ -4,9 +4,9 @@ use anyhow::Context;
 use serde_json::Value;
 use std::alloc::Global;
 use vx_chunk::Chunk;
-use vx_data::{read_batch, read_type};
+use vx_chunk_json::{read_batch, read_type};
 use vx_model::{ArrayContext, DType, EncodingId};
-use vx_segment::decode_segment;
+use vx_segment_reader::decode_segment;
 
 pub(crate) fn dtype_in(alloc: Global, given: &Value) -> anyhow::Result<DType> {
     let value = given.get("schema").context("no schema")?;

@@ -4,8 +4,8 @@ use Rattle.std.specs.Prelude.{if◌then◌else◌}
 use Rattle.std.proofs.lemmas.Bool.{true≢false}
 use Rattle.std.specs.Cmp.Lexicographic.{bytes_decides}
 use Rattle.vx_model.specs.Ty.{Ty, Tys, boolean, primitive, utf8, binary, list, struct, extension, no_fields, field}
-use Rattle.vx_plan.specs.Way.{Way, Ways, Wraps, flat, chunked, grouped, compressed, coded, zoned, structured, listed, tabled, no_ways, way_at, no_wraps, wrap_grouped, wrap_zoned}
-use Rattle.vx_plan.specs.Admitted.{overlaps, overlaps_none, are_apart, is_admitted, are_admitted, wraps_admitted, is_admitted_grouping, is_admitted_zoned}
+use Rattle.vx_strategy_spec.specs.StrategyData.{StrategyData, StrategyList, Wraps, flat, chunked, grouped, compressed, coded, zoned, structured, listed, tabled, no_ways, way_at, no_wraps, wrap_grouped, wrap_zoned}
+use Rattle.vx_strategy_spec.specs.Admitted.{overlaps, overlaps_none, are_apart, is_admitted, are_admitted, wraps_admitted, is_admitted_grouping, is_admitted_zoned}
 use Rattle.vx_dispatch.specs.Dispatch.{override, below, given_or, field_writer, field_writers, wrapped, dispatch}
 
 front : (a b : Bool) → (a && b) ≡ true → a ≡ true
@@ -21,7 +21,7 @@ hold a b e f = rw (e, f) refl
 
 -- ---- overrides
 
-below_admitted : (name : List ℕ) (ws : Ways) → are_admitted ws ≡ true → are_admitted (below name ws) ≡ true
+below_admitted : (name : List ℕ) (ws : StrategyList) → are_admitted ws ≡ true → are_admitted (below name ws) ≡ true
 below_admitted name no_ways h = refl
 below_admitted name (way_at [] w ws) h = below_admitted name ws (back (is_admitted w) (are_admitted ws) h)
 below_admitted name (way_at (a ∷ []) w ws) h = below_admitted name ws (back (is_admitted w) (are_admitted ws) h)
@@ -31,11 +31,11 @@ below_admitted name (way_at (a ∷ b ∷ path) w ws) h = go (bytes_eq name a) (b
     go true r = hold (is_admitted w) (are_admitted (below name ws)) (front (is_admitted w) (are_admitted ws) h) r
     go false r = r
 
-abbrev AdmittedIf : Option Way → Type 0
+abbrev AdmittedIf : Option StrategyData → Type 0
 AdmittedIf None = Unit {0}
 AdmittedIf (Some w) = is_admitted w ≡ true
 
-override_admitted : (name : List ℕ) (ws : Ways) → are_admitted ws ≡ true → AdmittedIf (override name ws)
+override_admitted : (name : List ℕ) (ws : StrategyList) → are_admitted ws ≡ true → AdmittedIf (override name ws)
 override_admitted name no_ways h = tt
 override_admitted name (way_at [] w ws) h = override_admitted name ws (back (is_admitted w) (are_admitted ws) h)
 override_admitted name (way_at (a ∷ []) w ws) h = go (bytes_eq name a) (override_admitted name ws (back (is_admitted w) (are_admitted ws) h))
@@ -52,7 +52,7 @@ no_clash x a c p q e h =
     let same : bytes_eq a c ≡ true = (bytes_decides a c).1 e in
     subst (λ b. not (b && overlaps p q) ≡ true) same h
 
-below_apart_from : (name b : List ℕ) (path : List (List ℕ)) (ws : Ways) → overlaps_none (name ∷ b ∷ path) ws ≡ true → overlaps_none (b ∷ path) (below name ws) ≡ true
+below_apart_from : (name b : List ℕ) (path : List (List ℕ)) (ws : StrategyList) → overlaps_none (name ∷ b ∷ path) ws ≡ true → overlaps_none (b ∷ path) (below name ws) ≡ true
 below_apart_from name b path no_ways h = refl
 below_apart_from name b path (way_at [] w ws) h = absurd (true≢false (sym h))
 below_apart_from name b path (way_at (c ∷ []) w ws) h = below_apart_from name b path ws (back (not (overlaps (name ∷ b ∷ path) (c ∷ []))) (overlaps_none (name ∷ b ∷ path) ws) h)
@@ -65,7 +65,7 @@ below_apart_from name b path (way_at (c ∷ d ∷ q) w ws) h =
         (no_clash true name c (b ∷ path) (d ∷ q) ((bytes_decides name c).0 e) (front (not (overlaps (name ∷ b ∷ path) (c ∷ d ∷ q))) (overlaps_none (name ∷ b ∷ path) ws) h)) r
     go false e r = r
 
-below_apart : (name : List ℕ) (ws : Ways) → are_apart ws ≡ true → are_apart (below name ws) ≡ true
+below_apart : (name : List ℕ) (ws : StrategyList) → are_apart ws ≡ true → are_apart (below name ws) ≡ true
 below_apart name no_ways h = refl
 below_apart name (way_at [] w ws) h = absurd (true≢false (sym h))
 below_apart name (way_at (a ∷ []) w ws) h = below_apart name ws (back (overlaps_none (a ∷ []) ws) (are_apart ws) h)
@@ -79,40 +79,40 @@ below_apart name (way_at (a ∷ b ∷ path) w ws) h = go (bytes_eq name a) refl 
 
 -- ---- tables
 
-pub record Table (v l : Way) (ws : Ways) (wraps : Wraps) : Type 0 where
+pub record Table (v l : StrategyData) (ws : StrategyList) (wraps : Wraps) : Type 0 where
   pub validity : is_admitted v ≡ true
   pub leaf : is_admitted l ≡ true
   pub apart : are_apart ws ≡ true
   pub overrides : are_admitted ws ≡ true
   pub wrappers : wraps_admitted wraps ≡ true
 
-table_of : (v l : Way) (ws : Ways) (lists : Bool) (wraps : Wraps) → is_admitted (tabled v l ws lists wraps) ≡ true → Table v l ws wraps
+table_of : (v l : StrategyData) (ws : StrategyList) (lists : Bool) (wraps : Wraps) → is_admitted (tabled v l ws lists wraps) ≡ true → Table v l ws wraps
 table_of v l ws lists wraps h =
     let a : (is_admitted l && (are_apart ws && (are_admitted ws && wraps_admitted wraps))) ≡ true = back (is_admitted v) _ h in
     let b : (are_apart ws && (are_admitted ws && wraps_admitted wraps)) ≡ true = back (is_admitted l) _ a in
     let c : (are_admitted ws && wraps_admitted wraps) ≡ true = back (are_apart ws) _ b in
     record { validity = front (is_admitted v) _ h; leaf = front (is_admitted l) _ a; apart = front (are_apart ws) _ b; overrides = front (are_admitted ws) _ c; wrappers = back (are_admitted ws) _ c }
 
-of_table : (v l : Way) (ws : Ways) (lists : Bool) (wraps : Wraps) → Table v l ws wraps → is_admitted (tabled v l ws lists wraps) ≡ true
+of_table : (v l : StrategyData) (ws : StrategyList) (lists : Bool) (wraps : Wraps) → Table v l ws wraps → is_admitted (tabled v l ws lists wraps) ≡ true
 of_table v l ws lists wraps t =
     hold (is_admitted v) _ t.validity
     (hold (is_admitted l) _ t.leaf (hold (are_apart ws) _ t.apart (hold (are_admitted ws) (wraps_admitted wraps) t.overrides t.wrappers)))
 
-writer_admitted : (v l : Way) (ws : Ways) (lists : Bool) (wraps : Wraps) → Table v l ws wraps → (name : List ℕ) → is_admitted (field_writer v l ws lists wraps name) ≡ true
+writer_admitted : (v l : StrategyData) (ws : StrategyList) (lists : Bool) (wraps : Wraps) → Table v l ws wraps → (name : List ℕ) → is_admitted (field_writer v l ws lists wraps name) ≡ true
 writer_admitted v l ws lists wraps t name = go (override name ws) (override_admitted name ws t.overrides)
   where
-    go : (o : Option Way) → AdmittedIf o → is_admitted (given_or o (tabled v l (below name ws) lists wraps)) ≡ true
+    go : (o : Option StrategyData) → AdmittedIf o → is_admitted (given_or o (tabled v l (below name ws) lists wraps)) ≡ true
     go None r =
         of_table v l (below name ws) lists wraps
         (record { validity = t.validity; leaf = t.leaf; apart = below_apart name ws t.apart; overrides = below_admitted name ws t.overrides; wrappers = t.wrappers })
     go (Some w) r = r
 
-writers_admitted : (v l : Way) (ws : Ways) (lists : Bool) (wraps : Wraps) → Table v l ws wraps → (fs : Tys) → are_admitted (field_writers v l ws lists wraps fs) ≡ true
+writers_admitted : (v l : StrategyData) (ws : StrategyList) (lists : Bool) (wraps : Wraps) → Table v l ws wraps → (fs : Tys) → are_admitted (field_writers v l ws lists wraps fs) ≡ true
 writers_admitted v l ws lists wraps t no_fields = refl
 writers_admitted v l ws lists wraps t (field name u fs) =
     hold (is_admitted (field_writer v l ws lists wraps name)) (are_admitted (field_writers v l ws lists wraps fs)) (writer_admitted v l ws lists wraps t name) (writers_admitted v l ws lists wraps t fs)
 
-wrapped_admitted : (ws : Wraps) (w : Way) → wraps_admitted ws ≡ true → is_admitted w ≡ true → is_admitted (wrapped ws w) ≡ true
+wrapped_admitted : (ws : Wraps) (w : StrategyData) → wraps_admitted ws ≡ true → is_admitted w ≡ true → is_admitted (wrapped ws w) ≡ true
 wrapped_admitted no_wraps w h k = k
 wrapped_admitted (wrap_grouped g ws) w h k =
     hold (is_admitted_grouping g) (is_admitted (wrapped ws w)) (front (is_admitted_grouping g) (wraps_admitted ws) h) (wrapped_admitted ws w (back (is_admitted_grouping g) (wraps_admitted ws) h) k)
@@ -121,14 +121,14 @@ wrapped_admitted (wrap_zoned o stats ws) w h k =
     hold (is_admitted_zoned o) _ (front (is_admitted_zoned o) _ h)
     (hold (is_admitted (wrapped ws w)) (is_admitted stats) (wrapped_admitted ws w (back (is_admitted stats) (wraps_admitted ws) r) k) (front (is_admitted stats) (wraps_admitted ws) r))
 
-list_admitted : (v l : Way) (ws : Ways) (lists : Bool) (wraps : Wraps) (t : Ty) (n : Bool) → Table v l ws wraps → is_admitted (dispatch (tabled v l ws lists wraps) (list t n)) ≡ true
+list_admitted : (v l : StrategyData) (ws : StrategyList) (lists : Bool) (wraps : Wraps) (t : Ty) (n : Bool) → Table v l ws wraps → is_admitted (dispatch (tabled v l ws lists wraps) (list t n)) ≡ true
 list_admitted v l ws true wraps t n h =
     wrapped_admitted wraps (listed (tabled v l no_ways true wraps) l v l) h.wrappers
     (hold (is_admitted (tabled v l no_ways true wraps)) _ (of_table v l no_ways true wraps (record { validity = h.validity; leaf = h.leaf; apart = refl; overrides = refl; wrappers = h.wrappers }))
     (hold (is_admitted l) _ h.leaf (hold (is_admitted v) (is_admitted l) h.validity h.leaf)))
 list_admitted v l ws false wraps t n h = h.leaf
 
-pub dispatch_admitted : (w : Way) (t : Ty) → is_admitted w ≡ true → is_admitted (dispatch w t) ≡ true
+pub dispatch_admitted : (w : StrategyData) (t : Ty) → is_admitted w ≡ true → is_admitted (dispatch w t) ≡ true
 dispatch_admitted (tabled v l ws lists wraps) (struct fs n) h =
     let t : Table v l ws wraps = table_of v l ws lists wraps h in
     hold (is_admitted v) _ t.validity (hold (is_admitted l) (are_admitted (field_writers v l ws lists wraps fs)) t.leaf (writers_admitted v l ws lists wraps t fs))

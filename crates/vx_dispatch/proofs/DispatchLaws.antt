@@ -3,8 +3,8 @@ use Rattle.std.proofs.Common.{◌≡◌, ℕ, Bool, true, false, List, [], ◌�
 use Rattle.std.specs.Prelude.{if◌then◌else◌}
 use Rattle.std.specs.Cmp.Lexicographic.{bytes_decides}
 use Rattle.vx_model.specs.Ty.{Ty, Tys, boolean, primitive, utf8, binary, list, struct, extension, no_fields, field}
-use Rattle.vx_plan.specs.Way.{Way, Ways, Wraps, flat, chunked, grouped, compressed, coded, zoned, structured, listed, tabled, no_ways, no_wraps, wrap_grouped, wrap_zoned}
-use Rattle.vx_plan.specs.Walk.{Nodes, find, chosen, duplicate, field_nodes, Around, of_table, of_tables, walk, walk_named, walk_wraps}
+use Rattle.vx_strategy_spec.specs.StrategyData.{StrategyData, StrategyList, Wraps, flat, chunked, grouped, compressed, coded, zoned, structured, listed, tabled, no_ways, no_wraps, wrap_grouped, wrap_zoned}
+use Rattle.vx_strategy_spec.specs.Walk.{Nodes, find, chosen, duplicate, field_nodes, Around, of_table, of_tables, walk, walk_named, walk_wraps}
 use Rattle.vx_plan.specs.SourcePlan.{plan_nodes}
 use Rattle.vx_dispatch.specs.Dispatch.{override, below, given_or, field_writer, field_writers, wrapped, dispatch}
 use Rattle.vx_dispatch.specs.Statements.{TablesAreDispatched}
@@ -14,7 +14,7 @@ use Rattle.vx_dispatch.proofs.AdmittedLaws.{dispatch_admitted}
 module _ {A : Type 0} (on : Nodes A) (v l : Ty → A) (f : Around A) where
   mutual
     -- below a field the table is the descended one
-    descended : (name : List ℕ) (ws : Ways) (walked : List (List ℕ)) (t : Ty) → of_table on v l f (walk_named on ws) (name ∷ walked) t ≡ of_table on v l f (walk_named on (below name ws)) walked t
+    descended : (name : List ℕ) (ws : StrategyList) (walked : List (List ℕ)) (t : Ty) → of_table on v l f (walk_named on ws) (name ∷ walked) t ≡ of_table on v l f (walk_named on (below name ws)) walked t
     descended name ws walked (struct fs n) = ap (on.on_struct fs n (duplicate fs) (v (boolean false))) (all_descended name ws walked fs)
     descended name ws walked (list t n) = refl
     descended name ws walked (boolean n) = refl
@@ -23,7 +23,7 @@ module _ {A : Type 0} (on : Nodes A) (v l : Ty → A) (f : Around A) where
     descended name ws walked (binary n) = refl
     descended name ws walked (extension tag t) = refl
 
-    all_descended : (name : List ℕ) (ws : Ways) (walked : List (List ℕ)) (fs : Tys) → of_tables on v l f (walk_named on ws) (name ∷ walked) fs ≡ of_tables on v l f (walk_named on (below name ws)) walked fs
+    all_descended : (name : List ℕ) (ws : StrategyList) (walked : List (List ℕ)) (fs : Tys) → of_tables on v l f (walk_named on ws) (name ∷ walked) fs ≡ of_tables on v l f (walk_named on (below name ws)) walked fs
     all_descended name ws walked no_fields = refl
     all_descended name ws walked (field m t fs) =
         ap₂ (λ x y. x ∷ y)
@@ -32,7 +32,7 @@ module _ {A : Type 0} (on : Nodes A) (v l : Ty → A) (f : Around A) where
 
 -- ---- fields
 
-module _ {A : Type 0} (on : Nodes A) (v l : Way) (ws : Ways) (lists : Bool) (wraps : Wraps) where
+module _ {A : Type 0} (on : Nodes A) (v l : StrategyData) (ws : StrategyList) (lists : Bool) (wraps : Wraps) where
   around : Around A
   around = if lists then Some (walk_wraps on wraps) else None
 
@@ -41,7 +41,7 @@ module _ {A : Type 0} (on : Nodes A) (v l : Way) (ws : Ways) (lists : Bool) (wra
   unfolding around
   one_field name t = ap₂ (λ x y. chosen x t y) (find_own on name ws) (descended on (walk on v) (walk on l) (if lists then Some (walk_wraps on wraps) else None) name ws [] t) ∙ go (override name ws)
     where
-      go : (o : Option Way) → chosen (made on o) t (walk on (tabled v l (below name ws) lists wraps) t) ≡ walk on (given_or o (tabled v l (below name ws) lists wraps)) t
+      go : (o : Option StrategyData) → chosen (made on o) t (walk on (tabled v l (below name ws) lists wraps) t) ≡ walk on (given_or o (tabled v l (below name ws) lists wraps)) t
       go None = refl
       go (Some w) = refl
 
@@ -55,19 +55,19 @@ module _ {A : Type 0} (on : Nodes A) (v l : Way) (ws : Ways) (lists : Bool) (wra
 
 -- ---- wrappers
 
-wrapped_is : {A : Type 0} (on : Nodes A) (wraps : Wraps) (w : Way) (t : Ty) → walk on (wrapped wraps w) t ≡ walk_wraps on wraps t (walk on w t)
+wrapped_is : {A : Type 0} (on : Nodes A) (wraps : Wraps) (w : StrategyData) (t : Ty) → walk on (wrapped wraps w) t ≡ walk_wraps on wraps t (walk on w t)
 wrapped_is on no_wraps w t = refl
 wrapped_is on (wrap_grouped g ws) w t = ap (on.on_grouped g t) (wrapped_is on ws w t)
 wrapped_is on (wrap_zoned o stats ws) w t = ap (λ k. on.on_zoned o t k (walk on stats)) (wrapped_is on ws w t)
 
-list_same : {A : Type 0} (on : Nodes A) (v l : Way) (ws : Ways) (lists : Bool) (wraps : Wraps) (t : Ty) (n : Bool)
+list_same : {A : Type 0} (on : Nodes A) (v l : StrategyData) (ws : StrategyList) (lists : Bool) (wraps : Wraps) (t : Ty) (n : Bool)
     → walk on (tabled v l ws lists wraps) (list t n) ≡ walk on (dispatch (tabled v l ws lists wraps) (list t n)) (list t n)
 list_same on v l ws true wraps t n = sym (wrapped_is on wraps (listed (tabled v l no_ways true wraps) l v l) (list t n))
 list_same on v l ws false wraps t n = refl
 
 -- ---- every strategy
 
-pub walk_dispatch : {A : Type 0} (on : Nodes A) (w : Way) (t : Ty) → walk on w t ≡ walk on (dispatch w t) t
+pub walk_dispatch : {A : Type 0} (on : Nodes A) (w : StrategyData) (t : Ty) → walk on w t ≡ walk on (dispatch w t) t
 unfolding around
 walk_dispatch on (tabled v l ws lists wraps) (struct fs n) = ap (on.on_struct fs n (duplicate fs) (walk on v (boolean false))) (same_fields on v l ws lists wraps fs fs (λ m k. k))
 walk_dispatch on (tabled v l ws lists wraps) (list t n) = list_same on v l ws lists wraps t n

@@ -3,20 +3,20 @@ use Rattle.std.proofs.Common.{◌≡◌, true, false, [], ◌∷◌, refl}
 use Rattle.std.specs.Prelude.{codes}
 use Rattle.vx_model.specs.declared.ptype.PType.TheVariants.{I64}
 use Rattle.vx_model.specs.Ty.{Ty, primitive, list, struct, field, no_fields}
-use Rattle.vx_plan.specs.Way.{Way, flat, chunked, grouped, by_bytes, structured, listed, tabled, no_ways, way_at, no_wraps, wrap_grouped}
+use Rattle.vx_strategy_spec.specs.StrategyData.{StrategyData, flat, chunked, grouped, by_bytes, structured, listed, tabled, no_ways, way_at, no_wraps, wrap_grouped}
 use Rattle.vx_dispatch.specs.Dispatch.{dispatch}
 
-flats : Way
+flats : StrategyData
 flats = flat (record { padding = true; inline = false })
 
-chunks : Way
+chunks : StrategyData
 chunks = chunked (flat (record { padding = true; inline = false }))
 
 i64 : Ty
 i64 = primitive I64 false
 
 -- an override of a.b: the field a goes to the table with an override of b, the field c to the table without any
-table : Way
+table : StrategyData
 table = tabled flats chunks (way_at (codes "a" ∷ codes "b" ∷ []) flats no_ways) false no_wraps
 
 nested : Ty

@@ -3,13 +3,13 @@ use Rattle.std.proofs.Common.{◌≡◌, ℕ, suc, ◌<◌, length, refl, arith}
 use Rattle.std.proofs.lemmas.Bool.Decides.{nat_tests}
 use Rattle.std.specs.Prelude.{if◌then◌else◌}
 use Rattle.vx_model.specs.Ty.{Ty, nullable}
-use Rattle.vx_tree.specs.LayoutTree.{flat_kind, chunked_kind, struct_kind, list_kind, dict_kind, zoned_kind, unread_zoned_kind, stats_kind, foreign_kind, refused_kind, Kind, Lay, layout, children_of, layout_kind}
-use Rattle.vx_kinds.specs.declared.kind.LayoutKind.TheVariants as kinds
-use Rattle.vx_kinds.specs.Children.{kind_name}
+use Rattle.vx_layout_spec.specs.LayoutTree.{flat_kind, chunked_kind, struct_kind, list_kind, dict_kind, zoned_kind, unread_zoned_kind, stats_kind, foreign_kind, refused_kind, Kind, LayoutData, layout, children_of, layout_kind}
+use Rattle.vx_layout_tree.specs.declared.kind.LayoutKind.TheVariants as kinds
+use Rattle.vx_layout_tree.specs.Children.{kind_name}
 use Rattle.vx_layout_slots.specs.Slots.{bracketed}
 use Rattle.vx_display.specs.Text.{label, child_slot}
 
-pub chunk_label : (l : Lay ℕ) (i : ℕ) → kind_name (layout_kind l) ≡ kinds.Chunked → i < length (children_of l) → label l i ≡ bracketed i
+pub chunk_label : (l : LayoutData ℕ) (i : ℕ) → kind_name (layout_kind l) ≡ kinds.Chunked → i < length (children_of l) → label l i ≡ bracketed i
 unfolding label
 chunk_label (layout (flat_kind e tree) t n names ls) i is lt = cc
 chunk_label (layout chunked_kind t n names ls) i is lt = grind (arith, nat_tests)

@@ -4,9 +4,9 @@ use Rattle.std.proofs.lemmas.List.{drop_more, append-nil}
 use Rattle.std.proofs.lemmas.Bool.Decides.{nat_tests}
 use Rattle.std.specs.Prelude.{codes, decimal}
 use Rattle.vx_model.specs.Shown.{comma}
-use Rattle.vx_tree.specs.LayoutTree.{Kind, flat_kind, chunked_kind, struct_kind, list_kind, dict_kind, zoned_kind, unread_zoned_kind, stats_kind, foreign_kind, refused_kind}
-use Rattle.vx_kinds.specs.declared.kind.LayoutKind.TheVariants as kinds
-use Rattle.vx_kinds.specs.Children.{kind_name}
+use Rattle.vx_layout_spec.specs.LayoutTree.{Kind, flat_kind, chunked_kind, struct_kind, list_kind, dict_kind, zoned_kind, unread_zoned_kind, stats_kind, foreign_kind, refused_kind}
+use Rattle.vx_layout_tree.specs.declared.kind.LayoutKind.TheVariants as kinds
+use Rattle.vx_layout_tree.specs.Children.{kind_name}
 use Rattle.vx_display.specs.Lengths.{Look, kind_fault}
 use Rattle.vx_display.specs.Text.{Style, sizes, total, own_text, verbosely, segments_text}
 

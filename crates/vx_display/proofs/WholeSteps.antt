@@ -2,12 +2,12 @@
 use Rattle.std.proofs.Common.{◌≡◌, ℕ, List, [], ◌∷◌, ◌++◌, Option, None, Ok, Err, Result, refl, append_assoc}
 use Rattle.std.proofs.lemmas.List.{append-nil}
 use Rattle.std.specs.Prelude.{codes}
-use Rattle.vx_tree.specs.LayoutTree.{Kind, flat_kind, chunked_kind, struct_kind, list_kind, dict_kind, zoned_kind, unread_zoned_kind, stats_kind, foreign_kind, refused_kind, Lay, Lays, layout, no_layouts, child}
-use Rattle.vx_kinds.specs.Views.{Fails}
-use Rattle.vx_kinds.specs.ErrorNames.{error_name}
-use Rattle.vx_kinds.specs.declared.error.LayoutError.{LayoutError}
-use Rattle.vx_kinds.specs.declared.error.LayoutError.TheVariants as errors
-use Rattle.vx_layout_spelling.specs.Permitted.{Checked}
+use Rattle.vx_layout_spec.specs.LayoutTree.{Kind, flat_kind, chunked_kind, struct_kind, list_kind, dict_kind, zoned_kind, unread_zoned_kind, stats_kind, foreign_kind, refused_kind, LayoutData, LayoutList, layout, no_layouts, child}
+use Rattle.vx_layout_tree.specs.Views.{Fails}
+use Rattle.vx_layout_tree.specs.ErrorNames.{error_name}
+use Rattle.vx_layout_tree.specs.declared.error.LayoutError.{LayoutError}
+use Rattle.vx_layout_tree.specs.declared.error.LayoutError.TheVariants as errors
+use Rattle.vx_layout_codec_spec.specs.Permitted.{Checked}
 use Rattle.vx_display.specs.Lengths.{SegmentFault, kind_fault, first_fault, first_below}
 use Rattle.vx_display.specs.Text.{unless_refused, unless_refused_or_fault}
 
@@ -27,10 +27,10 @@ no_kind_fault (foreign_kind id m) names = refl
 no_kind_fault (refused_kind f r) names = refl
 
 mutual
-  pub no_fault : (l : Lay ℕ) → first_fault None l ≡ None
+  pub no_fault : (l : LayoutData ℕ) → first_fault None l ≡ None
   no_fault (layout k t n names ls) = rw (no_kind_fault k names, no_fault_below ls) refl
 
-  pub no_fault_below : (ls : Lays ℕ) → first_below None ls ≡ None
+  pub no_fault_below : (ls : LayoutList ℕ) → first_below None ls ≡ None
   no_fault_below no_layouts = refl
   no_fault_below (child l ls) = rw (no_fault l, no_fault_below ls) refl
 

@@ -1,9 +1,9 @@
 -- The lengths of the buffers of flat layouts, where they are known.
 use Rattle.std.specs.Prelude.{ℕ, List, [], ◌∷◌, Option, Some, None, Result, Ok, Err}
-use Rattle.vx_tree.specs.LayoutTree.{Kind, flat_kind, chunked_kind, struct_kind, list_kind, dict_kind, zoned_kind, unread_zoned_kind, stats_kind, foreign_kind, refused_kind, Lay, Lays, layout, no_layouts, child}
-use Rattle.vx_segment.specs.Reading.{Fault}
-use Rattle.vx_segment.specs.Segment.{tree_lengths, segment_lengths}
-use Rattle.vx_read.specs.Reading.{first_of}
+use Rattle.vx_layout_spec.specs.LayoutTree.{Kind, flat_kind, chunked_kind, struct_kind, list_kind, dict_kind, zoned_kind, unread_zoned_kind, stats_kind, foreign_kind, refused_kind, LayoutData, LayoutList, layout, no_layouts, child}
+use Rattle.vx_segment_reader.specs.Reading.{Fault}
+use Rattle.vx_segment_reader.specs.Segment.{tree_lengths, segment_lengths}
+use Rattle.vx_segment_map.specs.FirstFault.{first_of}
 
 -- the bytes of the segments that a map has
 abbrev pub Look : Type 0
@@ -72,9 +72,9 @@ kind_fault map (refused_kind is_flat refusal) names = None
 
 -- the first fault in pre-order of the nodes
 abbrev mutual
-  pub first_fault : Option Look → Lay ℕ → Option SegmentFault
+  pub first_fault : Option Look → LayoutData ℕ → Option SegmentFault
   first_fault map (layout k t n names ls) = first_of (kind_fault map k names) (first_below map ls)
 
-  pub first_below : Option Look → Lays ℕ → Option SegmentFault
+  pub first_below : Option Look → LayoutList ℕ → Option SegmentFault
   first_below map no_layouts = None
   first_below map (child l ls) = first_of (first_fault map l) (first_below map ls)

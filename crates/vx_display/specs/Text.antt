@@ -2,14 +2,14 @@
 use Rattle.std.specs.Prelude.{ℕ, suc, ◌+◌, Bool, true, false, nat_lt, if◌then◌else◌, List, [], ◌∷◌, ◌++◌, length, codes, decimal, Option, Some, None, Result, Ok, Err}
 use Rattle.vx_model.specs.Shown.{comma, type_text}
 use Rattle.vx_model.specs.Ty.{Ty, nullable}
-use Rattle.vx_tree.specs.Refusal.{Refusal}
-use Rattle.vx_tree.specs.LayoutTree.{Kind, flat_kind, chunked_kind, struct_kind, list_kind, dict_kind, zoned_kind, unread_zoned_kind, stats_kind, foreign_kind, refused_kind, kind_id, Lay, Lays, layout, no_layouts, child, layout_kind, layout_type, row_count, segments_of, children_of}
+use Rattle.vx_layout_spec.specs.Refusal.{Refusal}
+use Rattle.vx_layout_spec.specs.LayoutTree.{Kind, flat_kind, chunked_kind, struct_kind, list_kind, dict_kind, zoned_kind, unread_zoned_kind, stats_kind, foreign_kind, refused_kind, kind_id, LayoutData, LayoutList, layout, no_layouts, child, layout_kind, layout_type, row_count, segments_of, children_of}
 use Rattle.vx_metadata.specs.Kept.{metadata_bytes}
 use Rattle.vx_layout_slots.specs.declared.child_type.LayoutChildType.{LayoutChildType}
 use Rattle.vx_layout_slots.specs.Slots.{child_name, slot_type}
-use Rattle.vx_kinds.specs.Shown.{in_brackets}
-use Rattle.vx_kinds.specs.ErrorNames.{refusal_name}
-use Rattle.vx_layout_spelling.specs.Permitted.{Checked, built}
+use Rattle.vx_layout_tree.specs.Shown.{in_brackets}
+use Rattle.vx_layout_tree.specs.ErrorNames.{refusal_name}
+use Rattle.vx_layout_codec_spec.specs.Permitted.{Checked, built}
 use Rattle.vx_display.specs.Lengths.{Look, known, SegmentFault, first_fault}
 
 -- how a tree is shown
@@ -70,10 +70,10 @@ own_text style (stats_kind zone_len stats) names = verbosely style.verbose (segm
 own_text style (foreign_kind id metadata) names = verbosely style.verbose (segments_text names)
 own_text style (refused_kind is_flat refusal) names = verbosely style.verbose (segments_text names)
 
-abbrev pub detail_text : Style → Lay ℕ → List ℕ
+abbrev pub detail_text : Style → LayoutData ℕ → List ℕ
 detail_text style l = verbosely style.verbose (metadata_text (length (metadata_bytes l)) ++ rows_text (row_count l))
 
-abbrev pub node_text : Style → Lay ℕ → List ℕ
+abbrev pub node_text : Style → LayoutData ℕ → List ℕ
 node_text style l =
     kind_id (layout_kind l) ++ (codes ", dtype: " ++ (type_text (layout_type l) ++ (children_text (length (children_of l)) ++ (detail_text style l ++ own_text style (layout_kind l) (segments_of l)))))
 
@@ -97,7 +97,7 @@ name_of None = []
 name_of (Some c) = child_name c
 
 -- the name of child i
-unfoldable pub label : Lay ℕ → ℕ → List ℕ
+unfoldable pub label : LayoutData ℕ → ℕ → List ℕ
 label l i = name_of (slot_type l (child_slot (layout_kind l) (layout_type l) i))
 
 -- ---- branches
@@ -122,19 +122,19 @@ branch_to last = if last then last_branch else branch
 abbrev pub trunk_by : Bool → List ℕ
 trunk_by last = if last then blank else trunk
 
-abbrev pub is_last : Lays ℕ → Bool
+abbrev pub is_last : LayoutList ℕ → Bool
 is_last no_layouts = true
 is_last (child l ls) = false
 
 -- ---- trees: `first` stands before the node's own line, and `rest` before those below it
 
 abbrev mutual
-  pub tree_text : Style → List ℕ → List ℕ → Lay ℕ → List ℕ
+  pub tree_text : Style → List ℕ → List ℕ → LayoutData ℕ → List ℕ
   tree_text style first rest (layout k t n names ls) =
       first ++ (node_text style (layout k t n names ls) ++ (codes "\n" ++ children_lines style rest (layout k t n names ls) 0 ls))
 
   -- the children of the parent from number i on
-  pub children_lines : Style → List ℕ → Lay ℕ → ℕ → Lays ℕ → List ℕ
+  pub children_lines : Style → List ℕ → LayoutData ℕ → ℕ → LayoutList ℕ → List ℕ
   children_lines style rest parent i no_layouts = []
   children_lines style rest parent i (child l ls) =
       tree_text style (rest ++ (branch_to (is_last ls) ++ (label parent i ++ codes ": "))) (rest ++ trunk_by (is_last ls)) l
@@ -154,7 +154,7 @@ abbrev pub plain : Bool → Style
 plain verbose = record { verbose = verbose; map = None }
 
 -- without segments
-abbrev pub display_text : Bool → Lay ℕ → List ℕ
+abbrev pub display_text : Bool → LayoutData ℕ → List ℕ
 display_text verbose l = unless_refused (built l) (tree_text (plain verbose) [] [] l)
 
 abbrev pub unless_fault : Option SegmentFault → List ℕ → Result (List ℕ) SegmentFault
@@ -169,5 +169,5 @@ unless_refused_or_fault (Ok u) fault text = unless_fault fault text
 unless_refused_or_fault (Err r) fault text = Ok (error_line r)
 
 -- With segments: a segment is at fault only where the tree can be built.
-abbrev pub display_with : Look → Lay ℕ → Result (List ℕ) SegmentFault
+abbrev pub display_with : Look → LayoutData ℕ → Result (List ℕ) SegmentFault
 display_with look l = unless_refused_or_fault (built l) (first_fault (Some look) l) (tree_text (asking look) [] [] l)

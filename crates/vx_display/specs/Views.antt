@@ -1,17 +1,17 @@
 -- What the functions return, as contracts see it.
 use Rattle.std.specs.Prelude.{◌≡◌, ℕ, List, Option, Some, None, option_map, Result, Ok, Err, IsErr}
 use Rattle.vx_model.specs.declared.text.Text.{Text}
-use Rattle.vx_tree.specs.Refusal.{Refusal}
-use Rattle.vx_tree.specs.LayoutTree.{Lay}
+use Rattle.vx_layout_spec.specs.Refusal.{Refusal}
+use Rattle.vx_layout_spec.specs.LayoutTree.{LayoutData}
 use Rattle.vx_layout_build.specs.declared.child.LayoutChild.{LayoutChild}
 use Rattle.vx_layout_build.specs.ChildView.{child_lay}
-use Rattle.vx_read.specs.SegmentView.{segment_in}
-use Rattle.vx_read.specs.declared.error.ReadError.{ReadError}
-use Rattle.vx_read.specs.declared.error.ReadError.TheVariants as read_errors
+use Rattle.vx_segment_map.specs.SegmentView.{segment_in}
+use Rattle.vx_segment_map.specs.declared.error.ReadError.{ReadError}
+use Rattle.vx_segment_map.specs.declared.error.ReadError.TheVariants as read_errors
 use Rattle.vx_display.specs.declared.style.Style.{Style as HeldStyle}
 use Rattle.vx_display.specs.declared.style.Stop.{Stop}
 use Rattle.vx_display.specs.declared.style.Stop.TheVariants as stops
-use Rattle.vx_layout_spelling.specs.Permitted.{Checked}
+use Rattle.vx_layout_codec_spec.specs.Permitted.{Checked}
 use Rattle.vx_display.specs.Lengths.{Look, SegmentFault, no_segment, bad_segment}
 use Rattle.vx_display.specs.Text.{Style}
 
@@ -43,7 +43,7 @@ GivesText (Err read_errors.OutOfMemory) told = Unit {0}
 GivesText (Err e) told = ⊥
 
 -- a child, or that it can't be built; memory may run out
-abbrev pub GivesChild : Result LayoutChild Stop → Result (Lay ℕ) Refusal → Type 0
+abbrev pub GivesChild : Result LayoutChild Stop → Result (LayoutData ℕ) Refusal → Type 0
 GivesChild (Ok c) told = told ≡ Ok (child_lay c)
 GivesChild (Err stops.Refused) told = IsErr told
 GivesChild (Err stops.OutOfMemory) told = Unit {0}

@@ -1,9 +1,9 @@
 //! The whole texts.
 
 ghost use Rattle.std.specs.Prelude.{◌≡◌, ◌++◌, [], codes, IfOk};
-ghost use Rattle.vx_kinds.specs.ErrorNames.{error_name};
-ghost use Rattle.vx_kinds.specs.LayoutView.{lay};
-ghost use Rattle.vx_layout_spelling.specs.Permitted.{built as all_built};
+ghost use Rattle.vx_layout_tree.specs.ErrorNames.{error_name};
+ghost use Rattle.vx_layout_tree.specs.LayoutView.{layout_data};
+ghost use Rattle.vx_layout_codec_spec.specs.Permitted.{built as all_built};
 ghost use Rattle.vx_display.specs.Lengths.{first_fault};
 ghost use Rattle.vx_display.specs.Text.{tree_text};
 ghost use Rattle.vx_display.specs.Views.{map_of, style as seen, Faults};
@@ -14,21 +14,21 @@ use crate::tree::push_tree;
 use std::alloc::{AllocError, Global};
 use std::fmt::{self, Formatter, Write};
 use std::marker::Model;
-use vx_kinds::{Layout, LayoutError};
+use vx_layout_tree::{Layout, LayoutError};
 use vx_model::Text;
-use vx_read::{ReadError, SegmentMap};
+use vx_segment_map::{ReadError, SegmentMap};
 
 /// The text of a layout's tree: a line a node, in pre-order, each ended by a newline. A tree that can't be built is one
 /// line that names the first refusal.
 pub trait LayoutDisplay {
     ghost use Rattle.std.specs.Prelude.{◌≡◌, ℕ, IfOk, false};
-    ghost use Rattle.vx_tree.specs.LayoutTree.{Lay};
-    ghost use Rattle.vx_read.specs.SegmentView.{segment_in};
+    ghost use Rattle.vx_layout_spec.specs.LayoutTree.{LayoutData};
+    ghost use Rattle.vx_segment_map.specs.SegmentView.{segment_in};
     ghost use Rattle.vx_display.specs.Text.{display_text, display_with};
     ghost use Rattle.vx_display.specs.Views.{GivesText};
 
     // The layout that is shown.
-    ghost shown: { Self → Lay ℕ };
+    ghost shown: { Self → LayoutData ℕ };
 
     /// Without rows, metadata and segments of other layouts than flat ones.
     fn display_tree(&self, alloc: Global) -> Result<Text, AllocError>
@@ -50,23 +50,23 @@ pub trait LayoutDisplay {
 
 impl LayoutDisplay for Layout {
     ghost use Rattle.std.specs.Prelude.{◌≡◌, IfOk, false};
-    ghost use Rattle.vx_kinds.specs.LayoutView.{lay};
+    ghost use Rattle.vx_layout_tree.specs.LayoutView.{layout_data};
 
-    ghost shown = { lay };
+    ghost shown = { layout_data };
 
-    ghost use Rattle.vx_read.specs.SegmentView.{segment_in};
+    ghost use Rattle.vx_segment_map.specs.SegmentView.{segment_in};
     ghost use Rattle.vx_display.specs.Text.{display_text, display_with};
     ghost use Rattle.vx_display.specs.Views.{GivesText};
 
     fn display_tree(&self, alloc: Global) -> Result<Text, AllocError>
-        ensures { IfOk result (λ text. text ≡ display_text false (lay self.now)) }
+        ensures { IfOk result (λ text. text ≡ display_text false (layout_data self.now)) }
     {
         self.display_tree_verbose(alloc, false)
     }
 
     #[tactic(auto, using(crate::proofs::WholeSteps::plain_rules))]
     fn display_tree_verbose(&self, alloc: Global, verbose: bool) -> Result<Text, AllocError>
-        ensures { IfOk result (λ text. text ≡ display_text verbose (lay self.now)) }
+        ensures { IfOk result (λ text. text ≡ display_text verbose (layout_data self.now)) }
     {
         match check_built(self) {
             Ok(()) => {}
@@ -91,7 +91,7 @@ impl LayoutDisplay for Layout {
         alloc: Global,
         segments: &SegmentMap,
     ) -> Result<Text, ReadError>
-        ensures { GivesText result (display_with (segment_in segments.now) (lay self.now)) }
+        ensures { GivesText result (display_with (segment_in segments.now) (layout_data self.now)) }
     {
         match check_built(self) {
             Ok(()) => {}
@@ -115,8 +115,8 @@ impl LayoutDisplay for Layout {
 
 #[tactic(auto, using(crate::proofs::NodeSteps::text_rules))]
 fn whole_tree(style: &Style, layout: &Layout) -> Result<Text, Stop>
-    ensures text { IfOk result (λ text. text ≡ tree_text (seen style.now) [] [] (lay layout.now)) }
-    ensures fault { Faults result (first_fault (map_of style.now) (lay layout.now)) (all_built (lay layout.now)) }
+    ensures text { IfOk result (λ text. text ≡ tree_text (seen style.now) [] [] (layout_data layout.now)) }
+    ensures fault { Faults result (first_fault (map_of style.now) (layout_data layout.now)) (all_built (layout_data layout.now)) }
 {
     let mut out = String::new(style.alloc);
     push_tree(style, &mut out, "", "", layout)?;
@@ -147,7 +147,7 @@ impl Model for DisplayLayoutTree {
 
 impl DisplayLayoutTree {
     ghost use Rattle.std.specs.Prelude.{◌≡◌, IfOk};
-    ghost use Rattle.vx_kinds.specs.LayoutView.{lay};
+    ghost use Rattle.vx_layout_tree.specs.LayoutView.{layout_data};
     ghost use Rattle.vx_display.specs.Text.{display_text};
 
     /// Makes the text, of all lines.
@@ -156,7 +156,7 @@ impl DisplayLayoutTree {
         layout: &Layout,
         verbose: bool,
     ) -> Result<DisplayLayoutTree, AllocError>
-        ensures { IfOk result (λ d. d ≡ display_text verbose (lay layout.now)) }
+        ensures { IfOk result (λ d. d ≡ display_text verbose (layout_data layout.now)) }
     {
         let text = layout.display_tree_verbose(alloc, verbose)?;
         Ok(DisplayLayoutTree { text })

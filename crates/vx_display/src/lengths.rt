@@ -7,7 +7,7 @@ ghost use Rattle.vx_display.specs.Views.{map_of, Faults};
 use crate::style::{Stop, Style};
 use std::alloc::{AllocError, Global};
 use vx_model::Blob;
-use vx_segment::{DecodeError, buffer_lengths, tree_buffer_lengths};
+use vx_segment_reader::{DecodeError, buffer_lengths, tree_buffer_lengths};
 
 /// By the array tree, else by the segment of the number where segments are handed in.
 pub(crate) fn known_lengths(

@@ -3,10 +3,10 @@
 ghost use Rattle.std.specs.Prelude.{◌≡◌, ◌++◌, ◌+◌, ◌==◌, ◌-◌, ◌*◌, ◌≤◌, ◌^◌, Some, None, Ok, true, length, map, string_bytes, codes, decimal, OnOk};
 ghost use Rattle.vx_model.specs.Shown.{type_text, comma};
 ghost use Rattle.vx_model.specs.TyView.{ty};
-ghost use Rattle.vx_tree.specs.LayoutTree.{layout_kind, segments_of};
-ghost use Rattle.vx_kinds.specs.FlatView.{flat_lay};
-ghost use Rattle.vx_kinds.specs.Shown.{in_brackets};
-ghost use Rattle.vx_kinds.specs.LayoutView.{lay, number as id_number};
+ghost use Rattle.vx_layout_spec.specs.LayoutTree.{layout_kind, segments_of};
+ghost use Rattle.vx_layout_tree.specs.FlatView.{flat_lay};
+ghost use Rattle.vx_layout_tree.specs.Shown.{in_brackets};
+ghost use Rattle.vx_layout_tree.specs.LayoutView.{layout_data, number as id_number};
 ghost use Rattle.vx_display.specs.Lengths.{kind_fault};
 ghost use Rattle.vx_display.specs.Text.{children_text, detail_text, metadata_text, rows_text, verbosely, segments_text, segment_text, own_text, node_text, sizes, total};
 ghost use Rattle.vx_display.specs.Views.{map_of, style as seen, Faults};
@@ -15,14 +15,14 @@ use crate::lengths::known_lengths;
 use crate::style::{Stop, Style};
 use std::alloc::AllocError;
 use std::fmt::Write;
-use vx_kinds::{FlatLayout, Layout, SegmentList};
 use vx_layout_slots::LayoutSlots;
+use vx_layout_tree::{FlatLayout, Layout, SegmentList};
 use vx_model::{DType, SegmentId};
 
 #[tactic(auto, using(crate::proofs::NodeSteps::node_rules))]
 pub(crate) fn push_node(style: &Style, out: &mut String, layout: &Layout) -> Result<(), Stop>
-    ensures text { OnOk result (string_bytes out.new ≡ string_bytes out.old ++ node_text (seen style.now) (lay layout.now)) }
-    ensures fault { Faults result (kind_fault (map_of style.now) (layout_kind (lay layout.now)) (segments_of (lay layout.now))) (Ok tt) }
+    ensures text { OnOk result (string_bytes out.new ≡ string_bytes out.old ++ node_text (seen style.now) (layout_data layout.now)) }
+    ensures fault { Faults result (kind_fault (map_of style.now) (layout_kind (layout_data layout.now)) (segments_of (layout_data layout.now))) (Ok tt) }
 {
     push_head(out, layout.encoding_id(), layout.dtype())?;
     push_count(out, layout.nchildren())?;
@@ -51,7 +51,7 @@ fn push_count(out: &mut String, children: u64) -> Result<(), AllocError>
 /// What only verbose texts have: the length of the metadata, and the rows.
 #[tactic(auto, using(crate::proofs::NodeSteps::text_rules))]
 fn push_details(style: &Style, out: &mut String, layout: &Layout) -> Result<(), AllocError>
-    ensures { OnOk result (string_bytes out.new ≡ string_bytes out.old ++ detail_text (seen style.now) (lay layout.now)) }
+    ensures { OnOk result (string_bytes out.new ≡ string_bytes out.old ++ detail_text (seen style.now) (layout_data layout.now)) }
 {
     if !style.verbose {
         return Ok(());
@@ -82,8 +82,8 @@ fn push_metadata(out: &mut String, bytes: usize) -> Result<(), AllocError>
 /// The segments of the node itself.
 #[tactic(auto, using(crate::proofs::NodeSteps::own_rules))]
 fn push_own(style: &Style, out: &mut String, layout: &Layout) -> Result<(), Stop>
-    ensures text { OnOk result (string_bytes out.new ≡ string_bytes out.old ++ own_text (seen style.now) (layout_kind (lay layout.now)) (segments_of (lay layout.now))) }
-    ensures fault { Faults result (kind_fault (map_of style.now) (layout_kind (lay layout.now)) (segments_of (lay layout.now))) (Ok tt) }
+    ensures text { OnOk result (string_bytes out.new ≡ string_bytes out.old ++ own_text (seen style.now) (layout_kind (layout_data layout.now)) (segments_of (layout_data layout.now))) }
+    ensures fault { Faults result (kind_fault (map_of style.now) (layout_kind (layout_data layout.now)) (segments_of (layout_data layout.now))) (Ok tt) }
 {
     match layout.as_flat() {
         Some(flat) => push_flat(style, out, flat),

@@ -1,5 +1,5 @@
 use std::alloc::{AllocError, Global};
-use vx_read::SegmentMap;
+use vx_segment_map::SegmentMap;
 
 /// How a tree is shown.
 #[derive(Clone, Copy, Debug)]

@@ -1,10 +1,10 @@
 //! The lines of a tree.
 
 ghost use Rattle.std.specs.Prelude.{◌≡◌, ◌++◌, ◌+◌, ◌<◌, ◌^◌, length, string_bytes, codes, OnOk, IfOk, Ok};
-ghost use Rattle.vx_tree.specs.LayoutTree.{layout_kind, segments_of, children_of};
-ghost use Rattle.vx_kinds.specs.Children.{child_in};
-ghost use Rattle.vx_kinds.specs.LayoutView.{lay};
-ghost use Rattle.vx_layout_spelling.specs.Permitted.{built as all_built};
+ghost use Rattle.vx_layout_spec.specs.LayoutTree.{layout_kind, segments_of, children_of};
+ghost use Rattle.vx_layout_tree.specs.Children.{child_in};
+ghost use Rattle.vx_layout_tree.specs.LayoutView.{layout_data};
+ghost use Rattle.vx_layout_codec_spec.specs.Permitted.{built as all_built};
 ghost use Rattle.vx_display.specs.Lengths.{first_fault, kind_fault};
 ghost use Rattle.vx_display.specs.Text.{tree_text, node_text, branch_to, trunk_by, label as name_of_child};
 ghost use Rattle.vx_display.specs.Views.{map_of, style as seen, Faults, GivesChild};
@@ -13,8 +13,8 @@ use crate::label::child_label;
 use crate::node::push_node;
 use crate::style::{Stop, Style};
 use std::alloc::{AllocError, Global};
-use vx_kinds::{Layout, LayoutError};
 use vx_layout_build::{LayoutChild, LayoutWalk};
+use vx_layout_tree::{Layout, LayoutError};
 
 /// `first` stands before the layout's own line, and `rest` before those below it.
 #[tactic(auto, using(crate::proofs::TreeSteps::tree_rules))]
@@ -25,8 +25,8 @@ pub(crate) fn push_tree(
     rest: &str,
     layout: &Layout,
 ) -> Result<(), Stop>
-    ensures text { OnOk result (string_bytes out.new ≡ string_bytes out.old ++ tree_text (seen style.now) first.now rest.now (lay layout.now)) }
-    ensures fault { Faults result (first_fault (map_of style.now) (lay layout.now)) (all_built (lay layout.now)) }
+    ensures text { OnOk result (string_bytes out.new ≡ string_bytes out.old ++ tree_text (seen style.now) first.now rest.now (layout_data layout.now)) }
+    ensures fault { Faults result (first_fault (map_of style.now) (layout_data layout.now)) (all_built (layout_data layout.now)) }
 {
     layout.built();
     push_line(style, out, first, layout)?;
@@ -43,8 +43,8 @@ pub(crate) fn push_tree(
 
 #[tactic(auto, using(crate::proofs::TreeSteps::child_rules))]
 fn child_at(layout: &Layout, i: u64) -> Result<LayoutChild<'_>, Stop>
-    requires { i < length (children_of (lay layout.now)) }
-    ensures { GivesChild result (child_in (children_of (lay layout.now)) i) }
+    requires { i < length (children_of (layout_data layout.now)) }
+    ensures { GivesChild result (child_in (children_of (layout_data layout.now)) i) }
 {
     match layout.child(i) {
         Ok(child) => Ok(child),
@@ -56,8 +56,8 @@ fn child_at(layout: &Layout, i: u64) -> Result<LayoutChild<'_>, Stop>
 /// The node's own line.
 #[tactic(auto, using(crate::proofs::NodeSteps::text_rules))]
 fn push_line(style: &Style, out: &mut String, first: &str, layout: &Layout) -> Result<(), Stop>
-    ensures text { OnOk result (string_bytes out.new ≡ string_bytes out.old ++ (first.now ++ (node_text (seen style.now) (lay layout.now) ++ codes "\n"))) }
-    ensures fault { Faults result (kind_fault (map_of style.now) (layout_kind (lay layout.now)) (segments_of (lay layout.now))) (Ok tt) }
+    ensures text { OnOk result (string_bytes out.new ≡ string_bytes out.old ++ (first.now ++ (node_text (seen style.now) (layout_data layout.now) ++ codes "\n"))) }
+    ensures fault { Faults result (kind_fault (map_of style.now) (layout_kind (layout_data layout.now)) (segments_of (layout_data layout.now))) (Ok tt) }
 {
     out.push_str(first)?;
     push_node(style, out, layout)?;
@@ -74,9 +74,9 @@ fn branch(
     layout: &Layout,
     i: u64,
 ) -> Result<String, AllocError>
-    requires place { i < length (children_of (lay layout.now)) }
+    requires place { i < length (children_of (layout_data layout.now)) }
     requires fits { i + 1 < 2 ^ 64 }
-    ensures { IfOk result (λ text. string_bytes text ≡ rest.now ++ (branch_to last ++ (name_of_child (lay layout.now) i ++ codes ": "))) }
+    ensures { IfOk result (λ text. string_bytes text ≡ rest.now ++ (branch_to last ++ (name_of_child (layout_data layout.now) i ++ codes ": "))) }
 {
     let branch = if last { "└── " } else { "├── " };
     let name = child_label(alloc, layout, i)?;

@@ -7,8 +7,8 @@ use Rattle.vx_model.specs.declared.encoding.EncodingId.{EncodingId}
 use Rattle.vx_model.specs.declared.encoding.EncodingId.TheVariants as encodings
 use Rattle.vx_model.specs.Numbers.{encoding_id}
 use Rattle.vx_model.specs.Distinct.{first_repeat}
-use Rattle.vx_record.specs.Aggregate.{aggregate_id, maximum, minimum, bounded_maximum, bounded_minimum, null_count, sum, bloom}
-use Rattle.vx_strategy.specs.Parts.{given, when, all, at, whole, whole_below, or_null, has_members}
+use Rattle.vx_aggregate_spec.specs.Aggregate.{aggregate_id, maximum, minimum, bounded_maximum, bounded_minimum, null_count, sum, bloom}
+use Rattle.vx_strategy_json.specs.Parts.{given, when, all, at, whole, whole_below, or_null, has_members}
 
 -- ---- keys
 

@@ -6,13 +6,13 @@ use Rattle.serde_json.specs.Find.{get_member, as_bool, as_array}
 use Rattle.serde_json.specs.Read.{read}
 use Rattle.vx_model.specs.declared.encoding.EncodingId.{EncodingId}
 use Rattle.vx_model.specs.Ty.{Ty}
-use Rattle.vx_model.specs.Piece.{Piece}
-use Rattle.vx_plan.specs.Way.{Way}
-use Rattle.vx_data.specs.Lists.{each}
-use Rattle.vx_data.specs.Types.{type_of}
-use Rattle.vx_data.specs.Chunks.{batch_of}
-use Rattle.vx_strategy.specs.Parts.{all, whole}
-use Rattle.vx_strategy.specs.StrategyText.{strategy_of}
+use Rattle.vx_model.specs.ChunkData.{ChunkData}
+use Rattle.vx_strategy_spec.specs.StrategyData.{StrategyData}
+use Rattle.vx_chunk_json.specs.Lists.{each}
+use Rattle.vx_chunk_json.specs.Types.{type_of}
+use Rattle.vx_chunk_json.specs.Chunks.{batch_of}
+use Rattle.vx_strategy_json.specs.Parts.{all, whole}
+use Rattle.vx_strategy_json.specs.StrategyText.{strategy_of}
 use Rattle.vx_job.specs.declared.error.Key.{Key}
 use Rattle.vx_job.specs.declared.error.Key.TheVariants as places
 use Rattle.vx_job.specs.JobParts.{has_only, keys, or_default, all_encodings, encodings_of, aggregates_of, next_of, FailingCalls, failing, faults_of}
@@ -29,8 +29,8 @@ pub record JobOptions : Type 0 where
 
 pub record JobData : Type 0 where
   pub schema : Ty
-  pub strategy : Way
-  pub batches : List Piece
+  pub strategy : StrategyData
+  pub batches : List ChunkData
   pub options : JobOptions
 
 -- ---- one key after the other
@@ -46,14 +46,14 @@ and_then (Ok x) f = f x
 unfoldable pub schema_in : Members → Result Ty Key
 schema_in ms = found places.Schema (option_and_then type_of (get_member (codes "schema") ms))
 
-unfoldable pub strategy_in : Members → Result Way Key
+unfoldable pub strategy_in : Members → Result StrategyData Key
 strategy_in ms = found places.Strategy (option_and_then strategy_of (get_member (codes "strategy") ms))
 
 -- a list of batches of the schema
-unfoldable pub batches_of : Ty → Data → Option (List Piece)
+unfoldable pub batches_of : Ty → Data → Option (List ChunkData)
 batches_of t d = option_and_then (each (batch_of t)) (as_array d)
 
-unfoldable pub batches_in : Ty → Members → Result (List Piece) Key
+unfoldable pub batches_in : Ty → Members → Result (List ChunkData) Key
 batches_in t ms = found places.Batches (option_and_then (batches_of t) (get_member (codes "batches") ms))
 
 unfoldable pub schedule_in : Members → Result (List ℕ) Key

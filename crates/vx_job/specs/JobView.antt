@@ -4,7 +4,7 @@ use Rattle.std.proofs.Common.{Vec}
 use Rattle.std.specs.Global.{Global}
 use Rattle.vx_model.specs.declared.text.Text.{Text}
 use Rattle.vx_model.specs.TyView.{ty}
-use Rattle.vx_nodes.specs.StrategyView.{way}
+use Rattle.vx_strategy.specs.StrategyView.{strategy_data}
 use Rattle.vx_job.specs.JobParts.{FailingCalls, failing}
 use Rattle.vx_job.specs.JobText.{JobData, JobOptions}
 use Rattle.vx_job.specs.declared.error.Key.{Key}
@@ -28,7 +28,7 @@ abbrev pub options_view : Job → JobOptions
 options_view j = record { schedule = j.schedule.items; encodings = j.encodings; aggregates = ids_view j.aggregates; marked = j.marked; next = j.next; faults = faults_view j.faults }
 
 abbrev pub job_view : Job → JobData
-job_view j = record { schema = ty j.schema; strategy = way j.strategy; batches = j.batches.items; options = options_view j }
+job_view j = record { schema = ty j.schema; strategy = strategy_data j.strategy; batches = j.batches.items; options = options_view j }
 
 -- the same key at fault; memory may run out
 abbrev pub Fails : {Y : Type 0} → JobError → Result Y Key → Type 0

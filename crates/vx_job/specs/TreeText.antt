@@ -6,11 +6,11 @@ use Rattle.serde_json.specs.Data.{Data, Members}
 use Rattle.serde_json.specs.Find.{get_member, as_bool, as_str}
 use Rattle.vx_model.specs.declared.encoding.EncodingId.{EncodingId}
 use Rattle.vx_model.specs.Ty.{Ty}
-use Rattle.vx_data.specs.Types.{type_of}
+use Rattle.vx_chunk_json.specs.Types.{type_of}
 use Rattle.vx_session.specs.declared.encoding.LayoutEncoding.{LayoutEncoding}
 use Rattle.vx_session.specs.Encodings.{kind_of, all_encodings as all_kinds}
 use Rattle.vx_session.specs.Ids.{is_context}
-use Rattle.vx_strategy.specs.Parts.{when, all, whole, whole_below}
+use Rattle.vx_strategy_json.specs.Parts.{when, all, whole, whole_below}
 use Rattle.vx_job.specs.declared.error.Key.{Key}
 use Rattle.vx_job.specs.declared.error.Key.TheVariants as places
 use Rattle.vx_job.specs.JobParts.{or_default}

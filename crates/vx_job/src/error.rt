@@ -1,7 +1,7 @@
 use std::alloc::AllocError;
 use thiserror::Error;
-use vx_data::DataError;
-use vx_strategy::StrategyError;
+use vx_chunk_json::DataError;
+use vx_strategy_json::StrategyError;
 
 /// A place in a job.
 #[derive(Clone, Copy, Debug, PartialEq, Eq)]

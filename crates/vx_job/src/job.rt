@@ -3,7 +3,7 @@
 ghost use Rattle.std.specs.Prelude.{◌≡◌};
 ghost use Rattle.serde_json.specs.View.{view, members_view};
 ghost use Rattle.vx_model.specs.TyView.{ty};
-ghost use Rattle.vx_nodes.specs.StrategyView.{way};
+ghost use Rattle.vx_strategy.specs.StrategyView.{strategy_data};
 ghost use Rattle.vx_job.specs.JobParts.{has_only, keys};
 ghost use Rattle.vx_job.specs.JobText.{job, job_of, job_in, object_of, schema_in, strategy_in, batches_in};
 ghost use Rattle.vx_job.specs.JobView.{Gives, job_view};
@@ -16,10 +16,10 @@ use crate::values::member;
 use serde_json::{Map, Value};
 use std::alloc::Global;
 use vx_chunk::Chunk;
-use vx_data::{read_batches, read_type};
+use vx_chunk_json::{read_batches, read_type};
 use vx_model::{ArrayContext, DType, Text};
-use vx_nodes::Strategy;
-use vx_strategy::read_strategy;
+use vx_strategy::Strategy;
+use vx_strategy_json::read_strategy;
 
 /// What the program is asked to write, and how.
 #[derive(Debug, Drop)]
@@ -120,7 +120,7 @@ fn schema_in(alloc: Global, members: &Map<String, Value>) -> Result<DType, JobEr
 
 #[tactic(auto, unfolding(crate::specs::JobText::strategy_in))]
 fn strategy_in(alloc: Global, members: &Map<String, Value>) -> Result<Strategy, JobError>
-    ensures { Gives way result (strategy_in (members_view members.now.entries)) }
+    ensures { Gives strategy_data result (strategy_in (members_view members.now.entries)) }
 {
     let Some(value) = member(members, "strategy") else {
         return Err(JobError::Wrong(Key::Strategy));

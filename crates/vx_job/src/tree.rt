@@ -4,8 +4,8 @@ ghost use Rattle.std.specs.Prelude.{◌≡◌, ◌≤◌, IfOk, Ok};
 ghost use Rattle.serde_json.specs.Find.{as_str};
 ghost use Rattle.serde_json.specs.View.{view, members_view};
 ghost use Rattle.vx_model.specs.TyView.{ty};
-ghost use Rattle.vx_strategy.specs.Parts.{all};
-ghost use Rattle.vx_data.specs.Views as values;
+ghost use Rattle.vx_strategy_json.specs.Parts.{all};
+ghost use Rattle.vx_chunk_json.specs.Views as values;
 ghost use Rattle.vx_job.specs.JobParts.{has_only};
 ghost use Rattle.vx_job.specs.JobText.{object_of};
 ghost use Rattle.vx_job.specs.TreeText.{tree_job, tree_of, tree_in, tree_keys, dtype_in, bytes_in, layouts_in, bytes_of, layouts_of, context_in};
@@ -19,7 +19,7 @@ use crate::values::{member, read_items};
 use hex::FromHexError;
 use serde_json::{Map, Value};
 use std::alloc::Global;
-use vx_data::{DataError, read_type};
+use vx_chunk_json::{DataError, read_type};
 use vx_model::{DType, Text};
 use vx_session::LayoutContext;
 
@@ -165,7 +165,7 @@ fn in_context(ids: Vec<Text>) -> Result<LayoutContext, DataError>
     Ok(LayoutContext::new(ids))
 }
 
-#[tactic(auto, using(vx_strategy::proofs::ListSteps::list_rules), unfolding(vx_strategy::specs::Parts::all))]
+#[tactic(auto, using(vx_strategy_json::proofs::ListSteps::list_rules), unfolding(vx_strategy_json::specs::Parts::all))]
 fn read_texts(alloc: Global, value: &Value) -> Result<Vec<Text>, DataError>
     ensures { values.Gives (λ v. v.items) result (all as_str (view value.now)) }
 {

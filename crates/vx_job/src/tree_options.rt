@@ -3,8 +3,8 @@
 ghost use Rattle.std.specs.Prelude.{◌≡◌, ◌≤◌, map, IfOk};
 ghost use Rattle.serde_json.specs.View.{view, items_view, members_view};
 ghost use Rattle.vx_session.specs.Encodings.{all_encodings as all_kinds};
-ghost use Rattle.vx_strategy.specs.Parts.{all, whole, whole_below};
-ghost use Rattle.vx_data.specs.Views as values;
+ghost use Rattle.vx_strategy_json.specs.Parts.{all, whole, whole_below};
+ghost use Rattle.vx_chunk_json.specs.Views as values;
 ghost use Rattle.vx_job.specs.TreeText.{kind_named, layout_kind_of, registered_in, allow_unknown_in, depth_in, nodes_in, tree_options_in};
 ghost use Rattle.vx_job.specs.TreeView.{tree_options_view};
 ghost use Rattle.vx_job.specs.JobView.{Gives};
@@ -14,7 +14,7 @@ use crate::options::encodings_in;
 use crate::values::{member, read_flag, read_items, read_number};
 use serde_json::{Map, Value};
 use std::alloc::Global;
-use vx_data::DataError;
+use vx_chunk_json::DataError;
 use vx_layout_bytes::Limits;
 use vx_model::ArrayContext;
 use vx_session::LayoutEncoding;
@@ -66,7 +66,7 @@ fn read_kind(value: &Value) -> Result<LayoutEncoding, DataError>
     }
 }
 
-#[tactic(auto, using(vx_strategy::proofs::ListSteps::list_rules), unfolding(vx_strategy::specs::Parts::all))]
+#[tactic(auto, using(vx_strategy_json::proofs::ListSteps::list_rules), unfolding(vx_strategy_json::specs::Parts::all))]
 fn read_kinds(alloc: Global, value: &Value) -> Result<Vec<LayoutEncoding>, DataError>
     ensures { values.Gives (λ v. v.items) result (all layout_kind_of (view value.now)) }
 {
@@ -79,7 +79,7 @@ fn read_kinds(alloc: Global, value: &Value) -> Result<Vec<LayoutEncoding>, DataE
 }
 
 /// How deep a tree may be.
-#[tactic(auto, unfolding(vx_strategy::specs::Parts::whole_below))]
+#[tactic(auto, unfolding(vx_strategy_json::specs::Parts::whole_below))]
 fn read_depth(value: &Value) -> Result<u64, DataError>
     ensures depth { values.Gives (λ n. n) result (whole_below 1025 (view value.now)) }
     ensures shallow { IfOk result (λ n. n ≤ 1024) }

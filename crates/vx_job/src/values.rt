@@ -4,15 +4,15 @@ ghost use Rattle.std.specs.Prelude.{◌≡◌, [], map, option_map, option_and_t
 ghost use Rattle.serde_json.specs.Find.{get, get_member, as_array, as_bool};
 ghost use Rattle.serde_json.specs.View.{view, items_view, members_view};
 ghost use Rattle.vx_model.specs.declared.encoding.EncodingId.{EncodingId};
-ghost use Rattle.vx_strategy.specs.Parts.{all, at as at_key, whole, has_members};
+ghost use Rattle.vx_strategy_json.specs.Parts.{all, at as at_key, whole, has_members};
 ghost use Rattle.vx_job.specs.JobParts.{all_encodings, first_named, encoding_of, encodings_of, is_among, aggregate_ids, id_of, aggregates_of, next_of, faults_of, distinct};
 ghost use Rattle.vx_job.specs.JobView.{faults_view, ids_view};
-ghost use Rattle.vx_data.specs.Views.{Gives};
+ghost use Rattle.vx_chunk_json.specs.Views.{Gives};
 
 use crate::faults::Faults;
 use serde_json::{Map, Value};
 use std::alloc::Global;
-use vx_data::DataError;
+use vx_chunk_json::DataError;
 use vx_model::{ArrayContext, EncodingId, Text};
 
 /// The value at the key.
@@ -40,7 +40,7 @@ pub(crate) fn read_number(value: &Value) -> Result<u64, DataError>
     }
 }
 
-#[tactic(auto, using(vx_strategy::proofs::ListSteps::list_rules), unfolding(vx_strategy::specs::Parts::all))]
+#[tactic(auto, using(vx_strategy_json::proofs::ListSteps::list_rules), unfolding(vx_strategy_json::specs::Parts::all))]
 pub(crate) fn read_numbers(alloc: Global, value: &Value) -> Result<Vec<u64>, DataError>
     ensures { Gives (λ v. v.items) result (all whole (view value.now)) }
 {
@@ -62,7 +62,7 @@ pub(crate) fn read_flag(value: &Value) -> Result<bool, DataError>
 }
 
 /// The number of the first segment.
-#[tactic(auto, unfolding(crate::specs::JobParts::next_of, vx_strategy::specs::Parts::whole_below))]
+#[tactic(auto, unfolding(crate::specs::JobParts::next_of, vx_strategy_json::specs::Parts::whole_below))]
 pub(crate) fn read_next(value: &Value) -> Result<u64, DataError>
     ensures { Gives (λ n. n) result (next_of (view value.now)) }
 {
@@ -93,7 +93,7 @@ fn read_encoding(value: &Value) -> Result<EncodingId, DataError>
     }
 }
 
-#[tactic(auto, using(vx_strategy::proofs::ListSteps::list_rules), unfolding(vx_strategy::specs::Parts::all))]
+#[tactic(auto, using(vx_strategy_json::proofs::ListSteps::list_rules), unfolding(vx_strategy_json::specs::Parts::all))]
 fn read_ids(alloc: Global, value: &Value) -> Result<Vec<EncodingId>, DataError>
     ensures { Gives (λ v. v.items) result (all encoding_of (view value.now)) }
 {
@@ -150,7 +150,7 @@ fn read_aggregate_id(alloc: Global, value: &Value) -> Result<Text, DataError>
     Ok(Text::from_str(alloc, name)?)
 }
 
-#[tactic(auto, using(vx_strategy::proofs::ListSteps::list_rules), unfolding(vx_strategy::specs::Parts::all))]
+#[tactic(auto, using(vx_strategy_json::proofs::ListSteps::list_rules), unfolding(vx_strategy_json::specs::Parts::all))]
 fn read_aggregate_ids(alloc: Global, value: &Value) -> Result<Vec<Text>, DataError>
     ensures { Gives (λ v. v.items) result (all id_of (view value.now)) }
 {
@@ -163,7 +163,7 @@ fn read_aggregate_ids(alloc: Global, value: &Value) -> Result<Vec<Text>, DataErr
 }
 
 /// Ids, or null for no limit.
-#[tactic(auto, unfolding(crate::specs::JobParts::aggregates_of, vx_strategy::specs::Parts::or_null))]
+#[tactic(auto, unfolding(crate::specs::JobParts::aggregates_of, vx_strategy_json::specs::Parts::or_null))]
 pub(crate) fn read_aggregates(alloc: Global, value: &Value) -> Result<Option<Vec<Text>>, DataError>
     ensures { Gives ids_view result (aggregates_of (view value.now)) }
 {
@@ -174,7 +174,7 @@ pub(crate) fn read_aggregates(alloc: Global, value: &Value) -> Result<Option<Vec
     }
 }
 
-#[tactic(auto, using(vx_strategy::proofs::PartSteps::part_rules), unfolding(vx_strategy::specs::Parts::has_members))]
+#[tactic(auto, using(vx_strategy_json::proofs::PartSteps::part_rules), unfolding(vx_strategy_json::specs::Parts::has_members))]
 fn has_three(value: &Value) -> bool
     ensures { result ≡ has_members 3 (view value.now) }
 {
@@ -185,7 +185,7 @@ fn has_three(value: &Value) -> bool
     }
 }
 
-#[tactic(auto, unfolding(vx_strategy::specs::Parts::at))]
+#[tactic(auto, unfolding(vx_strategy_json::specs::Parts::at))]
 fn numbers_at(alloc: Global, value: &Value, key: &str) -> Result<Vec<u64>, DataError>
     ensures { Gives (λ v. v.items) result (at_key (all whole) key.now (view value.now)) }
 {

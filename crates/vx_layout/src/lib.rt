@@ -6,22 +6,20 @@ pub use vx_aggregate::{
     default_zoned_aggregate_fns, legacy_stats_table_dtype,
 };
 pub use vx_display::{DisplayLayoutTree, LayoutDisplay};
-pub use vx_kinds::{
-    ChunkedLayout, DictLayout, ELEMENTS_CHILD_INDEX, FlatLayout, ForeignLayout, Layout,
-    LayoutChildren, LayoutError, LayoutKind, LayoutParts, LegacyStatsLayout,
-    ListLayout, NUM_CHILDREN_NON_NULLABLE, OFFSETS_CHILD_INDEX, SegmentList, StructLayout,
-    VALIDITY_CHILD_INDEX, ViewedChildren, ZonedLayout, layout_children,
-};
 pub use vx_layout_build::{
-    DepthFirst, LayoutChild, LayoutChildrenWalk, LayoutDeserializeArgs, LayoutEncodingExt, LayoutWalk,
-    build_node,
+    DepthFirst, LayoutChild, LayoutChildrenWalk, LayoutDeserializeArgs, LayoutEncodingExt,
+    LayoutWalk, build_node,
 };
 pub use vx_layout_bytes::{GrammarError, Limits, RawNode, read_nodes, write_node};
 pub use vx_layout_codec::{
     layout_bytes, layout_from_flatbuffer, layout_from_flatbuffer_with_options,
 };
-pub use vx_layout_slots::{
-    ChildNames, ChildRowOffsets, ChildTypes, LayoutChildType, LayoutSlots,
+pub use vx_layout_slots::{ChildNames, ChildRowOffsets, ChildTypes, LayoutChildType, LayoutSlots};
+pub use vx_layout_tree::{
+    ChunkedLayout, DictLayout, ELEMENTS_CHILD_INDEX, FlatLayout, ForeignLayout, Layout,
+    LayoutChildren, LayoutError, LayoutKind, LayoutParts, LegacyStatsLayout, ListLayout,
+    NUM_CHILDREN_NON_NULLABLE, OFFSETS_CHILD_INDEX, SegmentList, StructLayout,
+    VALIDITY_CHILD_INDEX, ViewedChildren, ZonedLayout, layout_children,
 };
 pub use vx_metadata::{
     AggregateSpec, DictLayoutMetadata, FlatLayoutMetadata, LegacyStatsMetadata, ListLayoutMetadata,

@@ -6,26 +6,26 @@ use Rattle.vx_model.specs.declared.dtype.DType.{DType}
 use Rattle.vx_model.specs.Ty.{Ty, boolean, tys_of}
 use Rattle.vx_model.specs.TyView.{ty, field_ty}
 use Rattle.vx_model.proofs.Views.{view_rules, field_ty_is}
-use Rattle.vx_tree.specs.LayoutTree.{Lay}
+use Rattle.vx_layout_spec.specs.LayoutTree.{LayoutData}
 use Rattle.vx_layout_bytes.specs.declared.node.RawNode.{RawNode}
 use Rattle.vx_layout_bytes.specs.Node.{Own, nodes_of}
 use Rattle.vx_layout_bytes.specs.Views.{raw}
 use Rattle.vx_session.specs.Scope.{Scope}
-use Rattle.vx_session.specs.Made.{Made, Kid, all_stand, each_stands}
+use Rattle.vx_session.specs.Made.{Made, ChildData, all_stand, each_stands}
 use Rattle.vx_session.specs.Kinds.{types_in}
 use Rattle.vx_session.specs.Builder.{kids, own_of, builder, built_or_refused, is_flat_node}
-use Rattle.vx_kinds.specs.declared.error.LayoutError.{LayoutError}
-use Rattle.vx_kinds.specs.Children.{answered, child_in}
-use Rattle.vx_kinds.specs.Views.{Fails}
-use Rattle.vx_kinds.proofs.KidSteps.{length-owned, length-kids, fails_by}
+use Rattle.vx_layout_tree.specs.declared.error.LayoutError.{LayoutError}
+use Rattle.vx_layout_tree.specs.Children.{answered, child_in}
+use Rattle.vx_layout_tree.specs.Views.{Fails}
+use Rattle.vx_layout_tree.proofs.KidSteps.{length-owned, length-kids, fails_by}
 use Rattle.vx_layout_build.specs.Asked.{built, answer_at, type_at}
 
-pub chunk_in : (t : Ty) (ks : List Kid) (i : ℕ) → child_in (all_stand t ks) i ≡ answer_at ks i t
+pub chunk_in : (t : Ty) (ks : List ChildData) (i : ℕ) → child_in (all_stand t ks) i ≡ answer_at ks i t
 chunk_in t [] i = refl
 chunk_in t (k ∷ ks) zero = refl
 chunk_in t (k ∷ ks) (suc i) = chunk_in t ks i
 
-pub field_in : (ts : List Ty) (ks : List Kid) (i : ℕ) → i < length ks → length ks ≡ length ts → child_in (each_stands ts ks) i ≡ answer_at ks i (type_at ts i)
+pub field_in : (ts : List Ty) (ks : List ChildData) (i : ℕ) → i < length ks → length ks ≡ length ts → child_in (each_stands ts ks) i ≡ answer_at ks i (type_at ts i)
 field_in [] [] i lt e = absurd (omega (arith, lt))
 field_in [] (k ∷ ks) i lt e = absurd (omega (arith, e))
 field_in (t ∷ ts) [] i lt e = absurd (omega (arith, lt))
@@ -44,7 +44,7 @@ viewed_answer s (x ∷ ns) zero n t lt is = rw is (stands_built (is_flat_node s 
 viewed_answer s (x ∷ ns) (suc i) n t lt is = viewed_answer s ns i n t (omega (arith, lt)) is
 
 -- the answer of a node that is built
-pub answer_is : (s : Scope) (ns : List RawNode) (i : ℕ) (n copy : RawNode) (t : Ty) (l : Lay ℕ) → i < length ns → n ≡ get_or ns i n → raw copy ≡ raw n → builder s (raw copy) t ≡ Ok l → answered l ≡ Ok l
+pub answer_is : (s : Scope) (ns : List RawNode) (i : ℕ) (n copy : RawNode) (t : Ty) (l : LayoutData ℕ) → i < length ns → n ≡ get_or ns i n → raw copy ≡ raw n → builder s (raw copy) t ≡ Ok l → answered l ≡ Ok l
     → answer_at (kids s (nodes_of (map raw ns))) i t ≡ Ok l
 answer_is s ns i n copy t l lt is same made whole_l = rw (viewed_answer s ns i n t lt is, ← same, made) whole_l
 

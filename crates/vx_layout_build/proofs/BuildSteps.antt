@@ -6,8 +6,8 @@ use Rattle.std.proofs.lemmas.Bool.Decides.{nat_tests}
 use Rattle.vx_model.specs.Words.{total_by}
 use Rattle.vx_model.specs.Ty.{Ty, is_struct}
 use Rattle.vx_model.specs.TyView.{ty}
-use Rattle.vx_tree.specs.LayoutTree.{Lay, row_count, chunked_kind, struct_kind}
-use Rattle.vx_tree.specs.Refusal.{Refusal, unknown_index, unregistered, other_rows}
+use Rattle.vx_layout_spec.specs.LayoutTree.{LayoutData, row_count, chunked_kind, struct_kind}
+use Rattle.vx_layout_spec.specs.Refusal.{Refusal, unknown_index, unregistered, other_rows}
 use Rattle.vx_layout_bytes.specs.declared.node.RawNode.{RawNode, out-RawNode}
 use Rattle.vx_layout_bytes.specs.Node.{Own, Node, node, nodes_of}
 use Rattle.vx_layout_bytes.specs.Values.{depth, depths}
@@ -17,23 +17,23 @@ use Rattle.vx_session.specs.declared.encoding.LayoutEncoding.{LayoutEncoding}
 use Rattle.vx_session.specs.Ids.{id_at}
 use Rattle.vx_session.specs.Encodings.{kind_of}
 use Rattle.vx_session.specs.Scope.{Scope, Context}
-use Rattle.vx_session.specs.Made.{Made, ◌>>=◌, Kid, kid_rows, spelled, has_children, has_rows, all_have_rows}
+use Rattle.vx_session.specs.Made.{Made, ◌>>=◌, ChildData, kid_rows, spelled, has_children, has_rows, all_have_rows}
 use Rattle.vx_session.specs.Kinds.{Parts, nothing_in, struct_types, build_kind, build_chunked, build_struct}
 use Rattle.vx_session.specs.Builder.{builder, build_foreign, build_registered, known_id, own_of, own_parts, node_parts, kids}
-use Rattle.vx_kinds.specs.declared.error.LayoutError.{LayoutError}
-use Rattle.vx_kinds.specs.declared.parts.LayoutParts.{LayoutParts}
-use Rattle.vx_kinds.specs.declared.children.LayoutChildren.TheVariants as children
-use Rattle.vx_kinds.specs.declared.children.ViewedChildren.{ViewedChildren}
+use Rattle.vx_layout_tree.specs.declared.error.LayoutError.{LayoutError}
+use Rattle.vx_layout_tree.specs.declared.parts.LayoutParts.{LayoutParts}
+use Rattle.vx_layout_tree.specs.declared.children.LayoutChildren.TheVariants as children
+use Rattle.vx_layout_tree.specs.declared.children.ViewedChildren.{ViewedChildren}
 use Rattle.vx_session.specs.Views.{scope_of}
 use Rattle.vx_layout_build.specs.declared.open.Wanted.{Wanted}
 use Rattle.vx_layout_build.specs.declared.open.Open.{Open}
-use Rattle.vx_kinds.specs.Views.{Fails}
+use Rattle.vx_layout_tree.specs.Views.{Fails}
 use Rattle.vx_layout_build.specs.NodeKind.{kind_there, node_kind}
-use Rattle.vx_kinds.specs.LayoutView.{seen_layout}
-use Rattle.vx_kinds.specs.KidsView.{layout_kids, chunks, fields}
+use Rattle.vx_layout_tree.specs.LayoutView.{seen_layout}
+use Rattle.vx_layout_tree.specs.KidsView.{layout_kids, chunks, fields}
 use Rattle.vx_layout_build.specs.PartsView.{parts_of, one_built, one_depth, children_depth}
 use Rattle.vx_layout_build.specs.OpenView.{Children, rows_ruled, wanted_built, all_built, wanted_depths, framed, open_made}
-use Rattle.vx_kinds.proofs.KidSteps.{chunks_are, fields_are, fails_by}
+use Rattle.vx_layout_tree.proofs.KidSteps.{chunks_are, fields_are, fails_by}
 
 -- ---- the kind of a node
 
@@ -52,19 +52,19 @@ kind_unknown s index id found none allowed = rw (found, none, allowed) refl
 pub ruleset found_rules = (index_unknown, kind_found, kind_unregistered, kind_unknown)
 
 -- what is built of a node of the kind
-abbrev built_by : Scope → Own → List Kid → Made → Ty → Option LayoutEncoding → Made
+abbrev built_by : Scope → Own → List ChildData → Made → Ty → Option LayoutEncoding → Made
 built_by s o ks other t None = other
 built_by s o ks other t (Some kind) = build_kind kind s.context (own_parts o ks t) o.metadata
 
-by_leave : (b : Bool) (s : Scope) (o : Own) (ks : List Kid) (other : Made) (t : Ty) (refusal : Refusal) → (if b then other else Err refusal) ≡ ((if b then Ok None else Err refusal) >>= built_by s o ks other t)
+by_leave : (b : Bool) (s : Scope) (o : Own) (ks : List ChildData) (other : Made) (t : Ty) (refusal : Refusal) → (if b then other else Err refusal) ≡ ((if b then Ok None else Err refusal) >>= built_by s o ks other t)
 by_leave true s o ks other t refusal = refl
 by_leave false s o ks other t refusal = refl
 
-by_kind : (s : Scope) (o : Own) (ks : List Kid) (other : Made) (t : Ty) (id : List ℕ) (k : Option LayoutEncoding) → build_registered s o ks id other t k ≡ (kind_there s id k >>= built_by s o ks other t)
+by_kind : (s : Scope) (o : Own) (ks : List ChildData) (other : Made) (t : Ty) (id : List ℕ) (k : Option LayoutEncoding) → build_registered s o ks id other t k ≡ (kind_there s id k >>= built_by s o ks other t)
 by_kind s o ks other t id (Some kind) = refl
 by_kind s o ks other t id None = by_leave s.allow_unknown s o ks other t (unregistered id)
 
-by_id : (s : Scope) (o : Own) (ks : List Kid) (other : Made) (t : Ty) (r : Result (List ℕ) Refusal)
+by_id : (s : Scope) (o : Own) (ks : List ChildData) (other : Made) (t : Ty) (r : Result (List ℕ) Refusal)
     → (r >>= λ id. build_registered s o ks id other t (kind_of id s.registered)) ≡ ((r >>= λ id. kind_there s id (kind_of id s.registered)) >>= built_by s o ks other t)
 by_id s o ks other t (Ok id) = by_kind s o ks other t id (kind_of id s.registered)
 by_id s o ks other t (Err e) = refl
@@ -126,50 +126,50 @@ struct_made p m needed e s is count rows same = rw (e, s, ← is, count, rows, f
 pub open_fails : (e : LayoutError) (o : Open) → Fails e (all_built o.wanted.items) → Fails e (open_made o)
 open_fails e o h = fails_by e (all_built o.wanted.items) (open_made o) (λ x made. rw made refl) h
 
-pub open_is : (o : Open) (ls : List (Lay ℕ)) → all_built o.wanted.items ≡ Ok ls → open_made o ≡ Ok (framed o.frame ls)
+pub open_is : (o : Open) (ls : List (LayoutData ℕ)) → all_built o.wanted.items ≡ Ok ls → open_made o ≡ Ok (framed o.frame ls)
 open_is o ls is = rw is refl
 
 pub ruleset open_rules = (open_fails, open_is)
 
-count_of_built : (one : Made) (others : Children) (n : ℕ) (ls : List (Lay ℕ)) → ((ms : List (Lay ℕ)) → others ≡ Ok ms → length ms ≡ n) → (one >>= λ l. others >>= λ ms. Ok (l ∷ ms)) ≡ Ok ls → length ls ≡ suc n
+count_of_built : (one : Made) (others : Children) (n : ℕ) (ls : List (LayoutData ℕ)) → ((ms : List (LayoutData ℕ)) → others ≡ Ok ms → length ms ≡ n) → (one >>= λ l. others >>= λ ms. Ok (l ∷ ms)) ≡ Ok ls → length ls ≡ suc n
 count_of_built (Err e) others n ls h is = cc
 count_of_built (Ok l) (Err e) n ls h is = cc
 count_of_built (Ok l) (Ok ms) n ls h is = let same : ls ≡ l ∷ ms = cc in let count : length ms ≡ n = h ms refl in rw same (omega (arith, count))
 
 -- as many are built as are wanted
-pub built_count : (ws : List Wanted) (ls : List (Lay ℕ)) → all_built ws ≡ Ok ls → length ls ≡ length ws
+pub built_count : (ws : List Wanted) (ls : List (LayoutData ℕ)) → all_built ws ≡ Ok ls → length ls ≡ length ws
 built_count [] ls is = let same : ls ≡ [] = cc in rw same refl
 built_count (w ∷ ws) ls is = count_of_built (wanted_built w) (all_built ws) (length ws) ls (λ ms built. built_count ws ms built) is
 
 -- ---- children one by one
 
 -- what is built already, in front of what comes
-abbrev pub so_far : List (Lay ℕ) → Children → Children
+abbrev pub so_far : List (LayoutData ℕ) → Children → Children
 so_far ls c = c >>= λ ms. Ok (ls ++ ms)
 
 pub so_far_none : (c : Children) → c ≡ so_far [] c
 so_far_none (Ok ls) = refl
 so_far_none (Err e) = refl
 
-pub so_far_all : (ls : List (Lay ℕ)) → so_far ls (Ok []) ≡ Ok ls
+pub so_far_all : (ls : List (LayoutData ℕ)) → so_far ls (Ok []) ≡ Ok ls
 so_far_all ls = rw (append-nil ls) refl
 
-pub so_far_end : (all : Children) (ls : List (Lay ℕ)) (ws : List Wanted) → all ≡ so_far ls (all_built ws) → length ws ≡ 0 → all ≡ Ok ls
+pub so_far_end : (all : Children) (ls : List (LayoutData ℕ)) (ws : List Wanted) → all ≡ so_far ls (all_built ws) → length ws ≡ 0 → all ≡ Ok ls
 so_far_end all ls [] is none = is ∙ so_far_all ls
 so_far_end all ls (w ∷ ws) is none = absurd (omega (arith, none))
 
-so_far_more : (ls : List (Lay ℕ)) (l : Lay ℕ) (c : Children) → so_far ls (c >>= λ ms. Ok (l ∷ ms)) ≡ so_far (ls ++ l ∷ []) c
+so_far_more : (ls : List (LayoutData ℕ)) (l : LayoutData ℕ) (c : Children) → so_far ls (c >>= λ ms. Ok (l ∷ ms)) ≡ so_far (ls ++ l ∷ []) c
 so_far_more ls l (Ok ms) = rw (append_one ls l ms) refl
   where
-    append_one : (xs : List (Lay ℕ)) (x : Lay ℕ) (ys : List (Lay ℕ)) → xs ++ x ∷ ys ≡ (xs ++ x ∷ []) ++ ys
+    append_one : (xs : List (LayoutData ℕ)) (x : LayoutData ℕ) (ys : List (LayoutData ℕ)) → xs ++ x ∷ ys ≡ (xs ++ x ∷ []) ++ ys
     append_one [] x ys = refl
     append_one (z ∷ xs) x ys = ap (λ r. z ∷ r) (append_one xs x ys)
 so_far_more ls l (Err e) = refl
 
-pub so_far_built : (all : Children) (ls : List (Lay ℕ)) (ws : List Wanted) (w : Wanted) (rest : List Wanted) (l : Lay ℕ) → all ≡ so_far ls (all_built ws) → ws ≡ w ∷ rest → wanted_built w ≡ Ok l → all ≡ so_far (ls ++ l ∷ []) (all_built rest)
+pub so_far_built : (all : Children) (ls : List (LayoutData ℕ)) (ws : List Wanted) (w : Wanted) (rest : List Wanted) (l : LayoutData ℕ) → all ≡ so_far ls (all_built ws) → ws ≡ w ∷ rest → wanted_built w ≡ Ok l → all ≡ so_far (ls ++ l ∷ []) (all_built rest)
 so_far_built all ls ws w rest l is next built = is ∙ rw (next, built) (so_far_more ls l (all_built rest))
 
-pub so_far_fails : (e : LayoutError) (all : Children) (ls : List (Lay ℕ)) (ws : List Wanted) (w : Wanted) (rest : List Wanted) → all ≡ so_far ls (all_built ws) → ws ≡ w ∷ rest → Fails e (wanted_built w) → Fails e all
+pub so_far_fails : (e : LayoutError) (all : Children) (ls : List (LayoutData ℕ)) (ws : List Wanted) (w : Wanted) (rest : List Wanted) → all ≡ so_far ls (all_built ws) → ws ≡ w ∷ rest → Fails e (wanted_built w) → Fails e all
 so_far_fails e all ls ws w rest is next h = fails_by e (wanted_built w) all (λ x made. is ∙ rw (next, made) refl) h
 
 pub first_depth : (ws : List Wanted) (w : Wanted) (rest : List Wanted) (deep : ℕ) → wanted_depths ws ≤ deep → ws ≡ w ∷ rest → one_depth w.child ≤ deep
@@ -187,10 +187,10 @@ pub ruleset all_rules = (so_far_none, so_far_all, so_far_built, so_far_fails, fi
 pub wanted_fails : (e : LayoutError) (w : Wanted) → Fails e (one_built w.child (ty w.dtype)) → Fails e (wanted_built w)
 wanted_fails e w h = fails_by e (one_built w.child (ty w.dtype)) (wanted_built w) (λ x made. rw made refl) h
 
-pub wanted_rows_fail : (e : LayoutError) (w : Wanted) (l : Lay ℕ) → one_built w.child (ty w.dtype) ≡ Ok l → Fails e (rows_ruled w.rows (row_count l)) → Fails e (wanted_built w)
+pub wanted_rows_fail : (e : LayoutError) (w : Wanted) (l : LayoutData ℕ) → one_built w.child (ty w.dtype) ≡ Ok l → Fails e (rows_ruled w.rows (row_count l)) → Fails e (wanted_built w)
 wanted_rows_fail e w l is h = fails_by e (rows_ruled w.rows (row_count l)) (wanted_built w) (λ x made. rw (is, made) refl) h
 
-pub wanted_is : (w : Wanted) (l : Lay ℕ) → one_built w.child (ty w.dtype) ≡ Ok l → rows_ruled w.rows (row_count l) ≡ Ok tt → wanted_built w ≡ Ok l
+pub wanted_is : (w : Wanted) (l : LayoutData ℕ) → one_built w.child (ty w.dtype) ≡ Ok l → rows_ruled w.rows (row_count l) ≡ Ok tt → wanted_built w ≡ Ok l
 wanted_is w l is rows = rw (is, rows) refl
 
 pub ruleset wanted_rules = (wanted_fails, wanted_rows_fail, wanted_is)

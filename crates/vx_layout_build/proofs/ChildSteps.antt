@@ -2,47 +2,47 @@
 use Rattle.std.proofs.Common.{◌≡◌, ◌↔◌, ℕ, zero, suc, ◌<◌, ◌≤◌, Bool, true, false, IsTrue, List, [], ◌∷◌, length, get_or, map, Some, None, Ok, Err, refl, sym, ◌∙◌, arith}
 use Rattle.std.proofs.lemmas.List.{length-map}
 use Rattle.vx_model.specs.Ty.{Ty, ty_eq}
-use Rattle.vx_tree.specs.Refusal.{slot_range, child_type}
-use Rattle.vx_tree.specs.LayoutTree.{Kind, flat_kind, chunked_kind, struct_kind, list_kind, dict_kind, zoned_kind, unread_zoned_kind, stats_kind, foreign_kind, refused_kind, layout_kind, layout_type}
+use Rattle.vx_layout_spec.specs.Refusal.{slot_range, child_type}
+use Rattle.vx_layout_spec.specs.LayoutTree.{Kind, flat_kind, chunked_kind, struct_kind, list_kind, dict_kind, zoned_kind, unread_zoned_kind, stats_kind, foreign_kind, refused_kind, layout_kind, layout_type}
 use Rattle.vx_layout_bytes.specs.declared.node.RawNode.{RawNode, out-RawNode}
 use Rattle.vx_layout_bytes.specs.Node.{nodes_of}
 use Rattle.vx_layout_bytes.specs.Views.{raw}
 use Rattle.vx_layout_bytes.proofs.Nodes.{raw_is}
 use Rattle.vx_session.specs.Scope.{Scope}
-use Rattle.vx_session.specs.Made.{Kid, kid_at, child_at}
+use Rattle.vx_session.specs.Made.{ChildData, kid_at, child_at}
 use Rattle.vx_session.specs.Builder.{kids, own_of, builder, is_flat_node, kid_of}
-use Rattle.vx_kinds.specs.declared.kind.LayoutKind.TheVariants as kinds
-use Rattle.vx_kinds.specs.declared.layout.Layout.{Layout}
-use Rattle.vx_kinds.specs.LayoutView.{lay}
-use Rattle.vx_kinds.specs.KidsView.{is_flat_kind, owned_kid, owned_kids}
-use Rattle.vx_kinds.specs.Children.{kind_name}
+use Rattle.vx_layout_tree.specs.declared.kind.LayoutKind.TheVariants as kinds
+use Rattle.vx_layout_tree.specs.declared.layout.Layout.{Layout}
+use Rattle.vx_layout_tree.specs.LayoutView.{layout_data}
+use Rattle.vx_layout_tree.specs.KidsView.{is_flat_kind, owned_kid, owned_kids}
+use Rattle.vx_layout_tree.specs.Children.{kind_name}
 use Rattle.vx_layout_build.specs.Asked.{is_flat_at}
-use Rattle.vx_kinds.proofs.KidSteps.{length-owned, length-kids}
+use Rattle.vx_layout_tree.proofs.KidSteps.{length-owned, length-kids}
 
 -- ---- past the last
 
-past : (ks : List Kid) (i : ℕ) → length ks ≤ i → kid_at ks i ≡ None
+past : (ks : List ChildData) (i : ℕ) → length ks ≤ i → kid_at ks i ≡ None
 past [] i le = refl
 past (k ∷ ks) zero le = absurd (omega (arith, le))
 past (k ∷ ks) (suc i) le = past ks i (omega (arith, le))
 
-pub none_at : (ks : List Kid) (i : ℕ) (t : Ty) → length ks ≤ i → child_at ks i t ≡ Err (slot_range i (length ks))
+pub none_at : (ks : List ChildData) (i : ℕ) (t : Ty) → length ks ≤ i → child_at ks i t ≡ Err (slot_range i (length ks))
 none_at ks i t le = rw (past ks i le) refl
 
 pub ruleset place_rules = (none_at, length-owned, length-kids, length-map)
 
 -- ---- a layout that is kept
 
-owned_at : (ls : List Layout) (i : ℕ) (l : Layout) → i < length ls → l ≡ get_or ls i l → kid_at (owned_kids (map lay ls)) i ≡ Some (owned_kid (lay l))
+owned_at : (ls : List Layout) (i : ℕ) (l : Layout) → i < length ls → l ≡ get_or ls i l → kid_at (owned_kids (map layout_data ls)) i ≡ Some (owned_kid (layout_data l))
 owned_at [] i l lt is = absurd (omega (arith, lt))
 owned_at (x ∷ ls) zero l lt is = rw (← is) refl
 owned_at (x ∷ ls) (suc i) l lt is = owned_at ls i l (omega (arith, lt)) is
 
-pub kept_same : (ls : List Layout) (i : ℕ) (l : Layout) (t : Ty) → i < length ls → l ≡ get_or ls i l → ty_eq (layout_type (lay l)) t ≡ true → child_at (owned_kids (map lay ls)) i t ≡ Ok (lay l)
+pub kept_same : (ls : List Layout) (i : ℕ) (l : Layout) (t : Ty) → i < length ls → l ≡ get_or ls i l → ty_eq (layout_type (layout_data l)) t ≡ true → child_at (owned_kids (map layout_data ls)) i t ≡ Ok (layout_data l)
 kept_same ls i l t lt is same = rw (owned_at ls i l lt is, same) refl
 
-pub kept_other : (ls : List Layout) (i : ℕ) (l : Layout) (t : Ty) → i < length ls → l ≡ get_or ls i l → ty_eq (layout_type (lay l)) t ≡ false
-    → child_at (owned_kids (map lay ls)) i t ≡ Err (child_type (layout_type (lay l)) t)
+pub kept_other : (ls : List Layout) (i : ℕ) (l : Layout) (t : Ty) → i < length ls → l ≡ get_or ls i l → ty_eq (layout_type (layout_data l)) t ≡ false
+    → child_at (owned_kids (map layout_data ls)) i t ≡ Err (child_type (layout_type (layout_data l)) t)
 kept_other ls i l t lt is other = rw (owned_at ls i l lt is, other) refl
 
 pub ruleset kept_rules = (kept_same, kept_other, length-map)
@@ -85,13 +85,13 @@ flat_named false (stats_kind z ss) is = refl
 flat_named false (foreign_kind id m) is = refl
 flat_named false (refused_kind f r) is = refl
 
-is_flat_of : (ks : List Kid) (i : ℕ) (k : Kid) → kid_at ks i ≡ Some k → is_flat_at ks i ≡ k.is_flat
+is_flat_of : (ks : List ChildData) (i : ℕ) (k : ChildData) → kid_at ks i ≡ Some k → is_flat_at ks i ≡ k.is_flat
 is_flat_of [] i k is = cc is
 is_flat_of (x ∷ ks) zero k is = let h : x ≡ k = cc is in rw h refl
 is_flat_of (x ∷ ks) (suc i) k is = is_flat_of ks i k is
 
-pub kept_flat : (ls : List Layout) (i : ℕ) (l : Layout) (b : Bool) → i < length ls → l ≡ get_or ls i l → IsTrue b ↔ (kind_name (layout_kind (lay l)) ≡ kinds.Flat) → b ≡ is_flat_at (owned_kids (map lay ls)) i
-kept_flat ls i l b lt is named = flat_named b (layout_kind (lay l)) named ∙ sym (is_flat_of (owned_kids (map lay ls)) i (owned_kid (lay l)) (owned_at ls i l lt is))
+pub kept_flat : (ls : List Layout) (i : ℕ) (l : Layout) (b : Bool) → i < length ls → l ≡ get_or ls i l → IsTrue b ↔ (kind_name (layout_kind (layout_data l)) ≡ kinds.Flat) → b ≡ is_flat_at (owned_kids (map layout_data ls)) i
+kept_flat ls i l b lt is named = flat_named b (layout_kind (layout_data l)) named ∙ sym (is_flat_of (owned_kids (map layout_data ls)) i (owned_kid (layout_data l)) (owned_at ls i l lt is))
 
 pub node_flat : (s : Scope) (ns : List RawNode) (i : ℕ) (n : RawNode) → i < length ns → n ≡ get_or ns i n → is_flat_node s (own_of (raw n)) ≡ is_flat_at (kids s (nodes_of (map raw ns))) i
 node_flat s ns i n lt is = sym (is_flat_of (kids s (nodes_of (map raw ns))) i (kid_of s (own_of (raw n)) (builder s (raw n))) (viewed_at s ns i n lt is))

@@ -2,7 +2,7 @@
 use Rattle.std.proofs.Common.{◌≡◌, ℕ, zero, suc, ◌+◌, ◌<◌, ◌≤◌, ◌++◌, List, [], ◌∷◌, length, get_or, take, drop, map, refl, arith}
 use Rattle.std.proofs.lemmas.List.{drop_more, drop_all, take_more, map_push}
 use Rattle.vx_model.specs.Ty.{Ty}
-use Rattle.vx_tree.specs.LayoutTree.{Lay, lays_of, layout, foreign_kind}
+use Rattle.vx_layout_spec.specs.LayoutTree.{LayoutData, lays_of, layout, foreign_kind}
 use Rattle.vx_layout_bytes.specs.declared.node.RawNode.{RawNode, out-RawNode}
 use Rattle.vx_layout_bytes.specs.Node.{nodes_of}
 use Rattle.vx_layout_bytes.specs.Values.{depth, depths}
@@ -10,8 +10,8 @@ use Rattle.vx_layout_bytes.specs.Views.{raw}
 use Rattle.vx_layout_bytes.proofs.Nodes.{raw_is}
 use Rattle.vx_session.specs.Ids.{id_at}
 use Rattle.vx_session.specs.Builder.{unknown_in, unknown_among, unknown_here, earlier, foreign, all_foreign, id_or_none}
-use Rattle.vx_kinds.specs.declared.layout.Layout.{Layout}
-use Rattle.vx_kinds.specs.LayoutView.{lay}
+use Rattle.vx_layout_tree.specs.declared.layout.Layout.{Layout}
+use Rattle.vx_layout_tree.specs.LayoutView.{layout_data}
 
 pub unknown_is : (ids : List (List ℕ)) (n : RawNode) → unknown_in ids (raw n) ≡ unknown_here (out-RawNode n).index (id_at ids (out-RawNode n).index) (unknown_among ids (nodes_of (map raw (out-RawNode n).children.items)))
 unknown_is ids n = rw (raw_is n) refl
@@ -27,7 +27,7 @@ pub foreign_is : (ids : List (List ℕ)) (t : Ty) (n : RawNode) → foreign ids 
 foreign_is ids t n = rw (raw_is n) refl
 
 -- those of the first so many, one more
-more : (ids : List (List ℕ)) (t : Ty) (ns : List RawNode) (ls : List (Lay ℕ)) (n : RawNode) (l : Lay ℕ) → lays_of ls ≡ all_foreign ids t (nodes_of (map raw ns)) → l ≡ foreign ids t (raw n)
+more : (ids : List (List ℕ)) (t : Ty) (ns : List RawNode) (ls : List (LayoutData ℕ)) (n : RawNode) (l : LayoutData ℕ) → lays_of ls ≡ all_foreign ids t (nodes_of (map raw ns)) → l ≡ foreign ids t (raw n)
     → lays_of (ls ++ l ∷ []) ≡ all_foreign ids t (nodes_of (map raw (ns ++ n ∷ [])))
 more ids t [] [] n l e is = rw is refl
 more ids t [] (k ∷ ls) n l e is = absurd (cc e)
@@ -38,9 +38,9 @@ more ids t (m ∷ ns) (k ∷ ls) n l e is = let p = cut e in rw (p.0, more ids t
     cut e = (cc e, cc e)
 
 pub foreign_more : (ids : List (List ℕ)) (t : Ty) (ns : List RawNode) (i : ℕ) (ls : List Layout) (n : RawNode) (l : Layout) → i < length ns → n ≡ get_or ns i n
-    → lays_of (map lay ls) ≡ all_foreign ids t (nodes_of (map raw (take i ns))) → lay l ≡ foreign ids t (raw n)
-    → lays_of (map lay (ls ++ l ∷ [])) ≡ all_foreign ids t (nodes_of (map raw (take (i + 1) ns)))
-foreign_more ids t ns i ls n l lt is e f = rw (take_more ns i n lt, ← is, map_push lay ls l) (more ids t (take i ns) (map lay ls) n (lay l) e f)
+    → lays_of (map layout_data ls) ≡ all_foreign ids t (nodes_of (map raw (take i ns))) → layout_data l ≡ foreign ids t (raw n)
+    → lays_of (map layout_data (ls ++ l ∷ [])) ≡ all_foreign ids t (nodes_of (map raw (take (i + 1) ns)))
+foreign_more ids t ns i ls n l lt is e f = rw (take_more ns i n lt, ← is, map_push layout_data ls l) (more ids t (take i ns) (map layout_data ls) n (layout_data l) e f)
 
 -- how deep nodes are
 pub deep_is : (n : RawNode) → depth (raw n) ≡ suc (depths (nodes_of (map raw (out-RawNode n).children.items)))

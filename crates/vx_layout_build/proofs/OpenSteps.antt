@@ -5,9 +5,9 @@ use Rattle.vx_model.specs.declared.dtype.DType.{DType}
 use Rattle.vx_model.specs.declared.ptype.PType.{PType}
 use Rattle.vx_model.specs.Ty.{Ty, primitive, nullable, is_list}
 use Rattle.vx_model.specs.TyView.{ty}
-use Rattle.vx_tree.specs.LayoutTree.{Kind, Lay, layout, lays_of, row_count, Spec, list_kind, dict_kind, zoned_kind, unread_zoned_kind, stats_kind}
-use Rattle.vx_tree.specs.Refusal.{Refusal, no_list}
-use Rattle.vx_record.specs.Aggregate.{Aggregate, spec}
+use Rattle.vx_layout_spec.specs.LayoutTree.{Kind, LayoutData, layout, lays_of, row_count, Spec, list_kind, dict_kind, zoned_kind, unread_zoned_kind, stats_kind}
+use Rattle.vx_layout_spec.specs.Refusal.{Refusal, no_list}
+use Rattle.vx_aggregate_spec.specs.Aggregate.{Aggregate, spec}
 use Rattle.vx_aggregate.specs.Stats.{stat_number}
 use Rattle.vx_aggregate.specs.Tables.{stats_table, legacy_table}
 use Rattle.vx_aggregate.specs.declared.stat.Stat.{Stat}
@@ -18,53 +18,53 @@ use Rattle.vx_metadata.specs.Values.{Zoned}
 use Rattle.vx_metadata.specs.declared.zoned.AggregateSpec.{AggregateSpec}
 use Rattle.vx_metadata.specs.Views.{spec_of}
 use Rattle.vx_session.specs.Scope.{Context}
-use Rattle.vx_session.specs.Made.{Made, ◌>>=◌, Kid, spelled, child_at, has_children, has_rows, rows_at, standing_at}
+use Rattle.vx_session.specs.Made.{Made, ◌>>=◌, ChildData, spelled, child_at, has_children, has_rows, rows_at, standing_at}
 use Rattle.vx_session.specs.Kinds.{Parts, layout_of, element_type, validity_type, build_offsets, build_list, build_dict, build_stats, build_zoned, build_zones, read_spec, read_on, in_front as one_in_front, read_specs}
 use Rattle.vx_layout_build.specs.declared.open.RowsRule.{RowsRule}
 use Rattle.vx_layout_build.specs.declared.open.RowsRule.TheVariants as rules
 use Rattle.vx_layout_build.specs.declared.open.Wanted.{Wanted}
 use Rattle.vx_layout_build.specs.declared.one_child.OneChild.{OneChild}
-use Rattle.vx_kinds.specs.declared.error.LayoutError.{LayoutError}
-use Rattle.vx_kinds.specs.declared.parts.LayoutParts.{LayoutParts}
+use Rattle.vx_layout_tree.specs.declared.error.LayoutError.{LayoutError}
+use Rattle.vx_layout_tree.specs.declared.parts.LayoutParts.{LayoutParts}
 use Rattle.vx_layout_build.specs.declared.one_child.OneChild.TheVariants as ones
-use Rattle.vx_kinds.specs.declared.children.LayoutChildren.TheVariants as children
-use Rattle.vx_kinds.specs.declared.children.ViewedChildren.{ViewedChildren}
+use Rattle.vx_layout_tree.specs.declared.children.LayoutChildren.TheVariants as children
+use Rattle.vx_layout_tree.specs.declared.children.ViewedChildren.{ViewedChildren}
 use Rattle.vx_layout_bytes.specs.declared.node.RawNode.{RawNode}
 use Rattle.vx_layout_bytes.specs.Views.{raw}
 use Rattle.vx_session.specs.Builder.{kid_of, own_of, builder}
 use Rattle.vx_session.specs.Views.{scope_of}
-use Rattle.vx_kinds.specs.declared.layout.Layout.{Layout}
-use Rattle.vx_kinds.specs.LayoutView.{lay, number}
-use Rattle.vx_kinds.specs.KidsView.{layout_kids, chunks}
-use Rattle.vx_kinds.specs.Views.{Fails}
-use Rattle.vx_kinds.specs.ZonedView.{no_columns}
+use Rattle.vx_layout_tree.specs.declared.layout.Layout.{Layout}
+use Rattle.vx_layout_tree.specs.LayoutView.{layout_data, number}
+use Rattle.vx_layout_tree.specs.KidsView.{layout_kids, chunks}
+use Rattle.vx_layout_tree.specs.Views.{Fails}
+use Rattle.vx_layout_tree.specs.ZonedView.{no_columns}
 use Rattle.vx_layout_build.specs.PartsView.{one_kid, one_built, one_depth, parts_of}
 use Rattle.vx_layout_build.specs.OpenView.{Children, rows_ruled, pair_kids, triple_kids, list_kids, column_kids, with_rows, all_built, wanted_depths}
-use Rattle.vx_kinds.proofs.KidSteps.{fails_by}
+use Rattle.vx_layout_tree.proofs.KidSteps.{fails_by}
 use Rattle.vx_layout_build.proofs.PartSteps.{count_is, counted}
 
 -- ---- children, and then the layout of them
 
-rows_then : {B : Type 0} (r : Result (Unit {0}) Refusal) (ls : List (Lay ℕ)) (f : List (Lay ℕ) → Result B Refusal) → (r >>= λ ok. f ls) ≡ ((r >>= λ ok. Ok ls) >>= f)
+rows_then : {B : Type 0} (r : Result (Unit {0}) Refusal) (ls : List (LayoutData ℕ)) (f : List (LayoutData ℕ) → Result B Refusal) → (r >>= λ ok. f ls) ≡ ((r >>= λ ok. Ok ls) >>= f)
 rows_then (Ok x) ls f = refl
 rows_then (Err e) ls f = refl
 
-second_then : (y : Made) (a : Lay ℕ) (rule : RowsRule) (f : List (Lay ℕ) → Made)
+second_then : (y : Made) (a : LayoutData ℕ) (rule : RowsRule) (f : List (LayoutData ℕ) → Made)
     → (y >>= λ b. rows_ruled rule (row_count b) >>= λ ok. f (a ∷ b ∷ [])) ≡ ((y >>= λ b. rows_ruled rule (row_count b) >>= λ ok. Ok (a ∷ b ∷ [])) >>= f)
 second_then (Ok b) a rule f = rows_then (rows_ruled rule (row_count b)) (a ∷ b ∷ []) f
 second_then (Err e) a rule f = refl
 
-first_then : (x y : Made) (rule : RowsRule) (f : List (Lay ℕ) → Made)
+first_then : (x y : Made) (rule : RowsRule) (f : List (LayoutData ℕ) → Made)
     → (x >>= λ a. y >>= λ b. rows_ruled rule (row_count b) >>= λ ok. f (a ∷ b ∷ [])) ≡ ((x >>= λ a. y >>= λ b. rows_ruled rule (row_count b) >>= λ ok. Ok (a ∷ b ∷ [])) >>= f)
 first_then (Ok a) y rule f = second_then y a rule f
 first_then (Err e) y rule f = refl
 
-count_then : (c : Result (Unit {0}) Refusal) (x y : Made) (rule : RowsRule) (f : List (Lay ℕ) → Made)
+count_then : (c : Result (Unit {0}) Refusal) (x y : Made) (rule : RowsRule) (f : List (LayoutData ℕ) → Made)
     → (c >>= λ ok. x >>= λ a. y >>= λ b. rows_ruled rule (row_count b) >>= λ ok. f (a ∷ b ∷ [])) ≡ ((c >>= λ ok. x >>= λ a. y >>= λ b. rows_ruled rule (row_count b) >>= λ ok. Ok (a ∷ b ∷ [])) >>= f)
 count_then (Ok o) x y rule f = first_then x y rule f
 count_then (Err e) x y rule f = refl
 
-third_then : (z : Made) (a b : Lay ℕ) (n : ℕ) (f : List (Lay ℕ) → Made)
+third_then : (z : Made) (a b : LayoutData ℕ) (n : ℕ) (f : List (LayoutData ℕ) → Made)
     → (((z >>= λ c. has_rows (row_count c) n >>= λ ok. Ok (c ∷ [])) >>= λ cs. f (a ∷ b ∷ cs))) ≡ ((z >>= λ c. has_rows (row_count c) n >>= λ ok. Ok (a ∷ b ∷ c ∷ [])) >>= f)
 third_then (Err e) a b n f = refl
 third_then (Ok c) a b n f = go (has_rows (row_count c) n)
@@ -73,7 +73,7 @@ third_then (Ok c) a b n f = go (has_rows (row_count c) n)
     go (Ok o) = refl
     go (Err e) = refl
 
-all_then : (k : Result (Unit {0}) Refusal) (x y z : Made) (n : ℕ) (f : List (Lay ℕ) → Made)
+all_then : (k : Result (Unit {0}) Refusal) (x y z : Made) (n : ℕ) (f : List (LayoutData ℕ) → Made)
     → (k >>= λ ok. x >>= λ a. y >>= λ b. has_rows (row_count b - 1) n >>= λ ok. ((z >>= λ c. has_rows (row_count c) n >>= λ ok. Ok (c ∷ [])) >>= λ cs. f (a ∷ b ∷ cs)))
     ≡ ((k >>= λ ok. x >>= λ a. y >>= λ b. has_rows (row_count b - 1) n >>= λ ok. z >>= λ c. has_rows (row_count c) n >>= λ ok. Ok (a ∷ b ∷ c ∷ [])) >>= f)
 all_then (Err e) x y z n f = refl
@@ -113,13 +113,13 @@ pub table_then : (p : Parts) (m : List ℕ) (n : ℕ) (fns : List Aggregate) →
     → build_zones p m n (Some fns) ≡ (pair_kids p.kids p.dtype (stats_table p.dtype fns) rules.Any >>= layout_of (zoned_kind n (map spec fns)) p)
 table_then p m n fns count = rw count (first_then (child_at p.kids 0 p.dtype) (child_at p.kids 1 (stats_table p.dtype fns)) rules.Any (layout_of (zoned_kind n (map spec fns)) p))
 
-column_then : (x : Made) (zs : List (Lay ℕ)) (f : List (Lay ℕ) → Made) → (x >>= λ a. f (a ∷ zs)) ≡ ((x >>= λ a. Ok (a ∷ zs)) >>= f)
+column_then : (x : Made) (zs : List (LayoutData ℕ)) (f : List (LayoutData ℕ) → Made) → (x >>= λ a. f (a ∷ zs)) ≡ ((x >>= λ a. Ok (a ∷ zs)) >>= f)
 column_then (Ok a) zs f = refl
 column_then (Err e) zs f = refl
 
 -- ---- where children, or what comes before them, are refused
 
-pub then_fails : (e : LayoutError) (r : Children) (g : List (Lay ℕ) → Made) (total : Made) → total ≡ (r >>= g) → Fails e r → Fails e total
+pub then_fails : (e : LayoutError) (r : Children) (g : List (LayoutData ℕ) → Made) (total : Made) → total ≡ (r >>= g) → Fails e r → Fails e total
 then_fails e r g total is h = fails_by e r total (λ x made. is ∙ ap (λ c. c >>= g) made) h
 
 -- ---- a layout of the children
@@ -148,14 +148,14 @@ pair_go (Ok a) (Ok b) rule = go (rows_ruled rule (row_count b))
     go (Ok o) = refl
     go (Err e) = refl
 
-pub pair_wanted : (ks : List Kid) (a b : OneChild) (t u : DType) (rule : RowsRule) (ws : List Wanted) → ks ≡ one_kid a ∷ one_kid b ∷ [] → ws ≡ wanted a t rules.Any ∷ wanted b u rule ∷ []
+pub pair_wanted : (ks : List ChildData) (a b : OneChild) (t u : DType) (rule : RowsRule) (ws : List Wanted) → ks ≡ one_kid a ∷ one_kid b ∷ [] → ws ≡ wanted a t rules.Any ∷ wanted b u rule ∷ []
     → pair_kids ks (ty t) (ty u) rule ≡ all_built ws
 pair_wanted ks a b t u rule ws kids all = rw (kids, all, one_is a (ty t), one_is b (ty u)) (pair_go ((one_kid a).build (ty t)) ((one_kid b).build (ty u)) rule)
 
 pub pair_depth : (deep : ℕ) (a b : OneChild) (t u : DType) (rule : RowsRule) (ws : List Wanted) → ws ≡ wanted a t rules.Any ∷ wanted b u rule ∷ [] → one_depth a ≤ deep → one_depth b ≤ deep → wanted_depths ws ≤ deep
 pair_depth deep a b t u rule ws all x y = rw all (omega (arith, x, y))
 
-pub pair_fails : (e : LayoutError) (ks : List Kid) (t u : Ty) (rule : RowsRule) → Fails e (has_children 2 ks) → Fails e (pair_kids ks t u rule)
+pub pair_fails : (e : LayoutError) (ks : List ChildData) (t u : Ty) (rule : RowsRule) → Fails e (has_children 2 ks) → Fails e (pair_kids ks t u rule)
 pair_fails e ks t u rule h = fails_by e (has_children 2 ks) (pair_kids ks t u rule) (λ x made. rw made refl) h
 
 pub ruleset pair_rules = (pair_wanted, pair_depth, pair_fails)
@@ -169,7 +169,7 @@ triple_go (Err e) y z n = refl
 triple_go (Ok a) (Err e) z n = refl
 triple_go (Ok a) (Ok b) z n = go (has_rows (row_count b - 1) n) z
   where
-    last : (c : Lay ℕ) (r : Result (Unit {0}) Refusal) → (r >>= λ ok. Ok (a ∷ b ∷ c ∷ [])) ≡ (((((r >>= λ ok. Ok c) >>= λ c. Ok (c ∷ [])) >>= λ ls. Ok (b ∷ ls))) >>= λ ls. Ok (a ∷ ls))
+    last : (c : LayoutData ℕ) (r : Result (Unit {0}) Refusal) → (r >>= λ ok. Ok (a ∷ b ∷ c ∷ [])) ≡ (((((r >>= λ ok. Ok c) >>= λ c. Ok (c ∷ [])) >>= λ ls. Ok (b ∷ ls))) >>= λ ls. Ok (a ∷ ls))
     last c (Ok o) = refl
     last c (Err e) = refl
 
@@ -180,7 +180,7 @@ triple_go (Ok a) (Ok b) z n = go (has_rows (row_count b - 1) n) z
     go (Ok o) (Err e) = refl
     go (Ok o) (Ok c) = last c (has_rows (row_count c) n)
 
-pub triple_wanted : (ks : List Kid) (a b c : OneChild) (t u v : DType) (n : ℕ) (ws : List Wanted) → ks ≡ one_kid a ∷ one_kid b ∷ one_kid c ∷ [] → ws ≡ wanted a t rules.Any ∷ wanted b u (rules.OneMore n) ∷ wanted c v (rules.Same n) ∷ []
+pub triple_wanted : (ks : List ChildData) (a b c : OneChild) (t u v : DType) (n : ℕ) (ws : List Wanted) → ks ≡ one_kid a ∷ one_kid b ∷ one_kid c ∷ [] → ws ≡ wanted a t rules.Any ∷ wanted b u (rules.OneMore n) ∷ wanted c v (rules.Same n) ∷ []
     → ty v ≡ validity_type → triple_kids ks (ty t) (ty u) n ≡ all_built ws
 triple_wanted ks a b c t u v n ws kids all is =
     rw (kids, all, one_is a (ty t), one_is b (ty u), one_is c (ty v), is) (triple_go ((one_kid a).build (ty t)) ((one_kid b).build (ty u)) ((one_kid c).build validity_type) n)
@@ -189,14 +189,14 @@ pub triple_depth : (deep : ℕ) (a b c : OneChild) (t u v : DType) (n : ℕ) (ws
     → one_depth a ≤ deep → one_depth b ≤ deep → one_depth c ≤ deep → wanted_depths ws ≤ deep
 triple_depth deep a b c t u v n ws all x y z = rw all (omega (arith, x, y, z))
 
-pub triple_fails : (e : LayoutError) (ks : List Kid) (t u : Ty) (n : ℕ) → Fails e (has_children 3 ks) → Fails e (triple_kids ks t u n)
+pub triple_fails : (e : LayoutError) (ks : List ChildData) (t u : Ty) (n : ℕ) → Fails e (has_children 3 ks) → Fails e (triple_kids ks t u n)
 triple_fails e ks t u n h = fails_by e (has_children 3 ks) (triple_kids ks t u n) (λ x made. rw made refl) h
 
 pub ruleset triple_rules = (triple_wanted, triple_depth, triple_fails)
 
 -- ---- a child that stands as it is
 
-pub standing_kept : (t : Ty) (ls : List Layout) (l : Layout) → ls ≡ l ∷ [] → map lay ls ≡ lay l ∷ []
+pub standing_kept : (t : Ty) (ls : List Layout) (l : Layout) → ls ≡ l ∷ [] → map layout_data ls ≡ layout_data l ∷ []
 standing_kept t ls l is = rw is refl
 
 pub standing_viewed : (t : Ty) (v w : ViewedChildren) (n : RawNode) → v ≡ w → w.nodes.items ≡ n ∷ []
@@ -275,11 +275,11 @@ pub ruleset table_rules = (table_children_fail, table_opens)
 
 -- ---- tables that aren't read
 
-column_go : (x : Made) (zs : List (Lay ℕ)) → (x >>= λ a. Ok (a ∷ zs)) ≡ (((x >>= with_rows rules.Any) >>= λ a. Ok (a ∷ [])) >>= λ ls. Ok (ls ++ zs))
+column_go : (x : Made) (zs : List (LayoutData ℕ)) → (x >>= λ a. Ok (a ∷ zs)) ≡ (((x >>= with_rows rules.Any) >>= λ a. Ok (a ∷ [])) >>= λ ls. Ok (ls ++ zs))
 column_go (Ok a) zs = refl
 column_go (Err e) zs = refl
 
-pub column_wanted : (ks : List Kid) (a b : OneChild) (t : DType) (u : Ty) (ws : List Wanted) (zs : List (Lay ℕ)) → ks ≡ one_kid a ∷ one_kid b ∷ [] → ws ≡ wanted a t rules.Any ∷ [] → zs ≡ (one_kid b).stands u ∷ []
+pub column_wanted : (ks : List ChildData) (a b : OneChild) (t : DType) (u : Ty) (ws : List Wanted) (zs : List (LayoutData ℕ)) → ks ≡ one_kid a ∷ one_kid b ∷ [] → ws ≡ wanted a t rules.Any ∷ [] → zs ≡ (one_kid b).stands u ∷ []
     → column_kids ks (ty t) u ≡ (all_built ws >>= λ ls. Ok (ls ++ zs))
 column_wanted ks a b t u ws zs kids all stands = rw (kids, all, stands, one_is a (ty t)) (column_go ((one_kid a).build (ty t)) ((one_kid b).stands u ∷ []))
 
@@ -289,11 +289,11 @@ column_depth deep a t ws all x = rw all (omega (arith, x))
 pub ruleset column_rules = (column_wanted, column_depth, counted)
 
 -- children that stand are behind the built ones
-behind : (c : Children) (zs : List (Lay ℕ)) (k : Kind) (p : Parts) → ((c >>= λ ls. Ok (ls ++ zs)) >>= layout_of k p) ≡ (c >>= λ ls. Ok (layout k p.dtype p.rows p.segments (lays_of (ls ++ zs))))
+behind : (c : Children) (zs : List (LayoutData ℕ)) (k : Kind) (p : Parts) → ((c >>= λ ls. Ok (ls ++ zs)) >>= layout_of k p) ≡ (c >>= λ ls. Ok (layout k p.dtype p.rows p.segments (lays_of (ls ++ zs))))
 behind (Ok ls) zs k p = refl
 behind (Err e) zs k p = refl
 
-pub unread_opens : (p : LayoutParts) (m : List ℕ) (n : ℕ) (t : Ty) (ws : List Wanted) (zs : List (Lay ℕ)) → t ≡ ty p.dtype
+pub unread_opens : (p : LayoutParts) (m : List ℕ) (n : ℕ) (t : Ty) (ws : List Wanted) (zs : List (LayoutData ℕ)) → t ≡ ty p.dtype
     → column_kids (layout_kids p.children) t no_columns ≡ (all_built ws >>= λ ls. Ok (ls ++ zs))
     → build_zones (parts_of p) m n None ≡ (all_built ws >>= λ ls. Ok (layout (unread_zoned_kind m) (ty p.dtype) p.row_count (map number p.segment_ids.items) (lays_of (ls ++ zs))))
 unread_opens p m n t ws zs first all =

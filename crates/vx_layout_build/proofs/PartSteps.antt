@@ -3,18 +3,18 @@ use Rattle.std.proofs.Common.{◌≡◌, ℕ, zero, suc, ◌+◌, ◌<◌, ◌�
 use Rattle.std.specs.Prelude.{◌==◌}
 use Rattle.std.proofs.lemmas.List.{length-map}
 use Rattle.std.proofs.lemmas.Bool.Decides.{nat_tests}
-use Rattle.vx_tree.specs.Refusal.{child_count}
+use Rattle.vx_layout_spec.specs.Refusal.{child_count}
 use Rattle.vx_layout_bytes.specs.declared.node.RawNode.{RawNode}
 use Rattle.vx_layout_bytes.specs.Node.{nodes_of}
 use Rattle.vx_layout_bytes.specs.Values.{depth, depths}
 use Rattle.vx_layout_bytes.specs.Views.{raw}
 use Rattle.vx_session.specs.Scope.{Scope}
-use Rattle.vx_session.specs.Made.{◌>>=◌, Kid, rows_at, has_children, has_rows, all_have_rows}
+use Rattle.vx_session.specs.Made.{◌>>=◌, ChildData, rows_at, has_children, has_rows, all_have_rows}
 use Rattle.vx_session.specs.Builder.{kids, kid_of, own_of, builder}
-use Rattle.vx_kinds.specs.declared.layout.Layout.{Layout}
-use Rattle.vx_kinds.specs.LayoutView.{lay}
-use Rattle.vx_kinds.specs.KidsView.{owned_kid, owned_kids}
-use Rattle.vx_kinds.proofs.KidSteps.{length-owned, length-kids}
+use Rattle.vx_layout_tree.specs.declared.layout.Layout.{Layout}
+use Rattle.vx_layout_tree.specs.LayoutView.{layout_data}
+use Rattle.vx_layout_tree.specs.KidsView.{owned_kid, owned_kids}
+use Rattle.vx_layout_tree.proofs.KidSteps.{length-owned, length-kids}
 
 -- ---- from the end
 
@@ -31,13 +31,13 @@ pub ruleset pop_rules = (last_two, last_three)
 
 -- ---- two and three
 
-pub owned_two : (ls : List Layout) (a b : Layout) → ls ≡ a ∷ b ∷ [] → owned_kids (map lay ls) ≡ owned_kid (lay a) ∷ owned_kid (lay b) ∷ []
+pub owned_two : (ls : List Layout) (a b : Layout) → ls ≡ a ∷ b ∷ [] → owned_kids (map layout_data ls) ≡ owned_kid (layout_data a) ∷ owned_kid (layout_data b) ∷ []
 owned_two ls a b is = rw is refl
 
-pub owned_three : (ls : List Layout) (a b c : Layout) → ls ≡ a ∷ b ∷ c ∷ [] → owned_kids (map lay ls) ≡ owned_kid (lay a) ∷ owned_kid (lay b) ∷ owned_kid (lay c) ∷ []
+pub owned_three : (ls : List Layout) (a b c : Layout) → ls ≡ a ∷ b ∷ c ∷ [] → owned_kids (map layout_data ls) ≡ owned_kid (layout_data a) ∷ owned_kid (layout_data b) ∷ owned_kid (layout_data c) ∷ []
 owned_three ls a b c is = rw is refl
 
-abbrev node_kid : Scope → RawNode → Kid
+abbrev node_kid : Scope → RawNode → ChildData
 node_kid s n = kid_of s (own_of (raw n)) (builder s (raw n))
 
 pub viewed_two : (s : Scope) (ns : List RawNode) (a b : RawNode) → ns ≡ a ∷ b ∷ [] → kids s (nodes_of (map raw ns)) ≡ kid_of s (own_of (raw a)) (builder s (raw a)) ∷ kid_of s (own_of (raw b)) (builder s (raw b)) ∷ []
@@ -58,7 +58,7 @@ other_count : (b : Bool) (has n : ℕ) → ((has == n) ≡ b) → (has ≡ n →
 other_count true has n e h = absurd (h (grind (arith, nat_tests, e)))
 other_count false has n e h = e
 
-pub miscounted : (ks : List Kid) (has n : ℕ) → has ≡ length ks → (length ks ≡ n → ⊥) → has_children n ks ≡ Err (child_count has n)
+pub miscounted : (ks : List ChildData) (has n : ℕ) → has ≡ length ks → (length ks ≡ n → ⊥) → has_children n ks ≡ Err (child_count has n)
 miscounted ks has n e h = rw (other_count (length ks == n) (length ks) n refl h, e) refl
 
 pub ruleset two_rules = (owned_two, viewed_two, deep_of_two, miscounted, length-owned, length-kids, length-map)
@@ -67,19 +67,19 @@ pub ruleset three_rules = (owned_three, viewed_three, deep_of_three, miscounted,
 
 -- ---- checks
 
-pub counted : (ks : List Kid) (n : ℕ) → length ks ≡ n → has_children n ks ≡ Ok tt
+pub counted : (ks : List ChildData) (n : ℕ) → length ks ≡ n → has_children n ks ≡ Ok tt
 counted ks n e = go (length ks == n) refl
   where
     go : (b : Bool) → (length ks == n) ≡ b → has_children n ks ≡ Ok tt
     go true is = rw is refl
     go false is = absurd (grind (arith, nat_tests, is, e))
 
-pub drop_kids : (ks : List Kid) (n i : ℕ) → i < length ks → all_have_rows n (drop i ks) ≡ (has_rows (rows_at ks i) n >>= λ ok. all_have_rows n (drop (i + 1) ks))
+pub drop_kids : (ks : List ChildData) (n i : ℕ) → i < length ks → all_have_rows n (drop i ks) ≡ (has_rows (rows_at ks i) n >>= λ ok. all_have_rows n (drop (i + 1) ks))
 drop_kids [] n i lt = absurd (omega (arith, lt))
 drop_kids (k ∷ ks) n zero lt = refl
 drop_kids (k ∷ ks) n (suc i) lt = let e : suc i + 1 ≡ suc (i + 1) = omega arith in rw e (drop_kids ks n i (omega (arith, lt)))
 
-pub drop_none : (ks : List Kid) (n i : ℕ) → length ks ≤ i → all_have_rows n (drop i ks) ≡ Ok tt
+pub drop_none : (ks : List ChildData) (n i : ℕ) → length ks ≤ i → all_have_rows n (drop i ks) ≡ Ok tt
 drop_none [] n zero le = refl
 drop_none [] n (suc i) le = refl
 drop_none (k ∷ ks) n zero le = absurd (omega (arith, le))
@@ -87,7 +87,7 @@ drop_none (k ∷ ks) n (suc i) le = drop_none ks n i (omega (arith, le))
 
 pub ruleset check_rules = (miscounted, counted, drop_kids, drop_none)
 
-pub count_is : (ks : List Kid) (n : ℕ) → has_children n ks ≡ Ok tt → length ks ≡ n
+pub count_is : (ks : List ChildData) (n : ℕ) → has_children n ks ≡ Ok tt → length ks ≡ n
 count_is ks n e = go (length ks == n) refl
   where
     go : (b : Bool) → (length ks == n) ≡ b → length ks ≡ n

@@ -1,6 +1,6 @@
 -- The kind of a node's layout.
 use Rattle.std.specs.Prelude.{ℕ, if◌then◌else◌, List, Option, Some, None, Result, Ok, Err}
-use Rattle.vx_tree.specs.Refusal.{Refusal, unregistered}
+use Rattle.vx_layout_spec.specs.Refusal.{Refusal, unregistered}
 use Rattle.vx_session.specs.declared.encoding.LayoutEncoding.{LayoutEncoding}
 use Rattle.vx_session.specs.Encodings.{kind_of}
 use Rattle.vx_session.specs.Scope.{Scope}

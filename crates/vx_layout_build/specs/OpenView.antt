@@ -2,30 +2,30 @@
 use Rattle.std.specs.Prelude.{◌≡◌, ◌<◌, ◌≤◌, ℕ, ◌+◌, ◌-◌, ◌^◌, length, map, max, IsTrue, List, [], ◌∷◌, ◌++◌, Result, Ok, Err, if◌then◌else◌}
 use Rattle.vx_model.specs.Ty.{Ty, nullable}
 use Rattle.vx_model.specs.TyView.{ty}
-use Rattle.vx_tree.specs.LayoutTree.{Lay, list_kind, dict_kind, zoned_kind, unread_zoned_kind, stats_kind, row_count}
+use Rattle.vx_layout_spec.specs.LayoutTree.{LayoutData, list_kind, dict_kind, zoned_kind, unread_zoned_kind, stats_kind, row_count}
 use Rattle.vx_aggregate.specs.Stats.{stat_number}
 use Rattle.vx_metadata.specs.Values.{are_in_order}
-use Rattle.vx_kinds.specs.KindView.{headed}
-use Rattle.vx_kinds.specs.SpecView.{specs_of}
-use Rattle.vx_kinds.specs.ZonedView.{no_columns}
-use Rattle.vx_kinds.specs.Made.{validity_count}
-use Rattle.vx_tree.specs.Refusal.{Refusal}
-use Rattle.vx_session.specs.Made.{Made, ◌>>=◌, Kid, child_at, standing_at, has_children, has_rows}
+use Rattle.vx_layout_tree.specs.KindView.{headed}
+use Rattle.vx_layout_tree.specs.SpecView.{specs_of}
+use Rattle.vx_layout_tree.specs.ZonedView.{no_columns}
+use Rattle.vx_layout_tree.specs.Made.{validity_count}
+use Rattle.vx_layout_spec.specs.Refusal.{Refusal}
+use Rattle.vx_session.specs.Made.{Made, ◌>>=◌, ChildData, child_at, standing_at, has_children, has_rows}
 use Rattle.vx_session.specs.Kinds.{element_type, validity_type}
-use Rattle.vx_kinds.specs.declared.error.LayoutError.{LayoutError}
+use Rattle.vx_layout_tree.specs.declared.error.LayoutError.{LayoutError}
 use Rattle.vx_layout_build.specs.declared.open.RowsRule.{RowsRule}
 use Rattle.vx_layout_build.specs.declared.open.RowsRule.TheVariants as rules
 use Rattle.vx_layout_build.specs.declared.open.Wanted.{Wanted}
 use Rattle.vx_layout_build.specs.declared.open.Frame.{Frame}
 use Rattle.vx_layout_build.specs.declared.open.Frame.TheVariants as frames
 use Rattle.vx_layout_build.specs.declared.open.Open.{Open}
-use Rattle.vx_kinds.specs.declared.children.LayoutChildren.{LayoutChildren}
-use Rattle.vx_kinds.specs.KidsView.{chunks}
+use Rattle.vx_layout_tree.specs.declared.children.LayoutChildren.{LayoutChildren}
+use Rattle.vx_layout_tree.specs.KidsView.{chunks}
 use Rattle.vx_layout_build.specs.PartsView.{one_built, one_depth}
-use Rattle.vx_kinds.specs.Views.{Fails}
+use Rattle.vx_layout_tree.specs.Views.{Fails}
 
 abbrev pub Children : Type 0
-Children = Result (List (Lay ℕ)) Refusal
+Children = Result (List (LayoutData ℕ)) Refusal
 
 -- ---- rows
 
@@ -36,7 +36,7 @@ rows_ruled (rules.OneMore rows) n = has_rows (n - 1) rows
 
 -- ---- two children, and three
 
-abbrev pub pair_kids : List Kid → Ty → Ty → RowsRule → Children
+abbrev pub pair_kids : List ChildData → Ty → Ty → RowsRule → Children
 pair_kids ks t u rule = do
   count ← has_children 2 ks
   a ← child_at ks 0 t
@@ -44,7 +44,7 @@ pair_kids ks t u rule = do
   rows ← rows_ruled rule (row_count b)
   Ok (a ∷ b ∷ [])
 
-abbrev pub triple_kids : List Kid → Ty → Ty → ℕ → Children
+abbrev pub triple_kids : List ChildData → Ty → Ty → ℕ → Children
 triple_kids ks t u n = do
   count ← has_children 3 ks
   a ← child_at ks 0 t
@@ -55,17 +55,17 @@ triple_kids ks t u n = do
   Ok (a ∷ b ∷ c ∷ [])
 
 -- elements, ends of the integers, and validity where the type is nullable
-abbrev pub list_kids : List Kid → Ty → Ty → ℕ → Children
+abbrev pub list_kids : List ChildData → Ty → Ty → ℕ → Children
 list_kids ks t ends n =
     if nullable t then triple_kids ks (element_type t) ends n else pair_kids ks (element_type t) ends (rules.OneMore n)
 
 -- the column, and a table of no aggregates as it stands
-abbrev pub column_kids : List Kid → Ty → Ty → Children
+abbrev pub column_kids : List ChildData → Ty → Ty → Children
 column_kids ks t u = child_at ks 0 t >>= λ a. Ok (a ∷ standing_at ks 1 u)
 
 -- ---- children that are to be built
 
-abbrev pub with_rows : RowsRule → Lay ℕ → Made
+abbrev pub with_rows : RowsRule → LayoutData ℕ → Made
 with_rows rule l = rows_ruled rule (row_count l) >>= λ ok. Ok l
 
 abbrev pub wanted_built : Wanted → Made
@@ -85,7 +85,7 @@ wanted_depths (w ∷ ws) = max (one_depth w.child) (wanted_depths ws)
 
 -- ---- layouts without them
 
-abbrev pub framed : Frame → List (Lay ℕ) → Lay ℕ
+abbrev pub framed : Frame → List (LayoutData ℕ) → LayoutData ℕ
 framed (frames.List h) ls = headed list_kind h ls
 framed (frames.Dict h all) ls = headed (dict_kind all) h ls
 framed (frames.Zoned h zone_len aggregates) ls = headed (zoned_kind zone_len (specs_of aggregates)) h ls

@@ -2,15 +2,15 @@
 
 ghost use Rattle.vx_session.specs.Views.{context as context_of};
 ghost use Rattle.vx_session.specs.Kinds.{build_flat as flat_built, build_chunked as chunked_built, build_struct as struct_built};
-ghost use Rattle.vx_kinds.specs.LayoutView.{lay};
+ghost use Rattle.vx_layout_tree.specs.LayoutView.{layout_data};
 ghost use Rattle.vx_layout_build.specs.PartsView.{parts_of};
-ghost use Rattle.vx_kinds.specs.Views.{Gives};
+ghost use Rattle.vx_layout_tree.specs.Views.{Gives};
 
 use crate::checks::{
     all_have_rows, flat_metadata, has_children, has_rows, no_metadata, one_segment,
 };
 use std::alloc::Global;
-use vx_kinds::{
+use vx_layout_tree::{
     FlatLayout, KindParts, Layout, LayoutError, LayoutParts, struct_children, total_rows,
 };
 use vx_session::LayoutBuildContext;
@@ -22,7 +22,7 @@ pub(crate) fn build_flat(
     parts: LayoutParts,
     metadata: &[u8],
 ) -> Result<Layout, LayoutError>
-    ensures { Gives lay result (flat_built (context_of within.now) (parts_of parts) metadata.now) }
+    ensures { Gives layout_data result (flat_built (context_of within.now) (parts_of parts) metadata.now) }
 {
     let metadata = flat_metadata(alloc, metadata)?;
     let segment_id = one_segment(&parts.segment_ids)?;
@@ -38,26 +38,26 @@ pub(crate) fn build_flat(
     Ok(flat.into_layout())
 }
 
-#[tactic(auto, using(vx_kinds::proofs::KidSteps::chunk_rules), unfolding(vx_session::specs::Kinds::build_chunked))]
+#[tactic(auto, using(vx_layout_tree::proofs::KidSteps::chunk_rules), unfolding(vx_session::specs::Kinds::build_chunked))]
 pub(crate) fn build_chunked(
     alloc: Global,
     parts: LayoutParts,
     metadata: &[u8],
 ) -> Result<Layout, LayoutError>
-    ensures { Gives lay result (chunked_built (parts_of parts) metadata.now) }
+    ensures { Gives layout_data result (chunked_built (parts_of parts) metadata.now) }
 {
     no_metadata(alloc, metadata)?;
     has_rows(total_rows(&parts.children), parts.row_count)?;
     Ok(Layout::from_parts(alloc, KindParts::Chunked(parts)))
 }
 
-#[tactic(auto, using(vx_kinds::proofs::KidSteps::field_rules), unfolding(vx_session::specs::Kinds::build_struct))]
+#[tactic(auto, using(vx_layout_tree::proofs::KidSteps::field_rules), unfolding(vx_session::specs::Kinds::build_struct))]
 pub(crate) fn build_struct(
     alloc: Global,
     parts: LayoutParts,
     metadata: &[u8],
 ) -> Result<Layout, LayoutError>
-    ensures { Gives lay result (struct_built (parts_of parts) metadata.now) }
+    ensures { Gives layout_data result (struct_built (parts_of parts) metadata.now) }
 {
     no_metadata(alloc, metadata)?;
     if !parts.dtype.is_struct() {

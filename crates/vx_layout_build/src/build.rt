@@ -7,12 +7,12 @@ ghost use Rattle.vx_layout_bytes.specs.Views.{raw};
 ghost use Rattle.vx_session.specs.Views.{scope_of, context as context_of};
 ghost use Rattle.vx_session.specs.Builder.{builder, build_foreign as foreign_built, node_parts, own_of};
 ghost use Rattle.vx_session.specs.Kinds.{build_kind as kind_built};
-ghost use Rattle.vx_kinds.specs.KidsView.{owned_kid};
-ghost use Rattle.vx_kinds.specs.LayoutView.{lay};
+ghost use Rattle.vx_layout_tree.specs.KidsView.{owned_kid};
+ghost use Rattle.vx_layout_tree.specs.LayoutView.{layout_data};
 ghost use Rattle.vx_layout_build.specs.NodeKind.{node_kind, the_kind};
 ghost use Rattle.vx_layout_build.specs.OpenView.{open_made, fits, all_built, wanted_built};
 ghost use Rattle.vx_layout_build.specs.PartsView.{parts_of, one_built, children_depth};
-ghost use Rattle.vx_kinds.specs.Views.{Gives, all_lays};
+ghost use Rattle.vx_layout_tree.specs.Views.{Gives, all_lays};
 
 use crate::alone::{build_chunked, build_flat, build_struct};
 use crate::foreign_nodes::{build_foreign, segment_ids};
@@ -21,8 +21,8 @@ use crate::open::{Open, Wanted, with_built};
 use crate::opened::{open_dict, open_list, open_stats, open_zoned};
 use std::alloc::{AllocError, Global};
 use std::rc::Rc;
-use vx_kinds::{Layout, LayoutChildren, LayoutError, LayoutParts, ViewedChildren};
 use vx_layout_bytes::RawNode;
+use vx_layout_tree::{Layout, LayoutChildren, LayoutError, LayoutParts, ViewedChildren};
 use vx_model::{Blob, DType};
 use vx_session::{LayoutBuildContext, LayoutEncoding, Scope};
 
@@ -35,7 +35,7 @@ pub fn build_node(
     dtype: &DType,
     node: RawNode,
 ) -> Result<Layout, LayoutError>
-    ensures { Gives lay result (builder (scope_of scope.now.value) (raw node) (ty dtype.now)) }
+    ensures { Gives layout_data result (builder (scope_of scope.now.value) (raw node) (ty dtype.now)) }
 {
     let kind = kind_of_node(scope, node.index)?;
     match kind {
@@ -80,7 +80,7 @@ fn foreign_node(
     dtype: &DType,
     node: RawNode,
 ) -> Result<Layout, LayoutError>
-    ensures { Gives lay result (foreign_built (scope_of scope.now.value).ids (raw node) (ty dtype.now)) }
+    ensures { Gives layout_data result (foreign_built (scope_of scope.now.value).ids (raw node) (ty dtype.now)) }
 {
     build_foreign(alloc, &scope.ids, dtype, &node)
 }
@@ -117,7 +117,7 @@ pub(crate) fn build_kind(
     parts: LayoutParts,
     metadata: &[u8],
 ) -> Result<Layout, LayoutError>
-    ensures { Gives lay result (kind_built kind (context_of within.now) (parts_of parts) metadata.now) }
+    ensures { Gives layout_data result (kind_built kind (context_of within.now) (parts_of parts) metadata.now) }
 {
     match kind {
         LayoutEncoding::Flat => build_flat(alloc, within, parts, metadata),
@@ -135,7 +135,7 @@ pub(crate) fn build_kind(
 #[tactic(none)]
 fn build_open(alloc: Global, frame: Open) -> Result<Layout, LayoutError>
     requires { fits frame.frame (length frame.wanted.items) }
-    ensures { Gives lay result (open_made frame) }
+    ensures { Gives layout_data result (open_made frame) }
 {
     let Open { frame, wanted } = frame;
     let children = build_all(alloc, wanted)?;
@@ -157,7 +157,7 @@ fn build_all(alloc: Global, wanted: Vec<Wanted>) -> Result<Vec<Layout>, LayoutEr
 #[cycle(build)]
 #[tactic(none)]
 fn build_wanted(alloc: Global, wanted: Wanted) -> Result<Layout, LayoutError>
-    ensures { Gives lay result (wanted_built wanted) }
+    ensures { Gives layout_data result (wanted_built wanted) }
 {
     let Wanted { child, dtype, rows } = wanted;
     let layout = build_one(alloc, child, &dtype)?;
@@ -168,7 +168,7 @@ fn build_wanted(alloc: Global, wanted: Wanted) -> Result<Layout, LayoutError>
 #[cycle(build)]
 #[tactic(none)]
 fn build_one(alloc: Global, child: OneChild, dtype: &DType) -> Result<Layout, LayoutError>
-    ensures { Gives lay result (one_built child (ty dtype.now)) }
+    ensures { Gives layout_data result (one_built child (ty dtype.now)) }
 {
     match child {
         OneChild::Kept(layout) => kept_as(layout, dtype),
@@ -178,7 +178,7 @@ fn build_one(alloc: Global, child: OneChild, dtype: &DType) -> Result<Layout, La
 
 /// The layout, where it is of the type.
 fn kept_as(layout: Layout, dtype: &DType) -> Result<Layout, LayoutError>
-    ensures { Gives lay result ((owned_kid (lay layout)).build (ty dtype.now)) }
+    ensures { Gives layout_data result ((owned_kid (layout_data layout)).build (ty dtype.now)) }
 {
     if layout.dtype() == dtype {
         Ok(layout)

@@ -7,13 +7,13 @@ ghost use Rattle.vx_session.specs.Made.{spelled, has_children as counted, has_ro
 ghost use Rattle.vx_session.specs.Aggregates.{all_named};
 ghost use Rattle.vx_session.specs.Kinds.{nothing_in, read_specs as specs_read};
 ghost use Rattle.vx_session.specs.Views.{context};
-ghost use Rattle.vx_kinds.specs.KidsView.{layout_kids};
-ghost use Rattle.vx_kinds.specs.LayoutView.{number};
-ghost use Rattle.vx_kinds.specs.Views.{Gives, done};
+ghost use Rattle.vx_layout_tree.specs.KidsView.{layout_kids};
+ghost use Rattle.vx_layout_tree.specs.LayoutView.{number};
+ghost use Rattle.vx_layout_tree.specs.Views.{Gives, done};
 
 use std::alloc::Global;
 use vx_aggregate::AggregateFn;
-use vx_kinds::{LayoutChildren, LayoutError};
+use vx_layout_tree::{LayoutChildren, LayoutError};
 use vx_metadata::{
     AggregateSpec, DictLayoutMetadata, FlatLayoutMetadata, LegacyStatsMetadata, ListLayoutMetadata,
     MetadataError, ZonedMetadata,

@@ -8,14 +8,14 @@ ghost use Rattle.vx_session.specs.Views.{scope_of};
 ghost use Rattle.vx_layout_bytes.specs.Views.{raw};
 ghost use Rattle.vx_layout_build.specs.ChildView.{child_lay};
 ghost use Rattle.vx_layout_build.specs.Asked.{is_flat_at};
-ghost use Rattle.vx_kinds.specs.KidsView.{layout_kids, owned_kids, viewed_kids};
-ghost use Rattle.vx_kinds.specs.LayoutView.{lay};
-ghost use Rattle.vx_kinds.specs.Views.{Gives};
+ghost use Rattle.vx_layout_tree.specs.KidsView.{layout_kids, owned_kids, viewed_kids};
+ghost use Rattle.vx_layout_tree.specs.LayoutView.{layout_data};
+ghost use Rattle.vx_layout_tree.specs.Views.{Gives};
 
 use crate::build::build_node;
 use crate::child::LayoutChild;
-use vx_kinds::{Layout, LayoutChildren, LayoutError, ViewedChildren};
 use vx_layout_bytes::RawNode;
+use vx_layout_tree::{Layout, LayoutChildren, LayoutError, ViewedChildren};
 use vx_model::DType;
 use vx_session::Scope;
 
@@ -23,13 +23,13 @@ use vx_session::Scope;
 pub trait LayoutChildrenWalk {
     ghost use Rattle.std.specs.Prelude.{◌≡◌, ◌<◌, length, List};
     ghost use Rattle.vx_model.specs.TyView.{ty};
-    ghost use Rattle.vx_session.specs.Made.{Kid, child_at};
+    ghost use Rattle.vx_session.specs.Made.{ChildData, child_at};
     ghost use Rattle.vx_layout_build.specs.ChildView.{child_lay};
-    ghost use Rattle.vx_kinds.specs.Views.{Gives};
+    ghost use Rattle.vx_layout_tree.specs.Views.{Gives};
     ghost use Rattle.vx_layout_build.specs.Asked.{is_flat_at};
 
     // The children that they are.
-    ghost kids: { Self → List Kid };
+    ghost kids: { Self → List ChildData };
 
     /// The child at the place, as a layout of the type. Refuses `SlotRange` past the last. A layout that is kept refuses
     /// `ChildType` where its type is another, a node what its build refuses.
@@ -47,8 +47,8 @@ impl LayoutChildrenWalk for LayoutChildren {
     ghost use Rattle.vx_model.specs.TyView.{ty};
     ghost use Rattle.vx_session.specs.Made.{child_at};
     ghost use Rattle.vx_layout_build.specs.ChildView.{child_lay};
-    ghost use Rattle.vx_kinds.specs.KidsView.{layout_kids};
-    ghost use Rattle.vx_kinds.specs.Views.{Gives};
+    ghost use Rattle.vx_layout_tree.specs.KidsView.{layout_kids};
+    ghost use Rattle.vx_layout_tree.specs.Views.{Gives};
     ghost use Rattle.vx_layout_build.specs.Asked.{is_flat_at};
 
     ghost kids = { layout_kids };
@@ -90,7 +90,7 @@ fn kept_at<'a>(
     dtype: &DType,
 ) -> Result<LayoutChild<'a>, LayoutError>
     requires { index < length layouts.now }
-    ensures { Gives child_lay result (child_at (owned_kids (map lay layouts.now)) index (ty dtype.now)) }
+    ensures { Gives child_lay result (child_at (owned_kids (map layout_data layouts.now)) index (ty dtype.now)) }
 {
     let layout = &layouts[index as usize];
     if layout.dtype() == dtype {

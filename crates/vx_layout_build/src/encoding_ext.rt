@@ -2,7 +2,7 @@
 
 use crate::build::build_kind;
 use std::alloc::Global;
-use vx_kinds::{Layout, LayoutError, LayoutParts};
+use vx_layout_tree::{Layout, LayoutError, LayoutParts};
 use vx_session::{LayoutBuildContext, LayoutEncoding};
 
 /// Parts, and what a build needs besides them.
@@ -17,9 +17,9 @@ pub trait LayoutEncodingExt {
     ghost use Rattle.vx_session.specs.declared.encoding.LayoutEncoding.{LayoutEncoding};
     ghost use Rattle.vx_session.specs.Kinds.{build_kind};
     ghost use Rattle.vx_session.specs.Views.{context as context_of};
-    ghost use Rattle.vx_kinds.specs.LayoutView.{lay};
+    ghost use Rattle.vx_layout_tree.specs.LayoutView.{layout_data};
     ghost use Rattle.vx_layout_build.specs.PartsView.{parts_of};
-    ghost use Rattle.vx_kinds.specs.Views.{Gives};
+    ghost use Rattle.vx_layout_tree.specs.Views.{Gives};
 
     // The kind that it is.
     ghost kind: { Self → LayoutEncoding };
@@ -31,7 +31,7 @@ pub trait LayoutEncodingExt {
         args: LayoutDeserializeArgs,
         metadata: &[u8],
     ) -> Result<Layout, LayoutError>
-        ensures { Gives lay result (build_kind (kind self.now) (context_of args.context) (parts_of args.parts) metadata.now) };
+        ensures { Gives layout_data result (build_kind (kind self.now) (context_of args.context) (parts_of args.parts) metadata.now) };
 }
 
 impl LayoutEncodingExt for LayoutEncoding {

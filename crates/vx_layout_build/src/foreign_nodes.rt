@@ -2,17 +2,17 @@
 
 ghost use Rattle.std.specs.Prelude.{◌≡◌, map, IfOk, option_map};
 ghost use Rattle.vx_model.specs.TyView.{ty};
-ghost use Rattle.vx_tree.specs.LayoutTree.{lays_of};
+ghost use Rattle.vx_layout_spec.specs.LayoutTree.{lays_of};
 ghost use Rattle.vx_layout_bytes.specs.Node.{nodes_of};
 ghost use Rattle.vx_layout_bytes.specs.Views.{raw};
 ghost use Rattle.vx_session.specs.Ids.{id_at};
 ghost use Rattle.vx_session.specs.Builder.{unknown_in as first_unknown, unknown_among as first_among, foreign as foreign_lay, all_foreign as foreign_lays, build_foreign as foreign_built, id_or_none};
-ghost use Rattle.vx_kinds.specs.LayoutView.{lay, number};
-ghost use Rattle.vx_kinds.specs.Views.{Gives};
+ghost use Rattle.vx_layout_tree.specs.LayoutView.{layout_data, number};
+ghost use Rattle.vx_layout_tree.specs.Views.{Gives};
 
 use std::alloc::{AllocError, Global};
-use vx_kinds::{ForeignLayout, Layout, LayoutError};
 use vx_layout_bytes::RawNode;
+use vx_layout_tree::{ForeignLayout, Layout, LayoutError};
 use vx_model::{DType, SegmentId, Text};
 use vx_session::LayoutContext;
 
@@ -23,7 +23,7 @@ pub(crate) fn build_foreign(
     dtype: &DType,
     node: &RawNode,
 ) -> Result<Layout, LayoutError>
-    ensures { Gives lay result (foreign_built ids.now (raw node.now) (ty dtype.now)) }
+    ensures { Gives layout_data result (foreign_built ids.now (raw node.now) (ty dtype.now)) }
 {
     match unknown_in(ids, node) {
         Some(index) => Err(LayoutError::UnknownIndex(index)),
@@ -64,7 +64,7 @@ fn foreign(
     dtype: &DType,
     node: &RawNode,
 ) -> Result<Layout, AllocError>
-    ensures { IfOk result (λ l. lay l ≡ foreign_lay ids.now (ty dtype.now) (raw node.now)) }
+    ensures { IfOk result (λ l. layout_data l ≡ foreign_lay ids.now (ty dtype.now) (raw node.now)) }
 {
     let children = all_foreign(alloc, ids, dtype, &node.children)?;
     let id = id_text(alloc, ids, node.index)?;
@@ -83,7 +83,7 @@ fn all_foreign(
     dtype: &DType,
     nodes: &[RawNode],
 ) -> Result<Vec<Layout>, AllocError>
-    ensures { IfOk result (λ v. lays_of (map lay v.items) ≡ foreign_lays ids.now (ty dtype.now) (nodes_of (map raw nodes.now))) }
+    ensures { IfOk result (λ v. lays_of (map layout_data v.items) ≡ foreign_lays ids.now (ty dtype.now) (nodes_of (map raw nodes.now))) }
 {
     let mut layouts = Vec::with_capacity(alloc, nodes.len())?;
     for node in nodes {

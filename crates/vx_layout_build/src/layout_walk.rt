@@ -4,22 +4,22 @@ use crate::child::LayoutChild;
 use crate::viewed::{chunk, field, kept_child, zoned_child};
 use crate::walk::DepthFirst;
 use std::alloc::Global;
-use vx_kinds::{KindRef, Layout, LayoutError};
 use vx_layout_slots::LayoutSlots;
+use vx_layout_tree::{KindRef, Layout, LayoutError};
 
 /// Calls of `Layout` that give the layouts below it. Children that are nodes of bytes are built when they are asked for.
 pub trait LayoutWalk {
     ghost use Rattle.std.specs.Prelude.{◌≡◌, ◌<◌, ℕ, length, map, option_map};
-    ghost use Rattle.vx_tree.specs.LayoutTree.{Lay, children_of};
-    ghost use Rattle.vx_kinds.specs.Children.{child_in};
+    ghost use Rattle.vx_layout_spec.specs.LayoutTree.{LayoutData, children_of};
+    ghost use Rattle.vx_layout_tree.specs.Children.{child_in};
     ghost use Rattle.vx_layout_build.specs.ChildView.{child_lay};
-    ghost use Rattle.vx_kinds.specs.Views.{Gives};
+    ghost use Rattle.vx_layout_tree.specs.Views.{Gives};
     ghost use Rattle.vx_layout_build.specs.PreOrder.{pre_order};
     ghost use Rattle.vx_layout_build.specs.Present.{child_in_slot, all_answered};
     ghost use Rattle.vx_layout_build.specs.TreeWalk.{nodes_left};
 
     // The layout that it is.
-    ghost walked: { Self → Lay ℕ };
+    ghost walked: { Self → LayoutData ℕ };
 
     /// The child at the place, which is below `nchildren`, or why it can't be built.
     fn child(&self, i: u64) -> Result<LayoutChild<'_>, LayoutError>
@@ -43,21 +43,21 @@ pub trait LayoutWalk {
 
 impl LayoutWalk for Layout {
     ghost use Rattle.std.specs.Prelude.{◌≡◌, ◌<◌, length, map, option_map};
-    ghost use Rattle.vx_tree.specs.LayoutTree.{children_of};
-    ghost use Rattle.vx_kinds.specs.Children.{child_in};
+    ghost use Rattle.vx_layout_spec.specs.LayoutTree.{children_of};
+    ghost use Rattle.vx_layout_tree.specs.Children.{child_in};
     ghost use Rattle.vx_layout_build.specs.ChildView.{child_lay};
-    ghost use Rattle.vx_kinds.specs.LayoutView.{lay};
-    ghost use Rattle.vx_kinds.specs.Views.{Gives};
+    ghost use Rattle.vx_layout_tree.specs.LayoutView.{layout_data};
+    ghost use Rattle.vx_layout_tree.specs.Views.{Gives};
     ghost use Rattle.vx_layout_build.specs.PreOrder.{pre_order};
     ghost use Rattle.vx_layout_build.specs.Present.{child_in_slot, all_answered};
     ghost use Rattle.vx_layout_build.specs.TreeWalk.{nodes_left};
 
-    ghost walked = { lay };
+    ghost walked = { layout_data };
 
-    #[tactic(auto, using(vx_kinds::proofs::KidSteps::place_rules))]
+    #[tactic(auto, using(vx_layout_tree::proofs::KidSteps::place_rules))]
     fn child(&self, i: u64) -> Result<LayoutChild<'_>, LayoutError>
-        requires { i < length (children_of (lay self.now)) }
-        ensures { Gives child_lay result (child_in (children_of (lay self.now)) i) }
+        requires { i < length (children_of (layout_data self.now)) }
+        ensures { Gives child_lay result (child_in (children_of (layout_data self.now)) i) }
     {
         match self.by_kind() {
             KindRef::Flat(_) => Err(LayoutError::SlotRange {
@@ -77,7 +77,7 @@ impl LayoutWalk for Layout {
 
     #[tactic(auto, using(crate::proofs::PresentSteps::slot_rules))]
     fn slot(&self, slot: u64) -> Result<Option<LayoutChild<'_>>, LayoutError>
-        ensures { Gives (option_map child_lay) result (child_in_slot (lay self.now) slot) }
+        ensures { Gives (option_map child_lay) result (child_in_slot (layout_data self.now) slot) }
     {
         let Some(place) = self.slot_to_child(slot) else {
             return Ok(None);
@@ -93,7 +93,7 @@ impl LayoutWalk for Layout {
 
     #[tactic(auto, using(crate::proofs::PresentSteps::children_rules))]
     fn children(&self, alloc: Global) -> Result<Vec<LayoutChild<'_>>, LayoutError>
-        ensures { Gives (λ v. map child_lay v.items) result (all_answered (children_of (lay self.now))) }
+        ensures { Gives (λ v. map child_lay v.items) result (all_answered (children_of (layout_data self.now))) }
     {
         let mut children = Vec::with_capacity(alloc, self.nchildren() as usize)?;
         for i in 0..self.nchildren() {
@@ -103,7 +103,7 @@ impl LayoutWalk for Layout {
     }
 
     fn depth_first_traversal(&self, alloc: Global) -> DepthFirst<'_>
-        ensures { nodes_left result ≡ pre_order (lay self.now) }
+        ensures { nodes_left result ≡ pre_order (layout_data self.now) }
     {
         DepthFirst::new(alloc, self)
     }

@@ -7,13 +7,13 @@ ghost use Rattle.vx_layout_bytes.specs.Views.{raw};
 ghost use Rattle.vx_session.specs.Builder.{kids};
 ghost use Rattle.vx_session.specs.Made.{has_children as children_needed};
 ghost use Rattle.vx_session.specs.Views.{scope_of};
-ghost use Rattle.vx_kinds.specs.KidsView.{layout_kids};
+ghost use Rattle.vx_layout_tree.specs.KidsView.{layout_kids};
 ghost use Rattle.vx_layout_build.specs.PartsView.{one_kid, one_depth, children_depth};
-ghost use Rattle.vx_kinds.specs.Views.{Fails};
+ghost use Rattle.vx_layout_tree.specs.Views.{Fails};
 
 use std::rc::Rc;
-use vx_kinds::{Layout, LayoutChildren, LayoutError};
 use vx_layout_bytes::RawNode;
+use vx_layout_tree::{Layout, LayoutChildren, LayoutError};
 use vx_session::Scope;
 
 /// A child by itself.

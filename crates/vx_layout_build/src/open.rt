@@ -4,17 +4,17 @@ ghost use Rattle.std.specs.Prelude.{◌≡◌, ◌≤◌, ◌∷◌, [], length,
 ghost use Rattle.vx_model.specs.Ty.{Ty};
 ghost use Rattle.vx_model.specs.TyView.{ty};
 ghost use Rattle.vx_session.specs.Kinds.{validity_type};
-ghost use Rattle.vx_kinds.specs.KidsView.{chunks, layout_kids};
-ghost use Rattle.vx_kinds.specs.LayoutView.{lay};
+ghost use Rattle.vx_layout_tree.specs.KidsView.{chunks, layout_kids};
+ghost use Rattle.vx_layout_tree.specs.LayoutView.{layout_data};
 ghost use Rattle.vx_layout_build.specs.OpenView.{rows_ruled, pair_kids, triple_kids, all_built, wanted_depths, framed, fits};
 ghost use Rattle.vx_layout_build.specs.PartsView.{one_kid, one_depth, one_built, children_depth};
-ghost use Rattle.vx_kinds.specs.Views.{Gives, Fails, done};
+ghost use Rattle.vx_layout_tree.specs.Views.{Gives, Fails, done};
 
 use crate::checks::has_rows;
 use crate::one_child::{OneChild, three, two};
 use std::alloc::{AllocError, Global};
 use vx_aggregate::{AggregateFn, Stat};
-use vx_kinds::{KindParts, Layout, LayoutChildren, LayoutError, LayoutHead, ViewedChildren};
+use vx_layout_tree::{KindParts, Layout, LayoutChildren, LayoutError, LayoutHead, ViewedChildren};
 use vx_model::{Blob, DType, Nullability};
 
 /// What the rows of a child must be.
@@ -58,7 +58,7 @@ pub(crate) struct Open {
 
 impl RowsRule {
     ghost use Rattle.vx_layout_build.specs.OpenView.{rows_ruled};
-    ghost use Rattle.vx_kinds.specs.Views.{Gives, done};
+    ghost use Rattle.vx_layout_tree.specs.Views.{Gives, done};
 
     pub(crate) fn check(self, rows: u64) -> Result<(), LayoutError>
         ensures { Gives done result (rows_ruled self rows) }
@@ -154,7 +154,7 @@ pub(crate) fn standing(alloc: Global, child: OneChild) -> Result<LayoutChildren,
 /// The layout with the built children.
 pub(crate) fn with_built(alloc: Global, frame: Frame, built: Vec<Layout>) -> Layout
     requires { fits frame (length built.items) }
-    ensures { lay result ≡ framed frame (map lay built.items) }
+    ensures { layout_data result ≡ framed frame (map layout_data built.items) }
 {
     match frame {
         Frame::List(head) => Layout::from_parts(alloc, KindParts::List(head, built)),

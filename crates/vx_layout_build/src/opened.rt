@@ -7,12 +7,12 @@ ghost use Rattle.vx_model.specs.TyView.{ty};
 ghost use Rattle.vx_session.specs.Aggregates.{all_named};
 ghost use Rattle.vx_session.specs.Views.{context as context_of};
 ghost use Rattle.vx_session.specs.Kinds.{build_list as list_built, element_type as type_of_elements, build_dict as dict_built, build_stats as stats_built, build_zoned as zoned_built, build_zones as zones_built};
-ghost use Rattle.vx_kinds.specs.declared.error.LayoutError.TheVariants.{OutOfMemory};
-ghost use Rattle.vx_kinds.specs.KidsView.{layout_kids};
-ghost use Rattle.vx_kinds.specs.Made.{validity_count};
+ghost use Rattle.vx_layout_tree.specs.declared.error.LayoutError.TheVariants.{OutOfMemory};
+ghost use Rattle.vx_layout_tree.specs.KidsView.{layout_kids};
+ghost use Rattle.vx_layout_tree.specs.Made.{validity_count};
 ghost use Rattle.vx_layout_build.specs.OpenView.{Opens, list_kids, column_kids, column_made, all_built, wanted_depths};
 ghost use Rattle.vx_layout_build.specs.PartsView.{parts_of, children_depth};
-ghost use Rattle.vx_kinds.specs.Views.{Fails};
+ghost use Rattle.vx_layout_tree.specs.Views.{Fails};
 
 use crate::checks::{
     dict_metadata, has_children, has_rows, known_aggregates, list_metadata, stats_metadata,
@@ -22,7 +22,7 @@ use crate::one_child::two;
 use crate::open::{Frame, Open, RowsRule, Wanted, pair_of, standing, triple_of};
 use std::alloc::Global;
 use vx_aggregate::{AggregateFn, aggregate_stats_table_dtype, legacy_stats_table_dtype};
-use vx_kinds::{LayoutChildren, LayoutError, LayoutHead, LayoutParts, ZonedLayout};
+use vx_layout_tree::{LayoutChildren, LayoutError, LayoutHead, LayoutParts, ZonedLayout};
 use vx_metadata::DictLayoutMetadata;
 use vx_model::{Blob, DType, Nullability, PType};
 use vx_session::LayoutBuildContext;

@@ -4,25 +4,25 @@ ghost use Rattle.std.specs.Prelude.{◌≡◌, ◌<◌, ◌++◌, length, map, f
 ghost use Rattle.vx_model.specs.Ty.{tys_of, boolean};
 ghost use Rattle.vx_model.specs.TyView.{ty, field_ty};
 ghost use Rattle.vx_session.specs.Kinds.{struct_types, types_in};
-ghost use Rattle.vx_kinds.specs.Children.{child_in};
+ghost use Rattle.vx_layout_tree.specs.Children.{child_in};
 ghost use Rattle.vx_layout_build.specs.ChildView.{child_lay};
-ghost use Rattle.vx_kinds.specs.KidsView.{chunks, fields, layout_kids, viewed_kids};
-ghost use Rattle.vx_kinds.specs.LayoutView.{lay};
-ghost use Rattle.vx_kinds.specs.Views.{Gives};
-ghost use Rattle.vx_kinds.specs.ZonedView.{no_columns as columnless};
+ghost use Rattle.vx_layout_tree.specs.KidsView.{chunks, fields, layout_kids, viewed_kids};
+ghost use Rattle.vx_layout_tree.specs.LayoutView.{layout_data};
+ghost use Rattle.vx_layout_tree.specs.Views.{Gives};
+ghost use Rattle.vx_layout_tree.specs.ZonedView.{no_columns as columnless};
 ghost use Rattle.vx_layout_build.specs.Asked.{answer_at, type_at};
 
 use crate::build::build_node;
 use crate::child::LayoutChild;
 use std::alloc::Global;
-use vx_kinds::{Layout, LayoutChildren, LayoutError, ViewedChildren};
+use vx_layout_tree::{Layout, LayoutChildren, LayoutError, ViewedChildren};
 use vx_model::{DType, Nullability, StructField, StructFields};
 
 /// A layout that is kept.
 #[tactic(auto, using(crate::proofs::KeptSteps::child_rules), unfolding(crate::specs::ChildView::child_lay))]
 pub(crate) fn kept_child(layouts: &[Layout], i: u64) -> Result<LayoutChild<'_>, LayoutError>
     requires { i < length layouts.now }
-    ensures { Gives child_lay result (child_in (map lay layouts.now) i) }
+    ensures { Gives child_lay result (child_in (map layout_data layouts.now) i) }
 {
     let child = &layouts[i as usize];
     child.built();
@@ -69,8 +69,8 @@ pub(crate) fn zoned_child<'a>(
     zones: &'a LayoutChildren,
     i: u64,
 ) -> Result<LayoutChild<'a>, LayoutError>
-    requires { i < length (map lay kept.now ++ chunks columnless zones.now) }
-    ensures { Gives child_lay result (child_in (map lay kept.now ++ chunks columnless zones.now) i) }
+    requires { i < length (map layout_data kept.now ++ chunks columnless zones.now) }
+    ensures { Gives child_lay result (child_in (map layout_data kept.now ++ chunks columnless zones.now) i) }
 {
     let count = kept.len() as u64;
     if i < count {

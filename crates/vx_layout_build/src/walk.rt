@@ -2,13 +2,13 @@
 
 ghost use Rattle.std.specs.Prelude.{◌≡◌, ◌∷◌, ◌++◌, map, IfOk};
 ghost use Rattle.vx_layout_build.specs.ChildView.{child_lay};
-ghost use Rattle.vx_kinds.specs.LayoutView.{lay};
+ghost use Rattle.vx_layout_tree.specs.LayoutView.{layout_data};
 ghost use Rattle.vx_layout_build.specs.PreOrder.{below, all_pre_order, stacked};
 
 use crate::child::LayoutChild;
 use crate::layout_walk::LayoutWalk;
 use std::alloc::{AllocError, Global};
-use vx_kinds::{Layout, LayoutError};
+use vx_layout_tree::{Layout, LayoutError};
 
 /// A layout and all below it. Once memory ran out nothing comes.
 #[derive(Debug, Drop)]
@@ -20,13 +20,13 @@ pub struct DepthFirst<'a> {
 
 impl<'a> DepthFirst<'a> {
     ghost use Rattle.std.specs.Prelude.{◌≡◌};
-    ghost use Rattle.vx_kinds.specs.LayoutView.{lay};
+    ghost use Rattle.vx_layout_tree.specs.LayoutView.{layout_data};
     ghost use Rattle.vx_layout_build.specs.PreOrder.{pre_order};
     ghost use Rattle.vx_layout_build.specs.TreeWalk.{nodes_left};
 
     #[tactic(auto, using(crate::proofs::TreeSteps::root_rules), unfolding(crate::specs::ChildView::child_lay))]
     pub(crate) fn new(alloc: Global, layout: &'a Layout) -> DepthFirst<'a>
-        ensures { nodes_left result ≡ pre_order (lay layout.now) }
+        ensures { nodes_left result ≡ pre_order (layout_data layout.now) }
     {
         DepthFirst {
             alloc,
@@ -108,7 +108,7 @@ fn push_kept<'a>(
     stack: &mut Vec<LayoutChild<'a>>,
     layout: &'a Layout,
 ) -> Result<(), AllocError>
-    ensures { IfOk result (λ u. stacked (map child_lay stack.new.items) ≡ below (lay layout.now) ++ stacked (map child_lay stack.old.items)) }
+    ensures { IfOk result (λ u. stacked (map child_lay stack.new.items) ≡ below (layout_data layout.now) ++ stacked (map child_lay stack.old.items)) }
 {
     match layout.children(alloc) {
         Ok(children) => push_all(stack, children),
@@ -124,7 +124,7 @@ fn push_copied(
     stack: &mut Vec<LayoutChild<'_>>,
     layout: &Layout,
 ) -> Result<(), AllocError>
-    ensures { IfOk result (λ u. stacked (map child_lay stack.new.items) ≡ below (lay layout.now) ++ stacked (map child_lay stack.old.items)) }
+    ensures { IfOk result (λ u. stacked (map child_lay stack.new.items) ≡ below (layout_data layout.now) ++ stacked (map child_lay stack.old.items)) }
 {
     match layout.children(alloc) {
         Ok(children) => push_owned(stack, children),

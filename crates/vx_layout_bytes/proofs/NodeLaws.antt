@@ -6,7 +6,7 @@ use Rattle.std.specs.List.{AllByRecursion}
 use Rattle.std.proofs.lemmas.Bool.{eqb-true}
 use Rattle.std.proofs.lemmas.List.{append-nil, nil_from_length}
 use Rattle.vx_model.specs.Words.{joined_by}
-use Rattle.vx_model.specs.Tree.{u64_bytes}
+use Rattle.vx_model.specs.CellData.{u64_bytes}
 use Rattle.vx_layout_bytes.specs.declared.error.GrammarError.{GrammarError}
 use Rattle.vx_layout_bytes.specs.Node.{Own, Node, Nodes, node, no_nodes, first, number_of}
 use Rattle.vx_layout_bytes.specs.Values.{FitsOwn, Fits, AllFit, depth, depths, size, sizes, IsWithin}

@@ -3,7 +3,7 @@ use Rattle.std.proofs.Common.{◌≡◌, ℕ, suc, ◌+◌, ◌<◌, List, [], �
 use Rattle.std.proofs.lemmas.List.{append-nil, drop_more, drop_all, length-map, map_push, map_more}
 use Rattle.std.specs.Int.{w16, to_le_bytes}
 use Rattle.vx_model.specs.Words.{joined_by}
-use Rattle.vx_model.specs.Tree.{u64_bytes}
+use Rattle.vx_model.specs.CellData.{u64_bytes}
 use Rattle.vx_layout_bytes.specs.declared.node.RawNode.{RawNode, out-RawNode}
 use Rattle.vx_layout_bytes.specs.declared.node.RawNode as rn
 use Rattle.vx_layout_bytes.specs.Node.{Node, node, nodes_of, number_of}

@@ -2,7 +2,7 @@
 use Rattle.std.specs.Prelude.{ℕ, List, [], ◌++◌, length}
 use Rattle.std.specs.Int.{w16, w32, to_le_bytes}
 use Rattle.vx_model.specs.Words.{joined_by}
-use Rattle.vx_model.specs.Tree.{u64_bytes}
+use Rattle.vx_model.specs.CellData.{u64_bytes}
 use Rattle.vx_layout_bytes.specs.Node.{Own, Node, Nodes, node, no_nodes, first, number_of}
 
 abbrev pub u32_bytes : ℕ → List ℕ

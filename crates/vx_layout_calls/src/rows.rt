@@ -5,12 +5,12 @@ use std::alloc::Global;
 use std::num::NonZeroU32;
 use std::test::Fail;
 use vx_chunk::Chunk;
-use vx_encode::encode_segment;
 use vx_layout::{
     DictLayout, Layout, LegacyStatsLayout, ListLayout, ReadError, SegmentMap, StructLayout,
     ZonedLayout, aggregate_stats_table_dtype, legacy_stats_table_dtype, read_rows,
 };
 use vx_model::{ArrayContext, Blob, Cell, DType, Nullability, PType, fits};
+use vx_segment_writer::encode_segment;
 
 const MAYBE: DType = DType::Primitive(PType::I8, Nullability::Nullable);
 

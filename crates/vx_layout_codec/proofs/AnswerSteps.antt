@@ -10,15 +10,15 @@ use Rattle.vx_layout_bytes.specs.Reading.{Fault}
 use Rattle.vx_layout_bytes.specs.Spelled.{spelling}
 use Rattle.vx_layout_bytes.specs.Values.{IsWithin}
 use Rattle.vx_layout_bytes.proofs.NodeLaws.{root_again}
-use Rattle.vx_kinds.specs.Views.{Gives}
-use Rattle.vx_kinds.specs.LayoutView.{lay}
-use Rattle.vx_kinds.specs.declared.layout.Layout.{Layout}
-use Rattle.vx_kinds.specs.declared.error.LayoutError.{LayoutError}
-use Rattle.vx_layout_spelling.specs.Permitted.{built}
-use Rattle.vx_layout_spelling.specs.Bytes.{bytes_in}
-use Rattle.vx_layout_spelling.specs.Parsed.{parsed, built_at, node_or_refusal}
-use Rattle.vx_layout_spelling.specs.Again.{AreBytes}
-use Rattle.vx_layout_spelling.proofs.SpelledAgain.{the_law}
+use Rattle.vx_layout_tree.specs.Views.{Gives}
+use Rattle.vx_layout_tree.specs.LayoutView.{layout_data}
+use Rattle.vx_layout_tree.specs.declared.layout.Layout.{Layout}
+use Rattle.vx_layout_tree.specs.declared.error.LayoutError.{LayoutError}
+use Rattle.vx_layout_codec_spec.specs.Permitted.{built}
+use Rattle.vx_layout_codec_spec.specs.Bytes.{bytes_in}
+use Rattle.vx_layout_codec_spec.specs.Parsed.{parsed, built_at, node_or_refusal}
+use Rattle.vx_layout_codec_spec.specs.Again.{AreBytes}
+use Rattle.vx_layout_codec_spec.proofs.SpelledAgain.{the_law}
 
 distinct_of : (ids : List (List ℕ)) → IsTrue (is_context ids) → are_distinct ids ≡ true
 distinct_of ids h = both (not (nat_lt (2 ^ 16) (length ids))) (are_distinct ids) h
@@ -27,12 +27,12 @@ distinct_of ids h = both (not (nat_lt (2 ^ 16) (length ids))) (are_distinct ids)
     both true b h = h
     both false b h = absurd (cc h)
 
-pub answer_again : (s : Scope) (t : Ty) (deep nodes : ℕ) (bytes : List ℕ) (r : Result Layout LayoutError) → IsTrue (is_context s.ids) → AreBytes bytes → Gives lay r (parsed s t deep nodes bytes)
-    → IfOk r (λ l. built (lay l) ≡ Ok tt → bytes_in s.ids (lay l) ≡ Ok bytes)
-answer_again s t deep nodes bytes (Ok l) d fits h = λ b. the_law s t deep nodes bytes (lay l) (distinct_of s.ids d) fits h b
+pub answer_again : (s : Scope) (t : Ty) (deep nodes : ℕ) (bytes : List ℕ) (r : Result Layout LayoutError) → IsTrue (is_context s.ids) → AreBytes bytes → Gives layout_data r (parsed s t deep nodes bytes)
+    → IfOk r (λ l. built (layout_data l) ≡ Ok tt → bytes_in s.ids (layout_data l) ≡ Ok bytes)
+answer_again s t deep nodes bytes (Ok l) d fits h = λ b. the_law s t deep nodes bytes (layout_data l) (distinct_of s.ids d) fits h b
 answer_again s t deep nodes bytes (Err e) d fits h = tt
 
-pub answer_only : (s : Scope) (t : Ty) (deep nodes : ℕ) (bytes : List ℕ) (r : Result Layout LayoutError) → Gives lay r (parsed s t deep nodes bytes)
-    → (n : Node) → IsWithin deep nodes n → spelling n ≡ bytes → Gives lay r (builder s n t)
+pub answer_only : (s : Scope) (t : Ty) (deep nodes : ℕ) (bytes : List ℕ) (r : Result Layout LayoutError) → Gives layout_data r (parsed s t deep nodes bytes)
+    → (n : Node) → IsWithin deep nodes n → spelling n ≡ bytes → Gives layout_data r (builder s n t)
 answer_only s t deep nodes bytes r h n within spelled =
-    subst (λ (read : Result Node Fault). Gives lay r (built_at s t (node_or_refusal read))) (root_again deep nodes bytes n within spelled) h
+    subst (λ (read : Result Node Fault). Gives layout_data r (built_at s t (node_or_refusal read))) (root_again deep nodes bytes n within spelled) h

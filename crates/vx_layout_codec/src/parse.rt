@@ -8,17 +8,17 @@ ghost use Rattle.vx_layout_bytes.specs.Values.{IsWithin};
 ghost use Rattle.vx_layout_bytes.specs.Views.{raw};
 ghost use Rattle.vx_session.specs.Builder.{builder};
 ghost use Rattle.vx_session.specs.Views.{scope_in, scope_of};
-ghost use Rattle.vx_kinds.specs.LayoutView.{lay};
-ghost use Rattle.vx_kinds.specs.Views.{Gives};
-ghost use Rattle.vx_layout_spelling.specs.Permitted.{built};
-ghost use Rattle.vx_layout_spelling.specs.Bytes.{bytes_in};
-ghost use Rattle.vx_layout_spelling.specs.Parsed.{node_within, parsed};
+ghost use Rattle.vx_layout_tree.specs.LayoutView.{layout_data};
+ghost use Rattle.vx_layout_tree.specs.Views.{Gives};
+ghost use Rattle.vx_layout_codec_spec.specs.Permitted.{built};
+ghost use Rattle.vx_layout_codec_spec.specs.Bytes.{bytes_in};
+ghost use Rattle.vx_layout_codec_spec.specs.Parsed.{node_within, parsed};
 
 use std::alloc::Global;
 use std::rc::Rc;
-use vx_kinds::{Layout, LayoutError};
 use vx_layout_build::build_node;
 use vx_layout_bytes::{GrammarError, Limits, RawNode, read_nodes};
+use vx_layout_tree::{Layout, LayoutError};
 use vx_model::{ArrayContext, DType};
 use vx_session::{LayoutContext, Scope, Session};
 
@@ -33,10 +33,10 @@ pub fn layout_from_flatbuffer(
     limits: Limits,
 ) -> Result<Layout, LayoutError>
     requires { limits.depth ≤ 1024 }
-    ensures again { IfOk result (λ l. built (lay l) ≡ Ok tt → bytes_in layout_ctx.now (lay l) ≡ Ok bytes.now) }
+    ensures again { IfOk result (λ l. built (layout_data l) ≡ Ok tt → bytes_in layout_ctx.now (layout_data l) ≡ Ok bytes.now) }
     ensures only { (n : Node) → IsWithin limits.depth limits.nodes n → spelling n ≡ bytes.now
-        → Gives lay result (builder (scope_in layout_ctx.now ctx.now session.now false) n (ty dtype.now)) }
-    ensures exact { Gives lay result (parsed (scope_in layout_ctx.now ctx.now session.now false) (ty dtype.now) limits.depth limits.nodes bytes.now) }
+        → Gives layout_data result (builder (scope_in layout_ctx.now ctx.now session.now false) n (ty dtype.now)) }
+    ensures exact { Gives layout_data result (parsed (scope_in layout_ctx.now ctx.now session.now false) (ty dtype.now) limits.depth limits.nodes bytes.now) }
 {
     layout_from_flatbuffer_with_options(
         alloc, bytes, dtype, layout_ctx, ctx, session, limits, false,
@@ -57,11 +57,11 @@ pub fn layout_from_flatbuffer_with_options(
 ) -> Result<Layout, LayoutError>
     requires { limits.depth ≤ 1024 }
     // A layout of which each node can be built is spelled as these bytes.
-    ensures again { IfOk result (λ l. built (lay l) ≡ Ok tt → bytes_in layout_ctx.now (lay l) ≡ Ok bytes.now) }
+    ensures again { IfOk result (λ l. built (layout_data l) ≡ Ok tt → bytes_in layout_ctx.now (layout_data l) ≡ Ok bytes.now) }
     // What spells a node within the limits is refused by the builds alone.
     ensures only { (n : Node) → IsWithin limits.depth limits.nodes n → spelling n ≡ bytes.now
-        → Gives lay result (builder (scope_in layout_ctx.now ctx.now session.now allow_unknown) n (ty dtype.now)) }
-    ensures exact { Gives lay result (parsed (scope_in layout_ctx.now ctx.now session.now allow_unknown) (ty dtype.now) limits.depth limits.nodes bytes.now) }
+        → Gives layout_data result (builder (scope_in layout_ctx.now ctx.now session.now allow_unknown) n (ty dtype.now)) }
+    ensures exact { Gives layout_data result (parsed (scope_in layout_ctx.now ctx.now session.now allow_unknown) (ty dtype.now) limits.depth limits.nodes bytes.now) }
 {
     layout_ctx.ids();
     let scope = Scope::new(layout_ctx, ctx, session, allow_unknown)?;
@@ -77,7 +77,7 @@ fn read_in(
     limits: Limits,
 ) -> Result<Layout, LayoutError>
     requires { limits.depth ≤ 1024 }
-    ensures { Gives lay result (parsed (scope_of scope) (ty dtype.now) limits.depth limits.nodes bytes.now) }
+    ensures { Gives layout_data result (parsed (scope_of scope) (ty dtype.now) limits.depth limits.nodes bytes.now) }
 {
     let node = read_within(alloc, bytes, limits)?;
     let scope = Rc::new(alloc, scope)?;

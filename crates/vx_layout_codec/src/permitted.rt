@@ -1,16 +1,16 @@
 //! Whether a context lists the ids of all nodes of a layout.
 
 ghost use Rattle.std.specs.Prelude.{◌≡◌, ◌<◌, length, IfOk};
-ghost use Rattle.vx_tree.specs.LayoutTree.{children_of, layout_kind, kind_id};
-ghost use Rattle.vx_kinds.specs.Children.{child_in};
-ghost use Rattle.vx_kinds.specs.LayoutView.{lay};
-ghost use Rattle.vx_kinds.specs.Views.{Gives};
-ghost use Rattle.vx_layout_spelling.specs.Permitted.{listed, permitted};
+ghost use Rattle.vx_layout_spec.specs.LayoutTree.{children_of, layout_kind, kind_id};
+ghost use Rattle.vx_layout_tree.specs.Children.{child_in};
+ghost use Rattle.vx_layout_tree.specs.LayoutView.{layout_data};
+ghost use Rattle.vx_layout_tree.specs.Views.{Gives};
+ghost use Rattle.vx_layout_codec_spec.specs.Permitted.{listed, permitted};
 ghost use Rattle.vx_layout_codec.specs.Views.{children_answer, kept};
 
 use std::alloc::{AllocError, Global};
-use vx_kinds::{Layout, LayoutError};
 use vx_layout_build::{LayoutChild, LayoutWalk};
+use vx_layout_tree::{Layout, LayoutError};
 use vx_model::Text;
 use vx_session::LayoutContext;
 
@@ -21,7 +21,7 @@ pub(crate) fn check_permitted(
     layout: &Layout,
     ctx: &LayoutContext,
 ) -> Result<(), LayoutError>
-    ensures { Gives (λ u. u) result (permitted ctx.now (lay layout.now)) }
+    ensures { Gives (λ u. u) result (permitted ctx.now (layout_data layout.now)) }
 {
     layout.built();
     check_listed(alloc, layout.encoding_id(), ctx)?;
@@ -49,8 +49,8 @@ fn check_listed(alloc: Global, id: &str, ctx: &LayoutContext) -> Result<(), Layo
 
 /// The child at the place, where it can be built.
 fn built_child(layout: &Layout, i: u64) -> Result<Option<LayoutChild<'_>>, AllocError>
-    requires { i < length (children_of (lay layout.now)) }
-    ensures { IfOk result (λ child. kept child ≡ children_answer (child_in (children_of (lay layout.now)) i)) }
+    requires { i < length (children_of (layout_data layout.now)) }
+    ensures { IfOk result (λ child. kept child ≡ children_answer (child_in (children_of (layout_data layout.now)) i)) }
 {
     match layout.child(i) {
         Ok(child) => Ok(Some(child)),

@@ -2,22 +2,22 @@
 
 ghost use Rattle.std.specs.Prelude.{◌≡◌, ◌<◌, ◌^◌, map, IfOk};
 ghost use Rattle.std.specs.List.{AllByRecursion};
-ghost use Rattle.vx_tree.specs.LayoutTree.{layout_kind, row_count, segments_of, children_of};
+ghost use Rattle.vx_layout_spec.specs.LayoutTree.{layout_kind, row_count, segments_of, children_of};
 ghost use Rattle.vx_layout_bytes.specs.Node.{node, nodes_of};
 ghost use Rattle.vx_layout_bytes.specs.Values.{Fits, AllFit};
 ghost use Rattle.vx_layout_bytes.specs.Views.{raw};
-ghost use Rattle.vx_kinds.specs.LayoutView.{lay, number};
-ghost use Rattle.vx_kinds.specs.Views.{Gives};
-ghost use Rattle.vx_layout_spelling.specs.Permitted.{built};
-ghost use Rattle.vx_layout_spelling.specs.NodeOf.{own_in, node_in};
-ghost use Rattle.vx_layout_spelling.specs.Bytes.{unless_refused, bytes_in};
+ghost use Rattle.vx_layout_tree.specs.LayoutView.{layout_data, number};
+ghost use Rattle.vx_layout_tree.specs.Views.{Gives};
+ghost use Rattle.vx_layout_codec_spec.specs.Permitted.{built};
+ghost use Rattle.vx_layout_codec_spec.specs.NodeOf.{own_in, node_in};
+ghost use Rattle.vx_layout_codec_spec.specs.Bytes.{unless_refused, bytes_in};
 
 use crate::permitted::check_permitted;
 use std::alloc::{AllocError, Global};
-use vx_kinds::{Layout, LayoutError};
 use vx_layout_build::LayoutWalk;
-use vx_layout_slots::LayoutSlots;
 use vx_layout_bytes::{RawNode, write_node};
+use vx_layout_slots::LayoutSlots;
+use vx_layout_tree::{Layout, LayoutError};
 use vx_model::{Blob, SegmentId};
 use vx_session::LayoutContext;
 
@@ -27,9 +27,9 @@ pub fn layout_bytes(
     layout: &Layout,
     ctx: &LayoutContext,
 ) -> Result<Vec<u8>, LayoutError>
-    ensures exact { Gives (λ v. v.items) result (bytes_in ctx.now (lay layout.now)) }
+    ensures exact { Gives (λ v. v.items) result (bytes_in ctx.now (layout_data layout.now)) }
     // Each number of the node that is spelled fits its field.
-    ensures fits { IfOk result (λ v. Fits (node_in ctx.now (lay layout.now))) }
+    ensures fits { IfOk result (λ v. Fits (node_in ctx.now (layout_data layout.now))) }
 {
     check_permitted(alloc, layout, ctx)?;
     let node = node_of(alloc, layout, ctx)?;
@@ -39,7 +39,7 @@ pub fn layout_bytes(
 /// The node that the layout is. An id that the context doesn't list is taken as the first one.
 #[tactic(auto, using(crate::proofs::WalkSteps::node_rules))]
 fn node_of(alloc: Global, layout: &Layout, ctx: &LayoutContext) -> Result<RawNode, LayoutError>
-    ensures node { Gives raw result (unless_refused (built (lay layout.now)) (node_in ctx.now (lay layout.now))) }
+    ensures node { Gives raw result (unless_refused (built (layout_data layout.now)) (node_in ctx.now (layout_data layout.now))) }
     ensures fits { IfOk result (λ n. Fits (raw n)) }
 {
     layout.built();
@@ -59,7 +59,7 @@ fn own_node(
     ctx: &LayoutContext,
     children: Vec<RawNode>,
 ) -> Result<RawNode, AllocError>
-    ensures node { IfOk result (λ n. raw n ≡ node (own_in ctx.now (lay layout.now)) (nodes_of (map raw children.items))) }
+    ensures node { IfOk result (λ n. raw n ≡ node (own_in ctx.now (layout_data layout.now)) (nodes_of (map raw children.items))) }
     ensures fits { IfOk result (λ n. AllFit (nodes_of (map raw children.items)) → Fits (raw n)) }
 {
     let index = ctx.place(layout.encoding_id()).unwrap_or(0);

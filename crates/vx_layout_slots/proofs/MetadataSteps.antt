@@ -2,7 +2,7 @@
 use Rattle.std.proofs.Common.{◌≡◌, ◌+◌, true, List, [], ◌∷◌, map, refl, ap, rules}
 use Rattle.std.proofs.lemmas.List.{map_push, length-map}
 use Rattle.vx_model.specs.Words.{total_by, all_by}
-use Rattle.vx_record.specs.Aggregate.{Aggregate, spec, maximum, minimum, bounded_maximum, bounded_minimum, null_count, sum, bloom}
+use Rattle.vx_aggregate_spec.specs.Aggregate.{Aggregate, spec, maximum, minimum, bounded_maximum, bounded_minimum, null_count, sum, bloom}
 use Rattle.vx_aggregate.specs.declared.stat.Stat.{Stat}
 use Rattle.vx_aggregate.specs.declared.stat.Stat.TheVariants as stats
 use Rattle.vx_aggregate.specs.Stats.{stat_number}

@@ -4,17 +4,17 @@ use Rattle.std.specs.Prelude.{if◌then◌else◌, nat_lt, is_some, IsSome, code
 use Rattle.std.proofs.lemmas.Bool.{ltb-true, eqb-false}
 use Rattle.vx_model.specs.Words.{total_by}
 use Rattle.vx_model.specs.Ty.{Ty, Named, nullable}
-use Rattle.vx_tree.specs.LayoutTree.{Kind, flat_kind, chunked_kind, struct_kind, list_kind, dict_kind, zoned_kind, unread_zoned_kind, stats_kind, foreign_kind, refused_kind, Lay, layout, layout_kind, layout_type, lays_in, row_count, children_of}
+use Rattle.vx_layout_spec.specs.LayoutTree.{Kind, flat_kind, chunked_kind, struct_kind, list_kind, dict_kind, zoned_kind, unread_zoned_kind, stats_kind, foreign_kind, refused_kind, LayoutData, layout, layout_kind, layout_type, lays_in, row_count, children_of}
 use Rattle.vx_layout_slots.specs.declared.child_type.LayoutChildType.{LayoutChildType}
 use Rattle.vx_layout_slots.specs.declared.child_type.LayoutChildType.TheVariants.{Transparent, Auxiliary, Chunk, Field}
-use Rattle.vx_kinds.specs.declared.kind.LayoutKind.TheVariants as kinds
-use Rattle.vx_kinds.specs.Children.{fields_of, kind_name}
+use Rattle.vx_layout_tree.specs.declared.kind.LayoutKind.TheVariants as kinds
+use Rattle.vx_layout_tree.specs.Children.{fields_of, kind_name}
 use Rattle.vx_layout_slots.specs.Slots.{slots, kind_slots, slot_place, slot_type, below, bracketed, field_type, kind_place, kind_type, child_offset}
 use Rattle.vx_layout_slots.specs.SlotTypes.{types_from, kind_row, chunk_row}
 use Rattle.vx_layout_slots.specs.SlotWalk.{row_of_slot}
-use Rattle.vx_kinds.specs.declared.children.LayoutChildren.{LayoutChildren}
-use Rattle.vx_kinds.specs.KidsView.{chunks, layout_kids}
-use Rattle.vx_kinds.proofs.KidSteps.{chunk_total}
+use Rattle.vx_layout_tree.specs.declared.children.LayoutChildren.{LayoutChildren}
+use Rattle.vx_layout_tree.specs.KidsView.{chunks, layout_kids}
+use Rattle.vx_layout_tree.proofs.KidSteps.{chunk_total}
 use Rattle.vx_session.specs.Made.{kid_rows}
 use Rattle.vx_model.specs.declared.dtype.StructField.{StructField}
 use Rattle.vx_model.specs.TyView.{field_ty}
@@ -72,7 +72,7 @@ three_by false false true slot t u v is_zero is_one is_two lt = (v, refl)
 three_by false false false slot t u v is_zero is_one is_two lt =
     absurd (omega (arith, lt, eqb-false slot 0 is_zero, eqb-false slot 1 is_one, eqb-false slot 2 is_two))
 
-kind_typed : (k : Kind) (t : Ty) (ls : List (Lay ℕ)) (slot i : ℕ) → kind_place k t (length ls) slot ≡ Some i → Typed (kind_type k t ls slot)
+kind_typed : (k : Kind) (t : Ty) (ls : List (LayoutData ℕ)) (slot i : ℕ) → kind_place k t (length ls) slot ≡ Some i → Typed (kind_type k t ls slot)
 kind_typed (flat_kind e tree) t ls slot i is = cc is
 kind_typed chunked_kind t ls slot i is = below_typed (nat_lt slot (length ls)) slot i (Chunk (slot, total_by row_count (take slot ls))) is
 kind_typed struct_kind t ls slot i is =
@@ -90,36 +90,36 @@ kind_typed (stats_kind z ss) t ls slot i is =
 kind_typed (foreign_kind id m) t ls slot i is = below_typed (nat_lt slot (length ls)) slot i (Auxiliary (bracketed slot)) is
 kind_typed (refused_kind f r) t ls slot i is = cc is
 
-typed : (l : Lay ℕ) (slot i : ℕ) → slot_place l slot ≡ Some i → Typed (slot_type l slot)
+typed : (l : LayoutData ℕ) (slot i : ℕ) → slot_place l slot ≡ Some i → Typed (slot_type l slot)
 typed (layout k t n names ls) slot i is = kind_typed k t (lays_in ls) slot i is
 
 -- ---- from slot to slot
 
-pub next_here : (l : Lay ℕ) (slot count i : ℕ) → slot < count → slot_place l slot ≡ Some i
+pub next_here : (l : LayoutData ℕ) (slot count i : ℕ) → slot < count → slot_place l slot ≡ Some i
     → (t : LayoutChildType) × (types_from l slot (count - slot) ≡ t ∷ types_from l (slot + 1) (count - (slot + 1))) × (slot_type l slot ≡ Some t)
 next_here l slot count i lt is =
     let e : count - slot ≡ suc (count - (slot + 1)) = omega (arith, lt) in
     let t = typed l slot i is in
     (t.0, rw (e, is, t.1) refl, t.1)
 
-pub next_some : (l : Lay ℕ) (slot count : ℕ) (o : Option ℕ) → slot < count → o ≡ slot_place l slot → is_some o ≡ true
+pub next_some : (l : LayoutData ℕ) (slot count : ℕ) (o : Option ℕ) → slot < count → o ≡ slot_place l slot → is_some o ≡ true
     → (t : LayoutChildType) × (types_from l slot (count - slot) ≡ t ∷ types_from l (slot + 1) (count - (slot + 1))) × (slot_type l slot ≡ Some t)
 next_some l slot count None lt at there = cc there
 next_some l slot count (Some i) lt at there = next_here l slot count i lt (sym at)
 
-pub next_absent : (l : Lay ℕ) (slot count : ℕ) → slot < count → slot_place l slot ≡ None → types_from l slot (count - slot) ≡ types_from l (slot + 1) (count - (slot + 1))
+pub next_absent : (l : LayoutData ℕ) (slot count : ℕ) → slot < count → slot_place l slot ≡ None → types_from l slot (count - slot) ≡ types_from l (slot + 1) (count - (slot + 1))
 next_absent l slot count lt is =
     let e : count - slot ≡ suc (count - (slot + 1)) = omega (arith, lt) in
     rw (e, is) refl
 
-pub none_left : (l : Lay ℕ) (slot count : ℕ) → count ≤ slot → types_from l slot (count - slot) ≡ []
+pub none_left : (l : LayoutData ℕ) (slot count : ℕ) → count ≤ slot → types_from l slot (count - slot) ≡ []
 none_left l slot count le = let e : count - slot ≡ 0 = omega (arith, le) in rw e refl
 
-first_row_of : (k : Kind) (ls : List (Lay ℕ)) → kind_row k ls 0 ≡ 0
+first_row_of : (k : Kind) (ls : List (LayoutData ℕ)) → kind_row k ls 0 ≡ 0
 first_row_of (flat_kind e tree) ls = refl
 first_row_of chunked_kind ls = empty ls
   where
-    empty : (ls : List (Lay ℕ)) → total_by row_count (take 0 ls) ≡ 0
+    empty : (ls : List (LayoutData ℕ)) → total_by row_count (take 0 ls) ≡ 0
     empty [] = refl
     empty (l ∷ ls) = refl
 first_row_of struct_kind ls = refl
@@ -131,10 +131,10 @@ first_row_of (stats_kind z ss) ls = refl
 first_row_of (foreign_kind id m) ls = refl
 first_row_of (refused_kind f r) ls = refl
 
-pub first_row : (l : Lay ℕ) → 0 ≡ chunk_row l 0
+pub first_row : (l : LayoutData ℕ) → 0 ≡ chunk_row l 0
 first_row l = sym (first_row_of (layout_kind l) (children_of l))
 
-pub all_slots : (l : Lay ℕ) (count : ℕ) → count ≡ slots l → types_from l 0 (count - 0) ≡ types_from l 0 (slots l)
+pub all_slots : (l : LayoutData ℕ) (count : ℕ) → count ≡ slots l → types_from l 0 (count - 0) ≡ types_from l 0 (slots l)
 all_slots l count is = let e : count - 0 ≡ slots l = omega (arith, is) in rw e refl
 
 pub ruleset first_rules = (first_row, all_slots)
@@ -145,23 +145,23 @@ pub ruleset pass_rules = (none_left)
 
 -- ---- rows of chunks
 
-pub rows_before_are : (l : Lay ℕ) (c : LayoutChildren) (slot row : ℕ) → layout_kind l ≡ chunked_kind → children_of l ≡ chunks (layout_type l) c → row ≡ chunk_row l slot → row ≡ total_by kid_rows (take slot (layout_kids c))
+pub rows_before_are : (l : LayoutData ℕ) (c : LayoutChildren) (slot row : ℕ) → layout_kind l ≡ chunked_kind → children_of l ≡ chunks (layout_type l) c → row ≡ chunk_row l slot → row ≡ total_by kid_rows (take slot (layout_kids c))
 rows_before_are l c slot row kind below at = at ∙ rw (kind, below) (chunk_total (layout_type l) c slot)
 
-pub rows_behind_are : (l : Lay ℕ) (c : LayoutChildren) (slot row : ℕ) → layout_kind l ≡ chunked_kind → children_of l ≡ chunks (layout_type l) c → row ≡ total_by kid_rows (take slot (layout_kids c)) → row ≡ chunk_row l slot
+pub rows_behind_are : (l : LayoutData ℕ) (c : LayoutChildren) (slot row : ℕ) → layout_kind l ≡ chunked_kind → children_of l ≡ chunks (layout_type l) c → row ≡ total_by kid_rows (take slot (layout_kids c)) → row ≡ chunk_row l slot
 rows_behind_are l c slot row kind below at = at ∙ rw (kind, below) (sym (chunk_total (layout_type l) c slot))
 
 pub ruleset chunk_rules = (rows_before_are, rows_behind_are)
 
 -- ---- a layout by its kind
 
-pub slots_by : (l : Lay ℕ) → slots l ≡ kind_slots (layout_kind l) (layout_type l) (length (children_of l))
+pub slots_by : (l : LayoutData ℕ) → slots l ≡ kind_slots (layout_kind l) (layout_type l) (length (children_of l))
 slots_by (layout k t n names ls) = refl
 
-pub place_by : (l : Lay ℕ) (slot : ℕ) → slot_place l slot ≡ kind_place (layout_kind l) (layout_type l) (length (children_of l)) slot
+pub place_by : (l : LayoutData ℕ) (slot : ℕ) → slot_place l slot ≡ kind_place (layout_kind l) (layout_type l) (length (children_of l)) slot
 place_by (layout k t n names ls) slot = refl
 
-pub type_by : (l : Lay ℕ) (slot : ℕ) → slot_type l slot ≡ kind_type (layout_kind l) (layout_type l) (children_of l) slot
+pub type_by : (l : LayoutData ℕ) (slot : ℕ) → slot_type l slot ≡ kind_type (layout_kind l) (layout_type l) (children_of l) slot
 type_by (layout k t n names ls) slot = refl
 
 pub ruleset kind_rules = (slots_by, place_by, type_by)
@@ -200,16 +200,16 @@ chunked_is (stats_kind z ss) is = cc is
 chunked_is (foreign_kind id m) is = cc is
 chunked_is (refused_kind f r) is = cc is
 
-chunk_of : (ls : List (Lay ℕ)) (slot row : ℕ) (b : Bool) → row ≡ total_by row_count (take slot ls) → IsSome (if b then Some (Chunk (slot, total_by row_count (take slot ls))) else None)
+chunk_of : (ls : List (LayoutData ℕ)) (slot row : ℕ) (b : Bool) → row ≡ total_by row_count (take slot ls) → IsSome (if b then Some (Chunk (slot, total_by row_count (take slot ls))) else None)
     → (if b then Some (Chunk (slot, total_by row_count (take slot ls))) else None) ≡ Some (Chunk (slot, row))
 chunk_of ls slot row true is there = rw is refl
 chunk_of ls slot row false is there = absurd (cc there)
 
-chunk_kind : (k : Kind) (t : Ty) (ls : List (Lay ℕ)) (slot row : ℕ) → k ≡ chunked_kind → row ≡ kind_row k ls slot → IsSome (kind_type k t ls slot) → kind_type k t ls slot ≡ Some (Chunk (slot, row))
+chunk_kind : (k : Kind) (t : Ty) (ls : List (LayoutData ℕ)) (slot row : ℕ) → k ≡ chunked_kind → row ≡ kind_row k ls slot → IsSome (kind_type k t ls slot) → kind_type k t ls slot ≡ Some (Chunk (slot, row))
 chunk_kind k t ls slot row is = let P : Kind → Type 0 = λ k. row ≡ kind_row k ls slot → IsSome (kind_type k t ls slot) → kind_type k t ls slot ≡ Some (Chunk (slot, row)) in
     subst P (sym is) (chunk_of ls slot row (nat_lt slot (length ls)))
 
-pub chunk_type_is : (l : Lay ℕ) (slot row : ℕ) → kind_name (layout_kind l) ≡ kinds.Chunked → row ≡ chunk_row l slot → IsSome (slot_type l slot) → slot_type l slot ≡ Some (Chunk (slot, row))
+pub chunk_type_is : (l : LayoutData ℕ) (slot row : ℕ) → kind_name (layout_kind l) ≡ kinds.Chunked → row ≡ chunk_row l slot → IsSome (slot_type l slot) → slot_type l slot ≡ Some (Chunk (slot, row))
 chunk_type_is (layout k t n names ls) slot row is at there = chunk_kind k t (lays_in ls) slot row (chunked_is k is) at there
 
 pub ruleset type_rules = (chunk_type_is)
@@ -249,7 +249,7 @@ zoned_begins true b x y t is = let h : Transparent x ≡ t = cc is in rw (← h)
 zoned_begins false true x y t is = let h : Auxiliary y ≡ t = cc is in rw (← h) refl
 zoned_begins false false x y t is = cc is
 
-kind_begins : (k : Kind) (u : Ty) (ls : List (Lay ℕ)) (slot : ℕ) (t : LayoutChildType) → kind_type k u ls slot ≡ Some t → row_of_slot (kind_name k) slot (kind_row k ls slot) ≡ child_offset t
+kind_begins : (k : Kind) (u : Ty) (ls : List (LayoutData ℕ)) (slot : ℕ) (t : LayoutChildType) → kind_type k u ls slot ≡ Some t → row_of_slot (kind_name k) slot (kind_row k ls slot) ≡ child_offset t
 kind_begins (flat_kind e tree) u ls slot t is = cc is
 kind_begins chunked_kind u ls slot t is = sym (chunk_begins (nat_lt slot (length ls)) (slot, total_by row_count (take slot ls)) t is)
 kind_begins struct_kind u ls slot t is = sym (struct_begins (slot == 0) (fields_of u) (slot - 1) (codes "validity") t is)
@@ -261,7 +261,7 @@ kind_begins (stats_kind z ss) u ls slot t is = sym (zoned_begins (slot == 0) (sl
 kind_begins (foreign_kind id m) u ls slot t is = sym (aux_begins (nat_lt slot (length ls)) (bracketed slot) t is)
 kind_begins (refused_kind f r) u ls slot t is = cc is
 
-pub begins : (l : Lay ℕ) (slot row : ℕ) (t : LayoutChildType) → slot_type l slot ≡ Some t → row ≡ chunk_row l slot → row_of_slot (kind_name (layout_kind l)) slot row ≡ child_offset t
+pub begins : (l : LayoutData ℕ) (slot row : ℕ) (t : LayoutChildType) → slot_type l slot ≡ Some t → row ≡ chunk_row l slot → row_of_slot (kind_name (layout_kind l)) slot row ≡ child_offset t
 begins (layout k u n names ls) slot row t is at = rw at (kind_begins k u (lays_in ls) slot t is)
 
 pub ruleset row_rules = (begins)

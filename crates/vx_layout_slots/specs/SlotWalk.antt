@@ -1,19 +1,19 @@
 -- What is left of a walk over slots.
 use Rattle.std.specs.Prelude.{◌≡◌, ℕ, ◌-◌, ◌==◌, if◌then◌else◌, List, [], ◌∷◌, map, Option, Some, None, MatchOption, Result, IfOk}
 use Rattle.vx_layout_slots.specs.declared.child_type.LayoutChildType.{LayoutChildType}
-use Rattle.vx_kinds.specs.declared.kind.LayoutKind.{LayoutKind}
-use Rattle.vx_kinds.specs.declared.kind.LayoutKind.TheVariants as kinds
+use Rattle.vx_layout_tree.specs.declared.kind.LayoutKind.{LayoutKind}
+use Rattle.vx_layout_tree.specs.declared.kind.LayoutKind.TheVariants as kinds
 use Rattle.vx_layout_slots.specs.declared.slot_walk.Slots.{Slots}
 use Rattle.vx_layout_slots.specs.declared.child_types.ChildTypes.{ChildTypes}
 use Rattle.vx_layout_slots.specs.declared.child_types.ChildNames.{ChildNames}
 use Rattle.vx_layout_slots.specs.declared.child_types.ChildRowOffsets.{ChildRowOffsets}
-use Rattle.vx_kinds.specs.LayoutView.{lay}
+use Rattle.vx_layout_tree.specs.LayoutView.{layout_data}
 use Rattle.vx_layout_slots.specs.Slots.{child_name, child_offset}
 use Rattle.vx_layout_slots.specs.SlotTypes.{types_from}
 
 -- the types of the children in the slots to come
 abbrev pub slots_left : Slots → List LayoutChildType
-slots_left s = types_from (lay s.layout.now) s.at.slot (s.count - s.at.slot)
+slots_left s = types_from (layout_data s.layout.now) s.at.slot (s.count - s.at.slot)
 
 abbrev pub types_left : ChildTypes → List LayoutChildType
 types_left s = slots_left s.slots

@@ -2,8 +2,8 @@
 use Rattle.std.specs.Prelude.{ℕ, zero, suc, ◌+◌, ◌-◌, ◌==◌, Bool, if◌then◌else◌, nat_lt, List, [], ◌∷◌, ◌++◌, codes, decimal, length, take, Option, Some, None}
 use Rattle.vx_model.specs.Words.{total_by}
 use Rattle.vx_model.specs.Ty.{Ty, Named, nullable}
-use Rattle.vx_tree.specs.LayoutTree.{Kind, flat_kind, chunked_kind, struct_kind, list_kind, dict_kind, zoned_kind, unread_zoned_kind, stats_kind, foreign_kind, refused_kind, Lay, layout, lays_in, row_count}
-use Rattle.vx_kinds.specs.Children.{fields_of}
+use Rattle.vx_layout_spec.specs.LayoutTree.{Kind, flat_kind, chunked_kind, struct_kind, list_kind, dict_kind, zoned_kind, unread_zoned_kind, stats_kind, foreign_kind, refused_kind, LayoutData, layout, lays_in, row_count}
+use Rattle.vx_layout_tree.specs.Children.{fields_of}
 use Rattle.vx_layout_slots.specs.declared.child_type.LayoutChildType.{LayoutChildType}
 use Rattle.vx_layout_slots.specs.declared.child_type.LayoutChildType.TheVariants.{Transparent, Auxiliary, Chunk, Field}
 
@@ -38,7 +38,7 @@ kind_slots (stats_kind zone_len stats) t count = 2
 kind_slots (foreign_kind id metadata) t count = count
 kind_slots (refused_kind is_flat refusal) t count = 0
 
-abbrev pub slots : Lay ℕ → ℕ
+abbrev pub slots : LayoutData ℕ → ℕ
 slots (layout k t n names ls) = kind_slots k t (length (lays_in ls))
 
 -- the place itself, where it is below the number
@@ -66,7 +66,7 @@ kind_place (stats_kind zone_len stats) t count slot = below 2 slot
 kind_place (foreign_kind id metadata) t count slot = below count slot
 kind_place (refused_kind is_flat refusal) t count slot = None
 
-abbrev pub slot_place : Lay ℕ → ℕ → Option ℕ
+abbrev pub slot_place : LayoutData ℕ → ℕ → Option ℕ
 slot_place (layout k t n names ls) slot = kind_place k t (length (lays_in ls)) slot
 
 -- ---- what a child in the slot is, also where there is none
@@ -77,7 +77,7 @@ auxiliary name = Some (Auxiliary name)
 abbrev pub transparent : List ℕ → Option LayoutChildType
 transparent name = Some (Transparent name)
 
-abbrev pub chunk_type : List (Lay ℕ) → ℕ → Option LayoutChildType
+abbrev pub chunk_type : List (LayoutData ℕ) → ℕ → Option LayoutChildType
 chunk_type ls slot = if nat_lt slot (length ls) then Some (Chunk (slot, total_by row_count (take slot ls))) else None
 
 abbrev pub field_type : List Named → ℕ → Option LayoutChildType
@@ -102,7 +102,7 @@ zoned_type slot = if slot == 0 then transparent (codes "data") else if slot == 1
 abbrev pub foreign_type : ℕ → ℕ → Option LayoutChildType
 foreign_type count slot = if nat_lt slot count then auxiliary (bracketed slot) else None
 
-abbrev pub kind_type : Kind → Ty → List (Lay ℕ) → ℕ → Option LayoutChildType
+abbrev pub kind_type : Kind → Ty → List (LayoutData ℕ) → ℕ → Option LayoutChildType
 kind_type (flat_kind encodings tree) t ls slot = None
 kind_type chunked_kind t ls slot = chunk_type ls slot
 kind_type struct_kind t ls slot = struct_type (fields_of t) slot
@@ -114,5 +114,5 @@ kind_type (stats_kind zone_len stats) t ls slot = zoned_type slot
 kind_type (foreign_kind id metadata) t ls slot = foreign_type (length ls) slot
 kind_type (refused_kind is_flat refusal) t ls slot = None
 
-abbrev pub slot_type : Lay ℕ → ℕ → Option LayoutChildType
+abbrev pub slot_type : LayoutData ℕ → ℕ → Option LayoutChildType
 slot_type (layout k t n names ls) slot = kind_type k t (lays_in ls) slot

@@ -2,7 +2,7 @@
 
 ghost use Rattle.std.specs.Prelude.{◌≡◌, Some, IfOk, IsSome};
 ghost use Rattle.vx_layout_slots.specs.Slots.{slot_type, child_name};
-ghost use Rattle.vx_kinds.specs.LayoutView.{lay};
+ghost use Rattle.vx_layout_tree.specs.LayoutView.{layout_data};
 ghost use Rattle.vx_layout_slots.specs.SlotTypes.{chunk_row};
 ghost use Rattle.vx_layout_slots.specs.SlotWalk.{row_of_slot};
 
@@ -10,7 +10,7 @@ use crate::child_type::LayoutChildType;
 use crate::slot_walk::{Place, Slots};
 use crate::slots::type_of_slot;
 use std::alloc::{AllocError, Global};
-use vx_kinds::{Layout, LayoutKind};
+use vx_layout_tree::{Layout, LayoutKind};
 use vx_model::Text;
 
 /// What each child is, or `OutOfMemory` in its place.
@@ -34,12 +34,12 @@ pub struct ChildRowOffsets<'a> {
 
 impl<'a> ChildTypes<'a> {
     ghost use Rattle.std.specs.Prelude.{◌≡◌};
-    ghost use Rattle.vx_kinds.specs.LayoutView.{lay};
+    ghost use Rattle.vx_layout_tree.specs.LayoutView.{layout_data};
     ghost use Rattle.vx_layout_slots.specs.SlotTypes.{child_types};
     ghost use Rattle.vx_layout_slots.specs.SlotWalk.{types_left};
 
     pub(crate) fn new(alloc: Global, layout: &'a Layout) -> ChildTypes<'a>
-        ensures { types_left result ≡ child_types (lay layout.now) }
+        ensures { types_left result ≡ child_types (layout_data layout.now) }
     {
         ChildTypes {
             alloc,
@@ -50,12 +50,12 @@ impl<'a> ChildTypes<'a> {
 
 impl<'a> ChildNames<'a> {
     ghost use Rattle.std.specs.Prelude.{◌≡◌};
-    ghost use Rattle.vx_kinds.specs.LayoutView.{lay};
+    ghost use Rattle.vx_layout_tree.specs.LayoutView.{layout_data};
     ghost use Rattle.vx_layout_slots.specs.SlotTypes.{child_names};
     ghost use Rattle.vx_layout_slots.specs.SlotWalk.{names_left};
 
     pub(crate) fn new(alloc: Global, layout: &'a Layout) -> ChildNames<'a>
-        ensures { names_left result ≡ child_names (lay layout.now) }
+        ensures { names_left result ≡ child_names (layout_data layout.now) }
     {
         ChildNames {
             types: ChildTypes::new(alloc, layout),
@@ -65,12 +65,12 @@ impl<'a> ChildNames<'a> {
 
 impl<'a> ChildRowOffsets<'a> {
     ghost use Rattle.std.specs.Prelude.{◌≡◌};
-    ghost use Rattle.vx_kinds.specs.LayoutView.{lay};
+    ghost use Rattle.vx_layout_tree.specs.LayoutView.{layout_data};
     ghost use Rattle.vx_layout_slots.specs.SlotTypes.{child_row_offsets};
     ghost use Rattle.vx_layout_slots.specs.SlotWalk.{rows_left};
 
     pub(crate) fn new(layout: &'a Layout) -> ChildRowOffsets<'a>
-        ensures { rows_left result ≡ child_row_offsets (lay layout.now) }
+        ensures { rows_left result ≡ child_row_offsets (layout_data layout.now) }
     {
         ChildRowOffsets {
             slots: Slots::new(layout),
@@ -147,9 +147,9 @@ impl LayoutChildType {
 /// What the child at the place is, which there is. The row of a chunk is not counted again.
 #[tactic(auto, using(crate::proofs::SlotSteps::type_rules))]
 fn type_in(alloc: Global, layout: &Layout, at: Place) -> Result<LayoutChildType, AllocError>
-    requires there { IsSome (slot_type (lay layout.now) at.slot) }
-    requires row { at.row ≡ chunk_row (lay layout.now) at.slot }
-    ensures { IfOk result (λ t. slot_type (lay layout.now) at.slot ≡ Some t) }
+    requires there { IsSome (slot_type (layout_data layout.now) at.slot) }
+    requires row { at.row ≡ chunk_row (layout_data layout.now) at.slot }
+    ensures { IfOk result (λ t. slot_type (layout_data layout.now) at.slot ≡ Some t) }
 {
     if layout.is(LayoutKind::Chunked) {
         return Ok(LayoutChildType::Chunk((at.slot, at.row)));

@@ -5,19 +5,19 @@ use crate::child_types::{ChildNames, ChildRowOffsets, ChildTypes};
 use crate::metadata::metadata_of;
 use crate::slots::{place_of, slot_count, type_of_slot};
 use std::alloc::{AllocError, Global};
-use vx_kinds::Layout;
+use vx_layout_tree::Layout;
 
 /// Calls of `Layout` that tell of its slots, of what is in them, and of its metadata.
 pub trait LayoutSlots {
     ghost use Rattle.std.specs.Prelude.{◌≡◌, ℕ, IfOk};
-    ghost use Rattle.vx_tree.specs.LayoutTree.{Lay};
+    ghost use Rattle.vx_layout_spec.specs.LayoutTree.{LayoutData};
     ghost use Rattle.vx_metadata.specs.Kept.{metadata_bytes};
     ghost use Rattle.vx_layout_slots.specs.Slots.{slots, slot_place, slot_type as type_in_slot};
     ghost use Rattle.vx_layout_slots.specs.SlotTypes.{child_types as all_types, child_names as all_names, child_row_offsets as all_offsets};
     ghost use Rattle.vx_layout_slots.specs.SlotWalk.{types_left, names_left, rows_left};
 
     // The layout that it is.
-    ghost slotted: { Self → Lay ℕ };
+    ghost slotted: { Self → LayoutData ℕ };
 
     /// How many slots there are, also those that have no child.
     fn nslots(&self) -> u64
@@ -51,51 +51,51 @@ pub trait LayoutSlots {
 impl LayoutSlots for Layout {
     ghost use Rattle.std.specs.Prelude.{◌≡◌, IfOk};
     ghost use Rattle.vx_metadata.specs.Kept.{metadata_bytes};
-    ghost use Rattle.vx_kinds.specs.LayoutView.{lay};
+    ghost use Rattle.vx_layout_tree.specs.LayoutView.{layout_data};
     ghost use Rattle.vx_layout_slots.specs.Slots.{slots, slot_place, slot_type as type_in_slot};
     ghost use Rattle.vx_layout_slots.specs.SlotTypes.{child_types as all_types, child_names as all_names, child_row_offsets as all_offsets};
     ghost use Rattle.vx_layout_slots.specs.SlotWalk.{types_left, names_left, rows_left};
 
-    ghost slotted = { lay };
+    ghost slotted = { layout_data };
 
     fn nslots(&self) -> u64
-        ensures { result ≡ slots (lay self.now) }
+        ensures { result ≡ slots (layout_data self.now) }
     {
         slot_count(self)
     }
 
     fn slot_to_child(&self, slot: u64) -> Option<u64>
-        ensures { result ≡ slot_place (lay self.now) slot }
+        ensures { result ≡ slot_place (layout_data self.now) slot }
     {
         place_of(self, slot)
     }
 
     fn slot_type(&self, alloc: Global, slot: u64) -> Result<Option<LayoutChildType>, AllocError>
-        ensures { IfOk result (λ o. o ≡ type_in_slot (lay self.now) slot) }
+        ensures { IfOk result (λ o. o ≡ type_in_slot (layout_data self.now) slot) }
     {
         type_of_slot(alloc, self, slot)
     }
 
     fn child_types(&self, alloc: Global) -> ChildTypes<'_>
-        ensures { types_left result ≡ all_types (lay self.now) }
+        ensures { types_left result ≡ all_types (layout_data self.now) }
     {
         ChildTypes::new(alloc, self)
     }
 
     fn child_names(&self, alloc: Global) -> ChildNames<'_>
-        ensures { names_left result ≡ all_names (lay self.now) }
+        ensures { names_left result ≡ all_names (layout_data self.now) }
     {
         ChildNames::new(alloc, self)
     }
 
     fn child_row_offsets(&self) -> ChildRowOffsets<'_>
-        ensures { rows_left result ≡ all_offsets (lay self.now) }
+        ensures { rows_left result ≡ all_offsets (layout_data self.now) }
     {
         ChildRowOffsets::new(self)
     }
 
     fn metadata(&self, alloc: Global) -> Result<Vec<u8>, AllocError>
-        ensures { IfOk result (λ v. v.items ≡ metadata_bytes (lay self.now)) }
+        ensures { IfOk result (λ v. v.items ≡ metadata_bytes (layout_data self.now)) }
     {
         metadata_of(alloc, self)
     }

@@ -1,8 +1,8 @@
 //! What a layout keeps in bytes besides its children, by its kind.
 
 ghost use Rattle.std.specs.Prelude.{◌≡◌, ◌<◌, ◌^◌, map, length, IfOk, IsTrue, Option, List, ℕ, Bool};
-ghost use Rattle.vx_record.specs.Aggregate.{spec};
-ghost use Rattle.vx_tree.specs.LayoutTree.{children_of};
+ghost use Rattle.vx_aggregate_spec.specs.Aggregate.{spec};
+ghost use Rattle.vx_layout_spec.specs.LayoutTree.{children_of};
 ghost use Rattle.vx_aggregate.specs.AggregateView.{aggregate as aggregate_of};
 ghost use Rattle.vx_aggregate.specs.Stats.{stat_number};
 ghost use Rattle.vx_metadata.specs.Kept.{integers_of, metadata_bytes, second_type, stats_bytes};
@@ -11,11 +11,11 @@ ghost use Rattle.vx_model.specs.Ty.{nullable};
 ghost use Rattle.vx_model.specs.TyView.{ty};
 ghost use Rattle.vx_metadata.specs.Values.{are_in_order};
 ghost use Rattle.vx_metadata.specs.Views.{spec_of};
-ghost use Rattle.vx_kinds.specs.LayoutView.{lay};
+ghost use Rattle.vx_layout_tree.specs.LayoutView.{layout_data};
 
 use std::alloc::{AllocError, Global};
 use vx_aggregate::{AggregateFn, Stat};
-use vx_kinds::{KindRef, Layout, integers_in};
+use vx_layout_tree::{KindRef, Layout, integers_in};
 use vx_metadata::{
     AggregateSpec, DictLayoutMetadata, LegacyStatsMetadata, ListLayoutMetadata, ZonedMetadata,
 };
@@ -24,7 +24,7 @@ use vx_model::{Blob, PType, Text};
 /// The bytes that a reader of the layout needs besides its children.
 #[tactic(auto, using(crate::proofs::MetadataSteps::second_rules))]
 pub(crate) fn metadata_of(alloc: Global, layout: &Layout) -> Result<Vec<u8>, AllocError>
-    ensures { IfOk result (λ v. v.items ≡ metadata_bytes (lay layout.now)) }
+    ensures { IfOk result (λ v. v.items ≡ metadata_bytes (layout_data layout.now)) }
 {
     match layout.by_kind() {
         KindRef::Flat(flat) => flat_metadata(alloc, flat.array_tree()),
@@ -59,8 +59,8 @@ fn flat_metadata(alloc: Global, array_tree: &Option<Blob>) -> Result<Vec<u8>, Al
 /// The integers of the second child, and whether they are nullable: of a list's offsets, of a dictionary's codes.
 #[tactic(auto, using(crate::proofs::MetadataSteps::second_rules))]
 fn second_integers(children: &[Layout]) -> (PType, bool)
-    ensures integers { result.0 ≡ integers_of (second_type (map lay children.now)) }
-    ensures nullable { result.1 ≡ nullable (second_type (map lay children.now)) }
+    ensures integers { result.0 ≡ integers_of (second_type (map layout_data children.now)) }
+    ensures nullable { result.1 ≡ nullable (second_type (map layout_data children.now)) }
 {
     match children.get(1) {
         Some(child) => (integers_in(child.dtype()), child.dtype().is_nullable()),

@@ -5,12 +5,12 @@ ghost use Rattle.vx_model.specs.Words.{total_by};
 ghost use Rattle.vx_session.specs.Made.{kid_rows};
 ghost use Rattle.vx_layout_slots.specs.declared.child_type.LayoutChildType.{LayoutChildType};
 ghost use Rattle.vx_layout_slots.specs.Slots.{slot_type};
-ghost use Rattle.vx_kinds.specs.KidsView.{layout_kids};
-ghost use Rattle.vx_kinds.specs.LayoutView.{lay};
+ghost use Rattle.vx_layout_tree.specs.KidsView.{layout_kids};
+ghost use Rattle.vx_layout_tree.specs.LayoutView.{layout_data};
 ghost use Rattle.vx_layout_slots.specs.SlotTypes.{chunk_row, types_from};
 
 use crate::slots::{place_of, slot_count};
-use vx_kinds::{KindRef, Layout, LayoutChildren};
+use vx_layout_tree::{KindRef, Layout, LayoutChildren};
 
 /// A slot, and the layout's row at which a chunk in it begins.
 #[derive(Clone, Copy, Debug)]
@@ -25,20 +25,20 @@ pub(crate) struct Slots<'a> {
     pub(crate) layout: &'a Layout,
     count: u64,
     at: Place,
-    ghost begins: { at.row ≡ chunk_row (lay layout.now) at.slot },
+    ghost begins: { at.row ≡ chunk_row (layout_data layout.now) at.slot },
 }
 
 impl<'a> Slots<'a> {
     ghost use Rattle.std.specs.Prelude.{◌≡◌, [], ◌∷◌, Some, MatchOption};
     ghost use Rattle.vx_layout_slots.specs.declared.child_type.LayoutChildType.{LayoutChildType};
     ghost use Rattle.vx_layout_slots.specs.Slots.{slot_type};
-    ghost use Rattle.vx_kinds.specs.LayoutView.{lay};
+    ghost use Rattle.vx_layout_tree.specs.LayoutView.{layout_data};
     ghost use Rattle.vx_layout_slots.specs.SlotTypes.{chunk_row, child_types};
     ghost use Rattle.vx_layout_slots.specs.SlotWalk.{slots_left};
 
     #[tactic(auto, using(crate::proofs::SlotSteps::first_rules))]
     pub(crate) fn new(layout: &'a Layout) -> Slots<'a>
-        ensures { slots_left result ≡ child_types (lay layout.now) }
+        ensures { slots_left result ≡ child_types (layout_data layout.now) }
     {
         Slots {
             layout,
@@ -52,8 +52,8 @@ impl<'a> Slots<'a> {
     pub(crate) fn pass(&mut self) -> Option<Place>
         ensures step { MatchOption result
             ((slots_left self.old ≡ []) × (slots_left self.new ≡ []))
-            (λ p. (t : LayoutChildType) × (slots_left self.old ≡ t ∷ slots_left self.new) × (slot_type (lay self.old.layout.now) p.slot ≡ Some t) × (p.row ≡ chunk_row (lay self.old.layout.now) p.slot)) }
-        ensures same { lay self.new.layout.now ≡ lay self.old.layout.now }
+            (λ p. (t : LayoutChildType) × (slots_left self.old ≡ t ∷ slots_left self.new) × (slot_type (layout_data self.old.layout.now) p.slot ≡ Some t) × (p.row ≡ chunk_row (layout_data self.old.layout.now) p.slot)) }
+        ensures same { layout_data self.new.layout.now ≡ layout_data self.old.layout.now }
     {
         let place = next_place(self.layout, self.at, self.count)?;
         let row = row_behind(self.layout, place);
@@ -68,10 +68,10 @@ impl<'a> Slots<'a> {
 /// The first slot from the one on that has a child.
 #[tactic(auto, using(crate::proofs::SlotSteps::next_rules))]
 fn next_place(layout: &Layout, from: Place, count: u64) -> Option<Place>
-    requires { from.row ≡ chunk_row (lay layout.now) from.slot }
+    requires { from.row ≡ chunk_row (layout_data layout.now) from.slot }
     ensures { MatchOption result
-        (types_from (lay layout.now) from.slot (count - from.slot) ≡ [])
-        (λ p. (t : LayoutChildType) × (types_from (lay layout.now) from.slot (count - from.slot) ≡ t ∷ types_from (lay layout.now) (p.slot + 1) (count - (p.slot + 1))) × (slot_type (lay layout.now) p.slot ≡ Some t) × (p.row ≡ chunk_row (lay layout.now) p.slot) × (p.slot < count)) }
+        (types_from (layout_data layout.now) from.slot (count - from.slot) ≡ [])
+        (λ p. (t : LayoutChildType) × (types_from (layout_data layout.now) from.slot (count - from.slot) ≡ t ∷ types_from (layout_data layout.now) (p.slot + 1) (count - (p.slot + 1))) × (slot_type (layout_data layout.now) p.slot ≡ Some t) × (p.row ≡ chunk_row (layout_data layout.now) p.slot) × (p.slot < count)) }
 {
     let mut row = from.row;
     for slot in from.slot..count {
@@ -86,8 +86,8 @@ fn next_place(layout: &Layout, from: Place, count: u64) -> Option<Place>
 /// The row at which a chunk behind the place begins.
 #[tactic(auto, using(crate::proofs::SlotSteps::chunk_rules))]
 fn row_behind(layout: &Layout, at: Place) -> u64
-    requires { at.row ≡ chunk_row (lay layout.now) at.slot }
-    ensures { result ≡ chunk_row (lay layout.now) (at.slot + 1) }
+    requires { at.row ≡ chunk_row (layout_data layout.now) at.slot }
+    ensures { result ≡ chunk_row (layout_data layout.now) (at.slot + 1) }
 {
     match layout.by_kind() {
         KindRef::Chunked(children) => rows_through(children, layout.row_count(), at),
@@ -103,7 +103,7 @@ fn row_behind(layout: &Layout, at: Place) -> u64
 }
 
 /// Rows up to the place and of the child there, of `rows` together.
-#[tactic(auto, using(vx_kinds::proofs::KidSteps::sum_rules))]
+#[tactic(auto, using(vx_layout_tree::proofs::KidSteps::sum_rules))]
 fn rows_through(children: &LayoutChildren, rows: u64, at: Place) -> u64
     requires all { total_by kid_rows (layout_kids children.now) ≡ rows }
     requires before { at.row ≡ total_by kid_rows (take at.slot (layout_kids children.now)) }

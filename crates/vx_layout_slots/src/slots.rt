@@ -4,21 +4,21 @@ ghost use Rattle.std.specs.Prelude.{◌≡◌, ◌≤◌, length, take, Some, If
 ghost use Rattle.vx_model.specs.Ty.{nullable};
 ghost use Rattle.vx_model.specs.TyView.{ty};
 ghost use Rattle.vx_layout_slots.specs.declared.child_type.LayoutChildType.TheVariants.{Auxiliary, Transparent};
-ghost use Rattle.vx_kinds.specs.Children.{fields_of};
+ghost use Rattle.vx_layout_tree.specs.Children.{fields_of};
 ghost use Rattle.vx_layout_slots.specs.Slots.{slots, slot_place, slot_type, below as below_count, struct_place as place_in_struct, list_place as place_in_list, chunk_type as type_of_chunk, field_type as type_of_field, struct_type as type_in_struct, list_type as type_in_list, dict_type as type_in_dict, zoned_type as type_in_zoned, foreign_type as type_in_foreign};
-ghost use Rattle.vx_kinds.specs.KidsView.{chunks, layout_kids};
-ghost use Rattle.vx_kinds.specs.LayoutView.{lay};
+ghost use Rattle.vx_layout_tree.specs.KidsView.{chunks, layout_kids};
+ghost use Rattle.vx_layout_tree.specs.LayoutView.{layout_data};
 ghost use Rattle.vx_session.specs.Made.{kid_rows};
 ghost use Rattle.vx_model.specs.Words.{total_by};
 
 use crate::child_type::LayoutChildType;
 use std::alloc::{AllocError, Global};
-use vx_kinds::{KindRef, Layout, LayoutChildren, field_count, fields_in};
+use vx_layout_tree::{KindRef, Layout, LayoutChildren, field_count, fields_in};
 use vx_model::{DType, Text};
 
 #[tactic(auto, using(crate::proofs::SlotSteps::kind_rules))]
 pub(crate) fn slot_count(layout: &Layout) -> u64
-    ensures { result ≡ slots (lay layout.now) }
+    ensures { result ≡ slots (layout_data layout.now) }
 {
     match layout.by_kind() {
         KindRef::Flat(_) => 0,
@@ -35,7 +35,7 @@ pub(crate) fn slot_count(layout: &Layout) -> u64
 
 #[tactic(auto, using(crate::proofs::SlotSteps::kind_rules))]
 pub(crate) fn place_of(layout: &Layout, slot: u64) -> Option<u64>
-    ensures { result ≡ slot_place (lay layout.now) slot }
+    ensures { result ≡ slot_place (layout_data layout.now) slot }
 {
     match layout.by_kind() {
         KindRef::Flat(_) => None,
@@ -56,7 +56,7 @@ pub(crate) fn type_of_slot(
     layout: &Layout,
     slot: u64,
 ) -> Result<Option<LayoutChildType>, AllocError>
-    ensures { IfOk result (λ o. o ≡ slot_type (lay layout.now) slot) }
+    ensures { IfOk result (λ o. o ≡ slot_type (layout_data layout.now) slot) }
 {
     match layout.by_kind() {
         KindRef::Flat(_) => Ok(None),
@@ -103,7 +103,7 @@ fn list_place(dtype: &DType, slot: u64) -> Option<u64>
 }
 
 /// Where the children are chunks of the type.
-#[tactic(auto, using(vx_kinds::proofs::KidSteps::chunk_rules))]
+#[tactic(auto, using(vx_layout_tree::proofs::KidSteps::chunk_rules))]
 fn chunk_type(
     dtype: &DType,
     children: &LayoutChildren,
@@ -211,7 +211,7 @@ fn foreign_type(alloc: Global, count: u64, slot: u64) -> Result<Option<LayoutChi
 }
 
 /// Rows of the first children, of `rows` together.
-#[tactic(auto, using(vx_kinds::proofs::KidSteps::sum_rules))]
+#[tactic(auto, using(vx_layout_tree::proofs::KidSteps::sum_rules))]
 fn rows_before(children: &LayoutChildren, rows: u64, place: u64) -> u64
     requires within { place ≤ length (layout_kids children.now) }
     requires all { total_by kid_rows (layout_kids children.now) ≡ rows }

@@ -6,9 +6,9 @@ use Rattle.std.proofs.lemmas.Bool.{ltb-true, lt-ltb, eqb-true}
 use Rattle.std.proofs.lemmas.List.{append-nil, nil_from_length}
 use Rattle.std.proofs.lemmas.Nat.{le_bytes_4, from_le_bytes-to_le_bytes_4}
 use Rattle.vx_model.specs.Words.{joined_by, all_by}
-use Rattle.vx_tree.specs.LayoutTree.{Spec}
-use Rattle.vx_cells.specs.Reading.{◌>>=◌, front_at, many_at}
-use Rattle.vx_cells.proofs.FieldLaws.{IsBytes, bind_some, guard_some, some_is, both_true, halves, Takes, Takes-then, Reads, front_takes, front_again, Each, many_takes, many_again}
+use Rattle.vx_layout_spec.specs.LayoutTree.{Spec}
+use Rattle.vx_cell_codec.specs.Reading.{◌>>=◌, front_at, many_at}
+use Rattle.vx_cell_codec.proofs.FieldLaws.{IsBytes, bind_some, guard_some, some_is, both_true, halves, Takes, Takes-then, Reads, front_takes, front_again, Each, many_takes, many_again}
 use Rattle.vx_metadata.specs.Values.{Zoned, is_short_spec, is_short, has_text_id, IsZoned}
 use Rattle.vx_metadata.specs.Spelled.{counted, spec_bytes, zoned_bytes}
 use Rattle.vx_metadata.specs.Reading.{count_at, string_at, name_at, spec_at, zoned_body, zoned_in}

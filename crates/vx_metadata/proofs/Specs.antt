@@ -4,8 +4,8 @@ use Rattle.std.specs.Str.{IsUtf8, is_utf8}
 use Rattle.std.proofs.lemmas.Str.{IsUtf8-from_is_utf8, is_utf8-from_IsUtf8}
 use Rattle.std.proofs.lemmas.List.{append-nil, drop_more, drop_all}
 use Rattle.vx_model.specs.Words.{joined_by, all_by}
-use Rattle.vx_cells.specs.Reading.{many_at}
-use Rattle.vx_cells.proofs.Loops.{with_front}
+use Rattle.vx_cell_codec.specs.Reading.{many_at}
+use Rattle.vx_cell_codec.proofs.Loops.{with_front}
 use Rattle.vx_metadata.specs.declared.zoned.AggregateSpec.{AggregateSpec}
 use Rattle.vx_metadata.specs.declared.read_error.ReadError.{ReadError}
 use Rattle.vx_metadata.specs.declared.read_error.ReadError.TheVariants as errors

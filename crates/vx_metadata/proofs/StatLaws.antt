@@ -8,11 +8,11 @@ use Rattle.std.proofs.lemmas.Bool.Decides.{nat_tests}
 use Rattle.std.proofs.lemmas.List.{append-nil, drop_more, drop_all, length-drop}
 use Rattle.std.proofs.lemmas.Nat.{le_bytes_4, from_le_bytes-to_le_bytes_4}
 use Rattle.vx_model.specs.Words.{total_by}
-use Rattle.vx_model.specs.Tree.{bit}
+use Rattle.vx_model.specs.CellData.{bit}
 use Rattle.vx_aggregate.specs.declared.stat.Stat.{Stat}
 use Rattle.vx_aggregate.specs.declared.stat.Stat.TheVariants.{Max, Min, Sum, NullCount, UncompressedSizeInBytes}
 use Rattle.vx_aggregate.specs.Stats.{stat_number}
-use Rattle.vx_cells.proofs.FieldLaws.{IsBytes, guard_some, halves, some_is}
+use Rattle.vx_cell_codec.proofs.FieldLaws.{IsBytes, guard_some, halves, some_is}
 use Rattle.vx_metadata.specs.Values.{are_in_order}
 use Rattle.vx_metadata.specs.Spelled.{stat_bit, legacy_bytes}
 use Rattle.vx_metadata.specs.Reading.{held, stats_in, legacy_in}

@@ -5,14 +5,14 @@ use Rattle.vx_model.specs.declared.ptype.PType.{PType}
 use Rattle.vx_model.specs.declared.ptype.PType.TheVariants.{U64}
 use Rattle.vx_model.specs.Words.{total_by}
 use Rattle.vx_model.specs.Ty.{Ty, boolean, primitive, utf8, binary, list, struct, extension, nullable}
-use Rattle.vx_tree.specs.LayoutTree.{Kind, flat_kind, chunked_kind, struct_kind, list_kind, dict_kind, zoned_kind, unread_zoned_kind, stats_kind, foreign_kind, refused_kind, Lay, layout_kind, layout_type, children_of}
+use Rattle.vx_layout_spec.specs.LayoutTree.{Kind, flat_kind, chunked_kind, struct_kind, list_kind, dict_kind, zoned_kind, unread_zoned_kind, stats_kind, foreign_kind, refused_kind, LayoutData, layout_kind, layout_type, children_of}
 use Rattle.vx_metadata.specs.declared.dict.DictLayoutMetadata.{DictLayoutMetadata}
 use Rattle.vx_metadata.specs.declared.list.ListLayoutMetadata.{ListLayoutMetadata}
 use Rattle.vx_metadata.specs.Values.{Zoned}
 use Rattle.vx_metadata.specs.Spelled.{flat_bytes, dict_bytes, list_bytes, zoned_bytes}
 
 -- the type of the second child: of a list's offsets, of a dictionary's codes
-abbrev pub second_type : List (Lay ℕ) → Ty
+abbrev pub second_type : List (LayoutData ℕ) → Ty
 second_type [] = boolean false
 second_type (l ∷ []) = boolean false
 second_type (l ∷ m ∷ ls) = layout_type m
@@ -54,5 +54,5 @@ kind_metadata (stats_kind zone_len stats) t = stats_bytes zone_len stats
 kind_metadata (foreign_kind id metadata) t = metadata
 kind_metadata (refused_kind is_flat refusal) t = []
 
-abbrev pub metadata_bytes : Lay ℕ → List ℕ
+abbrev pub metadata_bytes : LayoutData ℕ → List ℕ
 metadata_bytes l = kind_metadata (layout_kind l) (second_type (children_of l))

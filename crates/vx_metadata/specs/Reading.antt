@@ -5,8 +5,8 @@ use Rattle.std.specs.Str.{is_utf8}
 use Rattle.vx_model.specs.declared.ptype.PType.{PType}
 use Rattle.vx_model.specs.declared.ptype.PType.TheVariants.{U8, U16, U32, U64, I8, I16, I32, I64}
 use Rattle.vx_model.specs.Words.{joined_by}
-use Rattle.vx_tree.specs.LayoutTree.{Spec}
-use Rattle.vx_cells.specs.Reading.{◌>>=◌, front_at, many_at}
+use Rattle.vx_layout_spec.specs.LayoutTree.{Spec}
+use Rattle.vx_cell_codec.specs.Reading.{◌>>=◌, front_at, many_at}
 use Rattle.vx_aggregate.specs.declared.stat.Stat.{Stat}
 use Rattle.vx_metadata.specs.declared.dict.DictLayoutMetadata.{DictLayoutMetadata}
 use Rattle.vx_metadata.specs.declared.list.ListLayoutMetadata.{ListLayoutMetadata}

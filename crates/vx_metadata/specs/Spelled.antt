@@ -3,8 +3,8 @@ use Rattle.std.specs.Prelude.{ℕ, ◌^◌, List, [], ◌∷◌, ◌++◌, lengt
 use Rattle.std.specs.Int.{w32, to_le_bytes}
 use Rattle.vx_model.specs.Words.{joined_by, total_by}
 use Rattle.vx_model.specs.Numbers.{ptype_number}
-use Rattle.vx_model.specs.Tree.{bit}
-use Rattle.vx_tree.specs.LayoutTree.{Spec}
+use Rattle.vx_model.specs.CellData.{bit}
+use Rattle.vx_layout_spec.specs.LayoutTree.{Spec}
 use Rattle.vx_aggregate.specs.declared.stat.Stat.{Stat}
 use Rattle.vx_aggregate.specs.declared.stat.Stat.TheVariants as stats
 use Rattle.vx_aggregate.specs.Stats.{stat_number}

@@ -2,7 +2,7 @@
 use Rattle.std.specs.Prelude.{ℕ, ◌<◌, ◌^◌, ◌&&◌, nat_lt, Bool, true, List, [], ◌∷◌, length, IsTrue}
 use Rattle.std.specs.Str.{is_utf8}
 use Rattle.vx_model.specs.Words.{all_by}
-use Rattle.vx_tree.specs.LayoutTree.{Spec}
+use Rattle.vx_layout_spec.specs.LayoutTree.{Spec}
 use Rattle.vx_aggregate.specs.declared.stat.Stat.{Stat}
 use Rattle.vx_aggregate.specs.Stats.{stat_number}
 

@@ -1,6 +1,6 @@
 -- What the readers return, as contracts see it.
 use Rattle.std.specs.Prelude.{◌≡◌, ℕ, List, map, Option, Some, None, Result, Ok, Err}
-use Rattle.vx_tree.specs.LayoutTree.{Spec}
+use Rattle.vx_layout_spec.specs.LayoutTree.{Spec}
 use Rattle.vx_metadata.specs.declared.error.MetadataError.{MetadataError}
 use Rattle.vx_metadata.specs.declared.error.MetadataError.TheVariants as errors
 use Rattle.vx_metadata.specs.declared.read_error.ReadError.{ReadError}

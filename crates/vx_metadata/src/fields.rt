@@ -1,7 +1,7 @@
 //! Fields of metadata. Each reader returns a value and the bytes behind it.
 
 ghost use Rattle.std.specs.Prelude.{◌≡◌};
-ghost use Rattle.vx_cells.specs.Reading.{front_at as first_bytes};
+ghost use Rattle.vx_cell_codec.specs.Reading.{front_at as first_bytes};
 ghost use Rattle.vx_metadata.specs.Reading.{ptype_in, flag_in, count_at as one_count, string_at as one_string, name_at as one_name};
 ghost use Rattle.vx_metadata.specs.Views.{Reads};
 
@@ -28,7 +28,7 @@ pub(crate) fn flag_of(byte: u8) -> Option<bool>
     }
 }
 
-#[tactic(auto, unfolding(vx_cells::specs::Reading::front_at))]
+#[tactic(auto, unfolding(vx_cell_codec::specs::Reading::front_at))]
 fn front_at(n: u32, bytes: &[u8]) -> Result<(&[u8], &[u8]), ReadError>
     ensures { Reads (λ x. (x.0.now, x.1.now)) result (first_bytes n bytes.now) }
 {
@@ -39,7 +39,7 @@ fn front_at(n: u32, bytes: &[u8]) -> Result<(&[u8], &[u8]), ReadError>
 }
 
 /// A length or a count.
-#[tactic(auto, unfolding(crate::specs::Reading::count_at, vx_cells::specs::Reading::front_at))]
+#[tactic(auto, unfolding(crate::specs::Reading::count_at, vx_cell_codec::specs::Reading::front_at))]
 pub(crate) fn count_at(bytes: &[u8]) -> Result<(u32, &[u8]), ReadError>
     ensures { Reads (λ x. (x.0, x.1.now)) result (one_count bytes.now) }
 {

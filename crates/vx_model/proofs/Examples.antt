@@ -3,9 +3,9 @@ use Rattle.std.proofs.Common.{◌≡◌, true, false, [], ◌∷◌, refl}
 use Rattle.std.specs.Prelude.{pos, negsuc}
 use Rattle.vx_model.specs.declared.ptype.PType.TheVariants.{U8, I16, I32, I64}
 use Rattle.vx_model.specs.Ty.{primitive, utf8, list, struct, field, no_fields}
-use Rattle.vx_model.specs.Tree.{null_cell, int_cell, text_cell, list_cell, struct_cell, trees_of, fits, cell_size, spelling}
-use Rattle.vx_model.specs.Val.{null_value, value}
-use Rattle.vx_model.specs.Piece.{Piece, plain_piece, constant_piece, dict_piece, list_piece, struct_piece, pieces_of, cells, held, is_sound}
+use Rattle.vx_model.specs.CellData.{null_cell, int_cell, text_cell, list_cell, struct_cell, trees_of, fits, cell_size, spelling}
+use Rattle.vx_model.specs.ValueData.{null_value, value}
+use Rattle.vx_model.specs.ChunkData.{ChunkData, plain_piece, constant_piece, dict_piece, list_piece, struct_piece, pieces_of, cells, held, is_sound}
 use Rattle.vx_model.specs.Words.{joined_by}
 
 -- the buffer of one 64-bit seven
@@ -44,7 +44,7 @@ masked_list = refl
 list_cells : cells (list_piece (list (primitive U8 false) false) (plain_piece (primitive U8 false) (int_cell (pos 7) ∷ int_cell (pos 8) ∷ [])) (0 ∷ 1 ∷ 2 ∷ []) []) ≡ list_cell true (trees_of (int_cell (pos 7) ∷ [])) ∷ list_cell true (trees_of (int_cell (pos 8) ∷ [])) ∷ []
 list_cells = refl
 
-coded : Piece
+coded : ChunkData
 coded = dict_piece (plain_piece (primitive U8 false) (int_cell (pos 0) ∷ int_cell (pos 1) ∷ int_cell (pos 0) ∷ [])) (plain_piece (utf8 false) (text_cell (120 ∷ []) ∷ text_cell (121 ∷ []) ∷ []))
 
 coded_cells : cells coded ≡ text_cell (120 ∷ []) ∷ text_cell (121 ∷ []) ∷ text_cell (120 ∷ []) ∷ []

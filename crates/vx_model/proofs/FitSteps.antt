@@ -4,7 +4,7 @@ use Rattle.std.proofs.lemmas.List.{drop_more, length-map}
 use Rattle.vx_model.specs.declared.dtype.StructField.{StructField}
 use Rattle.vx_model.specs.declared.cell.Cell.{Cell}
 use Rattle.vx_model.specs.Ty.{Named, tys_of}
-use Rattle.vx_model.specs.Tree.{Tree, fits, fields_fit}
+use Rattle.vx_model.specs.CellData.{CellData, fits, fields_fit}
 use Rattle.vx_model.specs.TyView.{ty, field_ty}
 use Rattle.vx_model.specs.TreeView.{tree}
 use Rattle.vx_model.proofs.Views.{view_rules, field_ty_is, and_false}
@@ -15,7 +15,7 @@ pub drop_fields_fit : (fs : List StructField) (cs : List Cell) (i : ℕ) (f : St
 drop_fields_fit fs cs i f c lt more f-is c-is = rw (drop_more fs i f lt, ← f-is, drop_more cs i c more, ← c-is, field_ty_is f) refl
 
 -- more or fewer cells than fields don't fit
-pub other_count : (fs : List Named) (cs : List Tree) → (length fs ≡ length cs → ⊥) → fields_fit (tys_of fs) cs ≡ false
+pub other_count : (fs : List Named) (cs : List CellData) → (length fs ≡ length cs → ⊥) → fields_fit (tys_of fs) cs ≡ false
 other_count [] [] h = absurd (h refl)
 other_count [] (c ∷ cs) h = refl
 other_count (f ∷ fs) [] h = refl

@@ -2,7 +2,7 @@
 use Rattle.std.specs.Prelude.{ℕ, ◌+◌, Option, Some, None}
 use Rattle.vx_model.specs.Numbers.{ptype_bytes}
 use Rattle.vx_model.specs.Ty.{Ty, boolean, primitive, extension}
-use Rattle.vx_model.specs.Tree.{null_byte}
+use Rattle.vx_model.specs.CellData.{null_byte}
 
 -- bytes that each cell counts for, the null byte too, where all count for the same
 abbrev pub element_size : Ty → Option ℕ

@@ -1,8 +1,8 @@
 pub mod Words
 pub mod Ty
-pub mod Tree
-pub mod Val
-pub mod Piece
+pub mod CellData
+pub mod ValueData
+pub mod ChunkData
 pub mod Numbers
 pub mod TyView
 pub mod TreeView
@@ -12,3 +12,4 @@ pub mod TyLaws
 pub mod ElementSize
 pub mod Shown
 pub mod Places
+pub mod Codes

@@ -78,3 +78,10 @@ abbrev mutual
   tys_eq no_fields no_fields = true
   tys_eq (field a s fs) (field b t gs) = (bytes_eq a b && ty_eq s t) && tys_eq fs gs
   tys_eq fs gs = false
+
+-- values of the type are compared: seen through extensions it is no list and no struct
+abbrev pub has_order : Ty → Bool
+has_order (list t n) = false
+has_order (struct fs n) = false
+has_order (extension tag t) = has_order t
+has_order t = true

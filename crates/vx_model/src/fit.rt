@@ -3,7 +3,7 @@
 ghost use Rattle.std.specs.Prelude.{◌≡◌, map};
 ghost use Rattle.vx_model.specs.Words.{all_by};
 ghost use Rattle.vx_model.specs.Ty.{tys_of};
-ghost use Rattle.vx_model.specs.Tree.{fits as has_cell, fields_fit, flag_fits};
+ghost use Rattle.vx_model.specs.CellData.{fits as has_cell, fields_fit, flag_fits};
 ghost use Rattle.vx_model.specs.Numbers.{int_fits, is_nullable};
 ghost use Rattle.vx_model.specs.TyView.{ty, field_ty};
 ghost use Rattle.vx_model.specs.TreeView.{tree};

@@ -2,7 +2,7 @@
 
 ghost use Rattle.std.specs.Prelude.{◌≡◌, IfOk, IfSome};
 ghost use Rattle.vx_model.specs.Ty.{as_nullable, is_list, is_struct};
-ghost use Rattle.vx_model.specs.Tree.{Tree, cell_size};
+ghost use Rattle.vx_model.specs.CellData.{CellData, cell_size};
 ghost use Rattle.vx_model.specs.ElementSize.{element_size};
 ghost use Rattle.vx_model.specs.TyView.{ty};
 
@@ -37,7 +37,7 @@ impl DType {
     /// The null byte of a nullable type counts.
     pub fn element_size(&self) -> Option<u64>
         ensures size { result ≡ element_size (ty self.now) }
-        ensures of_each { IfSome result (λ n. (c : Tree) → cell_size (ty self.now) c ≡ n) }
+        ensures of_each { IfSome result (λ n. (c : CellData) → cell_size (ty self.now) c ≡ n) }
     {
         match self {
             DType::Bool(n) => Some(1 + n.null_byte()),

@@ -1,7 +1,7 @@
 ghost use Rattle.std.specs.Prelude.{◌≡◌, ◌≢◌, IfNone, IfSome};
 ghost use Rattle.vx_model.specs.declared.ptype.PType.{PType};
 ghost use Rattle.vx_model.specs.Numbers.{ptype_number, ptype_bytes, ptype_name, is_nullable};
-ghost use Rattle.vx_model.specs.Tree.{null_byte};
+ghost use Rattle.vx_model.specs.CellData.{null_byte};
 
 /// The integer types.
 #[derive(Clone, Copy, Debug, PartialEq, Eq)]

@@ -3,7 +3,7 @@ use Rattle.std.specs.Prelude.{◌≡◌, ◌⊎◌, ℕ, ◌+◌, ◌-◌, ◌^�
 use Rattle.vx_path.specs.Path.{path_lt}
 use Rattle.vx_sequence.specs.Universe.{Active, IsActive, IsLeast, released}
 use Rattle.vx_sequence.specs.declared.ids.SequenceId.{SequenceId}
-use Rattle.vx_sink.specs.Told.{then_told}
+use Rattle.vx_fault.specs.Told.{then_told}
 use Rattle.vx_order.specs.declared.attempt.Attempt.{Attempt}
 use Rattle.vx_order.specs.declared.attempt.Attempt.TheVariants.{Written, Waiting}
 use Rattle.vx_order.specs.declared.errors.OrderError.{OrderError}

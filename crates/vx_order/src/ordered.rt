@@ -2,7 +2,7 @@
 ghost use Rattle.std.specs.Prelude.{◌≡◌, ◌↔◌, ℕ, ◌+◌, ◌<◌, ◌≤◌, ◌^◌, List, IsTrue, IfOk, IfErr, OnOk, OnErr};
 ghost use Rattle.vx_path.specs.Path.{eof_path, next, path_lt};
 ghost use Rattle.vx_sequence.specs.Universe.{Active, IsActive, IsOpen, IsLeast, IsUniverse, advanced, descended, released};
-ghost use Rattle.vx_sink.specs.Counts.{Counts, IsCalm};
+ghost use Rattle.vx_fault.specs.Counts.{Counts, IsCalm};
 
 use crate::attempt::Attempt;
 use crate::errors::OrderError;

@@ -2,11 +2,11 @@
 use Rattle.std.proofs.Common.{◌≡◌, ℕ, ◌+◌, ◌<◌, ◌^◌, Bool, true, false, List, [], ◌∷◌, ◌++◌, length, Option, refl, sym, ap, ap₂, ◌∙◌, subst, arith, length-append}
 use Rattle.std.proofs.lemmas.List.{append-nil}
 use Rattle.vx_model.specs.Ty.{Ty}
-use Rattle.vx_model.specs.Val.{Val}
-use Rattle.vx_model.specs.Piece.{row_values}
+use Rattle.vx_model.specs.ValueData.{ValueData}
+use Rattle.vx_model.specs.ChunkData.{row_values}
 use Rattle.vx_path.specs.Path.{Eof, Region, inside, next}
-use Rattle.vx_tree.specs.LayoutTree.{gathered, layout_type}
-use Rattle.vx_tree.specs.Rows.{joined}
+use Rattle.vx_layout_spec.specs.LayoutTree.{gathered, layout_type}
+use Rattle.vx_layout_spec.specs.Rows.{joined}
 use Rattle.vx_plan.specs.PlanData.{Setting, Item, Pair, Plan, Node, paths, places, stream_values, row_total}
 use Rattle.vx_plan.specs.ChunkedNode.{chunked_node, chunk_plans, all_pairs, all_faults, all_numbers, all_layouts}
 use Rattle.vx_plan.specs.Valid.{Fit}
@@ -18,7 +18,7 @@ use Rattle.vx_plan.proofs.FlatLaws.{Reads, Placed, Grows, Typed}
 -- ---- rows
 
 -- the rows of each chunk
-abbrev pub each_values : List Item → List (List Val)
+abbrev pub each_values : List Item → List (List ValueData)
 each_values [] = []
 each_values (i ∷ is) = stream_values (i ∷ []) ∷ each_values is
 

@@ -5,17 +5,18 @@ use Rattle.std.proofs.lemmas.List.{length-map}
 use Rattle.vx_rules.proofs.RegroupLaws.{stream_cells-append}
 use Rattle.vx_model.specs.Words.{all_by}
 use Rattle.vx_model.specs.Ty.{Ty, Tys, boolean, list, struct, no_fields, field}
-use Rattle.vx_model.specs.Val.{Val, value}
-use Rattle.vx_model.specs.Tree.{Tree, fits, bool_cell}
-use Rattle.vx_model.specs.Piece.{cells}
+use Rattle.vx_model.specs.ValueData.{ValueData, value}
+use Rattle.vx_model.specs.CellData.{CellData, fits, bool_cell}
+use Rattle.vx_model.specs.ChunkData.{cells}
 use Rattle.vx_path.specs.Lists.{In}
 use Rattle.vx_path.specs.Path.{Eof, Region, begins, Scattered, meets, raised, inside, next, under}
 use Rattle.vx_path.proofs.Lists.{in_cases}
 use Rattle.vx_path.proofs.Path.{begins-refl, begins-trans, begins-under, meets-sym, under_apart, raised_apart, raised-next}
-use Rattle.vx_tree.specs.Rows.{and_then, counted, struct_rows, list_rows, under_validity, has_count, zipped, kept_rows, lists_of}
-use Rattle.vx_tree.specs.LayoutTree.{Lay, layout_type, struct_layout, list_layout}
+use Rattle.vx_layout_spec.specs.Rows.{and_then, counted, struct_rows, list_rows, under_validity, has_count, zipped, kept_rows, lists_of}
+use Rattle.vx_layout_spec.specs.LayoutTree.{LayoutData, layout_type, struct_layout, list_layout}
 use Rattle.vx_rules.specs.Stream.{Chunk, Chunks, stream_cells, chunk_paths}
-use Rattle.vx_rules.specs.Columns.{flag_of, Split, struct_splits, list_splits, column, other_columns, all_elements, ends, offset_cell, offset_type}
+use Rattle.vx_rules.specs.Columns.{Split, struct_splits, list_splits, column, other_columns, offset_cell, offset_type}
+use Rattle.vx_layout_spec.specs.Parts.{flag_of, all_elements, ends}
 use Rattle.vx_rules.proofs.CellLaws.{cells_fine, all_append}
 use Rattle.vx_rules.proofs.ColumnCells.{field_cells, column_values, inner_value, zipped_fields, flags_keep, structs_valid, lists_valid}
 use Rattle.vx_rules.proofs.ColumnStreams.{split_paths, unders, column_paths, other_paths, struct_paths, list_paths, column-append, other_columns-append, struct_splits-append, list_splits_begin, field_streams, StreamsOf, streams_cells, streams_are, chunk_cells, all_chunk_cells, struct_shows, nullable_shows, validity_stream, lists_are, elements_stream, offsets_stream, list_validity_stream, elements_append}
@@ -32,7 +33,7 @@ use Rattle.vx_plan.proofs.ChunkedLaws.{paths-append}
 
 -- ---- rows of structs
 
-abbrev pub streams_values : List (List Chunk) → List (List Val)
+abbrev pub streams_values : List (List Chunk) → List (List ValueData)
 streams_values [] = []
 streams_values (s ∷ ss) = stream_values s ∷ streams_values ss
 
@@ -54,7 +55,7 @@ fields_read admitted s (field name t fs) (k ∷ ks) r m c xs e of clean fit look
       fields_read admitted s fs ks r.1 m (suc c) (other_columns xs) (next e) of.1 (nil_right p.faults (all_faults ps) clean) (fit_right p.numbers (all_numbers ps) fit) look (holds_right look p.pairs (all_pairs ps) held),
     )
 
-counts_ok : (fs : Tys) (cs : List Tree) (n : ℕ) → length cs ≡ n → all_by (has_count n) (column_values (field_cells fs cs)) ≡ true
+counts_ok : (fs : Tys) (cs : List CellData) (n : ℕ) → length cs ≡ n → all_by (has_count n) (column_values (field_cells fs cs)) ≡ true
 counts_ok no_fields cs n e = refl
 counts_ok (field name t fs) cs n e = go (length (map value (map Rattle.vx_rules.specs.Columns.first_of cs)) == n)
     (eq-eqb (length (map value (map Rattle.vx_rules.specs.Columns.first_of cs))) n (length-map (map Rattle.vx_rules.specs.Columns.first_of cs) value ∙ length-map cs Rattle.vx_rules.specs.Columns.first_of ∙ e))
@@ -64,19 +65,19 @@ counts_ok (field name t fs) cs n e = go (length (map value (map Rattle.vx_rules.
     go b e f = rw (e, f) refl
 
 -- the rows of structs from their columns
-struct_rows_are : (fs : Tys) (cs : List Tree) (n : ℕ) → length cs ≡ n → all_by (fits (struct fs false)) cs ≡ true
+struct_rows_are : (fs : Tys) (cs : List CellData) (n : ℕ) → length cs ≡ n → all_by (fits (struct fs false)) cs ≡ true
     → struct_rows false n (column_values (field_cells fs cs)) ≡ Some (map value cs)
 struct_rows_are fs cs n e h =
     ap (λ b. if b then Some (zipped n (column_values (field_cells fs cs))) else None) (counts_ok fs cs n e)
     ∙ ap Some (ap (λ k. zipped k (column_values (field_cells fs cs))) (sym e) ∙ zipped_fields fs false cs h ∙ structs_valid fs cs h)
 
-under_flags : (cs : List Tree) (n : ℕ) → length cs ≡ n → under_validity n (map value (map bool_cell (map flag_of cs))) (map inner_value cs) ≡ Some (map value cs)
+under_flags : (cs : List CellData) (n : ℕ) → length cs ≡ n → under_validity n (map value (map bool_cell (map flag_of cs))) (map inner_value cs) ≡ Some (map value cs)
 under_flags cs n e =
     ap (λ b. if b then Some (kept_rows (map value (map bool_cell (map flag_of cs))) (map inner_value cs)) else None)
     (eq-eqb (length (map value (map bool_cell (map flag_of cs)))) n (length-map (map bool_cell (map flag_of cs)) value ∙ length-map (map flag_of cs) bool_cell ∙ length-map cs flag_of ∙ e))
     ∙ ap Some (flags_keep cs)
 
-nullable_rows_are : (fs : Tys) (cs : List Tree) (n : ℕ) → length cs ≡ n → all_by (fits (struct fs true)) cs ≡ true
+nullable_rows_are : (fs : Tys) (cs : List CellData) (n : ℕ) → length cs ≡ n → all_by (fits (struct fs true)) cs ≡ true
     → struct_rows true n (map value (map bool_cell (map flag_of cs)) ∷ column_values (field_cells fs cs)) ≡ Some (map value cs)
 nullable_rows_are fs cs n e h =
     ap (and_then (under_validity n (map value (map bool_cell (map flag_of cs)))))
@@ -89,7 +90,7 @@ stream_fits : (t : Ty) (cs : List Chunk) → Chunks t cs → all_by (fits t) (st
 stream_fits t [] h = refl
 stream_fits t (c ∷ cs) h = all_append (fits t) (cells c.1) (stream_cells cs) (cells_fine t c.1 h.0).fit (stream_fits t cs h.1)
 
-struct_layout_rows : {A : Type 0} (admitted : Bool) (s : Setting) (look : A → Option (List ℕ)) (fs : Tys) (m : Bool) (n : ℕ) (ls : List (Lay A)) (vss : List (List Val)) (out : List Val)
+struct_layout_rows : {A : Type 0} (admitted : Bool) (s : Setting) (look : A → Option (List ℕ)) (fs : Tys) (m : Bool) (n : ℕ) (ls : List (LayoutData A)) (vss : List (List ValueData)) (out : List ValueData)
     → ReadAll admitted s look ls vss → struct_rows m n vss ≡ Some out → length out ≡ n → Gives admitted s look (struct_layout (struct fs m) n ls) out
 struct_layout_rows admitted s look fs m n ls vss out r e l = record {
   read = ap (λ z. and_then (counted n) (and_then (struct_rows m n) z)) (all_there_read admitted s look ls vss r) ∙ ap (and_then (counted n)) e ∙ counted_same n out l;
@@ -164,7 +165,7 @@ not_struct_reads admitted s t = record { reads = λ m items e of clean fit look 
 
 -- ---- rows of lists
 
-list_layout_rows : {A : Type 0} (admitted : Bool) (s : Setting) (look : A → Option (List ℕ)) (t : Ty) (m : Bool) (n : ℕ) (ls : List (Lay A)) (vss : List (List Val)) (out : List Val)
+list_layout_rows : {A : Type 0} (admitted : Bool) (s : Setting) (look : A → Option (List ℕ)) (t : Ty) (m : Bool) (n : ℕ) (ls : List (LayoutData A)) (vss : List (List ValueData)) (out : List ValueData)
     → ReadAll admitted s look ls vss → list_rows m n vss ≡ Some out → length out ≡ n → Gives admitted s look (list_layout (list t m) n ls) out
 list_layout_rows admitted s look t m n ls vss out r e l = record {
   read = ap (λ z. and_then (counted n) (and_then (list_rows m n) z)) (all_there_read admitted s look ls vss r) ∙ ap (and_then (counted n)) e ∙ counted_same n out l;
@@ -400,7 +401,7 @@ columns_still [] h c e = refl
 columns_still (k ∷ ks) h c e =
     let a : (k [] false (inside e)).reserved ≡ 0 = h.2 (inside e) in let b : all_reserved (column_plans ks (suc c) [] false (next e)) ≡ 0 = columns_still ks h.3 (suc c) (next e) in omega arith
 
-beside_within : (l k : Lay (List ℕ)) (ns ms : List ℕ) (ps qs : List Plan) → (Fit ms → Fit ns) → Grow ps qs → Within (beside l ns ps) (beside k ms qs)
+beside_within : (l k : LayoutData (List ℕ)) (ns ms : List ℕ) (ps qs : List Plan) → (Fit ms → Fit ns) → Grow ps qs → Within (beside l ns ps) (beside k ms qs)
 beside_within l k ns ms ps qs f g = record {
   pairs = g.pairs;
   faultless = g.faultless;

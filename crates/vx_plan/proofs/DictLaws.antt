@@ -4,13 +4,13 @@ use Rattle.std.specs.Prelude.{if◌then◌else◌}
 use Rattle.std.proofs.lemmas.List.{length-map, map-append}
 use Rattle.std.proofs.lemmas.Bool.{true≢false}
 use Rattle.vx_model.specs.Ty.{Ty}
-use Rattle.vx_model.specs.Tree.{Tree}
-use Rattle.vx_model.specs.Val.{Val, value}
-use Rattle.vx_model.specs.Piece.{is_dict_type}
+use Rattle.vx_model.specs.CellData.{CellData}
+use Rattle.vx_model.specs.ValueData.{ValueData, value}
+use Rattle.vx_model.specs.ChunkData.{is_dict_type}
 use Rattle.vx_path.specs.Path.{Eof, Region, inside, next}
 use Rattle.vx_path.proofs.Lists.{in_left, in_right, in_cases}
-use Rattle.vx_tree.specs.Rows.{rows, and_then, all_there, counted, joined, dict_rows}
-use Rattle.vx_tree.specs.LayoutTree.{Lay, layout_type, dict_layout, gathered}
+use Rattle.vx_layout_spec.specs.Rows.{rows, and_then, all_there, counted, joined, dict_rows}
+use Rattle.vx_layout_spec.specs.LayoutTree.{LayoutData, layout_type, dict_layout, gathered}
 use Rattle.vx_rules.specs.Stream.{Chunks, stream_cells, chunk_paths}
 use Rattle.vx_rules.specs.Columns.{offset_cell}
 use Rattle.vx_rules.specs.Runs.{DictOptions, Run, runs, code_type, cut_at}
@@ -29,7 +29,7 @@ use Rattle.vx_plan.proofs.GroupLaws.{apart_onto, lies_onto}
 
 -- ---- rows
 
-dict_layout_rows : {A : Type 0} (admitted : Bool) (s : Setting) (look : A → Option (List ℕ)) (t : Ty) (n : ℕ) (values codes : Lay A) (vs cs out : List Val)
+dict_layout_rows : {A : Type 0} (admitted : Bool) (s : Setting) (look : A → Option (List ℕ)) (t : Ty) (n : ℕ) (values codes : LayoutData A) (vs cs out : List ValueData)
     → Gives admitted s look values vs → Gives admitted s look codes cs → dict_rows (vs ∷ cs ∷ []) ≡ Some out → length out ≡ n → Gives admitted s look (dict_layout t n values codes) out
 dict_layout_rows admitted s look t n values codes vs cs out e f g l = record {
   read = ap₂ (λ a b. and_then (counted n) (and_then dict_rows (all_there (a ∷ b ∷ [])))) e.read f.read ∙ ap (and_then (counted n)) g ∙ counted_same n out l;
@@ -37,8 +37,8 @@ dict_layout_rows admitted s look t n values codes vs cs out e f g l = record {
 }
 
 -- one run that has ended
-run_reads : (admitted : Bool) (s : Setting) (o : DictOptions) (t : Ty) (ck vk : Node) → Reads admitted s (code_type o) ck → Reads admitted s t vk → (m : Bool) (codes values : List Item) (closed : Bool) (e : Eof) (part : List Tree) → closed ≡ true
-    → (ns : List ℕ) (ds : List Tree) → stream_cells codes ≡ map offset_cell ns → stream_cells values ≡ ds → Rattle.vx_rules.proofs.RunLaws.Decodes ds ns part → Chunks (code_type o) codes → Chunks t values
+run_reads : (admitted : Bool) (s : Setting) (o : DictOptions) (t : Ty) (ck vk : Node) → Reads admitted s (code_type o) ck → Reads admitted s t vk → (m : Bool) (codes values : List Item) (closed : Bool) (e : Eof) (part : List CellData) → closed ≡ true
+    → (ns : List ℕ) (ds : List CellData) → stream_cells codes ≡ map offset_cell ns → stream_cells values ≡ ds → Rattle.vx_rules.proofs.RunLaws.Decodes ds ns part → Chunks (code_type o) codes → Chunks t values
     → (ck m codes closed (inside e)).faults ++ (vk m values closed (inside (next e))).faults ≡ []
     → Fit ((ck m codes closed (inside e)).numbers ++ (vk m values closed (inside (next e))).numbers) → (look : List ℕ → Option (List ℕ))
     → Holds look ((ck m codes closed (inside e)).pairs ++ (vk m values closed (inside (next e))).pairs)
@@ -55,15 +55,15 @@ run_reads admitted s o t ck vk rc rv m codes values true e part c ns ds x y d oc
     (length-map part value ∙ sym l ∙ sym (length-map ns offset_cell) ∙ sym (ap length x) ∙ sym (row_total_cells codes))
 
 -- the rows of each run
-abbrev pub parts_of : (o : DictOptions) (t : Ty) (rs : List Run) (rows : List Tree) → AllEnded o t rs rows → List (List Val)
+abbrev pub parts_of : (o : DictOptions) (t : Ty) (rs : List Run) (rows : List CellData) → AllEnded o t rs rows → List (List ValueData)
 parts_of o t [] rows h = []
 parts_of o t (r ∷ rs) rows h = map value h.0 ∷ parts_of o t rs h.1 h.4
 
-joined_parts : (o : DictOptions) (t : Ty) (rs : List Run) (cs : List Tree) (h : AllEnded o t rs cs) → joined (parts_of o t rs cs h) ≡ map value cs
+joined_parts : (o : DictOptions) (t : Ty) (rs : List Run) (cs : List CellData) (h : AllEnded o t rs cs) → joined (parts_of o t rs cs h) ≡ map value cs
 joined_parts o t [] cs h = ap (map value) (sym h)
 joined_parts o t (r ∷ rs) cs h = ap (λ z. map value h.0 ++ z) (joined_parts o t rs h.1 h.4) ∙ sym (map-append value h.0 h.1) ∙ ap (map value) (sym h.2)
 
-runs_read : (admitted : Bool) (s : Setting) (o : DictOptions) (t : Ty) (ck vk : Node) → Reads admitted s (code_type o) ck → Reads admitted s t vk → (m : Bool) (rs : List Run) (e : Eof) (cs : List Tree) (h : AllEnded o t rs cs)
+runs_read : (admitted : Bool) (s : Setting) (o : DictOptions) (t : Ty) (ck vk : Node) → Reads admitted s (code_type o) ck → Reads admitted s t vk → (m : Bool) (rs : List Run) (e : Eof) (cs : List CellData) (h : AllEnded o t rs cs)
     → all_faults (run_plans t ck vk m rs e) ≡ [] → Fit (all_numbers (run_plans t ck vk m rs e)) → (look : List ℕ → Option (List ℕ)) → Holds look (all_pairs (run_plans t ck vk m rs e))
     → ReadAll admitted s look (all_layouts (run_plans t ck vk m rs e)) (parts_of o t rs cs h)
 runs_read admitted s o t ck vk rc rv m [] e cs h clean fit look held = tt
@@ -87,7 +87,7 @@ dict_reads admitted s o t d ck vk f rc rv rf = record { reads = go }
         → Gives admitted s look (runs_node o t ck vk m (i ∷ is) true e).layout (stream_values (i ∷ is))
     by_runs m i is e of clean fit look held =
         let h : AllEnded o t (runs o t (i ∷ is) true) (stream_cells (i ∷ is)) = runs_end o t d i is of in
-        let vss : List (List Val) = parts_of o t (runs o t (i ∷ is) true) (stream_cells (i ∷ is)) h in
+        let vss : List (List ValueData) = parts_of o t (runs o t (i ∷ is) true) (stream_cells (i ∷ is)) h in
         gives_same admitted s look (runs_node o t ck vk m (i ∷ is) true e).layout (joined vss) (stream_values (i ∷ is))
         (gathered_reads admitted s look t (row_total (i ∷ is)) (all_layouts (run_plans t ck vk m (runs o t (i ∷ is) true) e)) vss
         (runs_read admitted s o t ck vk rc rv m (runs o t (i ∷ is) true) e (stream_cells (i ∷ is)) h clean
@@ -142,7 +142,7 @@ dict_placed s o t ck vk f c v pf = record { placed = go }
 
 -- ---- prefixes
 
-both_within : (l k : Lay (List ℕ)) (p q r u : Plan) → Within p r → Within q u → Within (both_plans l [] p q) (both_plans k [] r u)
+both_within : (l k : LayoutData (List ℕ)) (p q r u : Plan) → Within p r → Within q u → Within (both_plans l [] p q) (both_plans k [] r u)
 both_within l k p q r u a b = record {
   pairs = λ x h. ⊎_elim (λ i. in_left x r.pairs u.pairs (a.pairs x i)) (λ i. in_right x r.pairs u.pairs (b.pairs x i)) (in_cases x p.pairs q.pairs h);
   faultless = λ e. nil_both p.faults q.faults (a.faultless (nil_left r.faults u.faults e)) (b.faultless (nil_right r.faults u.faults e));
@@ -172,7 +172,7 @@ runs_fewer [] qs h = omega arith
 runs_fewer (r ∷ rs) [] h = absurd h
 runs_fewer (r ∷ rs) (q ∷ qs) h = let l : length rs ≤ length qs = runs_fewer rs qs h.1 in omega arith
 
-made_begin : (o : DictOptions) (t : Ty) (ds : List Tree) (xs ys : List Item) (ended : Bool) → (more : List ℕ) × (made_counts o t ds (xs ++ ys) ended ≡ made_counts o t ds xs false ++ more)
+made_begin : (o : DictOptions) (t : Ty) (ds : List CellData) (xs ys : List Item) (ended : Bool) → (more : List ℕ) × (made_counts o t ds (xs ++ ys) ended ≡ made_counts o t ds xs false ++ more)
 made_begin o t ds [] ys ended = (made_counts o t ds ys ended, refl)
 made_begin o t ds (x ∷ []) ys ended = (made_counts o t ds (x ∷ ys) ended, refl)
 made_begin o t ds (x ∷ z ∷ xs) ys ended =

@@ -4,11 +4,11 @@ use Rattle.std.specs.Prelude.{pos}
 use Rattle.vx_model.specs.declared.ptype.PType.TheVariants.{I64}
 use Rattle.vx_model.specs.declared.encoding.EncodingId.TheVariants.{Plain}
 use Rattle.vx_model.specs.Ty.{Ty, primitive}
-use Rattle.vx_model.specs.Tree.{int_cell}
-use Rattle.vx_model.specs.Piece.{Piece, plain_piece, cells}
-use Rattle.vx_tree.specs.LayoutTree.{chunked_layout, flat_layout}
+use Rattle.vx_model.specs.CellData.{int_cell}
+use Rattle.vx_model.specs.ChunkData.{ChunkData, plain_piece, cells}
+use Rattle.vx_layout_spec.specs.LayoutTree.{chunked_layout, flat_layout}
 use Rattle.vx_plan.specs.PlanData.{Setting, planned, fault, many_chunks, forbidden_encoding, at_chunk}
-use Rattle.vx_plan.specs.Way.{Way, flat, chunked}
+use Rattle.vx_strategy_spec.specs.StrategyData.{StrategyData, flat, chunked}
 use Rattle.vx_plan.specs.SourcePlan.{source_plan}
 use Rattle.vx_plan.specs.Number.{segments, numbered}
 
@@ -44,16 +44,16 @@ refusing = record {
 i64 : Ty
 i64 = primitive I64 false
 
-number : ℕ → Piece
+number : ℕ → ChunkData
 number n = plain_piece (primitive I64 false) (int_cell (pos n) ∷ [])
 
-one_two : Piece
+one_two : ChunkData
 one_two = plain_piece (primitive I64 false) (int_cell (pos 1) ∷ int_cell (pos 2) ∷ [])
 
-chunks : Way
+chunks : StrategyData
 chunks = chunked (flat (record { padding = true; inline = false }))
 
-flats : Way
+flats : StrategyData
 flats = flat (record { padding = true; inline = false })
 
 -- batches of two rows and one: paths [0, 0] and [0, 1]

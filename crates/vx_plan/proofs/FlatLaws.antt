@@ -4,15 +4,15 @@ use Rattle.std.proofs.lemmas.List.{append-nil, length-map}
 use Rattle.std.proofs.lemmas.Bool.{true≢false}
 use Rattle.vx_model.specs.declared.encoding.EncodingId.{EncodingId}
 use Rattle.vx_model.specs.Ty.{Ty}
-use Rattle.vx_model.specs.Tree.{Tree}
-use Rattle.vx_model.specs.Val.{value}
-use Rattle.vx_model.specs.Piece.{cells, row_values, piece_type}
+use Rattle.vx_model.specs.CellData.{CellData}
+use Rattle.vx_model.specs.ValueData.{value}
+use Rattle.vx_model.specs.ChunkData.{cells, row_values, piece_type}
 use Rattle.vx_path.specs.Path.{Eof, Region}
 use Rattle.vx_path.proofs.Path.{begins-refl}
-use Rattle.vx_tree.specs.LayoutTree.{layout_type}
-use Rattle.vx_tree.specs.Rows.{and_then, counted}
+use Rattle.vx_layout_spec.specs.LayoutTree.{layout_type}
+use Rattle.vx_layout_spec.specs.Rows.{and_then, counted}
 use Rattle.vx_plan.specs.PlanData.{Setting, Item, Node, paths, places, stream_values}
-use Rattle.vx_plan.specs.Way.{FlatOptions}
+use Rattle.vx_strategy_spec.specs.StrategyData.{FlatOptions}
 use Rattle.vx_plan.specs.FlatNode.{flat_node, segment, pair_at, refused_at, length_of}
 use Rattle.vx_plan.specs.Valid.{Fit, Keeps}
 use Rattle.vx_plan.specs.Statements.{Within}
@@ -62,7 +62,7 @@ fit_length None b e h = cc
 fit_length (Some c) b e h = let f : c ≡ b = cc in rw (← f) h.0
 
 -- a segment that is looked up and decoded
-flat_value : (found : Option (List ℕ)) (b : List ℕ) (cs : List Tree) (d : List ℕ → Option (List Tree)) → found ≡ Some b → d b ≡ Some cs
+flat_value : (found : Option (List ℕ)) (b : List ℕ) (cs : List CellData) (d : List ℕ → Option (List CellData)) → found ≡ Some b → d b ≡ Some cs
     → and_then (counted (length cs)) (and_then (λ ts. Some (map value ts)) (and_then d found)) ≡ Some (map value cs)
 flat_value found b cs d e f = rw (e, f) (counted_same (length cs) (map value cs) (length-map cs value))
 

@@ -1,9 +1,9 @@
 -- The laws of regrouping and compressing nodes.
 use Rattle.std.proofs.Common.{◌≡◌, ℕ, ◌+◌, ◌<◌, ◌≤◌, ◌^◌, Bool, true, false, List, [], ◌∷◌, ◌++◌, map, length, Option, refl, sym, ap, ap₂, ◌∙◌, subst, arith, append_assoc}
 use Rattle.vx_model.specs.Ty.{Ty}
-use Rattle.vx_model.specs.Val.{value}
-use Rattle.vx_model.specs.Tree.{Tree}
-use Rattle.vx_model.specs.Piece.{Piece, held}
+use Rattle.vx_model.specs.ValueData.{value}
+use Rattle.vx_model.specs.CellData.{CellData}
+use Rattle.vx_model.specs.ChunkData.{ChunkData, held}
 use Rattle.vx_path.specs.Lists.{In}
 use Rattle.vx_path.specs.Path.{Eof, Region, begins, raised}
 use Rattle.vx_path.proofs.Path.{region_from, begins-refl}
@@ -16,7 +16,7 @@ use Rattle.vx_rules.proofs.BlockLaws.{Rows, blocks_regroup}
 use Rattle.vx_rules.proofs.FlushLaws.{flushes_regroup, collected_rows, collected_of, collected_onto, collected_open}
 use Rattle.vx_rules.specs.Stream.{piece_cells, PiecesOf}
 use Rattle.vx_plan.specs.PlanData.{Setting, Item, Plan, Node, paths, places, stream_values, row_total}
-use Rattle.vx_plan.specs.Way.{Grouping, by_blocks, by_bytes, into_one}
+use Rattle.vx_strategy_spec.specs.StrategyData.{Grouping, by_blocks, by_bytes, into_one}
 use Rattle.vx_plan.specs.GroupNode.{with_numbers, grouped_stream, counted_at, left_count, rest_count, block_count, block_rest, held_sizes, group_numbers, held_total, group_reserved, grouped_node, images, compressed_node}
 use Rattle.vx_plan.specs.Valid.{Fit, Keeps}
 use Rattle.vx_plan.specs.Statements.{Within}
@@ -27,13 +27,13 @@ use Rattle.vx_plan.proofs.FlatLaws.{Reads, Placed, Grows, Typed}
 -- ---- the regrouped stream
 
 kept_cells : (g : Grouping) (t : Ty) (items : List Item) → stream_cells (grouped_stream g t items true) ≡ stream_cells items
-kept_cells (by_blocks o) t items = regrouped_rows (List Tree) t (blocks o t) (λ rows. rows) (Rows t) (blocks_regroup o t) items
-kept_cells (by_bytes size) t items = regrouped_rows (List Piece) t (flushes size) piece_cells (PiecesOf t) (flushes_regroup size t) items
+kept_cells (by_blocks o) t items = regrouped_rows (List CellData) t (blocks o t) (λ rows. rows) (Rows t) (blocks_regroup o t) items
+kept_cells (by_bytes size) t items = regrouped_rows (List ChunkData) t (flushes size) piece_cells (PiecesOf t) (flushes_regroup size t) items
 kept_cells into_one t items = collected_rows t items
 
 kept_of : (g : Grouping) (t : Ty) (items : List Item) → Chunks t items → length (stream_cells items) < 2 ^ 64 → Chunks t (grouped_stream g t items true)
-kept_of (by_blocks o) t items of lt = regrouped_of (List Tree) t (blocks o t) (λ rows. rows) (Rows t) (blocks_regroup o t) items of lt
-kept_of (by_bytes size) t items of lt = regrouped_of (List Piece) t (flushes size) piece_cells (PiecesOf t) (flushes_regroup size t) items of lt
+kept_of (by_blocks o) t items of lt = regrouped_of (List CellData) t (blocks o t) (λ rows. rows) (Rows t) (blocks_regroup o t) items of lt
+kept_of (by_bytes size) t items of lt = regrouped_of (List ChunkData) t (flushes size) piece_cells (PiecesOf t) (flushes_regroup size t) items of lt
 kept_of into_one t items of lt = collected_of t items of lt
 
 grouped_onto : (g : Grouping) (t : Ty) (items : List Item) (ended : Bool) → Onto (chunk_paths (grouped_stream g t items ended)) (chunk_paths items)
@@ -83,7 +83,7 @@ grouped_placed g t k c = record {
 
 -- ---- prefixes
 
-counted_begins : {S : Type 0} (f g : S → Piece → List ℕ) (r : Rule S) (s : S) (xs ys : List Item) (ended : Bool)
+counted_begins : {S : Type 0} (f g : S → ChunkData → List ℕ) (r : Rule S) (s : S) (xs ys : List Item) (ended : Bool)
     → (more : List ℕ) × (counted_at f g r s (xs ++ ys) ended ≡ counted_at f g r s xs false ++ more)
 counted_begins f g r s [] ys ended = (counted_at f g r s ys ended, refl)
 counted_begins f g r s (x ∷ []) ys ended = (counted_at f g r s (x ∷ ys) ended, refl)
@@ -91,12 +91,12 @@ counted_begins f g r s (x ∷ z ∷ xs) ys ended =
     let h : (more : List ℕ) × (counted_at f g r (r.holds s x.1) (z ∷ xs ++ ys) ended ≡ counted_at f g r (r.holds s x.1) (z ∷ xs) false ++ more) = counted_begins f g r (r.holds s x.1) (z ∷ xs) ys ended in
     (h.0, ap (λ w. f s x.1 ++ w) h.1 ∙ sym (append_assoc (f s x.1) (counted_at f g r (r.holds s x.1) (z ∷ xs) false) h.0))
 
-fit_counted : {S : Type 0} (f g : S → Piece → List ℕ) (r : Rule S) (s : S) (xs ys : List Item) (ended : Bool) → Fit (counted_at f g r s (xs ++ ys) ended) → Fit (counted_at f g r s xs false)
+fit_counted : {S : Type 0} (f g : S → ChunkData → List ℕ) (r : Rule S) (s : S) (xs ys : List Item) (ended : Bool) → Fit (counted_at f g r s (xs ++ ys) ended) → Fit (counted_at f g r s xs false)
 fit_counted f g r s xs ys ended h =
     let b : (more : List ℕ) × (counted_at f g r s (xs ++ ys) ended ≡ counted_at f g r s xs false ++ more) = counted_begins f g r s xs ys ended in
     fit_left (counted_at f g r s xs false) b.0 (subst Fit b.1 h)
 
-fit_held : (size : ℕ) (ps : List Piece) (xs ys : List Item) → Fit (held_sizes size ps (xs ++ ys)) → Fit (held_sizes size ps xs)
+fit_held : (size : ℕ) (ps : List ChunkData) (xs ys : List Item) → Fit (held_sizes size ps (xs ++ ys)) → Fit (held_sizes size ps xs)
 fit_held size ps [] ys h = tt
 fit_held size ps (x ∷ xs) ys h = (h.0, (h.1.0, fit_held size ((flushes size).holds ps x.1) xs ys h.1.1))
 

@@ -6,16 +6,16 @@ use Rattle.std.specs.Cmp.Lexicographic.{bytes_decides}
 use Rattle.std.specs.Prelude.{if◌then◌else◌}
 use Rattle.vx_model.specs.declared.encoding.EncodingId.{EncodingId}
 use Rattle.vx_model.specs.Ty.{Ty}
-use Rattle.vx_model.specs.Piece.{Piece, cells}
+use Rattle.vx_model.specs.ChunkData.{ChunkData, cells}
 use Rattle.vx_path.specs.Lists.{In}
 use Rattle.vx_path.specs.Path.{Eof, inside, next, path_le}
 use Rattle.vx_path.specs.Sort.{Ascends}
 use Rattle.vx_path.proofs.Path.{under_le}
 use Rattle.vx_path.proofs.Sort.{sort_by-ascending}
 use Rattle.vx_path.proofs.Lists.{in_cases}
-use Rattle.vx_tree.specs.LayoutTree.{Lay, layout, chunked_kind, gathered, renamed, each_renamed, lays_of, child, flat_layout}
+use Rattle.vx_layout_spec.specs.LayoutTree.{LayoutData, layout, chunked_kind, gathered, renamed, each_renamed, lays_of, child, flat_layout}
 use Rattle.vx_plan.specs.PlanData.{Setting, Item, Pair, Plan, stored, row_total}
-use Rattle.vx_plan.specs.Way.{Way, FlatOptions, flat, chunked, leaf}
+use Rattle.vx_strategy_spec.specs.StrategyData.{StrategyData, FlatOptions, flat, chunked, leaf}
 use Rattle.vx_plan.specs.FlatNode.{segment, pair_at, refused_at, refusals, flat_of, inlined}
 use Rattle.vx_plan.specs.ChunkedNode.{chunk_plans, all_pairs, all_faults, all_layouts}
 use Rattle.vx_plan.specs.SourcePlan.{plan, source_plan, batch_items, root_eof}
@@ -30,7 +30,7 @@ pub record Alone (s : Setting) (o : FlatOptions) (t : Ty) (i : Item) (p : Plan) 
   pub faults : p.faults ≡ refusals s i
   pub layout : p.layout ≡ flat_of s o t i
 
-pub alone : (s : Setting) (o : FlatOptions) (w : Way) (t : Ty) (m : Bool) (i : Item) (e : Eof) → leaf w ≡ Some o → Alone s o t i (plan s w t m (i ∷ []) true e)
+pub alone : (s : Setting) (o : FlatOptions) (w : StrategyData) (t : Ty) (m : Bool) (i : Item) (e : Eof) → leaf w ≡ Some o → Alone s o t i (plan s w t m (i ∷ []) true e)
 alone s o (flat p) t m i e h = let same : o ≡ p = cc in rw same (record { pairs = refl; faults = refl; layout = refl })
 alone s o (chunked w) t m i e h =
     let a : Alone s o t i (plan s w t m (i ∷ []) true (inside e)) = alone s o w t m i (inside e) h in
@@ -40,31 +40,31 @@ alone s o w t m i e h = cc
 -- ---- all chunks
 
 -- a flat layout a batch, named by the paths
-flats_at : Setting → FlatOptions → Ty → ℕ → List Piece → List (Lay (List ℕ))
+flats_at : Setting → FlatOptions → Ty → ℕ → List ChunkData → List (LayoutData (List ℕ))
 flats_at s o t i [] = []
 flats_at s o t i (b ∷ bs) = flat_of s o t (0 ∷ i ∷ [], b) ∷ flats_at s o t (suc i) bs
 
-module _ (s : Setting) (o : FlatOptions) (w : Way) (t : Ty) (m : Bool) (h : leaf w ≡ Some o) where
-  pairs_are : (i : ℕ) (bs : List Piece) (e : Eof) → all_pairs (chunk_plans (plan s w t) m (batch_items i bs) e) ≡ batch_pairs s o i bs
+module _ (s : Setting) (o : FlatOptions) (w : StrategyData) (t : Ty) (m : Bool) (h : leaf w ≡ Some o) where
+  pairs_are : (i : ℕ) (bs : List ChunkData) (e : Eof) → all_pairs (chunk_plans (plan s w t) m (batch_items i bs) e) ≡ batch_pairs s o i bs
   pairs_are i [] e = refl
   pairs_are i (b ∷ bs) e = ap₂ (λ x y. x ++ y) (alone s o w t m (0 ∷ i ∷ [], b) (inside e) h).pairs (pairs_are (suc i) bs (next e))
 
-  faults_are : (i : ℕ) (bs : List Piece) (e : Eof) → all_faults (chunk_plans (plan s w t) m (batch_items i bs) e) ≡ batch_refusals s i bs
+  faults_are : (i : ℕ) (bs : List ChunkData) (e : Eof) → all_faults (chunk_plans (plan s w t) m (batch_items i bs) e) ≡ batch_refusals s i bs
   faults_are i [] e = refl
   faults_are i (b ∷ bs) e = ap₂ (λ x y. x ++ y) (alone s o w t m (0 ∷ i ∷ [], b) (inside e) h).faults (faults_are (suc i) bs (next e))
 
-  layouts_are : (i : ℕ) (bs : List Piece) (e : Eof) → all_layouts (chunk_plans (plan s w t) m (batch_items i bs) e) ≡ flats_at s o t i bs
+  layouts_are : (i : ℕ) (bs : List ChunkData) (e : Eof) → all_layouts (chunk_plans (plan s w t) m (batch_items i bs) e) ≡ flats_at s o t i bs
   unfolding flats_at
   layouts_are i [] e = refl
   layouts_are i (b ∷ bs) e = ap₂ (λ x y. x ∷ y) (alone s o w t m (0 ∷ i ∷ [], b) (inside e) h).layout (layouts_are (suc i) bs (next e))
 
-rows_are : (i : ℕ) (bs : List Piece) → row_total (batch_items i bs) ≡ batch_rows bs
+rows_are : (i : ℕ) (bs : List ChunkData) → row_total (batch_items i bs) ≡ batch_rows bs
 rows_are i [] = refl
 rows_are i (b ∷ bs) = ap (λ n. length (cells b) + n) (rows_are (suc i) bs)
 
 -- ---- the paths ascend
 
-pair_path : (s : Setting) (o : FlatOptions) (i : ℕ) (bs : List Piece) (q : Pair) → In q (batch_pairs s o i bs) → (j : ℕ) × (i ≤ j) × (q.0 ≡ 0 ∷ j ∷ [])
+pair_path : (s : Setting) (o : FlatOptions) (i : ℕ) (bs : List ChunkData) (q : Pair) → In q (batch_pairs s o i bs) → (j : ℕ) × (i ≤ j) × (q.0 ≡ 0 ∷ j ∷ [])
 pair_path s o i [] q h = absurd h
 pair_path s o i (b ∷ bs) q h = ⊎_elim
     (λ a. one (segment s o (0 ∷ i ∷ [], b)) a)
@@ -76,7 +76,7 @@ pair_path s o i (b ∷ bs) q h = ⊎_elim
     one (Some bytes) (inl e) = (i, omega arith, ap path_of e)
     one (Some bytes) (inr e) = absurd e
 
-pairs_ascend : (s : Setting) (o : FlatOptions) (i : ℕ) (bs : List Piece) → Ascends path_of (batch_pairs s o i bs)
+pairs_ascend : (s : Setting) (o : FlatOptions) (i : ℕ) (bs : List ChunkData) → Ascends path_of (batch_pairs s o i bs)
 pairs_ascend s o i [] = tt
 pairs_ascend s o i (b ∷ bs) = go (segment s o (0 ∷ i ∷ [], b)) (pairs_ascend s o (suc i) bs)
   where
@@ -89,10 +89,10 @@ pairs_ascend s o i (b ∷ bs) = go (segment s o (0 ∷ i ∷ [], b)) (pairs_asce
       a,
     )
 
-sorted_are : (s : Setting) (o : FlatOptions) (i : ℕ) (bs : List Piece) → sorted (batch_pairs s o i bs) ≡ batch_pairs s o i bs
+sorted_are : (s : Setting) (o : FlatOptions) (i : ℕ) (bs : List ChunkData) → sorted (batch_pairs s o i bs) ≡ batch_pairs s o i bs
 sorted_are s o i bs = sort_by-ascending path_of (batch_pairs s o i bs) (pairs_ascend s o i bs)
 
-stored_are : (s : Setting) (o : FlatOptions) (i : ℕ) (bs : List Piece) → stored (batch_pairs s o i bs) ≡ batch_segments s o bs
+stored_are : (s : Setting) (o : FlatOptions) (i : ℕ) (bs : List ChunkData) → stored (batch_pairs s o i bs) ≡ batch_segments s o bs
 stored_are s o i [] = refl
 stored_are s o i (b ∷ bs) = go (segment s o (0 ∷ i ∷ [], b)) (stored_are s o (suc i) bs)
   where
@@ -121,8 +121,8 @@ other_path i j = ⊎_elim
     (λ f. f) (cases_Bool (bytes_eq (0 ∷ (i + suc j) ∷ []) (0 ∷ i ∷ [])))
 
 -- the j-th of batches that are all encoded is in the j-th place
-places_are : (s : Setting) (o : FlatOptions) (i : ℕ) (bs : List Piece) → batch_refusals s i bs ≡ []
-    → ((padding : Bool) (p : Piece) → s.codec.refused s.encodings p ≡ None → (b : List ℕ) × (s.codec.encode s.encodings padding p ≡ Some b))
+places_are : (s : Setting) (o : FlatOptions) (i : ℕ) (bs : List ChunkData) → batch_refusals s i bs ≡ []
+    → ((padding : Bool) (p : ChunkData) → s.codec.refused s.encodings p ≡ None → (b : List ℕ) × (s.codec.encode s.encodings padding p ≡ Some b))
     → (j : ℕ) → j < length bs → place_of (0 ∷ (i + j) ∷ []) (batch_pairs s o i bs) ≡ j
 places_are s o i [] clean enc j lt = absurd (omega arith)
 places_are s o i (b ∷ bs) clean enc j lt =
@@ -139,7 +139,7 @@ places_are s o i (b ∷ bs) clean enc j lt =
         ap (λ z. if z then 0 else suc (place_of (0 ∷ (i + suc j) ∷ []) (batch_pairs s o (suc i) bs))) (other_path i j)
         ∙ ap suc (ap (λ z. place_of (0 ∷ z ∷ []) (batch_pairs s o (suc i) bs)) (let h : i + suc j ≡ suc i + j = omega arith in h) ∙ f j (omega arith))
 
-renamed_flats : (s : Setting) (o : FlatOptions) (t : Ty) (f : List ℕ → ℕ) (i first : ℕ) (bs : List Piece)
+renamed_flats : (s : Setting) (o : FlatOptions) (t : Ty) (f : List ℕ → ℕ) (i first : ℕ) (bs : List ChunkData)
     → ((j : ℕ) → j < length bs → f (0 ∷ (i + j) ∷ []) ≡ first + j) → map (renamed f) (flats_at s o t i bs) ≡ batch_flats s o t first bs
 unfolding flats_at
 renamed_flats s o t f i first [] h = refl
@@ -150,11 +150,11 @@ renamed_flats s o t f i first (b ∷ bs) h =
     (renamed_flats s o t f (suc i) (suc first) bs
     (λ j lt. ap (λ z. f (0 ∷ z ∷ [])) (let e : suc i + j ≡ i + suc j = omega arith in e) ∙ h (suc j) (omega arith) ∙ (let e : first + suc j ≡ suc first + j = omega arith in e)))
 
-each_renamed-lays_of : (f : List ℕ → ℕ) (ls : List (Lay (List ℕ))) → each_renamed f (lays_of ls) ≡ lays_of (map (renamed f) ls)
+each_renamed-lays_of : (f : List ℕ → ℕ) (ls : List (LayoutData (List ℕ))) → each_renamed f (lays_of ls) ≡ lays_of (map (renamed f) ls)
 each_renamed-lays_of f [] = refl
 each_renamed-lays_of f (l ∷ ls) = ap (child (renamed f l)) (each_renamed-lays_of f ls)
 
-pub renamed-gathered : (f : List ℕ → ℕ) (t : Ty) (n : ℕ) (ls : List (Lay (List ℕ))) → renamed f (gathered t n ls) ≡ gathered t n (map (renamed f) ls)
+pub renamed-gathered : (f : List ℕ → ℕ) (t : Ty) (n : ℕ) (ls : List (LayoutData (List ℕ))) → renamed f (gathered t n ls) ≡ gathered t n (map (renamed f) ls)
 renamed-gathered f t n [] = refl
 renamed-gathered f t n (l ∷ []) = refl
 renamed-gathered f t n (l ∷ k ∷ ls) = ap (λ z. layout chunked_kind t n [] z) (each_renamed-lays_of f (l ∷ k ∷ ls))

@@ -4,16 +4,16 @@ use Rattle.std.specs.Prelude.{pos, codes, replicate}
 use Rattle.vx_model.specs.declared.ptype.PType.TheVariants.{U8, U64, I32, I64}
 use Rattle.vx_model.specs.declared.encoding.EncodingId.TheVariants.{Plain}
 use Rattle.vx_model.specs.Ty.{Ty, primitive, utf8, struct, list, field, no_fields}
-use Rattle.vx_model.specs.Tree.{Tree, int_cell, text_cell, struct_cell, trees_of, list_cell}
-use Rattle.vx_model.specs.Val.{Val, int_value, list_value, vals_of}
-use Rattle.vx_model.specs.Piece.{Piece, plain_piece, dict_piece, list_piece, cells}
-use Rattle.vx_tree.specs.LayoutTree.{Lay, chunked_layout, flat_layout, struct_layout, dict_layout, zoned_layout, kind_id, layout_kind, children_of}
-use Rattle.vx_tree.specs.Rows.{rows}
-use Rattle.vx_record.specs.Aggregate.{maximum, minimum, null_count, spec}
+use Rattle.vx_model.specs.CellData.{CellData, int_cell, text_cell, struct_cell, trees_of, list_cell}
+use Rattle.vx_model.specs.ValueData.{ValueData, int_value, list_value, vals_of}
+use Rattle.vx_model.specs.ChunkData.{ChunkData, plain_piece, dict_piece, list_piece, cells}
+use Rattle.vx_layout_spec.specs.LayoutTree.{LayoutData, chunked_layout, flat_layout, struct_layout, dict_layout, zoned_layout, kind_id, layout_kind, children_of}
+use Rattle.vx_layout_spec.specs.Rows.{rows}
+use Rattle.vx_aggregate_spec.specs.Aggregate.{maximum, minimum, null_count, spec}
 use Rattle.vx_rules.specs.Blocks.{BlockOptions, block_len}
 use Rattle.vx_rules.specs.Runs.{DictOptions}
 use Rattle.vx_plan.specs.PlanData.{Setting, paths, fault, many_chunks, empty_list, not_struct, duplicate_field, zone_cut, forbidden_aggregate, at_chunk, at_start, at_end}
-use Rattle.vx_plan.specs.Way.{Way, ZonedOptions, flat, chunked, grouped, by_blocks, by_bytes, structured, listed, coded, zoned, tabled, no_ways, way_at, no_wraps, into_one}
+use Rattle.vx_strategy_spec.specs.StrategyData.{StrategyData, ZonedOptions, flat, chunked, grouped, by_blocks, by_bytes, structured, listed, coded, zoned, tabled, no_ways, way_at, no_wraps, into_one}
 use Rattle.vx_plan.specs.SourcePlan.{source_plan}
 use Rattle.vx_plan.specs.Number.{sorted, numbered, segment_at, segments}
 
@@ -32,16 +32,16 @@ setting = record {
   hash = λ b. 0;
 }
 
-flats : Way
+flats : StrategyData
 flats = flat (record { padding = true; inline = false })
 
-chunks : Way
+chunks : StrategyData
 chunks = chunked (flat (record { padding = true; inline = false }))
 
 u8 : Ty
 u8 = primitive U8 false
 
-ints : ℕ → Piece
+ints : ℕ → ChunkData
 ints n = plain_piece (primitive U8 false) (replicate n (int_cell (pos 1)))
 
 -- ---- columns of structs: a has segments 0 and 2, b has 1 and 3
@@ -49,7 +49,7 @@ ints n = plain_piece (primitive U8 false) (replicate n (int_cell (pos 1)))
 pair_type : Ty
 pair_type = struct (field (codes "a") (primitive I64 false) (field (codes "b") (primitive I64 false) no_fields)) false
 
-pairs_of : ℕ → Piece
+pairs_of : ℕ → ChunkData
 pairs_of n = plain_piece pair_type (replicate n (struct_cell true (trees_of (int_cell (pos 1) ∷ int_cell (pos 2) ∷ []))))
 
 struct_paths : paths (sorted (source_plan setting (structured flats chunks no_ways) pair_type false (pairs_of 2 ∷ pairs_of 1 ∷ []) true).pairs)
@@ -57,7 +57,7 @@ struct_paths : paths (sorted (source_plan setting (structured flats chunks no_wa
 unfolding setting flats chunks pair_type pairs_of
 struct_paths = refl
 
-i64_flat : ℕ → ℕ → Lay ℕ
+i64_flat : ℕ → ℕ → LayoutData ℕ
 i64_flat n number = flat_layout (primitive I64 false) n (Plain ∷ []) None number
 
 struct_numbers : numbered (source_plan setting (structured flats chunks no_ways) pair_type false (pairs_of 2 ∷ pairs_of 1 ∷ []) true) 0
@@ -142,7 +142,7 @@ aimed_texts = refl
 
 -- ---- dictionaries
 
-texts : List (List ℕ) → Piece
+texts : List (List ℕ) → ChunkData
 texts ts = plain_piece (utf8 false) (map text_cell ts)
 
 bytes_64 : DictOptions
@@ -154,10 +154,10 @@ three_runs : paths (source_plan setting (coded bytes_64 chunks flats flats) (utf
 unfolding setting flats chunks texts bytes_64
 three_runs = refl
 
-text_flat : ℕ → ℕ → Lay ℕ
+text_flat : ℕ → ℕ → LayoutData ℕ
 text_flat n number = flat_layout (utf8 false) n (Plain ∷ []) None number
 
-code_flat : ℕ → ℕ → Lay ℕ
+code_flat : ℕ → ℕ → LayoutData ℕ
 code_flat n number = flat_layout (primitive U8 false) n (Plain ∷ []) None number
 
 three_dicts : numbered (source_plan setting (coded bytes_64 chunks flats flats) (utf8 false) false (texts (codes "a" ∷ replicate 49 120 ∷ codes "b" ∷ []) ∷ []) true) 0
@@ -189,15 +189,15 @@ run_flats = refl
 numbers_list : Ty
 numbers_list = list (primitive I64 false) false
 
-numbers : List ℕ → Piece
+numbers : List ℕ → ChunkData
 numbers ns = plain_piece (primitive I64 false) (map (λ n. int_cell (pos n)) ns)
 
-list_chunks : List Piece
+list_chunks : List ChunkData
 list_chunks = list_piece (list (primitive I64 false) false) (plain_piece (primitive I64 false) (int_cell (pos 9) ∷ int_cell (pos 1) ∷ int_cell (pos 2) ∷ int_cell (pos 8) ∷ [])) (1 ∷ 3 ∷ 3 ∷ []) []
     ∷ list_piece (list (primitive I64 false) false) (plain_piece (primitive I64 false) (int_cell (pos 3) ∷ [])) (0 ∷ 1 ∷ []) [] ∷ []
 
 -- a codec that spells integers below 256 by one byte each
-abbrev spell : List Tree → List ℕ
+abbrev spell : List CellData → List ℕ
 spell [] = []
 spell (int_cell (pos n) ∷ cs) = n ∷ spell cs
 spell (c ∷ cs) = spell cs
@@ -221,7 +221,7 @@ list_segments : (source_plan spelling (listed chunks chunks flats flats) (list (
 unfolding spelling flats chunks list_chunks
 list_segments = refl
 
-int : ℕ → Val
+int : ℕ → ValueData
 int n = int_value (pos n)
 
 list_values : rows spelling.codec (segment_at 0 (segments (source_plan spelling (listed chunks chunks flats flats) (list (primitive I64 false) false) false list_chunks true)))
@@ -239,10 +239,10 @@ no_lists = refl
 zones_of_3 : ZonedOptions
 zones_of_3 = record { zone_len = 3; aggregates = None; concurrency = 1 }
 
-i32s : ℕ → ℕ → ℕ → Piece
+i32s : ℕ → ℕ → ℕ → ChunkData
 i32s a b c = plain_piece (primitive I32 false) (int_cell (pos a) ∷ int_cell (pos b) ∷ int_cell (pos c) ∷ [])
 
-nine : List Piece
+nine : List ChunkData
 nine = plain_piece (primitive I32 false) (int_cell (pos 1) ∷ int_cell (pos 2) ∷ int_cell (pos 3) ∷ [])
     ∷ plain_piece (primitive I32 false) (int_cell (pos 4) ∷ int_cell (pos 5) ∷ int_cell (pos 6) ∷ [])
     ∷ plain_piece (primitive I32 false) (int_cell (pos 7) ∷ int_cell (pos 8) ∷ int_cell (pos 9) ∷ []) ∷ []
@@ -255,7 +255,7 @@ zoned_paths = refl
 table_ty : Ty
 table_ty = struct (field (codes "max") (primitive I32 true) (field (codes "min") (primitive I32 true) (field (codes "null_count") (primitive U64 true) no_fields))) false
 
-i32_flat : ℕ → ℕ → Lay ℕ
+i32_flat : ℕ → ℕ → LayoutData ℕ
 i32_flat n number = flat_layout (primitive I32 false) n (Plain ∷ []) None number
 
 zoned_numbers : numbered (source_plan setting (zoned zones_of_3 chunks flats) (primitive I32 false) false nine true) 0
@@ -281,7 +281,7 @@ wrong_cut = refl
 
 -- ---- tables: an override of a column, and lists laid out as lists
 
-table_way : Way
+table_way : StrategyData
 table_way = tabled flats chunks (way_at (codes "b" ∷ []) flats no_ways) true no_wraps
 
 -- the overridden column is flat, so two batches are too many for it
@@ -303,10 +303,10 @@ table_lists = refl
 nested : Ty
 nested = struct (field (codes "a") (struct (field (codes "b") (primitive I64 false) no_fields) false) (field (codes "c") (primitive I64 false) no_fields)) false
 
-nested_rows : ℕ → Piece
+nested_rows : ℕ → ChunkData
 nested_rows n = plain_piece nested (replicate n (struct_cell true (trees_of (struct_cell true (trees_of (int_cell (pos 1) ∷ [])) ∷ int_cell (pos 2) ∷ []))))
 
-nested_way : Way
+nested_way : StrategyData
 nested_way = tabled flats chunks (way_at (codes "a" ∷ codes "b" ∷ []) flats no_ways) false no_wraps
 
 nested_layout : numbered (source_plan setting nested_way nested false (nested_rows 1 ∷ []) true) 0
@@ -323,7 +323,7 @@ nested_twice = refl
 list_column : Ty
 list_column = struct (field (codes "l") (list (primitive I64 false) false) no_fields) false
 
-one_list : Piece
+one_list : ChunkData
 one_list = plain_piece list_column (struct_cell true (trees_of (list_cell true (trees_of (int_cell (pos 1) ∷ [])) ∷ [])) ∷ [])
 
 column_ids : Bool → List (List ℕ)

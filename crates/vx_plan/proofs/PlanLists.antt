@@ -2,12 +2,12 @@
 use Rattle.std.proofs.Common.{◌≡◌, ℕ, ◌+◌, ◌≤◌, Bool, true, List, [], ◌∷◌, ◌++◌, map, length, Option, Some, refl, sym, ap, ◌∙◌, ⊎_elim, arith, append_assoc, length-append, eq-eqb}
 use Rattle.std.proofs.lemmas.List.{append-nil, length-map, map-append}
 use Rattle.vx_model.specs.Ty.{Ty}
-use Rattle.vx_model.specs.Val.{Val, value}
-use Rattle.vx_model.specs.Piece.{cells, row_values}
+use Rattle.vx_model.specs.ValueData.{ValueData, value}
+use Rattle.vx_model.specs.ChunkData.{cells, row_values}
 use Rattle.vx_path.specs.Lists.{In}
 use Rattle.vx_path.proofs.Lists.{in_left, in_right, in_cases}
-use Rattle.vx_tree.specs.LayoutTree.{Lay, lays_of, gathered}
-use Rattle.vx_tree.specs.Rows.{and_then, all_there, counted, joined, chunked_rows, rows, each_rows}
+use Rattle.vx_layout_spec.specs.LayoutTree.{LayoutData, lays_of, gathered}
+use Rattle.vx_layout_spec.specs.Rows.{and_then, all_there, counted, joined, chunked_rows, rows, each_rows}
 use Rattle.vx_rules.specs.Stream.{Chunks, stream_cells}
 use Rattle.vx_plan.specs.PlanData.{Setting, Pair, Plan, Item, row_total, stream_values}
 use Rattle.vx_plan.specs.ChunkedNode.{all_pairs, all_faults, all_numbers, all_reserved}
@@ -55,11 +55,11 @@ pub holds_right : (look : List ℕ → Option (List ℕ)) (ps qs : List Pair) �
 holds_right look [] qs h = h
 holds_right look (p ∷ ps) qs h = holds_right look ps qs h.1
 
-pub counted_same : (n : ℕ) (vs : List Val) → length vs ≡ n → counted n vs ≡ Some vs
+pub counted_same : (n : ℕ) (vs : List ValueData) → length vs ≡ n → counted n vs ≡ Some vs
 counted_same n vs e = rw (eq-eqb (length vs) n e) refl
 
 -- a layout gives as many rows as it counts
-pub counted_count : (n : ℕ) (vs ws : List Val) → counted n vs ≡ Some ws → length ws ≡ n
+pub counted_count : (n : ℕ) (vs ws : List ValueData) → counted n vs ≡ Some ws → length ws ≡ n
 counted_count n vs ws e = grind (arith)
 
 pub joined-one : {A : Type 0} (xs : List A) → joined (xs ∷ []) ≡ xs
@@ -85,21 +85,21 @@ length-stream_values (i ∷ is) =
     omega arith
 
 -- A layout gives these rows, and what its zoned nodes promise holds where the strategy is admitted.
-pub record Gives {A : Type 0} (admitted : Bool) (s : Setting) (look : A → Option (List ℕ)) (l : Lay A) (vs : List Val) : Type 0 where
+pub record Gives {A : Type 0} (admitted : Bool) (s : Setting) (look : A → Option (List ℕ)) (l : LayoutData A) (vs : List ValueData) : Type 0 where
   pub read : rows s.codec look l ≡ Some vs
   pub zones : admitted ≡ true → ZonesHold s look l
 
-pub gives_same : {A : Type 0} (admitted : Bool) (s : Setting) (look : A → Option (List ℕ)) (l : Lay A) (vs ws : List Val) → Gives admitted s look l vs → vs ≡ ws → Gives admitted s look l ws
+pub gives_same : {A : Type 0} (admitted : Bool) (s : Setting) (look : A → Option (List ℕ)) (l : LayoutData A) (vs ws : List ValueData) → Gives admitted s look l vs → vs ≡ ws → Gives admitted s look l ws
 gives_same admitted s look l vs ws g e = record { read = g.read ∙ ap Some e; zones = g.zones }
 
 -- Several layouts, each of which gives its rows.
-abbrev pub ReadAll : {A : Type 0} → Bool → Setting → (A → Option (List ℕ)) → List (Lay A) → List (List Val) → Type 0
+abbrev pub ReadAll : {A : Type 0} → Bool → Setting → (A → Option (List ℕ)) → List (LayoutData A) → List (List ValueData) → Type 0
 ReadAll admitted s look [] [] = Unit {0}
 ReadAll admitted s look [] (v ∷ vs) = ⊥
 ReadAll admitted s look (l ∷ ls) [] = ⊥
 ReadAll admitted s look (l ∷ ls) (v ∷ vs) = Gives admitted s look l v × ReadAll admitted s look ls vs
 
-pub all_there_read : {A : Type 0} (admitted : Bool) (s : Setting) (look : A → Option (List ℕ)) (ls : List (Lay A)) (vs : List (List Val))
+pub all_there_read : {A : Type 0} (admitted : Bool) (s : Setting) (look : A → Option (List ℕ)) (ls : List (LayoutData A)) (vs : List (List ValueData))
     → ReadAll admitted s look ls vs → all_there (each_rows s.codec look (lays_of ls)) ≡ Some vs
 all_there_read admitted s look [] [] h = refl
 all_there_read admitted s look [] (v ∷ vs) h = absurd h
@@ -108,14 +108,14 @@ all_there_read admitted s look (l ∷ ls) (v ∷ vs) h =
     ap (λ r. all_there (r ∷ each_rows s.codec look (lays_of ls))) h.0.read
     ∙ ap (and_then (λ xs. Some (v ∷ xs))) (all_there_read admitted s look ls vs h.1)
 
-pub all_zones : {A : Type 0} (admitted : Bool) (s : Setting) (look : A → Option (List ℕ)) (ls : List (Lay A)) (vs : List (List Val)) → ReadAll admitted s look ls vs → admitted ≡ true → AllZoned (IsZoned s look) (lays_of ls)
+pub all_zones : {A : Type 0} (admitted : Bool) (s : Setting) (look : A → Option (List ℕ)) (ls : List (LayoutData A)) (vs : List (List ValueData)) → ReadAll admitted s look ls vs → admitted ≡ true → AllZoned (IsZoned s look) (lays_of ls)
 all_zones admitted s look [] [] h a = tt
 all_zones admitted s look [] (v ∷ vs) h a = absurd h
 all_zones admitted s look (l ∷ ls) [] h a = absurd h
 all_zones admitted s look (l ∷ ls) (v ∷ vs) h a = (h.0.zones a, all_zones admitted s look ls vs h.1 a)
 
 -- one layout is read itself, none or several joined
-pub gathered_reads : {A : Type 0} (admitted : Bool) (s : Setting) (look : A → Option (List ℕ)) (t : Ty) (n : ℕ) (ls : List (Lay A)) (vs : List (List Val))
+pub gathered_reads : {A : Type 0} (admitted : Bool) (s : Setting) (look : A → Option (List ℕ)) (t : Ty) (n : ℕ) (ls : List (LayoutData A)) (vs : List (List ValueData))
     → ReadAll admitted s look ls vs → length (joined vs) ≡ n → Gives admitted s look (gathered t n ls) (joined vs)
 gathered_reads admitted s look t n [] [] h e = record { read = counted_same n [] e; zones = λ a. (tt, tt) }
 gathered_reads admitted s look t n [] (v ∷ vs) h e = absurd h

@@ -3,13 +3,13 @@ use Rattle.std.proofs.Common.{◌≡◌, ℕ, Bool, true, false, List, [], ◌�
 use Rattle.std.specs.Prelude.{if◌then◌else◌, ◌&&◌, nat_lt}
 use Rattle.std.proofs.lemmas.Bool.{true≢false}
 use Rattle.vx_model.specs.Ty.{Ty, Tys, boolean, primitive, utf8, binary, list, struct, extension, no_fields, field}
-use Rattle.vx_model.specs.Piece.{is_dict_type}
+use Rattle.vx_model.specs.ChunkData.{is_dict_type}
 use Rattle.vx_rules.specs.Columns.{offset_type}
 use Rattle.vx_rules.specs.Runs.{DictOptions, code_type}
 use Rattle.vx_plan.specs.PlanData.{Setting, Node}
-use Rattle.vx_plan.specs.Way.{Way, Ways, Wraps, FlatOptions, ZonedOptions, Grouping, flat, chunked, grouped, compressed, coded, zoned, structured, listed, tabled, no_ways, way_at, no_wraps, wrap_grouped, wrap_zoned}
-use Rattle.vx_plan.specs.Admitted.{is_admitted, are_admitted, wraps_admitted, are_apart, is_admitted_grouping, is_admitted_zoned}
-use Rattle.vx_plan.specs.Walk.{Nodes, Named, Around, same_names, find, duplicate, chosen, field_nodes, of_struct, of_list, of_dict, in_lists, of_table, of_tables, walk, walk_named, walk_wraps}
+use Rattle.vx_strategy_spec.specs.StrategyData.{StrategyData, StrategyList, Wraps, FlatOptions, ZonedOptions, Grouping, flat, chunked, grouped, compressed, coded, zoned, structured, listed, tabled, no_ways, way_at, no_wraps, wrap_grouped, wrap_zoned}
+use Rattle.vx_strategy_spec.specs.Admitted.{is_admitted, are_admitted, wraps_admitted, are_apart, is_admitted_grouping, is_admitted_zoned}
+use Rattle.vx_strategy_spec.specs.Walk.{Nodes, Named, Around, same_names, find, duplicate, chosen, field_nodes, of_struct, of_list, of_dict, in_lists, of_table, of_tables, walk, walk_named, walk_wraps}
 use Rattle.vx_plan.specs.FlatNode.{flat_node}
 use Rattle.vx_plan.specs.ChunkedNode.{chunked_node}
 use Rattle.vx_plan.specs.GroupNode.{grouped_node, compressed_node}
@@ -152,7 +152,7 @@ module _ (A B : Type 0) (a : Nodes A) (b : Nodes B) (admitted : Bool) (P : Ty �
   around_alike false f h r = tt
 
   mutual
-    pub relate : Agree → (w : Way) → Given admitted (is_admitted w) → (t : Ty) → P t (walk a w t) (walk b w t)
+    pub relate : Agree → (w : StrategyData) → Given admitted (is_admitted w) → (t : Ty) → P t (walk a w t) (walk b w t)
     relate g (flat o) h t = g.at_flat o t
     relate g (chunked w) h t = g.at_chunked t (walk a w t) (walk b w t) (relate g w h t)
     relate g (grouped r w) h t =
@@ -188,7 +188,7 @@ module _ (A B : Type 0) (a : Nodes A) (b : Nodes B) (admitted : Bool) (P : Ty �
         (around_alike lists (walk_wraps a wraps) (walk_wraps b wraps) (relate_wraps g wraps (given_right admitted (are_admitted ws) (wraps_admitted wraps) q)))
         (walk_named a ws) (walk_named b ws) (relate_named g ws (given_left admitted (are_admitted ws) (wraps_admitted wraps) q)) [] t
 
-    relate_named : Agree → (ws : Ways) → Given admitted (are_admitted ws) → AllAlike (walk_named a ws) (walk_named b ws)
+    relate_named : Agree → (ws : StrategyList) → Given admitted (are_admitted ws) → AllAlike (walk_named a ws) (walk_named b ws)
     relate_named g no_ways h = tt
     relate_named g (way_at path w ws) h =
         (refl, relate g w (given_left admitted (is_admitted w) (are_admitted ws) h), relate_named g ws (given_right admitted (is_admitted w) (are_admitted ws) h))
@@ -244,7 +244,7 @@ module _ (s : Setting) (admitted : Bool) (P : Ty → Node → Type 0) where
   one_side (field name t fs) (k ∷ ks) [] h = absurd h
   one_side (field name t fs) (k ∷ ks) (u ∷ us) h = (h.0, one_side fs ks us h.1)
 
-  pub induct : Cases → (w : Way) → Given admitted (is_admitted w) → (t : Ty) → P t (plan s w t)
+  pub induct : Cases → (w : StrategyData) → Given admitted (is_admitted w) → (t : Ty) → P t (plan s w t)
   induct cases = relate Node (Unit {0}) (plan_nodes s) unit_nodes admitted (λ t k u. P t k) (record {
     at_flat = λ o t. cases.flat_case o t;
     at_chunked = λ t k l h. cases.chunked_case t k h;

@@ -5,18 +5,18 @@ use Rattle.std.proofs.lemmas.Bool.Decides.{nat_tests}
 use Rattle.std.specs.Prelude.{if◌then◌else◌}
 use Rattle.vx_model.specs.Ty.{Ty, Tys, no_fields, field, ty_eq}
 use Rattle.vx_model.specs.TyLaws.{ty_eq_decides}
-use Rattle.vx_model.specs.Val.{Val}
-use Rattle.vx_model.specs.Piece.{Piece, piece_type, row_values}
+use Rattle.vx_model.specs.ValueData.{ValueData}
+use Rattle.vx_model.specs.ChunkData.{ChunkData, piece_type, row_values}
 use Rattle.vx_path.specs.Lists.{In}
 use Rattle.vx_path.specs.Path.{meets, Scattered, Region, under, raised}
 use Rattle.vx_path.proofs.Path.{under_apart}
-use Rattle.vx_tree.specs.LayoutTree.{Kind, flat_kind, chunked_kind, struct_kind, list_kind, dict_kind, zoned_kind, unread_zoned_kind, stats_kind, foreign_kind, refused_kind, Lay, Lays, layout, no_layouts, child, renamed, each_renamed, row_count, layout_type}
+use Rattle.vx_layout_spec.specs.LayoutTree.{Kind, flat_kind, chunked_kind, struct_kind, list_kind, dict_kind, zoned_kind, unread_zoned_kind, stats_kind, foreign_kind, refused_kind, LayoutData, LayoutList, layout, no_layouts, child, renamed, each_renamed, row_count, layout_type}
 use Rattle.vx_plan.specs.ZonesHold.{OfZoned, IsZoned, AllZoned, ZonesHold}
-use Rattle.vx_plan.specs.Admitted.{is_admitted}
-use Rattle.vx_tree.specs.Rows.{rows, and_then, counted, kind_rows, each_rows}
-use Rattle.vx_tree.proofs.LayoutLaws.{rows_renamed}
+use Rattle.vx_strategy_spec.specs.Admitted.{is_admitted}
+use Rattle.vx_layout_spec.specs.Rows.{rows, and_then, counted, kind_rows, each_rows}
+use Rattle.vx_layout_spec.proofs.LayoutLaws.{rows_renamed}
 use Rattle.vx_plan.specs.PlanData.{Setting, Item, Plan, Node, paths, places, stream_values}
-use Rattle.vx_plan.specs.Way.{Way}
+use Rattle.vx_strategy_spec.specs.StrategyData.{StrategyData}
 use Rattle.vx_plan.specs.SourcePlan.{plan, source_plan, batch_items, root_eof, source_values, of_schema}
 use Rattle.vx_plan.specs.Number.{segments, number_of, segment_at}
 use Rattle.vx_plan.specs.Valid.{Fit, AllOf, OfSchema, Keeps}
@@ -46,7 +46,7 @@ known_fields admitted s no_fields (k ∷ ks) h = h
 known_fields admitted s (field name t fs) [] h = h
 known_fields admitted s (field name t fs) (k ∷ ks) h = (h.0.reads, known_fields admitted s fs ks h.1)
 
-plan_known : (s : Setting) → Keeps s → (w : Way) (t : Ty) → Known (is_admitted w) s t (plan s w t)
+plan_known : (s : Setting) → Keeps s → (w : StrategyData) (t : Ty) → Known (is_admitted w) s t (plan s w t)
 plan_known s keeps w t = induct s (is_admitted w) (λ t k. Known (is_admitted w) s t k) (record {
   flat_case = λ o t. record { reads = flat_reads (is_admitted w) s keeps o t; typed = flat_typed s o t };
   chunked_case = λ t k h. record { reads = chunked_reads (is_admitted w) s t k h.reads; typed = chunked_typed t k h.typed };
@@ -59,13 +59,13 @@ plan_known s keeps w t = induct s (is_admitted w) (λ t k. Known (is_admitted w)
   list_case = λ t n e o v x y z. record { reads = list_reads (is_admitted w) s t n e o v x.reads y.reads z.reads; typed = list_typed t n e o v };
 }) w (λ e. e) t
 
-pub plan_reads : (s : Setting) → Keeps s → (w : Way) (t : Ty) → Reads (is_admitted w) s t (plan s w t)
+pub plan_reads : (s : Setting) → Keeps s → (w : StrategyData) (t : Ty) → Reads (is_admitted w) s t (plan s w t)
 plan_reads s keeps w t = (plan_known s keeps w t).reads
 
 no_premise : {b : Bool} → Given false b
 no_premise e = absurd (true≢false (sym e))
 
-pub plan_placed : (s : Setting) (w : Way) (t : Ty) → Placed t (plan s w t)
+pub plan_placed : (s : Setting) (w : StrategyData) (t : Ty) → Placed t (plan s w t)
 plan_placed s w t = induct s false (λ t k. Placed t k) (record {
   flat_case = λ o t. flat_placed s o t;
   chunked_case = λ t k h. chunked_placed t k h;
@@ -78,7 +78,7 @@ plan_placed s w t = induct s false (λ t k. Placed t k) (record {
   list_case = λ t n e o v x y z. list_placed t n e o v x y z;
 }) w no_premise t
 
-pub plan_grows : (s : Setting) (w : Way) (t : Ty) → Grows t (plan s w t)
+pub plan_grows : (s : Setting) (w : StrategyData) (t : Ty) → Grows t (plan s w t)
 plan_grows s w t = induct s false (λ t k. Grows t k) (record {
   flat_case = λ o t. flat_grows s o t;
   chunked_case = λ t k h. chunked_grows t k;
@@ -91,7 +91,7 @@ plan_grows s w t = induct s false (λ t k. Grows t k) (record {
   list_case = λ t n e o v x y z. list_grows t n e o v x y z;
 }) w no_premise t
 
-pub plan_typed : (s : Setting) (w : Way) (t : Ty) → Typed t (plan s w t)
+pub plan_typed : (s : Setting) (w : StrategyData) (t : Ty) → Typed t (plan s w t)
 plan_typed s w t = induct s false (λ t k. Typed t k) (record {
   flat_case = λ o t. flat_typed s o t;
   chunked_case = λ t k h. chunked_typed t k h;
@@ -106,26 +106,26 @@ plan_typed s w t = induct s false (λ t k. Typed t k) (record {
 
 -- ---- the batches of a source
 
-pub items_of : (t : Ty) (i : ℕ) (bs : List Piece) → AllOf t bs → ItemsOf t (batch_items i bs)
+pub items_of : (t : Ty) (i : ℕ) (bs : List ChunkData) → AllOf t bs → ItemsOf t (batch_items i bs)
 items_of t i [] h = tt
 items_of t i (b ∷ bs) h = (h.0, items_of t (suc i) bs h.1)
 
-pub batch_values : (i : ℕ) (bs : List Piece) → stream_values (batch_items i bs) ≡ source_values bs
+pub batch_values : (i : ℕ) (bs : List ChunkData) → stream_values (batch_items i bs) ≡ source_values bs
 batch_values i [] = refl
 batch_values i (b ∷ bs) = ap (λ r. row_values b ++ r) (batch_values (suc i) bs)
 
-pub batch_items-append : (i : ℕ) (bs cs : List Piece) → (ds : List Item) × (batch_items i (bs ++ cs) ≡ batch_items i bs ++ ds)
+pub batch_items-append : (i : ℕ) (bs cs : List ChunkData) → (ds : List Item) × (batch_items i (bs ++ cs) ≡ batch_items i bs ++ ds)
 batch_items-append i [] cs = (batch_items i cs, refl)
 batch_items-append i (b ∷ bs) cs =
     let r : (ds : List Item) × (batch_items (suc i) (bs ++ cs) ≡ batch_items (suc i) bs ++ ds) = batch_items-append (suc i) bs cs in
     (r.0, ap (λ (z : List Item). (0 ∷ i ∷ [], b) ∷ z) r.1)
 
-batch_path : (i : ℕ) (bs : List Piece) (p : List ℕ) → In p (places (batch_items i bs)) → (j : ℕ) × (i ≤ j) × (p ≡ under (0 ∷ []) j)
+batch_path : (i : ℕ) (bs : List ChunkData) (p : List ℕ) → In p (places (batch_items i bs)) → (j : ℕ) × (i ≤ j) × (p ≡ under (0 ∷ []) j)
 batch_path i [] p h = absurd h
 batch_path i (b ∷ bs) p h = ⊎_elim (λ e. (i, omega arith, e))
     (λ t. let r : (j : ℕ) × (suc i ≤ j) × (p ≡ under (0 ∷ []) j) = batch_path (suc i) bs p t in (r.0, (let h : suc i ≤ r.0 = r.1 in omega arith), r.2)) h
 
-batches_scattered : (i : ℕ) (bs : List Piece) → Scattered (places (batch_items i bs))
+batches_scattered : (i : ℕ) (bs : List ChunkData) → Scattered (places (batch_items i bs))
 batches_scattered i [] = tt
 batches_scattered i (b ∷ bs) = (
   λ q h. let r : (j : ℕ) × (suc i ≤ j) × (q ≡ under (0 ∷ []) j) = batch_path (suc i) bs q h in
@@ -137,7 +137,7 @@ batches_scattered i (b ∷ bs) = (
 off_root : (j n : ℕ) → meets (0 ∷ j ∷ []) ((1 + n) ∷ []) ≡ false
 off_root j n = grind (arith, nat_tests)
 
-pub batches_apart : (bs : List Piece) → Apart (places (batch_items 0 bs)) root_eof
+pub batches_apart : (bs : List ChunkData) → Apart (places (batch_items 0 bs)) root_eof
 batches_apart bs = record {
   scattered = batches_scattered 0 bs;
   off = λ p h n. let r : (j : ℕ) × (0 ≤ j) × (p ≡ under (0 ∷ []) j) = batch_path 0 bs p h in
@@ -146,7 +146,7 @@ batches_apart bs = record {
 
 -- ---- the laws
 
-source_lies : (s : Setting) (w : Way) (t : Ty) (m : Bool) (batches : List Piece) (ended : Bool)
+source_lies : (s : Setting) (w : StrategyData) (t : Ty) (m : Bool) (batches : List ChunkData) (ended : Bool)
     → Lies (Region (places (batch_items 0 batches)) root_eof) (paths (source_plan s w t m batches ended).pairs)
 source_lies s w t m batches ended = (plan_placed s w t).placed m (batch_items 0 batches) ended root_eof (batches_apart batches)
 
@@ -156,7 +156,7 @@ paths_distinct s w t m batches ended = (source_lies s w t m batches ended).scatt
 pub paths_in_region : PathsInRegion
 paths_in_region s w t m batches ended = (source_lies s w t m batches ended).within
 
-source_gives : (s : Setting) (w : Way) (t : Ty) (m : Bool) (batches : List Piece) (first : ℕ) → Keeps s → AllOf t batches
+source_gives : (s : Setting) (w : StrategyData) (t : Ty) (m : Bool) (batches : List ChunkData) (first : ℕ) → Keeps s → AllOf t batches
     → (source_plan s w t m batches true).faults ≡ [] → Fit (source_plan s w t m batches true).numbers
     → Gives (is_admitted w) s (λ x. segment_at first (segments (source_plan s w t m batches true)) (number_of (source_plan s w t m batches true).pairs first x)) (source_plan s w t m batches true).layout
     (stream_values (batch_items 0 batches))
@@ -165,11 +165,11 @@ source_gives s w t m batches first keeps of clean fit =
     (plan_reads s keeps w t).reads m (batch_items 0 batches) root_eof (items_of t 0 batches of) clean fit.1
     (λ x. segment_at first (segments p) (number_of p.pairs first x)) (numbers_hold p first (paths_distinct s w t m batches true))
 
-type_renamed : {A B : Type 0} (f : A → B) (l : Lay A) → layout_type (renamed f l) ≡ layout_type l
+type_renamed : {A B : Type 0} (f : A → B) (l : LayoutData A) → layout_type (renamed f l) ≡ layout_type l
 type_renamed f (layout k t n names ls) = refl
 
 -- zoned nodes of a renamed layout
-zoned_renamed : {A B : Type 0} (s : Setting) (look : B → Option (List ℕ)) (f : A → B) (k : Kind) (t : Ty) (n : ℕ) (ls : Lays A)
+zoned_renamed : {A B : Type 0} (s : Setting) (look : B → Option (List ℕ)) (f : A → B) (k : Kind) (t : Ty) (n : ℕ) (ls : LayoutList A)
     → OfZoned (IsZoned s (λ a. look (f a))) k t n ls → OfZoned (IsZoned s look) k t n (each_renamed f ls)
 zoned_renamed s look f (zoned_kind zone_len specs) t n (child data_child (child zones no_layouts)) h = record {
   aggregates = h.aggregates;
@@ -200,10 +200,10 @@ zoned_renamed s look f (foreign_kind id metadata) t n ls h = tt
 zoned_renamed s look f (refused_kind is_flat refusal) t n ls h = tt
 
 mutual
-  zones_renamed : {A B : Type 0} (s : Setting) (look : B → Option (List ℕ)) (f : A → B) (l : Lay A) → ZonesHold s (λ a. look (f a)) l → ZonesHold s look (renamed f l)
+  zones_renamed : {A B : Type 0} (s : Setting) (look : B → Option (List ℕ)) (f : A → B) (l : LayoutData A) → ZonesHold s (λ a. look (f a)) l → ZonesHold s look (renamed f l)
   zones_renamed s look f (layout k t n names ls) h = (zoned_renamed s look f k t n ls h.0, all_zones_renamed s look f ls h.1)
 
-  all_zones_renamed : {A B : Type 0} (s : Setting) (look : B → Option (List ℕ)) (f : A → B) (ls : Lays A) → AllZoned (IsZoned s (λ a. look (f a))) ls → AllZoned (IsZoned s look) (each_renamed f ls)
+  all_zones_renamed : {A B : Type 0} (s : Setting) (look : B → Option (List ℕ)) (f : A → B) (ls : LayoutList A) → AllZoned (IsZoned s (λ a. look (f a))) ls → AllZoned (IsZoned s look) (each_renamed f ls)
   all_zones_renamed s look f no_layouts h = tt
   all_zones_renamed s look f (child l ls) h = (zones_renamed s look f l h.0, all_zones_renamed s look f ls h.1)
 
@@ -238,10 +238,10 @@ front_of_taken s w t m taken later ended done rest e f =
     (paths_distinct s w t m (taken ++ later) ended) (paths_distinct s w t m taken false) (prefix_within s w t m taken later ended).pairs e f
 
 -- what a layout gives is as many rows as it counts
-rows_count : {A : Type 0} (c : _) (look : A → Option (List ℕ)) (l : Lay A) (vs : List Val) → rows c look l ≡ Some vs → length vs ≡ row_count l
+rows_count : {A : Type 0} (c : _) (look : A → Option (List ℕ)) (l : LayoutData A) (vs : List ValueData) → rows c look l ≡ Some vs → length vs ≡ row_count l
 rows_count c look (layout k t n names ls) vs e = go (kind_rows c look k t n names (each_rows c look ls)) e
   where
-    go : (r : Option (List Val)) → and_then (counted n) r ≡ Some vs → length vs ≡ n
+    go : (r : Option (List ValueData)) → and_then (counted n) r ≡ Some vs → length vs ≡ n
     go None e = cc
     go (Some ws) e = counted_count n ws vs e
 
@@ -255,16 +255,16 @@ counts_rows s w t m batches keeps of clean fit =
 
 -- ---- batches of the schema
 
-schema_step : (t : Ty) (b : Piece) (rest : List Piece) (f : Bool) → ty_eq (piece_type b) t ≡ f → of_schema t (b ∷ rest) ≡ (if f then b ∷ of_schema t rest else [])
+schema_step : (t : Ty) (b : ChunkData) (rest : List ChunkData) (f : Bool) → ty_eq (piece_type b) t ≡ f → of_schema t (b ∷ rest) ≡ (if f then b ∷ of_schema t rest else [])
 schema_step t b rest f e = ap (λ g. if g then b ∷ of_schema t rest else []) e
 
 -- batches of the schema are all taken
-pub of_schema_all : (t : Ty) (bs : List Piece) → OfSchema t bs → of_schema t bs ≡ bs
+pub of_schema_all : (t : Ty) (bs : List ChunkData) → OfSchema t bs → of_schema t bs ≡ bs
 of_schema_all t [] h = refl
 of_schema_all t (b ∷ bs) h = schema_step t b bs true ((ty_eq_decides (piece_type b) t).1 h.0) ∙ ap (λ r. b ∷ r) (of_schema_all t bs h.1)
 
 -- and those before one of another type
-pub of_schema_until : (t : Ty) (bs : List Piece) (b : Piece) (rest : List Piece) → OfSchema t bs → ty_eq (piece_type b) t ≡ false → of_schema t (bs ++ (b ∷ rest)) ≡ bs
+pub of_schema_until : (t : Ty) (bs : List ChunkData) (b : ChunkData) (rest : List ChunkData) → OfSchema t bs → ty_eq (piece_type b) t ≡ false → of_schema t (bs ++ (b ∷ rest)) ≡ bs
 of_schema_until t [] b rest h e = schema_step t b rest false e
 of_schema_until t (c ∷ bs) b rest h e =
     schema_step t c (bs ++ (b ∷ rest)) true ((ty_eq_decides (piece_type c) t).1 h.0) ∙ ap (λ r. c ∷ r) (of_schema_until t bs b rest h.1 e)

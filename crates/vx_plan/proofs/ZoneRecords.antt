@@ -5,10 +5,10 @@ use Rattle.std.proofs.lemmas.List.{append-nil, length-map}
 use Rattle.std.proofs.lemmas.Bool.Decides.{nat_tests}
 use Rattle.std.proofs.Math.Nat.{suc-mul}
 use Rattle.vx_model.specs.Ty.{Ty}
-use Rattle.vx_model.specs.Val.{value}
-use Rattle.vx_model.specs.Piece.{cells, row_values}
-use Rattle.vx_record.specs.Aggregate.{Column}
-use Rattle.vx_record.specs.Record.{zone_record}
+use Rattle.vx_model.specs.ValueData.{value}
+use Rattle.vx_model.specs.ChunkData.{cells, row_values}
+use Rattle.vx_aggregate_spec.specs.Aggregate.{Column}
+use Rattle.vx_zone_spec.specs.Record.{zone_record}
 use Rattle.vx_plan.specs.PlanData.{Setting, Item, Fault, stream_values, row_total}
 use Rattle.vx_plan.specs.ZonedNode.{recorded, is_no_zone, cut_fault, cut_faults, zone_faults, zone_records}
 use Rattle.vx_plan.specs.ZonesHold.{zones_of, records_of, IsZoneCount}

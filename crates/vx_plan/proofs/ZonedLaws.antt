@@ -6,31 +6,30 @@ use Rattle.std.proofs.lemmas.Bool.Decides.{nat_tests}
 use Rattle.std.proofs.lemmas.List.{append-nil}
 use Rattle.vx_model.specs.Words.{all_by}
 use Rattle.vx_model.specs.Ty.{Ty, boolean, primitive, utf8, binary, list, struct, extension}
-use Rattle.vx_model.specs.Tree.{Tree, null_cell, bool_cell, int_cell, text_cell, bytes_cell, list_cell, struct_cell, fits}
-use Rattle.vx_model.specs.Val.{Val, value}
-use Rattle.vx_model.specs.Piece.{cells, row_values}
+use Rattle.vx_model.specs.CellData.{CellData, null_cell, bool_cell, int_cell, text_cell, bytes_cell, list_cell, struct_cell, fits}
+use Rattle.vx_model.specs.ValueData.{ValueData, value, is_null_value, is_row_value, value_fits}
+use Rattle.vx_model.specs.ChunkData.{cells, row_values}
 use Rattle.vx_path.specs.Path.{Eof, Region, begins, meets, raised, inside, next, under}
 use Rattle.vx_path.proofs.Lists.{in_left}
 use Rattle.vx_path.proofs.Path.{begins-refl, begins-trans, begins-under, raised_apart, raised-next, region_inside}
-use Rattle.vx_tree.specs.Rows.{and_then, counted}
-use Rattle.vx_tree.specs.LayoutTree.{layout_type}
-use Rattle.vx_record.specs.Aggregate.{Aggregate, maximum, minimum, bounded_maximum, bounded_minimum, null_count, sum, bloom, Column, has_options, default_aggregates}
-use Rattle.vx_record.specs.Statements.{is_text, AllValues}
-use Rattle.vx_bloom.specs.Values.{is_null, is_row_value, value_fits}
-use Rattle.vx_bloom.proofs.ValueFits.{value_fits-value}
-use Rattle.vx_record.specs.ZoneTable.{Filled, table_type, table_piece, kept_columns}
+use Rattle.vx_layout_spec.specs.Rows.{and_then, counted}
+use Rattle.vx_layout_spec.specs.LayoutTree.{layout_type}
+use Rattle.vx_aggregate_spec.specs.Aggregate.{Aggregate, maximum, minimum, bounded_maximum, bounded_minimum, null_count, sum, bloom, Column, has_options, default_aggregates}
+use Rattle.vx_zone_spec.specs.Statements.{is_text, AllValues}
+use Rattle.vx_bloom_spec.proofs.ValueFits.{value_fits-value}
+use Rattle.vx_zone_spec.specs.ZoneTable.{Filled, table_type, table_piece, kept_columns}
 use Rattle.vx_plan.specs.ZonesHold.{zones_of, records_of, IsZoneCount}
-use Rattle.vx_tree.specs.Real.{Of, is_real_cell}
-use Rattle.vx_record.specs.Record.{zone_record}
-use Rattle.vx_table.specs.Statements.{Zones, SmallFilter, SmallFilters, records}
-use Rattle.vx_table.proofs.WholeTables.{table_whole, columns_are}
+use Rattle.vx_layout_spec.specs.Real.{Of, is_real_cell}
+use Rattle.vx_zone_spec.specs.Record.{zone_record}
+use Rattle.vx_zone_table_laws.specs.Statements.{Zones, SmallFilter, SmallFilters, records}
+use Rattle.vx_zone_table_laws.proofs.WholeTables.{table_whole, columns_are}
 use Rattle.vx_rules.proofs.CellLaws.{Fine, cells_fine}
 use Rattle.vx_rules.proofs.ColumnStreams.{chunk_cells}
 use Rattle.vx_plan.proofs.ZoneRecords.{zones_right, zones_count, Right, more_right}
-use Rattle.vx_plan.specs.Admitted.{are_admitted_aggregates, is_admitted_zoned}
+use Rattle.vx_strategy_spec.specs.Admitted.{are_admitted_aggregates, is_admitted_zoned}
 use Rattle.vx_plan.proofs.Relate.{Given}
 use Rattle.vx_plan.specs.PlanData.{Setting, Item, Plan, Node, Fault, paths, places, stream_values, row_total}
-use Rattle.vx_plan.specs.Way.{ZonedOptions}
+use Rattle.vx_strategy_spec.specs.StrategyData.{ZonedOptions}
 use Rattle.vx_plan.specs.ZonedNode.{asked, recorded, forbidden_faults, cut_faults, zone_faults, zone_records, with_faults, table_items, with_table, table_of, zoned_node}
 use Rattle.vx_plan.specs.Valid.{Fit}
 use Rattle.vx_plan.specs.Statements.{Within}
@@ -125,7 +124,7 @@ whole_table s o t items cs of short kept h =
 
 -- ---- the rows are values of the type
 
-text_of : (c : Tree) → is_real_cell c ≡ true → is_text (value c) ≡ true
+text_of : (c : CellData) → is_real_cell c ≡ true → is_text (value c) ≡ true
 text_of null_cell h = refl
 text_of (bool_cell b) h = refl
 text_of (int_cell b) h = refl
@@ -143,15 +142,15 @@ or_fits : (a b : Bool) → b ≡ true → (a || b) ≡ true
 or_fits true b e = refl
 or_fits false b e = e
 
-cells_values : (t : Ty) (cs : List Tree) → all_by (fits t) cs ≡ true → all_by is_real_cell cs ≡ true → AllValues t (map value cs)
+cells_values : (t : Ty) (cs : List CellData) → all_by (fits t) cs ≡ true → all_by is_real_cell cs ≡ true → AllValues t (map value cs)
 cells_values t [] f r = tt
 cells_values t (c ∷ cs) f r = (
-  hold (is_row_value t (value c)) (is_text (value c)) (or_fits (is_null (value c)) (value_fits t (value c)) (value_fits-value t c (front (fits t c) (all_by (fits t) cs) f)))
+  hold (is_row_value t (value c)) (is_text (value c)) (or_fits (is_null_value (value c)) (value_fits t (value c)) (value_fits-value t c (front (fits t c) (all_by (fits t) cs) f)))
       (text_of c (front (is_real_cell c) (all_by is_real_cell cs) r)),
   cells_values t cs (back (fits t c) (all_by (fits t) cs) f) (back (is_real_cell c) (all_by is_real_cell cs) r),
 )
 
-values_append : (t : Ty) (vs ws : List Val) → AllValues t vs → AllValues t ws → AllValues t (vs ++ ws)
+values_append : (t : Ty) (vs ws : List ValueData) → AllValues t vs → AllValues t ws → AllValues t (vs ++ ws)
 values_append t [] ws g h = h
 values_append t (v ∷ vs) ws g h = (g.0, values_append t vs ws g.1 h)
 

@@ -2,7 +2,7 @@
 use Rattle.std.specs.Prelude.{ℕ, ◌+◌, Bool, true, List, [], ◌∷◌, ◌++◌, length}
 use Rattle.vx_model.specs.Ty.{Ty}
 use Rattle.vx_path.specs.Path.{Eof, inside, next}
-use Rattle.vx_tree.specs.LayoutTree.{Lay, gathered}
+use Rattle.vx_layout_spec.specs.LayoutTree.{LayoutData, gathered}
 use Rattle.vx_plan.specs.PlanData.{Pair, Item, Plan, Node, Fault, row_total}
 
 abbrev pub all_pairs : List Plan → List Pair
@@ -13,7 +13,7 @@ abbrev pub all_faults : List Plan → List Fault
 all_faults [] = []
 all_faults (p ∷ ps) = p.faults ++ all_faults ps
 
-abbrev pub all_layouts : List Plan → List (Lay (List ℕ))
+abbrev pub all_layouts : List Plan → List (LayoutData (List ℕ))
 all_layouts [] = []
 all_layouts (p ∷ ps) = p.layout ∷ all_layouts ps
 
@@ -36,7 +36,7 @@ whole t n numbers ps = record {
 }
 
 -- two plans beside each other, under one layout
-abbrev pub both_plans : Lay (List ℕ) → List ℕ → Plan → Plan → Plan
+abbrev pub both_plans : LayoutData (List ℕ) → List ℕ → Plan → Plan → Plan
 both_plans l ns p q = record { pairs = p.pairs ++ q.pairs; faults = p.faults ++ q.faults; layout = l; numbers = ns ++ (p.numbers ++ q.numbers); reserved = p.reserved + q.reserved }
 
 -- chunk j alone, ended, with the first eof path below e + j

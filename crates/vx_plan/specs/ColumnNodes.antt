@@ -2,9 +2,10 @@
 use Rattle.std.specs.Prelude.{ℕ, suc, ◌+◌, ◌||◌, Bool, true, false, if◌then◌else◌, List, [], ◌∷◌, ◌++◌, length, Option, Some, None}
 use Rattle.vx_model.specs.Ty.{Ty, Tys, list, struct}
 use Rattle.vx_path.specs.Path.{Eof, inside, next}
-use Rattle.vx_tree.specs.LayoutTree.{Lay, struct_layout, list_layout}
+use Rattle.vx_layout_spec.specs.LayoutTree.{LayoutData, struct_layout, list_layout}
 use Rattle.vx_rules.specs.Stream.{stream_cells}
-use Rattle.vx_rules.specs.Columns.{Split, struct_splits, list_splits, column, other_columns, all_elements}
+use Rattle.vx_rules.specs.Columns.{Split, struct_splits, list_splits, column, other_columns}
+use Rattle.vx_layout_spec.specs.Parts.{all_elements}
 use Rattle.vx_plan.specs.PlanData.{Item, Plan, Node, fault, What, not_struct, duplicate_field, empty_list, Place, at_start, at_end, row_total}
 use Rattle.vx_plan.specs.ChunkedNode.{all_pairs, all_faults, all_numbers, all_layouts, all_reserved}
 
@@ -21,10 +22,10 @@ abbrev pub column_plans : List Column → ℕ → List Split → Bool → Eof �
 column_plans [] c xs ended e = []
 column_plans (k ∷ ks) c xs ended e = k (column c xs) ended (inside e) ∷ column_plans ks (suc c) (other_columns xs) ended (next e)
 
-abbrev pub beside : Lay (List ℕ) → List ℕ → List Plan → Plan
+abbrev pub beside : LayoutData (List ℕ) → List ℕ → List Plan → Plan
 beside l ns ps = record { pairs = all_pairs ps; faults = all_faults ps; layout = l; numbers = ns ++ all_numbers ps; reserved = all_reserved ps }
 
-abbrev pub refused_node : Lay (List ℕ) → What → Place → Plan
+abbrev pub refused_node : LayoutData (List ℕ) → What → Place → Plan
 refused_node l w p = record { pairs = []; faults = fault w p ∷ []; layout = l; numbers = []; reserved = 0 }
 
 -- ---- structs

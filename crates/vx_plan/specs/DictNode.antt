@@ -1,15 +1,15 @@
 -- A dictionary node cuts its stream into runs, each with codes and values of its own.
 use Rattle.std.specs.Prelude.{ℕ, suc, ◌+◌, ◌*◌, Bool, true, false, if◌then◌else◌, List, [], ◌∷◌, length}
 use Rattle.vx_model.specs.Ty.{Ty}
-use Rattle.vx_model.specs.Tree.{Tree}
-use Rattle.vx_model.specs.Piece.{Piece, dict_piece}
+use Rattle.vx_model.specs.CellData.{CellData}
+use Rattle.vx_model.specs.ChunkData.{ChunkData, dict_piece}
 use Rattle.vx_path.specs.Path.{Eof, inside, next}
-use Rattle.vx_tree.specs.LayoutTree.{dict_layout, gathered}
+use Rattle.vx_layout_spec.specs.LayoutTree.{dict_layout, gathered}
 use Rattle.vx_rules.specs.Runs.{DictOptions, Run, runs, cut_at}
 use Rattle.vx_plan.specs.PlanData.{Setting, Item, Plan, Node, row_total}
 use Rattle.vx_plan.specs.ChunkedNode.{whole, both_plans}
 
-abbrev pub is_dictionary : Piece → Bool
+abbrev pub is_dictionary : ChunkData → Bool
 is_dictionary (dict_piece codes values) = true
 is_dictionary p = false
 
@@ -24,7 +24,7 @@ run_plans t ck vk m [] e = []
 run_plans t ck vk m (r ∷ rs) e = run_plan t ck vk m r e ∷ run_plans t ck vk m rs (next (next e))
 
 -- how many chunks are made at each chunk that is looked at: the index at which the pointer below its path then stands
-abbrev pub made_counts : DictOptions → Ty → List Tree → List Item → Bool → List ℕ
+abbrev pub made_counts : DictOptions → Ty → List CellData → List Item → Bool → List ℕ
 made_counts o t ds [] ended = []
 made_counts o t ds (c ∷ []) ended = if ended then (2 * suc (length (cut_at o t ds c).closed)) ∷ [] else []
 made_counts o t ds (c ∷ d ∷ cs) ended = (2 * length (cut_at o t ds c).closed + 1) ∷ made_counts o t (cut_at o t ds c).distinct (d ∷ cs) ended

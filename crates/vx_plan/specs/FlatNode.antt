@@ -2,10 +2,10 @@
 use Rattle.std.specs.Prelude.{ℕ, if◌then◌else◌, List, [], ◌∷◌, ◌++◌, length, Option, Some, None}
 use Rattle.vx_model.specs.declared.encoding.EncodingId.{EncodingId}
 use Rattle.vx_model.specs.Ty.{Ty}
-use Rattle.vx_model.specs.Piece.{cells}
-use Rattle.vx_tree.specs.LayoutTree.{Lay, flat_layout, gathered}
+use Rattle.vx_model.specs.ChunkData.{cells}
+use Rattle.vx_layout_spec.specs.LayoutTree.{LayoutData, flat_layout, gathered}
 use Rattle.vx_plan.specs.PlanData.{Setting, Pair, Item, Node, Fault, fault, many_chunks, forbidden_encoding, at_chunk}
-use Rattle.vx_plan.specs.Way.{FlatOptions}
+use Rattle.vx_strategy_spec.specs.StrategyData.{FlatOptions}
 
 -- a chunk's segment
 abbrev pub segment : Setting → FlatOptions → Item → Option (List ℕ)
@@ -27,7 +27,7 @@ length_of (Some bytes) = length bytes ∷ []
 abbrev pub inlined : Setting → FlatOptions → Item → Option (List ℕ)
 inlined s o i = if o.inline then Some (s.codec.tree_part s.encodings o.padding i.1) else None
 
-abbrev pub flat_of : Setting → FlatOptions → Ty → Item → Lay (List ℕ)
+abbrev pub flat_of : Setting → FlatOptions → Ty → Item → LayoutData (List ℕ)
 flat_of s o t i = flat_layout t (length (cells i.1)) s.encodings (inlined s o i) i.0
 
 abbrev pub refusals : Setting → Item → List Fault

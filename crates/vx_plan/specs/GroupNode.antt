@@ -2,13 +2,13 @@
 use Rattle.std.specs.Prelude.{ℕ, ◌+◌, Bool, if◌then◌else◌, List, [], ◌∷◌, ◌++◌, length}
 use Rattle.vx_model.specs.Words.{total_by}
 use Rattle.vx_model.specs.Ty.{Ty}
-use Rattle.vx_model.specs.Tree.{Tree}
-use Rattle.vx_model.specs.Piece.{Piece, cells, held}
+use Rattle.vx_model.specs.CellData.{CellData}
+use Rattle.vx_model.specs.ChunkData.{ChunkData, cells, held}
 use Rattle.vx_rules.specs.Regroup.{Rule, regrouped}
 use Rattle.vx_rules.specs.Blocks.{BlockOptions, blocks, block_len, tested_sizes, check_points}
 use Rattle.vx_rules.specs.Flushes.{flushes, collected}
 use Rattle.vx_plan.specs.PlanData.{Setting, Item, Plan, Node, row_total}
-use Rattle.vx_plan.specs.Way.{Grouping, by_blocks, by_bytes, into_one}
+use Rattle.vx_strategy_spec.specs.StrategyData.{Grouping, by_blocks, by_bytes, into_one}
 
 abbrev pub with_numbers : List ℕ → ℕ → Plan → Plan
 with_numbers ns reserved p = record { pairs = p.pairs; faults = p.faults; layout = p.layout; numbers = ns ++ p.numbers; reserved = reserved + p.reserved }
@@ -21,30 +21,30 @@ grouped_stream (by_bytes size) t items ended = regrouped (flushes size) [] items
 grouped_stream into_one t items ended = collected t items ended
 
 -- What is counted at each chunk that a rule acts on, the last one apart. Of an open stream the newest isn't acted on.
-abbrev pub counted_at : {S : Type 0} → (S → Piece → List ℕ) → (S → Piece → List ℕ) → Rule S → S → List Item → Bool → List ℕ
+abbrev pub counted_at : {S : Type 0} → (S → ChunkData → List ℕ) → (S → ChunkData → List ℕ) → Rule S → S → List Item → Bool → List ℕ
 counted_at f g r s [] ended = []
 counted_at f g r s (c ∷ []) ended = if ended then g s c.1 else []
 counted_at f g r s (c ∷ d ∷ cs) ended = f s c.1 ++ counted_at f g r (r.holds s c.1) (d ∷ cs) ended
 
 -- how many leave at a chunk: the index at which the pointer below its path then stands
-abbrev pub left_count : {S : Type 0} → Rule S → S → Piece → List ℕ
+abbrev pub left_count : {S : Type 0} → Rule S → S → ChunkData → List ℕ
 left_count r s c = length (r.leaves s c) ∷ []
 
-abbrev pub rest_count : {S : Type 0} → Rule S → S → Piece → List ℕ
+abbrev pub rest_count : {S : Type 0} → Rule S → S → ChunkData → List ℕ
 rest_count r s c = length (r.rest s c) ∷ []
 
 -- the row sizes from the last cut to the check points of a chunk
-abbrev pub tested_at : BlockOptions → Ty → List Tree → Piece → List ℕ
+abbrev pub tested_at : BlockOptions → Ty → List CellData → ChunkData → List ℕ
 tested_at o t rows c = tested_sizes (block_len o t) o.minimum t 0 (rows ++ cells c) (check_points (block_len o t) (length rows) (length (cells c)))
 
-abbrev pub block_count : BlockOptions → Ty → List Tree → Piece → List ℕ
+abbrev pub block_count : BlockOptions → Ty → List CellData → ChunkData → List ℕ
 block_count o t rows c = left_count (blocks o t) rows c ++ tested_at o t rows c
 
-abbrev pub block_rest : BlockOptions → Ty → List Tree → Piece → List ℕ
+abbrev pub block_rest : BlockOptions → Ty → List CellData → ChunkData → List ℕ
 block_rest o t rows c = rest_count (blocks o t) rows c ++ tested_at o t rows c
 
 -- the held size of each chunk and of the buffer with it
-abbrev pub held_sizes : ℕ → List Piece → List Item → List ℕ
+abbrev pub held_sizes : ℕ → List ChunkData → List Item → List ℕ
 held_sizes size ps [] = []
 held_sizes size ps (c ∷ cs) = held c.1 ∷ total_by held (ps ++ (c.1 ∷ [])) ∷ held_sizes size ((flushes size).holds ps c.1) cs
 

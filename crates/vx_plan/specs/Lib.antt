@@ -1,13 +1,10 @@
 pub mod PlanData
-pub mod Way
-pub mod Walk
 pub mod FlatNode
 pub mod ChunkedNode
 pub mod GroupNode
 pub mod ColumnNodes
 pub mod ZonedNode
 pub mod DictNode
-pub mod Admitted
 pub mod SourcePlan
 pub mod Number
 pub mod Valid

@@ -1,7 +1,7 @@
 -- Segments get their numbers in order of path.
 use Rattle.std.specs.Prelude.{ℕ, zero, suc, ◌+◌, ◌-◌, nat_lt, bytes_eq, if◌then◌else◌, List, [], ◌∷◌, Option, Some, None}
 use Rattle.vx_path.specs.Sort.{sort_by}
-use Rattle.vx_tree.specs.LayoutTree.{Lay, renamed}
+use Rattle.vx_layout_spec.specs.LayoutTree.{LayoutData, renamed}
 use Rattle.vx_plan.specs.PlanData.{Pair, Plan, stored}
 
 abbrev pub path_of : Pair → List ℕ
@@ -25,7 +25,7 @@ abbrev pub number_of : List Pair → ℕ → List ℕ → ℕ
 number_of ps first path = first + place_of path (sorted ps)
 
 -- the layout with its segments numbered
-abbrev pub numbered : Plan → ℕ → Lay ℕ
+abbrev pub numbered : Plan → ℕ → LayoutData ℕ
 numbered p first = renamed (number_of p.pairs first) p.layout
 
 -- the element at a place

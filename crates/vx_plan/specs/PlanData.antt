@@ -1,12 +1,12 @@
 -- What is written of a stream: the data of a plan.
 use Rattle.std.specs.Prelude.{ℕ, ◌+◌, Bool, true, List, [], ◌∷◌, ◌++◌, length, Option, Some, None}
 use Rattle.vx_model.specs.declared.encoding.EncodingId.{EncodingId}
-use Rattle.vx_model.specs.Val.{Val}
-use Rattle.vx_model.specs.Piece.{Piece, cells, row_values}
+use Rattle.vx_model.specs.ValueData.{ValueData}
+use Rattle.vx_model.specs.ChunkData.{ChunkData, cells, row_values}
 use Rattle.vx_path.specs.Path.{Eof}
-use Rattle.vx_tree.specs.LayoutTree.{Lay}
+use Rattle.vx_layout_spec.specs.LayoutTree.{LayoutData}
 use Rattle.vx_rules.specs.Stream.{Chunk, chunk_paths}
-use Rattle.vx_tree.specs.Codec.{Codec}
+use Rattle.vx_layout_spec.specs.Codec.{Codec}
 
 -- What a write is given beside its strategy and its schema.
 pub record Setting : Type 0 where
@@ -16,7 +16,7 @@ pub record Setting : Type 0 where
   -- the ids of the aggregates that zone tables may have; None: all
   pub allowed : Option (List (List ℕ))
   -- the compressor's image of a chunk, by the compressor's number
-  pub image : ℕ → Piece → Piece
+  pub image : ℕ → ChunkData → ChunkData
   -- the hash of filters
   pub hash : List ℕ → ℕ
 
@@ -60,7 +60,7 @@ pub record Plan : Type 0 where
   pub pairs : List Pair
   pub faults : List Fault
   -- segments are named by their paths
-  pub layout : Lay (List ℕ)
+  pub layout : LayoutData (List ℕ)
   -- row counts, offsets, sizes, lengths of segments and indices of paths, which must fit 64 bits
   pub numbers : List ℕ
   -- the held sizes of all chunks that buffering nodes take, summed
@@ -91,14 +91,14 @@ row_total [] = 0
 row_total (i ∷ is) = length (cells i.1) + row_total is
 
 -- the row values of a stream
-abbrev pub stream_values : List Item → List Val
+abbrev pub stream_values : List Item → List ValueData
 stream_values [] = []
 stream_values (i ∷ is) = row_values i.1 ++ stream_values is
 
 -- a layout, where the stream has ended without a fault
-abbrev pub given : Bool → List Fault → Lay (List ℕ) → Option (Lay (List ℕ))
+abbrev pub given : Bool → List Fault → LayoutData (List ℕ) → Option (LayoutData (List ℕ))
 given true [] l = Some l
 given ended fs l = None
 
-abbrev pub planned : Bool → Plan → Option (Lay (List ℕ))
+abbrev pub planned : Bool → Plan → Option (LayoutData (List ℕ))
 planned ended p = given ended p.faults p.layout

@@ -1,12 +1,12 @@
 -- What is written of a source's batches.
 use Rattle.std.specs.Prelude.{ℕ, suc, Bool, if◌then◌else◌, List, [], ◌∷◌, ◌++◌, length}
 use Rattle.vx_model.specs.Ty.{Ty, ty_eq}
-use Rattle.vx_model.specs.Val.{Val}
-use Rattle.vx_model.specs.Piece.{Piece, piece_type, row_values}
+use Rattle.vx_model.specs.ValueData.{ValueData}
+use Rattle.vx_model.specs.ChunkData.{ChunkData, piece_type, row_values}
 use Rattle.vx_path.specs.Path.{Eof}
 use Rattle.vx_plan.specs.PlanData.{Setting, Item, Plan, Node}
-use Rattle.vx_plan.specs.Way.{Way}
-use Rattle.vx_plan.specs.Walk.{Nodes, walk}
+use Rattle.vx_strategy_spec.specs.StrategyData.{StrategyData}
+use Rattle.vx_strategy_spec.specs.Walk.{Nodes, walk}
 use Rattle.vx_plan.specs.FlatNode.{flat_node}
 use Rattle.vx_plan.specs.ChunkedNode.{chunked_node}
 use Rattle.vx_plan.specs.GroupNode.{grouped_node, compressed_node}
@@ -28,11 +28,11 @@ plan_nodes s = record {
 }
 
 -- what a strategy writes of a stream of the type
-abbrev pub plan : Setting → Way → Ty → Node
+abbrev pub plan : Setting → StrategyData → Ty → Node
 plan s w t = walk (plan_nodes s) w t
 
 -- batch i has the path [0, i]
-abbrev pub batch_items : ℕ → List Piece → List Item
+abbrev pub batch_items : ℕ → List ChunkData → List Item
 batch_items i [] = []
 batch_items i (b ∷ bs) = (0 ∷ i ∷ [], b) ∷ batch_items (suc i) bs
 
@@ -41,23 +41,23 @@ abbrev pub root_eof : Eof
 root_eof = record { stem = []; last = 1 }
 
 -- the indices of the source's pointer and of the root's eof path
-abbrev pub with_root : List Piece → Plan → Plan
+abbrev pub with_root : List ChunkData → Plan → Plan
 with_root batches p = record { pairs = p.pairs; faults = p.faults; layout = p.layout; numbers = length batches ∷ p.numbers; reserved = p.reserved }
 
 -- what is written of the batches, the first ones where the source hasn't ended
-abbrev pub source_plan : Setting → Way → Ty → Bool → List Piece → Bool → Plan
+abbrev pub source_plan : Setting → StrategyData → Ty → Bool → List ChunkData → Bool → Plan
 source_plan s w t m batches ended = with_root batches (plan s w t m (batch_items 0 batches) ended root_eof)
 
 -- the batches before the first of another type
-abbrev pub of_schema : Ty → List Piece → List Piece
+abbrev pub of_schema : Ty → List ChunkData → List ChunkData
 of_schema t [] = []
 of_schema t (b ∷ bs) = if ty_eq (piece_type b) t then b ∷ of_schema t bs else []
 
 -- what is written of the batches taken, without one of another type
-abbrev pub taken_plan : Setting → Way → Ty → Bool → List Piece → Bool → Plan
+abbrev pub taken_plan : Setting → StrategyData → Ty → Bool → List ChunkData → Bool → Plan
 taken_plan s w t m taken ended = source_plan s w t m (of_schema t taken) ended
 
 -- the row values of the batches
-abbrev pub source_values : List Piece → List Val
+abbrev pub source_values : List ChunkData → List ValueData
 source_values [] = []
 source_values (b ∷ bs) = row_values b ++ source_values bs

@@ -1,14 +1,14 @@
 -- The laws of what is written.
 use Rattle.std.specs.Prelude.{ℕ, ◌<◌, ◌≤◌, ◌≡◌, Bool, true, false, List, [], ◌++◌, length, Some}
 use Rattle.vx_model.specs.Ty.{Ty}
-use Rattle.vx_model.specs.Piece.{Piece}
+use Rattle.vx_model.specs.ChunkData.{ChunkData}
 use Rattle.vx_path.specs.Lists.{In, Each}
 use Rattle.vx_path.specs.Path.{Scattered, Region}
-use Rattle.vx_tree.specs.LayoutTree.{row_count, layout_type}
-use Rattle.vx_tree.specs.Rows.{rows}
+use Rattle.vx_layout_spec.specs.LayoutTree.{row_count, layout_type}
+use Rattle.vx_layout_spec.specs.Rows.{rows}
 use Rattle.vx_plan.specs.PlanData.{Setting, Item, Pair, Plan, paths, places, stream_values}
-use Rattle.vx_plan.specs.Way.{Way, ZonedOptions}
-use Rattle.vx_plan.specs.Admitted.{is_admitted}
+use Rattle.vx_strategy_spec.specs.StrategyData.{StrategyData, ZonedOptions}
+use Rattle.vx_strategy_spec.specs.Admitted.{is_admitted}
 use Rattle.vx_plan.specs.ZonedNode.{recorded, zone_faults, zone_records}
 use Rattle.vx_plan.specs.ZonesHold.{zones_of, records_of, ZonesHold}
 use Rattle.vx_plan.specs.SourcePlan.{source_plan, batch_items, root_eof, source_values}
@@ -17,18 +17,18 @@ use Rattle.vx_plan.specs.Valid.{Fit, AllOf, Keeps}
 
 -- The rows of the numbered layout are the batches' rows, in order.
 abbrev pub RowsComeBack : Type 0
-RowsComeBack = (s : Setting) (w : Way) (t : Ty) (m : Bool) (batches : List Piece) (first : ℕ) → Keeps s → AllOf t batches
+RowsComeBack = (s : Setting) (w : StrategyData) (t : Ty) (m : Bool) (batches : List ChunkData) (first : ℕ) → Keeps s → AllOf t batches
     → (source_plan s w t m batches true).faults ≡ [] → Fit (source_plan s w t m batches true).numbers
     → rows s.codec (segment_at first (segments (source_plan s w t m batches true))) (numbered (source_plan s w t m batches true) first)
     ≡ Some (source_values batches)
 
 -- No path of a segment is a prefix of another's, so all are distinct; each goes on from a batch's path or from one of the root's eof paths.
 abbrev pub PathsDistinct : Type 0
-PathsDistinct = (s : Setting) (w : Way) (t : Ty) (m : Bool) (batches : List Piece) (ended : Bool)
+PathsDistinct = (s : Setting) (w : StrategyData) (t : Ty) (m : Bool) (batches : List ChunkData) (ended : Bool)
     → Scattered (paths (source_plan s w t m batches ended).pairs)
 
 abbrev pub PathsInRegion : Type 0
-PathsInRegion = (s : Setting) (w : Way) (t : Ty) (m : Bool) (batches : List Piece) (ended : Bool)
+PathsInRegion = (s : Setting) (w : StrategyData) (t : Ty) (m : Bool) (batches : List ChunkData) (ended : Bool)
     → Each (Region (places (batch_items 0 batches)) root_eof) (paths (source_plan s w t m batches ended).pairs)
 
 -- What holds of the first batches, the source not having ended, and of all.
@@ -39,19 +39,19 @@ pub record Within (p q : Plan) : Type 0 where
   pub reserved : p.reserved ≤ q.reserved
 
 abbrev pub PrefixWithin : Type 0
-PrefixWithin = (s : Setting) (w : Way) (t : Ty) (m : Bool) (taken later : List Piece) (ended : Bool)
+PrefixWithin = (s : Setting) (w : StrategyData) (t : Ty) (m : Bool) (taken later : List ChunkData) (ended : Bool)
     → Within (source_plan s w t m taken false) (source_plan s w t m (taken ++ later) ended)
 
 -- A front of all sorted pairs that lies in the plan of the batches taken is a front of its sorted pairs.
 abbrev pub FrontOfTaken : Type 0
-FrontOfTaken = (s : Setting) (w : Way) (t : Ty) (m : Bool) (taken later : List Piece) (ended : Bool) (done rest : List Pair)
+FrontOfTaken = (s : Setting) (w : StrategyData) (t : Ty) (m : Bool) (taken later : List ChunkData) (ended : Bool) (done rest : List Pair)
     → sorted (source_plan s w t m (taken ++ later) ended).pairs ≡ done ++ rest
     → ((x : Pair) → In x done → In x (source_plan s w t m taken false).pairs)
     → (more : List Pair) × (sorted (source_plan s w t m taken false).pairs ≡ done ++ more)
 
 -- The layout has the schema's type and as many rows as the batches.
 abbrev pub CountsRows : Type 0
-CountsRows = (s : Setting) (w : Way) (t : Ty) (m : Bool) (batches : List Piece) → Keeps s → AllOf t batches
+CountsRows = (s : Setting) (w : StrategyData) (t : Ty) (m : Bool) (batches : List ChunkData) → Keeps s → AllOf t batches
     → (source_plan s w t m batches true).faults ≡ [] → Fit (source_plan s w t m batches true).numbers
     → (layout_type (source_plan s w t m batches true).layout ≡ t)
     × (row_count (source_plan s w t m batches true).layout ≡ length (source_values batches))
@@ -66,6 +66,6 @@ RecordsAreOfZones = (s : Setting) (o : ZonedOptions) (t : Ty) (items : List Item
 
 -- Each zoned node of the numbered layout, those of zone tables too, has a table of the records of exactly the rows of its zones.
 abbrev pub ZonesAreTrue : Type 0
-ZonesAreTrue = (s : Setting) (w : Way) (t : Ty) (m : Bool) (batches : List Piece) (first : ℕ) → Keeps s → is_admitted w ≡ true → AllOf t batches
+ZonesAreTrue = (s : Setting) (w : StrategyData) (t : Ty) (m : Bool) (batches : List ChunkData) (first : ℕ) → Keeps s → is_admitted w ≡ true → AllOf t batches
     → (source_plan s w t m batches true).faults ≡ [] → Fit (source_plan s w t m batches true).numbers
     → ZonesHold s (segment_at first (segments (source_plan s w t m batches true))) (numbered (source_plan s w t m batches true) first)

@@ -1,17 +1,18 @@
 -- A zoned node keeps a record a chunk beside its child.
 use Rattle.std.specs.Prelude.{ℕ, ◌+◌, ◌==◌, ◌||◌, nat_lt, bytes_eq, Bool, true, false, if◌then◌else◌, List, [], ◌∷◌, ◌++◌, length, Option, Some, None}
 use Rattle.vx_model.specs.Ty.{Ty}
-use Rattle.vx_model.specs.Val.{Val}
-use Rattle.vx_model.specs.Piece.{cells, row_values}
+use Rattle.vx_model.specs.ValueData.{ValueData}
+use Rattle.vx_model.specs.ChunkData.{cells, row_values}
 use Rattle.vx_path.specs.Path.{Eof, inside, next, under, raised}
-use Rattle.vx_tree.specs.LayoutTree.{zoned_layout}
-use Rattle.vx_record.specs.Aggregate.{Aggregate, Column, held_aggregates, default_aggregates, aggregate_id}
-use Rattle.vx_record.specs.Record.{zone_record}
-use Rattle.vx_record.specs.ZoneTable.{Filled, kept_columns, table_type, table_specs, table_piece}
+use Rattle.vx_layout_spec.specs.LayoutTree.{zoned_layout}
+use Rattle.vx_aggregate_spec.specs.Aggregate.{Aggregate, Column, held_aggregates, default_aggregates, aggregate_id}
+use Rattle.vx_zone_spec.specs.Record.{zone_record}
+use Rattle.vx_zone_spec.specs.ZoneTable.{Filled, kept_columns, table_type, table_specs, table_piece}
 use Rattle.vx_plan.specs.PlanData.{Setting, Item, Plan, Node, Fault, fault, forbidden_aggregate, zone_cut, at_start, at_chunk, row_total}
 use Rattle.vx_plan.specs.GroupNode.{with_numbers}
 use Rattle.vx_plan.specs.ChunkedNode.{both_plans}
-use Rattle.vx_plan.specs.Way.{ZonedOptions}
+use Rattle.vx_strategy_spec.specs.StrategyData.{ZonedOptions}
+use Rattle.vx_model.specs.Words.{lists_id}
 
 -- the node's aggregates that the type can hold, in order
 abbrev pub asked : Option (List Aggregate) → Ty → List Aggregate
@@ -20,10 +21,6 @@ asked (Some aggregates) t = aggregates
 
 abbrev pub recorded : ZonedOptions → Ty → List Column
 recorded o t = held_aggregates (asked o.aggregates t) t
-
-abbrev pub lists_id : List ℕ → List (List ℕ) → Bool
-lists_id id [] = false
-lists_id id (i ∷ ids) = bytes_eq i id || lists_id id ids
 
 abbrev pub allows : Option (List (List ℕ)) → Aggregate → Bool
 allows None a = true
@@ -56,7 +53,7 @@ abbrev pub zone_faults : ℕ → List Column → List Item → List Fault
 zone_faults zone [] items = []
 zone_faults zone (a ∷ columns) items = cut_faults zone items
 
-abbrev pub zone_records : Setting → Ty → List Column → List Item → List (List Val)
+abbrev pub zone_records : Setting → Ty → List Column → List Item → List (List ValueData)
 zone_records s t columns [] = []
 zone_records s t columns (c ∷ cs) = zone_record s.hash t (row_values c.1) columns ∷ zone_records s t columns cs
 

@@ -4,11 +4,12 @@ use Rattle.std.specs.Prelude.{option_map, nat_lt, pos}
 use Rattle.std.proofs.lemmas.List.{drop_more, drop_all, length-map, append-nil, map-append}
 use Rattle.std.proofs.lemmas.Bool.Decides.{nat_tests}
 use Rattle.vx_model.specs.declared.row_value.Value.{Value}
-use Rattle.vx_model.specs.Val.{Val}
+use Rattle.vx_model.specs.ValueData.{ValueData}
 use Rattle.vx_model.specs.TreeView.{val}
 use Rattle.vx_model.proofs.CellViews.{val_list, val_struct}
-use Rattle.vx_tree.specs.Rows.{and_then, all_there, value_at, picked}
-use Rattle.vx_read.specs.Reading.{first_of, other_rows, place_fault, code_fault, codes_fault}
+use Rattle.vx_layout_spec.specs.Rows.{and_then, all_there, value_at, picked}
+use Rattle.vx_read.specs.Reading.{other_rows, place_fault, code_fault, codes_fault}
+use Rattle.vx_segment_map.specs.FirstFault.{first_of}
 use Rattle.vx_read.specs.Agreement.{is_there}
 use Rattle.vx_read.proofs.FaultLaws.{fits, faultless, code_there}
 use Rattle.vx_read.proofs.StructSteps.{null_is}
@@ -44,11 +45,11 @@ pub ruleset code_rules = (null_is, val_list, val_struct, length-map)
 
 -- ---- the loop over codes
 
-pub pick_more : (values codes : List Value) (i : ℕ) (code value : Value) (rows : List Value) (all : Option (List Val)) → i < length codes → code ≡ get_or codes i code → picked (map val values) (val code) ≡ Some (val value)
+pub pick_more : (values codes : List Value) (i : ℕ) (code value : Value) (rows : List Value) (all : Option (List ValueData)) → i < length codes → code ≡ get_or codes i code → picked (map val values) (val code) ≡ Some (val value)
     → before (map val rows) (all_there (map (picked (map val values)) (map val (drop i codes)))) ≡ all
     → before (map val (rows ++ value ∷ [])) (all_there (map (picked (map val values)) (map val (drop (i + 1) codes)))) ≡ all
 pick_more values codes i code value rows all lt is e so_far =
-    let rest : Option (List Val) = all_there (map (picked (map val values)) (map val (drop (i + 1) codes))) in
+    let rest : Option (List ValueData) = all_there (map (picked (map val values)) (map val (drop (i + 1) codes))) in
     let step : all_there (map (picked (map val values)) (map val (drop i codes))) ≡ before (val value ∷ []) rest =
     rw (drop_more codes i code lt, ← is, e) (next_there (val value) rest) in
     rw (map-append val rows (value ∷ [])) (sym (before_both (map val rows) (val value ∷ []) rest) ∙ ap (before (map val rows)) (sym step) ∙ so_far)
@@ -57,7 +58,7 @@ pub drop_codes : (count : ℕ) (codes : List Value) (i : ℕ) (code : Value) →
     → codes_fault count (map val (drop i codes)) ≡ first_of (code_fault count (val code)) (codes_fault count (map val (drop (i + 1) codes)))
 drop_codes count codes i code lt is = rw (drop_more codes i code lt, ← is) refl
 
-pub pass_code : (values codes : List Value) (i : ℕ) (code : Value) (v : Val) → i < length codes → code ≡ get_or codes i code → picked (map val values) (val code) ≡ Some v
+pub pass_code : (values codes : List Value) (i : ℕ) (code : Value) (v : ValueData) → i < length codes → code ≡ get_or codes i code → picked (map val values) (val code) ≡ Some v
     → codes_fault (length values) (map val (drop i codes)) ≡ codes_fault (length values) (map val (drop (i + 1) codes))
 pass_code values codes i code v lt is e =
     let same : fits (code_fault (length (map val values)) (val code)) ≡ true = sym (code_there (map val values) (val code)) ∙ ap is_there e in

@@ -2,18 +2,20 @@
 use Rattle.std.proofs.Common.{◌≡◌, ℕ, List, Option, Some, None, Result, Ok, Err, refl, sym, ap, ◌∙◌}
 use Rattle.std.specs.Global.{Vec}
 use Rattle.vx_model.specs.declared.row_value.Value.{Value}
-use Rattle.vx_model.specs.Val.{Val}
-use Rattle.vx_tree.specs.LayoutTree.{Lay}
-use Rattle.vx_tree.specs.Codec.{Codec}
-use Rattle.vx_tree.specs.Rows.{rows}
-use Rattle.vx_kinds.specs.declared.error.LayoutError.{LayoutError}
-use Rattle.vx_kinds.specs.declared.error.LayoutError.TheVariants as errors
-use Rattle.vx_read.specs.declared.error.ReadError.{ReadError}
-use Rattle.vx_read.specs.declared.error.ReadError.TheVariants.{Foreign, NoSegment, BadSegment, Rows, Layout, OutOfMemory}
-use Rattle.vx_read.specs.Reading.{ReadFault, first_of, first_fault}
+use Rattle.vx_model.specs.ValueData.{ValueData}
+use Rattle.vx_layout_spec.specs.LayoutTree.{LayoutData}
+use Rattle.vx_layout_spec.specs.Codec.{Codec}
+use Rattle.vx_layout_spec.specs.Rows.{rows}
+use Rattle.vx_layout_tree.specs.declared.error.LayoutError.{LayoutError}
+use Rattle.vx_layout_tree.specs.declared.error.LayoutError.TheVariants as errors
+use Rattle.vx_segment_map.specs.declared.error.ReadError.{ReadError}
+use Rattle.vx_segment_map.specs.declared.error.ReadError.TheVariants.{Foreign, NoSegment, BadSegment, Rows, Layout, OutOfMemory}
+use Rattle.vx_read.specs.Reading.{ReadFault, first_fault}
+use Rattle.vx_segment_map.specs.FirstFault.{first_of}
 use Rattle.vx_read.specs.Agreement.{is_there}
 use Rattle.vx_read.specs.Parts.{rows_in}
-use Rattle.vx_read.specs.Answers.{IsRefusal, IsFault, read_error, TellsFault, GivesRows, Reads}
+use Rattle.vx_read.specs.Answers.{IsRefusal, IsFault, TellsFault, GivesRows, Reads}
+use Rattle.vx_segment_map.specs.Errors.{read_error}
 use Rattle.std.specs.Result.{IsErr, IsErrAnd}
 use Rattle.vx_read.proofs.FaultLaws.{fits, faultless, rows_agree}
 
@@ -53,7 +55,7 @@ first_stays e (Some f) b h = h
 pub second_stays : (e : ReadError) (a b : Option ReadFault) → a ≡ None → IsFault e b → IsFault e (first_of a b)
 second_stays e a b none h = rw none h
 
-no_rows : (e : ReadError) (o : Option (List Val)) (f : Option ReadFault) → is_there o ≡ fits f → IsFault e f → GivesRows (Err e) o
+no_rows : (e : ReadError) (o : Option (List ValueData)) (f : Option ReadFault) → is_there o ≡ fits f → IsFault e f → GivesRows (Err e) o
 no_rows (Foreign id) None f same h = refl
 no_rows (NoSegment n) None f same h = refl
 no_rows (BadSegment n) None f same h = refl
@@ -72,11 +74,11 @@ no_rows (Layout e) (Some vs) (Some f) same h = cc
 no_rows OutOfMemory o f same h = tt
 
 -- rows or the fault, by the law that one of them is there
-pub gives : (c : Codec) (look : ℕ → Option (List ℕ)) (l : Lay ℕ) (r : Result (Vec Value) ReadError) → Reads rows_in r (rows c look l) (first_fault c look l) → GivesRows r (rows c look l)
+pub gives : (c : Codec) (look : ℕ → Option (List ℕ)) (l : LayoutData ℕ) (r : Result (Vec Value) ReadError) → Reads rows_in r (rows c look l) (first_fault c look l) → GivesRows r (rows c look l)
 gives c look l (Ok v) h = h
 gives c look l (Err e) h = no_rows e (rows c look l) (first_fault c look l) (rows_agree c look l) h
 
-pub tells : (c : Codec) (look : ℕ → Option (List ℕ)) (l : Lay ℕ) (r : Result (Vec Value) ReadError) → Reads rows_in r (rows c look l) (first_fault c look l) → TellsFault r (first_fault c look l)
+pub tells : (c : Codec) (look : ℕ → Option (List ℕ)) (l : LayoutData ℕ) (r : Result (Vec Value) ReadError) → Reads rows_in r (rows c look l) (first_fault c look l) → TellsFault r (first_fault c look l)
 tells c look l (Ok v) h = faultless (first_fault c look l) (sym (rows_agree c look l) ∙ ap is_there h)
 tells c look l (Err e) h = h
 

@@ -4,12 +4,12 @@ use Rattle.std.specs.Prelude.{pos}
 use Rattle.std.proofs.lemmas.List.{length-map}
 use Rattle.vx_model.specs.declared.encoding.EncodingId.{EncodingId}
 use Rattle.vx_model.specs.Ty.{Ty}
-use Rattle.vx_model.specs.Tree.{Tree}
-use Rattle.vx_model.specs.Val.{Val, value}
-use Rattle.vx_tree.specs.Rows.{and_then, counted, flat_rows}
-use Rattle.vx_segment.specs.Codec.{segment_codec, cells_read}
-use Rattle.vx_segment.specs.Segment.{decode as segment_of}
-use Rattle.vx_read.specs.declared.error.ReadError.{ReadError}
+use Rattle.vx_model.specs.CellData.{CellData}
+use Rattle.vx_model.specs.ValueData.{ValueData, value}
+use Rattle.vx_layout_spec.specs.Rows.{and_then, counted, flat_rows}
+use Rattle.vx_segment_reader.specs.Codec.{segment_codec, cells_read}
+use Rattle.vx_segment_reader.specs.Segment.{decode as segment_of}
+use Rattle.vx_segment_map.specs.declared.error.ReadError.{ReadError}
 use Rattle.vx_read.specs.Reading.{no_segment, bad_segment, other_rows, count_fault, flat_fault}
 use Rattle.vx_read.specs.Answers.{IsFault}
 use Rattle.vx_read.proofs.NodeSteps.{counted_of}
@@ -22,14 +22,14 @@ pub no_chunk : (look : ℕ → Option (List ℕ)) (encodings : List EncodingId) 
     → flat_fault segment_codec look encodings t n names ≡ Some (bad_segment name)
 no_chunk look encodings t n name names bytes one there bad = rw (one, there, bad) refl
 
-count_of : (n : ℕ) (cs : List Tree) → count_fault n (map value cs) ≡ (if length cs == n then None else Some (other_rows (length cs) (pos n)))
+count_of : (n : ℕ) (cs : List CellData) → count_fault n (map value cs) ≡ (if length cs == n then None else Some (other_rows (length cs) (pos n)))
 count_of n cs = ap (λ m. if m == n then None else Some (other_rows m (pos n))) (length-map cs value)
 
-pub other_count : (e : ReadError) (look : ℕ → Option (List ℕ)) (encodings : List EncodingId) (t : Ty) (n name : ℕ) (names bytes : List ℕ) (cs : List Tree) (vs : List Val) → names ≡ name ∷ [] → look name ≡ Some bytes → cells_read (segment_of encodings t bytes) ≡ Some cs
+pub other_count : (e : ReadError) (look : ℕ → Option (List ℕ)) (encodings : List EncodingId) (t : Ty) (n name : ℕ) (names bytes : List ℕ) (cs : List CellData) (vs : List ValueData) → names ≡ name ∷ [] → look name ≡ Some bytes → cells_read (segment_of encodings t bytes) ≡ Some cs
     → vs ≡ map value cs → IsFault e (count_fault n vs) → IsFault e (flat_fault segment_codec look encodings t n names)
 other_count e look encodings t n name names bytes cs vs one there decoded seen h = rw (one, there, decoded, ← count_of n cs, ← seen) h
 
-pub whole_count : (look : ℕ → Option (List ℕ)) (encodings : List EncodingId) (t : Ty) (n name : ℕ) (names bytes : List ℕ) (cs : List Tree) (vs : List Val) → names ≡ name ∷ [] → look name ≡ Some bytes → cells_read (segment_of encodings t bytes) ≡ Some cs
+pub whole_count : (look : ℕ → Option (List ℕ)) (encodings : List EncodingId) (t : Ty) (n name : ℕ) (names bytes : List ℕ) (cs : List CellData) (vs : List ValueData) → names ≡ name ∷ [] → look name ≡ Some bytes → cells_read (segment_of encodings t bytes) ≡ Some cs
     → vs ≡ map value cs → count_fault n vs ≡ None → and_then (counted n) (flat_rows segment_codec look encodings t names) ≡ Some vs
 whole_count look encodings t n name names bytes cs vs one there decoded seen none = rw (one, there, decoded, ← seen) (counted_of n vs none)
 

@@ -7,13 +7,14 @@ use Rattle.std.proofs.lemmas.Bool.Decides.{nat_tests}
 use Rattle.std.specs.Global.{Vec}
 use Rattle.vx_model.specs.declared.row_value.Value.{Value}
 use Rattle.vx_model.specs.declared.row_value.Value as vl
-use Rattle.vx_model.specs.Piece.{are_offsets}
-use Rattle.vx_model.specs.Val.{Val, null_value, bool_value, int_value, text_value, bytes_value, list_value, struct_value, vals_of}
+use Rattle.vx_model.specs.ChunkData.{are_offsets}
+use Rattle.vx_model.specs.ValueData.{ValueData, null_value, bool_value, int_value, text_value, bytes_value, list_value, struct_value, vals_of}
 use Rattle.vx_model.specs.TreeView.{val}
 use Rattle.vx_model.proofs.CellViews.{val_list, val_struct}
-use Rattle.vx_tree.specs.Rows.{and_then, all_there, offset_of, spans, spans_between, lists_of}
+use Rattle.vx_layout_spec.specs.Rows.{and_then, all_there, offset_of, spans, spans_between, lists_of}
 use Rattle.vx_read.specs.Parts.{rows_in}
-use Rattle.vx_read.specs.Reading.{first_of, other_rows, number_of, natural, offset_fault, offsets_fault}
+use Rattle.vx_read.specs.Reading.{other_rows, number_of, natural, offset_fault, offsets_fault}
+use Rattle.vx_segment_map.specs.FirstFault.{first_of}
 use Rattle.vx_read.proofs.StructSteps.{null_is}
 use Rattle.vx_read.proofs.DictSteps.{before, before_both}
 
@@ -21,7 +22,7 @@ pub ruleset number_rules = (null_is, val_list, val_struct)
 
 -- ---- an offset
 
-pub integer_is : (v : Val) (n : ℕ) → number_of v ≡ pos n → v ≡ int_value (pos n)
+pub integer_is : (v : ValueData) (n : ℕ) → number_of v ≡ pos n → v ≡ int_value (pos n)
 integer_is (int_value i) n e = ap int_value e
 integer_is null_value n e = cc
 integer_is (bool_value b) n e = cc
@@ -53,19 +54,19 @@ pub ruleset offset_rules = (ints, integer_is, falls, passes, agrees)
 
 -- ---- elements taken from the front
 
-pub take_one : (n i : ℕ) (taken : List Value) (v : Value) (left rest : List Value) (all : List Val) → i < n → left ≡ v ∷ rest
+pub take_one : (n i : ℕ) (taken : List Value) (v : Value) (left rest : List Value) (all : List ValueData) → i < n → left ≡ v ∷ rest
     → map val taken ++ take (n - i) (map val left) ≡ all → map val (taken ++ v ∷ []) ++ take (n - (i + 1)) (map val rest) ≡ all
 take_one n i taken v left rest all lt e so_far =
     let next : n - i ≡ suc (n - (i + 1)) = omega arith in
     rw (map-append val taken (v ∷ []), append_assoc) (rw (next, e) at so_far)
 
-pub drop_one : (n i : ℕ) (v : Value) (left rest : List Value) (all : List Val) → i < n → left ≡ v ∷ rest → drop (n - i) (map val left) ≡ all → drop (n - (i + 1)) (map val rest) ≡ all
+pub drop_one : (n i : ℕ) (v : Value) (left rest : List Value) (all : List ValueData) → i < n → left ≡ v ∷ rest → drop (n - i) (map val left) ≡ all → drop (n - (i + 1)) (map val rest) ≡ all
 drop_one n i v left rest all lt e so_far = let next : n - i ≡ suc (n - (i + 1)) = omega arith in rw (next, e) at so_far
 
-pub all_taken : (n i : ℕ) (vs : List Val) → n ≤ i → take (n - i) vs ≡ []
+pub all_taken : (n i : ℕ) (vs : List ValueData) → n ≤ i → take (n - i) vs ≡ []
 all_taken n i vs le = let none : n - i ≡ 0 = omega arith in rw none refl
 
-pub all_left : (n i : ℕ) (vs : List Val) → n ≤ i → drop (n - i) vs ≡ vs
+pub all_left : (n i : ℕ) (vs : List ValueData) → n ≤ i → drop (n - i) vs ≡ vs
 all_left n i vs le = let none : n - i ≡ 0 = omega arith in rw none refl
 
 pub take_none : (n : ℕ) → take n (map val []) ≡ []
@@ -80,17 +81,17 @@ pub ruleset element_rules = (append-nil, take_one, drop_one, all_taken, all_left
 
 -- ---- lists behind the last offset
 
-abbrev pub spans_of : List Val → ℕ → List ℕ → Option (List Val)
+abbrev pub spans_of : List ValueData → ℕ → List ℕ → Option (List ValueData)
 spans_of es last ns = if are_offsets (length es) (last ∷ ns) then Some (spans es (last ∷ ns)) else None
 
-abbrev pub spans_from : List Val → ℕ → List Val → Option (List Val)
+abbrev pub spans_from : List ValueData → ℕ → List ValueData → Option (List ValueData)
 spans_from es last vs = and_then (spans_of es last) (all_there (map offset_of vs))
 
-spans_first : (es : List Val) (n : ℕ) (o : Option (List ℕ)) → and_then (spans_between es) (and_then (λ ns. Some (n ∷ ns)) o) ≡ and_then (spans_of es n) o
+spans_first : (es : List ValueData) (n : ℕ) (o : Option (List ℕ)) → and_then (spans_between es) (and_then (λ ns. Some (n ∷ ns)) o) ≡ and_then (spans_of es n) o
 spans_first es n None = refl
 spans_first es n (Some ns) = refl
 
-spans_next : (es : List Val) (last n : ℕ) (o : Option (List ℕ)) → last ≤ n
+spans_next : (es : List ValueData) (last n : ℕ) (o : Option (List ℕ)) → last ≤ n
     → and_then (spans_of es last) (and_then (λ ns. Some (n ∷ ns)) o) ≡ before (list_value (vals_of (take (n - last) (drop last es))) ∷ []) (and_then (spans_of es n) o)
 spans_next es last n None le = refl
 spans_next es last n (Some ns) le = let e : nat_le last n ≡ true = grind (arith, nat_tests) in rw e (by_test (are_offsets (length es) (n ∷ ns)))
@@ -99,22 +100,22 @@ spans_next es last n (Some ns) le = let e : nat_le last n ≡ true = grind (arit
     by_test true = refl
     by_test false = refl
 
-pub lists_first : (es : List Val) (offsets : List Value) (offset : Value) (n : ℕ) → 0 < length offsets → offset ≡ get_or offsets 0 offset → val offset ≡ int_value (pos n)
+pub lists_first : (es : List ValueData) (offsets : List Value) (offset : Value) (n : ℕ) → 0 < length offsets → offset ≡ get_or offsets 0 offset → val offset ≡ int_value (pos n)
     → spans_from es n (map val (drop 1 offsets)) ≡ lists_of es (map val offsets)
 lists_first es [] offset n lt is e = absurd (omega (arith, lt))
 lists_first es (v ∷ offsets) offset n lt is e = rw (← is, e) (sym (spans_first es n (all_there (map offset_of (map val offsets)))))
 
-pub list_more : (es : List Val) (offsets : List Value) (i last n : ℕ) (offset : Value) (list : Vec Value) (rows : List Value) (all : Option (List Val)) → i < length offsets → offset ≡ get_or offsets i offset
+pub list_more : (es : List ValueData) (offsets : List Value) (i last n : ℕ) (offset : Value) (list : Vec Value) (rows : List Value) (all : Option (List ValueData)) → i < length offsets → offset ≡ get_or offsets i offset
     → val offset ≡ int_value (pos n) → last ≤ n → rows_in list ≡ take (n - last) (drop last es)
     → before (map val rows) (spans_from es last (map val (drop i offsets))) ≡ all
     → before (map val (rows ++ vl.List list ∷ [])) (spans_from es n (map val (drop (i + 1) offsets))) ≡ all
 list_more es offsets i last n offset list rows all lt is e le cut so_far =
-    let rest : Option (List Val) = spans_from es n (map val (drop (i + 1) offsets)) in
+    let rest : Option (List ValueData) = spans_from es n (map val (drop (i + 1) offsets)) in
     let step : spans_from es last (map val (drop i offsets)) ≡ before (val (vl.List list) ∷ []) rest =
     rw (drop_more offsets i offset lt, ← is, e, val_list list, cut) (spans_next es last n (all_there (map offset_of (map val (drop (i + 1) offsets)))) le) in
     rw (map-append val rows (vl.List list ∷ [])) (sym (before_both (map val rows) (val (vl.List list) ∷ []) rest) ∙ ap (before (map val rows)) (sym step) ∙ so_far)
 
-pub list_end : (es : List Val) (last : ℕ) → last ≤ length es → spans_from es last [] ≡ Some []
+pub list_end : (es : List ValueData) (last : ℕ) → last ≤ length es → spans_from es last [] ≡ Some []
 list_end es last le = let e : nat_le last (length es) ≡ true = grind (arith, nat_tests) in rw e refl
 
 pub drop_offsets : (count last n : ℕ) (offsets : List Value) (i : ℕ) (offset : Value) → i < length offsets → offset ≡ get_or offsets i offset → val offset ≡ int_value (pos n) → offset_fault count last (number_of (val offset)) ≡ None
@@ -125,7 +126,7 @@ pub stop_offsets : (count last : ℕ) (offsets : List Value) (i : ℕ) (offset :
     → offsets_fault count last (map val (drop i offsets)) ≡ first_of (offset_fault count last (number_of (val offset))) (offsets_fault count (natural (number_of (val offset))) (map val (drop (i + 1) offsets)))
 stop_offsets count last offsets i offset lt is = rw (drop_more offsets i offset lt, ← is) refl
 
-pub further : (es : List Val) (last n : ℕ) → last ≤ n → drop (n - last) (drop last es) ≡ drop n es
+pub further : (es : List ValueData) (last n : ℕ) → last ≤ n → drop (n - last) (drop last es) ≡ drop n es
 further es last n le = let e : last + (n - last) ≡ n = omega arith in rw (drop-drop (n - last) last es, e) refl
 
 pub ruleset list_rules = (append-nil, length-map, drop_all, lists_first, list_more, list_end, drop_offsets, stop_offsets, further)

@@ -6,23 +6,25 @@ use Rattle.vx_model.specs.declared.row_value.Value.{Value}
 use Rattle.vx_model.specs.Words.{head_or}
 use Rattle.vx_model.specs.Ty.{nullable}
 use Rattle.vx_model.specs.TyView.{ty}
-use Rattle.vx_model.specs.Val.{Val}
-use Rattle.vx_tree.specs.Refusal.{Refusal, bad_grammar, too_deep, too_many_nodes, unknown_index, unregistered, not_permitted, child_count, child_type, other_rows, segment_count, bad_metadata, unknown_aggregate, slot_range, field_not_found, no_list, no_struct}
-use Rattle.vx_tree.specs.LayoutTree.{Kind, flat_kind, chunked_kind, struct_kind, list_kind, dict_kind, zoned_kind, unread_zoned_kind, stats_kind, foreign_kind, refused_kind, Lay, Lays, layout, no_layouts, child, lays_in, children_of, layout_kind, layout_type, row_count}
-use Rattle.vx_tree.specs.Codec.{Codec}
-use Rattle.vx_tree.specs.Rows.{and_then, all_there, counted, joined, chunked_rows, struct_rows, list_rows, dict_rows, rows, each_rows}
-use Rattle.vx_kinds.specs.Children.{kind_name, answered, child_in}
-use Rattle.vx_kinds.specs.declared.kind.LayoutKind.TheVariants as kinds
-use Rattle.vx_kinds.specs.declared.error.LayoutError.{LayoutError}
-use Rattle.vx_kinds.specs.declared.error.LayoutError.TheVariants as errors
-use Rattle.vx_kinds.specs.Views.{Fails}
-use Rattle.vx_kinds.specs.LayDepth.{depth, depths}
-use Rattle.vx_kinds.proofs.Answered.{made_is}
-use Rattle.vx_read.specs.declared.error.ReadError.{ReadError}
-use Rattle.vx_read.specs.Reading.{ReadFault, first_of, first_in, count_fault, counts_fault, children_fault, list_children, validity_fault, list_fault, dict_fault, first_fault, each_fault}
+use Rattle.vx_model.specs.ValueData.{ValueData}
+use Rattle.vx_layout_spec.specs.Refusal.{Refusal, bad_grammar, too_deep, too_many_nodes, unknown_index, unregistered, not_permitted, child_count, child_type, other_rows, segment_count, bad_metadata, unknown_aggregate, slot_range, field_not_found, no_list, no_struct}
+use Rattle.vx_layout_spec.specs.LayoutTree.{Kind, flat_kind, chunked_kind, struct_kind, list_kind, dict_kind, zoned_kind, unread_zoned_kind, stats_kind, foreign_kind, refused_kind, LayoutData, LayoutList, layout, no_layouts, child, lays_in, children_of, layout_kind, layout_type, row_count}
+use Rattle.vx_layout_spec.specs.Codec.{Codec}
+use Rattle.vx_layout_spec.specs.Rows.{and_then, all_there, counted, joined, chunked_rows, struct_rows, list_rows, dict_rows, rows, each_rows}
+use Rattle.vx_layout_tree.specs.Children.{kind_name, answered, child_in}
+use Rattle.vx_layout_tree.specs.declared.kind.LayoutKind.TheVariants as kinds
+use Rattle.vx_layout_tree.specs.declared.error.LayoutError.{LayoutError}
+use Rattle.vx_layout_tree.specs.declared.error.LayoutError.TheVariants as errors
+use Rattle.vx_layout_tree.specs.Views.{Fails}
+use Rattle.vx_layout_tree.specs.LayDepth.{depth, depths}
+use Rattle.vx_layout_tree.proofs.Answered.{made_is}
+use Rattle.vx_segment_map.specs.declared.error.ReadError.{ReadError}
+use Rattle.vx_read.specs.Reading.{ReadFault, first_in, count_fault, counts_fault, children_fault, list_children, validity_fault, list_fault, dict_fault, first_fault, each_fault}
+use Rattle.vx_segment_map.specs.FirstFault.{first_of}
 use Rattle.vx_read.specs.Agreement.{is_there}
 use Rattle.vx_read.specs.Parts.{rows_in, first_parts, first_faults}
-use Rattle.vx_read.specs.Answers.{refusal_in, IsFault, read_error, Reads}
+use Rattle.vx_read.specs.Answers.{refusal_in, IsFault, Reads}
+use Rattle.vx_segment_map.specs.Errors.{read_error}
 use Rattle.vx_read.proofs.FaultLaws.{Agree, faultless, rows_agree, each_agrees}
 use Rattle.vx_read.proofs.FaultSteps.{first_stays, second_stays}
 use Rattle.vx_read.proofs.DictSteps.{before, before_both, next_there}
@@ -79,22 +81,22 @@ dict_is (refused_kind is_flat refusal) e = cc
 
 -- ---- the children's rows
 
-rows_are : (c : Codec) (look : ℕ → Option (List ℕ)) (ls : Lays ℕ) → each_rows c look ls ≡ map (rows c look) (lays_in ls)
+rows_are : (c : Codec) (look : ℕ → Option (List ℕ)) (ls : LayoutList ℕ) → each_rows c look ls ≡ map (rows c look) (lays_in ls)
 rows_are c look no_layouts = refl
 rows_are c look (child l ls) = ap (λ r. rows c look l ∷ r) (rows_are c look ls)
 
-faults_are : (c : Codec) (look : ℕ → Option (List ℕ)) (ls : Lays ℕ) → each_fault c look ls ≡ map (first_fault c look) (lays_in ls)
+faults_are : (c : Codec) (look : ℕ → Option (List ℕ)) (ls : LayoutList ℕ) → each_fault c look ls ≡ map (first_fault c look) (lays_in ls)
 faults_are c look no_layouts = refl
 faults_are c look (child l ls) = ap (λ r. first_fault c look l ∷ r) (faults_are c look ls)
 
-all_rows : (c : Codec) (look : ℕ → Option (List ℕ)) (m : ℕ) (ls : Lays ℕ) → m ≡ length (lays_in ls) → all_there (map (rows c look) (take m (lays_in ls))) ≡ all_there (each_rows c look ls)
+all_rows : (c : Codec) (look : ℕ → Option (List ℕ)) (m : ℕ) (ls : LayoutList ℕ) → m ≡ length (lays_in ls) → all_there (map (rows c look) (take m (lays_in ls))) ≡ all_there (each_rows c look ls)
 all_rows c look m ls e = rw (take_all m (lays_in ls) (omega arith), rows_are c look ls) refl
 
-all_faults : (c : Codec) (look : ℕ → Option (List ℕ)) (m : ℕ) (ls : Lays ℕ) → m ≡ length (lays_in ls) → first_in (map (first_fault c look) (take m (lays_in ls))) ≡ first_in (each_fault c look ls)
+all_faults : (c : Codec) (look : ℕ → Option (List ℕ)) (m : ℕ) (ls : LayoutList ℕ) → m ≡ length (lays_in ls) → first_in (map (first_fault c look) (take m (lays_in ls))) ≡ first_in (each_fault c look ls)
 all_faults c look m ls e = rw (take_all m (lays_in ls) (omega arith), faults_are c look ls) refl
 
 -- a node that reads all its children: each of them has rows
-inner_reads : (c : Codec) (look : ℕ → Option (List ℕ)) (own : Option ReadFault) (n m : ℕ) (k : List (List Val) → Option (List Val)) (p : List (List Val) → Option ReadFault) (ls : Lays ℕ) (parts : List (List Val)) (r : Result (Vec Value) ReadError)
+inner_reads : (c : Codec) (look : ℕ → Option (List ℕ)) (own : Option ReadFault) (n m : ℕ) (k : List (List ValueData) → Option (List ValueData)) (p : List (List ValueData) → Option ReadFault) (ls : LayoutList ℕ) (parts : List (List ValueData)) (r : Result (Vec Value) ReadError)
     → own ≡ None → m ≡ length (lays_in ls) → all_there (map (rows c look) (take m (lays_in ls))) ≡ Some parts → Reads rows_in r (and_then (counted n) (k parts)) (p parts)
     → Reads rows_in r (and_then (counted n) (and_then k (all_there (each_rows c look ls)))) (first_of own (first_of (first_in (each_fault c look ls)) (and_then p (all_there (each_rows c look ls)))))
 inner_reads c look own n m k p ls parts r none count there h =
@@ -103,59 +105,59 @@ inner_reads c look own n m k p ls parts r none count there h =
     rw (none, calm, all) h
 
 -- one of them has none
-inner_stops : (c : Codec) (look : ℕ → Option (List ℕ)) (own : Option ReadFault) (m : ℕ) (ls : Lays ℕ) (f : Option ReadFault) (e : ReadError)
+inner_stops : (c : Codec) (look : ℕ → Option (List ℕ)) (own : Option ReadFault) (m : ℕ) (ls : LayoutList ℕ) (f : Option ReadFault) (e : ReadError)
     → own ≡ None → m ≡ length (lays_in ls) → IsFault e (first_in (map (first_fault c look) (take m (lays_in ls)))) → IsFault e (first_of own (first_of (first_in (each_fault c look ls)) f))
 inner_stops c look own m ls f e none count h =
     second_stays e own (first_of (first_in (each_fault c look ls)) f) none (first_stays e (first_in (each_fault c look ls)) f (rw (all_faults c look m ls count) at h))
 
 -- ---- chunked
 
-pub chunked_reads : (c : Codec) (look : ℕ → Option (List ℕ)) (l : Lay ℕ) (m : ℕ) (parts : List (List Val)) (r : Result (Vec Value) ReadError) → kind_name (layout_kind l) ≡ kinds.Chunked → m ≡ length (children_of l) → first_parts c look m l ≡ Some parts
+pub chunked_reads : (c : Codec) (look : ℕ → Option (List ℕ)) (l : LayoutData ℕ) (m : ℕ) (parts : List (List ValueData)) (r : Result (Vec Value) ReadError) → kind_name (layout_kind l) ≡ kinds.Chunked → m ≡ length (children_of l) → first_parts c look m l ≡ Some parts
     → Reads rows_in r (counted (row_count l) (joined parts)) (count_fault (row_count l) (joined parts)) → Reads rows_in r (rows c look l) (first_fault c look l)
 chunked_reads c look (layout k t n names ls) m parts r e count there h = let is = chunked_is k e in rw is (inner_reads c look (None) n m (chunked_rows) (λ parts. count_fault n (joined parts)) ls parts r refl count there h)
 
-pub chunked_stops : (c : Codec) (look : ℕ → Option (List ℕ)) (l : Lay ℕ) (m : ℕ) (e : ReadError) → kind_name (layout_kind l) ≡ kinds.Chunked → m ≡ length (children_of l) → IsFault e (first_faults c look m l) → IsFault e (first_fault c look l)
+pub chunked_stops : (c : Codec) (look : ℕ → Option (List ℕ)) (l : LayoutData ℕ) (m : ℕ) (e : ReadError) → kind_name (layout_kind l) ≡ kinds.Chunked → m ≡ length (children_of l) → IsFault e (first_faults c look m l) → IsFault e (first_fault c look l)
 chunked_stops c look (layout k t n names ls) m e named count h = let is = chunked_is k named in rw is (inner_stops c look (None) m ls (and_then (λ parts. count_fault n (joined parts)) (all_there (each_rows c look ls))) e refl count h)
 
 -- ---- a struct
 
-pub struct_reads : (c : Codec) (look : ℕ → Option (List ℕ)) (l : Lay ℕ) (m : ℕ) (parts : List (List Val)) (r : Result (Vec Value) ReadError) → kind_name (layout_kind l) ≡ kinds.Struct → validity_fault (nullable (layout_type l)) (length (children_of l)) ≡ None → m ≡ length (children_of l) → first_parts c look m l ≡ Some parts
+pub struct_reads : (c : Codec) (look : ℕ → Option (List ℕ)) (l : LayoutData ℕ) (m : ℕ) (parts : List (List ValueData)) (r : Result (Vec Value) ReadError) → kind_name (layout_kind l) ≡ kinds.Struct → validity_fault (nullable (layout_type l)) (length (children_of l)) ≡ None → m ≡ length (children_of l) → first_parts c look m l ≡ Some parts
     → Reads rows_in r (and_then (counted (row_count l)) (struct_rows (nullable (layout_type l)) (row_count l) parts)) (counts_fault (row_count l) parts) → Reads rows_in r (rows c look l) (first_fault c look l)
 struct_reads c look (layout k t n names ls) m parts r e none count there h = let is = struct_is k e in rw is (inner_reads c look (validity_fault (nullable t) (length (lays_in ls))) n m (struct_rows (nullable t) n) (counts_fault n) ls parts r none count there h)
 
-pub struct_stops : (c : Codec) (look : ℕ → Option (List ℕ)) (l : Lay ℕ) (m : ℕ) (e : ReadError) → kind_name (layout_kind l) ≡ kinds.Struct → validity_fault (nullable (layout_type l)) (length (children_of l)) ≡ None → m ≡ length (children_of l) → IsFault e (first_faults c look m l) → IsFault e (first_fault c look l)
+pub struct_stops : (c : Codec) (look : ℕ → Option (List ℕ)) (l : LayoutData ℕ) (m : ℕ) (e : ReadError) → kind_name (layout_kind l) ≡ kinds.Struct → validity_fault (nullable (layout_type l)) (length (children_of l)) ≡ None → m ≡ length (children_of l) → IsFault e (first_faults c look m l) → IsFault e (first_fault c look l)
 struct_stops c look (layout k t n names ls) m e named none count h = let is = struct_is k named in rw is (inner_stops c look (validity_fault (nullable t) (length (lays_in ls))) m ls (and_then (counts_fault n) (all_there (each_rows c look ls))) e none count h)
 
-pub struct_own : (c : Codec) (look : ℕ → Option (List ℕ)) (l : Lay ℕ) (e : ReadError) → kind_name (layout_kind l) ≡ kinds.Struct → IsFault e (validity_fault (nullable (layout_type l)) (length (children_of l))) → IsFault e (first_fault c look l)
+pub struct_own : (c : Codec) (look : ℕ → Option (List ℕ)) (l : LayoutData ℕ) (e : ReadError) → kind_name (layout_kind l) ≡ kinds.Struct → IsFault e (validity_fault (nullable (layout_type l)) (length (children_of l))) → IsFault e (first_fault c look l)
 struct_own c look (layout k t n names ls) e named h = let is = struct_is k named in rw is (first_stays e (validity_fault (nullable t) (length (lays_in ls))) (first_of (first_in (each_fault c look ls)) (and_then (counts_fault n) (all_there (each_rows c look ls)))) h)
 
 -- ---- a list
 
-pub list_reads : (c : Codec) (look : ℕ → Option (List ℕ)) (l : Lay ℕ) (m : ℕ) (parts : List (List Val)) (r : Result (Vec Value) ReadError) → kind_name (layout_kind l) ≡ kinds.List → children_fault (length (children_of l)) (list_children (nullable (layout_type l))) ≡ None → m ≡ length (children_of l) → first_parts c look m l ≡ Some parts
+pub list_reads : (c : Codec) (look : ℕ → Option (List ℕ)) (l : LayoutData ℕ) (m : ℕ) (parts : List (List ValueData)) (r : Result (Vec Value) ReadError) → kind_name (layout_kind l) ≡ kinds.List → children_fault (length (children_of l)) (list_children (nullable (layout_type l))) ≡ None → m ≡ length (children_of l) → first_parts c look m l ≡ Some parts
     → Reads rows_in r (and_then (counted (row_count l)) (list_rows (nullable (layout_type l)) (row_count l) parts)) (list_fault (row_count l) parts) → Reads rows_in r (rows c look l) (first_fault c look l)
 list_reads c look (layout k t n names ls) m parts r e none count there h = let is = list_is k e in rw is (inner_reads c look (children_fault (length (lays_in ls)) (list_children (nullable t))) n m (list_rows (nullable t) n) (list_fault n) ls parts r none count there h)
 
-pub list_stops : (c : Codec) (look : ℕ → Option (List ℕ)) (l : Lay ℕ) (m : ℕ) (e : ReadError) → kind_name (layout_kind l) ≡ kinds.List → children_fault (length (children_of l)) (list_children (nullable (layout_type l))) ≡ None → m ≡ length (children_of l) → IsFault e (first_faults c look m l) → IsFault e (first_fault c look l)
+pub list_stops : (c : Codec) (look : ℕ → Option (List ℕ)) (l : LayoutData ℕ) (m : ℕ) (e : ReadError) → kind_name (layout_kind l) ≡ kinds.List → children_fault (length (children_of l)) (list_children (nullable (layout_type l))) ≡ None → m ≡ length (children_of l) → IsFault e (first_faults c look m l) → IsFault e (first_fault c look l)
 list_stops c look (layout k t n names ls) m e named none count h = let is = list_is k named in rw is (inner_stops c look (children_fault (length (lays_in ls)) (list_children (nullable t))) m ls (and_then (list_fault n) (all_there (each_rows c look ls))) e none count h)
 
-pub list_own : (c : Codec) (look : ℕ → Option (List ℕ)) (l : Lay ℕ) (e : ReadError) → kind_name (layout_kind l) ≡ kinds.List → IsFault e (children_fault (length (children_of l)) (list_children (nullable (layout_type l)))) → IsFault e (first_fault c look l)
+pub list_own : (c : Codec) (look : ℕ → Option (List ℕ)) (l : LayoutData ℕ) (e : ReadError) → kind_name (layout_kind l) ≡ kinds.List → IsFault e (children_fault (length (children_of l)) (list_children (nullable (layout_type l)))) → IsFault e (first_fault c look l)
 list_own c look (layout k t n names ls) e named h = let is = list_is k named in rw is (first_stays e (children_fault (length (lays_in ls)) (list_children (nullable t))) (first_of (first_in (each_fault c look ls)) (and_then (list_fault n) (all_there (each_rows c look ls)))) h)
 
 -- ---- a dictionary
 
-pub dict_reads : (c : Codec) (look : ℕ → Option (List ℕ)) (l : Lay ℕ) (m : ℕ) (parts : List (List Val)) (r : Result (Vec Value) ReadError) → kind_name (layout_kind l) ≡ kinds.Dict → children_fault (length (children_of l)) 2 ≡ None → m ≡ length (children_of l) → first_parts c look m l ≡ Some parts
+pub dict_reads : (c : Codec) (look : ℕ → Option (List ℕ)) (l : LayoutData ℕ) (m : ℕ) (parts : List (List ValueData)) (r : Result (Vec Value) ReadError) → kind_name (layout_kind l) ≡ kinds.Dict → children_fault (length (children_of l)) 2 ≡ None → m ≡ length (children_of l) → first_parts c look m l ≡ Some parts
     → Reads rows_in r (and_then (counted (row_count l)) (dict_rows parts)) (dict_fault (row_count l) parts) → Reads rows_in r (rows c look l) (first_fault c look l)
 dict_reads c look (layout k t n names ls) m parts r e none count there h = let is = (dict_is k e).1 in rw is (inner_reads c look (children_fault (length (lays_in ls)) 2) n m (dict_rows) (dict_fault n) ls parts r none count there h)
 
-pub dict_stops : (c : Codec) (look : ℕ → Option (List ℕ)) (l : Lay ℕ) (m : ℕ) (e : ReadError) → kind_name (layout_kind l) ≡ kinds.Dict → children_fault (length (children_of l)) 2 ≡ None → m ≡ length (children_of l) → IsFault e (first_faults c look m l) → IsFault e (first_fault c look l)
+pub dict_stops : (c : Codec) (look : ℕ → Option (List ℕ)) (l : LayoutData ℕ) (m : ℕ) (e : ReadError) → kind_name (layout_kind l) ≡ kinds.Dict → children_fault (length (children_of l)) 2 ≡ None → m ≡ length (children_of l) → IsFault e (first_faults c look m l) → IsFault e (first_fault c look l)
 dict_stops c look (layout k t n names ls) m e named none count h = let is = (dict_is k named).1 in rw is (inner_stops c look (children_fault (length (lays_in ls)) 2) m ls (and_then (dict_fault n) (all_there (each_rows c look ls))) e none count h)
 
-pub dict_own : (c : Codec) (look : ℕ → Option (List ℕ)) (l : Lay ℕ) (e : ReadError) → kind_name (layout_kind l) ≡ kinds.Dict → IsFault e (children_fault (length (children_of l)) 2) → IsFault e (first_fault c look l)
+pub dict_own : (c : Codec) (look : ℕ → Option (List ℕ)) (l : LayoutData ℕ) (e : ReadError) → kind_name (layout_kind l) ≡ kinds.Dict → IsFault e (children_fault (length (children_of l)) 2) → IsFault e (first_fault c look l)
 dict_own c look (layout k t n names ls) e named h = let is = (dict_is k named).1 in rw is (first_stays e (children_fault (length (lays_in ls)) 2) (first_of (first_in (each_fault c look ls)) (and_then (dict_fault n) (all_there (each_rows c look ls)))) h)
 
 -- ---- a column and its zones, of which the column is read
 
-data_reads : (n : ℕ) (o : Option (List Val)) (f : Option ReadFault) (parts : List (List Val)) (r : Result (Vec Value) ReadError) → Agree o f → all_there (o ∷ []) ≡ Some parts → Reads rows_in r (counted n (head_or [] parts)) (counts_fault n parts)
+data_reads : (n : ℕ) (o : Option (List ValueData)) (f : Option ReadFault) (parts : List (List ValueData)) (r : Result (Vec Value) ReadError) → Agree o f → all_there (o ∷ []) ≡ Some parts → Reads rows_in r (counted n (head_or [] parts)) (counts_fault n parts)
     → Reads rows_in r (and_then (counted n) o) (first_of (first_of f None) (and_then (counts_fault n) (all_there (o ∷ []))))
 data_reads n None f parts r same there h = cc
 data_reads n (Some vs) (Some f) parts r same there h = cc
@@ -164,7 +166,7 @@ data_reads n (Some vs) None parts r same there h = let is : parts ≡ vs ∷ [] 
 data_stops : (n : ℕ) (f : Option ReadFault) (rest : Option ReadFault) (e : ReadError) → IsFault e (first_of f None) → IsFault e (first_of (first_of f None) rest)
 data_stops n f rest e h = first_stays e (first_of f None) rest h
 
-pub zoned_reads : (c : Codec) (look : ℕ → Option (List ℕ)) (l : Lay ℕ) (parts : List (List Val)) (r : Result (Vec Value) ReadError) → kind_name (layout_kind l) ≡ kinds.Zoned → length (children_of l) ≡ 2 → first_parts c look 1 l ≡ Some parts
+pub zoned_reads : (c : Codec) (look : ℕ → Option (List ℕ)) (l : LayoutData ℕ) (parts : List (List ValueData)) (r : Result (Vec Value) ReadError) → kind_name (layout_kind l) ≡ kinds.Zoned → length (children_of l) ≡ 2 → first_parts c look 1 l ≡ Some parts
     → Reads rows_in r (counted (row_count l) (head_or [] parts)) (counts_fault (row_count l) parts) → Reads rows_in r (rows c look l) (first_fault c look l)
 zoned_reads c look (layout (flat_kind encodings tree) t n names ls) parts r e two there h = cc
 zoned_reads c look (layout chunked_kind t n names ls) parts r e two there h = cc
@@ -183,7 +185,7 @@ zoned_reads c look (layout (stats_kind zone_len stats) t n names ls) parts r e t
 zoned_reads c look (layout (foreign_kind id metadata) t n names ls) parts r e two there h = cc
 zoned_reads c look (layout (refused_kind is_flat refusal) t n names ls) parts r e two there h = cc
 
-pub zoned_stops : (c : Codec) (look : ℕ → Option (List ℕ)) (l : Lay ℕ) (e : ReadError) → kind_name (layout_kind l) ≡ kinds.Zoned → length (children_of l) ≡ 2 → IsFault e (first_faults c look 1 l) → IsFault e (first_fault c look l)
+pub zoned_stops : (c : Codec) (look : ℕ → Option (List ℕ)) (l : LayoutData ℕ) (e : ReadError) → kind_name (layout_kind l) ≡ kinds.Zoned → length (children_of l) ≡ 2 → IsFault e (first_faults c look 1 l) → IsFault e (first_fault c look l)
 zoned_stops c look (layout (flat_kind encodings tree) t n names ls) e named two h = cc
 zoned_stops c look (layout chunked_kind t n names ls) e named two h = cc
 zoned_stops c look (layout struct_kind t n names ls) e named two h = cc
@@ -201,7 +203,7 @@ zoned_stops c look (layout (stats_kind zone_len stats) t n names ls) e named two
 zoned_stops c look (layout (foreign_kind id metadata) t n names ls) e named two h = cc
 zoned_stops c look (layout (refused_kind is_flat refusal) t n names ls) e named two h = cc
 
-pub zoned_own : (c : Codec) (look : ℕ → Option (List ℕ)) (l : Lay ℕ) (e : ReadError) → kind_name (layout_kind l) ≡ kinds.Zoned → IsFault e (children_fault (length (children_of l)) 2) → IsFault e (first_fault c look l)
+pub zoned_own : (c : Codec) (look : ℕ → Option (List ℕ)) (l : LayoutData ℕ) (e : ReadError) → kind_name (layout_kind l) ≡ kinds.Zoned → IsFault e (children_fault (length (children_of l)) 2) → IsFault e (first_fault c look l)
 zoned_own c look (layout (flat_kind encodings tree) t n names ls) e named h = cc
 zoned_own c look (layout chunked_kind t n names ls) e named h = cc
 zoned_own c look (layout struct_kind t n names ls) e named h = cc
@@ -213,7 +215,7 @@ zoned_own c look (layout (stats_kind zone_len stats) t n names ls) e named h = c
 zoned_own c look (layout (foreign_kind id metadata) t n names ls) e named h = cc
 zoned_own c look (layout (refused_kind is_flat refusal) t n names ls) e named h = cc
 
-pub stats_reads : (c : Codec) (look : ℕ → Option (List ℕ)) (l : Lay ℕ) (parts : List (List Val)) (r : Result (Vec Value) ReadError) → kind_name (layout_kind l) ≡ kinds.LegacyStats → length (children_of l) ≡ 2 → first_parts c look 1 l ≡ Some parts
+pub stats_reads : (c : Codec) (look : ℕ → Option (List ℕ)) (l : LayoutData ℕ) (parts : List (List ValueData)) (r : Result (Vec Value) ReadError) → kind_name (layout_kind l) ≡ kinds.LegacyStats → length (children_of l) ≡ 2 → first_parts c look 1 l ≡ Some parts
     → Reads rows_in r (counted (row_count l) (head_or [] parts)) (counts_fault (row_count l) parts) → Reads rows_in r (rows c look l) (first_fault c look l)
 stats_reads c look (layout (flat_kind encodings tree) t n names ls) parts r e two there h = cc
 stats_reads c look (layout chunked_kind t n names ls) parts r e two there h = cc
@@ -229,7 +231,7 @@ stats_reads c look (layout (stats_kind zone_len stats) t n names (child a (child
 stats_reads c look (layout (foreign_kind id metadata) t n names ls) parts r e two there h = cc
 stats_reads c look (layout (refused_kind is_flat refusal) t n names ls) parts r e two there h = cc
 
-pub stats_stops : (c : Codec) (look : ℕ → Option (List ℕ)) (l : Lay ℕ) (e : ReadError) → kind_name (layout_kind l) ≡ kinds.LegacyStats → length (children_of l) ≡ 2 → IsFault e (first_faults c look 1 l) → IsFault e (first_fault c look l)
+pub stats_stops : (c : Codec) (look : ℕ → Option (List ℕ)) (l : LayoutData ℕ) (e : ReadError) → kind_name (layout_kind l) ≡ kinds.LegacyStats → length (children_of l) ≡ 2 → IsFault e (first_faults c look 1 l) → IsFault e (first_fault c look l)
 stats_stops c look (layout (flat_kind encodings tree) t n names ls) e named two h = cc
 stats_stops c look (layout chunked_kind t n names ls) e named two h = cc
 stats_stops c look (layout struct_kind t n names ls) e named two h = cc
@@ -244,7 +246,7 @@ stats_stops c look (layout (stats_kind zone_len stats) t n names (child a (child
 stats_stops c look (layout (foreign_kind id metadata) t n names ls) e named two h = cc
 stats_stops c look (layout (refused_kind is_flat refusal) t n names ls) e named two h = cc
 
-pub stats_own : (c : Codec) (look : ℕ → Option (List ℕ)) (l : Lay ℕ) (e : ReadError) → kind_name (layout_kind l) ≡ kinds.LegacyStats → IsFault e (children_fault (length (children_of l)) 2) → IsFault e (first_fault c look l)
+pub stats_own : (c : Codec) (look : ℕ → Option (List ℕ)) (l : LayoutData ℕ) (e : ReadError) → kind_name (layout_kind l) ≡ kinds.LegacyStats → IsFault e (children_fault (length (children_of l)) 2) → IsFault e (first_fault c look l)
 stats_own c look (layout (flat_kind encodings tree) t n names ls) e named h = cc
 stats_own c look (layout chunked_kind t n names ls) e named h = cc
 stats_own c look (layout struct_kind t n names ls) e named h = cc
@@ -260,10 +262,10 @@ pub ruleset read_rules = (chunked_reads, chunked_stops, struct_reads, struct_sto
 
 -- ---- the loop over children
 
-answered_is : (x l : Lay ℕ) → answered x ≡ Ok l → x ≡ l
+answered_is : (x l : LayoutData ℕ) → answered x ≡ Ok l → x ≡ l
 answered_is x l e = (made_is x l e).0
 
-refused_is : (c : Codec) (look : ℕ → Option (List ℕ)) (x : Lay ℕ) (r : Refusal) → answered x ≡ Err r → refusal_in (first_fault c look x) ≡ Err r
+refused_is : (c : Codec) (look : ℕ → Option (List ℕ)) (x : LayoutData ℕ) (r : Refusal) → answered x ≡ Err r → refusal_in (first_fault c look x) ≡ Err r
 refused_is c look (layout (flat_kind encodings tree) t n names ls) r e = cc
 refused_is c look (layout chunked_kind t n names ls) r e = cc
 refused_is c look (layout struct_kind t n names ls) r e = cc
@@ -275,7 +277,7 @@ refused_is c look (layout (stats_kind zone_len stats) t n names ls) r e = cc
 refused_is c look (layout (foreign_kind id metadata) t n names ls) r e = cc
 refused_is c look (layout (refused_kind is_flat refusal) t n names ls) r e = cc
 
-refusal_tells : (c : Codec) (look : ℕ → Option (List ℕ)) (x : Lay ℕ) (e : LayoutError) → Fails e (answered x) → IsFault (read_error e) (first_fault c look x)
+refusal_tells : (c : Codec) (look : ℕ → Option (List ℕ)) (x : LayoutData ℕ) (e : LayoutError) → Fails e (answered x) → IsFault (read_error e) (first_fault c look x)
 refusal_tells c look x (errors.Grammar place) h = refused_is c look x (bad_grammar place) h
 refusal_tells c look x (errors.TooDeep place) h = refused_is c look x (too_deep place) h
 refusal_tells c look x (errors.TooManyNodes place) h = refused_is c look x (too_many_nodes place) h
@@ -295,40 +297,40 @@ refusal_tells c look x errors.NotAStruct h = refused_is c look x (no_struct) h
 refusal_tells c look x errors.OutOfMemory h = tt
 
 -- the child at the place, among the first
-pub child_at : (ls : List (Lay ℕ)) (i m : ℕ) (l : Lay ℕ) → i < m → child_in ls i ≡ Ok l → drop i (take m ls) ≡ l ∷ drop (i + 1) (take m ls)
+pub child_at : (ls : List (LayoutData ℕ)) (i m : ℕ) (l : LayoutData ℕ) → i < m → child_in ls i ≡ Ok l → drop i (take m ls) ≡ l ∷ drop (i + 1) (take m ls)
 child_at ls i zero l lt e = absurd (omega (arith, lt))
 child_at [] i (suc m) l lt e = cc
-child_at (x ∷ ls) zero (suc m) l lt e = ap (λ (y : Lay ℕ). y ∷ take m ls) (answered_is x l e)
+child_at (x ∷ ls) zero (suc m) l lt e = ap (λ (y : LayoutData ℕ). y ∷ take m ls) (answered_is x l e)
 child_at (x ∷ ls) (suc i) (suc m) l lt e = let next : suc i + 1 ≡ suc (i + 1) = omega arith in rw next (child_at ls i m l (omega (arith, lt)) e)
 
-pub refused_at : (c : Codec) (look : ℕ → Option (List ℕ)) (e : LayoutError) (ls : List (Lay ℕ)) (i m : ℕ) → i < length ls → i < m → Fails e (child_in ls i) → IsFault (read_error e) (first_in (map (first_fault c look) (drop i (take m ls))))
+pub refused_at : (c : Codec) (look : ℕ → Option (List ℕ)) (e : LayoutError) (ls : List (LayoutData ℕ)) (i m : ℕ) → i < length ls → i < m → Fails e (child_in ls i) → IsFault (read_error e) (first_in (map (first_fault c look) (drop i (take m ls))))
 refused_at c look e [] i m lt more h = absurd (omega (arith, lt))
 refused_at c look e (x ∷ ls) i zero lt more h = absurd (omega (arith, more))
 refused_at c look e (x ∷ ls) zero (suc m) lt more h = first_stays (read_error e) (first_fault c look x) (first_in (map (first_fault c look) (take m ls))) (refusal_tells c look x e h)
 refused_at c look e (x ∷ ls) (suc i) (suc m) lt more h = refused_at c look e ls i m (omega (arith, lt)) (omega (arith, more)) h
 
 -- its rows are there
-pub part_more : (c : Codec) (look : ℕ → Option (List ℕ)) (ls : List (Lay ℕ)) (i m : ℕ) (l : Lay ℕ) (parts : List (Vec Value)) (part : Vec Value) (all : Option (List (List Val))) → i < m → child_in ls i ≡ Ok l → rows c look l ≡ Some (rows_in part)
+pub part_more : (c : Codec) (look : ℕ → Option (List ℕ)) (ls : List (LayoutData ℕ)) (i m : ℕ) (l : LayoutData ℕ) (parts : List (Vec Value)) (part : Vec Value) (all : Option (List (List ValueData))) → i < m → child_in ls i ≡ Ok l → rows c look l ≡ Some (rows_in part)
     → before (map rows_in parts) (all_there (map (rows c look) (drop i (take m ls)))) ≡ all → before (map rows_in (parts ++ part ∷ [])) (all_there (map (rows c look) (drop (i + 1) (take m ls)))) ≡ all
 part_more c look ls i m l parts part all lt at there so_far =
-    let rest : Option (List (List Val)) = all_there (map (rows c look) (drop (i + 1) (take m ls))) in
+    let rest : Option (List (List ValueData)) = all_there (map (rows c look) (drop (i + 1) (take m ls))) in
     let step : all_there (map (rows c look) (drop i (take m ls))) ≡ before (rows_in part ∷ []) rest = rw (child_at ls i m l lt at, there) (next_there (rows_in part) rest) in
     rw (map-append rows_in parts (part ∷ [])) (sym (before_both (map rows_in parts) (rows_in part ∷ []) rest) ∙ ap (before (map rows_in parts)) (sym step) ∙ so_far)
 
-pub fault_more : (c : Codec) (look : ℕ → Option (List ℕ)) (ls : List (Lay ℕ)) (i m : ℕ) (l : Lay ℕ) (vs : List Val) → i < m → child_in ls i ≡ Ok l → rows c look l ≡ Some vs
+pub fault_more : (c : Codec) (look : ℕ → Option (List ℕ)) (ls : List (LayoutData ℕ)) (i m : ℕ) (l : LayoutData ℕ) (vs : List ValueData) → i < m → child_in ls i ≡ Ok l → rows c look l ≡ Some vs
     → first_in (map (first_fault c look) (drop i (take m ls))) ≡ first_in (map (first_fault c look) (drop (i + 1) (take m ls)))
 fault_more c look ls i m l vs lt at there =
     let none : first_fault c look l ≡ None = faultless (first_fault c look l) (sym (rows_agree c look l) ∙ ap is_there there) in
     rw (child_at ls i m l lt at, none) refl
 
-pub fault_stops : (c : Codec) (look : ℕ → Option (List ℕ)) (ls : List (Lay ℕ)) (i m : ℕ) (l : Lay ℕ) (e : ReadError) → i < m → child_in ls i ≡ Ok l → IsFault e (first_fault c look l)
+pub fault_stops : (c : Codec) (look : ℕ → Option (List ℕ)) (ls : List (LayoutData ℕ)) (i m : ℕ) (l : LayoutData ℕ) (e : ReadError) → i < m → child_in ls i ≡ Ok l → IsFault e (first_fault c look l)
     → IsFault e (first_in (map (first_fault c look) (drop i (take m ls))))
 fault_stops c look ls i m l e lt at h = rw (child_at ls i m l lt at) (first_stays e (first_fault c look l) (first_in (map (first_fault c look) (drop (i + 1) (take m ls)))) h)
 
-pub none_left : (ls : List (Lay ℕ)) (i m : ℕ) → min (length ls) m ≤ i → drop i (take m ls) ≡ []
+pub none_left : (ls : List (LayoutData ℕ)) (i m : ℕ) → min (length ls) m ≤ i → drop i (take m ls) ≡ []
 none_left ls i zero le = drop_nothing i
   where
-    drop_nothing : (i : ℕ) → drop i (take {A = Lay ℕ} 0 ls) ≡ []
+    drop_nothing : (i : ℕ) → drop i (take {A = LayoutData ℕ} 0 ls) ≡ []
     drop_nothing zero = refl
     drop_nothing (suc i) = refl
 none_left [] zero (suc m) le = refl
@@ -337,10 +339,10 @@ none_left (x ∷ ls) zero (suc m) le = absurd (omega (arith, le))
 none_left (x ∷ ls) (suc i) (suc m) le = none_left ls i m (omega (arith, le))
 
 -- a child is less deep
-pub child_falls : (l x : Lay ℕ) (i : ℕ) → child_in (children_of l) i ≡ Ok x → depth x < depth l
+pub child_falls : (l x : LayoutData ℕ) (i : ℕ) → child_in (children_of l) i ≡ Ok x → depth x < depth l
 child_falls (layout k t n names ls) x i e = below ls i e
   where
-    below : (ls : Lays ℕ) (i : ℕ) → child_in (lays_in ls) i ≡ Ok x → depth x < depths ls
+    below : (ls : LayoutList ℕ) (i : ℕ) → child_in (lays_in ls) i ≡ Ok x → depth x < depths ls
     below no_layouts i e = cc
     below (child y ls) zero e = let same : y ≡ x = answered_is y x e in rw (← same) (omega arith)
     below (child y ls) (suc i) e = omega (arith, below ls i e)

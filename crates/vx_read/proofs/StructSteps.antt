@@ -6,29 +6,29 @@ use Rattle.std.specs.declared.collections.VecDeque.{VecDeque}
 use Rattle.vx_model.specs.declared.row_value.Value.{Value}
 use Rattle.vx_model.specs.declared.row_value.Value as vl
 use Rattle.vx_model.specs.Words.{head_or, tail}
-use Rattle.vx_model.specs.Val.{Val, null_value, bool_value}
+use Rattle.vx_model.specs.ValueData.{ValueData, null_value, bool_value}
 use Rattle.vx_model.specs.TreeView.{val}
 use Rattle.vx_model.proofs.CellViews.{val_list, val_struct, copy_rules}
-use Rattle.vx_tree.specs.Rows.{zipped, kept, kept_rows}
+use Rattle.vx_layout_spec.specs.Rows.{zipped, kept, kept_rows}
 use Rattle.vx_read.specs.Parts.{rows_in, queued}
 
 -- ---- structs of columns
 
-pub queue_more : (queues : List (VecDeque Value Global)) (queue : VecDeque Value Global) (column : Vec Value) (columns rest : List (Vec Value)) (all : List (List Val)) → columns ≡ column ∷ rest → queue.items ≡ column.items
+pub queue_more : (queues : List (VecDeque Value Global)) (queue : VecDeque Value Global) (column : Vec Value) (columns rest : List (Vec Value)) (all : List (List ValueData)) → columns ≡ column ∷ rest → queue.items ≡ column.items
     → map queued queues ++ map rows_in columns ≡ all → map queued (queues ++ queue ∷ []) ++ map rows_in rest ≡ all
 queue_more queues queue column columns rest all e same so_far =
     rw (map-append queued queues (queue ∷ []), append_assoc, same) (rw e at so_far)
 
-pub row_more : (n i : ℕ) (rows : List Value) (fields : Vec Value) (columns rest : List (List Val)) (all : List Val) → i < n → rows_in fields ≡ map (head_or null_value) columns → rest ≡ map tail columns
+pub row_more : (n i : ℕ) (rows : List Value) (fields : Vec Value) (columns rest : List (List ValueData)) (all : List ValueData) → i < n → rows_in fields ≡ map (head_or null_value) columns → rest ≡ map tail columns
     → map val rows ++ zipped (n - i) columns ≡ all → map val (rows ++ vl.Struct fields ∷ []) ++ zipped (n - (i + 1)) rest ≡ all
 row_more n i rows fields columns rest all lt e tails so_far =
     let next : n - i ≡ suc (n - (i + 1)) = omega arith in
     rw (map-append val rows (vl.Struct fields ∷ []), val_struct fields, append_assoc, e, tails) (rw next at so_far)
 
-pub no_more : (n i : ℕ) (columns : List (List Val)) → n ≤ i → zipped (n - i) columns ≡ []
+pub no_more : (n i : ℕ) (columns : List (List ValueData)) → n ≤ i → zipped (n - i) columns ≡ []
 no_more n i columns le = let none : n - i ≡ 0 = omega arith in rw none refl
 
-pub field_more : (fields : List Value) (queues : List (VecDeque Value Global)) (i : ℕ) (queue grown : VecDeque Value Global) (v : Value) (all : List Val) → i < length queues → queue ≡ get_or queues i queue
+pub field_more : (fields : List Value) (queues : List (VecDeque Value Global)) (i : ℕ) (queue grown : VecDeque Value Global) (v : Value) (all : List ValueData) → i < length queues → queue ≡ get_or queues i queue
     → val v ≡ head_or null_value (queued queue)
     → map val fields ++ map (head_or null_value) (map queued (drop i queues)) ≡ all
     → map val (fields ++ v ∷ []) ++ map (head_or null_value) (map queued (drop (i + 1) (set queues i grown))) ≡ all
@@ -36,7 +36,7 @@ field_more fields queues i queue grown v all lt is e so_far =
     let further : i < i + 1 = omega arith in
     rw (map-append val fields (v ∷ []), append_assoc, drop-set-lt (i + 1) queues i grown further, e) (rw (drop_more queues i queue lt, ← is) at so_far)
 
-pub tail_more : (queues : List (VecDeque Value Global)) (i : ℕ) (queue left : VecDeque Value Global) (all : List (List Val)) → i < length queues → queue ≡ get_or queues i queue
+pub tail_more : (queues : List (VecDeque Value Global)) (i : ℕ) (queue left : VecDeque Value Global) (all : List (List ValueData)) → i < length queues → queue ≡ get_or queues i queue
     → queued left ≡ tail (queued queue)
     → map queued (take i queues) ++ map tail (map queued (drop i queues)) ≡ all
     → map queued (take (i + 1) (set queues i left)) ++ map tail (map queued (drop (i + 1) (set queues i left))) ≡ all
@@ -62,7 +62,7 @@ next_kept : (flags rows : List Value) (i : ℕ) (row : Value) → i < length row
     → kept_rows (map val (drop i flags)) (map val (drop i rows)) ≡ kept (head_or (bool_value true) (map val (drop i flags))) (val row) ∷ kept_rows (map val (drop (i + 1) flags)) (map val (drop (i + 1) rows))
 next_kept flags rows i row lt is = rw (drop_more rows i row lt, ← is, tail-map (drop i flags), tail-drop i flags) refl
 
-pub hide_more : (rows flags : List Value) (i : ℕ) (row left : Value) (all : List Val) → i < length rows → row ≡ get_or rows i row
+pub hide_more : (rows flags : List Value) (i : ℕ) (row left : Value) (all : List ValueData) → i < length rows → row ≡ get_or rows i row
     → val left ≡ kept (head_or (bool_value true) (map val (drop i flags))) (val row)
     → map val (take i rows) ++ kept_rows (map val (drop i flags)) (map val (drop i rows)) ≡ all
     → map val (take (i + 1) (set rows i left)) ++ kept_rows (map val (drop (i + 1) flags)) (map val (drop (i + 1) (set rows i left))) ≡ all
@@ -76,13 +76,13 @@ pub null_is : val vl.Null ≡ null_value
 null_is = search (rules, vl.the_lemmas)
 
 -- a flag that there is, and none
-pub flag_at : (flags : List Value) (i : ℕ) (flag : Value) (v : Val) → i < length flags → flag ≡ get_or flags i flag → kept (head_or (bool_value true) (map val (drop i flags))) v ≡ kept (val flag) v
+pub flag_at : (flags : List Value) (i : ℕ) (flag : Value) (v : ValueData) → i < length flags → flag ≡ get_or flags i flag → kept (head_or (bool_value true) (map val (drop i flags))) v ≡ kept (val flag) v
 flag_at flags i flag v lt is = rw (drop_more flags i flag lt, ← is) refl
 
-pub no_flag : (flags : List Value) (i : ℕ) (v : Val) → length flags ≤ i → kept (head_or (bool_value true) (map val (drop i flags))) v ≡ v
+pub no_flag : (flags : List Value) (i : ℕ) (v : ValueData) → length flags ≤ i → kept (head_or (bool_value true) (map val (drop i flags))) v ≡ v
 no_flag flags i v le = rw (drop_all i flags le) refl
 
-pub shown_flag : (b : Bool) (v : Val) → kept (bool_value b) v ≡ (if not b then null_value else v)
+pub shown_flag : (b : Bool) (v : ValueData) → kept (bool_value b) v ≡ (if not b then null_value else v)
 shown_flag true v = refl
 shown_flag false v = refl
 

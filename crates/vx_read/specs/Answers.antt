@@ -2,13 +2,13 @@
 use Rattle.std.specs.Prelude.{◌≡◌, List, Option, Some, None, Result, Ok, Err}
 use Rattle.std.specs.Global.{Vec}
 use Rattle.vx_model.specs.declared.row_value.Value.{Value}
-use Rattle.vx_model.specs.Val.{Val}
-use Rattle.vx_tree.specs.Refusal.{Refusal}
-use Rattle.vx_kinds.specs.declared.error.LayoutError.{LayoutError}
-use Rattle.vx_kinds.specs.declared.error.LayoutError.TheVariants as errors
-use Rattle.vx_kinds.specs.Views.{Fails}
-use Rattle.vx_read.specs.declared.error.ReadError.{ReadError}
-use Rattle.vx_read.specs.declared.error.ReadError.TheVariants.{Foreign, NoSegment, BadSegment, Rows, Layout, OutOfMemory}
+use Rattle.vx_model.specs.ValueData.{ValueData}
+use Rattle.vx_layout_spec.specs.Refusal.{Refusal}
+use Rattle.vx_layout_tree.specs.declared.error.LayoutError.{LayoutError}
+use Rattle.vx_layout_tree.specs.declared.error.LayoutError.TheVariants as errors
+use Rattle.vx_layout_tree.specs.Views.{Fails}
+use Rattle.vx_segment_map.specs.declared.error.ReadError.{ReadError}
+use Rattle.vx_segment_map.specs.declared.error.ReadError.TheVariants.{Foreign, NoSegment, BadSegment, Rows, Layout, OutOfMemory}
 use Rattle.vx_read.specs.Reading.{ReadFault, foreign, no_segment, bad_segment, other_rows, no_layout}
 use Rattle.vx_read.specs.Parts.{rows_in}
 
@@ -30,18 +30,13 @@ IsFault (Rows has needs) fault = fault ≡ Some (other_rows has needs)
 IsFault (Layout e) fault = IsRefusal e fault
 IsFault OutOfMemory fault = Unit {0}
 
--- a refusal as an error of reading
-abbrev pub read_error : LayoutError → ReadError
-read_error errors.OutOfMemory = OutOfMemory
-read_error e = Layout e
-
 -- no fault where the answer is Ok, else this one
 abbrev pub TellsFault : {A : Type 0} → Result A ReadError → Option ReadFault → Type 0
 TellsFault (Ok x) fault = fault ≡ None
 TellsFault (Err e) fault = IsFault e fault
 
 -- the rows where there are any, else an error; memory may run out
-abbrev pub GivesRows : Result (Vec Value) ReadError → Option (List Val) → Type 0
+abbrev pub GivesRows : Result (Vec Value) ReadError → Option (List ValueData) → Type 0
 GivesRows (Ok v) rows = rows ≡ Some (rows_in v)
 GivesRows (Err OutOfMemory) rows = Unit {0}
 GivesRows (Err e) rows = rows ≡ None

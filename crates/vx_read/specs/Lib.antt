@@ -1,4 +1,3 @@
-pub mod SegmentView
 pub mod Reading
 pub mod Parts
 pub mod Answers

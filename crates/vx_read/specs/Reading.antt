@@ -4,12 +4,13 @@
 use Rattle.std.specs.Prelude.{ℕ, zero, suc, ◌+◌, ◌-◌, ◌==◌, nat_le, nat_lt, Bool, true, false, if◌then◌else◌, List, [], ◌∷◌, length, take, Option, Some, None, ℤ, pos, negsuc}
 use Rattle.vx_model.specs.declared.encoding.EncodingId.{EncodingId}
 use Rattle.vx_model.specs.Ty.{Ty, nullable}
-use Rattle.vx_model.specs.Tree.{Tree}
-use Rattle.vx_model.specs.Val.{Val, null_value, int_value}
-use Rattle.vx_tree.specs.Refusal.{Refusal, child_count, segment_count}
-use Rattle.vx_tree.specs.LayoutTree.{Kind, flat_kind, chunked_kind, struct_kind, list_kind, dict_kind, zoned_kind, unread_zoned_kind, stats_kind, foreign_kind, refused_kind, Lay, Lays, layout, no_layouts, child, lays_in}
-use Rattle.vx_tree.specs.Codec.{Codec}
-use Rattle.vx_tree.specs.Rows.{and_then, all_there, joined, each_rows}
+use Rattle.vx_model.specs.CellData.{CellData}
+use Rattle.vx_model.specs.ValueData.{ValueData, null_value, int_value}
+use Rattle.vx_layout_spec.specs.Refusal.{Refusal, child_count, segment_count}
+use Rattle.vx_layout_spec.specs.LayoutTree.{Kind, flat_kind, chunked_kind, struct_kind, list_kind, dict_kind, zoned_kind, unread_zoned_kind, stats_kind, foreign_kind, refused_kind, LayoutData, LayoutList, layout, no_layouts, child, lays_in}
+use Rattle.vx_layout_spec.specs.Codec.{Codec}
+use Rattle.vx_layout_spec.specs.Rows.{and_then, all_there, joined, each_rows}
+use Rattle.vx_segment_map.specs.FirstFault.{first_of}
 
 pub data ReadFault : Type 0 where
   -- a node of this id, whose kind isn't known
@@ -24,27 +25,22 @@ pub data ReadFault : Type 0 where
   -- a node that can't be built
   no_layout : Refusal → ReadFault
 
--- the first of two that there is
-abbrev pub first_of : {A : Type 0} → Option A → Option A → Option A
-first_of None later = later
-first_of (Some x) later = Some x
-
 abbrev pub first_in : List (Option ReadFault) → Option ReadFault
 first_in [] = None
 first_in (f ∷ fs) = first_of f (first_in fs)
 
 -- rows that aren't as many as they must be
-abbrev pub count_fault : ℕ → List Val → Option ReadFault
+abbrev pub count_fault : ℕ → List ValueData → Option ReadFault
 count_fault n vs = if length vs == n then None else Some (other_rows (length vs) (pos n))
 
 -- the first of several that has another number of rows
-abbrev pub counts_fault : ℕ → List (List Val) → Option ReadFault
+abbrev pub counts_fault : ℕ → List (List ValueData) → Option ReadFault
 counts_fault n [] = None
 counts_fault n (vs ∷ parts) = first_of (count_fault n vs) (counts_fault n parts)
 
 -- ---- the node itself
 
-abbrev pub decoded_fault : ℕ → ℕ → Option (List Tree) → Option ReadFault
+abbrev pub decoded_fault : ℕ → ℕ → Option (List CellData) → Option ReadFault
 decoded_fault n name None = Some (bad_segment name)
 decoded_fault n name (Some cs) = if length cs == n then None else Some (other_rows (length cs) (pos n))
 
@@ -101,7 +97,7 @@ read_ones (refused_kind is_flat refusal) xs = []
 -- ---- offsets and codes
 
 -- what is no integer, as null, counts as -1
-abbrev pub number_of : Val → ℤ
+abbrev pub number_of : ValueData → ℤ
 number_of (int_value i) = i
 number_of v = negsuc 0
 
@@ -115,12 +111,12 @@ abbrev pub offset_fault : ℕ → ℕ → ℤ → Option ReadFault
 offset_fault count last (pos n) = if nat_le last n then (if nat_le n count then None else Some (other_rows count (pos n))) else Some (other_rows last (pos n))
 offset_fault count last (negsuc n) = Some (other_rows last (negsuc n))
 
-abbrev pub offsets_fault : ℕ → ℕ → List Val → Option ReadFault
+abbrev pub offsets_fault : ℕ → ℕ → List ValueData → Option ReadFault
 offsets_fault count last [] = None
 offsets_fault count last (v ∷ offsets) = first_of (offset_fault count last (number_of v)) (offsets_fault count (natural (number_of v)) offsets)
 
 -- offsets are one more than rows; none will do where there are no rows
-abbrev pub ends_fault : ℕ → List Val → Option ReadFault
+abbrev pub ends_fault : ℕ → List ValueData → Option ReadFault
 ends_fault n offsets = if length offsets - 1 == n then None else Some (other_rows (length offsets) (pos (n + 1)))
 
 -- a code that is no place among so many values
@@ -129,25 +125,25 @@ place_fault count (pos n) = if nat_lt n count then None else Some (other_rows co
 place_fault count (negsuc n) = Some (other_rows count (negsuc n))
 
 -- null is no fault
-abbrev pub code_fault : ℕ → Val → Option ReadFault
+abbrev pub code_fault : ℕ → ValueData → Option ReadFault
 code_fault count null_value = None
 code_fault count code = place_fault count (number_of code)
 
-abbrev pub codes_fault : ℕ → List Val → Option ReadFault
+abbrev pub codes_fault : ℕ → List ValueData → Option ReadFault
 codes_fault count [] = None
 codes_fault count (code ∷ codes) = first_of (code_fault count code) (codes_fault count codes)
 
 -- ---- the rows of the children that are read, n being the node's own number of rows
 
-abbrev pub list_fault : ℕ → List (List Val) → Option ReadFault
+abbrev pub list_fault : ℕ → List (List ValueData) → Option ReadFault
 list_fault n (elements ∷ offsets ∷ flags) = first_of (ends_fault n offsets) (first_of (offsets_fault (length elements) 0 offsets) (counts_fault n flags))
 list_fault n parts = None
 
-abbrev pub dict_fault : ℕ → List (List Val) → Option ReadFault
+abbrev pub dict_fault : ℕ → List (List ValueData) → Option ReadFault
 dict_fault n (values ∷ codes ∷ parts) = first_of (count_fault n codes) (codes_fault (length values) codes)
 dict_fault n parts = None
 
-abbrev pub parts_fault : Kind → ℕ → List (List Val) → Option ReadFault
+abbrev pub parts_fault : Kind → ℕ → List (List ValueData) → Option ReadFault
 parts_fault (flat_kind encodings tree) n parts = None
 parts_fault chunked_kind n parts = count_fault n (joined parts)
 parts_fault struct_kind n parts = counts_fault n parts
@@ -162,11 +158,11 @@ parts_fault (refused_kind is_flat refusal) n parts = None
 -- ---- the first fault of a layout, `look` giving the bytes of a segment
 
 abbrev mutual
-  pub first_fault : Codec → (ℕ → Option (List ℕ)) → Lay ℕ → Option ReadFault
+  pub first_fault : Codec → (ℕ → Option (List ℕ)) → LayoutData ℕ → Option ReadFault
   first_fault c look (layout k t n names ls) =
       first_of (own_fault c look k t n names (length (lays_in ls)))
       (first_of (first_in (read_ones k (each_fault c look ls))) (and_then (parts_fault k n) (all_there (read_ones k (each_rows c look ls)))))
 
-  pub each_fault : Codec → (ℕ → Option (List ℕ)) → Lays ℕ → List (Option ReadFault)
+  pub each_fault : Codec → (ℕ → Option (List ℕ)) → LayoutList ℕ → List (Option ReadFault)
   each_fault c look no_layouts = []
   each_fault c look (child l ls) = first_fault c look l ∷ each_fault c look ls

@@ -2,14 +2,14 @@
 
 ghost use Rattle.std.specs.Prelude.{◌≡◌, map, IfOk};
 ghost use Rattle.vx_model.specs.TreeView.{val};
-ghost use Rattle.vx_tree.specs.Rows.{joined};
+ghost use Rattle.vx_layout_spec.specs.Rows.{joined};
 ghost use Rattle.vx_read.specs.Parts.{rows_in};
 ghost use Rattle.vx_read.specs.Reading.{count_fault, counts_fault, ends_fault};
 ghost use Rattle.vx_read.specs.Answers.{TellsFault};
 
-use crate::error::ReadError;
 use std::alloc::{AllocError, Global};
 use vx_model::Value;
+use vx_segment_map::ReadError;
 
 /// Whether the rows are as many as they must be.
 #[tactic(auto, using(crate::proofs::PartSteps::count_rules))]

@@ -2,15 +2,15 @@
 
 ghost use Rattle.std.specs.Prelude.{◌≡◌, map, length};
 ghost use Rattle.vx_model.specs.TreeView.{val};
-ghost use Rattle.vx_model.specs.Val.{int_value};
-ghost use Rattle.vx_tree.specs.Rows.{all_there, picked};
+ghost use Rattle.vx_model.specs.ValueData.{int_value};
+ghost use Rattle.vx_layout_spec.specs.Rows.{all_there, picked};
 ghost use Rattle.vx_read.specs.Parts.{rows_in};
 ghost use Rattle.vx_read.specs.Reading.{place_fault, code_fault, codes_fault};
 ghost use Rattle.vx_read.specs.Answers.{Reads};
 
-use crate::error::ReadError;
 use std::alloc::Global;
 use vx_model::Value;
+use vx_segment_map::ReadError;
 
 /// A copy of the value at each code, null for a null code.
 #[tactic(auto, using(crate::proofs::DictSteps::pick_rules))]

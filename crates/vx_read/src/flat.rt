@@ -2,25 +2,24 @@
 
 ghost use Rattle.std.specs.Prelude.{◌≡◌, IfOk, option_map};
 ghost use Rattle.vx_model.specs.TyView.{ty};
-ghost use Rattle.vx_model.specs.Piece.{cells, row_values};
-ghost use Rattle.vx_tree.specs.LayoutTree.{segments_of};
-ghost use Rattle.vx_tree.specs.Rows.{and_then, counted, flat_rows};
-ghost use Rattle.vx_segment.specs.Codec.{segment_codec, cells_read};
-ghost use Rattle.vx_segment.specs.Segment.{decode as segment_of};
-ghost use Rattle.vx_kinds.specs.FlatView.{flat_lay, listed_in};
-ghost use Rattle.vx_read.specs.SegmentView.{segment_in};
+ghost use Rattle.vx_model.specs.ChunkData.{cells, row_values};
+ghost use Rattle.vx_layout_spec.specs.LayoutTree.{segments_of};
+ghost use Rattle.vx_layout_spec.specs.Rows.{and_then, counted, flat_rows};
+ghost use Rattle.vx_segment_reader.specs.Codec.{segment_codec, cells_read};
+ghost use Rattle.vx_segment_reader.specs.Segment.{decode as segment_of};
+ghost use Rattle.vx_layout_tree.specs.FlatView.{flat_lay, listed_in};
+ghost use Rattle.vx_segment_map.specs.SegmentView.{segment_in};
 ghost use Rattle.vx_read.specs.Parts.{rows_in};
 ghost use Rattle.vx_read.specs.Reading.{flat_fault};
 ghost use Rattle.vx_read.specs.Answers.{Reads};
 
 use crate::counts::test_count;
-use crate::error::ReadError;
-use crate::segments::SegmentMap;
 use std::alloc::{AllocError, Global};
 use vx_chunk::Chunk;
-use vx_kinds::FlatLayout;
+use vx_layout_tree::FlatLayout;
 use vx_model::{ArrayContext, DType, Value};
-use vx_segment::{DecodeError, decode_segment};
+use vx_segment_map::{ReadError, SegmentMap};
+use vx_segment_reader::{DecodeError, decode_segment};
 
 /// The rows of a flat layout's segment, of which there must be so many.
 #[tactic(auto, using(crate::proofs::FlatSteps::flat_rules))]

@@ -3,16 +3,13 @@
 
 mod counts;
 mod dicts;
-mod error;
 mod flat;
 mod law;
 mod lists;
 mod nodes;
 mod reading;
-mod segments;
 mod structs;
 
-pub use error::ReadError;
 pub use law::rows_without_fault;
 pub use reading::read_rows;
-pub use segments::SegmentMap;
+pub use vx_segment_map::{ReadError, SegmentMap};

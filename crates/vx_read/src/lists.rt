@@ -2,16 +2,16 @@
 
 ghost use Rattle.std.specs.Prelude.{◌≡◌, ◌≤◌, map, take, drop, length, pos, IfOk};
 ghost use Rattle.vx_model.specs.TreeView.{val};
-ghost use Rattle.vx_model.specs.Val.{int_value};
-ghost use Rattle.vx_tree.specs.Rows.{lists_of};
+ghost use Rattle.vx_model.specs.ValueData.{int_value};
+ghost use Rattle.vx_layout_spec.specs.Rows.{lists_of};
 ghost use Rattle.vx_read.specs.Parts.{rows_in, queued};
 ghost use Rattle.vx_read.specs.Reading.{number_of, offset_fault, offsets_fault};
 ghost use Rattle.vx_read.specs.Answers.{TellsFault, Reads};
 
-use crate::error::ReadError;
 use std::alloc::{AllocError, Global};
 use std::collections::VecDeque;
 use vx_model::Value;
+use vx_segment_map::ReadError;
 
 /// A list of the elements from each offset to the next.
 #[tactic(auto, using(crate::proofs::ListSteps::list_rules))]

@@ -2,30 +2,31 @@
 
 ghost use Rattle.std.specs.Prelude.{ℕ, List, Option, ◌≡◌, ◌≤◌, ◌∷◌, [], true, None, length, map, IsTrue, OnOk};
 ghost use Rattle.vx_model.specs.Words.{head_or};
-ghost use Rattle.vx_tree.specs.Rows.{and_then, counted, joined, struct_rows, under_validity, lists_of, list_rows, dict_rows};
-ghost use Rattle.vx_tree.specs.Codec.{Codec};
-ghost use Rattle.vx_tree.specs.LayoutTree.{layout_kind};
-ghost use Rattle.vx_kinds.specs.Children.{kind_name};
-ghost use Rattle.vx_kinds.specs.declared.kind.LayoutKind.TheVariants.{Foreign};
-ghost use Rattle.vx_kinds.specs.LayoutView.{lay};
+ghost use Rattle.vx_layout_spec.specs.Rows.{and_then, counted, joined, struct_rows, under_validity, lists_of, list_rows, dict_rows};
+ghost use Rattle.vx_layout_spec.specs.Codec.{Codec};
+ghost use Rattle.vx_layout_spec.specs.LayoutTree.{layout_kind};
+ghost use Rattle.vx_layout_tree.specs.Children.{kind_name};
+ghost use Rattle.vx_layout_tree.specs.declared.kind.LayoutKind.TheVariants.{Foreign};
+ghost use Rattle.vx_layout_tree.specs.LayoutView.{layout_data};
 ghost use Rattle.vx_read.specs.Parts.{rows_in, parts_in};
-ghost use Rattle.vx_read.specs.Reading.{first_of, count_fault, counts_fault, ends_fault, offsets_fault, children_fault, list_children, validity_fault, list_fault, dict_fault, first_fault};
+ghost use Rattle.vx_read.specs.Reading.{count_fault, counts_fault, ends_fault, offsets_fault, children_fault, list_children, validity_fault, list_fault, dict_fault, first_fault};
+ghost use Rattle.vx_segment_map.specs.FirstFault.{first_of};
 ghost use Rattle.vx_read.specs.Answers.{IsFault, TellsFault, Reads};
 
 use crate::counts::{joined, test_count, test_counts, test_ends};
 use crate::dicts::picked;
-use crate::error::ReadError;
 use crate::lists::lists;
 use crate::structs::{kept, zipped};
 use std::alloc::Global;
-use vx_kinds::{Layout, LayoutError};
+use vx_layout_tree::{Layout, LayoutError};
 use vx_model::{Text, Value};
+use vx_segment_map::ReadError;
 
 /// The layout is of a kind that isn't known.
 #[tactic(auto, using(crate::proofs::NodeSteps::foreign_rules))]
 pub(crate) fn unknown_kind(alloc: Global, layout: &Layout) -> ReadError
-    requires { kind_name (layout_kind (lay layout.now)) ≡ Foreign }
-    ensures { (c : Codec) (look : ℕ → Option (List ℕ)) → IsFault result (first_fault c look (lay layout.now)) }
+    requires { kind_name (layout_kind (layout_data layout.now)) ≡ Foreign }
+    ensures { (c : Codec) (look : ℕ → Option (List ℕ)) → IsFault result (first_fault c look (layout_data layout.now)) }
 {
     layout.built();
     match Text::from_str(alloc, layout.encoding_id()) {

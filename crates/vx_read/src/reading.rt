@@ -1,26 +1,25 @@
 //! The rows of a layout, an arm a kind.
 
 ghost use Rattle.std.specs.Prelude.{◌≡◌, length, min, IfOk};
-ghost use Rattle.vx_tree.specs.LayoutTree.{children_of};
-ghost use Rattle.vx_tree.specs.Rows.{rows};
-ghost use Rattle.vx_kinds.specs.LayoutView.{lay};
-ghost use Rattle.vx_segment.specs.Codec.{segment_codec};
-ghost use Rattle.vx_read.specs.SegmentView.{segment_in};
+ghost use Rattle.vx_layout_spec.specs.LayoutTree.{children_of};
+ghost use Rattle.vx_layout_spec.specs.Rows.{rows};
+ghost use Rattle.vx_layout_tree.specs.LayoutView.{layout_data};
+ghost use Rattle.vx_segment_reader.specs.Codec.{segment_codec};
+ghost use Rattle.vx_segment_map.specs.SegmentView.{segment_in};
 ghost use Rattle.vx_read.specs.Parts.{rows_in, parts_in, first_parts, first_faults};
 ghost use Rattle.vx_read.specs.Reading.{first_fault};
 ghost use Rattle.vx_read.specs.Answers.{GivesRows, TellsFault, Reads};
 
-use crate::error::ReadError;
 use crate::flat::flat_rows;
 use crate::nodes::{
     chunked_rows, data_rows, dict_rows, list_children, list_rows, struct_rows, test_children,
     test_validity, unknown_kind,
 };
-use crate::segments::SegmentMap;
 use std::alloc::Global;
-use vx_kinds::{Layout, LayoutKind};
 use vx_layout_build::LayoutWalk;
+use vx_layout_tree::{Layout, LayoutKind};
 use vx_model::Value;
+use vx_segment_map::{ReadError, SegmentMap};
 
 /// The rows of a layout, read from its segments.
 #[tactic(auto, using(crate::proofs::FaultSteps::answer_rules))]
@@ -29,8 +28,8 @@ pub fn read_rows(
     layout: &Layout,
     segments: &SegmentMap,
 ) -> Result<Vec<Value>, ReadError>
-    ensures rows { GivesRows result (rows segment_codec (segment_in segments.now) (lay layout.now)) }
-    ensures fault { TellsFault result (first_fault segment_codec (segment_in segments.now) (lay layout.now)) }
+    ensures rows { GivesRows result (rows segment_codec (segment_in segments.now) (layout_data layout.now)) }
+    ensures fault { TellsFault result (first_fault segment_codec (segment_in segments.now) (layout_data layout.now)) }
 {
     rows_of(alloc, layout, segments)
 }
@@ -38,7 +37,7 @@ pub fn read_rows(
 #[cycle(reading)]
 #[tactic(auto, using(crate::proofs::ReadSteps::read_rules))]
 fn rows_of(alloc: Global, layout: &Layout, segments: &SegmentMap) -> Result<Vec<Value>, ReadError>
-    ensures { Reads rows_in result (rows segment_codec (segment_in segments.now) (lay layout.now)) (first_fault segment_codec (segment_in segments.now) (lay layout.now)) }
+    ensures { Reads rows_in result (rows segment_codec (segment_in segments.now) (layout_data layout.now)) (first_fault segment_codec (segment_in segments.now) (layout_data layout.now)) }
 {
     let row_count = layout.row_count();
     if let Some(flat) = layout.as_flat() {
@@ -86,8 +85,8 @@ fn parts_of(
     count: u64,
     segments: &SegmentMap,
 ) -> Result<Vec<Vec<Value>>, ReadError>
-    ensures count { IfOk result (λ v. length v.items ≡ min count (length (children_of (lay layout.now)))) }
-    ensures parts { Reads parts_in result (first_parts segment_codec (segment_in segments.now) count (lay layout.now)) (first_faults segment_codec (segment_in segments.now) count (lay layout.now)) }
+    ensures count { IfOk result (λ v. length v.items ≡ min count (length (children_of (layout_data layout.now)))) }
+    ensures parts { Reads parts_in result (first_parts segment_codec (segment_in segments.now) count (layout_data layout.now)) (first_faults segment_codec (segment_in segments.now) count (layout_data layout.now)) }
 {
     let mut parts = Vec::new(alloc);
     for i in 0..layout.nchildren().min(count) {

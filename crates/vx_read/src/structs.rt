@@ -3,8 +3,8 @@
 ghost use Rattle.std.specs.Prelude.{◌≡◌, true, if◌then◌else◌, map, drop, IfOk};
 ghost use Rattle.vx_model.specs.Words.{head_or, tail};
 ghost use Rattle.vx_model.specs.TreeView.{val};
-ghost use Rattle.vx_model.specs.Val.{Val, null_value, bool_value};
-ghost use Rattle.vx_tree.specs.Rows.{zipped, kept, kept_rows};
+ghost use Rattle.vx_model.specs.ValueData.{ValueData, null_value, bool_value};
+ghost use Rattle.vx_layout_spec.specs.Rows.{zipped, kept, kept_rows};
 ghost use Rattle.vx_read.specs.Parts.{rows_in, queued};
 
 use std::alloc::{AllocError, Global};
@@ -94,7 +94,7 @@ fn hide_one(row: &mut Value, flags: &[Value], place: usize)
 
 #[tactic(auto, using(crate::proofs::StructSteps::flag_rules))]
 fn is_false(flag: &Value) -> bool
-    ensures { (v : Val) → kept (val flag.now) v ≡ (if result then null_value else v) }
+    ensures { (v : ValueData) → kept (val flag.now) v ≡ (if result then null_value else v) }
 {
     match flag {
         Value::Bool(valid) => !*valid,

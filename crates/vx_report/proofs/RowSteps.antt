@@ -5,7 +5,7 @@ use Rattle.std.specs.Prelude.{codes, ℤ, pos, negsuc}
 use Rattle.std.specs.Fmt.{signed_decimal}
 use Rattle.serde_json.specs.Written.{items_text, comma_if}
 use Rattle.vx_model.specs.declared.row_value.Value.{Value}
-use Rattle.vx_model.specs.Val.{int_value, vals_of}
+use Rattle.vx_model.specs.ValueData.{int_value, vals_of}
 use Rattle.vx_model.specs.TreeView.{val}
 use Rattle.vx_model.proofs.CellViews.{val_list, val_struct}
 use Rattle.vx_report.specs.RowText.{row_text, row_lines, items_json}

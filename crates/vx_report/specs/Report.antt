@@ -1,8 +1,8 @@
 -- The text of a report.
 use Rattle.std.specs.Prelude.{ℕ, suc, true, List, [], ◌∷◌, ◌++◌, codes, decimal}
 use Rattle.hex.specs.Hex.{encode_lower}
-use Rattle.vx_tree.specs.LayoutTree.{Lay}
-use Rattle.vx_model.specs.Val.{Val}
+use Rattle.vx_layout_spec.specs.LayoutTree.{LayoutData}
+use Rattle.vx_model.specs.ValueData.{ValueData}
 use Rattle.vx_display.specs.Text.{display_text}
 use Rattle.vx_report.specs.RowText.{row_lines}
 use Rattle.vx_report.specs.ZoneText.{zone_tables, zone_lines}
@@ -17,7 +17,7 @@ segment_lines n [] = []
 segment_lines n (b ∷ bs) = segment_line n b ++ segment_lines (suc n) bs
 
 -- the layout's verbose tree, the segments from the first number on, the zone tables with their rows, and the rows; no steps
-abbrev pub report : ℕ → Lay ℕ → List (List ℕ) → List (List Val) → List Val → List ℕ
+abbrev pub report : ℕ → LayoutData ℕ → List (List ℕ) → List (List ValueData) → List ValueData → List ℕ
 report first l segments tables rows =
     codes "layout\n" ++ (display_text true l ++ (codes "segments\n" ++ (segment_lines first segments ++ (codes "zones\n" ++ (zone_lines 0 (zone_tables l) tables ++ (codes "trace\nrows\n" ++ row_lines rows))))))
 

@@ -2,15 +2,15 @@
 
 ghost use Rattle.std.specs.Prelude.{◌≡◌, ◌++◌, ◌+◌, ◌<◌, ◌^◌, [], string_bytes, map, length, IfOk, OnOk};
 ghost use Rattle.vx_model.specs.TreeView.{val};
-ghost use Rattle.vx_kinds.specs.LayoutView.{lay};
+ghost use Rattle.vx_layout_tree.specs.LayoutView.{layout_data};
 ghost use Rattle.vx_report.specs.ZoneText.{zone_tables};
 ghost use Rattle.vx_report.specs.Report.{report, refused_report, segment_line, segment_lines};
 
 use crate::row_text::push_rows;
 use std::alloc::{AllocError, Global};
 use vx_display::LayoutDisplay;
-use vx_kinds::Layout;
-use vx_types::{Blob, Value};
+use vx_layout_tree::Layout;
+use vx_model::{Blob, Value};
 
 /// The report of a write whose first segment has the number `first`, with the rows that were read back.
 ///
@@ -24,8 +24,8 @@ pub fn report(
     rows: &[Value],
 ) -> Result<String, AllocError>
     requires numbered { first + length segments.now < 2 ^ 64 }
-    requires no_tables { zone_tables (lay layout.now) ≡ [] }
-    ensures { IfOk result (λ text. string_bytes text ≡ report first (lay layout.now) segments.now [] (map val rows.now)) }
+    requires no_tables { zone_tables (layout_data layout.now) ≡ [] }
+    ensures { IfOk result (λ text. string_bytes text ≡ report first (layout_data layout.now) segments.now [] (map val rows.now)) }
 {
     let mut out = String::from_str(alloc, "layout\n")?;
     let tree = layout.display_tree_verbose(alloc, true)?;

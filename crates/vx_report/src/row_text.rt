@@ -4,13 +4,13 @@ ghost use Rattle.std.specs.Prelude.{◌≡◌, ◌∷◌, ◌++◌, string_bytes
 ghost use Rattle.std.specs.Fmt.{signed_decimal};
 ghost use Rattle.serde_json.specs.Data.{string};
 ghost use Rattle.serde_json.specs.Written.{compact_text, items_text, comma_if};
-ghost use Rattle.vx_model.specs.Val.{vals_of};
+ghost use Rattle.vx_model.specs.ValueData.{vals_of};
 ghost use Rattle.vx_model.specs.TreeView.{val};
 ghost use Rattle.vx_report.specs.RowText.{row_text, row_lines, items_json};
 
 use serde_json::Value as Json;
 use std::alloc::{AllocError, Global};
-use vx_types::Value;
+use vx_model::Value;
 
 /// A line a row.
 #[tactic(auto, using(crate::proofs::RowSteps::row_rules))]

@@ -7,13 +7,13 @@ use Rattle.std.proofs.lemmas.Bool.Decides.{nat_tests}
 use Rattle.vx_model.specs.Words.{all_by, head_or, tail}
 use Rattle.vx_model.specs.Ty.{Ty, Tys, boolean, primitive, utf8, binary, list, struct, extension, no_fields, field, nullable, ty_eq}
 use Rattle.vx_model.specs.TyLaws.{ty_eq_decides}
-use Rattle.vx_model.specs.Tree.{Tree, Trees, null_cell, bool_cell, int_cell, text_cell, bytes_cell, list_cell, struct_cell, no_cells, cell, trees_of, items, fits, fields_fit, struct_fits, list_fits, flag_fits, first_fits}
-use Rattle.vx_model.specs.Piece.{Piece, Pieces, plain_piece, constant_piece, dict_piece, chunked_piece, list_piece, struct_piece, extension_piece, no_pieces, part, pieces_in, piece_type, cells, joined_cells, each_cells, list_rows, struct_rows, picked, cell_at, is_code, is_code_type, is_dict_type, is_simple, is_chunked, are_offsets, are_flags, validity_size, has_elements, has_storage, are_parts, match_fields, has_fields, is_sound, are_sound}
+use Rattle.vx_model.specs.CellData.{CellData, CellList, null_cell, bool_cell, int_cell, text_cell, bytes_cell, list_cell, struct_cell, no_cells, cell, trees_of, items, fits, fields_fit, struct_fits, list_fits, flag_fits, first_fits}
+use Rattle.vx_model.specs.ChunkData.{ChunkData, ChunkList, plain_piece, constant_piece, dict_piece, chunked_piece, list_piece, struct_piece, extension_piece, no_pieces, part, pieces_in, piece_type, cells, joined_cells, each_cells, list_rows, struct_rows, picked, cell_at, is_code, is_code_type, is_dict_type, is_simple, is_chunked, are_offsets, are_flags, validity_size, has_elements, has_storage, are_parts, match_fields, has_fields, is_sound, are_sound}
 use Rattle.vx_model.proofs.CellViews.{items_trees_of}
-use Rattle.vx_tree.specs.Real.{is_length, is_real_cell, are_real_cells, is_real, are_real, Whole, Of}
+use Rattle.vx_layout_spec.specs.Real.{is_length, is_real_cell, are_real_cells, is_real, are_real, Whole, Of}
 
 -- Cells that a plain chunk of the type can hold
-pub record Fine (t : Ty) (cs : List Tree) : Type 0 where
+pub record Fine (t : Ty) (cs : List CellData) : Type 0 where
   pub fit : all_by (fits t) cs ≡ true
   pub real : all_by is_real_cell cs ≡ true
   pub short : length cs < 2 ^ 64
@@ -63,13 +63,13 @@ all_replicate : {X : Type 0} (f : X → Bool) (n : ℕ) (x : X) → f x ≡ true
 all_replicate f zero x g = refl
 all_replicate f (suc n) x g = both_true (f x) (all_by f (replicate n x)) g (all_replicate f n x g)
 
-pub real_trees_of : (cs : List Tree) → are_real_cells (trees_of cs) ≡ all_by is_real_cell cs
+pub real_trees_of : (cs : List CellData) → are_real_cells (trees_of cs) ≡ all_by is_real_cell cs
 real_trees_of [] = refl
 real_trees_of (c ∷ cs) = ap (λ b. is_real_cell c && b) (real_trees_of cs)
 
 -- ---- dictionaries
 
-cell_at_all : (f : Tree → Bool) (vs : List Tree) (n : ℕ) → all_by f vs ≡ true → n < length vs → f (cell_at vs n) ≡ true
+cell_at_all : (f : CellData → Bool) (vs : List CellData) (n : ℕ) → all_by f vs ≡ true → n < length vs → f (cell_at vs n) ≡ true
 cell_at_all f [] n g lt = absurd (omega arith)
 cell_at_all f (v ∷ vs) zero g lt = left_true (f v) (all_by f vs) g
 cell_at_all f (v ∷ vs) (suc n) g lt = cell_at_all f vs n (right_true (f v) (all_by f vs) g) (omega arith)
@@ -77,7 +77,7 @@ cell_at_all f (v ∷ vs) (suc n) g lt = cell_at_all f vs n (right_true (f v) (al
 lt_test : (m n : ℕ) → nat_lt m n ≡ true → m < n
 lt_test m n h = grind (arith, nat_tests)
 
-picked_all : (f : Tree → Bool) (vs : List Tree) (c : Tree) → all_by f vs ≡ true → is_code (length vs) c ≡ true → f (picked vs c) ≡ true
+picked_all : (f : CellData → Bool) (vs : List CellData) (c : CellData) → all_by f vs ≡ true → is_code (length vs) c ≡ true → f (picked vs c) ≡ true
 picked_all f vs (int_cell (pos n)) g h = cell_at_all f vs n g (lt_test n (length vs) h)
 picked_all f vs (int_cell (negsuc n)) g h = cc
 picked_all f vs null_cell g h = cc
@@ -87,7 +87,7 @@ picked_all f vs (bytes_cell s) g h = cc
 picked_all f vs (list_cell v cs) g h = cc
 picked_all f vs (struct_cell v cs) g h = cc
 
-dict_all : (f : Tree → Bool) (vs codes : List Tree) → all_by f vs ≡ true → all_by (is_code (length vs)) codes ≡ true → all_by f (map (picked vs) codes) ≡ true
+dict_all : (f : CellData → Bool) (vs codes : List CellData) → all_by f vs ≡ true → all_by (is_code (length vs)) codes ≡ true → all_by f (map (picked vs) codes) ≡ true
 dict_all f vs [] g h = refl
 dict_all f vs (c ∷ codes) g h = both_true (f (picked vs c)) (all_by f (map (picked vs) codes))
     (picked_all f vs c g (left_true (is_code (length vs) c) (all_by (is_code (length vs)) codes) h))
@@ -116,7 +116,7 @@ flag_head m (false ∷ valid) (inr e) = cc
 
 -- ---- lists
 
-list_rows_fit : (t : Ty) (m : Bool) (es : List Tree) (offsets : List ℕ) (valid : List Bool) → all_by (fits t) es ≡ true → FlagsOk m valid
+list_rows_fit : (t : Ty) (m : Bool) (es : List CellData) (offsets : List ℕ) (valid : List Bool) → all_by (fits t) es ≡ true → FlagsOk m valid
     → all_by (list_fits m (fits t)) (list_rows es offsets valid) ≡ true
 list_rows_fit t m es [] valid g h = refl
 list_rows_fit t m es (a ∷ []) valid g h = refl
@@ -137,11 +137,11 @@ length-take-le_all zero xs = omega arith
 length-take-le_all (suc n) [] = omega arith
 length-take-le_all (suc n) (x ∷ xs) = let h : length (take n xs) ≤ length xs = length-take-le_all n xs in omega arith
 
-list_rows_real : (es : List Tree) (offsets : List ℕ) (valid : List Bool) → all_by is_real_cell es ≡ true → length es < 2 ^ 64 → all_by is_real_cell (list_rows es offsets valid) ≡ true
+list_rows_real : (es : List CellData) (offsets : List ℕ) (valid : List Bool) → all_by is_real_cell es ≡ true → length es < 2 ^ 64 → all_by is_real_cell (list_rows es offsets valid) ≡ true
 list_rows_real es [] valid g h = refl
 list_rows_real es (a ∷ []) valid g h = refl
 list_rows_real es (a ∷ b ∷ offsets) valid g h =
-    let span : List Tree = take (b - a) (drop a es) in
+    let span : List CellData = take (b - a) (drop a es) in
     let l1 : length (take (b - a) (drop a es)) ≤ length (drop a es) = length-take-le_all (b - a) (drop a es) in
     let l2 : length (drop a es) ≤ length es = length-drop-le a es in
     both_true (are_real_cells (trees_of span) && is_length (length (items (trees_of span)))) (all_by is_real_cell (list_rows es (b ∷ offsets) (tail valid)))
@@ -150,7 +150,7 @@ list_rows_real es (a ∷ b ∷ offsets) valid g h =
     (ap (λ z. is_length (length z)) (items_trees_of span) ∙ below_test (length (take (b - a) (drop a es))) (omega arith)))
     (list_rows_real es (b ∷ offsets) (tail valid) g h)
 
-pub length-list_rows : (es : List Tree) (offsets : List ℕ) (valid : List Bool) → length (list_rows es offsets valid) ≡ length offsets - 1
+pub length-list_rows : (es : List CellData) (offsets : List ℕ) (valid : List Bool) → length (list_rows es offsets valid) ≡ length offsets - 1
 length-list_rows es [] valid = refl
 length-list_rows es (a ∷ []) valid = refl
 length-list_rows es (a ∷ b ∷ offsets) valid = let h : length (list_rows es (b ∷ offsets) (tail valid)) ≡ length (b ∷ offsets) - 1 = length-list_rows es (b ∷ offsets) (tail valid) in omega arith
@@ -158,27 +158,27 @@ length-list_rows es (a ∷ b ∷ offsets) valid = let h : length (list_rows es (
 -- ---- structs
 
 -- each field's column fits and has so many rows
-abbrev pub ColumnsFit : Tys → List (List Tree) → ℕ → Type 0
+abbrev pub ColumnsFit : Tys → List (List CellData) → ℕ → Type 0
 ColumnsFit no_fields [] n = Unit {0}
 ColumnsFit no_fields (c ∷ cs) n = ⊥
 ColumnsFit (field name t fs) [] n = ⊥
 ColumnsFit (field name t fs) (c ∷ cs) n = (all_by (fits t) c ≡ true) × (length c ≡ n) × ColumnsFit fs cs n
 
-heads_fit : (fs : Tys) (columns : List (List Tree)) (n : ℕ) → ColumnsFit fs columns (suc n) → fields_fit fs (map (head_or null_cell) columns) ≡ true
+heads_fit : (fs : Tys) (columns : List (List CellData)) (n : ℕ) → ColumnsFit fs columns (suc n) → fields_fit fs (map (head_or null_cell) columns) ≡ true
 heads_fit no_fields [] n h = refl
 heads_fit no_fields (c ∷ cs) n h = absurd h
 heads_fit (field name t fs) [] n h = absurd h
 heads_fit (field name t fs) ([] ∷ cs) n h = let e : 0 ≡ suc n = h.1 in absurd (omega arith)
 heads_fit (field name t fs) ((x ∷ c) ∷ cs) n h = both_true (fits t x) (fields_fit fs (map (head_or null_cell) cs)) (left_true (fits t x) (all_by (fits t) c) h.0) (heads_fit fs cs n h.2)
 
-tails_fit : (fs : Tys) (columns : List (List Tree)) (n : ℕ) → ColumnsFit fs columns (suc n) → ColumnsFit fs (map tail columns) n
+tails_fit : (fs : Tys) (columns : List (List CellData)) (n : ℕ) → ColumnsFit fs columns (suc n) → ColumnsFit fs (map tail columns) n
 tails_fit no_fields [] n h = tt
 tails_fit no_fields (c ∷ cs) n h = absurd h
 tails_fit (field name t fs) [] n h = absurd h
 tails_fit (field name t fs) ([] ∷ cs) n h = let e : 0 ≡ suc n = h.1 in absurd (omega arith)
 tails_fit (field name t fs) ((x ∷ c) ∷ cs) n h = (right_true (fits t x) (all_by (fits t) c) h.0, (let e : suc (length c) ≡ suc n = h.1 in omega arith), tails_fit fs cs n h.2)
 
-struct_rows_fit : (fs : Tys) (m : Bool) (n : ℕ) (columns : List (List Tree)) (valid : List Bool) → ColumnsFit fs columns n → FlagsOk m valid
+struct_rows_fit : (fs : Tys) (m : Bool) (n : ℕ) (columns : List (List CellData)) (valid : List Bool) → ColumnsFit fs columns n → FlagsOk m valid
     → all_by (struct_fits m (fields_fit fs)) (struct_rows n columns valid) ≡ true
 struct_rows_fit fs m zero columns valid g h = refl
 struct_rows_fit fs m (suc n) columns valid g h =
@@ -187,28 +187,28 @@ struct_rows_fit fs m (suc n) columns valid g h =
     (flag_head m valid h) (ap (fields_fit fs) (items_trees_of (map (head_or null_cell) columns)) ∙ heads_fit fs columns n g))
     (struct_rows_fit fs m n (map tail columns) (tail valid) (tails_fit fs columns n g) (flags_tail m valid h))
 
-abbrev pub ColumnsReal : List (List Tree) → Type 0
+abbrev pub ColumnsReal : List (List CellData) → Type 0
 ColumnsReal [] = Unit {0}
 ColumnsReal (c ∷ cs) = (all_by is_real_cell c ≡ true) × ColumnsReal cs
 
-heads_real : (columns : List (List Tree)) → ColumnsReal columns → all_by is_real_cell (map (head_or null_cell) columns) ≡ true
+heads_real : (columns : List (List CellData)) → ColumnsReal columns → all_by is_real_cell (map (head_or null_cell) columns) ≡ true
 heads_real [] h = refl
 heads_real ([] ∷ cs) h = heads_real cs h.1
 heads_real ((x ∷ c) ∷ cs) h = both_true (is_real_cell x) (all_by is_real_cell (map (head_or null_cell) cs)) (left_true (is_real_cell x) (all_by is_real_cell c) h.0) (heads_real cs h.1)
 
-tails_real : (columns : List (List Tree)) → ColumnsReal columns → ColumnsReal (map tail columns)
+tails_real : (columns : List (List CellData)) → ColumnsReal columns → ColumnsReal (map tail columns)
 tails_real [] h = tt
 tails_real ([] ∷ cs) h = (refl, tails_real cs h.1)
 tails_real ((x ∷ c) ∷ cs) h = (right_true (is_real_cell x) (all_by is_real_cell c) h.0, tails_real cs h.1)
 
-struct_rows_real : (n : ℕ) (columns : List (List Tree)) (valid : List Bool) → ColumnsReal columns → all_by is_real_cell (struct_rows n columns valid) ≡ true
+struct_rows_real : (n : ℕ) (columns : List (List CellData)) (valid : List Bool) → ColumnsReal columns → all_by is_real_cell (struct_rows n columns valid) ≡ true
 struct_rows_real zero columns valid h = refl
 struct_rows_real (suc n) columns valid h =
     both_true (are_real_cells (trees_of (map (head_or null_cell) columns))) (all_by is_real_cell (struct_rows n (map tail columns) (tail valid)))
     (real_trees_of (map (head_or null_cell) columns) ∙ heads_real columns h)
     (struct_rows_real n (map tail columns) (tail valid) (tails_real columns h))
 
-pub length-struct_rows : (n : ℕ) (columns : List (List Tree)) (valid : List Bool) → length (struct_rows n columns valid) ≡ n
+pub length-struct_rows : (n : ℕ) (columns : List (List CellData)) (valid : List Bool) → length (struct_rows n columns valid) ≡ n
 length-struct_rows zero columns valid = refl
 length-struct_rows (suc n) columns valid = ap suc (length-struct_rows n (map tail columns) (tail valid))
 
@@ -222,7 +222,7 @@ no_last true h = true≢false (sym h)
 no_last false h = true≢false (sym h)
 
 mutual
-  whole_fine : (p : Piece) → is_sound p ≡ true → is_real p ≡ true → Fine (piece_type p) (cells p)
+  whole_fine : (p : ChunkData) → is_sound p ≡ true → is_real p ≡ true → Fine (piece_type p) (cells p)
   whole_fine (plain_piece t cs) s r = record {
     fit = left_true (all_by (fits t) cs) (nat_lt (length cs) (2 ^ 64)) s;
     real = r;
@@ -299,7 +299,7 @@ mutual
   whole_fine (extension_piece (list t m) p) s r = absurd (no_last (is_sound p) s)
   whole_fine (extension_piece (struct fs m) p) s r = absurd (no_last (is_sound p) s)
 
-  parts_fit : (t : Ty) (ps : Pieces) → are_sound ps ≡ true → are_real ps ≡ true → are_parts t (pieces_in ps) ≡ true → all_by (fits t) (joined_cells ps) ≡ true
+  parts_fit : (t : Ty) (ps : ChunkList) → are_sound ps ≡ true → are_real ps ≡ true → are_parts t (pieces_in ps) ≡ true → all_by (fits t) (joined_cells ps) ≡ true
   parts_fit t no_pieces s r h = refl
   parts_fit t (part p ps) s r h =
       let typed : piece_type p ≡ t = of_type (piece_type p) t (left_true (ty_eq (piece_type p) t) _ (left_true (ty_eq (piece_type p) t && _) _ h)) in
@@ -307,13 +307,13 @@ mutual
       all_append (fits t) (cells p) (joined_cells ps) (subst (λ u. all_by (fits u) (cells p) ≡ true) typed f.fit)
       (parts_fit t ps (right_true (is_sound p) (are_sound ps) s) (right_true (is_real p) (are_real ps) r) (right_true _ (are_parts t (pieces_in ps)) h))
 
-  parts_real : (ps : Pieces) → are_sound ps ≡ true → are_real ps ≡ true → all_by is_real_cell (joined_cells ps) ≡ true
+  parts_real : (ps : ChunkList) → are_sound ps ≡ true → are_real ps ≡ true → all_by is_real_cell (joined_cells ps) ≡ true
   parts_real no_pieces s r = refl
   parts_real (part p ps) s r =
       let f : Fine (piece_type p) (cells p) = whole_fine p (left_true (is_sound p) (are_sound ps) s) (left_true (is_real p) (are_real ps) r) in
       all_append is_real_cell (cells p) (joined_cells ps) f.real (parts_real ps (right_true (is_sound p) (are_sound ps) s) (right_true (is_real p) (are_real ps) r))
 
-  fields_columns : (fs : Tys) (ps : Pieces) (n : ℕ) → are_sound ps ≡ true → are_real ps ≡ true → match_fields fs (pieces_in ps) n ≡ true → ColumnsFit fs (each_cells ps) n
+  fields_columns : (fs : Tys) (ps : ChunkList) (n : ℕ) → are_sound ps ≡ true → are_real ps ≡ true → match_fields fs (pieces_in ps) n ≡ true → ColumnsFit fs (each_cells ps) n
   fields_columns no_fields no_pieces n s r h = tt
   fields_columns no_fields (part p ps) n s r h = cc
   fields_columns (field name t fs) no_pieces n s r h = cc
@@ -326,24 +326,24 @@ mutual
         fields_columns fs ps n (right_true (is_sound p) (are_sound ps) s) (right_true (is_real p) (are_real ps) r) (right_true (length (cells p) == n) _ rest),
       )
 
-  fields_real : (ps : Pieces) → are_sound ps ≡ true → are_real ps ≡ true → ColumnsReal (each_cells ps)
+  fields_real : (ps : ChunkList) → are_sound ps ≡ true → are_real ps ≡ true → ColumnsReal (each_cells ps)
   fields_real no_pieces s r = tt
   fields_real (part p ps) s r =
       let f : Fine (piece_type p) (cells p) = whole_fine p (left_true (is_sound p) (are_sound ps) s) (left_true (is_real p) (are_real ps) r) in
       (f.real, fields_real ps (right_true (is_sound p) (are_sound ps) s) (right_true (is_real p) (are_real ps) r))
 
 -- the cells of a whole chunk of the type
-pub cells_fine : (t : Ty) (p : Piece) → Of t p → Fine t (cells p)
+pub cells_fine : (t : Ty) (p : ChunkData) → Of t p → Fine t (cells p)
 cells_fine t p o = subst (λ u. Fine u (cells p)) o.typed (whole_fine p o.whole.sound o.whole.real)
 
 -- such cells make a plain chunk
-pub plain_of : (t : Ty) (cs : List Tree) → Fine t cs → Of t (plain_piece t cs)
+pub plain_of : (t : Ty) (cs : List CellData) → Fine t cs → Of t (plain_piece t cs)
 plain_of t cs f = record {
   typed = refl;
   whole = record { sound = both_true (all_by (fits t) cs) (nat_lt (length cs) (2 ^ 64)) f.fit (below_test (length cs) f.short); real = f.real };
 }
 
-pub fine_part : (t : Ty) (cs front back : List Tree) → cs ≡ front ++ back → Fine t cs → Fine t front
+pub fine_part : (t : Ty) (cs front back : List CellData) → cs ≡ front ++ back → Fine t cs → Fine t front
 fine_part t cs front back e f = record {
   fit = all_left (fits t) front back (subst (λ z. all_by (fits t) z ≡ true) e f.fit);
   real = all_left is_real_cell front back (subst (λ z. all_by is_real_cell z ≡ true) e f.real);

@@ -6,14 +6,15 @@ use Rattle.std.proofs.lemmas.Bool.{true≢false}
 use Rattle.std.proofs.lemmas.Bool.Decides.{nat_tests}
 use Rattle.vx_model.specs.Words.{all_by, head_or, tail}
 use Rattle.vx_model.specs.Ty.{Ty, Tys, boolean, primitive, list, struct, no_fields, field}
-use Rattle.vx_model.specs.Tree.{Tree, Trees, null_cell, bool_cell, int_cell, text_cell, bytes_cell, list_cell, struct_cell, no_cells, cell, trees_of, items, fits, flag_fits}
-use Rattle.vx_model.specs.Val.{Val, Vals, int_value, list_value, vals_of, value, values_in, one_value}
-use Rattle.vx_model.specs.Piece.{Piece, plain_piece, cells, are_offsets}
+use Rattle.vx_model.specs.CellData.{CellData, CellList, null_cell, bool_cell, int_cell, text_cell, bytes_cell, list_cell, struct_cell, no_cells, cell, trees_of, items, fits, flag_fits}
+use Rattle.vx_model.specs.ValueData.{ValueData, ValueList, int_value, list_value, vals_of, value, values_in, one_value}
+use Rattle.vx_model.specs.ChunkData.{ChunkData, plain_piece, cells, are_offsets}
 use Rattle.vx_path.specs.Path.{under}
-use Rattle.vx_tree.specs.Real.{Of, is_real_cell, are_real_cells, is_length}
-use Rattle.vx_tree.specs.Rows.{and_then, all_there, offset_of, offsets_agree, spans, spans_between, lists_of}
+use Rattle.vx_layout_spec.specs.Real.{Of, is_real_cell, are_real_cells, is_length}
+use Rattle.vx_layout_spec.specs.Rows.{and_then, all_there, offset_of, offsets_agree, spans, spans_between, lists_of}
 use Rattle.vx_rules.specs.Stream.{Chunk, chunk_paths, stream_cells, Chunks}
-use Rattle.vx_rules.specs.Columns.{flag_of, validity_piece, first_of, others_of, field_pieces, struct_columns, Split, struct_splits, list_splits, list_columns, head_piece, column, other_columns, elements_of, all_elements, ends, offset_entries, offset_cell, offset_type}
+use Rattle.vx_rules.specs.Columns.{struct_columns, Split, struct_splits, list_splits, list_columns, head_piece, column, other_columns, offset_entries, offset_cell, offset_type}
+use Rattle.vx_layout_spec.specs.Parts.{flag_of, validity_piece, first_of, others_of, field_pieces, elements_of, all_elements, ends}
 use Rattle.vx_rules.proofs.CellLaws.{Fine, left_true, right_true, both_true, all_append, cells_fine, plain_of, below}
 use Rattle.vx_rules.proofs.ColumnCells.{field_cells, each_cell, FieldsOf, fields_are, validity_of, inner_value, column_values}
 
@@ -78,57 +79,57 @@ StreamsOf no_fields (s ∷ ss) = ⊥
 StreamsOf (field name t fs) [] = ⊥
 StreamsOf (field name t fs) (s ∷ ss) = Chunks t s × StreamsOf fs ss
 
-abbrev pub streams_cells : List (List Chunk) → List (List Tree)
+abbrev pub streams_cells : List (List Chunk) → List (List CellData)
 streams_cells [] = []
 streams_cells (s ∷ ss) = stream_cells s ∷ streams_cells ss
 
-abbrev pub all_cells : List (List Tree) → List Tree
+abbrev pub all_cells : List (List CellData) → List CellData
 all_cells [] = []
 all_cells (c ∷ cs) = c ++ all_cells cs
 
 -- splits whose columns are the fields of these structs, chunk by chunk
-abbrev pub Shows : Tys → List Split → List (List Tree) → Type 0
+abbrev pub Shows : Tys → List Split → List (List CellData) → Type 0
 Shows fs [] [] = Unit {0}
 Shows fs [] (c ∷ cs) = ⊥
 Shows fs (x ∷ xs) [] = ⊥
 Shows fs (x ∷ xs) (c ∷ cs) = FieldsOf fs x.1 (length c) × (each_cell x.1 ≡ field_cells fs c) × Shows fs xs cs
 
-others_all : List (List Tree) → List (List Tree)
+others_all : List (List CellData) → List (List CellData)
 others_all [] = []
 others_all (c ∷ cs) = map others_of c ∷ others_all cs
 
-shows_others : (name : List ℕ) (t : Ty) (fs : Tys) (xs : List Split) (cs : List (List Tree)) → Shows (field name t fs) xs cs → Shows fs (other_columns xs) (others_all cs)
+shows_others : (name : List ℕ) (t : Ty) (fs : Tys) (xs : List Split) (cs : List (List CellData)) → Shows (field name t fs) xs cs → Shows fs (other_columns xs) (others_all cs)
 unfolding others_all
 shows_others name t fs [] [] h = tt
 shows_others name t fs [] (c ∷ cs) h = absurd h
 shows_others name t fs (x ∷ xs) [] h = absurd h
 shows_others name t fs (x ∷ xs) (c ∷ cs) h = go x.1 h.0 h.1 (shows_others name t fs xs cs h.2)
   where
-    go : (ps : List Piece) → FieldsOf (field name t fs) ps (length c) → each_cell ps ≡ field_cells (field name t fs) c → Shows fs (other_columns xs) (others_all cs)
+    go : (ps : List ChunkData) → FieldsOf (field name t fs) ps (length c) → each_cell ps ≡ field_cells (field name t fs) c → Shows fs (other_columns xs) (others_all cs)
         → FieldsOf fs (tail ps) (length (map others_of c)) × (each_cell (tail ps) ≡ field_cells fs (map others_of c)) × Shows fs (other_columns xs) (others_all cs)
     go [] f e r = absurd f
     go (p ∷ ps) f e r = (subst (FieldsOf fs ps) (sym (length-map c others_of)) f.2, ap tail e, r)
 
-shows_first : (name : List ℕ) (t : Ty) (fs : Tys) (k : ℕ) (xs : List Split) (cs : List (List Tree)) → Shows (field name t fs) xs cs
+shows_first : (name : List ℕ) (t : Ty) (fs : Tys) (k : ℕ) (xs : List Split) (cs : List (List CellData)) → Shows (field name t fs) xs cs
     → Chunks t (column k xs) × (stream_cells (column k xs) ≡ map first_of (all_cells cs))
 shows_first name t fs k [] [] h = (tt, refl)
 shows_first name t fs k [] (c ∷ cs) h = absurd h
 shows_first name t fs k (x ∷ xs) [] h = absurd h
 shows_first name t fs k (x ∷ xs) (c ∷ cs) h = go x.1 h.0 h.1 (shows_first name t fs k xs cs h.2)
   where
-    go : (ps : List Piece) → FieldsOf (field name t fs) ps (length c) → each_cell ps ≡ field_cells (field name t fs) c
+    go : (ps : List ChunkData) → FieldsOf (field name t fs) ps (length c) → each_cell ps ≡ field_cells (field name t fs) c
         → Chunks t (column k xs) × (stream_cells (column k xs) ≡ map first_of (all_cells cs))
         → (Of t (head_piece ps) × Chunks t (column k xs)) × (cells (head_piece ps) ++ stream_cells (column k xs) ≡ map first_of (c ++ all_cells cs))
     go [] f e r = absurd f
     go (p ∷ ps) f e r = ((f.0, r.0), ap₂ (λ a b. a ++ b) (ap (head_or []) e) r.1 ∙ sym (map-append first_of c (all_cells cs)))
 
-others_joined : (cs : List (List Tree)) → all_cells (others_all cs) ≡ map others_of (all_cells cs)
+others_joined : (cs : List (List CellData)) → all_cells (others_all cs) ≡ map others_of (all_cells cs)
 unfolding others_all
 others_joined [] = refl
 others_joined (c ∷ cs) = ap (λ z. map others_of c ++ z) (others_joined cs) ∙ sym (map-append others_of c (all_cells cs))
 
 -- the fields' streams are of whole chunks, and have the fields' cells
-pub streams_are : (fs : Tys) (k : ℕ) (xs : List Split) (cs : List (List Tree)) → Shows fs xs cs
+pub streams_are : (fs : Tys) (k : ℕ) (xs : List Split) (cs : List (List CellData)) → Shows fs xs cs
     → StreamsOf fs (field_streams fs k xs) × (streams_cells (field_streams fs k xs) ≡ field_cells fs (all_cells cs))
 streams_are no_fields k xs cs h = (tt, refl)
 streams_are (field name t fs) k xs cs h =
@@ -138,7 +139,7 @@ streams_are (field name t fs) k xs cs h =
     ((a.0, b.0), ap₂ (λ x y. x ∷ y) a.1 (b.1 ∙ ap (field_cells fs) (others_joined cs)))
 
 -- the cells of each chunk
-abbrev pub chunk_cells : List Chunk → List (List Tree)
+abbrev pub chunk_cells : List Chunk → List (List CellData)
 chunk_cells [] = []
 chunk_cells (c ∷ cs) = cells c.1 ∷ chunk_cells cs
 
@@ -171,11 +172,11 @@ validity_stream fs (c ∷ cs) h =
 
 -- ---- lists: the rows from elements and offsets
 
-pub elements_append : (xs ys : List Tree) → all_elements (xs ++ ys) ≡ all_elements xs ++ all_elements ys
+pub elements_append : (xs ys : List CellData) → all_elements (xs ++ ys) ≡ all_elements xs ++ all_elements ys
 elements_append [] ys = refl
 elements_append (x ∷ xs) ys = ap (λ z. elements_of x ++ z) (elements_append xs ys) ∙ sym (append_assoc (elements_of x) (all_elements xs) (all_elements ys))
 
-pub ends_append : (from : ℕ) (xs ys : List Tree) → ends from (xs ++ ys) ≡ ends from xs ++ ends (from + length (all_elements xs)) ys
+pub ends_append : (from : ℕ) (xs ys : List CellData) → ends from (xs ++ ys) ≡ ends from xs ++ ends (from + length (all_elements xs)) ys
 ends_append from [] ys = ap (λ z. ends z ys) (let h : from ≡ from + 0 = omega arith in h)
 ends_append from (x ∷ xs) ys =
     ap (λ z. (from + length (elements_of x)) ∷ z)
@@ -191,7 +192,7 @@ offset_values (n ∷ ns) = ap (and_then (λ xs. Some (n ∷ xs))) (offset_values
 le_test : (a b : ℕ) → a ≤ b → nat_le a b ≡ true
 le_test a b h = grind (arith, nat_tests)
 
-offsets_ok : (count from : ℕ) (cs : List Tree) → from + length (all_elements cs) ≤ count → are_offsets count (from ∷ ends from cs) ≡ true
+offsets_ok : (count from : ℕ) (cs : List CellData) → from + length (all_elements cs) ≤ count → are_offsets count (from ∷ ends from cs) ≡ true
 offsets_ok count from [] h = le_test from count (omega arith)
 offsets_ok count from (c ∷ cs) h =
     let l : length (elements_of c ++ all_elements cs) ≡ length (elements_of c) + length (all_elements cs) = length-append (elements_of c) (all_elements cs) in
@@ -199,14 +200,14 @@ offsets_ok count from (c ∷ cs) h =
     (le_test from (from + length (elements_of c)) (omega arith)) (offsets_ok count (from + length (elements_of c)) cs (omega arith))
 
 -- cells of lists
-abbrev pub AreLists : Ty → Bool → List Tree → Type 0
+abbrev pub AreLists : Ty → Bool → List CellData → Type 0
 AreLists t n cs = all_by (fits (list t n)) cs ≡ true
 
-values_items : (cs : Trees) → vals_of (map value (items cs)) ≡ values_in cs
+values_items : (cs : CellList) → vals_of (map value (items cs)) ≡ values_in cs
 values_items no_cells = refl
 values_items (cell c cs) = ap (one_value (value c)) (values_items cs)
 
-span_one : (t : Ty) (n : Bool) (c : Tree) → fits (list t n) c ≡ true → list_value (vals_of (map value (elements_of c))) ≡ inner_value c
+span_one : (t : Ty) (n : Bool) (c : CellData) → fits (list t n) c ≡ true → list_value (vals_of (map value (elements_of c))) ≡ inner_value c
 span_one t n (list_cell v cs) h = ap list_value (values_items cs)
 span_one t n (struct_cell v cs) h = absurd (true≢false (sym h))
 span_one t n null_cell h = absurd (true≢false (sym h))
@@ -227,7 +228,7 @@ take_front [] back (suc n) e = absurd (omega arith)
 take_front (x ∷ front) back zero e = absurd (omega arith)
 take_front (x ∷ front) back (suc n) e = ap (λ z. x ∷ z) (take_front front back n (omega arith))
 
-spans_are : (t : Ty) (n : Bool) (before : List Val) (from : ℕ) (cs : List Tree) → AreLists t n cs → length before ≡ from
+spans_are : (t : Ty) (n : Bool) (before : List ValueData) (from : ℕ) (cs : List CellData) → AreLists t n cs → length before ≡ from
     → spans (before ++ map value (all_elements cs)) (from ∷ ends from cs) ≡ map inner_value cs
 spans_are t n before from [] h e = refl
 spans_are t n before from (c ∷ cs) h e =
@@ -249,7 +250,7 @@ spans_are t n before from (c ∷ cs) h e =
         ∙ take_front (map value (elements_of c)) (map value (all_elements cs)) (length (elements_of c)) (length-map (elements_of c) value)
 
 -- the rows of lists, unmasked, from all elements and all offsets
-pub lists_are : (t : Ty) (n : Bool) (cs : List Tree) → AreLists t n cs
+pub lists_are : (t : Ty) (n : Bool) (cs : List CellData) → AreLists t n cs
     → lists_of (map value (all_elements cs)) (map value (map offset_cell (0 ∷ ends 0 cs))) ≡ Some (map inner_value cs)
 lists_are t n cs h =
     ap (and_then (spans_between (map value (all_elements cs)))) (offset_values (0 ∷ ends 0 cs))
@@ -260,7 +261,7 @@ lists_are t n cs h =
 -- ---- lists: the streams
 
 -- elements of lists are of their type, and real
-elements_fine : (t : Ty) (n : Bool) (cs : List Tree) → AreLists t n cs → all_by is_real_cell cs ≡ true
+elements_fine : (t : Ty) (n : Bool) (cs : List CellData) → AreLists t n cs → all_by is_real_cell cs ≡ true
     → (all_by (fits t) (all_elements cs) ≡ true) × (all_by is_real_cell (all_elements cs) ≡ true)
 elements_fine t n [] h r = (refl, refl)
 elements_fine t n (c ∷ cs) h r =
@@ -268,11 +269,11 @@ elements_fine t n (c ∷ cs) h r =
     let b : (all_by (fits t) (all_elements cs) ≡ true) × (all_by is_real_cell (all_elements cs) ≡ true) = elements_fine t n cs (right_true (fits (list t n) c) _ h) (right_true (is_real_cell c) _ r) in
     (all_append (fits t) (elements_of c) (all_elements cs) a.0 b.0, all_append is_real_cell (elements_of c) (all_elements cs) a.1 b.1)
   where
-    real_items : (cs : Trees) → are_real_cells cs ≡ true → all_by is_real_cell (items cs) ≡ true
+    real_items : (cs : CellList) → are_real_cells cs ≡ true → all_by is_real_cell (items cs) ≡ true
     real_items no_cells e = refl
     real_items (cell d ds) e = both_true (is_real_cell d) (all_by is_real_cell (items ds)) (left_true (is_real_cell d) _ e) (real_items ds (right_true (is_real_cell d) _ e))
 
-    one : (c : Tree) → fits (list t n) c ≡ true → is_real_cell c ≡ true → (all_by (fits t) (elements_of c) ≡ true) × (all_by is_real_cell (elements_of c) ≡ true)
+    one : (c : CellData) → fits (list t n) c ≡ true → is_real_cell c ≡ true → (all_by (fits t) (elements_of c) ≡ true) × (all_by is_real_cell (elements_of c) ≡ true)
     one (list_cell v ds) e f = (right_true (flag_fits v n) _ e, real_items ds (left_true (are_real_cells ds) _ f))
     one (struct_cell v ds) e f = absurd (true≢false (sym e))
     one null_cell e f = (refl, refl)
@@ -285,7 +286,7 @@ u64_fits : (n : ℕ) → n < 2 ^ 64 → fits offset_type (offset_cell n) ≡ tru
 u64_fits n h = grind (arith, nat_tests)
 
 -- offsets below the number of all elements
-ends_fit : (from : ℕ) (cs : List Tree) → from + length (all_elements cs) < 2 ^ 64 → all_by (fits offset_type) (map offset_cell (ends from cs)) ≡ true
+ends_fit : (from : ℕ) (cs : List CellData) → from + length (all_elements cs) < 2 ^ 64 → all_by (fits offset_type) (map offset_cell (ends from cs)) ≡ true
 ends_fit from [] h = refl
 ends_fit from (c ∷ cs) h =
     let l : length (elements_of c ++ all_elements cs) ≡ length (elements_of c) + length (all_elements cs) = length-append (elements_of c) (all_elements cs) in
@@ -296,18 +297,18 @@ offsets_real : (ns : List ℕ) → all_by is_real_cell (map offset_cell ns) ≡ 
 offsets_real [] = refl
 offsets_real (n ∷ ns) = offsets_real ns
 
-pub length-ends : (from : ℕ) (cs : List Tree) → length (ends from cs) ≡ length cs
+pub length-ends : (from : ℕ) (cs : List CellData) → length (ends from cs) ≡ length cs
 length-ends from [] = refl
 length-ends from (c ∷ cs) = ap suc (length-ends (from + length (elements_of c)) cs)
 
 -- one chunk's columns
-pub elements_piece : (t : Ty) (n : Bool) (p : Piece) → Of (list t n) p → length (all_elements (cells p)) < 2 ^ 64 → Of t (plain_piece t (all_elements (cells p)))
+pub elements_piece : (t : Ty) (n : Bool) (p : ChunkData) → Of (list t n) p → length (all_elements (cells p)) < 2 ^ 64 → Of t (plain_piece t (all_elements (cells p)))
 elements_piece t n p o lt =
     let f : Fine (list t n) (cells p) = cells_fine (list t n) p o in
     let e : (all_by (fits t) (all_elements (cells p)) ≡ true) × (all_by is_real_cell (all_elements (cells p)) ≡ true) = elements_fine t n (cells p) f.fit f.real in
     plain_of t (all_elements (cells p)) (record { fit = e.0; real = e.1; short = lt })
 
-entries_fit : (first : Bool) (from : ℕ) (cs : List Tree) → from + length (all_elements cs) < 2 ^ 64
+entries_fit : (first : Bool) (from : ℕ) (cs : List CellData) → from + length (all_elements cs) < 2 ^ 64
     → (all_by (fits offset_type) (map offset_cell (offset_entries first from cs)) ≡ true) × (length (offset_entries first from cs) ≤ suc (length cs))
 entries_fit true from cs h = (
   both_true (fits offset_type (offset_cell from)) (all_by (fits offset_type) (map offset_cell (ends from cs))) (u64_fits from (omega arith)) (ends_fit from cs h),
@@ -315,7 +316,7 @@ entries_fit true from cs h = (
 )
 entries_fit false from cs h = (ends_fit from cs h, (let l : length (ends from cs) ≡ length cs = length-ends from cs in omega arith))
 
-pub offsets_piece : (first : Bool) (from : ℕ) (cs : List Tree) → from + length (all_elements cs) < 2 ^ 64 → suc (length cs) < 2 ^ 64
+pub offsets_piece : (first : Bool) (from : ℕ) (cs : List CellData) → from + length (all_elements cs) < 2 ^ 64 → suc (length cs) < 2 ^ 64
     → Of offset_type (plain_piece offset_type (map offset_cell (offset_entries first from cs)))
 offsets_piece first from cs h lt =
     let e : (all_by (fits offset_type) (map offset_cell (offset_entries first from cs)) ≡ true) × (length (offset_entries first from cs) ≤ suc (length cs)) = entries_fit first from cs h in

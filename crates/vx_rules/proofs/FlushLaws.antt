@@ -7,21 +7,22 @@ use Rattle.std.proofs.lemmas.Bool.Decides.{nat_tests}
 use Rattle.vx_model.specs.Words.{all_by, total_by}
 use Rattle.vx_model.specs.Ty.{Ty, ty_eq}
 use Rattle.vx_model.specs.TyLaws.{ty_eq_decides}
-use Rattle.vx_model.specs.Tree.{Tree}
-use Rattle.vx_model.specs.Piece.{Piece, Pieces, plain_piece, constant_piece, dict_piece, chunked_piece, list_piece, struct_piece, extension_piece, no_pieces, part, pieces_of, pieces_in, piece_type, cells, joined_cells, held, is_sound, are_sound, are_parts, is_chunked}
+use Rattle.vx_model.specs.CellData.{CellData}
+use Rattle.vx_model.specs.ChunkData.{ChunkData, ChunkList, plain_piece, constant_piece, dict_piece, chunked_piece, list_piece, struct_piece, extension_piece, no_pieces, part, pieces_of, pieces_in, piece_type, cells, joined_cells, held, is_sound, are_sound, are_parts, is_chunked}
 use Rattle.vx_path.specs.Lists.{In}
 use Rattle.vx_path.specs.Path.{begins, Scattered}
 use Rattle.vx_path.proofs.Path.{begins-refl}
-use Rattle.vx_tree.specs.Real.{Of, Whole, is_real, are_real}
+use Rattle.vx_layout_spec.specs.Real.{Of, Whole, is_real, are_real}
 use Rattle.vx_rules.specs.Stream.{Chunk, chunk_paths, stream_cells, piece_cells, Chunks, PiecesOf}
 use Rattle.vx_rules.specs.Regroup.{Rule}
-use Rattle.vx_rules.specs.Flushes.{twice, flushed, still_held, is_full, flushes, parts_of, all_parts, concatenated, chunk_pieces, last_path, collected}
+use Rattle.vx_rules.specs.Flushes.{twice, flushed, still_held, is_full, flushes, concatenated, chunk_pieces, last_path, collected}
+use Rattle.vx_layout_spec.specs.Parts.{parts_of, all_parts}
 use Rattle.vx_rules.proofs.CellLaws.{left_true, right_true, both_true, below_test}
 use Rattle.vx_rules.proofs.RegroupLaws.{Regroups, Onto, onto_none, piece_cells-append, pieces_append}
 
 -- ---- buffering
 
-flush_whole : (size : ℕ) (ps : List Piece) → flushed size ps ++ still_held size ps ≡ ps
+flush_whole : (size : ℕ) (ps : List ChunkData) → flushed size ps ++ still_held size ps ≡ ps
 flush_whole size [] = refl
 flush_whole size (p ∷ ps) = go (nat_le (total_by held (p ∷ ps)) size) (flush_whole size ps)
   where
@@ -29,22 +30,22 @@ flush_whole size (p ∷ ps) = go (nat_le (total_by held (p ∷ ps)) size) (flush
     go true h = refl
     go false h = ap (λ r. p ∷ r) h
 
-pieces_left : (t : Ty) (xs ys : List Piece) → PiecesOf t (xs ++ ys) → PiecesOf t xs
+pieces_left : (t : Ty) (xs ys : List ChunkData) → PiecesOf t (xs ++ ys) → PiecesOf t xs
 pieces_left t [] ys h = tt
 pieces_left t (x ∷ xs) ys h = (h.0, pieces_left t xs ys h.1)
 
-pieces_right : (t : Ty) (xs ys : List Piece) → PiecesOf t (xs ++ ys) → PiecesOf t ys
+pieces_right : (t : Ty) (xs ys : List ChunkData) → PiecesOf t (xs ++ ys) → PiecesOf t ys
 pieces_right t [] ys h = h
 pieces_right t (x ∷ xs) ys h = pieces_right t xs ys h.1
 
-choice_whole : (size : ℕ) (ps : List Piece) (b : Bool) → (if b then flushed size ps else []) ++ (if b then still_held size ps else ps) ≡ ps
+choice_whole : (size : ℕ) (ps : List ChunkData) (b : Bool) → (if b then flushed size ps else []) ++ (if b then still_held size ps else ps) ≡ ps
 choice_whole size ps true = flush_whole size ps
 choice_whole size ps false = refl
 
-with_cells : (ps : List Piece) (c : Piece) → piece_cells (ps ++ (c ∷ [])) ≡ piece_cells ps ++ cells c
+with_cells : (ps : List ChunkData) (c : ChunkData) → piece_cells (ps ++ (c ∷ [])) ≡ piece_cells ps ++ cells c
 with_cells ps c = piece_cells-append ps (c ∷ []) ∙ ap (λ z. piece_cells ps ++ z) (append-nil (cells c))
 
-flush_pieces : (size : ℕ) (t : Ty) (ps : List Piece) (c : Piece) → PiecesOf t ps → Of t c → PiecesOf t ((flushes size).leaves ps c ++ (flushes size).holds ps c)
+flush_pieces : (size : ℕ) (t : Ty) (ps : List ChunkData) (c : ChunkData) → PiecesOf t ps → Of t c → PiecesOf t ((flushes size).leaves ps c ++ (flushes size).holds ps c)
 flush_pieces size t ps c g o = subst (PiecesOf t) (sym (choice_whole size (ps ++ (c ∷ [])) (is_full size (ps ++ (c ∷ []))))) (pieces_append t ps (c ∷ []) g (o, tt))
 
 pub flushes_regroup : (size : ℕ) (t : Ty) → Regroups t (flushes size) piece_cells (PiecesOf t)
@@ -59,7 +60,7 @@ flushes_regroup size t = record {
   close = λ ps c g o lt. pieces_append t ps (c ∷ []) g (o, tt);
 }
 
-held_at_most : (size : ℕ) (ps : List Piece) → total_by held (still_held size ps) ≤ size
+held_at_most : (size : ℕ) (ps : List ChunkData) → total_by held (still_held size ps) ≤ size
 held_at_most size [] = omega arith
 held_at_most size (p ∷ ps) = ⊎_elim
     (λ (t : nat_le (total_by held (p ∷ ps)) size ≡ true). ap_le (sym (ap (λ b. total_by held (if b then p ∷ ps else still_held size ps)) t)) (le_of (total_by held (p ∷ ps)) size t))
@@ -73,7 +74,7 @@ held_at_most size (p ∷ ps) = ⊎_elim
     ap_le e h = rw (← e) h
 
 -- a buffer of a size above 0 holds less than twice the size before each chunk
-pub holds_less : (size : ℕ) (ps : List Piece) (c : Piece) → 0 < size → size < 2 ^ 64 - 1 → total_by held ((flushes size).holds ps c) < twice size
+pub holds_less : (size : ℕ) (ps : List ChunkData) (c : ChunkData) → 0 < size → size < 2 ^ 64 - 1 → total_by held ((flushes size).holds ps c) < twice size
 holds_less size ps c pos below = ⊎_elim
     (λ (t : is_full size (ps ++ (c ∷ [])) ≡ true).
     let h : total_by held (still_held size (ps ++ (c ∷ []))) ≤ size = held_at_most size (ps ++ (c ∷ [])) in
@@ -87,15 +88,15 @@ holds_less size ps c pos below = ⊎_elim
 
 -- ---- collecting
 
-join_parts : (ps : List Piece) → joined_cells (pieces_of ps) ≡ piece_cells ps
+join_parts : (ps : List ChunkData) → joined_cells (pieces_of ps) ≡ piece_cells ps
 join_parts [] = refl
 join_parts (p ∷ ps) = ap (λ z. cells p ++ z) (join_parts ps)
 
-joined_parts : (ps : Pieces) → piece_cells (pieces_in ps) ≡ joined_cells ps
+joined_parts : (ps : ChunkList) → piece_cells (pieces_in ps) ≡ joined_cells ps
 joined_parts no_pieces = refl
 joined_parts (part p ps) = ap (λ z. cells p ++ z) (joined_parts ps)
 
-parts_cells : (p : Piece) → piece_cells (parts_of p) ≡ cells p
+parts_cells : (p : ChunkData) → piece_cells (parts_of p) ≡ cells p
 parts_cells (plain_piece t cs) = append-nil cs
 parts_cells (constant_piece t c n) = append-nil _
 parts_cells (dict_piece codes values) = append-nil _
@@ -104,19 +105,19 @@ parts_cells (list_piece t e offsets valid) = append-nil _
 parts_cells (struct_piece t ps valid n) = append-nil _
 parts_cells (extension_piece t p) = append-nil _
 
-pub concatenated_cells : (t : Ty) (ps : List Piece) → cells (concatenated t ps) ≡ piece_cells ps
+pub concatenated_cells : (t : Ty) (ps : List ChunkData) → cells (concatenated t ps) ≡ piece_cells ps
 concatenated_cells t [] = refl
 concatenated_cells t (p ∷ ps) =
     join_parts (parts_of p ++ all_parts ps) ∙ piece_cells-append (parts_of p) (all_parts ps)
     ∙ ap₂ (λ x y. x ++ y) (parts_cells p) (sym (join_parts (all_parts ps)) ∙ concatenated_cells t ps)
 
 -- whole chunks of the type that aren't chunked
-record Parts (t : Ty) (ps : List Piece) : Type 0 where
+record Parts (t : Ty) (ps : List ChunkData) : Type 0 where
   sound : are_sound (pieces_of ps) ≡ true
   real : are_real (pieces_of ps) ≡ true
   parts : are_parts t ps ≡ true
 
-parts_append : (t : Ty) (ps qs : List Piece) → Parts t ps → Parts t qs → Parts t (ps ++ qs)
+parts_append : (t : Ty) (ps qs : List ChunkData) → Parts t ps → Parts t qs → Parts t (ps ++ qs)
 parts_append t [] qs g h = h
 parts_append t (p ∷ ps) qs g h =
     let r : Parts t (ps ++ qs) = parts_append t ps qs (record {
@@ -130,11 +131,11 @@ parts_append t (p ∷ ps) qs g h =
       parts = both_true (ty_eq (piece_type p) t && not (is_chunked p)) (are_parts t (ps ++ qs)) (left_true (ty_eq (piece_type p) t && not (is_chunked p)) (are_parts t ps) g.parts) r.parts;
     }
 
-pieces_of_in : (ps : Pieces) → pieces_of (pieces_in ps) ≡ ps
+pieces_of_in : (ps : ChunkList) → pieces_of (pieces_in ps) ≡ ps
 pieces_of_in no_pieces = refl
 pieces_of_in (part p ps) = ap (part p) (pieces_of_in ps)
 
-one_part : (t : Ty) (p : Piece) → Of t p → is_chunked p ≡ false → Parts t (p ∷ [])
+one_part : (t : Ty) (p : ChunkData) → Of t p → is_chunked p ≡ false → Parts t (p ∷ [])
 one_part t p o n = record {
   sound = both_true (is_sound p) true o.whole.sound refl;
   real = both_true (is_real p) true o.whole.real refl;
@@ -142,7 +143,7 @@ one_part t p o n = record {
       (both_true (ty_eq (piece_type p) t) (not (is_chunked p)) ((ty_eq_decides (piece_type p) t).1 o.typed) (ap not n)) refl;
 }
 
-parts_are : (t : Ty) (p : Piece) → Of t p → Parts t (parts_of p)
+parts_are : (t : Ty) (p : ChunkData) → Of t p → Parts t (parts_of p)
 parts_are t (plain_piece u cs) o = one_part t (plain_piece u cs) o refl
 parts_are t (constant_piece u c n) o = one_part t (constant_piece u c n) o refl
 parts_are t (dict_piece codes values) o = one_part t (dict_piece codes values) o refl
@@ -157,15 +158,15 @@ parts_are t (list_piece u e offsets valid) o = one_part t (list_piece u e offset
 parts_are t (struct_piece u ps valid n) o = one_part t (struct_piece u ps valid n) o refl
 parts_are t (extension_piece u p) o = one_part t (extension_piece u p) o refl
 
-all_parts_are : (t : Ty) (ps : List Piece) → PiecesOf t ps → Parts t (all_parts ps)
+all_parts_are : (t : Ty) (ps : List ChunkData) → PiecesOf t ps → Parts t (all_parts ps)
 all_parts_are t [] h = record { sound = refl; real = refl; parts = refl }
 all_parts_are t (p ∷ ps) h = parts_append t (parts_of p) (all_parts ps) (parts_are t p h.0) (all_parts_are t ps h.1)
 
-pieces_in_of : (ps : List Piece) → pieces_in (pieces_of ps) ≡ ps
+pieces_in_of : (ps : List ChunkData) → pieces_in (pieces_of ps) ≡ ps
 pieces_in_of [] = refl
 pieces_in_of (p ∷ ps) = ap (λ z. p ∷ z) (pieces_in_of ps)
 
-pub concatenated_of : (t : Ty) (ps : List Piece) → PiecesOf t ps → length (piece_cells ps) < 2 ^ 64 → Of t (concatenated t ps)
+pub concatenated_of : (t : Ty) (ps : List ChunkData) → PiecesOf t ps → length (piece_cells ps) < 2 ^ 64 → Of t (concatenated t ps)
 concatenated_of t ps h lt =
     let a : Parts t (all_parts ps) = all_parts_are t ps h in
     record {

@@ -2,36 +2,36 @@
 use Rattle.std.proofs.Common.{◌≡◌, ℕ, zero, suc, ◌+◌, ◌<◌, ◌≤◌, ◌^◌, ◌⊎◌, Bool, true, false, List, [], ◌∷◌, ◌++◌, map, length, refl, sym, ap, ap₂, ◌∙◌, subst, inl, inr, ⊎_elim, arith, append_assoc, length-append}
 use Rattle.std.proofs.lemmas.List.{append-nil}
 use Rattle.vx_model.specs.Ty.{Ty}
-use Rattle.vx_model.specs.Tree.{Tree}
-use Rattle.vx_model.specs.Piece.{Piece, cells}
+use Rattle.vx_model.specs.CellData.{CellData}
+use Rattle.vx_model.specs.ChunkData.{ChunkData, cells}
 use Rattle.vx_path.specs.Lists.{In}
 use Rattle.vx_path.specs.Path.{begins, meets, Scattered, under}
 use Rattle.vx_path.proofs.Lists.{in_left, in_right, in_cases}
 use Rattle.vx_path.proofs.Path.{begins-under, begins-refl, meets-sym, apart_begins, under_apart}
-use Rattle.vx_tree.specs.Real.{Of}
+use Rattle.vx_layout_spec.specs.Real.{Of}
 use Rattle.vx_rules.specs.Stream.{Chunk, chunk_paths, stream_cells, piece_cells, Chunks, PiecesOf}
 use Rattle.vx_rules.specs.Regroup.{Rule, ranked, regrouped}
 
 -- What makes a rule a regrouping: it loses no row and keeps their order, and makes whole chunks of whole ones.
 -- `within` has the rows held, and `good` says that they are as they should be.
-pub record Regroups {S : Type 0} (t : Ty) (r : Rule S) (within : S → List Tree) (good : S → Type 0) : Type 0 where
+pub record Regroups {S : Type 0} (t : Ty) (r : Rule S) (within : S → List CellData) (good : S → Type 0) : Type 0 where
   pub none : within r.start ≡ []
   pub begins_good : good r.start
-  pub keeps : (s : S) (c : Piece) → within s ++ cells c ≡ piece_cells (r.leaves s c) ++ within (r.holds s c)
-  pub all : (s : S) (c : Piece) → within s ++ cells c ≡ piece_cells (r.rest s c)
-  pub leave : (s : S) (c : Piece) → good s → Of t c → length (within s ++ cells c) < 2 ^ 64 → PiecesOf t (r.leaves s c)
-  pub stay : (s : S) (c : Piece) → good s → Of t c → good (r.holds s c)
-  pub close : (s : S) (c : Piece) → good s → Of t c → length (within s ++ cells c) < 2 ^ 64 → PiecesOf t (r.rest s c)
+  pub keeps : (s : S) (c : ChunkData) → within s ++ cells c ≡ piece_cells (r.leaves s c) ++ within (r.holds s c)
+  pub all : (s : S) (c : ChunkData) → within s ++ cells c ≡ piece_cells (r.rest s c)
+  pub leave : (s : S) (c : ChunkData) → good s → Of t c → length (within s ++ cells c) < 2 ^ 64 → PiecesOf t (r.leaves s c)
+  pub stay : (s : S) (c : ChunkData) → good s → Of t c → good (r.holds s c)
+  pub close : (s : S) (c : ChunkData) → good s → Of t c → length (within s ++ cells c) < 2 ^ 64 → PiecesOf t (r.rest s c)
 
 pub stream_cells-append : (xs ys : List Chunk) → stream_cells (xs ++ ys) ≡ stream_cells xs ++ stream_cells ys
 stream_cells-append [] ys = refl
 stream_cells-append (x ∷ xs) ys = ap (λ r. cells x.1 ++ r) (stream_cells-append xs ys) ∙ sym (append_assoc (cells x.1) (stream_cells xs) (stream_cells ys))
 
-pub piece_cells-append : (xs ys : List Piece) → piece_cells (xs ++ ys) ≡ piece_cells xs ++ piece_cells ys
+pub piece_cells-append : (xs ys : List ChunkData) → piece_cells (xs ++ ys) ≡ piece_cells xs ++ piece_cells ys
 piece_cells-append [] ys = refl
 piece_cells-append (x ∷ xs) ys = ap (λ r. cells x ++ r) (piece_cells-append xs ys) ∙ sym (append_assoc (cells x) (piece_cells xs) (piece_cells ys))
 
-pub pieces_append : (t : Ty) (xs ys : List Piece) → PiecesOf t xs → PiecesOf t ys → PiecesOf t (xs ++ ys)
+pub pieces_append : (t : Ty) (xs ys : List ChunkData) → PiecesOf t xs → PiecesOf t ys → PiecesOf t (xs ++ ys)
 pieces_append t [] ys g h = h
 pieces_append t (x ∷ xs) ys g h = (g.0, pieces_append t xs ys g.1 h)
 
@@ -43,17 +43,17 @@ pub chunk_paths-append : (xs ys : List Chunk) → chunk_paths (xs ++ ys) ≡ chu
 chunk_paths-append [] ys = refl
 chunk_paths-append (x ∷ xs) ys = ap (λ r. x.0 ∷ r) (chunk_paths-append xs ys)
 
-ranked_cells : (p : List ℕ) (r : ℕ) (cs : List Piece) → stream_cells (ranked p r cs) ≡ piece_cells cs
+ranked_cells : (p : List ℕ) (r : ℕ) (cs : List ChunkData) → stream_cells (ranked p r cs) ≡ piece_cells cs
 ranked_cells p r [] = refl
 ranked_cells p r (c ∷ cs) = ap (λ z. cells c ++ z) (ranked_cells p (suc r) cs)
 
-ranked_of : (t : Ty) (p : List ℕ) (r : ℕ) (cs : List Piece) → PiecesOf t cs → Chunks t (ranked p r cs)
+ranked_of : (t : Ty) (p : List ℕ) (r : ℕ) (cs : List ChunkData) → PiecesOf t cs → Chunks t (ranked p r cs)
 ranked_of t p r [] h = tt
 ranked_of t p r (c ∷ cs) h = (h.0, ranked_of t p (suc r) cs h.1)
 
 -- ---- rows
 
-module _ (S : Type 0) (t : Ty) (r : Rule S) (within : S → List Tree) (good : S → Type 0) (g : Regroups t r within good) where
+module _ (S : Type 0) (t : Ty) (r : Rule S) (within : S → List CellData) (good : S → Type 0) (g : Regroups t r within good) where
   rows_from : (s : S) (c : Chunk) (cs : List Chunk) → stream_cells (regrouped r s (c ∷ cs) true) ≡ within s ++ stream_cells (c ∷ cs)
   rows_from s c [] = ranked_cells c.0 0 (r.rest s c.1) ∙ sym (g.all s c.1) ∙ ap (λ z. within s ++ z) (sym (append-nil (cells c.1)))
   rows_from s c (d ∷ cs) =
@@ -105,12 +105,12 @@ pub record Onto (ps qs : List (List ℕ)) : Type 0 where
   pub scattered : Scattered qs → Scattered ps
   pub from : (p : List ℕ) → In p ps → (q : List ℕ) × In q qs × (begins q p ≡ true)
 
-ranked_path : (p : List ℕ) (r : ℕ) (cs : List Piece) (x : List ℕ) → In x (chunk_paths (ranked p r cs)) → (k : ℕ) × (r ≤ k) × (x ≡ under p k)
+ranked_path : (p : List ℕ) (r : ℕ) (cs : List ChunkData) (x : List ℕ) → In x (chunk_paths (ranked p r cs)) → (k : ℕ) × (r ≤ k) × (x ≡ under p k)
 ranked_path p r [] x h = absurd h
 ranked_path p r (c ∷ cs) x h = ⊎_elim (λ e. (r, omega arith, e))
     (λ i. let w : (k : ℕ) × (suc r ≤ k) × (x ≡ under p k) = ranked_path p (suc r) cs x i in (w.0, (let l : suc r ≤ w.0 = w.1 in omega arith), w.2)) h
 
-ranked_scattered : (p : List ℕ) (r : ℕ) (cs : List Piece) → Scattered (chunk_paths (ranked p r cs))
+ranked_scattered : (p : List ℕ) (r : ℕ) (cs : List ChunkData) → Scattered (chunk_paths (ranked p r cs))
 ranked_scattered p r [] = tt
 ranked_scattered p r (c ∷ cs) = (
   λ q h. let w : (k : ℕ) × (suc r ≤ k) × (q ≡ under p k) = ranked_path p (suc r) cs q h in
@@ -119,7 +119,7 @@ ranked_scattered p r (c ∷ cs) = (
   ranked_scattered p (suc r) cs,
 )
 
-ranked_begins : (p : List ℕ) (r : ℕ) (cs : List Piece) (x : List ℕ) → In x (chunk_paths (ranked p r cs)) → begins p x ≡ true
+ranked_begins : (p : List ℕ) (r : ℕ) (cs : List ChunkData) (x : List ℕ) → In x (chunk_paths (ranked p r cs)) → begins p x ≡ true
 ranked_begins p r cs x h =
     let w : (k : ℕ) × (r ≤ k) × (x ≡ under p k) = ranked_path p r cs x h in
     subst (λ z. begins p z ≡ true) (sym w.2) (begins-under p w.0)
@@ -133,7 +133,7 @@ pub apart_both : (p q x y : List ℕ) → meets p q ≡ false → begins p x ≡
 apart_both p q x y m b c = meets-sym x y ∙ apart_begins q x y (meets-sym q x ∙ apart_begins p q x m b) c
 
 -- paths below p, then paths onto others
-onto_more : (p : List ℕ) (r : ℕ) (cs : List Piece) (ps qs : List (List ℕ)) → Onto ps qs → Onto (chunk_paths (ranked p r cs) ++ ps) (p ∷ qs)
+onto_more : (p : List ℕ) (r : ℕ) (cs : List ChunkData) (ps qs : List (List ℕ)) → Onto ps qs → Onto (chunk_paths (ranked p r cs) ++ ps) (p ∷ qs)
 onto_more p r cs ps qs o = record {
   scattered = λ s. scattered_both (chunk_paths (ranked p r cs)) ps (ranked_scattered p r cs) (o.scattered s.1)
       (λ a b i j. let w : (q : List ℕ) × In q qs × (begins q b ≡ true) = o.from b j in

@@ -7,19 +7,19 @@ use Rattle.std.proofs.lemmas.Bool.Decides.{nat_tests}
 use Rattle.std.proofs.Math.Nat.{div-eq-sub-div, mul-div-le, mul-suc}
 use Rattle.vx_model.specs.Words.{total_by}
 use Rattle.vx_model.specs.Ty.{Ty}
-use Rattle.vx_model.specs.Tree.{Tree, cell_size}
-use Rattle.vx_model.specs.Val.{value}
-use Rattle.vx_model.specs.Piece.{Piece, plain_piece, cells, held}
+use Rattle.vx_model.specs.CellData.{CellData, cell_size}
+use Rattle.vx_model.specs.ValueData.{value}
+use Rattle.vx_model.specs.ChunkData.{ChunkData, plain_piece, cells, held}
 use Rattle.vx_path.specs.Path.{under}
-use Rattle.vx_tree.specs.Rows.{dict_rows}
+use Rattle.vx_layout_spec.specs.Rows.{dict_rows}
 use Rattle.vx_rules.specs.Stream.{Chunk, stream_cells, piece_cells, Chunks, PiecesOf}
 use Rattle.vx_rules.specs.Regroup.{Rule, ranked, regrouped}
 use Rattle.vx_model.specs.ElementSize.{element_size}
 use Rattle.vx_rules.specs.Blocks.{BlockOptions, aimed, block_len, steps, check_points, is_cut, cut_rows, block_sizes, cut_off, left_over, last_block, sizes_at, blocks}
 use Rattle.vx_rules.specs.Flushes.{twice, flushes}
 use Rattle.vx_rules.specs.Columns.{offset_cell}
-use Rattle.vx_rules.specs.Runs.{DictOptions, with_cell, place_in, cells_fit, Cut, behind, stretches, cut_at, Run, runs}
-use Rattle.vx_rules.specs.Statements.{KeepsRows, RegroupingKeepsRows, AllButLast, IsMultiple, BlocksAreMultiples, held_after, BufferHoldsLess, RunsGive, RunsGiveRows, distinct_from, CutLongest, RunsAreLongest}
+use Rattle.vx_rules.specs.Runs.{DictOptions, with_cell, place_in, cells_fit, Cut, behind, stretches, cut_at, Run, runs, distinct_from}
+use Rattle.vx_rules.specs.Statements.{KeepsRows, RegroupingKeepsRows, AllButLast, IsMultiple, BlocksAreMultiples, held_after, BufferHoldsLess, RunsGive, RunsGiveRows, CutLongest, RunsAreLongest}
 use Rattle.vx_rules.proofs.CellLaws.{left_true, right_true}
 use Rattle.vx_rules.proofs.RegroupLaws.{regrouped_rows}
 use Rattle.vx_rules.proofs.BlockLaws.{Rows, blocks_regroup}
@@ -29,8 +29,8 @@ use Rattle.vx_rules.proofs.RunStreams.{Ended, AllEnded, runs_end}
 
 pub regrouping_keeps_rows : RegroupingKeepsRows
 regrouping_keeps_rows t items = record {
-  by_blocks = λ o. regrouped_rows (List Tree) t (blocks o t) (λ rows. rows) (Rows t) (blocks_regroup o t) items;
-  by_bytes = λ size. regrouped_rows (List Piece) t (flushes size) piece_cells (PiecesOf t) (flushes_regroup size t) items;
+  by_blocks = λ o. regrouped_rows (List CellData) t (blocks o t) (λ rows. rows) (Rows t) (blocks_regroup o t) items;
+  by_bytes = λ size. regrouped_rows (List ChunkData) t (flushes size) piece_cells (PiecesOf t) (flushes_regroup size t) items;
   into_one = collected_rows t items;
 }
 
@@ -54,14 +54,14 @@ WithinRows n [] = Unit {0}
 WithinRows n (p ∷ ps) = (p ≤ n) × WithinRows n ps
 
 -- sizes of blocks that lie within the rows
-abbrev pub Multiples : ℕ → List Tree → List ℕ → Type 0
+abbrev pub Multiples : ℕ → List CellData → List ℕ → Type 0
 Multiples len rows [] = Unit {0}
 Multiples len rows (k ∷ ks) = (q : ℕ) × (k ≡ len * suc q) × (k ≤ length rows) × Multiples len (drop k rows) ks
 
 some_blocks : (len n : ℕ) → 0 < len → len ≤ n → (q : ℕ) × (cut_rows len n ≡ len * suc q)
 some_blocks len n h l = ((n - len) / len, ap (λ z. len * z) (div-eq-sub-div h l ∙ (let e : (n - len) / len + 1 ≡ suc ((n - len) / len) = omega arith in e)))
 
-sizes_are : (len minimum : ℕ) (t : Ty) (c : ℕ) (rows : List Tree) (ps : List ℕ) → 0 < len → WithinRows (c + length rows) ps → Multiples len rows (block_sizes len minimum t c rows ps)
+sizes_are : (len minimum : ℕ) (t : Ty) (c : ℕ) (rows : List CellData) (ps : List ℕ) → 0 < len → WithinRows (c + length rows) ps → Multiples len rows (block_sizes len minimum t c rows ps)
 sizes_are len minimum t c rows [] h w = tt
 sizes_are len minimum t c rows (p ∷ ps) h w = ⊎_elim
     (λ (y : is_cut len minimum t rows (p - c) ≡ true).
@@ -107,7 +107,7 @@ AllMultiples : ℕ → List Chunk → Type 0
 AllMultiples len [] = Unit {0}
 AllMultiples len (c ∷ cs) = IsMultiple len c × AllMultiples len cs
 
-pieces_are : (len : ℕ) (t : Ty) (p : List ℕ) (r : ℕ) (rows : List Tree) (ks : List ℕ) → Multiples len rows ks → AllMultiples len (ranked p r (cut_off t rows ks))
+pieces_are : (len : ℕ) (t : Ty) (p : List ℕ) (r : ℕ) (rows : List CellData) (ks : List ℕ) → Multiples len rows ks → AllMultiples len (ranked p r (cut_off t rows ks))
 unfolding AllMultiples
 pieces_are len t p r rows [] h = tt
 pieces_are len t p r rows (k ∷ ks) h = ((h.0, length-take-le k rows h.2 ∙ h.1), pieces_are len t p (suc r) (drop k rows) ks h.3)
@@ -119,23 +119,23 @@ but_last len (x ∷ []) [] g h = tt
 but_last len (x ∷ []) (y ∷ ys) g h = (g.0, h)
 but_last len (x ∷ z ∷ xs) ys g h = (g.0, but_last len (z ∷ xs) ys g.1 h)
 
-ranked_append : (p : List ℕ) (r : ℕ) (xs ys : List Piece) → ranked p r (xs ++ ys) ≡ ranked p r xs ++ ranked p (r + length xs) ys
+ranked_append : (p : List ℕ) (r : ℕ) (xs ys : List ChunkData) → ranked p r (xs ++ ys) ≡ ranked p r xs ++ ranked p (r + length xs) ys
 ranked_append p r [] ys = ap (λ z. ranked p z ys) (let h : r ≡ r + 0 = omega arith in h)
 ranked_append p r (x ∷ xs) ys =
     ap (λ (z : List Chunk). (under p r, x) ∷ z) (ranked_append p (suc r) xs ys ∙ ap (λ z. ranked p (suc r) xs ++ ranked p z ys) (let h : suc r + length xs ≡ r + suc (length xs) = omega arith in h))
 
-last_alone : (len : ℕ) (t : Ty) (p : List ℕ) (r : ℕ) (rows : List Tree) → AllButLast (IsMultiple len) (ranked p r (last_block t rows))
+last_alone : (len : ℕ) (t : Ty) (p : List ℕ) (r : ℕ) (rows : List CellData) → AllButLast (IsMultiple len) (ranked p r (last_block t rows))
 last_alone len t p r [] = tt
 last_alone len t p r (c ∷ cs) = tt
 
 module _ (o : BlockOptions) (t : Ty) (positive : 0 < o.multiple) where
-  at_sizes : (rows : List Tree) (c : Piece) → Multiples (block_len o t) (rows ++ cells c) (sizes_at o t rows c)
+  at_sizes : (rows : List CellData) (c : ChunkData) → Multiples (block_len o t) (rows ++ cells c) (sizes_at o t rows c)
   at_sizes rows c =
       sizes_are (block_len o t) o.minimum t 0 (rows ++ cells c) (check_points (block_len o t) (length rows) (length (cells c))) (len_positive o t positive)
       (subst (λ z. WithinRows z (check_points (block_len o t) (length rows) (length (cells c)))) (sym (length-append rows (cells c)) ∙ (let h : length (rows ++ cells c) ≡ 0 + length (rows ++ cells c) = omega arith in h))
       (points_within (block_len o t) (length rows) (length (cells c))))
 
-  multiples_from : (rows : List Tree) (items : List Chunk) (ended : Bool) → AllButLast (IsMultiple (block_len o t)) (regrouped (blocks o t) rows items ended)
+  multiples_from : (rows : List CellData) (items : List Chunk) (ended : Bool) → AllButLast (IsMultiple (block_len o t)) (regrouped (blocks o t) rows items ended)
   multiples_from rows [] ended = tt
   multiples_from rows (c ∷ []) false = tt
   multiples_from rows (c ∷ []) true =
@@ -153,7 +153,7 @@ blocks_are_multiples o t items ended h = multiples_from o t h [] items ended
 
 -- ---- buffers
 
-held_less_from : (size : ℕ) (ps cs : List Piece) → 0 < size → size < 2 ^ 64 - 1 → total_by held ps < twice size → total_by held (held_after size ps cs) < twice size
+held_less_from : (size : ℕ) (ps cs : List ChunkData) → 0 < size → size < 2 ^ 64 - 1 → total_by held ps < twice size → total_by held (held_after size ps cs) < twice size
 held_less_from size ps [] a b h = h
 held_less_from size ps (c ∷ cs) a b h = held_less_from size ((flushes size).holds ps c) cs a b (holds_less size ps c a b)
 
@@ -162,7 +162,7 @@ buffer_holds_less size cs a b = held_less_from size [] cs a b (omega arith)
 
 -- ---- runs
 
-runs_give_from : (o : DictOptions) (t : Ty) (rs : List Run) (rows : List Tree) → AllEnded o t rs rows → RunsGive rs rows
+runs_give_from : (o : DictOptions) (t : Ty) (rs : List Run) (rows : List CellData) → AllEnded o t rs rows → RunsGive rs rows
 runs_give_from o t [] rows h = h
 runs_give_from o t (r ∷ rs) rows h =
     let e : Ended o t r h.0 = h.3 in (
@@ -176,11 +176,11 @@ runs_give_from o t (r ∷ rs) rows h =
 pub runs_give_rows : RunsGiveRows
 runs_give_rows o t c cs d of = runs_give_from o t (runs o t (c ∷ cs) true) (stream_cells (c ∷ cs)) (runs_end o t d c cs of)
 
-distinct_more : (ds done : List Tree) (c : Tree) → distinct_from ds (done ++ (c ∷ [])) ≡ with_cell (distinct_from ds done) c
+distinct_more : (ds done : List CellData) (c : CellData) → distinct_from ds (done ++ (c ∷ [])) ≡ with_cell (distinct_from ds done) c
 distinct_more ds [] c = refl
 distinct_more ds (d ∷ done) c = distinct_more (with_cell ds d) done c
 
-longest_from : (o : DictOptions) (t : Ty) (first ds : List Tree) (codes : List ℕ) (done rows : List Tree) → ds ≡ distinct_from first done → (done ≡ []) ⊎ (cells_fit o t ds ≡ true)
+longest_from : (o : DictOptions) (t : Ty) (first ds : List CellData) (codes : List ℕ) (done rows : List CellData) → ds ≡ distinct_from first done → (done ≡ []) ⊎ (cells_fit o t ds ≡ true)
     → CutLongest o t first (stretches o t ds codes rows).closed (stretches o t ds codes rows).distinct (done ++ rows)
 longest_from o t first ds codes done [] e f =
     (e ∙ ap (distinct_from first) (sym (append-nil done)), ⊎_elim (λ n. inl (append-nil done ∙ n)) (λ y. inr y) f)

@@ -7,13 +7,13 @@ use Rattle.std.proofs.lemmas.List.{append-nil, length-map, map-append}
 use Rattle.vx_model.specs.declared.ptype.PType.TheVariants.{U8, U16}
 use Rattle.vx_model.specs.Words.{all_by}
 use Rattle.vx_model.specs.Ty.{Ty, primitive}
-use Rattle.vx_model.specs.Tree.{Tree, fits}
-use Rattle.vx_model.specs.Piece.{Piece, plain_piece, cells, is_dict_type}
+use Rattle.vx_model.specs.CellData.{CellData, fits}
+use Rattle.vx_model.specs.ChunkData.{ChunkData, plain_piece, cells, is_dict_type}
 use Rattle.vx_path.specs.Lists.{In}
 use Rattle.vx_path.specs.Path.{begins, meets, Scattered, under}
 use Rattle.vx_path.proofs.Lists.{in_left, in_right, in_cases}
 use Rattle.vx_path.proofs.Path.{begins-under, under_apart}
-use Rattle.vx_tree.specs.Real.{Of, is_real_cell}
+use Rattle.vx_layout_spec.specs.Real.{Of, is_real_cell}
 use Rattle.vx_rules.specs.Stream.{Chunk, chunk_paths, stream_cells, Chunks}
 use Rattle.vx_rules.specs.Columns.{offset_cell}
 use Rattle.vx_rules.specs.Runs.{DictOptions, most_cells, Cut, code_type, codes_piece, Run, ended_runs, next_codes, open_run, cut_at, runs_from, runs}
@@ -24,9 +24,9 @@ use Rattle.vx_rules.proofs.RunLaws.{Is, Extends, extends_self, Decodes, decodes_
 -- ---- rows
 
 -- a run that has ended: its codes' and values' cells give the rows
-pub record Ended (o : DictOptions) (t : Ty) (run : Run) (rows : List Tree) : Type 0 where
+pub record Ended (o : DictOptions) (t : Ty) (run : Run) (rows : List CellData) : Type 0 where
   pub codes : List ℕ
-  pub distinct : List Tree
+  pub distinct : List CellData
   pub codes_cells : stream_cells run.codes ≡ map offset_cell codes
   pub values_cells : stream_cells run.values ≡ distinct
   pub decodes : Decodes distinct codes rows
@@ -35,23 +35,23 @@ pub record Ended (o : DictOptions) (t : Ty) (run : Run) (rows : List Tree) : Typ
   pub closed : run.closed ≡ true
 
 -- runs that have ended, and their rows joined
-abbrev pub AllEnded : DictOptions → Ty → List Run → List Tree → Type 0
+abbrev pub AllEnded : DictOptions → Ty → List Run → List CellData → Type 0
 AllEnded o t [] rows = rows ≡ []
-AllEnded o t (r ∷ rs) rows = (part : List Tree) × (later : List Tree) × (rows ≡ part ++ later) × Ended o t r part × AllEnded o t rs later
+AllEnded o t (r ∷ rs) rows = (part : List CellData) × (later : List CellData) × (rows ≡ part ++ later) × Ended o t r part × AllEnded o t rs later
 
-all_ended_append : (o : DictOptions) (t : Ty) (rs ss : List Run) (rows more : List Tree) → AllEnded o t rs rows → AllEnded o t ss more → AllEnded o t (rs ++ ss) (rows ++ more)
+all_ended_append : (o : DictOptions) (t : Ty) (rs ss : List Run) (rows more : List CellData) → AllEnded o t rs rows → AllEnded o t ss more → AllEnded o t (rs ++ ss) (rows ++ more)
 all_ended_append o t [] ss rows more g h = subst (λ z. AllEnded o t ss (z ++ more)) (sym g) h
 all_ended_append o t (r ∷ rs) ss rows more g h =
     (g.0, g.1 ++ more, ap (λ z. z ++ more) g.2 ∙ append_assoc g.0 g.1 more, g.3, all_ended_append o t rs ss g.1 more g.4 h)
 
 -- the run that goes on, with its codes so far
-pub record Going (o : DictOptions) (t : Ty) (ds : List Tree) (cur : List Chunk) (rows : List Tree) : Type 0 where
+pub record Going (o : DictOptions) (t : Ty) (ds : List CellData) (cur : List Chunk) (rows : List CellData) : Type 0 where
   pub codes : List ℕ
   pub codes_cells : stream_cells cur ≡ map offset_cell codes
   pub decodes : Decodes ds codes rows
   pub codes_of : Chunks (code_type o) cur
 
-code_fits : (o : DictOptions) (t : Ty) (ds : List Tree) (n : ℕ) → Distinct o t ds → n < length ds → fits (code_type o) (offset_cell n) ≡ true
+code_fits : (o : DictOptions) (t : Ty) (ds : List CellData) (n : ℕ) → Distinct o t ds → n < length ds → fits (code_type o) (offset_cell n) ≡ true
 code_fits o t ds n d lt = go (nat_le o.max_len 255) (few_small o.max_len (length ds)) d.few
   where
     few_small : (m l : ℕ) → nat_le m 255 ≡ true → l ≤ max 1 (min m (2 ^ 16 - 1)) → l ≤ 255
@@ -68,7 +68,7 @@ code_fits o t ds n d lt = go (nat_le o.max_len 255) (few_small o.max_len (length
     go true f h = let k : length ds ≤ 255 = f refl h in u8 n (omega arith)
     go false f h = u16 n (omega arith)
 
-codes_fit : (o : DictOptions) (t : Ty) (ds : List Tree) (ns : List ℕ) (cs : List Tree) → Distinct o t ds → Decodes ds ns cs
+codes_fit : (o : DictOptions) (t : Ty) (ds : List CellData) (ns : List ℕ) (cs : List CellData) → Distinct o t ds → Decodes ds ns cs
     → (all_by (fits (code_type o)) (map offset_cell ns) ≡ true) × (all_by is_real_cell (map offset_cell ns) ≡ true)
 codes_fit o t ds [] [] d h = (refl, refl)
 codes_fit o t ds [] (c ∷ cs) d h = absurd h
@@ -77,21 +77,21 @@ codes_fit o t ds (n ∷ ns) (c ∷ cs) d h =
     let r : (all_by (fits (code_type o)) (map offset_cell ns) ≡ true) × (all_by is_real_cell (map offset_cell ns) ≡ true) = codes_fit o t ds ns cs d h.1 in
     (both_true (fits (code_type o) (offset_cell n)) _ (code_fits o t ds n d h.0.0) r.0, r.1)
 
-codes_whole : (o : DictOptions) (t : Ty) (ds : List Tree) (ns : List ℕ) (cs : List Tree) → Distinct o t ds → Decodes ds ns cs → length cs < 2 ^ 64 → Of (code_type o) (codes_piece o ns)
+codes_whole : (o : DictOptions) (t : Ty) (ds : List CellData) (ns : List ℕ) (cs : List CellData) → Distinct o t ds → Decodes ds ns cs → length cs < 2 ^ 64 → Of (code_type o) (codes_piece o ns)
 codes_whole o t ds ns cs d h lt =
     let f : (all_by (fits (code_type o)) (map offset_cell ns) ≡ true) × (all_by is_real_cell (map offset_cell ns) ≡ true) = codes_fit o t ds ns cs d h in
     let l : length ns ≡ length cs = decodes_length ds ns cs h in
     let k : length (map offset_cell ns) ≡ length ns = length-map ns offset_cell in
     plain_of (code_type o) (map offset_cell ns) (record { fit = f.0; real = f.1; short = omega arith })
 
-values_whole : (o : DictOptions) (t : Ty) (ds : List Tree) → Distinct o t ds → Of t (plain_piece t ds)
+values_whole : (o : DictOptions) (t : Ty) (ds : List CellData) → Distinct o t ds → Of t (plain_piece t ds)
 values_whole o t ds d = plain_of t ds (record { fit = d.fit; real = d.real; short = short d.few })
   where
     short : length ds ≤ max 1 (min o.max_len (2 ^ 16 - 1)) → length ds < 2 ^ 64
     short h = omega arith
 
 -- one more codes chunk
-going_more : (o : DictOptions) (t : Ty) (ds es : List Tree) (cur : List Chunk) (p : List ℕ) (ns : List ℕ) (done rows : List Tree)
+going_more : (o : DictOptions) (t : Ty) (ds es : List CellData) (cur : List Chunk) (p : List ℕ) (ns : List ℕ) (done rows : List CellData)
     → Going o t ds cur done → Extends ds es → Decodes es ns rows → Distinct o t es → length rows < 2 ^ 64 → Going o t es (cur ++ ((p, codes_piece o ns) ∷ [])) (done ++ rows)
 going_more o t ds es cur p ns done rows g x h d lt = record {
   codes = g.codes ++ ns;
@@ -104,14 +104,14 @@ going_none : (o : DictOptions) (t : Ty) → Going o t [] [] []
 going_none o t = record { codes = []; codes_cells = refl; decodes = tt; codes_of = tt }
 
 -- The runs that end at a chunk, and the one that goes on, split the rows so far.
-pub record Parted (o : DictOptions) (t : Ty) (rs : List Run) (es : List Tree) (next : List Chunk) (rows : List Tree) : Type 0 where
-  pub before : List Tree
-  pub after : List Tree
+pub record Parted (o : DictOptions) (t : Ty) (rs : List Run) (es : List CellData) (next : List Chunk) (rows : List CellData) : Type 0 where
+  pub before : List CellData
+  pub after : List CellData
   pub split : rows ≡ before ++ after
   pub ended : AllEnded o t rs before
   pub going : Going o t es next after
 
-parted : (o : DictOptions) (t : Ty) (p : List ℕ) (r : ℕ) (ds : List Tree) (cur : List Chunk) (done : List Tree) (closed : List (List ℕ × List Tree)) (codes : List ℕ) (es rows : List Tree)
+parted : (o : DictOptions) (t : Ty) (p : List ℕ) (r : ℕ) (ds : List CellData) (cur : List Chunk) (done : List CellData) (closed : List (List ℕ × List CellData)) (codes : List ℕ) (es rows : List CellData)
     → Going o t ds cur done → Gives o t ds closed codes es rows → length rows < 2 ^ 64
     → Parted o t (ended_runs o t p r cur closed) es (next_codes o p r cur closed codes) (done ++ rows)
 parted o t p r ds cur done [] codes es rows g h lt = record {
@@ -149,22 +149,22 @@ parted o t p r ds cur done (x ∷ xs) codes es rows g h lt =
     }
 
 -- where the last run ends too, nothing goes on
-closing : (o : DictOptions) (t : Ty) (ds : List Tree) (closed : List (List ℕ × List Tree)) (codes : List ℕ) (es rows : List Tree) → Gives o t ds closed codes es rows
+closing : (o : DictOptions) (t : Ty) (ds : List CellData) (closed : List (List ℕ × List CellData)) (codes : List ℕ) (es rows : List CellData) → Gives o t ds closed codes es rows
     → Gives o t ds (closed ++ ((codes, es) ∷ [])) [] [] rows
 closing o t ds [] codes es rows h = (rows, [], sym (append-nil rows), h.0, h.1, h.2, (extends_self [], tt, record { fit = refl; real = refl; few = omega arith }))
 closing o t ds (x ∷ xs) codes es rows h = (h.0, h.1, h.2, h.3, h.4, h.5, closing o t [] xs codes es h.1 h.6)
 
-at_chunk : (o : DictOptions) (t : Ty) → is_dict_type t ≡ true → (ds : List Tree) → Distinct o t ds → (c : Chunk) → Of t c.1
+at_chunk : (o : DictOptions) (t : Ty) → is_dict_type t ≡ true → (ds : List CellData) → Distinct o t ds → (c : Chunk) → Of t c.1
     → Gives o t ds (cut_at o t ds c).closed (cut_at o t ds c).codes (cut_at o t ds c).distinct (cells c.1)
 at_chunk o t d ds few c of =
     let f : Fine t (cells c.1) = cells_fine t c.1 of in
     stretches_give o t d ds ds [] [] (cells c.1) (extends_self ds) tt few f.fit f.real
 
-gives_distinct : (o : DictOptions) (t : Ty) (ds : List Tree) (closed : List (List ℕ × List Tree)) (codes : List ℕ) (es rows : List Tree) → Gives o t ds closed codes es rows → Distinct o t es
+gives_distinct : (o : DictOptions) (t : Ty) (ds : List CellData) (closed : List (List ℕ × List CellData)) (codes : List ℕ) (es rows : List CellData) → Gives o t ds closed codes es rows → Distinct o t es
 gives_distinct o t ds [] codes es rows h = h.2
 gives_distinct o t ds (x ∷ xs) codes es rows h = gives_distinct o t [] xs codes es h.1 h.6
 
-ended_from : (o : DictOptions) (t : Ty) → is_dict_type t ≡ true → (ds : List Tree) (cur : List Chunk) (done : List Tree) (c : Chunk) (cs : List Chunk) → Distinct o t ds → Going o t ds cur done → Chunks t (c ∷ cs)
+ended_from : (o : DictOptions) (t : Ty) → is_dict_type t ≡ true → (ds : List CellData) (cur : List Chunk) (done : List CellData) (c : Chunk) (cs : List Chunk) → Distinct o t ds → Going o t ds cur done → Chunks t (c ∷ cs)
     → AllEnded o t (runs_from o t ds cur (c ∷ cs) true) (done ++ stream_cells (c ∷ cs))
 ended_from o t d ds cur done c [] few g of =
     let cut : Cut = cut_at o t ds c in
@@ -212,7 +212,7 @@ pub record Continues (cur : List Chunk) (rs : List Run) : Type 0 where
   pub more : List Chunk
   pub codes : first.codes ≡ cur ++ more
 
-ended_continue : (o : DictOptions) (t : Ty) (p : List ℕ) (r : ℕ) (cur : List Chunk) (x : List ℕ × List Tree) (xs : List (List ℕ × List Tree)) (rs : List Run) → Continues cur (ended_runs o t p r cur (x ∷ xs) ++ rs)
+ended_continue : (o : DictOptions) (t : Ty) (p : List ℕ) (r : ℕ) (cur : List Chunk) (x : List ℕ × List CellData) (xs : List (List ℕ × List CellData)) (rs : List Run) → Continues cur (ended_runs o t p r cur (x ∷ xs) ++ rs)
 ended_continue o t p r cur x xs rs = record {
   first = record { codes = cur ++ ((under p r, codes_piece o x.0) ∷ []); values = (under p (suc r), plain_piece t x.1) ∷ []; closed = true };
   others = ended_runs o t p (r + 2) [] xs ++ rs;
@@ -221,7 +221,7 @@ ended_continue o t p r cur x xs rs = record {
   codes = refl;
 }
 
-close_continue : (o : DictOptions) (t : Ty) (p : List ℕ) (r : ℕ) (cur : List Chunk) (closed : List (List ℕ × List Tree)) (x : List ℕ × List Tree) → Continues cur (ended_runs o t p r cur (closed ++ (x ∷ [])))
+close_continue : (o : DictOptions) (t : Ty) (p : List ℕ) (r : ℕ) (cur : List Chunk) (closed : List (List ℕ × List CellData)) (x : List ℕ × List CellData) → Continues cur (ended_runs o t p r cur (closed ++ (x ∷ [])))
 close_continue o t p r cur [] x = subst (Continues cur) (append-nil (ended_runs o t p r cur (x ∷ []))) (ended_continue o t p r cur x [] [])
 close_continue o t p r cur (y ∷ closed) x = subst (Continues cur) (append-nil (ended_runs o t p r cur (y ∷ closed ++ (x ∷ [])))) (ended_continue o t p r cur y (closed ++ (x ∷ [])) [])
 
@@ -235,18 +235,18 @@ is_some (c ∷ cs) = true
 continue_further : (cur more : List Chunk) (rs : List Run) → Continues (cur ++ more) rs → Continues cur rs
 continue_further cur more rs c = record { first = c.first; others = c.others; same = c.same; more = more ++ c.more; codes = c.codes ∙ append_assoc cur more c.more }
 
-next_some : (o : DictOptions) (p : List ℕ) (r : ℕ) (cur : List Chunk) (closed : List (List ℕ × List Tree)) (codes : List ℕ) → (c : Chunk) × (cs : List Chunk) × (next_codes o p r cur closed codes ≡ c ∷ cs)
+next_some : (o : DictOptions) (p : List ℕ) (r : ℕ) (cur : List Chunk) (closed : List (List ℕ × List CellData)) (codes : List ℕ) → (c : Chunk) × (cs : List Chunk) × (next_codes o p r cur closed codes ≡ c ∷ cs)
 next_some o p r [] [] codes = ((under p r, codes_piece o codes), [], refl)
 next_some o p r (c ∷ cur) [] codes = (c, cur ++ ((under p r, codes_piece o codes) ∷ []), refl)
 next_some o p r cur (x ∷ xs) codes = next_some o p (r + 2) [] xs codes
 
-runs_continue : (o : DictOptions) (t : Ty) (ds : List Tree) (c : Chunk) (cur : List Chunk) (x : Chunk) (xs : List Chunk) (ended : Bool) → Continues (c ∷ cur) (runs_from o t ds (c ∷ cur) (x ∷ xs) ended)
+runs_continue : (o : DictOptions) (t : Ty) (ds : List CellData) (c : Chunk) (cur : List Chunk) (x : Chunk) (xs : List Chunk) (ended : Bool) → Continues (c ∷ cur) (runs_from o t ds (c ∷ cur) (x ∷ xs) ended)
 runs_continue o t ds c cur x [] true = close_continue o t x.0 0 (c ∷ cur) (cut_at o t ds x).closed ((cut_at o t ds x).codes, (cut_at o t ds x).distinct)
 runs_continue o t ds c cur x [] false = open_continue c cur
 runs_continue o t ds c cur x (y ∷ xs) ended = go (cut_at o t ds x).closed
     (λ m ms e. runs_continue o t (cut_at o t ds x).distinct m ms y xs ended)
   where
-    go : (closed : List (List ℕ × List Tree)) → ((m : Chunk) (ms : List Chunk) (e : Unit {0}) → Continues (m ∷ ms) (runs_from o t (cut_at o t ds x).distinct (m ∷ ms) (y ∷ xs) ended))
+    go : (closed : List (List ℕ × List CellData)) → ((m : Chunk) (ms : List Chunk) (e : Unit {0}) → Continues (m ∷ ms) (runs_from o t (cut_at o t ds x).distinct (m ∷ ms) (y ∷ xs) ended))
         → Continues (c ∷ cur) (ended_runs o t x.0 0 (c ∷ cur) closed ++ runs_from o t (cut_at o t ds x).distinct (next_codes o x.0 0 (c ∷ cur) closed (cut_at o t ds x).codes) (y ∷ xs) ended)
     go [] f = continue_further (c ∷ cur) ((under x.0 0, codes_piece o (cut_at o t ds x).codes) ∷ []) (runs_from o t (cut_at o t ds x).distinct (c ∷ cur ++ ((under x.0 0, codes_piece o (cut_at o t ds x).codes) ∷ [])) (y ∷ xs) ended)
         (f c (cur ++ ((under x.0 0, codes_piece o (cut_at o t ds x).codes) ∷ [])) tt)
@@ -257,7 +257,7 @@ open_grows [] rs c = tt
 open_grows (k ∷ cur) rs c = subst (RunsGrow (open_run (k ∷ cur))) (sym c.same) (inr (refl, refl, (c.more, c.codes)), tt)
 
 -- the runs of an open stream grow into those of a longer one
-runs_from_grow : (o : DictOptions) (t : Ty) (ds : List Tree) (cur : List Chunk) (x : Chunk) (xs ys : List Chunk) (ended : Bool)
+runs_from_grow : (o : DictOptions) (t : Ty) (ds : List CellData) (cur : List Chunk) (x : Chunk) (xs ys : List Chunk) (ended : Bool)
     → RunsGrow (runs_from o t ds cur (x ∷ xs) false) (runs_from o t ds cur (x ∷ xs ++ ys) ended)
 runs_from_grow o t ds [] x [] ys ended = tt
 runs_from_grow o t ds (c ∷ cur) x [] ys ended = open_grows (c ∷ cur) (runs_from o t ds (c ∷ cur) (x ∷ ys) ended) (runs_continue o t ds c cur x ys ended)
@@ -293,12 +293,12 @@ made_append p r zero n = ap₂ (λ a b. made p a b) (let h : r ≡ r + 0 = omega
 made_append p r (suc m) n =
     ap (made p r) (let h : suc m + n ≡ suc (m + n) = omega arith in h) ∙ ap (λ z. under p r ∷ z) (made_append p (suc r) m n ∙ ap (λ z. made p (suc r) m ++ made p z n) (let h : suc r + m ≡ r + suc m = omega arith in h))
 
-abbrev two : List (List ℕ × List Tree) → ℕ
+abbrev two : List (List ℕ × List CellData) → ℕ
 two [] = 0
 two (x ∷ xs) = suc (suc (two xs))
 
 -- what ends at a chunk, and the codes that go on, are at the codes' paths so far and at those made there
-at_paths : (o : DictOptions) (t : Ty) (p : List ℕ) (r : ℕ) (cur : List Chunk) (closed : List (List ℕ × List Tree)) (codes : List ℕ)
+at_paths : (o : DictOptions) (t : Ty) (p : List ℕ) (r : ℕ) (cur : List Chunk) (closed : List (List ℕ × List CellData)) (codes : List ℕ)
     → run_paths (ended_runs o t p r cur closed) ++ chunk_paths (next_codes o p r cur closed codes) ≡ chunk_paths cur ++ made p r (suc (two closed))
 at_paths o t p r cur [] codes = chunk_paths-append cur ((under p r, codes_piece o codes) ∷ [])
 at_paths o t p r cur (x ∷ xs) codes =
@@ -307,7 +307,7 @@ at_paths o t p r cur (x ∷ xs) codes =
     (at_paths o t p (r + 2) [] xs codes ∙ ap (λ z. made p z (suc (two xs))) (let h : r + 2 ≡ suc (suc r) = omega arith in h))
     ∙ append_assoc (chunk_paths cur) (under p r ∷ []) (under p (suc r) ∷ made p (suc (suc r)) (suc (two xs)))
 
-closed_paths : (o : DictOptions) (t : Ty) (p : List ℕ) (r : ℕ) (cur : List Chunk) (x : List ℕ × List Tree) (closed : List (List ℕ × List Tree))
+closed_paths : (o : DictOptions) (t : Ty) (p : List ℕ) (r : ℕ) (cur : List Chunk) (x : List ℕ × List CellData) (closed : List (List ℕ × List CellData))
     → run_paths (ended_runs o t p r cur (x ∷ closed)) ≡ chunk_paths cur ++ made p r (suc (suc (two closed)))
 closed_paths o t p r cur x [] =
     ap (λ a. a ++ (under p (suc r) ∷ [])) (chunk_paths-append cur ((under p r, codes_piece o x.0) ∷ []))
@@ -355,12 +355,12 @@ open_paths : (cur : List Chunk) → run_paths (open_run cur) ≡ chunk_paths cur
 open_paths [] = refl
 open_paths (c ∷ cur) = append-nil (chunk_paths (c ∷ cur))
 
-runs_from_made : (o : DictOptions) (t : Ty) (ds : List Tree) (cur : List Chunk) (c : Chunk) (cs : List Chunk) (ended : Bool)
+runs_from_made : (o : DictOptions) (t : Ty) (ds : List CellData) (cur : List Chunk) (c : Chunk) (cs : List Chunk) (ended : Bool)
     → Made (chunk_paths cur) (runs_from o t ds cur (c ∷ cs) ended) (chunk_paths (c ∷ cs))
 runs_from_made o t ds cur c [] false = record { others = []; same = open_paths cur ∙ sym (append-nil (chunk_paths cur)); onto = none_onto (c.0 ∷ []) }
 runs_from_made o t ds cur c [] true = go (cut_at o t ds c).closed
   where
-    go : (closed : List (List ℕ × List Tree)) → Made (chunk_paths cur) (ended_runs o t c.0 0 cur (closed ++ (((cut_at o t ds c).codes, (cut_at o t ds c).distinct) ∷ []))) (c.0 ∷ [])
+    go : (closed : List (List ℕ × List CellData)) → Made (chunk_paths cur) (ended_runs o t c.0 0 cur (closed ++ (((cut_at o t ds c).codes, (cut_at o t ds c).distinct) ∷ []))) (c.0 ∷ [])
     go [] = record { others = made c.0 0 2; same = closed_paths o t c.0 0 cur ((cut_at o t ds c).codes, (cut_at o t ds c).distinct) []; onto = subst (λ z. Onto z (c.0 ∷ [])) (append-nil (made c.0 0 2)) (made_onto c.0 0 2 [] [] (none_onto [])) }
     go (x ∷ xs) =
         let n : ℕ = suc (suc (two (xs ++ (((cut_at o t ds c).codes, (cut_at o t ds c).distinct) ∷ [])))) in

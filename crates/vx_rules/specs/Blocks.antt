@@ -3,8 +3,8 @@ use Rattle.std.specs.Prelude.{ℕ, zero, suc, ◌+◌, ◌-◌, ◌*◌, ◌/◌
 use Rattle.vx_model.specs.Words.{total_by}
 use Rattle.vx_model.specs.ElementSize.{element_size}
 use Rattle.vx_model.specs.Ty.{Ty}
-use Rattle.vx_model.specs.Tree.{Tree, cell_size}
-use Rattle.vx_model.specs.Piece.{Piece, plain_piece, cells}
+use Rattle.vx_model.specs.CellData.{CellData, cell_size}
+use Rattle.vx_model.specs.ChunkData.{ChunkData, plain_piece, cells}
 use Rattle.vx_rules.specs.Regroup.{Rule}
 
 pub record BlockOptions : Type 0 where
@@ -39,7 +39,7 @@ abbrev pub check_points : ℕ → ℕ → ℕ → List ℕ
 check_points len a n = steps a len ((n - 1) / len) ++ ((a + n) ∷ [])
 
 -- a cut comes at the first check point that has a block's rows and the minimum's bytes before it
-abbrev pub is_cut : ℕ → ℕ → Ty → List Tree → ℕ → Bool
+abbrev pub is_cut : ℕ → ℕ → Ty → List CellData → ℕ → Bool
 is_cut len minimum t rows p = nat_le len p && nat_le minimum (total_by (cell_size t) (take p rows))
 
 -- it takes all whole blocks
@@ -48,7 +48,7 @@ cut_rows len p = len * (p / len)
 
 -- The rows of the blocks that are cut off, by the check points in order: c is the last cut, counted as they are, and
 -- `rows` are the rows from it on.
-abbrev pub block_sizes : ℕ → ℕ → Ty → ℕ → List Tree → List ℕ → List ℕ
+abbrev pub block_sizes : ℕ → ℕ → Ty → ℕ → List CellData → List ℕ → List ℕ
 block_sizes len minimum t c rows [] = []
 block_sizes len minimum t c rows (p ∷ ps) =
     if is_cut len minimum t rows (p - c)
@@ -56,7 +56,7 @@ block_sizes len minimum t c rows (p ∷ ps) =
     else block_sizes len minimum t c rows ps
 
 -- the row sizes from the last cut to each check point
-abbrev pub tested_sizes : ℕ → ℕ → Ty → ℕ → List Tree → List ℕ → List ℕ
+abbrev pub tested_sizes : ℕ → ℕ → Ty → ℕ → List CellData → List ℕ → List ℕ
 tested_sizes len minimum t c rows [] = []
 tested_sizes len minimum t c rows (p ∷ ps) =
     total_by (cell_size t) (take (p - c) rows) ∷
@@ -65,24 +65,24 @@ tested_sizes len minimum t c rows (p ∷ ps) =
     else tested_sizes len minimum t c rows ps)
 
 -- the first rows in blocks of these sizes, and what is left
-abbrev pub cut_off : Ty → List Tree → List ℕ → List Piece
+abbrev pub cut_off : Ty → List CellData → List ℕ → List ChunkData
 cut_off t rows [] = []
 cut_off t rows (k ∷ ks) = plain_piece t (take k rows) ∷ cut_off t (drop k rows) ks
 
-abbrev pub left_over : List Tree → List ℕ → List Tree
+abbrev pub left_over : List CellData → List ℕ → List CellData
 left_over rows [] = rows
 left_over rows (k ∷ ks) = left_over (drop k rows) ks
 
 -- a last block, where rows are left
-abbrev pub last_block : Ty → List Tree → List Piece
+abbrev pub last_block : Ty → List CellData → List ChunkData
 last_block t [] = []
 last_block t (c ∷ cs) = plain_piece t (c ∷ cs) ∷ []
 
 -- the sizes of the blocks that leave at a chunk, `rows` being held before it
-abbrev pub sizes_at : BlockOptions → Ty → List Tree → Piece → List ℕ
+abbrev pub sizes_at : BlockOptions → Ty → List CellData → ChunkData → List ℕ
 sizes_at o t rows c = block_sizes (block_len o t) o.minimum t 0 (rows ++ cells c) (check_points (block_len o t) (length rows) (length (cells c)))
 
-abbrev pub blocks : BlockOptions → Ty → Rule (List Tree)
+abbrev pub blocks : BlockOptions → Ty → Rule (List CellData)
 blocks o t = record {
   start = [];
   leaves = λ rows c. cut_off t (rows ++ cells c) (sizes_at o t rows c);

@@ -2,28 +2,29 @@
 use Rattle.std.specs.Prelude.{ℕ, ◌*◌, ◌-◌, ◌^◌, min, nat_le, Bool, true, false, if◌then◌else◌, List, [], ◌∷◌, ◌++◌}
 use Rattle.vx_model.specs.Ty.{Ty}
 use Rattle.vx_model.specs.Words.{total_by}
-use Rattle.vx_model.specs.Piece.{Piece, Pieces, chunked_piece, no_pieces, part, pieces_of, pieces_in, held}
+use Rattle.vx_model.specs.ChunkData.{ChunkData, ChunkList, chunked_piece, no_pieces, part, pieces_of, pieces_in, held}
 use Rattle.vx_rules.specs.Regroup.{Rule}
 use Rattle.vx_rules.specs.Stream.{Chunk}
+use Rattle.vx_layout_spec.specs.Parts.{all_parts}
 
 -- twice the size, at most the greatest 64-bit number
 abbrev pub twice : ℕ → ℕ
 twice size = min (2 * size) (2 ^ 64 - 1)
 
 -- from the front, as many as it takes until at most the size is held
-abbrev pub flushed : ℕ → List Piece → List Piece
+abbrev pub flushed : ℕ → List ChunkData → List ChunkData
 flushed size [] = []
 flushed size (p ∷ ps) = if nat_le (total_by held (p ∷ ps)) size then [] else p ∷ flushed size ps
 
-abbrev pub still_held : ℕ → List Piece → List Piece
+abbrev pub still_held : ℕ → List ChunkData → List ChunkData
 still_held size [] = []
 still_held size (p ∷ ps) = if nat_le (total_by held (p ∷ ps)) size then p ∷ ps else still_held size ps
 
-abbrev pub is_full : ℕ → List Piece → Bool
+abbrev pub is_full : ℕ → List ChunkData → Bool
 is_full size ps = nat_le (twice size) (total_by held ps)
 
 -- chunks leave where at least twice the size is held, all at the last chunk
-abbrev pub flushes : ℕ → Rule (List Piece)
+abbrev pub flushes : ℕ → Rule (List ChunkData)
 flushes size = record {
   start = [];
   leaves = λ ps c. if is_full size (ps ++ (c ∷ [])) then flushed size (ps ++ (c ∷ [])) else [];
@@ -33,19 +34,10 @@ flushes size = record {
 
 -- ---- collecting
 
--- the parts of a chunked chunk stand for it
-abbrev pub parts_of : Piece → List Piece
-parts_of (chunked_piece t ps) = pieces_in ps
-parts_of p = p ∷ []
-
-abbrev pub all_parts : List Piece → List Piece
-all_parts [] = []
-all_parts (p ∷ ps) = parts_of p ++ all_parts ps
-
-abbrev pub concatenated : Ty → List Piece → Piece
+abbrev pub concatenated : Ty → List ChunkData → ChunkData
 concatenated t ps = chunked_piece t (pieces_of (all_parts ps))
 
-abbrev pub chunk_pieces : List Chunk → List Piece
+abbrev pub chunk_pieces : List Chunk → List ChunkData
 chunk_pieces [] = []
 chunk_pieces (c ∷ cs) = c.1 ∷ chunk_pieces cs
 

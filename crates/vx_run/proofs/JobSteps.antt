@@ -5,23 +5,23 @@ use Rattle.vx_chunk.specs.ChunkView.{piece}
 use Rattle.std.specs.Prelude.{map, option_map, IsTrue, ◌⊎◌}
 use Rattle.vx_model.specs.declared.encoding.EncodingId.{EncodingId}
 use Rattle.vx_model.specs.Ty.{Ty}
-use Rattle.vx_model.specs.Piece.{Piece}
-use Rattle.vx_encode.specs.Segment.{encode, refused, bytes_unless, segment_bytes}
+use Rattle.vx_model.specs.ChunkData.{ChunkData}
+use Rattle.vx_segment_writer.specs.Segment.{encode, refused, bytes_unless, segment_bytes}
 use Rattle.vx_path.specs.Path.{Eof, inside, next}
-use Rattle.vx_tree.specs.LayoutTree.{Lay, lays_of, gathered, renamed, each_renamed}
-use Rattle.vx_tree.specs.Rows.{rows, all_there}
-use Rattle.vx_segment.specs.Codec.{segment_codec}
+use Rattle.vx_layout_spec.specs.LayoutTree.{LayoutData, lays_of, gathered, renamed, each_renamed}
+use Rattle.vx_layout_spec.specs.Rows.{rows, all_there}
+use Rattle.vx_segment_reader.specs.Codec.{segment_codec}
 use Rattle.vx_plan.specs.PlanData.{Setting, Plan, Fault, Item, row_total}
-use Rattle.vx_plan.specs.Way.{Way, FlatOptions, flat, chunked}
+use Rattle.vx_strategy_spec.specs.StrategyData.{StrategyData, FlatOptions, flat, chunked}
 use Rattle.vx_plan.specs.ChunkedNode.{whole, chunk_plans, chunked_numbers, all_layouts}
 use Rattle.vx_plan.specs.FlatNode.{flat_node, refused_at}
 use Rattle.vx_plan.specs.SourcePlan.{source_plan, taken_plan, source_values, of_schema, batch_items, root_eof, with_root}
 use Rattle.vx_plan.specs.Number.{segments, numbered, number_of, segment_at}
 use Rattle.vx_plan.specs.InOrder.{InOrder, ChunksInOrder, batch_rows, batch_segments, batch_refusals}
 use Rattle.vx_plan.specs.Valid.{Fit, Valid}
-use Rattle.vx_sink.specs.Counts.{Counts, IsCalm}
-use Rattle.vx_sink.specs.Fails.{fails_at}
-use Rattle.vx_sink.specs.Told.{before_told, then_told}
+use Rattle.vx_fault.specs.Counts.{Counts, IsCalm}
+use Rattle.vx_fault.specs.Fails.{fails_at}
+use Rattle.vx_fault.specs.Told.{before_told, then_told}
 use Rattle.vx_write.specs.Stream.{Writes, HasCause, MayCome, BehindBatch, TookLast, TookRows, NeedsNumber, WasValid, Stands, is_built}
 use Rattle.vx_write.specs.Causes.{is_source_fault, is_sink_fault, is_unbuilt}
 use Rattle.vx_write.specs.declared.error.WriteError.{WriteError}
@@ -48,15 +48,15 @@ same_chunks : (s : Setting) (o : FlatOptions) (t : Ty) (m : Bool) (is : List Ite
 same_chunks s o t m [] e = refl
 same_chunks s o t m (i ∷ is) e = ap (λ (ps : List Plan). flat_node s o t false (i ∷ []) true (inside e) ∷ ps) (same_chunks s o t m is (next e))
 
-same_flat : (s : Setting) (o : FlatOptions) (t : Ty) (m : Bool) (xs : List Piece) (ended : Bool) → source_plan s (chunked (flat o)) t m xs ended ≡ source_plan s (chunked (flat o)) t false xs ended
+same_flat : (s : Setting) (o : FlatOptions) (t : Ty) (m : Bool) (xs : List ChunkData) (ended : Bool) → source_plan s (chunked (flat o)) t m xs ended ≡ source_plan s (chunked (flat o)) t false xs ended
 same_flat s o t m xs ended = ap (λ (ps : List Plan). with_root xs (whole t (row_total (batch_items 0 xs)) (chunked_numbers (batch_items 0 xs) root_eof) ps)) (same_chunks s o t m (batch_items 0 xs) root_eof)
 
-same_marked : (s : Setting) (w : Way) (t : Ty) (m : Bool) (xs : List Piece) (ended : Bool) → is_built w t ≡ true → source_plan s w t m xs ended ≡ source_plan s w t false xs ended
+same_marked : (s : Setting) (w : StrategyData) (t : Ty) (m : Bool) (xs : List ChunkData) (ended : Bool) → is_built w t ≡ true → source_plan s w t m xs ended ≡ source_plan s w t false xs ended
 same_marked s w t m xs ended h =
     let b = built w t h in
-    subst (λ (v : Way). source_plan s v t m xs ended ≡ source_plan s v t false xs ended) (sym b.chunks) (same_flat s b.options t m xs ended)
+    subst (λ (v : StrategyData). source_plan s v t m xs ended ≡ source_plan s v t false xs ended) (sym b.chunks) (same_flat s b.options t m xs ended)
 
-unmarked : (s : Setting) (w : Way) (t : Ty) (m : Bool) (first tracker : ℕ) (xs : List Piece) → is_built w t ≡ true → Valid s w t m first tracker xs → Valid s w t false first tracker xs
+unmarked : (s : Setting) (w : StrategyData) (t : Ty) (m : Bool) (first tracker : ℕ) (xs : List ChunkData) → is_built w t ≡ true → Valid s w t m first tracker xs → Valid s w t false first tracker xs
 unmarked s w t m first tracker xs h v =
     let same : source_plan s w t m xs true ≡ source_plan s w t false xs true = same_marked s w t m xs true h in
     record {
@@ -78,10 +78,10 @@ no_tables_in s o t m n [] e f = refl
 no_tables_in s o t m n (i ∷ []) e f = refl
 no_tables_in s o t m n (i ∷ j ∷ is) e f = no_tables_below s o t m is (next (next e)) f
 
-pub no_tables : (s : Setting) (w : Way) (t : Ty) (m : Bool) (xs : List Piece) (first : ℕ) → is_built w t ≡ true → zone_tables (numbered (source_plan s w t m xs true) first) ≡ []
+pub no_tables : (s : Setting) (w : StrategyData) (t : Ty) (m : Bool) (xs : List ChunkData) (first : ℕ) → is_built w t ≡ true → zone_tables (numbered (source_plan s w t m xs true) first) ≡ []
 no_tables s w t m xs first h =
     let b = built w t h in
-    subst (λ (v : Way). zone_tables (numbered (source_plan s v t m xs true) first) ≡ []) (sym b.chunks)
+    subst (λ (v : StrategyData). zone_tables (numbered (source_plan s v t m xs true) first) ≡ []) (sym b.chunks)
     (no_tables_in s b.options t m (row_total (batch_items 0 xs)) (batch_items 0 xs) root_eof (number_of (source_plan s (chunked (flat b.options)) t m xs true).pairs first))
 
 -- ---- and a segment a batch
@@ -90,24 +90,24 @@ none_at : (path : List ℕ) (r : Option EncodingId) (rest : List Fault) → refu
 none_at path None rest e = (refl, e)
 none_at path (Some id) rest e = absurd cc
 
-encoded : (ids : List EncodingId) (s : Setting) → Writes ids s → (padding : Bool) (p : Piece) → s.codec.refused s.encodings p ≡ None → (bytes : List ℕ) × (s.codec.encode s.encodings padding p ≡ Some bytes)
+encoded : (ids : List EncodingId) (s : Setting) → Writes ids s → (padding : Bool) (p : ChunkData) → s.codec.refused s.encodings p ≡ None → (bytes : List ℕ) × (s.codec.encode s.encodings padding p ≡ Some bytes)
 encoded ids s w padding p none =
     let refused_is : s.codec.refused s.encodings p ≡ refused ids p = rw (w.refuses, w.listed) refl in
     let encode_is : s.codec.encode s.encodings padding p ≡ encode ids padding p = rw (w.encodes, w.listed) refl in
     (segment_bytes ids padding p, encode_is ∙ ap (λ (r : Option EncodingId). bytes_unless r (segment_bytes ids padding p)) (sym refused_is ∙ none))
 
-batch_count : (ids : List EncodingId) (s : Setting) → Writes ids s → (o : FlatOptions) (i : ℕ) (xs : List Piece) → batch_refusals s i xs ≡ [] → length (batch_segments s o xs) ≡ length xs
+batch_count : (ids : List EncodingId) (s : Setting) → Writes ids s → (o : FlatOptions) (i : ℕ) (xs : List ChunkData) → batch_refusals s i xs ≡ [] → length (batch_segments s o xs) ≡ length xs
 batch_count ids s w o i [] none = refl
 batch_count ids s w o i (p ∷ ps) none =
     let split = none_at (0 ∷ i ∷ []) (s.codec.refused s.encodings p) (batch_refusals s (suc i) ps) none in
     let bytes = encoded ids s w o.padding p split.0 in
     rw (bytes.1, batch_count ids s w o (suc i) ps split.1) refl
 
-segment_count : ChunksInOrder → (ids : List EncodingId) (s : Setting) → Writes ids s → (w : Way) (t : Ty) (xs : List Piece) → is_built w t ≡ true → (source_plan s w t false xs true).faults ≡ []
+segment_count : ChunksInOrder → (ids : List EncodingId) (s : Setting) → Writes ids s → (w : StrategyData) (t : Ty) (xs : List ChunkData) → is_built w t ≡ true → (source_plan s w t false xs true).faults ≡ []
     → length (segments (source_plan s w t false xs true)) ≡ length xs
 segment_count law ids s writes w t xs form none =
     let b = built w t form in
-    let io : InOrder s b.options w t false xs true = subst (λ (v : Way). InOrder s b.options v t false xs true) (sym b.chunks) (law s b.options (flat b.options) t false xs true refl) in
+    let io : InOrder s b.options w t false xs true = subst (λ (v : StrategyData). InOrder s b.options v t false xs true) (sym b.chunks) (law s b.options (flat b.options) t false xs true refl) in
     ap length io.segments ∙ batch_count ids s writes b.options 0 xs (sym io.faults ∙ none)
 
 -- ---- calls that pass are none that the job lets fail
@@ -136,7 +136,7 @@ given_passed e stand must passed behind = passed
 
 -- ---- what a write of a job starts from
 
-pub record Start (j : JobData) (ids : List EncodingId) (t : Ty) (first : ℕ) (came : Option (List Piece)) (old : Option (List (List ℕ))) : Type 0 where
+pub record Start (j : JobData) (ids : List EncodingId) (t : Ty) (first : ℕ) (came : Option (List ChunkData)) (old : Option (List (List ℕ))) : Type 0 where
   pub listed : ids ≡ j.options.encodings
   pub schema : t ≡ j.schema
   pub numbers : first ≡ j.options.next
@@ -144,9 +144,9 @@ pub record Start (j : JobData) (ids : List EncodingId) (t : Ty) (first : ℕ) (c
   pub none : old ≡ Some []
 
 -- a chunk is seen as its piece
-pub same_pieces : (xs : List Piece) → map piece xs ≡ xs
+pub same_pieces : (xs : List ChunkData) → map piece xs ≡ xs
 same_pieces [] = refl
-same_pieces (x ∷ xs) = ap (λ (ys : List Piece). x ∷ ys) (same_pieces xs)
+same_pieces (x ∷ xs) = ap (λ (ys : List ChunkData). x ∷ ys) (same_pieces xs)
 
 told_all : {old new : Option (List (List ℕ))} {shown bs : List (List ℕ)} → old ≡ Some [] → new ≡ Some shown → new ≡ then_told old bs → shown ≡ bs
 told_all {shown = shown} {bs = bs} none told stored = let all : Some shown ≡ Some bs = sym told ∙ (stored ∙ ap (λ o. then_told o bs) none) in cc
@@ -167,7 +167,7 @@ pub record Passed (first now : ℕ) (source sink : ℕ → Type 0) : Type 0 wher
   pub ended : ¬ (source (now - first))
   pub appends : (k : ℕ) → k < now - first → ¬ (sink k)
 
-written_so : (j : JobData) {now : ℕ} {old new : Option (List (List ℕ))} {l : Lay ℕ} {stored : List (List ℕ)} {source sink : ℕ → Type 0} → old ≡ Some [] → new ≡ Some stored → is_built j.strategy j.schema ≡ true
+written_so : (j : JobData) {now : ℕ} {old new : Option (List (List ℕ))} {l : LayoutData ℕ} {stored : List (List ℕ)} {source sink : ℕ → Type 0} → old ≡ Some [] → new ≡ Some stored → is_built j.strategy j.schema ≡ true
     → ((s : Setting) → Writes j.options.encodings s → l ≡ numbered (source_plan s j.strategy j.schema false j.batches true) j.options.next)
     → ((s : Setting) → Writes j.options.encodings s → new ≡ then_told old (segments (source_plan s j.strategy j.schema false j.batches true)))
     → ((s : Setting) → Writes j.options.encodings s → now ≡ j.options.next + length (segments (source_plan s j.strategy j.schema false j.batches true)))
@@ -193,14 +193,14 @@ written_so j {now} {old} {new} {l} {stored} {source} {sink} none told form laid 
           (λ k less. passed.appends k (omega (arith, less, reached)));
     }
 
-pub all_written : (j : JobData) {ids : List EncodingId} {t : Ty} {first now : ℕ} {came : Option (List Piece)} {old new : Option (List (List ℕ))} {l : Lay ℕ} {stored : List (List ℕ)} (source sink : ℕ → Type 0)
+pub all_written : (j : JobData) {ids : List EncodingId} {t : Ty} {first now : ℕ} {came : Option (List ChunkData)} {old new : Option (List (List ℕ))} {l : LayoutData ℕ} {stored : List (List ℕ)} (source sink : ℕ → Type 0)
     → Start j ids t first came old → new ≡ Some stored → (is_built j.strategy t ≡ false → ⊥)
-    → ((s : Setting) (xs : List Piece) → Writes ids s → came ≡ Some xs → l ≡ numbered (source_plan s j.strategy t false xs true) first)
-    → ((s : Setting) (xs : List Piece) → Writes ids s → came ≡ Some xs → new ≡ then_told old (segments (source_plan s j.strategy t false xs true)))
-    → ((s : Setting) (xs : List Piece) → Writes ids s → came ≡ Some xs → now ≡ first + length (segments (source_plan s j.strategy t false xs true)))
-    → ((s : Setting) (xs : List Piece) → Writes ids s → came ≡ Some xs → rows segment_codec (segment_at first (segments (source_plan s j.strategy t false xs true))) l ≡ Some (source_values xs))
+    → ((s : Setting) (xs : List ChunkData) → Writes ids s → came ≡ Some xs → l ≡ numbered (source_plan s j.strategy t false xs true) first)
+    → ((s : Setting) (xs : List ChunkData) → Writes ids s → came ≡ Some xs → new ≡ then_told old (segments (source_plan s j.strategy t false xs true)))
+    → ((s : Setting) (xs : List ChunkData) → Writes ids s → came ≡ Some xs → now ≡ first + length (segments (source_plan s j.strategy t false xs true)))
+    → ((s : Setting) (xs : List ChunkData) → Writes ids s → came ≡ Some xs → rows segment_codec (segment_at first (segments (source_plan s j.strategy t false xs true))) l ≡ Some (source_values xs))
     → now ≤ max first (2 ^ 32)
-    → ((s : Setting) (xs : List Piece) → Writes ids s → came ≡ Some xs → WasValid s j.strategy t first xs)
+    → ((s : Setting) (xs : List ChunkData) → Writes ids s → came ≡ Some xs → WasValid s j.strategy t first xs)
     → ChunksInOrder → Forced j source sink → Passed first now source sink → IsWritten j l stored
 all_written j {t = t} {first = first} {now = now} source sink start told unbuilt laid appended numbers back last valid law forced passed =
     let form : is_built j.strategy j.schema ≡ true = is_true (is_built j.strategy j.schema) (λ f. unbuilt (ap (is_built j.strategy) start.schema ∙ f)) in
@@ -215,20 +215,20 @@ all_written j {t = t} {first = first} {now = now} source sink start told unbuilt
     (segment_count law j.options.encodings plain (writes_all j.options.encodings) j.strategy j.schema j.batches form came_valid.faultless)
     forced (subst (λ (n : ℕ). Passed n now source sink) start.numbers passed)
 
-report_so : (s : Setting) (j : JobData) {l : Lay ℕ} {stored : List (List ℕ)} {text : List ℕ} → IsWritten j l stored → Writes j.options.encodings s
+report_so : (s : Setting) (j : JobData) {l : LayoutData ℕ} {stored : List (List ℕ)} {text : List ℕ} → IsWritten j l stored → Writes j.options.encodings s
     → text ≡ report j.options.next l stored [] (source_values j.batches) → IsReport s j text
 report_so s j {l} {stored} w writes is =
     let layout : l ≡ numbered (job_plan s j) j.options.next = w.laid s writes in
     let all : stored ≡ segments (job_plan s j) = w.appended s writes in
     record {
-      read = sym (ap (λ (k : Lay ℕ). rows segment_codec (segment_at j.options.next stored) k) layout ∙ ap (λ (bs : List (List ℕ)). rows segment_codec (segment_at j.options.next bs) (numbered (job_plan s j) j.options.next)) all) ∙ w.read;
+      read = sym (ap (λ (k : LayoutData ℕ). rows segment_codec (segment_at j.options.next stored) k) layout ∙ ap (λ (bs : List (List ℕ)). rows segment_codec (segment_at j.options.next bs) (numbered (job_plan s j) j.options.next)) all) ∙ w.read;
       tables = [];
       tables_read = ap (λ (zs : List ZoneTable). all_there (table_rows (segment_at j.options.next (segments (job_plan s j))) zs)) (sym (ap zone_tables layout) ∙ w.no_tables);
-      shown = is ∙ (ap (λ (k : Lay ℕ). report j.options.next k stored [] (source_values j.batches)) layout ∙ ap (λ (bs : List (List ℕ)). report j.options.next (numbered (job_plan s j) j.options.next) bs [] (source_values j.batches)) all);
+      shown = is ∙ (ap (λ (k : LayoutData ℕ). report j.options.next k stored [] (source_values j.batches)) layout ∙ ap (λ (bs : List (List ℕ)). report j.options.next (numbered (job_plan s j) j.options.next) bs [] (source_values j.batches)) all);
     }
 
 -- the report of what was written is the job's answer
-pub report_answers : (j : JobData) {l : Lay ℕ} {stored : List (List ℕ)} {status : Status} {text : List ℕ} → IsWritten j l stored
+pub report_answers : (j : JobData) {l : LayoutData ℕ} {stored : List (List ℕ)} {status : Status} {text : List ℕ} → IsWritten j l stored
     → (status ≡ Done) × (Some text ≡ option_map (report j.options.next l stored []) (rows segment_codec (segment_at j.options.next stored) l)) → JobAnswer j status text
 report_answers j {l} {stored} {status} {text} w h =
     let printed : Some text ≡ Some (report j.options.next l stored [] (source_values j.batches)) = h.1 ∙ ap (option_map (report j.options.next l stored [])) w.read in
@@ -241,18 +241,18 @@ report_answers j {l} {stored} {status} {text} w h =
 
 -- ---- a job that was refused
 
-told_parts : (taken : List Piece) (a c : Option (List Piece)) (xs : List Piece) → a ≡ before_told taken c → a ≡ Some xs → (zs : List Piece) × (xs ≡ taken ++ zs)
+told_parts : (taken : List ChunkData) (a c : Option (List ChunkData)) (xs : List ChunkData) → a ≡ before_told taken c → a ≡ Some xs → (zs : List ChunkData) × (xs ≡ taken ++ zs)
 told_parts taken a None xs e f = absurd (let g : None ≡ Some xs = sym e ∙ f in cc)
 told_parts taken a (Some zs) xs e f = (zs, let g : Some (taken ++ zs) ≡ Some xs = sym e ∙ f in cc)
 
-same_taken : (one other : List Piece) (a c : Option (List Piece)) (xs : List Piece) → a ≡ Some xs → a ≡ before_told one c → a ≡ before_told other c → one ≡ other
+same_taken : (one other : List ChunkData) (a c : Option (List ChunkData)) (xs : List ChunkData) → a ≡ Some xs → a ≡ before_told one c → a ≡ before_told other c → one ≡ other
 same_taken one other a None xs is e f = absurd (let g : None ≡ Some xs = sym e ∙ is in cc)
 same_taken one other a (Some zs) xs is e f =
     let g : Some (one ++ zs) ≡ Some (other ++ zs) = sym e ∙ f in
     let h : one ++ zs ≡ other ++ zs = cc in
     append_cancel_right one other zs h
 
-none_taken : (taken : List Piece) (a c : Option (List Piece)) (xs : List Piece) → a ≡ Some xs → a ≡ before_told taken c → c ≡ a → taken ≡ []
+none_taken : (taken : List ChunkData) (a c : Option (List ChunkData)) (xs : List ChunkData) → a ≡ Some xs → a ≡ before_told taken c → c ≡ a → taken ≡ []
 none_taken taken a None xs is e same = absurd (let g : None ≡ Some xs = same ∙ is in cc)
 none_taken taken a (Some zs) xs is e same =
     let g : Some ([] ++ zs) ≡ Some (taken ++ zs) = same ∙ e in
@@ -263,7 +263,7 @@ no_items : (bs : List (List ℕ)) → length bs ≡ 0 → bs ≡ []
 no_items [] h = refl
 no_items (b ∷ bs) h = absurd (omega (arith, h))
 
-unbuilt_cause : (e : WriteError) (t : Ty) (ids : List EncodingId) {unbuilt : Type 0} (now : ℕ) (a c : Option (List Piece)) → HasCause t ids unbuilt now a c e → is_unbuilt e ≡ true → unbuilt
+unbuilt_cause : (e : WriteError) (t : Ty) (ids : List EncodingId) {unbuilt : Type 0} (now : ℕ) (a c : Option (List ChunkData)) → HasCause t ids unbuilt now a c e → is_unbuilt e ≡ true → unbuilt
 unbuilt_cause errors.Unbuilt t ids now a c cause is = cause
 unbuilt_cause e t ids now a c cause is = absurd (let f : false ≡ true = is in cc)
 
@@ -276,10 +276,10 @@ built_is true false h k = refl
 built_is false true h k = refl
 built_is false false h k = absurd (never_both false (h refl) refl)
 
-last_is : (j : JobData) (taken : List Piece) (a c : Option (List Piece)) {b : Piece} → a ≡ Some j.batches → a ≡ before_told taken c → TookLast j.schema j.options.encodings a c b → IsLast j taken b
+last_is : (j : JobData) (taken : List ChunkData) (a c : Option (List ChunkData)) {b : ChunkData} → a ≡ Some j.batches → a ≡ before_told taken c → TookLast j.schema j.options.encodings a c b → IsLast j taken b
 last_is j taken a c {b} is came last = record { front = last.front; is = same_taken taken (last.front ++ b ∷ []) a c j.batches is came last.came; written = last.written }
 
-number_for : (j : JobData) (taken : List Piece) (stand n now : ℕ) (a c : Option (List Piece)) → a ≡ Some j.batches → a ≡ before_told taken c → now ≡ j.options.next + stand
+number_for : (j : JobData) (taken : List ChunkData) (stand n now : ℕ) (a c : Option (List ChunkData)) → a ≡ Some j.batches → a ≡ before_told taken c → now ≡ j.options.next + stand
     → NeedsNumber j.schema j.options.encodings now a c n → NumberPasses j taken stand n
 number_for j taken stand n now a c is came count h = record {
   batch = h.batch;
@@ -290,7 +290,7 @@ number_for j taken stand n now a c is came count h = record {
   large = h.large;
 }
 
-rows_for : (j : JobData) (taken : List Piece) (n : ℕ) (a c : Option (List Piece)) → a ≡ Some j.batches → a ≡ before_told taken c → TookRows j.schema j.options.encodings a c n → RowsPass j taken n
+rows_for : (j : JobData) (taken : List ChunkData) (n : ℕ) (a c : Option (List ChunkData)) → a ≡ Some j.batches → a ≡ before_told taken c → TookRows j.schema j.options.encodings a c n → RowsPass j taken n
 rows_for j taken n a c is came h = record {
   batch = h.batch;
   last = last_is j taken a c is came h.last;
@@ -299,12 +299,12 @@ rows_for j taken n a c is came h = record {
   large = h.large;
 }
 
-large_for : (j : JobData) (taken : List Piece) (stand n now : ℕ) (a c : Option (List Piece)) → a ≡ Some j.batches → a ≡ before_told taken c → now ≡ j.options.next + stand
+large_for : (j : JobData) (taken : List ChunkData) (stand n now : ℕ) (a c : Option (List ChunkData)) → a ≡ Some j.batches → a ≡ before_told taken c → now ≡ j.options.next + stand
     → NeedsNumber j.schema j.options.encodings now a c n ⊎ TookRows j.schema j.options.encodings a c n → RefusedFor j taken stand (errors.TooLarge n)
 large_for j taken stand n now a c is came count (inl h) = inl (number_for j taken stand n now a c is came count h)
 large_for j taken stand n now a c is came count (inr h) = inr (rows_for j taken n a c is came h)
 
-cause_for : (e : WriteError) (j : JobData) (taken : List Piece) (stand now : ℕ) {unbuilt : Type 0} (a c : Option (List Piece)) {source sink : Type 0}
+cause_for : (e : WriteError) (j : JobData) (taken : List ChunkData) (stand now : ℕ) {unbuilt : Type 0} (a c : Option (List ChunkData)) {source sink : Type 0}
     → a ≡ Some j.batches → a ≡ before_told taken c → now ≡ j.options.next + stand → is_memory e ≡ false
     → (source → IsTrue (fails_at j.options.faults.source stand)) → (sink → IsTrue (fails_at j.options.faults.sink stand)) → (unbuilt → (taken ≡ []) × (stand ≡ 0))
     → HasCause j.schema j.options.encodings unbuilt now a c e → MayCome source sink e → RefusedFor j taken stand e
@@ -324,7 +324,7 @@ cause_for errors.OutOfMemory j taken stand now a c is came count memory of_sourc
 cause_for errors.Unbuilt j taken stand now a c is came count memory of_source of_sink unasked cause may = unasked cause
 
 -- what stands are the first segments of the plan, with the job's mark
-begins : (s : Setting) (j : JobData) (taken : List Piece) (bs more : List (List ℕ)) → (is_built j.strategy j.schema ≡ false → bs ≡ [])
+begins : (s : Setting) (j : JobData) (taken : List ChunkData) (bs more : List (List ℕ)) → (is_built j.strategy j.schema ≡ false → bs ≡ [])
     → segments (taken_plan s j.strategy j.schema false taken false) ≡ bs ++ more → Begins bs (segments (taken_plan s j.strategy j.schema j.options.marked taken false))
 begins s j taken bs more unbuilt is = by_form (is_built j.strategy j.schema) refl
   where
@@ -358,7 +358,7 @@ pub record PassedBefore (first now : ℕ) (source sink : ℕ → Type 0) (e : Wr
   pub behind : BehindBatch (source (now - first)) e
   pub appends : (k : ℕ) → k < now - first → ¬ (sink k)
 
-refused_so : (j : JobData) (e : WriteError) {stood : List (List ℕ)} {now : ℕ} {a c : Option (List Piece)} {old new : Option (List (List ℕ))} (source sink must_source must_sink : ℕ → Type 0)
+refused_so : (j : JobData) (e : WriteError) {stood : List (List ℕ)} {now : ℕ} {a c : Option (List ChunkData)} {old new : Option (List (List ℕ))} (source sink must_source must_sink : ℕ → Type 0)
     → a ≡ Some j.batches → old ≡ Some [] → new ≡ Some stood → is_memory e ≡ false
     → ((k : ℕ) → source k → IsTrue (fails_at j.options.faults.source k)) → ((k : ℕ) → sink k → IsTrue (fails_at j.options.faults.sink k))
     → ((s : Setting) → Writes j.options.encodings s → Stands (λ taken. taken_plan s j.strategy j.schema false taken false) j.options.next now a c old new)
@@ -385,7 +385,7 @@ refused_so j e {stood} {now} {a} {c} {old} {new} source sink must_source must_si
           let taken_is : other.taken ≡ h.taken = same_taken other.taken h.taken a c j.batches is other.came h.came in
           let stand_is : other.appended ≡ stood = sym (told_all none told other.stands) in
           begins s j h.taken stood other.more (λ f. no_items stood (none_stand f))
-          (ap (λ (ps : List Piece). segments (taken_plan s j.strategy j.schema false ps false)) (sym taken_is) ∙ (other.prefix ∙ ap (λ (bs : List (List ℕ)). bs ++ other.more) stand_is));
+          (ap (λ (ps : List ChunkData). segments (taken_plan s j.strategy j.schema false ps false)) (sym taken_is) ∙ (other.prefix ∙ ap (λ (bs : List (List ℕ)). bs ++ other.more) stand_is));
       cause = cause_for e j h.taken (length stood) now a c is h.came count memory
           (λ m. of_source (length stood) (subst source calls m)) (λ m. of_sink (length stood) (subst sink calls m))
           (λ f. (none_taken h.taken a c j.batches is h.came (unasked f), none_stand f)) cause may;
@@ -408,14 +408,14 @@ pub record Failing (j : JobData) (e : WriteError) (source sink : ℕ → Type 0)
   pub source_count : Counts source_before source_now (is_source_fault e)
   pub sink_count : Counts sink_before sink_now (is_sink_fault e)
 
-pub write_halts : (j : JobData) (e : WriteError) {ids : List EncodingId} {t : Ty} {first now : ℕ} {a c : Option (List Piece)} {old new : Option (List (List ℕ))} {stood : List (List ℕ)}
+pub write_halts : (j : JobData) (e : WriteError) {ids : List EncodingId} {t : Ty} {first now : ℕ} {a c : Option (List ChunkData)} {old new : Option (List (List ℕ))} {stood : List (List ℕ)}
     (source sink must_source must_sink : ℕ → Type 0) {source_before source_now sink_before sink_now : ℕ}
     → Start j ids t first a old → Failing j e source sink source_before source_now sink_before sink_now → new ≡ Some stood
     → ((s : Setting) → Writes ids s → Stands (λ taken. taken_plan s j.strategy t false taken false) first now a c old new)
     → HasCause t ids (is_built j.strategy t ≡ false) now a c e → MayCome (source (now - first)) (sink (now - first)) e
     → Forced j must_source must_sink → PassedBefore first now must_source must_sink e
     → (is_built j.strategy t ≡ false → is_unbuilt e ≡ true) → (is_built j.strategy t ≡ false → c ≡ a) → (is_built j.strategy t ≡ false → now ≡ first)
-    → ((s : Setting) (tracker : ℕ) (xs : List Piece) → Writes ids s → a ≡ Some xs → is_built j.strategy t ≡ true → Valid s j.strategy t false first tracker xs
+    → ((s : Setting) (tracker : ℕ) (xs : List ChunkData) → Writes ids s → a ≡ Some xs → is_built j.strategy t ≡ true → Valid s j.strategy t false first tracker xs
     → IsCalm source_before source_now → IsCalm sink_before sink_now → e ≡ errors.OutOfMemory)
     → now ≤ max first (2 ^ 32) → Halts j e stood
 write_halts j e {t = t} {first = first} {now = now} {a = a} {c = c} {old = old} {new = new} {stood = stood} source sink must_source must_sink start failing told stands cause may forced before unbuilt unasked unsunk complete last =

@@ -12,7 +12,7 @@ use Rattle.std.proofs.lemmas.Bool.{ltb-true, ltb-false, lt-ltb}
 use Rattle.std.specs.Prelude.{◌⊎◌}
 use Rattle.vx_plan.specs.PlanData.{Setting}
 use Rattle.vx_plan.specs.Valid.{Valid}
-use Rattle.vx_sink.specs.Counts.{Counts, IsCalm}
+use Rattle.vx_fault.specs.Counts.{Counts, IsCalm}
 use Rattle.vx_write.specs.Stream.{Writes, is_built}
 use Rattle.vx_run.specs.declared.status.Status.{Status}
 use Rattle.vx_run.specs.declared.status.Status.TheVariants.{Done, Usage, BadJob, Refused, InputFault, OutputFault, OutOfMemory}

@@ -2,10 +2,10 @@
 use Rattle.std.proofs.Common.{◌≡◌, ℕ, List, refl}
 use Rattle.std.proofs.lemmas.List.{map_more}
 use Rattle.vx_session.specs.Made.{Made}
-use Rattle.vx_kinds.specs.Views.{Fails}
-use Rattle.vx_kinds.specs.ErrorNames.{error_name}
-use Rattle.vx_kinds.specs.declared.error.LayoutError.{LayoutError}
-use Rattle.vx_kinds.specs.declared.error.LayoutError.TheVariants as errors
+use Rattle.vx_layout_tree.specs.Views.{Fails}
+use Rattle.vx_layout_tree.specs.ErrorNames.{error_name}
+use Rattle.vx_layout_tree.specs.declared.error.LayoutError.{LayoutError}
+use Rattle.vx_layout_tree.specs.declared.error.LayoutError.TheVariants as errors
 use Rattle.vx_run.specs.declared.status.Status.{Status}
 use Rattle.vx_run.specs.declared.status.Status.TheVariants.{Refused}
 use Rattle.vx_run.specs.Answers.{IsText}

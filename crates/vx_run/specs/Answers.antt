@@ -1,19 +1,19 @@
 -- Which text belongs to which status.
 use Rattle.std.specs.Prelude.{◌≡◌, ℕ, ◌+◌, ◌++◌, ◌^◌, ◌≤◌, ◌<◌, ◌⊎◌, max, Bool, true, false, not, List, [], ◌∷◌, length, codes, Option, Some, None, IsTrue, Result, Ok, Err}
 use Rattle.vx_model.specs.declared.encoding.EncodingId.{EncodingId}
-use Rattle.vx_model.specs.Piece.{Piece, piece_type}
+use Rattle.vx_model.specs.ChunkData.{ChunkData, piece_type}
 use Rattle.vx_chunk.specs.ChunkView.{piece}
-use Rattle.vx_encode.specs.Segment.{refused}
-use Rattle.vx_model.specs.Val.{Val}
-use Rattle.vx_tree.specs.LayoutTree.{Lay}
-use Rattle.vx_tree.specs.Rows.{rows, all_there}
-use Rattle.vx_segment.specs.Codec.{segment_codec}
+use Rattle.vx_segment_writer.specs.Segment.{refused}
+use Rattle.vx_model.specs.ValueData.{ValueData}
+use Rattle.vx_layout_spec.specs.LayoutTree.{LayoutData}
+use Rattle.vx_layout_spec.specs.Rows.{rows, all_there}
+use Rattle.vx_segment_reader.specs.Codec.{segment_codec}
 use Rattle.vx_plan.specs.PlanData.{Setting, Plan}
 use Rattle.vx_plan.specs.SourcePlan.{source_plan, taken_plan, source_values}
 use Rattle.vx_plan.specs.Number.{segments, numbered, segment_at}
 use Rattle.vx_plan.specs.InOrder.{batch_rows}
 use Rattle.vx_plan.specs.Valid.{Valid}
-use Rattle.vx_sink.specs.Fails.{fails_at}
+use Rattle.vx_fault.specs.Fails.{fails_at}
 use Rattle.vx_write.specs.Stream.{Writes, is_built}
 use Rattle.vx_write.specs.Causes.{is_unbuilt}
 use Rattle.vx_write.specs.InOrder.{AllWritten}
@@ -35,7 +35,7 @@ abbrev pub job_plan : Setting → JobData → Plan
 job_plan s j = source_plan s j.strategy j.schema j.options.marked j.batches true
 
 -- the rows of each zone table
-abbrev pub table_rows : (ℕ → Option (List ℕ)) → List ZoneTable → List (Option (List Val))
+abbrev pub table_rows : (ℕ → Option (List ℕ)) → List ZoneTable → List (Option (List ValueData))
 table_rows look [] = []
 table_rows look (z ∷ zs) = rows segment_codec look z.rows ∷ table_rows look zs
 
@@ -46,7 +46,7 @@ pub record NoneFails (j : JobData) (asked appended : ℕ) : Type 0 where
 
 -- A write of the job's batches came to its end: the layout and the segments are those of the job's plan, numbered from
 -- the job's first number, and they give the batches' rows.
-pub record IsWritten (j : JobData) (l : Lay ℕ) (stored : List (List ℕ)) : Type 0 where
+pub record IsWritten (j : JobData) (l : LayoutData ℕ) (stored : List (List ℕ)) : Type 0 where
   pub form : is_built j.strategy j.schema ≡ true
   pub laid : (s : Setting) → Writes j.options.encodings s → l ≡ numbered (job_plan s j) j.options.next
   pub appended : (s : Setting) → Writes j.options.encodings s → stored ≡ segments (job_plan s j)
@@ -60,7 +60,7 @@ pub record IsWritten (j : JobData) (l : Lay ℕ) (stored : List (List ℕ)) : Ty
 -- it shows are those that the layout gives from the segments, and the rows are the batches' rows.
 pub record IsReport (s : Setting) (j : JobData) (text : List ℕ) : Type 0 where
   pub read : rows segment_codec (segment_at j.options.next (segments (job_plan s j))) (numbered (job_plan s j) j.options.next) ≡ Some (source_values j.batches)
-  pub tables : List (List Val)
+  pub tables : List (List ValueData)
   pub tables_read : all_there (table_rows (segment_at j.options.next (segments (job_plan s j))) (zone_tables (numbered (job_plan s j) j.options.next))) ≡ Some tables
   pub shown : text ≡ report j.options.next (numbered (job_plan s j) j.options.next) (segments (job_plan s j)) tables (source_values j.batches)
 
@@ -94,21 +94,21 @@ is_memory errors.OutOfMemory = true
 is_memory e = false
 
 -- This is the last of the batches taken. Those before it are of the schema and can be encoded.
-pub record IsLast (j : JobData) (taken : List Piece) (b : Piece) : Type 0 where
-  pub front : List Piece
+pub record IsLast (j : JobData) (taken : List ChunkData) (b : ChunkData) : Type 0 where
+  pub front : List ChunkData
   pub is : taken ≡ front ++ b ∷ []
   pub written : AllWritten j.options.encodings j.schema front
 
 -- the last batch taken is of the schema, and this is its first encoding outside the job's list
-pub record Forbids (j : JobData) (taken : List Piece) (id : EncodingId) : Type 0 where
-  pub batch : Piece
+pub record Forbids (j : JobData) (taken : List ChunkData) (id : EncodingId) : Type 0 where
+  pub batch : ChunkData
   pub last : IsLast j taken batch
   pub typed : piece_type batch ≡ j.schema
   pub first : refused j.options.encodings batch ≡ Some id
 
 -- the last batch taken is of the schema and can be encoded, and its segment's number passes 32 bits
-pub record NumberPasses (j : JobData) (taken : List Piece) (stand n : ℕ) : Type 0 where
-  pub batch : Piece
+pub record NumberPasses (j : JobData) (taken : List ChunkData) (stand n : ℕ) : Type 0 where
+  pub batch : ChunkData
   pub last : IsLast j taken batch
   pub typed : piece_type batch ≡ j.schema
   pub allowed : refused j.options.encodings batch ≡ None
@@ -116,8 +116,8 @@ pub record NumberPasses (j : JobData) (taken : List Piece) (stand n : ℕ) : Typ
   pub large : 2 ^ 32 ≤ n
 
 -- the batches taken are of the schema, and their rows pass 64 bits
-pub record RowsPass (j : JobData) (taken : List Piece) (n : ℕ) : Type 0 where
-  pub batch : Piece
+pub record RowsPass (j : JobData) (taken : List ChunkData) (n : ℕ) : Type 0 where
+  pub batch : ChunkData
   pub last : IsLast j taken batch
   pub typed : piece_type batch ≡ j.schema
   pub rows : n ≡ batch_rows taken
@@ -125,7 +125,7 @@ pub record RowsPass (j : JobData) (taken : List Piece) (n : ℕ) : Type 0 where
 
 -- Why a job is refused, where these batches were taken and so many segments stand. Of a source and a sink the call
 -- behind so many segments is one that the job lets fail.
-abbrev pub RefusedFor : JobData → List Piece → ℕ → WriteError → Type 0
+abbrev pub RefusedFor : JobData → List ChunkData → ℕ → WriteError → Type 0
 RefusedFor j taken stand errors.SourceFault = IsTrue (fails_at j.options.faults.source stand)
 RefusedFor j taken stand errors.SinkFault = IsTrue (fails_at j.options.faults.sink stand)
 RefusedFor j taken stand (errors.BatchType c) = (¬ (piece_type (piece c) ≡ j.schema)) × IsLast j taken (piece c)
@@ -162,8 +162,8 @@ pub record Begins (front all : List (List ℕ)) : Type 0 where
 -- A write of the job's batches was refused: the refusal has its cause, and the segments that stand are the first of the
 -- plan of the batches taken.
 pub record IsRefused (j : JobData) (error : WriteError) (stand : List (List ℕ)) : Type 0 where
-  pub taken : List Piece
-  pub later : List Piece
+  pub taken : List ChunkData
+  pub later : List ChunkData
   pub parts : j.batches ≡ taken ++ later
   pub prefix : (s : Setting) → Writes j.options.encodings s → Begins stand (segments (taken_plan s j.strategy j.schema j.options.marked taken false))
   pub cause : RefusedFor j taken (length stand) error

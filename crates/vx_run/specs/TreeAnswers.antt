@@ -3,8 +3,8 @@ use Rattle.std.specs.Prelude.{ℕ, ◌++◌, true, List, [], ◌∷◌, codes, R
 use Rattle.vx_session.specs.Encodings.{with_kinds}
 use Rattle.vx_session.specs.Scope.{Scope}
 use Rattle.vx_session.specs.Made.{Made}
-use Rattle.vx_kinds.specs.ErrorNames as layout_errors
-use Rattle.vx_layout_spelling.specs.Parsed.{parsed}
+use Rattle.vx_layout_tree.specs.ErrorNames as layout_errors
+use Rattle.vx_layout_codec_spec.specs.Parsed.{parsed}
 use Rattle.vx_display.specs.Text.{display_text}
 use Rattle.vx_job.specs.declared.error.Key.{Key}
 use Rattle.vx_job.specs.TreeText.{TreeData}

@@ -2,9 +2,9 @@
 
 ghost use Rattle.std.specs.Prelude.{◌≡◌, ℕ, ◌+◌, ◌<◌, ◌^◌, ◌≤◌, max, false, List, [], string_bytes, map, length, Some, IsSome, IfOk, IfErr, option_map};
 ghost use Rattle.vx_model.specs.TreeView.{val};
-ghost use Rattle.vx_tree.specs.Rows.{rows};
-ghost use Rattle.vx_segment.specs.Codec.{segment_codec};
-ghost use Rattle.vx_kinds.specs.LayoutView.{lay};
+ghost use Rattle.vx_layout_spec.specs.Rows.{rows};
+ghost use Rattle.vx_segment_reader.specs.Codec.{segment_codec};
+ghost use Rattle.vx_layout_tree.specs.LayoutView.{layout_data};
 ghost use Rattle.vx_plan.specs.Number.{segment_at};
 ghost use Rattle.vx_job.specs.JobText.{job};
 ghost use Rattle.vx_job.specs.JobView.{job_view};
@@ -16,11 +16,11 @@ ghost use Rattle.vx_run.specs.Answers.{IsText, IsAnswer, JobAnswer, IsWritten, H
 use crate::status::Status;
 use std::alloc::{AllocError, Global};
 use vx_job::{Job, JobError, Key, read_job};
-use vx_kinds::Layout;
+use vx_layout_tree::Layout;
+use vx_model::{Blob, Value};
 use vx_read::{ReadError, SegmentMap, read_rows};
 use vx_report::{refused_report, report};
 use vx_sink::{LayoutWriterContext, ListSource, MemorySink, PlainCompressor, SegmentSink};
-use vx_types::{Blob, Value};
 use vx_write::{WriteError, write_stream};
 
 /// A status, and the text that is printed before it.
@@ -68,7 +68,7 @@ fn write_job(alloc: Global, job: Job) -> Result<Answer, AllocError>
 /// Writes the job's batches into a sink of its own, and gives the sink too.
 fn write_batches(alloc: Global, job: Job) -> Result<(Layout, MemorySink), (WriteError, MemorySink)>
     ensures ok { IfOk result (λ w. (stored : List (List ℕ)) → ⟦<MemorySink as SegmentSink>⟧.segments w.1 ≡ Some stored
-        → IsWritten (job_view job) (lay w.0) stored) }
+        → IsWritten (job_view job) (layout_data w.0) stored) }
     ensures err { IfErr result (λ r. (stored : List (List ℕ)) → ⟦<MemorySink as SegmentSink>⟧.segments r.1 ≡ Some stored
         → Halts (job_view job) r.0 stored) }
 {
@@ -142,11 +142,11 @@ fn written(
     layout: &Layout,
     segments: &[Blob],
 ) -> Result<Answer, AllocError>
-    requires readable { IsSome (rows segment_codec (segment_at first segments.now) (lay layout.now)) }
+    requires readable { IsSome (rows segment_codec (segment_at first segments.now) (layout_data layout.now)) }
     requires numbered { first + length segments.now ≤ max first (2 ^ 32) }
-    requires no_tables { zone_tables (lay layout.now) ≡ [] }
+    requires no_tables { zone_tables (layout_data layout.now) ≡ [] }
     ensures { IfOk result (λ a. (a.status ≡ statuses.Done) × (Some (string_bytes a.text)
-        ≡ option_map (report first (lay layout.now) segments.now []) (rows segment_codec (segment_at first segments.now) (lay layout.now)))) }
+        ≡ option_map (report first (layout_data layout.now) segments.now []) (rows segment_codec (segment_at first segments.now) (layout_data layout.now)))) }
 {
     let rows = read_back(alloc, first, layout, segments)?;
     let text = report(alloc, first, layout, segments, &rows)?;
@@ -164,9 +164,9 @@ fn read_back(
     layout: &Layout,
     segments: &[Blob],
 ) -> Result<Vec<Value>, AllocError>
-    requires readable { IsSome (rows segment_codec (segment_at first segments.now) (lay layout.now)) }
+    requires readable { IsSome (rows segment_codec (segment_at first segments.now) (layout_data layout.now)) }
     requires numbered { first + length segments.now ≤ max first (2 ^ 32) }
-    ensures { IfOk result (λ v. rows segment_codec (segment_at first segments.now) (lay layout.now) ≡ Some (map val v.items)) }
+    ensures { IfOk result (λ v. rows segment_codec (segment_at first segments.now) (layout_data layout.now) ≡ Some (map val v.items)) }
 {
     let mut list = Vec::with_capacity(alloc, segments.len())?;
     for segment in segments {

@@ -1,7 +1,7 @@
 ghost use Rattle.std.specs.Prelude.{◌≡◌, ℕ, ◌+◌, ◌≤◌, ◌^◌, List, Option, IsTrue, IfOk};
 ghost use Rattle.std.specs.Io.{ReadsAtMost};
 ghost use Rattle.std.specs.Io.KnownBytes.{ReadConsumes};
-ghost use Rattle.vx_sink.specs.Counts.{Counts};
+ghost use Rattle.vx_fault.specs.Counts.{Counts};
 ghost use Rattle.vx_run.specs.Failures.{input_failed};
 
 use thiserror::Error;

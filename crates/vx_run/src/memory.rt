@@ -1,7 +1,7 @@
 //! Inputs and outputs in memory.
 
 ghost use Rattle.std.specs.Prelude.{◌≡◌, ℕ, ◌+◌, ◌<◌, ◌≤◌, Some, [], drop, length, IsTrue};
-ghost use Rattle.vx_sink.specs.Fails.{fails_at};
+ghost use Rattle.vx_fault.specs.Fails.{fails_at};
 
 use crate::input::{Input, InputFailure};
 use crate::output::{Output, OutputFailure};

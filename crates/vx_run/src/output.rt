@@ -1,7 +1,7 @@
 ghost use Rattle.std.specs.Prelude.{◌≡◌, ℕ, ◌+◌, ◌<◌, ◌≤◌, ◌^◌, List, Option, length, IsTrue, IfOk};
 ghost use Rattle.std.specs.Io.{WritesAtMost};
 ghost use Rattle.std.specs.Io.KnownBytes.{WriteAppends};
-ghost use Rattle.vx_sink.specs.Counts.{Counts};
+ghost use Rattle.vx_fault.specs.Counts.{Counts};
 ghost use Rattle.vx_run.specs.Failures.{output_failed};
 
 use thiserror::Error;

@@ -4,7 +4,7 @@ ghost use Rattle.std.specs.Prelude.{◌≡◌, ℕ, ◌+◌, ◌≤◌, ◌<◌,
 ghost use Rattle.std.specs.Io.KnownBytes.{Keeps, Appends, IsAtEnd};
 ghost use Rattle.vx_plan.specs.PlanData.{Setting};
 ghost use Rattle.vx_plan.specs.Valid.{Valid};
-ghost use Rattle.vx_sink.specs.Counts.{Counts, IsCalm};
+ghost use Rattle.vx_fault.specs.Counts.{Counts, IsCalm};
 ghost use Rattle.vx_write.specs.Stream.{Writes, is_built};
 ghost use Rattle.vx_job.specs.JobText.{JobData, job, limit};
 ghost use Rattle.vx_job.specs.TreeText.{tree_job};

@@ -2,10 +2,10 @@
 
 ghost use Rattle.std.specs.Prelude.{◌≡◌, ◌≤◌, ◌++◌, true, [], map, codes, string_bytes, IfOk};
 ghost use Rattle.vx_session.specs.Encodings.{with_kinds};
-ghost use Rattle.vx_kinds.specs.declared.error.LayoutError.TheVariants as layout_errors;
-ghost use Rattle.vx_kinds.specs.ErrorNames.{error_name};
-ghost use Rattle.vx_kinds.specs.LayoutView.{lay};
-ghost use Rattle.vx_kinds.specs.Views.{Gives};
+ghost use Rattle.vx_layout_tree.specs.declared.error.LayoutError.TheVariants as layout_errors;
+ghost use Rattle.vx_layout_tree.specs.ErrorNames.{error_name};
+ghost use Rattle.vx_layout_tree.specs.LayoutView.{layout_data};
+ghost use Rattle.vx_layout_tree.specs.Views.{Gives};
 ghost use Rattle.vx_display.specs.Text.{display_text};
 ghost use Rattle.vx_job.specs.TreeText.{tree_job};
 ghost use Rattle.vx_job.specs.TreeView.{tree_view};
@@ -18,8 +18,8 @@ use crate::status::Status;
 use std::alloc::{AllocError, Global};
 use vx_display::LayoutDisplay;
 use vx_job::{JobError, TreeJob, read_tree_job};
-use vx_kinds::{Layout, LayoutError};
 use vx_layout_codec::layout_from_flatbuffer_with_options;
+use vx_layout_tree::{Layout, LayoutError};
 use vx_model::Text;
 use vx_session::{LayoutEncoding, LayoutSession, Session};
 
@@ -49,7 +49,7 @@ fn show(alloc: Global, job: TreeJob) -> Result<Answer, AllocError>
 /// The layout that the job's bytes are.
 fn read_layout(alloc: Global, job: TreeJob) -> Result<Layout, LayoutError>
     requires { job.options.limits.depth ≤ 1024 }
-    ensures { Gives lay result (job_layout (tree_view job)) }
+    ensures { Gives layout_data result (job_layout (tree_view job)) }
 {
     let options = job.options;
     let session = session(alloc, options.registered, options.allow_unknown)?;
@@ -114,7 +114,7 @@ fn texts(alloc: Global, names: &[&str]) -> Result<Vec<Text>, AllocError>
 
 /// The verbose tree.
 fn shown(alloc: Global, layout: &Layout) -> Result<Answer, AllocError>
-    ensures { IfOk result (λ a. IsText statuses.Done (display_text true (lay layout.now)) a.status (string_bytes a.text)) }
+    ensures { IfOk result (λ a. IsText statuses.Done (display_text true (layout_data layout.now)) a.status (string_bytes a.text)) }
 {
     let tree = layout.display_tree_verbose(alloc, true)?;
     Ok(Answer {

@@ -3,9 +3,9 @@ use Rattle.std.proofs.Common.{◌≡◌, ℕ, Bool, true, false, List, [], ◌�
 use Rattle.vx_model.specs.declared.ptype.PType.TheVariants.{I64}
 use Rattle.vx_model.specs.declared.encoding.EncodingId.TheVariants.{Plain}
 use Rattle.vx_model.specs.Ty.{Ty, primitive}
-use Rattle.vx_record.specs.Aggregate.{maximum}
-use Rattle.vx_tree.specs.LayoutTree.{Spec, layout, no_layouts, child, flat_kind, foreign_kind, chunked_kind, refused_kind}
-use Rattle.vx_tree.specs.Refusal.{unknown_index, unregistered, other_rows, segment_count, unknown_aggregate}
+use Rattle.vx_aggregate_spec.specs.Aggregate.{maximum}
+use Rattle.vx_layout_spec.specs.LayoutTree.{Spec, layout, no_layouts, child, flat_kind, foreign_kind, chunked_kind, refused_kind}
+use Rattle.vx_layout_spec.specs.Refusal.{unknown_index, unregistered, other_rows, segment_count, unknown_aggregate}
 use Rattle.vx_layout_bytes.specs.Node.{Own, Node, node, no_nodes, first}
 use Rattle.vx_session.specs.Encodings.{all_encodings}
 use Rattle.vx_session.specs.Scope.{Context, Scope}

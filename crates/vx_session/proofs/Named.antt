@@ -6,9 +6,9 @@ use Rattle.std.specs.Cmp.Lexicographic.{bytes_decides}
 use Rattle.std.proofs.lemmas.Nat.{le_bytes_4}
 use Rattle.std.proofs.lemmas.List.{append-nil}
 use Rattle.std.proofs.lemmas.Bool.Decides.{nat_tests}
-use Rattle.vx_tree.specs.LayoutTree.{Spec}
-use Rattle.vx_record.specs.Aggregate.{Aggregate, aggregate_id, option_bytes, maximum, minimum, bounded_maximum, bounded_minimum, null_count, sum, bloom, has_options, without_options, with_number, aggregate_of}
-use Rattle.vx_record.proofs.SpecLaws.{specs_are_read}
+use Rattle.vx_layout_spec.specs.LayoutTree.{Spec}
+use Rattle.vx_aggregate_spec.specs.Aggregate.{Aggregate, aggregate_id, option_bytes, maximum, minimum, bounded_maximum, bounded_minimum, null_count, sum, bloom, has_options, without_options, with_number, aggregate_of}
+use Rattle.vx_aggregate_spec.proofs.SpecLaws.{specs_are_read}
 use Rattle.vx_aggregate.specs.AggregateView.{aggregate}
 use Rattle.vx_aggregate.specs.Specs.{NamesAggregate}
 use Rattle.vx_aggregate.specs.declared.aggregate.AggregateFn.{AggregateFn}

@@ -4,16 +4,16 @@ use Rattle.std.specs.Prelude.{if◌then◌else◌}
 use Rattle.vx_model.specs.declared.ptype.PType.{PType}
 use Rattle.vx_model.specs.Words.{total_by}
 use Rattle.vx_model.specs.Ty.{Ty, primitive, is_list, is_struct}
-use Rattle.vx_record.specs.Aggregate.{Aggregate}
-use Rattle.vx_tree.specs.LayoutTree.{Lay, row_count}
-use Rattle.vx_tree.specs.Refusal.{Refusal, no_list, no_struct}
+use Rattle.vx_aggregate_spec.specs.Aggregate.{Aggregate}
+use Rattle.vx_layout_spec.specs.LayoutTree.{LayoutData, row_count}
+use Rattle.vx_layout_spec.specs.Refusal.{Refusal, no_list, no_struct}
 use Rattle.vx_aggregate.specs.Tables.{stats_table, legacy_table}
 use Rattle.vx_metadata.specs.Reading.{flat_in, list_in, dict_in, zoned_in, legacy_in}
 use Rattle.vx_layout_bytes.specs.Node.{Own, Node, node}
 use Rattle.vx_session.specs.declared.encoding.LayoutEncoding.{LayoutEncoding}
 use Rattle.vx_session.specs.declared.encoding.LayoutEncoding.TheVariants as kinds
 use Rattle.vx_session.specs.Scope.{Context, Scope}
-use Rattle.vx_session.specs.Made.{Made, ◌>>=◌, needs, spelled, Kid, kid_rows, child_at, rows_at, has_children, has_rows, all_have_rows, one_segment}
+use Rattle.vx_session.specs.Made.{Made, ◌>>=◌, needs, spelled, ChildData, kid_rows, child_at, rows_at, has_children, has_rows, all_have_rows, one_segment}
 use Rattle.vx_session.specs.Kinds.{Parts, nothing_in, struct_types, validity_types, element_type, build_validity, build_offsets, read_specs, build_flat, build_chunked, build_struct, build_list, build_dict, build_zoned, build_zones, build_stats, build_kind}
 use Rattle.vx_session.specs.Builder.{unknown_in, foreign, unless_unknown, build_foreign, known_id, build_registered, built_or_refused, is_flat_node, kid_of, own_of, builder, kids}
 use Rattle.vx_session.specs.Encodings.{kind_of}
@@ -23,7 +23,7 @@ unfoldable pub HasRows : ℕ → Made → Type 0
 HasRows n (Ok l) = row_count l ≡ n
 HasRows n (Err refusal) = Unit {0}
 
-there : (n : ℕ) (l : Lay ℕ) → row_count l ≡ n → HasRows n (Ok l)
+there : (n : ℕ) (l : LayoutData ℕ) → row_count l ≡ n → HasRows n (Ok l)
 unfolding HasRows
 there n l e = e
 
@@ -80,7 +80,7 @@ any kinds.Dict c p m = dicts p m
 any kinds.Zoned c p m = zoned c p m
 any kinds.LegacyStats c p m = stats p m
 
-if_known : (n : ℕ) (o : Option ℕ) (l : Lay ℕ) → row_count l ≡ n → HasRows n (unless_unknown o l)
+if_known : (n : ℕ) (o : Option ℕ) (l : LayoutData ℕ) → row_count l ≡ n → HasRows n (unless_unknown o l)
 if_known n None l e = there n l e
 if_known n (Some index) l e = absent n _
 
@@ -88,7 +88,7 @@ either : (n : ℕ) (b : Bool) (r : Made) (e : Refusal) → HasRows n r → HasRo
 either n true r e h = h
 either n false r e h = absent n e
 
-registered : (s : Scope) (o : Own) (ks : List Kid) (id : List ℕ) (other : Made) (t : Ty) (k : Option LayoutEncoding) → HasRows o.rows other → HasRows o.rows (build_registered s o ks id other t k)
+registered : (s : Scope) (o : Own) (ks : List ChildData) (id : List ℕ) (other : Made) (t : Ty) (k : Option LayoutEncoding) → HasRows o.rows other → HasRows o.rows (build_registered s o ks id other t k)
 registered s o ks id other t None h = either o.rows s.allow_unknown other _ h
 registered s o ks id other t (Some kind) h = any kind s.context (record { dtype = t; rows = o.rows; segments = o.segments; kids = ks }) o.metadata
 

@@ -1,8 +1,8 @@
 -- Steps of reading aggregates.
 use Rattle.std.proofs.Common.{◌≡◌, ℕ, ◌+◌, ◌<◌, ◌&&◌, ◌++◌, Bool, true, false, List, [], ◌∷◌, length, get_or, drop, map, Option, Some, None, Result, Ok, Err, refl, sym, ◌∙◌, ap, append_assoc}
 use Rattle.std.proofs.lemmas.List.{append-nil, drop_more, drop_all, map_push}
-use Rattle.vx_tree.specs.Refusal.{Refusal}
-use Rattle.vx_record.specs.Aggregate.{Aggregate}
+use Rattle.vx_layout_spec.specs.Refusal.{Refusal}
+use Rattle.vx_aggregate_spec.specs.Aggregate.{Aggregate}
 use Rattle.vx_metadata.specs.declared.zoned.AggregateSpec.{AggregateSpec}
 use Rattle.vx_metadata.specs.Views.{spec_of}
 use Rattle.vx_session.specs.Scope.{Context}

@@ -1,8 +1,8 @@
 -- What reading aggregates answers.
 use Rattle.std.specs.Prelude.{◌≡◌, ℕ, true, false, List, map, Option, Some, None, Result, Ok, Err}
 use Rattle.std.specs.Global.{Vec}
-use Rattle.vx_tree.specs.Refusal.{Refusal, unknown_aggregate}
-use Rattle.vx_record.specs.Aggregate.{Aggregate, aggregate_of}
+use Rattle.vx_layout_spec.specs.Refusal.{Refusal, unknown_aggregate}
+use Rattle.vx_aggregate_spec.specs.Aggregate.{Aggregate, aggregate_of}
 use Rattle.vx_aggregate.specs.AggregateView.{aggregate}
 use Rattle.vx_aggregate.specs.declared.aggregate.AggregateFn.{AggregateFn}
 use Rattle.vx_aggregate.specs.declared.spec.SpecError.{SpecError}

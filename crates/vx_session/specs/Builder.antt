@@ -1,14 +1,14 @@
 -- What a node of bytes is built into.
 use Rattle.std.specs.Prelude.{ℕ, Bool, false, if◌then◌else◌, List, [], ◌∷◌, Option, Some, None, Result, Ok, Err}
 use Rattle.vx_model.specs.Ty.{Ty}
-use Rattle.vx_tree.specs.LayoutTree.{Lay, Lays, layout, no_layouts, child, foreign_kind, refused_kind}
-use Rattle.vx_tree.specs.Refusal.{Refusal, unknown_index, unregistered}
+use Rattle.vx_layout_spec.specs.LayoutTree.{LayoutData, LayoutList, layout, no_layouts, child, foreign_kind, refused_kind}
+use Rattle.vx_layout_spec.specs.Refusal.{Refusal, unknown_index, unregistered}
 use Rattle.vx_layout_bytes.specs.Node.{Own, Node, Nodes, node, no_nodes, first}
 use Rattle.vx_session.specs.declared.encoding.LayoutEncoding.{LayoutEncoding}
 use Rattle.vx_session.specs.Ids.{id_at}
 use Rattle.vx_session.specs.Encodings.{kind_of, is_flat}
 use Rattle.vx_session.specs.Scope.{Scope}
-use Rattle.vx_session.specs.Made.{Made, ◌>>=◌, Kid}
+use Rattle.vx_session.specs.Made.{Made, ◌>>=◌, ChildData}
 use Rattle.vx_session.specs.Kinds.{Parts, build_kind}
 
 -- ---- foreign nodes: with all below, at one type
@@ -35,14 +35,14 @@ id_or_none None = []
 id_or_none (Some id) = id
 
 abbrev mutual
-  pub foreign : List (List ℕ) → Ty → Node → Lay ℕ
+  pub foreign : List (List ℕ) → Ty → Node → LayoutData ℕ
   foreign ids t (node o ns) = layout (foreign_kind (id_or_none (id_at ids o.index)) o.metadata) t o.rows o.segments (all_foreign ids t ns)
 
-  pub all_foreign : List (List ℕ) → Ty → Nodes → Lays ℕ
+  pub all_foreign : List (List ℕ) → Ty → Nodes → LayoutList ℕ
   all_foreign ids t no_nodes = no_layouts
   all_foreign ids t (first n ns) = child (foreign ids t n) (all_foreign ids t ns)
 
-abbrev pub unless_unknown : Option ℕ → Lay ℕ → Made
+abbrev pub unless_unknown : Option ℕ → LayoutData ℕ → Made
 unless_unknown None l = Ok l
 unless_unknown (Some index) l = Err (unknown_index index)
 
@@ -59,16 +59,16 @@ known_id ids index = known index (id_at ids index)
     known index (Some id) = Ok id
 
 -- what a node is built of at a type
-abbrev pub own_parts : Own → List Kid → Ty → Parts
+abbrev pub own_parts : Own → List ChildData → Ty → Parts
 own_parts o ks t = record { dtype = t; rows = o.rows; segments = o.segments; kids = ks }
 
 -- what the node is where its id isn't registered, and what its kind builds
-abbrev pub build_registered : Scope → Own → List Kid → List ℕ → Made → Ty → Option LayoutEncoding → Made
+abbrev pub build_registered : Scope → Own → List ChildData → List ℕ → Made → Ty → Option LayoutEncoding → Made
 build_registered s o ks id other t None = if s.allow_unknown then other else Err (unregistered id)
 build_registered s o ks id other t (Some kind) =
     build_kind kind s.context (own_parts o ks t) o.metadata
 
-abbrev pub build_own : Scope → Own → List Kid → (Ty → Made) → Ty → Made
+abbrev pub build_own : Scope → Own → List ChildData → (Ty → Made) → Ty → Made
 build_own s o ks other t = do
   id ← known_id s.ids o.index
   build_registered s o ks id (other t) t (kind_of id s.registered)
@@ -82,11 +82,11 @@ abbrev pub is_flat_node : Scope → Own → Bool
 is_flat_node s o = is_flat_kind (kind_of (id_or_none (id_at s.ids o.index)) s.registered)
 
 -- a child that can't be built stands as a leaf
-abbrev pub built_or_refused : Bool → Own → Ty → Made → Lay ℕ
+abbrev pub built_or_refused : Bool → Own → Ty → Made → LayoutData ℕ
 built_or_refused flat o t (Ok l) = l
 built_or_refused flat o t (Err refusal) = layout (refused_kind flat refusal) t o.rows o.segments no_layouts
 
-abbrev pub kid_of : Scope → Own → (Ty → Made) → Kid
+abbrev pub kid_of : Scope → Own → (Ty → Made) → ChildData
 kid_of s o build = record {
   rows = o.rows;
   is_flat = is_flat_node s o;
@@ -102,7 +102,7 @@ abbrev mutual
   builder s (node o ns) = build_own s o (kids s ns) (build_foreign s.ids (node o ns))
 
   -- the children, each with what it builds
-  pub kids : Scope → Nodes → List Kid
+  pub kids : Scope → Nodes → List ChildData
   kids s no_nodes = []
   kids s (first n ns) = kid_of s (own_of n) (builder s n) ∷ kids s ns
 

@@ -4,9 +4,9 @@ use Rattle.vx_model.specs.declared.ptype.PType.{PType}
 use Rattle.vx_model.specs.Words.{total_by}
 use Rattle.vx_model.specs.Ty.{Ty, Tys, boolean, primitive, struct, no_fields, field, nullable, is_list, is_struct}
 use Rattle.vx_model.specs.Ty as types
-use Rattle.vx_tree.specs.LayoutTree.{Lay, layout, Spec, Kind, flat_layout, chunked_kind, struct_kind, list_kind, dict_kind, zoned_kind, unread_zoned_kind, stats_kind, lays_of, row_count}
-use Rattle.vx_tree.specs.Refusal.{Refusal, no_list, no_struct, unknown_aggregate}
-use Rattle.vx_record.specs.Aggregate.{Aggregate, aggregate_of, spec}
+use Rattle.vx_layout_spec.specs.LayoutTree.{LayoutData, layout, Spec, Kind, flat_layout, chunked_kind, struct_kind, list_kind, dict_kind, zoned_kind, unread_zoned_kind, stats_kind, lays_of, row_count}
+use Rattle.vx_layout_spec.specs.Refusal.{Refusal, no_list, no_struct, unknown_aggregate}
+use Rattle.vx_aggregate_spec.specs.Aggregate.{Aggregate, aggregate_of, spec}
 use Rattle.vx_aggregate.specs.Stats.{stat_number}
 use Rattle.vx_aggregate.specs.Tables.{stats_table, legacy_table}
 use Rattle.vx_metadata.specs.Reading.{flat_in, list_in, dict_in, zoned_in, legacy_in}
@@ -14,16 +14,16 @@ use Rattle.vx_session.specs.declared.encoding.LayoutEncoding.{LayoutEncoding}
 use Rattle.vx_session.specs.declared.encoding.LayoutEncoding.TheVariants as kinds
 use Rattle.vx_session.specs.Ids.{is_listed}
 use Rattle.vx_session.specs.Scope.{Context}
-use Rattle.vx_session.specs.Made.{Made, ◌>>=◌, needs, spelled, Kid, kid_rows, child_at, rows_at, all_stand, each_stands, standing_at, has_children, has_rows, all_have_rows, one_segment}
+use Rattle.vx_session.specs.Made.{Made, ◌>>=◌, needs, spelled, ChildData, kid_rows, child_at, rows_at, all_stand, each_stands, standing_at, has_children, has_rows, all_have_rows, one_segment}
 
 pub record Parts : Type 0 where
   pub dtype : Ty
   pub rows : ℕ
   pub segments : List ℕ
-  pub kids : List Kid
+  pub kids : List ChildData
 
 -- a layout of the parts with these children
-abbrev pub layout_of : Kind → Parts → List (Lay ℕ) → Made
+abbrev pub layout_of : Kind → Parts → List (LayoutData ℕ) → Made
 layout_of k p ls = Ok (layout k p.dtype p.rows p.segments (lays_of ls))
 
 -- a chunked and a struct layout have no metadata
@@ -81,7 +81,7 @@ element_type (types.list t n) = t
 element_type t = t
 
 -- of the rows that its type needs
-abbrev pub build_validity : Parts → Result (List (Lay ℕ)) Refusal
+abbrev pub build_validity : Parts → Result (List (LayoutData ℕ)) Refusal
 build_validity p =
     if nullable p.dtype
     then (do

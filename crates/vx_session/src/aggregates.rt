@@ -2,7 +2,7 @@
 
 ghost use Rattle.std.specs.Prelude.{◌≡◌, map, option_map, true};
 ghost use Rattle.vx_metadata.specs.Views.{spec_of};
-ghost use Rattle.vx_record.specs.Aggregate.{has_options};
+ghost use Rattle.vx_aggregate_spec.specs.Aggregate.{has_options};
 ghost use Rattle.vx_aggregate.specs.AggregateView.{aggregate};
 ghost use Rattle.vx_session.specs.Ids.{is_listed as listed};
 ghost use Rattle.vx_session.specs.Kinds.{read_spec as spec_read, let_through};

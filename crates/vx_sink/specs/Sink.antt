@@ -3,7 +3,7 @@ use Rattle.std.specs.Prelude.{ℕ, ◌+◌, Bool, true, false, List, [], ◌∷�
 use Rattle.vx_model.specs.declared.segment.SegmentId.{SegmentId}
 use Rattle.vx_sink.specs.declared.sink.SinkError.{SinkError}
 use Rattle.vx_sink.specs.declared.sink.SinkError.TheVariants.{Failed, OutOfMemory}
-use Rattle.vx_sink.specs.Told.{then_told}
+use Rattle.vx_fault.specs.Told.{then_told}
 
 abbrev pub sink_failed : Result SegmentId SinkError → Bool
 sink_failed (Ok x) = false

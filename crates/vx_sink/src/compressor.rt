@@ -1,12 +1,12 @@
 ghost use Rattle.std.specs.Prelude.{◌≡◌, ℕ, ◌+◌, IfOk, IsTrue};
-ghost use Rattle.vx_model.specs.Piece.{Piece, is_sound};
+ghost use Rattle.vx_model.specs.ChunkData.{ChunkData, is_sound};
 ghost use Rattle.vx_chunk.specs.ChunkView.{piece};
-ghost use Rattle.vx_sink.specs.Counts.{Counts};
+ghost use Rattle.vx_fault.specs.Counts.{Counts};
 ghost use Rattle.vx_sink.specs.Compressor.{compress_failed, SameRows};
 
 use std::alloc::{AllocError, AllocFailed};
 use thiserror::Error;
-use vx_types::Chunk;
+use vx_chunk::Chunk;
 
 /// Why a compressor gave no chunk.
 #[derive(Debug, Drop, Error)]
@@ -46,7 +46,7 @@ pub trait CompressorPlugin {
     ghost kind: { Self → ℕ };
 
     /// What a kind makes, under a number, of a chunk.
-    ghost image: { ℕ → ℕ → Piece → Piece };
+    ghost image: { ℕ → ℕ → ChunkData → ChunkData };
 
     /// How often the compressor failed.
     ghost faults: { Self → ℕ };
@@ -68,5 +68,5 @@ pub trait CompressorPlugin {
         ensures must_later { (k : ℕ) → must_fail self.old (k + 1) → must_fail self.new k };
 
     /// An image is a whole chunk of the same type and row values.
-    ghost keeps: { (k which : ℕ) (p : Piece) → IsTrue (is_sound p) → SameRows p (image k which p) };
+    ghost keeps: { (k which : ℕ) (p : ChunkData) → IsTrue (is_sound p) → SameRows p (image k which p) };
 }

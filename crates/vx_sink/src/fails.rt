@@ -1,7 +1,7 @@
 //! Calls that fail by a list of their numbers.
 
 ghost use Rattle.std.specs.Prelude.{◌≡◌, ℕ, ◌+◌, ◌≤◌, ◌-◌, ◌^◌, min, if◌then◌else◌};
-ghost use Rattle.vx_sink.specs.Fails.{fails_at};
+ghost use Rattle.vx_fault.specs.Fails.{fails_at};
 
 /// Counts calls, and lets those fail whose number is in the list. Numbers begin at 0; at the greatest u64 the
 /// counter stays, and no call fails.

@@ -2,12 +2,13 @@ ghost use Rattle.std.specs.Prelude.{◌≡◌, ℕ, ◌+◌, Some, map, length, 
 ghost use Rattle.std.specs.Vec.Iter.{into_iter_items};
 ghost use Rattle.vx_model.specs.TyView.{ty};
 ghost use Rattle.vx_chunk.specs.ChunkView.{piece};
-ghost use Rattle.vx_sink.specs.Fails.{fails_at};
+ghost use Rattle.vx_fault.specs.Fails.{fails_at};
 
 use crate::fails::Fails;
 use crate::source::{BatchSource, SourceError};
 use std::vec::IntoIter;
-use vx_types::{Chunk, DType};
+use vx_chunk::Chunk;
+use vx_model::DType;
 
 /// A source of the batches of a list.
 #[derive(Drop)]

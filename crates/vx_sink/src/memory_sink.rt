@@ -1,5 +1,5 @@
 ghost use Rattle.std.specs.Prelude.{◌≡◌, ℕ, ◌+◌, [], Some, IsTrue};
-ghost use Rattle.vx_sink.specs.Fails.{fails_at};
+ghost use Rattle.vx_fault.specs.Fails.{fails_at};
 
 use crate::fails::Fails;
 use crate::sink::{SegmentSink, SinkError};

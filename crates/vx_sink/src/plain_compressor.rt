@@ -1,10 +1,10 @@
 ghost use Rattle.std.specs.Prelude.{◌≡◌, ℕ, ◌+◌, IsTrue};
-ghost use Rattle.vx_sink.specs.Fails.{fails_at};
+ghost use Rattle.vx_fault.specs.Fails.{fails_at};
 ghost use Rattle.vx_sink.specs.Compressor.{same_rows};
 
 use crate::compressor::{CompressError, CompressorPlugin};
 use crate::fails::Fails;
-use vx_types::Chunk;
+use vx_chunk::Chunk;
 
 /// A compressor whose image of a chunk is the chunk itself.
 #[derive(Debug, Drop)]

@@ -1,5 +1,5 @@
 ghost use Rattle.std.specs.Prelude.{◌≡◌, ℕ, ◌+◌, ◌<◌, ◌^◌, List, Option, IsTrue, IfOk};
-ghost use Rattle.vx_sink.specs.Counts.{Counts};
+ghost use Rattle.vx_fault.specs.Counts.{Counts};
 ghost use Rattle.vx_sink.specs.Sink.{sink_failed, next_after, segments_after};
 
 use std::alloc::{AllocError, AllocFailed};

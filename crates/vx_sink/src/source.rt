@@ -1,12 +1,13 @@
 ghost use Rattle.std.specs.Prelude.{◌≡◌, ℕ, ◌+◌, List, Option, IsTrue};
 ghost use Rattle.vx_model.specs.Ty.{Ty};
 ghost use Rattle.vx_model.specs.TyView.{ty};
-ghost use Rattle.vx_model.specs.Piece.{Piece};
-ghost use Rattle.vx_sink.specs.Counts.{Counts};
+ghost use Rattle.vx_model.specs.ChunkData.{ChunkData};
+ghost use Rattle.vx_fault.specs.Counts.{Counts};
 ghost use Rattle.vx_sink.specs.Source.{source_failed, Falls, GivesNext};
 
 use thiserror::Error;
-use vx_types::{Chunk, DType};
+use vx_chunk::Chunk;
+use vx_model::DType;
 
 /// Why a source gave no answer.
 #[derive(Debug, Drop, Error)]
@@ -27,7 +28,7 @@ pub trait BatchSource {
     ghost left: { Self → ℕ };
 
     /// The batches to come, where the source tells them.
-    ghost to_come: { Self → Option (List Piece) };
+    ghost to_come: { Self → Option (List ChunkData) };
 
     /// How often the source failed.
     ghost faults: { Self → ℕ };

@@ -1,7 +1,6 @@
-pub mod PartSteps
-pub mod ListSteps
-pub mod Depths
-pub mod Fixed
-pub mod Refused
-pub mod Paths
-pub mod Steps
+pub mod Admits
+pub mod PlaceSteps
+pub mod BlockLen
+pub mod Writers
+pub mod Apart
+pub mod Wrappers

@@ -1,53 +1,44 @@
 use std::alloc::{AllocError, AllocFailed};
 use thiserror::Error;
-use vx_nodes::BuildError;
+use vx_field_path::FieldPath;
 
-/// Why a JSON value gave no strategy.
+/// Why no strategy was made.
 #[derive(Debug, Drop, Error)]
-pub enum StrategyError {
-    /// A key is missing or too many, a value has another form, or a constructor refuses it.
-    #[error("no strategy")]
-    Wrong,
+pub enum BuildError {
+    #[error("a block has no rows")]
+    ZeroBlockLen,
+    #[error("no chunk may wait")]
+    ZeroConcurrency,
+    /// A zone's rows are none or pass u32: this number.
+    #[error("a zone of {0} rows")]
+    ZoneLength(u64),
+    #[error("an override of the root")]
+    RootPath,
+    /// The first standing path that overlaps, and the new one. Equal paths overlap.
+    #[error("two overrides overlap")]
+    OverlappingPath(FieldPath, FieldPath),
     #[error("out of memory")]
     OutOfMemory,
 }
 
-impl From<AllocError> for StrategyError {
+impl From<AllocError> for BuildError {
     ghost use Rattle.std.specs.Prelude.{◌≡◌};
-    ghost use Rattle.vx_strategy.specs.declared.error.StrategyError.TheVariants.{OutOfMemory};
+    ghost use Rattle.vx_strategy.specs.declared.error.BuildError.TheVariants.{OutOfMemory};
 
     ghost from_gives = { λ _ e. e ≡ OutOfMemory };
 
-    fn from(_error: AllocError) -> StrategyError {
-        StrategyError::OutOfMemory
+    fn from(_error: AllocError) -> BuildError {
+        BuildError::OutOfMemory
     }
 }
 
-impl<T: Drop> From<AllocFailed<T>> for StrategyError {
+impl<T: Drop> From<AllocFailed<T>> for BuildError {
     ghost use Rattle.std.specs.Prelude.{◌≡◌};
-    ghost use Rattle.vx_strategy.specs.declared.error.StrategyError.TheVariants.{OutOfMemory};
+    ghost use Rattle.vx_strategy.specs.declared.error.BuildError.TheVariants.{OutOfMemory};
 
     ghost from_gives = { λ _ e. e ≡ OutOfMemory };
 
-    fn from(_error: AllocFailed<T>) -> StrategyError {
-        StrategyError::OutOfMemory
-    }
-}
-
-impl From<BuildError> for StrategyError {
-    ghost use Rattle.std.specs.Prelude.{◌≡◌};
-    ghost use Rattle.vx_strategy.specs.Refusals.{refusal};
-
-    ghost from_gives = { λ cause e. e ≡ refusal cause };
-
-    fn from(error: BuildError) -> StrategyError {
-        match error {
-            BuildError::OutOfMemory => StrategyError::OutOfMemory,
-            BuildError::ZeroBlockLen
-            | BuildError::ZeroConcurrency
-            | BuildError::ZoneLength(_)
-            | BuildError::RootPath
-            | BuildError::OverlappingPath(..) => StrategyError::Wrong,
-        }
+    fn from(_error: AllocFailed<T>) -> BuildError {
+        BuildError::OutOfMemory
     }
 }

@@ -1,12 +1,35 @@
-//! Strategies read from JSON.
+//! Strategies: trees of writing nodes, and their options.
 #![tactic(auto)]
 
+mod child;
+mod chunked;
+mod compressing;
+mod dict;
 mod error;
-mod made;
+mod flat;
+mod grouping;
+mod list;
 mod options;
-mod parts;
+mod overrides;
 mod strategy;
+mod structs;
+mod table;
+mod wrapper;
+mod zoned;
 
-pub use error::StrategyError;
-pub use options::read_aggregate;
-pub use strategy::{read_strategy, read_wrap};
+pub use child::ChildStrategy;
+pub use chunked::ChunkedLayoutStrategy;
+pub use compressing::CompressingStrategy;
+pub use dict::{DictStrategy, dict_layout_supported};
+pub use error::BuildError;
+pub use flat::FlatLayoutStrategy;
+pub use grouping::{BufferedStrategy, CollectStrategy, RepartitionStrategy};
+pub use list::ListLayoutStrategy;
+pub use options::{
+    DictLayoutConstraints, DictLayoutOptions, RepartitionWriterOptions, ZonedLayoutOptions,
+};
+pub use strategy::Strategy;
+pub use structs::StructStrategy;
+pub use table::TableStrategy;
+pub use wrapper::ListWrapper;
+pub use zoned::ZonedStrategy;

@@ -1,191 +1,118 @@
 //! Options of strategies.
 
-ghost use Rattle.std.specs.Prelude.{◌≡◌, map, option_map, pos};
-ghost use Rattle.std.specs.Int.NonZero.{non_zero_u32_get};
-ghost use Rattle.serde_json.specs.View.{view};
-ghost use Rattle.vx_aggregate.specs.AggregateView.{aggregate};
-ghost use Rattle.vx_nodes.specs.OptionViews.{flat_options, block_options, zoned_options, dict_options, asked};
-ghost use Rattle.vx_strategy.specs.Parts.{all, at as at_key, or_null};
-ghost use Rattle.vx_strategy.specs.Options.{named_aggregate, numbered_aggregate, bound, bounded, aggregate_of, flat_of, blocks_of, zones_of, dict_of};
-ghost use Rattle.vx_strategy.specs.Forms.{blocks_around, bytes_around};
-ghost use Rattle.vx_strategy.specs.Views.{Gives, wrap};
+ghost use Rattle.std.specs.Prelude.{◌≡◌, ◌<◌, max, min};
+ghost use Rattle.vx_rules.specs.Blocks.{rounded_up};
 
-use crate::error::StrategyError;
-use crate::parts::{
-    at, flag_at, has_members, optional_at, read_items, read_u32, two, u16_at, u32_at, u64_at,
-};
-use serde_json::Value;
-use std::alloc::Global;
-use std::num::NonZeroU32;
 use vx_aggregate::AggregateFn;
-use vx_nodes::{
-    DictLayoutConstraints, FlatLayoutStrategy, ListWrapper, RepartitionWriterOptions,
-    ZonedLayoutOptions,
-};
+use vx_model::DType;
 
-/// What is recorded of zones. A text, or a pair of a text and a number from 1 to 2^32 - 1.
-#[tactic(auto, unfolding(crate::specs::Options::aggregate_of))]
-pub fn read_aggregate(value: &Value) -> Result<AggregateFn, StrategyError>
-    ensures { Gives aggregate result (aggregate_of (view value.now)) }
-{
-    match value {
-        Value::String(name) => named(name.as_str()),
-        Value::Array(_) => read_bounded(value),
-        Value::Null | Value::Bool(_) | Value::Number(_) | Value::Object(_) => Err(
-            StrategyError::Wrong,
-        ),
+/// How rows are cut into blocks.
+#[derive(Clone, Copy, Debug, PartialEq, Eq)]
+pub struct RepartitionWriterOptions {
+    /// The row size in bytes that a block has at least.
+    pub block_size_minimum: u64,
+    /// Each block but the last has a multiple of so many rows.
+    pub block_len_multiple: u64,
+    /// The row size in bytes to aim at, where rows have one size each.
+    pub block_size_target: Option<u64>,
+    /// Kept without effect: blocks are plain, and sizes are row sizes.
+    pub canonicalize: bool,
+}
+
+impl RepartitionWriterOptions {
+    ghost use Rattle.std.specs.Prelude.{◌≡◌};
+    ghost use Rattle.vx_model.specs.TyView.{ty};
+    ghost use Rattle.vx_rules.specs.Blocks.{block_len};
+    ghost use Rattle.vx_strategy.specs.OptionViews.{block_options};
+
+    /// The block length in rows at a column's type: the multiple, or fewer rows where a target and the size of an
+    /// element say so, at least 1.
+    #[tactic(auto, using(crate::proofs::BlockLen::block_rules))]
+    pub fn effective_block_len(&self, dtype: &DType) -> u64
+        ensures { result ≡ block_len (block_options self.now) (ty dtype.now) }
+    {
+        let Some(target) = self.block_size_target else {
+            return self.block_len_multiple;
+        };
+        let Some(size) = dtype.element_size() else {
+            return self.block_len_multiple;
+        };
+        aimed(self.block_len_multiple, target, size)
     }
 }
 
-#[tactic(auto, unfolding(crate::specs::Options::named_aggregate))]
-fn named(name: &str) -> Result<AggregateFn, StrategyError>
-    ensures { Gives aggregate result (named_aggregate name.now) }
+/// The rows that take so many bytes, at most the multiple and at least 1.
+#[tactic(auto, using(crate::proofs::BlockLen::block_rules))]
+fn aimed(multiple: u64, target: u64, size: u64) -> u64
+    requires { 0 < size }
+    ensures { result ≡ max 1 (min multiple (rounded_up target size)) }
 {
-    match name {
-        "max" => Ok(AggregateFn::Max),
-        "min" => Ok(AggregateFn::Min),
-        "null_count" => Ok(AggregateFn::NullCount),
-        "sum" => Ok(AggregateFn::Sum),
-        _ => Err(StrategyError::Wrong),
+    let rows = (u128::from(target) + u128::from(size) - 1) / u128::from(size);
+    if rows < u128::from(multiple) {
+        (rows as u64).max(1)
+    } else {
+        multiple.max(1)
     }
 }
 
-#[tactic(auto, unfolding(crate::specs::Options::numbered_aggregate))]
-fn numbered(name: &str, number: NonZeroU32) -> Result<AggregateFn, StrategyError>
-    ensures { Gives aggregate result (numbered_aggregate name.now (non_zero_u32_get number)) }
-{
-    match name {
-        "bounded_max" => Ok(AggregateFn::BoundedMax(number)),
-        "bounded_min" => Ok(AggregateFn::BoundedMin(number)),
-        "bloom_filter" => Ok(AggregateFn::Bloom(number)),
-        _ => Err(StrategyError::Wrong),
+/// When a dictionary is full: the bytes that its values cost, and their number.
+#[derive(Clone, Copy, Debug, PartialEq, Eq)]
+pub struct DictLayoutConstraints {
+    pub max_bytes: u64,
+    pub max_len: u16,
+}
+
+impl Default for DictLayoutConstraints {
+    ghost use Rattle.std.specs.Prelude.{◌≡◌};
+
+    ghost is_default = { λ c. (c.max_bytes ≡ 1048576) × (c.max_len ≡ 65535) };
+
+    fn default() -> DictLayoutConstraints {
+        DictLayoutConstraints {
+            max_bytes: 1_048_576,
+            max_len: 65_535,
+        }
     }
 }
 
-#[tactic(auto, unfolding(crate::specs::Options::bound))]
-fn read_bound(value: &Value) -> Result<NonZeroU32, StrategyError>
-    ensures { Gives non_zero_u32_get result (bound (view value.now)) }
-{
-    match NonZeroU32::new(read_u32(value)?) {
-        Some(bound) => Ok(bound),
-        None => Err(StrategyError::Wrong),
+#[derive(Clone, Copy, Debug, PartialEq, Eq)]
+pub struct DictLayoutOptions {
+    pub constraints: DictLayoutConstraints,
+}
+
+impl Default for DictLayoutOptions {
+    ghost use Rattle.std.specs.Prelude.{◌≡◌};
+
+    ghost is_default = { λ o. (o.constraints.max_bytes ≡ 1048576) × (o.constraints.max_len ≡ 65535) };
+
+    fn default() -> DictLayoutOptions {
+        DictLayoutOptions {
+            constraints: DictLayoutConstraints::default(),
+        }
     }
 }
 
-#[tactic(auto, unfolding(crate::specs::Options::bounded, crate::specs::Parts::pair))]
-fn read_bounded(value: &Value) -> Result<AggregateFn, StrategyError>
-    ensures { Gives aggregate result (bounded (view value.now)) }
-{
-    let (name, number) = two(value)?;
-    match name.as_str() {
-        Some(name) => numbered(name, read_bound(number)?),
-        None => Err(StrategyError::Wrong),
+/// How zones are recorded.
+#[derive(Debug, Drop)]
+pub struct ZonedLayoutOptions {
+    /// Rows of a zone, from 1 to 2^32 - 1.
+    pub block_size: u64,
+    /// Nothing: those of `default_zoned_aggregate_fns`.
+    pub aggregate_fns: Option<Vec<AggregateFn>>,
+    /// How many chunks may wait behind the node.
+    pub concurrency: u64,
+}
+
+impl Default for ZonedLayoutOptions {
+    ghost use Rattle.std.specs.Prelude.{◌≡◌, None};
+
+    ghost is_default = { λ o. (o.block_size ≡ 8192) × (o.aggregate_fns ≡ None) × (o.concurrency ≡ 1) };
+
+    fn default() -> ZonedLayoutOptions {
+        ZonedLayoutOptions {
+            block_size: 8192,
+            aggregate_fns: None,
+            concurrency: 1,
+        }
     }
-}
-
-#[tactic(auto, using(crate::proofs::ListSteps::list_rules), unfolding(crate::specs::Parts::all))]
-fn read_aggregates(alloc: Global, value: &Value) -> Result<Vec<AggregateFn>, StrategyError>
-    ensures { Gives (λ v. map aggregate v.items) result (all aggregate_of (view value.now)) }
-{
-    let items = read_items(value)?;
-    let mut aggregates = Vec::with_capacity(alloc, items.len())?;
-    for item in items {
-        aggregates.push(read_aggregate(item)?)?;
-    }
-    Ok(aggregates)
-}
-
-/// Aggregates, or null.
-#[tactic(auto, unfolding(crate::specs::Parts::or_null))]
-fn read_asked(alloc: Global, value: &Value) -> Result<Option<Vec<AggregateFn>>, StrategyError>
-    ensures { Gives asked result (or_null (all aggregate_of) (view value.now)) }
-{
-    match value {
-        Value::Null => Ok(None),
-        Value::Bool(_) | Value::Number(_) | Value::String(_) | Value::Array(_) | Value::Object(_) =>
-            Ok(Some(read_aggregates(alloc, value)?)),
-    }
-}
-
-#[tactic(auto, unfolding(crate::specs::Parts::at))]
-fn asked_at(
-    alloc: Global,
-    value: &Value,
-    key: &str,
-) -> Result<Option<Vec<AggregateFn>>, StrategyError>
-    ensures { Gives asked result (at_key (or_null (all aggregate_of)) key.now (view value.now)) }
-{
-    read_asked(alloc, at(value, key)?)
-}
-
-#[tactic(auto, unfolding(crate::specs::Options::flat_of))]
-pub(crate) fn read_flat(value: &Value) -> Result<FlatLayoutStrategy, StrategyError>
-    ensures { Gives flat_options result (flat_of (view value.now)) }
-{
-    if !has_members(value, 2) {
-        return Err(StrategyError::Wrong);
-    }
-    let padding = flag_at(value, "padding")?;
-    let inline = flag_at(value, "inline")?;
-    Ok(FlatLayoutStrategy {
-        include_padding: padding,
-        inline_array_node: inline,
-    })
-}
-
-/// The options of blocks; other keys aren't looked at.
-#[tactic(auto, unfolding(crate::specs::Options::blocks_of))]
-pub(crate) fn read_blocks(value: &Value) -> Result<RepartitionWriterOptions, StrategyError>
-    ensures { Gives block_options result (blocks_of (view value.now)) }
-{
-    Ok(RepartitionWriterOptions {
-        block_size_minimum: u64_at(value, "minimum")?,
-        block_len_multiple: u64_at(value, "rows")?,
-        block_size_target: optional_at(value, "target")?,
-        canonicalize: flag_at(value, "canonicalize")?,
-    })
-}
-
-/// The options of zones; other keys aren't looked at.
-#[tactic(auto, unfolding(crate::specs::Options::zones_of))]
-pub(crate) fn read_zones(alloc: Global, value: &Value) -> Result<ZonedLayoutOptions, StrategyError>
-    ensures { Gives zoned_options result (zones_of (view value.now)) }
-{
-    Ok(ZonedLayoutOptions {
-        block_size: u64_at(value, "zone")?,
-        aggregate_fns: asked_at(alloc, value, "aggregates")?,
-        concurrency: u64_at(value, "concurrency")?,
-    })
-}
-
-/// The options of dictionaries, and the probe; other keys aren't looked at.
-#[tactic(auto, unfolding(crate::specs::Options::dict_of))]
-pub(crate) fn read_dict(value: &Value) -> Result<(DictLayoutConstraints, u32), StrategyError>
-    ensures { Gives (λ p. dict_options p.0 p.1) result (dict_of (view value.now)) }
-{
-    let constraints = DictLayoutConstraints {
-        max_bytes: u64_at(value, "max_bytes")?,
-        max_len: u16_at(value, "max_len")?,
-    };
-    Ok((constraints, u32_at(value, "probe")?))
-}
-
-#[tactic(auto, unfolding(crate::specs::Forms::blocks_around))]
-pub(crate) fn read_grouped_around(value: &Value) -> Result<ListWrapper, StrategyError>
-    ensures { Gives wrap result (blocks_around (view value.now)) }
-{
-    if !has_members(value, 4) {
-        return Err(StrategyError::Wrong);
-    }
-    Ok(ListWrapper::Repartition(read_blocks(value)?))
-}
-
-#[tactic(auto, unfolding(crate::specs::Forms::bytes_around))]
-pub(crate) fn read_buffered_around(value: &Value) -> Result<ListWrapper, StrategyError>
-    ensures { Gives wrap result (bytes_around (view value.now)) }
-{
-    if !has_members(value, 1) {
-        return Err(StrategyError::Wrong);
-    }
-    Ok(ListWrapper::Buffered(u64_at(value, "size")?))
 }

@@ -1,350 +1,52 @@
-//! Strategies of all kinds, with those that they hold.
+ghost use Rattle.std.specs.Prelude.{◌≡◌, IsTrue};
+ghost use Rattle.vx_strategy_spec.specs.Admitted.{is_admitted};
+ghost use Rattle.vx_strategy.specs.StrategyView.{strategy_data};
 
-ghost use Rattle.std.specs.Prelude.{◌≡◌, map, codes};
-ghost use Rattle.serde_json.specs.Find.{as_str};
-ghost use Rattle.serde_json.specs.View.{view};
-ghost use Rattle.vx_nodes.specs.PairWays.{named_way, path_way};
-ghost use Rattle.vx_nodes.specs.StrategyView.{way};
-ghost use Rattle.vx_strategy.specs.Parts.{all, at as at_key, both_at as both_in, or_null, pair};
-ghost use Rattle.vx_strategy.specs.Forms.{form, kind_of, repartition_of, buffered_of, compress_of, zoned_of, dict_form, list_of, struct_of, table_of, kind_of_wrap, zoned_around, wrap_of as wrap_form};
-ghost use Rattle.vx_strategy.specs.StrategyText.{strategy_of, wrap_of};
-ghost use Rattle.vx_strategy.specs.Views.{Gives, wrap, list_wraps};
+use crate::chunked::ChunkedLayoutStrategy;
+use crate::compressing::CompressingStrategy;
+use crate::dict::DictStrategy;
+use crate::flat::FlatLayoutStrategy;
+use crate::grouping::{BufferedStrategy, CollectStrategy, RepartitionStrategy};
+use crate::list::ListLayoutStrategy;
+use crate::structs::StructStrategy;
+use crate::table::TableStrategy;
+use crate::zoned::ZonedStrategy;
 
-use crate::error::StrategyError;
-use crate::made::{in_blocks, in_images, in_zones, listed, with_fields, with_overrides};
-use crate::options::{
-    read_blocks, read_buffered_around, read_dict, read_flat, read_grouped_around, read_zones,
-};
-use crate::parts::{
-    at, has_members, only_member, read_items, read_name, read_path, two, u32_at, u64_at,
-};
-use serde_json::Value;
-use std::alloc::Global;
-use vx_field::FieldPath;
-use vx_model::Text;
-use vx_nodes::{
-    BufferedStrategy, ChunkedLayoutStrategy, CollectStrategy, DictLayoutOptions, DictStrategy,
-    FlatLayoutStrategy, ListWrapper, Strategy,
-};
-
-/// The strategy that the value stands for: an object of one member, whose key is the kind, or `"flat"`. All keys of a
-/// kind are required, and no others are allowed.
+/// A tree of writing nodes. Each is made by a constructor of its struct, so it is one that can write.
+#[derive(Debug, Drop)]
 #[cycle(strategy)]
-#[tactic(auto, using(crate::proofs::Steps::form_rules))]
-pub fn read_strategy(alloc: Global, value: &Value) -> Result<Strategy, StrategyError>
-    ensures { Gives way result (strategy_of (view value.now)) }
-{
-    read_form(alloc, value)
+pub enum Strategy {
+    Flat(FlatLayoutStrategy),
+    Chunked(ChunkedLayoutStrategy),
+    Struct(StructStrategy),
+    List(ListLayoutStrategy),
+    Dict(DictStrategy),
+    Zoned(ZonedStrategy),
+    Repartition(RepartitionStrategy),
+    Buffered(BufferedStrategy),
+    Collect(CollectStrategy),
+    Compressing(CompressingStrategy),
+    Table(TableStrategy),
 }
 
-#[cycle(strategy)]
-#[tactic(auto, using(crate::proofs::Steps::form_rules), unfolding(crate::specs::Forms::form))]
-fn read_form(alloc: Global, value: &Value) -> Result<Strategy, StrategyError>
-    ensures { Gives way result (form strategy_of (view value.now)) }
-{
-    match value {
-        Value::String(text) => if text.as_str() == "flat" {
-            Ok(FlatLayoutStrategy::default().into_strategy())
-        } else {
-            Err(StrategyError::Wrong)
-        },
-        Value::Object(_) => match only_member(value) {
-            Some((kind, inner)) => read_kind(alloc, kind, inner),
-            None => Err(StrategyError::Wrong),
-        },
-        Value::Null | Value::Bool(_) | Value::Number(_) | Value::Array(_) => Err(
-            StrategyError::Wrong,
-        ),
+impl Strategy {
+    /// Does nothing; tells a caller's proof that the strategy is one that constructors make.
+    #[tactic(auto, using(crate::proofs::Admits::admit_rules))]
+    pub fn admitted(&self)
+        ensures { IsTrue (is_admitted (strategy_data self.now)) }
+    {
+        match self {
+            Strategy::Flat(_) => {}
+            Strategy::Chunked(s) => s.admitted(),
+            Strategy::Struct(s) => s.admitted(),
+            Strategy::List(s) => s.admitted(),
+            Strategy::Dict(s) => s.admitted(),
+            Strategy::Zoned(s) => s.admitted(),
+            Strategy::Repartition(s) => s.admitted(),
+            Strategy::Buffered(s) => s.admitted(),
+            Strategy::Collect(s) => s.admitted(),
+            Strategy::Compressing(s) => s.admitted(),
+            Strategy::Table(s) => s.admitted(),
+        }
     }
-}
-
-#[cycle(strategy)]
-#[tactic(auto, using(crate::proofs::Steps::form_rules), unfolding(crate::specs::Forms::kind_of))]
-fn read_kind(alloc: Global, kind: &str, value: &Value) -> Result<Strategy, StrategyError>
-    ensures { Gives way result (kind_of strategy_of (kind.now, view value.now)) }
-{
-    match kind {
-        "flat" => Ok(read_flat(value)?.into_strategy()),
-        "chunked" => Ok(ChunkedLayoutStrategy::new(
-            alloc,
-            read_strategy(alloc, value)?,
-        )?.into_strategy()),
-        "collect" => Ok(CollectStrategy::new(alloc, read_strategy(alloc, value)?)?.into_strategy()),
-        "struct" => read_struct(alloc, value),
-        "list" => read_list(alloc, value),
-        "dict" => read_dictionary(alloc, value),
-        "zoned" => read_zoned(alloc, value),
-        "repartition" => read_repartition(alloc, value),
-        "buffered" => read_buffered(alloc, value),
-        "compress" => read_compress(alloc, value),
-        "table" => read_table(alloc, value),
-        _ => Err(StrategyError::Wrong),
-    }
-}
-
-#[cycle(strategy)]
-#[tactic(auto, using(crate::proofs::Steps::form_rules), unfolding(crate::specs::Parts::at))]
-fn strategy_at(alloc: Global, value: &Value, key: &str) -> Result<Strategy, StrategyError>
-    ensures { Gives way result (at_key strategy_of key.now (view value.now)) }
-{
-    read_strategy(alloc, at(value, key)?)
-}
-
-#[cycle(strategy)]
-#[tactic(auto, using(crate::proofs::Steps::form_rules), unfolding(crate::specs::Parts::both_at))]
-fn both_at(
-    alloc: Global,
-    value: &Value,
-    first: &str,
-    second: &str,
-) -> Result<(Strategy, Strategy), StrategyError>
-    ensures { Gives (λ p. (way p.0, way p.1)) result (both_in strategy_of first.now second.now (view value.now)) }
-{
-    let one = strategy_at(alloc, value, first)?;
-    let other = strategy_at(alloc, value, second)?;
-    Ok((one, other))
-}
-
-#[cycle(strategy)]
-#[tactic(auto, using(crate::proofs::Steps::form_rules), unfolding(crate::specs::Forms::repartition_of))]
-fn read_repartition(alloc: Global, value: &Value) -> Result<Strategy, StrategyError>
-    ensures { Gives way result (repartition_of strategy_of (view value.now)) }
-{
-    if !has_members(value, 5) {
-        return Err(StrategyError::Wrong);
-    }
-    let options = read_blocks(value)?;
-    let child = strategy_at(alloc, value, "child")?;
-    in_blocks(alloc, options, child)
-}
-
-#[cycle(strategy)]
-#[tactic(auto, using(crate::proofs::Steps::form_rules), unfolding(crate::specs::Forms::buffered_of))]
-fn read_buffered(alloc: Global, value: &Value) -> Result<Strategy, StrategyError>
-    ensures { Gives way result (buffered_of strategy_of (view value.now)) }
-{
-    if !has_members(value, 2) {
-        return Err(StrategyError::Wrong);
-    }
-    let child = strategy_at(alloc, value, "child")?;
-    let size = u64_at(value, "size")?;
-    Ok(BufferedStrategy::new(alloc, child, size)?.into_strategy())
-}
-
-#[cycle(strategy)]
-#[tactic(auto, using(crate::proofs::Steps::form_rules), unfolding(crate::specs::Forms::compress_of))]
-fn read_compress(alloc: Global, value: &Value) -> Result<Strategy, StrategyError>
-    ensures { Gives way result (compress_of strategy_of (view value.now)) }
-{
-    if !has_members(value, 3) {
-        return Err(StrategyError::Wrong);
-    }
-    let child = strategy_at(alloc, value, "child")?;
-    let which = u32_at(value, "which")?;
-    let concurrency = u64_at(value, "concurrency")?;
-    in_images(alloc, child, which, concurrency)
-}
-
-#[cycle(strategy)]
-#[tactic(auto, using(crate::proofs::Steps::form_rules), unfolding(crate::specs::Forms::zoned_of))]
-fn read_zoned(alloc: Global, value: &Value) -> Result<Strategy, StrategyError>
-    ensures { Gives way result (zoned_of strategy_of (view value.now)) }
-{
-    if !has_members(value, 5) {
-        return Err(StrategyError::Wrong);
-    }
-    let options = read_zones(alloc, value)?;
-    let (child, stats) = both_at(alloc, value, "child", "stats")?;
-    in_zones(alloc, options, child, stats)
-}
-
-#[cycle(strategy)]
-#[tactic(auto, using(crate::proofs::Steps::form_rules), unfolding(crate::specs::Forms::dict_form))]
-fn read_dictionary(alloc: Global, value: &Value) -> Result<Strategy, StrategyError>
-    ensures { Gives way result (dict_form strategy_of (view value.now)) }
-{
-    if !has_members(value, 6) {
-        return Err(StrategyError::Wrong);
-    }
-    let (constraints, probe) = read_dict(value)?;
-    let (codes, values) = both_at(alloc, value, "codes", "values")?;
-    let fallback = strategy_at(alloc, value, "fallback")?;
-    let options = DictLayoutOptions { constraints };
-    let strategy = DictStrategy::new(alloc, codes, values, fallback, options, probe)?;
-    Ok(strategy.into_strategy())
-}
-
-#[cycle(strategy)]
-#[tactic(auto, using(crate::proofs::Steps::form_rules), unfolding(crate::specs::Forms::list_of))]
-fn read_list(alloc: Global, value: &Value) -> Result<Strategy, StrategyError>
-    ensures { Gives way result (list_of strategy_of (view value.now)) }
-{
-    if !has_members(value, 4) {
-        return Err(StrategyError::Wrong);
-    }
-    let (elements, offsets) = both_at(alloc, value, "elements", "offsets")?;
-    let (validity, fallback) = both_at(alloc, value, "validity", "fallback")?;
-    listed(alloc, elements, offsets, validity, fallback)
-}
-
-#[cycle(strategy)]
-#[tactic(auto, using(crate::proofs::Steps::form_rules), unfolding(crate::specs::Forms::struct_of))]
-fn read_struct(alloc: Global, value: &Value) -> Result<Strategy, StrategyError>
-    ensures { Gives way result (struct_of strategy_of (view value.now)) }
-{
-    if !has_members(value, 3) {
-        return Err(StrategyError::Wrong);
-    }
-    let (validity, default) = both_at(alloc, value, "validity", "default")?;
-    let fields = fields_at(alloc, value)?;
-    with_fields(alloc, validity, default, fields)
-}
-
-#[cycle(strategy)]
-#[tactic(auto, using(crate::proofs::Steps::form_rules), unfolding(crate::specs::Parts::at))]
-fn fields_at(alloc: Global, value: &Value) -> Result<Vec<(Text, Strategy)>, StrategyError>
-    ensures { Gives (λ v. map named_way v.items) result (at_key (all (pair as_str strategy_of)) (codes "fields") (view value.now)) }
-{
-    read_fields(alloc, at(value, "fields")?)
-}
-
-#[cycle(strategy)]
-#[tactic(auto, using(crate::proofs::Steps::form_rules), unfolding(crate::specs::Parts::at))]
-fn overrides_at(alloc: Global, value: &Value) -> Result<Vec<(FieldPath, Strategy)>, StrategyError>
-    ensures { Gives (λ v. map path_way v.items) result (at_key (all (pair (all as_str) strategy_of)) (codes "overrides") (view value.now)) }
-{
-    read_overrides(alloc, at(value, "overrides")?)
-}
-
-#[cycle(strategy)]
-#[tactic(auto, using(crate::proofs::Steps::form_rules), unfolding(crate::specs::Parts::at))]
-fn lists_at(alloc: Global, value: &Value) -> Result<Option<Vec<ListWrapper>>, StrategyError>
-    ensures { Gives list_wraps result (at_key (or_null (all (wrap_form strategy_of))) (codes "lists") (view value.now)) }
-{
-    read_lists(alloc, at(value, "lists")?)
-}
-
-#[cycle(strategy)]
-#[tactic(auto, using(crate::proofs::Steps::list_rules), unfolding(crate::specs::Parts::all))]
-fn read_fields(alloc: Global, value: &Value) -> Result<Vec<(Text, Strategy)>, StrategyError>
-    ensures { Gives (λ v. map named_way v.items) result (all (pair as_str strategy_of) (view value.now)) }
-{
-    let items = read_items(value)?;
-    let mut fields = Vec::with_capacity(alloc, items.len())?;
-    for item in items {
-        fields.push(read_field(alloc, item)?)?;
-    }
-    Ok(fields)
-}
-
-#[cycle(strategy)]
-#[tactic(auto, using(crate::proofs::Steps::form_rules), unfolding(crate::specs::Parts::pair))]
-fn read_field(alloc: Global, value: &Value) -> Result<(Text, Strategy), StrategyError>
-    ensures { Gives named_way result (pair as_str strategy_of (view value.now)) }
-{
-    let (name, writer) = two(value)?;
-    let name = read_name(alloc, name)?;
-    Ok((name, read_strategy(alloc, writer)?))
-}
-
-#[cycle(strategy)]
-#[tactic(auto, using(crate::proofs::Steps::form_rules), unfolding(crate::specs::Forms::table_of))]
-fn read_table(alloc: Global, value: &Value) -> Result<Strategy, StrategyError>
-    ensures { Gives way result (table_of strategy_of (view value.now)) }
-{
-    if !has_members(value, 4) {
-        return Err(StrategyError::Wrong);
-    }
-    let (validity, leaf) = both_at(alloc, value, "validity", "leaf")?;
-    let overrides = overrides_at(alloc, value)?;
-    let lists = lists_at(alloc, value)?;
-    with_overrides(alloc, validity, leaf, overrides, lists)
-}
-
-#[cycle(strategy)]
-#[tactic(auto, using(crate::proofs::Steps::list_rules), unfolding(crate::specs::Parts::all))]
-fn read_overrides(alloc: Global, value: &Value) -> Result<Vec<(FieldPath, Strategy)>, StrategyError>
-    ensures { Gives (λ v. map path_way v.items) result (all (pair (all as_str) strategy_of) (view value.now)) }
-{
-    let items = read_items(value)?;
-    let mut overrides = Vec::with_capacity(alloc, items.len())?;
-    for item in items {
-        overrides.push(read_override(alloc, item)?)?;
-    }
-    Ok(overrides)
-}
-
-#[cycle(strategy)]
-#[tactic(auto, using(crate::proofs::Steps::form_rules), unfolding(crate::specs::Parts::pair))]
-fn read_override(alloc: Global, value: &Value) -> Result<(FieldPath, Strategy), StrategyError>
-    ensures { Gives path_way result (pair (all as_str) strategy_of (view value.now)) }
-{
-    let (path, writer) = two(value)?;
-    let path = read_path(alloc, path)?;
-    Ok((path, read_strategy(alloc, writer)?))
-}
-
-/// Wrappers, or null.
-#[cycle(strategy)]
-#[tactic(auto, using(crate::proofs::Steps::form_rules), unfolding(crate::specs::Parts::or_null))]
-fn read_lists(alloc: Global, value: &Value) -> Result<Option<Vec<ListWrapper>>, StrategyError>
-    ensures { Gives list_wraps result (or_null (all (wrap_form strategy_of)) (view value.now)) }
-{
-    match value {
-        Value::Null => Ok(None),
-        Value::Bool(_) | Value::Number(_) | Value::String(_) | Value::Array(_) | Value::Object(_) =>
-            Ok(Some(read_wraps(alloc, value)?)),
-    }
-}
-
-#[cycle(strategy)]
-#[tactic(auto, using(crate::proofs::Steps::list_rules), unfolding(crate::specs::Parts::all))]
-fn read_wraps(alloc: Global, value: &Value) -> Result<Vec<ListWrapper>, StrategyError>
-    ensures { Gives (λ v. map wrap v.items) result (all (wrap_form strategy_of) (view value.now)) }
-{
-    let items = read_items(value)?;
-    let mut wraps = Vec::with_capacity(alloc, items.len())?;
-    for item in items {
-        wraps.push(read_wrap(alloc, item)?)?;
-    }
-    Ok(wraps)
-}
-
-/// What wraps a list layout: an object of one member, whose key is the kind. The constructors that may refuse it are
-/// asked where it is used.
-#[cycle(strategy)]
-#[tactic(auto, using(crate::proofs::Steps::form_rules), unfolding(crate::specs::Forms::wrap_of))]
-pub fn read_wrap(alloc: Global, value: &Value) -> Result<ListWrapper, StrategyError>
-    ensures { Gives wrap result (wrap_of (view value.now)) }
-{
-    match only_member(value) {
-        Some((kind, inner)) => read_wrap_kind(alloc, kind, inner),
-        None => Err(StrategyError::Wrong),
-    }
-}
-
-#[cycle(strategy)]
-#[tactic(auto, using(crate::proofs::Steps::form_rules), unfolding(crate::specs::Forms::kind_of_wrap))]
-fn read_wrap_kind(alloc: Global, kind: &str, value: &Value) -> Result<ListWrapper, StrategyError>
-    ensures { Gives wrap result (kind_of_wrap strategy_of (kind.now, view value.now)) }
-{
-    match kind {
-        "repartition" => read_grouped_around(value),
-        "buffered" => read_buffered_around(value),
-        "zoned" => read_zoned_around(alloc, value),
-        _ => Err(StrategyError::Wrong),
-    }
-}
-
-#[cycle(strategy)]
-#[tactic(auto, using(crate::proofs::Steps::form_rules), unfolding(crate::specs::Forms::zoned_around))]
-fn read_zoned_around(alloc: Global, value: &Value) -> Result<ListWrapper, StrategyError>
-    ensures { Gives wrap result (zoned_around strategy_of (view value.now)) }
-{
-    if !has_members(value, 4) {
-        return Err(StrategyError::Wrong);
-    }
-    let options = read_zones(alloc, value)?;
-    let stats = strategy_at(alloc, value, "stats")?;
-    Ok(ListWrapper::Zoned(stats, options))
 }

@@ -2,9 +2,9 @@
 #![tactic(auto)]
 
 pub use vx_chunk::{Chunk, ChunkError, Node, conditions};
-pub use vx_encode::{EncodeError, encode_segment};
 pub use vx_model::{
     ArrayContext, Blob, Cell, ContextError, DType, EncodingId, ExtDType, FieldName, IdTooLarge,
     Nullability, PType, SegmentId, StructField, StructFields, Text, Value,
 };
 pub use vx_path::owned::Path;
+pub use vx_segment_writer::{EncodeError, encode_segment};

@@ -5,13 +5,13 @@ use Rattle.vx_model.specs.declared.ptype.PType.TheVariants.{U64, I32, I64}
 use Rattle.vx_model.specs.declared.encoding.EncodingId.{EncodingId}
 use Rattle.vx_model.specs.declared.encoding.EncodingId.TheVariants as encodings
 use Rattle.vx_model.specs.Ty.{Ty, primitive, list, struct, field, no_fields}
-use Rattle.vx_model.specs.Tree.{Tree, int_cell}
-use Rattle.vx_model.specs.Piece.{Piece, plain_piece, chunked_piece, pieces_of, list_piece}
-use Rattle.vx_tree.specs.LayoutTree.{flat_layout}
-use Rattle.vx_encode.specs.Segment.{encode, tree_bytes, refused}
+use Rattle.vx_model.specs.CellData.{CellData, int_cell}
+use Rattle.vx_model.specs.ChunkData.{ChunkData, plain_piece, chunked_piece, pieces_of, list_piece}
+use Rattle.vx_layout_spec.specs.LayoutTree.{flat_layout}
+use Rattle.vx_segment_writer.specs.Segment.{encode, tree_bytes, refused}
 use Rattle.vx_plan.specs.PlanData.{Setting, Item, paths}
 use Rattle.vx_plan.specs.GroupNode.{grouped_stream}
-use Rattle.vx_plan.specs.Way.{Way, ZonedOptions, flat, chunked, grouped, into_one, zoned, listed}
+use Rattle.vx_strategy_spec.specs.StrategyData.{StrategyData, ZonedOptions, flat, chunked, grouped, into_one, zoned, listed}
 use Rattle.vx_plan.specs.SourcePlan.{source_plan, batch_items}
 use Rattle.vx_plan.specs.Number.{segments, numbered}
 
@@ -27,13 +27,13 @@ setting = record {
   hash = λ b. 0;
 }
 
-flats : Way
+flats : StrategyData
 flats = flat (record { padding = true; inline = false })
 
-chunks : Way
+chunks : StrategyData
 chunks = chunked (flat (record { padding = true; inline = false }))
 
-i64s : List ℕ → Piece
+i64s : List ℕ → ChunkData
 i64s ns = plain_piece (primitive I64 false) (map (λ n. int_cell (pos n)) ns)
 
 -- two batches: 53 and 45 bytes
@@ -53,7 +53,7 @@ one_node = (0 ∷ 0 ∷ []) ++ ((1 ∷ replicate 7 0) ++ ((0 ∷ 1 ∷ []) ++ ((
 
 -- ---- collected: one chunk at the last one's path, in the chunked encoding, a segment of 101 bytes
 
-both_batches : List Piece
+both_batches : List ChunkData
 both_batches = i64s (1 ∷ []) ∷ i64s (2 ∷ []) ∷ []
 
 collected_paths : paths (source_plan setting (grouped into_one chunks) (primitive I64 false) false both_batches true).pairs ≡ (0 ∷ 1 ∷ []) ∷ []
@@ -83,7 +83,7 @@ collected_length = refl
 zones_of_3 : ZonedOptions
 zones_of_3 = record { zone_len = 3; aggregates = None; concurrency = 1 }
 
-nine : List Piece
+nine : List ChunkData
 nine = plain_piece (primitive I32 false) (int_cell (pos 1) ∷ int_cell (pos 2) ∷ int_cell (pos 3) ∷ [])
     ∷ plain_piece (primitive I32 false) (int_cell (pos 4) ∷ int_cell (pos 5) ∷ int_cell (pos 6) ∷ [])
     ∷ plain_piece (primitive I32 false) (int_cell (pos 7) ∷ int_cell (pos 8) ∷ int_cell (pos 9) ∷ []) ∷ []

@@ -5,23 +5,23 @@ use Rattle.vx_model.specs.declared.encoding.EncodingId.{EncodingId}
 use Rattle.vx_model.specs.declared.ptype.PType.TheVariants.{U8, U16, U32, U64, I8, I16, I32, I64}
 use Rattle.vx_model.specs.Ty.{Ty, boolean, primitive, utf8, binary, list, struct, extension}
 use Rattle.vx_model.specs.TyLaws.{ty_eq_decides}
-use Rattle.vx_model.specs.Piece.{Piece, piece_type}
-use Rattle.vx_encode.specs.Segment.{encode, refused, bytes_unless, segment_bytes}
+use Rattle.vx_model.specs.ChunkData.{ChunkData, piece_type}
+use Rattle.vx_segment_writer.specs.Segment.{encode, refused, bytes_unless, segment_bytes}
 use Rattle.vx_path.specs.Lists.{In}
-use Rattle.vx_tree.specs.LayoutTree.{Lay, gathered}
+use Rattle.vx_layout_spec.specs.LayoutTree.{LayoutData, gathered}
 use Rattle.vx_plan.specs.PlanData.{Setting, Fault}
-use Rattle.vx_plan.specs.Way.{Way, FlatOptions, flat, chunked}
+use Rattle.vx_strategy_spec.specs.StrategyData.{StrategyData, FlatOptions, flat, chunked}
 use Rattle.vx_plan.specs.FlatNode.{refused_at, inlined}
 use Rattle.vx_plan.specs.SourcePlan.{source_plan, taken_plan, of_schema}
 use Rattle.vx_plan.specs.InOrder.{InOrder, ChunksInOrder, batch_rows, batch_segments, batch_refusals, batch_flats, batch_pairs}
 use Rattle.vx_plan.specs.Number.{segments, numbered, segment_at}
 use Rattle.vx_plan.specs.Valid.{Fit, OfSchema, AllOf, Valid}
 use Rattle.vx_plan.specs.SourcePlan.{source_values}
-use Rattle.vx_tree.specs.Rows.{rows}
-use Rattle.vx_sink.specs.Told.{before_told, then_told, NoneTold}
+use Rattle.vx_layout_spec.specs.Rows.{rows}
+use Rattle.vx_fault.specs.Told.{before_told, then_told, NoneTold}
 use Rattle.vx_write.proofs.Steps.{stored-append, told_same, then_same}
 use Rattle.vx_write.specs.InOrder.{stored_of, flats_of, AllWritten, ReadsBack, AllShort, Finished, Halted}
-use Rattle.vx_segment.specs.Codec.{segment_codec}
+use Rattle.vx_segment_reader.specs.Codec.{segment_codec}
 use Rattle.vx_write.proofs.Back.{rows_back}
 use Rattle.vx_write.proofs.Numbers.{Short, numbers_fit, nothing_held}
 use Rattle.vx_write.specs.Stream.{Writes, WasValid, Stands, is_built, is_built_way, is_built_type}
@@ -32,7 +32,7 @@ both : (a b : Bool) → (a && b) ≡ true → (a ≡ true) × (b ≡ true)
 both true b e = (refl, e)
 both false b e = absurd (let f : false ≡ true = e in cc)
 
-pub record IsBuilt (w : Way) : Type 0 where
+pub record IsBuilt (w : StrategyData) : Type 0 where
   pub options : FlatOptions
   pub chunks : w ≡ chunked (flat options)
   pub padded : options.padding ≡ true
@@ -42,12 +42,12 @@ not_true : (b : Bool) → not b ≡ true → b ≡ false
 not_true true e = absurd (let f : false ≡ true = e in cc)
 not_true false e = refl
 
-built_way : (w : Way) → is_built_way w ≡ true → IsBuilt w
+built_way : (w : StrategyData) → is_built_way w ≡ true → IsBuilt w
 built_way (chunked (flat o)) e = let h = both o.padding _ e in record { options = o; chunks = refl; padded = h.0; apart = not_true o.inline h.1 }
 built_way (chunked w) e = absurd (let f : false ≡ true = e in cc)
 built_way w e = absurd (let f : false ≡ true = e in cc)
 
-pub built : (w : Way) (t : Ty) → is_built w t ≡ true → IsBuilt w
+pub built : (w : StrategyData) (t : Ty) → is_built w t ≡ true → IsBuilt w
 built w t e = built_way w (both (is_built_way w) (is_built_type t) e).0
 
 pub built_type : (t : Ty) → is_built_type t ≡ true → t ≡ primitive I64 false
@@ -67,7 +67,7 @@ built_type (list t n) e = absurd (let f : false ≡ true = e in cc)
 built_type (struct fs n) e = absurd (let f : false ≡ true = e in cc)
 built_type (extension tag t) e = absurd (let f : false ≡ true = e in cc)
 
-pub requires_type : (w : Way) (t : Ty) → is_built w t ≡ true → t ≡ primitive I64 false
+pub requires_type : (w : StrategyData) (t : Ty) → is_built w t ≡ true → t ≡ primitive I64 false
 requires_type w t e = built_type t (both (is_built_way w) (is_built_type t) e).1
 
 -- ---- the same words at a setting that writes these encodings
@@ -81,60 +81,60 @@ fits_in [] n fit is = absurd is
 fits_in (m ∷ ns) n fit (inl e) = rw e fit.0
 fits_in (m ∷ ns) n fit (inr is) = fits_in ns n fit.1 is
 
-told_end : (taken : List Piece) (a c : Option (List Piece)) (xs : List Piece) → a ≡ before_told taken c → NoneTold c → a ≡ Some xs → taken ≡ xs
+told_end : (taken : List ChunkData) (a c : Option (List ChunkData)) (xs : List ChunkData) → a ≡ before_told taken c → NoneTold c → a ≡ Some xs → taken ≡ xs
 told_end taken a None xs e none told = absurd (let g : None ≡ Some xs = sym e ∙ told in cc)
 told_end taken a (Some zs) xs e none told =
     let g : Some (taken ++ zs) ≡ Some xs = sym e ∙ told in
     let h : taken ++ zs ≡ xs = cc in
-    sym (append-nil taken) ∙ (ap (λ (r : List Piece). taken ++ r) (sym none) ∙ h)
+    sym (append-nil taken) ∙ (ap (λ (r : List ChunkData). taken ++ r) (sym none) ∙ h)
 
-schema_written : (ids : List EncodingId) (t : Ty) (taken last : List Piece) → AllWritten ids t taken → of_schema t (taken ++ last) ≡ taken ++ of_schema t last
+schema_written : (ids : List EncodingId) (t : Ty) (taken last : List ChunkData) → AllWritten ids t taken → of_schema t (taken ++ last) ≡ taken ++ of_schema t last
 schema_written ids t [] last all = refl
 schema_written ids t (b ∷ bs) last all = rw ((ty_eq_decides (piece_type b) t).1 all.0, schema_written ids t bs last all.2) refl
 
-module _ (ids : List EncodingId) (s : Setting) (writes : Writes ids s) (w : Way) (b : IsBuilt w) (law : ChunksInOrder) where
-  in_order : (t : Ty) (xs : List Piece) (ended : Bool) → InOrder s b.options w t false xs ended
-  in_order t xs ended = subst (λ (v : Way). InOrder s b.options v t false xs ended) (sym b.chunks) (law s b.options (flat b.options) t false xs ended refl)
+module _ (ids : List EncodingId) (s : Setting) (writes : Writes ids s) (w : StrategyData) (b : IsBuilt w) (law : ChunksInOrder) where
+  in_order : (t : Ty) (xs : List ChunkData) (ended : Bool) → InOrder s b.options w t false xs ended
+  in_order t xs ended = subst (λ (v : StrategyData). InOrder s b.options v t false xs ended) (sym b.chunks) (law s b.options (flat b.options) t false xs ended refl)
 
-  refused_is : (p : Piece) → s.codec.refused s.encodings p ≡ refused ids p
+  refused_is : (p : ChunkData) → s.codec.refused s.encodings p ≡ refused ids p
   refused_is p = rw (writes.refuses, writes.listed) refl
 
-  encode_is : (padding : Bool) (p : Piece) → s.codec.encode s.encodings padding p ≡ encode ids padding p
+  encode_is : (padding : Bool) (p : ChunkData) → s.codec.encode s.encodings padding p ≡ encode ids padding p
   encode_is padding p = rw (writes.encodes, writes.listed) refl
 
-  stored_is : (bs : List Piece) → batch_segments s b.options bs ≡ stored_of ids bs
+  stored_is : (bs : List ChunkData) → batch_segments s b.options bs ≡ stored_of ids bs
   stored_is [] = refl
   stored_is (p ∷ bs) = rw (encode_is b.options.padding p, b.padded, stored_is bs) refl
 
-  inlined_is : (p : Piece) → inlined s b.options ([], p) ≡ None
+  inlined_is : (p : ChunkData) → inlined s b.options ([], p) ≡ None
   inlined_is p = rw b.apart refl
 
-  flats_is : (t : Ty) (first : ℕ) (bs : List Piece) → batch_flats s b.options t first bs ≡ flats_of ids t first bs
+  flats_is : (t : Ty) (first : ℕ) (bs : List ChunkData) → batch_flats s b.options t first bs ≡ flats_of ids t first bs
   flats_is t first [] = refl
   flats_is t first (p ∷ bs) = rw (inlined_is p, writes.listed, flats_is t (suc first) bs) refl
 
-  refusals_none : (i : ℕ) (t : Ty) (bs : List Piece) → AllWritten ids t bs → batch_refusals s i bs ≡ []
+  refusals_none : (i : ℕ) (t : Ty) (bs : List ChunkData) → AllWritten ids t bs → batch_refusals s i bs ≡ []
   refusals_none i t [] all = refl
   refusals_none i t (p ∷ bs) all = rw (refused_is p, all.1, refusals_none (suc i) t bs all.2) refl
 
-  encodes : (padding : Bool) (p : Piece) → s.codec.refused s.encodings p ≡ None → (bytes : List ℕ) × (s.codec.encode s.encodings padding p ≡ Some bytes)
+  encodes : (padding : Bool) (p : ChunkData) → s.codec.refused s.encodings p ≡ None → (bytes : List ℕ) × (s.codec.encode s.encodings padding p ≡ Some bytes)
   encodes padding p none = (segment_bytes ids padding p, encode_is padding p ∙ ap (λ (r : Option EncodingId). bytes_unless r (segment_bytes ids padding p)) (sym (refused_is p) ∙ none))
 
-  none_refused : (i : ℕ) (t : Ty) (bs : List Piece) → batch_refusals s i bs ≡ [] → OfSchema t bs → AllWritten ids t bs
+  none_refused : (i : ℕ) (t : Ty) (bs : List ChunkData) → batch_refusals s i bs ≡ [] → OfSchema t bs → AllWritten ids t bs
   none_refused i t [] none typed = tt
   none_refused i t (p ∷ bs) none typed =
       let split = none_at (0 ∷ i ∷ []) (s.codec.refused s.encodings p) (batch_refusals s (suc i) bs) none in
       (typed.0, sym (refused_is p) ∙ split.0, none_refused (suc i) t bs split.1 typed.1)
 
-  stored_count : (t : Ty) (bs : List Piece) → AllWritten ids t bs → length (stored_of ids bs) ≡ length bs
+  stored_count : (t : Ty) (bs : List ChunkData) → AllWritten ids t bs → length (stored_of ids bs) ≡ length bs
   stored_count t [] all = refl
   stored_count t (p ∷ bs) all = rw (all.1, stored_count t bs all.2) refl
 
-  pairs_count : (i : ℕ) (t : Ty) (bs : List Piece) → AllWritten ids t bs → length (batch_pairs s b.options i bs) ≡ length bs
+  pairs_count : (i : ℕ) (t : Ty) (bs : List ChunkData) → AllWritten ids t bs → length (batch_pairs s b.options i bs) ≡ length bs
   pairs_count i t [] all = refl
   pairs_count i t (p ∷ bs) all = rw (encode_is b.options.padding p, all.1, pairs_count (suc i) t bs all.2) refl
 
-  shorts_are : (t : Ty) (bs : List Piece) → AllShort ids bs → Short s b.options t bs
+  shorts_are : (t : Ty) (bs : List ChunkData) → AllShort ids bs → Short s b.options t bs
   shorts_are t [] all = tt
   shorts_are t (p ∷ bs) all = (
     λ bytes is. all.0 bytes (sym (encode_is b.options.padding p ∙ ap (λ (padding : Bool). encode ids padding p) b.padded) ∙ is),
@@ -142,7 +142,7 @@ module _ (ids : List EncodingId) (s : Setting) (writes : Writes ids s) (w : Way)
   )
 
   -- all batches were written
-  module _ (t : Ty) (first next : ℕ) (l : Lay ℕ) (a c : Option (List Piece)) (before now : Option (List (List ℕ))) (xs : List Piece) (told : a ≡ Some xs) (f : Finished ids t first next l a c before now) where
+  module _ (t : Ty) (first next : ℕ) (l : LayoutData ℕ) (a c : Option (List ChunkData)) (before now : Option (List (List ℕ))) (xs : List ChunkData) (told : a ≡ Some xs) (f : Finished ids t first next l a c before now) where
     taken_all : f.taken ≡ xs
     taken_all = told_end f.taken a c xs f.came f.ended told
 
@@ -169,17 +169,17 @@ module _ (ids : List EncodingId) (s : Setting) (writes : Writes ids s) (w : Way)
         let count : first + length xs ≤ max first (2 ^ 32) = rw (f.numbers, taken_all) at last in
         let pairs : length (source_plan s w t false xs true).pairs ≡ length xs = ap length io.pairs ∙ pairs_count 0 t xs all_written in
         let short : Short s b.options t xs = shorts_are t xs (subst (AllShort ids) taken_all f.short) in
-        let fit : Fit (source_plan s (chunked (flat b.options)) t false xs true).numbers = numbers_fit s b.options t xs short (subst (λ (bs : List Piece). batch_rows bs < 2 ^ 64) taken_all f.rows) (omega arith) in
+        let fit : Fit (source_plan s (chunked (flat b.options)) t false xs true).numbers = numbers_fit s b.options t xs short (subst (λ (bs : List ChunkData). batch_rows bs < 2 ^ 64) taken_all f.rows) (omega arith) in
         record {
           faultless = io.faults ∙ refusals_none 0 t xs all_written;
           whole = subst (AllOf t) taken_all f.whole;
           numbered = rw pairs count;
-          fit = subst (λ (v : Way). Fit (source_plan s v t false xs true).numbers) (sym b.chunks) fit;
-          reserved = subst (λ (v : Way). (source_plan s v t false xs true).reserved ≡ 0) (sym b.chunks) (nothing_held s b.options t xs);
+          fit = subst (λ (v : StrategyData). Fit (source_plan s v t false xs true).numbers) (sym b.chunks) fit;
+          reserved = subst (λ (v : StrategyData). (source_plan s v t false xs true).reserved ≡ 0) (sym b.chunks) (nothing_held s b.options t xs);
         }
 
   -- what stands after a refusal
-  pub stands : (t : Ty) (first next : ℕ) (a c : Option (List Piece)) (before now : Option (List (List ℕ))) → Halted ids t first next a c before now
+  pub stands : (t : Ty) (first next : ℕ) (a c : Option (List ChunkData)) (before now : Option (List (List ℕ))) → Halted ids t first next a c before now
       → Stands (λ taken. taken_plan s w t false taken false) first next a c before now
   stands t first next a c before now h = record {
     taken = h.taken ++ h.last;
@@ -192,12 +192,12 @@ module _ (ids : List EncodingId) (s : Setting) (writes : Writes ids s) (w : Way)
   }
 
   -- valid input can be written
-  pub record CanWrite (t : Ty) (first : ℕ) (xs : List Piece) : Type 0 where
+  pub record CanWrite (t : Ty) (first : ℕ) (xs : List ChunkData) : Type 0 where
     pub written : AllWritten ids t xs
     pub numbered : first + length xs ≤ 2 ^ 32
     pub rows : batch_rows xs < 2 ^ 64
 
-  pub can_write : (t : Ty) (first tracker : ℕ) (xs : List Piece) → Valid s w t false first tracker xs → CanWrite t first xs
+  pub can_write : (t : Ty) (first tracker : ℕ) (xs : List ChunkData) → Valid s w t false first tracker xs → CanWrite t first xs
   can_write t first tracker xs v =
       let io = in_order t xs true in
       let all : AllWritten ids t xs = none_refused 0 t xs (sym io.faults ∙ v.faultless) v.of_schema in
@@ -205,7 +205,7 @@ module _ (ids : List EncodingId) (s : Setting) (writes : Writes ids s) (w : Way)
       record { written = all; numbered = rw (← count) v.numbered; rows = fits_in (source_plan s w t false xs true).numbers (batch_rows xs) v.fit io.rows }
 
 -- a refusal before anything was done
-pub stands_still : (ids : List EncodingId) (s : Setting) (w : Way) (t : Ty) (first : ℕ) (a : Option (List Piece)) (before : Option (List (List ℕ)))
+pub stands_still : (ids : List EncodingId) (s : Setting) (w : StrategyData) (t : Ty) (first : ℕ) (a : Option (List ChunkData)) (before : Option (List (List ℕ)))
     → Stands (λ taken. taken_plan s w t false taken false) first first a a before before
 stands_still ids s w t first a before = record {
   taken = [];

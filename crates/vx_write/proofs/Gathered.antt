@@ -1,8 +1,8 @@
 -- What is told of faults, gathered from its parts.
 use Rattle.std.proofs.Common.{◌≡◌, ℕ, zero, suc, ◌+◌, ◌-◌, ◌<◌, Bool, true, false, refl, sym, subst, arith}
 use Rattle.std.specs.Prelude.{IsTrue, ◌⊎◌}
-use Rattle.vx_sink.specs.Counts.{Counts}
-use Rattle.vx_sink.specs.Faults.{FaultsTold}
+use Rattle.vx_fault.specs.Counts.{Counts}
+use Rattle.vx_fault.specs.Faults.{FaultsTold}
 use Rattle.vx_write.specs.declared.error.WriteError.{WriteError}
 use Rattle.vx_write.specs.declared.error.WriteError.TheVariants.{SourceFault, SinkFault, CompressFault, BatchType, NotStruct, DuplicateField, ManyChunks, EmptyList, ZoneCut, ForbiddenAggregate, ForbiddenEncoding, TooLarge, OutOfMemory, Unbuilt}
 use Rattle.vx_write.specs.Causes.{is_source_fault, is_sink_fault}

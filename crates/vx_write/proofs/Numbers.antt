@@ -1,21 +1,21 @@
 -- The numbers in the plan of batches that are chunked over flat, and what it holds back.
 use Rattle.std.proofs.Common.{◌≡◌, ℕ, suc, ◌+◌, ◌<◌, ◌^◌, true, false, List, [], ◌∷◌, ◌++◌, length, Option, Some, None, refl, ap, arith}
 use Rattle.vx_model.specs.Ty.{Ty}
-use Rattle.vx_model.specs.Piece.{Piece, cells}
+use Rattle.vx_model.specs.ChunkData.{ChunkData, cells}
 use Rattle.vx_path.specs.Path.{Eof, next}
 use Rattle.vx_plan.specs.PlanData.{Setting, row_total}
-use Rattle.vx_plan.specs.Way.{FlatOptions, flat, chunked}
+use Rattle.vx_strategy_spec.specs.StrategyData.{FlatOptions, flat, chunked}
 use Rattle.vx_plan.specs.FlatNode.{length_of}
 use Rattle.vx_plan.specs.ChunkedNode.{chunk_plans, all_numbers, all_reserved}
 use Rattle.vx_plan.specs.SourcePlan.{plan, source_plan, batch_items, root_eof}
 use Rattle.vx_plan.specs.InOrder.{batch_rows}
 use Rattle.vx_plan.specs.Valid.{Fit}
 
-item_rows : (i : ℕ) (bs : List Piece) → row_total (batch_items i bs) ≡ batch_rows bs
+item_rows : (i : ℕ) (bs : List ChunkData) → row_total (batch_items i bs) ≡ batch_rows bs
 item_rows i [] = refl
 item_rows i (b ∷ bs) = ap (λ (n : ℕ). length (cells b) + n) (item_rows (suc i) bs)
 
-item_count : (i : ℕ) (bs : List Piece) → length (batch_items i bs) ≡ length bs
+item_count : (i : ℕ) (bs : List ChunkData) → length (batch_items i bs) ≡ length bs
 item_count i [] = refl
 item_count i (b ∷ bs) = ap suc (item_count (suc i) bs)
 
@@ -25,11 +25,11 @@ segment_fits (Some bytes) rest short fit = (short bytes refl, fit)
 
 module _ (s : Setting) (o : FlatOptions) (t : Ty) where
   -- each batch's segment has a length of 64 bits
-  abbrev pub Short : List Piece → Type 0
+  abbrev pub Short : List ChunkData → Type 0
   Short [] = Unit {0}
   Short (b ∷ bs) = ((bytes : List ℕ) → s.codec.encode s.encodings o.padding b ≡ Some bytes → length bytes < 2 ^ 64) × Short bs
 
-  children_fit : (i : ℕ) (bs : List Piece) (e : Eof) → Short bs → batch_rows bs < 2 ^ 64 → Fit (all_numbers (chunk_plans (plan s (flat o) t) false (batch_items i bs) e))
+  children_fit : (i : ℕ) (bs : List ChunkData) (e : Eof) → Short bs → batch_rows bs < 2 ^ 64 → Fit (all_numbers (chunk_plans (plan s (flat o) t) false (batch_items i bs) e))
   children_fit i [] e short below = tt
   children_fit i (b ∷ bs) e short below = (
     omega arith,
@@ -37,13 +37,13 @@ module _ (s : Setting) (o : FlatOptions) (t : Ty) where
         (children_fit (suc i) bs (next e) short.1 (omega arith)),
   )
 
-  pub numbers_fit : (bs : List Piece) → Short bs → batch_rows bs < 2 ^ 64 → length bs + 1 < 2 ^ 64 → Fit (source_plan s (chunked (flat o)) t false bs true).numbers
+  pub numbers_fit : (bs : List ChunkData) → Short bs → batch_rows bs < 2 ^ 64 → length bs + 1 < 2 ^ 64 → Fit (source_plan s (chunked (flat o)) t false bs true).numbers
   numbers_fit bs short below few =
       (omega arith, (rw (item_rows 0 bs) below, (rw (item_count 0 bs) (omega arith), children_fit 0 bs root_eof short below)))
 
-  children_hold : (i : ℕ) (bs : List Piece) (e : Eof) → all_reserved (chunk_plans (plan s (flat o) t) false (batch_items i bs) e) ≡ 0
+  children_hold : (i : ℕ) (bs : List ChunkData) (e : Eof) → all_reserved (chunk_plans (plan s (flat o) t) false (batch_items i bs) e) ≡ 0
   children_hold i [] e = refl
   children_hold i (b ∷ bs) e = rw (children_hold (suc i) bs (next e)) refl
 
-  pub nothing_held : (bs : List Piece) → (source_plan s (chunked (flat o)) t false bs true).reserved ≡ 0
+  pub nothing_held : (bs : List ChunkData) → (source_plan s (chunked (flat o)) t false bs true).reserved ≡ 0
   nothing_held bs = children_hold 0 bs root_eof

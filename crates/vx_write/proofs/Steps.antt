@@ -10,28 +10,28 @@ use Rattle.vx_model.specs.Distinct.{first_repeat}
 use Rattle.vx_model.specs.TyView.{ty}
 use Rattle.vx_model.specs.declared.dtype.DType.{DType}
 use Rattle.std.specs.Ordering.{on}
-use Rattle.vx_model.specs.Piece.{Piece, piece_type, cells, is_sound}
-use Rattle.vx_segment.specs.Codec.{segment_codec}
-use Rattle.vx_segment.proofs.SegmentLaws.{is_lawful}
+use Rattle.vx_model.specs.ChunkData.{ChunkData, piece_type, cells, is_sound}
+use Rattle.vx_segment_reader.specs.Codec.{segment_codec}
+use Rattle.vx_segment_reader.proofs.SegmentLaws.{is_lawful}
 use Rattle.vx_write.proofs.RealIntegers.{integers_whole}
-use Rattle.vx_tree.specs.Codec.{Codec}
-use Rattle.vx_tree.specs.Real.{Whole, Of}
-use Rattle.vx_encode.specs.Segment.{encode, refused}
-use Rattle.vx_tree.specs.LayoutTree.{Lay, row_count}
+use Rattle.vx_layout_spec.specs.Codec.{Codec}
+use Rattle.vx_layout_spec.specs.Real.{Whole, Of}
+use Rattle.vx_segment_writer.specs.Segment.{encode, refused}
+use Rattle.vx_layout_spec.specs.LayoutTree.{LayoutData, row_count}
 use Rattle.vx_plan.specs.InOrder.{batch_rows}
 use Rattle.vx_plan.specs.Valid.{AllOf}
 use Rattle.vx_model.specs.Words.{total_by}
-use Rattle.vx_sink.specs.Told.{before_told, then_told}
+use Rattle.vx_fault.specs.Told.{before_told, then_told}
 use Rattle.vx_write.specs.InOrder.{stored_of, flats_of, AllWritten, ReadsBack, AllShort, Done, BatchWritten, Halted}
 use Rattle.vx_write.specs.declared.error.WriteError.{WriteError}
 use Rattle.vx_write.specs.declared.error.WriteError.TheVariants as errors
 use Rattle.vx_write.specs.Stream.{TookLast, HasCause, BehindBatch, NotAdmitted, NotWritten}
 
-pub told_more : (xs ys : List Piece) (a b c : Option (List Piece)) → a ≡ before_told xs b → b ≡ before_told ys c → a ≡ before_told (xs ++ ys) c
+pub told_more : (xs ys : List ChunkData) (a b c : Option (List ChunkData)) → a ≡ before_told xs b → b ≡ before_told ys c → a ≡ before_told (xs ++ ys) c
 told_more xs ys a b None e f = e ∙ (rw f refl)
 told_more xs ys a b (Some zs) e f = e ∙ (rw (f, append_assoc) refl)
 
-pub told_same : (a : Option (List Piece)) → a ≡ before_told [] a
+pub told_same : (a : Option (List ChunkData)) → a ≡ before_told [] a
 told_same None = refl
 told_same (Some xs) = refl
 
@@ -43,39 +43,39 @@ pub then_same : (a : Option (List (List ℕ))) → a ≡ then_told a []
 then_same None = refl
 then_same (Some xs) = rw (append-nil xs) refl
 
-pub stored-append : (ids : List EncodingId) (xs ys : List Piece) → stored_of ids (xs ++ ys) ≡ stored_of ids xs ++ stored_of ids ys
+pub stored-append : (ids : List EncodingId) (xs ys : List ChunkData) → stored_of ids (xs ++ ys) ≡ stored_of ids xs ++ stored_of ids ys
 stored-append ids [] ys = refl
 stored-append ids (x ∷ xs) ys = rw (stored-append ids xs ys, append_assoc) refl
 
-stored_one : (ids : List EncodingId) (b : Piece) (bytes : List ℕ) → encode ids true b ≡ Some bytes → stored_of ids (b ∷ []) ≡ bytes ∷ []
+stored_one : (ids : List EncodingId) (b : ChunkData) (bytes : List ℕ) → encode ids true b ≡ Some bytes → stored_of ids (b ∷ []) ≡ bytes ∷ []
 stored_one ids b bytes e = rw e refl
 
-flats-append : (ids : List EncodingId) (t : Ty) (first : ℕ) (xs ys : List Piece) → flats_of ids t first (xs ++ ys) ≡ flats_of ids t first xs ++ flats_of ids t (first + length xs) ys
+flats-append : (ids : List EncodingId) (t : Ty) (first : ℕ) (xs ys : List ChunkData) → flats_of ids t first (xs ++ ys) ≡ flats_of ids t first xs ++ flats_of ids t (first + length xs) ys
 flats-append ids t first [] ys = rw (add-zero first) refl
 flats-append ids t first (x ∷ xs) ys =
     let k : suc first + length xs ≡ first + suc (length xs) = omega arith in
     rw (flats-append ids t (suc first) xs ys, k) refl
 
-rows-append : (xs ys : List Piece) → batch_rows (xs ++ ys) ≡ batch_rows xs + batch_rows ys
+rows-append : (xs ys : List ChunkData) → batch_rows (xs ++ ys) ≡ batch_rows xs + batch_rows ys
 rows-append [] ys = omega arith
 rows-append (x ∷ xs) ys = rw (rows-append xs ys) (omega arith)
 
 one_value : {a b : List ℕ} → Some a ≡ Some b → a ≡ b
 one_value e = cc
 
-written-append : (ids : List EncodingId) (t : Ty) (xs : List Piece) (b : Piece) → AllWritten ids t xs → piece_type b ≡ t → refused ids b ≡ None → AllWritten ids t (xs ++ b ∷ [])
+written-append : (ids : List EncodingId) (t : Ty) (xs : List ChunkData) (b : ChunkData) → AllWritten ids t xs → piece_type b ≡ t → refused ids b ≡ None → AllWritten ids t (xs ++ b ∷ [])
 written-append ids t [] b all typed listed = (typed, listed, tt)
 written-append ids t (x ∷ xs) b all typed listed = (all.0, all.1, written-append ids t xs b all.2 typed listed)
 
-back-append : (k : Codec) (ids : List EncodingId) (xs : List Piece) (b : Piece) → ReadsBack k ids xs → ReadsBack k ids (b ∷ []) → ReadsBack k ids (xs ++ b ∷ [])
+back-append : (k : Codec) (ids : List EncodingId) (xs : List ChunkData) (b : ChunkData) → ReadsBack k ids xs → ReadsBack k ids (b ∷ []) → ReadsBack k ids (xs ++ b ∷ [])
 back-append k ids [] b all one = one
 back-append k ids (x ∷ xs) b all one = (all.0, back-append k ids xs b all.1 one)
 
-whole-append : (t : Ty) (xs : List Piece) (b : Piece) → AllOf t xs → Of t b → AllOf t (xs ++ b ∷ [])
+whole-append : (t : Ty) (xs : List ChunkData) (b : ChunkData) → AllOf t xs → Of t b → AllOf t (xs ++ b ∷ [])
 whole-append t [] b all one = (one, tt)
 whole-append t (x ∷ xs) b all one = (all.0, whole-append t xs b all.1 one)
 
-short-append : (ids : List EncodingId) (xs : List Piece) (b : Piece) (bytes : List ℕ) → AllShort ids xs → encode ids true b ≡ Some bytes → length bytes < 2 ^ 64
+short-append : (ids : List EncodingId) (xs : List ChunkData) (b : ChunkData) (bytes : List ℕ) → AllShort ids xs → encode ids true b ≡ Some bytes → length bytes < 2 ^ 64
     → AllShort ids (xs ++ b ∷ [])
 short-append ids [] b bytes all encoded short = (
   λ other is. (let same : bytes ≡ other = one_value (sym encoded ∙ is) in subst (λ (c : List ℕ). length c < 2 ^ 64) same short),
@@ -84,11 +84,11 @@ short-append ids [] b bytes all encoded short = (
 short-append ids (x ∷ xs) b bytes all encoded short = (all.0, short-append ids xs b bytes all.1 encoded short)
 
 -- a chunk of 64-bit integers in memory is a whole chunk
-pub chunk_whole : (p : Piece) → IsTrue (is_sound p) → piece_type p ≡ primitive I64 false → Whole p
+pub chunk_whole : (p : ChunkData) → IsTrue (is_sound p) → piece_type p ≡ primitive I64 false → Whole p
 chunk_whole p sound typed = integers_whole p I64 false sound typed
 
 -- a chunk of 64-bit integers is read back from its segment
-pub chunk_back : (ids : List EncodingId) (p : Piece) (bytes : List ℕ) → first_repeat ids ≡ None → IsTrue (is_sound p) → piece_type p ≡ primitive I64 false
+pub chunk_back : (ids : List EncodingId) (p : ChunkData) (bytes : List ℕ) → first_repeat ids ≡ None → IsTrue (is_sound p) → piece_type p ≡ primitive I64 false
     → encode ids true p ≡ Some bytes → length bytes < 2 ^ 64 → ReadsBack segment_codec ids (p ∷ [])
 chunk_back ids p bytes distinct sound typed encoded short =
     (λ other is. (is_lawful ids distinct).again true p other (chunk_whole p sound typed) is (let same : bytes ≡ other = one_value (sym encoded ∙ is) in subst (λ (b : List ℕ). length b < 2 ^ 64) same short), tt)
@@ -101,11 +101,11 @@ not_false false e = e
 pub same_type : (d e : DType) (t : Ty) → ty d ≡ t → false ≡ not (on ty ty_eq d e) → t ≡ ty e
 same_type d e t is same = sym is ∙ (ty_eq_decides (ty d) (ty e)).0 (not_false (ty_eq (ty d) (ty e)) same)
 
-pub begins : (ids : List EncodingId) (t : Ty) (first : ℕ) (a : Option (List Piece)) (s : Option (List (List ℕ))) → Done ids t first [] 0 a a s s
+pub begins : (ids : List EncodingId) (t : Ty) (first : ℕ) (a : Option (List ChunkData)) (s : Option (List (List ℕ))) → Done ids t first [] 0 a a s s
 begins ids t first a s = record { taken = []; came = told_same a; count = refl; laid = refl; appended = then_same s; rows = refl; written = tt; whole = tt; short = tt; back = tt }
 
-pub goes_on : {ids : List EncodingId} {t : Ty} {first : ℕ} {flats : List (Lay ℕ)} {total : ℕ} {a b : Option (List Piece)} {s u : Option (List (List ℕ))}
-    (p : Piece) (l : Lay ℕ) (c : Option (List Piece)) (v : Option (List (List ℕ))) (next : ℕ) → Done ids t first flats total a b s u
+pub goes_on : {ids : List EncodingId} {t : Ty} {first : ℕ} {flats : List (LayoutData ℕ)} {total : ℕ} {a b : Option (List ChunkData)} {s u : Option (List (List ℕ))}
+    (p : ChunkData) (l : LayoutData ℕ) (c : Option (List ChunkData)) (v : Option (List (List ℕ))) (next : ℕ) → Done ids t first flats total a b s u
     → b ≡ before_told (p ∷ []) c → piece_type p ≡ t → next ≡ first + length flats → BatchWritten ids next p l u v
     → Done ids t first (flats ++ l ∷ []) (total + length (cells p)) a c s v
 goes_on {ids} {t} {first} {flats} {total} {a} {b} {s} {u} p l c v next d came typed number w = record {
@@ -123,22 +123,22 @@ goes_on {ids} {t} {first} {flats} {total} {a} {b} {s} {u} p l c v next d came ty
 
 -- ---- the layouts have the rows of the batches
 
-flats_rows : (ids : List EncodingId) (t : Ty) (first : ℕ) (bs : List Piece) → total_by row_count (flats_of ids t first bs) ≡ batch_rows bs
+flats_rows : (ids : List EncodingId) (t : Ty) (first : ℕ) (bs : List ChunkData) → total_by row_count (flats_of ids t first bs) ≡ batch_rows bs
 flats_rows ids t first [] = refl
 flats_rows ids t first (b ∷ bs) = rw (flats_rows ids t (suc first) bs) refl
 
-pub done_rows : {ids : List EncodingId} {t : Ty} {first : ℕ} {flats : List (Lay ℕ)} {total : ℕ} {a b : Option (List Piece)} {s u : Option (List (List ℕ))}
+pub done_rows : {ids : List EncodingId} {t : Ty} {first : ℕ} {flats : List (LayoutData ℕ)} {total : ℕ} {a b : Option (List ChunkData)} {s u : Option (List (List ℕ))}
     → Done ids t first flats total a b s u → total_by row_count flats ≡ total
 done_rows {ids} {t} {first} d = rw (d.laid, d.rows) (flats_rows ids t first d.taken)
 
-pub rows_fit : {ids : List EncodingId} {t : Ty} {first : ℕ} {flats : List (Lay ℕ)} {total : ℕ} {a b : Option (List Piece)} {s u : Option (List (List ℕ))}
+pub rows_fit : {ids : List EncodingId} {t : Ty} {first : ℕ} {flats : List (LayoutData ℕ)} {total : ℕ} {a b : Option (List ChunkData)} {s u : Option (List (List ℕ))}
     (d : Done ids t first flats total a b s u) → total < 2 ^ 64 → batch_rows d.taken < 2 ^ 64
 rows_fit d below = rw (← d.rows) below
 
 -- ---- the last batch taken isn't written
 
-pub halted_last : {ids : List EncodingId} {t : Ty} {first : ℕ} {flats : List (Lay ℕ)} {total : ℕ} {a b : Option (List Piece)} {s u : Option (List (List ℕ))}
-    (p : Piece) (c : Option (List Piece)) (v : Option (List (List ℕ))) (next : ℕ) → Done ids t first flats total a b s u
+pub halted_last : {ids : List EncodingId} {t : Ty} {first : ℕ} {flats : List (LayoutData ℕ)} {total : ℕ} {a b : Option (List ChunkData)} {s u : Option (List (List ℕ))}
+    (p : ChunkData) (c : Option (List ChunkData)) (v : Option (List (List ℕ))) (next : ℕ) → Done ids t first flats total a b s u
     → b ≡ before_told (p ∷ []) c → v ≡ u → next ≡ first + length flats → Halted ids t first next a c s v
 halted_last {a = a} {b = b} p c v next d came same number = record {
   taken = d.taken;
@@ -150,15 +150,15 @@ halted_last {a = a} {b = b} p c v next d came same number = record {
   numbers = rw (← d.count) number;
 }
 
-abbrev pub took_last : {ids : List EncodingId} {t : Ty} {first : ℕ} {flats : List (Lay ℕ)} {total : ℕ} {a b : Option (List Piece)} {s u : Option (List (List ℕ))}
-    (p : Piece) (c : Option (List Piece)) → Done ids t first flats total a b s u → b ≡ before_told (p ∷ []) c → TookLast t ids a c p
+abbrev pub took_last : {ids : List EncodingId} {t : Ty} {first : ℕ} {flats : List (LayoutData ℕ)} {total : ℕ} {a b : Option (List ChunkData)} {s u : Option (List (List ℕ))}
+    (p : ChunkData) (c : Option (List ChunkData)) → Done ids t first flats total a b s u → b ≡ before_told (p ∷ []) c → TookLast t ids a c p
 took_last {a = a} {b = b} p c d came = record { front = d.taken; came = told_more d.taken (p ∷ []) a b c d.came came; written = d.written }
 
-pub admit_cause : {ids : List EncodingId} {t : Ty} {first : ℕ} {flats : List (Lay ℕ)} {total : ℕ} {a b : Option (List Piece)} {s u : Option (List (List ℕ))}
-    (p : Piece) (c : Option (List Piece)) (next : ℕ) (r : Ty) (e : WriteError) → Done ids t first flats total a b s u
+pub admit_cause : {ids : List EncodingId} {t : Ty} {first : ℕ} {flats : List (LayoutData ℕ)} {total : ℕ} {a b : Option (List ChunkData)} {s u : Option (List (List ℕ))}
+    (p : ChunkData) (c : Option (List ChunkData)) (next : ℕ) (r : Ty) (e : WriteError) → Done ids t first flats total a b s u
     → b ≡ before_told (p ∷ []) c → r ≡ t → NotAdmitted r p total e → HasCause t ids ⊥ next a c e
 admit_cause {ids = ids} {t = t} {a = a} p c next r (errors.BatchType chunk) d came typed h =
-    let Q : Piece → Type 0 = λ q. (¬ (piece_type q ≡ t)) × TookLast t ids a c q in
+    let Q : ChunkData → Type 0 = λ q. (¬ (piece_type q ≡ t)) × TookLast t ids a c q in
     subst Q (sym h.0) (λ same. h.1 (same ∙ sym typed), took_last p c d came)
 admit_cause p c next r (errors.TooLarge n) d came typed h = inr (record {
   batch = p;
@@ -180,8 +180,8 @@ admit_cause p c next r (errors.ForbiddenEncoding id) d came typed h = absurd h
 admit_cause p c next r errors.OutOfMemory d came typed h = tt
 admit_cause p c next r errors.Unbuilt d came typed h = h
 
-pub write_cause : {ids : List EncodingId} {t : Ty} {first : ℕ} {flats : List (Lay ℕ)} {total : ℕ} {a b : Option (List Piece)} {s u : Option (List (List ℕ))}
-    (p : Piece) (c : Option (List Piece)) (next : ℕ) (e : WriteError) → Done ids t first flats total a b s u
+pub write_cause : {ids : List EncodingId} {t : Ty} {first : ℕ} {flats : List (LayoutData ℕ)} {total : ℕ} {a b : Option (List ChunkData)} {s u : Option (List (List ℕ))}
+    (p : ChunkData) (c : Option (List ChunkData)) (next : ℕ) (e : WriteError) → Done ids t first flats total a b s u
     → b ≡ before_told (p ∷ []) c → piece_type p ≡ t → NotWritten ids next p e → HasCause t ids ⊥ next a c e
 write_cause p c next (errors.ForbiddenEncoding id) d came typed h = record { batch = p; last = took_last p c d came; typed = typed; first = h }
 write_cause p c next (errors.TooLarge n) d came typed h = inl (record { batch = p; last = took_last p c d came; typed = typed; listed = h.0; number = h.1; large = h.2 })
@@ -226,23 +226,23 @@ more_passed before now n all later never k below = below_more (λ (j : ℕ). ¬ 
 
 -- ---- where all batches told can be written
 
-told_is : (front : List Piece) (a c : Option (List Piece)) (xs : List Piece) → a ≡ before_told front c → a ≡ Some xs → (zs : List Piece) × (xs ≡ front ++ zs)
+told_is : (front : List ChunkData) (a c : Option (List ChunkData)) (xs : List ChunkData) → a ≡ before_told front c → a ≡ Some xs → (zs : List ChunkData) × (xs ≡ front ++ zs)
 told_is front a None xs e f = absurd (let g : None ≡ Some xs = sym e ∙ f in cc)
 told_is front a (Some zs) xs e f = (zs, let g : Some (front ++ zs) ≡ Some xs = sym e ∙ f in cc)
 
-written_at : (ids : List EncodingId) (t : Ty) (taken : List Piece) (p : Piece) (zs : List Piece) → AllWritten ids t ((taken ++ p ∷ []) ++ zs) → (piece_type p ≡ t) × (refused ids p ≡ None)
+written_at : (ids : List EncodingId) (t : Ty) (taken : List ChunkData) (p : ChunkData) (zs : List ChunkData) → AllWritten ids t ((taken ++ p ∷ []) ++ zs) → (piece_type p ≡ t) × (refused ids p ≡ None)
 written_at ids t [] p zs h = (h.0, h.1)
 written_at ids t (x ∷ taken) p zs h = written_at ids t taken p zs h.2
 
 -- the next batch is one of those told
-pub record NextIsTold (ids : List EncodingId) (t : Ty) (p : Piece) (taken xs : List Piece) : Type 0 where
+pub record NextIsTold (ids : List EncodingId) (t : Ty) (p : ChunkData) (taken xs : List ChunkData) : Type 0 where
   pub typed : piece_type p ≡ t
   pub listed : refused ids p ≡ None
   pub rows : batch_rows taken + length (cells p) ≤ batch_rows xs
   pub more : length taken + 1 ≤ length xs
 
-pub next_is_told : {ids : List EncodingId} {t : Ty} {first : ℕ} {flats : List (Lay ℕ)} {total : ℕ} {a b : Option (List Piece)} {s u : Option (List (List ℕ))}
-    (p : Piece) (c : Option (List Piece)) (xs : List Piece) (d : Done ids t first flats total a b s u)
+pub next_is_told : {ids : List EncodingId} {t : Ty} {first : ℕ} {flats : List (LayoutData ℕ)} {total : ℕ} {a b : Option (List ChunkData)} {s u : Option (List (List ℕ))}
+    (p : ChunkData) (c : Option (List ChunkData)) (xs : List ChunkData) (d : Done ids t first flats total a b s u)
     → b ≡ before_told (p ∷ []) c → a ≡ Some xs → AllWritten ids t xs → NextIsTold ids t p d.taken xs
 next_is_told {ids} {t} {a = a} {b = b} p c xs d came told all =
     let split = told_is (d.taken ++ p ∷ []) a c xs (told_more d.taken (p ∷ []) a b c d.came came) told in
@@ -254,7 +254,7 @@ next_is_told {ids} {t} {a = a} {b = b} p c xs d came told all =
       more = rw (split.1, length-append (d.taken ++ p ∷ []) split.0, length-append d.taken (p ∷ [])) (omega arith);
     }
 
-pub never_admits : {ids : List EncodingId} {t : Ty} {p : Piece} {taken xs : List Piece} (total : ℕ) (r : Ty) (e : WriteError) → NextIsTold ids t p taken xs
+pub never_admits : {ids : List EncodingId} {t : Ty} {p : ChunkData} {taken xs : List ChunkData} (total : ℕ) (r : Ty) (e : WriteError) → NextIsTold ids t p taken xs
     → total ≡ batch_rows taken → r ≡ t → batch_rows xs < 2 ^ 64 → NotAdmitted r p total e → ⊥
 never_admits total r (errors.BatchType chunk) n is typed fits h = h.1 (n.typed ∙ sym typed)
 never_admits total r (errors.TooLarge k) n is typed fits h = omega (arith, n.rows, h.1, h.2)

@@ -4,8 +4,8 @@ use Rattle.vx_sink.specs.declared.source.SourceError.{SourceError}
 use Rattle.vx_sink.specs.declared.source.SourceError.TheVariants as source
 use Rattle.vx_sink.specs.declared.sink.SinkError.{SinkError}
 use Rattle.vx_sink.specs.declared.sink.SinkError.TheVariants as sink
-use Rattle.vx_encode.specs.declared.error.EncodeError.{EncodeError}
-use Rattle.vx_encode.specs.declared.error.EncodeError.TheVariants as encoding
+use Rattle.vx_segment_writer.specs.declared.error.EncodeError.{EncodeError}
+use Rattle.vx_segment_writer.specs.declared.error.EncodeError.TheVariants as encoding
 use Rattle.vx_write.specs.declared.error.WriteError.{WriteError}
 use Rattle.vx_write.specs.declared.error.WriteError.TheVariants.{SourceFault, SinkFault, CompressFault, ForbiddenEncoding, OutOfMemory, Unbuilt}
 

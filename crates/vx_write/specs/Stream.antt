@@ -4,19 +4,19 @@ use Rattle.vx_model.specs.declared.encoding.EncodingId.{EncodingId}
 use Rattle.vx_model.specs.declared.ptype.PType.{PType}
 use Rattle.vx_model.specs.declared.ptype.PType.TheVariants.{I64}
 use Rattle.vx_model.specs.Ty.{Ty, primitive}
-use Rattle.vx_model.specs.Piece.{Piece, piece_type, cells}
+use Rattle.vx_model.specs.ChunkData.{ChunkData, piece_type, cells}
 use Rattle.vx_chunk.specs.ChunkView.{piece}
-use Rattle.vx_encode.specs.Segment.{encode, refused, tree_bytes}
+use Rattle.vx_segment_writer.specs.Segment.{encode, refused, tree_bytes}
 use Rattle.vx_plan.specs.PlanData.{Setting, Plan}
-use Rattle.vx_plan.specs.Way.{Way, FlatOptions, flat, chunked}
+use Rattle.vx_strategy_spec.specs.StrategyData.{StrategyData, FlatOptions, flat, chunked}
 use Rattle.vx_plan.specs.InOrder.{batch_rows}
 use Rattle.vx_plan.specs.Number.{segments, numbered, segment_at}
 use Rattle.vx_plan.specs.SourcePlan.{source_plan, source_values}
-use Rattle.vx_tree.specs.LayoutTree.{Lay}
-use Rattle.vx_tree.specs.Rows.{rows}
-use Rattle.vx_segment.specs.Codec.{segment_codec}
+use Rattle.vx_layout_spec.specs.LayoutTree.{LayoutData}
+use Rattle.vx_layout_spec.specs.Rows.{rows}
+use Rattle.vx_segment_reader.specs.Codec.{segment_codec}
 use Rattle.vx_plan.specs.Valid.{Fit, AllOf}
-use Rattle.vx_sink.specs.Told.{before_told, then_told}
+use Rattle.vx_fault.specs.Told.{before_told, then_told}
 use Rattle.vx_write.specs.InOrder.{AllWritten}
 use Rattle.vx_write.specs.declared.error.WriteError.{WriteError}
 use Rattle.vx_write.specs.declared.error.WriteError.TheVariants.{SourceFault, SinkFault, CompressFault, BatchType, NotStruct, DuplicateField, ManyChunks, EmptyList, ZoneCut, ForbiddenAggregate, ForbiddenEncoding, TooLarge, OutOfMemory, Unbuilt}
@@ -34,11 +34,11 @@ pub record Writes (ids : List EncodingId) (s : Setting) : Type 0 where
 abbrev pub is_default : FlatOptions → Bool
 is_default o = o.padding && not o.inline
 
-abbrev pub is_flat_default : Way → Bool
+abbrev pub is_flat_default : StrategyData → Bool
 is_flat_default (flat o) = is_default o
 is_flat_default w = false
 
-abbrev pub is_built_way : Way → Bool
+abbrev pub is_built_way : StrategyData → Bool
 is_built_way (chunked w) = is_flat_default w
 is_built_way w = false
 
@@ -51,35 +51,35 @@ is_built_type (primitive p true) = false
 is_built_type (primitive p false) = is_i64 p
 is_built_type t = false
 
-abbrev pub is_built : Way → Ty → Bool
+abbrev pub is_built : StrategyData → Ty → Bool
 is_built w t = is_built_way w && is_built_type t
 
 -- ---- refusals
 
 -- The last batch taken. Those before it are of the type and can be encoded.
-pub record TookLast (t : Ty) (ids : List EncodingId) (to_come_before to_come_now : Option (List Piece)) (b : Piece) : Type 0 where
-  pub front : List Piece
+pub record TookLast (t : Ty) (ids : List EncodingId) (to_come_before to_come_now : Option (List ChunkData)) (b : ChunkData) : Type 0 where
+  pub front : List ChunkData
   pub came : to_come_before ≡ before_told (front ++ b ∷ []) to_come_now
   pub written : AllWritten ids t front
 
 -- the first encoding that isn't listed, of the last batch taken, which is of the type
-pub record NotListed (t : Ty) (ids : List EncodingId) (to_come_before to_come_now : Option (List Piece)) (id : EncodingId) : Type 0 where
-  pub batch : Piece
+pub record NotListed (t : Ty) (ids : List EncodingId) (to_come_before to_come_now : Option (List ChunkData)) (id : EncodingId) : Type 0 where
+  pub batch : ChunkData
   pub last : TookLast t ids to_come_before to_come_now batch
   pub typed : piece_type batch ≡ t
   pub first : refused ids batch ≡ Some id
 
 -- the rows of the batches taken, which are all of the type and don't fit 64 bits
-pub record TookRows (t : Ty) (ids : List EncodingId) (to_come_before to_come_now : Option (List Piece)) (n : ℕ) : Type 0 where
-  pub batch : Piece
+pub record TookRows (t : Ty) (ids : List EncodingId) (to_come_before to_come_now : Option (List ChunkData)) (n : ℕ) : Type 0 where
+  pub batch : ChunkData
   pub last : TookLast t ids to_come_before to_come_now batch
   pub typed : piece_type batch ≡ t
   pub rows : n ≡ batch_rows (last.front ++ batch ∷ [])
   pub large : 2 ^ 64 ≤ n
 
 -- the next segment's number, which doesn't fit 32 bits, and which the last batch taken needs: it can be encoded
-pub record NeedsNumber (t : Ty) (ids : List EncodingId) (next : ℕ) (to_come_before to_come_now : Option (List Piece)) (n : ℕ) : Type 0 where
-  pub batch : Piece
+pub record NeedsNumber (t : Ty) (ids : List EncodingId) (next : ℕ) (to_come_before to_come_now : Option (List ChunkData)) (n : ℕ) : Type 0 where
+  pub batch : ChunkData
   pub last : TookLast t ids to_come_before to_come_now batch
   pub typed : piece_type batch ≡ t
   pub listed : refused ids batch ≡ None
@@ -88,7 +88,7 @@ pub record NeedsNumber (t : Ty) (ids : List EncodingId) (next : ℕ) (to_come_be
 
 -- the cause of an error: a table, one line an error; faults are told by counts, and memory may run out;
 -- `unbuilt` says that a form isn't built
-abbrev pub HasCause : Ty → List EncodingId → Type 0 → ℕ → Option (List Piece) → Option (List Piece) → WriteError → Type 0
+abbrev pub HasCause : Ty → List EncodingId → Type 0 → ℕ → Option (List ChunkData) → Option (List ChunkData) → WriteError → Type 0
 HasCause t ids unbuilt next before now (BatchType c) = (¬ (piece_type (piece c) ≡ t)) × TookLast t ids before now (piece c)
 HasCause t ids unbuilt next before now (ForbiddenEncoding id) = NotListed t ids before now id
 HasCause t ids unbuilt next before now (TooLarge n) = NeedsNumber t ids next before now n ⊎ TookRows t ids before now n
@@ -121,7 +121,7 @@ BehindBatch must_fail e = Unit {0}
 -- An input whose write came to its end was valid: the plan of all batches has no fault and stores so many segments, every
 -- batch is a whole chunk of the type, and all numbers fit. Nothing is held back. The next number itself may pass 32 bits
 -- where no segment needs it.
-pub record WasValid (s : Setting) (w : Way) (t : Ty) (first : ℕ) (batches : List Piece) : Type 0 where
+pub record WasValid (s : Setting) (w : StrategyData) (t : Ty) (first : ℕ) (batches : List ChunkData) : Type 0 where
   pub faultless : (source_plan s w t false batches true).faults ≡ []
   pub whole : AllOf t batches
   pub numbered : first + length (source_plan s w t false batches true).pairs ≤ max first (2 ^ 32)
@@ -129,8 +129,8 @@ pub record WasValid (s : Setting) (w : Way) (t : Ty) (first : ℕ) (batches : Li
   pub reserved : (source_plan s w t false batches true).reserved ≡ 0
 
 -- What stands after a refusal: the segments appended are the first of those that the batches taken give.
-pub record Stands (plan_of : List Piece → Plan) (first next : ℕ) (to_come_before to_come_now : Option (List Piece)) (before now : Option (List (List ℕ))) : Type 0 where
-  pub taken : List Piece
+pub record Stands (plan_of : List ChunkData → Plan) (first next : ℕ) (to_come_before to_come_now : Option (List ChunkData)) (before now : Option (List (List ℕ))) : Type 0 where
+  pub taken : List ChunkData
   pub came : to_come_before ≡ before_told taken to_come_now
   pub appended : List (List ℕ)
   pub more : List (List ℕ)
@@ -141,11 +141,11 @@ pub record Stands (plan_of : List Piece → Plan) (first next : ℕ) (to_come_be
 -- ---- what a write gives, in few words
 
 -- Of each setting that writes these encodings, where the source tells its batches: this holds of the plan of them all.
-abbrev pub Planned : List EncodingId → Way → Ty → Option (List Piece) → (Setting → List Piece → Plan → Type 0) → Type 0
-Planned ids w t told P = (s : Setting) (xs : List Piece) → Writes ids s → told ≡ Some xs → P s xs (source_plan s w t false xs true)
+abbrev pub Planned : List EncodingId → StrategyData → Ty → Option (List ChunkData) → (Setting → List ChunkData → Plan → Type 0) → Type 0
+Planned ids w t told P = (s : Setting) (xs : List ChunkData) → Writes ids s → told ≡ Some xs → P s xs (source_plan s w t false xs true)
 
 -- A write came to its end, by the plan p of all batches.
-pub record Wrote (w : Way) (t : Ty) (first next : ℕ) (before now : Option (List (List ℕ))) (l : Lay ℕ) (s : Setting) (xs : List Piece) (p : Plan) : Type 0 where
+pub record Wrote (w : StrategyData) (t : Ty) (first next : ℕ) (before now : Option (List (List ℕ))) (l : LayoutData ℕ) (s : Setting) (xs : List ChunkData) (p : Plan) : Type 0 where
   pub laid : l ≡ numbered p first
   pub appended : now ≡ then_told before (segments p)
   pub counted : next ≡ first + length (segments p)
@@ -163,13 +163,13 @@ asked_before e n = n
 -- ---- the parts of the loop
 
 -- why a batch isn't admitted
-abbrev pub NotAdmitted : Ty → Piece → ℕ → WriteError → Type 0
+abbrev pub NotAdmitted : Ty → ChunkData → ℕ → WriteError → Type 0
 NotAdmitted t p rows (BatchType c) = (piece c ≡ p) × (¬ (piece_type p ≡ t))
 NotAdmitted t p rows (TooLarge n) = (piece_type p ≡ t) × (n ≡ rows + length (cells p)) × (2 ^ 64 ≤ n)
 NotAdmitted t p rows e = ⊥
 
 -- why an admitted batch isn't written
-abbrev pub NotWritten : List EncodingId → ℕ → Piece → WriteError → Type 0
+abbrev pub NotWritten : List EncodingId → ℕ → ChunkData → WriteError → Type 0
 NotWritten ids next p (ForbiddenEncoding id) = refused ids p ≡ Some id
 NotWritten ids next p (TooLarge n) = (refused ids p ≡ None) × (n ≡ next) × (2 ^ 32 ≤ n)
 NotWritten ids next p SinkFault = Unit {0}

@@ -2,16 +2,16 @@
 
 ghost use Rattle.std.specs.Prelude.{◌≡◌};
 ghost use Rattle.vx_model.specs.TyView.{ty};
-ghost use Rattle.vx_nodes.specs.StrategyView.{way};
+ghost use Rattle.vx_strategy.specs.StrategyView.{strategy_data};
 ghost use Rattle.vx_write.specs.ColumnCount.{column_count, columns_of};
 
-use vx_nodes::Strategy;
-use vx_types::DType;
+use vx_model::DType;
+use vx_strategy::Strategy;
 
 /// The number of columns of the type: a struct's fields, and a validity where it is nullable. None where the strategy
 /// doesn't write structs column by column, or the type is no struct.
 pub fn column_count(strategy: &Strategy, dtype: &DType) -> Option<u64>
-    ensures { result ≡ column_count (way strategy.now) (ty dtype.now) }
+    ensures { result ≡ column_count (strategy_data strategy.now) (ty dtype.now) }
 {
     match strategy {
         Strategy::Struct(_) | Strategy::Table(_) => columns_of(dtype),
@@ -21,7 +21,7 @@ pub fn column_count(strategy: &Strategy, dtype: &DType) -> Option<u64>
     }
 }
 
-#[tactic(auto, using(vx_kinds::proofs::Steps::field_rules))]
+#[tactic(auto, using(vx_layout_tree::proofs::Steps::field_rules))]
 fn columns_of(dtype: &DType) -> Option<u64>
     ensures { result ≡ columns_of (ty dtype.now) }
 {

@@ -1,7 +1,9 @@
 use std::alloc::{AllocError, AllocFailed};
 use thiserror::Error;
+use vx_chunk::Chunk;
+use vx_model::{EncodingId, FieldName, Text};
+use vx_segment_writer::EncodeError;
 use vx_sink::{SinkError, SourceError};
-use vx_types::{Chunk, EncodeError, EncodingId, FieldName, Text};
 
 /// Why a write was refused.
 #[derive(Debug, Drop, Error)]

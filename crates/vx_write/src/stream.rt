@@ -4,14 +4,14 @@ ghost use Rattle.std.specs.Prelude.{◌≡◌, ℕ, ◌+◌, ◌-◌, ◌<◌, �
 ghost use Rattle.vx_model.specs.declared.ptype.PType.TheVariants.{I64};
 ghost use Rattle.vx_model.specs.Ty.{primitive};
 ghost use Rattle.vx_model.specs.TyView.{ty};
-ghost use Rattle.vx_model.specs.Piece.{Piece, piece_type, cells};
+ghost use Rattle.vx_model.specs.ChunkData.{ChunkData, piece_type, cells};
 ghost use Rattle.vx_chunk.specs.ChunkView.{piece};
-ghost use Rattle.vx_encode.specs.Segment.{refused};
-ghost use Rattle.vx_tree.specs.LayoutTree.{gathered, row_count};
-ghost use Rattle.vx_kinds.specs.LayoutView.{lay};
+ghost use Rattle.vx_segment_writer.specs.Segment.{refused};
+ghost use Rattle.vx_layout_spec.specs.LayoutTree.{gathered, row_count};
+ghost use Rattle.vx_layout_tree.specs.LayoutView.{layout_data};
 ghost use Rattle.vx_model.specs.Words.{total_by};
 ghost use Rattle.vx_plan.specs.InOrder.{batch_rows};
-ghost use Rattle.vx_sink.specs.Counts.{Counts, IsCalm};
+ghost use Rattle.vx_fault.specs.Counts.{Counts, IsCalm};
 ghost use Rattle.vx_write.specs.declared.error.WriteError.TheVariants.{OutOfMemory};
 ghost use Rattle.vx_write.specs.Causes.{errs, is_source_fault, is_sink_fault};
 ghost use Rattle.vx_write.specs.InOrder.{AllWritten, BatchWritten, Finished, Halted};
@@ -19,9 +19,11 @@ ghost use Rattle.vx_write.specs.Stream.{HasCause, MayCome, BehindBatch, NotAdmit
 
 use crate::error::WriteError;
 use std::alloc::Global;
-use vx_kinds::{ChunkedLayout, FlatLayout, Layout, LayoutError, layout_children};
+use vx_chunk::Chunk;
+use vx_layout_tree::{ChunkedLayout, FlatLayout, Layout, LayoutError, layout_children};
+use vx_model::{ArrayContext, DType};
+use vx_segment_writer::encode_segment;
 use vx_sink::{BatchSource, SegmentSink};
-use vx_types::{ArrayContext, Chunk, DType, encode_segment};
 
 #[tactic(auto, using(crate::proofs::Steps::step_rules))]
 /// Writes the source's batches as one column.
@@ -33,7 +35,7 @@ pub(crate) fn write_column<B: BatchSource, S: SegmentSink>(
 ) -> Result<Layout, WriteError>
     requires { B.kind source.old ≡ primitive I64 false }
     ensures kind { B.kind source.new ≡ B.kind source.old }
-    ensures ok { IfOk result (λ l. Finished ctx.now (B.kind source.old) (S.next sink.old) (S.next sink.new) (lay l)
+    ensures ok { IfOk result (λ l. Finished ctx.now (B.kind source.old) (S.next sink.old) (S.next sink.new) (layout_data l)
         (B.to_come source.old) (B.to_come source.new) (S.segments sink.old) (S.segments sink.new)) }
     ensures err { OnErr result (Halted ctx.now (B.kind source.old) (S.next sink.old) (S.next sink.new)
         (B.to_come source.old) (B.to_come source.new) (S.segments sink.old) (S.segments sink.new)) }
@@ -48,7 +50,7 @@ pub(crate) fn write_column<B: BatchSource, S: SegmentSink>(
     ensures must_sink { (k : ℕ) → k < S.next sink.new - S.next sink.old → ¬ S.must_fail sink.old k }
     ensures must_end { OnOk result (¬ B.must_fail source.old (S.next sink.new - S.next sink.old)) }
     ensures must_refused { IfErr result (BehindBatch (B.must_fail source.old (S.next sink.new - S.next sink.old))) }
-    ensures complete { (xs : List Piece) → B.to_come source.old ≡ Some xs → AllWritten ctx.now (B.kind source.old) xs
+    ensures complete { (xs : List ChunkData) → B.to_come source.old ≡ Some xs → AllWritten ctx.now (B.kind source.old) xs
         → S.next sink.old + length xs ≤ 2 ^ 32 → batch_rows xs < 2 ^ 64
         → IsCalm (B.faults source.old) (B.faults source.new) → IsCalm (S.faults sink.old) (S.faults sink.new)
         → IfErr result (λ e. e ≡ OutOfMemory) }
@@ -90,7 +92,7 @@ fn admit(dtype: &DType, batch: Chunk, rows: u64) -> Result<(Chunk, u64), WriteEr
 }
 
 /// Appends the batch's segment. All memory is taken before the sink is called.
-#[tactic(auto, using(crate::proofs::Steps::batch_rules), unfolding(vx_kinds::specs::LayoutView::lay))]
+#[tactic(auto, using(crate::proofs::Steps::batch_rules), unfolding(vx_layout_tree::specs::LayoutView::layout_data))]
 fn write_batch<S: SegmentSink>(
     alloc: Global,
     ctx: &ArrayContext,
@@ -98,7 +100,7 @@ fn write_batch<S: SegmentSink>(
     sink: &mut S,
 ) -> Result<Layout, WriteError>
     requires { piece_type (piece batch.now) ≡ primitive I64 false }
-    ensures ok { IfOk result (λ l. BatchWritten ctx.now (S.next sink.old) (piece batch.now) (lay l) (S.segments sink.old) (S.segments sink.new)) }
+    ensures ok { IfOk result (λ l. BatchWritten ctx.now (S.next sink.old) (piece batch.now) (layout_data l) (S.segments sink.old) (S.segments sink.new)) }
     ensures same { OnErr result (S.segments sink.new ≡ S.segments sink.old) }
     ensures next { S.next sink.new ≡ (if is_ok result then S.next sink.old + 1 else S.next sink.old) }
     ensures last { OnOk result (S.next sink.new ≤ 2 ^ 32) }
@@ -124,10 +126,10 @@ fn write_batch<S: SegmentSink>(
 }
 
 /// One layout is given itself, none or several are chunked.
-#[tactic(auto, using(crate::proofs::Ways::gather_rules), unfolding(vx_kinds::specs::LayoutView::lay))]
+#[tactic(auto, using(crate::proofs::Ways::gather_rules), unfolding(vx_layout_tree::specs::LayoutView::layout_data))]
 fn gather(dtype: &DType, rows: u64, mut flats: Vec<Layout>) -> Result<Layout, WriteError>
-    requires { total_by row_count (map lay flats.items) ≡ rows }
-    ensures ok { IfOk result (λ l. lay l ≡ gathered (ty dtype.now) rows (map lay flats.items)) }
+    requires { total_by row_count (map layout_data flats.items) ≡ rows }
+    ensures ok { IfOk result (λ l. layout_data l ≡ gathered (ty dtype.now) rows (map layout_data flats.items)) }
     ensures err { IfErr result (λ e. e ≡ OutOfMemory) }
 {
     if flats.len() == 1 {

@@ -1,4 +1,4 @@
-use vx_types::Path;
+use vx_path::owned::Path;
 
 /// What a task does in a step.
 #[derive(Clone, Copy, Debug, PartialEq, Eq)]

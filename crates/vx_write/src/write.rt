@@ -2,29 +2,29 @@
 
 ghost use Rattle.std.specs.Prelude.{◌≡◌, ℕ, ◌-◌, ◌≤◌, ◌^◌, max, true, false, [], IfOk, IfErr, OnOk, OnErr, MatchResult};
 ghost use Rattle.vx_model.specs.TyView.{ty};
-ghost use Rattle.vx_kinds.specs.LayoutView.{lay};
+ghost use Rattle.vx_layout_tree.specs.LayoutView.{layout_data};
 ghost use Rattle.vx_plan.specs.PlanData.{Setting};
 ghost use Rattle.vx_plan.specs.SourcePlan.{taken_plan};
 ghost use Rattle.vx_plan.specs.Valid.{Valid};
-ghost use Rattle.vx_sink.specs.Counts.{IsCalm};
-ghost use Rattle.vx_sink.specs.Faults.{FaultsTold};
-ghost use Rattle.vx_sink.specs.Told.{NoneTold};
+ghost use Rattle.vx_fault.specs.Counts.{IsCalm};
+ghost use Rattle.vx_fault.specs.Faults.{FaultsTold};
+ghost use Rattle.vx_fault.specs.Told.{NoneTold};
 ghost use Rattle.vx_sink.specs.ContextView.{listed};
 ghost use Rattle.vx_write.specs.declared.error.WriteError.TheVariants.{OutOfMemory};
-ghost use Rattle.vx_nodes.specs.StrategyView.{way};
+ghost use Rattle.vx_strategy.specs.StrategyView.{strategy_data};
 ghost use Rattle.vx_write.specs.Asked.{asked};
 ghost use Rattle.vx_write.specs.Causes.{errs, is_source_fault, is_sink_fault, is_unbuilt};
-ghost use Rattle.vx_nodes.specs.OptionViews.{flat_options};
+ghost use Rattle.vx_strategy.specs.OptionViews.{flat_options};
 ghost use Rattle.vx_write.specs.Stream.{Writes, Planned, Wrote, Stands, HasCause, is_default as is_default_flat, is_flat_default, is_built, is_built_type};
 
 use crate::error::WriteError;
 use crate::stream::write_column;
 use crate::trace::Step;
 use std::alloc::Global;
-use vx_kinds::Layout;
-use vx_nodes::{FlatLayoutStrategy, Strategy};
+use vx_layout_tree::Layout;
+use vx_model::{DType, Nullability, PType};
 use vx_sink::{BatchSource, CompressorPlugin, LayoutWriterContext, SegmentSink};
-use vx_types::{DType, Nullability, PType};
+use vx_strategy::{FlatLayoutStrategy, Strategy};
 
 /// What a write gives: where its rows are, and the steps that it took. The trace stays empty until tasks are built.
 #[derive(Debug, Drop)]
@@ -56,15 +56,15 @@ pub fn write_stream<B: BatchSource, S: SegmentSink, C: CompressorPlugin>(
     compressor: &mut C,
 ) -> Result<Written, Refused>
     // Ok gives the plan of all batches, from which their rows are read back, and comes of valid input alone.
-    ensures wrote { IfOk result (λ w. Planned (listed ctx.old) (way strategy.now) (B.kind source.old) (B.to_come source.old)
-        (Wrote (way strategy.now) (B.kind source.old) (S.next sink.old) (S.next sink.new) (S.segments sink.old) (S.segments sink.new) (lay w.layout))) }
+    ensures wrote { IfOk result (λ w. Planned (listed ctx.old) (strategy_data strategy.now) (B.kind source.old) (B.to_come source.old)
+        (Wrote (strategy_data strategy.now) (B.kind source.old) (S.next sink.old) (S.next sink.new) (S.segments sink.old) (S.segments sink.new) (layout_data w.layout))) }
     ensures ended { OnOk result (NoneTold (B.to_come source.new)) }
     // After a refusal the segments appended are the first of the plan of the batches taken.
     ensures stands { OnErr result ((s : Setting) → Writes (listed ctx.old) s
-        → Stands (λ taken. taken_plan s (way strategy.now) (B.kind source.old) false taken false)
+        → Stands (λ taken. taken_plan s (strategy_data strategy.now) (B.kind source.old) false taken false)
         (S.next sink.old) (S.next sink.new) (B.to_come source.old) (B.to_come source.new) (S.segments sink.old) (S.segments sink.new)) }
     ensures cause { IfErr result (λ r. HasCause (B.kind source.old) (listed ctx.old)
-        (is_built (way strategy.now) (B.kind source.old) ≡ false) (S.next sink.new) (B.to_come source.old) (B.to_come source.new) r.error) }
+        (is_built (strategy_data strategy.now) (B.kind source.old) ≡ false) (S.next sink.new) (B.to_come source.old) (B.to_come source.new) r.error) }
     // A fault is told by its count and comes where it may, and no call that must fail is passed over.
     ensures source { FaultsTold (B.faults source.old) (B.faults source.new) (B.may_fail source.old) (B.must_fail source.old)
         (asked result (S.next sink.new - S.next sink.old)) (errs (λ r. is_source_fault r.error) result) }
@@ -73,12 +73,12 @@ pub fn write_stream<B: BatchSource, S: SegmentSink, C: CompressorPlugin>(
     // No segment has a number past the last.
     ensures last { S.next sink.new ≤ max (S.next sink.old) (2 ^ 32) }
     // A form that isn't built is refused before the source is asked.
-    ensures unbuilt { is_built (way strategy.now) (B.kind source.old) ≡ false
+    ensures unbuilt { is_built (strategy_data strategy.now) (B.kind source.old) ≡ false
         → MatchResult result (λ _. ⊥) (λ r. is_unbuilt r.error ≡ true) × (source.new ≡ source.old) × (sink.new ≡ sink.old) }
     // Valid input, where nothing fails, gives Ok unless memory runs out.
-    ensures complete { Planned (listed ctx.old) (way strategy.now) (B.kind source.old) (B.to_come source.old) (λ s xs _. (tracker : ℕ)
-        → is_built (way strategy.now) (B.kind source.old) ≡ true
-        → Valid s (way strategy.now) (B.kind source.old) false (S.next sink.old) tracker xs
+    ensures complete { Planned (listed ctx.old) (strategy_data strategy.now) (B.kind source.old) (B.to_come source.old) (λ s xs _. (tracker : ℕ)
+        → is_built (strategy_data strategy.now) (B.kind source.old) ≡ true
+        → Valid s (strategy_data strategy.now) (B.kind source.old) false (S.next sink.old) tracker xs
         → IsCalm (B.faults source.old) (B.faults source.new) → IsCalm (S.faults sink.old) (S.faults sink.new)
         → IfErr result (λ r. r.error ≡ OutOfMemory)) }
     ensures same { (listed ctx.new ≡ listed ctx.old) × (B.kind source.new ≡ B.kind source.old) × (S.borrow sink.new ≡ S.borrow sink.old) × (compressor.new ≡ compressor.old) }
@@ -100,7 +100,7 @@ pub fn write_stream<B: BatchSource, S: SegmentSink, C: CompressorPlugin>(
 }
 
 fn is_built(strategy: &Strategy, dtype: &DType) -> bool
-    ensures { result ≡ is_built (way strategy.now) (ty dtype.now) }
+    ensures { result ≡ is_built (strategy_data strategy.now) (ty dtype.now) }
 {
     match strategy {
         Strategy::Chunked(chunked) => {
@@ -113,7 +113,7 @@ fn is_built(strategy: &Strategy, dtype: &DType) -> bool
 }
 
 fn is_flat_default(strategy: &Strategy) -> bool
-    ensures { result ≡ is_flat_default (way strategy.now) }
+    ensures { result ≡ is_flat_default (strategy_data strategy.now) }
 {
     match strategy {
         Strategy::Flat(flat) => is_default(flat),

@@ -1,6 +1,6 @@
 use Rattle.std.proofs.Common.{◌≡◌, ◌++◌, map, drop}
 use Rattle.vx_model.specs.TyView.{ty, field_ty}
-use Rattle.vx_record.specs.Aggregate.{held_aggregates}
+use Rattle.vx_aggregate_spec.specs.Aggregate.{held_aggregates}
 use Rattle.vx_aggregate.specs.AggregateView.{aggregate}
 use Rattle.vx_aggregate.specs.Tables.{column_field}
 use Rattle.vx_aggregate.proofs.table.aggregate_stats_table_dtype.Given as goal

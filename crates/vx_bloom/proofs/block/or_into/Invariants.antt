@@ -1,4 +1,4 @@
-use Rattle.vx_bloom.proofs.Places.{Laid}
+use Rattle.vx_bloom_spec.proofs.Places.{Laid}
 use Rattle.vx_bloom.proofs.block.or_into.Given as goal
 
 abbrev pub invariant-places : goal.invariant-places

@@ -1,5 +1,5 @@
 use Rattle.std.proofs.Common.{arith}
-use Rattle.vx_bloom.proofs.ReadBack.{blocks_begin, blocks_more}
+use Rattle.vx_bloom_spec.proofs.ReadBack.{blocks_begin, blocks_more}
 use Rattle.vx_bloom.proofs.bytes.blocks_at.Goals as goal
 
 pub places-init : goal.places-init

@@ -1,5 +1,5 @@
 use Rattle.std.proofs.Common.{◌≡◌, ◌-◌, drop}
-use Rattle.vx_model.specs.Piece.{are_offsets}
+use Rattle.vx_model.specs.ChunkData.{are_offsets}
 use Rattle.vx_chunk.proofs.conditions.are_offsets.Given as goal
 
 abbrev pub invariant-loop-i : goal.invariant-loop-i

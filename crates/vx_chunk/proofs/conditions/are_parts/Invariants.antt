@@ -1,6 +1,6 @@
 use Rattle.std.proofs.Common.{◌≡◌, drop}
 use Rattle.vx_model.specs.TyView.{ty}
-use Rattle.vx_model.specs.Piece.{are_parts}
+use Rattle.vx_model.specs.ChunkData.{are_parts}
 use Rattle.vx_chunk.proofs.conditions.are_parts.Given as goal
 
 abbrev pub invariant-loop-part : goal.invariant-loop-part

@@ -1,7 +1,7 @@
 use Rattle.std.proofs.Common.{◌≡◌, map, drop}
 use Rattle.vx_model.specs.Words.{all_by}
 use Rattle.vx_model.specs.TreeView.{tree}
-use Rattle.vx_model.specs.Piece.{is_code}
+use Rattle.vx_model.specs.ChunkData.{is_code}
 use Rattle.vx_chunk.proofs.conditions.are_places.Given as goal
 
 abbrev pub invariant-loop-cell : goal.invariant-loop-cell

@@ -1,7 +1,7 @@
 use Rattle.std.proofs.Common.{◌≡◌, map, drop}
 use Rattle.vx_model.specs.Ty.{tys_of}
 use Rattle.vx_model.specs.TyView.{field_ty}
-use Rattle.vx_model.specs.Piece.{match_fields}
+use Rattle.vx_model.specs.ChunkData.{match_fields}
 use Rattle.vx_chunk.proofs.conditions.match_fields.Given as goal
 
 abbrev pub invariant-loop-i : goal.invariant-loop-i

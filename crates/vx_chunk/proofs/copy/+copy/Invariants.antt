@@ -1,5 +1,5 @@
 use Rattle.std.proofs.Common.{◌≡◌, ◌+◌, ◌*◌, take}
-use Rattle.vx_model.specs.Piece.{pieces_of}
+use Rattle.vx_model.specs.ChunkData.{pieces_of}
 use Rattle.vx_chunk.specs.ChunkView.{node_piece}
 use Rattle.vx_chunk.specs.Depth.{depth, depths}
 use Rattle.vx_chunk.proofs.copy.+copy.Given as goal

@@ -1,7 +1,7 @@
 use Rattle.std.proofs.Common.{◌≡◌, ◌+◌, ◌*◌, ◌++◌, length, map, drop}
 use Rattle.vx_model.specs.TreeView.{tree}
-use Rattle.vx_model.specs.Piece.{pieces_of, joined_cells}
-use Rattle.vx_columns.specs.Parts.{all_elements, ends}
+use Rattle.vx_model.specs.ChunkData.{pieces_of, joined_cells}
+use Rattle.vx_layout_spec.specs.Parts.{all_elements, ends}
 use Rattle.vx_chunk.specs.Depth.{depth, depths}
 use Rattle.vx_chunk.proofs.elements.+apart.Given as goal
 

@@ -1,6 +1,6 @@
 use Rattle.std.proofs.Common.{◌≡◌, ◌+◌, ◌-◌, ◌*◌, ◌^◌, ◌≤◌, length, drop}
-use Rattle.vx_model.specs.Piece.{pieces_of, joined_cells}
-use Rattle.vx_columns.specs.Parts.{all_elements}
+use Rattle.vx_model.specs.ChunkData.{pieces_of, joined_cells}
+use Rattle.vx_layout_spec.specs.Parts.{all_elements}
 use Rattle.vx_chunk.specs.Depth.{depth, depths}
 use Rattle.vx_chunk.proofs.elements.+counts.Given as goal
 

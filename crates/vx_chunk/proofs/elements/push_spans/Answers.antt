@@ -3,10 +3,10 @@ use Rattle.std.proofs.lemmas.List.{length-map}
 use Rattle.std.proofs.lemmas.Result.{on_ok_weaker}
 use Rattle.vx_model.specs.Words.{head_or}
 use Rattle.vx_model.specs.TreeView.{tree}
-use Rattle.vx_model.specs.Piece.{cells}
-use Rattle.vx_columns.specs.Window.{window, last_of}
-use Rattle.vx_columns.proofs.ListSteps.{first_is}
-use Rattle.vx_columns.proofs.Windows.{length-window}
+use Rattle.vx_model.specs.ChunkData.{cells}
+use Rattle.vx_chunk_cells.specs.Window.{window, last_of}
+use Rattle.vx_chunk_cells.proofs.ListSteps.{first_is}
+use Rattle.vx_chunk_cells.proofs.Windows.{length-window}
 use Rattle.vx_chunk.proofs.Offsets.{offsets_within, some_offset}
 use Rattle.vx_chunk.proofs.RowGoals.{last_at}
 use Rattle.vx_chunk.proofs.elements.push_spans.Goals as goal

@@ -1,7 +1,7 @@
 use Rattle.std.proofs.Common.{◌-◌, length, arith}
 use Rattle.vx_model.specs.Words.{head_or}
-use Rattle.vx_columns.specs.Window.{last_of}
-use Rattle.vx_columns.proofs.ListSteps.{first_is, from_first}
+use Rattle.vx_chunk_cells.specs.Window.{last_of}
+use Rattle.vx_chunk_cells.proofs.ListSteps.{first_is, from_first}
 use Rattle.vx_chunk.proofs.RowGoals.{last_at}
 use Rattle.vx_chunk.proofs.elements.span_len.Goals as goal
 

@@ -3,7 +3,7 @@ use Rattle.std.specs.Prelude.{IsTrue}
 use Rattle.std.specs.Vec.Iter.{into_iter_items}
 use Rattle.vx_model.specs.Ty.{tys_of}
 use Rattle.vx_model.specs.TyView.{field_ty}
-use Rattle.vx_columns.specs.Columns.{trees_in}
+use Rattle.vx_chunk_cells.specs.Columns.{trees_in}
 use Rattle.vx_chunk.specs.Parts.{typed_columns, columns_fit}
 use Rattle.vx_chunk.proofs.fields.typed.Given as goal
 

@@ -1,5 +1,5 @@
 use Rattle.std.proofs.Common.{arith}
-use Rattle.vx_model.specs.Piece.{cells, piece_type}
+use Rattle.vx_model.specs.ChunkData.{cells, piece_type}
 use Rattle.vx_chunk.proofs.NodeSound.{in_dict, in_list}
 use Rattle.vx_chunk.proofs.CellsFit.{cells_fit}
 use Rattle.vx_chunk.proofs.RowGoals.{dict_cells}

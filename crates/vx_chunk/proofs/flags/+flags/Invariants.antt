@@ -1,6 +1,6 @@
 use Rattle.std.proofs.Common.{◌≡◌, ◌+◌, ◌*◌, ◌++◌, map, drop}
-use Rattle.vx_model.specs.Piece.{pieces_of, joined_cells}
-use Rattle.vx_columns.specs.Parts.{flag_of}
+use Rattle.vx_model.specs.ChunkData.{pieces_of, joined_cells}
+use Rattle.vx_layout_spec.specs.Parts.{flag_of}
 use Rattle.vx_chunk.specs.Depth.{depth, depths}
 use Rattle.vx_chunk.proofs.flags.+flags.Given as goal
 

@@ -1,5 +1,5 @@
 use Rattle.std.proofs.Common.{◌≡◌, ◌+◌, ◌*◌, ◌≤◌, length, drop}
-use Rattle.vx_model.specs.Piece.{pieces_of, joined_cells}
+use Rattle.vx_model.specs.ChunkData.{pieces_of, joined_cells}
 use Rattle.vx_chunk.proofs.reads.total_rows.Given as goal
 
 abbrev pub invariant-loop-chunk : goal.invariant-loop-chunk

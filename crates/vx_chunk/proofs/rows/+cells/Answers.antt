@@ -2,16 +2,16 @@ use Rattle.std.proofs.Common.{◌≡◌, ◌-◌, length, map, ap, sym, ◌∙�
 use Rattle.std.proofs.lemmas.List.{length-map, take_all}
 use Rattle.vx_model.specs.Words.{head_or}
 use Rattle.vx_model.specs.TreeView.{tree}
-use Rattle.vx_model.specs.Piece.{cells}
-use Rattle.vx_columns.specs.Window.{window, last_of}
-use Rattle.vx_columns.specs.Columns.{trees_in, rows_across}
+use Rattle.vx_model.specs.ChunkData.{cells}
+use Rattle.vx_chunk_cells.specs.Window.{window, last_of}
+use Rattle.vx_chunk_cells.specs.Columns.{trees_in, rows_across}
 use Rattle.vx_chunk.specs.Rows.{column}
 use Rattle.vx_chunk.proofs.NodeSound.{in_dict, in_list}
-use Rattle.vx_columns.proofs.Windows.{length-window}
+use Rattle.vx_chunk_cells.proofs.Windows.{length-window}
 use Rattle.vx_chunk.proofs.Offsets.{offsets_window, offsets_within, some_offset}
 use Rattle.vx_chunk.proofs.Depths.{depth_in}
-use Rattle.vx_columns.proofs.ListSteps.{first_is}
-use Rattle.vx_columns.proofs.Steps.{structs-rows_across}
+use Rattle.vx_chunk_cells.proofs.ListSteps.{first_is}
+use Rattle.vx_chunk_cells.proofs.Steps.{structs-rows_across}
 use Rattle.vx_chunk.proofs.RowGoals.{dict_window, rows_below, list_window, last_at, lists_cut, fields_have, struct_window, rows_more, columns_more, parts_more}
 use Rattle.vx_chunk.proofs.rows.+cells.Goals as goal
 

@@ -1,10 +1,10 @@
 use Rattle.std.proofs.Common.{◌≡◌, ◌+◌, ◌-◌, ◌*◌, ◌≤◌, ◌++◌, map, take, drop}
 use Rattle.std.specs.Prelude.{IsTrue}
 use Rattle.vx_model.specs.TreeView.{tree}
-use Rattle.vx_model.specs.Piece.{pieces_of, joined_cells}
-use Rattle.vx_columns.specs.Window.{window}
+use Rattle.vx_model.specs.ChunkData.{pieces_of, joined_cells}
+use Rattle.vx_chunk_cells.specs.Window.{window}
 use Rattle.vx_chunk.specs.Depth.{depth, depths}
-use Rattle.vx_columns.specs.Columns.{trees_in, rows_across}
+use Rattle.vx_chunk_cells.specs.Columns.{trees_in, rows_across}
 use Rattle.vx_chunk.specs.Rows.{have_rows, column}
 use Rattle.vx_chunk.proofs.rows.+cells.Given as goal
 

@@ -1,6 +1,6 @@
 use Rattle.std.proofs.Common.{◌≡◌, ◌++◌, map, take}
 use Rattle.vx_model.specs.TreeView.{tree}
-use Rattle.vx_model.specs.Piece.{cells, picked}
+use Rattle.vx_model.specs.ChunkData.{cells, picked}
 use Rattle.vx_chunk.proofs.rows.push_picked.Given as goal
 
 abbrev pub invariant-loop-code : goal.invariant-loop-code

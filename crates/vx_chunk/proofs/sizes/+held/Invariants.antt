@@ -1,5 +1,5 @@
 use Rattle.std.proofs.Common.{◌≡◌, ◌+◌, ◌-◌, ◌*◌, ◌^◌, ◌<◌, min, drop}
-use Rattle.vx_model.specs.Piece.{pieces_of, held_parts}
+use Rattle.vx_model.specs.ChunkData.{pieces_of, held_parts}
 use Rattle.vx_chunk.specs.Depth.{depth, depths}
 use Rattle.vx_chunk.proofs.sizes.+held.Given as goal
 

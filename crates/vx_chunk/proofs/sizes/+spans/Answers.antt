@@ -1,6 +1,6 @@
 use Rattle.std.proofs.Common.{◌≤◌, length, arith, rules}
-use Rattle.vx_model.specs.Piece.{cells}
-use Rattle.vx_columns.proofs.ListSteps.{first_is}
+use Rattle.vx_model.specs.ChunkData.{cells}
+use Rattle.vx_chunk_cells.proofs.ListSteps.{first_is}
 use Rattle.vx_chunk.proofs.NodeSound.{in_dict, in_list}
 use Rattle.vx_chunk.proofs.Offsets.{offsets_window, offsets_within, some_offset}
 use Rattle.vx_chunk.proofs.Depths.{depth_in}

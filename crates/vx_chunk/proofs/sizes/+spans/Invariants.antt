@@ -1,6 +1,6 @@
 use Rattle.std.proofs.Common.{◌≡◌, ◌+◌, ◌-◌, ◌*◌, ◌^◌, ◌<◌, ◌≤◌, min, drop}
 use Rattle.std.specs.Prelude.{IsTrue}
-use Rattle.vx_model.specs.Piece.{pieces_of}
+use Rattle.vx_model.specs.ChunkData.{pieces_of}
 use Rattle.vx_chunk.specs.Depth.{depth, depths}
 use Rattle.vx_chunk.specs.Rows.{have_rows}
 use Rattle.vx_chunk.specs.Sizes.{span_sizes, each_span_size}

@@ -1,8 +1,8 @@
 use Rattle.std.proofs.Common.{◌≡◌, ◌+◌, ◌-◌, ◌^◌, ◌<◌, min, drop, map}
 use Rattle.vx_model.specs.Words.{total_by}
-use Rattle.vx_model.specs.Tree.{cell_size}
+use Rattle.vx_model.specs.CellData.{cell_size}
 use Rattle.vx_model.specs.TreeView.{tree}
-use Rattle.vx_model.specs.Piece.{piece_type, cells, picked}
+use Rattle.vx_model.specs.ChunkData.{piece_type, cells, picked}
 use Rattle.vx_chunk.proofs.sizes.picked_bytes.Given as goal
 
 abbrev pub invariant-loop-code : goal.invariant-loop-code

@@ -1,6 +1,6 @@
 use Rattle.std.proofs.Common.{◌≡◌, ◌+◌, ◌*◌, ◌≤◌, ◌++◌, drop}
 use Rattle.std.specs.Prelude.{IsTrue}
-use Rattle.vx_model.specs.Piece.{pieces_of, pieces_in}
+use Rattle.vx_model.specs.ChunkData.{pieces_of, pieces_in}
 use Rattle.vx_chunk.specs.ChunkView.{node_piece}
 use Rattle.vx_chunk.specs.Depth.{depth, depths}
 use Rattle.vx_chunk.specs.Rows.{have_rows}

@@ -1,7 +1,7 @@
 use Rattle.std.proofs.Common.{◌≡◌, drop}
 use Rattle.serde_json.specs.View.{items_view}
-use Rattle.vx_strategy.specs.Parts.{each, whole}
-use Rattle.vx_strategy.proofs.ListSteps.{with_front}
+use Rattle.vx_strategy_json.specs.Parts.{each, whole}
+use Rattle.vx_strategy_json.proofs.ListSteps.{with_front}
 use Rattle.vx_job.proofs.values.read_numbers.Given as goal
 
 abbrev pub invariant-loop-item : goal.invariant-loop-item

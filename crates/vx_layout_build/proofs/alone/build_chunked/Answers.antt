@@ -1,6 +1,6 @@
 use Rattle.std.proofs.Common.{Ok, sym, ◌∙◌, ap}
 use Rattle.vx_model.specs.TyView.{ty}
-use Rattle.vx_kinds.proofs.KidSteps.{chunk_sum}
+use Rattle.vx_layout_tree.proofs.KidSteps.{chunk_sum}
 use Rattle.vx_layout_build.proofs.BuildSteps.{chunked_made, rows_are}
 use Rattle.vx_layout_build.proofs.alone.build_chunked.Goals as goal
 

@@ -1,7 +1,7 @@
 use Rattle.std.proofs.Common.{Ok, sym, ◌∙◌, ap}
 use Rattle.vx_model.specs.TyView.{ty}
-use Rattle.vx_kinds.specs.KidsView.{layout_kids}
-use Rattle.vx_kinds.proofs.KidSteps.{struct_count}
+use Rattle.vx_layout_tree.specs.KidsView.{layout_kids}
+use Rattle.vx_layout_tree.proofs.KidSteps.{struct_count}
 use Rattle.vx_layout_build.proofs.PartSteps.{count_is}
 use Rattle.vx_layout_build.proofs.BuildSteps.{struct_made}
 use Rattle.vx_layout_build.proofs.alone.build_struct.Goals as goal

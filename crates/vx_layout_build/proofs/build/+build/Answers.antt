@@ -6,7 +6,7 @@ use Rattle.vx_model.specs.TyView.{ty}
 use Rattle.vx_layout_bytes.specs.Values.{depth}
 use Rattle.vx_layout_bytes.specs.Views.{raw}
 use Rattle.vx_session.specs.Views.{scope_of, context}
-use Rattle.vx_kinds.specs.LayoutView.{lay}
+use Rattle.vx_layout_tree.specs.LayoutView.{layout_data}
 use Rattle.vx_layout_build.specs.OpenView.{all_built, wanted_depths, fits}
 use Rattle.vx_layout_build.specs.PartsView.{one_built, one_depth, children_depth, parts_of}
 use Rattle.vx_layout_build.proofs.BuildSteps.{so_far, so_far_none, so_far_end, so_far_built, so_far_fails, first_depth, rest_depth, open_fails, open_is, built_count, wanted_fails, wanted_rows_fail, wanted_is, node_kind_fails, node_foreign, node_built}
@@ -36,13 +36,13 @@ pub build_all-returns-in_err-build_wanted : goal.build_all-returns-in_err-build_
 build_all-returns-in_err-build_wanted t c =
     let p = err_from_is_err_and c.from_residual-in_err-build_wanted.result c.from_residual-in_err-build_wanted.ensures.1 in
     let steps : into_iter_items c.loop-child.child-iterator ≡ c.in-Some.child ∷ into_iter_items c.next.new.self = c.in-Some.ensures.steps.0 in
-    rw (p.1, p.2) (so_far_fails _ (all_built c.args.wanted.items) (map lay c.loop-child.layouts.items) (into_iter_items c.loop-child.child-iterator) c.in-Some.child (into_iter_items c.next.new.self) c.loop-child.invariant.0 steps c.in_err-build_wanted.ensures)
+    rw (p.1, p.2) (so_far_fails _ (all_built c.args.wanted.items) (map layout_data c.loop-child.layouts.items) (into_iter_items c.loop-child.child-iterator) c.in-Some.child (into_iter_items c.next.new.self) c.loop-child.invariant.0 steps c.in_err-build_wanted.ensures)
 
 pub build_all-loop-child-preserved : goal.build_all-loop-child-preserved
 build_all-loop-child-preserved t c =
     let steps : into_iter_items c.loop-child.child-iterator ≡ c.in-Some.child ∷ into_iter_items c.next.new.self = c.in-Some.ensures.steps.0 in
-    let more = so_far_built (all_built c.args.wanted.items) (map lay c.loop-child.layouts.items) (into_iter_items c.loop-child.child-iterator) c.in-Some.child (into_iter_items c.next.new.self) (lay c.in_ok-build_wanted.field-0) c.loop-child.invariant.0 steps c.in_ok-build_wanted.ensures in
-    (rw (c.in_ok-push.ensures.items, map_push lay c.loop-child.layouts.items c.in_ok-build_wanted.field-0) more, rest_depth (into_iter_items c.loop-child.child-iterator) c.in-Some.child (into_iter_items c.next.new.self) (wanted_depths c.args.wanted.items) c.loop-child.invariant.1 steps)
+    let more = so_far_built (all_built c.args.wanted.items) (map layout_data c.loop-child.layouts.items) (into_iter_items c.loop-child.child-iterator) c.in-Some.child (into_iter_items c.next.new.self) (layout_data c.in_ok-build_wanted.field-0) c.loop-child.invariant.0 steps c.in_ok-build_wanted.ensures in
+    (rw (c.in_ok-push.ensures.items, map_push layout_data c.loop-child.layouts.items c.in_ok-build_wanted.field-0) more, rest_depth (into_iter_items c.loop-child.child-iterator) c.in-Some.child (into_iter_items c.next.new.self) (wanted_depths c.args.wanted.items) c.loop-child.invariant.1 steps)
 
 pub build_all-returns-in_err-push : goal.build_all-returns-in_err-push
 build_all-returns-in_err-push t c =
@@ -52,7 +52,7 @@ build_all-returns-in_err-push t c =
 pub build_all-returns : goal.build_all-returns
 build_all-returns t c =
     let none : length (into_iter_items c.loop-child.child-iterator) ≡ 0 = omega (arith, c.in-None.ensures.steps.0, c.loop-child.child-iterator.rest.ok.0) in
-    so_far_end (all_built c.args.wanted.items) (map lay c.loop-child.layouts.items) (into_iter_items c.loop-child.child-iterator) c.loop-child.invariant.0 none
+    so_far_end (all_built c.args.wanted.items) (map layout_data c.loop-child.layouts.items) (into_iter_items c.loop-child.child-iterator) c.loop-child.invariant.0 none
 
 -- ---- a kind
 
@@ -170,7 +170,7 @@ build_open-build_all-requires t c =
 
 pub build_open-with_built-requires : goal.build_open-with_built-requires
 build_open-with_built-requires t c =
-    let count = built_count c.args.frame.wanted.items (map lay c.in_ok-children.children.items) c.in_ok-children.ensures in
+    let count = built_count c.args.frame.wanted.items (map layout_data c.in_ok-children.children.items) c.in_ok-children.ensures in
     let same : length c.in_ok-children.children.items ≡ length c.args.frame.wanted.items = simp length-map at count in
     subst (λ (n : ℕ). fits c.args.frame.frame n) (sym same) c.requires
 
@@ -180,7 +180,7 @@ build_open-returns-in_err-children t c =
     rw (p.1, p.2) (open_fails _ c.args.frame c.in_err-children.ensures)
 
 pub build_open-returns : goal.build_open-returns
-build_open-returns t c = open_is c.args.frame (map lay c.in_ok-children.children.items) c.in_ok-children.ensures ∙ ap Ok (sym c.with_built.ensures)
+build_open-returns t c = open_is c.args.frame (map layout_data c.in_ok-children.children.items) c.in_ok-children.ensures ∙ ap Ok (sym c.with_built.ensures)
 
 -- ---- a wanted child
 
@@ -197,7 +197,7 @@ build_wanted-returns-in_err-layout t c =
 pub build_wanted-returns-in_err-check : goal.build_wanted-returns-in_err-check
 build_wanted-returns-in_err-check t c =
     let p = err_from_is_err_and c.from_residual-in_err-check.result c.from_residual-in_err-check.ensures.1 in
-    rw (p.1, p.2) (wanted_rows_fail _ c.args.wanted (lay c.in_ok-layout.layout) c.in_ok-layout.ensures (rw (← c.row_count.ensures) c.in_err-check.ensures))
+    rw (p.1, p.2) (wanted_rows_fail _ c.args.wanted (layout_data c.in_ok-layout.layout) c.in_ok-layout.ensures (rw (← c.row_count.ensures) c.in_err-check.ensures))
 
 pub build_wanted-returns : goal.build_wanted-returns
-build_wanted-returns t c = wanted_is c.args.wanted (lay c.in_ok-layout.layout) c.in_ok-layout.ensures (rw (← c.row_count.ensures) c.in_ok-check.ensures)
+build_wanted-returns t c = wanted_is c.args.wanted (layout_data c.in_ok-layout.layout) c.in_ok-layout.ensures (rw (← c.row_count.ensures) c.in_ok-check.ensures)

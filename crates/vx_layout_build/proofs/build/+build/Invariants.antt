@@ -4,7 +4,7 @@ use Rattle.vx_layout_bytes.specs.Values.{depth}
 use Rattle.vx_layout_bytes.specs.Views.{raw}
 use Rattle.vx_layout_build.specs.PartsView.{one_depth, children_depth}
 use Rattle.vx_layout_build.specs.OpenView.{all_built, wanted_depths}
-use Rattle.vx_kinds.specs.Views.{all_lays}
+use Rattle.vx_layout_tree.specs.Views.{all_lays}
 use Rattle.vx_layout_build.proofs.BuildSteps.{so_far}
 use Rattle.vx_layout_build.proofs.build.+build.Given as goal
 

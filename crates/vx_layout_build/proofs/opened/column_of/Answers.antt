@@ -1,4 +1,4 @@
-use Rattle.vx_kinds.specs.KidsView.{chunks, layout_kids}
+use Rattle.vx_layout_tree.specs.KidsView.{chunks, layout_kids}
 use Rattle.vx_layout_build.specs.PartsView.{children_depth}
 use Rattle.vx_layout_build.proofs.OpenSteps.{column_wanted, column_depth}
 use Rattle.vx_layout_build.proofs.opened.column_of.Goals as goal

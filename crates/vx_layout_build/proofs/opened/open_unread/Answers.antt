@@ -1,6 +1,6 @@
 use Rattle.vx_model.specs.TyView.{ty}
-use Rattle.vx_kinds.specs.KidsView.{chunks}
-use Rattle.vx_kinds.specs.ZonedView.{no_columns}
+use Rattle.vx_layout_tree.specs.KidsView.{chunks}
+use Rattle.vx_layout_tree.specs.ZonedView.{no_columns}
 use Rattle.vx_layout_build.proofs.OpenSteps.{unread_opens}
 use Rattle.vx_layout_build.proofs.opened.open_unread.Goals as goal
 

@@ -1,6 +1,6 @@
 use Rattle.std.proofs.Common.{◌≡◌, ◌<◌, ◌^◌, take, map}
 use Rattle.std.specs.List.{AllByRecursion}
-use Rattle.vx_kinds.specs.LayoutView.{number}
+use Rattle.vx_layout_tree.specs.LayoutView.{number}
 use Rattle.vx_layout_codec.proofs.spell.numbers_of.Given as goal
 
 abbrev pub invariant-loop-segment : goal.invariant-loop-segment

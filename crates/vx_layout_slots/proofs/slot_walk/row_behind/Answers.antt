@@ -1,5 +1,5 @@
 use Rattle.std.proofs.Common.{refl, ◌∙◌, sym}
-use Rattle.vx_kinds.specs.LayoutView.{lay}
+use Rattle.vx_layout_tree.specs.LayoutView.{layout_data}
 use Rattle.vx_layout_slots.proofs.SlotSteps.{rows_before_are, rows_behind_are}
 use Rattle.vx_layout_slots.proofs.slot_walk.row_behind.Goals as goal
 
@@ -7,11 +7,11 @@ pub rows_through-requires : goal.rows_through-requires
 rows_through-requires c =
     record {
       all = c.in-Chunked.ensures.2 ∙ sym c.row_count.ensures;
-      before = rows_before_are (lay c.args.layout.now) c.in-Chunked.children.now c.args.at.slot c.args.at.row c.in-Chunked.ensures.0 c.in-Chunked.ensures.1 c.requires;
+      before = rows_before_are (layout_data c.args.layout.now) c.in-Chunked.children.now c.args.at.slot c.args.at.row c.in-Chunked.ensures.0 c.in-Chunked.ensures.1 c.requires;
     }
 
 pub returns-in-Chunked : goal.returns-in-Chunked
-returns-in-Chunked c = rows_behind_are (lay c.args.layout.now) c.in-Chunked.children.now _ _ c.in-Chunked.ensures.0 c.in-Chunked.ensures.1 c.rows_through.ensures
+returns-in-Chunked c = rows_behind_are (layout_data c.args.layout.now) c.in-Chunked.children.now _ _ c.in-Chunked.ensures.0 c.in-Chunked.ensures.1 c.rows_through.ensures
 
 pub returns-in-Flat : goal.returns-in-Flat
 returns-in-Flat c = rw c.in-Flat.ensures refl

@@ -1,6 +1,6 @@
 use Rattle.std.proofs.Common.{◌+◌, arith}
-use Rattle.vx_kinds.specs.KidsView.{layout_kids}
-use Rattle.vx_kinds.proofs.KidSteps.{take_rows, few_rows}
+use Rattle.vx_layout_tree.specs.KidsView.{layout_kids}
+use Rattle.vx_layout_tree.proofs.KidSteps.{take_rows, few_rows}
 use Rattle.vx_layout_slots.proofs.slot_walk.rows_through.Goals as goal
 
 pub overflow_add-result : goal.overflow_add-result

@@ -1,6 +1,6 @@
 use Rattle.std.proofs.Common.{◌≡◌, ◌-◌, map}
-use Rattle.vx_cells.specs.Reading.{many_at}
-use Rattle.vx_cells.proofs.Loops.{with_front}
+use Rattle.vx_cell_codec.specs.Reading.{many_at}
+use Rattle.vx_cell_codec.proofs.Loops.{with_front}
 use Rattle.vx_metadata.specs.Reading.{spec_at}
 use Rattle.vx_metadata.specs.Views.{spec_of}
 use Rattle.vx_metadata.proofs.zoned.read_specs.Given as goal

@@ -1,7 +1,7 @@
 use Rattle.std.proofs.Common.{◌≡◌, drop, map}
 use Rattle.vx_model.specs.Words.{all_by}
 use Rattle.vx_model.specs.Ty.{tys_of}
-use Rattle.vx_model.specs.Tree.{fits, fields_fit}
+use Rattle.vx_model.specs.CellData.{fits, fields_fit}
 use Rattle.vx_model.specs.TyView.{ty, field_ty}
 use Rattle.vx_model.specs.TreeView.{tree}
 use Rattle.vx_model.proofs.fit.+fits.Given as goal

@@ -1,7 +1,7 @@
 use Rattle.std.proofs.Common.{◌≡◌, ◌++◌, map}
 use Rattle.std.specs.Vec.Iter.{into_iter_items}
 use Rattle.vx_model.specs.TreeView.{val}
-use Rattle.vx_tree.specs.Rows.{joined}
+use Rattle.vx_layout_spec.specs.Rows.{joined}
 use Rattle.vx_read.specs.Parts.{rows_in}
 use Rattle.vx_read.proofs.counts.joined.Given as goal
 

@@ -1,7 +1,7 @@
 -- The next value.
 use Rattle.std.proofs.Common.{sym, ◌∙◌, map}
 use Rattle.vx_model.specs.TreeView.{val}
-use Rattle.vx_tree.specs.Rows.{all_there, picked}
+use Rattle.vx_layout_spec.specs.Rows.{all_there, picked}
 use Rattle.vx_read.proofs.DictSteps.{pick_more, pass_code}
 use Rattle.vx_read.proofs.dicts.picked.Goals as goal
 

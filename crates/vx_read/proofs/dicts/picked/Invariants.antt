@@ -1,6 +1,6 @@
 use Rattle.std.proofs.Common.{◌≡◌, drop, length, map}
 use Rattle.vx_model.specs.TreeView.{val}
-use Rattle.vx_tree.specs.Rows.{all_there, picked}
+use Rattle.vx_layout_spec.specs.Rows.{all_there, picked}
 use Rattle.vx_read.specs.Reading.{codes_fault}
 use Rattle.vx_read.proofs.DictSteps.{before}
 use Rattle.vx_read.proofs.dicts.picked.Given as goal

@@ -1,7 +1,7 @@
 -- The next list, and what is left behind it.
 use Rattle.std.proofs.Common.{◌-◌, ap, sym, ◌∙◌, map, take, drop}
 use Rattle.vx_model.specs.TreeView.{val}
-use Rattle.vx_tree.specs.Rows.{lists_of}
+use Rattle.vx_layout_spec.specs.Rows.{lists_of}
 use Rattle.vx_read.specs.Parts.{rows_in}
 use Rattle.vx_read.proofs.ListSteps.{list_more, drop_offsets, further}
 use Rattle.vx_read.proofs.lists.lists.Goals as goal

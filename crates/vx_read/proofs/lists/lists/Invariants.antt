@@ -1,6 +1,6 @@
 use Rattle.std.proofs.Common.{◌≡◌, ◌≤◌, drop, length, map}
 use Rattle.vx_model.specs.TreeView.{val}
-use Rattle.vx_tree.specs.Rows.{lists_of}
+use Rattle.vx_layout_spec.specs.Rows.{lists_of}
 use Rattle.vx_read.specs.Parts.{rows_in, queued}
 use Rattle.vx_read.specs.Reading.{offsets_fault}
 use Rattle.vx_read.proofs.DictSteps.{before}

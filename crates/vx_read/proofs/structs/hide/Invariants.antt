@@ -1,6 +1,6 @@
 use Rattle.std.proofs.Common.{◌≡◌, ◌++◌, take, drop, map}
 use Rattle.vx_model.specs.TreeView.{val}
-use Rattle.vx_tree.specs.Rows.{kept_rows}
+use Rattle.vx_layout_spec.specs.Rows.{kept_rows}
 use Rattle.vx_read.proofs.structs.hide.Given as goal
 
 abbrev pub invariant-loop-i : goal.invariant-loop-i

@@ -1,6 +1,6 @@
 use Rattle.std.proofs.Common.{◌≡◌, ◌++◌, take, drop, map}
 use Rattle.vx_model.specs.Words.{head_or, tail}
-use Rattle.vx_model.specs.Val.{null_value}
+use Rattle.vx_model.specs.ValueData.{null_value}
 use Rattle.vx_read.specs.Parts.{rows_in, queued}
 use Rattle.vx_read.proofs.structs.next_fields.Given as goal
 

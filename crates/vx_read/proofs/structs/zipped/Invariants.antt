@@ -1,5 +1,5 @@
 use Rattle.std.proofs.Common.{◌≡◌, ◌++◌, ◌-◌, map}
-use Rattle.vx_tree.specs.Rows.{zipped}
+use Rattle.vx_layout_spec.specs.Rows.{zipped}
 use Rattle.vx_read.specs.Parts.{rows_in, queued}
 use Rattle.vx_read.proofs.structs.zipped.Given as goal
 

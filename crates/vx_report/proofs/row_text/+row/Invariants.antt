@@ -1,7 +1,7 @@
 use Rattle.std.proofs.Common.{◌≡◌, ◌++◌, ◌∷◌, false, drop, map}
 use Rattle.std.specs.Prelude.{string_bytes, nat_lt}
 use Rattle.serde_json.specs.Written.{items_text}
-use Rattle.vx_model.specs.Val.{vals_of}
+use Rattle.vx_model.specs.ValueData.{vals_of}
 use Rattle.vx_model.specs.TreeView.{val}
 use Rattle.vx_report.specs.RowText.{items_json}
 use Rattle.vx_report.proofs.row_text.+row.Given as goal

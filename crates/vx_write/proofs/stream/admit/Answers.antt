@@ -1,6 +1,6 @@
 use Rattle.std.proofs.Common.{arith}
 use Rattle.vx_chunk.specs.ChunkView.{piece}
-use Rattle.vx_model.specs.Piece.{piece_type}
+use Rattle.vx_model.specs.ChunkData.{piece_type}
 use Rattle.vx_write.proofs.Steps.{same_type}
 use Rattle.vx_write.proofs.stream.admit.Goals as goal
 

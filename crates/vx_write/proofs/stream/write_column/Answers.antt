@@ -1,12 +1,12 @@
 use Rattle.std.proofs.Common.{◌≡◌, ℕ, ◌+◌, ◌∙◌, ◌-◌, sym, ap, subst, length, map, arith, refl, [], ◌∷◌, ◌++◌, None, ◌<◌, ◌^◌}
 use Rattle.std.proofs.lemmas.List.{map_push, length-append, length-map}
-use Rattle.vx_model.specs.Piece.{Piece}
-use Rattle.vx_encode.specs.Segment.{refused}
+use Rattle.vx_model.specs.ChunkData.{ChunkData}
+use Rattle.vx_segment_writer.specs.Segment.{refused}
 use Rattle.vx_write.specs.InOrder.{BatchWritten}
 use Rattle.std.proofs.lemmas.Result.{err_from_is_err_and}
 use Rattle.std.proofs.lemmas.Bool.{false≢true}
 use Rattle.vx_chunk.specs.ChunkView.{piece}
-use Rattle.vx_kinds.specs.LayoutView.{lay}
+use Rattle.vx_layout_tree.specs.LayoutView.{layout_data}
 use Rattle.vx_write.specs.Stream.{NotWritten}
 use Rattle.vx_write.proofs.Steps.{done_rows, halted_last, admit_cause, write_cause, next_is_told, never_admits, goes_on, behind_batch, passed, more_passed}
 use Rattle.vx_write.proofs.stream.write_column.Goals as goal
@@ -43,14 +43,14 @@ returns-in_err-flat-clause-err g c =
 pub returns-in_err-flat-clause-cause : goal.returns-in_err-flat-clause-cause
 returns-in_err-flat-clause-cause g c =
     let p = err_from_is_err_and c.from_residual-in_err-flat.result c.from_residual-in_err-flat.ensures.1 in
-    rw (p.1, p.2, c.in_err-flat.ensures.next) (write_cause (piece c.in-Some.batch) _ _ c.in_err-flat.field-0.0 c.batches.invariant.done (rw c.in-Some.is at c.in_ok-batch.ensures.batch) (c.in_ok-batch-2.ensures.typed ∙ (c.dtype-in-batches.ensures ∙ (c.next.ensures.kind ∙ c.batches.invariant.kind))) (subst (λ (q : Piece). NotWritten c.args.ctx.now (g.S.SegmentSink.next c.batches.sink) q c.in_err-flat.field-0.0) c.in_ok-batch-2.ensures.same c.in_err-flat.ensures.cause))
+    rw (p.1, p.2, c.in_err-flat.ensures.next) (write_cause (piece c.in-Some.batch) _ _ c.in_err-flat.field-0.0 c.batches.invariant.done (rw c.in-Some.is at c.in_ok-batch.ensures.batch) (c.in_ok-batch-2.ensures.typed ∙ (c.dtype-in-batches.ensures ∙ (c.next.ensures.kind ∙ c.batches.invariant.kind))) (subst (λ (q : ChunkData). NotWritten c.args.ctx.now (g.S.SegmentSink.next c.batches.sink) q c.in_err-flat.field-0.0) c.in_ok-batch-2.ensures.same c.in_err-flat.ensures.cause))
 
 pub returns-in_err-flat-clause-complete : goal.returns-in_err-flat-clause-complete
 returns-in_err-flat-clause-complete g c xs told all most rows calm_source calm_sink =
     let p = err_from_is_err_and c.from_residual-in_err-flat.result c.from_residual-in_err-flat.ensures.1 in
     let n = next_is_told (piece c.in-Some.batch) _ xs c.batches.invariant.done (rw c.in-Some.is at c.in_ok-batch.ensures.batch) told all in
     let count : length c.batches.flats.items ≡ length c.batches.invariant.done.taken = rw length-map at c.batches.invariant.done.count in
-    let listed : refused c.args.ctx.now (piece c.in_ok-batch-2.batch) ≡ None = subst (λ (q : Piece). refused c.args.ctx.now q ≡ None) (sym c.in_ok-batch-2.ensures.same) n.listed in
+    let listed : refused c.args.ctx.now (piece c.in_ok-batch-2.batch) ≡ None = subst (λ (q : ChunkData). refused c.args.ctx.now q ≡ None) (sym c.in_ok-batch-2.ensures.same) n.listed in
     let below : g.S.SegmentSink.next c.batches.sink < 2 ^ 32 = omega (arith, c.batches.invariant.next, count, n.more, most) in
     rw (p.1, p.2) (c.in_err-flat.ensures.complete listed below (calm_sink.0 ∙ sym c.batches.invariant.sink_count, rw c.batches.invariant.sink_count calm_sink.1))
 
@@ -64,9 +64,9 @@ pub batches-preserved : goal.batches-preserved
 batches-preserved g c =
     let items : c.push.new.self.items ≡ c.batches.flats.items ++ (c.in_ok-flat.flat ∷ []) = rw (c.unwrap.ensures, c.in_ok-reserve.ensures.items) at c.push.ensures.items in
     let count : length c.push.new.self.items ≡ length c.batches.flats.items + 1 = ap length items ∙ length-append c.batches.flats.items (c.in_ok-flat.flat ∷ []) in
-    let views : map lay c.push.new.self.items ≡ map lay c.batches.flats.items ++ (lay c.in_ok-flat.flat ∷ []) = ap (map lay) items ∙ map_push lay c.batches.flats.items c.in_ok-flat.flat in
-    let written = subst (λ (q : Piece). BatchWritten c.args.ctx.now (g.S.SegmentSink.next c.batches.sink) q (lay c.in_ok-flat.flat) (g.S.SegmentSink.segments c.batches.sink) (g.S.SegmentSink.segments c.write_batch.new.sink)) c.in_ok-batch-2.ensures.same c.in_ok-flat.ensures.ok in
-    let more = goes_on (piece c.in-Some.batch) (lay c.in_ok-flat.flat) (g.B.BatchSource.to_come c.next.new.self) (g.S.SegmentSink.segments c.write_batch.new.sink) (g.S.SegmentSink.next c.batches.sink) c.batches.invariant.done (rw c.in-Some.is at c.in_ok-batch.ensures.batch) (c.in_ok-batch-2.ensures.typed ∙ (c.dtype-in-batches.ensures ∙ (c.next.ensures.kind ∙ c.batches.invariant.kind))) (rw length-map c.batches.invariant.next) written in
+    let views : map layout_data c.push.new.self.items ≡ map layout_data c.batches.flats.items ++ (layout_data c.in_ok-flat.flat ∷ []) = ap (map layout_data) items ∙ map_push layout_data c.batches.flats.items c.in_ok-flat.flat in
+    let written = subst (λ (q : ChunkData). BatchWritten c.args.ctx.now (g.S.SegmentSink.next c.batches.sink) q (layout_data c.in_ok-flat.flat) (g.S.SegmentSink.segments c.batches.sink) (g.S.SegmentSink.segments c.write_batch.new.sink)) c.in_ok-batch-2.ensures.same c.in_ok-flat.ensures.ok in
+    let more = goes_on (piece c.in-Some.batch) (layout_data c.in_ok-flat.flat) (g.B.BatchSource.to_come c.next.new.self) (g.S.SegmentSink.segments c.write_batch.new.sink) (g.S.SegmentSink.next c.batches.sink) c.batches.invariant.done (rw c.in-Some.is at c.in_ok-batch.ensures.batch) (c.in_ok-batch-2.ensures.typed ∙ (c.dtype-in-batches.ensures ∙ (c.next.ensures.kind ∙ c.batches.invariant.kind))) (rw length-map c.batches.invariant.next) written in
     record {
       kind = c.next.ensures.kind ∙ c.batches.invariant.kind;
       source_count = c.in_ok-batch.ensures.cause ∙ c.batches.invariant.source_count;

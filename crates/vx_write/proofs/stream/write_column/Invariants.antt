@@ -1,5 +1,5 @@
 use Rattle.std.proofs.Common.{◌≡◌, ℕ, ◌+◌, ◌<◌, ◌≤◌, ◌^◌, max, length, map}
-use Rattle.vx_kinds.specs.LayoutView.{lay}
+use Rattle.vx_layout_tree.specs.LayoutView.{layout_data}
 use Rattle.vx_write.specs.InOrder.{Done}
 use Rattle.vx_write.proofs.stream.write_column.Given as goal
 
@@ -18,7 +18,7 @@ invariant-batches g l = record {
   sink_must : (k : ℕ) → g.S.SegmentSink.must_fail l.fn.sink (length l.flats.items + k) → g.S.SegmentSink.must_fail l.sink k;
   source_may : (k : ℕ) → g.B.BatchSource.may_fail l.source k → g.B.BatchSource.may_fail l.fn.source (length l.flats.items + k);
   sink_may : (k : ℕ) → g.S.SegmentSink.may_fail l.sink k → g.S.SegmentSink.may_fail l.fn.sink (length l.flats.items + k);
-  done : Done l.ctx (g.B.BatchSource.kind l.fn.source) (g.S.SegmentSink.next l.fn.sink) (map lay l.flats.items) l.rows
+  done : Done l.ctx (g.B.BatchSource.kind l.fn.source) (g.S.SegmentSink.next l.fn.sink) (map layout_data l.flats.items) l.rows
       (g.B.BatchSource.to_come l.fn.source) (g.B.BatchSource.to_come l.source) (g.S.SegmentSink.segments l.fn.sink) (g.S.SegmentSink.segments l.sink);
 }
 

@@ -1,6 +1,6 @@
 use Rattle.std.proofs.Common.{refl, sym, rules, arith}
 use Rattle.std.proofs.lemmas.Grind.{common_steps}
-use Rattle.vx_record.specs.Aggregate.{bounded_maximum, bounded_minimum, bloom}
+use Rattle.vx_aggregate_spec.specs.Aggregate.{bounded_maximum, bounded_minimum, bloom}
 use Rattle.vx_aggregate.specs.declared.aggregate.AggregateFn.TheVariants.{Max, Min, NullCount, Sum}
 use Rattle.vx_aggregate.proofs.Named.{plain_named, bound_refused, blocks_refused}
 use Rattle.vx_aggregate.proofs.aggregate.AggregateFn.from_spec.Goals as goal

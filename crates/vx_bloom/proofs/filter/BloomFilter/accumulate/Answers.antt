@@ -3,7 +3,7 @@ use Rattle.std.proofs.lemmas.Grind.{common_steps}
 use Rattle.vx_hash.specs.XxHash3.{xxhash3_64}
 use Rattle.vx_model.specs.TyView.{ty}
 use Rattle.vx_model.specs.TreeView.{val}
-use Rattle.vx_bloom.specs.Values.{value_hashes, all_inserted}
+use Rattle.vx_bloom_spec.specs.Values.{value_hashes, all_inserted}
 use Rattle.vx_bloom.proofs.ValueLaws.{all_inserted_of}
 use Rattle.vx_bloom.proofs.filter.BloomFilter.accumulate.Goals as goal
 

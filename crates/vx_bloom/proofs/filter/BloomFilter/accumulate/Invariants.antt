@@ -2,7 +2,7 @@ use Rattle.std.proofs.Common.{◌≡◌, map, drop}
 use Rattle.vx_hash.specs.XxHash3.{xxhash3_64}
 use Rattle.vx_model.specs.TyView.{ty}
 use Rattle.vx_model.specs.TreeView.{val}
-use Rattle.vx_bloom.specs.Values.{any_unsupported, value_hashes, all_inserted}
+use Rattle.vx_bloom_spec.specs.Values.{any_unsupported, value_hashes, all_inserted}
 use Rattle.vx_bloom.proofs.filter.BloomFilter.accumulate.Given as goal
 
 abbrev pub invariant-tests : goal.invariant-tests

@@ -1,5 +1,5 @@
 use Rattle.std.proofs.Common.{◌∙◌, sym}
-use Rattle.vx_bloom.proofs.ReadBack.{count_of}
+use Rattle.vx_bloom_spec.proofs.ReadBack.{count_of}
 use Rattle.vx_bloom.proofs.ValueLaws.{val_binary}
 use Rattle.vx_bloom.proofs.filter.BloomFilter.partial_from_scalar.Goals as goal
 

@@ -1,5 +1,5 @@
 use Rattle.std.proofs.Common.{sym, ◌∙◌}
-use Rattle.vx_bloom.proofs.ReadBack.{same_filter_bytes}
+use Rattle.vx_bloom_spec.proofs.ReadBack.{same_filter_bytes}
 use Rattle.vx_bloom.proofs.partial.BloomPartial.deserialize.Goals as goal
 
 pub returns-clause-whole : goal.returns-clause-whole

@@ -1,6 +1,6 @@
 use Rattle.std.proofs.Common.{◌≡◌}
 use Rattle.std.specs.Prelude.{replicate}
-use Rattle.vx_bloom.specs.Blocks.{no_lanes}
+use Rattle.vx_bloom_spec.specs.Blocks.{no_lanes}
 use Rattle.vx_bloom.proofs.partial.BloomPartial.from.Given as goal
 
 abbrev pub invariant-places : goal.invariant-places

@@ -2,8 +2,8 @@ use Rattle.std.proofs.Common.{◌≡◌, true, ap, sym, ◌∙◌, rules}
 use Rattle.std.proofs.lemmas.List.{append-nil}
 use Rattle.vx_model.specs.TyView.{ty}
 use Rattle.vx_model.specs.TreeView.{val}
-use Rattle.vx_bloom.specs.Filter.{filter_of}
-use Rattle.vx_bloom.specs.Values.{is_unsupported}
+use Rattle.vx_bloom_spec.specs.Filter.{filter_of}
+use Rattle.vx_bloom_spec.specs.Values.{is_unsupported}
 use Rattle.vx_bloom.proofs.ValueLaws.{unsupported_none}
 use Rattle.vx_bloom.proofs.partial.BloomPartial.insert_scalar.Goals as goal
 

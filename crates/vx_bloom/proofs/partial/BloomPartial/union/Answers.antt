@@ -1,5 +1,5 @@
 use Rattle.std.proofs.Common.{◌≡◌, length, rules}
-use Rattle.vx_bloom.proofs.Filters.{same_count}
+use Rattle.vx_bloom_spec.proofs.Filters.{same_count}
 use Rattle.vx_bloom.proofs.partial.BloomPartial.union.Goals as goal
 
 pub returns-then-len-clause-filter : goal.returns-then-len-clause-filter

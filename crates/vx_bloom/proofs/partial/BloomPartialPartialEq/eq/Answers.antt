@@ -1,5 +1,5 @@
 use Rattle.std.proofs.Common.{rules}
-use Rattle.vx_bloom.proofs.Filters.{told_same, same_of}
+use Rattle.vx_bloom_spec.proofs.Filters.{told_same, same_of}
 use Rattle.vx_bloom.proofs.partial.BloomPartialPartialEq.eq.Goals as goal
 
 pub returns-clause-same : goal.returns-clause-same

@@ -1,7 +1,7 @@
 use Rattle.std.proofs.Common.{◌≡◌, length}
 use Rattle.std.proofs.lemmas.Result.{IfOk-weaker, IfErr-weaker}
 use Rattle.vx_model.specs.TyView.{ty}
-use Rattle.vx_model.specs.Piece.{Piece, chunked_piece, pieces_of, cells, joined_cells}
+use Rattle.vx_model.specs.ChunkData.{ChunkData, chunked_piece, pieces_of, cells, joined_cells}
 use Rattle.vx_chunk.specs.Conditions.{IsPast, IsTooLarge}
 use Rattle.vx_chunk.proofs.ConcatSteps.{flat_typed, flat_cells, past_is_too_large}
 use Rattle.vx_chunk.proofs.node.Chunk.concat.Goals as goal
@@ -11,7 +11,7 @@ chunked-requires c = rw (c.in_ok-flat.ensures) (flat_typed (ty c.args.dtype) c.a
 
 pub returns-clause-cells : goal.returns-clause-cells
 returns-clause-cells c =
-    IfOk-weaker c.chunked.result (λ (p : Piece). p ≡ chunked_piece (ty c.args.dtype) (pieces_of c.in_ok-flat.flat.items)) (λ (p : Piece). cells p ≡ joined_cells (pieces_of c.args.parts.items))
+    IfOk-weaker c.chunked.result (λ (p : ChunkData). p ≡ chunked_piece (ty c.args.dtype) (pieces_of c.in_ok-flat.flat.items)) (λ (p : ChunkData). cells p ≡ joined_cells (pieces_of c.args.parts.items))
     (λ p e. rw (e, c.in_ok-flat.ensures) (flat_cells c.args.parts.items)) c.chunked.ensures.ok
 
 pub returns-clause-refused : goal.returns-clause-refused

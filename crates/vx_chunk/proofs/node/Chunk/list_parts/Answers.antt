@@ -1,4 +1,4 @@
-use Rattle.vx_model.specs.Piece.{piece_type, cells}
+use Rattle.vx_model.specs.ChunkData.{piece_type, cells}
 use Rattle.vx_chunk.proofs.CellsFit.{cells_fit}
 use Rattle.vx_chunk.proofs.ElementSteps.{elements_fit}
 use Rattle.vx_chunk.proofs.node.Chunk.list_parts.Goals as goal

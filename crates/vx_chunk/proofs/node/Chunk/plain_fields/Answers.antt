@@ -1,5 +1,5 @@
 use Rattle.std.proofs.Common.{◌≡◌, length, sym, ap, ◌∙◌}
-use Rattle.vx_model.specs.Piece.{piece_type, cells}
+use Rattle.vx_model.specs.ChunkData.{piece_type, cells}
 use Rattle.vx_chunk.specs.Parts.{struct_fields}
 use Rattle.vx_chunk.proofs.CellsFit.{cells_fit}
 use Rattle.vx_chunk.proofs.FieldSteps.{count_of, count-tys_of, cells_width, cells_columns, columns_are}

@@ -1,0 +1,118 @@
+//! The public calls of vx under one name, a module a part: `vx::write::write_stream`, `vx::layout::read_rows`. No code.
+#![tactic(auto)]
+
+/// Types, cells, chunks, and the segments that chunks are written as and read from.
+pub mod types {
+    pub use vx_chunk::{Chunk, ChunkError, Node, conditions};
+    pub use vx_field_path::{FieldMask, FieldPath};
+    pub use vx_model::{
+        ArrayContext, Blob, Cell, ContextError, DType, EncodingId, ExtDType, FieldName, IdTooLarge,
+        Nullability, PType, SegmentId, StructField, StructFields, Text, Value, fits, fits_one,
+    };
+    pub use vx_path::owned::Path;
+    pub use vx_segment_reader::{DecodeError, buffer_lengths, decode_segment, tree_buffer_lengths};
+    pub use vx_segment_writer::{EncodeError, encode_segment};
+}
+
+/// Layouts of all kinds: constructors, bytes, texts and rows.
+pub mod layout {
+    pub use vx_display::{DisplayLayoutTree, LayoutDisplay};
+    pub use vx_layout_build::{
+        DepthFirst, LayoutChild, LayoutChildrenWalk, LayoutDeserializeArgs, LayoutEncodingExt,
+        LayoutWalk, build_node,
+    };
+    pub use vx_layout_bytes::{GrammarError, Limits, RawNode, read_nodes, write_node};
+    pub use vx_layout_codec::{
+        layout_bytes, layout_from_flatbuffer, layout_from_flatbuffer_with_options,
+    };
+    pub use vx_layout_slots::{
+        ChildNames, ChildRowOffsets, ChildTypes, LayoutChildType, LayoutSlots,
+    };
+    pub use vx_layout_tree::{
+        ChunkedLayout, DictLayout, ELEMENTS_CHILD_INDEX, FlatLayout, ForeignLayout, Layout,
+        LayoutChildren, LayoutError, LayoutKind, LayoutParts, LegacyStatsLayout, ListLayout,
+        NUM_CHILDREN_NON_NULLABLE, OFFSETS_CHILD_INDEX, SegmentList, StructLayout,
+        VALIDITY_CHILD_INDEX, ViewedChildren, ZonedLayout, layout_children,
+    };
+    pub use vx_metadata::{
+        AggregateSpec, DictLayoutMetadata, FlatLayoutMetadata, LegacyStatsMetadata,
+        ListLayoutMetadata, MetadataError, ZonedMetadata, are_in_order,
+    };
+    pub use vx_read::read_rows;
+    pub use vx_segment_map::{ReadError, SegmentMap};
+    pub use vx_session::{
+        AggregatesError, LayoutBuildContext, LayoutContext, LayoutEncoding, LayoutEncodingRef,
+        LayoutRegistry, LayoutSession, LayoutSessionExt, LayoutVTablePlugin, LayoutVTableRef,
+        Scope, Session,
+    };
+
+    /// A layout, as the Rust crate names one that is shared.
+    pub type LayoutRef = Layout;
+
+    /// A layout, as the Rust crate names one of any kind.
+    pub type DynLayout = Layout;
+
+    /// The id of a layout's kind.
+    pub type LayoutId = vx_model::Text;
+
+    /// The same.
+    pub type LayoutEncodingId = vx_model::Text;
+
+    /// The segments of a layout itself.
+    pub type SegmentIds = Vec<vx_model::SegmentId>;
+}
+
+/// Sequence ids: the order in which segments are appended, whoever makes them.
+pub mod sequence {
+    pub use vx_sequence::{SequenceError, SequenceId, SequencePointer, Universe};
+}
+
+/// What a write reads from and appends to, and the ordered write over a sink.
+pub mod sink {
+    pub use vx_order::{Attempt, LocalOrder, Order, OrderError, Receipt};
+    pub use vx_sink::{
+        BatchSource, CompressError, CompressorPlugin, Fails, LayoutWriterContext, ListSource,
+        MemorySink, PlainCompressor, SegmentSink, SinkError, SourceError,
+    };
+}
+
+/// Bloom filters, their options, and the hash that they store.
+pub mod bloom {
+    pub use vx_bloom::{BlockCount, BloomFilter, BloomPartial, PartialError, Unsupported};
+    pub use vx_bloom_options::{BloomOptions, HashFn, OptionsError, UnknownHash};
+    pub use vx_hash::{ByteHash, XxHash3_64};
+}
+
+/// Aggregates, statistics and the types of their tables. No call records or prunes yet.
+pub mod zones {
+    pub use vx_aggregate::{
+        AggregateFn, MAX_IS_TRUNCATED, MIN_IS_TRUNCATED, SpecError, Stat,
+        aggregate_stats_table_dtype, default_zoned_aggregate_fns, legacy_stats_table_dtype,
+    };
+}
+
+/// Strategies of all kinds, their constructors and options.
+pub mod strategy {
+    pub use vx_strategy::{
+        BufferedStrategy, BuildError, ChildStrategy, ChunkedLayoutStrategy, CollectStrategy,
+        CompressingStrategy, DictLayoutConstraints, DictLayoutOptions, DictStrategy,
+        FlatLayoutStrategy, ListLayoutStrategy, ListWrapper, RepartitionStrategy,
+        RepartitionWriterOptions, Strategy, StructStrategy, TableStrategy, ZonedLayoutOptions,
+        ZonedStrategy, dict_layout_supported,
+    };
+}
+
+/// Writing a stream of batches by a strategy.
+pub mod write {
+    pub use vx_write::{
+        ActionKind, Refused, Step, WriteError, Written, column_count, write_stream,
+    };
+}
+
+/// The program as a call, over any input and output.
+pub mod run {
+    pub use vx_run::{
+        ByteInput, ByteOutput, Command, Input, InputFailure, Output, OutputFailure, RealInput,
+        RealOutput, Status, run,
+    };
+}

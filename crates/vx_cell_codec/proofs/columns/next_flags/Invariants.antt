@@ -1,0 +1,7 @@
+use Rattle.std.proofs.Common.{◌≡◌, ◌-◌}
+use Rattle.vx_cell_codec.specs.Reading.{flag_at, many_at}
+use Rattle.vx_cell_codec.proofs.Loops.{with_front}
+use Rattle.vx_cell_codec.proofs.columns.next_flags.Given as goal
+
+abbrev pub invariant-loop : goal.invariant-loop
+invariant-loop l = with_front l.flags.items (many_at flag_at (l.rows - l.counter) l.rest) ≡ many_at flag_at l.rows l.bytes

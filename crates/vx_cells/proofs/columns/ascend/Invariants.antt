@@ -1,6 +1,0 @@
-use Rattle.std.proofs.Common.{◌≡◌, ◌-◌, drop}
-use Rattle.vx_cells.specs.Columns.{ascend}
-use Rattle.vx_cells.proofs.columns.ascend.Given as goal
-
-abbrev pub invariant-loop-i : goal.invariant-loop-i
-invariant-loop-i l = ascend (drop (l.i - 1) l.numbers) ≡ ascend l.numbers

@@ -1,7 +1,0 @@
-use Rattle.std.proofs.Common.{◌≡◌, ◌-◌, suc}
-use Rattle.vx_cells.specs.Reading.{number_at, many_at}
-use Rattle.vx_cells.proofs.Loops.{with_front}
-use Rattle.vx_cells.proofs.columns.next_offsets.Given as goal
-
-abbrev pub invariant-loop : goal.invariant-loop
-invariant-loop l = with_front l.offsets.items (many_at number_at (l.rows - l.counter) l.rest) ≡ many_at number_at (suc l.rows) l.bytes

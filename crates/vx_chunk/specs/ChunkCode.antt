@@ -1,0 +1,122 @@
+-- Types, cells and chunks as trees of numbers, one to one: by this a proof tells two chunks apart.
+use Rattle.std.specs.Prelude.{◌≡◌, ℕ, zero, suc, Bool, true, false, List, [], ◌∷◌, pos, negsuc, refl}
+use Rattle.std.specs.Coded.{Coded, code_by}
+use base.Stored.{Gv, gnil, gnum, gcons}
+use denote.Struct.Codes.{itself}
+use Rattle.vx_model.specs.declared.ptype.PType.{PType}
+use Rattle.vx_model.specs.declared.ptype.PType.TheVariants.{U8, U16, U32, U64, I8, I16, I32, I64}
+use Rattle.vx_model.specs.Ty.{Ty, Tys, boolean, primitive, utf8, binary, list, struct, extension, no_fields, field}
+use Rattle.vx_model.specs.CellData.{CellData, CellList, null_cell, bool_cell, int_cell, text_cell, bytes_cell, list_cell, struct_cell, no_cells, cell}
+use Rattle.vx_model.specs.ChunkData.{ChunkData, ChunkList, plain_piece, constant_piece, dict_piece, chunked_piece, list_piece, struct_piece, extension_piece, no_pieces, part}
+use Rattle.vx_model.specs.Codes.{flag, flag_of, flag_back, number_of, numbers, numbers_of, numbers_back, flags, flags_of, flags_back, ptype, ty_code, ty_of, ty_back}
+
+-- ---- cells
+
+abbrev mutual
+  pub tree_code : CellData → Gv
+  tree_code null_cell = gcons (gnum 0) gnil
+  tree_code (bool_cell b) = gcons (gnum 1) (flag b)
+  tree_code (int_cell (pos n)) = gcons (gnum 2) (gnum n)
+  tree_code (int_cell (negsuc n)) = gcons (gnum 3) (gnum n)
+  tree_code (text_cell s) = gcons (gnum 4) (numbers s)
+  tree_code (bytes_cell s) = gcons (gnum 5) (numbers s)
+  tree_code (list_cell valid cs) = gcons (gnum 6) (gcons (flag valid) (trees_code cs))
+  tree_code (struct_cell valid cs) = gcons (gnum 7) (gcons (flag valid) (trees_code cs))
+
+  pub trees_code : CellList → Gv
+  trees_code no_cells = gnil
+  trees_code (cell c cs) = gcons (tree_code c) (trees_code cs)
+
+abbrev mutual
+  pub tree_of : Gv → CellData
+  tree_of (gcons (gnum zero) b) = null_cell
+  tree_of (gcons (gnum (suc zero)) b) = bool_cell (flag_of b)
+  tree_of (gcons (gnum (suc (suc zero))) b) = int_cell (pos (number_of b))
+  tree_of (gcons (gnum (suc (suc (suc zero)))) b) = int_cell (negsuc (number_of b))
+  tree_of (gcons (gnum (suc (suc (suc (suc zero))))) b) = text_cell (numbers_of b)
+  tree_of (gcons (gnum (suc (suc (suc (suc (suc zero)))))) b) = bytes_cell (numbers_of b)
+  tree_of (gcons (gnum (suc (suc (suc (suc (suc (suc zero))))))) (gcons valid cs)) = list_cell (flag_of valid) (trees_of_code cs)
+  tree_of (gcons (gnum (suc (suc (suc (suc (suc (suc (suc k)))))))) (gcons valid cs)) = struct_cell (flag_of valid) (trees_of_code cs)
+  tree_of g = null_cell
+
+  pub trees_of_code : Gv → CellList
+  trees_of_code (gcons c cs) = cell (tree_of c) (trees_of_code cs)
+  trees_of_code g = no_cells
+
+mutual
+  pub tree_back : (c : CellData) → tree_of (tree_code c) ≡ c
+  tree_back null_cell = refl
+  tree_back (bool_cell b) = cc (flag_back b)
+  tree_back (int_cell (pos n)) = refl
+  tree_back (int_cell (negsuc n)) = refl
+  tree_back (text_cell s) = cc (numbers_back s)
+  tree_back (bytes_cell s) = cc (numbers_back s)
+  tree_back (list_cell valid cs) = cc (flag_back valid, trees_back cs)
+  tree_back (struct_cell valid cs) = cc (flag_back valid, trees_back cs)
+
+  pub trees_back : (cs : CellList) → trees_of_code (trees_code cs) ≡ cs
+  trees_back no_cells = refl
+  trees_back (cell c cs) = cc (tree_back c, trees_back cs)
+
+abbrev pub cells_code : List CellData → Gv
+cells_code [] = gnil
+cells_code (c ∷ cs) = gcons (tree_code c) (cells_code cs)
+
+abbrev pub cells_of : Gv → List CellData
+cells_of (gcons c cs) = tree_of c ∷ cells_of cs
+cells_of g = []
+
+pub cells_back : (cs : List CellData) → cells_of (cells_code cs) ≡ cs
+cells_back [] = refl
+cells_back (c ∷ cs) = cc (tree_back c, cells_back cs)
+
+-- ---- chunks
+
+abbrev mutual
+  pub to_code : ChunkData → Gv
+  to_code (plain_piece t cs) = gcons (gnum 0) (gcons (ty_code t) (cells_code cs))
+  to_code (constant_piece t c n) = gcons (gnum 1) (gcons (ty_code t) (gcons (tree_code c) (gnum n)))
+  to_code (dict_piece codes values) = gcons (gnum 2) (gcons (to_code codes) (to_code values))
+  to_code (chunked_piece t ps) = gcons (gnum 3) (gcons (ty_code t) (to_codes ps))
+  to_code (list_piece t e offsets valid) = gcons (gnum 4) (gcons (ty_code t) (gcons (to_code e) (gcons (numbers offsets) (flags valid))))
+  to_code (struct_piece t ps valid n) = gcons (gnum 5) (gcons (ty_code t) (gcons (to_codes ps) (gcons (flags valid) (gnum n))))
+  to_code (extension_piece t p) = gcons (gnum 6) (gcons (ty_code t) (to_code p))
+
+  pub to_codes : ChunkList → Gv
+  to_codes no_pieces = gnil
+  to_codes (part p ps) = gcons (to_code p) (to_codes ps)
+
+abbrev pub nothing : ChunkData
+nothing = plain_piece (boolean false) []
+
+abbrev mutual
+  pub of_code : Gv → ChunkData
+  of_code (gcons (gnum zero) (gcons t cs)) = plain_piece (ty_of t) (cells_of cs)
+  of_code (gcons (gnum (suc zero)) (gcons t (gcons c n))) = constant_piece (ty_of t) (tree_of c) (number_of n)
+  of_code (gcons (gnum (suc (suc zero))) (gcons codes values)) = dict_piece (of_code codes) (of_code values)
+  of_code (gcons (gnum (suc (suc (suc zero)))) (gcons t ps)) = chunked_piece (ty_of t) (of_codes ps)
+  of_code (gcons (gnum (suc (suc (suc (suc zero))))) (gcons t (gcons e (gcons offsets valid)))) = list_piece (ty_of t) (of_code e) (numbers_of offsets) (flags_of valid)
+  of_code (gcons (gnum (suc (suc (suc (suc (suc zero)))))) (gcons t (gcons ps (gcons valid n)))) = struct_piece (ty_of t) (of_codes ps) (flags_of valid) (number_of n)
+  of_code (gcons (gnum (suc (suc (suc (suc (suc (suc k))))))) (gcons t p)) = extension_piece (ty_of t) (of_code p)
+  of_code g = nothing
+
+  pub of_codes : Gv → ChunkList
+  of_codes (gcons p ps) = part (of_code p) (of_codes ps)
+  of_codes g = no_pieces
+
+mutual
+  pub code_back : (p : ChunkData) → of_code (to_code p) ≡ p
+  code_back (plain_piece t cs) = cc (ty_back t, cells_back cs)
+  code_back (constant_piece t c n) = cc (ty_back t, tree_back c)
+  code_back (dict_piece codes values) = cc (code_back codes, code_back values)
+  code_back (chunked_piece t ps) = cc (ty_back t, codes_back ps)
+  code_back (list_piece t e offsets valid) = cc (ty_back t, code_back e, numbers_back offsets, flags_back valid)
+  code_back (struct_piece t ps valid n) = cc (ty_back t, codes_back ps, flags_back valid)
+  code_back (extension_piece t p) = cc (ty_back t, code_back p)
+
+  pub codes_back : (ps : ChunkList) → of_codes (to_codes ps) ≡ ps
+  codes_back no_pieces = refl
+  codes_back (part p ps) = cc (code_back p, codes_back ps)
+
+abbrev pub piece_code : Coded ChunkData
+piece_code = code_by Gv itself to_code of_code code_back

@@ -1,6 +1,0 @@
-use Rattle.std.proofs.Common.{◌≡◌, ◌++◌}
-use Rattle.vx_columns.specs.Parts.{row_flags}
-use Rattle.vx_columns.proofs.parts.push_row_flags.Given as goal
-
-abbrev pub invariant-loop-row : goal.invariant-loop-row
-invariant-loop-row l = l.out.items ≡ l.fn.out.items ++ row_flags l.row l.valid

@@ -1,0 +1,4 @@
+pub mod Counts
+pub mod Fails
+pub mod Faults
+pub mod Told

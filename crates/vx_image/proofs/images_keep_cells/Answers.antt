@@ -1,5 +1,0 @@
-use Rattle.vx_image.proofs.ImageLaws.{images_keep_cells}
-use Rattle.vx_image.proofs.images_keep_cells.Goals as goal
-
-pub returns : goal.returns
-returns c = images_keep_cells

@@ -1,0 +1,16 @@
+pub mod FlatView
+pub mod LayoutCode
+pub mod LayDepth
+pub mod LayoutView
+pub mod KidsView
+pub mod KindView
+pub mod ZonedView
+pub mod DepthFalls
+pub mod Children
+pub mod Made
+pub mod SpecView
+pub mod Views
+pub mod Shown
+pub mod ErrorNames
+pub mod Copies
+pub mod Own

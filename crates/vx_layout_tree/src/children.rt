@@ -1,0 +1,108 @@
+//! The children of a layout: kept, or nodes of bytes that are built when they are asked for.
+
+ghost use Rattle.std.specs.Prelude.{◌≡◌, ◌<◌, length, map};
+ghost use Rattle.vx_layout_tree.specs.declared.children.LayoutChildren.TheVariants as children_variants;
+ghost use Rattle.vx_layout_tree.specs.Children.{rows_at as rows_of_child};
+ghost use Rattle.vx_layout_tree.specs.LayoutView.{layout_data};
+
+use crate::layout::Layout;
+use std::alloc::Global;
+use std::rc::Rc;
+use vx_layout_bytes::RawNode;
+use vx_session::Scope;
+
+/// What a chunked or a struct layout has below it.
+#[derive(Debug, Drop)]
+#[cycle(layout)]
+pub enum LayoutChildren {
+    Owned(Vec<Layout>),
+    Viewed(ViewedChildren),
+}
+
+/// Nodes of bytes, and what they are built in.
+#[derive(Debug, Drop)]
+pub struct ViewedChildren {
+    pub(crate) scope: Rc<Scope>,
+    pub(crate) nodes: Vec<RawNode>,
+}
+
+impl ViewedChildren {
+    ghost use Rattle.std.specs.Prelude.{◌≡◌};
+
+    /// Nodes that bytes spell, and what they are built in. Takes no memory.
+    pub fn new(scope: Rc<Scope>, nodes: Vec<RawNode>) -> ViewedChildren
+        ensures { result ≡ record { scope = scope; nodes = nodes } }
+    {
+        ViewedChildren { scope, nodes }
+    }
+
+    /// What the nodes are built in, and the nodes.
+    pub fn as_parts(&self) -> (&Rc<Scope>, &Vec<RawNode>)
+        ensures scope { result.0.now ≡ self.now.scope }
+        ensures nodes { result.1.now ≡ self.now.nodes }
+    {
+        (&self.scope, &self.nodes)
+    }
+
+    /// The same by themselves. Takes no memory.
+    pub fn into_parts(self) -> (Rc<Scope>, Vec<RawNode>)
+        ensures scope { result.0 ≡ self.scope }
+        ensures nodes { result.1 ≡ self.nodes }
+    {
+        (self.scope, self.nodes)
+    }
+}
+
+/// Children that are kept.
+pub fn layout_children(children: Vec<Layout>) -> LayoutChildren
+    ensures { result ≡ children_variants.Owned children }
+{
+    LayoutChildren::Owned(children)
+}
+
+impl LayoutChildren {
+    ghost use Rattle.std.specs.Prelude.{◌≡◌, ◌<◌, ◌^◌, length};
+    ghost use Rattle.vx_session.specs.Made.{rows_at};
+    ghost use Rattle.vx_layout_tree.specs.KidsView.{layout_kids};
+
+    /// How many there are, built or not.
+    #[tactic(auto, using(crate::proofs::KidSteps::rows_rules))]
+    pub fn nchildren(&self) -> u64
+        ensures count { result ≡ length (layout_kids self.now) }
+        ensures few { result < 2 ^ 63 }
+    {
+        match self {
+            LayoutChildren::Owned(layouts) => layouts.len() as u64,
+            LayoutChildren::Viewed(viewed) => viewed.nodes.len() as u64,
+        }
+    }
+
+    /// Rows of the child at the place, which is below `nchildren`.
+    #[tactic(auto, using(crate::proofs::KidSteps::rows_rules))]
+    pub fn child_row_count(&self, i: u64) -> u64
+        requires { i < length (layout_kids self.now) }
+        ensures { result ≡ rows_at (layout_kids self.now) i }
+    {
+        match self {
+            LayoutChildren::Owned(layouts) => layouts[i as usize].row_count(),
+            LayoutChildren::Viewed(viewed) => viewed.nodes[i as usize].rows,
+        }
+    }
+
+    /// The allocator that they are in.
+    pub fn allocator(&self) -> Global {
+        match self {
+            LayoutChildren::Owned(layouts) => *layouts.allocator(),
+            LayoutChildren::Viewed(viewed) => *viewed.nodes.allocator(),
+        }
+    }
+}
+
+/// Rows of a layout that is kept.
+#[tactic(auto, using(crate::proofs::Steps::rows_rules))]
+pub(crate) fn kept_rows(layouts: &[Layout], i: u64) -> u64
+    requires { i < length layouts.now }
+    ensures { result ≡ rows_of_child (map layout_data layouts.now) i }
+{
+    layouts[i as usize].row_count()
+}

@@ -1,6 +1,0 @@
-pub mod Admits
-pub mod PlaceSteps
-pub mod BlockLen
-pub mod Writers
-pub mod Apart
-pub mod Wrappers

@@ -1,5 +1,0 @@
-use Rattle.vx_record.proofs.HashLaws.{hash_is_small}
-use Rattle.vx_record.proofs.hash_is_small.Goals as goal
-
-pub returns : goal.returns
-returns c = hash_is_small

@@ -1,5 +1,0 @@
-use Rattle.vx_record.proofs.PruneLaws.{not_is_pushed}
-use Rattle.vx_record.proofs.not_is_pushed.Goals as goal
-
-pub returns : goal.returns
-returns c = not_is_pushed

@@ -1,5 +1,0 @@
-use Rattle.vx_record.proofs.FilterLaws.{stored_filter_contains}
-use Rattle.vx_record.proofs.stored_filters_contain_values.Goals as goal
-
-pub returns : goal.returns
-returns c = stored_filter_contains

@@ -1,8 +1,0 @@
-use Rattle.std.proofs.Common.{◌≡◌, ◌-◌}
-use Rattle.std.specs.Int.{w64}
-use Rattle.vx_segment.specs.Reading.{number_at, many_at}
-use Rattle.vx_segment.proofs.Loops.{with_front}
-use Rattle.vx_segment.proofs.tree.lengths_at.Given as goal
-
-abbrev pub invariant-loop : goal.invariant-loop
-invariant-loop l = with_front l.lengths.items (many_at (number_at w64 l.stop) (l.count - l.counter) l.rest) ≡ many_at (number_at w64 l.stop) l.count l.bytes

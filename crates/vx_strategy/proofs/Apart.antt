@@ -1,0 +1,114 @@
+-- Overrides stay apart.
+use Rattle.std.proofs.Common.{◌≡◌, ℕ, suc, ◌+◌, ◌<◌, ◌&&◌, Bool, true, false, List, [], ◌∷◌, ◌++◌, length, get_or, ◌⊎◌, inl, inr, refl, sym, ◌∙◌, ap, subst, arith, Option, Some, None}
+use Rattle.std.specs.Prelude.{not, if◌then◌else◌, option_map, bytes_eq}
+use Rattle.std.specs.Cmp.Lexicographic.{bytes_decides}
+use Rattle.vx_field_path.specs.Paths.{overlaps as field_overlaps, is_root as field_root}
+use Rattle.vx_strategy_spec.specs.StrategyData.{StrategyData, StrategyList, no_ways, way_at}
+use Rattle.vx_strategy_spec.specs.Admitted.{is_root, overlaps, overlaps_none, are_apart}
+use Rattle.vx_strategy.specs.Places.{first_place}
+use Rattle.vx_strategy.specs.PathWays.{path_ways}
+use Rattle.vx_strategy.specs.Overridden.{Names, appended, first_overlap, is_over, overlap_place, Fits}
+use Rattle.vx_strategy.specs.declared.overrides.PathWriter.{PathWriter}
+use Rattle.vx_strategy.proofs.PlaceSteps.{later, place_below}
+use Rattle.vx_strategy.proofs.Writers.{either, none_later}
+use Rattle.vx_strategy.proofs.Admits.{both_true}
+
+-- ---- overlapping is symmetric, and said the same below
+
+same_bool : (a b : Bool) → (a ≡ true → b ≡ true) → (b ≡ true → a ≡ true) → a ≡ b
+same_bool true b f g = sym (f refl)
+same_bool false true f g = g refl
+same_bool false false f g = refl
+
+bytes_eq_sym : (a b : List ℕ) → bytes_eq a b ≡ bytes_eq b a
+bytes_eq_sym a b = same_bool (bytes_eq a b) (bytes_eq b a) (λ e. (bytes_decides b a).1 (sym ((bytes_decides a b).0 e))) (λ e. (bytes_decides a b).1 (sym ((bytes_decides b a).0 e)))
+
+pub overlaps_sym : (p q : Names) → overlaps p q ≡ overlaps q p
+overlaps_sym [] [] = refl
+overlaps_sym [] (b ∷ q) = refl
+overlaps_sym (a ∷ p) [] = refl
+overlaps_sym (a ∷ p) (b ∷ q) = rw (bytes_eq_sym a b, overlaps_sym p q) refl
+
+same_overlaps : (p q : Names) → field_overlaps p q ≡ overlaps p q
+same_overlaps [] q = refl
+same_overlaps (a ∷ p) [] = refl
+same_overlaps (a ∷ p) (b ∷ q) = ap (λ x. bytes_eq a b && x) (same_overlaps p q)
+
+over_is : (path : Names) (w : PathWriter) → is_over path w ≡ overlaps path w.path
+over_is path w = same_overlaps w.path path ∙ overlaps_sym w.path path
+
+pub same_root : (p : Names) → field_root p ≡ is_root p
+same_root [] = refl
+same_root (a ∷ p) = refl
+
+-- ---- one more override
+
+pub path_push : (path : Names) (w : StrategyData) (ws : List PathWriter)
+    → path_ways (ws ++ (record { path = path; writer = w } ∷ [])) ≡ appended (path_ways ws) path w
+path_push path w [] = refl
+path_push path w (x ∷ xs) = ap (way_at x.path x.writer) (path_push path w xs)
+
+pub none_overlaps : (path : Names) (ws : List PathWriter) → overlap_place path ws ≡ None → overlaps_none path (path_ways ws) ≡ true
+none_overlaps path [] is = refl
+none_overlaps path (x ∷ xs) is = elim (either (is_over path x)) [
+  | inl t ↦ let h : overlap_place path (x ∷ xs) ≡ Some 0 = rw t refl in absurd (cc (is, h))
+  | inr t ↦
+      let h : overlap_place path (x ∷ xs) ≡ option_map suc (overlap_place path xs) = rw t refl in
+      let o : overlaps path x.path ≡ false = sym (over_is path x) ∙ t in
+      rw (o, none_overlaps path xs (none_later (overlap_place path xs) (sym h ∙ is))) refl
+]
+
+Firsts : Names → List PathWriter → PathWriter → ℕ → Type 0
+Firsts path ws x k = x ≡ get_or ws k x → first_overlap path (path_ways ws) ≡ Some x.path
+
+first_here : (path : Names) (y x : PathWriter) (ys : List PathWriter) → is_over path y ≡ true → Firsts path (y ∷ ys) x 0
+unfolding Firsts
+first_here path y x ys t at = let o : overlaps path y.path ≡ true = sym (over_is path y) ∙ t in rw (o, at) refl
+
+first_later : (path : Names) (y x : PathWriter) (ys : List PathWriter) (j : ℕ) → is_over path y ≡ false → Firsts path ys x j → Firsts path (y ∷ ys) x (suc j)
+unfolding Firsts
+first_later path y x ys j t rest at = let o : overlaps path y.path ≡ false = sym (over_is path y) ∙ t in rw (o) (rest at)
+
+firsts : (path : Names) (ws : List PathWriter) (k : ℕ) (x : PathWriter) → overlap_place path ws ≡ Some k → Firsts path ws x k
+firsts path [] k x is = absurd (cc is)
+firsts path (y ∷ ys) k x is = elim (either (is_over path y)) [
+  | inl t ↦ let h : overlap_place path (y ∷ ys) ≡ Some 0 = rw t refl in
+      let e : 0 ≡ k = cc (is, h) in subst (Firsts path (y ∷ ys) x) e (first_here path y x ys t)
+  | inr t ↦ let h : overlap_place path (y ∷ ys) ≡ option_map suc (overlap_place path ys) = rw t refl in
+      let (j, at, e) = later (overlap_place path ys) k (sym h ∙ is) in
+      subst (Firsts path (y ∷ ys) x) e (first_later path y x ys j t (firsts path ys j x at))
+]
+
+pub first_is : (path : Names) (ws : List PathWriter) (k : ℕ) (x : PathWriter) → overlap_place path ws ≡ Some k → x ≡ get_or ws k x
+    → first_overlap path (path_ways ws) ≡ Some x.path
+unfolding Firsts
+first_is path ws k x is at = firsts path ws k x is at
+
+-- ---- they stay apart
+
+left_true : (a b : Bool) → (a && b) ≡ true → a ≡ true
+left_true true b e = refl
+left_true false b e = e
+
+right_true : (a b : Bool) → (a && b) ≡ true → b ≡ true
+right_true true b e = e
+right_true false b e = absurd (cc e)
+
+none_more : (p path : Names) (w : StrategyData) (ws : StrategyList) → overlaps_none p ws ≡ true → overlaps p path ≡ false → overlaps_none p (appended ws path w) ≡ true
+none_more p path w no_ways e o = rw o refl
+none_more p path w (way_at q v ws) e o = rw (left_true (not (overlaps p q)) (overlaps_none p ws) e) (none_more p path w ws (right_true (not (overlaps p q)) (overlaps_none p ws) e) o)
+
+not_true : (b : Bool) → not b ≡ true → b ≡ false
+not_true true e = sym e
+not_true false e = refl
+
+pub apart_more : (path : Names) (w : StrategyData) (ws : StrategyList) → is_root path ≡ false → overlaps_none path ws ≡ true → are_apart ws ≡ true → are_apart (appended ws path w) ≡ true
+apart_more path w no_ways r o a = rw r refl
+apart_more path w (way_at q v ws) r o a =
+    let rest : (overlaps_none q ws && are_apart ws) ≡ true = right_true (not (is_root q)) _ a in
+    let off : overlaps q path ≡ false = overlaps_sym q path ∙ not_true (overlaps path q) (left_true (not (overlaps path q)) (overlaps_none path ws) o) in
+    both_true _ _ (left_true (not (is_root q)) _ a)
+    (both_true _ _ (none_more q path w ws (left_true (overlaps_none q ws) _ rest) off)
+    (apart_more path w ws r (right_true (not (overlaps path q)) _ o) (right_true (overlaps_none q ws) _ rest)))
+
+pub ruleset apart_rules = (path_push, none_overlaps, first_is, apart_more, same_root, place_below)

@@ -1,0 +1,61 @@
+-- A writer takes the place of the one of its name.
+use Rattle.std.proofs.Common.{◌≡◌, ℕ, zero, suc, ◌+◌, ◌<◌, ◌&&◌, Bool, true, false, List, [], ◌∷◌, ◌++◌, length, get_or, ◌⊎◌, inl, inr, refl, sym, ◌∙◌, ap, subst, arith, Option, Some, None}
+use Rattle.std.specs.Prelude.{if◌then◌else◌, option_map, bytes_eq, slice_set}
+use Rattle.vx_strategy_spec.specs.Walk.{same_names}
+use Rattle.vx_strategy.proofs.PlaceSteps.{later, place_below}
+use Rattle.vx_strategy_spec.specs.StrategyData.{StrategyData, StrategyList, no_ways, way_at}
+use Rattle.vx_strategy.specs.Places.{first_place}
+use Rattle.vx_strategy.specs.FieldWays.{field_ways, with_writer, is_named, place_of}
+use Rattle.vx_strategy.specs.declared.structs.FieldWriter.{FieldWriter}
+
+pub either : (b : Bool) → (b ≡ true) ⊎ (b ≡ false)
+either true = inl refl
+either false = inr refl
+
+same_one : (a b : List ℕ) (t : Bool) → bytes_eq a b ≡ t → same_names (a ∷ []) (b ∷ []) ≡ t
+same_one a b true e = rw e refl
+same_one a b false e = rw e refl
+
+-- a name that none has stands behind
+pub none_later : (o : Option ℕ) → option_map suc o ≡ None → o ≡ None
+none_later None is = refl
+none_later (Some j) is = absurd (cc is)
+
+pub put_behind : (name : List ℕ) (w : StrategyData) (ws : List FieldWriter) → place_of name ws ≡ None
+    → field_ways (ws ++ (record { name = name; writer = w } ∷ [])) ≡ with_writer (field_ways ws) name w
+put_behind name w [] is = refl
+put_behind name w (y ∷ ys) is = elim (either (bytes_eq y.name name)) [
+  | inl t ↦ let h : place_of name (y ∷ ys) ≡ Some 0 = rw t refl in absurd (cc (is, h))
+  | inr t ↦
+      let h : place_of name (y ∷ ys) ≡ option_map suc (place_of name ys) = rw t refl in
+      rw (same_one y.name name false t, put_behind name w ys (none_later (place_of name ys) (sym h ∙ is))) refl
+]
+
+-- the writer in place k is exchanged
+Puts : List ℕ → StrategyData → List FieldWriter → FieldWriter → ℕ → Type 0
+Puts name w ws x k = x ≡ get_or ws k x → field_ways (slice_set ws k (record { name = x.name; writer = w })) ≡ with_writer (field_ways ws) name w
+
+put_here : (name : List ℕ) (w : StrategyData) (y x : FieldWriter) (ys : List FieldWriter) → bytes_eq y.name name ≡ true → Puts name w (y ∷ ys) x 0
+unfolding Puts
+put_here name w y x ys t at = rw (at, same_one y.name name true t) refl
+
+put_later : (name : List ℕ) (w : StrategyData) (y x : FieldWriter) (ys : List FieldWriter) (j : ℕ) → bytes_eq y.name name ≡ false → Puts name w ys x j → Puts name w (y ∷ ys) x (suc j)
+unfolding Puts
+put_later name w y x ys j t rest at = rw (same_one y.name name false t, ← rest at) refl
+
+puts : (name : List ℕ) (w : StrategyData) (ws : List FieldWriter) (k : ℕ) (x : FieldWriter) → place_of name ws ≡ Some k → Puts name w ws x k
+puts name w [] k x is = absurd (cc is)
+puts name w (y ∷ ys) k x is = elim (either (bytes_eq y.name name)) [
+  | inl t ↦ let h : place_of name (y ∷ ys) ≡ Some 0 = rw t refl in
+      let e : 0 ≡ k = cc (is, h) in subst (Puts name w (y ∷ ys) x) e (put_here name w y x ys t)
+  | inr t ↦ let h : place_of name (y ∷ ys) ≡ option_map suc (place_of name ys) = rw t refl in
+      let (j, at, e) = later (place_of name ys) k (sym h ∙ is) in
+      subst (Puts name w (y ∷ ys) x) e (put_later name w y x ys j t (puts name w ys j x at))
+]
+
+pub put_in : (name : List ℕ) (w : StrategyData) (ws : List FieldWriter) (k : ℕ) (x : FieldWriter) → place_of name ws ≡ Some k → x ≡ get_or ws k x
+    → field_ways (slice_set ws k (record { name = x.name; writer = w })) ≡ with_writer (field_ways ws) name w
+unfolding Puts
+put_in name w ws k x is at = puts name w ws k x is at
+
+pub ruleset put_rules = (put_behind, put_in, place_below)

@@ -1,0 +1,12 @@
+-- Each override's writer is less deep than all of them.
+use Rattle.std.specs.Prelude.{ℕ, ◌+◌, ◌≤◌, max, List, [], ◌∷◌}
+use Rattle.std.proofs.Common.{arith}
+use denote.Param.Weighed.{most}
+use Rattle.vx_strategy.specs.declared.overrides.PathWriter.{PathWriter}
+use Rattle.vx_strategy.specs.declared.child.ChildStrategy.TheDeep.{deep-PathWriter}
+use Rattle.vx_strategy.specs.PathWays.{path_ways}
+use Rattle.vx_strategy.specs.WayDepth.{depth, depths}
+
+pub depths_fall : (ws : List PathWriter) → max (most deep-PathWriter ws) 0 ≤ depths (path_ways ws)
+depths_fall [] = omega arith
+depths_fall (w ∷ ws) = omega (arith, depths_fall ws)

@@ -1,9 +1,0 @@
--- A constructor's refusal as the reader's.
-use Rattle.vx_nodes.specs.declared.error.BuildError.{BuildError}
-use Rattle.vx_nodes.specs.declared.error.BuildError.TheVariants as causes
-use Rattle.vx_strategy.specs.declared.error.StrategyError.{StrategyError}
-use Rattle.vx_strategy.specs.declared.error.StrategyError.TheVariants.{Wrong, OutOfMemory}
-
-abbrev pub refusal : BuildError → StrategyError
-refusal causes.OutOfMemory = OutOfMemory
-refusal e = Wrong

@@ -1,0 +1,70 @@
+use crate::child::ChildStrategy;
+use crate::error::BuildError;
+use crate::strategy::Strategy;
+use std::alloc::Global;
+use std::num::NonZeroU64;
+
+/// Hands each chunk's image under the compressor on.
+#[derive(Debug, Drop)]
+#[cycle(strategy)]
+pub struct CompressingStrategy {
+    pub(crate) child: ChildStrategy,
+    /// The compressor's number.
+    pub(crate) which: u32,
+    /// How many chunks may wait behind the compressor.
+    pub(crate) concurrency: NonZeroU64,
+}
+
+impl CompressingStrategy {
+    ghost use Rattle.std.specs.Prelude.{◌≡◌, ◌<◌, IsTrue, IfOk, IfErr};
+    ghost use Rattle.vx_strategy_spec.specs.StrategyData.{compressed};
+    ghost use Rattle.vx_strategy_spec.specs.Admitted.{is_admitted};
+    ghost use Rattle.vx_strategy.specs.NodeViews.{compressed_way};
+    ghost use Rattle.vx_strategy.specs.Causes.{ZeroConcurrencyOf};
+    ghost use Rattle.vx_strategy.specs.StrategyView.{strategy_data};
+
+    /// With a concurrency of 1.
+    pub fn new(
+        alloc: Global,
+        child: Strategy,
+        which: u32,
+    ) -> Result<CompressingStrategy, BuildError>
+        ensures ok { IfOk result (λ s. compressed_way s ≡ compressed which 1 (strategy_data child)) }
+        ensures memory { IfErr result (λ e. e ≡ BuildError.OutOfMemory) }
+    {
+        Ok(CompressingStrategy {
+            child: ChildStrategy::new(alloc, child)?,
+            which,
+            concurrency: NonZeroU64::MIN,
+        })
+    }
+
+    /// Refuses `ZeroConcurrency` exactly at 0.
+    pub fn with_concurrency(self, concurrency: u64) -> Result<CompressingStrategy, BuildError>
+        ensures ok { IfOk result (λ s. compressed_way s ≡ compressed self.which concurrency self.child) }
+        ensures some { IfOk result (λ s. 0 < concurrency) }
+        ensures refused { IfErr result (ZeroConcurrencyOf concurrency) }
+    {
+        let Some(concurrency) = NonZeroU64::new(concurrency) else {
+            return Err(BuildError::ZeroConcurrency);
+        };
+        Ok(CompressingStrategy {
+            child: self.child,
+            which: self.which,
+            concurrency,
+        })
+    }
+
+    pub fn into_strategy(self) -> Strategy
+        ensures { strategy_data result ≡ compressed_way self }
+    {
+        Strategy::Compressing(self)
+    }
+
+    pub(crate) fn admitted(&self)
+        ensures { IsTrue (is_admitted (compressed_way self.now)) }
+    {
+        self.child.admitted();
+        let _concurrency = self.concurrency.get();
+    }
+}

@@ -1,0 +1,77 @@
+ghost use Rattle.std.specs.Prelude.{◌≡◌};
+ghost use Rattle.vx_model.specs.ChunkData.{is_dict_type};
+ghost use Rattle.vx_model.specs.TyView.{ty};
+
+use crate::child::ChildStrategy;
+use crate::error::BuildError;
+use crate::options::{DictLayoutConstraints, DictLayoutOptions};
+use crate::strategy::Strategy;
+use std::alloc::Global;
+use vx_model::DType;
+
+/// Whether a dictionary can hold the type: integers, texts and bytes.
+pub fn dict_layout_supported(dtype: &DType) -> bool
+    ensures { result ≡ is_dict_type (ty dtype.now) }
+{
+    match dtype {
+        DType::Primitive(..) | DType::Utf8(_) | DType::Binary(_) => true,
+        DType::Bool(_) | DType::List(..) | DType::Struct(..) | DType::Extension(_) => false,
+    }
+}
+
+/// Writes runs of codes and values, where the first chunk's image under the probe is a dictionary.
+#[derive(Debug, Drop)]
+#[cycle(strategy)]
+pub struct DictStrategy {
+    pub(crate) codes: ChildStrategy,
+    pub(crate) values: ChildStrategy,
+    pub(crate) fallback: ChildStrategy,
+    pub(crate) constraints: DictLayoutConstraints,
+    /// The compressor's number for the first chunk.
+    pub(crate) probe: u32,
+}
+
+impl DictStrategy {
+    ghost use Rattle.std.specs.Prelude.{◌≡◌, IsTrue, IfOk, IfErr};
+    ghost use Rattle.vx_strategy_spec.specs.StrategyData.{coded};
+    ghost use Rattle.vx_strategy_spec.specs.Admitted.{is_admitted};
+    ghost use Rattle.vx_strategy.specs.OptionViews.{dict_options};
+    ghost use Rattle.vx_strategy.specs.NodeViews.{dict_way};
+    ghost use Rattle.vx_strategy.specs.StrategyView.{strategy_data};
+
+    /// `probe` is the compressor's number.
+    pub fn new(
+        alloc: Global,
+        codes: Strategy,
+        values: Strategy,
+        fallback: Strategy,
+        options: DictLayoutOptions,
+        probe: u32,
+    ) -> Result<DictStrategy, BuildError>
+        ensures ok { IfOk result (λ s. dict_way s ≡ coded (dict_options options.constraints probe) (strategy_data codes) (strategy_data values) (strategy_data fallback)) }
+        ensures memory { IfErr result (λ e. e ≡ BuildError.OutOfMemory) }
+    {
+        Ok(DictStrategy {
+            codes: ChildStrategy::new(alloc, codes)?,
+            values: ChildStrategy::new(alloc, values)?,
+            fallback: ChildStrategy::new(alloc, fallback)?,
+            constraints: options.constraints,
+            probe,
+        })
+    }
+
+    pub fn into_strategy(self) -> Strategy
+        ensures { strategy_data result ≡ dict_way self }
+    {
+        Strategy::Dict(self)
+    }
+
+    #[tactic(auto, using(crate::proofs::Admits::admit_rules))]
+    pub(crate) fn admitted(&self)
+        ensures { IsTrue (is_admitted (dict_way self.now)) }
+    {
+        self.codes.admitted();
+        self.values.admitted();
+        self.fallback.admitted()
+    }
+}

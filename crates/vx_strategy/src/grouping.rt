@@ -1,0 +1,186 @@
+//! Strategies that regroup a stream: into blocks, up to a number of bytes, into one chunk.
+
+use crate::child::ChildStrategy;
+use crate::error::BuildError;
+use crate::options::RepartitionWriterOptions;
+use crate::strategy::Strategy;
+use std::alloc::Global;
+use std::num::NonZeroU64;
+
+/// Options of which the block length isn't 0.
+#[derive(Clone, Copy, Debug)]
+pub(crate) struct BlockRule {
+    pub minimum: u64,
+    pub multiple: NonZeroU64,
+    pub target: Option<u64>,
+    pub canonicalize: bool,
+}
+
+impl BlockRule {
+    ghost use Rattle.std.specs.Prelude.{◌≡◌, ◌<◌, nat_lt, IsTrue, IfOk, IfErr};
+    ghost use Rattle.vx_strategy.specs.OptionViews.{block_options};
+    ghost use Rattle.vx_strategy.specs.RuleViews.{block_rule};
+    ghost use Rattle.vx_strategy.specs.Causes.{ZeroBlockLenOf};
+
+    pub fn new(options: RepartitionWriterOptions) -> Result<BlockRule, BuildError>
+        ensures ok { IfOk result (λ r. block_rule r ≡ block_options options) }
+        ensures some { IfOk result (λ r. 0 < options.block_len_multiple) }
+        ensures refused { IfErr result (ZeroBlockLenOf options) }
+    {
+        let Some(multiple) = NonZeroU64::new(options.block_len_multiple) else {
+            return Err(BuildError::ZeroBlockLen);
+        };
+        Ok(BlockRule {
+            minimum: options.block_size_minimum,
+            multiple,
+            target: options.block_size_target,
+            canonicalize: options.canonicalize,
+        })
+    }
+
+    /// The options again.
+    pub fn options(&self) -> RepartitionWriterOptions
+        ensures { block_options result ≡ block_rule self.now }
+    {
+        RepartitionWriterOptions {
+            block_size_minimum: self.minimum,
+            block_len_multiple: self.multiple.get(),
+            block_size_target: self.target,
+            canonicalize: self.canonicalize,
+        }
+    }
+
+    #[tactic(auto, using(crate::proofs::Admits::admit_rules))]
+    pub fn admitted(&self)
+        ensures { IsTrue (nat_lt 0 (block_rule self.now).multiple) }
+    {
+        let _multiple = self.multiple.get();
+    }
+}
+
+/// Cuts the rows into blocks of a multiple of the block length.
+#[derive(Debug, Drop)]
+#[cycle(strategy)]
+pub struct RepartitionStrategy {
+    pub(crate) child: ChildStrategy,
+    pub(crate) rule: BlockRule,
+}
+
+impl RepartitionStrategy {
+    ghost use Rattle.std.specs.Prelude.{◌≡◌, ◌<◌, IsTrue, IfOk, IfErr};
+    ghost use Rattle.vx_strategy_spec.specs.StrategyData.{grouped, by_blocks};
+    ghost use Rattle.vx_strategy_spec.specs.Admitted.{is_admitted};
+    ghost use Rattle.vx_strategy.specs.OptionViews.{block_options};
+    ghost use Rattle.vx_strategy.specs.NodeViews.{repartition_way};
+    ghost use Rattle.vx_strategy.specs.Causes.{ZeroBlockLenOf};
+    ghost use Rattle.vx_strategy.specs.StrategyView.{strategy_data};
+
+    /// Refuses `ZeroBlockLen` exactly where the block length is 0.
+    pub fn new(
+        alloc: Global,
+        child: Strategy,
+        options: RepartitionWriterOptions,
+    ) -> Result<RepartitionStrategy, BuildError>
+        ensures ok { IfOk result (λ s. repartition_way s ≡ grouped (by_blocks (block_options options)) (strategy_data child)) }
+        ensures some { IfOk result (λ s. 0 < options.block_len_multiple) }
+        ensures refused { IfErr result (ZeroBlockLenOf options) }
+    {
+        let rule = BlockRule::new(options)?;
+        Ok(RepartitionStrategy {
+            child: ChildStrategy::new(alloc, child)?,
+            rule,
+        })
+    }
+
+    pub fn into_strategy(self) -> Strategy
+        ensures { strategy_data result ≡ repartition_way self }
+    {
+        Strategy::Repartition(self)
+    }
+
+    #[tactic(auto, using(crate::proofs::Admits::admit_rules))]
+    pub(crate) fn admitted(&self)
+        ensures { IsTrue (is_admitted (repartition_way self.now)) }
+    {
+        self.child.admitted();
+        self.rule.admitted()
+    }
+}
+
+/// Holds chunks back up to a held size in bytes.
+#[derive(Debug, Drop)]
+#[cycle(strategy)]
+pub struct BufferedStrategy {
+    pub(crate) child: ChildStrategy,
+    pub(crate) buffer_size: u64,
+}
+
+impl BufferedStrategy {
+    ghost use Rattle.std.specs.Prelude.{◌≡◌, IsTrue, IfOk, IfErr};
+    ghost use Rattle.vx_strategy_spec.specs.StrategyData.{grouped, by_bytes};
+    ghost use Rattle.vx_strategy_spec.specs.Admitted.{is_admitted};
+    ghost use Rattle.vx_strategy.specs.NodeViews.{buffered_way};
+    ghost use Rattle.vx_strategy.specs.StrategyView.{strategy_data};
+
+    pub fn new(
+        alloc: Global,
+        child: Strategy,
+        buffer_size: u64,
+    ) -> Result<BufferedStrategy, BuildError>
+        ensures ok { IfOk result (λ s. buffered_way s ≡ grouped (by_bytes buffer_size) (strategy_data child)) }
+        ensures memory { IfErr result (λ e. e ≡ BuildError.OutOfMemory) }
+    {
+        Ok(BufferedStrategy {
+            child: ChildStrategy::new(alloc, child)?,
+            buffer_size,
+        })
+    }
+
+    pub fn into_strategy(self) -> Strategy
+        ensures { strategy_data result ≡ buffered_way self }
+    {
+        Strategy::Buffered(self)
+    }
+
+    pub(crate) fn admitted(&self)
+        ensures { IsTrue (is_admitted (buffered_way self.now)) }
+    {
+        self.child.admitted()
+    }
+}
+
+/// Joins all chunks into one.
+#[derive(Debug, Drop)]
+#[cycle(strategy)]
+pub struct CollectStrategy {
+    pub(crate) child: ChildStrategy,
+}
+
+impl CollectStrategy {
+    ghost use Rattle.std.specs.Prelude.{◌≡◌, IsTrue, IfOk, IfErr};
+    ghost use Rattle.vx_strategy_spec.specs.StrategyData.{grouped, into_one};
+    ghost use Rattle.vx_strategy_spec.specs.Admitted.{is_admitted};
+    ghost use Rattle.vx_strategy.specs.NodeViews.{collect_way};
+    ghost use Rattle.vx_strategy.specs.StrategyView.{strategy_data};
+
+    pub fn new(alloc: Global, child: Strategy) -> Result<CollectStrategy, BuildError>
+        ensures ok { IfOk result (λ s. collect_way s ≡ grouped into_one (strategy_data child)) }
+        ensures memory { IfErr result (λ e. e ≡ BuildError.OutOfMemory) }
+    {
+        Ok(CollectStrategy {
+            child: ChildStrategy::new(alloc, child)?,
+        })
+    }
+
+    pub fn into_strategy(self) -> Strategy
+        ensures { strategy_data result ≡ collect_way self }
+    {
+        Strategy::Collect(self)
+    }
+
+    pub(crate) fn admitted(&self)
+        ensures { IsTrue (is_admitted (collect_way self.now)) }
+    {
+        self.child.admitted()
+    }
+}

@@ -1,0 +1,118 @@
+use crate::child::ChildStrategy;
+use crate::error::BuildError;
+use crate::flat::FlatLayoutStrategy;
+use crate::strategy::Strategy;
+use std::alloc::Global;
+
+/// Writes the elements, offsets and validity of lists; a type that isn't a list goes to the fallback.
+#[derive(Debug, Drop)]
+#[cycle(strategy)]
+pub struct ListLayoutStrategy {
+    pub(crate) elements: ChildStrategy,
+    pub(crate) offsets: ChildStrategy,
+    pub(crate) validity: ChildStrategy,
+    pub(crate) fallback: ChildStrategy,
+}
+
+impl ListLayoutStrategy {
+    ghost use Rattle.std.specs.Prelude.{◌≡◌, IsTrue, IfOk, IfErr};
+    ghost use Rattle.vx_strategy_spec.specs.StrategyData.{listed};
+    ghost use Rattle.vx_strategy_spec.specs.Admitted.{is_admitted};
+    ghost use Rattle.vx_strategy.specs.NodeViews.{list_way};
+    ghost use Rattle.vx_strategy.specs.OptionViews.{default_flat};
+    ghost use Rattle.vx_strategy.specs.StrategyView.{strategy_data};
+
+    /// All flat.
+    pub fn default(alloc: Global) -> Result<ListLayoutStrategy, BuildError>
+        ensures ok { IfOk result (λ s. list_way s ≡ listed default_flat default_flat default_flat default_flat) }
+        ensures memory { IfErr result (λ e. e ≡ BuildError.OutOfMemory) }
+    {
+        let flat = FlatLayoutStrategy::default();
+        Ok(ListLayoutStrategy {
+            elements: ChildStrategy::new(alloc, flat.into_strategy())?,
+            offsets: ChildStrategy::new(alloc, flat.into_strategy())?,
+            validity: ChildStrategy::new(alloc, flat.into_strategy())?,
+            fallback: ChildStrategy::new(alloc, flat.into_strategy())?,
+        })
+    }
+
+    pub fn with_elements(
+        self,
+        alloc: Global,
+        elements: Strategy,
+    ) -> Result<ListLayoutStrategy, BuildError>
+        ensures ok { IfOk result (λ s. list_way s ≡ listed (strategy_data elements) self.offsets self.validity self.fallback) }
+        ensures memory { IfErr result (λ e. e ≡ BuildError.OutOfMemory) }
+    {
+        Ok(ListLayoutStrategy {
+            elements: ChildStrategy::new(alloc, elements)?,
+            offsets: self.offsets,
+            validity: self.validity,
+            fallback: self.fallback,
+        })
+    }
+
+    pub fn with_offsets(
+        self,
+        alloc: Global,
+        offsets: Strategy,
+    ) -> Result<ListLayoutStrategy, BuildError>
+        ensures ok { IfOk result (λ s. list_way s ≡ listed self.elements (strategy_data offsets) self.validity self.fallback) }
+        ensures memory { IfErr result (λ e. e ≡ BuildError.OutOfMemory) }
+    {
+        Ok(ListLayoutStrategy {
+            elements: self.elements,
+            offsets: ChildStrategy::new(alloc, offsets)?,
+            validity: self.validity,
+            fallback: self.fallback,
+        })
+    }
+
+    pub fn with_validity(
+        self,
+        alloc: Global,
+        validity: Strategy,
+    ) -> Result<ListLayoutStrategy, BuildError>
+        ensures ok { IfOk result (λ s. list_way s ≡ listed self.elements self.offsets (strategy_data validity) self.fallback) }
+        ensures memory { IfErr result (λ e. e ≡ BuildError.OutOfMemory) }
+    {
+        Ok(ListLayoutStrategy {
+            elements: self.elements,
+            offsets: self.offsets,
+            validity: ChildStrategy::new(alloc, validity)?,
+            fallback: self.fallback,
+        })
+    }
+
+    pub fn with_fallback(
+        self,
+        alloc: Global,
+        fallback: Strategy,
+    ) -> Result<ListLayoutStrategy, BuildError>
+        ensures ok { IfOk result (λ s. list_way s ≡ listed self.elements self.offsets self.validity (strategy_data fallback)) }
+        ensures memory { IfErr result (λ e. e ≡ BuildError.OutOfMemory) }
+    {
+        Ok(ListLayoutStrategy {
+            elements: self.elements,
+            offsets: self.offsets,
+            validity: self.validity,
+            fallback: ChildStrategy::new(alloc, fallback)?,
+        })
+    }
+
+    pub fn into_strategy(self) -> Strategy
+        ensures { strategy_data result ≡ list_way self }
+    {
+        Strategy::List(self)
+    }
+
+    #[tactic(auto, using(crate::proofs::Admits::admit_rules))]
+    pub(crate) fn admitted(&self)
+        ensures { IsTrue (is_admitted (list_way self.now)) }
+    {
+        self.elements.admitted();
+        self.offsets.admitted();
+        self.validity.admitted();
+        self.fallback.admitted()
+    }
+}

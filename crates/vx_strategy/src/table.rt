@@ -1,0 +1,184 @@
+use crate::child::ChildStrategy;
+use crate::error::BuildError;
+use crate::overrides::Overrides;
+use crate::strategy::Strategy;
+use crate::wrapper::{ListWrapper, Wrapper, all_admitted, tested};
+use std::alloc::Global;
+use vx_field_path::FieldPath;
+
+/// Writes structs field by field, lists where asked for, and every other type by the leaf strategy; a field at the
+/// path of an override goes to its writer.
+#[derive(Debug, Drop)]
+#[cycle(strategy)]
+pub struct TableStrategy {
+    pub(crate) validity: ChildStrategy,
+    pub(crate) leaf: ChildStrategy,
+    pub(crate) overrides: Overrides,
+    /// Whether lists are laid out as lists; else they go to the leaf.
+    pub(crate) list_layout: bool,
+    /// What wraps the layout of lists, the outermost first.
+    pub(crate) wrappers: Vec<Wrapper>,
+}
+
+impl TableStrategy {
+    ghost use Rattle.std.specs.Prelude.{◌≡◌, true, false, map, IsTrue, IfOk, IfErr};
+    ghost use Rattle.vx_strategy_spec.specs.StrategyData.{tabled, no_ways, no_wraps};
+    ghost use Rattle.vx_strategy_spec.specs.Admitted.{is_admitted};
+    ghost use Rattle.vx_strategy.specs.NodeViews.{table_way};
+    ghost use Rattle.vx_strategy.specs.WrapViews.{wraps};
+    ghost use Rattle.vx_strategy.specs.Overridden.{appended, all_appended, Fits, AllFit};
+    ghost use Rattle.vx_strategy.specs.PairWays.{path_way};
+    ghost use Rattle.vx_strategy.specs.Wrapped.{wraps_asked};
+    ghost use Rattle.vx_strategy.specs.Causes.{OverrideRefused, OverridesRefused};
+    ghost use Rattle.vx_strategy.specs.WrapCauses.{AllWrap, FirstRefused};
+    ghost use Rattle.vx_strategy.specs.StrategyView.{strategy_data};
+
+    /// Without overrides, and without list layout. `fallback` is the leaf strategy.
+    pub fn new(
+        alloc: Global,
+        validity: Strategy,
+        fallback: Strategy,
+    ) -> Result<TableStrategy, BuildError>
+        ensures ok { IfOk result (λ s. table_way s ≡ tabled (strategy_data validity) (strategy_data fallback) no_ways false no_wraps) }
+        ensures memory { IfErr result (λ e. e ≡ BuildError.OutOfMemory) }
+    {
+        Ok(TableStrategy {
+            validity: ChildStrategy::new(alloc, validity)?,
+            leaf: ChildStrategy::new(alloc, fallback)?,
+            overrides: Overrides::none(alloc),
+            list_layout: false,
+            wrappers: Vec::new(alloc),
+        })
+    }
+
+    /// The writer of the field at this path. Refuses `RootPath` exactly at the root, then `OverlappingPath` exactly
+    /// where a standing path overlaps.
+    pub fn with_field_writer(
+        self,
+        alloc: Global,
+        path: FieldPath,
+        writer: Strategy,
+    ) -> Result<TableStrategy, BuildError>
+        ensures ok { IfOk result (λ s. table_way s ≡ tabled self.validity self.leaf (appended self.overrides path (strategy_data writer)) self.list_layout (wraps self.wrappers.items)) }
+        ensures fits { IfOk result (λ s. Fits self.overrides path) }
+        ensures refused { IfErr result (OverrideRefused self.overrides path) }
+    {
+        let writer = ChildStrategy::new(alloc, writer)?;
+        Ok(TableStrategy {
+            validity: self.validity,
+            leaf: self.leaf,
+            overrides: self.overrides.with(path, writer)?,
+            list_layout: self.list_layout,
+            wrappers: self.wrappers,
+        })
+    }
+
+    /// Each of these as `with_field_writer`, in order.
+    pub fn with_field_writers(
+        self,
+        alloc: Global,
+        list: Vec<(FieldPath, Strategy)>,
+    ) -> Result<TableStrategy, BuildError>
+        ensures ok { IfOk result (λ s. table_way s ≡ tabled self.validity self.leaf (all_appended self.overrides (map path_way list.items)) self.list_layout (wraps self.wrappers.items)) }
+        ensures fits { IfOk result (λ s. AllFit self.overrides (map path_way list.items)) }
+        ensures refused { IfErr result (OverridesRefused self.overrides (map path_way list.items)) }
+    {
+        let mut overrides = self.overrides;
+        for (path, writer) in list {
+            let writer = ChildStrategy::new(alloc, writer)?;
+            overrides = overrides.with(path, writer)?;
+        }
+        Ok(TableStrategy {
+            validity: self.validity,
+            leaf: self.leaf,
+            overrides,
+            list_layout: self.list_layout,
+            wrappers: self.wrappers,
+        })
+    }
+
+    /// Another leaf strategy.
+    pub fn with_default_strategy(
+        self,
+        alloc: Global,
+        leaf: Strategy,
+    ) -> Result<TableStrategy, BuildError>
+        ensures ok { IfOk result (λ s. table_way s ≡ tabled self.validity (strategy_data leaf) self.overrides self.list_layout (wraps self.wrappers.items)) }
+        ensures memory { IfErr result (λ e. e ≡ BuildError.OutOfMemory) }
+    {
+        Ok(TableStrategy {
+            validity: self.validity,
+            leaf: ChildStrategy::new(alloc, leaf)?,
+            overrides: self.overrides,
+            list_layout: self.list_layout,
+            wrappers: self.wrappers,
+        })
+    }
+
+    pub fn with_validity_strategy(
+        self,
+        alloc: Global,
+        validity: Strategy,
+    ) -> Result<TableStrategy, BuildError>
+        ensures ok { IfOk result (λ s. table_way s ≡ tabled (strategy_data validity) self.leaf self.overrides self.list_layout (wraps self.wrappers.items)) }
+        ensures memory { IfErr result (λ e. e ≡ BuildError.OutOfMemory) }
+    {
+        Ok(TableStrategy {
+            validity: ChildStrategy::new(alloc, validity)?,
+            leaf: self.leaf,
+            overrides: self.overrides,
+            list_layout: self.list_layout,
+            wrappers: self.wrappers,
+        })
+    }
+
+    /// Lists are laid out as lists.
+    pub fn with_list_layout(self, alloc: Global) -> Result<TableStrategy, BuildError>
+        ensures ok { IfOk result (λ s. table_way s ≡ tabled self.validity self.leaf self.overrides true no_wraps) }
+        ensures memory { IfErr result (λ e. e ≡ BuildError.OutOfMemory) }
+    {
+        Ok(TableStrategy {
+            validity: self.validity,
+            leaf: self.leaf,
+            overrides: self.overrides,
+            list_layout: true,
+            wrappers: Vec::new(alloc),
+        })
+    }
+
+    /// Lists are laid out as lists in these wrappers, the first outermost. Refuses as the wrapped strategies'
+    /// constructors, for the first wrapper that is refused.
+    pub fn with_list_layout_factory(
+        self,
+        alloc: Global,
+        wrappers: Vec<ListWrapper>,
+    ) -> Result<TableStrategy, BuildError>
+        ensures ok { IfOk result (λ s. table_way s ≡ tabled self.validity self.leaf self.overrides true (wraps_asked wrappers.items)) }
+        ensures wraps { IfOk result (λ s. AllWrap wrappers.items) }
+        ensures refused { IfErr result (FirstRefused wrappers.items) }
+    {
+        Ok(TableStrategy {
+            validity: self.validity,
+            leaf: self.leaf,
+            overrides: self.overrides,
+            list_layout: true,
+            wrappers: tested(alloc, wrappers)?,
+        })
+    }
+
+    pub fn into_strategy(self) -> Strategy
+        ensures { strategy_data result ≡ table_way self }
+    {
+        Strategy::Table(self)
+    }
+
+    #[tactic(auto, using(crate::proofs::Admits::admit_rules))]
+    pub(crate) fn admitted(&self)
+        ensures { IsTrue (is_admitted (table_way self.now)) }
+    {
+        self.validity.admitted();
+        self.leaf.admitted();
+        self.overrides.admitted();
+        all_admitted(&self.wrappers)
+    }
+}

@@ -1,0 +1,95 @@
+//! What wraps a list layout in a table.
+
+ghost use Rattle.std.specs.Prelude.{◌≡◌, IsTrue, IfOk, IfErr};
+ghost use Rattle.vx_strategy_spec.specs.Admitted.{wraps_admitted};
+ghost use Rattle.vx_strategy_spec.specs.StrategyData.{no_wraps};
+ghost use Rattle.vx_strategy.specs.WrapViews.{wrap, wraps};
+ghost use Rattle.vx_strategy.specs.Wrapped.{wraps_asked};
+ghost use Rattle.vx_strategy.specs.WrapCauses.{AllWrap, FirstRefused};
+
+use crate::child::ChildStrategy;
+use crate::error::BuildError;
+use crate::grouping::BlockRule;
+use crate::options::{RepartitionWriterOptions, ZonedLayoutOptions};
+use crate::strategy::Strategy;
+use crate::zoned::ZoneRule;
+use std::alloc::Global;
+
+/// A strategy around the list layout of a table, without its child.
+#[derive(Debug, Drop)]
+pub enum ListWrapper {
+    Repartition(RepartitionWriterOptions),
+    /// A held size in bytes.
+    Buffered(u64),
+    /// The strategy of the zone table, and the options.
+    Zoned(Strategy, ZonedLayoutOptions),
+}
+
+/// A wrapper whose options were tested.
+#[derive(Debug, Drop)]
+#[cycle(strategy)]
+pub(crate) enum Wrapper {
+    Repartition(BlockRule),
+    Buffered(u64),
+    Zoned(ChildStrategy, ZoneRule),
+}
+
+impl ListWrapper {
+    ghost use Rattle.std.specs.Prelude.{◌≡◌, IfOk, IfErr};
+    ghost use Rattle.vx_strategy_spec.specs.StrategyData.{no_wraps};
+    ghost use Rattle.vx_strategy.specs.WrapViews.{wrap};
+    ghost use Rattle.vx_strategy.specs.Wrapped.{wrap_asked};
+    ghost use Rattle.vx_strategy.specs.WrapCauses.{WrapRefused, Wraps};
+
+    fn tested(self, alloc: Global) -> Result<Wrapper, BuildError>
+        ensures ok { IfOk result (λ w. wrap w no_wraps ≡ wrap_asked self no_wraps) }
+        ensures wraps { IfOk result (λ w. Wraps self) }
+        ensures refused { IfErr result (WrapRefused self) }
+    {
+        match self {
+            ListWrapper::Repartition(options) => Ok(Wrapper::Repartition(BlockRule::new(options)?)),
+            ListWrapper::Buffered(size) => Ok(Wrapper::Buffered(size)),
+            ListWrapper::Zoned(stats, options) => {
+                let rule = ZoneRule::new(options)?;
+                Ok(Wrapper::Zoned(ChildStrategy::new(alloc, stats)?, rule))
+            }
+        }
+    }
+}
+
+/// Each wrapper tested, in order; the first that is refused decides.
+#[tactic(auto, using(crate::proofs::Wrappers::wrap_rules))]
+pub(crate) fn tested(alloc: Global, list: Vec<ListWrapper>) -> Result<Vec<Wrapper>, BuildError>
+    ensures ok { IfOk result (λ v. wraps v.items ≡ wraps_asked list.items) }
+    ensures wraps { IfOk result (λ v. AllWrap list.items) }
+    ensures refused { IfErr result (FirstRefused list.items) }
+{
+    let mut wrappers = Vec::with_capacity(alloc, list.len())?;
+    for wrapper in list {
+        wrappers.push(wrapper.tested(alloc)?)?;
+    }
+    Ok(wrappers)
+}
+
+#[tactic(auto, using(crate::proofs::Admits::wrap_rules))]
+pub(crate) fn all_admitted(wrappers: &[Wrapper])
+    ensures { IsTrue (wraps_admitted (wraps wrappers.now)) }
+{
+    for wrapper in wrappers {
+        admitted(wrapper)
+    }
+}
+
+#[tactic(auto, using(crate::proofs::Admits::wrap_rules))]
+fn admitted(wrapper: &Wrapper)
+    ensures { IsTrue (wraps_admitted (wrap wrapper.now no_wraps)) }
+{
+    match wrapper {
+        Wrapper::Repartition(rule) => rule.admitted(),
+        Wrapper::Buffered(_) => {}
+        Wrapper::Zoned(stats, rule) => {
+            rule.admitted();
+            stats.admitted()
+        }
+    }
+}

@@ -1,0 +1,7 @@
+pub mod PartSteps
+pub mod ListSteps
+pub mod Depths
+pub mod Fixed
+pub mod Refused
+pub mod Paths
+pub mod Steps

@@ -1,0 +1,6 @@
+pub mod Parts
+pub mod Options
+pub mod Forms
+pub mod StrategyText
+pub mod Views
+pub mod Refusals

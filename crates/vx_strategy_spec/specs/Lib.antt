@@ -1,0 +1,3 @@
+pub mod StrategyData
+pub mod Walk
+pub mod Admitted

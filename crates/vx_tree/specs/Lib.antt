@@ -1,5 +1,0 @@
-pub mod Refusal
-pub mod LayoutTree
-pub mod Real
-pub mod Codec
-pub mod Rows
