@@ -57,9 +57,9 @@ fields_read admitted s (field name t fs) (k ∷ ks) r m c xs e of clean fit look
 
 counts_ok : (fs : Tys) (cs : List CellData) (n : ℕ) → length cs ≡ n → all_by (has_count n) (column_values (field_cells fs cs)) ≡ true
 counts_ok no_fields cs n e = refl
-counts_ok (field name t fs) cs n e = go (length (map value (map Rattle.vx_rules.specs.Columns.first_of cs)) == n)
-    (eq-eqb (length (map value (map Rattle.vx_rules.specs.Columns.first_of cs))) n (length-map (map Rattle.vx_rules.specs.Columns.first_of cs) value ∙ length-map cs Rattle.vx_rules.specs.Columns.first_of ∙ e))
-    (counts_ok fs (map Rattle.vx_rules.specs.Columns.others_of cs) n (length-map cs Rattle.vx_rules.specs.Columns.others_of ∙ e))
+counts_ok (field name t fs) cs n e = go (length (map value (map Rattle.vx_layout_spec.specs.Parts.first_of cs)) == n)
+    (eq-eqb (length (map value (map Rattle.vx_layout_spec.specs.Parts.first_of cs))) n (length-map (map Rattle.vx_layout_spec.specs.Parts.first_of cs) value ∙ length-map cs Rattle.vx_layout_spec.specs.Parts.first_of ∙ e))
+    (counts_ok fs (map Rattle.vx_layout_spec.specs.Parts.others_of cs) n (length-map cs Rattle.vx_layout_spec.specs.Parts.others_of ∙ e))
   where
     go : (b : Bool) {c : Bool} → b ≡ true → c ≡ true → (b && c) ≡ true
     go b e f = rw (e, f) refl
