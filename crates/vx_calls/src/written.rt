@@ -65,7 +65,7 @@ fn layout_of(
     }
 }
 
-fn written(alloc: Global) -> Result<Written, Fail> {
+fn three_rows(alloc: Global) -> Result<Written, Fail> {
     let dtype = dtype(alloc, "\"i64\"")?;
     let batches = batches(alloc, &dtype)?;
     let mut sink = MemorySink::new(0, Vec::new(alloc));
@@ -125,7 +125,7 @@ fn told(alloc: Global, bytes: &str, segments: &SegmentMap) -> Result<String, Fai
 #[test]
 fn is_read_again(rt: HostRuntime) -> Result<(), Fail> {
     let alloc = rt.alloc();
-    let Written { layout, segments } = written(alloc)?;
+    let Written { layout, segments } = three_rows(alloc)?;
     let bytes = layout_bytes(alloc, &layout, &ids(alloc)?)?;
     assert_eq!(rt; hex::encode(alloc, &bytes)?.as_str(), CHUNKED);
     let rows = told(alloc, CHUNKED, &segments)?;
@@ -137,7 +137,7 @@ fn is_read_again(rt: HostRuntime) -> Result<(), Fail> {
 #[test]
 fn a_chunk_of_no_kind_has_no_rows(rt: HostRuntime) -> Result<(), Fail> {
     let alloc = rt.alloc();
-    let segments = written(alloc)?.segments;
+    let segments = three_rows(alloc)?.segments;
     let bytes = CHUNKED.replacen(alloc, "0100020", "0900020", 1)?;
     let fault = told(alloc, &bytes, &segments)?;
     assert_eq!(rt; fault.as_str(), "Layout(UnknownIndex(9))");
