@@ -1,17 +1,20 @@
 -- What a write tells of faults, taken apart.
-use Rattle.std.proofs.Common.{◌≡◌, ℕ, ◌+◌, ◌<◌, Bool, true, false, arith}
-use Rattle.std.specs.Prelude.{IsTrue}
+use Rattle.std.proofs.Common.{ℕ, ◌+◌, ◌<◌, refl, arith}
+use Rattle.vx_fault.specs.Faults.{FaultsTold}
 use Rattle.vx_write.specs.declared.error.WriteError.{WriteError}
 use Rattle.vx_write.specs.declared.error.WriteError.TheVariants.{SourceFault, SinkFault, CompressFault, BatchType, NotStruct, DuplicateField, ManyChunks, EmptyList, ZoneCut, ForbiddenAggregate, ForbiddenEncoding, TooLarge, OutOfMemory, Unbuilt}
 use Rattle.vx_write.specs.Causes.{is_source_fault, is_sink_fault}
 use Rattle.vx_write.specs.Stream.{MayCome, BehindBatch, asked_before}
 
-pub may_come : (e : WriteError) (n : ℕ) (source sink : ℕ → Type 0) → (IsTrue (is_source_fault e) → source (asked_before e n)) → (IsTrue (is_sink_fault e) → sink n) → MayCome (source n) (sink n) e
-may_come SourceFault n source sink a b = a tt
-may_come SinkFault n source sink a b = b tt
-may_come e n source sink a b = tt
+-- where a fault may come
+pub may_come : (e : WriteError) (n before now before_sink now_sink : ℕ) (source must_source sink must_sink : ℕ → Type 0)
+  → FaultsTold before now source must_source (asked_before e n) (is_source_fault e)
+  → FaultsTold before_sink now_sink sink must_sink n (is_sink_fault e) → MayCome (source n) (sink n) e
+may_come SourceFault n before now before_sink now_sink source must_source sink must_sink a b = a.allowed refl
+may_come SinkFault n before now before_sink now_sink source must_source sink must_sink a b = b.allowed refl
+may_come e n before now before_sink now_sink source must_source sink must_sink a b = tt
 
-Passed : ℕ → (ℕ → Type 0) → Type 0
+abbrev Passed : ℕ → (ℕ → Type 0) → Type 0
 Passed n must = (k : ℕ) → k < n → ¬ must k
 
 fewer : (n : ℕ) (must : ℕ → Type 0) → Passed (n + 1) must → Passed n must

@@ -30,7 +30,7 @@ returns-clause-err c stored told =
       source_count = c.in-Err.ensures.source.counted;
       sink_count = c.in-Err.ensures.sink.counted;
     })
-    told c.in-Err.ensures.stands c.in-Err.ensures.cause (may_come c.in-Err.refused.error _ _ _ c.in-Err.ensures.source.allowed c.in-Err.ensures.sink.allowed)
+    told c.in-Err.ensures.stands c.in-Err.ensures.cause (may_come c.in-Err.refused.error _ _ _ _ _ _ _ _ _ c.in-Err.ensures.source c.in-Err.ensures.sink)
     (record { of_source = c.new-source.ensures.must_fail; of_sink = c.new-sink.ensures.must_fail })
     (record { batches = passed_before c.in-Err.refused.error _ _ c.in-Err.ensures.source.passed; behind = behind_batch c.in-Err.refused.error _ _ c.in-Err.ensures.source.passed; appends = c.in-Err.ensures.sink.passed })
     (λ f. (c.in-Err.ensures.unbuilt f).0) (λ f. rw (c.in-Err.ensures.unbuilt f).1 refl) (λ f. rw (c.in-Err.ensures.unbuilt f).2 refl) (λ s tracker xs w t. c.in-Err.ensures.complete s xs w t tracker) c.in-Err.ensures.last
