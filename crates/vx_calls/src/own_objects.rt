@@ -1,6 +1,6 @@
 //! Writes from and to a caller's own objects, one of which fails in mid-stream.
 
-ghost use Rattle.std.specs.Prelude.{None, Unit, length};
+ghost use Rattle.std.specs.Prelude.{None, length};
 ghost use Rattle.vx_model.specs.TyView.{ty};
 ghost use Rattle.vx_fault.specs.Counts.{Counts};
 ghost use Rattle.vx_sink.specs.Compressor.{same_rows};

@@ -122,12 +122,20 @@ fn told(alloc: Global, bytes: &str, segments: &SegmentMap) -> Result<String, Fai
     })
 }
 
+/// The bytes of the layout of three rows, in hexadecimal.
+fn spelled(alloc: Global) -> Result<String, Fail> {
+    let ids = ids(alloc)?;
+    let layout = three_rows(alloc)?.layout;
+    let bytes = layout_bytes(alloc, &layout, &ids)?;
+    Ok(hex::encode(alloc, &bytes)?)
+}
+
 #[test]
 fn is_read_again(rt: HostRuntime) -> Result<(), Fail> {
     let alloc = rt.alloc();
-    let Written { layout, segments } = three_rows(alloc)?;
-    let bytes = layout_bytes(alloc, &layout, &ids(alloc)?)?;
-    assert_eq!(rt; hex::encode(alloc, &bytes)?.as_str(), CHUNKED);
+    let bytes = spelled(alloc)?;
+    assert_eq!(rt; bytes.as_str(), CHUNKED);
+    let segments = three_rows(alloc)?.segments;
     let rows = told(alloc, CHUNKED, &segments)?;
     assert_eq!(rt; rows.as_str(), "[Int(1), Int(2), Int(3)]");
     Ok(())
