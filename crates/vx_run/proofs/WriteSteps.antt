@@ -8,8 +8,8 @@ use Rattle.vx_write.specs.Stream.{MayCome, BehindBatch, asked_before}
 
 -- where a fault may come
 pub may_come : (e : WriteError) (n before now before_sink now_sink : ℕ) (source must_source sink must_sink : ℕ → Type 0)
-  → FaultsTold before now source must_source (asked_before e n) (is_source_fault e)
-  → FaultsTold before_sink now_sink sink must_sink n (is_sink_fault e) → MayCome (source n) (sink n) e
+    → FaultsTold before now source must_source (asked_before e n) (is_source_fault e)
+    → FaultsTold before_sink now_sink sink must_sink n (is_sink_fault e) → MayCome (source n) (sink n) e
 may_come SourceFault n before now before_sink now_sink source must_source sink must_sink a b = a.allowed refl
 may_come SinkFault n before now before_sink now_sink source must_source sink must_sink a b = b.allowed refl
 may_come e n before now before_sink now_sink source must_source sink must_sink a b = tt
