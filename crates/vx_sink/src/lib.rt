@@ -9,6 +9,7 @@ mod memory_sink;
 mod plain_compressor;
 mod sink;
 mod source;
+mod tracker;
 
 pub use compressor::{CompressError, CompressorPlugin};
 pub use context::LayoutWriterContext;
@@ -17,5 +18,6 @@ pub use memory_sink::MemorySink;
 pub use plain_compressor::PlainCompressor;
 pub use sink::{SegmentSink, SinkError};
 pub use source::{BatchSource, SourceError};
+pub use tracker::{BufferedBytesReservation, BufferedBytesTracker, TooLarge};
 pub use vx_fault::{Fails, Fallible};
 pub use vx_model::{IdTooLarge, SegmentId};

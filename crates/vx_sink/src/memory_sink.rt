@@ -36,6 +36,13 @@ impl MemorySink {
     {
         self.segments.as_slice()
     }
+
+    /// All that were appended, in order, moved out.
+    pub fn into_segments(self) -> Vec<Blob>
+        ensures { ⟦<MemorySink as SegmentSink>⟧.segments self ≡ Some result.items }
+    {
+        self.segments
+    }
 }
 
 impl Fallible for MemorySink {
