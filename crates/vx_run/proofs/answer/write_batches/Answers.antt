@@ -9,7 +9,7 @@ pub returns-in-Ok-clause-ok : goal.returns-in-Ok-clause-ok
 returns-in-Ok-clause-ok c stored told =
     let j : JobData = job_view c.args.job in
     all_written j _ _
-    (record { listed = c.new-ctx.ensures; schema = c.new-source.ensures.kind; numbers = c.new-sink.ensures.next; batches = c.new-source.ensures.batches ∙ ap Some (same_pieces j.batches); none = c.new-sink.ensures.segments })
+    (record { listed = c.new-ctx.ensures.listed; schema = c.new-source.ensures.kind; numbers = c.new-sink.ensures.next; batches = c.new-source.ensures.batches ∙ ap Some (same_pieces j.batches); none = c.new-sink.ensures.segments })
     told (λ f. absurd (c.in-Ok.ensures.unbuilt f).0)
     (λ s xs w t. (c.in-Ok.ensures.wrote s xs w t).laid) (λ s xs w t. (c.in-Ok.ensures.wrote s xs w t).appended) (λ s xs w t. (c.in-Ok.ensures.wrote s xs w t).counted)
     (λ s xs w t. (c.in-Ok.ensures.wrote s xs w t).read_back) c.in-Ok.ensures.last
@@ -21,7 +21,7 @@ pub returns-clause-err : goal.returns-clause-err
 returns-clause-err c stored told =
     let j : JobData = job_view c.args.job in
     write_halts j c.in-Err.refused.error _ _ _ _
-    (record { listed = c.new-ctx.ensures; schema = c.new-source.ensures.kind; numbers = c.new-sink.ensures.next; batches = c.new-source.ensures.batches ∙ ap Some (same_pieces j.batches); none = c.new-sink.ensures.segments })
+    (record { listed = c.new-ctx.ensures.listed; schema = c.new-source.ensures.kind; numbers = c.new-sink.ensures.next; batches = c.new-source.ensures.batches ∙ ap Some (same_pieces j.batches); none = c.new-sink.ensures.segments })
     (record {
       of_source = c.new-source.ensures.may_fail;
       of_sink = c.new-sink.ensures.may_fail;
