@@ -11,7 +11,7 @@ use Rattle.vx_plan.specs.PlanData.{Setting, Item, Pair, Plan, Node, paths, place
 use Rattle.vx_plan.specs.ChunkedNode.{chunked_node, chunk_plans, all_pairs, all_faults, all_numbers, all_layouts}
 use Rattle.vx_plan.specs.Valid.{Fit}
 use Rattle.vx_plan.specs.Statements.{Within}
-use Rattle.vx_plan.proofs.PlanLists.{ItemsOf, Holds, Gives, gives_same, ReadAll, Grow, grow_none, grow_more, nil_left, nil_right, fit_left, fit_right, holds_left, holds_right, gathered_reads, length-stream_values, row_total-append, within_itself}
+use Rattle.vx_plan.proofs.PlanLists.{ItemsOf, Holds, Gives, gives_same, ReadAll, Grow, grow_none, grow_more, nil_left, nil_right, fit_left, fit_right, holds_left, holds_right, gathered_reads, length-stream_values, row_total-append, within, within_itself}
 use Rattle.vx_plan.proofs.Spots.{Apart, Lies, lies_none, two_parts, apart_inside, apart_next, apart_left, apart_right}
 use Rattle.vx_plan.proofs.FlatLaws.{Reads, Placed, Grows, Typed}
 
@@ -81,18 +81,15 @@ chunked_grows t k = record { grows = go; quiet = λ m e. refl; still = λ m e. r
     go : (m : Bool) (xs ys : List Item) (ended : Bool) (e : Eof) → Within (chunked_node t k m xs false e) (chunked_node t k m (xs ++ ys) ended e)
     go m xs ys ended e =
         let g : Grow (chunk_plans k m xs e) (chunk_plans k m (xs ++ ys) e) = chunks_grow k m xs ys e in
-        record {
-          pairs = g.pairs;
-          faultless = g.faultless;
-          reserved = g.reserved;
-          fit = λ f h. (
-            (let total : row_total (xs ++ ys) ≡ row_total xs + row_total ys = row_total-append xs ys in let a : row_total (xs ++ ys) < 2 ^ 64 = h.0 in omega arith),
-            (
-              (let total : length (xs ++ ys) ≡ length xs + length ys = length-append xs ys in let a : e.last + length (xs ++ ys) < 2 ^ 64 = h.1.0 in omega arith),
-              g.fit f h.1.1,
-            ),
-          );
-        }
+        within g.pairs g.faults
+        (λ f h. (
+          (let total : row_total (xs ++ ys) ≡ row_total xs + row_total ys = row_total-append xs ys in let a : row_total (xs ++ ys) < 2 ^ 64 = h.0 in omega arith),
+          (
+            (let total : length (xs ++ ys) ≡ length xs + length ys = length-append xs ys in let a : e.last + length (xs ++ ys) < 2 ^ 64 = h.1.0 in omega arith),
+            g.fit f h.1.1,
+          ),
+        ))
+        g.reserved
 
 -- ---- type
 

@@ -26,7 +26,7 @@ use Rattle.vx_plan.specs.ColumnNodes.{Column, marked, column_plans, beside, not_
 use Rattle.vx_plan.specs.Valid.{Fit}
 use Rattle.vx_plan.specs.Statements.{Within}
 use Rattle.vx_plan.proofs.Relate.{Fields}
-use Rattle.vx_plan.proofs.PlanLists.{ItemsOf, Holds, Gives, gives_same, ReadAll, all_there_read, all_zones, counted_same, Grow, grow_none, grow_more, nil_left, nil_right, fit_left, fit_right, fit_both, holds_left, holds_right, row_total-append, row_total_cells, stream_values_cells}
+use Rattle.vx_plan.proofs.PlanLists.{ItemsOf, Holds, Gives, gives_same, ReadAll, all_there_read, all_zones, counted_same, Grow, grow_none, grow_more, nil_left, nil_right, fit_left, fit_right, fit_both, holds_left, holds_right, row_total-append, row_total_cells, stream_values_cells, within, within_itself}
 use Rattle.vx_plan.proofs.Spots.{Apart, Lies, lies_none, scattered_both, apart_both, inside_begins, apart_next}
 use Rattle.vx_plan.proofs.FlatLaws.{Reads, Placed, Grows, Typed, cons_nil}
 use Rattle.vx_plan.proofs.ChunkedLaws.{paths-append}
@@ -402,12 +402,8 @@ columns_still (k ∷ ks) h c e =
     let a : (k [] false (inside e)).reserved ≡ 0 = h.2 (inside e) in let b : all_reserved (column_plans ks (suc c) [] false (next e)) ≡ 0 = columns_still ks h.3 (suc c) (next e) in omega arith
 
 beside_within : (l k : LayoutData (List ℕ)) (ns ms : List ℕ) (ps qs : List Plan) → (Fit ms → Fit ns) → Grow ps qs → Within (beside l ns ps) (beside k ms qs)
-beside_within l k ns ms ps qs f g = record {
-  pairs = g.pairs;
-  faultless = g.faultless;
-  reserved = g.reserved;
-  fit = λ e h. fit_both ns (all_numbers ps) (f (fit_left ms (all_numbers qs) h)) (g.fit e (fit_right ms (all_numbers qs) h));
-}
+beside_within l k ns ms ps qs f g =
+    within g.pairs g.faults (λ e h. fit_both ns (all_numbers ps) (f (fit_left ms (all_numbers qs) h)) (g.fit e (fit_right ms (all_numbers qs) h))) g.reserved
 
 one_grows : (t : Ty) (k : Node) → Grows t k → (m : Bool) (ks : List Column) → AllGrow ks → AllGrow (k m ∷ ks)
 one_grows t k c m ks h = ((λ xs ys ended e. c.grows m xs ys ended e), (λ e. c.quiet m e), (λ e. c.still m e), h)
@@ -427,7 +423,7 @@ numbers_fit xs ys ks e h = ((let total : row_total (xs ++ ys) ≡ row_total xs +
 
 pub struct_grows : (fs : Tys) (n : Bool) (dup : Option (List ℕ)) (v : Node) (ks : List Node) → Grows (boolean false) v → Fields (λ t k. Grows t k) fs ks → Grows (struct fs n) (struct_node fs n dup v ks)
 struct_grows fs n (Some name) v ks c h = record {
-  grows = λ m xs ys ended e. record { pairs = λ x i. i; faultless = λ f. f; fit = λ f g. g; reserved = omega arith };
+  grows = λ m xs ys ended e. within_itself (struct_node fs n (Some name) v ks m xs false e);
   quiet = λ m e. refl;
   still = λ m e. refl;
 }
@@ -444,7 +440,7 @@ struct_grows fs n None v ks c h = record {
 
 pub not_struct_grows : (t : Ty) → Grows t (not_struct_node t)
 not_struct_grows t = record {
-  grows = λ m xs ys ended e. record { pairs = λ x i. i; faultless = λ f. f; fit = λ f g. g; reserved = omega arith };
+  grows = λ m xs ys ended e. within_itself (not_struct_node t m xs false e);
   quiet = λ m e. refl;
   still = λ m e. refl;
 }
@@ -481,12 +477,9 @@ list_grows t n es os v p q r = record {
         (columns_grow (list_writers n m es os v) (list_writers_grow t n m es os v p q r) 0 (list_splits t n true 0 xs) b.0 ended e))
 
     go : (m : Bool) (xs ys : List Item) (ended : Bool) (e : Eof) → Within (list_node t n es os v m xs false e) (list_node t n es os v m (xs ++ ys) ended e)
-    go m [] [] true e = record {
-      pairs = λ x i. subst (In x) (columns_quiet (list_writers n m es os v) (list_writers_grow t n m es os v p q r) 0 e) i;
-      faultless = λ f. cc;
-      fit = λ f g. absurd (cons_nil f);
-      reserved = let z : all_reserved (list_plans t n es os v m [] false e) ≡ 0 = columns_still (list_writers n m es os v) (list_writers_grow t n m es os v p q r) 0 e in omega arith;
-    }
+    go m [] [] true e =
+        within (λ x i. subst (In x) (columns_quiet (list_writers n m es os v) (list_writers_grow t n m es os v p q r) 0 e) i) (λ f i. inr i) (λ f g. absurd (cons_nil f))
+        (let z : all_reserved (list_plans t n es os v m [] false e) ≡ 0 = columns_still (list_writers n m es os v) (list_writers_grow t n m es os v p q r) 0 e in omega arith)
     go m [] [] false e = columns m [] [] false e
     go m [] (y ∷ ys) ended e = columns m [] (y ∷ ys) ended e
     go m (x ∷ xs) ys ended e = columns m (x ∷ xs) ys ended e

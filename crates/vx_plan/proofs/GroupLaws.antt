@@ -20,7 +20,7 @@ use Rattle.vx_strategy_spec.specs.StrategyData.{Grouping, by_blocks, by_bytes, i
 use Rattle.vx_plan.specs.GroupNode.{with_numbers, grouped_stream, counted_at, left_count, rest_count, block_count, block_rest, held_sizes, group_numbers, held_total, group_reserved, grouped_node, images, compressed_node}
 use Rattle.vx_plan.specs.Valid.{Fit, Keeps}
 use Rattle.vx_plan.specs.Statements.{Within}
-use Rattle.vx_plan.proofs.PlanLists.{ItemsOf, Holds, Gives, gives_same, fit_left, fit_right, fit_both, row_total-append, row_total_cells, stream_values_cells}
+use Rattle.vx_plan.proofs.PlanLists.{ItemsOf, Holds, Gives, gives_same, fit_left, fit_right, fit_both, row_total-append, row_total_cells, stream_values_cells, within}
 use Rattle.vx_plan.proofs.Spots.{Apart, Lies, apart_both}
 use Rattle.vx_plan.proofs.FlatLaws.{Reads, Placed, Grows, Typed}
 
@@ -110,12 +110,9 @@ fit_group (by_bytes size) t xs ys ended h =
 fit_group into_one t xs ys ended h = tt
 
 pub with_within : (ns ms : List ℕ) (a b : ℕ) (p q : Plan) → (Fit ms → Fit ns) → a ≤ b → Within p q → Within (with_numbers ns a p) (with_numbers ms b q)
-with_within ns ms a b p q f l h = record {
-  pairs = h.pairs;
-  faultless = h.faultless;
-  reserved = let k : p.reserved ≤ q.reserved = h.reserved in omega arith;
-  fit = λ e g. fit_both ns p.numbers (f (fit_left ms q.numbers g)) (h.fit e (fit_right ms q.numbers g));
-}
+with_within ns ms a b p q f l h =
+    within h.pairs h.faults (λ e g. fit_both ns p.numbers (f (fit_left ms q.numbers g)) (h.fit e (fit_right ms q.numbers g)))
+    (let k : p.reserved ≤ q.reserved = h.reserved in omega arith)
 
 held_more : (xs ys : List Item) → held_total xs ≤ held_total (xs ++ ys)
 held_more [] ys = omega arith

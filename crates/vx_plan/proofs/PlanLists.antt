@@ -1,5 +1,5 @@
 -- Faults, numbers and pairs of several plans, joined.
-use Rattle.std.proofs.Common.{◌≡◌, ℕ, ◌+◌, ◌≤◌, Bool, true, List, [], ◌∷◌, ◌++◌, map, length, Option, Some, refl, sym, ap, ◌∙◌, ⊎_elim, arith, append_assoc, length-append, eq-eqb}
+use Rattle.std.proofs.Common.{◌≡◌, ℕ, ◌+◌, ◌≤◌, Bool, true, List, [], ◌∷◌, ◌++◌, map, length, Option, Some, refl, sym, ap, ◌∙◌, inl, ⊎_elim, arith, append_assoc, length-append, eq-eqb}
 use Rattle.std.proofs.lemmas.List.{append-nil, length-map, map-append}
 use Rattle.vx_model.specs.Ty.{Ty}
 use Rattle.vx_model.specs.ValueData.{ValueData, value}
@@ -9,7 +9,7 @@ use Rattle.vx_path.proofs.Lists.{in_left, in_right, in_cases}
 use Rattle.vx_layout_spec.specs.LayoutTree.{LayoutData, lays_of, gathered}
 use Rattle.vx_layout_spec.specs.Rows.{and_then, all_there, counted, joined, chunked_rows, rows, each_rows}
 use Rattle.vx_rules.specs.Stream.{Chunks, stream_cells}
-use Rattle.vx_plan.specs.PlanData.{Setting, Pair, Plan, Item, row_total, stream_values}
+use Rattle.vx_plan.specs.PlanData.{Setting, Pair, Plan, Fault, Item, row_total, stream_values}
 use Rattle.vx_plan.specs.ChunkedNode.{all_pairs, all_faults, all_numbers, all_reserved}
 use Rattle.vx_plan.specs.Valid.{Fit}
 use Rattle.vx_plan.specs.ZonesHold.{IsZoned, AllZoned, ZonesHold}
@@ -128,20 +128,33 @@ gathered_reads admitted s look t n (l ∷ k ∷ ls) (v ∷ vs) h e = record {
   zones = λ a. (tt, all_zones admitted s look (l ∷ k ∷ ls) (v ∷ vs) h a);
 }
 
+-- each element of two joined lists is one of two others, joined
+pub in_joined : {A : Type 0} (ps qs rs us : List A) → ((x : A) → In x ps → In x rs) → ((x : A) → In x qs → In x us) → (x : A) → In x (ps ++ qs) → In x (rs ++ us)
+in_joined ps qs rs us f g x i = ⊎_elim (λ l. in_left x rs us (f x l)) (λ r. in_right x rs us (g x r)) (in_cases x ps qs i)
+
+none_in : {A : Type 0} (xs ys : List A) → ((x : A) → In x xs → In x ys) → ys ≡ [] → xs ≡ []
+none_in [] ys f e = refl
+none_in (x ∷ xs) [] f e = absurd (f x (inl refl))
+none_in (x ∷ xs) (y ∷ ys) f e = cc
+
+-- where the first plan's faults are among the second's, it has none if the second has none
+pub within : {p q : Plan} → ((x : Pair) → In x p.pairs → In x q.pairs) → ((f : Fault) → In f p.faults → In f q.faults) → (q.faults ≡ [] → Fit q.numbers → Fit p.numbers) → p.reserved ≤ q.reserved → Within p q
+within {p = p} {q = q} pairs faults fit reserved = record { pairs = pairs; faults = faults; faultless = none_in p.faults q.faults faults; fit = fit; reserved = reserved }
+
 -- What holds of the first plans holds of all, plan by plan.
 pub record Grow (ps qs : List Plan) : Type 0 where
   pub pairs : (x : Pair) → In x (all_pairs ps) → In x (all_pairs qs)
-  pub faultless : all_faults qs ≡ [] → all_faults ps ≡ []
+  pub faults : (f : Fault) → In f (all_faults ps) → In f (all_faults qs)
   pub fit : all_faults qs ≡ [] → Fit (all_numbers qs) → Fit (all_numbers ps)
   pub reserved : all_reserved ps ≤ all_reserved qs
 
 pub grow_none : (qs : List Plan) → Grow [] qs
-grow_none qs = record { pairs = λ x h. absurd h; faultless = λ e. refl; fit = λ e h. tt; reserved = omega arith }
+grow_none qs = record { pairs = λ x h. absurd h; faults = λ f h. absurd h; fit = λ e h. tt; reserved = omega arith }
 
 pub grow_more : (p q : Plan) (ps qs : List Plan) → Within p q → Grow ps qs → Grow (p ∷ ps) (q ∷ qs)
 grow_more p q ps qs a b = record {
-  pairs = λ x h. ⊎_elim (λ l. in_left x q.pairs (all_pairs qs) (a.pairs x l)) (λ r. in_right x q.pairs (all_pairs qs) (b.pairs x r)) (in_cases x p.pairs (all_pairs ps) h);
-  faultless = λ e. nil_both p.faults (all_faults ps) (a.faultless (nil_left q.faults (all_faults qs) e)) (b.faultless (nil_right q.faults (all_faults qs) e));
+  pairs = in_joined p.pairs (all_pairs ps) q.pairs (all_pairs qs) a.pairs b.pairs;
+  faults = in_joined p.faults (all_faults ps) q.faults (all_faults qs) a.faults b.faults;
   fit = λ e h. fit_both p.numbers (all_numbers ps)
       (a.fit (nil_left q.faults (all_faults qs) e) (fit_left q.numbers (all_numbers qs) h))
       (b.fit (nil_right q.faults (all_faults qs) e) (fit_right q.numbers (all_numbers qs) h));
@@ -149,7 +162,7 @@ grow_more p q ps qs a b = record {
 }
 
 pub within_itself : (p : Plan) → Within p p
-within_itself p = record { pairs = λ x h. h; faultless = λ e. e; fit = λ e h. h; reserved = omega arith }
+within_itself p = within (λ x h. h) (λ f h. h) (λ e h. h) (omega arith)
 
 -- ---- rows and values of a stream by its cells
 

@@ -22,7 +22,7 @@ use Rattle.vx_plan.specs.Number.{segments, number_of, segment_at}
 use Rattle.vx_plan.specs.Valid.{Fit, AllOf, OfSchema, Keeps}
 use Rattle.vx_plan.specs.Statements.{RowsComeBack, PathsDistinct, PathsInRegion, PrefixWithin, FrontOfTaken, CountsRows, ZonesAreTrue, Within}
 use Rattle.vx_plan.proofs.Relate.{Given, Fields, induct}
-use Rattle.vx_plan.proofs.PlanLists.{ItemsOf, Gives, counted_count}
+use Rattle.vx_plan.proofs.PlanLists.{ItemsOf, Gives, counted_count, within}
 use Rattle.vx_plan.proofs.Spots.{Apart, Lies}
 use Rattle.vx_plan.proofs.FlatLaws.{Reads, Placed, Grows, Typed, flat_reads, flat_placed, flat_grows, flat_typed}
 use Rattle.vx_plan.proofs.ChunkedLaws.{chunked_reads, chunked_placed, chunked_grows, chunked_typed}
@@ -225,12 +225,9 @@ prefix_within s w t m taken later ended =
     let h : Within (plan s w t m (batch_items 0 taken) false root_eof) (plan s w t m (batch_items 0 (taken ++ later)) ended root_eof) =
     subst (λ z. Within (plan s w t m (batch_items 0 taken) false root_eof) (plan s w t m z ended root_eof)) (sym r.1)
     ((plan_grows s w t).grows m (batch_items 0 taken) r.0 ended root_eof) in
-    record {
-      pairs = h.pairs;
-      faultless = h.faultless;
-      reserved = h.reserved;
-      fit = λ e f. ((let a : length (taken ++ later) < 2 ^ 64 = f.0 in let b : length (taken ++ later) ≡ length taken + length later = length-append taken later in omega arith), h.fit e f.1);
-    }
+    within h.pairs h.faults
+    (λ e f. ((let a : length (taken ++ later) < 2 ^ 64 = f.0 in let b : length (taken ++ later) ≡ length taken + length later = length-append taken later in omega arith), h.fit e f.1))
+    h.reserved
 
 pub front_of_taken : FrontOfTaken
 front_of_taken s w t m taken later ended done rest e f =

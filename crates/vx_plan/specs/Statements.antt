@@ -6,7 +6,7 @@ use Rattle.vx_path.specs.Lists.{In, Each}
 use Rattle.vx_path.specs.Path.{Scattered, Region}
 use Rattle.vx_layout_spec.specs.LayoutTree.{row_count, layout_type}
 use Rattle.vx_layout_spec.specs.Rows.{rows}
-use Rattle.vx_plan.specs.PlanData.{Setting, Item, Pair, Plan, paths, places, stream_values}
+use Rattle.vx_plan.specs.PlanData.{Setting, Item, Pair, Plan, Fault, paths, places, stream_values}
 use Rattle.vx_strategy_spec.specs.StrategyData.{StrategyData, ZonedOptions}
 use Rattle.vx_strategy_spec.specs.Admitted.{is_admitted}
 use Rattle.vx_plan.specs.ZonedNode.{recorded, zone_faults, zone_records}
@@ -34,6 +34,7 @@ PathsInRegion = (s : Setting) (w : StrategyData) (t : Ty) (m : Bool) (batches : 
 -- What holds of the first batches, the source not having ended, and of all.
 pub record Within (p q : Plan) : Type 0 where
   pub pairs : (x : Pair) → In x p.pairs → In x q.pairs
+  pub faults : (f : Fault) → In f p.faults → In f q.faults
   pub faultless : q.faults ≡ [] → p.faults ≡ []
   pub fit : q.faults ≡ [] → Fit q.numbers → Fit p.numbers
   pub reserved : p.reserved ≤ q.reserved

@@ -20,7 +20,7 @@ pub fn paths_lie_in_region()
     ensures { PathsInRegion }
 {}
 
-/// What is written of the first batches is written of all; where all have no fault, neither have the first.
+/// What is written of the first batches is written of all, and what is wrong with the first is wrong with all.
 pub fn prefixes_lie_within()
     ensures { PrefixWithin }
 {}
