@@ -15,12 +15,12 @@ use Rattle.vx_rules.specs.Columns.{offset_cell}
 use Rattle.vx_rules.specs.Runs.{DictOptions, Run, runs, code_type, cut_at}
 use Rattle.vx_rules.proofs.RunLaws.{decodes_rows, decodes_length}
 use Rattle.vx_rules.proofs.RunStreams.{Ended, AllEnded, runs_end, RunGrows, RunsGrow, runs_grow, run_paths, runs_onto}
-use Rattle.vx_plan.specs.PlanData.{Setting, Item, Pair, Plan, Node, paths, places, stream_values, row_total}
+use Rattle.vx_plan.specs.PlanData.{Setting, Item, Pair, Plan, Node, paths, places, stream_values, rows_in, row_total}
 use Rattle.vx_plan.specs.ChunkedNode.{both_plans, all_pairs, all_faults, all_numbers, all_layouts}
 use Rattle.vx_plan.specs.DictNode.{is_dictionary, run_plan, run_plans, made_counts, dict_numbers, runs_node, dict_node}
 use Rattle.vx_plan.specs.Valid.{Fit}
 use Rattle.vx_plan.specs.Statements.{Within}
-use Rattle.vx_plan.proofs.PlanLists.{ItemsOf, Holds, Gives, gives_same, ReadAll, Grow, grow_none, grow_more, in_joined, within, within_itself, gathered_reads, counted_same, nil_left, nil_right, fit_left, fit_right, fit_both, holds_left, holds_right, row_total-append, row_total_cells, stream_values_cells}
+use Rattle.vx_plan.proofs.PlanLists.{ItemsOf, Holds, Gives, gives_same, ReadAll, Grow, grow_none, grow_more, in_joined, within, within_itself, gathered_reads, counted_same, nil_left, nil_right, fit_left, fit_right, fit_both, fit_before, holds_left, holds_right, row_total_cells, stream_values_cells}
 use Rattle.vx_plan.proofs.Spots.{Apart, Lies, lies_none, two_parts, apart_left, apart_right, apart_inside, apart_next}
 use Rattle.vx_plan.proofs.FlatLaws.{Reads, Placed, Grows, Typed}
 use Rattle.vx_plan.proofs.ChunkedLaws.{paths-append}
@@ -180,10 +180,8 @@ numbers_before : (o : DictOptions) (t : Ty) (x : Item) (xs ys : List Item) (ende
 numbers_before o t x xs ys ended e h =
     let b : (more : List ℕ) × (made_counts o t [] (x ∷ xs ++ ys) ended ≡ made_counts o t [] (x ∷ xs) false ++ more) = made_begin o t [] (x ∷ xs) ys ended in
     let l : length (runs o t (x ∷ xs) false) ≤ length (runs o t (x ∷ xs ++ ys) ended) = runs_fewer (runs o t (x ∷ xs) false) (runs o t (x ∷ xs ++ ys) ended) (runs_grow o t x xs ys ended) in
-    let total : row_total (x ∷ xs ++ ys) ≡ row_total (x ∷ xs) + row_total ys = row_total-append (x ∷ xs) ys in (
-      (let a : row_total (x ∷ xs ++ ys) < 2 ^ 64 = h.0 in omega arith),
-      ((let a : e.last + 2 * length (runs o t (x ∷ xs ++ ys) ended) < 2 ^ 64 = h.1.0 in omega arith), fit_left (made_counts o t [] (x ∷ xs) false) b.0 (subst Fit b.1 h.1.1)),
-    )
+    fit_before rows_in 0 (x ∷ xs) ys ((e.last + 2 * length (runs o t (x ∷ xs ++ ys) ended)) ∷ made_counts o t [] (x ∷ xs ++ ys) ended) ((e.last + 2 * length (runs o t (x ∷ xs) false)) ∷ made_counts o t [] (x ∷ xs) false)
+    (λ f. ((let a : e.last + 2 * length (runs o t (x ∷ xs ++ ys) ended) < 2 ^ 64 = f.0 in omega arith), fit_left (made_counts o t [] (x ∷ xs) false) b.0 (subst Fit b.1 f.1))) h
 
 pub dict_grows : (s : Setting) (o : DictOptions) (t : Ty) (ck vk f : Node) → Grows (code_type o) ck → Grows t vk → Grows t f → Grows t (dict_node s o t ck vk f)
 dict_grows s o t ck vk f c v gf = record { grows = go; quiet = λ m e. refl; still = λ m e. refl }

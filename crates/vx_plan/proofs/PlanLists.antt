@@ -1,15 +1,15 @@
 -- Faults, numbers and pairs of several plans, joined.
-use Rattle.std.proofs.Common.{◌≡◌, ℕ, ◌+◌, ◌≤◌, Bool, true, List, [], ◌∷◌, ◌++◌, map, length, Option, Some, refl, sym, ap, ◌∙◌, inl, ⊎_elim, arith, append_assoc, length-append, eq-eqb}
+use Rattle.std.proofs.Common.{◌≡◌, ℕ, ◌+◌, ◌<◌, ◌≤◌, ◌^◌, Bool, true, List, [], ◌∷◌, ◌++◌, map, length, Option, Some, refl, sym, ap, ◌∙◌, subst, inl, inr, ⊎_elim, arith, append_assoc, length-append, eq-eqb}
 use Rattle.std.proofs.lemmas.List.{append-nil, length-map, map-append}
 use Rattle.vx_model.specs.Ty.{Ty}
 use Rattle.vx_model.specs.ValueData.{ValueData, value}
-use Rattle.vx_model.specs.ChunkData.{cells, row_values}
+use Rattle.vx_model.specs.ChunkData.{ChunkData, cells, row_values}
 use Rattle.vx_path.specs.Lists.{In}
 use Rattle.vx_path.proofs.Lists.{in_left, in_right, in_cases}
 use Rattle.vx_layout_spec.specs.LayoutTree.{LayoutData, lays_of, gathered}
 use Rattle.vx_layout_spec.specs.Rows.{and_then, all_there, counted, joined, chunked_rows, rows, each_rows}
 use Rattle.vx_rules.specs.Stream.{Chunks, stream_cells}
-use Rattle.vx_plan.specs.PlanData.{Setting, Pair, Plan, Fault, Item, row_total, stream_values}
+use Rattle.vx_plan.specs.PlanData.{Setting, Pair, Plan, Fault, Item, summed, totals, rows_in, row_total, row_totals, stream_values}
 use Rattle.vx_plan.specs.ChunkedNode.{all_pairs, all_faults, all_numbers, all_reserved}
 use Rattle.vx_plan.specs.Valid.{Fit}
 use Rattle.vx_plan.specs.ZonesHold.{IsZoned, AllZoned, ZonesHold}
@@ -47,6 +47,37 @@ pub fit_both : (ms ns : List ℕ) → Fit ms → Fit ns → Fit (ms ++ ns)
 fit_both [] ns g h = h
 fit_both (m ∷ ms) ns g h = (g.0, fit_both ms ns g.1 h)
 
+-- totals fit where their last does
+totals_last : (count : ChunkData → ℕ) (n : ℕ) (items : List Item) → n < 2 ^ 64 → Fit (totals count n items) → n + summed count items < 2 ^ 64
+totals_last count n [] lt h = omega arith
+totals_last count n (i ∷ is) lt h = let l : (n + count i.1) + summed count is < 2 ^ 64 = totals_last count (n + count i.1) is h.0 h.1 in omega arith
+
+pub fit_totals : (count : ChunkData → ℕ) (n : ℕ) (items : List Item) → n + summed count items < 2 ^ 64 → Fit (totals count n items)
+fit_totals count n [] lt = tt
+fit_totals count n (i ∷ is) lt = (omega arith, fit_totals count (n + count i.1) is (omega arith))
+
+pub fit_last : (count : ChunkData → ℕ) (n : ℕ) (items : List Item) (ns : List ℕ) → n < 2 ^ 64 → Fit (totals count n items ++ ns) → (n + summed count items < 2 ^ 64) × Fit ns
+fit_last count n items ns lt h = (totals_last count n items lt (fit_left (totals count n items) ns h), fit_right (totals count n items) ns h)
+
+pub fit_total : (items : List Item) (ns : List ℕ) → Fit (row_totals items ++ ns) → (row_total items < 2 ^ 64) × Fit ns
+fit_total items ns h = let l : (0 + row_total items < 2 ^ 64) × Fit ns = fit_last rows_in 0 items ns (omega arith) h in ((let a : 0 + row_total items < 2 ^ 64 = l.0 in omega arith), l.1)
+
+-- the total is the last of them
+pub in_totals : (count : ChunkData → ℕ) (n : ℕ) (i : Item) (is : List Item) → In (n + summed count (i ∷ is)) (totals count n (i ∷ is))
+in_totals count n i [] = inl (let e : n + (count i.1 + 0) ≡ n + count i.1 = omega arith in e)
+in_totals count n i (j ∷ is) =
+    let e : (n + count i.1) + summed count (j ∷ is) ≡ n + (count i.1 + summed count (j ∷ is)) = omega arith in
+    inr (subst (λ k. In k (totals count (n + count i.1) (j ∷ is))) e (in_totals count (n + count i.1) j is))
+
+-- the totals of the first chunks are the first totals
+totals_before : (count : ChunkData → ℕ) (n : ℕ) (xs ys : List Item) → Fit (totals count n (xs ++ ys)) → Fit (totals count n xs)
+totals_before count n [] ys h = tt
+totals_before count n (x ∷ xs) ys h = (h.0, totals_before count (n + count x.1) xs ys h.1)
+
+pub fit_before : (count : ChunkData → ℕ) (n : ℕ) (xs ys : List Item) (ms ns : List ℕ) → (Fit ms → Fit ns) → Fit (totals count n (xs ++ ys) ++ ms) → Fit (totals count n xs ++ ns)
+fit_before count n xs ys ms ns f h =
+    fit_both (totals count n xs) ns (totals_before count n xs ys (fit_left (totals count n (xs ++ ys)) ms h)) (f (fit_right (totals count n (xs ++ ys)) ms h))
+
 pub holds_left : (look : List ℕ → Option (List ℕ)) (ps qs : List Pair) → Holds look (ps ++ qs) → Holds look ps
 holds_left look [] qs h = tt
 holds_left look (p ∷ ps) qs h = (h.0, holds_left look ps qs h.1)
@@ -71,10 +102,6 @@ stream_values-one i = append-nil (row_values i.1)
 pub stream_values-append : (xs ys : List Item) → stream_values (xs ++ ys) ≡ stream_values xs ++ stream_values ys
 stream_values-append [] ys = refl
 stream_values-append (x ∷ xs) ys = ap (λ r. row_values x.1 ++ r) (stream_values-append xs ys) ∙ sym (append_assoc (row_values x.1) (stream_values xs) (stream_values ys))
-
-pub row_total-append : (xs ys : List Item) → row_total (xs ++ ys) ≡ row_total xs + row_total ys
-row_total-append [] ys = omega arith
-row_total-append (x ∷ xs) ys = let h : row_total (xs ++ ys) ≡ row_total xs + row_total ys = row_total-append xs ys in omega arith
 
 pub length-stream_values : (items : List Item) → length (stream_values items) ≡ row_total items
 length-stream_values [] = refl
@@ -169,6 +196,13 @@ within_itself p = within (λ x h. h) (λ f h. h) (λ e h. h) (omega arith)
 pub row_total_cells : (items : List Item) → row_total items ≡ length (stream_cells items)
 row_total_cells [] = refl
 row_total_cells (i ∷ is) = ap (λ n. length (cells i.1) + n) (row_total_cells is) ∙ sym (length-append (cells i.1) (stream_cells is))
+
+-- what the numbers of a node tell of its cells, and those of its children
+pub fit_cells : (items : List Item) (ns ms : List ℕ) → Fit ((row_totals items ++ ns) ++ ms) → (length (stream_cells items) < 2 ^ 64) × Fit ms
+fit_cells items ns ms h =
+    let a : row_total items < 2 ^ 64 = (fit_total items ns (fit_left (row_totals items ++ ns) ms h)).0 in
+    let b : row_total items ≡ length (stream_cells items) = row_total_cells items in
+    ((omega arith), fit_right (row_totals items ++ ns) ms h)
 
 pub stream_values_cells : (items : List Item) → stream_values items ≡ map value (stream_cells items)
 stream_values_cells [] = refl

@@ -29,12 +29,12 @@ use Rattle.vx_rules.proofs.ColumnStreams.{chunk_cells}
 use Rattle.vx_plan.proofs.ZoneRecords.{zones_right, zones_count}
 use Rattle.vx_strategy_spec.specs.Admitted.{are_admitted_aggregates, is_admitted_zoned}
 use Rattle.vx_plan.proofs.Relate.{Given}
-use Rattle.vx_plan.specs.PlanData.{Setting, Item, Plan, Node, Fault, paths, places, stream_values, row_total}
+use Rattle.vx_plan.specs.PlanData.{Setting, Item, Plan, Node, Fault, paths, places, stream_values, rows_in, row_total}
 use Rattle.vx_strategy_spec.specs.StrategyData.{ZonedOptions}
-use Rattle.vx_plan.specs.ZonedNode.{asked, recorded, forbidden_faults, is_no_zone, cut_fault, cut_faults, zone_faults, zone_records, with_faults, table_items, with_table, table_of, zoned_node}
+use Rattle.vx_plan.specs.ZonedNode.{asked, recorded, forbidden_faults, is_no_zone, cut_fault, cut_faults, zone_faults, zone_records, with_faults, table_items, data_numbers, zone_numbers, with_table, table_of, zoned_node}
 use Rattle.vx_plan.specs.Valid.{Fit}
 use Rattle.vx_plan.specs.Statements.{Within}
-use Rattle.vx_plan.proofs.PlanLists.{ItemsOf, Holds, Gives, counted_same, nil_left, nil_right, fit_left, fit_right, holds_left, holds_right, row_total-append, length-stream_values, in_joined, within}
+use Rattle.vx_plan.proofs.PlanLists.{ItemsOf, Holds, Gives, counted_same, nil_left, nil_right, fit_left, fit_right, fit_both, fit_total, fit_before, holds_left, holds_right, length-stream_values, in_joined, within}
 use Rattle.vx_plan.proofs.Spots.{Apart, Lies, two_parts, apart_both, apart_inside}
 use Rattle.vx_plan.proofs.FlatLaws.{Reads, Placed, Grows, Typed}
 use Rattle.vx_plan.proofs.ChunkedLaws.{paths-append}
@@ -161,21 +161,26 @@ items_values t (c ∷ cs) of =
     let f : Fine t (cells c.1) = cells_fine t c.1 of.0 in
     values_append t (row_values c.1) (stream_values cs) (cells_values t (cells c.1) f.fit f.real) (items_values t cs of.1)
 
+-- what the numbers of a node with a table tell of its zones, and those of its children
+pub zone_fits : (items : List Item) (e : Eof) (ns : List ℕ) → Fit (zone_numbers items e ++ ns) → (length items < 2 ^ 64) × Fit ns
+zone_fits items e ns h = ((fit_total items (length items ∷ (e.last + 2) ∷ []) (fit_left (zone_numbers items e) ns h)).1.0, fit_right (zone_numbers items e) ns h)
+
 table_reads : (admitted : Bool) (s : Setting) (o : ZonedOptions) → Given admitted (is_admitted_zoned o) → (t : Ty) (stats : Ty → Node) → ((u : Ty) → Reads admitted s u (stats u)) → ((u : Ty) → Typed u (stats u))
     → (items : List Item) (e : Eof) (p : Plan) (cs : Option (List Filled)) → ItemsOf t items
     → zone_faults o.zone_len (recorded o t) items ≡ [] → kept_columns (recorded o t) (zone_records s t (recorded o t) items) ≡ cs → (look : List ℕ → Option (List ℕ))
     → (p.faults ≡ [] → Fit p.numbers → Holds look p.pairs → Gives admitted s look p.layout (stream_values items))
     → (with_table s o t stats false items e p cs).faults ≡ [] → Fit (with_table s o t stats false items e p cs).numbers → Holds look (with_table s o t stats false items e p cs).pairs
     → Gives admitted s look (with_table s o t stats false items e p cs).layout (stream_values items)
-table_reads admitted s o ok t stats rs ts items e p None of right kept look r clean fit held = r clean fit.1.1 held
+table_reads admitted s o ok t stats rs ts items e p None of right kept look r clean fit held = r clean (fit_right (data_numbers items e) p.numbers fit) held
 table_reads admitted s o ok t stats rs ts items e p (Some cs) of right kept look r clean fit held =
     let q : Plan = stats (table_type cs) false (table_items cs (length items) e) true (next (next e)) in
-    let data_child : Gives admitted s look p.layout (stream_values items) = r (nil_left p.faults q.faults clean) (fit_left p.numbers q.numbers fit.1.1.1) (holds_left look p.pairs q.pairs held) in
+    let fits : (length items < 2 ^ 64) × Fit (p.numbers ++ q.numbers) = zone_fits items e (p.numbers ++ q.numbers) fit in
+    let data_child : Gives admitted s look p.layout (stream_values items) = r (nil_left p.faults q.faults clean) (fit_left p.numbers q.numbers fits.1) (holds_left look p.pairs q.pairs held) in
     record {
       read = ap (and_then (counted (row_total items))) data_child.read ∙ counted_same (row_total items) (stream_values items) (length-stream_values items);
       zones = λ a.
           let zones_child : Gives admitted s look q.layout (row_values (table_piece cs (length items)) ++ []) =
-          (rs (table_type cs)).reads false (table_items cs (length items) e) (next (next e)) (whole_table s o t items cs of (fit.1.0) kept (ok a), tt) (nil_right p.faults q.faults clean) (fit_right p.numbers q.numbers fit.1.1.1) look
+          (rs (table_type cs)).reads false (table_items cs (length items) e) (next (next e)) (whole_table s o t items cs of fits.0 kept (ok a), tt) (nil_right p.faults q.faults clean) (fit_right p.numbers q.numbers fits.1) look
           (holds_right look p.pairs q.pairs held) in (
             record {
               aggregates = asked o.aggregates t;
@@ -282,15 +287,17 @@ open_table : (s : Setting) (o : ZonedOptions) (t : Ty) (stats : Ty → Node) (m 
     → Within (with_table s o t stats m xs e p None) (with_table s o t stats m (xs ++ ys) e q cs)
 open_table s o t stats m xs ys e p q None h =
     within h.pairs h.faults
-    (λ f g. ((let total : row_total (xs ++ ys) ≡ row_total xs + row_total ys = row_total-append xs ys in let a : row_total (xs ++ ys) < 2 ^ 64 = g.0 in omega arith), (g.1.0, h.fit f g.1.1)))
+    (λ f g. fit_both (data_numbers xs e) p.numbers
+    (fit_before rows_in 0 xs ys ((e.last + 1) ∷ []) ((e.last + 1) ∷ []) (λ i. i) (fit_left (data_numbers (xs ++ ys) e) q.numbers g))
+    (h.fit f (fit_right (data_numbers (xs ++ ys) e) q.numbers g)))
     (let l : p.reserved ≤ q.reserved = h.reserved in omega arith)
 open_table s o t stats m xs ys e p q (Some cs) h =
     let r : Plan = stats (table_type cs) m (table_items cs (length (xs ++ ys)) e) true (next (next e)) in
     within (λ x i. in_left x q.pairs r.pairs (h.pairs x i)) (λ f i. in_left f q.faults r.faults (h.faults f i))
-    (λ f g. (
-      (let total : row_total (xs ++ ys) ≡ row_total xs + row_total ys = row_total-append xs ys in let a : row_total (xs ++ ys) < 2 ^ 64 = g.0 in omega arith),
-      ((let b : e.last + 2 < 2 ^ 64 = g.1.1.0 in omega arith), h.fit (nil_left q.faults r.faults f) (fit_left q.numbers r.numbers g.1.1.1)),
-    ))
+    (λ f g. fit_both (data_numbers xs e) p.numbers
+    (fit_before rows_in 0 xs ys (length (xs ++ ys) ∷ (e.last + 2) ∷ []) ((e.last + 1) ∷ []) (λ i. ((let b : e.last + 2 < 2 ^ 64 = i.1.0 in omega arith), tt))
+    (fit_left (zone_numbers (xs ++ ys) e) (q.numbers ++ r.numbers) g))
+    (h.fit (nil_left q.faults r.faults f) (fit_left q.numbers r.numbers (fit_right (zone_numbers (xs ++ ys) e) (q.numbers ++ r.numbers) g))))
     (let l : p.reserved ≤ q.reserved = h.reserved in omega arith)
 
 faults_within : (fs gs : List Fault) (p q : Plan) → ((f : Fault) → In f fs → In f gs) → Within p q → Within (with_faults fs p) (with_faults gs q)

@@ -1,10 +1,11 @@
 -- Plans of small streams at their edges. The codec here spells a chunk by its count of rows.
-use Rattle.std.proofs.Common.{◌≡◌, ℕ, true, false, [], ◌∷◌, length, Some, None, refl}
-use Rattle.std.specs.Prelude.{codes}
+use Rattle.std.proofs.Common.{◌≡◌, ℕ, true, false, List, [], ◌∷◌, map, take, length, Some, None, refl}
+use Rattle.std.specs.Prelude.{pos, codes, replicate}
 use Rattle.vx_model.specs.declared.ptype.PType.TheVariants.{I32}
 use Rattle.vx_model.specs.declared.encoding.EncodingId.TheVariants.{Plain}
 use Rattle.vx_model.specs.Ty.{Ty, primitive, list}
-use Rattle.vx_model.specs.ChunkData.{cells}
+use Rattle.vx_model.specs.CellData.{int_cell, list_cell, trees_of}
+use Rattle.vx_model.specs.ChunkData.{ChunkData, plain_piece, cells}
 use Rattle.vx_strategy_spec.specs.StrategyData.{StrategyData, ZonedOptions, flat, chunked, zoned, listed}
 use Rattle.vx_plan.specs.PlanData.{Setting, fault, empty_list, forbidden_aggregate, at_start, at_end}
 use Rattle.vx_plan.specs.SourcePlan.{source_plan}
@@ -32,6 +33,24 @@ chunks = chunked (flat (record { padding = true; inline = false }))
 
 i32 : Ty
 i32 = primitive I32 false
+
+-- ---- the numbers: batches, rows up to each batch, the pointer, and of each batch its rows and its segment's length
+
+i32s : ℕ → ChunkData
+i32s n = plain_piece (primitive I32 false) (replicate n (int_cell (pos 1)))
+
+counted : (source_plan minima chunks i32 false (i32s 2 ∷ i32s 1 ∷ []) true).numbers ≡ 2 ∷ 2 ∷ 3 ∷ 3 ∷ 2 ∷ 1 ∷ 1 ∷ 1 ∷ []
+unfolding minima chunks i32 i32s
+counted = refl
+
+-- of lists: batches, the rows of offsets, elements and lists up to each batch, columns, the pointer
+lists_of : List ℕ → ChunkData
+lists_of ns = plain_piece (list (primitive I32 false) false) (map (λ n. list_cell true (trees_of (replicate n (int_cell (pos 1))))) ns)
+
+counted_lists : take 9 (source_plan minima (listed chunks chunks flats flats) (list i32 false) false (lists_of (2 ∷ 0 ∷ []) ∷ lists_of (3 ∷ []) ∷ []) true).numbers
+    ≡ 2 ∷ 3 ∷ 4 ∷ 2 ∷ 5 ∷ 2 ∷ 3 ∷ 2 ∷ 3 ∷ []
+unfolding minima flats chunks i32 lists_of
+counted_lists = refl
 
 -- ---- lists of no chunk keep what is wrong with their elements
 
