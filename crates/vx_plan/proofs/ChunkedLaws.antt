@@ -81,7 +81,7 @@ chunked_before xs ys e h =
     (λ f. ((let total : length (xs ++ ys) ≡ length xs + length ys = length-append xs ys in let a : e.last + length (xs ++ ys) < 2 ^ 64 = f.0 in omega arith), tt)) h
 
 pub chunked_grows : (t : Ty) (k : Node) → Grows t (chunked_node t k)
-chunked_grows t k = record { grows = go; quiet = λ m e. refl; still = λ m e. refl }
+chunked_grows t k = record { grows = go; quiet = λ m e. refl; still = λ m e. refl; steady = λ m d e. refl }
   where
     go : (m : Bool) (xs ys : List Item) (ended : Bool) (e : Eof) → Within (chunked_node t k m xs false e) (chunked_node t k m (xs ++ ys) ended e)
     go m xs ys ended e =

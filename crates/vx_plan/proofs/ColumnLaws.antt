@@ -402,7 +402,8 @@ list_placed t n es os v p q r = record { placed = go }
 -- each of some writers keeps what it wrote
 abbrev pub AllGrow : List Column → Type 0
 AllGrow [] = Unit {0}
-AllGrow (k ∷ ks) = ((xs ys : List Item) (ended : Bool) (e : Eof) → Within (k xs false e) (k (xs ++ ys) ended e)) × ((e : Eof) → (k [] false e).pairs ≡ []) × ((e : Eof) → (k [] false e).reserved ≡ 0) × AllGrow ks
+AllGrow (k ∷ ks) = ((xs ys : List Item) (ended : Bool) (e : Eof) → Within (k xs false e) (k (xs ++ ys) ended e)) × ((e : Eof) → (k [] false e).pairs ≡ []) × ((e : Eof) → (k [] false e).reserved ≡ 0)
+    × ((d e : Eof) → (k [] false d).faults ≡ (k [] false e).faults) × AllGrow ks
 
 columns_grow : (ks : List Column) → AllGrow ks → (c : ℕ) (xs ys : List Split) (ended : Bool) (e : Eof) → Grow (column_plans ks c xs false e) (column_plans ks c (xs ++ ys) ended e)
 columns_grow [] h c xs ys ended e = grow_none []
@@ -410,23 +411,27 @@ columns_grow (k ∷ ks) h c xs ys ended e =
     grow_more (k (column c xs) false (inside e)) (k (column c (xs ++ ys)) ended (inside e)) (column_plans ks (suc c) (other_columns xs) false (next e)) (column_plans ks (suc c) (other_columns (xs ++ ys)) ended (next e))
     (subst (λ z. Within (k (column c xs) false (inside e)) (k z ended (inside e))) (sym (column-append c xs ys)) (h.0 (column c xs) (column c ys) ended (inside e)))
     (subst (λ z. Grow (column_plans ks (suc c) (other_columns xs) false (next e)) (column_plans ks (suc c) z ended (next e))) (sym (other_columns-append xs ys))
-    (columns_grow ks h.3 (suc c) (other_columns xs) (other_columns ys) ended (next e)))
+    (columns_grow ks h.4 (suc c) (other_columns xs) (other_columns ys) ended (next e)))
 
 columns_quiet : (ks : List Column) → AllGrow ks → (c : ℕ) (e : Eof) → all_pairs (column_plans ks c [] false e) ≡ []
 columns_quiet [] h c e = refl
-columns_quiet (k ∷ ks) h c e = ap₂ (λ x y. x ++ y) (h.1 (inside e)) (columns_quiet ks h.3 (suc c) (next e))
+columns_quiet (k ∷ ks) h c e = ap₂ (λ x y. x ++ y) (h.1 (inside e)) (columns_quiet ks h.4 (suc c) (next e))
 
 columns_still : (ks : List Column) → AllGrow ks → (c : ℕ) (e : Eof) → all_reserved (column_plans ks c [] false e) ≡ 0
 columns_still [] h c e = refl
 columns_still (k ∷ ks) h c e =
-    let a : (k [] false (inside e)).reserved ≡ 0 = h.2 (inside e) in let b : all_reserved (column_plans ks (suc c) [] false (next e)) ≡ 0 = columns_still ks h.3 (suc c) (next e) in omega arith
+    let a : (k [] false (inside e)).reserved ≡ 0 = h.2 (inside e) in let b : all_reserved (column_plans ks (suc c) [] false (next e)) ≡ 0 = columns_still ks h.4 (suc c) (next e) in omega arith
+
+columns_steady : (ks : List Column) → AllGrow ks → (c : ℕ) (d e : Eof) → all_faults (column_plans ks c [] false d) ≡ all_faults (column_plans ks c [] false e)
+columns_steady [] h c d e = refl
+columns_steady (k ∷ ks) h c d e = ap₂ (λ x y. x ++ y) (h.3 (inside d) (inside e)) (columns_steady ks h.4 (suc c) (next d) (next e))
 
 beside_within : (l k : LayoutData (List ℕ)) (ns ms : List ℕ) (ps qs : List Plan) → (Fit ms → Fit ns) → Grow ps qs → Within (beside l ns ps) (beside k ms qs)
 beside_within l k ns ms ps qs f g =
     within g.pairs g.faults (λ e h. fit_both ns (all_numbers ps) (f (fit_left ms (all_numbers qs) h)) (g.fit e (fit_right ms (all_numbers qs) h))) g.reserved
 
 one_grows : (t : Ty) (k : Node) → Grows t k → (m : Bool) (ks : List Column) → AllGrow ks → AllGrow (k m ∷ ks)
-one_grows t k c m ks h = ((λ xs ys ended e. c.grows m xs ys ended e), (λ e. c.quiet m e), (λ e. c.still m e), h)
+one_grows t k c m ks h = ((λ xs ys ended e. c.grows m xs ys ended e), (λ e. c.quiet m e), (λ e. c.still m e), (λ d e. c.steady m d e), h)
 
 fields_grow : (fs : Tys) (ks : List Node) → Fields (λ t k. Grows t k) fs ks → (m : Bool) → AllGrow (marked m ks)
 fields_grow no_fields [] h m = tt
@@ -446,6 +451,7 @@ struct_grows fs n (Some name) v ks c h = record {
   grows = λ m xs ys ended e. within_itself (struct_node fs n (Some name) v ks m xs false e);
   quiet = λ m e. refl;
   still = λ m e. refl;
+  steady = λ m d e. refl;
 }
 struct_grows fs n None v ks c h = record {
   grows = λ m xs ys ended e.
@@ -456,6 +462,7 @@ struct_grows fs n None v ks c h = record {
       (columns_grow (struct_writers n m v ks) (writers_grow fs n m v ks c h) 0 (struct_splits fs n xs) (struct_splits fs n ys) ended e));
   quiet = λ m e. columns_quiet (struct_writers n m v ks) (writers_grow fs n m v ks c h) 0 e;
   still = λ m e. columns_still (struct_writers n m v ks) (writers_grow fs n m v ks c h) 0 e;
+  steady = λ m d e. columns_steady (struct_writers n m v ks) (writers_grow fs n m v ks c h) 0 d e;
 }
 
 pub not_struct_grows : (t : Ty) → Grows t (not_struct_node t)
@@ -463,6 +470,7 @@ not_struct_grows t = record {
   grows = λ m xs ys ended e. within_itself (not_struct_node t m xs false e);
   quiet = λ m e. refl;
   still = λ m e. refl;
+  steady = λ m d e. refl;
 }
 
 list_writers_grow : (t : Ty) (n m : Bool) (es os v : Node) → Grows t es → Grows offset_type os → Grows (boolean false) v → AllGrow (list_writers n m es os v)
@@ -479,6 +487,7 @@ list_grows t n es os v p q r = record {
   grows = go;
   quiet = λ m e. columns_quiet (list_writers n m es os v) (list_writers_grow t n m es os v p q r) 0 e;
   still = λ m e. columns_still (list_writers n m es os v) (list_writers_grow t n m es os v p q r) 0 e;
+  steady = λ m d e. columns_steady (list_writers n m es os v) (list_writers_grow t n m es os v p q r) 0 d e;
 }
   where
     columns : (m : Bool) (xs ys : List Item) (ended : Bool) (e : Eof) → Within (list_columns_plan t n es os v m xs false e) (list_columns_plan t n es os v m (xs ++ ys) ended e)

@@ -184,7 +184,7 @@ numbers_before o t x xs ys ended e h =
     (λ f. ((let a : e.last + 2 * length (runs o t (x ∷ xs ++ ys) ended) < 2 ^ 64 = f.0 in omega arith), fit_left (made_counts o t [] (x ∷ xs) false) b.0 (subst Fit b.1 f.1))) h
 
 pub dict_grows : (s : Setting) (o : DictOptions) (t : Ty) (ck vk f : Node) → Grows (code_type o) ck → Grows t vk → Grows t f → Grows t (dict_node s o t ck vk f)
-dict_grows s o t ck vk f c v gf = record { grows = go; quiet = λ m e. refl; still = λ m e. refl }
+dict_grows s o t ck vk f c v gf = record { grows = go; quiet = λ m e. refl; still = λ m e. refl; steady = λ m d e. refl }
   where
     by_runs : (m : Bool) (x : Item) (xs ys : List Item) (ended : Bool) (e : Eof) → Within (runs_node o t ck vk m (x ∷ xs) false e) (runs_node o t ck vk m (x ∷ xs ++ ys) ended e)
     by_runs m x xs ys ended e =

@@ -35,6 +35,7 @@ pub record Grows (t : Ty) (k : Node) : Type 0 where
   pub grows : (m : Bool) (xs ys : List Item) (ended : Bool) (e : Eof) → Within (k m xs false e) (k m (xs ++ ys) ended e)
   pub quiet : (m : Bool) (e : Eof) → (k m [] false e).pairs ≡ []
   pub still : (m : Bool) (e : Eof) → (k m [] false e).reserved ≡ 0
+  pub steady : (m : Bool) (d e : Eof) → (k m [] false d).faults ≡ (k m [] false e).faults
 
 -- the layout has the node's type
 pub record Typed (t : Ty) (k : Node) : Type 0 where
@@ -105,7 +106,7 @@ flat_placed s o t = record { placed = go }
 -- ---- prefixes
 
 pub flat_grows : (s : Setting) (o : FlatOptions) (t : Ty) → Grows t (flat_node s o t)
-flat_grows s o t = record { grows = go; quiet = λ m e. refl; still = λ m e. refl }
+flat_grows s o t = record { grows = go; quiet = λ m e. refl; still = λ m e. refl; steady = λ m d e. refl }
   where
     none : 0 ≤ 0
     none = omega arith

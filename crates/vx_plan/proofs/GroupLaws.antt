@@ -147,6 +147,7 @@ grouped_grows g t k c = record {
       (subst (λ z. Within (k m (grouped_stream g t xs false) false e) (k m z ended e)) (sym b.1) (c.grows m (grouped_stream g t xs false) b.0 ended e));
   quiet = λ m e. ap (λ z. (k m z false e).pairs) (no_stream g t) ∙ c.quiet m e;
   still = λ m e. ap₂ (λ n z. n + (k m z false e).reserved) (none_reserved g) (no_stream g t) ∙ nothing (k m [] false e).reserved (c.still m e);
+  steady = λ m d e. ap (λ z. (k m z false d).faults) (no_stream g t) ∙ c.steady m d e ∙ sym (ap (λ z. (k m z false e).faults) (no_stream g t));
 }
 
 pub grouped_typed : (g : Grouping) (t : Ty) (k : Node) → Typed t k → Typed t (grouped_node g t k)
@@ -190,6 +191,7 @@ compressed_grows s which room t k c = record {
       (c.grows m (images s which xs) (images s which ys) ended e);
   quiet = λ m e. c.quiet m e;
   still = λ m e. c.still m e;
+  steady = λ m d e. c.steady m d e;
 }
 
 pub compressed_typed : (s : Setting) (which room : ℕ) (t : Ty) (k : Node) → Typed t k → Typed t (compressed_node s which room t k)

@@ -304,7 +304,7 @@ faults_within : (fs gs : List Fault) (p q : Plan) → ((f : Fault) → In f fs �
 faults_within fs gs p q f h = within h.pairs (in_joined fs p.faults gs q.faults f h.faults) (λ e g. h.fit (nil_right gs q.faults e) g) h.reserved
 
 pub zoned_grows : (s : Setting) (o : ZonedOptions) (t : Ty) (k : Node) (stats : Ty → Node) → Grows t k → Grows t (zoned_node s o t k stats)
-zoned_grows s o t k stats c = record { grows = go; quiet = silent; still = nothing }
+zoned_grows s o t k stats c = record { grows = go; quiet = silent; still = nothing; steady = same }
   where
     go : (m : Bool) (xs ys : List Item) (ended : Bool) (e : Eof) → Within (zoned_node s o t k stats m xs false e) (zoned_node s o t k stats m (xs ++ ys) ended e)
     go true xs ys ended e = c.grows true xs ys ended e
@@ -322,6 +322,10 @@ zoned_grows s o t k stats c = record { grows = go; quiet = silent; still = nothi
     nothing : (m : Bool) (e : Eof) → (zoned_node s o t k stats m [] false e).reserved ≡ 0
     nothing true e = c.still true e
     nothing false e = let z : (k false [] false (inside e)).reserved ≡ 0 = c.still false (inside e) in omega arith
+
+    same : (m : Bool) (d e : Eof) → (zoned_node s o t k stats m [] false d).faults ≡ (zoned_node s o t k stats m [] false e).faults
+    same true d e = c.steady true d e
+    same false d e = ap (λ fs. (forbidden_faults s.allowed (recorded o t) ++ zone_faults o.zone_len (recorded o t) []) ++ fs) (c.steady false (inside d) (inside e))
 
 -- ---- type
 
