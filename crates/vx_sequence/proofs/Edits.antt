@@ -1,5 +1,6 @@
 -- What the edits of the entries do to the active paths.
-use Rattle.std.proofs.Common.{◌≡◌, ℕ, ◌<◌, Bool, List, [], ◌∷◌, ◌++◌, length, get_or, set, take, drop, suc, None, is_some, IsSome, sym, ap, subst, ◌∙◌, arith}
+use Rattle.std.proofs.Common.{◌≡◌, ℕ, ◌<◌, Bool, List, [], ◌∷◌, ◌++◌, length, get_or, set, take, drop, suc, None, is_some, IsSome, sym, ap, subst, ◌∙◌, arith, Some, cond}
+use Rattle.vx_sequence.proofs.Sets.{same_refl}
 use Rattle.std.proofs.Math.Seq.{split_at}
 use Rattle.std.proofs.lemmas.List.{map-append, take-set, drop-set-lt, append-nil, length-set, get_or-set_same}
 use Rattle.std.specs.List.{remove}
@@ -8,7 +9,7 @@ use Rattle.std.specs.FinMap.{find, from_entries}
 use Rattle.vx_sequence.specs.declared.active.Entry.{Entry}
 use Rattle.vx_sequence.specs.Universe.{path_cmp, Active, IsActive}
 use Rattle.vx_sequence.specs.Entries.{pair_of, pairs, active_of, AreDistinct}
-use Rattle.vx_sequence.proofs.Kept.{get_of, distinct_with, distinct_without, active_with, active_without}
+use Rattle.vx_sequence.proofs.Kept.{get_of, find_middle, none_left, distinct_with, distinct_without, active_with, active_without}
 
 abbrev front_of : List Entry → ℕ → List (List ℕ × Bool)
 front_of es i = pairs (take i es)
@@ -37,6 +38,14 @@ module _ (es : List Entry) (i : ℕ) (d : Entry) (p : List ℕ) (lt : i < length
   left_over : from_entries {R = path_cmp} (front_of es i ++ back_of es i) ≡ fin.remove (active_of es) p
   left_over = active_without (front_of es i) (back_of es i) (pair_of (get_or es i d)) parted
       ∙ (λ j. fin.remove (from_entries (sym (pairs_at es i d lt) j)) (at j))
+
+  pub mark-at : find path_cmp p (pairs es) ≡ Some (get_or es i d).open
+  mark-at =
+      let n = (distinct_without (front_of es i) (back_of es i) (pair_of (get_or es i d)) parted).0 in
+      let q = (get_or es i d).path in
+      ap (λ x. find path_cmp x (pairs es)) (sym at) ∙ ap (find path_cmp q) (pairs_at es i d lt)
+      ∙ find_middle (front_of es i) (back_of es i) (pair_of (get_or es i d)) q (none_left (front_of es i) (back_of es i) q n)
+      ∙ ap (λ b. cond b (Some (get_or es i d).open) (find path_cmp q (front_of es i ++ back_of es i))) (same_refl q)
 
   pub active-remove : active_of (remove es i) ≡ fin.remove (active_of es) p
   active-remove = ap (λ l. from_entries l) (pairs-remove es i) ∙ left_over

@@ -37,7 +37,7 @@ find_middle (d ∷ front) back e q n =
     ∙ swap_tests (same q d.0) (same q e.0) (Some d.1) (Some e.1) (find path_cmp q (front ++ back))
     (λ a b. true≢false (sym (same_refl e.0) ∙ ap (λ r. same e.0 r) (sym (same_true q e.0 b) ∙ same_true q d.0 a) ∙ parts.0))
 
-none_left : (front back : List Pair) (q : List ℕ) → find path_cmp q (front ++ back) ≡ None → find path_cmp q front ≡ None
+pub none_left : (front back : List Pair) (q : List ℕ) → find path_cmp q (front ++ back) ≡ None → find path_cmp q front ≡ None
 none_left [] back q n = refl
 none_left (d ∷ front) back q n =
     let parts : (same q d.0 ≡ false) × (find path_cmp q (front ++ back) ≡ None) = none_parts (same q d.0) d.1 (find path_cmp q (front ++ back)) n in

@@ -1,6 +1,7 @@
 pub mod Edits
 pub mod Kept
 pub mod Laws
+pub mod Part
 pub mod Places
 pub mod Refusals
 pub mod Rules

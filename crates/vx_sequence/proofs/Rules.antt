@@ -6,6 +6,7 @@ use Rattle.vx_path.specs.Path.{begins, under, Eof, raised, eof_path, next}
 use Rattle.vx_path.proofs.Path.{begins-refl, begins-trans, begins-under}
 use Rattle.vx_sequence.specs.Universe.{Active, IsActive, IsOpen, IsUniverse, only, advanced, descended}
 use Rattle.vx_sequence.proofs.Places.{not_true, same_parts, same_place, begins_under, siblings_apart}
+use Rattle.vx_sequence.proofs.Uses.{descended_is}
 use Rattle.vx_sequence.proofs.Sets.{is_open_active, none_active, not_empty, active_insert, open_insert, active_remove, open_remove}
 
 clash : (b : Bool) → b ≡ true → b ≡ false → ⊥
@@ -107,10 +108,7 @@ module _ (u : Active) (p : List ℕ) (r : IsUniverse u) (a : IsActive u p) where
       let c : (under p 0 ≢ p) × IsActive u (under p 0) = active_remove u p (under p 0) b in
       c.0 (below_child (under p 0) c.1 (begins-refl (under p 0))))
 
-  -- what is active and what is open after `descend`
-  stays_active : (q : List ℕ) → IsActive (descended u p) q → (q ≡ under p 0) ⊎ ((q ≢ p) × IsActive u q)
-  stays_active q b = ⊎_elim (λ s. inl s) (λ c. inr (active_remove u p q c)) (active_insert (map.remove u p) (under p 0) true q b)
-
+  -- what is open after `descend`
   stays_open : (q : List ℕ) → IsOpen (descended u p) q → (q ≡ under p 0) ⊎ ((q ≢ p) × IsOpen u q)
   stays_open q b = ⊎_elim (λ s. inl s.0) (λ c. inr (open_remove u p q c.1)) (open_insert (map.remove u p) (under p 0) true q b)
 
@@ -123,7 +121,7 @@ module _ (u : Active) (p : List ℕ) (r : IsUniverse u) (a : IsActive u p) where
       (λ t. clash (begins (under p (j + 1)) (under p 0)) (subst (λ x. begins (under p (j + 1)) x ≡ true) t g)
       (siblings_apart p 0 (j + 1) (omega arith)).1)
       (λ c. c.0 (sym (r.prefix_free p q a c.1 (begins-trans p (under p (j + 1)) q (begins-under p (j + 1)) g))))
-      (stays_active q b)
+      (descended_is u p q b)
 
   child_not_behind : (f : Eof) (j : ℕ) → IsOpen u (eof_path f) → begins (raised f (j + 1)) (under p 0) ≡ true → ⊥
   child_not_behind f j b h = ⊎_elim
@@ -135,16 +133,16 @@ module _ (u : Active) (p : List ℕ) (r : IsUniverse u) (a : IsActive u p) where
   pub descended_rules : IsUniverse (descended u p)
   descended_rules = record {
     prefix_free = λ x y b c h. ⊎_elim
-        (λ s. ⊎_elim (λ t. s ∙ sym t) (λ d. absurd (d.0 (below_child y d.1 (subst (λ z. begins z y ≡ true) s h)))) (stays_active y c))
+        (λ s. ⊎_elim (λ t. s ∙ sym t) (λ d. absurd (d.0 (below_child y d.1 (subst (λ z. begins z y ≡ true) s h)))) (descended_is u p y c))
         (λ d. ⊎_elim (λ t. absurd (above_child x d.0 d.1 (subst (λ z. begins x z ≡ true) t h)))
-        (λ k. r.prefix_free x y d.1 k.1 h) (stays_active y c))
-        (stays_active x b);
+        (λ k. r.prefix_free x y d.1 k.1 h) (descended_is u p y c))
+        (descended_is u p x b);
     nothing_behind = λ f j q b c. not_true (begins (raised f (j + 1)) q) (λ h. ⊎_elim
         (λ s. behind_child f j q s c h)
         (λ d. ⊎_elim
         (λ t. child_not_behind f j d.1 (subst (λ z. begins (raised f (j + 1)) z ≡ true) t h))
         (λ k. clash (begins (raised f (j + 1)) q) h (r.nothing_behind f j q d.1 k.1))
-        (stays_active q c))
+        (descended_is u p q c))
         (stays_open (eof_path f) b));
   }
 

@@ -1,9 +1,12 @@
 //! The universe: which paths are active.
-ghost use Rattle.std.specs.Prelude.{◌≡◌, ◌≢◌, ℕ, ◌<◌, List, [], ◌++◌, map, length, slice_index_or, IsTrue, IsSome, MatchOption, IfOk, IfErr, OnOk, OnErr, IsErrOf};
+ghost use Rattle.std.specs.Prelude.{◌≡◌, ◌≢◌, ℕ, ◌<◌, false, List, [], ◌∷◌, ◌++◌, map, length, slice_index_or, unwrap_or, IsTrue, IsSome, MatchOption, IfOk, IfErr, OnOk, OnErr, IsErrOf};
 ghost use Rattle.std.specs.FinMap as map;
 ghost use Rattle.vx_path.specs.Path.{under, eof_path, next};
+ghost use Rattle.vx_sequence.specs.Part.{CanPart, left_of, parted};
 
 use crate::errors::SequenceError;
+use crate::ids::SequenceId;
+use crate::pointers::SequencePointer;
 use crate::siblings::sibling;
 use std::alloc::AllocError;
 use std::marker::Model;
@@ -140,6 +143,59 @@ impl Universe {
             open: true,
         };
         Ok((child, next))
+    }
+
+    /// A universe of these paths alone, with their marks. They leave this one, and the ids and the pointer are
+    /// the new one's from then on.
+    pub fn part(
+        &mut self,
+        ids: &[SequenceId],
+        eof: &SequencePointer,
+    ) -> Result<Universe, SequenceError>
+        requires { CanPart self.old (ids.now ++ eof_path eof.now ∷ []) }
+        ensures ok { IfOk result (λ v. v ≡ parted self.old map.empty (ids.now ++ eof_path eof.now ∷ [])) }
+        ensures left { OnOk result (self.new ≡ left_of self.old (ids.now ++ eof_path eof.now ∷ [])) }
+        ensures memory { IfErr result (λ e. e ≡ SequenceError.OutOfMemory) }
+        ensures err { OnErr result (self.new ≡ self.old) }
+        ensures rules { IsUniverse self.old }
+    {
+        let part = self.copied(ids, eof.path())?;
+        for id in ids {
+            self.release(id.path());
+        }
+        self.release(eof.path());
+        Ok(part)
+    }
+
+    /// A copy of these paths alone, with their marks.
+    fn copied(&self, ids: &[SequenceId], eof: &[u64]) -> Result<Universe, SequenceError>
+        requires { CanPart self.now (ids.now ++ eof.now ∷ []) }
+        ensures ok { IfOk result (λ v. v ≡ parted self.now map.empty (ids.now ++ eof.now ∷ [])) }
+        ensures memory { IfErr result (λ e. e ≡ SequenceError.OutOfMemory) }
+        ensures rules { IsUniverse self.now }
+    {
+        let mut entries = Vec::new(*self.entries.allocator());
+        for id in ids {
+            let entry = self.entry_of(id.path())?;
+            entries.push(entry)?;
+        }
+        let entry = self.entry_of(eof)?;
+        entries.push(entry)?;
+        Ok(Universe { entries })
+    }
+
+    /// A copy of an active path's entry.
+    fn entry_of(&self, path: &[u64]) -> Result<Entry, SequenceError>
+        requires { IsActive self.now path.now }
+        ensures ok { IfOk result (λ e. (e.path ≡ path.now) × (e.open ≡ unwrap_or (map.get self.now path.now) false)) }
+        ensures memory { IfErr result (λ e. e ≡ SequenceError.OutOfMemory) }
+    {
+        let at = index_of(&self.entries, path);
+        let copy = self.copy_of(path)?;
+        Ok(Entry {
+            path: copy,
+            open: self.entries[at].open,
+        })
     }
 
     /// Gives an active path up.
