@@ -3,11 +3,12 @@
 ghost use Rattle.std.specs.Prelude.{None, length};
 ghost use Rattle.vx_model.specs.TyView.{ty};
 ghost use Rattle.vx_fault.specs.Counts.{Counts};
-ghost use Rattle.vx_sink.specs.Compressor.{same_rows};
+ghost use Rattle.vx_layout_spec.specs.Real.{same_rows};
 
 use crate::fixtures::{chunk, context, dtype, strategy};
 use std::alloc::Global;
 use std::test::Fail;
+use vx_fault::Fallible;
 use vx_sink::{
     BatchSource, CompressError, CompressorPlugin, LayoutWriterContext, SegmentSink, SinkError,
     SourceError,
@@ -56,16 +57,18 @@ struct Stack {
     fault: Fault,
 }
 
+impl Fallible for Stack {
+    ghost faults = { λ s. s.fault.count };
+
+    ghost may_fail = { λ _ _. Unit {0} };
+}
+
 impl BatchSource for Stack {
     ghost kind = { λ s. ty s.dtype };
 
     ghost left = { λ s. length s.batches.items };
 
     ghost to_come = { λ _. None };
-
-    ghost faults = { λ s. s.fault.count };
-
-    ghost may_fail = { λ _ _. Unit {0} };
 
     fn dtype(&self) -> &DType {
         &self.dtype
@@ -86,14 +89,16 @@ struct Counter {
     fault: Fault,
 }
 
+impl Fallible for Counter {
+    ghost faults = { λ s. s.fault.count };
+
+    ghost may_fail = { λ _ _. Unit {0} };
+}
+
 impl SegmentSink for Counter {
     ghost next = { λ s. s.next };
 
     ghost segments = { λ _. None };
-
-    ghost faults = { λ s. s.fault.count };
-
-    ghost may_fail = { λ _ _. Unit {0} };
 
     fn next_id(&self) -> u64 {
         self.next
@@ -115,16 +120,18 @@ struct Broken {
     faults: u64,
 }
 
+impl Fallible for Broken {
+    ghost faults = { λ c. c.faults };
+
+    ghost may_fail = { λ _ _. Unit {0} };
+}
+
 impl CompressorPlugin for Broken {
     ghost kind = { λ _. 0 };
 
     ghost image = { λ _ _ p. p };
 
-    ghost faults = { λ c. c.faults };
-
-    ghost may_fail = { λ _ _. Unit {0} };
-
-    ghost keeps = { λ _ _ p sound. same_rows p sound };
+    ghost keeps = { λ _ _ p whole. same_rows p whole };
 
     fn compress_chunk(&mut self, _which: u32, _chunk: &Chunk) -> Result<Chunk, CompressError> {
         self.faults = self.faults.saturating_add(1);

@@ -2,8 +2,13 @@
 
 use crate::fixtures::{chunk, context, dtype};
 use std::convert::TryFrom;
+use std::panic::Expect;
 use std::test::Fail;
-use vx_sink::{CompressError, CompressorPlugin, LayoutWriterContext, PlainCompressor};
+use vx_model::Text;
+use vx_sink::{
+    BufferedBytesTracker, CompressError, CompressorPlugin, LayoutWriterContext, PlainCompressor,
+    TooLarge,
+};
 use vx_types::{Chunk, SegmentId};
 
 /// The rows of the image, or why there is none.
@@ -31,5 +36,50 @@ fn contexts_and_numbers(rt: HostRuntime) -> Result<(), Fail> {
     assert_eq!(rt; shown.as_str(), "SegmentId(7)");
     assert!(rt; SegmentId::try_from(4_294_967_295usize).is_ok());
     assert!(rt; SegmentId::try_from(4_294_967_296usize).is_err());
+    Ok(())
+}
+
+#[test]
+fn counted_bytes(rt: HostRuntime) {
+    let mut tracker = BufferedBytesTracker::new();
+    let first = tracker.reserve(16).expect(&rt, "a total that fits");
+    let second = tracker.reserve(32).expect(&rt, "a total that fits");
+    assert_eq!(rt; first.bytes(), 16);
+    assert_eq!(rt; tracker.buffered_bytes(), 48);
+    first.release(&mut tracker);
+    assert_eq!(rt; tracker.buffered_bytes(), 32);
+    second.release(&mut tracker);
+    assert_eq!(rt; tracker.buffered_bytes(), 0);
+}
+
+#[test]
+fn contexts_count_bytes(rt: HostRuntime) -> Result<(), Fail> {
+    let tracker = BufferedBytesTracker::new();
+    let ctx = LayoutWriterContext::new(context(rt.alloc())?);
+    let mut ctx = ctx.with_buffered_bytes_tracker(tracker);
+    let one = ctx
+        .reserve_buffered_bytes(1)
+        .expect(&rt, "a total that fits");
+    match ctx.reserve_buffered_bytes(u64::MAX) {
+        Err(TooLarge(total)) => assert_eq!(rt; total, 1 << 64),
+        Ok(_) => panic!(rt; "a total past u64"),
+    }
+    assert_eq!(rt; ctx.buffered_bytes(), 1);
+    ctx.release_buffered_bytes(one);
+    assert_eq!(rt; ctx.buffered_bytes_tracker().buffered_bytes(), 0);
+    Ok(())
+}
+
+#[test]
+fn contexts_allow_aggregates(rt: HostRuntime) -> Result<(), Fail> {
+    let alloc = rt.alloc();
+    let ctx = LayoutWriterContext::new(context(alloc)?);
+    assert!(rt; ctx.allows_aggregate("vortex.max") && !ctx.has_nullable_ancestor());
+    let allowed = vec![in alloc; Text::from_str(alloc, "vortex.min")?]?;
+    let ctx = ctx
+        .with_allowed_aggregates(allowed)
+        .with_nullable_ancestor();
+    assert!(rt; ctx.allows_aggregate("vortex.min") && !ctx.allows_aggregate("vortex.max"));
+    assert!(rt; ctx.has_nullable_ancestor());
     Ok(())
 }

@@ -31,15 +31,6 @@ fn batches(alloc: Global, dtype: &DType) -> Result<Vec<Chunk>, Fail> {
     Ok(vec![in alloc; first, chunk(alloc, dtype, "[3]")?]?)
 }
 
-/// The segments that were appended.
-fn kept(alloc: Global, sink: &MemorySink) -> Result<SegmentMap, Fail> {
-    let mut list = Vec::new(alloc);
-    for segment in sink.segments() {
-        list.push(segment.clone()?)?;
-    }
-    Ok(SegmentMap { first: 0, list })
-}
-
 /// Writes the batches to the sink.
 fn layout_of(
     alloc: Global,
@@ -70,7 +61,8 @@ fn three_rows(alloc: Global) -> Result<Written, Fail> {
     let batches = batches(alloc, &dtype)?;
     let mut sink = MemorySink::new(0, Vec::new(alloc));
     let layout = layout_of(alloc, dtype, batches, &mut sink)?;
-    let segments = kept(alloc, &sink)?;
+    let list = sink.into_segments();
+    let segments = SegmentMap { first: 0, list };
     Ok(Written { layout, segments })
 }
 

@@ -6,7 +6,7 @@ use std::alloc::Global;
 use vx::layout::{Layout, SegmentMap, read_rows};
 use vx::sink::{LayoutWriterContext, ListSource, MemorySink, PlainCompressor};
 use vx::strategy::{ChunkedLayoutStrategy, FlatLayoutStrategy};
-use vx::types::{ArrayContext, Blob, Cell, Chunk, DType, EncodingId, Nullability, PType, fits};
+use vx::types::{ArrayContext, Cell, Chunk, DType, EncodingId, Nullability, PType, fits};
 use vx::write::write_stream;
 
 fn integers() -> DType {
@@ -38,20 +38,12 @@ fn write(alloc: Global, source: &mut ListSource, sink: &mut MemorySink) -> Resul
     }
 }
 
-fn copies(alloc: Global, segments: &[Blob]) -> Result<Vec<Blob>> {
-    let mut list = Vec::with_capacity(alloc, segments.len())?;
-    for segment in segments {
-        list.push(segment.clone()?)?;
-    }
-    Ok(list)
-}
-
 fn main(rt: HostRuntime) -> Result<()> {
     let alloc = rt.alloc();
     let mut source = ListSource::new(integers(), batches(alloc)?, Vec::new(alloc));
     let mut sink = MemorySink::new(0, Vec::new(alloc));
     let layout = write(alloc, &mut source, &mut sink)?;
-    let list = copies(alloc, sink.segments())?;
+    let list = sink.into_segments();
     for row in read_rows(alloc, &layout, &SegmentMap { first: 0, list })? {
         println!(rt; "{row:?}")?;
     }

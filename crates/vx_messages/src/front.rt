@@ -2,6 +2,7 @@
 
 ghost use Rattle.std.specs.Prelude.{◌≡◌, ◌≤◌, ◌++◌, [], take};
 
+use vx_fault::Fallible;
 use vx_run::{Output, OutputFailure};
 
 const LEN: usize = 64;
@@ -48,14 +49,16 @@ impl<O: Output> Front<O> {
     }
 }
 
-impl<O: Output> Output for Front<O> {
-    ghost written = { λ s. O.written s.inner };
-
+impl<O: Output> Fallible for Front<O> {
     ghost faults = { λ s. O.faults s.inner };
 
     ghost may_fail = { λ s k. O.may_fail s.inner k };
 
     ghost must_fail = { λ s k. O.must_fail s.inner k };
+}
+
+impl<O: Output> Output for Front<O> {
+    ghost written = { λ s. O.written s.inner };
 
     ghost most = { λ s. O.most s.inner };
 

@@ -1,11 +1,12 @@
 //! What the command `write` answers to a job.
 
-ghost use Rattle.std.specs.Prelude.{◌≡◌, ℕ, ◌+◌, ◌<◌, ◌^◌, ◌≤◌, max, false, List, [], string_bytes, map, length, Some, IsSome, IfOk, IfErr, option_map};
+ghost use Rattle.std.specs.Prelude.{◌≡◌, ◌+◌, ◌^◌, ◌≤◌, max, false, [], string_bytes, map, length, Some, IsSome, IfOk, IfErr, option_map};
 ghost use Rattle.vx_model.specs.TreeView.{val};
 ghost use Rattle.vx_layout_spec.specs.Rows.{rows};
 ghost use Rattle.vx_segment_reader.specs.Codec.{segment_codec};
 ghost use Rattle.vx_layout_tree.specs.LayoutView.{layout_data};
 ghost use Rattle.vx_plan.specs.Number.{segment_at};
+ghost use Rattle.vx_segment_map.specs.SegmentView.{segment_in};
 ghost use Rattle.vx_job.specs.JobText.{job};
 ghost use Rattle.vx_job.specs.JobView.{job_view};
 ghost use Rattle.vx_report.specs.Report.{report, refused_report};
@@ -20,7 +21,7 @@ use vx_layout_tree::Layout;
 use vx_model::{Blob, Value};
 use vx_read::{ReadError, SegmentMap, read_rows};
 use vx_report::{refused_report, report};
-use vx_sink::{LayoutWriterContext, ListSource, MemorySink, PlainCompressor, SegmentSink};
+use vx_sink::{LayoutWriterContext, ListSource, MemorySink, PlainCompressor};
 use vx_write::{WriteError, write_stream};
 
 /// A status, and the text that is printed before it.
@@ -60,17 +61,15 @@ fn write_job(alloc: Global, job: Job) -> Result<Answer, AllocError>
 {
     let first = job.next;
     match write_batches(alloc, job) {
-        Ok((layout, sink)) => written(alloc, first, &layout, sink.segments()),
-        Err((error, sink)) => refusal(alloc, first, error, sink.segments()),
+        Ok((layout, segments)) => written(alloc, first, &layout, segments),
+        Err((error, segments)) => refusal(alloc, first, error, segments),
     }
 }
 
-/// Writes the job's batches into a sink of its own, and gives the sink too.
-fn write_batches(alloc: Global, job: Job) -> Result<(Layout, MemorySink), (WriteError, MemorySink)>
-    ensures ok { IfOk result (λ w. (stored : List (List ℕ)) → ⟦<MemorySink as SegmentSink>⟧.segments w.1 ≡ Some stored
-        → IsWritten (job_view job) (layout_data w.0) stored) }
-    ensures err { IfErr result (λ r. (stored : List (List ℕ)) → ⟦<MemorySink as SegmentSink>⟧.segments r.1 ≡ Some stored
-        → Halts (job_view job) r.0 stored) }
+/// Writes the job's batches, and gives the segments that were appended too.
+fn write_batches(alloc: Global, job: Job) -> Result<(Layout, Vec<Blob>), (WriteError, Vec<Blob>)>
+    ensures ok { IfOk result (λ w. IsWritten (job_view job) (layout_data w.0) w.1.items) }
+    ensures err { IfErr result (λ r. Halts (job_view job) r.0 r.1.items) }
 {
     vx_plan::chunks_stand_in_order();
     let mut ctx = LayoutWriterContext::new(job.encodings);
@@ -87,8 +86,8 @@ fn write_batches(alloc: Global, job: Job) -> Result<(Layout, MemorySink), (Write
         &job.schedule,
         &mut compressor,
     ) {
-        Ok(written) => Ok((written.layout, sink)),
-        Err(refused) => Err((refused.error, sink)),
+        Ok(written) => Ok((written.layout, sink.into_segments())),
+        Err(refused) => Err((refused.error, sink.into_segments())),
     }
 }
 
@@ -97,16 +96,16 @@ fn refusal(
     alloc: Global,
     first: u64,
     error: WriteError,
-    segments: &[Blob],
+    segments: Vec<Blob>,
 ) -> Result<Answer, AllocError>
-    requires { first + length segments.now ≤ max first (2 ^ 32) }
-    ensures { IfOk result (λ a. (is_memory error ≡ false) × IsText statuses.Refused (refused_report (refusal_name error) first segments.now) a.status (string_bytes a.text)) }
+    requires { first + length segments.items ≤ max first (2 ^ 32) }
+    ensures { IfOk result (λ a. (is_memory error ≡ false) × IsText statuses.Refused (refused_report (refusal_name error) first segments.items) a.status (string_bytes a.text)) }
 {
     let name = refusal_name(&error);
     if let WriteError::OutOfMemory = error {
         return Err(AllocError);
     }
-    let text = refused_report(alloc, name, first, segments)?;
+    let text = refused_report(alloc, name, first, &segments)?;
     Ok(Answer {
         status: Status::Refused,
         text,
@@ -140,41 +139,45 @@ fn written(
     alloc: Global,
     first: u64,
     layout: &Layout,
-    segments: &[Blob],
+    list: Vec<Blob>,
 ) -> Result<Answer, AllocError>
-    requires readable { IsSome (rows segment_codec (segment_at first segments.now) (layout_data layout.now)) }
-    requires numbered { first + length segments.now ≤ max first (2 ^ 32) }
+    requires readable { IsSome (rows segment_codec (segment_at first list.items) (layout_data layout.now)) }
+    requires numbered { first + length list.items ≤ max first (2 ^ 32) }
     requires no_tables { zone_tables (layout_data layout.now) ≡ [] }
     ensures { IfOk result (λ a. (a.status ≡ statuses.Done) × (Some (string_bytes a.text)
-        ≡ option_map (report first (layout_data layout.now) segments.now []) (rows segment_codec (segment_at first segments.now) (layout_data layout.now)))) }
+        ≡ option_map (report first (layout_data layout.now) list.items []) (rows segment_codec (segment_at first list.items) (layout_data layout.now)))) }
 {
-    let rows = read_back(alloc, first, layout, segments)?;
-    let text = report(alloc, first, layout, segments, &rows)?;
+    let segments = numbered(first, list);
+    let rows = read_back(alloc, layout, &segments)?;
+    let text = report(alloc, first, layout, &segments.list, &rows)?;
     Ok(Answer {
         status: Status::Done,
         text,
     })
 }
 
-/// The rows that a layout gives from segments that are numbered from the first.
-#[tactic(auto, using(crate::proofs::BackSteps::back_rules))]
-fn read_back(
-    alloc: Global,
-    first: u64,
-    layout: &Layout,
-    segments: &[Blob],
-) -> Result<Vec<Value>, AllocError>
-    requires readable { IsSome (rows segment_codec (segment_at first segments.now) (layout_data layout.now)) }
-    requires numbered { first + length segments.now ≤ max first (2 ^ 32) }
-    ensures { IfOk result (λ v. rows segment_codec (segment_at first segments.now) (layout_data layout.now) ≡ Some (map val v.items)) }
+/// The segments, numbered from the first.
+#[tactic(auto, using(crate::proofs::BackSteps::in_map))]
+fn numbered(first: u64, list: Vec<Blob>) -> SegmentMap
+    requires { first + length list.items ≤ max first (2 ^ 32) }
+    ensures list { result.list.items ≡ list.items }
+    ensures segments { segment_in result ≡ segment_at first list.items }
 {
-    let mut list = Vec::with_capacity(alloc, segments.len())?;
-    for segment in segments {
-        list.push(segment.clone()?)?;
-    }
     // Past the last number there is no segment.
     let first = u32::try_from(first).unwrap_or(u32::MAX);
-    match read_rows(alloc, layout, &SegmentMap { first, list }) {
+    SegmentMap { first, list }
+}
+
+/// The rows that a layout gives from the segments.
+fn read_back(
+    alloc: Global,
+    layout: &Layout,
+    segments: &SegmentMap,
+) -> Result<Vec<Value>, AllocError>
+    requires { IsSome (rows segment_codec (segment_in segments.now) (layout_data layout.now)) }
+    ensures { IfOk result (λ v. rows segment_codec (segment_in segments.now) (layout_data layout.now) ≡ Some (map val v.items)) }
+{
+    match read_rows(alloc, layout, segments) {
         Ok(rows) => Ok(rows),
         Err(ReadError::OutOfMemory) => Err(AllocError),
         Err(ReadError::NoSegment(_) | ReadError::BadSegment(_)) => unreachable!(),

@@ -1,11 +1,11 @@
 //! Inputs and outputs in memory.
 
-ghost use Rattle.std.specs.Prelude.{◌≡◌, ℕ, ◌+◌, ◌<◌, ◌≤◌, Some, [], drop, length, IsTrue};
+ghost use Rattle.std.specs.Prelude.{◌≡◌, ℕ, ◌<◌, ◌≤◌, Some, [], drop, length, IsTrue};
 ghost use Rattle.vx_fault.specs.Fails.{fails_at};
 
 use crate::input::{Input, InputFailure};
 use crate::output::{Output, OutputFailure};
-use vx_sink::Fails;
+use vx_fault::{Fails, Fallible};
 
 /// Bytes in memory, at most so many a call.
 #[derive(Debug, Drop)]
@@ -23,9 +23,9 @@ impl ByteInput {
     pub fn new(bytes: Vec<u8>, most: u64, fail: Vec<u64>) -> ByteInput
         requires { 0 < most }
         ensures to_come { ⟦<ByteInput as Input>⟧.to_come result ≡ Some bytes.items }
-        ensures faults { ⟦<ByteInput as Input>⟧.faults result ≡ 0 }
-        ensures may_fail { (k : ℕ) → ⟦<ByteInput as Input>⟧.may_fail result k → IsTrue (fails_at fail.items k) }
-        ensures must_fail { (k : ℕ) → IsTrue (fails_at fail.items k) → ⟦<ByteInput as Input>⟧.must_fail result k }
+        ensures faults { ⟦<ByteInput as Fallible>⟧.faults result ≡ 0 }
+        ensures may_fail { (k : ℕ) → ⟦<ByteInput as Fallible>⟧.may_fail result k → IsTrue (fails_at fail.items k) }
+        ensures must_fail { (k : ℕ) → IsTrue (fails_at fail.items k) → ⟦<ByteInput as Fallible>⟧.must_fail result k }
         ensures most { ⟦<ByteInput as Input>⟧.most result ≡ most }
     {
         ByteInput {
@@ -37,14 +37,16 @@ impl ByteInput {
     }
 }
 
+impl Fallible for ByteInput {
+    ghost faults = { λ s. ⟦<Fails as Fallible>⟧.faults s.fails };
+
+    ghost may_fail = { λ s. ⟦<Fails as Fallible>⟧.may_fail s.fails };
+
+    ghost must_fail = { λ s. ⟦<Fails as Fallible>⟧.must_fail s.fails };
+}
+
 impl Input for ByteInput {
     ghost to_come = { λ s. Some (drop s.at s.bytes.items) };
-
-    ghost faults = { λ s. s.fails.count };
-
-    ghost may_fail = { λ s k. IsTrue (fails_at s.fails.list.items (s.fails.calls + k)) };
-
-    ghost must_fail = { λ s k. IsTrue (fails_at s.fails.list.items (s.fails.calls + k)) };
 
     ghost most = { λ s. s.most };
 
@@ -77,9 +79,9 @@ impl ByteOutput {
     pub fn new(most: u64, fail: Vec<u64>) -> ByteOutput
         requires { 0 < most }
         ensures written { ⟦<ByteOutput as Output>⟧.written result ≡ Some [] }
-        ensures faults { ⟦<ByteOutput as Output>⟧.faults result ≡ 0 }
-        ensures may_fail { (k : ℕ) → ⟦<ByteOutput as Output>⟧.may_fail result k → IsTrue (fails_at fail.items k) }
-        ensures must_fail { (k : ℕ) → IsTrue (fails_at fail.items k) → ⟦<ByteOutput as Output>⟧.must_fail result k }
+        ensures faults { ⟦<ByteOutput as Fallible>⟧.faults result ≡ 0 }
+        ensures may_fail { (k : ℕ) → ⟦<ByteOutput as Fallible>⟧.may_fail result k → IsTrue (fails_at fail.items k) }
+        ensures must_fail { (k : ℕ) → IsTrue (fails_at fail.items k) → ⟦<ByteOutput as Fallible>⟧.must_fail result k }
         ensures most { ⟦<ByteOutput as Output>⟧.most result ≡ most }
     {
         let written = Vec::new(*fail.allocator());
@@ -98,14 +100,16 @@ impl ByteOutput {
     }
 }
 
+impl Fallible for ByteOutput {
+    ghost faults = { λ s. ⟦<Fails as Fallible>⟧.faults s.fails };
+
+    ghost may_fail = { λ s. ⟦<Fails as Fallible>⟧.may_fail s.fails };
+
+    ghost must_fail = { λ s. ⟦<Fails as Fallible>⟧.must_fail s.fails };
+}
+
 impl Output for ByteOutput {
     ghost written = { λ s. Some s.written.items };
-
-    ghost faults = { λ s. s.fails.count };
-
-    ghost may_fail = { λ s k. IsTrue (fails_at s.fails.list.items (s.fails.calls + k)) };
-
-    ghost must_fail = { λ s k. IsTrue (fails_at s.fails.list.items (s.fails.calls + k)) };
 
     ghost most = { λ s. s.most };
 

@@ -1,10 +1,11 @@
-ghost use Rattle.std.specs.Prelude.{◌≡◌, ℕ, ◌+◌, ◌<◌, ◌≤◌, ◌^◌, List, Option, length, IsTrue, IfOk};
+ghost use Rattle.std.specs.Prelude.{◌≡◌, ℕ, ◌<◌, ◌≤◌, ◌^◌, List, Option, length, IfOk};
 ghost use Rattle.std.specs.Io.{WritesAtMost};
 ghost use Rattle.std.specs.Io.KnownBytes.{WriteAppends};
-ghost use Rattle.vx_fault.specs.Counts.{Counts};
+ghost use Rattle.vx_fault.specs.Faults.{Called};
 ghost use Rattle.vx_run.specs.Failures.{output_failed};
 
 use thiserror::Error;
+use vx_fault::Fallible;
 
 /// Why no bytes were written.
 #[derive(Debug, Drop, Error)]
@@ -17,18 +18,9 @@ pub enum OutputFailure {
 }
 
 /// Takes bytes in order.
-pub trait Output {
+pub trait Output: Fallible {
     /// The bytes written so far, where the output tells them.
     ghost written: { Self → Option (List ℕ) };
-
-    /// How often the output failed.
-    ghost faults: { Self → ℕ };
-
-    /// Whether the call after so many others may fail.
-    ghost may_fail: { Self → ℕ → Type 0 };
-
-    /// Whether the call after so many others must fail.
-    ghost must_fail: { Self → ℕ → Type 0 } = { λ _ _. ⊥ };
 
     /// The most bytes that a call takes, which no call changes.
     ghost most: { Self → ℕ } = { λ _. 2 ^ 64 };
@@ -40,9 +32,6 @@ pub trait Output {
         ensures bytes { WriteAppends (written self.old) (written self.new) result bytes.now }
         ensures few { IfOk result (λ n. n ≤ most self.old) }
         ensures most { most self.new ≡ most self.old }
-        ensures cause { Counts (faults self.old) (faults self.new) (output_failed result) }
-        ensures fails { IsTrue (output_failed result) → may_fail self.old 0 }
-        ensures later { (k : ℕ) → may_fail self.new k → may_fail self.old (k + 1) }
-        ensures must { must_fail self.old 0 → IsTrue (output_failed result) }
-        ensures must_later { (k : ℕ) → must_fail self.old (k + 1) → must_fail self.new k };
+        ensures told { Called (Self.faults self.old) (Self.faults self.new) (Self.may_fail self.old) (Self.may_fail self.new)
+            (Self.must_fail self.old) (Self.must_fail self.new) (output_failed result) };
 }

@@ -5,6 +5,7 @@ ghost use Rattle.std.specs.Prelude.{◌≡◌};
 use crate::input::{Input, InputFailure};
 use crate::output::{Output, OutputFailure};
 use std::io::{Read, Write};
+use vx_fault::Fallible;
 
 /// A reader as an input; it tells what the reader tells.
 #[derive(Drop)]
@@ -17,18 +18,20 @@ impl<R: Read> RealInput<R> {
     /// Nothing is read before the first call.
     pub fn new(inner: R) -> RealInput<R>
         ensures to_come { ⟦<RealInput<R> as Input>⟧.to_come result ≡ R.remaining inner }
-        ensures faults { ⟦<RealInput<R> as Input>⟧.faults result ≡ 0 }
+        ensures faults { ⟦<RealInput<R> as Fallible>⟧.faults result ≡ 0 }
     {
         RealInput { inner, faults: 0 }
     }
 }
 
-impl<R: Read> Input for RealInput<R> {
-    ghost to_come = { λ s. R.remaining s.inner };
-
+impl<R: Read> Fallible for RealInput<R> {
     ghost faults = { λ s. s.faults };
 
     ghost may_fail = { λ _ _. Unit {0} };
+}
+
+impl<R: Read> Input for RealInput<R> {
+    ghost to_come = { λ s. R.remaining s.inner };
 
     fn read(&mut self, buf: &mut [u8]) -> Result<u64, InputFailure> {
         match self.inner.read(buf) {
@@ -52,18 +55,20 @@ impl<W: Write> RealOutput<W> {
     /// Nothing is written before the first call.
     pub fn new(inner: W) -> RealOutput<W>
         ensures written { ⟦<RealOutput<W> as Output>⟧.written result ≡ W.contents inner }
-        ensures faults { ⟦<RealOutput<W> as Output>⟧.faults result ≡ 0 }
+        ensures faults { ⟦<RealOutput<W> as Fallible>⟧.faults result ≡ 0 }
     {
         RealOutput { inner, faults: 0 }
     }
 }
 
-impl<W: Write> Output for RealOutput<W> {
-    ghost written = { λ s. W.contents s.inner };
-
+impl<W: Write> Fallible for RealOutput<W> {
     ghost faults = { λ s. s.faults };
 
     ghost may_fail = { λ _ _. Unit {0} };
+}
+
+impl<W: Write> Output for RealOutput<W> {
+    ghost written = { λ s. W.contents s.inner };
 
     fn write(&mut self, bytes: &[u8]) -> Result<u64, OutputFailure> {
         match self.inner.write(bytes) {

@@ -12,6 +12,7 @@ ghost use Rattle.vx_layout_tree.specs.LayoutView.{layout_data};
 ghost use Rattle.vx_model.specs.Words.{total_by};
 ghost use Rattle.vx_plan.specs.InOrder.{batch_rows};
 ghost use Rattle.vx_fault.specs.Counts.{Counts, IsCalm};
+ghost use Rattle.vx_fault.specs.Faults.{Called};
 ghost use Rattle.vx_write.specs.declared.error.WriteError.TheVariants.{OutOfMemory};
 ghost use Rattle.vx_write.specs.Causes.{errs, is_source_fault, is_sink_fault};
 ghost use Rattle.vx_write.specs.InOrder.{AllWritten, BatchWritten, Finished, Halted};
@@ -107,9 +108,8 @@ fn write_batch<S: SegmentSink>(
     ensures count { Counts (S.faults sink.old) (S.faults sink.new) (errs is_sink_fault result) }
     ensures cause { IfErr result (NotWritten ctx.now (S.next sink.old) (piece batch.now)) }
     ensures may { IsTrue (errs is_sink_fault result) → S.may_fail sink.old 0 }
-    ensures later { (k : ℕ) → OnOk result (S.may_fail sink.new k → S.may_fail sink.old (k + 1)) }
-    ensures must { OnOk result (¬ S.must_fail sink.old 0) }
-    ensures must_later { (k : ℕ) → OnOk result (S.must_fail sink.old (k + 1) → S.must_fail sink.new k) }
+    ensures told { OnOk result (Called (S.faults sink.old) (S.faults sink.new) (S.may_fail sink.old) (S.may_fail sink.new)
+        (S.must_fail sink.old) (S.must_fail sink.new) false) }
     ensures borrow { S.borrow sink.new ≡ S.borrow sink.old }
     ensures complete { refused ctx.now (piece batch.now) ≡ None → S.next sink.old < 2 ^ 32 → IsCalm (S.faults sink.old) (S.faults sink.new)
         → IfErr result (λ e. e ≡ OutOfMemory) }

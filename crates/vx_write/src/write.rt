@@ -9,7 +9,7 @@ ghost use Rattle.vx_plan.specs.Valid.{Valid};
 ghost use Rattle.vx_fault.specs.Counts.{IsCalm};
 ghost use Rattle.vx_fault.specs.Faults.{FaultsTold};
 ghost use Rattle.vx_fault.specs.Told.{NoneTold};
-ghost use Rattle.vx_sink.specs.ContextView.{listed};
+ghost use Rattle.vx_sink.specs.ContextView.{listed, allowed_in, is_marked, counted};
 ghost use Rattle.vx_write.specs.declared.error.WriteError.TheVariants.{OutOfMemory};
 ghost use Rattle.vx_strategy.specs.StrategyView.{strategy_data};
 ghost use Rattle.vx_write.specs.Asked.{asked};
@@ -81,7 +81,8 @@ pub fn write_stream<B: BatchSource, S: SegmentSink, C: CompressorPlugin>(
         → Valid s (strategy_data strategy.now) (B.kind source.old) false (S.next sink.old) tracker xs
         → IsCalm (B.faults source.old) (B.faults source.new) → IsCalm (S.faults sink.old) (S.faults sink.new)
         → IfErr result (λ r. r.error ≡ OutOfMemory)) }
-    ensures same { (listed ctx.new ≡ listed ctx.old) × (B.kind source.new ≡ B.kind source.old) × (S.borrow sink.new ≡ S.borrow sink.old) × (compressor.new ≡ compressor.old) }
+    ensures same { (listed ctx.new ≡ listed ctx.old) × (allowed_in ctx.new ≡ allowed_in ctx.old) × (is_marked ctx.new ≡ is_marked ctx.old) × (counted ctx.new ≡ counted ctx.old)
+        × (B.kind source.new ≡ B.kind source.old) × (S.borrow sink.new ≡ S.borrow sink.old) × (compressor.new ≡ compressor.old) }
     ensures trace { MatchResult result (λ w. w.trace.items ≡ []) (λ r. r.trace.items ≡ []) }
 {
     vx_plan::chunks_stand_in_order();

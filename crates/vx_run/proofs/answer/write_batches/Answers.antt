@@ -6,11 +6,11 @@ use Rattle.vx_run.proofs.WriteSteps.{may_come, passed_before, behind_batch, pass
 use Rattle.vx_run.proofs.answer.write_batches.Goals as goal
 
 pub returns-in-Ok-clause-ok : goal.returns-in-Ok-clause-ok
-returns-in-Ok-clause-ok c stored told =
+returns-in-Ok-clause-ok c =
     let j : JobData = job_view c.args.job in
     all_written j _ _
-    (record { listed = c.new-ctx.ensures; schema = c.new-source.ensures.kind; numbers = c.new-sink.ensures.next; batches = c.new-source.ensures.batches ∙ ap Some (same_pieces j.batches); none = c.new-sink.ensures.segments })
-    told (λ f. absurd (c.in-Ok.ensures.unbuilt f).0)
+    (record { listed = c.new-ctx.ensures.listed; schema = c.new-source.ensures.kind; numbers = c.new-sink.ensures.next; batches = c.new-source.ensures.batches ∙ ap Some (same_pieces j.batches); none = c.new-sink.ensures.segments })
+    c.into_segments.ensures (λ f. absurd (c.in-Ok.ensures.unbuilt f).0)
     (λ s xs w t. (c.in-Ok.ensures.wrote s xs w t).laid) (λ s xs w t. (c.in-Ok.ensures.wrote s xs w t).appended) (λ s xs w t. (c.in-Ok.ensures.wrote s xs w t).counted)
     (λ s xs w t. (c.in-Ok.ensures.wrote s xs w t).read_back) c.in-Ok.ensures.last
     (λ s xs w t. (c.in-Ok.ensures.wrote s xs w t).valid) c.chunks_stand_in_order.ensures
@@ -18,10 +18,10 @@ returns-in-Ok-clause-ok c stored told =
     (record { batches = passed_ended _ _ c.in-Ok.ensures.source.passed; ended = passed_last _ _ c.in-Ok.ensures.source.passed; appends = c.in-Ok.ensures.sink.passed })
 
 pub returns-clause-err : goal.returns-clause-err
-returns-clause-err c stored told =
+returns-clause-err c =
     let j : JobData = job_view c.args.job in
     write_halts j c.in-Err.refused.error _ _ _ _
-    (record { listed = c.new-ctx.ensures; schema = c.new-source.ensures.kind; numbers = c.new-sink.ensures.next; batches = c.new-source.ensures.batches ∙ ap Some (same_pieces j.batches); none = c.new-sink.ensures.segments })
+    (record { listed = c.new-ctx.ensures.listed; schema = c.new-source.ensures.kind; numbers = c.new-sink.ensures.next; batches = c.new-source.ensures.batches ∙ ap Some (same_pieces j.batches); none = c.new-sink.ensures.segments })
     (record {
       of_source = c.new-source.ensures.may_fail;
       of_sink = c.new-sink.ensures.may_fail;
@@ -30,7 +30,7 @@ returns-clause-err c stored told =
       source_count = c.in-Err.ensures.source.counted;
       sink_count = c.in-Err.ensures.sink.counted;
     })
-    told c.in-Err.ensures.stands c.in-Err.ensures.cause (may_come c.in-Err.refused.error _ _ _ _ _ _ _ _ _ c.in-Err.ensures.source c.in-Err.ensures.sink)
+    c.into_segments-in-Err.ensures c.in-Err.ensures.stands c.in-Err.ensures.cause (may_come c.in-Err.refused.error _ _ _ _ _ _ _ _ _ c.in-Err.ensures.source c.in-Err.ensures.sink)
     (record { of_source = c.new-source.ensures.must_fail; of_sink = c.new-sink.ensures.must_fail })
     (record { batches = passed_before c.in-Err.refused.error _ _ c.in-Err.ensures.source.passed; behind = behind_batch c.in-Err.refused.error _ _ c.in-Err.ensures.source.passed; appends = c.in-Err.ensures.sink.passed })
     (λ f. (c.in-Err.ensures.unbuilt f).0) (λ f. rw (c.in-Err.ensures.unbuilt f).1 refl) (λ f. rw (c.in-Err.ensures.unbuilt f).2 refl) (λ s tracker xs w t. c.in-Err.ensures.complete s xs w t tracker) c.in-Err.ensures.last

@@ -6,8 +6,8 @@ use Rattle.vx_run.proofs.running.read_all.Given as goal
 abbrev pub invariant-reads : goal.invariant-reads
 invariant-reads g l = record {
   consumed : Consumes (g.I.Input.to_come l.fn.input) (g.I.Input.to_come l.input) l.bytes.items;
-  count : g.I.Input.faults l.input ≡ g.I.Input.faults l.fn.input;
-  may : (k : ℕ) → g.I.Input.may_fail l.input k → MayFail (g.I.Input.may_fail l.fn.input);
+  count : g.I.Fallible.faults l.input ≡ g.I.Fallible.faults l.fn.input;
+  may : (k : ℕ) → g.I.Fallible.may_fail l.input k → MayFail (g.I.Fallible.may_fail l.fn.input);
   short : length l.bytes.items ≤ 67108865;
 }
 

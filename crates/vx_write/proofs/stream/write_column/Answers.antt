@@ -33,7 +33,7 @@ pub returns-in_err-batch-2-clause-must_refused : goal.returns-in_err-batch-2-cla
 returns-in_err-batch-2-clause-must_refused g c =
     let p = err_from_is_err_and c.from_residual-in_err-batch-2.result c.from_residual-in_err-batch-2.ensures.1 in
     let stand : g.S.SegmentSink.next c.batches.sink - g.S.SegmentSink.next c.args.sink.now ≡ length c.batches.flats.items = omega (arith, c.batches.invariant.next) in
-    rw (p.1, stand) (behind_batch p.0 (g.B.BatchSource.must_fail c.args.source.now (length c.batches.flats.items)) (passed (g.B.BatchSource.must_fail c.args.source.now) (g.B.BatchSource.must_fail c.batches.source) (length c.batches.flats.items) c.batches.invariant.source_must (λ due. false≢true (c.in_ok-batch.ensures.must due))))
+    rw (p.1, stand) (behind_batch p.0 (g.B.Fallible.must_fail c.args.source.now (length c.batches.flats.items)) (passed (g.B.Fallible.must_fail c.args.source.now) (g.B.Fallible.must_fail c.batches.source) (length c.batches.flats.items) c.batches.invariant.source_must (λ due. false≢true (c.in_ok-batch.ensures.told.forced due))))
 
 pub returns-in_err-flat-clause-err : goal.returns-in_err-flat-clause-err
 returns-in_err-flat-clause-err g c =
@@ -58,7 +58,7 @@ pub returns-in_err-flat-clause-must_refused : goal.returns-in_err-flat-clause-mu
 returns-in_err-flat-clause-must_refused g c =
     let p = err_from_is_err_and c.from_residual-in_err-flat.result c.from_residual-in_err-flat.ensures.1 in
     let stand : g.S.SegmentSink.next c.write_batch.new.sink - g.S.SegmentSink.next c.args.sink.now ≡ length c.batches.flats.items = omega (arith, c.in_err-flat.ensures.next, c.batches.invariant.next) in
-    rw (p.1, stand) (behind_batch p.0 (g.B.BatchSource.must_fail c.args.source.now (length c.batches.flats.items)) (passed (g.B.BatchSource.must_fail c.args.source.now) (g.B.BatchSource.must_fail c.batches.source) (length c.batches.flats.items) c.batches.invariant.source_must (λ due. false≢true (c.in_ok-batch.ensures.must due))))
+    rw (p.1, stand) (behind_batch p.0 (g.B.Fallible.must_fail c.args.source.now (length c.batches.flats.items)) (passed (g.B.Fallible.must_fail c.args.source.now) (g.B.Fallible.must_fail c.batches.source) (length c.batches.flats.items) c.batches.invariant.source_must (λ due. false≢true (c.in_ok-batch.ensures.told.forced due))))
 
 pub batches-preserved : goal.batches-preserved
 batches-preserved g c =
@@ -69,17 +69,17 @@ batches-preserved g c =
     let more = goes_on (piece c.in-Some.batch) (layout_data c.in_ok-flat.flat) (g.B.BatchSource.to_come c.next.new.self) (g.S.SegmentSink.segments c.write_batch.new.sink) (g.S.SegmentSink.next c.batches.sink) c.batches.invariant.done (rw c.in-Some.is at c.in_ok-batch.ensures.batch) (c.in_ok-batch-2.ensures.typed ∙ (c.dtype-in-batches.ensures ∙ (c.next.ensures.kind ∙ c.batches.invariant.kind))) (rw length-map c.batches.invariant.next) written in
     record {
       kind = c.next.ensures.kind ∙ c.batches.invariant.kind;
-      source_count = c.in_ok-batch.ensures.cause ∙ c.batches.invariant.source_count;
-      sink_count = c.in_ok-flat.ensures.count ∙ c.batches.invariant.sink_count;
+      source_count = c.in_ok-batch.ensures.told.counted ∙ c.batches.invariant.source_count;
+      sink_count = c.in_ok-flat.ensures.told.counted ∙ c.batches.invariant.sink_count;
       next = omega (arith, c.in_ok-flat.ensures.next, c.batches.invariant.next, count);
       last = omega (arith, c.in_ok-flat.ensures.last);
       fits = c.in_ok-batch-2.ensures.fits;
       borrow = c.write_batch.ensures.borrow ∙ c.batches.invariant.borrow;
-      source_passed = λ k below. more_passed (g.B.BatchSource.must_fail c.args.source.now) (g.B.BatchSource.must_fail c.batches.source) (length c.batches.flats.items) c.batches.invariant.source_passed c.batches.invariant.source_must (λ due. false≢true (c.in_ok-batch.ensures.must due)) k (omega (arith, count));
-      sink_passed = λ k below. more_passed (g.S.SegmentSink.must_fail c.args.sink.now) (g.S.SegmentSink.must_fail c.batches.sink) (length c.batches.flats.items) c.batches.invariant.sink_passed c.batches.invariant.sink_must c.in_ok-flat.ensures.must k (omega (arith, count));
-      source_must = λ k must. c.next.ensures.must_later k (c.batches.invariant.source_must (k + 1) (subst (λ (n : ℕ). g.B.BatchSource.must_fail c.args.source.now n) (omega (arith, count)) must));
-      sink_must = λ k must. c.in_ok-flat.ensures.must_later k (c.batches.invariant.sink_must (k + 1) (subst (λ (n : ℕ). g.S.SegmentSink.must_fail c.args.sink.now n) (omega (arith, count)) must));
-      source_may = λ k may. subst (λ (n : ℕ). g.B.BatchSource.may_fail c.args.source.now n) (omega (arith, count)) (c.batches.invariant.source_may (k + 1) (c.next.ensures.later k may));
-      sink_may = λ k may. subst (λ (n : ℕ). g.S.SegmentSink.may_fail c.args.sink.now n) (omega (arith, count)) (c.batches.invariant.sink_may (k + 1) (c.in_ok-flat.ensures.later k may));
+      source_passed = λ k below. more_passed (g.B.Fallible.must_fail c.args.source.now) (g.B.Fallible.must_fail c.batches.source) (length c.batches.flats.items) c.batches.invariant.source_passed c.batches.invariant.source_must (λ due. false≢true (c.in_ok-batch.ensures.told.forced due)) k (omega (arith, count));
+      sink_passed = λ k below. more_passed (g.S.Fallible.must_fail c.args.sink.now) (g.S.Fallible.must_fail c.batches.sink) (length c.batches.flats.items) c.batches.invariant.sink_passed c.batches.invariant.sink_must (λ due. false≢true (c.in_ok-flat.ensures.told.forced due)) k (omega (arith, count));
+      source_must = λ k must. c.next.ensures.told.more k (c.batches.invariant.source_must (k + 1) (subst (λ (n : ℕ). g.B.Fallible.must_fail c.args.source.now n) (omega (arith, count)) must));
+      sink_must = λ k must. c.in_ok-flat.ensures.told.more k (c.batches.invariant.sink_must (k + 1) (subst (λ (n : ℕ). g.S.Fallible.must_fail c.args.sink.now n) (omega (arith, count)) must));
+      source_may = λ k may. subst (λ (n : ℕ). g.B.Fallible.may_fail c.args.source.now n) (omega (arith, count)) (c.batches.invariant.source_may (k + 1) (c.next.ensures.told.fewer k may));
+      sink_may = λ k may. subst (λ (n : ℕ). g.S.Fallible.may_fail c.args.sink.now n) (omega (arith, count)) (c.batches.invariant.sink_may (k + 1) (c.in_ok-flat.ensures.told.fewer k may));
       done = rw (views, c.in_ok-batch-2.ensures.rows) more;
     }

@@ -6,18 +6,18 @@ use Rattle.vx_write.proofs.stream.write_column.Given as goal
 abbrev pub invariant-batches : goal.invariant-batches
 invariant-batches g l = record {
   kind : g.B.BatchSource.kind l.source ≡ g.B.BatchSource.kind l.fn.source;
-  source_count : g.B.BatchSource.faults l.source ≡ g.B.BatchSource.faults l.fn.source;
-  sink_count : g.S.SegmentSink.faults l.sink ≡ g.S.SegmentSink.faults l.fn.sink;
+  source_count : g.B.Fallible.faults l.source ≡ g.B.Fallible.faults l.fn.source;
+  sink_count : g.S.Fallible.faults l.sink ≡ g.S.Fallible.faults l.fn.sink;
   next : g.S.SegmentSink.next l.sink ≡ g.S.SegmentSink.next l.fn.sink + length l.flats.items;
   last : g.S.SegmentSink.next l.sink ≤ max (g.S.SegmentSink.next l.fn.sink) (2 ^ 32);
   fits : l.rows < 2 ^ 64;
   borrow : g.S.SegmentSink.borrow l.sink ≡ g.S.SegmentSink.borrow l.fn.sink;
-  source_passed : (k : ℕ) → k < length l.flats.items → ¬ g.B.BatchSource.must_fail l.fn.source k;
-  sink_passed : (k : ℕ) → k < length l.flats.items → ¬ g.S.SegmentSink.must_fail l.fn.sink k;
-  source_must : (k : ℕ) → g.B.BatchSource.must_fail l.fn.source (length l.flats.items + k) → g.B.BatchSource.must_fail l.source k;
-  sink_must : (k : ℕ) → g.S.SegmentSink.must_fail l.fn.sink (length l.flats.items + k) → g.S.SegmentSink.must_fail l.sink k;
-  source_may : (k : ℕ) → g.B.BatchSource.may_fail l.source k → g.B.BatchSource.may_fail l.fn.source (length l.flats.items + k);
-  sink_may : (k : ℕ) → g.S.SegmentSink.may_fail l.sink k → g.S.SegmentSink.may_fail l.fn.sink (length l.flats.items + k);
+  source_passed : (k : ℕ) → k < length l.flats.items → ¬ g.B.Fallible.must_fail l.fn.source k;
+  sink_passed : (k : ℕ) → k < length l.flats.items → ¬ g.S.Fallible.must_fail l.fn.sink k;
+  source_must : (k : ℕ) → g.B.Fallible.must_fail l.fn.source (length l.flats.items + k) → g.B.Fallible.must_fail l.source k;
+  sink_must : (k : ℕ) → g.S.Fallible.must_fail l.fn.sink (length l.flats.items + k) → g.S.Fallible.must_fail l.sink k;
+  source_may : (k : ℕ) → g.B.Fallible.may_fail l.source k → g.B.Fallible.may_fail l.fn.source (length l.flats.items + k);
+  sink_may : (k : ℕ) → g.S.Fallible.may_fail l.sink k → g.S.Fallible.may_fail l.fn.sink (length l.flats.items + k);
   done : Done l.ctx (g.B.BatchSource.kind l.fn.source) (g.S.SegmentSink.next l.fn.sink) (map layout_data l.flats.items) l.rows
       (g.B.BatchSource.to_come l.fn.source) (g.B.BatchSource.to_come l.source) (g.S.SegmentSink.segments l.fn.sink) (g.S.SegmentSink.segments l.sink);
 }

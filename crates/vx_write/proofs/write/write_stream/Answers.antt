@@ -25,10 +25,10 @@ pub returns-in-Ok-clause-sink : goal.returns-in-Ok-clause-sink
 returns-in-Ok-clause-sink g c = sink_ended _ _ _ _ _ c.in-Ok.ensures.sink_count c.in-Ok.ensures.must_sink
 
 pub returns-in-Err-clause-source : goal.returns-in-Err-clause-source
-returns-in-Err-clause-source g c = source_refused c.in-Err.error _ _ _ _ _ (g.S.SegmentSink.may_fail c.args.sink.now) c.in-Err.ensures.source_count c.in-Err.ensures.may c.in-Err.ensures.must_source c.in-Err.ensures.must_refused
+returns-in-Err-clause-source g c = source_refused c.in-Err.error _ _ _ _ _ (g.S.Fallible.may_fail c.args.sink.now) c.in-Err.ensures.source_count c.in-Err.ensures.may c.in-Err.ensures.must_source c.in-Err.ensures.must_refused
 
 pub returns-in-Err-clause-sink : goal.returns-in-Err-clause-sink
-returns-in-Err-clause-sink g c = sink_refused c.in-Err.error _ _ _ _ _ (g.B.BatchSource.may_fail c.args.source.now) c.in-Err.ensures.sink_count c.in-Err.ensures.may c.in-Err.ensures.must_sink
+returns-in-Err-clause-sink g c = sink_refused c.in-Err.error _ _ _ _ _ (g.B.Fallible.may_fail c.args.source.now) c.in-Err.ensures.sink_count c.in-Err.ensures.may c.in-Err.ensures.must_sink
 
 pub returns-then-not-is_built-clause-source : goal.returns-then-not-is_built-clause-source
 returns-then-not-is_built-clause-source g c = untouched _ _ _ _
