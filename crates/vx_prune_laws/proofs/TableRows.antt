@@ -21,7 +21,7 @@ use Rattle.vx_aggregate_spec.specs.Aggregate.{Aggregate, maximum, minimum, bound
 use Rattle.vx_zone_spec.specs.ValueOrder.{greatest, least}
 use Rattle.vx_zone_spec.specs.Bounds.{upper_bound, lower_bound, bytes_or_null, text_or_null, raised_last, byte_rises, char_rises, next_char, front_chars}
 use Rattle.vx_zone_spec.specs.Record.{aggregate_value, zone_record, sum_value, exact_sum}
-use Rattle.vx_zone_spec.specs.ZoneTable.{Filled, name_of, filled, some_values, ordered, kept_columns, state_cell, table_fields, table_type, table_columns, table_specs, table_piece}
+use Rattle.vx_zone_spec.specs.ZoneTable.{Filled, name_of, filled, some_values, ordered, kept_columns, state_cell, table_type, table_columns, table_specs, table_piece}
 use Rattle.vx_zone_spec.specs.ZoneMap.{names_of, paired, fields_of}
 use Rattle.vx_zone_spec.specs.Statements.{is_value_of, AllValues, IsRecord, SmallHash}
 use Rattle.vx_zone_spec.proofs.FilterLaws.{stored_filter_contains}

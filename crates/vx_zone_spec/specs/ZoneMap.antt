@@ -1,5 +1,5 @@
 -- The zone table of a column as a reader has it, and which zones a predicate skips.
-use Rattle.std.specs.Prelude.{ℕ, zero, suc, ◌-◌, ◌*◌, ◌^◌, min, nat_lt, nat_le, Bool, true, false, if◌then◌else◌, List, [], ◌∷◌, length}
+use Rattle.std.specs.Prelude.{ℕ, zero, suc, ◌-◌, ◌*◌, ◌^◌, min, nat_lt, nat_le, Bool, true, if◌then◌else◌, List, [], ◌∷◌, length}
 use Rattle.vx_model.specs.Words.{head_or, tail}
 use Rattle.vx_model.specs.Ty.{Ty}
 use Rattle.vx_model.specs.ValueData.{ValueData, null_value, struct_value, vals_in}
