@@ -1,5 +1,5 @@
 -- The array trees below each kind of node.
-use Rattle.std.proofs.Common.{◌≡◌, ℕ, ◌+◌, ◌<◌, ◌^◌, Bool, true, false, List, [], ◌∷◌, ◌++◌, length, Option, Some, None, refl, ◌∙◌, arith}
+use Rattle.std.proofs.Common.{◌≡◌, ℕ, ◌+◌, ◌<◌, ◌^◌, Bool, true, false, List, [], ◌∷◌, ◌++◌, length, Option, Some, None, refl, ◌∙◌}
 use Rattle.std.specs.Prelude.{if◌then◌else◌}
 use Rattle.vx_model.specs.declared.encoding.EncodingId.{EncodingId}
 use Rattle.vx_model.specs.Ty.{Ty}
@@ -21,16 +21,16 @@ use Rattle.vx_strategy_spec.specs.StrategyData.{FlatOptions, ZonedOptions, Group
 use Rattle.vx_strategy_spec.specs.Admitted.{is_admitted_zoned}
 use Rattle.vx_plan.specs.Valid.{Fit, Keeps}
 use Rattle.vx_plan.specs.FlatNode.{flat_node, segment, pair_at, refused_at}
-use Rattle.vx_plan.specs.ChunkedNode.{chunked_node, chunk_plans, all_pairs, all_faults, all_layouts, all_numbers}
+use Rattle.vx_plan.specs.ChunkedNode.{chunked_node, chunked_numbers, chunk_plans, all_pairs, all_faults, all_layouts, all_numbers}
 use Rattle.vx_plan.specs.GroupNode.{grouped_stream, group_numbers, grouped_node, images, compressed_node}
 use Rattle.vx_plan.specs.DictNode.{is_dictionary, run_plan, run_plans, dict_numbers, runs_node, dict_node}
-use Rattle.vx_plan.specs.ZonedNode.{recorded, forbidden_faults, zone_faults, zone_records, table_items, with_table, table_of, zoned_node}
-use Rattle.vx_plan.proofs.PlanLists.{ItemsOf, Holds, nil_left, nil_right, fit_left, fit_right, holds_left, holds_right, row_total_cells}
+use Rattle.vx_plan.specs.ZonedNode.{recorded, forbidden_faults, zone_faults, zone_records, table_items, data_numbers, with_table, table_of, zoned_node}
+use Rattle.vx_plan.proofs.PlanLists.{ItemsOf, Holds, nil_left, nil_right, fit_left, fit_right, holds_left, holds_right, fit_cells}
 use Rattle.vx_plan.proofs.FlatLaws.{cons_nil}
 use Rattle.vx_array_tree_laws.specs.Flats.{FlatsHold}
 use Rattle.vx_array_tree_laws.specs.Statements.{Encodes}
 use Rattle.vx_array_tree_laws.proofs.FlatLists.{AllHold, gathered_flats}
-use Rattle.vx_plan.proofs.ZonedLaws.{whole_table}
+use Rattle.vx_plan.proofs.ZonedLaws.{whole_table, zone_fits}
 
 -- What is said of a node at a type: each flat node of what it gives is as the strategy has it.
 pub record Arrays (s : Setting) (options : List FlatOptions) (Good : Type 0) (t : Ty) (k : Node) : Type 0 where
@@ -89,7 +89,7 @@ chunks_hold s options Good t k r m (i ∷ is) e of clean fit look held =
 pub chunked_arrays : (s : Setting) (options : List FlatOptions) (Good : Type 0) (t : Ty) (k : Node) → Arrays s options Good t k → Arrays s options Good t (chunked_node t k)
 chunked_arrays s options Good t k r = record {
   arrays = λ m items e of clean fit look held.
-      gathered_flats s options Good look t (row_total items) (all_layouts (chunk_plans k m items e)) (chunks_hold s options Good t k r m items e of clean (λ g. (fit g).1.1) look held);
+      gathered_flats s options Good look t (row_total items) (all_layouts (chunk_plans k m items e)) (chunks_hold s options Good t k r m items e of clean (λ g. fit_right (chunked_numbers items e) (all_numbers (chunk_plans k m items e)) (fit g)) look held);
 }
 
 -- ---- other streams
@@ -99,14 +99,11 @@ kept_of (by_blocks o) t items of lt = regrouped_of (List CellData) t (blocks o t
 kept_of (by_bytes size) t items of lt = regrouped_of (List ChunkData) t (flushes size) piece_cells (PiecesOf t) (flushes_regroup size t) items of lt
 kept_of into_one t items of lt = collected_of t items of lt
 
-few_cells : (items : List Item) → row_total items < 2 ^ 64 → length (stream_cells items) < 2 ^ 64
-few_cells items lt = let count : row_total items ≡ length (stream_cells items) = row_total_cells items in omega arith
-
 pub grouped_arrays : (s : Setting) (options : List FlatOptions) (Good : Type 0) (r : Grouping) (t : Ty) (k : Node) → Arrays s options Good t k → Arrays s options Good t (grouped_node r t k)
 grouped_arrays s options Good r t k h = record {
   arrays = λ m items e of clean fit look held.
-      h.arrays m (grouped_stream r t items true) e (λ g. kept_of r t items (of g) (few_cells items (fit g).0)) clean
-      (λ g. fit_right (row_total items ∷ group_numbers r t items true) (k m (grouped_stream r t items true) true e).numbers (fit g)) look held;
+      h.arrays m (grouped_stream r t items true) e (λ g. kept_of r t items (of g) (fit_cells items (group_numbers r t items true) (k m (grouped_stream r t items true) true e).numbers (fit g)).0) clean
+      (λ g. (fit_cells items (group_numbers r t items true) (k m (grouped_stream r t items true) true e).numbers (fit g)).1) look held;
 }
 
 images_of : (s : Setting) → Keeps s → (which : ℕ) (t : Ty) (items : List Item) → ItemsOf t items → ItemsOf t (images s which items)
@@ -204,15 +201,15 @@ table_holds : (s : Setting) (options : List FlatOptions) (Good : Type 0) (o : Zo
     → (look : List ℕ → Option (List ℕ)) → (p.faults ≡ [] → (Good → Fit p.numbers) → Holds look p.pairs → FlatsHold s options Good look p.layout)
     → (with_table s o t stats false items e p cs).faults ≡ [] → (Good → Fit (with_table s o t stats false items e p cs).numbers)
     → Holds look (with_table s o t stats false items e p cs).pairs → FlatsHold s options Good look (with_table s o t stats false items e p cs).layout
-table_holds s options Good o ok t stats rs items e p None of kept look r clean fit held = r clean (λ g. (fit g).1.1) held
+table_holds s options Good o ok t stats rs items e p None of kept look r clean fit held = r clean (λ g. fit_right (data_numbers items e) p.numbers (fit g)) held
 table_holds s options Good o ok t stats rs items e p (Some cs) of kept look r clean fit held =
     let q : Plan = stats (table_type cs) false (table_items cs (length items) e) true (next (next e)) in (
       tt,
       (
-        r (nil_left p.faults q.faults clean) (λ g. fit_left p.numbers q.numbers (fit g).1.1.1) (holds_left look p.pairs q.pairs held),
+        r (nil_left p.faults q.faults clean) (λ g. fit_left p.numbers q.numbers (zone_fits items e (p.numbers ++ q.numbers) (fit g)).1) (holds_left look p.pairs q.pairs held),
         (
-          (rs (table_type cs)).arrays false (table_items cs (length items) e) (next (next e)) (λ g. (whole_table s o t items cs (of g) (fit g).1.0 kept (ok g), tt))
-              (nil_right p.faults q.faults clean) (λ g. fit_right p.numbers q.numbers (fit g).1.1.1) look (holds_right look p.pairs q.pairs held),
+          (rs (table_type cs)).arrays false (table_items cs (length items) e) (next (next e)) (λ g. (whole_table s o t items cs (of g) (zone_fits items e (p.numbers ++ q.numbers) (fit g)).0 kept (ok g), tt))
+              (nil_right p.faults q.faults clean) (λ g. fit_right p.numbers q.numbers (zone_fits items e (p.numbers ++ q.numbers) (fit g)).1) look (holds_right look p.pairs q.pairs held),
           tt,
         ),
       ),

@@ -1,19 +1,19 @@
 -- The layouts of struct and list nodes.
-use Rattle.std.proofs.Common.{◌≡◌, ℕ, suc, ◌<◌, ◌^◌, ◌||◌, Bool, true, false, List, [], ◌∷◌, ◌++◌, length, Option, Some, None, sym, ap, ◌∙◌, subst, arith}
+use Rattle.std.proofs.Common.{◌≡◌, ℕ, suc, ◌||◌, Bool, true, false, List, [], ◌∷◌, ◌++◌, length, Option, Some, None, sym, ap, ◌∙◌, subst}
 use Rattle.vx_model.specs.Ty.{Ty, Tys, boolean, no_fields, field, struct, list}
 use Rattle.vx_path.specs.Path.{Eof, inside, next}
 use Rattle.vx_session.specs.Scope.{Scope}
 use Rattle.vx_session.specs.Kinds.{types_in}
-use Rattle.vx_rules.specs.Stream.{stream_cells}
 use Rattle.vx_rules.specs.Columns.{Split, struct_splits, list_splits, column, other_columns, offset_type}
 use Rattle.vx_rules.proofs.ColumnStreams.{field_streams, StreamsOf, Shows, streams_are, chunk_cells, all_cells, all_chunk_cells, struct_shows, nullable_shows, validity_stream, elements_stream, offsets_stream, list_validity_stream}
 use Rattle.vx_plan.specs.PlanData.{Setting, Item, Plan, Node, row_total}
 use Rattle.vx_plan.specs.Valid.{Fit}
 use Rattle.vx_plan.specs.ChunkedNode.{all_faults, all_layouts, all_numbers}
-use Rattle.vx_plan.specs.ColumnNodes.{marked, column_plans, not_struct_node, struct_node, list_node}
+use Rattle.vx_plan.specs.ColumnNodes.{marked, column_plans, not_struct_node, struct_writers, column_numbers, struct_node, list_writers, list_node}
 use Rattle.vx_plan.proofs.Relate.{Fields}
 use Rattle.vx_plan.proofs.PlanLists.{ItemsOf, nil_left, nil_right, fit_left, fit_right, row_total_cells}
 use Rattle.vx_plan.proofs.FlatLaws.{cons_nil}
+use Rattle.vx_plan.proofs.ColumnLaws.{ListFits, list_fits}
 use Rattle.vx_parse_back_laws.proofs.Layouts.{Written, Beside, struct_written, list_written}
 use Rattle.vx_parse_back_laws.proofs.Streams.{EachCounts, fields_count, flags_count, offsets_count}
 use Rattle.vx_parse_back_laws.proofs.NodeLayouts.{Writes}
@@ -52,7 +52,7 @@ module _ (s : Scope) (f : List ℕ → ℕ) (st : Setting) where
           let ps : List Plan = column_plans (marked (m || true) ks) 1 (other_columns xs) true (next e) in
           let flags = validity_stream fs items of in
           let fields = fields_stream fs 1 (other_columns xs) items (nullable_shows fs items of) in
-          let numbers : Fit (p.numbers ++ all_numbers ps) = fit.1.1.1 in
+          let numbers : Fit (p.numbers ++ all_numbers ps) = fit_right (column_numbers items (struct_writers true m v ks) e) (p.numbers ++ all_numbers ps) fit in
           struct_written s f fs true (row_total items) (p.layout ∷ all_layouts ps) (
             subst (λ r. Written s f (boolean false) r p.layout) (flags_count items (column 0 xs) flags.1)
                 (wv.written m (column 0 xs) (inside e) flags.0 (nil_left p.faults (all_faults ps) clean) (fit_left p.numbers (all_numbers ps) numbers)),
@@ -65,7 +65,7 @@ module _ (s : Scope) (f : List ℕ → ℕ) (st : Setting) where
         let xs : List Split = struct_splits fs false items in
         let fields = fields_stream fs 0 xs items (struct_shows fs items of) in
         struct_written s f fs false (row_total items) (all_layouts (column_plans (marked (m || false) ks) 0 xs true e))
-        (fields_written fs ks ws (m || false) 0 xs e (row_total items) fields.0 fields.1 clean fit.1.1.1);
+        (fields_written fs ks ws (m || false) 0 xs e (row_total items) fields.0 fields.1 clean (fit_right (column_numbers items (struct_writers false m v ks) e) (all_numbers (column_plans (marked (m || false) ks) 0 xs true e)) fit));
   }
 
   pub struct_writes : (fs : Tys) (n : Bool) (dup : Option (List ℕ)) (v : Node) (ks : List Node) → Writes s f st (boolean false) v → Fields (λ t k. Writes s f st t k) fs ks
@@ -79,9 +79,6 @@ module _ (s : Scope) (f : List ℕ → ℕ) (st : Setting) where
 
   -- ---- lists
 
-  few_offsets : (items : List Item) → suc (row_total items) < 2 ^ 64 → suc (length (stream_cells items)) < 2 ^ 64
-  few_offsets items lt = let count : row_total items ≡ length (stream_cells items) = row_total_cells items in omega arith
-
   pub list_writes : (t : Ty) (n : Bool) (es os v : Node) → Writes s f st t es → Writes s f st offset_type os → Writes s f st (boolean false) v → Writes s f st (list t n) (list_node t n es os v)
   list_writes t n es os v we wo wv = record { written = go n }
     where
@@ -92,9 +89,10 @@ module _ (s : Scope) (f : List ℕ → ℕ) (st : Setting) where
           let xs : List Split = list_splits t false true 0 (i ∷ is) in
           let p : Plan = es m (column 0 xs) true (inside e) in
           let q : Plan = os m (column 1 (other_columns xs)) true (inside (next e)) in
-          let elements = elements_stream t false true 0 (i ∷ is) of fit.1.0 in
-          let offsets = offsets_stream t false i is fit.1.0 (few_offsets (i ∷ is) fit.0) in
-          let numbers : Fit (p.numbers ++ (q.numbers ++ [])) = fit.1.1.1.1.1 in
+          let fits : ListFits (i ∷ is) (p.numbers ++ (q.numbers ++ [])) = list_fits (i ∷ is) (list_writers false m es os v) e (p.numbers ++ (q.numbers ++ [])) fit in
+          let elements = elements_stream t false true 0 (i ∷ is) of fits.elements in
+          let offsets = offsets_stream t false i is fits.elements fits.offsets in
+          let numbers : Fit (p.numbers ++ (q.numbers ++ [])) = fits.columns in
           list_written s f t false (row_total (i ∷ is)) (row_total (column 0 xs)) p.layout q.layout []
           (we.written m (column 0 xs) (inside e) elements.0 (nil_left p.faults (q.faults ++ []) clean) (fit_left p.numbers (q.numbers ++ []) numbers))
           (subst (λ r. Written s f offset_type r q.layout) (offsets_count (i ∷ is) (column 1 (other_columns xs)) offsets.1)
@@ -106,10 +104,11 @@ module _ (s : Scope) (f : List ℕ → ℕ) (st : Setting) where
           let p : Plan = es m (column 0 xs) true (inside e) in
           let q : Plan = os m (column 1 (other_columns xs)) true (inside (next e)) in
           let r : Plan = v m (column 2 (other_columns (other_columns xs))) true (inside (next (next e))) in
-          let elements = elements_stream t true true 0 (i ∷ is) of fit.1.0 in
-          let offsets = offsets_stream t true i is fit.1.0 (few_offsets (i ∷ is) fit.0) in
+          let fits : ListFits (i ∷ is) (p.numbers ++ (q.numbers ++ (r.numbers ++ []))) = list_fits (i ∷ is) (list_writers true m es os v) e (p.numbers ++ (q.numbers ++ (r.numbers ++ []))) fit in
+          let elements = elements_stream t true true 0 (i ∷ is) of fits.elements in
+          let offsets = offsets_stream t true i is fits.elements fits.offsets in
           let flags = list_validity_stream t true 0 (i ∷ is) of in
-          let numbers : Fit (p.numbers ++ (q.numbers ++ (r.numbers ++ []))) = fit.1.1.1.1.1 in
+          let numbers : Fit (p.numbers ++ (q.numbers ++ (r.numbers ++ []))) = fits.columns in
           list_written s f t true (row_total (i ∷ is)) (row_total (column 0 xs)) p.layout q.layout (r.layout ∷ [])
           (we.written m (column 0 xs) (inside e) elements.0 (nil_left p.faults (q.faults ++ (r.faults ++ [])) clean) (fit_left p.numbers (q.numbers ++ (r.numbers ++ [])) numbers))
           (subst (λ n. Written s f offset_type n q.layout) (offsets_count (i ∷ is) (column 1 (other_columns xs)) offsets.1)

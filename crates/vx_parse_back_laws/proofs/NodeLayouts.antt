@@ -10,7 +10,7 @@ use Rattle.vx_model.specs.ChunkData.{cells, is_dict_type}
 use Rattle.vx_path.specs.Path.{Eof, inside, next}
 use Rattle.vx_layout_spec.specs.LayoutTree.{layout_type, dict_layout, renamed}
 use Rattle.vx_zone_spec.specs.ZoneTable.{Filled, table_type, kept_columns}
-use Rattle.vx_aggregate.specs.Tables.{stats_table}
+use Rattle.vx_aggregate_spec.specs.Tables.{stats_table}
 use Rattle.vx_session.specs.Scope.{Scope}
 use Rattle.vx_rules.specs.Stream.{Chunks, stream_cells}
 use Rattle.vx_rules.specs.Columns.{offset_cell}
@@ -22,16 +22,17 @@ use Rattle.vx_strategy_spec.specs.StrategyData.{FlatOptions, ZonedOptions, Group
 use Rattle.vx_strategy_spec.specs.Admitted.{is_admitted_zoned}
 use Rattle.vx_plan.specs.Valid.{Fit, Keeps}
 use Rattle.vx_plan.specs.FlatNode.{flat_node, refused_at}
-use Rattle.vx_plan.specs.ChunkedNode.{chunked_node, chunk_plans, all_faults, all_layouts, all_numbers}
+use Rattle.vx_plan.specs.ChunkedNode.{chunked_node, chunked_numbers, chunk_plans, all_faults, all_layouts, all_numbers}
 use Rattle.vx_plan.specs.GroupNode.{grouped_stream, group_numbers, grouped_node, images, compressed_node}
 use Rattle.vx_plan.specs.DictNode.{is_dictionary, run_plan, run_plans, dict_numbers, runs_node, dict_node}
-use Rattle.vx_plan.specs.ZonedNode.{recorded, forbidden_faults, zone_faults, zone_records, table_items, with_table, table_of, zoned_node}
-use Rattle.vx_plan.proofs.PlanLists.{ItemsOf, nil_left, nil_right, fit_left, fit_right, row_total_cells}
+use Rattle.vx_plan.specs.ZonedNode.{recorded, forbidden_faults, zone_faults, zone_records, table_items, data_numbers, with_table, table_of, zoned_node}
+use Rattle.vx_plan.proofs.PlanLists.{ItemsOf, nil_left, nil_right, fit_left, fit_right, fit_cells, row_total_cells}
 use Rattle.vx_plan.proofs.FlatLaws.{cons_nil}
-use Rattle.vx_plan.proofs.ZonedLaws.{whole_table}
+use Rattle.vx_plan.proofs.ZonedLaws.{whole_table, zone_fits}
 use Rattle.vx_parse_back_laws.proofs.Layouts.{Written, has_type, has_rows, Parts, gathered_written, dict_written}
 use Rattle.vx_parse_back_laws.proofs.Streams.{kept_of, grouped_count, images_of, images_count, rows_of_cells}
-use Rattle.vx_parse_back_laws.proofs.TableSpecs.{AreColumns, are_columns, table_aggregates, type_is, specs_named, specs_read, metadata_fits}
+use Rattle.vx_zone_table_laws.proofs.TableTypes.{AreColumns, table_aggregates, type_is}
+use Rattle.vx_parse_back_laws.proofs.TableSpecs.{are_columns, specs_named, specs_read, metadata_fits}
 
 -- in a scope, with the segments numbered so
 module _ (s : Scope) (f : List ℕ → ℕ) (st : Setting) where
@@ -72,20 +73,17 @@ module _ (s : Scope) (f : List ℕ → ℕ) (st : Setting) where
   pub chunked_writes : (t : Ty) (k : Node) → Writes t k → Writes t (chunked_node t k)
   chunked_writes t k w = record {
     written = λ m items e of clean fit.
-        gathered_written s f t (row_total items) (all_layouts (chunk_plans k m items e)) (chunks_written t k w m items e of clean fit.1.1);
+        gathered_written s f t (row_total items) (all_layouts (chunk_plans k m items e)) (chunks_written t k w m items e of clean (fit_right (chunked_numbers items e) (all_numbers (chunk_plans k m items e)) fit));
   }
 
   -- ---- other streams
-
-  few_cells : (items : List Item) → row_total items < 2 ^ 64 → length (stream_cells items) < 2 ^ 64
-  few_cells items lt = let count : row_total items ≡ length (stream_cells items) = row_total_cells items in omega arith
 
   pub grouped_writes : (g : Grouping) (t : Ty) (k : Node) → Writes t k → Writes t (grouped_node g t k)
   grouped_writes g t k w = record {
     written = λ m items e of clean fit.
         subst (λ n. Written s f t n (k m (grouped_stream g t items true) true e).layout) (grouped_count g t items)
-        (w.written m (grouped_stream g t items true) e (kept_of g t items of (few_cells items fit.0)) clean
-        (fit_right (row_total items ∷ group_numbers g t items true) (k m (grouped_stream g t items true) true e).numbers fit));
+        (w.written m (grouped_stream g t items true) e (kept_of g t items of (fit_cells items (group_numbers g t items true) (k m (grouped_stream g t items true) true e).numbers fit).0) clean
+        (fit_cells items (group_numbers g t items true) (k m (grouped_stream g t items true) true e).numbers fit).1);
   }
 
   pub compressed_writes : Keeps st → (which room : ℕ) (t : Ty) (k : Node) → Writes t k → Writes t (compressed_node st which room t k)
@@ -157,13 +155,14 @@ module _ (s : Scope) (f : List ℕ → ℕ) (st : Setting) where
       → (p.faults ≡ [] → Fit p.numbers → Written s f t (row_total items) p.layout)
       → (with_table st o t stats false items e p cs).faults ≡ [] → Fit (with_table st o t stats false items e p cs).numbers
       → Written s f t (row_total items) (with_table st o t stats false items e p cs).layout
-  table_written o ok t stats ws items e p None of kept w clean fit = w clean fit.1.1
+  table_written o ok t stats ws items e p None of kept w clean fit = w clean (fit_right (data_numbers items e) p.numbers fit)
   table_written o ok t stats ws items e p (Some cs) of kept w clean fit =
       let q : Plan = stats (table_type cs) false (table_items cs (length items) e) true (next (next e)) in
       let are : AreColumns t cs = are_columns o t (zone_records st t (recorded o t) items) cs ok kept in
-      let column : Written s f t (row_total items) p.layout = w (nil_left p.faults q.faults clean) (fit_left p.numbers q.numbers fit.1.1.1) in
+      let fits : (length items < 2 ^ 64) × Fit (p.numbers ++ q.numbers) = zone_fits items e (p.numbers ++ q.numbers) fit in
+      let column : Written s f t (row_total items) p.layout = w (nil_left p.faults q.faults clean) (fit_left p.numbers q.numbers fits.1) in
       let zones : Written s f (table_type cs) (row_total (table_items cs (length items) e)) q.layout =
-      (ws (table_type cs)).written false (table_items cs (length items) e) (next (next e)) (whole_table st o t items cs of fit.1.0 kept ok, tt) (nil_right p.faults q.faults clean) (fit_right p.numbers q.numbers fit.1.1.1) in
+      (ws (table_type cs)).written false (table_items cs (length items) e) (next (next e)) (whole_table st o t items cs of fits.0 kept ok, tt) (nil_right p.faults q.faults clean) (fit_right p.numbers q.numbers fits.1) in
       let one : layout_type (renamed f p.layout) ≡ t = has_type s f t (row_total items) p.layout column in
       let two : layout_type (renamed f q.layout) ≡ stats_table t (table_aggregates cs) = has_type s f (table_type cs) (row_total (table_items cs (length items) e)) q.layout zones ∙ type_is t cs are in
       record {

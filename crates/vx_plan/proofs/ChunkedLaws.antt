@@ -7,11 +7,11 @@ use Rattle.vx_model.specs.ChunkData.{row_values}
 use Rattle.vx_path.specs.Path.{Eof, Region, inside, next}
 use Rattle.vx_layout_spec.specs.LayoutTree.{gathered, layout_type}
 use Rattle.vx_layout_spec.specs.Rows.{joined}
-use Rattle.vx_plan.specs.PlanData.{Setting, Item, Pair, Plan, Node, paths, places, stream_values, row_total}
-use Rattle.vx_plan.specs.ChunkedNode.{chunked_node, chunk_plans, all_pairs, all_faults, all_numbers, all_layouts}
+use Rattle.vx_plan.specs.PlanData.{Setting, Item, Pair, Plan, Node, paths, places, stream_values, rows_in, row_total}
+use Rattle.vx_plan.specs.ChunkedNode.{chunked_node, chunked_numbers, chunk_plans, all_pairs, all_faults, all_numbers, all_layouts}
 use Rattle.vx_plan.specs.Valid.{Fit}
 use Rattle.vx_plan.specs.Statements.{Within}
-use Rattle.vx_plan.proofs.PlanLists.{ItemsOf, Holds, Gives, gives_same, ReadAll, Grow, grow_none, grow_more, nil_left, nil_right, fit_left, fit_right, holds_left, holds_right, gathered_reads, length-stream_values, row_total-append, within_itself}
+use Rattle.vx_plan.proofs.PlanLists.{ItemsOf, Holds, Gives, gives_same, ReadAll, Grow, grow_none, grow_more, nil_left, nil_right, fit_left, fit_right, fit_both, fit_before, holds_left, holds_right, gathered_reads, length-stream_values, within, within_itself}
 use Rattle.vx_plan.proofs.Spots.{Apart, Lies, lies_none, two_parts, apart_inside, apart_next, apart_left, apart_right}
 use Rattle.vx_plan.proofs.FlatLaws.{Reads, Placed, Grows, Typed}
 
@@ -46,7 +46,7 @@ chunked_reads admitted s t k r = record { reads = go }
     go m items e of clean fit look held =
         gives_same admitted s look (chunked_node t k m items true e).layout (joined (each_values items)) (stream_values items)
         (gathered_reads admitted s look t (row_total items) (all_layouts (chunk_plans k m items e)) (each_values items)
-        (chunks_read admitted s t k r m items e of clean fit.1.1 look held) (ap length (joined-each_values items) ∙ length-stream_values items))
+        (chunks_read admitted s t k r m items e of clean (fit_right (chunked_numbers items e) (all_numbers (chunk_plans k m items e)) fit) look held) (ap length (joined-each_values items) ∙ length-stream_values items))
         (joined-each_values items)
 
 -- ---- paths
@@ -75,24 +75,22 @@ chunks_grow k m (x ∷ xs) ys e =
     grow_more (k m (x ∷ []) true (inside e)) (k m (x ∷ []) true (inside e)) (chunk_plans k m xs (next e)) (chunk_plans k m (xs ++ ys) (next e))
     (within_itself (k m (x ∷ []) true (inside e))) (chunks_grow k m xs ys (next e))
 
+chunked_before : (xs ys : List Item) (e : Eof) → Fit (chunked_numbers (xs ++ ys) e) → Fit (chunked_numbers xs e)
+chunked_before xs ys e h =
+    fit_before rows_in 0 xs ys ((e.last + length (xs ++ ys)) ∷ []) ((e.last + length xs) ∷ [])
+    (λ f. ((let total : length (xs ++ ys) ≡ length xs + length ys = length-append xs ys in let a : e.last + length (xs ++ ys) < 2 ^ 64 = f.0 in omega arith), tt)) h
+
 pub chunked_grows : (t : Ty) (k : Node) → Grows t (chunked_node t k)
-chunked_grows t k = record { grows = go; quiet = λ m e. refl; still = λ m e. refl }
+chunked_grows t k = record { grows = go; quiet = λ m e. refl; still = λ m e. refl; steady = λ m d e. refl }
   where
     go : (m : Bool) (xs ys : List Item) (ended : Bool) (e : Eof) → Within (chunked_node t k m xs false e) (chunked_node t k m (xs ++ ys) ended e)
     go m xs ys ended e =
         let g : Grow (chunk_plans k m xs e) (chunk_plans k m (xs ++ ys) e) = chunks_grow k m xs ys e in
-        record {
-          pairs = g.pairs;
-          faultless = g.faultless;
-          reserved = g.reserved;
-          fit = λ f h. (
-            (let total : row_total (xs ++ ys) ≡ row_total xs + row_total ys = row_total-append xs ys in let a : row_total (xs ++ ys) < 2 ^ 64 = h.0 in omega arith),
-            (
-              (let total : length (xs ++ ys) ≡ length xs + length ys = length-append xs ys in let a : e.last + length (xs ++ ys) < 2 ^ 64 = h.1.0 in omega arith),
-              g.fit f h.1.1,
-            ),
-          );
-        }
+        within g.pairs g.faults
+        (λ f h. fit_both (chunked_numbers xs e) (all_numbers (chunk_plans k m xs e))
+        (chunked_before xs ys e (fit_left (chunked_numbers (xs ++ ys) e) (all_numbers (chunk_plans k m (xs ++ ys) e)) h))
+        (g.fit f (fit_right (chunked_numbers (xs ++ ys) e) (all_numbers (chunk_plans k m (xs ++ ys) e)) h)))
+        g.reserved
 
 -- ---- type
 

@@ -2,7 +2,6 @@
 use Rattle.std.proofs.Common.{◌≡◌, ℕ, suc, ◌+◌, ◌<◌, ◌≤◌, ◌^◌, ◌⊎◌, ◌||◌, Bool, true, false, List, [], ◌∷◌, ◌++◌, map, length, Option, Some, None, refl, sym, ap, ap₂, ◌∙◌, subst, inl, inr, ⊎_elim, arith, length-append, eq-eqb}
 use Rattle.std.specs.Prelude.{if◌then◌else◌, ◌==◌, ◌&&◌}
 use Rattle.std.proofs.lemmas.List.{length-map}
-use Rattle.vx_rules.proofs.RegroupLaws.{stream_cells-append}
 use Rattle.vx_model.specs.Words.{all_by}
 use Rattle.vx_model.specs.Ty.{Ty, Tys, boolean, list, struct, no_fields, field}
 use Rattle.vx_model.specs.ValueData.{ValueData, value}
@@ -20,13 +19,13 @@ use Rattle.vx_layout_spec.specs.Parts.{flag_of, all_elements, ends}
 use Rattle.vx_rules.proofs.CellLaws.{cells_fine, all_append}
 use Rattle.vx_rules.proofs.ColumnCells.{field_cells, column_values, inner_value, zipped_fields, flags_keep, structs_valid, lists_valid}
 use Rattle.vx_rules.proofs.ColumnStreams.{split_paths, unders, column_paths, other_paths, struct_paths, list_paths, column-append, other_columns-append, struct_splits-append, list_splits_begin, field_streams, StreamsOf, streams_cells, streams_are, chunk_cells, all_chunk_cells, struct_shows, nullable_shows, validity_stream, lists_are, elements_stream, offsets_stream, list_validity_stream, elements_append}
-use Rattle.vx_plan.specs.PlanData.{Setting, Item, Plan, Node, paths, places, stream_values, row_total}
+use Rattle.vx_plan.specs.PlanData.{Setting, Item, Plan, Node, paths, places, stream_values, summed, totals, rows_in, row_total}
 use Rattle.vx_plan.specs.ChunkedNode.{all_pairs, all_faults, all_numbers, all_layouts, all_reserved}
-use Rattle.vx_plan.specs.ColumnNodes.{Column, marked, column_plans, beside, not_struct_node, struct_writers, column_numbers, struct_plans, struct_node, list_writers, list_numbers, list_plans, list_columns_plan, list_node}
+use Rattle.vx_plan.specs.ColumnNodes.{Column, marked, column_plans, beside, not_struct_node, struct_writers, column_numbers, struct_plans, struct_node, list_writers, elements_in, list_numbers, list_plans, list_columns_plan, list_node}
 use Rattle.vx_plan.specs.Valid.{Fit}
 use Rattle.vx_plan.specs.Statements.{Within}
 use Rattle.vx_plan.proofs.Relate.{Fields}
-use Rattle.vx_plan.proofs.PlanLists.{ItemsOf, Holds, Gives, gives_same, ReadAll, all_there_read, all_zones, counted_same, Grow, grow_none, grow_more, nil_left, nil_right, fit_left, fit_right, fit_both, holds_left, holds_right, row_total-append, row_total_cells, stream_values_cells}
+use Rattle.vx_plan.proofs.PlanLists.{ItemsOf, Holds, Gives, gives_same, ReadAll, all_there_read, all_zones, counted_same, Grow, grow_none, grow_more, nil_left, nil_right, fit_left, fit_right, fit_both, fit_last, fit_before, holds_left, holds_right, row_total_cells, stream_values_cells, within, within_itself}
 use Rattle.vx_plan.proofs.Spots.{Apart, Lies, lies_none, scattered_both, apart_both, inside_begins, apart_next}
 use Rattle.vx_plan.proofs.FlatLaws.{Reads, Placed, Grows, Typed, cons_nil}
 use Rattle.vx_plan.proofs.ChunkedLaws.{paths-append}
@@ -119,7 +118,7 @@ nullable_reads admitted s fs v ks rv rs = record { reads = go }
         let flags : Chunks (boolean false) (column 0 xs) × (stream_cells (column 0 xs) ≡ map bool_cell (map flag_of (stream_cells items))) = validity_stream fs items of in
         let fields : StreamsOf fs (field_streams fs 1 (other_columns xs)) × (streams_cells (field_streams fs 1 (other_columns xs)) ≡ field_cells fs (Rattle.vx_rules.proofs.ColumnStreams.all_cells (chunk_cells items))) =
         streams_are fs 1 (other_columns xs) (chunk_cells items) (nullable_shows fs items of) in
-        let numbers : Fit (p.numbers ++ all_numbers ps) = fit.1.1.1 in
+        let numbers : Fit (p.numbers ++ all_numbers ps) = fit_right (column_numbers items (struct_writers true m v ks) e) (p.numbers ++ all_numbers ps) fit in
         let first : Gives admitted s look p.layout (stream_values (column 0 xs)) =
         rv.reads m (column 0 xs) (inside e) flags.0 (nil_left p.faults (all_faults ps) clean) (fit_left p.numbers (all_numbers ps) numbers) look (holds_left look p.pairs (all_pairs ps) held) in
         let others : ReadAll admitted s look (all_layouts ps) (streams_values (field_streams fs 1 (other_columns xs))) =
@@ -145,7 +144,7 @@ plain_reads admitted s fs v ks rs = record { reads = go }
         let fields : StreamsOf fs (field_streams fs 0 xs) × (streams_cells (field_streams fs 0 xs) ≡ field_cells fs (Rattle.vx_rules.proofs.ColumnStreams.all_cells (chunk_cells items))) =
         streams_are fs 0 xs (chunk_cells items) (struct_shows fs items of) in
         let read : ReadAll admitted s look (all_layouts ps) (streams_values (field_streams fs 0 xs)) =
-        fields_read admitted s fs ks rs (m || false) 0 xs e fields.0 clean fit.1.1.1 look held in
+        fields_read admitted s fs ks rs (m || false) 0 xs e fields.0 clean (fit_right (column_numbers items (struct_writers false m v ks) e) (all_numbers ps) fit) look held in
         gives_same admitted s look (struct_node fs false None v ks m items true e).layout (map value (stream_cells items)) (stream_values items)
         (struct_layout_rows admitted s look fs false (row_total items) (all_layouts ps) (streams_values (field_streams fs 0 xs)) (map value (stream_cells items))
         read
@@ -172,6 +171,30 @@ list_layout_rows admitted s look t m n ls vss out r e l = record {
   zones = λ a. (tt, all_zones admitted s look ls vss r a);
 }
 
+summed_elements : (items : List Item) → summed elements_in items ≡ length (all_elements (stream_cells items))
+summed_elements [] = refl
+summed_elements (i ∷ is) =
+    ap (λ n. length (all_elements (cells i.1)) + n) (summed_elements is)
+    ∙ sym (length-append (all_elements (cells i.1)) (all_elements (stream_cells is)))
+    ∙ ap length (sym (elements_append (cells i.1) (stream_cells is)))
+
+-- what the numbers of a list node tell of its offsets and elements, and those of its columns
+pub record ListFits (items : List Item) (ns : List ℕ) : Type 0 where
+  pub offsets : suc (length (stream_cells items)) < 2 ^ 64
+  pub elements : length (all_elements (stream_cells items)) < 2 ^ 64
+  pub columns : Fit ns
+
+pub list_fits : (items : List Item) (ks : List Column) (e : Eof) (ns : List ℕ) → Fit (list_numbers items ks e ++ ns) → ListFits items ns
+list_fits items ks e ns h =
+    let own : (1 + row_total items < 2 ^ 64) × Fit (totals elements_in 0 items ++ column_numbers items ks e) =
+    fit_last rows_in 1 items (totals elements_in 0 items ++ column_numbers items ks e) (omega arith) (fit_left (list_numbers items ks e) ns h) in
+    let all : (0 + summed elements_in items < 2 ^ 64) × Fit (column_numbers items ks e) = fit_last elements_in 0 items (column_numbers items ks e) (omega arith) own.1 in
+    record {
+      offsets = let a : 1 + row_total items < 2 ^ 64 = own.0 in let b : row_total items ≡ length (stream_cells items) = row_total_cells items in omega arith;
+      elements = let a : 0 + summed elements_in items < 2 ^ 64 = all.0 in let b : summed elements_in items ≡ length (all_elements (stream_cells items)) = summed_elements items in omega arith;
+      columns = fit_right (list_numbers items ks e) ns h;
+    }
+
 pub list_reads : (admitted : Bool) (s : Setting) (t : Ty) (n : Bool) (es os v : Node) → Reads admitted s t es → Reads admitted s offset_type os → Reads admitted s (boolean false) v → Reads admitted s (list t n) (list_node t n es os v)
 list_reads admitted s t n es os v re ro rv = record { reads = go n re ro rv }
   where
@@ -185,13 +208,11 @@ list_reads admitted s t n es os v re ro rv = record { reads = go n re ro rv }
         let xs : List Split = list_splits t false true 0 (i ∷ is) in
         let p : Plan = es m (column 0 xs) true (inside e) in
         let q : Plan = os m (column 1 (other_columns xs)) true (inside (next e)) in
-        let lt : suc (row_total (i ∷ is)) < 2 ^ 64 = fit.0 in
-        let all : length (all_elements (stream_cells (i ∷ is))) < 2 ^ 64 = fit.1.0 in
-        let count : row_total (i ∷ is) ≡ length (stream_cells (i ∷ is)) = row_total_cells (i ∷ is) in
-        let numbers : Fit (p.numbers ++ (q.numbers ++ [])) = fit.1.1.1.1.1 in
-        let elements : Chunks t (column 0 xs) × (stream_cells (column 0 xs) ≡ all_elements (stream_cells (i ∷ is))) = elements_stream t false true 0 (i ∷ is) of all in
+        let fits : ListFits (i ∷ is) (p.numbers ++ (q.numbers ++ [])) = list_fits (i ∷ is) (list_writers false m es os v) e (p.numbers ++ (q.numbers ++ [])) fit in
+        let numbers : Fit (p.numbers ++ (q.numbers ++ [])) = fits.columns in
+        let elements : Chunks t (column 0 xs) × (stream_cells (column 0 xs) ≡ all_elements (stream_cells (i ∷ is))) = elements_stream t false true 0 (i ∷ is) of fits.elements in
         let offsets : Chunks offset_type (column 1 (other_columns xs)) × (stream_cells (column 1 (other_columns xs)) ≡ map offset_cell (0 ∷ ends 0 (stream_cells (i ∷ is)))) =
-        offsets_stream t false i is all (omega arith) in
+        offsets_stream t false i is fits.elements fits.offsets in
         let first : Gives admitted s look p.layout (stream_values (column 0 xs)) =
         re.reads m (column 0 xs) (inside e) elements.0 (nil_left p.faults (q.faults ++ []) clean) (fit_left p.numbers (q.numbers ++ []) numbers) look (holds_left look p.pairs (q.pairs ++ []) held) in
         let second : Gives admitted s look q.layout (stream_values (column 1 (other_columns xs))) =
@@ -210,13 +231,12 @@ list_reads admitted s t n es os v re ro rv = record { reads = go n re ro rv }
         let p : Plan = es m (column 0 xs) true (inside e) in
         let q : Plan = os m (column 1 (other_columns xs)) true (inside (next e)) in
         let r : Plan = v m (column 2 (other_columns (other_columns xs))) true (inside (next (next e))) in
-        let lt : suc (row_total (i ∷ is)) < 2 ^ 64 = fit.0 in
-        let all : length (all_elements (stream_cells (i ∷ is))) < 2 ^ 64 = fit.1.0 in
+        let fits : ListFits (i ∷ is) (p.numbers ++ (q.numbers ++ (r.numbers ++ []))) = list_fits (i ∷ is) (list_writers true m es os v) e (p.numbers ++ (q.numbers ++ (r.numbers ++ []))) fit in
         let count : row_total (i ∷ is) ≡ length (stream_cells (i ∷ is)) = row_total_cells (i ∷ is) in
-        let numbers : Fit (p.numbers ++ (q.numbers ++ (r.numbers ++ []))) = fit.1.1.1.1.1 in
-        let elements : Chunks t (column 0 xs) × (stream_cells (column 0 xs) ≡ all_elements (stream_cells (i ∷ is))) = elements_stream t true true 0 (i ∷ is) of all in
+        let numbers : Fit (p.numbers ++ (q.numbers ++ (r.numbers ++ []))) = fits.columns in
+        let elements : Chunks t (column 0 xs) × (stream_cells (column 0 xs) ≡ all_elements (stream_cells (i ∷ is))) = elements_stream t true true 0 (i ∷ is) of fits.elements in
         let offsets : Chunks offset_type (column 1 (other_columns xs)) × (stream_cells (column 1 (other_columns xs)) ≡ map offset_cell (0 ∷ ends 0 (stream_cells (i ∷ is)))) =
-        offsets_stream t true i is all (omega arith) in
+        offsets_stream t true i is fits.elements fits.offsets in
         let flags : Chunks (boolean false) (column 2 (other_columns (other_columns xs))) × (stream_cells (column 2 (other_columns (other_columns xs))) ≡ map bool_cell (map flag_of (stream_cells (i ∷ is)))) =
         list_validity_stream t true 0 (i ∷ is) of in
         let first : Gives admitted s look p.layout (stream_values (column 0 xs)) =
@@ -382,7 +402,8 @@ list_placed t n es os v p q r = record { placed = go }
 -- each of some writers keeps what it wrote
 abbrev pub AllGrow : List Column → Type 0
 AllGrow [] = Unit {0}
-AllGrow (k ∷ ks) = ((xs ys : List Item) (ended : Bool) (e : Eof) → Within (k xs false e) (k (xs ++ ys) ended e)) × ((e : Eof) → (k [] false e).pairs ≡ []) × ((e : Eof) → (k [] false e).reserved ≡ 0) × AllGrow ks
+AllGrow (k ∷ ks) = ((xs ys : List Item) (ended : Bool) (e : Eof) → Within (k xs false e) (k (xs ++ ys) ended e)) × ((e : Eof) → (k [] false e).pairs ≡ []) × ((e : Eof) → (k [] false e).reserved ≡ 0)
+    × ((d e : Eof) → (k [] false d).faults ≡ (k [] false e).faults) × AllGrow ks
 
 columns_grow : (ks : List Column) → AllGrow ks → (c : ℕ) (xs ys : List Split) (ended : Bool) (e : Eof) → Grow (column_plans ks c xs false e) (column_plans ks c (xs ++ ys) ended e)
 columns_grow [] h c xs ys ended e = grow_none []
@@ -390,27 +411,27 @@ columns_grow (k ∷ ks) h c xs ys ended e =
     grow_more (k (column c xs) false (inside e)) (k (column c (xs ++ ys)) ended (inside e)) (column_plans ks (suc c) (other_columns xs) false (next e)) (column_plans ks (suc c) (other_columns (xs ++ ys)) ended (next e))
     (subst (λ z. Within (k (column c xs) false (inside e)) (k z ended (inside e))) (sym (column-append c xs ys)) (h.0 (column c xs) (column c ys) ended (inside e)))
     (subst (λ z. Grow (column_plans ks (suc c) (other_columns xs) false (next e)) (column_plans ks (suc c) z ended (next e))) (sym (other_columns-append xs ys))
-    (columns_grow ks h.3 (suc c) (other_columns xs) (other_columns ys) ended (next e)))
+    (columns_grow ks h.4 (suc c) (other_columns xs) (other_columns ys) ended (next e)))
 
 columns_quiet : (ks : List Column) → AllGrow ks → (c : ℕ) (e : Eof) → all_pairs (column_plans ks c [] false e) ≡ []
 columns_quiet [] h c e = refl
-columns_quiet (k ∷ ks) h c e = ap₂ (λ x y. x ++ y) (h.1 (inside e)) (columns_quiet ks h.3 (suc c) (next e))
+columns_quiet (k ∷ ks) h c e = ap₂ (λ x y. x ++ y) (h.1 (inside e)) (columns_quiet ks h.4 (suc c) (next e))
 
 columns_still : (ks : List Column) → AllGrow ks → (c : ℕ) (e : Eof) → all_reserved (column_plans ks c [] false e) ≡ 0
 columns_still [] h c e = refl
 columns_still (k ∷ ks) h c e =
-    let a : (k [] false (inside e)).reserved ≡ 0 = h.2 (inside e) in let b : all_reserved (column_plans ks (suc c) [] false (next e)) ≡ 0 = columns_still ks h.3 (suc c) (next e) in omega arith
+    let a : (k [] false (inside e)).reserved ≡ 0 = h.2 (inside e) in let b : all_reserved (column_plans ks (suc c) [] false (next e)) ≡ 0 = columns_still ks h.4 (suc c) (next e) in omega arith
+
+columns_steady : (ks : List Column) → AllGrow ks → (c : ℕ) (d e : Eof) → all_faults (column_plans ks c [] false d) ≡ all_faults (column_plans ks c [] false e)
+columns_steady [] h c d e = refl
+columns_steady (k ∷ ks) h c d e = ap₂ (λ x y. x ++ y) (h.3 (inside d) (inside e)) (columns_steady ks h.4 (suc c) (next d) (next e))
 
 beside_within : (l k : LayoutData (List ℕ)) (ns ms : List ℕ) (ps qs : List Plan) → (Fit ms → Fit ns) → Grow ps qs → Within (beside l ns ps) (beside k ms qs)
-beside_within l k ns ms ps qs f g = record {
-  pairs = g.pairs;
-  faultless = g.faultless;
-  reserved = g.reserved;
-  fit = λ e h. fit_both ns (all_numbers ps) (f (fit_left ms (all_numbers qs) h)) (g.fit e (fit_right ms (all_numbers qs) h));
-}
+beside_within l k ns ms ps qs f g =
+    within g.pairs g.faults (λ e h. fit_both ns (all_numbers ps) (f (fit_left ms (all_numbers qs) h)) (g.fit e (fit_right ms (all_numbers qs) h))) g.reserved
 
 one_grows : (t : Ty) (k : Node) → Grows t k → (m : Bool) (ks : List Column) → AllGrow ks → AllGrow (k m ∷ ks)
-one_grows t k c m ks h = ((λ xs ys ended e. c.grows m xs ys ended e), (λ e. c.quiet m e), (λ e. c.still m e), h)
+one_grows t k c m ks h = ((λ xs ys ended e. c.grows m xs ys ended e), (λ e. c.quiet m e), (λ e. c.still m e), (λ d e. c.steady m d e), h)
 
 fields_grow : (fs : Tys) (ks : List Node) → Fields (λ t k. Grows t k) fs ks → (m : Bool) → AllGrow (marked m ks)
 fields_grow no_fields [] h m = tt
@@ -423,13 +444,14 @@ writers_grow fs true m v ks c h = one_grows (boolean false) v c m (marked (m || 
 writers_grow fs false m v ks c h = fields_grow fs ks h (m || false)
 
 numbers_fit : (xs ys : List Item) (ks : List Column) (e : Eof) → Fit (column_numbers (xs ++ ys) ks e) → Fit (column_numbers xs ks e)
-numbers_fit xs ys ks e h = ((let total : row_total (xs ++ ys) ≡ row_total xs + row_total ys = row_total-append xs ys in let a : row_total (xs ++ ys) < 2 ^ 64 = h.0 in omega arith), h.1)
+numbers_fit xs ys ks e h = fit_before rows_in 0 xs ys (length ks ∷ (e.last + length ks) ∷ []) (length ks ∷ (e.last + length ks) ∷ []) (λ f. f) h
 
 pub struct_grows : (fs : Tys) (n : Bool) (dup : Option (List ℕ)) (v : Node) (ks : List Node) → Grows (boolean false) v → Fields (λ t k. Grows t k) fs ks → Grows (struct fs n) (struct_node fs n dup v ks)
 struct_grows fs n (Some name) v ks c h = record {
-  grows = λ m xs ys ended e. record { pairs = λ x i. i; faultless = λ f. f; fit = λ f g. g; reserved = omega arith };
+  grows = λ m xs ys ended e. within_itself (struct_node fs n (Some name) v ks m xs false e);
   quiet = λ m e. refl;
   still = λ m e. refl;
+  steady = λ m d e. refl;
 }
 struct_grows fs n None v ks c h = record {
   grows = λ m xs ys ended e.
@@ -440,13 +462,15 @@ struct_grows fs n None v ks c h = record {
       (columns_grow (struct_writers n m v ks) (writers_grow fs n m v ks c h) 0 (struct_splits fs n xs) (struct_splits fs n ys) ended e));
   quiet = λ m e. columns_quiet (struct_writers n m v ks) (writers_grow fs n m v ks c h) 0 e;
   still = λ m e. columns_still (struct_writers n m v ks) (writers_grow fs n m v ks c h) 0 e;
+  steady = λ m d e. columns_steady (struct_writers n m v ks) (writers_grow fs n m v ks c h) 0 d e;
 }
 
 pub not_struct_grows : (t : Ty) → Grows t (not_struct_node t)
 not_struct_grows t = record {
-  grows = λ m xs ys ended e. record { pairs = λ x i. i; faultless = λ f. f; fit = λ f g. g; reserved = omega arith };
+  grows = λ m xs ys ended e. within_itself (not_struct_node t m xs false e);
   quiet = λ m e. refl;
   still = λ m e. refl;
+  steady = λ m d e. refl;
 }
 
 list_writers_grow : (t : Ty) (n m : Bool) (es os v : Node) → Grows t es → Grows offset_type os → Grows (boolean false) v → AllGrow (list_writers n m es os v)
@@ -454,21 +478,16 @@ list_writers_grow t true m es os v a b c = one_grows t es a m (os m ∷ v m ∷ 
 list_writers_grow t false m es os v a b c = one_grows t es a m (os m ∷ []) (one_grows offset_type os b m [] tt)
 
 list_numbers_fit : (xs ys : List Item) (ks : List Column) (e : Eof) → Fit (list_numbers (xs ++ ys) ks e) → Fit (list_numbers xs ks e)
-list_numbers_fit xs ys ks e h = (
-  (let total : row_total (xs ++ ys) ≡ row_total xs + row_total ys = row_total-append xs ys in let a : suc (row_total (xs ++ ys)) < 2 ^ 64 = h.0 in omega arith),
-  (
-    (let all : length (all_elements (stream_cells (xs ++ ys))) ≡ length (all_elements (stream_cells xs)) + length (all_elements (stream_cells ys)) =
-        ap (λ z. length (all_elements z)) (stream_cells-append xs ys) ∙ ap length (elements_append (stream_cells xs) (stream_cells ys)) ∙ length-append (all_elements (stream_cells xs)) (all_elements (stream_cells ys)) in
-        let b : length (all_elements (stream_cells (xs ++ ys))) < 2 ^ 64 = h.1.0 in omega arith),
-    numbers_fit xs ys ks e h.1.1,
-  ),
-)
+list_numbers_fit xs ys ks e h =
+    fit_before rows_in 1 xs ys (totals elements_in 0 (xs ++ ys) ++ column_numbers (xs ++ ys) ks e) (totals elements_in 0 xs ++ column_numbers xs ks e)
+    (fit_before elements_in 0 xs ys (column_numbers (xs ++ ys) ks e) (column_numbers xs ks e) (numbers_fit xs ys ks e)) h
 
 pub list_grows : (t : Ty) (n : Bool) (es os v : Node) → Grows t es → Grows offset_type os → Grows (boolean false) v → Grows (list t n) (list_node t n es os v)
 list_grows t n es os v p q r = record {
   grows = go;
   quiet = λ m e. columns_quiet (list_writers n m es os v) (list_writers_grow t n m es os v p q r) 0 e;
   still = λ m e. columns_still (list_writers n m es os v) (list_writers_grow t n m es os v p q r) 0 e;
+  steady = λ m d e. columns_steady (list_writers n m es os v) (list_writers_grow t n m es os v p q r) 0 d e;
 }
   where
     columns : (m : Bool) (xs ys : List Item) (ended : Bool) (e : Eof) → Within (list_columns_plan t n es os v m xs false e) (list_columns_plan t n es os v m (xs ++ ys) ended e)
@@ -481,12 +500,9 @@ list_grows t n es os v p q r = record {
         (columns_grow (list_writers n m es os v) (list_writers_grow t n m es os v p q r) 0 (list_splits t n true 0 xs) b.0 ended e))
 
     go : (m : Bool) (xs ys : List Item) (ended : Bool) (e : Eof) → Within (list_node t n es os v m xs false e) (list_node t n es os v m (xs ++ ys) ended e)
-    go m [] [] true e = record {
-      pairs = λ x i. subst (In x) (columns_quiet (list_writers n m es os v) (list_writers_grow t n m es os v p q r) 0 e) i;
-      faultless = λ f. cc;
-      fit = λ f g. absurd (cons_nil f);
-      reserved = let z : all_reserved (list_plans t n es os v m [] false e) ≡ 0 = columns_still (list_writers n m es os v) (list_writers_grow t n m es os v p q r) 0 e in omega arith;
-    }
+    go m [] [] true e =
+        within (λ x i. subst (In x) (columns_quiet (list_writers n m es os v) (list_writers_grow t n m es os v p q r) 0 e) i) (λ f i. inr i) (λ f g. absurd (cons_nil f))
+        (let z : all_reserved (list_plans t n es os v m [] false e) ≡ 0 = columns_still (list_writers n m es os v) (list_writers_grow t n m es os v p q r) 0 e in omega arith)
     go m [] [] false e = columns m [] [] false e
     go m [] (y ∷ ys) ended e = columns m [] (y ∷ ys) ended e
     go m (x ∷ xs) ys ended e = columns m (x ∷ xs) ys ended e

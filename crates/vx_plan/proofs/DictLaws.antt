@@ -1,5 +1,5 @@
 -- The laws of a dictionary node.
-use Rattle.std.proofs.Common.{◌≡◌, ℕ, ◌+◌, ◌*◌, ◌<◌, ◌≤◌, ◌^◌, Bool, true, false, List, [], ◌∷◌, ◌++◌, map, length, Option, Some, refl, sym, ap, ap₂, ◌∙◌, subst, inl, inr, ⊎_elim, arith, append_assoc}
+use Rattle.std.proofs.Common.{◌≡◌, ℕ, ◌+◌, ◌*◌, ◌<◌, ◌≤◌, ◌^◌, Bool, true, false, List, [], ◌∷◌, ◌++◌, map, length, Option, Some, refl, sym, ap, ap₂, ◌∙◌, subst, inl, inr, arith, append_assoc}
 use Rattle.std.specs.Prelude.{if◌then◌else◌}
 use Rattle.std.proofs.lemmas.List.{length-map, map-append}
 use Rattle.std.proofs.lemmas.Bool.{true≢false}
@@ -8,7 +8,6 @@ use Rattle.vx_model.specs.CellData.{CellData}
 use Rattle.vx_model.specs.ValueData.{ValueData, value}
 use Rattle.vx_model.specs.ChunkData.{is_dict_type}
 use Rattle.vx_path.specs.Path.{Eof, Region, inside, next}
-use Rattle.vx_path.proofs.Lists.{in_left, in_right, in_cases}
 use Rattle.vx_layout_spec.specs.Rows.{rows, and_then, all_there, counted, joined, dict_rows}
 use Rattle.vx_layout_spec.specs.LayoutTree.{LayoutData, layout_type, dict_layout, gathered}
 use Rattle.vx_rules.specs.Stream.{Chunks, stream_cells, chunk_paths}
@@ -16,12 +15,12 @@ use Rattle.vx_rules.specs.Columns.{offset_cell}
 use Rattle.vx_rules.specs.Runs.{DictOptions, Run, runs, code_type, cut_at}
 use Rattle.vx_rules.proofs.RunLaws.{decodes_rows, decodes_length}
 use Rattle.vx_rules.proofs.RunStreams.{Ended, AllEnded, runs_end, RunGrows, RunsGrow, runs_grow, run_paths, runs_onto}
-use Rattle.vx_plan.specs.PlanData.{Setting, Item, Pair, Plan, Node, paths, places, stream_values, row_total}
+use Rattle.vx_plan.specs.PlanData.{Setting, Item, Pair, Plan, Node, paths, places, stream_values, rows_in, row_total}
 use Rattle.vx_plan.specs.ChunkedNode.{both_plans, all_pairs, all_faults, all_numbers, all_layouts}
 use Rattle.vx_plan.specs.DictNode.{is_dictionary, run_plan, run_plans, made_counts, dict_numbers, runs_node, dict_node}
 use Rattle.vx_plan.specs.Valid.{Fit}
 use Rattle.vx_plan.specs.Statements.{Within}
-use Rattle.vx_plan.proofs.PlanLists.{ItemsOf, Holds, Gives, gives_same, ReadAll, Grow, grow_none, grow_more, within_itself, gathered_reads, counted_same, nil_left, nil_right, nil_both, fit_left, fit_right, fit_both, holds_left, holds_right, row_total-append, row_total_cells, stream_values_cells}
+use Rattle.vx_plan.proofs.PlanLists.{ItemsOf, Holds, Gives, gives_same, ReadAll, Grow, grow_none, grow_more, in_joined, within, within_itself, gathered_reads, counted_same, nil_left, nil_right, fit_left, fit_right, fit_both, fit_before, holds_left, holds_right, row_total_cells, stream_values_cells}
 use Rattle.vx_plan.proofs.Spots.{Apart, Lies, lies_none, two_parts, apart_left, apart_right, apart_inside, apart_next}
 use Rattle.vx_plan.proofs.FlatLaws.{Reads, Placed, Grows, Typed}
 use Rattle.vx_plan.proofs.ChunkedLaws.{paths-append}
@@ -143,12 +142,10 @@ dict_placed s o t ck vk f c v pf = record { placed = go }
 -- ---- prefixes
 
 both_within : (l k : LayoutData (List ℕ)) (p q r u : Plan) → Within p r → Within q u → Within (both_plans l [] p q) (both_plans k [] r u)
-both_within l k p q r u a b = record {
-  pairs = λ x h. ⊎_elim (λ i. in_left x r.pairs u.pairs (a.pairs x i)) (λ i. in_right x r.pairs u.pairs (b.pairs x i)) (in_cases x p.pairs q.pairs h);
-  faultless = λ e. nil_both p.faults q.faults (a.faultless (nil_left r.faults u.faults e)) (b.faultless (nil_right r.faults u.faults e));
-  fit = λ e h. fit_both p.numbers q.numbers (a.fit (nil_left r.faults u.faults e) (fit_left r.numbers u.numbers h)) (b.fit (nil_right r.faults u.faults e) (fit_right r.numbers u.numbers h));
-  reserved = let m : p.reserved ≤ r.reserved = a.reserved in let n : q.reserved ≤ u.reserved = b.reserved in omega arith;
-}
+both_within l k p q r u a b =
+    within (in_joined p.pairs q.pairs r.pairs u.pairs a.pairs b.pairs) (in_joined p.faults q.faults r.faults u.faults a.faults b.faults)
+    (λ e h. fit_both p.numbers q.numbers (a.fit (nil_left r.faults u.faults e) (fit_left r.numbers u.numbers h)) (b.fit (nil_right r.faults u.faults e) (fit_right r.numbers u.numbers h)))
+    (let m : p.reserved ≤ r.reserved = a.reserved in let n : q.reserved ≤ u.reserved = b.reserved in omega arith)
 
 run_within : (o : DictOptions) (t : Ty) (ck vk : Node) → Grows (code_type o) ck → Grows t vk → (m : Bool) (r q : Run) (e : Eof) → RunGrows r q → Within (run_plan t ck vk m r e) (run_plan t ck vk m q e)
 run_within o t ck vk c v m r q e (inl h) = subst (λ z. Within (run_plan t ck vk m r e) (run_plan t ck vk m z e)) h (within_itself (run_plan t ck vk m r e))
@@ -183,26 +180,21 @@ numbers_before : (o : DictOptions) (t : Ty) (x : Item) (xs ys : List Item) (ende
 numbers_before o t x xs ys ended e h =
     let b : (more : List ℕ) × (made_counts o t [] (x ∷ xs ++ ys) ended ≡ made_counts o t [] (x ∷ xs) false ++ more) = made_begin o t [] (x ∷ xs) ys ended in
     let l : length (runs o t (x ∷ xs) false) ≤ length (runs o t (x ∷ xs ++ ys) ended) = runs_fewer (runs o t (x ∷ xs) false) (runs o t (x ∷ xs ++ ys) ended) (runs_grow o t x xs ys ended) in
-    let total : row_total (x ∷ xs ++ ys) ≡ row_total (x ∷ xs) + row_total ys = row_total-append (x ∷ xs) ys in (
-      (let a : row_total (x ∷ xs ++ ys) < 2 ^ 64 = h.0 in omega arith),
-      ((let a : e.last + 2 * length (runs o t (x ∷ xs ++ ys) ended) < 2 ^ 64 = h.1.0 in omega arith), fit_left (made_counts o t [] (x ∷ xs) false) b.0 (subst Fit b.1 h.1.1)),
-    )
+    fit_before rows_in 0 (x ∷ xs) ys ((e.last + 2 * length (runs o t (x ∷ xs ++ ys) ended)) ∷ made_counts o t [] (x ∷ xs ++ ys) ended) ((e.last + 2 * length (runs o t (x ∷ xs) false)) ∷ made_counts o t [] (x ∷ xs) false)
+    (λ f. ((let a : e.last + 2 * length (runs o t (x ∷ xs ++ ys) ended) < 2 ^ 64 = f.0 in omega arith), fit_left (made_counts o t [] (x ∷ xs) false) b.0 (subst Fit b.1 f.1))) h
 
 pub dict_grows : (s : Setting) (o : DictOptions) (t : Ty) (ck vk f : Node) → Grows (code_type o) ck → Grows t vk → Grows t f → Grows t (dict_node s o t ck vk f)
-dict_grows s o t ck vk f c v gf = record { grows = go; quiet = λ m e. refl; still = λ m e. refl }
+dict_grows s o t ck vk f c v gf = record { grows = go; quiet = λ m e. refl; still = λ m e. refl; steady = λ m d e. refl }
   where
     by_runs : (m : Bool) (x : Item) (xs ys : List Item) (ended : Bool) (e : Eof) → Within (runs_node o t ck vk m (x ∷ xs) false e) (runs_node o t ck vk m (x ∷ xs ++ ys) ended e)
     by_runs m x xs ys ended e =
         let g : Grow (run_plans t ck vk m (runs o t (x ∷ xs) false) e) (run_plans t ck vk m (runs o t (x ∷ xs ++ ys) ended) e) =
         runs_within o t ck vk c v m (runs o t (x ∷ xs) false) (runs o t (x ∷ xs ++ ys) ended) e (runs_grow o t x xs ys ended) in
-        record {
-          pairs = g.pairs;
-          faultless = g.faultless;
-          reserved = g.reserved;
-          fit = λ w h. fit_both (dict_numbers o t (x ∷ xs) false e) (all_numbers (run_plans t ck vk m (runs o t (x ∷ xs) false) e))
-              (numbers_before o t x xs ys ended e (fit_left (dict_numbers o t (x ∷ xs ++ ys) ended e) (all_numbers (run_plans t ck vk m (runs o t (x ∷ xs ++ ys) ended) e)) h))
-              (g.fit w (fit_right (dict_numbers o t (x ∷ xs ++ ys) ended e) (all_numbers (run_plans t ck vk m (runs o t (x ∷ xs ++ ys) ended) e)) h));
-        }
+        within g.pairs g.faults
+        (λ w h. fit_both (dict_numbers o t (x ∷ xs) false e) (all_numbers (run_plans t ck vk m (runs o t (x ∷ xs) false) e))
+        (numbers_before o t x xs ys ended e (fit_left (dict_numbers o t (x ∷ xs ++ ys) ended e) (all_numbers (run_plans t ck vk m (runs o t (x ∷ xs ++ ys) ended) e)) h))
+        (g.fit w (fit_right (dict_numbers o t (x ∷ xs ++ ys) ended e) (all_numbers (run_plans t ck vk m (runs o t (x ∷ xs ++ ys) ended) e)) h)))
+        g.reserved
 
     either : (b : Bool) (m : Bool) (x : Item) (xs ys : List Item) (ended : Bool) (e : Eof)
         → Within (if b then runs_node o t ck vk m (x ∷ xs) false e else f m (x ∷ xs) false e) (if b then runs_node o t ck vk m (x ∷ xs ++ ys) ended e else f m (x ∷ xs ++ ys) ended e)
@@ -210,7 +202,7 @@ dict_grows s o t ck vk f c v gf = record { grows = go; quiet = λ m e. refl; sti
     either false m x xs ys ended e = gf.grows m (x ∷ xs) ys ended e
 
     go : (m : Bool) (xs ys : List Item) (ended : Bool) (e : Eof) → Within (dict_node s o t ck vk f m xs false e) (dict_node s o t ck vk f m (xs ++ ys) ended e)
-    go m [] ys ended e = record { pairs = λ x h. absurd h; faultless = λ h. refl; fit = λ h g. tt; reserved = omega arith }
+    go m [] ys ended e = within (λ x h. absurd h) (λ f h. absurd h) (λ c g. tt) (omega arith)
     go m (x ∷ xs) ys ended e = either (is_dictionary (s.image o.probe x.1)) m x xs ys ended e
 
 -- ---- type

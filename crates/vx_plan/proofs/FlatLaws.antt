@@ -11,12 +11,13 @@ use Rattle.vx_path.specs.Path.{Eof, Region}
 use Rattle.vx_path.proofs.Path.{begins-refl}
 use Rattle.vx_layout_spec.specs.LayoutTree.{layout_type}
 use Rattle.vx_layout_spec.specs.Rows.{and_then, counted}
-use Rattle.vx_plan.specs.PlanData.{Setting, Item, Node, paths, places, stream_values}
+use Rattle.vx_plan.specs.PlanData.{Setting, Item, Node, fault, many_chunks, at_chunk, paths, places, stream_values}
 use Rattle.vx_strategy_spec.specs.StrategyData.{FlatOptions}
-use Rattle.vx_plan.specs.FlatNode.{flat_node, segment, pair_at, refused_at, length_of}
+use Rattle.vx_plan.specs.FlatNode.{flat_node, segment, pair_at, refused_at, refusals, length_of}
 use Rattle.vx_plan.specs.Valid.{Fit, Keeps}
 use Rattle.vx_plan.specs.Statements.{Within}
-use Rattle.vx_plan.proofs.PlanLists.{ItemsOf, Holds, Gives, nil_left, nil_right, counted_same}
+use Rattle.vx_path.proofs.Lists.{in_left}
+use Rattle.vx_plan.proofs.PlanLists.{ItemsOf, Holds, Gives, nil_right, counted_same, within}
 use Rattle.vx_plan.proofs.Spots.{Apart, Lies, lies_none, lies_one}
 
 -- What the laws say of a node at a type.
@@ -34,6 +35,7 @@ pub record Grows (t : Ty) (k : Node) : Type 0 where
   pub grows : (m : Bool) (xs ys : List Item) (ended : Bool) (e : Eof) → Within (k m xs false e) (k m (xs ++ ys) ended e)
   pub quiet : (m : Bool) (e : Eof) → (k m [] false e).pairs ≡ []
   pub still : (m : Bool) (e : Eof) → (k m [] false e).reserved ≡ 0
+  pub steady : (m : Bool) (d e : Eof) → (k m [] false d).faults ≡ (k m [] false e).faults
 
 -- the layout has the node's type
 pub record Typed (t : Ty) (k : Node) : Type 0 where
@@ -104,21 +106,16 @@ flat_placed s o t = record { placed = go }
 -- ---- prefixes
 
 pub flat_grows : (s : Setting) (o : FlatOptions) (t : Ty) → Grows t (flat_node s o t)
-flat_grows s o t = record { grows = go; quiet = λ m e. refl; still = λ m e. refl }
+flat_grows s o t = record { grows = go; quiet = λ m e. refl; still = λ m e. refl; steady = λ m d e. refl }
   where
     none : 0 ≤ 0
     none = omega arith
 
     go : (m : Bool) (xs ys : List Item) (ended : Bool) (e : Eof) → Within (flat_node s o t m xs false e) (flat_node s o t m (xs ++ ys) ended e)
-    go m [] ys ended e = record { pairs = λ x h. absurd h; faultless = λ f. refl; fit = λ f h. tt; reserved = omega arith }
-    go m (i ∷ []) [] ended e = record { pairs = λ x h. absurd h; faultless = λ f. f; fit = λ f h. h; reserved = none }
-    go m (i ∷ []) (y ∷ ys) ended e = record {
-      pairs = λ x h. absurd h;
-      faultless = λ f. nil_left (refused_at i.0 (s.codec.refused s.encodings i.1)) _ f;
-      fit = λ f h. h;
-      reserved = none;
-    }
-    go m (i ∷ j ∷ is) ys ended e = record { pairs = λ x h. h; faultless = λ f. f; fit = λ f h. h; reserved = none }
+    go m [] ys ended e = within (λ x h. absurd h) (λ f h. absurd h) (λ c h. tt) (omega arith)
+    go m (i ∷ []) [] ended e = within (λ x h. absurd h) (λ f h. h) (λ c h. h) none
+    go m (i ∷ []) (y ∷ ys) ended e = within (λ x h. absurd h) (λ f h. in_left f (refusals s i) (fault many_chunks (at_chunk y.0) ∷ []) h) (λ c h. h) none
+    go m (i ∷ j ∷ is) ys ended e = within (λ x h. h) (λ f h. h) (λ c h. h) none
 
 pub flat_typed : (s : Setting) (o : FlatOptions) (t : Ty) → Typed t (flat_node s o t)
 flat_typed s o t = record { typed = go }

@@ -15,12 +15,12 @@ use Rattle.vx_rules.proofs.RegroupLaws.{Onto, regrouped_rows, regrouped_of, regr
 use Rattle.vx_rules.proofs.BlockLaws.{Rows, blocks_regroup}
 use Rattle.vx_rules.proofs.FlushLaws.{flushes_regroup, collected_rows, collected_of, collected_onto, collected_open}
 use Rattle.vx_rules.specs.Stream.{piece_cells, PiecesOf}
-use Rattle.vx_plan.specs.PlanData.{Setting, Item, Plan, Node, paths, places, stream_values, row_total}
+use Rattle.vx_plan.specs.PlanData.{Setting, Item, Plan, Node, paths, places, stream_values, rows_in, row_totals}
 use Rattle.vx_strategy_spec.specs.StrategyData.{Grouping, by_blocks, by_bytes, into_one}
 use Rattle.vx_plan.specs.GroupNode.{with_numbers, grouped_stream, counted_at, left_count, rest_count, block_count, block_rest, held_sizes, group_numbers, held_total, group_reserved, grouped_node, images, compressed_node}
 use Rattle.vx_plan.specs.Valid.{Fit, Keeps}
 use Rattle.vx_plan.specs.Statements.{Within}
-use Rattle.vx_plan.proofs.PlanLists.{ItemsOf, Holds, Gives, gives_same, fit_left, fit_right, fit_both, row_total-append, row_total_cells, stream_values_cells}
+use Rattle.vx_plan.proofs.PlanLists.{ItemsOf, Holds, Gives, gives_same, fit_left, fit_right, fit_both, fit_before, fit_cells, stream_values_cells, within}
 use Rattle.vx_plan.proofs.Spots.{Apart, Lies, apart_both}
 use Rattle.vx_plan.proofs.FlatLaws.{Reads, Placed, Grows, Typed}
 
@@ -55,11 +55,10 @@ grouped_reads admitted s g t k r = record { reads = go }
         → (look : List ℕ → Option (List ℕ)) → Holds look (grouped_node g t k m items true e).pairs
         → Gives admitted s look (grouped_node g t k m items true e).layout (stream_values items)
     go m items e of clean fit look held =
-        let count : row_total items ≡ length (stream_cells items) = row_total_cells items in
-        let lt : row_total items < 2 ^ 64 = fit.0 in
+        let fits : (length (stream_cells items) < 2 ^ 64) × Fit (k m (grouped_stream g t items true) true e).numbers =
+        fit_cells items (group_numbers g t items true) (k m (grouped_stream g t items true) true e).numbers fit in
         gives_same admitted s look (k m (grouped_stream g t items true) true e).layout (stream_values (grouped_stream g t items true)) (stream_values items)
-        (r.reads m (grouped_stream g t items true) e (kept_of g t items of (omega arith)) clean
-        (fit_right (row_total items ∷ group_numbers g t items true) (k m (grouped_stream g t items true) true e).numbers fit) look held)
+        (r.reads m (grouped_stream g t items true) e (kept_of g t items of fits.0) clean fits.1 look held)
         (stream_values_cells (grouped_stream g t items true) ∙ ap (map value) (kept_cells g t items) ∙ sym (stream_values_cells items))
 
 -- ---- paths
@@ -110,12 +109,9 @@ fit_group (by_bytes size) t xs ys ended h =
 fit_group into_one t xs ys ended h = tt
 
 pub with_within : (ns ms : List ℕ) (a b : ℕ) (p q : Plan) → (Fit ms → Fit ns) → a ≤ b → Within p q → Within (with_numbers ns a p) (with_numbers ms b q)
-with_within ns ms a b p q f l h = record {
-  pairs = h.pairs;
-  faultless = h.faultless;
-  reserved = let k : p.reserved ≤ q.reserved = h.reserved in omega arith;
-  fit = λ e g. fit_both ns p.numbers (f (fit_left ms q.numbers g)) (h.fit e (fit_right ms q.numbers g));
-}
+with_within ns ms a b p q f l h =
+    within h.pairs h.faults (λ e g. fit_both ns p.numbers (f (fit_left ms q.numbers g)) (h.fit e (fit_right ms q.numbers g)))
+    (let k : p.reserved ≤ q.reserved = h.reserved in omega arith)
 
 held_more : (xs ys : List Item) → held_total xs ≤ held_total (xs ++ ys)
 held_more [] ys = omega arith
@@ -144,13 +140,14 @@ pub grouped_grows : (g : Grouping) (t : Ty) (k : Node) → Grows t k → Grows t
 grouped_grows g t k c = record {
   grows = λ m xs ys ended e.
       let b : (more : List Item) × (grouped_stream g t (xs ++ ys) ended ≡ grouped_stream g t xs false ++ more) = grouped_begins g t xs ys ended in
-      with_within (row_total xs ∷ group_numbers g t xs false) (row_total (xs ++ ys) ∷ group_numbers g t (xs ++ ys) ended) (group_reserved g xs) (group_reserved g (xs ++ ys))
+      with_within (row_totals xs ++ group_numbers g t xs false) (row_totals (xs ++ ys) ++ group_numbers g t (xs ++ ys) ended) (group_reserved g xs) (group_reserved g (xs ++ ys))
       (k m (grouped_stream g t xs false) false e) (k m (grouped_stream g t (xs ++ ys) ended) ended e)
-      (λ f. ((let total : row_total (xs ++ ys) ≡ row_total xs + row_total ys = row_total-append xs ys in let a : row_total (xs ++ ys) < 2 ^ 64 = f.0 in omega arith), fit_group g t xs ys ended f.1))
+      (fit_before rows_in 0 xs ys (group_numbers g t (xs ++ ys) ended) (group_numbers g t xs false) (fit_group g t xs ys ended))
       (reserved_more g xs ys)
       (subst (λ z. Within (k m (grouped_stream g t xs false) false e) (k m z ended e)) (sym b.1) (c.grows m (grouped_stream g t xs false) b.0 ended e));
   quiet = λ m e. ap (λ z. (k m z false e).pairs) (no_stream g t) ∙ c.quiet m e;
   still = λ m e. ap₂ (λ n z. n + (k m z false e).reserved) (none_reserved g) (no_stream g t) ∙ nothing (k m [] false e).reserved (c.still m e);
+  steady = λ m d e. ap (λ z. (k m z false d).faults) (no_stream g t) ∙ c.steady m d e ∙ sym (ap (λ z. (k m z false e).faults) (no_stream g t));
 }
 
 pub grouped_typed : (g : Grouping) (t : Ty) (k : Node) → Typed t k → Typed t (grouped_node g t k)
@@ -194,6 +191,7 @@ compressed_grows s which room t k c = record {
       (c.grows m (images s which xs) (images s which ys) ended e);
   quiet = λ m e. c.quiet m e;
   still = λ m e. c.still m e;
+  steady = λ m d e. c.steady m d e;
 }
 
 pub compressed_typed : (s : Setting) (which room : ℕ) (t : Ty) (k : Node) → Typed t k → Typed t (compressed_node s which room t k)

@@ -1,5 +1,5 @@
 -- Chunking over flat, in closed form.
-use Rattle.std.proofs.Common.{◌≡◌, ℕ, zero, suc, ◌+◌, ◌<◌, ◌≤◌, bytes_eq, Bool, true, false, List, [], ◌∷◌, ◌++◌, map, length, Option, Some, None, refl, sym, ap, ap₂, ◌∙◌, subst, inl, inr, ⊎_elim, arith}
+use Rattle.std.proofs.Common.{◌≡◌, ℕ, zero, suc, ◌+◌, ◌<◌, ◌≤◌, ◌^◌, bytes_eq, Bool, true, false, List, [], ◌∷◌, ◌++◌, map, length, Option, Some, None, refl, sym, ap, ap₂, ◌∙◌, subst, inl, inr, ⊎_elim, arith}
 use Rattle.std.proofs.lemmas.List.{append-nil}
 use Rattle.std.proofs.lemmas.Bool.{cases_Bool}
 use Rattle.std.specs.Cmp.Lexicographic.{bytes_decides}
@@ -12,16 +12,17 @@ use Rattle.vx_path.specs.Path.{Eof, inside, next, path_le, root_eof}
 use Rattle.vx_path.specs.Sort.{Ascends}
 use Rattle.vx_path.proofs.Path.{under_le}
 use Rattle.vx_path.proofs.Sort.{sort_by-ascending}
-use Rattle.vx_path.proofs.Lists.{in_cases}
+use Rattle.vx_path.proofs.Lists.{in_left, in_cases}
 use Rattle.vx_layout_spec.specs.LayoutTree.{LayoutData, layout, chunked_kind, gathered, renamed, each_renamed, lays_of, child, flat_layout}
-use Rattle.vx_plan.specs.PlanData.{Setting, Item, Pair, Plan, stored, row_total}
+use Rattle.vx_plan.specs.PlanData.{Setting, Item, Pair, Plan, stored, rows_in, row_total, row_totals}
 use Rattle.vx_strategy_spec.specs.StrategyData.{StrategyData, FlatOptions, flat, chunked, leaf}
 use Rattle.vx_plan.specs.FlatNode.{segment, pair_at, refused_at, refusals, flat_of, inlined}
-use Rattle.vx_plan.specs.ChunkedNode.{chunk_plans, all_pairs, all_faults, all_layouts}
+use Rattle.vx_plan.specs.ChunkedNode.{chunk_plans, chunked_numbers, all_pairs, all_faults, all_numbers, all_layouts}
 use Rattle.vx_plan.specs.SourcePlan.{plan, source_plan, batch_items}
 use Rattle.vx_plan.specs.Number.{path_of, sorted, place_of, number_of}
 use Rattle.vx_plan.specs.InOrder.{batch_pairs, batch_refusals, batch_segments, batch_flats, batch_rows, there, ChunksInOrder}
-use Rattle.vx_plan.proofs.PlanLists.{nil_left, nil_right}
+use Rattle.vx_plan.specs.Valid.{Fit, IsPast}
+use Rattle.vx_plan.proofs.PlanLists.{nil_left, nil_right, fit_left, fit_total, in_totals}
 
 -- ---- a chunk alone
 
@@ -159,6 +160,23 @@ renamed-gathered f t n [] = refl
 renamed-gathered f t n (l ∷ []) = refl
 renamed-gathered f t n (l ∷ k ∷ ls) = ap (λ z. layout chunked_kind t n [] z) (each_renamed-lays_of f (l ∷ k ∷ ls))
 
+rows_fit : (s : Setting) (w : StrategyData) (t : Ty) (m : Bool) (batches : List ChunkData) (ended : Bool) → Fit (source_plan s (chunked w) t m batches ended).numbers → batch_rows batches < 2 ^ 64
+rows_fit s w t m batches ended f =
+    subst (λ n. n < 2 ^ 64) (rows_are 0 batches)
+    (fit_total (batch_items 0 batches) ((1 + length (batch_items 0 batches)) ∷ [])
+    (fit_left (chunked_numbers (batch_items 0 batches) root_eof) (all_numbers (chunk_plans (plan s w t) m (batch_items 0 batches) root_eof)) f.1)).0
+
+rows_past : (s : Setting) (w : StrategyData) (t : Ty) (m : Bool) (batches : List ChunkData) (ended : Bool) → 2 ^ 64 ≤ batch_rows batches → IsPast (batch_rows batches) (source_plan s (chunked w) t m batches ended).numbers
+rows_past s w t m [] ended h = absurd (omega arith)
+rows_past s w t m (b ∷ bs) ended h =
+    let e : 0 + row_total ((0 ∷ 0 ∷ [], b) ∷ batch_items 1 bs) ≡ batch_rows (b ∷ bs) =
+    (let r : row_total ((0 ∷ 0 ∷ [], b) ∷ batch_items 1 bs) ≡ batch_rows (b ∷ bs) = rows_are 0 (b ∷ bs) in omega arith) in
+    let i : In (batch_rows (b ∷ bs)) (row_totals (batch_items 0 (b ∷ bs))) = subst (λ k. In k (row_totals (batch_items 0 (b ∷ bs)))) e (in_totals rows_in 0 (0 ∷ 0 ∷ [], b) (batch_items 1 bs)) in (
+      h,
+      inl (inr (in_left (batch_rows (b ∷ bs)) (chunked_numbers (batch_items 0 (b ∷ bs)) root_eof) (all_numbers (chunk_plans (plan s w t) m (batch_items 0 (b ∷ bs)) root_eof))
+          (in_left (batch_rows (b ∷ bs)) (row_totals (batch_items 0 (b ∷ bs))) ((1 + length (batch_items 0 (b ∷ bs))) ∷ []) i))),
+    )
+
 pub chunks_in_order : ChunksInOrder
 chunks_in_order s o w t m batches ended h =
     let ps : (source_plan s (chunked w) t m batches ended).pairs ≡ batch_pairs s o 0 batches = pairs_are s o w t m h 0 batches root_eof in
@@ -175,5 +193,6 @@ chunks_in_order s o w t m batches ended h =
           (renamed_flats s o t (number_of (source_plan s (chunked w) t m batches ended).pairs first) 0 first batches
           (λ j lt. ap (λ z. first + place_of (0 ∷ (0 + j) ∷ []) z) (ap sorted ps ∙ sorted_are s o 0 batches)
           ∙ ap (λ z. first + z) (places_are s o 0 batches clean enc j lt)));
-      rows = inr (inl (sym (rows_are 0 batches)));
+      rows = rows_fit s w t m batches ended;
+      past = rows_past s w t m batches ended;
     }

@@ -1,15 +1,15 @@
 -- Faults, numbers and pairs of several plans, joined.
-use Rattle.std.proofs.Common.{◌≡◌, ℕ, ◌+◌, ◌≤◌, Bool, true, List, [], ◌∷◌, ◌++◌, map, length, Option, Some, refl, sym, ap, ◌∙◌, ⊎_elim, arith, append_assoc, length-append, eq-eqb}
+use Rattle.std.proofs.Common.{◌≡◌, ℕ, ◌+◌, ◌<◌, ◌≤◌, ◌^◌, Bool, true, List, [], ◌∷◌, ◌++◌, map, length, Option, Some, refl, sym, ap, ◌∙◌, subst, inl, inr, ⊎_elim, arith, append_assoc, length-append, eq-eqb}
 use Rattle.std.proofs.lemmas.List.{append-nil, length-map, map-append}
 use Rattle.vx_model.specs.Ty.{Ty}
 use Rattle.vx_model.specs.ValueData.{ValueData, value}
-use Rattle.vx_model.specs.ChunkData.{cells, row_values}
+use Rattle.vx_model.specs.ChunkData.{ChunkData, cells, row_values}
 use Rattle.vx_path.specs.Lists.{In}
 use Rattle.vx_path.proofs.Lists.{in_left, in_right, in_cases}
 use Rattle.vx_layout_spec.specs.LayoutTree.{LayoutData, lays_of, gathered}
 use Rattle.vx_layout_spec.specs.Rows.{and_then, all_there, counted, joined, chunked_rows, rows, each_rows}
 use Rattle.vx_rules.specs.Stream.{Chunks, stream_cells}
-use Rattle.vx_plan.specs.PlanData.{Setting, Pair, Plan, Item, row_total, stream_values}
+use Rattle.vx_plan.specs.PlanData.{Setting, Pair, Plan, Fault, Item, summed, totals, rows_in, row_total, row_totals, stream_values}
 use Rattle.vx_plan.specs.ChunkedNode.{all_pairs, all_faults, all_numbers, all_reserved}
 use Rattle.vx_plan.specs.Valid.{Fit}
 use Rattle.vx_plan.specs.ZonesHold.{IsZoned, AllZoned, ZonesHold}
@@ -47,6 +47,37 @@ pub fit_both : (ms ns : List ℕ) → Fit ms → Fit ns → Fit (ms ++ ns)
 fit_both [] ns g h = h
 fit_both (m ∷ ms) ns g h = (g.0, fit_both ms ns g.1 h)
 
+-- totals fit where their last does
+totals_last : (count : ChunkData → ℕ) (n : ℕ) (items : List Item) → n < 2 ^ 64 → Fit (totals count n items) → n + summed count items < 2 ^ 64
+totals_last count n [] lt h = omega arith
+totals_last count n (i ∷ is) lt h = let l : (n + count i.1) + summed count is < 2 ^ 64 = totals_last count (n + count i.1) is h.0 h.1 in omega arith
+
+pub fit_totals : (count : ChunkData → ℕ) (n : ℕ) (items : List Item) → n + summed count items < 2 ^ 64 → Fit (totals count n items)
+fit_totals count n [] lt = tt
+fit_totals count n (i ∷ is) lt = (omega arith, fit_totals count (n + count i.1) is (omega arith))
+
+pub fit_last : (count : ChunkData → ℕ) (n : ℕ) (items : List Item) (ns : List ℕ) → n < 2 ^ 64 → Fit (totals count n items ++ ns) → (n + summed count items < 2 ^ 64) × Fit ns
+fit_last count n items ns lt h = (totals_last count n items lt (fit_left (totals count n items) ns h), fit_right (totals count n items) ns h)
+
+pub fit_total : (items : List Item) (ns : List ℕ) → Fit (row_totals items ++ ns) → (row_total items < 2 ^ 64) × Fit ns
+fit_total items ns h = let l : (0 + row_total items < 2 ^ 64) × Fit ns = fit_last rows_in 0 items ns (omega arith) h in ((let a : 0 + row_total items < 2 ^ 64 = l.0 in omega arith), l.1)
+
+-- the total is the last of them
+pub in_totals : (count : ChunkData → ℕ) (n : ℕ) (i : Item) (is : List Item) → In (n + summed count (i ∷ is)) (totals count n (i ∷ is))
+in_totals count n i [] = inl (let e : n + (count i.1 + 0) ≡ n + count i.1 = omega arith in e)
+in_totals count n i (j ∷ is) =
+    let e : (n + count i.1) + summed count (j ∷ is) ≡ n + (count i.1 + summed count (j ∷ is)) = omega arith in
+    inr (subst (λ k. In k (totals count (n + count i.1) (j ∷ is))) e (in_totals count (n + count i.1) j is))
+
+-- the totals of the first chunks are the first totals
+totals_before : (count : ChunkData → ℕ) (n : ℕ) (xs ys : List Item) → Fit (totals count n (xs ++ ys)) → Fit (totals count n xs)
+totals_before count n [] ys h = tt
+totals_before count n (x ∷ xs) ys h = (h.0, totals_before count (n + count x.1) xs ys h.1)
+
+pub fit_before : (count : ChunkData → ℕ) (n : ℕ) (xs ys : List Item) (ms ns : List ℕ) → (Fit ms → Fit ns) → Fit (totals count n (xs ++ ys) ++ ms) → Fit (totals count n xs ++ ns)
+fit_before count n xs ys ms ns f h =
+    fit_both (totals count n xs) ns (totals_before count n xs ys (fit_left (totals count n (xs ++ ys)) ms h)) (f (fit_right (totals count n (xs ++ ys)) ms h))
+
 pub holds_left : (look : List ℕ → Option (List ℕ)) (ps qs : List Pair) → Holds look (ps ++ qs) → Holds look ps
 holds_left look [] qs h = tt
 holds_left look (p ∷ ps) qs h = (h.0, holds_left look ps qs h.1)
@@ -71,10 +102,6 @@ stream_values-one i = append-nil (row_values i.1)
 pub stream_values-append : (xs ys : List Item) → stream_values (xs ++ ys) ≡ stream_values xs ++ stream_values ys
 stream_values-append [] ys = refl
 stream_values-append (x ∷ xs) ys = ap (λ r. row_values x.1 ++ r) (stream_values-append xs ys) ∙ sym (append_assoc (row_values x.1) (stream_values xs) (stream_values ys))
-
-pub row_total-append : (xs ys : List Item) → row_total (xs ++ ys) ≡ row_total xs + row_total ys
-row_total-append [] ys = omega arith
-row_total-append (x ∷ xs) ys = let h : row_total (xs ++ ys) ≡ row_total xs + row_total ys = row_total-append xs ys in omega arith
 
 pub length-stream_values : (items : List Item) → length (stream_values items) ≡ row_total items
 length-stream_values [] = refl
@@ -128,20 +155,33 @@ gathered_reads admitted s look t n (l ∷ k ∷ ls) (v ∷ vs) h e = record {
   zones = λ a. (tt, all_zones admitted s look (l ∷ k ∷ ls) (v ∷ vs) h a);
 }
 
+-- each element of two joined lists is one of two others, joined
+pub in_joined : {A : Type 0} (ps qs rs us : List A) → ((x : A) → In x ps → In x rs) → ((x : A) → In x qs → In x us) → (x : A) → In x (ps ++ qs) → In x (rs ++ us)
+in_joined ps qs rs us f g x i = ⊎_elim (λ l. in_left x rs us (f x l)) (λ r. in_right x rs us (g x r)) (in_cases x ps qs i)
+
+none_in : {A : Type 0} (xs ys : List A) → ((x : A) → In x xs → In x ys) → ys ≡ [] → xs ≡ []
+none_in [] ys f e = refl
+none_in (x ∷ xs) [] f e = absurd (f x (inl refl))
+none_in (x ∷ xs) (y ∷ ys) f e = cc
+
+-- where the first plan's faults are among the second's, it has none if the second has none
+pub within : {p q : Plan} → ((x : Pair) → In x p.pairs → In x q.pairs) → ((f : Fault) → In f p.faults → In f q.faults) → (q.faults ≡ [] → Fit q.numbers → Fit p.numbers) → p.reserved ≤ q.reserved → Within p q
+within {p = p} {q = q} pairs faults fit reserved = record { pairs = pairs; faults = faults; faultless = none_in p.faults q.faults faults; fit = fit; reserved = reserved }
+
 -- What holds of the first plans holds of all, plan by plan.
 pub record Grow (ps qs : List Plan) : Type 0 where
   pub pairs : (x : Pair) → In x (all_pairs ps) → In x (all_pairs qs)
-  pub faultless : all_faults qs ≡ [] → all_faults ps ≡ []
+  pub faults : (f : Fault) → In f (all_faults ps) → In f (all_faults qs)
   pub fit : all_faults qs ≡ [] → Fit (all_numbers qs) → Fit (all_numbers ps)
   pub reserved : all_reserved ps ≤ all_reserved qs
 
 pub grow_none : (qs : List Plan) → Grow [] qs
-grow_none qs = record { pairs = λ x h. absurd h; faultless = λ e. refl; fit = λ e h. tt; reserved = omega arith }
+grow_none qs = record { pairs = λ x h. absurd h; faults = λ f h. absurd h; fit = λ e h. tt; reserved = omega arith }
 
 pub grow_more : (p q : Plan) (ps qs : List Plan) → Within p q → Grow ps qs → Grow (p ∷ ps) (q ∷ qs)
 grow_more p q ps qs a b = record {
-  pairs = λ x h. ⊎_elim (λ l. in_left x q.pairs (all_pairs qs) (a.pairs x l)) (λ r. in_right x q.pairs (all_pairs qs) (b.pairs x r)) (in_cases x p.pairs (all_pairs ps) h);
-  faultless = λ e. nil_both p.faults (all_faults ps) (a.faultless (nil_left q.faults (all_faults qs) e)) (b.faultless (nil_right q.faults (all_faults qs) e));
+  pairs = in_joined p.pairs (all_pairs ps) q.pairs (all_pairs qs) a.pairs b.pairs;
+  faults = in_joined p.faults (all_faults ps) q.faults (all_faults qs) a.faults b.faults;
   fit = λ e h. fit_both p.numbers (all_numbers ps)
       (a.fit (nil_left q.faults (all_faults qs) e) (fit_left q.numbers (all_numbers qs) h))
       (b.fit (nil_right q.faults (all_faults qs) e) (fit_right q.numbers (all_numbers qs) h));
@@ -149,13 +189,20 @@ grow_more p q ps qs a b = record {
 }
 
 pub within_itself : (p : Plan) → Within p p
-within_itself p = record { pairs = λ x h. h; faultless = λ e. e; fit = λ e h. h; reserved = omega arith }
+within_itself p = within (λ x h. h) (λ f h. h) (λ e h. h) (omega arith)
 
 -- ---- rows and values of a stream by its cells
 
 pub row_total_cells : (items : List Item) → row_total items ≡ length (stream_cells items)
 row_total_cells [] = refl
 row_total_cells (i ∷ is) = ap (λ n. length (cells i.1) + n) (row_total_cells is) ∙ sym (length-append (cells i.1) (stream_cells is))
+
+-- what the numbers of a node tell of its cells, and those of its children
+pub fit_cells : (items : List Item) (ns ms : List ℕ) → Fit ((row_totals items ++ ns) ++ ms) → (length (stream_cells items) < 2 ^ 64) × Fit ms
+fit_cells items ns ms h =
+    let a : row_total items < 2 ^ 64 = (fit_total items ns (fit_left (row_totals items ++ ns) ms h)).0 in
+    let b : row_total items ≡ length (stream_cells items) = row_total_cells items in
+    ((omega arith), fit_right (row_totals items ++ ns) ms h)
 
 pub stream_values_cells : (items : List Item) → stream_values items ≡ map value (stream_cells items)
 stream_values_cells [] = refl

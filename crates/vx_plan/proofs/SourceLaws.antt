@@ -1,5 +1,5 @@
 -- The laws over whole sources.
-use Rattle.std.proofs.Common.{◌≡◌, ℕ, suc, ◌+◌, ◌<◌, ◌≤◌, ◌^◌, Bool, true, false, List, [], ◌∷◌, ◌++◌, length, Option, Some, None, refl, sym, ap, ◌∙◌, subst, ⊎_elim, arith, length-append}
+use Rattle.std.proofs.Common.{◌≡◌, ℕ, suc, ◌+◌, ◌<◌, ◌≤◌, ◌^◌, Bool, true, false, List, [], ◌∷◌, ◌++◌, length, Option, Some, None, refl, sym, ap, ◌∙◌, subst, inl, ⊎_elim, arith, length-append}
 use Rattle.std.proofs.lemmas.Bool.{true≢false}
 use Rattle.std.proofs.lemmas.Bool.Decides.{nat_tests}
 use Rattle.std.specs.Prelude.{if◌then◌else◌}
@@ -15,14 +15,14 @@ use Rattle.vx_plan.specs.ZonesHold.{OfZoned, IsZoned, AllZoned, ZonesHold}
 use Rattle.vx_strategy_spec.specs.Admitted.{is_admitted}
 use Rattle.vx_layout_spec.specs.Rows.{rows, and_then, counted, kind_rows, each_rows}
 use Rattle.vx_layout_spec.proofs.LayoutLaws.{rows_renamed}
-use Rattle.vx_plan.specs.PlanData.{Setting, Item, Plan, Node, paths, places, stream_values}
+use Rattle.vx_plan.specs.PlanData.{Setting, Item, Plan, Node, Fault, What, paths, places, stream_values}
 use Rattle.vx_strategy_spec.specs.StrategyData.{StrategyData}
-use Rattle.vx_plan.specs.SourcePlan.{plan, source_plan, batch_items, source_values, of_schema}
+use Rattle.vx_plan.specs.SourcePlan.{plan, first_what, source_plan, batch_items, source_values, of_schema}
 use Rattle.vx_plan.specs.Number.{segments, number_of, segment_at}
-use Rattle.vx_plan.specs.Valid.{Fit, AllOf, OfSchema, Keeps}
-use Rattle.vx_plan.specs.Statements.{RowsComeBack, PathsDistinct, PathsInRegion, PrefixWithin, FrontOfTaken, CountsRows, ZonesAreTrue, Within}
+use Rattle.vx_plan.specs.Valid.{Fit, AllOf, Has, OfSchema, Keeps}
+use Rattle.vx_plan.specs.Statements.{RowsComeBack, PathsDistinct, PathsInRegion, PrefixWithin, StreamsGrow, StartFaultIsFixed, StartFaultStands, NoStartFault, FrontOfTaken, CountsRows, ZonesAreTrue, Within}
 use Rattle.vx_plan.proofs.Relate.{Given, Fields, induct}
-use Rattle.vx_plan.proofs.PlanLists.{ItemsOf, Gives, counted_count}
+use Rattle.vx_plan.proofs.PlanLists.{ItemsOf, Gives, counted_count, within}
 use Rattle.vx_plan.proofs.Spots.{Apart, Lies}
 use Rattle.vx_plan.proofs.FlatLaws.{Reads, Placed, Grows, Typed, flat_reads, flat_placed, flat_grows, flat_typed}
 use Rattle.vx_plan.proofs.ChunkedLaws.{chunked_reads, chunked_placed, chunked_grows, chunked_typed}
@@ -225,12 +225,35 @@ prefix_within s w t m taken later ended =
     let h : Within (plan s w t m (batch_items 0 taken) false root_eof) (plan s w t m (batch_items 0 (taken ++ later)) ended root_eof) =
     subst (λ z. Within (plan s w t m (batch_items 0 taken) false root_eof) (plan s w t m z ended root_eof)) (sym r.1)
     ((plan_grows s w t).grows m (batch_items 0 taken) r.0 ended root_eof) in
-    record {
-      pairs = h.pairs;
-      faultless = h.faultless;
-      reserved = h.reserved;
-      fit = λ e f. ((let a : length (taken ++ later) < 2 ^ 64 = f.0 in let b : length (taken ++ later) ≡ length taken + length later = length-append taken later in omega arith), h.fit e f.1);
-    }
+    within h.pairs h.faults
+    (λ e f. ((let a : length (taken ++ later) < 2 ^ 64 = f.0 in let b : length (taken ++ later) ≡ length taken + length later = length-append taken later in omega arith), h.fit e f.1))
+    h.reserved
+
+pub streams_grow : StreamsGrow
+streams_grow s w t m xs ys ended e = (plan_grows s w t).grows m xs ys ended e
+
+-- ---- what a node refuses before a chunk comes
+
+first_has : (fs : List Fault) (x : What) → first_what fs ≡ Some x → Has x fs
+first_has [] x h = cc
+first_has (f ∷ fs) x h = (f, inl refl, (let same : f.what ≡ x = cc in same))
+
+first_none : (fs : List Fault) → first_what fs ≡ None → fs ≡ []
+first_none [] h = refl
+first_none (f ∷ fs) h = cc
+
+pub start_fixed : StartFaultIsFixed
+start_fixed s w t m e = ap first_what ((plan_grows s w t).steady m e root_eof)
+
+pub start_stands : StartFaultStands
+start_stands s w t m x h items ended e =
+    let r : Has x (plan s w t m [] false e).faults = first_has (plan s w t m [] false e).faults x (start_fixed s w t m e ∙ h) in
+    (r.0, ((plan_grows s w t).grows m [] items ended e).faults r.0 r.1, r.2)
+
+pub no_start : NoStartFault
+no_start s w t m h e = first_none (plan s w t m [] false e).faults (start_fixed s w t m e ∙ h)
+
+-- ---- fronts, and what the layout counts
 
 pub front_of_taken : FrontOfTaken
 front_of_taken s w t m taken later ended done rest e f =

@@ -1,6 +1,6 @@
 -- The laws of a zoned node.
 use Rattle.std.proofs.Common.{◌≡◌, ℕ, suc, ◌+◌, ◌<◌, ◌≤◌, ◌^◌, Bool, true, false, List, [], ◌∷◌, ◌++◌, map, length, Option, Some, None, refl, sym, ap, ◌∙◌, subst, inl, inr, ⊎_elim, arith}
-use Rattle.std.specs.Prelude.{◌&&◌, ◌||◌, nat_lt}
+use Rattle.std.specs.Prelude.{if◌then◌else◌, ◌&&◌, ◌||◌, nat_lt}
 use Rattle.std.specs.Str.{is_utf8}
 use Rattle.std.proofs.lemmas.Bool.Decides.{nat_tests}
 use Rattle.std.proofs.lemmas.List.{append-nil}
@@ -10,6 +10,7 @@ use Rattle.vx_model.specs.CellData.{CellData, null_cell, bool_cell, int_cell, te
 use Rattle.vx_model.specs.ValueData.{ValueData, value, is_null_value, is_row_value, value_fits}
 use Rattle.vx_model.specs.ChunkData.{cells, row_values}
 use Rattle.vx_path.specs.Path.{Eof, Region, begins, meets, raised, inside, next, under}
+use Rattle.vx_path.specs.Lists.{In}
 use Rattle.vx_path.proofs.Lists.{in_left}
 use Rattle.vx_path.proofs.Path.{begins-refl, begins-trans, begins-under, raised_apart, raised-next, region_inside}
 use Rattle.vx_layout_spec.specs.Rows.{and_then, counted}
@@ -25,15 +26,15 @@ use Rattle.vx_zone_table_laws.specs.Statements.{Zones, SmallFilter, SmallFilters
 use Rattle.vx_zone_table_laws.proofs.WholeTables.{table_whole, columns_are}
 use Rattle.vx_rules.proofs.CellLaws.{Fine, cells_fine}
 use Rattle.vx_rules.proofs.ColumnStreams.{chunk_cells}
-use Rattle.vx_plan.proofs.ZoneRecords.{zones_right, zones_count, Right, more_right}
+use Rattle.vx_plan.proofs.ZoneRecords.{zones_right, zones_count}
 use Rattle.vx_strategy_spec.specs.Admitted.{are_admitted_aggregates, is_admitted_zoned}
 use Rattle.vx_plan.proofs.Relate.{Given}
-use Rattle.vx_plan.specs.PlanData.{Setting, Item, Plan, Node, Fault, paths, places, stream_values, row_total}
+use Rattle.vx_plan.specs.PlanData.{Setting, Item, Plan, Node, Fault, paths, places, stream_values, rows_in, row_total}
 use Rattle.vx_strategy_spec.specs.StrategyData.{ZonedOptions}
-use Rattle.vx_plan.specs.ZonedNode.{asked, recorded, forbidden_faults, cut_faults, zone_faults, zone_records, with_faults, table_items, with_table, table_of, zoned_node}
+use Rattle.vx_plan.specs.ZonedNode.{asked, recorded, forbidden_faults, is_no_zone, cut_fault, cut_faults, zone_faults, zone_records, with_faults, table_items, data_numbers, zone_numbers, with_table, table_of, zoned_node}
 use Rattle.vx_plan.specs.Valid.{Fit}
 use Rattle.vx_plan.specs.Statements.{Within}
-use Rattle.vx_plan.proofs.PlanLists.{ItemsOf, Holds, Gives, counted_same, nil_left, nil_right, nil_both, fit_left, fit_right, holds_left, holds_right, row_total-append, length-stream_values}
+use Rattle.vx_plan.proofs.PlanLists.{ItemsOf, Holds, Gives, counted_same, nil_left, nil_right, fit_left, fit_right, fit_both, fit_total, fit_before, holds_left, holds_right, length-stream_values, in_joined, within}
 use Rattle.vx_plan.proofs.Spots.{Apart, Lies, two_parts, apart_both, apart_inside}
 use Rattle.vx_plan.proofs.FlatLaws.{Reads, Placed, Grows, Typed}
 use Rattle.vx_plan.proofs.ChunkedLaws.{paths-append}
@@ -160,21 +161,26 @@ items_values t (c ∷ cs) of =
     let f : Fine t (cells c.1) = cells_fine t c.1 of.0 in
     values_append t (row_values c.1) (stream_values cs) (cells_values t (cells c.1) f.fit f.real) (items_values t cs of.1)
 
+-- what the numbers of a node with a table tell of its zones, and those of its children
+pub zone_fits : (items : List Item) (e : Eof) (ns : List ℕ) → Fit (zone_numbers items e ++ ns) → (length items < 2 ^ 64) × Fit ns
+zone_fits items e ns h = ((fit_total items (length items ∷ (e.last + 2) ∷ []) (fit_left (zone_numbers items e) ns h)).1.0, fit_right (zone_numbers items e) ns h)
+
 table_reads : (admitted : Bool) (s : Setting) (o : ZonedOptions) → Given admitted (is_admitted_zoned o) → (t : Ty) (stats : Ty → Node) → ((u : Ty) → Reads admitted s u (stats u)) → ((u : Ty) → Typed u (stats u))
     → (items : List Item) (e : Eof) (p : Plan) (cs : Option (List Filled)) → ItemsOf t items
     → zone_faults o.zone_len (recorded o t) items ≡ [] → kept_columns (recorded o t) (zone_records s t (recorded o t) items) ≡ cs → (look : List ℕ → Option (List ℕ))
     → (p.faults ≡ [] → Fit p.numbers → Holds look p.pairs → Gives admitted s look p.layout (stream_values items))
     → (with_table s o t stats false items e p cs).faults ≡ [] → Fit (with_table s o t stats false items e p cs).numbers → Holds look (with_table s o t stats false items e p cs).pairs
     → Gives admitted s look (with_table s o t stats false items e p cs).layout (stream_values items)
-table_reads admitted s o ok t stats rs ts items e p None of right kept look r clean fit held = r clean fit.1.1 held
+table_reads admitted s o ok t stats rs ts items e p None of right kept look r clean fit held = r clean (fit_right (data_numbers items e) p.numbers fit) held
 table_reads admitted s o ok t stats rs ts items e p (Some cs) of right kept look r clean fit held =
     let q : Plan = stats (table_type cs) false (table_items cs (length items) e) true (next (next e)) in
-    let data_child : Gives admitted s look p.layout (stream_values items) = r (nil_left p.faults q.faults clean) (fit_left p.numbers q.numbers fit.1.1.1) (holds_left look p.pairs q.pairs held) in
+    let fits : (length items < 2 ^ 64) × Fit (p.numbers ++ q.numbers) = zone_fits items e (p.numbers ++ q.numbers) fit in
+    let data_child : Gives admitted s look p.layout (stream_values items) = r (nil_left p.faults q.faults clean) (fit_left p.numbers q.numbers fits.1) (holds_left look p.pairs q.pairs held) in
     record {
       read = ap (and_then (counted (row_total items))) data_child.read ∙ counted_same (row_total items) (stream_values items) (length-stream_values items);
       zones = λ a.
           let zones_child : Gives admitted s look q.layout (row_values (table_piece cs (length items)) ++ []) =
-          (rs (table_type cs)).reads false (table_items cs (length items) e) (next (next e)) (whole_table s o t items cs of (fit.1.0) kept (ok a), tt) (nil_right p.faults q.faults clean) (fit_right p.numbers q.numbers fit.1.1.1) look
+          (rs (table_type cs)).reads false (table_items cs (length items) e) (next (next e)) (whole_table s o t items cs of fits.0 kept (ok a), tt) (nil_right p.faults q.faults clean) (fit_right p.numbers q.numbers fits.1) look
           (holds_right look p.pairs q.pairs held) in (
             record {
               aggregates = asked o.aggregates t;
@@ -256,58 +262,57 @@ zoned_placed s o t k stats c cs = record { placed = go }
 
 -- ---- prefixes
 
-cut_before : (zone : ℕ) (xs ys : List Item) → cut_faults zone (xs ++ ys) ≡ [] → cut_faults zone xs ≡ []
-cut_before zone [] ys h = refl
-cut_before zone (x ∷ []) [] h = h
-cut_before zone (x ∷ []) (y ∷ ys) h = rw (more_right zone x y ys h).some refl
-cut_before zone (x ∷ z ∷ xs) ys h =
-    let r : Right zone x z (xs ++ ys) = more_right zone x z (xs ++ ys) h in
-    rw (r.some, r.full) (cut_before zone (z ∷ xs) ys r.others)
+in_choice : (f : Fault) (b : Bool) (fs gs hs : List Fault) → (In f gs → In f hs) → In f (if b then fs else gs) → In f (if b then fs else hs)
+in_choice f true fs gs hs g i = i
+in_choice f false fs gs hs g i = g i
 
-zone_before : (zone : ℕ) (columns : List Column) (xs ys : List Item) → zone_faults zone columns (xs ++ ys) ≡ [] → zone_faults zone columns xs ≡ []
-zone_before zone [] xs ys h = refl
-zone_before zone (c ∷ cs) xs ys h = cut_before zone xs ys h
+cut_grow : (zone : ℕ) (xs ys : List Item) (f : Fault) → In f (cut_faults zone xs) → In f (cut_faults zone (xs ++ ys))
+cut_grow zone [] ys f i = absurd i
+cut_grow zone (x ∷ []) [] f i = i
+cut_grow zone (x ∷ []) (y ∷ ys) f i =
+    in_choice f (is_no_zone zone (length (cells x.1))) (cut_fault (length (cells x.1)) x.0) []
+    (if nat_lt (length (cells x.1)) zone then cut_fault (length (cells x.1)) y.0 else cut_faults zone (y ∷ ys)) (λ n. absurd n) i
+cut_grow zone (x ∷ z ∷ xs) ys f i =
+    in_choice f (is_no_zone zone (length (cells x.1))) (cut_fault (length (cells x.1)) x.0)
+    (if nat_lt (length (cells x.1)) zone then cut_fault (length (cells x.1)) z.0 else cut_faults zone (z ∷ xs))
+    (if nat_lt (length (cells x.1)) zone then cut_fault (length (cells x.1)) z.0 else cut_faults zone (z ∷ xs ++ ys))
+    (λ j. in_choice f (nat_lt (length (cells x.1)) zone) (cut_fault (length (cells x.1)) z.0) (cut_faults zone (z ∷ xs)) (cut_faults zone (z ∷ xs ++ ys)) (cut_grow zone (z ∷ xs) ys f) j) i
+
+zones_grow : (zone : ℕ) (columns : List Column) (xs ys : List Item) (f : Fault) → In f (zone_faults zone columns xs) → In f (zone_faults zone columns (xs ++ ys))
+zones_grow zone [] xs ys f i = absurd i
+zones_grow zone (c ∷ cs) xs ys f i = cut_grow zone xs ys f i
 
 -- an open plan has no table
 open_table : (s : Setting) (o : ZonedOptions) (t : Ty) (stats : Ty → Node) (m : Bool) (xs ys : List Item) (e : Eof) (p q : Plan) (cs : Option (List Filled)) → Within p q
     → Within (with_table s o t stats m xs e p None) (with_table s o t stats m (xs ++ ys) e q cs)
-open_table s o t stats m xs ys e p q None h = record {
-  pairs = h.pairs;
-  faultless = h.faultless;
-  reserved = let l : p.reserved ≤ q.reserved = h.reserved in omega arith;
-  fit = λ f g. ((let total : row_total (xs ++ ys) ≡ row_total xs + row_total ys = row_total-append xs ys in let a : row_total (xs ++ ys) < 2 ^ 64 = g.0 in omega arith), (g.1.0, h.fit f g.1.1));
-}
+open_table s o t stats m xs ys e p q None h =
+    within h.pairs h.faults
+    (λ f g. fit_both (data_numbers xs e) p.numbers
+    (fit_before rows_in 0 xs ys ((e.last + 1) ∷ []) ((e.last + 1) ∷ []) (λ i. i) (fit_left (data_numbers (xs ++ ys) e) q.numbers g))
+    (h.fit f (fit_right (data_numbers (xs ++ ys) e) q.numbers g)))
+    (let l : p.reserved ≤ q.reserved = h.reserved in omega arith)
 open_table s o t stats m xs ys e p q (Some cs) h =
     let r : Plan = stats (table_type cs) m (table_items cs (length (xs ++ ys)) e) true (next (next e)) in
-    record {
-      pairs = λ x i. in_left x q.pairs r.pairs (h.pairs x i);
-      faultless = λ f. h.faultless (nil_left q.faults r.faults f);
-      reserved = let l : p.reserved ≤ q.reserved = h.reserved in omega arith;
-      fit = λ f g. (
-        (let total : row_total (xs ++ ys) ≡ row_total xs + row_total ys = row_total-append xs ys in let a : row_total (xs ++ ys) < 2 ^ 64 = g.0 in omega arith),
-        ((let b : e.last + 2 < 2 ^ 64 = g.1.1.0 in omega arith), h.fit (nil_left q.faults r.faults f) (fit_left q.numbers r.numbers g.1.1.1)),
-      );
-    }
+    within (λ x i. in_left x q.pairs r.pairs (h.pairs x i)) (λ f i. in_left f q.faults r.faults (h.faults f i))
+    (λ f g. fit_both (data_numbers xs e) p.numbers
+    (fit_before rows_in 0 xs ys (length (xs ++ ys) ∷ (e.last + 2) ∷ []) ((e.last + 1) ∷ []) (λ i. ((let b : e.last + 2 < 2 ^ 64 = i.1.0 in omega arith), tt))
+    (fit_left (zone_numbers (xs ++ ys) e) (q.numbers ++ r.numbers) g))
+    (h.fit (nil_left q.faults r.faults f) (fit_left q.numbers r.numbers (fit_right (zone_numbers (xs ++ ys) e) (q.numbers ++ r.numbers) g))))
+    (let l : p.reserved ≤ q.reserved = h.reserved in omega arith)
 
-faults_within : (fs gs : List Fault) (p q : Plan) → (gs ≡ [] → fs ≡ []) → Within p q → Within (with_faults fs p) (with_faults gs q)
-faults_within fs gs p q f h = record {
-  pairs = h.pairs;
-  faultless = λ e. nil_both fs p.faults (f (nil_left gs q.faults e)) (h.faultless (nil_right gs q.faults e));
-  fit = λ e g. h.fit (nil_right gs q.faults e) g;
-  reserved = h.reserved;
-}
+faults_within : (fs gs : List Fault) (p q : Plan) → ((f : Fault) → In f fs → In f gs) → Within p q → Within (with_faults fs p) (with_faults gs q)
+faults_within fs gs p q f h = within h.pairs (in_joined fs p.faults gs q.faults f h.faults) (λ e g. h.fit (nil_right gs q.faults e) g) h.reserved
 
 pub zoned_grows : (s : Setting) (o : ZonedOptions) (t : Ty) (k : Node) (stats : Ty → Node) → Grows t k → Grows t (zoned_node s o t k stats)
-zoned_grows s o t k stats c = record { grows = go; quiet = silent; still = nothing }
+zoned_grows s o t k stats c = record { grows = go; quiet = silent; still = nothing; steady = same }
   where
     go : (m : Bool) (xs ys : List Item) (ended : Bool) (e : Eof) → Within (zoned_node s o t k stats m xs false e) (zoned_node s o t k stats m (xs ++ ys) ended e)
     go true xs ys ended e = c.grows true xs ys ended e
     go false xs ys ended e =
         faults_within (forbidden_faults s.allowed (recorded o t) ++ zone_faults o.zone_len (recorded o t) xs) (forbidden_faults s.allowed (recorded o t) ++ zone_faults o.zone_len (recorded o t) (xs ++ ys))
         (with_table s o t stats false xs e (k false xs false (inside e)) None) (with_table s o t stats false (xs ++ ys) e (k false (xs ++ ys) ended (inside e)) (table_of s o t (xs ++ ys) ended))
-        (λ f. nil_both (forbidden_faults s.allowed (recorded o t)) (zone_faults o.zone_len (recorded o t) xs)
-        (nil_left (forbidden_faults s.allowed (recorded o t)) (zone_faults o.zone_len (recorded o t) (xs ++ ys)) f)
-        (zone_before o.zone_len (recorded o t) xs ys (nil_right (forbidden_faults s.allowed (recorded o t)) (zone_faults o.zone_len (recorded o t) (xs ++ ys)) f)))
+        (in_joined (forbidden_faults s.allowed (recorded o t)) (zone_faults o.zone_len (recorded o t) xs) (forbidden_faults s.allowed (recorded o t)) (zone_faults o.zone_len (recorded o t) (xs ++ ys))
+        (λ f i. i) (zones_grow o.zone_len (recorded o t) xs ys))
         (open_table s o t stats false xs ys e (k false xs false (inside e)) (k false (xs ++ ys) ended (inside e)) (table_of s o t (xs ++ ys) ended) (c.grows false xs ys ended (inside e)))
 
     silent : (m : Bool) (e : Eof) → (zoned_node s o t k stats m [] false e).pairs ≡ []
@@ -317,6 +322,10 @@ zoned_grows s o t k stats c = record { grows = go; quiet = silent; still = nothi
     nothing : (m : Bool) (e : Eof) → (zoned_node s o t k stats m [] false e).reserved ≡ 0
     nothing true e = c.still true e
     nothing false e = let z : (k false [] false (inside e)).reserved ≡ 0 = c.still false (inside e) in omega arith
+
+    same : (m : Bool) (d e : Eof) → (zoned_node s o t k stats m [] false d).faults ≡ (zoned_node s o t k stats m [] false e).faults
+    same true d e = c.steady true d e
+    same false d e = ap (λ fs. (forbidden_faults s.allowed (recorded o t) ++ zone_faults o.zone_len (recorded o t) []) ++ fs) (c.steady false (inside d) (inside e))
 
 -- ---- type
 

@@ -3,7 +3,7 @@ use Rattle.std.specs.Prelude.{ℕ, ◌+◌, Bool, true, List, [], ◌∷◌, ◌
 use Rattle.vx_model.specs.Ty.{Ty}
 use Rattle.vx_path.specs.Path.{Eof, inside, next}
 use Rattle.vx_layout_spec.specs.LayoutTree.{LayoutData, gathered}
-use Rattle.vx_plan.specs.PlanData.{Pair, Item, Plan, Node, Fault, row_total}
+use Rattle.vx_plan.specs.PlanData.{Pair, Item, Plan, Node, Fault, row_total, row_totals}
 
 abbrev pub all_pairs : List Plan → List Pair
 all_pairs [] = []
@@ -46,7 +46,7 @@ chunk_plans k m (i ∷ is) e = k m (i ∷ []) true (inside e) ∷ chunk_plans k 
 
 -- the rows, and the last index of the pointer behind the last chunk's eof path
 abbrev pub chunked_numbers : List Item → Eof → List ℕ
-chunked_numbers items e = row_total items ∷ (e.last + length items) ∷ []
+chunked_numbers items e = row_totals items ++ ((e.last + length items) ∷ [])
 
 abbrev pub chunked_node : Ty → Node → Node
 chunked_node t k m items ended e = whole t (row_total items) (chunked_numbers items e) (chunk_plans k m items e)

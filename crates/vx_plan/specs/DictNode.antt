@@ -1,12 +1,12 @@
 -- A dictionary node cuts its stream into runs, each with codes and values of its own.
-use Rattle.std.specs.Prelude.{ℕ, suc, ◌+◌, ◌*◌, Bool, true, false, if◌then◌else◌, List, [], ◌∷◌, length}
+use Rattle.std.specs.Prelude.{ℕ, suc, ◌+◌, ◌*◌, Bool, true, false, if◌then◌else◌, List, [], ◌∷◌, ◌++◌, length}
 use Rattle.vx_model.specs.Ty.{Ty}
 use Rattle.vx_model.specs.CellData.{CellData}
 use Rattle.vx_model.specs.ChunkData.{ChunkData, dict_piece}
 use Rattle.vx_path.specs.Path.{Eof, inside, next}
 use Rattle.vx_layout_spec.specs.LayoutTree.{dict_layout, gathered}
 use Rattle.vx_rules.specs.Runs.{DictOptions, Run, runs, cut_at}
-use Rattle.vx_plan.specs.PlanData.{Setting, Item, Plan, Node, row_total}
+use Rattle.vx_plan.specs.PlanData.{Setting, Item, Plan, Node, row_total, row_totals}
 use Rattle.vx_plan.specs.ChunkedNode.{whole, both_plans}
 
 abbrev pub is_dictionary : ChunkData → Bool
@@ -31,7 +31,7 @@ made_counts o t ds (c ∷ d ∷ cs) ended = (2 * length (cut_at o t ds c).closed
 
 -- the rows, the pointer behind the last run's eof paths, and the indices below the chunks' paths
 abbrev pub dict_numbers : DictOptions → Ty → List Item → Bool → Eof → List ℕ
-dict_numbers o t items ended e = row_total items ∷ (e.last + 2 * length (runs o t items ended)) ∷ made_counts o t [] items ended
+dict_numbers o t items ended e = row_totals items ++ ((e.last + 2 * length (runs o t items ended)) ∷ made_counts o t [] items ended)
 
 abbrev pub runs_node : DictOptions → Ty → Node → Node → Node
 runs_node o t ck vk m items ended e = whole t (row_total items) (dict_numbers o t items ended e) (run_plans t ck vk m (runs o t items ended) e)

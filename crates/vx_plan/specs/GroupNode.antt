@@ -7,7 +7,7 @@ use Rattle.vx_model.specs.ChunkData.{ChunkData, cells, held}
 use Rattle.vx_rules.specs.Regroup.{Rule, regrouped}
 use Rattle.vx_rules.specs.Blocks.{BlockOptions, blocks, block_len, tested_sizes, check_points}
 use Rattle.vx_rules.specs.Flushes.{flushes, collected}
-use Rattle.vx_plan.specs.PlanData.{Setting, Item, Plan, Node, row_total}
+use Rattle.vx_plan.specs.PlanData.{Setting, Item, Plan, Node, summed, row_totals}
 use Rattle.vx_strategy_spec.specs.StrategyData.{Grouping, by_blocks, by_bytes, into_one}
 
 abbrev pub with_numbers : List ℕ → ℕ → Plan → Plan
@@ -54,8 +54,7 @@ group_numbers (by_bytes size) t items ended = held_sizes size [] items ++ counte
 group_numbers into_one t items ended = []
 
 abbrev pub held_total : List Item → ℕ
-held_total [] = 0
-held_total (c ∷ cs) = held c.1 + held_total cs
+held_total items = summed held items
 
 -- what the chunks of a buffering node reserve
 abbrev pub group_reserved : Grouping → List Item → ℕ
@@ -64,7 +63,7 @@ group_reserved g items = 0
 
 abbrev pub grouped_node : Grouping → Ty → Node → Node
 grouped_node g t k m items ended e =
-    with_numbers (row_total items ∷ group_numbers g t items ended) (group_reserved g items) (k m (grouped_stream g t items ended) ended e)
+    with_numbers (row_totals items ++ group_numbers g t items ended) (group_reserved g items) (k m (grouped_stream g t items ended) ended e)
 
 -- ---- compressing: each chunk's image, under the same path
 

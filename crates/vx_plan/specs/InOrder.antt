@@ -1,14 +1,14 @@
 -- What chunking over flat writes: each batch's segment, in order.
-use Rattle.std.specs.Prelude.{ℕ, suc, ◌+◌, ◌≡◌, Bool, List, [], ◌∷◌, ◌++◌, length, Option, Some, None}
+use Rattle.std.specs.Prelude.{ℕ, suc, ◌+◌, ◌^◌, ◌<◌, ◌≤◌, ◌≡◌, Bool, List, [], ◌∷◌, ◌++◌, length, Option, Some, None}
 use Rattle.vx_model.specs.Ty.{Ty}
 use Rattle.vx_model.specs.ChunkData.{ChunkData, cells}
-use Rattle.vx_path.specs.Lists.{In}
 use Rattle.vx_layout_spec.specs.LayoutTree.{LayoutData, flat_layout, gathered}
 use Rattle.vx_plan.specs.PlanData.{Setting, Pair, Fault}
 use Rattle.vx_strategy_spec.specs.StrategyData.{StrategyData, FlatOptions, chunked, leaf}
 use Rattle.vx_plan.specs.FlatNode.{segment, pair_at, refusals, inlined}
 use Rattle.vx_plan.specs.SourcePlan.{source_plan}
 use Rattle.vx_plan.specs.Number.{sorted, segments, numbered}
+use Rattle.vx_plan.specs.Valid.{Fit, IsPast}
 
 -- batch i has the path [0, i]
 abbrev pub batch_pairs : Setting → FlatOptions → ℕ → List ChunkData → List Pair
@@ -46,8 +46,9 @@ pub record InOrder (s : Setting) (o : FlatOptions) (w : StrategyData) (t : Ty) (
   -- one flat layout, or a chunked one of none or several; their numbers count on from the first
   pub layout : batch_refusals s 0 batches ≡ [] → ((padding : Bool) (p : ChunkData) → s.codec.refused s.encodings p ≡ None → (b : List ℕ) × (s.codec.encode s.encodings padding p ≡ Some b))
       → (first : ℕ) → numbered (source_plan s w t m batches ended) first ≡ gathered t (batch_rows batches) (batch_flats s o t first batches)
-  -- the rows of all batches are among the numbers that must fit
-  pub rows : In (batch_rows batches) (source_plan s w t m batches ended).numbers
+  -- the rows of all batches fit 64 bits where the plan's numbers do, and else are past them by one of these
+  pub rows : Fit (source_plan s w t m batches ended).numbers → batch_rows batches < 2 ^ 64
+  pub past : 2 ^ 64 ≤ batch_rows batches → IsPast (batch_rows batches) (source_plan s w t m batches ended).numbers
 
 -- Chunking over a strategy that ends at a flat one writes each batch's segment, in order.
 abbrev pub ChunksInOrder : Type 0

@@ -61,7 +61,7 @@ pub record Plan : Type 0 where
   pub faults : List Fault
   -- segments are named by their paths
   pub layout : LayoutData (List ℕ)
-  -- row counts, offsets, sizes, lengths of segments and indices of paths, which must fit 64 bits
+  -- rows and elements up to each chunk, sizes, lengths of segments and indices of paths, which must fit 64 bits
   pub numbers : List ℕ
   -- the held sizes of all chunks that buffering nodes take, summed
   pub reserved : ℕ
@@ -85,10 +85,26 @@ stored (p ∷ ps) = p.1 ∷ stored ps
 abbrev pub places : List Item → List (List ℕ)
 places is = chunk_paths is
 
+-- what is counted of each chunk, of all of them
+abbrev pub summed : (ChunkData → ℕ) → List Item → ℕ
+summed count [] = 0
+summed count (i ∷ is) = count i.1 + summed count is
+
+-- and of those up to each chunk, behind n that were counted before
+abbrev pub totals : (ChunkData → ℕ) → ℕ → List Item → List ℕ
+totals count n [] = []
+totals count n (i ∷ is) = (n + count i.1) ∷ totals count (n + count i.1) is
+
+abbrev pub rows_in : ChunkData → ℕ
+rows_in p = length (cells p)
+
 -- rows of a stream
 abbrev pub row_total : List Item → ℕ
-row_total [] = 0
-row_total (i ∷ is) = length (cells i.1) + row_total is
+row_total items = summed rows_in items
+
+-- rows up to each chunk
+abbrev pub row_totals : List Item → List ℕ
+row_totals items = totals rows_in 0 items
 
 -- the row values of a stream
 abbrev pub stream_values : List Item → List ValueData

@@ -1,10 +1,10 @@
 -- What is written of a source's batches.
-use Rattle.std.specs.Prelude.{ℕ, suc, Bool, if◌then◌else◌, List, [], ◌∷◌, ◌++◌, length}
+use Rattle.std.specs.Prelude.{ℕ, suc, Bool, false, if◌then◌else◌, List, [], ◌∷◌, ◌++◌, length, Option, Some, None}
 use Rattle.vx_model.specs.Ty.{Ty, ty_eq}
 use Rattle.vx_model.specs.ValueData.{ValueData}
 use Rattle.vx_model.specs.ChunkData.{ChunkData, piece_type, row_values}
 use Rattle.vx_path.specs.Path.{root_eof}
-use Rattle.vx_plan.specs.PlanData.{Setting, Item, Plan, Node}
+use Rattle.vx_plan.specs.PlanData.{Setting, Item, Plan, Node, What, Fault}
 use Rattle.vx_strategy_spec.specs.StrategyData.{StrategyData}
 use Rattle.vx_strategy_spec.specs.Walk.{Nodes, walk}
 use Rattle.vx_plan.specs.FlatNode.{flat_node}
@@ -35,6 +35,14 @@ plan s w t = walk (plan_nodes s) w t
 abbrev pub batch_items : ℕ → List ChunkData → List Item
 batch_items i [] = []
 batch_items i (b ∷ bs) = (0 ∷ i ∷ [], b) ∷ batch_items (suc i) bs
+
+abbrev pub first_what : List Fault → Option What
+first_what [] = None
+first_what (f ∷ fs) = Some f.what
+
+-- what a node refuses before a chunk comes: the first fault of its empty stream, not ended
+abbrev pub start_fault : Setting → StrategyData → Ty → Bool → Option What
+start_fault s w t m = first_what (plan s w t m [] false root_eof).faults
 
 -- the indices of the source's pointer and of the root's eof path
 abbrev pub with_root : List ChunkData → Plan → Plan

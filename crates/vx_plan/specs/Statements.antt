@@ -1,19 +1,19 @@
 -- The laws of what is written.
-use Rattle.std.specs.Prelude.{ℕ, ◌<◌, ◌≤◌, ◌≡◌, Bool, true, false, List, [], ◌++◌, length, Some}
+use Rattle.std.specs.Prelude.{ℕ, ◌<◌, ◌≤◌, ◌≡◌, Bool, true, false, List, [], ◌++◌, length, Some, None}
 use Rattle.vx_model.specs.Ty.{Ty}
 use Rattle.vx_model.specs.ChunkData.{ChunkData}
 use Rattle.vx_path.specs.Lists.{In, Each}
-use Rattle.vx_path.specs.Path.{Scattered, Region, root_eof}
+use Rattle.vx_path.specs.Path.{Eof, Scattered, Region, root_eof}
 use Rattle.vx_layout_spec.specs.LayoutTree.{row_count, layout_type}
 use Rattle.vx_layout_spec.specs.Rows.{rows}
-use Rattle.vx_plan.specs.PlanData.{Setting, Item, Pair, Plan, paths, places, stream_values}
+use Rattle.vx_plan.specs.PlanData.{Setting, Item, Pair, Plan, Fault, What, paths, places, stream_values}
 use Rattle.vx_strategy_spec.specs.StrategyData.{StrategyData, ZonedOptions}
 use Rattle.vx_strategy_spec.specs.Admitted.{is_admitted}
 use Rattle.vx_plan.specs.ZonedNode.{recorded, zone_faults, zone_records}
 use Rattle.vx_plan.specs.ZonesHold.{zones_of, records_of, ZonesHold}
-use Rattle.vx_plan.specs.SourcePlan.{source_plan, batch_items, source_values}
+use Rattle.vx_plan.specs.SourcePlan.{plan, start_fault, first_what, source_plan, batch_items, source_values}
 use Rattle.vx_plan.specs.Number.{sorted, segments, numbered, segment_at}
-use Rattle.vx_plan.specs.Valid.{Fit, AllOf, Keeps}
+use Rattle.vx_plan.specs.Valid.{Fit, AllOf, Has, Keeps}
 
 -- The rows of the numbered layout are the batches' rows, in order.
 abbrev pub RowsComeBack : Type 0
@@ -34,6 +34,7 @@ PathsInRegion = (s : Setting) (w : StrategyData) (t : Ty) (m : Bool) (batches : 
 -- What holds of the first batches, the source not having ended, and of all.
 pub record Within (p q : Plan) : Type 0 where
   pub pairs : (x : Pair) → In x p.pairs → In x q.pairs
+  pub faults : (f : Fault) → In f p.faults → In f q.faults
   pub faultless : q.faults ≡ [] → p.faults ≡ []
   pub fit : q.faults ≡ [] → Fit q.numbers → Fit p.numbers
   pub reserved : p.reserved ≤ q.reserved
@@ -41,6 +42,28 @@ pub record Within (p q : Plan) : Type 0 where
 abbrev pub PrefixWithin : Type 0
 PrefixWithin = (s : Setting) (w : StrategyData) (t : Ty) (m : Bool) (taken later : List ChunkData) (ended : Bool)
     → Within (source_plan s w t m taken false) (source_plan s w t m (taken ++ later) ended)
+
+-- The same of the stream of any node, at any eof path.
+abbrev pub StreamsGrow : Type 0
+StreamsGrow = (s : Setting) (w : StrategyData) (t : Ty) (m : Bool) (xs ys : List Item) (ended : Bool) (e : Eof)
+    → Within (plan s w t m xs false e) (plan s w t m (xs ++ ys) ended e)
+
+-- ---- what a node refuses before a chunk comes
+
+-- It is the same at each eof path.
+abbrev pub StartFaultIsFixed : Type 0
+StartFaultIsFixed = (s : Setting) (w : StrategyData) (t : Ty) (m : Bool) (e : Eof) → first_what (plan s w t m [] false e).faults ≡ start_fault s w t m
+
+-- It stands in each plan.
+abbrev pub StartFaultStands : Type 0
+StartFaultStands = (s : Setting) (w : StrategyData) (t : Ty) (m : Bool) (x : What) → start_fault s w t m ≡ Some x
+    → (items : List Item) (ended : Bool) (e : Eof) → Has x (plan s w t m items ended e).faults
+
+-- Where there is none, nothing is wrong with an empty stream that may go on.
+abbrev pub NoStartFault : Type 0
+NoStartFault = (s : Setting) (w : StrategyData) (t : Ty) (m : Bool) → start_fault s w t m ≡ None → (e : Eof) → (plan s w t m [] false e).faults ≡ []
+
+-- ---- fronts
 
 -- A front of all sorted pairs that lies in the plan of the batches taken is a front of its sorted pairs.
 abbrev pub FrontOfTaken : Type 0

@@ -1,5 +1,5 @@
 -- When an input is valid, and what holds of a setting.
-use Rattle.std.specs.Prelude.{ℕ, ◌+◌, ◌^◌, ◌<◌, ◌≤◌, ◌≡◌, Bool, true, List, [], ◌∷◌, length}
+use Rattle.std.specs.Prelude.{ℕ, ◌+◌, ◌^◌, ◌<◌, ◌≤◌, ◌≡◌, ◌⊎◌, Bool, true, List, [], ◌∷◌, length}
 use Rattle.vx_model.specs.Ty.{Ty}
 use Rattle.vx_model.specs.ChunkData.{ChunkData, piece_type, row_values}
 use Rattle.vx_path.specs.Lists.{In}
@@ -13,6 +13,11 @@ use Rattle.vx_plan.specs.SourcePlan.{source_plan}
 abbrev pub Fit : List ℕ → Type 0
 Fit [] = Unit {0}
 Fit (n ∷ ns) = (n < 2 ^ 64) × Fit ns
+
+-- A number that doesn't fit 64 bits and is one of the list, or the first that doesn't fit, where a number of the list
+-- doesn't: an index, which rises by one, passes that on its way.
+abbrev pub IsPast : ℕ → List ℕ → Type 0
+IsPast n ns = (2 ^ 64 ≤ n) × (In n ns ⊎ ((n ≡ 2 ^ 64) × ((k : ℕ) × In k ns × (2 ^ 64 ≤ k))))
 
 -- each batch has the schema's type
 abbrev pub OfSchema : Ty → List ChunkData → Type 0

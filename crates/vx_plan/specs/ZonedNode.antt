@@ -1,5 +1,5 @@
 -- A zoned node keeps a record a chunk beside its child.
-use Rattle.std.specs.Prelude.{ℕ, ◌+◌, ◌==◌, ◌||◌, nat_lt, bytes_eq, Bool, true, false, if◌then◌else◌, List, [], ◌∷◌, ◌++◌, length, Option, Some, None}
+use Rattle.std.specs.Prelude.{ℕ, ◌+◌, ◌==◌, ◌||◌, nat_lt, Bool, true, false, if◌then◌else◌, List, [], ◌∷◌, ◌++◌, length, Option, Some, None}
 use Rattle.vx_model.specs.Ty.{Ty}
 use Rattle.vx_model.specs.ValueData.{ValueData}
 use Rattle.vx_model.specs.ChunkData.{cells, row_values}
@@ -8,7 +8,7 @@ use Rattle.vx_layout_spec.specs.LayoutTree.{zoned_layout}
 use Rattle.vx_aggregate_spec.specs.Aggregate.{Aggregate, Column, held_aggregates, default_aggregates, aggregate_id}
 use Rattle.vx_zone_spec.specs.Record.{zone_record}
 use Rattle.vx_zone_spec.specs.ZoneTable.{Filled, kept_columns, table_type, table_specs, table_piece}
-use Rattle.vx_plan.specs.PlanData.{Setting, Item, Plan, Node, Fault, fault, forbidden_aggregate, zone_cut, at_start, at_chunk, row_total}
+use Rattle.vx_plan.specs.PlanData.{Setting, Item, Plan, Node, Fault, fault, forbidden_aggregate, zone_cut, at_start, at_chunk, row_total, row_totals}
 use Rattle.vx_plan.specs.GroupNode.{with_numbers}
 use Rattle.vx_plan.specs.ChunkedNode.{both_plans}
 use Rattle.vx_strategy_spec.specs.StrategyData.{ZonedOptions}
@@ -64,11 +64,19 @@ with_faults fs p = record { pairs = p.pairs; faults = fs ++ p.faults; layout = p
 abbrev pub table_items : List Filled → ℕ → Eof → List Item
 table_items cs zones e = (under (raised e 1) 0, table_piece cs zones) ∷ []
 
+-- the rows, and the pointer behind the data child's eof path
+abbrev pub data_numbers : List Item → Eof → List ℕ
+data_numbers items e = row_totals items ++ ((e.last + 1) ∷ [])
+
+-- the rows, the zones, and the pointer behind the zones child's eof path
+abbrev pub zone_numbers : List Item → Eof → List ℕ
+zone_numbers items e = row_totals items ++ (length items ∷ (e.last + 2) ∷ [])
+
 abbrev pub with_table : Setting → ZonedOptions → Ty → (Ty → Node) → Bool → List Item → Eof → Plan → Option (List Filled) → Plan
-with_table s o t stats m items e p None = with_numbers (row_total items ∷ (e.last + 1) ∷ []) 0 p
+with_table s o t stats m items e p None = with_numbers (data_numbers items e) 0 p
 with_table s o t stats m items e p (Some cs) =
     both_plans (zoned_layout t (row_total items) o.zone_len (table_specs cs) p.layout (stats (table_type cs) m (table_items cs (length items) e) true (next (next e))).layout)
-    (row_total items ∷ length items ∷ (e.last + 2) ∷ []) p (stats (table_type cs) m (table_items cs (length items) e) true (next (next e)))
+    (zone_numbers items e) p (stats (table_type cs) m (table_items cs (length items) e) true (next (next e)))
 
 -- the columns of the table, once the stream has ended
 abbrev pub table_of : Setting → ZonedOptions → Ty → List Item → Bool → Option (List Filled)

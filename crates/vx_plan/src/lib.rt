@@ -3,7 +3,7 @@
 #![tactic(auto)]
 
 ghost use Rattle.vx_plan.specs.InOrder.{ChunksInOrder};
-ghost use Rattle.vx_plan.specs.Statements.{RowsComeBack, PathsDistinct, PathsInRegion, PrefixWithin, FrontOfTaken, CountsRows, RecordsAreOfZones, ZonesAreTrue};
+ghost use Rattle.vx_plan.specs.Statements.{RowsComeBack, PathsDistinct, PathsInRegion, PrefixWithin, StreamsGrow, StartFaultIsFixed, StartFaultStands, NoStartFault, FrontOfTaken, CountsRows, RecordsAreOfZones, ZonesAreTrue};
 
 /// The rows of the numbered layout are the batches' rows, in order.
 pub fn rows_come_back()
@@ -20,9 +20,22 @@ pub fn paths_lie_in_region()
     ensures { PathsInRegion }
 {}
 
-/// What is written of the first batches is written of all; where all have no fault, neither have the first.
+/// What is written of the first batches is written of all, and what is wrong with the first is wrong with all.
 pub fn prefixes_lie_within()
     ensures { PrefixWithin }
+{}
+
+/// Of the stream of any node, what is written of its first chunks is written of all, and what is wrong with them is wrong
+/// with all.
+pub fn streams_grow()
+    ensures { StreamsGrow }
+{}
+
+/// What a node refuses before a chunk comes depends on its strategy, type and mark alone, and stands in each of its plans.
+pub fn start_faults_stand()
+    ensures fixed { StartFaultIsFixed }
+    ensures stands { StartFaultStands }
+    ensures none { NoStartFault }
 {}
 
 /// A front of all segments that the batches taken give is a front of those that these batches give.

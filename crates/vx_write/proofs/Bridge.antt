@@ -1,5 +1,5 @@
 -- From the batches in order to the plan.
-use Rattle.std.proofs.Common.{◌≡◌, ℕ, suc, ◌+◌, ◌≤◌, ◌<◌, ◌^◌, max, ◌&&◌, Bool, true, false, not, List, [], ◌∷◌, ◌++◌, length, Option, Some, None, refl, sym, ap, subst, ◌∙◌, arith, inl, inr}
+use Rattle.std.proofs.Common.{◌≡◌, ℕ, suc, ◌+◌, ◌≤◌, ◌<◌, ◌^◌, max, ◌&&◌, Bool, true, false, not, List, [], ◌∷◌, ◌++◌, length, Option, Some, None, refl, sym, ap, subst, ◌∙◌, arith}
 use Rattle.std.proofs.lemmas.List.{append-nil}
 use Rattle.vx_model.specs.declared.encoding.EncodingId.{EncodingId}
 use Rattle.vx_model.specs.declared.ptype.PType.TheVariants.{U8, U16, U32, U64, I8, I16, I32, I64}
@@ -7,7 +7,6 @@ use Rattle.vx_model.specs.Ty.{Ty, boolean, primitive, utf8, binary, list, struct
 use Rattle.vx_model.specs.TyLaws.{ty_eq_decides}
 use Rattle.vx_model.specs.ChunkData.{ChunkData, piece_type}
 use Rattle.vx_segment_writer.specs.Segment.{encode, refused, bytes_unless, segment_bytes}
-use Rattle.vx_path.specs.Lists.{In}
 use Rattle.vx_layout_spec.specs.LayoutTree.{LayoutData, gathered}
 use Rattle.vx_plan.specs.PlanData.{Setting, Fault}
 use Rattle.vx_strategy_spec.specs.StrategyData.{StrategyData, FlatOptions, flat, chunked}
@@ -75,11 +74,6 @@ requires_type w t e = built_type t (both (is_built_way w) (is_built_type t) e).1
 none_at : (path : List ℕ) (r : Option EncodingId) (rest : List Fault) → refused_at path r ++ rest ≡ [] → (r ≡ None) × (rest ≡ [])
 none_at path None rest e = (refl, e)
 none_at path (Some id) rest e = absurd cc
-
-fits_in : (ns : List ℕ) (n : ℕ) → Fit ns → In n ns → n < 2 ^ 64
-fits_in [] n fit is = absurd is
-fits_in (m ∷ ns) n fit (inl e) = rw e fit.0
-fits_in (m ∷ ns) n fit (inr is) = fits_in ns n fit.1 is
 
 told_end : (taken : List ChunkData) (a c : Option (List ChunkData)) (xs : List ChunkData) → a ≡ before_told taken c → NoneTold c → a ≡ Some xs → taken ≡ xs
 told_end taken a None xs e none told = absurd (let g : None ≡ Some xs = sym e ∙ told in cc)
@@ -202,7 +196,7 @@ module _ (ids : List EncodingId) (s : Setting) (writes : Writes ids s) (w : Stra
       let io = in_order t xs true in
       let all : AllWritten ids t xs = none_refused 0 t xs (sym io.faults ∙ v.faultless) v.of_schema in
       let count : length (source_plan s w t false xs true).pairs ≡ length xs = ap length io.pairs ∙ pairs_count 0 t xs all in
-      record { written = all; numbered = rw (← count) v.numbered; rows = fits_in (source_plan s w t false xs true).numbers (batch_rows xs) v.fit io.rows }
+      record { written = all; numbered = rw (← count) v.numbered; rows = io.rows v.fit }
 
 -- a refusal before anything was done
 pub stands_still : (ids : List EncodingId) (s : Setting) (w : StrategyData) (t : Ty) (first : ℕ) (a : Option (List ChunkData)) (before : Option (List (List ℕ)))

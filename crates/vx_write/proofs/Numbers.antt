@@ -3,13 +3,14 @@ use Rattle.std.proofs.Common.{◌≡◌, ℕ, suc, ◌+◌, ◌<◌, ◌^◌, tr
 use Rattle.vx_model.specs.Ty.{Ty}
 use Rattle.vx_model.specs.ChunkData.{ChunkData, cells}
 use Rattle.vx_path.specs.Path.{Eof, next, root_eof}
-use Rattle.vx_plan.specs.PlanData.{Setting, row_total}
+use Rattle.vx_plan.specs.PlanData.{Setting, rows_in, row_total, row_totals}
 use Rattle.vx_strategy_spec.specs.StrategyData.{FlatOptions, flat, chunked}
 use Rattle.vx_plan.specs.FlatNode.{length_of}
-use Rattle.vx_plan.specs.ChunkedNode.{chunk_plans, all_numbers, all_reserved}
+use Rattle.vx_plan.specs.ChunkedNode.{chunk_plans, chunked_numbers, all_numbers, all_reserved}
 use Rattle.vx_plan.specs.SourcePlan.{plan, source_plan, batch_items}
 use Rattle.vx_plan.specs.InOrder.{batch_rows}
 use Rattle.vx_plan.specs.Valid.{Fit}
+use Rattle.vx_plan.proofs.PlanLists.{fit_both, fit_totals}
 
 item_rows : (i : ℕ) (bs : List ChunkData) → row_total (batch_items i bs) ≡ batch_rows bs
 item_rows i [] = refl
@@ -38,8 +39,14 @@ module _ (s : Setting) (o : FlatOptions) (t : Ty) where
   )
 
   pub numbers_fit : (bs : List ChunkData) → Short bs → batch_rows bs < 2 ^ 64 → length bs + 1 < 2 ^ 64 → Fit (source_plan s (chunked (flat o)) t false bs true).numbers
-  numbers_fit bs short below few =
-      (omega arith, (rw (item_rows 0 bs) below, (rw (item_count 0 bs) (omega arith), children_fit 0 bs root_eof short below)))
+  numbers_fit bs short below few = (
+    omega arith,
+    fit_both (chunked_numbers (batch_items 0 bs) root_eof) (all_numbers (chunk_plans (plan s (flat o) t) false (batch_items 0 bs) root_eof))
+        (fit_both (row_totals (batch_items 0 bs)) ((1 + length (batch_items 0 bs)) ∷ [])
+        (fit_totals rows_in 0 (batch_items 0 bs) (let e : row_total (batch_items 0 bs) ≡ batch_rows bs = item_rows 0 bs in omega arith))
+        (rw (item_count 0 bs) (omega arith), tt))
+        (children_fit 0 bs root_eof short below),
+  )
 
   children_hold : (i : ℕ) (bs : List ChunkData) (e : Eof) → all_reserved (chunk_plans (plan s (flat o) t) false (batch_items i bs) e) ≡ 0
   children_hold i [] e = refl
