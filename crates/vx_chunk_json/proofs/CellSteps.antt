@@ -12,13 +12,13 @@ use Rattle.vx_model.specs.CellData.{CellData, null_cell, bool_cell, int_cell, te
 use Rattle.vx_model.specs.TreeView.{tree}
 use Rattle.vx_model.proofs.Views.{view_rules, field_ty_is}
 use Rattle.vx_model.proofs.CellViews.{tree_list, tree_struct}
-use Rattle.vx_chunk_json.specs.Lists.{first_and}
+use Rattle.vx_json.specs.Lists.{first_and}
 use Rattle.vx_chunk_json.specs.Cells.{cell_of, field_cells}
-use Rattle.vx_chunk_json.specs.declared.error.DataError.{DataError}
-use Rattle.vx_chunk_json.specs.declared.error.DataError.TheVariants as errors
-use Rattle.vx_chunk_json.specs.Views.{Fails}
-use Rattle.vx_chunk_json.proofs.Objects.{key_rules}
-use Rattle.vx_chunk_json.proofs.Items.{with_front, regroup, each_goes_on, each_stops}
+use Rattle.vx_json.specs.declared.error.JsonError.{JsonError}
+use Rattle.vx_json.specs.declared.error.JsonError.TheVariants as errors
+use Rattle.vx_json.specs.Views.{Fails}
+use Rattle.vx_json.proofs.Parts.{part_rules}
+use Rattle.vx_json.proofs.Items.{with_front, regroup, each_goes_on, each_stops}
 
 pub tree_null : tree cl.Null ≡ null_cell
 tree_null = search (rules, cl.the_lemmas)
@@ -58,7 +58,7 @@ unfolding first_and
 fields_none fs vs i f v front all lt more v-is e so_far = sym so_far ∙ rw (next_field fs vs i f v lt more v-is, e) refl
 
 -- a cell that is refused
-pub fields_stop : (error : DataError) (fs : List StructField) (vs : List Value) (i : ℕ) (f : StructField) (v : Value) (front : List CellData) (all : Option (List CellData)) → i < length fs → i < length vs → v ≡ get_or vs i v
+pub fields_stop : (error : JsonError) (fs : List StructField) (vs : List Value) (i : ℕ) (f : StructField) (v : Value) (front : List CellData) (all : Option (List CellData)) → i < length fs → i < length vs → v ≡ get_or vs i v
     → Fails error (cell_of (ty (get_or fs i f).dtype) (view v)) → with_front front (rest_at fs vs i) ≡ all → Fails error all
 fields_stop errors.Wrong fs vs i f v front all lt more v-is e so_far = fields_none fs vs i f v front all lt more v-is e so_far
 fields_stop errors.OutOfMemory fs vs i f v front all lt more v-is e so_far = tt
@@ -80,7 +80,7 @@ other_count [] (v ∷ vs) h = refl
 other_count (f ∷ fs) [] h = refl
 other_count (f ∷ fs) (v ∷ vs) h = rw (other_count fs vs (λ e. h (ap suc e))) (none_after (cell_of f.1 (view v)))
 
-pub ruleset cell_rules = (key_rules, view_rules, tree_list, tree_struct)
+pub ruleset cell_rules = (part_rules, view_rules, tree_list, tree_struct)
 
 pub ruleset list_rules = (map_push, append-nil, each_goes_on, each_stops)
 

@@ -11,8 +11,8 @@ use Rattle.vx_model.specs.Words.{all_by}
 use Rattle.vx_model.specs.Ty.{Ty, Tys, boolean, primitive, utf8, binary, list, struct, extension, no_fields, field}
 use Rattle.vx_model.specs.CellData.{CellData, int_cell, trees_of, items, flag_fits, bool_fits, primitive_fits, text_fits, bytes_fits, list_fits, struct_fits, none_fit, first_fits, fits, fields_fit}
 use Rattle.vx_model.proofs.CellViews.{items_trees_of}
-use Rattle.vx_chunk_json.specs.Keys.{◌>>=◌}
-use Rattle.vx_chunk_json.specs.Lists.{first_and, each}
+use Rattle.vx_json.specs.Steps.{◌>>=◌}
+use Rattle.vx_json.specs.Lists.{first_and, each}
 use Rattle.vx_chunk_json.specs.Cells.{bool_of, ranged, int_of, text_of, decoded, bytes_of, invalid_in, list_with, struct_with, list_of, struct_of, cell_of, field_cells, none_left, first_then}
 
 -- whether what was read, if anything, passes the test

@@ -13,14 +13,16 @@ use Rattle.vx_model.specs.Ty.{Ty, Tys, Named, tys_of}
 use Rattle.vx_model.specs.TyView.{ty, field_ty}
 use Rattle.vx_model.specs.ChunkData.{ChunkData, has_elements, piece_type, has_fields, has_storage}
 use Rattle.vx_model.proofs.Views.{view_rules, field_ty_is}
-use Rattle.vx_chunk_json.specs.Keys.{◌>>=◌, array_in, object_in}
-use Rattle.vx_chunk_json.specs.Lists.{each, first_and}
+use Rattle.vx_json.specs.Steps.{◌>>=◌}
+use Rattle.vx_json.specs.Members.{array_in, object_in}
+use Rattle.vx_json.specs.Lists.{each, first_and}
 use Rattle.vx_chunk_json.specs.Chunks.{list_of, struct_of, extension_of, chunk_of, chunk_at, chunks_at, chunks_of, chunks_in, list_at, list_from, struct_at, struct_from, columns_at, columns_of, columns_in}
-use Rattle.vx_chunk_json.specs.declared.error.DataError.{DataError}
-use Rattle.vx_chunk_json.specs.declared.error.DataError.TheVariants as errors
-use Rattle.vx_chunk_json.specs.Views.{Fails}
-use Rattle.vx_chunk_json.proofs.Objects.{at_first, key_rules}
-use Rattle.vx_chunk_json.proofs.Items.{with_front, regroup, each_goes_on, each_none, each_stops}
+use Rattle.vx_json.specs.declared.error.JsonError.{JsonError}
+use Rattle.vx_json.specs.declared.error.JsonError.TheVariants as errors
+use Rattle.vx_json.specs.Views.{Fails}
+use Rattle.vx_json.proofs.Parts.{part_rules}
+use Rattle.vx_chunk_json.proofs.Objects.{at_first}
+use Rattle.vx_json.proofs.Items.{with_front, regroup, each_goes_on, each_none, each_stops}
 use Rattle.vx_chunk_json.proofs.Sizes.{get_size, item_size, array_size, object_size}
 
 -- ---- what stands at a key
@@ -146,7 +148,7 @@ unfolding extension_of
 no_storage t None h = refl
 no_storage t (Some p) h = rw (h (piece_type p)) refl
 
-pub ruleset chunk_rules = (no_list, no_struct, no_storage, key_rules, view_rules, chunk_at_is, chunks_at_is, list_at_is, struct_at_is, columns_at_is, get_size, item_size, array_size, object_size)
+pub ruleset chunk_rules = (no_list, no_struct, no_storage, part_rules, view_rules, chunk_at_is, chunks_at_is, list_at_is, struct_at_is, columns_at_is, get_size, item_size, array_size, object_size)
 
 pub ruleset list_rules = (map_push, append-nil, each_goes_on, each_stops, item_size)
 
@@ -171,7 +173,7 @@ unfolding first_and
 columns_none fs vs i f v front all lt more v-is e so_far = sym so_far ∙ rw (next_column fs vs i f v lt more v-is, e) refl
 
 -- a chunk that is refused
-pub columns_stop : (error : DataError) (fs : List StructField) (vs : List Value) (i : ℕ) (f : StructField) (v : Value) (front : List ChunkData) (all : Option (List ChunkData)) → i < length fs → i < length vs → v ≡ get_or vs i v
+pub columns_stop : (error : JsonError) (fs : List StructField) (vs : List Value) (i : ℕ) (f : StructField) (v : Value) (front : List ChunkData) (all : Option (List ChunkData)) → i < length fs → i < length vs → v ≡ get_or vs i v
     → Fails error (chunk_of (ty (get_or fs i f).dtype) (view v)) → with_front front (rest_at fs vs i) ≡ all → Fails error all
 columns_stop errors.Wrong fs vs i f v front all lt more v-is e so_far = columns_none fs vs i f v front all lt more v-is e so_far
 columns_stop errors.OutOfMemory fs vs i f v front all lt more v-is e so_far = tt

@@ -7,8 +7,8 @@ use Rattle.vx_model.specs.CellData.{CellData}
 use Rattle.vx_model.specs.ChunkData.{ChunkData, dict_piece, chunked_piece, list_piece, struct_piece, extension_piece, pieces_of, piece_type, joined_cells, are_parts, has_storage}
 use Rattle.vx_chunk.specs.Conditions.{makes_dict, makes_list, makes_struct}
 use Rattle.vx_chunk.specs.Parts.{element_type, struct_fields}
-use Rattle.vx_chunk_json.specs.Keys.{has_keys, number_in}
-use Rattle.vx_chunk_json.specs.Lists.{each}
+use Rattle.vx_json.specs.Members.{has_keys, number_in}
+use Rattle.vx_json.specs.Lists.{each}
 use Rattle.vx_chunk_json.specs.Cells.{cell_of, cell_in}
 use Rattle.vx_chunk_json.specs.Chunks.{plain_of, constant_of, dict_of, chunked_of, list_of, struct_of, extension_of, inner_type, codes_in, numbers_in, flags_in, has_parts, chunk_of, chunk_at, chunks_at, list_at, list_from, struct_at, struct_from, columns_at}
 

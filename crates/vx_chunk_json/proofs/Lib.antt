@@ -1,6 +1,5 @@
 pub mod Sizes
 pub mod Objects
-pub mod Items
 pub mod TypeSteps
 pub mod CellSteps
 pub mod ChunkFits

@@ -6,7 +6,8 @@ use Rattle.serde_json.specs.Data.{Data, null, boolean, number, string, array, ob
 use Rattle.serde_json.specs.Find.{get_member, as_array, as_object}
 use Rattle.serde_json.specs.View.{view, items_view}
 use Rattle.serde_json.specs.declared.value.Value.{Value}
-use Rattle.vx_chunk_json.specs.Keys.{◌>>=◌, array_in, object_in}
+use Rattle.vx_json.specs.Steps.{◌>>=◌}
+use Rattle.vx_json.specs.Members.{array_in, object_in}
 
 abbrev mutual
   pub size : Data → ℕ

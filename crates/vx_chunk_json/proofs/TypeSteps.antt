@@ -5,11 +5,13 @@ use Rattle.std.proofs.lemmas.Map.Text.{is_eq-slice_cmp}
 use Rattle.serde_json.specs.Data.{Items, no_items, item, Members, no_members, member}
 use Rattle.serde_json.specs.Find.{get_member, as_str}
 use Rattle.vx_model.proofs.Views.{view_rules}
-use Rattle.vx_chunk_json.specs.Keys.{◌>>=◌}
-use Rattle.vx_chunk_json.specs.Lists.{each, pair_of}
+use Rattle.vx_json.specs.Steps.{◌>>=◌}
+use Rattle.vx_json.specs.Lists.{each}
+use Rattle.vx_json.specs.Values.{two_items}
 use Rattle.vx_chunk_json.specs.Types.{type_of, type_at, fields_of, fields_at, fields_in, field_of, field_in, named_type}
-use Rattle.vx_chunk_json.proofs.Objects.{at_first, key_rules}
-use Rattle.vx_chunk_json.proofs.Items.{each_goes_on, each_stops, list_rules}
+use Rattle.vx_json.proofs.Parts.{part_rules}
+use Rattle.vx_chunk_json.proofs.Objects.{at_first}
+use Rattle.vx_json.proofs.Items.{each_goes_on, each_stops, list_rules}
 use Rattle.vx_chunk_json.proofs.Sizes.{get_size, item_size}
 
 pub type_at_is : (k : List ℕ) (ms : Members) → type_at k ms ≡ (get_member k ms >>= type_of)
@@ -24,12 +26,12 @@ pub fields_in_is : (ds : Items) → fields_in ds ≡ each field_of ds
 fields_in_is no_items = refl
 fields_in_is (item d ds) = rw (fields_in_is ds) refl
 
-pub field_in_is : (ds : Items) → field_in ds ≡ (pair_of ds >>= λ p. named_type (as_str p.0) (type_of p.1))
+pub field_in_is : (ds : Items) → field_in ds ≡ (two_items ds >>= λ p. named_type (as_str p.0) (type_of p.1))
 field_in_is no_items = refl
 field_in_is (item a no_items) = refl
 field_in_is (item a (item b no_items)) = refl
 field_in_is (item a (item b (item c ds))) = refl
 
-pub ruleset type_rules = (key_rules, view_rules, type_at_is, fields_at_is, fields_in_is, field_in_is, get_size, item_size)
+pub ruleset type_rules = (part_rules, view_rules, type_at_is, fields_at_is, fields_in_is, field_in_is, get_size, item_size)
 
 pub ruleset type_list_rules = (list_rules, view_rules, item_size)

@@ -1,9 +1,12 @@
--- What a refusal of a chunk is to its reader.
+-- A chunk that was made, or its refusal, to its reader.
+use Rattle.std.specs.Prelude.{Result, Ok, Err}
+use Rattle.vx_model.specs.ChunkData.{ChunkData}
 use Rattle.vx_chunk.specs.declared.error.ChunkError.{ChunkError}
 use Rattle.vx_chunk.specs.declared.error.ChunkError.TheVariants as chunks
-use Rattle.vx_chunk_json.specs.declared.error.DataError.{DataError}
-use Rattle.vx_chunk_json.specs.declared.error.DataError.TheVariants as errors
+use Rattle.vx_json.specs.declared.error.JsonError.{JsonError}
+use Rattle.vx_json.specs.declared.error.JsonError.TheVariants as errors
 
-abbrev pub of_chunk : ChunkError → DataError
-of_chunk (chunks.TooLarge n) = errors.Wrong
-of_chunk chunks.OutOfMemory = errors.OutOfMemory
+abbrev pub of_made : Result ChunkData ChunkError → Result ChunkData JsonError
+of_made (Ok c) = Ok c
+of_made (Err (chunks.TooLarge n)) = Err errors.Wrong
+of_made (Err chunks.OutOfMemory) = Err errors.OutOfMemory

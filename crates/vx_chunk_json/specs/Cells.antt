@@ -8,8 +8,9 @@ use Rattle.vx_model.specs.declared.ptype.PType.{PType}
 use Rattle.vx_model.specs.Numbers.{int_fits}
 use Rattle.vx_model.specs.Ty.{Ty, Tys, boolean, primitive, utf8, binary, list, struct, extension, no_fields, field}
 use Rattle.vx_model.specs.CellData.{CellData, null_cell, bool_cell, int_cell, text_cell, bytes_cell, list_cell, struct_cell, no_cells, trees_of}
-use Rattle.vx_chunk_json.specs.Keys.{◌>>=◌, has_keys, array_in}
-use Rattle.vx_chunk_json.specs.Lists.{first_and, each}
+use Rattle.vx_json.specs.Steps.{◌>>=◌}
+use Rattle.vx_json.specs.Members.{has_keys, array_in}
+use Rattle.vx_json.specs.Lists.{first_and, each}
 
 -- a leaf's null, where the type is nullable
 abbrev pub null_of : Bool → Option CellData

@@ -10,8 +10,10 @@ use Rattle.vx_model.specs.CellData.{CellData}
 use Rattle.vx_model.specs.ChunkData.{ChunkData, plain_piece, constant_piece, dict_piece, chunked_piece, list_piece, struct_piece, extension_piece, pieces_of, piece_type, joined_cells, are_parts, has_storage}
 use Rattle.vx_chunk.specs.Conditions.{makes_dict, makes_list, makes_struct}
 use Rattle.vx_chunk.specs.Parts.{element_type, struct_fields}
-use Rattle.vx_chunk_json.specs.Keys.{◌>>=◌, has_keys, text_in, array_in, number_in, whole}
-use Rattle.vx_chunk_json.specs.Lists.{first_and, each}
+use Rattle.vx_json.specs.Steps.{◌>>=◌}
+use Rattle.vx_json.specs.Members.{has_keys, text_in, array_in, number_in}
+use Rattle.vx_json.specs.Values.{whole}
+use Rattle.vx_json.specs.Lists.{first_and, each}
 use Rattle.vx_chunk_json.specs.Types.{type_of}
 use Rattle.vx_chunk_json.specs.Cells.{cell_of, cell_in}
 

@@ -5,8 +5,9 @@ use Rattle.serde_json.specs.Find.{get_member, as_bool, as_str}
 use Rattle.vx_model.specs.declared.ptype.PType.TheVariants.{U8, U16, U32, U64, I8, I16, I32, I64}
 use Rattle.vx_model.specs.Ty.{Ty, boolean, primitive, utf8, binary, list, struct, extension, tys_of, Named}
 use Rattle.vx_model.specs.Shown.{type_text}
-use Rattle.vx_chunk_json.specs.Keys.{◌>>=◌, has_keys, text_in}
-use Rattle.vx_chunk_json.specs.Lists.{first_and}
+use Rattle.vx_json.specs.Steps.{◌>>=◌}
+use Rattle.vx_json.specs.Members.{has_keys, text_in}
+use Rattle.vx_json.specs.Lists.{first_and}
 
 -- the types without others below them
 abbrev pub leaves : Bool → List Ty

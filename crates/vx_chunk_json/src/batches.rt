@@ -3,22 +3,21 @@
 ghost use Rattle.std.specs.Prelude.{◌≡◌};
 ghost use Rattle.serde_json.specs.View.{view, items_view, members_view};
 ghost use Rattle.vx_model.specs.TyView.{ty};
-ghost use Rattle.vx_chunk_json.specs.Lists.{each};
+ghost use Rattle.vx_json.specs.Lists.{each};
 ghost use Rattle.vx_chunk_json.specs.Chunks.{batch_of, typed_batch};
-ghost use Rattle.vx_chunk_json.specs.Views.{Gives};
+ghost use Rattle.vx_json.specs.Views.{Gives};
 
 use crate::chunks::read_chunk;
-use crate::error::DataError;
-use crate::keys::{has_two, member};
 use crate::types::read_type;
 use serde_json::{Map, Value};
 use std::alloc::Global;
 use vx_chunk::Chunk;
+use vx_json::{JsonError, has_two, member};
 use vx_model::DType;
 
 /// The batch that the value says: a chunk of the schema, or of the type that stands beside it.
-#[tactic(auto, using(crate::proofs::Objects::key_rules))]
-pub fn read_batch(alloc: Global, schema: &DType, value: &Value) -> Result<Chunk, DataError>
+#[tactic(auto, using(vx_json::proofs::Parts::part_rules))]
+pub fn read_batch(alloc: Global, schema: &DType, value: &Value) -> Result<Chunk, JsonError>
     ensures { Gives (λ c. c) result (batch_of (ty schema.now) (view value.now)) }
 {
     match value {
@@ -29,31 +28,31 @@ pub fn read_batch(alloc: Global, schema: &DType, value: &Value) -> Result<Chunk,
             }
             read_chunk(alloc, schema, value)
         }
-        Value::Null | Value::Bool(_) | Value::Number(_) | Value::String(_) => Err(DataError::Wrong),
+        Value::Null | Value::Bool(_) | Value::Number(_) | Value::String(_) => Err(JsonError::Wrong),
     }
 }
 
 /// The chunk at `chunk` of the type at `as`.
-fn read_typed(alloc: Global, members: &Map<String, Value>) -> Result<Chunk, DataError>
+fn read_typed(alloc: Global, members: &Map<String, Value>) -> Result<Chunk, JsonError>
     ensures { Gives (λ c. c) result (typed_batch (members_view members.now.entries)) }
 {
     let Some(dtype) = member(members, "as") else {
-        return Err(DataError::Wrong);
+        return Err(JsonError::Wrong);
     };
     let dtype = read_type(alloc, dtype)?;
     let Some(chunk) = member(members, "chunk") else {
-        return Err(DataError::Wrong);
+        return Err(JsonError::Wrong);
     };
     read_chunk(alloc, &dtype, chunk)
 }
 
 /// The batches that the values say, in order.
-#[tactic(auto, using(crate::proofs::Items::list_rules))]
+#[tactic(auto, using(vx_json::proofs::Items::list_rules))]
 pub fn read_batches(
     alloc: Global,
     schema: &DType,
     values: &[Value],
-) -> Result<Vec<Chunk>, DataError>
+) -> Result<Vec<Chunk>, JsonError>
     ensures { Gives (λ v. v.items) result (each (batch_of (ty schema.now)) (items_view values.now)) }
 {
     let mut batches = Vec::with_capacity(alloc, values.len())?;

@@ -8,112 +8,111 @@ ghost use Rattle.vx_model.specs.Ty.{tys_of};
 ghost use Rattle.vx_model.specs.CellData.{fits};
 ghost use Rattle.vx_model.specs.TyView.{ty, field_ty};
 ghost use Rattle.vx_model.specs.TreeView.{tree};
-ghost use Rattle.vx_chunk_json.specs.Lists.{each};
+ghost use Rattle.vx_json.specs.Lists.{each};
 ghost use Rattle.vx_chunk_json.specs.Cells.{null_of, bool_of, ranged, int_of, text_of, decoded, bytes_of, invalid_in, list_of, struct_of, cell_of, field_cells};
-ghost use Rattle.vx_chunk_json.specs.Views.{Gives};
+ghost use Rattle.vx_json.specs.Views.{Gives};
 
-use crate::error::DataError;
-use crate::keys::{array_at, has_one};
 use hex::FromHexError;
 use serde_json::{Map, Number, Value};
 use std::alloc::Global;
+use vx_json::{JsonError, array_at, has_one};
 use vx_model::{Blob, Cell, DType, Nullability, PType, StructField, Text, fits_one};
 
-fn read_null(nullable: bool) -> Result<Cell, DataError>
+fn read_null(nullable: bool) -> Result<Cell, JsonError>
     ensures { Gives tree result (null_of nullable) }
 {
     if nullable {
         Ok(Cell::Null)
     } else {
-        Err(DataError::Wrong)
+        Err(JsonError::Wrong)
     }
 }
 
 #[tactic(auto, using(crate::proofs::CellSteps::leaf_rules))]
-fn read_bool(nullable: bool, value: &Value) -> Result<Cell, DataError>
+fn read_bool(nullable: bool, value: &Value) -> Result<Cell, JsonError>
     ensures { Gives tree result (bool_of nullable (view value.now)) }
 {
     match value {
         Value::Null => read_null(nullable),
         Value::Bool(b) => Ok(Cell::Bool(*b)),
         Value::Number(_) | Value::String(_) | Value::Array(_) | Value::Object(_) => {
-            Err(DataError::Wrong)
+            Err(JsonError::Wrong)
         }
     }
 }
 
 /// A whole number in the type's range.
 #[tactic(auto, using(crate::proofs::CellSteps::leaf_rules), unfolding(crate::specs::Cells::ranged))]
-fn read_whole(ptype: PType, number: &Number) -> Result<Cell, DataError>
+fn read_whole(ptype: PType, number: &Number) -> Result<Cell, JsonError>
     ensures { Gives tree result (ranged ptype (as_integer (number_view number.now))) }
 {
     let Some(n) = number.as_i128() else {
-        return Err(DataError::Wrong);
+        return Err(JsonError::Wrong);
     };
     let cell = Cell::Int(n);
     if !fits_one(&DType::Primitive(ptype, Nullability::NonNullable), &cell) {
-        return Err(DataError::Wrong);
+        return Err(JsonError::Wrong);
     }
     Ok(cell)
 }
 
 #[tactic(auto, using(crate::proofs::CellSteps::leaf_rules))]
-fn read_int(ptype: PType, nullable: bool, value: &Value) -> Result<Cell, DataError>
+fn read_int(ptype: PType, nullable: bool, value: &Value) -> Result<Cell, JsonError>
     ensures { Gives tree result (int_of ptype nullable (view value.now)) }
 {
     match value {
         Value::Null => read_null(nullable),
         Value::Number(number) => read_whole(ptype, number),
         Value::Bool(_) | Value::String(_) | Value::Array(_) | Value::Object(_) => {
-            Err(DataError::Wrong)
+            Err(JsonError::Wrong)
         }
     }
 }
 
 #[tactic(auto, using(crate::proofs::CellSteps::leaf_rules))]
-fn read_text(alloc: Global, nullable: bool, value: &Value) -> Result<Cell, DataError>
+fn read_text(alloc: Global, nullable: bool, value: &Value) -> Result<Cell, JsonError>
     ensures { Gives tree result (text_of nullable (view value.now)) }
 {
     match value {
         Value::Null => read_null(nullable),
         Value::String(text) => Ok(Cell::Utf8(Text::from_str(alloc, text.as_str())?)),
         Value::Bool(_) | Value::Number(_) | Value::Array(_) | Value::Object(_) => {
-            Err(DataError::Wrong)
+            Err(JsonError::Wrong)
         }
     }
 }
 
 /// Bytes as hex text, of lower and upper case.
 #[tactic(auto, using(crate::proofs::CellSteps::leaf_rules))]
-fn read_hex(alloc: Global, text: &str) -> Result<Cell, DataError>
+fn read_hex(alloc: Global, text: &str) -> Result<Cell, JsonError>
     ensures { Gives tree result (decoded (decode_of text.now)) }
 {
     match hex::decode(alloc, text) {
         Ok(bytes) => Ok(Cell::Binary(Blob::from(bytes))),
-        Err(FromHexError::OutOfMemory) => Err(DataError::OutOfMemory),
+        Err(FromHexError::OutOfMemory) => Err(JsonError::OutOfMemory),
         Err(
             FromHexError::InvalidHexCharacter { .. }
             | FromHexError::OddLength
             | FromHexError::InvalidStringLength,
-        ) => Err(DataError::Wrong),
+        ) => Err(JsonError::Wrong),
     }
 }
 
 #[tactic(auto, using(crate::proofs::CellSteps::leaf_rules))]
-fn read_bytes(alloc: Global, nullable: bool, value: &Value) -> Result<Cell, DataError>
+fn read_bytes(alloc: Global, nullable: bool, value: &Value) -> Result<Cell, JsonError>
     ensures { Gives tree result (bytes_of nullable (view value.now)) }
 {
     match value {
         Value::Null => read_null(nullable),
         Value::String(text) => read_hex(alloc, text.as_str()),
         Value::Bool(_) | Value::Number(_) | Value::Array(_) | Value::Object(_) => {
-            Err(DataError::Wrong)
+            Err(JsonError::Wrong)
         }
     }
 }
 
 /// What an invalid list or struct keeps.
-#[tactic(auto, using(crate::proofs::Objects::key_rules))]
+#[tactic(auto, using(vx_json::proofs::Parts::part_rules))]
 fn invalid_cells(members: &Map<String, Value>) -> Option<&Vec<Value>>
     ensures { option_map (λ v. items_view v.now.items) result ≡ invalid_in (members_view members.now.entries) }
 {
@@ -125,7 +124,7 @@ fn invalid_cells(members: &Map<String, Value>) -> Option<&Vec<Value>>
 
 /// The cell of the type that the value says.
 #[tactic(auto, using(crate::proofs::ChunkFits::fit_rules))]
-pub fn read_cell(alloc: Global, dtype: &DType, value: &Value) -> Result<Cell, DataError>
+pub fn read_cell(alloc: Global, dtype: &DType, value: &Value) -> Result<Cell, JsonError>
     ensures exact { Gives tree result (cell_of (ty dtype.now) (view value.now)) }
     ensures fits { IfOk result (λ c. IsTrue (fits (ty dtype.now) (tree c))) }
 {
@@ -134,7 +133,7 @@ pub fn read_cell(alloc: Global, dtype: &DType, value: &Value) -> Result<Cell, Da
 
 #[cycle(cells)]
 #[tactic(auto, using(crate::proofs::CellSteps::cell_rules))]
-fn cell_from(alloc: Global, dtype: &DType, value: &Value) -> Result<Cell, DataError>
+fn cell_from(alloc: Global, dtype: &DType, value: &Value) -> Result<Cell, JsonError>
     ensures { Gives tree result (cell_of (ty dtype.now) (view value.now)) }
 {
     match dtype {
@@ -150,27 +149,27 @@ fn cell_from(alloc: Global, dtype: &DType, value: &Value) -> Result<Cell, DataEr
 
 #[cycle(cells)]
 #[tactic(auto, using(crate::proofs::CellSteps::cell_rules))]
-fn read_list(alloc: Global, items: &DType, nullable: bool, value: &Value) -> Result<Cell, DataError>
+fn read_list(alloc: Global, items: &DType, nullable: bool, value: &Value) -> Result<Cell, JsonError>
     ensures { Gives tree result (list_of nullable (each (cell_of (ty items.now))) (view value.now)) }
 {
     match value {
         Value::Array(values) => Ok(Cell::List(true, read_cells(alloc, items, values)?)),
         Value::Null => {
             if !nullable {
-                return Err(DataError::Wrong);
+                return Err(JsonError::Wrong);
             }
             Ok(Cell::List(false, Vec::new(alloc)))
         }
         Value::Object(members) => {
             if !nullable {
-                return Err(DataError::Wrong);
+                return Err(JsonError::Wrong);
             }
             let Some(values) = invalid_cells(members) else {
-                return Err(DataError::Wrong);
+                return Err(JsonError::Wrong);
             };
             Ok(Cell::List(false, read_cells(alloc, items, values)?))
         }
-        Value::Bool(_) | Value::Number(_) | Value::String(_) => Err(DataError::Wrong),
+        Value::Bool(_) | Value::Number(_) | Value::String(_) => Err(JsonError::Wrong),
     }
 }
 
@@ -181,7 +180,7 @@ pub(crate) fn read_cells(
     alloc: Global,
     dtype: &DType,
     values: &[Value],
-) -> Result<Vec<Cell>, DataError>
+) -> Result<Vec<Cell>, JsonError>
     ensures { Gives (λ v. map tree v.items) result (each (cell_of (ty dtype.now)) (items_view values.now)) }
 {
     let mut cells = Vec::with_capacity(alloc, values.len())?;
@@ -198,21 +197,21 @@ fn read_struct(
     fields: &[StructField],
     nullable: bool,
     value: &Value,
-) -> Result<Cell, DataError>
+) -> Result<Cell, JsonError>
     ensures { Gives tree result (struct_of nullable (field_cells (tys_of (map field_ty fields.now))) (view value.now)) }
 {
     match value {
         Value::Array(values) => Ok(Cell::Struct(true, read_fields(alloc, fields, values)?)),
         Value::Object(members) => {
             if !nullable {
-                return Err(DataError::Wrong);
+                return Err(JsonError::Wrong);
             }
             let Some(values) = invalid_cells(members) else {
-                return Err(DataError::Wrong);
+                return Err(JsonError::Wrong);
             };
             Ok(Cell::Struct(false, read_fields(alloc, fields, values)?))
         }
-        Value::Null | Value::Bool(_) | Value::Number(_) | Value::String(_) => Err(DataError::Wrong),
+        Value::Null | Value::Bool(_) | Value::Number(_) | Value::String(_) => Err(JsonError::Wrong),
     }
 }
 
@@ -223,11 +222,11 @@ fn read_fields(
     alloc: Global,
     fields: &[StructField],
     values: &[Value],
-) -> Result<Vec<Cell>, DataError>
+) -> Result<Vec<Cell>, JsonError>
     ensures { Gives (λ v. map tree v.items) result (field_cells (tys_of (map field_ty fields.now)) (items_view values.now)) }
 {
     if fields.len() != values.len() {
-        return Err(DataError::Wrong);
+        return Err(JsonError::Wrong);
     }
     let mut cells = Vec::with_capacity(alloc, fields.len())?;
     for i in 0..fields.len() {

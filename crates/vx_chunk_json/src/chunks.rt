@@ -6,26 +6,25 @@ ghost use Rattle.serde_json.specs.View.{view, items_view, members_view};
 ghost use Rattle.vx_model.specs.Ty.{Ty, tys_of};
 ghost use Rattle.vx_model.specs.ChunkData.{ChunkData, piece_type, has_elements, has_fields, has_storage};
 ghost use Rattle.vx_model.specs.TyView.{ty, field_ty};
-ghost use Rattle.vx_chunk_json.specs.Lists.{each};
+ghost use Rattle.vx_json.specs.Lists.{each};
 ghost use Rattle.vx_chunk_json.specs.Chunks.{has_parts as are_parts, inner_type, dict_of, chunked_of, extension_of, codes_in, chunk_of, chunk_at, chunks_at, list_at, struct_at, columns_at, columns_in};
 ghost use Rattle.vx_chunk.specs.Parts.{element_type, struct_fields};
-ghost use Rattle.vx_chunk_json.specs.Views.{Gives};
+ghost use Rattle.vx_json.specs.Views.{Gives};
 
 use crate::encodings::{
     make_chunked, make_dict, make_extension, make_list, make_struct, read_codes, read_constant,
     read_plain,
 };
-use crate::error::DataError;
-use crate::keys::{array_at, has_one, has_three, has_two, member, number_at, object_at};
 use crate::lists::{flags_at, numbers_at};
 use serde_json::{Map, Value};
 use std::alloc::Global;
 use vx_chunk::Chunk;
+use vx_json::{JsonError, array_at, has_one, has_three, has_two, member, number_at, object_at};
 use vx_model::{DType, StructField};
 
 /// The chunk of the type that the value says. Too many rows are a wrong value.
 #[tactic(auto, using(crate::proofs::ChunkTypes::type_rules))]
-pub fn read_chunk(alloc: Global, dtype: &DType, value: &Value) -> Result<Chunk, DataError>
+pub fn read_chunk(alloc: Global, dtype: &DType, value: &Value) -> Result<Chunk, JsonError>
     ensures exact { Gives (λ c. c) result (chunk_of (ty dtype.now) (view value.now)) }
     ensures typed { IfOk result (λ c. piece_type c ≡ ty dtype.now) }
 {
@@ -34,13 +33,13 @@ pub fn read_chunk(alloc: Global, dtype: &DType, value: &Value) -> Result<Chunk, 
 
 #[cycle(chunks)]
 #[tactic(auto, using(crate::proofs::ChunkSteps::chunk_rules))]
-fn chunk_from(alloc: Global, dtype: &DType, value: &Value) -> Result<Chunk, DataError>
+fn chunk_from(alloc: Global, dtype: &DType, value: &Value) -> Result<Chunk, JsonError>
     ensures { Gives (λ c. c) result (chunk_of (ty dtype.now) (view value.now)) }
 {
     match value {
         Value::Array(values) => read_plain(alloc, dtype, values),
         Value::Object(members) => read_encoded(alloc, dtype, members),
-        Value::Null | Value::Bool(_) | Value::Number(_) | Value::String(_) => Err(DataError::Wrong),
+        Value::Null | Value::Bool(_) | Value::Number(_) | Value::String(_) => Err(JsonError::Wrong),
     }
 }
 
@@ -50,7 +49,7 @@ fn read_encoded(
     alloc: Global,
     dtype: &DType,
     members: &Map<String, Value>,
-) -> Result<Chunk, DataError>
+) -> Result<Chunk, JsonError>
     ensures { Gives (λ c. c) result (chunk_of (ty dtype.now) (object (members_view members.now.entries))) }
 {
     if has_two(members, "constant", "rows") {
@@ -71,7 +70,7 @@ fn read_encoded(
     if has_one(members, "ext") {
         return read_extension(alloc, dtype, members);
     }
-    Err(DataError::Wrong)
+    Err(JsonError::Wrong)
 }
 
 /// The chunk at the key.
@@ -82,18 +81,18 @@ fn read_chunk_at(
     dtype: &DType,
     members: &Map<String, Value>,
     key: &str,
-) -> Result<Chunk, DataError>
+) -> Result<Chunk, JsonError>
     ensures { Gives (λ c. c) result (chunk_at (ty dtype.now) key.now (members_view members.now.entries)) }
 {
     match member(members, key) {
         Some(value) => chunk_from(alloc, dtype, value),
-        None => Err(DataError::Wrong),
+        None => Err(JsonError::Wrong),
     }
 }
 
 #[cycle(chunks)]
 #[tactic(auto, using(crate::proofs::ChunkSteps::chunk_rules), unfolding(crate::specs::Chunks::dict_of))]
-fn read_dict(alloc: Global, dtype: &DType, members: &Map<String, Value>) -> Result<Chunk, DataError>
+fn read_dict(alloc: Global, dtype: &DType, members: &Map<String, Value>) -> Result<Chunk, JsonError>
     ensures { Gives (λ c. c) result (dict_of (codes_in (members_view members.now.entries)) (chunk_at (ty dtype.now) (codes "values") (members_view members.now.entries))) }
 {
     let places = read_codes(alloc, members)?;
@@ -107,11 +106,11 @@ fn read_chunked(
     alloc: Global,
     dtype: &DType,
     members: &Map<String, Value>,
-) -> Result<Chunk, DataError>
+) -> Result<Chunk, JsonError>
     ensures { Gives (λ c. c) result (chunked_of (ty dtype.now) (chunks_at (ty dtype.now) (codes "chunked") (members_view members.now.entries))) }
 {
     let Some(values) = array_at(members, "chunked") else {
-        return Err(DataError::Wrong);
+        return Err(JsonError::Wrong);
     };
     let parts = read_chunks(alloc, dtype, values)?;
     make_chunked(dtype, parts)
@@ -120,7 +119,7 @@ fn read_chunked(
 /// The chunks of one type.
 #[cycle(chunks)]
 #[tactic(auto, using(crate::proofs::ChunkSteps::list_rules))]
-fn read_chunks(alloc: Global, dtype: &DType, values: &[Value]) -> Result<Vec<Chunk>, DataError>
+fn read_chunks(alloc: Global, dtype: &DType, values: &[Value]) -> Result<Vec<Chunk>, JsonError>
     ensures { Gives (λ v. v.items) result (each (chunk_of (ty dtype.now)) (items_view values.now)) }
 {
     let mut parts = Vec::with_capacity(alloc, values.len())?;
@@ -182,18 +181,18 @@ fn has_parts(members: &Map<String, Value>, nullable: bool, first: &str, second: 
 
 #[cycle(chunks)]
 #[tactic(auto, using(crate::proofs::ChunkSteps::chunk_rules), unfolding(crate::specs::Chunks::list_of))]
-fn read_list(alloc: Global, dtype: &DType, members: &Map<String, Value>) -> Result<Chunk, DataError>
+fn read_list(alloc: Global, dtype: &DType, members: &Map<String, Value>) -> Result<Chunk, JsonError>
     ensures { Gives (λ c. c) result (list_at (ty dtype.now) (codes "list") (members_view members.now.entries)) }
 {
     let Some(items) = element_of(dtype) else {
-        return Err(DataError::Wrong);
+        return Err(JsonError::Wrong);
     };
     let Some(parts) = object_at(members, "list") else {
-        return Err(DataError::Wrong);
+        return Err(JsonError::Wrong);
     };
     let nullable = dtype.is_nullable();
     if !has_parts(parts, nullable, "elements", "offsets") {
-        return Err(DataError::Wrong);
+        return Err(JsonError::Wrong);
     }
     let elements = read_chunk_at(alloc, items, parts, "elements")?;
     let offsets = numbers_at(alloc, parts, "offsets")?;
@@ -207,23 +206,23 @@ fn read_struct(
     alloc: Global,
     dtype: &DType,
     members: &Map<String, Value>,
-) -> Result<Chunk, DataError>
+) -> Result<Chunk, JsonError>
     ensures { Gives (λ c. c) result (struct_at (ty dtype.now) (codes "struct") (members_view members.now.entries)) }
 {
     let Some(types) = fields_of(dtype) else {
-        return Err(DataError::Wrong);
+        return Err(JsonError::Wrong);
     };
     let Some(parts) = object_at(members, "struct") else {
-        return Err(DataError::Wrong);
+        return Err(JsonError::Wrong);
     };
     let nullable = dtype.is_nullable();
     if !has_parts(parts, nullable, "fields", "rows") {
-        return Err(DataError::Wrong);
+        return Err(JsonError::Wrong);
     }
     let fields = read_columns_at(alloc, types, parts, "fields")?;
     let valid = flags_at(alloc, parts, nullable)?;
     let Some(rows) = number_at(parts, "rows") else {
-        return Err(DataError::Wrong);
+        return Err(JsonError::Wrong);
     };
     make_struct(dtype, fields, valid, rows)
 }
@@ -236,12 +235,12 @@ fn read_columns_at(
     types: &[StructField],
     members: &Map<String, Value>,
     key: &str,
-) -> Result<Vec<Chunk>, DataError>
+) -> Result<Vec<Chunk>, JsonError>
     ensures { Gives (λ v. v.items) result (columns_at (tys_of (map field_ty types.now)) key.now (members_view members.now.entries)) }
 {
     match array_at(members, key) {
         Some(values) => read_columns(alloc, types, values),
-        None => Err(DataError::Wrong),
+        None => Err(JsonError::Wrong),
     }
 }
 
@@ -252,11 +251,11 @@ fn read_columns(
     alloc: Global,
     types: &[StructField],
     values: &[Value],
-) -> Result<Vec<Chunk>, DataError>
+) -> Result<Vec<Chunk>, JsonError>
     ensures { Gives (λ v. v.items) result (columns_in (tys_of (map field_ty types.now)) (items_view values.now)) }
 {
     if types.len() != values.len() {
-        return Err(DataError::Wrong);
+        return Err(JsonError::Wrong);
     }
     let mut columns = Vec::with_capacity(alloc, types.len())?;
     for i in 0..types.len() {
@@ -271,11 +270,11 @@ fn read_extension(
     alloc: Global,
     dtype: &DType,
     members: &Map<String, Value>,
-) -> Result<Chunk, DataError>
+) -> Result<Chunk, JsonError>
     ensures { Gives (λ c. c) result (extension_of (ty dtype.now) (chunk_at (inner_type (ty dtype.now)) (codes "ext") (members_view members.now.entries))) }
 {
     let Some(inner) = storage_of(dtype) else {
-        return Err(DataError::Wrong);
+        return Err(JsonError::Wrong);
     };
     let storage = read_chunk_at(alloc, inner, members, "ext")?;
     make_extension(alloc, dtype, storage)

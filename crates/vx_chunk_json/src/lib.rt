@@ -5,13 +5,10 @@ mod batches;
 mod cells;
 mod chunks;
 mod encodings;
-mod error;
-mod keys;
 mod lists;
 mod types;
 
 pub use batches::{read_batch, read_batches};
 pub use cells::read_cell;
 pub use chunks::read_chunk;
-pub use error::DataError;
 pub use types::read_type;

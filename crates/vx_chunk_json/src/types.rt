@@ -6,31 +6,30 @@ ghost use Rattle.serde_json.specs.View.{view, members_view, items_view};
 ghost use Rattle.vx_model.specs.Numbers.{is_nullable};
 ghost use Rattle.vx_model.specs.Ty.{extension};
 ghost use Rattle.vx_model.specs.TyView.{ty, field_ty};
-ghost use Rattle.vx_chunk_json.specs.Lists.{each};
+ghost use Rattle.vx_json.specs.Lists.{each};
 ghost use Rattle.vx_chunk_json.specs.Types.{leaf_type, is_kind as of_kind, nullable_in, type_of, type_at, fields_at, fields_of, field_of};
-ghost use Rattle.vx_chunk_json.specs.Views.{Gives};
+ghost use Rattle.vx_json.specs.Views.{Gives};
 
-use crate::error::DataError;
-use crate::keys::{has_one, has_two, member, pair, read_text_at};
 use Nullability::{NonNullable, Nullable};
 use serde_json::{Map, Value};
 use std::alloc::Global;
+use vx_json::{JsonError, has_one, has_two, member, pair, read_text, read_text_at};
 use vx_model::{DType, ExtDType, Nullability, PType, StructField, StructFields, Text};
 
 /// The type that the value says. A field's name may stand twice.
 #[cycle(types)]
 #[tactic(auto, using(crate::proofs::TypeSteps::type_rules))]
-pub fn read_type(alloc: Global, value: &Value) -> Result<DType, DataError>
+pub fn read_type(alloc: Global, value: &Value) -> Result<DType, JsonError>
     ensures { Gives ty result (type_of (view value.now)) }
 {
     match value {
         Value::String(text) => read_leaf(text.as_str()),
         Value::Object(members) => read_nested(alloc, members),
-        Value::Null | Value::Bool(_) | Value::Number(_) | Value::Array(_) => Err(DataError::Wrong),
+        Value::Null | Value::Bool(_) | Value::Number(_) | Value::Array(_) => Err(JsonError::Wrong),
     }
 }
 
-fn read_leaf(text: &str) -> Result<DType, DataError>
+fn read_leaf(text: &str) -> Result<DType, JsonError>
     ensures { Gives ty result (leaf_type text.now) }
 {
     match text {
@@ -56,7 +55,7 @@ fn read_leaf(text: &str) -> Result<DType, DataError>
         "i64?" => Ok(DType::Primitive(PType::I64, Nullable)),
         "utf8?" => Ok(DType::Utf8(Nullable)),
         "binary?" => Ok(DType::Binary(Nullable)),
-        _ => Err(DataError::Wrong),
+        _ => Err(JsonError::Wrong),
     }
 }
 
@@ -68,7 +67,7 @@ fn is_kind(members: &Map<String, Value>, key: &str) -> bool
 }
 
 /// What `nullable` says, non-nullable where it isn't there.
-fn read_nullability(members: &Map<String, Value>) -> Result<Nullability, DataError>
+fn read_nullability(members: &Map<String, Value>) -> Result<Nullability, JsonError>
     ensures { Gives is_nullable result (nullable_in (members_view members.now.entries)) }
 {
     let Some(value) = member(members, "nullable") else {
@@ -77,13 +76,13 @@ fn read_nullability(members: &Map<String, Value>) -> Result<Nullability, DataErr
     match value.as_bool() {
         Some(true) => Ok(Nullable),
         Some(false) => Ok(NonNullable),
-        None => Err(DataError::Wrong),
+        None => Err(JsonError::Wrong),
     }
 }
 
 #[cycle(types)]
 #[tactic(auto, using(crate::proofs::TypeSteps::type_rules), unfolding(crate::specs::Types::list_type, crate::specs::Types::struct_type, crate::specs::Types::extension_type))]
-fn read_nested(alloc: Global, members: &Map<String, Value>) -> Result<DType, DataError>
+fn read_nested(alloc: Global, members: &Map<String, Value>) -> Result<DType, JsonError>
     ensures { Gives ty result (type_of (object (members_view members.now.entries))) }
 {
     if is_kind(members, "list") {
@@ -100,7 +99,7 @@ fn read_nested(alloc: Global, members: &Map<String, Value>) -> Result<DType, Dat
         let storage = Box::new(alloc, read_type_at(alloc, members, "storage")?)?;
         return Ok(tagged(tag, storage));
     }
-    Err(DataError::Wrong)
+    Err(JsonError::Wrong)
 }
 
 #[tactic(auto, using(crate::proofs::TypeSteps::type_rules))]
@@ -112,12 +111,12 @@ fn tagged(tag: Text, storage: Box<DType>) -> DType
 
 #[cycle(types)]
 #[tactic(auto, using(crate::proofs::TypeSteps::type_rules))]
-fn read_type_at(alloc: Global, members: &Map<String, Value>, key: &str) -> Result<DType, DataError>
+fn read_type_at(alloc: Global, members: &Map<String, Value>, key: &str) -> Result<DType, JsonError>
     ensures { Gives ty result (type_at key.now (members_view members.now.entries)) }
 {
     match member(members, key) {
         Some(value) => read_type(alloc, value),
-        None => Err(DataError::Wrong),
+        None => Err(JsonError::Wrong),
     }
 }
 
@@ -127,31 +126,31 @@ fn read_fields_at(
     alloc: Global,
     members: &Map<String, Value>,
     key: &str,
-) -> Result<Vec<StructField>, DataError>
+) -> Result<Vec<StructField>, JsonError>
     ensures { Gives (λ v. map field_ty v.items) result (fields_at key.now (members_view members.now.entries)) }
 {
     match member(members, key) {
         Some(value) => read_fields_of(alloc, value),
-        None => Err(DataError::Wrong),
+        None => Err(JsonError::Wrong),
     }
 }
 
 #[cycle(types)]
 #[tactic(auto, using(crate::proofs::TypeSteps::type_rules))]
-fn read_fields_of(alloc: Global, value: &Value) -> Result<Vec<StructField>, DataError>
+fn read_fields_of(alloc: Global, value: &Value) -> Result<Vec<StructField>, JsonError>
     ensures { Gives (λ v. map field_ty v.items) result (fields_of (view value.now)) }
 {
     match value {
         Value::Array(items) => read_fields(alloc, items),
         Value::Null | Value::Bool(_) | Value::Number(_) | Value::String(_) | Value::Object(_) => {
-            Err(DataError::Wrong)
+            Err(JsonError::Wrong)
         }
     }
 }
 
 #[cycle(types)]
 #[tactic(auto, using(crate::proofs::TypeSteps::type_list_rules))]
-fn read_fields(alloc: Global, items: &[Value]) -> Result<Vec<StructField>, DataError>
+fn read_fields(alloc: Global, items: &[Value]) -> Result<Vec<StructField>, JsonError>
     ensures { Gives (λ v. map field_ty v.items) result (each field_of (items_view items.now)) }
 {
     let mut fields = Vec::with_capacity(alloc, items.len())?;
@@ -164,19 +163,16 @@ fn read_fields(alloc: Global, items: &[Value]) -> Result<Vec<StructField>, DataE
 /// A name and a type.
 #[cycle(types)]
 #[tactic(auto, using(crate::proofs::TypeSteps::type_rules), unfolding(crate::specs::Types::named_type))]
-fn read_field(alloc: Global, value: &Value) -> Result<StructField, DataError>
+fn read_field(alloc: Global, value: &Value) -> Result<StructField, JsonError>
     ensures { Gives field_ty result (field_of (view value.now)) }
 {
     let Value::Array(items) = value else {
-        return Err(DataError::Wrong);
+        return Err(JsonError::Wrong);
     };
     let Some((name, dtype)) = pair(items) else {
-        return Err(DataError::Wrong);
+        return Err(JsonError::Wrong);
     };
-    let Some(name) = name.as_str() else {
-        return Err(DataError::Wrong);
-    };
-    let name = Text::from_str(alloc, name)?;
+    let name = read_text(alloc, name)?;
     let dtype = read_type(alloc, dtype)?;
     Ok(StructField { name, dtype })
 }

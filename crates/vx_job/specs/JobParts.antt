@@ -1,28 +1,16 @@
 -- The values at the keys of a job.
-use Rattle.std.specs.Prelude.{ℕ, ◌+◌, ◌||◌, ◌==◌, Bool, false, if◌then◌else◌, List, [], ◌∷◌, codes, bytes_eq, Option, Some, None, is_some, is_none, option_map, option_and_then}
-use Rattle.serde_json.specs.Data.{Data, Members}
-use Rattle.serde_json.specs.Find.{get_member, as_str}
-use Rattle.serde_json.specs.Events.{members_len}
+use Rattle.std.specs.Prelude.{ℕ, ◌||◌, Bool, false, if◌then◌else◌, List, [], ◌∷◌, codes, bytes_eq, Option, Some, None, is_none, option_map, option_and_then}
+use Rattle.serde_json.specs.Data.{Data}
+use Rattle.serde_json.specs.Find.{as_str}
 use Rattle.vx_model.specs.declared.encoding.EncodingId.{EncodingId}
 use Rattle.vx_model.specs.declared.encoding.EncodingId.TheVariants as encodings
 use Rattle.vx_model.specs.Numbers.{encoding_id}
 use Rattle.vx_model.specs.Distinct.{first_repeat}
 use Rattle.vx_aggregate_spec.specs.Aggregate.{aggregate_id, maximum, minimum, bounded_maximum, bounded_minimum, null_count, sum, bloom}
-use Rattle.vx_strategy_json.specs.Parts.{given, when, all, at, whole, whole_below, or_null, has_members}
+use Rattle.vx_json.specs.Steps.{given, when}
+use Rattle.vx_json.specs.Values.{all, at, whole, whole_below, or_null, has_members}
 
 -- ---- keys
-
-abbrev pub one_if : Bool → ℕ
-one_if b = if b then 1 else 0
-
--- how many of the keys there are
-abbrev pub count_of : List (List ℕ) → Members → ℕ
-count_of [] ms = 0
-count_of (k ∷ ks) ms = one_if (is_some (get_member k ms)) + count_of ks ms
-
--- no keys but these, since an object has each key once
-unfoldable pub has_only : List (List ℕ) → Members → Bool
-has_only ks ms = count_of ks ms == members_len ms
 
 abbrev pub keys : List (List ℕ)
 keys = codes "schema" ∷ codes "strategy" ∷ codes "batches" ∷ codes "schedule" ∷ codes "encodings" ∷ codes "aggregates" ∷ codes "marked" ∷ codes "next" ∷ codes "faults" ∷ []

@@ -8,14 +8,15 @@ use Rattle.vx_model.specs.declared.encoding.EncodingId.{EncodingId}
 use Rattle.vx_model.specs.Ty.{Ty}
 use Rattle.vx_model.specs.ChunkData.{ChunkData}
 use Rattle.vx_strategy_spec.specs.StrategyData.{StrategyData}
-use Rattle.vx_chunk_json.specs.Lists.{each}
+use Rattle.vx_json.specs.Lists.{each}
 use Rattle.vx_chunk_json.specs.Types.{type_of}
 use Rattle.vx_chunk_json.specs.Chunks.{batch_of}
-use Rattle.vx_strategy_json.specs.Parts.{all, whole}
+use Rattle.vx_json.specs.Values.{all, whole}
 use Rattle.vx_strategy_json.specs.StrategyText.{strategy_of}
 use Rattle.vx_job.specs.declared.error.Key.{Key}
 use Rattle.vx_job.specs.declared.error.Key.TheVariants as places
-use Rattle.vx_job.specs.JobParts.{has_only, keys, or_default, all_encodings, encodings_of, aggregates_of, next_of, FailingCalls, failing, faults_of}
+use Rattle.vx_json.specs.Members.{has_only}
+use Rattle.vx_job.specs.JobParts.{keys, or_default, all_encodings, encodings_of, aggregates_of, next_of, FailingCalls, failing, faults_of}
 
 -- how a job is written
 pub record JobOptions : Type 0 where

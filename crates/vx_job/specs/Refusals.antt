@@ -1,17 +1,13 @@
 -- A wrong value as a wrong key.
-use Rattle.vx_chunk_json.specs.declared.error.DataError.{DataError}
-use Rattle.vx_chunk_json.specs.declared.error.DataError.TheVariants as values
-use Rattle.vx_strategy_json.specs.declared.error.StrategyError.{StrategyError}
-use Rattle.vx_strategy_json.specs.declared.error.StrategyError.TheVariants as strategies
+use Rattle.std.specs.Prelude.{Result, Ok, Err}
+use Rattle.vx_json.specs.declared.error.JsonError.{JsonError}
+use Rattle.vx_json.specs.declared.error.JsonError.TheVariants as values
 use Rattle.vx_job.specs.declared.error.Key.{Key}
-use Rattle.vx_job.specs.declared.error.Key.TheVariants.{Strategy}
 use Rattle.vx_job.specs.declared.error.JobError.{JobError}
 use Rattle.vx_job.specs.declared.error.JobError.TheVariants.{Wrong, OutOfMemory}
 
-abbrev pub refusal : Key → DataError → JobError
-refusal key values.Wrong = Wrong key
-refusal key values.OutOfMemory = OutOfMemory
-
-abbrev pub strategy_refusal : StrategyError → JobError
-strategy_refusal strategies.Wrong = Wrong Strategy
-strategy_refusal strategies.OutOfMemory = OutOfMemory
+-- what was read at a key
+abbrev pub at_key : {X : Type 0} → Key → Result X JsonError → Result X JobError
+at_key key (Ok x) = Ok x
+at_key key (Err values.Wrong) = Err (Wrong key)
+at_key key (Err values.OutOfMemory) = Err OutOfMemory

@@ -10,7 +10,8 @@ use Rattle.vx_chunk_json.specs.Types.{type_of}
 use Rattle.vx_session.specs.declared.encoding.LayoutEncoding.{LayoutEncoding}
 use Rattle.vx_session.specs.Encodings.{kind_of, all_encodings as all_kinds}
 use Rattle.vx_session.specs.Ids.{is_context}
-use Rattle.vx_strategy_json.specs.Parts.{when, all, whole, whole_below}
+use Rattle.vx_json.specs.Steps.{when}
+use Rattle.vx_json.specs.Values.{all, whole, whole_below}
 use Rattle.vx_job.specs.declared.error.Key.{Key}
 use Rattle.vx_job.specs.declared.error.Key.TheVariants as places
 use Rattle.vx_job.specs.JobParts.{or_default}

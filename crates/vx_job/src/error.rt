@@ -1,7 +1,9 @@
+ghost use Rattle.std.specs.Prelude.{◌≡◌};
+ghost use Rattle.vx_job.specs.Refusals.{at_key};
+
 use std::alloc::AllocError;
 use thiserror::Error;
-use vx_chunk_json::DataError;
-use vx_strategy_json::StrategyError;
+use vx_json::JsonError;
 
 /// A place in a job.
 #[derive(Clone, Copy, Debug, PartialEq, Eq)]
@@ -80,25 +82,13 @@ impl From<AllocError> for JobError {
     }
 }
 
-impl JobError {
-    ghost use Rattle.std.specs.Prelude.{◌≡◌};
-    ghost use Rattle.vx_job.specs.Refusals.{refusal, strategy_refusal};
-
-    pub(crate) fn at(key: Key, error: DataError) -> JobError
-        ensures { result ≡ refusal key error }
-    {
-        match error {
-            DataError::Wrong => JobError::Wrong(key),
-            DataError::OutOfMemory => JobError::OutOfMemory,
-        }
-    }
-
-    pub(crate) fn at_strategy(error: StrategyError) -> JobError
-        ensures { result ≡ strategy_refusal error }
-    {
-        match error {
-            StrategyError::Wrong => JobError::Wrong(Key::Strategy),
-            StrategyError::OutOfMemory => JobError::OutOfMemory,
-        }
+/// What was read at the key.
+pub(crate) fn at<T>(key: Key, read: Result<T, JsonError>) -> Result<T, JobError>
+    ensures { result ≡ at_key key read }
+{
+    match read {
+        Ok(value) => Ok(value),
+        Err(JsonError::Wrong) => Err(JobError::Wrong(key)),
+        Err(JsonError::OutOfMemory) => Err(JobError::OutOfMemory),
     }
 }

@@ -4,22 +4,25 @@ ghost use Rattle.std.specs.Prelude.{◌≡◌};
 ghost use Rattle.serde_json.specs.View.{view, members_view};
 ghost use Rattle.vx_model.specs.TyView.{ty};
 ghost use Rattle.vx_strategy.specs.StrategyView.{strategy_data};
-ghost use Rattle.vx_job.specs.JobParts.{has_only, keys};
+ghost use Rattle.vx_json.specs.Members.{has_only};
+ghost use Rattle.vx_job.specs.JobParts.{keys};
 ghost use Rattle.vx_job.specs.JobText.{job, job_of, job_in, object_of, schema_in, strategy_in, batches_in};
+ghost use Rattle.vx_strategy_json.specs.StrategyText.{strategy_of};
+ghost use Rattle.vx_json.specs.Views as values;
 ghost use Rattle.vx_job.specs.JobView.{Gives, job_view};
 
-use crate::error::{JobError, Key};
+use crate::error::{JobError, Key, at};
 use crate::faults::Faults;
-use crate::json::{count, read_json};
+use crate::json::read_json;
 use crate::options::read_options;
-use crate::values::member;
 use serde_json::{Map, Value};
 use std::alloc::Global;
 use vx_chunk::Chunk;
 use vx_chunk_json::{read_batches, read_type};
+use vx_json::{JsonError, count, member};
 use vx_model::{ArrayContext, DType, Text};
 use vx_strategy::Strategy;
-use vx_strategy_json::read_strategy;
+use vx_strategy_json::{StrategyError, read_strategy};
 
 /// What the program is asked to write, and how.
 #[derive(Debug, Drop)]
@@ -70,7 +73,7 @@ fn object(value: &Value) -> Result<&Map<String, Value>, JobError>
 }
 
 /// Whether there are no other keys.
-#[tactic(auto, using(crate::proofs::JobSteps::key_rules), unfolding(crate::specs::JobParts::has_only))]
+#[tactic(auto, using(crate::proofs::JobSteps::key_rules), unfolding(vx_json::specs::Members::has_only))]
 fn has_known(members: &Map<String, Value>) -> bool
     ensures { result ≡ has_only keys (members_view members.now.entries) }
 {
@@ -105,33 +108,37 @@ fn read_members(alloc: Global, members: &Map<String, Value>) -> Result<Job, JobE
     })
 }
 
-#[tactic(auto, unfolding(crate::specs::JobText::schema_in))]
+#[tactic(auto, using(crate::proofs::JobSteps::at_rules), unfolding(crate::specs::JobText::schema_in))]
 fn schema_in(alloc: Global, members: &Map<String, Value>) -> Result<DType, JobError>
     ensures { Gives ty result (schema_in (members_view members.now.entries)) }
 {
     let Some(value) = member(members, "schema") else {
         return Err(JobError::Wrong(Key::Schema));
     };
-    match read_type(alloc, value) {
-        Ok(schema) => Ok(schema),
-        Err(error) => Err(JobError::at(Key::Schema, error)),
-    }
+    at(Key::Schema, read_type(alloc, value))
 }
 
-#[tactic(auto, unfolding(crate::specs::JobText::strategy_in))]
+#[tactic(auto, using(crate::proofs::JobSteps::at_rules), unfolding(crate::specs::JobText::strategy_in))]
 fn strategy_in(alloc: Global, members: &Map<String, Value>) -> Result<Strategy, JobError>
     ensures { Gives strategy_data result (strategy_in (members_view members.now.entries)) }
 {
     let Some(value) = member(members, "strategy") else {
         return Err(JobError::Wrong(Key::Strategy));
     };
+    at(Key::Strategy, strategy_from(alloc, value))
+}
+
+fn strategy_from(alloc: Global, value: &Value) -> Result<Strategy, JsonError>
+    ensures { values.Gives strategy_data result (strategy_of (view value.now)) }
+{
     match read_strategy(alloc, value) {
         Ok(strategy) => Ok(strategy),
-        Err(error) => Err(JobError::at_strategy(error)),
+        Err(StrategyError::Wrong) => Err(JsonError::Wrong),
+        Err(StrategyError::OutOfMemory) => Err(JsonError::OutOfMemory),
     }
 }
 
-#[tactic(auto, unfolding(crate::specs::JobText::batches_in, crate::specs::JobText::batches_of))]
+#[tactic(auto, using(crate::proofs::JobSteps::at_rules), unfolding(crate::specs::JobText::batches_in, crate::specs::JobText::batches_of))]
 fn batches_in(
     alloc: Global,
     schema: &DType,
@@ -145,8 +152,5 @@ fn batches_in(
     let Some(items) = value.as_array() else {
         return Err(JobError::Wrong(Key::Batches));
     };
-    match read_batches(alloc, schema, items) {
-        Ok(batches) => Ok(batches),
-        Err(error) => Err(JobError::at(Key::Batches, error)),
-    }
+    at(Key::Batches, read_batches(alloc, schema, items))
 }

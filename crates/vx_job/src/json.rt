@@ -1,15 +1,11 @@
-//! From bytes to the members of an object.
+//! From bytes to a value.
 
-ghost use Rattle.std.specs.Prelude.{◌≡◌, ◌≤◌, is_some};
-ghost use Rattle.serde_json.specs.Find.{get_member};
-ghost use Rattle.serde_json.specs.View.{view, members_view};
-ghost use Rattle.vx_job.specs.JobParts.{one_if};
+ghost use Rattle.serde_json.specs.View.{view};
 ghost use Rattle.vx_job.specs.JobText.{json_of};
 ghost use Rattle.vx_job.specs.JobView.{Gives};
 
 use crate::error::{JobError, Key};
-use crate::values::member;
-use serde_json::{Category, Map, Value};
+use serde_json::{Category, Value};
 use std::alloc::Global;
 
 /// The longest input, in bytes.
@@ -34,16 +30,5 @@ pub(crate) fn read_json(alloc: Global, bytes: &[u8]) -> Result<Value, JobError>
                 Key::Json,
             )),
         },
-    }
-}
-
-/// How often the key is there.
-pub(crate) fn count(members: &Map<String, Value>, key: &str) -> usize
-    ensures count { result ≡ one_if (is_some (get_member key.now (members_view members.now.entries))) }
-    ensures small { result ≤ 1 }
-{
-    match member(members, key) {
-        Some(_) => 1,
-        None => 0,
     }
 }

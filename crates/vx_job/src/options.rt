@@ -6,13 +6,12 @@ ghost use Rattle.vx_job.specs.JobParts.{all_encodings};
 ghost use Rattle.vx_job.specs.JobText.{schedule_in, encodings_in, aggregates_in, marked_in, next_in, faults_in, options_in};
 ghost use Rattle.vx_job.specs.JobView.{Gives, faults_view, ids_view, read_view};
 
-use crate::error::{JobError, Key};
+use crate::error::{JobError, Key, at};
 use crate::faults::Faults;
-use crate::values::{
-    member, read_aggregates, read_encodings, read_faults, read_flag, read_next, read_numbers,
-};
+use crate::values::{read_aggregates, read_encodings, read_faults, read_next};
 use serde_json::{Map, Value};
 use std::alloc::Global;
+use vx_json::{member, read_flag, read_numbers};
 use vx_model::{ArrayContext, EncodingId, Text};
 
 /// The keys that have defaults.
@@ -26,20 +25,17 @@ pub(crate) struct Options {
     pub faults: Faults,
 }
 
-#[tactic(auto, unfolding(crate::specs::JobText::schedule_in, crate::specs::JobParts::or_default))]
+#[tactic(auto, using(crate::proofs::JobSteps::at_rules), unfolding(crate::specs::JobText::schedule_in, crate::specs::JobParts::or_default))]
 fn schedule_in(alloc: Global, members: &Map<String, Value>) -> Result<Vec<u64>, JobError>
     ensures { Gives (λ v. v.items) result (schedule_in (members_view members.now.entries)) }
 {
     let Some(value) = member(members, "schedule") else {
         return Ok(Vec::new(alloc));
     };
-    match read_numbers(alloc, value) {
-        Ok(numbers) => Ok(numbers),
-        Err(error) => Err(JobError::at(Key::Schedule, error)),
-    }
+    at(Key::Schedule, read_numbers(alloc, value))
 }
 
-#[tactic(auto, unfolding(crate::specs::JobText::encodings_in, crate::specs::JobParts::or_default))]
+#[tactic(auto, using(crate::proofs::JobSteps::at_rules), unfolding(crate::specs::JobText::encodings_in, crate::specs::JobParts::or_default))]
 pub(crate) fn encodings_in(
     alloc: Global,
     members: &Map<String, Value>,
@@ -49,10 +45,7 @@ pub(crate) fn encodings_in(
     let Some(value) = member(members, "encodings") else {
         return default_encodings(alloc);
     };
-    match read_encodings(alloc, value) {
-        Ok(encodings) => Ok(encodings),
-        Err(error) => Err(JobError::at(Key::Encodings, error)),
-    }
+    at(Key::Encodings, read_encodings(alloc, value))
 }
 
 /// All, in their default order.
@@ -66,46 +59,37 @@ fn default_encodings(alloc: Global) -> Result<ArrayContext, JobError>
     }
 }
 
-#[tactic(auto, unfolding(crate::specs::JobText::aggregates_in, crate::specs::JobParts::or_default))]
+#[tactic(auto, using(crate::proofs::JobSteps::at_rules), unfolding(crate::specs::JobText::aggregates_in, crate::specs::JobParts::or_default))]
 fn aggregates_in(alloc: Global, members: &Map<String, Value>) -> Result<Option<Vec<Text>>, JobError>
     ensures { Gives ids_view result (aggregates_in (members_view members.now.entries)) }
 {
     let Some(value) = member(members, "aggregates") else {
         return Ok(None);
     };
-    match read_aggregates(alloc, value) {
-        Ok(ids) => Ok(ids),
-        Err(error) => Err(JobError::at(Key::Aggregates, error)),
-    }
+    at(Key::Aggregates, read_aggregates(alloc, value))
 }
 
-#[tactic(auto, unfolding(crate::specs::JobText::marked_in, crate::specs::JobParts::or_default))]
+#[tactic(auto, using(crate::proofs::JobSteps::at_rules), unfolding(crate::specs::JobText::marked_in, crate::specs::JobParts::or_default))]
 fn marked_in(members: &Map<String, Value>) -> Result<bool, JobError>
     ensures { Gives (λ b. b) result (marked_in (members_view members.now.entries)) }
 {
     let Some(value) = member(members, "marked") else {
         return Ok(false);
     };
-    match read_flag(value) {
-        Ok(flag) => Ok(flag),
-        Err(error) => Err(JobError::at(Key::Marked, error)),
-    }
+    at(Key::Marked, read_flag(value))
 }
 
-#[tactic(auto, unfolding(crate::specs::JobText::next_in, crate::specs::JobParts::or_default))]
+#[tactic(auto, using(crate::proofs::JobSteps::at_rules), unfolding(crate::specs::JobText::next_in, crate::specs::JobParts::or_default))]
 fn next_in(members: &Map<String, Value>) -> Result<u64, JobError>
     ensures { Gives (λ n. n) result (next_in (members_view members.now.entries)) }
 {
     let Some(value) = member(members, "next") else {
         return Ok(0);
     };
-    match read_next(value) {
-        Ok(number) => Ok(number),
-        Err(error) => Err(JobError::at(Key::Next, error)),
-    }
+    at(Key::Next, read_next(value))
 }
 
-#[tactic(auto, unfolding(crate::specs::JobText::faults_in, crate::specs::JobParts::or_default))]
+#[tactic(auto, using(crate::proofs::JobSteps::at_rules), unfolding(crate::specs::JobText::faults_in, crate::specs::JobParts::or_default))]
 fn faults_in(alloc: Global, members: &Map<String, Value>) -> Result<Faults, JobError>
     ensures { Gives faults_view result (faults_in (members_view members.now.entries)) }
 {
@@ -116,10 +100,7 @@ fn faults_in(alloc: Global, members: &Map<String, Value>) -> Result<Faults, JobE
             compress: Vec::new(alloc),
         });
     };
-    match read_faults(alloc, value) {
-        Ok(faults) => Ok(faults),
-        Err(error) => Err(JobError::at(Key::Faults, error)),
-    }
+    at(Key::Faults, read_faults(alloc, value))
 }
 
 #[tactic(auto, unfolding(crate::specs::JobText::options_in))]

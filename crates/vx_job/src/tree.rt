@@ -1,25 +1,23 @@
 //! What the command `tree` is asked to show.
 
 ghost use Rattle.std.specs.Prelude.{◌≡◌, ◌≤◌, IfOk, Ok};
-ghost use Rattle.serde_json.specs.Find.{as_str};
 ghost use Rattle.serde_json.specs.View.{view, members_view};
 ghost use Rattle.vx_model.specs.TyView.{ty};
-ghost use Rattle.vx_strategy_json.specs.Parts.{all};
-ghost use Rattle.vx_chunk_json.specs.Views as values;
-ghost use Rattle.vx_job.specs.JobParts.{has_only};
+ghost use Rattle.vx_json.specs.Views as values;
+ghost use Rattle.vx_json.specs.Members.{has_only};
 ghost use Rattle.vx_job.specs.JobText.{object_of};
 ghost use Rattle.vx_job.specs.TreeText.{tree_job, tree_of, tree_in, tree_keys, dtype_in, bytes_in, layouts_in, bytes_of, layouts_of, context_in};
 ghost use Rattle.vx_job.specs.TreeView.{tree_view};
 ghost use Rattle.vx_job.specs.JobView.{Gives};
 
-use crate::error::{JobError, Key};
-use crate::json::{count, read_json};
+use crate::error::{JobError, Key, at};
+use crate::json::read_json;
 use crate::tree_options::{TreeOptions, read_tree_options};
-use crate::values::{member, read_items};
 use hex::FromHexError;
 use serde_json::{Map, Value};
 use std::alloc::Global;
-use vx_chunk_json::{DataError, read_type};
+use vx_chunk_json::read_type;
+use vx_json::{JsonError, count, member, read_texts};
 use vx_model::{DType, Text};
 use vx_session::LayoutContext;
 
@@ -65,7 +63,7 @@ fn object(value: &Value) -> Result<&Map<String, Value>, JobError>
 }
 
 /// Whether there are no other keys.
-#[tactic(auto, using(crate::proofs::JobSteps::key_rules), unfolding(crate::specs::JobParts::has_only))]
+#[tactic(auto, using(crate::proofs::JobSteps::key_rules), unfolding(vx_json::specs::Members::has_only))]
 fn has_known(members: &Map<String, Value>) -> bool
     ensures { result ≡ has_only tree_keys (members_view members.now.entries) }
 {
@@ -90,98 +88,68 @@ fn read_members(alloc: Global, members: &Map<String, Value>) -> Result<TreeJob, 
     })
 }
 
-#[tactic(auto, unfolding(crate::specs::TreeText::dtype_in))]
+#[tactic(auto, using(crate::proofs::JobSteps::at_rules), unfolding(crate::specs::TreeText::dtype_in))]
 fn dtype_in(alloc: Global, members: &Map<String, Value>) -> Result<DType, JobError>
     ensures { Gives ty result (dtype_in (members_view members.now.entries)) }
 {
     let Some(value) = member(members, "dtype") else {
         return Err(JobError::Wrong(Key::Dtype));
     };
-    match read_type(alloc, value) {
-        Ok(dtype) => Ok(dtype),
-        Err(error) => Err(JobError::at(Key::Dtype, error)),
-    }
+    at(Key::Dtype, read_type(alloc, value))
 }
 
-#[tactic(auto, unfolding(crate::specs::TreeText::bytes_in))]
+#[tactic(auto, using(crate::proofs::JobSteps::at_rules), unfolding(crate::specs::TreeText::bytes_in))]
 fn bytes_in(alloc: Global, members: &Map<String, Value>) -> Result<Vec<u8>, JobError>
     ensures { Gives (λ v. v.items) result (bytes_in (members_view members.now.entries)) }
 {
     let Some(value) = member(members, "bytes") else {
         return Err(JobError::Wrong(Key::Bytes));
     };
-    match read_bytes(alloc, value) {
-        Ok(bytes) => Ok(bytes),
-        Err(error) => Err(JobError::at(Key::Bytes, error)),
-    }
+    at(Key::Bytes, read_bytes(alloc, value))
 }
 
 /// Bytes as hex text, of lower and upper case.
 #[tactic(auto, unfolding(crate::specs::TreeText::bytes_of))]
-fn read_bytes(alloc: Global, value: &Value) -> Result<Vec<u8>, DataError>
+fn read_bytes(alloc: Global, value: &Value) -> Result<Vec<u8>, JsonError>
     ensures { values.Gives (λ v. v.items) result (bytes_of (view value.now)) }
 {
     let Some(text) = value.as_str() else {
-        return Err(DataError::Wrong);
+        return Err(JsonError::Wrong);
     };
     match hex::decode(alloc, text) {
         Ok(bytes) => Ok(bytes),
-        Err(FromHexError::OutOfMemory) => Err(DataError::OutOfMemory),
+        Err(FromHexError::OutOfMemory) => Err(JsonError::OutOfMemory),
         Err(
             FromHexError::InvalidHexCharacter { .. }
             | FromHexError::OddLength
             | FromHexError::InvalidStringLength,
-        ) => Err(DataError::Wrong),
+        ) => Err(JsonError::Wrong),
     }
 }
 
-#[tactic(auto, unfolding(crate::specs::TreeText::layouts_in))]
+#[tactic(auto, using(crate::proofs::JobSteps::at_rules), unfolding(crate::specs::TreeText::layouts_in))]
 fn layouts_in(alloc: Global, members: &Map<String, Value>) -> Result<LayoutContext, JobError>
     ensures { Gives (λ c. c) result (layouts_in (members_view members.now.entries)) }
 {
     let Some(value) = member(members, "layouts") else {
         return Err(JobError::Wrong(Key::Layouts));
     };
-    match read_layouts(alloc, value) {
-        Ok(layouts) => Ok(layouts),
-        Err(error) => Err(JobError::at(Key::Layouts, error)),
-    }
+    at(Key::Layouts, read_layouts(alloc, value))
 }
 
 #[tactic(auto, unfolding(crate::specs::TreeText::layouts_of))]
-fn read_layouts(alloc: Global, value: &Value) -> Result<LayoutContext, DataError>
+fn read_layouts(alloc: Global, value: &Value) -> Result<LayoutContext, JsonError>
     ensures { values.Gives (λ c. c) result (layouts_of (view value.now)) }
 {
     in_context(alloc, read_texts(alloc, value)?)
 }
 
 #[tactic(auto, unfolding(crate::specs::TreeText::context_in))]
-fn in_context(alloc: Global, ids: Vec<Text>) -> Result<LayoutContext, DataError>
+fn in_context(alloc: Global, ids: Vec<Text>) -> Result<LayoutContext, JsonError>
     ensures { values.Gives (λ c. c) result (context_in ids.items) }
 {
     if !LayoutContext::is_context(alloc, &ids)? {
-        return Err(DataError::Wrong);
+        return Err(JsonError::Wrong);
     }
     Ok(LayoutContext::new(ids))
-}
-
-#[tactic(auto, using(vx_strategy_json::proofs::ListSteps::list_rules), unfolding(vx_strategy_json::specs::Parts::all))]
-fn read_texts(alloc: Global, value: &Value) -> Result<Vec<Text>, DataError>
-    ensures { values.Gives (λ v. v.items) result (all as_str (view value.now)) }
-{
-    let items = read_items(value)?;
-    let mut texts = Vec::with_capacity(alloc, items.len())?;
-    for item in items {
-        texts.push(read_text(alloc, item)?)?;
-    }
-    Ok(texts)
-}
-
-fn read_text(alloc: Global, value: &Value) -> Result<Text, DataError>
-    ensures { values.Gives (λ t. t) result (as_str (view value.now)) }
-{
-    match value.as_str() {
-        Some(text) => Ok(Text::from_str(alloc, text)?),
-        None => Err(DataError::Wrong),
-    }
 }

@@ -3,18 +3,17 @@
 ghost use Rattle.std.specs.Prelude.{◌≡◌, ◌≤◌, map, IfOk};
 ghost use Rattle.serde_json.specs.View.{view, items_view, members_view};
 ghost use Rattle.vx_session.specs.Encodings.{all_encodings as all_kinds};
-ghost use Rattle.vx_strategy_json.specs.Parts.{all, whole, whole_below};
-ghost use Rattle.vx_chunk_json.specs.Views as values;
+ghost use Rattle.vx_json.specs.Values.{all, whole, whole_below};
+ghost use Rattle.vx_json.specs.Views as values;
 ghost use Rattle.vx_job.specs.TreeText.{kind_named, layout_kind_of, registered_in, allow_unknown_in, depth_in, nodes_in, tree_options_in};
 ghost use Rattle.vx_job.specs.TreeView.{tree_options_view};
 ghost use Rattle.vx_job.specs.JobView.{Gives};
 
-use crate::error::{JobError, Key};
+use crate::error::{JobError, Key, at};
 use crate::options::encodings_in;
-use crate::values::{member, read_flag, read_items, read_number};
 use serde_json::{Map, Value};
 use std::alloc::Global;
-use vx_chunk_json::DataError;
+use vx_json::{JsonError, member, read_flag, read_items, read_u64};
 use vx_layout_bytes::Limits;
 use vx_model::ArrayContext;
 use vx_session::LayoutEncoding;
@@ -54,20 +53,20 @@ fn kind_named(name: &str) -> Option<LayoutEncoding>
 }
 
 #[tactic(auto, unfolding(crate::specs::TreeText::layout_kind_of))]
-fn read_kind(value: &Value) -> Result<LayoutEncoding, DataError>
+fn read_kind(value: &Value) -> Result<LayoutEncoding, JsonError>
     ensures { values.Gives (λ k. k) result (layout_kind_of (view value.now)) }
 {
     let Some(name) = value.as_str() else {
-        return Err(DataError::Wrong);
+        return Err(JsonError::Wrong);
     };
     match kind_named(name) {
         Some(kind) => Ok(kind),
-        None => Err(DataError::Wrong),
+        None => Err(JsonError::Wrong),
     }
 }
 
-#[tactic(auto, using(vx_strategy_json::proofs::ListSteps::list_rules), unfolding(vx_strategy_json::specs::Parts::all))]
-fn read_kinds(alloc: Global, value: &Value) -> Result<Vec<LayoutEncoding>, DataError>
+#[tactic(auto, using(vx_json::proofs::Items::item_rules), unfolding(vx_json::specs::Values::all))]
+fn read_kinds(alloc: Global, value: &Value) -> Result<Vec<LayoutEncoding>, JsonError>
     ensures { values.Gives (λ v. v.items) result (all layout_kind_of (view value.now)) }
 {
     let items = read_items(value)?;
@@ -79,19 +78,19 @@ fn read_kinds(alloc: Global, value: &Value) -> Result<Vec<LayoutEncoding>, DataE
 }
 
 /// How deep a tree may be.
-#[tactic(auto, unfolding(vx_strategy_json::specs::Parts::whole_below))]
-fn read_depth(value: &Value) -> Result<u64, DataError>
+#[tactic(auto, unfolding(vx_json::specs::Values::whole_below))]
+fn read_depth(value: &Value) -> Result<u64, JsonError>
     ensures depth { values.Gives (λ n. n) result (whole_below 1025 (view value.now)) }
     ensures shallow { IfOk result (λ n. n ≤ 1024) }
 {
-    let number = read_number(value)?;
+    let number = read_u64(value)?;
     if number > 1024 {
-        return Err(DataError::Wrong);
+        return Err(JsonError::Wrong);
     }
     Ok(number)
 }
 
-#[tactic(auto, unfolding(crate::specs::TreeText::registered_in, crate::specs::JobParts::or_default))]
+#[tactic(auto, using(crate::proofs::JobSteps::at_rules), unfolding(crate::specs::TreeText::registered_in, crate::specs::JobParts::or_default))]
 fn registered_in(
     alloc: Global,
     members: &Map<String, Value>,
@@ -101,26 +100,20 @@ fn registered_in(
     let Some(value) = member(members, "registered") else {
         return Ok(Vec::from_slice(alloc, &LayoutEncoding::ALL)?);
     };
-    match read_kinds(alloc, value) {
-        Ok(kinds) => Ok(kinds),
-        Err(error) => Err(JobError::at(Key::Registered, error)),
-    }
+    at(Key::Registered, read_kinds(alloc, value))
 }
 
-#[tactic(auto, unfolding(crate::specs::TreeText::allow_unknown_in, crate::specs::JobParts::or_default))]
+#[tactic(auto, using(crate::proofs::JobSteps::at_rules), unfolding(crate::specs::TreeText::allow_unknown_in, crate::specs::JobParts::or_default))]
 fn allow_unknown_in(members: &Map<String, Value>) -> Result<bool, JobError>
     ensures { Gives (λ b. b) result (allow_unknown_in (members_view members.now.entries)) }
 {
     let Some(value) = member(members, "allow_unknown") else {
         return Ok(false);
     };
-    match read_flag(value) {
-        Ok(flag) => Ok(flag),
-        Err(error) => Err(JobError::at(Key::AllowUnknown, error)),
-    }
+    at(Key::AllowUnknown, read_flag(value))
 }
 
-#[tactic(auto, unfolding(crate::specs::TreeText::depth_in, crate::specs::JobParts::or_default))]
+#[tactic(auto, using(crate::proofs::JobSteps::at_rules), unfolding(crate::specs::TreeText::depth_in, crate::specs::JobParts::or_default))]
 fn depth_in(members: &Map<String, Value>) -> Result<u64, JobError>
     ensures depth { Gives (λ n. n) result (depth_in (members_view members.now.entries)) }
     ensures shallow { IfOk result (λ n. n ≤ 1024) }
@@ -128,23 +121,17 @@ fn depth_in(members: &Map<String, Value>) -> Result<u64, JobError>
     let Some(value) = member(members, "depth") else {
         return Ok(64);
     };
-    match read_depth(value) {
-        Ok(number) => Ok(number),
-        Err(error) => Err(JobError::at(Key::Depth, error)),
-    }
+    at(Key::Depth, read_depth(value))
 }
 
-#[tactic(auto, unfolding(crate::specs::TreeText::nodes_in, crate::specs::JobParts::or_default))]
+#[tactic(auto, using(crate::proofs::JobSteps::at_rules), unfolding(crate::specs::TreeText::nodes_in, crate::specs::JobParts::or_default))]
 fn nodes_in(members: &Map<String, Value>) -> Result<u64, JobError>
     ensures { Gives (λ n. n) result (nodes_in (members_view members.now.entries)) }
 {
     let Some(value) = member(members, "nodes") else {
         return Ok(1_000_000);
     };
-    match read_number(value) {
-        Ok(number) => Ok(number),
-        Err(error) => Err(JobError::at(Key::Nodes, error)),
-    }
+    at(Key::Nodes, read_u64(value))
 }
 
 #[tactic(auto, unfolding(crate::specs::TreeText::tree_options_in))]

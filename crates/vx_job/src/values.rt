@@ -1,74 +1,27 @@
 //! The values at the keys of a job.
 
-ghost use Rattle.std.specs.Prelude.{◌≡◌, [], map, option_map, option_and_then, IfSome, false};
-ghost use Rattle.serde_json.specs.Find.{get, get_member, as_array, as_bool};
-ghost use Rattle.serde_json.specs.View.{view, items_view, members_view};
+ghost use Rattle.std.specs.Prelude.{◌≡◌};
+ghost use Rattle.serde_json.specs.View.{view};
 ghost use Rattle.vx_model.specs.declared.encoding.EncodingId.{EncodingId};
-ghost use Rattle.vx_strategy_json.specs.Parts.{all, at as at_key, whole, has_members};
+ghost use Rattle.vx_json.specs.Values.{all, at, whole};
 ghost use Rattle.vx_job.specs.JobParts.{all_encodings, first_named, encoding_of, encodings_of, is_among, aggregate_ids, id_of, aggregates_of, next_of, faults_of, distinct};
 ghost use Rattle.vx_job.specs.JobView.{faults_view, ids_view};
-ghost use Rattle.vx_chunk_json.specs.Views.{Gives};
+ghost use Rattle.vx_json.specs.Views.{Gives};
 
 use crate::faults::Faults;
-use serde_json::{Map, Value};
+use serde_json::Value;
 use std::alloc::Global;
-use vx_chunk_json::DataError;
+use vx_json::{JsonError, has_members, read_items, read_numbers, read_u64, value_at};
 use vx_model::{ArrayContext, EncodingId, Text};
 
-/// The value at the key.
-pub(crate) fn member<'v>(members: &'v Map<String, Value>, key: &str) -> Option<&'v Value>
-    ensures { option_map (λ v. view v.now) result ≡ get_member key.now (members_view members.now.entries) }
-{
-    members.get(key)
-}
-
-pub(crate) fn read_items(value: &Value) -> Result<&[Value], DataError>
-    ensures { Gives (λ s. items_view s.now) result (as_array (view value.now)) }
-{
-    match value.as_array() {
-        Some(items) => Ok(items),
-        None => Err(DataError::Wrong),
-    }
-}
-
-pub(crate) fn read_number(value: &Value) -> Result<u64, DataError>
-    ensures { Gives (λ n. n) result (whole (view value.now)) }
-{
-    match value.as_u64() {
-        Some(number) => Ok(number),
-        None => Err(DataError::Wrong),
-    }
-}
-
-#[tactic(auto, using(vx_strategy_json::proofs::ListSteps::list_rules), unfolding(vx_strategy_json::specs::Parts::all))]
-pub(crate) fn read_numbers(alloc: Global, value: &Value) -> Result<Vec<u64>, DataError>
-    ensures { Gives (λ v. v.items) result (all whole (view value.now)) }
-{
-    let items = read_items(value)?;
-    let mut numbers = Vec::with_capacity(alloc, items.len())?;
-    for item in items {
-        numbers.push(read_number(item)?)?;
-    }
-    Ok(numbers)
-}
-
-pub(crate) fn read_flag(value: &Value) -> Result<bool, DataError>
-    ensures { Gives (λ b. b) result (as_bool (view value.now)) }
-{
-    match value.as_bool() {
-        Some(flag) => Ok(flag),
-        None => Err(DataError::Wrong),
-    }
-}
-
 /// The number of the first segment.
-#[tactic(auto, unfolding(crate::specs::JobParts::next_of, vx_strategy_json::specs::Parts::whole_below))]
-pub(crate) fn read_next(value: &Value) -> Result<u64, DataError>
+#[tactic(auto, unfolding(crate::specs::JobParts::next_of, vx_json::specs::Values::whole_below))]
+pub(crate) fn read_next(value: &Value) -> Result<u64, JsonError>
     ensures { Gives (λ n. n) result (next_of (view value.now)) }
 {
-    let number = read_number(value)?;
+    let number = read_u64(value)?;
     if number > 4_294_967_296 {
-        return Err(DataError::Wrong);
+        return Err(JsonError::Wrong);
     }
     Ok(number)
 }
@@ -81,20 +34,20 @@ fn encoding_named(name: &str) -> Option<EncodingId>
 }
 
 #[tactic(auto, unfolding(crate::specs::JobParts::encoding_of))]
-fn read_encoding(value: &Value) -> Result<EncodingId, DataError>
+fn read_encoding(value: &Value) -> Result<EncodingId, JsonError>
     ensures { Gives (λ e. e) result (encoding_of (view value.now)) }
 {
     let Some(name) = value.as_str() else {
-        return Err(DataError::Wrong);
+        return Err(JsonError::Wrong);
     };
     match encoding_named(name) {
         Some(id) => Ok(id),
-        None => Err(DataError::Wrong),
+        None => Err(JsonError::Wrong),
     }
 }
 
-#[tactic(auto, using(vx_strategy_json::proofs::ListSteps::list_rules), unfolding(vx_strategy_json::specs::Parts::all))]
-fn read_ids(alloc: Global, value: &Value) -> Result<Vec<EncodingId>, DataError>
+#[tactic(auto, using(vx_json::proofs::Items::item_rules), unfolding(vx_json::specs::Values::all))]
+fn read_ids(alloc: Global, value: &Value) -> Result<Vec<EncodingId>, JsonError>
     ensures { Gives (λ v. v.items) result (all encoding_of (view value.now)) }
 {
     let items = read_items(value)?;
@@ -107,17 +60,17 @@ fn read_ids(alloc: Global, value: &Value) -> Result<Vec<EncodingId>, DataError>
 
 /// The ids, where none stands twice.
 #[tactic(auto, using(crate::proofs::Names::context_rules), unfolding(crate::specs::JobParts::distinct))]
-fn in_context(ids: Vec<EncodingId>) -> Result<ArrayContext, DataError>
+fn in_context(ids: Vec<EncodingId>) -> Result<ArrayContext, JsonError>
     ensures { Gives (λ c. c) result (distinct ids.items) }
 {
     match ArrayContext::try_new(ids) {
         Ok(context) => Ok(context),
-        Err(_) => Err(DataError::Wrong),
+        Err(_) => Err(JsonError::Wrong),
     }
 }
 
 #[tactic(auto, unfolding(crate::specs::JobParts::encodings_of))]
-pub(crate) fn read_encodings(alloc: Global, value: &Value) -> Result<ArrayContext, DataError>
+pub(crate) fn read_encodings(alloc: Global, value: &Value) -> Result<ArrayContext, JsonError>
     ensures { Gives (λ c. c) result (encodings_of (view value.now)) }
 {
     in_context(read_ids(alloc, value)?)
@@ -138,20 +91,20 @@ fn is_aggregate(name: &str) -> bool
 }
 
 #[tactic(auto, unfolding(crate::specs::JobParts::id_of))]
-fn read_aggregate_id(alloc: Global, value: &Value) -> Result<Text, DataError>
+fn read_aggregate_id(alloc: Global, value: &Value) -> Result<Text, JsonError>
     ensures { Gives (λ t. t) result (id_of (view value.now)) }
 {
     let Some(name) = value.as_str() else {
-        return Err(DataError::Wrong);
+        return Err(JsonError::Wrong);
     };
     if !is_aggregate(name) {
-        return Err(DataError::Wrong);
+        return Err(JsonError::Wrong);
     }
     Ok(Text::from_str(alloc, name)?)
 }
 
-#[tactic(auto, using(vx_strategy_json::proofs::ListSteps::list_rules), unfolding(vx_strategy_json::specs::Parts::all))]
-fn read_aggregate_ids(alloc: Global, value: &Value) -> Result<Vec<Text>, DataError>
+#[tactic(auto, using(vx_json::proofs::Items::item_rules), unfolding(vx_json::specs::Values::all))]
+fn read_aggregate_ids(alloc: Global, value: &Value) -> Result<Vec<Text>, JsonError>
     ensures { Gives (λ v. v.items) result (all id_of (view value.now)) }
 {
     let items = read_items(value)?;
@@ -163,8 +116,8 @@ fn read_aggregate_ids(alloc: Global, value: &Value) -> Result<Vec<Text>, DataErr
 }
 
 /// Ids, or null for no limit.
-#[tactic(auto, unfolding(crate::specs::JobParts::aggregates_of, vx_strategy_json::specs::Parts::or_null))]
-pub(crate) fn read_aggregates(alloc: Global, value: &Value) -> Result<Option<Vec<Text>>, DataError>
+#[tactic(auto, unfolding(crate::specs::JobParts::aggregates_of, vx_json::specs::Values::or_null))]
+pub(crate) fn read_aggregates(alloc: Global, value: &Value) -> Result<Option<Vec<Text>>, JsonError>
     ensures { Gives ids_view result (aggregates_of (view value.now)) }
 {
     match value {
@@ -174,33 +127,19 @@ pub(crate) fn read_aggregates(alloc: Global, value: &Value) -> Result<Option<Vec
     }
 }
 
-#[tactic(auto, using(vx_strategy_json::proofs::PartSteps::part_rules), unfolding(vx_strategy_json::specs::Parts::has_members))]
-fn has_three(value: &Value) -> bool
-    ensures { result ≡ has_members 3 (view value.now) }
+#[tactic(auto, unfolding(vx_json::specs::Values::at))]
+fn numbers_at(alloc: Global, value: &Value, key: &str) -> Result<Vec<u64>, JsonError>
+    ensures { Gives (λ v. v.items) result (at (all whole) key.now (view value.now)) }
 {
-    match value {
-        Value::Object(members) => members.len() == 3,
-        Value::Null | Value::Bool(_) | Value::Number(_) | Value::String(_) | Value::Array(_) =>
-            false,
-    }
-}
-
-#[tactic(auto, unfolding(vx_strategy_json::specs::Parts::at))]
-fn numbers_at(alloc: Global, value: &Value, key: &str) -> Result<Vec<u64>, DataError>
-    ensures { Gives (λ v. v.items) result (at_key (all whole) key.now (view value.now)) }
-{
-    match value.get(key) {
-        Some(numbers) => read_numbers(alloc, numbers),
-        None => Err(DataError::Wrong),
-    }
+    read_numbers(alloc, value_at(value, key)?)
 }
 
 #[tactic(auto, unfolding(crate::specs::JobParts::faults_of))]
-pub(crate) fn read_faults(alloc: Global, value: &Value) -> Result<Faults, DataError>
+pub(crate) fn read_faults(alloc: Global, value: &Value) -> Result<Faults, JsonError>
     ensures { Gives faults_view result (faults_of (view value.now)) }
 {
-    if !has_three(value) {
-        return Err(DataError::Wrong);
+    if !has_members(value, 3) {
+        return Err(JsonError::Wrong);
     }
     let source = numbers_at(alloc, value, "source")?;
     let sink = numbers_at(alloc, value, "sink")?;

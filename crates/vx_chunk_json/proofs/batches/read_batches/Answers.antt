@@ -1,9 +1,9 @@
 use Rattle.std.proofs.lemmas.Result.{err_from_is_err_and}
 use Rattle.serde_json.specs.View.{items_view}
 use Rattle.vx_model.specs.TyView.{ty}
-use Rattle.vx_chunk_json.specs.Lists.{each}
+use Rattle.vx_json.specs.Lists.{each}
 use Rattle.vx_chunk_json.specs.Chunks.{batch_of}
-use Rattle.vx_chunk_json.proofs.Items.{each_stops}
+use Rattle.vx_json.proofs.Items.{each_stops}
 use Rattle.vx_chunk_json.proofs.batches.read_batches.Goals as goal
 
 pub returns-in_err-read_batch : goal.returns-in_err-read_batch

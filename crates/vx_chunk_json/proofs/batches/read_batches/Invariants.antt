@@ -1,9 +1,9 @@
 use Rattle.std.proofs.Common.{◌≡◌, drop}
 use Rattle.serde_json.specs.View.{items_view}
 use Rattle.vx_model.specs.TyView.{ty}
-use Rattle.vx_chunk_json.specs.Lists.{each}
+use Rattle.vx_json.specs.Lists.{each}
 use Rattle.vx_chunk_json.specs.Chunks.{batch_of}
-use Rattle.vx_chunk_json.proofs.Items.{with_front}
+use Rattle.vx_json.proofs.Items.{with_front}
 use Rattle.vx_chunk_json.proofs.batches.read_batches.Given as goal
 
 abbrev pub invariant-loop-value : goal.invariant-loop-value

@@ -5,9 +5,9 @@ use Rattle.serde_json.specs.View.{items_view}
 use Rattle.vx_model.specs.Ty.{tys_of}
 use Rattle.vx_model.specs.TyView.{ty, field_ty}
 use Rattle.vx_model.specs.TreeView.{tree}
-use Rattle.vx_chunk_json.specs.Lists.{each}
+use Rattle.vx_json.specs.Lists.{each}
 use Rattle.vx_chunk_json.specs.Cells.{cell_of, field_cells}
-use Rattle.vx_chunk_json.proofs.Items.{each_goes_on}
+use Rattle.vx_json.proofs.Items.{each_goes_on}
 use Rattle.vx_chunk_json.proofs.CellSteps.{fields_go_on, fields_stop}
 use Rattle.vx_chunk_json.proofs.cells.+cells.Goals as goal
 

@@ -3,9 +3,9 @@ use Rattle.serde_json.specs.View.{items_view}
 use Rattle.vx_model.specs.Ty.{tys_of}
 use Rattle.vx_model.specs.TyView.{ty, field_ty}
 use Rattle.vx_model.specs.TreeView.{tree}
-use Rattle.vx_chunk_json.specs.Lists.{each}
+use Rattle.vx_json.specs.Lists.{each}
 use Rattle.vx_chunk_json.specs.Cells.{cell_of, field_cells}
-use Rattle.vx_chunk_json.proofs.Items.{with_front}
+use Rattle.vx_json.proofs.Items.{with_front}
 use Rattle.vx_chunk_json.proofs.CellSteps.{rest_at}
 use Rattle.vx_chunk_json.proofs.cells.+cells.Given as goal
 

@@ -3,9 +3,9 @@ use Rattle.std.proofs.lemmas.Result.{err_from_is_err_and}
 use Rattle.serde_json.specs.View.{items_view}
 use Rattle.vx_model.specs.Ty.{tys_of}
 use Rattle.vx_model.specs.TyView.{ty, field_ty}
-use Rattle.vx_chunk_json.specs.Lists.{each}
+use Rattle.vx_json.specs.Lists.{each}
 use Rattle.vx_chunk_json.specs.Chunks.{chunk_of, columns_in}
-use Rattle.vx_chunk_json.proofs.Items.{each_stops}
+use Rattle.vx_json.proofs.Items.{each_stops}
 use Rattle.vx_chunk_json.proofs.ChunkSteps.{columns_go_on, columns_stop}
 use Rattle.vx_chunk_json.proofs.chunks.+chunks.Goals as goal
 

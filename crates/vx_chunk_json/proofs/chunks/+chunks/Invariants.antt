@@ -2,9 +2,9 @@ use Rattle.std.proofs.Common.{◌≡◌, ◌+◌, ◌*◌, drop, map}
 use Rattle.serde_json.specs.View.{view, items_view, members_view}
 use Rattle.vx_model.specs.Ty.{tys_of}
 use Rattle.vx_model.specs.TyView.{ty, field_ty}
-use Rattle.vx_chunk_json.specs.Lists.{each}
+use Rattle.vx_json.specs.Lists.{each}
 use Rattle.vx_chunk_json.specs.Chunks.{chunk_of, columns_in}
-use Rattle.vx_chunk_json.proofs.Items.{with_front}
+use Rattle.vx_json.proofs.Items.{with_front}
 use Rattle.vx_chunk_json.proofs.Sizes.{size, items_size, members_size}
 use Rattle.vx_chunk_json.proofs.ChunkSteps.{rest_at}
 use Rattle.vx_chunk_json.proofs.chunks.+chunks.Given as goal

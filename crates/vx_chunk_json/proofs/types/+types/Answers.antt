@@ -3,9 +3,9 @@ use Rattle.std.proofs.lemmas.Result.{err_from_is_err_and}
 use Rattle.std.proofs.lemmas.List.{map_push}
 use Rattle.serde_json.specs.View.{items_view}
 use Rattle.vx_model.specs.TyView.{field_ty}
-use Rattle.vx_chunk_json.specs.Lists.{each}
+use Rattle.vx_json.specs.Lists.{each}
 use Rattle.vx_chunk_json.specs.Types.{field_of}
-use Rattle.vx_chunk_json.proofs.Items.{each_goes_on, each_stops}
+use Rattle.vx_json.proofs.Items.{each_goes_on, each_stops}
 use Rattle.vx_chunk_json.proofs.types.+types.Goals as goal
 
 pub read_fields-returns-in_err-read_field : goal.read_fields-returns-in_err-read_field

@@ -1,9 +1,9 @@
 use Rattle.std.proofs.Common.{◌≡◌, ◌+◌, ◌*◌, drop, map}
 use Rattle.serde_json.specs.View.{view, items_view, members_view}
 use Rattle.vx_model.specs.TyView.{field_ty}
-use Rattle.vx_chunk_json.specs.Lists.{each}
+use Rattle.vx_json.specs.Lists.{each}
 use Rattle.vx_chunk_json.specs.Types.{field_of}
-use Rattle.vx_chunk_json.proofs.Items.{with_front}
+use Rattle.vx_json.proofs.Items.{with_front}
 use Rattle.vx_chunk_json.proofs.Sizes.{size, items_size, members_size}
 use Rattle.vx_chunk_json.proofs.types.+types.Given as goal
 

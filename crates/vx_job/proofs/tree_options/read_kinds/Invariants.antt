@@ -1,7 +1,7 @@
 use Rattle.std.proofs.Common.{◌≡◌, drop}
 use Rattle.serde_json.specs.View.{items_view}
-use Rattle.vx_strategy_json.specs.Parts.{each}
-use Rattle.vx_strategy_json.proofs.ListSteps.{with_front}
+use Rattle.vx_json.specs.Lists.{each}
+use Rattle.vx_json.proofs.Items.{with_front}
 use Rattle.vx_job.specs.TreeText.{layout_kind_of}
 use Rattle.vx_job.proofs.tree_options.read_kinds.Given as goal
 

@@ -1,8 +1,8 @@
 use Rattle.std.proofs.Common.{◌≡◌, drop}
 use Rattle.serde_json.specs.View.{items_view}
-use Rattle.vx_strategy_json.specs.Parts.{each}
+use Rattle.vx_json.specs.Lists.{each}
 use Rattle.vx_job.specs.JobParts.{encoding_of}
-use Rattle.vx_strategy_json.proofs.ListSteps.{with_front}
+use Rattle.vx_json.proofs.Items.{with_front}
 use Rattle.vx_job.proofs.values.read_ids.Given as goal
 
 abbrev pub invariant-loop-item : goal.invariant-loop-item

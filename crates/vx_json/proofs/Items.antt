@@ -4,10 +4,10 @@ use Rattle.std.proofs.lemmas.List.{drop_more, append-nil, map_push}
 use Rattle.serde_json.specs.Data.{Data}
 use Rattle.serde_json.specs.View.{view, items_view}
 use Rattle.serde_json.specs.declared.value.Value.{Value}
-use Rattle.vx_chunk_json.specs.Lists.{each, first_and}
-use Rattle.vx_chunk_json.specs.declared.error.DataError.{DataError}
-use Rattle.vx_chunk_json.specs.declared.error.DataError.TheVariants as errors
-use Rattle.vx_chunk_json.specs.Views.{Fails}
+use Rattle.vx_json.specs.Lists.{each, first_and}
+use Rattle.vx_json.specs.declared.error.JsonError.{JsonError}
+use Rattle.vx_json.specs.declared.error.JsonError.TheVariants as errors
+use Rattle.vx_json.specs.Views.{Fails}
 
 -- what was read before, and what is still read
 abbrev pub with_front : {A : Type 0} → List A → Option (List A) → Option (List A)
@@ -30,9 +30,11 @@ unfolding first_and
 each_none f vs i v front all lt is e so_far = sym so_far ∙ rw (drop_more vs i v lt, ← is, e) refl
 
 -- an item that is refused
-pub each_stops : {A : Type 0} (error : DataError) (f : Data → Option A) (vs : List Value) (i : ℕ) (v : Value) (front : List A) (all : Option (List A)) → i < length vs → v ≡ get_or vs i v
+pub each_stops : {A : Type 0} (error : JsonError) (f : Data → Option A) (vs : List Value) (i : ℕ) (v : Value) (front : List A) (all : Option (List A)) → i < length vs → v ≡ get_or vs i v
     → Fails error (f (view v)) → with_front front (each f (items_view (drop i vs))) ≡ all → Fails error all
 each_stops errors.Wrong f vs i v front all lt is e so_far = each_none f vs i v front all lt is e so_far
 each_stops errors.OutOfMemory f vs i v front all lt is e so_far = tt
 
-pub ruleset list_rules = (each_goes_on, each_none, each_stops, map_push, append-nil)
+pub ruleset item_rules = (each_goes_on, each_none, map_push, append-nil)
+
+pub ruleset list_rules = (item_rules, each_stops)
