@@ -9,7 +9,7 @@ use std::alloc::Global;
 use std::test::Fail;
 use vx_layout::{
     Layout, LayoutBuildContext, LayoutDeserializeArgs, LayoutEncoding, LayoutEncodingExt,
-    LayoutKind, LayoutParts, layout_children,
+    LayoutKind, LayoutParts, SegmentIds, layout_children,
 };
 
 /// The rows of elements and offsets, whether there is a validity, the integers of offsets, the type of elements.
@@ -103,13 +103,23 @@ fn taken_as_kinds(rt: HostRuntime) -> Result<(), Fail> {
 fn dict_parts(alloc: Global) -> Result<LayoutParts, Fail> {
     let (one, other) = (encodings(alloc)?, encodings(alloc)?);
     let children = vec![in alloc; flat(one, 2, TEXTS, 0), numbers(other, 4)]?;
-    Ok(LayoutParts::new(TEXTS, 4, Vec::new(alloc), layout_children(children)))
+    Ok(LayoutParts::new(
+        TEXTS,
+        4,
+        SegmentIds::many(Vec::new(alloc)),
+        layout_children(children),
+    ))
 }
 
 /// The parts of seven rows in one chunk.
 fn chunk_parts(alloc: Global) -> Result<LayoutParts, Fail> {
     let children = vec![in alloc; numbers(encodings(alloc)?, 7)]?;
-    Ok(LayoutParts::new(NUMBERS, 7, Vec::new(alloc), layout_children(children)))
+    Ok(LayoutParts::new(
+        NUMBERS,
+        7,
+        SegmentIds::many(Vec::new(alloc)),
+        layout_children(children),
+    ))
 }
 
 /// What the kind builds of the parts, where no aggregate is known.
