@@ -1,4 +1,5 @@
 pub mod Admits
+pub mod AllAdmitted
 pub mod PlaceSteps
 pub mod BlockLen
 pub mod Writers

@@ -6,6 +6,7 @@ mod chunked;
 mod compressing;
 mod dict;
 mod error;
+mod field_writer;
 mod flat;
 mod grouping;
 mod list;
@@ -15,6 +16,7 @@ mod strategy;
 mod structs;
 mod table;
 mod wrapper;
+mod zone_rule;
 mod zoned;
 
 pub use child::ChildStrategy;
