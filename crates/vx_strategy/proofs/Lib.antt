@@ -5,3 +5,5 @@ pub mod BlockLen
 pub mod Writers
 pub mod Apart
 pub mod Wrappers
+pub mod Below
+pub mod Dispatched
