@@ -71,8 +71,8 @@ pub mod sequence {
 pub mod sink {
     pub use vx_order::{Attempt, LocalOrder, Order, OrderError, Receipt};
     pub use vx_sink::{
-        BatchSource, CompressError, CompressorPlugin, Fails, LayoutWriterContext, ListSource,
-        MemorySink, PlainCompressor, SegmentSink, SinkError, SourceError,
+        BatchSource, CompressError, CompressorPlugin, Fails, Fallible, LayoutWriterContext,
+        ListSource, MemorySink, PlainCompressor, SegmentSink, SinkError, SourceError,
     };
 }
 

@@ -4,7 +4,6 @@
 
 mod compressor;
 mod context;
-mod fails;
 mod list_source;
 mod memory_sink;
 mod plain_compressor;
@@ -13,10 +12,10 @@ mod source;
 
 pub use compressor::{CompressError, CompressorPlugin};
 pub use context::LayoutWriterContext;
-pub use fails::Fails;
 pub use list_source::ListSource;
 pub use memory_sink::MemorySink;
 pub use plain_compressor::PlainCompressor;
 pub use sink::{SegmentSink, SinkError};
 pub use source::{BatchSource, SourceError};
+pub use vx_fault::{Fails, Fallible};
 pub use vx_model::{IdTooLarge, SegmentId};

@@ -1,8 +1,8 @@
-ghost use Rattle.std.specs.Prelude.{◌≡◌, ℕ, ◌+◌, [], Some, IsTrue};
+ghost use Rattle.std.specs.Prelude.{◌≡◌, ℕ, [], Some, IsTrue};
 ghost use Rattle.vx_fault.specs.Fails.{fails_at};
 
-use crate::fails::Fails;
 use crate::sink::{SegmentSink, SinkError};
+use vx_fault::{Fails, Fallible};
 use vx_model::{Blob, SegmentId};
 
 /// Segments in memory.
@@ -18,9 +18,9 @@ impl MemorySink {
     pub fn new(first: u64, fail: Vec<u64>) -> MemorySink
         ensures next { ⟦<MemorySink as SegmentSink>⟧.next result ≡ first }
         ensures segments { ⟦<MemorySink as SegmentSink>⟧.segments result ≡ Some [] }
-        ensures faults { ⟦<MemorySink as SegmentSink>⟧.faults result ≡ 0 }
-        ensures may_fail { (k : ℕ) → ⟦<MemorySink as SegmentSink>⟧.may_fail result k → IsTrue (fails_at fail.items k) }
-        ensures must_fail { (k : ℕ) → IsTrue (fails_at fail.items k) → ⟦<MemorySink as SegmentSink>⟧.must_fail result k }
+        ensures faults { ⟦<MemorySink as Fallible>⟧.faults result ≡ 0 }
+        ensures may_fail { (k : ℕ) → ⟦<MemorySink as Fallible>⟧.may_fail result k → IsTrue (fails_at fail.items k) }
+        ensures must_fail { (k : ℕ) → IsTrue (fails_at fail.items k) → ⟦<MemorySink as Fallible>⟧.must_fail result k }
     {
         let segments = Vec::new(*fail.allocator());
         MemorySink {
@@ -38,16 +38,18 @@ impl MemorySink {
     }
 }
 
+impl Fallible for MemorySink {
+    ghost faults = { λ s. ⟦<Fails as Fallible>⟧.faults s.fails };
+
+    ghost may_fail = { λ s. ⟦<Fails as Fallible>⟧.may_fail s.fails };
+
+    ghost must_fail = { λ s. ⟦<Fails as Fallible>⟧.must_fail s.fails };
+}
+
 impl SegmentSink for MemorySink {
     ghost next = { λ s. s.next };
 
     ghost segments = { λ s. Some s.segments.items };
-
-    ghost faults = { λ s. s.fails.count };
-
-    ghost may_fail = { λ s k. IsTrue (fails_at s.fails.list.items (s.fails.calls + k)) };
-
-    ghost must_fail = { λ s k. IsTrue (fails_at s.fails.list.items (s.fails.calls + k)) };
 
     fn next_id(&self) -> u64 {
         self.next

@@ -1,10 +1,10 @@
-ghost use Rattle.std.specs.Prelude.{◌≡◌, ℕ, ◌+◌, IsTrue};
+ghost use Rattle.std.specs.Prelude.{◌≡◌, ℕ, IsTrue};
 ghost use Rattle.vx_fault.specs.Fails.{fails_at};
 ghost use Rattle.vx_sink.specs.Compressor.{same_rows};
 
 use crate::compressor::{CompressError, CompressorPlugin};
-use crate::fails::Fails;
 use vx_chunk::Chunk;
+use vx_fault::{Fails, Fallible};
 
 /// A compressor whose image of a chunk is the chunk itself.
 #[derive(Debug, Drop)]
@@ -16,9 +16,9 @@ impl PlainCompressor {
     /// The calls whose numbers are in `fail` fail.
     pub fn new(fail: Vec<u64>) -> PlainCompressor
         ensures kind { ⟦<PlainCompressor as CompressorPlugin>⟧.kind result ≡ 0 }
-        ensures faults { ⟦<PlainCompressor as CompressorPlugin>⟧.faults result ≡ 0 }
-        ensures may_fail { (k : ℕ) → ⟦<PlainCompressor as CompressorPlugin>⟧.may_fail result k → IsTrue (fails_at fail.items k) }
-        ensures must_fail { (k : ℕ) → IsTrue (fails_at fail.items k) → ⟦<PlainCompressor as CompressorPlugin>⟧.must_fail result k }
+        ensures faults { ⟦<PlainCompressor as Fallible>⟧.faults result ≡ 0 }
+        ensures may_fail { (k : ℕ) → ⟦<PlainCompressor as Fallible>⟧.may_fail result k → IsTrue (fails_at fail.items k) }
+        ensures must_fail { (k : ℕ) → IsTrue (fails_at fail.items k) → ⟦<PlainCompressor as Fallible>⟧.must_fail result k }
     {
         PlainCompressor {
             fails: Fails::new(fail),
@@ -26,16 +26,18 @@ impl PlainCompressor {
     }
 }
 
+impl Fallible for PlainCompressor {
+    ghost faults = { λ c. ⟦<Fails as Fallible>⟧.faults c.fails };
+
+    ghost may_fail = { λ c. ⟦<Fails as Fallible>⟧.may_fail c.fails };
+
+    ghost must_fail = { λ c. ⟦<Fails as Fallible>⟧.must_fail c.fails };
+}
+
 impl CompressorPlugin for PlainCompressor {
     ghost kind = { λ _. 0 };
 
     ghost image = { λ _ _ p. p };
-
-    ghost faults = { λ c. c.fails.count };
-
-    ghost may_fail = { λ c k. IsTrue (fails_at c.fails.list.items (c.fails.calls + k)) };
-
-    ghost must_fail = { λ c k. IsTrue (fails_at c.fails.list.items (c.fails.calls + k)) };
 
     ghost keeps = { λ _ _ p sound. same_rows p sound };
 

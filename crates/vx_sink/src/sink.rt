@@ -1,9 +1,10 @@
-ghost use Rattle.std.specs.Prelude.{◌≡◌, ℕ, ◌+◌, ◌<◌, ◌^◌, List, Option, IsTrue, IfOk};
-ghost use Rattle.vx_fault.specs.Counts.{Counts};
+ghost use Rattle.std.specs.Prelude.{◌≡◌, ℕ, ◌<◌, ◌^◌, List, Option, IfOk};
+ghost use Rattle.vx_fault.specs.Faults.{Called};
 ghost use Rattle.vx_sink.specs.Sink.{sink_failed, next_after, segments_after};
 
 use std::alloc::{AllocError, AllocFailed};
 use thiserror::Error;
+use vx_fault::Fallible;
 use vx_model::SegmentId;
 
 /// Why a sink took no segment.
@@ -39,21 +40,12 @@ impl<T: Drop> From<AllocFailed<T>> for SinkError {
 }
 
 /// Segments, numbered in the order in which they are appended.
-pub trait SegmentSink {
+pub trait SegmentSink: Fallible {
     /// The number of the next segment.
     ghost next: { Self → ℕ };
 
     /// The segments, where the sink tells them.
     ghost segments: { Self → Option (List (List ℕ)) };
-
-    /// How often the sink failed.
-    ghost faults: { Self → ℕ };
-
-    /// Whether the append after so many others may fail.
-    ghost may_fail: { Self → ℕ → Type 0 };
-
-    /// Whether the append after so many others must fail.
-    ghost must_fail: { Self → ℕ → Type 0 } = { λ _ _. ⊥ };
 
     /// Of a borrowed sink the name of the borrow, which no call exchanges for another.
     ghost borrow: { Self → ℕ } = { λ _. 0 };
@@ -68,11 +60,8 @@ pub trait SegmentSink {
         ensures number { IfOk result (λ id. id.0 ≡ next self.old) }
         ensures next { next self.new ≡ next_after (next self.old) result }
         ensures segments { segments self.new ≡ segments_after (segments self.old) bytes.now result }
-        ensures cause { Counts (faults self.old) (faults self.new) (sink_failed result) }
-        ensures fails { IsTrue (sink_failed result) → may_fail self.old 0 }
-        ensures later { (k : ℕ) → may_fail self.new k → may_fail self.old (k + 1) }
-        ensures must { must_fail self.old 0 → IsTrue (sink_failed result) }
-        ensures must_later { (k : ℕ) → must_fail self.old (k + 1) → must_fail self.new k }
+        ensures told { Called (Self.faults self.old) (Self.faults self.new) (Self.may_fail self.old) (Self.may_fail self.new)
+            (Self.must_fail self.old) (Self.must_fail self.new) (sink_failed result) }
         ensures borrow { borrow self.new ≡ borrow self.old };
 }
 
@@ -80,12 +69,6 @@ impl<S: SegmentSink> SegmentSink for &mut S {
     ghost next = { λ s. S.next s.now };
 
     ghost segments = { λ s. S.segments s.now };
-
-    ghost faults = { λ s. S.faults s.now };
-
-    ghost may_fail = { λ s k. S.may_fail s.now k };
-
-    ghost must_fail = { λ s k. S.must_fail s.now k };
 
     ghost borrow = { λ s. s.ghost_name };
 

@@ -1,7 +1,10 @@
 //! Calls that fail by a list of their numbers.
 
-ghost use Rattle.std.specs.Prelude.{◌≡◌, ℕ, ◌+◌, ◌≤◌, ◌-◌, ◌^◌, min, if◌then◌else◌};
+ghost use Rattle.std.specs.Prelude.{◌≡◌, ℕ, ◌+◌, ◌≤◌, ◌-◌, ◌^◌, min, IsTrue, if◌then◌else◌};
 ghost use Rattle.vx_fault.specs.Fails.{fails_at};
+ghost use Rattle.vx_fault.specs.Faults.{Called};
+
+use crate::fallible::Fallible;
 
 /// Counts calls, and lets those fail whose number is in the list. Numbers begin at 0; at the greatest u64 the
 /// counter stays, and no call fails.
@@ -11,6 +14,14 @@ pub struct Fails {
     calls: u64,
     count: u64,
     ghost counted: { count ≤ calls },
+}
+
+impl Fallible for Fails {
+    ghost faults = { λ f. f.count };
+
+    ghost may_fail = { λ f k. IsTrue (fails_at f.list.items (f.calls + k)) };
+
+    ghost must_fail = { λ f k. IsTrue (fails_at f.list.items (f.calls + k)) };
 }
 
 impl Fails {
@@ -33,6 +44,9 @@ impl Fails {
         ensures calls { self.new.calls ≡ min (self.old.calls + 1) (2 ^ 64 - 1) }
         ensures count { self.new.count ≡ (if result then self.old.count + 1 else self.old.count) }
         ensures list { self.new.list.items ≡ self.old.list.items }
+        ensures told { Called (⟦<Fails as Fallible>⟧.faults self.old) (⟦<Fails as Fallible>⟧.faults self.new)
+            (⟦<Fails as Fallible>⟧.may_fail self.old) (⟦<Fails as Fallible>⟧.may_fail self.new)
+            (⟦<Fails as Fallible>⟧.must_fail self.old) (⟦<Fails as Fallible>⟧.must_fail self.new) result }
     {
         let fails = self.calls < u64::MAX && self.list.contains(&self.calls);
         if self.calls < u64::MAX {
