@@ -5,7 +5,7 @@ ghost use Rattle.vx_sequence.specs.Universe.{IsActive, released};
 
 use std::panic::Expect;
 use std::process::Abort;
-use vx_order::{Attempt, LocalOrder, Order, OrderError, Receipt};
+use vx_order::{Attempt, LocalOrder, Order, OrderError, Receipt, make_ids, split_off};
 use vx_path::owned::Path;
 use vx_sequence::SequenceId;
 use vx_sink::{MemorySink, SegmentSink};
@@ -98,4 +98,23 @@ fn refusals_hand_the_id_back(rt: HostRuntime) {
     assert_eq!(rt; id.path(), [1, 0].as_slice());
     order.release(id);
     assert_eq!(rt; order.into_sink().segments().len(), 1);
+}
+
+#[test]
+fn several_ids_at_once(rt: HostRuntime) {
+    let (universe, mut pointer) = SequenceId::root(rt.alloc()).expect(&rt, "memory");
+    let sink = MemorySink::new(0, Vec::new(rt.alloc()));
+    let mut order = LocalOrder::new(sink, universe);
+
+    let off = split_off(&mut order, &mut pointer).expect(&rt, "memory");
+    assert!(rt; off.path() == [0, 0].as_slice() && pointer.path() == [1].as_slice());
+    order.release(pointer.downgrade());
+
+    let mut ids = make_ids(rt.alloc(), &mut order, off.downgrade(), 1).expect(&rt, "memory");
+    assert_eq!(rt; ids.len(), 1);
+    let Some(id) = ids.pop() else { unreachable!() };
+    assert_eq!(rt; id.path(), [0, 0, 0].as_slice());
+    ids.destroy_empty();
+    order.release(id);
+    assert_eq!(rt; order.into_sink().segments().len(), 0);
 }

@@ -1,0 +1,14 @@
+-- What calls that don't ask the sink tell of faults.
+use Rattle.std.proofs.Common.{◌≡◌, ℕ, refl, ◌∙◌}
+use Rattle.vx_order.specs.Answers.{Unasked}
+
+pub unasked_none : (n : ℕ) (may must : ℕ → Type 0) → Unasked n n may may must must
+unasked_none n may must = record { counted = refl; may_later = λ k h. h; must_later = λ k h. h }
+
+pub unasked_both : {a b c : ℕ} {may may_then may_last must must_then must_last : ℕ → Type 0} → Unasked a b may may_then must must_then
+    → Unasked b c may_then may_last must_then must_last → Unasked a c may may_last must must_last
+unasked_both x y = record {
+  counted = y.counted ∙ x.counted;
+  may_later = λ k h. x.may_later k (y.may_later k h);
+  must_later = λ k h. y.must_later k (x.must_later k h);
+}
