@@ -3,7 +3,7 @@
 
 /// Types, cells, chunks, and the segments that chunks are written as and read from.
 pub mod types {
-    pub use vx_chunk::{Chunk, ChunkError, Node, conditions};
+    pub use vx_chunk::{Chunk, ChunkError, conditions};
     pub use vx_field_path::{FieldMask, FieldPath};
     pub use vx_model::{
         ArrayContext, Blob, Cell, ContextError, DType, EncodingId, ExtDType, FieldName, IdTooLarge,

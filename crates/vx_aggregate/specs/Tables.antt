@@ -1,19 +1,11 @@
 -- The types of tables of statistics.
-use Rattle.std.specs.Prelude.{Bool, true, false, List, [], ◌∷◌, codes, map, Option, Some, None}
+use Rattle.std.specs.Prelude.{false, List, [], ◌∷◌, codes, Option, Some, None}
 use Rattle.vx_model.specs.Words.{joined_by}
 use Rattle.vx_model.specs.Ty.{Ty, Named, boolean, struct, tys_of}
-use Rattle.vx_aggregate_spec.specs.Aggregate.{Aggregate, Column, display, held_aggregates}
+pub use Rattle.vx_aggregate_spec.specs.Tables.{column_field, stats_table}
 use Rattle.vx_aggregate.specs.Stats.{stat_name, stat_state}
 use Rattle.vx_aggregate.specs.declared.stat.Stat.{Stat}
 use Rattle.vx_aggregate.specs.declared.stat.Stat.TheVariants as stats
-
--- a field of the aggregate's display text and its state type
-abbrev pub column_field : Column → Named
-column_field c = (display c.0, c.1)
-
--- a struct with a field for each aggregate that has a state on the column's type
-abbrev pub stats_table : Ty → List Aggregate → Ty
-stats_table t aggregates = struct (tys_of (map column_field (held_aggregates aggregates t))) false
 
 -- maximum and minimum are followed by a flag that says whether they were cut
 abbrev pub cut_flag : Stat → List Named

@@ -1,2 +1,3 @@
 pub mod Aggregate
 pub mod Statements
+pub mod Tables

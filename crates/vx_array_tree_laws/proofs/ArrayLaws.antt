@@ -6,7 +6,8 @@ use Rattle.vx_plan.specs.PlanData.{Setting, Plan}
 use Rattle.vx_strategy_spec.specs.StrategyData.{StrategyData}
 use Rattle.vx_strategy_spec.specs.Admitted.{is_admitted}
 use Rattle.vx_plan.specs.Valid.{Keeps}
-use Rattle.vx_plan.specs.SourcePlan.{plan, source_plan, batch_items, root_eof}
+use Rattle.vx_path.specs.Path.{root_eof}
+use Rattle.vx_plan.specs.SourcePlan.{plan, source_plan, batch_items}
 use Rattle.vx_plan.specs.Number.{segments, number_of, segment_at}
 use Rattle.vx_plan.proofs.Numbering.{numbers_hold}
 use Rattle.vx_plan.proofs.SourceLaws.{paths_distinct, items_of}

@@ -3,7 +3,7 @@
 ghost use Rattle.std.specs.Prelude.{None, length};
 ghost use Rattle.vx_model.specs.TyView.{ty};
 ghost use Rattle.vx_fault.specs.Counts.{Counts};
-ghost use Rattle.vx_sink.specs.Compressor.{same_rows};
+ghost use Rattle.vx_layout_spec.specs.Real.{same_rows};
 
 use crate::fixtures::{chunk, context, dtype, strategy};
 use std::alloc::Global;
@@ -131,7 +131,7 @@ impl CompressorPlugin for Broken {
 
     ghost image = { λ _ _ p. p };
 
-    ghost keeps = { λ _ _ p sound. same_rows p sound };
+    ghost keeps = { λ _ _ p whole. same_rows p whole };
 
     fn compress_chunk(&mut self, _which: u32, _chunk: &Chunk) -> Result<Chunk, CompressError> {
         self.faults = self.faults.saturating_add(1);

@@ -69,7 +69,7 @@ fn three_rows(alloc: Global) -> Result<Written, Fail> {
 fn ids(alloc: Global) -> Result<LayoutContext, Fail> {
     let chunked = Text::from_str(alloc, "vortex.chunked")?;
     let ids = vec![in alloc; chunked, Text::from_str(alloc, "vortex.flat")?]?;
-    if LayoutContext::is_context(&ids) {
+    if LayoutContext::is_context(alloc, &ids)? {
         Ok(LayoutContext::new(ids))
     } else {
         Err("no context".into())

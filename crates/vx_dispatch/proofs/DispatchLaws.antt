@@ -6,10 +6,10 @@ use Rattle.vx_model.specs.Ty.{Ty, Tys, boolean, primitive, utf8, binary, list, s
 use Rattle.vx_strategy_spec.specs.StrategyData.{StrategyData, StrategyList, Wraps, flat, chunked, grouped, compressed, coded, zoned, structured, listed, tabled, no_ways, no_wraps, wrap_grouped, wrap_zoned}
 use Rattle.vx_strategy_spec.specs.Walk.{Nodes, find, chosen, duplicate, field_nodes, Around, of_table, of_tables, walk, walk_named, walk_wraps}
 use Rattle.vx_plan.specs.SourcePlan.{plan_nodes}
-use Rattle.vx_dispatch.specs.Dispatch.{override, below, given_or, field_writer, field_writers, wrapped, dispatch}
+use Rattle.vx_strategy_spec.specs.Dispatch.{override, below, given_or, field_writer, field_writers, wrapped, dispatch}
 use Rattle.vx_dispatch.specs.Statements.{TablesAreDispatched}
-use Rattle.vx_dispatch.proofs.Lookups.{made, find_own, find_deeper, Named, find_writer}
-use Rattle.vx_dispatch.proofs.AdmittedLaws.{dispatch_admitted}
+use Rattle.vx_strategy_spec.proofs.Lookups.{made, find_own, find_deeper, Named, find_writer}
+use Rattle.vx_strategy_spec.proofs.AdmittedLaws.{dispatch_admitted}
 
 module _ {A : Type 0} (on : Nodes A) (v l : Ty → A) (f : Around A) where
   mutual

@@ -4,7 +4,7 @@ use Rattle.std.specs.Prelude.{codes}
 use Rattle.vx_model.specs.declared.ptype.PType.TheVariants.{I64}
 use Rattle.vx_model.specs.Ty.{Ty, primitive, list, struct, field, no_fields}
 use Rattle.vx_strategy_spec.specs.StrategyData.{StrategyData, flat, chunked, grouped, by_bytes, structured, listed, tabled, no_ways, way_at, no_wraps, wrap_grouped}
-use Rattle.vx_dispatch.specs.Dispatch.{dispatch}
+use Rattle.vx_strategy_spec.specs.Dispatch.{dispatch}
 
 flats : StrategyData
 flats = flat (record { padding = true; inline = false })

@@ -1,4 +1,2 @@
-pub mod Lookups
 pub mod DispatchLaws
-pub mod AdmittedLaws
 mod Examples

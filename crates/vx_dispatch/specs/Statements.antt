@@ -5,7 +5,7 @@ use Rattle.vx_plan.specs.PlanData.{Setting}
 use Rattle.vx_strategy_spec.specs.StrategyData.{StrategyData}
 use Rattle.vx_strategy_spec.specs.Admitted.{is_admitted}
 use Rattle.vx_plan.specs.SourcePlan.{plan}
-use Rattle.vx_dispatch.specs.Dispatch.{dispatch}
+use Rattle.vx_strategy_spec.specs.Dispatch.{dispatch}
 
 -- What a strategy stands for at a type writes there what the strategy writes, and constructors can make it.
 pub record Dispatched (s : Setting) (w : StrategyData) (t : Ty) : Type 0 where

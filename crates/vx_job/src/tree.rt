@@ -141,14 +141,14 @@ fn layouts_in(alloc: Global, members: &Map<String, Value>) -> Result<LayoutConte
 fn read_layouts(alloc: Global, value: &Value) -> Result<LayoutContext, JsonError>
     ensures { values.Gives (λ c. c) result (layouts_of (view value.now)) }
 {
-    in_context(read_texts(alloc, value)?)
+    in_context(alloc, read_texts(alloc, value)?)
 }
 
 #[tactic(auto, unfolding(crate::specs::TreeText::context_in))]
-fn in_context(ids: Vec<Text>) -> Result<LayoutContext, JsonError>
+fn in_context(alloc: Global, ids: Vec<Text>) -> Result<LayoutContext, JsonError>
     ensures { values.Gives (λ c. c) result (context_in ids.items) }
 {
-    if !LayoutContext::is_context(&ids) {
+    if !LayoutContext::is_context(alloc, &ids)? {
         return Err(JsonError::Wrong);
     }
     Ok(LayoutContext::new(ids))

@@ -20,7 +20,7 @@ use crate::one_child::OneChild;
 use crate::open::{Open, Wanted, with_built};
 use crate::opened::{open_dict, open_list, open_stats, open_zoned};
 use std::alloc::{AllocError, Global};
-use std::rc::Rc;
+use std::sync::Arc;
 use vx_layout_bytes::RawNode;
 use vx_layout_tree::{Layout, LayoutChildren, LayoutError, LayoutParts, ViewedChildren};
 use vx_model::{Blob, DType};
@@ -31,7 +31,7 @@ use vx_session::{LayoutBuildContext, LayoutEncoding, Scope};
 #[tactic(none)]
 pub fn build_node(
     alloc: Global,
-    scope: &Rc<Scope>,
+    scope: &Arc<Scope>,
     dtype: &DType,
     node: RawNode,
 ) -> Result<Layout, LayoutError>
@@ -50,7 +50,7 @@ pub fn build_node(
 
 /// The kind that the scope registers for the index. None where it registers none, and such nodes are kept.
 #[tactic(auto, using(crate::proofs::BuildSteps::found_rules))]
-fn kind_of_node(scope: &Rc<Scope>, index: u16) -> Result<Option<LayoutEncoding>, LayoutError>
+fn kind_of_node(scope: &Arc<Scope>, index: u16) -> Result<Option<LayoutEncoding>, LayoutError>
     ensures { Gives the_kind result (node_kind (scope_of scope.now.value) index) }
 {
     let Some(id) = scope.ids.id(index) else {
@@ -68,7 +68,7 @@ fn kind_of_node(scope: &Rc<Scope>, index: u16) -> Result<Option<LayoutEncoding>,
     }
 }
 
-fn context_in(scope: &Rc<Scope>) -> &LayoutBuildContext
+fn context_in(scope: &Arc<Scope>) -> &LayoutBuildContext
     ensures { context_of result.now ≡ (scope_of scope.now.value).context }
 {
     &scope.context
@@ -76,7 +76,7 @@ fn context_in(scope: &Rc<Scope>) -> &LayoutBuildContext
 
 fn foreign_node(
     alloc: Global,
-    scope: &Rc<Scope>,
+    scope: &Arc<Scope>,
     dtype: &DType,
     node: RawNode,
 ) -> Result<Layout, LayoutError>
@@ -89,7 +89,7 @@ fn foreign_node(
 #[tactic(auto, using(crate::proofs::BuildSteps::parts_rules))]
 fn parts_of_node(
     alloc: Global,
-    scope: &Rc<Scope>,
+    scope: &Arc<Scope>,
     dtype: &DType,
     node: RawNode,
 ) -> Result<(LayoutParts, Blob), AllocError>

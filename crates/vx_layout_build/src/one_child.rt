@@ -11,7 +11,7 @@ ghost use Rattle.vx_layout_tree.specs.KidsView.{layout_kids};
 ghost use Rattle.vx_layout_build.specs.PartsView.{one_kid, one_depth, children_depth};
 ghost use Rattle.vx_layout_tree.specs.Views.{Fails};
 
-use std::rc::Rc;
+use std::sync::Arc;
 use vx_layout_bytes::RawNode;
 use vx_layout_tree::{Layout, LayoutChildren, LayoutError};
 use vx_session::Scope;
@@ -20,7 +20,7 @@ use vx_session::Scope;
 #[derive(Drop)]
 pub(crate) enum OneChild {
     Kept(Layout),
-    Node(Rc<Scope>, RawNode),
+    Node(Arc<Scope>, RawNode),
 }
 
 /// Both children, where there are two.
@@ -69,7 +69,7 @@ pub(crate) fn three(children: LayoutChildren) -> Result<(OneChild, OneChild, One
 
 /// Both nodes, where there are two.
 #[tactic(auto, using(crate::proofs::PartSteps::two_rules))]
-fn two_nodes(scope: Rc<Scope>, nodes: Vec<RawNode>) -> Result<(OneChild, OneChild), LayoutError>
+fn two_nodes(scope: Arc<Scope>, nodes: Vec<RawNode>) -> Result<(OneChild, OneChild), LayoutError>
     ensures { MatchResult result
         (λ p. (kids (scope_of scope.value) (nodes_of (map raw nodes.items)) ≡ one_kid p.0 ∷ one_kid p.1 ∷ []) × (one_depth p.0 ≤ depths (nodes_of (map raw nodes.items))) × (one_depth p.1 ≤ depths (nodes_of (map raw nodes.items))))
         (λ e. Fails e (children_needed 2 (kids (scope_of scope.value) (nodes_of (map raw nodes.items))))) }
@@ -87,7 +87,7 @@ fn two_nodes(scope: Rc<Scope>, nodes: Vec<RawNode>) -> Result<(OneChild, OneChil
 /// All nodes, where there are three.
 #[tactic(auto, using(crate::proofs::PartSteps::three_rules))]
 fn three_nodes(
-    scope: Rc<Scope>,
+    scope: Arc<Scope>,
     nodes: Vec<RawNode>,
 ) -> Result<(OneChild, OneChild, OneChild), LayoutError>
     ensures { MatchResult result

@@ -3,7 +3,7 @@
 use crate::layouts::{NUMBERS, TEXTS, encodings, numbers};
 use crate::sessions::scope;
 use std::alloc::Global;
-use std::rc::Rc;
+use std::sync::Arc;
 use std::test::Fail;
 use vx_layout::{LayoutChildren, LayoutChildrenWalk, RawNode, ViewedChildren, layout_children};
 use vx_model::{Blob, DType};
@@ -28,7 +28,7 @@ pub(crate) fn leaf(alloc: Global, index: u16) -> Result<RawNode, Fail> {
 }
 
 fn viewed_in(alloc: Global, nodes: Vec<RawNode>) -> Result<LayoutChildren, Fail> {
-    let scope = Rc::new(alloc, scope(alloc)?)?;
+    let scope = Arc::new(alloc, scope(alloc)?)?;
     Ok(LayoutChildren::Viewed(ViewedChildren::new(scope, nodes)))
 }
 

@@ -26,7 +26,7 @@ fn texts(alloc: Global, lines: &str) -> Result<Vec<Text>, Fail> {
 /// The ids of all kinds.
 pub(crate) fn ids(alloc: Global) -> Result<LayoutContext, Fail> {
     let ids = texts(alloc, IDS)?;
-    if !LayoutContext::is_context(&ids) {
+    if !LayoutContext::is_context(alloc, &ids)? {
         return Err(Fail::from("the ids are distinct"));
     }
     Ok(LayoutContext::new(ids))

@@ -15,7 +15,7 @@ ghost use Rattle.vx_layout_codec_spec.specs.Bytes.{bytes_in};
 ghost use Rattle.vx_layout_codec_spec.specs.Parsed.{node_within, parsed};
 
 use std::alloc::Global;
-use std::rc::Rc;
+use std::sync::Arc;
 use vx_layout_build::build_node;
 use vx_layout_bytes::{GrammarError, Limits, RawNode, read_nodes};
 use vx_layout_tree::{Layout, LayoutError};
@@ -80,7 +80,7 @@ fn read_in(
     ensures { Gives layout_data result (parsed (scope_of scope) (ty dtype.now) limits.depth limits.nodes bytes.now) }
 {
     let node = read_within(alloc, bytes, limits)?;
-    let scope = Rc::new(alloc, scope)?;
+    let scope = Arc::new(alloc, scope)?;
     build_node(alloc, &scope, dtype, node)
 }
 

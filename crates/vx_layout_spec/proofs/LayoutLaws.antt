@@ -2,9 +2,9 @@
 use Rattle.std.proofs.Common.{◌≡◌, ℕ, List, [], ◌∷◌, map, Option, refl, ap, ap₂, ◌∙◌}
 use Rattle.vx_model.specs.Ty.{Ty}
 use Rattle.vx_model.specs.ValueData.{ValueData}
-use Rattle.vx_layout_spec.specs.LayoutTree.{Kind, flat_kind, chunked_kind, struct_kind, list_kind, dict_kind, zoned_kind, unread_zoned_kind, stats_kind, foreign_kind, refused_kind, LayoutData, LayoutList, layout, no_layouts, child, lays_of, lays_in, renamed, each_renamed, gathered, row_count}
+use Rattle.vx_layout_spec.specs.LayoutTree.{Kind, flat_kind, chunked_kind, struct_kind, list_kind, dict_kind, zoned_kind, unread_zoned_kind, stats_kind, foreign_kind, refused_kind, LayoutData, LayoutList, layout, no_layouts, child, lays_of, lays_in, renamed, each_renamed, row_count}
 use Rattle.vx_layout_spec.specs.Codec.{Codec}
-use Rattle.vx_layout_spec.specs.Rows.{and_then, counted, kind_rows, rows, each_rows, flat_rows}
+use Rattle.vx_layout_spec.specs.Rows.{and_then, counted, kind_rows, rows, each_rows}
 
 flat_rows-map : {A B : Type 0} (c : Codec) (look : B → Option (List ℕ)) (f : A → B) (k : Kind) (t : Ty) (n : ℕ) (names : List A) (parts : List (Option (List ValueData)))
     → kind_rows c look k t n (map f names) parts ≡ kind_rows c (λ a. look (f a)) k t n names parts

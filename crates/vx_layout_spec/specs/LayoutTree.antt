@@ -1,9 +1,8 @@
 -- The tree of a layout: each node with its kind, its type, its rows, its segments and its children.
 -- The segments are of any type: a path before they have numbers, then a number.
-use Rattle.std.specs.Prelude.{ℕ, Bool, true, false, List, [], ◌∷◌, ◌++◌, map, codes, Option, Some, None}
+use Rattle.std.specs.Prelude.{ℕ, Bool, false, List, [], ◌∷◌, map, codes, Option}
 use Rattle.vx_model.specs.declared.encoding.EncodingId.{EncodingId}
 use Rattle.vx_model.specs.Ty.{Ty}
-use Rattle.vx_model.specs.Words.{total_by}
 use Rattle.vx_layout_spec.specs.Refusal.{Refusal}
 
 -- an aggregate of a zone table as a layout's metadata names it

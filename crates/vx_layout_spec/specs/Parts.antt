@@ -1,8 +1,8 @@
 -- Lists, structs and chunks taken apart.
 use Rattle.std.specs.Prelude.{ℕ, ◌+◌, Bool, true, false, List, [], ◌∷◌, ◌++◌, length, map}
-use Rattle.vx_model.specs.Ty.{Ty, Tys, boolean, no_fields, field}
-use Rattle.vx_model.specs.CellData.{CellData, CellList, null_cell, bool_cell, list_cell, struct_cell, no_cells, cell, items}
-use Rattle.vx_model.specs.ChunkData.{ChunkData, ChunkList, chunked_piece, struct_piece, plain_piece, pieces_in, cells}
+use Rattle.vx_model.specs.Ty.{Tys, boolean, no_fields, field}
+use Rattle.vx_model.specs.CellData.{CellData, null_cell, bool_cell, list_cell, struct_cell, cell, items}
+use Rattle.vx_model.specs.ChunkData.{ChunkData, chunked_piece, struct_piece, plain_piece, pieces_in, cells}
 
 -- ---- lists
 

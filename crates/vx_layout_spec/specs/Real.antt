@@ -1,10 +1,10 @@
 -- The cells that a chunk in memory can hold: texts are UTF-8, bytes are below 256, and lengths fit 64 bits.
-use Rattle.std.specs.Prelude.{ℕ, ◌^◌, ◌≡◌, ◌&&◌, nat_lt, Bool, true, List, length, IsTrue}
+use Rattle.std.specs.Prelude.{ℕ, ◌^◌, ◌≡◌, ◌&&◌, nat_lt, Bool, true, length, IsTrue, refl}
 use Rattle.std.specs.Str.{is_utf8}
 use Rattle.vx_model.specs.Words.{all_by}
 use Rattle.vx_model.specs.Ty.{Ty}
 use Rattle.vx_model.specs.CellData.{CellData, CellList, null_cell, bool_cell, int_cell, text_cell, bytes_cell, list_cell, struct_cell, no_cells, cell, items}
-use Rattle.vx_model.specs.ChunkData.{ChunkData, ChunkList, plain_piece, constant_piece, dict_piece, chunked_piece, list_piece, struct_piece, extension_piece, no_pieces, part, piece_type, is_sound}
+use Rattle.vx_model.specs.ChunkData.{ChunkData, ChunkList, plain_piece, constant_piece, dict_piece, chunked_piece, list_piece, struct_piece, extension_piece, no_pieces, part, piece_type, row_values, is_sound}
 
 abbrev pub is_byte : ℕ → Bool
 is_byte n = nat_lt n 256
@@ -51,3 +51,12 @@ pub record Whole (p : ChunkData) : Type 0 where
 pub record Of (t : Ty) (p : ChunkData) : Type 0 where
   pub typed : piece_type p ≡ t
   pub whole : Whole p
+
+-- q is a whole chunk with the type and the row values of p
+pub record SameRows (p q : ChunkData) : Type 0 where
+  pub whole : Whole q
+  pub type : piece_type q ≡ piece_type p
+  pub values : row_values q ≡ row_values p
+
+pub same_rows : (p : ChunkData) → Whole p → SameRows p p
+same_rows p whole = record { whole = whole; type = refl; values = refl }

@@ -1,10 +1,9 @@
 -- The rows that a layout gives: from its segments, by its kind. There are none where a segment is missing or isn't
 -- spelled by the grammar, where counts, codes or offsets don't agree, and at a foreign node or one that can't be built.
-use Rattle.std.specs.Prelude.{ℕ, zero, suc, ◌-◌, ◌==◌, ◌&&◌, nat_le, Bool, true, false, if◌then◌else◌, List, [], ◌∷◌, ◌++◌, length, map, take, drop, Option, Some, None, pos}
+use Rattle.std.specs.Prelude.{ℕ, zero, suc, ◌-◌, ◌==◌, Bool, true, false, if◌then◌else◌, List, [], ◌∷◌, ◌++◌, length, map, take, drop, Option, Some, None, pos}
 use Rattle.vx_model.specs.declared.encoding.EncodingId.{EncodingId}
 use Rattle.vx_model.specs.Words.{all_by, head_or, tail}
 use Rattle.vx_model.specs.Ty.{Ty, nullable}
-use Rattle.vx_model.specs.CellData.{CellData}
 use Rattle.vx_model.specs.ChunkData.{are_offsets}
 use Rattle.vx_model.specs.ValueData.{ValueData, null_value, bool_value, int_value, list_value, struct_value, vals_of, value}
 use Rattle.vx_layout_spec.specs.LayoutTree.{Kind, flat_kind, chunked_kind, struct_kind, list_kind, dict_kind, zoned_kind, unread_zoned_kind, stats_kind, foreign_kind, refused_kind, LayoutData, LayoutList, layout, no_layouts, child}

@@ -7,7 +7,7 @@ ghost use Rattle.vx_layout_tree.specs.LayoutView.{layout_data};
 
 use crate::layout::Layout;
 use std::alloc::Global;
-use std::rc::Rc;
+use std::sync::Arc;
 use vx_layout_bytes::RawNode;
 use vx_session::Scope;
 
@@ -22,7 +22,7 @@ pub enum LayoutChildren {
 /// Nodes of bytes, and what they are built in.
 #[derive(Debug, Drop)]
 pub struct ViewedChildren {
-    pub(crate) scope: Rc<Scope>,
+    pub(crate) scope: Arc<Scope>,
     pub(crate) nodes: Vec<RawNode>,
 }
 
@@ -30,14 +30,14 @@ impl ViewedChildren {
     ghost use Rattle.std.specs.Prelude.{◌≡◌};
 
     /// Nodes that bytes spell, and what they are built in. Takes no memory.
-    pub fn new(scope: Rc<Scope>, nodes: Vec<RawNode>) -> ViewedChildren
+    pub fn new(scope: Arc<Scope>, nodes: Vec<RawNode>) -> ViewedChildren
         ensures { result ≡ record { scope = scope; nodes = nodes } }
     {
         ViewedChildren { scope, nodes }
     }
 
     /// What the nodes are built in, and the nodes.
-    pub fn as_parts(&self) -> (&Rc<Scope>, &Vec<RawNode>)
+    pub fn as_parts(&self) -> (&Arc<Scope>, &Vec<RawNode>)
         ensures scope { result.0.now ≡ self.now.scope }
         ensures nodes { result.1.now ≡ self.now.nodes }
     {
@@ -45,7 +45,7 @@ impl ViewedChildren {
     }
 
     /// The same by themselves. Takes no memory.
-    pub fn into_parts(self) -> (Rc<Scope>, Vec<RawNode>)
+    pub fn into_parts(self) -> (Arc<Scope>, Vec<RawNode>)
         ensures scope { result.0 ≡ self.scope }
         ensures nodes { result.1 ≡ self.nodes }
     {

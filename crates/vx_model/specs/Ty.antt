@@ -1,5 +1,5 @@
 -- Types of columns, as contracts see them.
-use Rattle.std.specs.Prelude.{ℕ, ◌&&◌, ◌==◌, Bool, true, false, List, [], ◌∷◌, bytes_eq}
+use Rattle.std.specs.Prelude.{ℕ, ◌&&◌, ◌==◌, Bool, true, false, Option, Some, None, List, [], ◌∷◌, bytes_eq}
 use mathlib.Core.Bool.{beq}
 use Rattle.vx_model.specs.declared.ptype.PType.{PType}
 use Rattle.vx_model.specs.Numbers.{ptype_number}
@@ -56,6 +56,21 @@ is_list t = false
 abbrev pub is_struct : Ty → Bool
 is_struct (struct fs n) = true
 is_struct t = false
+
+-- the type of a list's elements
+abbrev pub list_item : Ty → Option Ty
+list_item (list t n) = Some t
+list_item t = None
+
+-- the fields of a struct
+abbrev pub struct_tys : Ty → Option Tys
+struct_tys (struct fs n) = Some fs
+struct_tys t = None
+
+-- the type that an extension is stored as
+abbrev pub storage_of : Ty → Option Ty
+storage_of (extension tag t) = Some t
+storage_of t = None
 
 -- the type below all extensions
 abbrev pub storage_type : Ty → Ty

@@ -90,7 +90,7 @@ fn may_be(valid: bool, nullability: Nullability) -> bool
 }
 
 /// Whether the type has the integer.
-fn has_int(ptype: PType, n: i128) -> bool
+pub(crate) fn has_int(ptype: PType, n: i128) -> bool
     ensures { result ≡ int_fits ptype n }
 {
     match ptype {

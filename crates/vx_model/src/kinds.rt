@@ -1,12 +1,12 @@
 //! What is asked of a type.
 
-ghost use Rattle.std.specs.Prelude.{◌≡◌, IfOk, IfSome};
-ghost use Rattle.vx_model.specs.Ty.{as_nullable, is_list, is_struct};
+ghost use Rattle.std.specs.Prelude.{◌≡◌, IfOk, IfSome, map, option_map};
+ghost use Rattle.vx_model.specs.Ty.{as_nullable, is_list, is_struct, list_item, struct_tys, storage_of, tys_of};
 ghost use Rattle.vx_model.specs.CellData.{CellData, cell_size};
 ghost use Rattle.vx_model.specs.ElementSize.{element_size};
-ghost use Rattle.vx_model.specs.TyView.{ty};
+ghost use Rattle.vx_model.specs.TyView.{ty, field_ty};
 
-use crate::dtype::{DType, ExtDType, StructFields, copy_box, copy_fields};
+use crate::dtype::{DType, ExtDType, StructField, StructFields, copy_box, copy_fields};
 use crate::ptype::Nullability;
 use std::alloc::AllocError;
 
@@ -30,6 +30,42 @@ impl DType {
             DType::Struct(..) => true,
             DType::Bool(_) | DType::Primitive(..) | DType::Utf8(_) | DType::Binary(_) => false,
             DType::List(..) | DType::Extension(_) => false,
+        }
+    }
+
+    /// The type of a list's elements; an extension over a list has none.
+    #[tactic(auto, using(crate::proofs::Views::view_rules))]
+    pub fn as_list(&self) -> Option<&DType>
+        ensures { option_map (λ t. ty t.now) result ≡ list_item (ty self.now) }
+    {
+        match self {
+            DType::List(items, _) => Some(items),
+            DType::Bool(_) | DType::Primitive(..) | DType::Utf8(_) | DType::Binary(_) => None,
+            DType::Struct(..) | DType::Extension(_) => None,
+        }
+    }
+
+    /// The fields of a struct, in order; an extension over a struct has none.
+    #[tactic(auto, using(crate::proofs::Views::view_rules))]
+    pub fn as_struct(&self) -> Option<&[StructField]>
+        ensures { option_map (λ fs. tys_of (map field_ty fs.now)) result ≡ struct_tys (ty self.now) }
+    {
+        match self {
+            DType::Struct(fields, _) => Some(&fields.fields),
+            DType::Bool(_) | DType::Primitive(..) | DType::Utf8(_) | DType::Binary(_) => None,
+            DType::List(..) | DType::Extension(_) => None,
+        }
+    }
+
+    /// The type that an extension is stored as, which may be an extension again.
+    #[tactic(auto, using(crate::proofs::Views::view_rules))]
+    pub fn as_extension(&self) -> Option<&DType>
+        ensures { option_map (λ t. ty t.now) result ≡ storage_of (ty self.now) }
+    {
+        match self {
+            DType::Extension(ext) => Some(&ext.storage),
+            DType::Bool(_) | DType::Primitive(..) | DType::Utf8(_) | DType::Binary(_) => None,
+            DType::List(..) | DType::Struct(..) => None,
         }
     }
 

@@ -14,6 +14,7 @@ mod ptype;
 mod row_value;
 mod segment;
 mod text;
+mod value_fit;
 
 pub use array_context::{ArrayContext, ContextError};
 pub use blob::Blob;
@@ -25,3 +26,4 @@ pub use ptype::{Nullability, PType};
 pub use row_value::Value;
 pub use segment::{IdTooLarge, SegmentId};
 pub use text::{FieldName, Text};
+pub use value_fit::is_row_value;

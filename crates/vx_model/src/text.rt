@@ -1,4 +1,5 @@
-ghost use Rattle.std.specs.Prelude.{◌≡◌, ℕ, List, string_bytes, IfOk};
+ghost use Rattle.std.specs.Prelude.{◌≡◌, ◌<◌, ◌^◌, ℕ, List, length, string_bytes, IfOk, IsTrue};
+ghost use Rattle.std.specs.Str.{is_utf8};
 
 use std::alloc::{AllocError, Global};
 use std::marker::Model;
@@ -28,8 +29,12 @@ impl Text {
         })
     }
 
+    /// The text; its length is that in bytes.
+    #[tactic(auto, using(crate::proofs::RealSteps::text_rules))]
     pub fn as_str(&self) -> &str
-        ensures { result.now ≡ self.now }
+        ensures text { result.now ≡ self.now }
+        ensures utf8 { IsTrue (is_utf8 self.now) }
+        ensures short { length self.now < 2 ^ 64 }
     {
         self.inner.as_str()
     }

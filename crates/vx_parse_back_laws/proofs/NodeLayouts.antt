@@ -10,7 +10,7 @@ use Rattle.vx_model.specs.ChunkData.{cells, is_dict_type}
 use Rattle.vx_path.specs.Path.{Eof, inside, next}
 use Rattle.vx_layout_spec.specs.LayoutTree.{layout_type, dict_layout, renamed}
 use Rattle.vx_zone_spec.specs.ZoneTable.{Filled, table_type, kept_columns}
-use Rattle.vx_aggregate.specs.Tables.{stats_table}
+use Rattle.vx_aggregate_spec.specs.Tables.{stats_table}
 use Rattle.vx_session.specs.Scope.{Scope}
 use Rattle.vx_rules.specs.Stream.{Chunks, stream_cells}
 use Rattle.vx_rules.specs.Columns.{offset_cell}
@@ -31,7 +31,8 @@ use Rattle.vx_plan.proofs.FlatLaws.{cons_nil}
 use Rattle.vx_plan.proofs.ZonedLaws.{whole_table, zone_fits}
 use Rattle.vx_parse_back_laws.proofs.Layouts.{Written, has_type, has_rows, Parts, gathered_written, dict_written}
 use Rattle.vx_parse_back_laws.proofs.Streams.{kept_of, grouped_count, images_of, images_count, rows_of_cells}
-use Rattle.vx_parse_back_laws.proofs.TableSpecs.{AreColumns, are_columns, table_aggregates, type_is, specs_named, specs_read, metadata_fits}
+use Rattle.vx_zone_table_laws.proofs.TableTypes.{AreColumns, table_aggregates, type_is}
+use Rattle.vx_parse_back_laws.proofs.TableSpecs.{are_columns, specs_named, specs_read, metadata_fits}
 
 -- in a scope, with the segments numbered so
 module _ (s : Scope) (f : List ℕ → ℕ) (st : Setting) where

@@ -1,20 +1,20 @@
--- The aggregates of a written zone table are read from its specs, and its type is theirs.
+-- The aggregates of a written zone table are read from its specs.
 use Rattle.std.proofs.Common.{◌≡◌, ℕ, ◌<◌, ◌^◌, ◌&&◌, Bool, true, false, List, [], ◌∷◌, ◌++◌, length, map, Option, Some, None, Result, Ok, refl, sym, ap, ◌∙◌, subst, inl, inr, arith}
 use Rattle.std.specs.Prelude.{if◌then◌else◌, nat_lt}
 use Rattle.std.specs.Str.{chars, is_utf8}
 use Rattle.std.specs.Char.{encode_utf8}
 use Rattle.std.proofs.lemmas.Bool.Decides.{nat_tests}
 use Rattle.vx_model.specs.Words.{all_by, tail}
-use Rattle.vx_model.specs.Ty.{Ty, struct, field, tys_of}
+use Rattle.vx_model.specs.Ty.{Ty}
 use Rattle.vx_model.specs.ValueData.{ValueData}
 use Rattle.vx_path.specs.Lists.{In}
 use Rattle.vx_path.proofs.Sort.{from_sorted}
 use Rattle.vx_layout_spec.specs.Refusal.{Refusal}
 use Rattle.vx_aggregate_spec.specs.Aggregate.{Aggregate, maximum, minimum, bounded_maximum, bounded_minimum, null_count, sum, bloom, aggregate_id, spec, has_options, aggregate_of, Column, state_type, with_state, held_aggregates}
-use Rattle.vx_zone_spec.specs.ZoneTable.{Filled, name_of, filled, some_values, ordered, kept_columns, table_fields, table_type, table_specs}
+use Rattle.vx_zone_spec.specs.ZoneTable.{Filled, name_of, filled, some_values, ordered, kept_columns, table_specs}
 use Rattle.vx_aggregate_spec.proofs.SpecLaws.{specs_are_read}
-use Rattle.vx_aggregate.specs.Tables.{column_field, stats_table}
 use Rattle.vx_zone_table_laws.proofs.WholeTables.{from_some, any_same}
+use Rattle.vx_zone_table_laws.proofs.TableTypes.{IsColumn, column_of, AreColumns, table_aggregates}
 use Rattle.vx_metadata.specs.Values.{is_short_spec, has_text_id, IsZoned}
 use Rattle.vx_session.specs.Ids.{is_listed}
 use Rattle.vx_session.specs.Scope.{Context, Scope}
@@ -38,18 +38,6 @@ both : (a b : Bool) → a ≡ true → b ≡ true → (a && b) ≡ true
 both a b e f = rw (e, f) refl
 
 -- ---- the columns of a table
-
--- Of a column of the table at a type: it has the aggregate's type, and options that a spec keeps.
-pub record IsColumn (t : Ty) (c : Column) : Type 0 where
-  pub state : state_type c.0 t ≡ Some c.1
-  pub options : has_options c.0 ≡ true
-
-abbrev column_of : Filled → Column
-column_of f = (f.aggregate, f.state)
-
--- each of them
-abbrev pub AreColumns : Ty → List Filled → Type 0
-AreColumns t cs = (f : Filled) → In f cs → IsColumn t (column_of f)
 
 abbrev IsHeld : List Aggregate → Ty → Column → Type 0
 IsHeld aggregates t c = In c.0 aggregates × (state_type c.0 t ≡ Some c.1)
@@ -89,21 +77,6 @@ are_columns o t records cs ok kept f i =
     let j : In (column_of f) (recorded o t) = kept_from (recorded o t) records cs kept f i in
     let h : IsHeld (asked o.aggregates t) t (column_of f) = held (asked o.aggregates t) t (column_of f) j in
     record { state = h.1; options = options_in (asked o.aggregates t) (options_of o t ok) f.aggregate h.0 }
-
--- ---- the table's type
-
-abbrev pub table_aggregates : List Filled → List Aggregate
-table_aggregates [] = []
-table_aggregates (c ∷ cs) = c.aggregate ∷ table_aggregates cs
-
-fields_are : (t : Ty) (cs : List Filled) → AreColumns t cs → table_fields cs ≡ tys_of (map column_field (held_aggregates (table_aggregates cs) t))
-fields_are t [] are = refl
-fields_are t (c ∷ cs) are =
-    ap (field (name_of c) c.state) (fields_are t cs (λ f i. are f (inr i)))
-    ∙ sym (ap (λ (o : Option Ty). tys_of (map column_field (with_state c.aggregate o ++ held_aggregates (table_aggregates cs) t))) (are c (inl refl)).state)
-
-pub type_is : (t : Ty) (cs : List Filled) → AreColumns t cs → table_type cs ≡ stats_table t (table_aggregates cs)
-type_is t cs are = ap (λ fs. struct fs false) (fields_are t cs are)
 
 -- ---- the specs
 

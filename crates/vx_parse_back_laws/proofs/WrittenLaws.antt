@@ -9,7 +9,8 @@ use Rattle.vx_plan.specs.PlanData.{Setting, Plan, row_total}
 use Rattle.vx_strategy_spec.specs.StrategyData.{StrategyData}
 use Rattle.vx_strategy_spec.specs.Admitted.{is_admitted}
 use Rattle.vx_plan.specs.Valid.{Keeps}
-use Rattle.vx_plan.specs.SourcePlan.{plan, source_plan, batch_items, root_eof}
+use Rattle.vx_path.specs.Path.{root_eof}
+use Rattle.vx_plan.specs.SourcePlan.{plan, source_plan, batch_items}
 use Rattle.vx_plan.specs.Number.{number_of, numbered}
 use Rattle.vx_plan.proofs.Relate.{induct}
 use Rattle.vx_plan.proofs.SourceLaws.{items_of}

@@ -42,6 +42,10 @@ pub record Eof : Type 0 where
   pub stem : List ℕ
   pub last : ℕ
 
+-- the root's eof path [1]
+abbrev pub root_eof : Eof
+root_eof = record { stem = []; last = 1 }
+
 -- the path e + j: the last index raised by j
 abbrev pub raised : Eof → ℕ → List ℕ
 raised e j = under e.stem (e.last + j)

@@ -8,7 +8,7 @@ use Rattle.vx_model.specs.declared.encoding.EncodingId.{EncodingId}
 use Rattle.vx_model.specs.Ty.{Ty}
 use Rattle.vx_model.specs.ChunkData.{ChunkData, cells}
 use Rattle.vx_path.specs.Lists.{In}
-use Rattle.vx_path.specs.Path.{Eof, inside, next, path_le}
+use Rattle.vx_path.specs.Path.{Eof, inside, next, path_le, root_eof}
 use Rattle.vx_path.specs.Sort.{Ascends}
 use Rattle.vx_path.proofs.Path.{under_le}
 use Rattle.vx_path.proofs.Sort.{sort_by-ascending}
@@ -18,7 +18,7 @@ use Rattle.vx_plan.specs.PlanData.{Setting, Item, Pair, Plan, stored, rows_in, r
 use Rattle.vx_strategy_spec.specs.StrategyData.{StrategyData, FlatOptions, flat, chunked, leaf}
 use Rattle.vx_plan.specs.FlatNode.{segment, pair_at, refused_at, refusals, flat_of, inlined}
 use Rattle.vx_plan.specs.ChunkedNode.{chunk_plans, chunked_numbers, all_pairs, all_faults, all_numbers, all_layouts}
-use Rattle.vx_plan.specs.SourcePlan.{plan, source_plan, batch_items, root_eof}
+use Rattle.vx_plan.specs.SourcePlan.{plan, source_plan, batch_items}
 use Rattle.vx_plan.specs.Number.{path_of, sorted, place_of, number_of}
 use Rattle.vx_plan.specs.InOrder.{batch_pairs, batch_refusals, batch_segments, batch_flats, batch_rows, there, ChunksInOrder}
 use Rattle.vx_plan.specs.Valid.{Fit, IsPast}

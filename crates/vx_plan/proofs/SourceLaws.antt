@@ -8,7 +8,7 @@ use Rattle.vx_model.specs.TyLaws.{ty_eq_decides}
 use Rattle.vx_model.specs.ValueData.{ValueData}
 use Rattle.vx_model.specs.ChunkData.{ChunkData, piece_type, row_values}
 use Rattle.vx_path.specs.Lists.{In}
-use Rattle.vx_path.specs.Path.{meets, Scattered, Region, under, raised}
+use Rattle.vx_path.specs.Path.{meets, Scattered, Region, under, raised, root_eof}
 use Rattle.vx_path.proofs.Path.{under_apart}
 use Rattle.vx_layout_spec.specs.LayoutTree.{Kind, flat_kind, chunked_kind, struct_kind, list_kind, dict_kind, zoned_kind, unread_zoned_kind, stats_kind, foreign_kind, refused_kind, LayoutData, LayoutList, layout, no_layouts, child, renamed, each_renamed, row_count, layout_type}
 use Rattle.vx_plan.specs.ZonesHold.{OfZoned, IsZoned, AllZoned, ZonesHold}
@@ -17,7 +17,7 @@ use Rattle.vx_layout_spec.specs.Rows.{rows, and_then, counted, kind_rows, each_r
 use Rattle.vx_layout_spec.proofs.LayoutLaws.{rows_renamed}
 use Rattle.vx_plan.specs.PlanData.{Setting, Item, Plan, Node, Fault, What, paths, places, stream_values}
 use Rattle.vx_strategy_spec.specs.StrategyData.{StrategyData}
-use Rattle.vx_plan.specs.SourcePlan.{plan, first_what, source_plan, batch_items, root_eof, source_values, of_schema}
+use Rattle.vx_plan.specs.SourcePlan.{plan, first_what, source_plan, batch_items, source_values, of_schema}
 use Rattle.vx_plan.specs.Number.{segments, number_of, segment_at}
 use Rattle.vx_plan.specs.Valid.{Fit, AllOf, Has, OfSchema, Keeps}
 use Rattle.vx_plan.specs.Statements.{RowsComeBack, PathsDistinct, PathsInRegion, PrefixWithin, StreamsGrow, StartFaultIsFixed, StartFaultStands, NoStartFault, FrontOfTaken, CountsRows, ZonesAreTrue, Within}

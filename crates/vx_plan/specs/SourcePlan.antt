@@ -3,7 +3,7 @@ use Rattle.std.specs.Prelude.{ℕ, suc, Bool, false, if◌then◌else◌, List, 
 use Rattle.vx_model.specs.Ty.{Ty, ty_eq}
 use Rattle.vx_model.specs.ValueData.{ValueData}
 use Rattle.vx_model.specs.ChunkData.{ChunkData, piece_type, row_values}
-use Rattle.vx_path.specs.Path.{Eof}
+use Rattle.vx_path.specs.Path.{root_eof}
 use Rattle.vx_plan.specs.PlanData.{Setting, Item, Plan, Node, What, Fault}
 use Rattle.vx_strategy_spec.specs.StrategyData.{StrategyData}
 use Rattle.vx_strategy_spec.specs.Walk.{Nodes, walk}
@@ -35,10 +35,6 @@ plan s w t = walk (plan_nodes s) w t
 abbrev pub batch_items : ℕ → List ChunkData → List Item
 batch_items i [] = []
 batch_items i (b ∷ bs) = (0 ∷ i ∷ [], b) ∷ batch_items (suc i) bs
-
--- the root's eof path [1]
-abbrev pub root_eof : Eof
-root_eof = record { stem = []; last = 1 }
 
 abbrev pub first_what : List Fault → Option What
 first_what [] = None

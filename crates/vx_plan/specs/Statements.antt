@@ -3,7 +3,7 @@ use Rattle.std.specs.Prelude.{ℕ, ◌<◌, ◌≤◌, ◌≡◌, Bool, true, fa
 use Rattle.vx_model.specs.Ty.{Ty}
 use Rattle.vx_model.specs.ChunkData.{ChunkData}
 use Rattle.vx_path.specs.Lists.{In, Each}
-use Rattle.vx_path.specs.Path.{Eof, Scattered, Region}
+use Rattle.vx_path.specs.Path.{Eof, Scattered, Region, root_eof}
 use Rattle.vx_layout_spec.specs.LayoutTree.{row_count, layout_type}
 use Rattle.vx_layout_spec.specs.Rows.{rows}
 use Rattle.vx_plan.specs.PlanData.{Setting, Item, Pair, Plan, Fault, What, paths, places, stream_values}
@@ -11,7 +11,7 @@ use Rattle.vx_strategy_spec.specs.StrategyData.{StrategyData, ZonedOptions}
 use Rattle.vx_strategy_spec.specs.Admitted.{is_admitted}
 use Rattle.vx_plan.specs.ZonedNode.{recorded, zone_faults, zone_records}
 use Rattle.vx_plan.specs.ZonesHold.{zones_of, records_of, ZonesHold}
-use Rattle.vx_plan.specs.SourcePlan.{plan, start_fault, first_what, source_plan, batch_items, root_eof, source_values}
+use Rattle.vx_plan.specs.SourcePlan.{plan, start_fault, first_what, source_plan, batch_items, source_values}
 use Rattle.vx_plan.specs.Number.{sorted, segments, numbered, segment_at}
 use Rattle.vx_plan.specs.Valid.{Fit, AllOf, Has, Keeps}
 

@@ -3,13 +3,13 @@ use Rattle.std.proofs.Common.{◌≡◌, ℕ, zero, suc, Bool, true, false, List
 use Rattle.std.specs.Prelude.{pos, codes}
 use Rattle.vx_model.specs.declared.ptype.PType.TheVariants.{I32}
 use Rattle.vx_model.specs.declared.encoding.EncodingId.TheVariants.{Plain}
-use Rattle.vx_model.specs.Ty.{Ty, Tys, primitive, struct, fields_in}
+use Rattle.vx_model.specs.Ty.{Ty, Tys, primitive, utf8, struct, fields_in}
 use Rattle.vx_model.specs.CellData.{CellData, null_cell, int_cell, struct_cell, trees_of, items}
-use Rattle.vx_model.specs.ValueData.{ValueData, int_value, text_value}
+use Rattle.vx_model.specs.ValueData.{ValueData, int_value, text_value, struct_value, vals_of}
 use Rattle.vx_model.specs.ChunkData.{ChunkData, plain_piece, cells}
 use Rattle.vx_layout_spec.specs.LayoutTree.{LayoutData, LayoutList, Kind, zoned_kind, layout, no_layouts, child, lays_in}
 use Rattle.vx_layout_spec.specs.Rows.{rows, and_then}
-use Rattle.vx_aggregate_spec.specs.Aggregate.{Aggregate, maximum, minimum, null_count}
+use Rattle.vx_aggregate_spec.specs.Aggregate.{Aggregate, maximum, minimum, null_count, sum}
 use Rattle.vx_zone_spec.specs.Pruning.{Predicate, eq, gt, lt, negated, predicate_fits}
 use Rattle.vx_zone_spec.specs.ZoneMap.{ZoneMap, skips, record_of}
 use Rattle.vx_plan.specs.PlanData.{Setting, Plan}
@@ -129,3 +129,27 @@ table_map = refl
 table_zones : at_zoned setting (segment_at 0 (segments zoned_twice)) (λ m vs. map (record_of m) m.zones) (zones_child (numbered zoned_twice 0)) ≡ Some (((null_count, int_value (pos 0)) ∷ []) ∷ [])
 unfolding setting flats chunks zones_of_3 eight
 table_zones = refl
+
+-- ---- a table of an aggregate that the type can't hold: it has no column, and the others keep their values
+
+texts_map : ZoneMap
+texts_map = record {
+  column = utf8 false;
+  aggregates = sum ∷ minimum ∷ maximum ∷ [];
+  zone_len = 3;
+  row_count = 3;
+  zones = struct_value (vals_of (text_value (codes "a") ∷ text_value (codes "z") ∷ [])) ∷ [];
+}
+
+texts_record : map (record_of texts_map) texts_map.zones ≡ ((minimum, text_value (codes "a")) ∷ (maximum, text_value (codes "z")) ∷ []) ∷ []
+unfolding texts_map
+texts_record = refl
+
+-- "a" is below "b"
+below_b : skips setting.hash texts_map (lt (text_value (codes "b"))) ≡ false ∷ []
+unfolding setting texts_map
+below_b = refl
+
+below_a : skips setting.hash texts_map (lt (text_value (codes "a"))) ≡ true ∷ []
+unfolding setting texts_map
+below_a = refl

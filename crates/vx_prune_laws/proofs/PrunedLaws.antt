@@ -1,24 +1,25 @@
 -- Pruning over the zone tables of what was written.
 use Rattle.std.proofs.Common.{◌≡◌, ℕ, zero, suc, ◌+◌, ◌*◌, ◌≤◌, true, List, [], ◌∷◌, length, take, drop, Option, Some, refl, sym, ap, ap₂, ◌∙◌, subst, arith}
 use Rattle.vx_model.specs.Ty.{Ty}
-use Rattle.vx_model.specs.ValueData.{ValueData, struct_value, vals_of}
+use Rattle.vx_model.specs.ValueData.{ValueData, bytes_value, struct_value, vals_of}
 use Rattle.vx_model.specs.ChunkData.{row_values}
 use Rattle.vx_path.specs.Lists.{In}
 use Rattle.vx_layout_spec.specs.LayoutTree.{Kind, flat_kind, chunked_kind, struct_kind, list_kind, dict_kind, zoned_kind, unread_zoned_kind, stats_kind, foreign_kind, refused_kind, LayoutData, LayoutList, layout, no_layouts, child, Spec}
 use Rattle.vx_layout_spec.specs.Rows.{rows, and_then}
-use Rattle.vx_aggregate_spec.specs.Aggregate.{Aggregate}
+use Rattle.vx_aggregate_spec.specs.Aggregate.{Aggregate, bloom, held_aggregates}
 use Rattle.vx_zone_spec.specs.ZoneTable.{Filled, table_piece}
 use Rattle.vx_zone_spec.specs.Pruning.{Predicate, says, predicate_fits, falsified}
-use Rattle.vx_zone_spec.specs.ZoneMap.{ZoneMap, zone_rows, fields_of, record_of, skips, skips_from}
+use Rattle.vx_zone_spec.specs.ZoneMap.{ZoneMap, zone_rows, names_of, paired, fields_of, record_of, skips, skips_from}
 use Rattle.vx_zone_spec.specs.Statements.{SmallHash, IsRecord}
 use Rattle.vx_zone_spec.proofs.PruneLaws.{pruning_is_sound}
 use Rattle.vx_plan.specs.PlanData.{Setting}
 use Rattle.vx_plan.specs.Number.{element}
 use Rattle.vx_plan.specs.ZonesHold.{zones_of, IsZoneCount, IsZoned, OfZoned, EachZoned, AllZoned}
 use Rattle.vx_plan.proofs.SourceLaws.{zones_are_true}
+use Rattle.vx_zone_table_laws.proofs.TableTypes.{table_aggregates}
 use Rattle.vx_prune_laws.specs.Pruned.{zone_map, zone_at}
 use Rattle.vx_prune_laws.specs.Statements.{IsPrunable, PruningKeepsRows}
-use Rattle.vx_prune_laws.proofs.TableRows.{AllKept, table_kept, aggregates_in, specs_read, type_is, zone_values, table_rows, rows_are, record_is, length-table_rows, filter_holds}
+use Rattle.vx_prune_laws.proofs.TableRows.{AllKept, table_kept, specs_read, type_is, names_are, zone_values, table_rows, rows_are, record_is, length-table_rows, filter_holds}
 use Rattle.vx_prune_laws.proofs.ZoneRows.{zone_zero, zone_suc, zone_values_of, zones_values, zones_length, rows_counted, counts_fit, skip_at, element_below, none_lost}
 
 -- the row of the table at z is the record of zone z
@@ -41,7 +42,7 @@ module _ {A : Type 0} (s : Setting) (small : SmallHash s.hash) (look : A → Opt
   kept_all = table_kept s t h.aggregates (zones_of h.count zone_len h.values) h.table h.options h.kept
 
   map_of : ZoneMap
-  map_of = record { column = t; aggregates = aggregates_in h.table; zone_len = zone_len; row_count = n; zones = table_rows s t h.table (zones_of h.count zone_len h.values) }
+  map_of = record { column = t; aggregates = table_aggregates h.table; zone_len = zone_len; row_count = n; zones = table_rows s t h.table (zones_of h.count zone_len h.values) }
 
   zones_count : length (table_rows s t h.table (zones_of h.count zone_len h.values)) ≡ h.count
   zones_count = length-table_rows s t h.table (zones_of h.count zone_len h.values) ∙ zones_length h.count zone_len h.values
@@ -55,10 +56,19 @@ module _ {A : Type 0} (s : Setting) (small : SmallHash s.hash) (look : A → Opt
   all_zones : IsZoneCount n zone_len (length (table_rows s t h.table (zones_of h.count zone_len h.values)))
   all_zones = subst (λ k. IsZoneCount n zone_len k) (sym zones_count) (subst (λ k. IsZoneCount k zone_len h.count) h.row_count h.all_zones)
 
+  -- a record is paired with the table's aggregates
+  map_names : names_of (held_aggregates (table_aggregates h.table) t) ≡ table_aggregates h.table
+  map_names = names_are s t (zones_of h.count zone_len h.values) h.table kept_all
+
+  paired_at : (z : ℕ) (row : ValueData) → element map_of.zones z ≡ Some row → IsRecord s.hash t (zone_at zone_len h.values z) (paired (table_aggregates h.table) (fields_of row))
+  unfolding map_of
+  paired_at z row e =
+      subst (λ r. IsRecord s.hash t (zone_at zone_len h.values z) (paired (table_aggregates h.table) (fields_of r))) (sym (row_at s t h.table zone_len h.count h.values z row e))
+      (record_is s t h.table (zone_at zone_len h.values z))
+
   record_at : (z : ℕ) (row : ValueData) → element map_of.zones z ≡ Some row → IsRecord s.hash t (zone_at zone_len h.values z) (record_of map_of row)
   unfolding map_of
-  record_at z row e =
-      subst (λ r. IsRecord s.hash t (zone_at zone_len h.values z) (record_of map_of r)) (sym (row_at s t h.table zone_len h.count h.values z row e)) (record_is s t h.table (zone_at zone_len h.values z))
+  record_at z row e = subst (λ names. IsRecord s.hash t (zone_at zone_len h.values z) (paired names (fields_of row))) (sym map_names) (paired_at z row e)
 
   none_skipped : (p : Predicate) (z : ℕ) → predicate_fits t p ≡ true → element (skips s.hash map_of p) z ≡ Some true → (v : ValueData) → In v (zone_at zone_len h.values z) → says p v ≡ Some true → ⊥
   unfolding map_of
@@ -87,7 +97,7 @@ module _ {A : Type 0} (s : Setting) (small : SmallHash s.hash) (look : A → Opt
     zone_rows = λ z l. rows_counted map_of h.values (sym h.row_count) all_zones z l;
     records = record_at;
     filters = λ z row blocks stored e i v j m. filter_holds s small t (zones_of h.count zone_len h.values) h.table kept_all (zone_at zone_len h.values z) (zone_values_of t zone_len h.values z h.of_type) (fields_of row)
-        (record_at z row e) blocks stored i v j m;
+        (paired_at z row e) blocks stored (subst (λ names. In (bloom blocks, bytes_value stored) (paired names (fields_of row))) map_names i) v j m;
     skipped = none_skipped;
     kept = λ p fits.
         let c : IsZoneCount n zone_len (length map_of.zones) = all_zones in

@@ -21,13 +21,15 @@ use Rattle.vx_aggregate_spec.specs.Aggregate.{Aggregate, maximum, minimum, bound
 use Rattle.vx_zone_spec.specs.ValueOrder.{greatest, least}
 use Rattle.vx_zone_spec.specs.Bounds.{upper_bound, lower_bound, bytes_or_null, text_or_null, raised_last, byte_rises, char_rises, next_char, front_chars}
 use Rattle.vx_zone_spec.specs.Record.{aggregate_value, zone_record, sum_value, exact_sum}
-use Rattle.vx_zone_spec.specs.ZoneTable.{Filled, name_of, filled, some_values, ordered, kept_columns, state_cell, table_fields, table_type, table_columns, table_specs, table_piece}
-use Rattle.vx_zone_spec.specs.ZoneMap.{state_fields, stats_table_type, paired, fields_of}
+use Rattle.vx_zone_spec.specs.ZoneTable.{Filled, name_of, filled, some_values, ordered, kept_columns, state_cell, table_type, table_columns, table_specs, table_piece}
+use Rattle.vx_zone_spec.specs.ZoneMap.{names_of, paired, fields_of}
 use Rattle.vx_zone_spec.specs.Statements.{is_value_of, AllValues, IsRecord, SmallHash}
 use Rattle.vx_zone_spec.proofs.FilterLaws.{stored_filter_contains}
 use Rattle.vx_aggregate_spec.proofs.SpecLaws.{specs_are_read}
 use Rattle.vx_zone_table_laws.proofs.StateCells.{greater_among, lesser_among}
 use Rattle.vx_zone_table_laws.proofs.WholeTables.{from_some, any_same}
+use Rattle.vx_zone_table_laws.proofs.TableTypes.{IsColumn, column_of, AreColumns, table_aggregates, type_is as table_type_is, names_held}
+use Rattle.vx_aggregate_spec.specs.Tables.{stats_table}
 use Rattle.vx_plan.specs.PlanData.{Setting}
 use Rattle.vx_plan.specs.ZonesHold.{records_of}
 
@@ -188,22 +190,20 @@ table_kept s t aggregates (z ∷ zs) table o e =
 
 -- ---- the aggregates that the specs name
 
-abbrev pub aggregates_in : List Filled → List Aggregate
-aggregates_in [] = []
-aggregates_in (f ∷ fs) = f.aggregate ∷ aggregates_in fs
+columns_kept : (s : Setting) (t : Ty) (zs : List (List ValueData)) (table : List Filled) → AllKept s t zs table → AreColumns t table
+columns_kept s t zs [] h f i = absurd i
+columns_kept s t zs (g ∷ fs) h f (inl e) = subst (λ z. IsColumn t (column_of z)) (sym e) (record { state = h.0.state; options = h.0.options })
+columns_kept s t zs (g ∷ fs) h f (inr i) = columns_kept s t zs fs h.1 f i
 
-pub specs_read : (s : Setting) (t : Ty) (zs : List (List ValueData)) (table : List Filled) → AllKept s t zs table → aggregates_of (table_specs table) ≡ Some (aggregates_in table)
+pub specs_read : (s : Setting) (t : Ty) (zs : List (List ValueData)) (table : List Filled) → AllKept s t zs table → aggregates_of (table_specs table) ≡ Some (table_aggregates table)
 specs_read s t zs [] h = refl
 specs_read s t zs (f ∷ fs) h = ap₂ one_more (specs_are_read f.aggregate h.0.options) (specs_read s t zs fs h.1)
 
-fields_are : (s : Setting) (t : Ty) (zs : List (List ValueData)) (table : List Filled) → AllKept s t zs table → table_fields table ≡ state_fields (held_aggregates (aggregates_in table) t)
-fields_are s t zs [] h = refl
-fields_are s t zs (f ∷ fs) h =
-    ap (Rattle.vx_model.specs.Ty.field (name_of f) f.state) (fields_are s t zs fs h.1)
-    ∙ ap (λ o. state_fields (with_state f.aggregate o ++ held_aggregates (aggregates_in fs) t)) (sym h.0.state)
+pub type_is : (s : Setting) (t : Ty) (zs : List (List ValueData)) (table : List Filled) → AllKept s t zs table → table_type table ≡ stats_table t (table_aggregates table)
+type_is s t zs table h = table_type_is t table (columns_kept s t zs table h)
 
-pub type_is : (s : Setting) (t : Ty) (zs : List (List ValueData)) (table : List Filled) → AllKept s t zs table → table_type table ≡ stats_table_type t (aggregates_in table)
-type_is s t zs table h = ap (λ fs. struct fs false) (fields_are s t zs table h)
+pub names_are : (s : Setting) (t : Ty) (zs : List (List ValueData)) (table : List Filled) → AllKept s t zs table → names_of (held_aggregates (table_aggregates table) t) ≡ table_aggregates table
+names_are s t zs table h = names_held t table (columns_kept s t zs table h)
 
 -- ---- the rows of the table
 
@@ -273,12 +273,12 @@ back_in : (vs : List ValueData) → vals_in (vals_of vs) ≡ vs
 back_in [] = refl
 back_in (v ∷ vs) = ap (λ r. v ∷ r) (back_in vs)
 
-paired_is : (s : Setting) (t : Ty) (fs : List Filled) (z : List ValueData) → IsRecord s.hash t z (paired (aggregates_in fs) (zone_values s t fs z))
+paired_is : (s : Setting) (t : Ty) (fs : List Filled) (z : List ValueData) → IsRecord s.hash t z (paired (table_aggregates fs) (zone_values s t fs z))
 paired_is s t [] z = tt
 paired_is s t (f ∷ fs) z = (refl, paired_is s t fs z)
 
-pub record_is : (s : Setting) (t : Ty) (fs : List Filled) (z : List ValueData) → IsRecord s.hash t z (paired (aggregates_in fs) (fields_of (struct_value (vals_of (zone_values s t fs z)))))
-record_is s t fs z = subst (λ r. IsRecord s.hash t z (paired (aggregates_in fs) r)) (sym (back_in (zone_values s t fs z))) (paired_is s t fs z)
+pub record_is : (s : Setting) (t : Ty) (fs : List Filled) (z : List ValueData) → IsRecord s.hash t z (paired (table_aggregates fs) (fields_of (struct_value (vals_of (zone_values s t fs z)))))
+record_is s t fs z = subst (λ r. IsRecord s.hash t z (paired (table_aggregates fs) r)) (sym (back_in (zone_values s t fs z))) (paired_is s t fs z)
 
 pub length-table_rows : (s : Setting) (t : Ty) (fs : List Filled) (zs : List (List ValueData)) → length (table_rows s t fs zs) ≡ length zs
 length-table_rows s t fs [] = refl
@@ -287,7 +287,7 @@ length-table_rows s t fs (z ∷ zs) = ap suc (length-table_rows s t fs zs)
 -- ---- the filters of a record
 
 -- an entry of a record is of a column that is kept
-listed_kept : (s : Setting) (t : Ty) (zs : List (List ValueData)) (fs : List Filled) → AllKept s t zs fs → (a : Aggregate) (u : ValueData) (vs : List ValueData) → In (a, u) (paired (aggregates_in fs) vs)
+listed_kept : (s : Setting) (t : Ty) (zs : List (List ValueData)) (fs : List Filled) → AllKept s t zs fs → (a : Aggregate) (u : ValueData) (vs : List ValueData) → In (a, u) (paired (table_aggregates fs) vs)
     → (f : Filled) × Kept s t zs f × (a ≡ f.aggregate)
 listed_kept s t zs [] h a u vs i = absurd i
 listed_kept s t zs (f ∷ fs) h a u vs i = ⊎_elim (λ (e : (a, u) ≡ (f.aggregate, head_or null_value vs)). (f, h.0, ap (λ (z : Aggregate × ValueData). z.0) e)) (λ j. listed_kept s t zs fs h.1 a u (tail vs) j) i
@@ -315,11 +315,11 @@ some n h = grind (arith, nat_tests)
 
 -- a filter that a record stores contains each value of its zone that isn't null
 pub filter_holds : (s : Setting) → SmallHash s.hash → (t : Ty) (zs : List (List ValueData)) (fs : List Filled) → AllKept s t zs fs → (z : List ValueData) → AllValues t z → (vs : List ValueData)
-    → IsRecord s.hash t z (paired (aggregates_in fs) vs) → (blocks : ℕ) (stored : List ℕ) → In (bloom blocks, bytes_value stored) (paired (aggregates_in fs) vs)
+    → IsRecord s.hash t z (paired (table_aggregates fs) vs) → (blocks : ℕ) (stored : List ℕ) → In (bloom blocks, bytes_value stored) (paired (table_aggregates fs) vs)
     → (v : ValueData) → In v z → (v ≡ null_value → ⊥) → may_contain_hash (filter_at stored) (value_hash s.hash t v) ≡ true
 filter_holds s small t zs fs h z all vs rec blocks stored i v j n =
     let k : (f : Filled) × Kept s t zs f × (bloom blocks ≡ f.aggregate) = listed_kept s t zs fs h (bloom blocks) (bytes_value stored) vs i in
     let options : has_options (bloom blocks) ≡ true = ap has_options k.2 ∙ k.1.options in
     let state : state_type (bloom blocks) t ≡ Some k.0.state = ap (λ a. state_type a t) k.2 ∙ k.1.state in
     (stored_filter_contains s.hash t blocks z stored small (filter_order t k.0.state state) all (some blocks (front (nat_lt 0 blocks) (nat_lt blocks (2 ^ 32)) options))
-    (few blocks (back (nat_lt 0 blocks) (nat_lt blocks (2 ^ 32)) options)) (value_in s.hash t z (paired (aggregates_in fs) vs) rec (bloom blocks) (bytes_value stored) i)).contains v j n
+    (few blocks (back (nat_lt 0 blocks) (nat_lt blocks (2 ^ 32)) options)) (value_in s.hash t z (paired (table_aggregates fs) vs) rec (bloom blocks) (bytes_value stored) i)).contains v j n

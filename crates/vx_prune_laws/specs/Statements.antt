@@ -9,8 +9,9 @@ use Rattle.vx_layout_spec.specs.Rows.{rows}
 use Rattle.vx_bloom_spec.specs.Bytes.{filter_at}
 use Rattle.vx_bloom_spec.specs.Values.{value_hash, may_contain_hash}
 use Rattle.vx_aggregate_spec.specs.Aggregate.{bloom}
+use Rattle.vx_aggregate_spec.specs.Tables.{stats_table}
 use Rattle.vx_zone_spec.specs.Pruning.{Predicate, says, predicate_fits}
-use Rattle.vx_zone_spec.specs.ZoneMap.{ZoneMap, stats_table_type, zones_fit, zone_rows, record_of, skips}
+use Rattle.vx_zone_spec.specs.ZoneMap.{ZoneMap, zones_fit, zone_rows, record_of, skips}
 use Rattle.vx_zone_spec.specs.Statements.{AllValues, SmallHash, IsRecord}
 use Rattle.vx_plan.specs.PlanData.{Setting}
 use Rattle.vx_strategy_spec.specs.StrategyData.{StrategyData}
@@ -31,7 +32,7 @@ pub record IsPrunable {A : Type 0} (s : Setting) (look : A → Option (List ℕ)
   pub row_count : length values ≡ n
   pub of_type : AllValues t values
   -- the table has the type of these aggregates, and a row for each of the zones, which are all zones of the rows
-  pub zones_type : layout_type zones ≡ stats_table_type t map.aggregates
+  pub zones_type : layout_type zones ≡ stats_table t map.aggregates
   pub all_zones : IsZoneCount n zone_len (length map.zones)
   pub zones_fit : zones_fit zone_len n (length map.zones) ≡ true
   pub zone_rows : (z : ℕ) → z < length map.zones → zone_rows map z ≡ length (zone_at zone_len values z)

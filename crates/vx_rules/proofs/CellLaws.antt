@@ -11,6 +11,7 @@ use Rattle.vx_model.specs.CellData.{CellData, CellList, null_cell, bool_cell, in
 use Rattle.vx_model.specs.ChunkData.{ChunkData, ChunkList, plain_piece, constant_piece, dict_piece, chunked_piece, list_piece, struct_piece, extension_piece, no_pieces, part, pieces_in, piece_type, cells, joined_cells, each_cells, list_rows, struct_rows, picked, cell_at, is_code, is_code_type, is_dict_type, is_simple, is_chunked, are_offsets, are_flags, validity_size, has_elements, has_storage, are_parts, match_fields, has_fields, is_sound, are_sound}
 use Rattle.vx_model.proofs.CellViews.{items_trees_of}
 use Rattle.vx_layout_spec.specs.Real.{is_length, is_real_cell, are_real_cells, is_real, are_real, Whole, Of}
+use Rattle.vx_layout_spec.proofs.RealLaws.{real_trees_of}
 
 -- Cells that a plain chunk of the type can hold
 pub record Fine (t : Ty) (cs : List CellData) : Type 0 where
@@ -62,10 +63,6 @@ all_drop f (suc n) (x ∷ xs) g = all_drop f n xs (right_true (f x) (all_by f xs
 all_replicate : {X : Type 0} (f : X → Bool) (n : ℕ) (x : X) → f x ≡ true → all_by f (replicate n x) ≡ true
 all_replicate f zero x g = refl
 all_replicate f (suc n) x g = both_true (f x) (all_by f (replicate n x)) g (all_replicate f n x g)
-
-pub real_trees_of : (cs : List CellData) → are_real_cells (trees_of cs) ≡ all_by is_real_cell cs
-real_trees_of [] = refl
-real_trees_of (c ∷ cs) = ap (λ b. is_real_cell c && b) (real_trees_of cs)
 
 -- ---- dictionaries
 

@@ -14,7 +14,7 @@ use Rattle.vx_layout_spec.specs.Real.{Of, Whole, is_real_cell, are_real_cells, i
 use Rattle.vx_layout_spec.specs.Rows.{zipped, kept, kept_rows}
 use Rattle.vx_rules.specs.Columns.{struct_columns}
 use Rattle.vx_layout_spec.specs.Parts.{flag_of, validity_piece, first_of, others_of, plain_fields, field_pieces}
-use Rattle.vx_rules.proofs.CellLaws.{Fine, left_true, right_true, both_true, all_append, cells_fine, plain_of, of_type, no_last, ColumnsFit, real_trees_of}
+use Rattle.vx_rules.proofs.CellLaws.{Fine, left_true, right_true, both_true, all_append, cells_fine, plain_of, of_type, no_last, ColumnsFit}
 
 -- ---- structs: the fields' cells
 

@@ -7,7 +7,7 @@ use Rattle.vx_model.specs.declared.encoding.EncodingId.{EncodingId}
 use Rattle.vx_model.specs.Ty.{Ty}
 use Rattle.vx_model.specs.ChunkData.{ChunkData}
 use Rattle.vx_segment_writer.specs.Segment.{encode, refused, bytes_unless, segment_bytes}
-use Rattle.vx_path.specs.Path.{Eof, inside, next}
+use Rattle.vx_path.specs.Path.{Eof, inside, next, root_eof}
 use Rattle.vx_layout_spec.specs.LayoutTree.{LayoutData, lays_of, gathered, renamed, each_renamed}
 use Rattle.vx_layout_spec.specs.Rows.{rows, all_there}
 use Rattle.vx_segment_reader.specs.Codec.{segment_codec}
@@ -15,7 +15,7 @@ use Rattle.vx_plan.specs.PlanData.{Setting, Plan, Fault, Item, row_total}
 use Rattle.vx_strategy_spec.specs.StrategyData.{StrategyData, FlatOptions, flat, chunked}
 use Rattle.vx_plan.specs.ChunkedNode.{whole, chunk_plans, chunked_numbers, all_layouts}
 use Rattle.vx_plan.specs.FlatNode.{flat_node, refused_at}
-use Rattle.vx_plan.specs.SourcePlan.{source_plan, taken_plan, source_values, of_schema, batch_items, root_eof, with_root}
+use Rattle.vx_plan.specs.SourcePlan.{source_plan, taken_plan, source_values, of_schema, batch_items, with_root}
 use Rattle.vx_plan.specs.Number.{segments, numbered, number_of, segment_at}
 use Rattle.vx_plan.specs.InOrder.{InOrder, ChunksInOrder, batch_rows, batch_segments, batch_refusals}
 use Rattle.vx_plan.specs.Valid.{Fit, Valid}

@@ -3,7 +3,8 @@
 ghost use Rattle.std.specs.Prelude.{◌≡◌, ◌≤◌, length, IfOk};
 ghost use Rattle.vx_session.specs.Ids.{is_listed as listed, are_distinct as distinct, place_of};
 
-use std::alloc::AllocError;
+use std::alloc::{AllocError, Global};
+use std::collections::BTreeSet;
 use std::marker::Model;
 use vx_model::Text;
 
@@ -25,14 +26,14 @@ impl Model for LayoutContext {
 }
 
 impl LayoutContext {
-    ghost use Rattle.std.specs.Prelude.{◌≡◌, IsTrue, option_map};
+    ghost use Rattle.std.specs.Prelude.{◌≡◌, IsTrue, IfOk, option_map};
     ghost use Rattle.vx_session.specs.Ids.{is_context, id_at, place_of};
 
-    /// Whether the ids are distinct and at most 65,536.
-    pub fn is_context(ids: &[Text]) -> bool
-        ensures { result ≡ is_context ids.now }
+    /// Whether the ids are distinct and at most 65,536. Takes time by `n log n`, and memory for a set of them.
+    pub fn is_context(alloc: Global, ids: &[Text]) -> Result<bool, AllocError>
+        ensures { IfOk result (λ is. is ≡ is_context ids.now) }
     {
-        ids.len() <= 65_536 && are_distinct(ids)
+        Ok(ids.len() <= 65_536 && are_distinct(alloc, ids)?)
     }
 
     /// `is_context` tests the condition. Takes no memory.
@@ -92,16 +93,17 @@ pub(crate) fn copy_ids(ids: &Vec<Text>) -> Result<Vec<Text>, AllocError>
     Ok(copies)
 }
 
-#[tactic(auto, using(crate::proofs::Lists::distinct_rules))]
-fn are_distinct(ids: &[Text]) -> bool
-    ensures { result ≡ distinct ids.now }
+#[tactic(auto, using(crate::proofs::Lists::take_rules))]
+fn are_distinct(alloc: Global, ids: &[Text]) -> Result<bool, AllocError>
+    ensures { IfOk result (λ apart. apart ≡ distinct ids.now) }
 {
-    for i in 0..ids.len() {
-        if is_listed(&ids[i + 1..], &ids[i]) {
-            return false;
+    let mut before = BTreeSet::new(alloc);
+    for id in ids {
+        if !before.insert(id.as_str())? {
+            return Ok(false);
         }
     }
-    true
+    Ok(true)
 }
 
 #[tactic(auto, using(crate::proofs::Lists::listed_rules))]

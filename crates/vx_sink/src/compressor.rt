@@ -1,8 +1,9 @@
-ghost use Rattle.std.specs.Prelude.{◌≡◌, ℕ, IfOk, IsTrue};
-ghost use Rattle.vx_model.specs.ChunkData.{ChunkData, is_sound};
+ghost use Rattle.std.specs.Prelude.{◌≡◌, ℕ, IfOk};
+ghost use Rattle.vx_model.specs.ChunkData.{ChunkData};
+ghost use Rattle.vx_layout_spec.specs.Real.{Whole, SameRows};
 ghost use Rattle.vx_chunk.specs.ChunkView.{piece};
 ghost use Rattle.vx_fault.specs.Faults.{Called};
-ghost use Rattle.vx_sink.specs.Compressor.{compress_failed, SameRows};
+ghost use Rattle.vx_sink.specs.Compressor.{compress_failed};
 
 use std::alloc::{AllocError, AllocFailed};
 use thiserror::Error;
@@ -56,6 +57,6 @@ pub trait CompressorPlugin: Fallible {
         ensures told { Called (Self.faults self.old) (Self.faults self.new) (Self.may_fail self.old) (Self.may_fail self.new)
             (Self.must_fail self.old) (Self.must_fail self.new) (compress_failed result) };
 
-    /// An image is a whole chunk of the same type and row values.
-    ghost keeps: { (k which : ℕ) (p : ChunkData) → IsTrue (is_sound p) → SameRows p (image k which p) };
+    /// The image of a whole chunk is a whole chunk of the same type and row values.
+    ghost keeps: { (k which : ℕ) (p : ChunkData) → Whole p → SameRows p (image k which p) };
 }

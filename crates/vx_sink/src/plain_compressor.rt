@@ -1,6 +1,6 @@
 ghost use Rattle.std.specs.Prelude.{◌≡◌, ℕ, IsTrue};
 ghost use Rattle.vx_fault.specs.Fails.{fails_at};
-ghost use Rattle.vx_sink.specs.Compressor.{same_rows};
+ghost use Rattle.vx_layout_spec.specs.Real.{same_rows};
 
 use crate::compressor::{CompressError, CompressorPlugin};
 use vx_chunk::Chunk;
@@ -39,7 +39,7 @@ impl CompressorPlugin for PlainCompressor {
 
     ghost image = { λ _ _ p. p };
 
-    ghost keeps = { λ _ _ p sound. same_rows p sound };
+    ghost keeps = { λ _ _ p whole. same_rows p whole };
 
     fn compress_chunk(&mut self, _which: u32, chunk: &Chunk) -> Result<Chunk, CompressError> {
         if self.fails.call() {

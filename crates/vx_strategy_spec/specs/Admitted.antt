@@ -1,22 +1,13 @@
 -- The strategies that constructors make.
-use Rattle.std.specs.Prelude.{ℕ, ◌^◌, ◌&&◌, nat_lt, not, bytes_eq, Bool, true, false, List, [], ◌∷◌, Option, Some, None}
+use Rattle.std.specs.Prelude.{ℕ, ◌^◌, ◌&&◌, nat_lt, not, Bool, true, List, Option, Some, None}
 use Rattle.vx_model.specs.Words.{all_by}
+pub use Rattle.vx_field_path.specs.Paths.{is_root, overlaps}
 use Rattle.vx_aggregate_spec.specs.Aggregate.{Aggregate, has_options}
 use Rattle.vx_strategy_spec.specs.StrategyData.{StrategyData, StrategyList, Wraps, ZonedOptions, Grouping, by_blocks, by_bytes, into_one, flat, chunked, grouped, compressed, coded, zoned, structured, listed, tabled, no_ways, way_at, no_wraps, wrap_grouped, wrap_zoned}
-
--- one of the two is a prefix of the other
-abbrev pub overlaps : List (List ℕ) → List (List ℕ) → Bool
-overlaps [] q = true
-overlaps (a ∷ p) [] = true
-overlaps (a ∷ p) (b ∷ q) = bytes_eq a b && overlaps p q
 
 abbrev pub overlaps_none : List (List ℕ) → StrategyList → Bool
 overlaps_none p no_ways = true
 overlaps_none p (way_at q w ws) = not (overlaps p q) && overlaps_none p ws
-
-abbrev pub is_root : List (List ℕ) → Bool
-is_root [] = true
-is_root (a ∷ p) = false
 
 -- no path of an override is the root, and none overlaps another
 abbrev pub are_apart : StrategyList → Bool

@@ -1,3 +1,4 @@
 pub mod StrategyData
 pub mod Walk
 pub mod Admitted
+pub mod Dispatch

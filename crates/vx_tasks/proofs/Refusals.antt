@@ -1,6 +1,6 @@
 -- A struct of flat columns refuses its second batch, under every schedule.
 use Rattle.std.proofs.Common.{◌≡◌, ℕ, zero, suc, ◌+◌, ◌<◌, true, false, List, [], ◌∷◌, ◌++◌, length, refl, sym, ap, ◌∙◌, arith}
-use Rattle.vx_path.specs.Path.{Eof, inside, next, under}
+use Rattle.vx_path.specs.Path.{Eof, inside, next, under, root_eof}
 use Rattle.vx_path.specs.Sort.{sort}
 use Rattle.vx_tasks.specs.Task.{Forest}
 use Rattle.vx_tasks.specs.State.{Counts, left, pending}
@@ -9,7 +9,7 @@ use Rattle.vx_tasks.specs.Run.{Step, run, end_of, moves_of, written, work, Leads
 use Rattle.vx_tasks.specs.Rules.{KeepsRules, KeepsOrder, NoneRefuses, appends}
 use Rattle.vx_tasks.specs.Nodes.{batch_paths, columns_task, column_stream}
 use Rattle.vx_tasks.specs.Good.{Good, ColumnKids}
-use Rattle.vx_tasks.specs.Runs.{struct_of_flat, flat_columns, first_batch, root_eof}
+use Rattle.vx_tasks.specs.Runs.{struct_of_flat, flat_columns, first_batch}
 use Rattle.vx_tasks.proofs.Scripts.{nil_left, no_true}
 use Rattle.vx_tasks.proofs.Runs.{run_leads, leads_left, at_the_end, as_many}
 use Rattle.vx_tasks.proofs.Sorted.{numbered_run}

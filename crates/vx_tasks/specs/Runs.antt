@@ -1,6 +1,6 @@
 -- Whole machines, and what their runs are.
 use Rattle.std.specs.Prelude.{◌≡◌, ℕ, zero, suc, ◌+◌, ◌*◌, ◌<◌, true, false, List, [], ◌∷◌, length, take, drop}
-use Rattle.vx_path.specs.Path.{Eof, inside, next, under}
+use Rattle.vx_path.specs.Path.{Eof, inside, next, under, root_eof}
 use Rattle.vx_tasks.specs.Task.{Forest, Kind}
 use Rattle.vx_tasks.specs.Task.Prompt.{Batch, End, Close}
 use Rattle.vx_tasks.specs.Task.Kind.{Free, Take, TakeEnd, Put, Append, Join}
@@ -9,13 +9,10 @@ use Rattle.vx_tasks.specs.State.Counts.{Zeros}
 use Rattle.vx_tasks.specs.Run.{Note, run, moves_of, written, trace, ready_counts, work, ready}
 use Rattle.vx_tasks.specs.Nodes.{batch_paths, machine, chunked_task, flat_task, flat_kids, columns_task, chunked_columns, column_stream}
 
--- where a run begins: batches at [0, 0], [0, 1], .., and the root's eof path [1]
+-- where a run begins: batches at [0, 0], [0, 1], ..
 
 abbrev pub first_batch : Eof
 first_batch = record { stem = 0 ∷ []; last = 0 }
-
-abbrev pub root_eof : Eof
-root_eof = record { stem = []; last = 1 }
 
 -- n batches into chunks that are each one flat segment
 abbrev pub chunks_of_flat : Eof → Eof → ℕ → Forest

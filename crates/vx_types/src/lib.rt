@@ -1,7 +1,7 @@
 //! Types, cells, chunks and the segments that chunks are written as: the names that callers use.
 #![tactic(auto)]
 
-pub use vx_chunk::{Chunk, ChunkError, Node, conditions};
+pub use vx_chunk::{Chunk, ChunkError, conditions};
 pub use vx_model::{
     ArrayContext, Blob, Cell, ContextError, DType, EncodingId, ExtDType, FieldName, IdTooLarge,
     Nullability, PType, SegmentId, StructField, StructFields, Text, Value,

@@ -2,12 +2,12 @@
 use Rattle.std.proofs.Common.{◌≡◌, ℕ, suc, ◌+◌, ◌<◌, ◌^◌, true, false, List, [], ◌∷◌, ◌++◌, length, Option, Some, None, refl, ap, arith}
 use Rattle.vx_model.specs.Ty.{Ty}
 use Rattle.vx_model.specs.ChunkData.{ChunkData, cells}
-use Rattle.vx_path.specs.Path.{Eof, next}
+use Rattle.vx_path.specs.Path.{Eof, next, root_eof}
 use Rattle.vx_plan.specs.PlanData.{Setting, rows_in, row_total, row_totals}
 use Rattle.vx_strategy_spec.specs.StrategyData.{FlatOptions, flat, chunked}
 use Rattle.vx_plan.specs.FlatNode.{length_of}
 use Rattle.vx_plan.specs.ChunkedNode.{chunk_plans, chunked_numbers, all_numbers, all_reserved}
-use Rattle.vx_plan.specs.SourcePlan.{plan, source_plan, batch_items, root_eof}
+use Rattle.vx_plan.specs.SourcePlan.{plan, source_plan, batch_items}
 use Rattle.vx_plan.specs.InOrder.{batch_rows}
 use Rattle.vx_plan.specs.Valid.{Fit}
 use Rattle.vx_plan.proofs.PlanLists.{fit_both, fit_totals}

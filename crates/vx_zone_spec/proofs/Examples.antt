@@ -7,11 +7,12 @@ use Rattle.vx_model.specs.declared.ptype.PType.TheVariants.{I32, I64, U64}
 use Rattle.vx_model.specs.Ty.{primitive, list, field, no_fields, struct}
 use Rattle.vx_model.specs.ValueData.{ValueData, null_value, int_value, text_value, bytes_value, list_value, vals_of}
 use Rattle.vx_aggregate_spec.specs.Aggregate.{Column, maximum, minimum, null_count, bounded_maximum, bloom, spec, aggregate_of, held_aggregates, default_aggregates, sum_of_type}
+use Rattle.vx_aggregate_spec.specs.Tables.{stats_table}
 use Rattle.vx_zone_spec.specs.Bounds.{upper_bound, lower_bound}
 use Rattle.vx_zone_spec.specs.Record.{zone_record, exact_sum, sum_value, aggregate_value}
 use Rattle.vx_zone_spec.specs.ZoneTable.{Filled, kept_columns, table_fields}
 use Rattle.vx_zone_spec.specs.Pruning.{Predicate, eq, not_eq, gt, lt, is_not_null, both, negated, falsified, ZoneRecord, predicate_fits}
-use Rattle.vx_zone_spec.specs.ZoneMap.{ZoneMap, zone_rows, zones_fit, stats_table_type}
+use Rattle.vx_zone_spec.specs.ZoneMap.{ZoneMap, zone_rows, zones_fit}
 use Rattle.vx_bloom_spec.specs.Blocks.{mask, chosen_bit, or_lanes, no_lanes, covers}
 use Rattle.vx_bloom_spec.specs.Bytes.{filter_bytes, block_bytes, number_bytes, filter_at, block_at, number_at}
 use Rattle.vx_bloom_spec.specs.Filter.{filter_of, or_all, may_contain}
@@ -201,6 +202,6 @@ unknown = refl
 
 -- ---- the type of a table
 
-stats_type : stats_table_type (primitive I32 false) (maximum ∷ bounded_maximum 64 ∷ null_count ∷ [])
+stats_type : stats_table (primitive I32 false) (maximum ∷ bounded_maximum 64 ∷ null_count ∷ [])
     ≡ struct (field (codes "max") (primitive I32 true) (field (codes "null_count") (primitive U64 true) no_fields)) false
 stats_type = refl

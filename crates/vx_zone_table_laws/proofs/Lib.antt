@@ -1,2 +1,3 @@
 pub mod StateCells
 pub mod WholeTables
+pub mod TableTypes

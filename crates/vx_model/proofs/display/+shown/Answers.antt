@@ -10,5 +10,5 @@ write_fields-loop-i-preserved g b c plain =
     let two = c.write_type.ensures one.plain (search rules) in (
       _,
       has_written_append _ _ _ _ _ _ (has_written_append _ _ _ _ _ _ wrote one) two,
-      rw c.as_str.ensures (field_written _ c.args.fields.now c.loop-i.i c.index-fields-i.result done _ c.loop-i-test.true c.index-fields-i.is so_far),
+      rw c.as_str.ensures.text (field_written _ c.args.fields.now c.loop-i.i c.index-fields-i.result done _ c.loop-i-test.true c.index-fields-i.is so_far),
     )

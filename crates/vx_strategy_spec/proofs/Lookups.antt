@@ -6,7 +6,7 @@ use Rattle.std.specs.Cmp.Lexicographic.{bytes_decides}
 use Rattle.vx_model.specs.Ty.{Ty, Tys, no_fields, field}
 use Rattle.vx_strategy_spec.specs.StrategyData.{StrategyData, StrategyList, Wraps, no_ways, way_at}
 use Rattle.vx_strategy_spec.specs.Walk.{Nodes, same_names, find, walk, walk_named}
-use Rattle.vx_dispatch.specs.Dispatch.{override, below, field_writer, field_writers}
+use Rattle.vx_strategy_spec.specs.Dispatch.{override, below, field_writer, field_writers}
 
 -- what is made of a strategy, if there is one
 abbrev pub made : {A : Type 0} → Nodes A → Option StrategyData → Option (Ty → A)

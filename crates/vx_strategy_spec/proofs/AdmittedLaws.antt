@@ -6,7 +6,7 @@ use Rattle.std.specs.Cmp.Lexicographic.{bytes_decides}
 use Rattle.vx_model.specs.Ty.{Ty, Tys, boolean, primitive, utf8, binary, list, struct, extension, no_fields, field}
 use Rattle.vx_strategy_spec.specs.StrategyData.{StrategyData, StrategyList, Wraps, flat, chunked, grouped, compressed, coded, zoned, structured, listed, tabled, no_ways, way_at, no_wraps, wrap_grouped, wrap_zoned}
 use Rattle.vx_strategy_spec.specs.Admitted.{overlaps, overlaps_none, are_apart, is_admitted, are_admitted, wraps_admitted, is_admitted_grouping, is_admitted_zoned}
-use Rattle.vx_dispatch.specs.Dispatch.{override, below, given_or, field_writer, field_writers, wrapped, dispatch}
+use Rattle.vx_strategy_spec.specs.Dispatch.{override, below, given_or, field_writer, field_writers, wrapped, dispatch}
 
 front : (a b : Bool) → (a && b) ≡ true → a ≡ true
 front true b e = refl
@@ -21,7 +21,7 @@ hold a b e f = rw (e, f) refl
 
 -- ---- overrides
 
-below_admitted : (name : List ℕ) (ws : StrategyList) → are_admitted ws ≡ true → are_admitted (below name ws) ≡ true
+pub below_admitted : (name : List ℕ) (ws : StrategyList) → are_admitted ws ≡ true → are_admitted (below name ws) ≡ true
 below_admitted name no_ways h = refl
 below_admitted name (way_at [] w ws) h = below_admitted name ws (back (is_admitted w) (are_admitted ws) h)
 below_admitted name (way_at (a ∷ []) w ws) h = below_admitted name ws (back (is_admitted w) (are_admitted ws) h)
@@ -65,7 +65,7 @@ below_apart_from name b path (way_at (c ∷ d ∷ q) w ws) h =
         (no_clash true name c (b ∷ path) (d ∷ q) ((bytes_decides name c).0 e) (front (not (overlaps (name ∷ b ∷ path) (c ∷ d ∷ q))) (overlaps_none (name ∷ b ∷ path) ws) h)) r
     go false e r = r
 
-below_apart : (name : List ℕ) (ws : StrategyList) → are_apart ws ≡ true → are_apart (below name ws) ≡ true
+pub below_apart : (name : List ℕ) (ws : StrategyList) → are_apart ws ≡ true → are_apart (below name ws) ≡ true
 below_apart name no_ways h = refl
 below_apart name (way_at [] w ws) h = absurd (true≢false (sym h))
 below_apart name (way_at (a ∷ []) w ws) h = below_apart name ws (back (overlaps_none (a ∷ []) ws) (are_apart ws) h)
