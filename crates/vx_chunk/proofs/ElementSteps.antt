@@ -1,6 +1,6 @@
 -- The elements of each encoding's rows.
-use Rattle.std.proofs.Common.{◌≡◌, ℕ, zero, suc, ◌+◌, ◌-◌, ◌*◌, ◌<◌, ◌≤◌, ◌&&◌, Bool, true, false, List, [], ◌∷◌, ◌++◌, length, take, drop, get_or, map, refl, ap, sym, ◌∙◌, arith, append_assoc, append-nil, length-append, Box}
-use Rattle.std.specs.Prelude.{replicate}
+use Rattle.std.proofs.Common.{◌≡◌, ℕ, zero, suc, ◌+◌, ◌-◌, ◌*◌, ◌<◌, ◌≤◌, ◌&&◌, Bool, true, false, Option, Some, None, List, [], ◌∷◌, ◌++◌, length, take, drop, get_or, map, refl, ap, sym, ◌∙◌, arith, eqb-true, append_assoc, append-nil, length-append, Box}
+use Rattle.std.specs.Prelude.{replicate, ◌==◌, ◌^◌}
 use Rattle.std.proofs.lemmas.List.{drop_more, length-map, length-replicate}
 use Rattle.std.specs.Global.{Vec, Global}
 use Rattle.vx_model.specs.declared.dtype.DType.{DType}
@@ -8,25 +8,27 @@ use Rattle.vx_chunk.specs.declared.node.Node.{Node}
 use Rattle.vx_chunk.specs.declared.node.Node.TheVariants as nd
 use Rattle.vx_chunk.specs.ChunkView.{node_piece}
 use Rattle.vx_model.specs.declared.cell.Cell.{Cell}
+use Rattle.vx_model.specs.TyView.{ty}
 use Rattle.vx_model.specs.TreeView.{tree}
 use Rattle.vx_model.specs.Words.{head_or, tail, all_by}
-use Rattle.vx_model.specs.Ty.{Ty, boolean, primitive, utf8, binary, list, struct, extension, is_list}
+use Rattle.vx_model.specs.Ty.{Ty, boolean, primitive, utf8, binary, list, struct, extension, is_list, list_item}
 use Rattle.vx_model.specs.CellData.{CellData, null_cell, bool_cell, int_cell, text_cell, bytes_cell, list_cell, struct_cell, items, fits, flag_fits}
-use Rattle.vx_model.specs.ChunkData.{ChunkData, pieces_of, piece_type, is_sound, cells, joined_cells, list_rows, struct_rows, picked, is_dict_type}
+use Rattle.vx_model.specs.ChunkData.{ChunkData, plain_piece, constant_piece, dict_piece, chunked_piece, list_piece, struct_piece, extension_piece, pieces_of, piece_type, is_sound, cells, joined_cells, list_rows, struct_rows, picked, is_dict_type, has_elements}
 use Rattle.vx_model.proofs.CellViews.{items_trees_of}
 use Rattle.vx_chunk_cells.specs.Window.{window, last_of, Within, counted}
 use Rattle.vx_layout_spec.specs.Parts.{elements_of, all_elements, ends}
 use Rattle.vx_chunk_cells.proofs.Tests.{left_true, right_true}
-use Rattle.vx_chunk_cells.proofs.Windows.{window-none, length-window}
+use Rattle.vx_chunk_cells.proofs.Windows.{window-all, window-none, length-window}
+use Rattle.vx_chunk_cells.proofs.ListSteps.{first_is}
 use Rattle.vx_chunk_cells.proofs.CountSteps.{all_elements-append, ends-append, length-all_elements-replicate}
-use Rattle.vx_chunk.specs.Parts.{element_type}
+use Rattle.vx_chunk.specs.Parts.{element_type, is_plain, cover, keeps_elements}
 use Rattle.vx_chunk.proofs.Depths.{depth_in}
 use Rattle.vx_chunk.proofs.Lengths.{length-struct_rows, length-list_rows, drop_joined}
 use Rattle.vx_chunk.proofs.FlagSteps.{leaf_elements, leaf_picked}
-use Rattle.vx_chunk.proofs.CellsFit.{all_append, cells_fit}
+use Rattle.vx_chunk.proofs.CellsFit.{all_append, cells_fit, cells_short, of_type}
 use Rattle.vx_chunk.proofs.NodeSound.{in_dict, in_list}
 use Rattle.vx_chunk.proofs.Offsets.{offsets_within}
-use Rattle.vx_chunk.proofs.RowGoals.{dict_cells, list_cells, struct_cells}
+use Rattle.vx_chunk.proofs.RowGoals.{dict_cells, list_cells, struct_cells, last_at}
 use Rattle.vx_chunk.proofs.SizeLaws.{joined_spans}
 
 -- ---- no lists
@@ -156,3 +158,84 @@ elements_fit (extension tag t) cs l h = cc
 pub ruleset element_rules = (append_assoc, append-nil, length-all_elements-replicate, struct_elements, struct_ends, length-struct_rows, length-replicate, drop_counts, drop_joined, depth_in)
 
 pub ruleset span_rules = (append_assoc, append-nil)
+
+-- ---- a list's type is told
+
+pub item_told : (t u : Ty) → Some u ≡ list_item t → u ≡ element_type t
+item_told (list t n) u e = cc
+item_told (boolean n) u e = cc
+item_told (primitive p n) u e = cc
+item_told (utf8 n) u e = cc
+item_told (binary n) u e = cc
+item_told (struct fs n) u e = cc
+item_told (extension tag t) u e = cc
+
+pub no_item_told : (t : Ty) → None ≡ list_item t → is_list t ≡ true → ⊥
+no_item_told (list t n) e h = cc
+no_item_told (boolean n) e h = cc
+no_item_told (primitive p n) e h = cc
+no_item_told (utf8 n) e h = cc
+no_item_told (binary n) e h = cc
+no_item_told (struct fs n) e h = cc
+no_item_told (extension tag t) e h = cc
+
+pub ruleset type_rules = (item_told, no_item_told)
+
+-- ---- elements that stand just as rows have them
+
+plain_is : (e : ChunkData) → is_plain e ≡ true → e ≡ plain_piece (piece_type e) (cells e)
+plain_is (plain_piece t cs) h = refl
+plain_is (constant_piece t c n) h = cc
+plain_is (dict_piece codes values) h = cc
+plain_is (chunked_piece t ps) h = cc
+plain_is (list_piece t e os valid) h = cc
+plain_is (struct_piece t ps valid n) h = cc
+plain_is (extension_piece t p) h = cc
+
+elements_typed : (t e : Ty) → has_elements t e ≡ true → e ≡ element_type t
+elements_typed (list t n) e h = sym (of_type t e h)
+elements_typed (boolean n) e h = cc
+elements_typed (primitive p n) e h = cc
+elements_typed (utf8 n) e h = cc
+elements_typed (binary n) e h = cc
+elements_typed (struct fs n) e h = cc
+elements_typed (extension tag t) e h = cc
+
+counted_from_none : (os : List ℕ) → counted 0 0 os ≡ os
+counted_from_none [] = refl
+counted_from_none (o ∷ os) = let e : 0 + (o - 0) ≡ o = omega arith in cc (e, counted_from_none os)
+
+from_none : (os : List ℕ) → 1 ≤ length os → head_or 0 os ≡ 0 → os ≡ 0 ∷ tail os
+from_none [] some h = absurd (omega arith)
+from_none (o ∷ os) some h = ap (λ k. k ∷ os) h
+
+pub record Kept (t : Ty) (e : ChunkData) (os : List ℕ) (rows : List CellData) : Type 0 where
+  pub elements : e ≡ plain_piece (element_type t) (all_elements rows)
+  pub offsets : os ≡ 0 ∷ ends 0 rows
+  pub short : length (all_elements rows) < 2 ^ 64
+
+pub kept_elements : (n : Node) (t : DType) (es : Box ChunkData Global) (offsets : Vec ℕ) (valid : Vec Bool) → n ≡ nd.List t es offsets valid → is_sound (node_piece n) ≡ true
+    → keeps_elements (node_piece n) ≡ true → Kept (piece_type (node_piece n)) es.value offsets.items (cells (node_piece n))
+kept_elements n t es offsets valid e s k =
+    let os : List ℕ = offsets.items in
+    let p : ChunkData = es.value in
+    let sound = in_list n t es offsets valid e s in
+    let kept : (is_plain p && cover (length (cells p)) os) ≡ true = rw e at k in
+    let covers : cover (length (cells p)) os ≡ true = right_true (is_plain p) _ kept in
+    let first : head_or 0 os ≡ 0 = eqb-true (head_or 0 os) 0 (left_true (head_or 0 os == 0) _ covers) in
+    let last : last_of os ≡ length (cells p) = eqb-true (last_of os) (length (cells p)) (right_true (head_or 0 os == 0) _ covers) in
+    let parts = list_parts_are n t es offsets valid e s in
+    let span : window (head_or 0 os) (last_of os) (cells p) ≡ cells p = rw (first, last) (window-all (length (cells p)) (cells p) refl) in
+    let all : all_elements (cells (node_piece n)) ≡ cells p = parts.0 ∙ span in
+    let typed : piece_type p ≡ element_type (ty t) = elements_typed (ty t) (piece_type p) sound.elements in
+    let own : piece_type (node_piece n) ≡ ty t = rw e refl in
+    let same : plain_piece (piece_type p) (cells p) ≡ plain_piece (element_type (piece_type (node_piece n))) (all_elements (cells (node_piece n))) = rw (typed, all, own) refl in
+    let tails : counted 0 (head_or 0 os) (tail os) ≡ tail os = rw first (counted_from_none (tail os)) in
+    let ends_are : ends 0 (cells (node_piece n)) ≡ tail os = parts.1 0 ∙ tails in
+    record {
+      elements = plain_is p (left_true (is_plain p) _ kept) ∙ same;
+      offsets = from_none os sound.some first ∙ ap (λ (r : List ℕ). 0 ∷ r) (sym ends_are);
+      short = rw all (cells_short p sound.elements_sound);
+    }
+
+pub ruleset cover_rules = (first_is, last_at)

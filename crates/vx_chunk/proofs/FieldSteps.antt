@@ -1,11 +1,11 @@
 -- Columns of structs, field by field.
-use Rattle.std.proofs.Common.{◌≡◌, ℕ, zero, suc, ◌+◌, ◌<◌, ◌≤◌, ◌&&◌, Bool, true, false, List, [], ◌∷◌, ◌++◌, length, drop, get_or, map, refl, ap, sym, ◌∙◌, arith, append_assoc, eqb-true, eq-eqb}
+use Rattle.std.proofs.Common.{◌≡◌, ℕ, zero, suc, ◌+◌, ◌<◌, ◌≤◌, ◌&&◌, Bool, true, false, Option, Some, None, List, [], ◌∷◌, ◌++◌, length, drop, get_or, map, refl, ap, sym, ◌∙◌, arith, append_assoc, eqb-true, eq-eqb}
 use Rattle.std.specs.Global.{Vec}
 use Rattle.std.proofs.lemmas.List.{drop_more, drop_all, append-nil, length-map}
 use Rattle.vx_model.specs.declared.dtype.StructField.{StructField}
 use Rattle.vx_model.specs.declared.cell.Cell.{Cell}
 use Rattle.vx_model.specs.Words.{all_by, head_or, tail}
-use Rattle.vx_model.specs.Ty.{Ty, Tys, boolean, primitive, utf8, binary, list, struct, extension, no_fields, field, tys_of, is_struct}
+use Rattle.vx_model.specs.Ty.{Ty, Tys, boolean, primitive, utf8, binary, list, struct, extension, no_fields, field, tys_of, is_struct, struct_tys}
 use Rattle.vx_model.specs.TyView.{ty, field_ty}
 use Rattle.vx_model.specs.CellData.{CellData, CellList, null_cell, bool_cell, int_cell, text_cell, bytes_cell, list_cell, struct_cell, no_cells, cell, items, fits, fields_fit, struct_fits, flag_fits}
 use Rattle.vx_model.specs.ChunkData.{ChunkData, plain_piece}
@@ -178,3 +178,25 @@ all_typed chunks target fs [] e h = sym (append-nil chunks) ∙ (rw (typed_none 
 all_typed chunks target fs (c ∷ columns) e h = absurd (omega arith)
 
 pub ruleset field_rules = (append_assoc, append-nil, drop_typed, drop_fit, typed_none)
+
+-- ---- a struct's fields are told
+
+pub fields_told : (t : Ty) (fs : Tys) → Some fs ≡ struct_tys t → fs ≡ struct_fields t
+fields_told (struct gs n) fs e = cc
+fields_told (boolean n) fs e = cc
+fields_told (primitive p n) fs e = cc
+fields_told (utf8 n) fs e = cc
+fields_told (binary n) fs e = cc
+fields_told (list t n) fs e = cc
+fields_told (extension tag t) fs e = cc
+
+pub no_fields_told : (t : Ty) → None ≡ struct_tys t → is_struct t ≡ true → ⊥
+no_fields_told (struct gs n) e h = cc
+no_fields_told (boolean n) e h = cc
+no_fields_told (primitive p n) e h = cc
+no_fields_told (utf8 n) e h = cc
+no_fields_told (binary n) e h = cc
+no_fields_told (list t n) e h = cc
+no_fields_told (extension tag t) e h = cc
+
+pub ruleset type_rules = (fields_told, no_fields_told)

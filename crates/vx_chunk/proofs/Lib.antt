@@ -19,3 +19,5 @@ pub mod SizeLaws
 pub mod ElementSteps
 pub mod Joined
 pub mod Copies
+pub mod WholeSteps
+pub mod OwnSteps

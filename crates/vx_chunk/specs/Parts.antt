@@ -1,9 +1,10 @@
 -- The columns of a struct or a list chunk.
-use Rattle.std.specs.Prelude.{◌&&◌, Bool, true, false, List, [], ◌∷◌, map}
-use Rattle.vx_model.specs.Words.{all_by}
+use Rattle.std.specs.Prelude.{ℕ, ◌&&◌, ◌==◌, Bool, true, false, List, [], ◌∷◌, length, map}
+use Rattle.vx_model.specs.Words.{all_by, head_or}
 use Rattle.vx_model.specs.Ty.{Ty, Tys, boolean, list, struct, no_fields, field}
 use Rattle.vx_model.specs.CellData.{CellData, null_cell, bool_cell, struct_cell, cell, fits}
-use Rattle.vx_model.specs.ChunkData.{ChunkData, struct_piece, plain_piece, pieces_in, cells}
+use Rattle.vx_model.specs.ChunkData.{ChunkData, plain_piece, list_piece, extension_piece, cells}
+use Rattle.vx_chunk_cells.specs.Window.{last_of}
 use Rattle.vx_layout_spec.specs.Parts.{flag_of}
 
 -- the fields of a struct type
@@ -28,3 +29,22 @@ columns_fit no_fields [] = true
 columns_fit no_fields (c ∷ columns) = false
 columns_fit (field name t fs) [] = false
 columns_fit (field name t fs) (c ∷ columns) = all_by (fits t) c && columns_fit fs columns
+
+-- the rows are held as cells: the chunk is plain, or an extension over such a chunk
+abbrev pub keeps_cells : ChunkData → Bool
+keeps_cells (plain_piece t cs) = true
+keeps_cells (extension_piece t p) = keeps_cells p
+keeps_cells p = false
+
+abbrev pub is_plain : ChunkData → Bool
+is_plain (plain_piece t cs) = true
+is_plain p = false
+
+-- offsets from 0 to so many elements
+abbrev pub cover : ℕ → List ℕ → Bool
+cover count os = (head_or 0 os == 0) && (last_of os == count)
+
+-- the elements are plain, and just those of the rows, in their places
+abbrev pub keeps_elements : ChunkData → Bool
+keeps_elements (list_piece t e os valid) = is_plain e && cover (length (cells e)) os
+keeps_elements p = false

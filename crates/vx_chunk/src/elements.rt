@@ -9,7 +9,7 @@ ghost use Rattle.vx_model.specs.ChunkData.{piece_type, pieces_of, plain_piece, c
 ghost use Rattle.vx_chunk_cells.specs.Window.{window, last_of, counted, Within};
 ghost use Rattle.vx_layout_spec.specs.Parts.{flag_of as is_valid, all_elements, ends};
 ghost use Rattle.vx_chunk.specs.Conditions.{IsTooLarge};
-ghost use Rattle.vx_chunk.specs.Parts.{element_type};
+ghost use Rattle.vx_chunk.specs.Parts.{element_type, is_plain, cover, keeps_elements};
 
 use crate::error::ChunkError;
 use crate::flags::flags;
@@ -46,19 +46,74 @@ impl Chunk {
         let valid = flags(self, alloc)?;
         Ok((Chunk::plain(dtype, elements), offsets, valid))
     }
+
+    /// The same parts. Plain elements of which each stands in a row are moved, with their offsets, where these begin at
+    /// 0; else all is copied.
+    pub fn into_list_parts(self, alloc: Global) -> Result<(Chunk, Vec<u64>, Vec<bool>), ChunkError>
+        requires { IsTrue (is_list (piece_type self)) }
+        ensures elements { IfOk result (λ r. r.0 ≡ plain_piece (element_type (piece_type self)) (all_elements (cells_in self))) }
+        ensures offsets { IfOk result (λ r. r.1.items ≡ 0 ∷ ends 0 (cells_in self)) }
+        ensures valid { IfOk result (λ r. r.2.items ≡ map is_valid (cells_in self)) }
+        ensures fits { IfOk result (λ r. length (all_elements (cells_in self)) < 2 ^ 64) }
+        ensures refused { IfErr result (IsTooLarge (length (all_elements (cells_in self)))) }
+    {
+        if !keeps_elements(&self) {
+            return self.list_parts(alloc);
+        }
+        let valid = flags(&self, alloc)?;
+        let Chunk { node } = self;
+        match node {
+            Node::List {
+                elements,
+                offsets,
+                ..
+            } => Ok((Box::into_inner(elements), offsets, valid)),
+            Node::Plain { .. } | Node::Constant { .. } | Node::Dict { .. } => unreachable!(),
+            Node::Chunked { .. } | Node::Struct { .. } | Node::Extension { .. } => unreachable!(),
+        }
+    }
 }
 
 /// The type of a list's elements.
-#[tactic(auto, using(vx_model::proofs::Views::view_rules))]
+#[tactic(auto, using(crate::proofs::ElementSteps::type_rules))]
 fn items_of(dtype: &DType) -> &DType
     requires { IsTrue (is_list (ty dtype.now)) }
     ensures { ty result.now ≡ element_type (ty dtype.now) }
 {
-    match dtype {
-        DType::List(items, _) => items,
-        DType::Bool(_) | DType::Primitive(..) | DType::Utf8(_) | DType::Binary(_) => unreachable!(),
-        DType::Struct(..) | DType::Extension(_) => unreachable!(),
+    match dtype.as_list() {
+        Some(items) => items,
+        None => unreachable!(),
     }
+}
+
+/// Whether the elements are plain, and just those of the rows, in their places.
+fn keeps_elements(chunk: &Chunk) -> bool
+    ensures { result ≡ keeps_elements chunk.now }
+{
+    match &chunk.node {
+        Node::List {
+            elements,
+            offsets,
+            ..
+        } => is_plain(elements) && cover(offsets, elements.len()),
+        Node::Plain { .. } | Node::Constant { .. } | Node::Dict { .. } => false,
+        Node::Chunked { .. } | Node::Struct { .. } | Node::Extension { .. } => false,
+    }
+}
+
+fn is_plain(chunk: &Chunk) -> bool
+    ensures { result ≡ is_plain chunk.now }
+{
+    matches!(&chunk.node, Node::Plain { .. })
+}
+
+/// Whether the offsets begin at 0 and end at the number of elements.
+#[tactic(auto, using(crate::proofs::ElementSteps::cover_rules))]
+fn cover(offsets: &[u64], count: u64) -> bool
+    requires { 1 ≤ length offsets.now }
+    ensures { result ≡ cover count offsets.now }
+{
+    offsets[0] == 0 && offsets[offsets.len() - 1] == count
 }
 
 /// Elements of all rows.

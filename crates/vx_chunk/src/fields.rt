@@ -3,6 +3,9 @@
 ghost use Rattle.std.specs.Prelude.{◌≡◌, map, IsTrue, IfOk, IfErr};
 ghost use Rattle.vx_model.specs.Ty.{is_struct, tys_of};
 ghost use Rattle.vx_model.specs.TyView.{ty, field_ty};
+ghost use Rattle.vx_model.specs.Words.{all_by};
+ghost use Rattle.vx_model.specs.CellData.{fits};
+ghost use Rattle.vx_model.specs.TreeView.{tree};
 ghost use Rattle.vx_model.specs.ChunkData.{piece_type, cells as cells_in};
 ghost use Rattle.vx_chunk_cells.specs.Columns.{trees_in};
 ghost use Rattle.vx_chunk.specs.Parts.{struct_fields, typed_columns, columns_fit};
@@ -29,29 +32,62 @@ impl Chunk {
         Ok(self.plain_fields(alloc)?)
     }
 
+    /// The fields as `fields` gives them: its own chunks where it is held as a struct are moved, and so are the cells
+    /// that `into_cells` moves.
+    pub fn into_fields(self, alloc: Global) -> Result<Vec<Chunk>, ChunkError>
+        requires { IsTrue (is_struct (piece_type self)) }
+        ensures fields { IfOk result (λ v. v.items ≡ field_pieces (struct_fields (piece_type self)) self) }
+        ensures memory { IfErr result (λ e. e ≡ ChunkError.OutOfMemory) }
+    {
+        let Chunk { node } = self;
+        match node {
+            Node::Struct { fields, .. } => Ok(fields),
+            other => Chunk { node: other }.into_plain_fields(alloc),
+        }
+    }
+
     fn plain_fields(&self, alloc: Global) -> Result<Vec<Chunk>, ChunkError>
         requires { IsTrue (is_struct (piece_type self.now)) }
         ensures fields { IfOk result (λ v. v.items ≡ plain_fields (struct_fields (piece_type self.now)) (cells_in self.now)) }
         ensures memory { IfErr result (λ e. e ≡ ChunkError.OutOfMemory) }
     {
         self.sound();
-        let types = types_of(self.dtype());
         let cells = self.cells(alloc)?;
-        let columns = columns_of(alloc, cells, types.len())?;
-        Ok(typed(alloc, types, columns)?)
+        Ok(field_columns(alloc, self.dtype(), cells)?)
+    }
+
+    fn into_plain_fields(self, alloc: Global) -> Result<Vec<Chunk>, ChunkError>
+        requires { IsTrue (is_struct (piece_type self)) }
+        ensures fields { IfOk result (λ v. v.items ≡ plain_fields (struct_fields (piece_type self)) (cells_in self)) }
+        ensures memory { IfErr result (λ e. e ≡ ChunkError.OutOfMemory) }
+    {
+        self.sound();
+        let dtype = self.dtype().clone()?;
+        let cells = self.into_cells(alloc)?;
+        Ok(field_columns(alloc, &dtype, cells)?)
     }
 }
 
+/// A plain chunk of each field of the structs.
+fn field_columns(alloc: Global, dtype: &DType, cells: Vec<Cell>) -> Result<Vec<Chunk>, AllocError>
+    requires structs { IsTrue (is_struct (ty dtype.now)) }
+    requires fit { IsTrue (all_by (fits (ty dtype.now)) (map tree cells.items)) }
+    ensures { IfOk result (λ v. v.items ≡ plain_fields (struct_fields (ty dtype.now)) (map tree cells.items)) }
+{
+    let types = types_of(dtype);
+    let columns = columns_of(alloc, cells, types.len())?;
+    typed(alloc, types, columns)
+}
+
 /// The fields of a struct type.
-#[tactic(auto, using(vx_model::proofs::Views::view_rules))]
+#[tactic(auto, using(crate::proofs::FieldSteps::type_rules))]
 fn types_of(dtype: &DType) -> &[StructField]
     requires { IsTrue (is_struct (ty dtype.now)) }
     ensures { tys_of (map field_ty result.now) ≡ struct_fields (ty dtype.now) }
 {
-    match dtype {
-        DType::Struct(fields, _) => &fields.fields,
-        DType::Bool(_) | DType::Primitive(..) | DType::Utf8(_) | DType::Binary(_) => unreachable!(),
-        DType::List(..) | DType::Extension(_) => unreachable!(),
+    match dtype.as_struct() {
+        Some(fields) => fields,
+        None => unreachable!(),
     }
 }
 

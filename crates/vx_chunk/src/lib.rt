@@ -12,11 +12,13 @@ mod fields;
 mod flags;
 mod laws;
 mod node;
+mod owned;
 mod reads;
 mod rows;
 mod sizes;
 mod slice;
 mod values;
+mod whole;
 
 pub use error::ChunkError;
 pub use laws::{rows_follow_cells, sizes_add_up};

@@ -1,13 +1,15 @@
 //! What a chunk tells at once.
 
-ghost use Rattle.std.specs.Prelude.{◌≡◌, length, IsTrue};
+ghost use Rattle.std.specs.Prelude.{◌≡◌, length, map, is_some, IfSome, IsTrue};
 ghost use Rattle.vx_model.specs.TyView.{ty};
+ghost use Rattle.vx_model.specs.TreeView.{tree};
 ghost use Rattle.vx_model.specs.ChunkData.{piece_type, pieces_of, cells, joined_cells, is_sound, are_sound, is_simple, is_chunked};
 ghost use Rattle.vx_chunk.specs.ChunkView.{node_piece};
 ghost use Rattle.vx_chunk.specs.Encoded.{encoding_of};
+ghost use Rattle.vx_chunk.specs.Parts.{keeps_cells};
 
 use crate::node::{Chunk, Node};
-use vx_model::{DType, EncodingId};
+use vx_model::{Cell, DType, EncodingId};
 
 impl Chunk {
     /// How the rows are held.
@@ -56,6 +58,19 @@ impl Chunk {
             Node::Dict { values, .. } => values.dtype(),
             Node::Chunked { dtype, .. } | Node::List { dtype, .. } => dtype,
             Node::Struct { dtype, .. } | Node::Extension { dtype, .. } => dtype,
+        }
+    }
+
+    /// The rows where they are held as cells: those of a plain chunk, and of an extension over such a chunk.
+    pub fn as_cells(&self) -> Option<&[Cell]>
+        ensures cells { IfSome result (λ cs. map tree cs.now ≡ cells self.now) }
+        ensures kept { is_some result ≡ keeps_cells self.now }
+    {
+        match &self.node {
+            Node::Plain { cells, .. } => Some(cells),
+            Node::Extension { storage, .. } => storage.as_cells(),
+            Node::Constant { .. } | Node::Dict { .. } | Node::Chunked { .. } => None,
+            Node::List { .. } | Node::Struct { .. } => None,
         }
     }
 

@@ -1,42 +1,52 @@
 //! What each word prints.
 
 use crate::given::{bytes_in, chunk_in, dtype_in, every_encoding};
-use crate::parts::{fields, lists, slice, twice};
-use crate::shown::{push_values, shown};
+use crate::parts::{agreed, fields, lists, slice, twice};
+use crate::shown::{shown, shown_cells, shown_values};
 use crate::word::{ChunkWord, Word};
+use anyhow::{Context, Error};
 use serde_json::Value;
 use std::alloc::{AllocError, Global};
 use vx_chunk::{Chunk, ChunkError};
+use vx_model::is_row_value;
 use vx_segment_reader::{buffer_lengths, tree_buffer_lengths};
 use vx_segment_writer::encode_segment;
 
 pub(crate) fn answer(alloc: Global, word: Word, given: &Value) -> anyhow::Result<String> {
     match word {
         Word::Nullable => nullable(alloc, given),
+        Word::Storage => storage(alloc, given),
         Word::Lengths => lengths(alloc, given),
         Word::TreeLengths => tree_lengths(alloc, given),
-        Word::Chunk(word) => chunk_answer(alloc, word, &chunk_in(alloc, given)?),
+        Word::Chunk(word) => chunk_answer(alloc, word, chunk_in(alloc, given)?),
     }
 }
 
-fn chunk_answer(alloc: Global, word: ChunkWord, chunk: &Chunk) -> anyhow::Result<String> {
+fn chunk_answer(alloc: Global, word: ChunkWord, chunk: Chunk) -> anyhow::Result<String> {
+    chunk.whole();
     match word {
         ChunkWord::Rows => rows(alloc, chunk),
-        ChunkWord::Cells => shown(alloc, chunk),
+        ChunkWord::Cells => cells(alloc, chunk),
         ChunkWord::Canon => shown(alloc, &chunk.canon(alloc)?),
-        ChunkWord::Twice => twice(alloc, chunk),
-        ChunkWord::Slice(from, to) => slice(alloc, chunk, from, to),
-        ChunkWord::Sizes => sizes(alloc, chunk),
+        ChunkWord::Twice => twice(alloc, &chunk),
+        ChunkWord::Slice(from, to) => slice(alloc, &chunk, from, to),
+        ChunkWord::Sizes => sizes(alloc, &chunk),
         ChunkWord::Fields => fields(alloc, chunk),
         ChunkWord::Lists => lists(alloc, chunk),
-        ChunkWord::Segment => segment(alloc, chunk, true),
-        ChunkWord::Dense => segment(alloc, chunk, false),
+        ChunkWord::Segment => segment(alloc, &chunk, true),
+        ChunkWord::Dense => segment(alloc, &chunk, false),
     }
 }
 
 fn nullable(alloc: Global, given: &Value) -> anyhow::Result<String> {
     let dtype = dtype_in(alloc, given)?.as_nullable()?;
     Ok(format!(in alloc; "{dtype}")?)
+}
+
+fn storage(alloc: Global, given: &Value) -> anyhow::Result<String> {
+    let dtype = dtype_in(alloc, given)?;
+    let storage = dtype.as_extension().context("no extension")?;
+    Ok(format!(in alloc; "{storage}")?)
 }
 
 fn lengths(alloc: Global, given: &Value) -> anyhow::Result<String> {
@@ -49,11 +59,27 @@ fn tree_lengths(alloc: Global, given: &Value) -> anyhow::Result<String> {
     Ok(format!(in alloc; "{lengths:?}")?)
 }
 
-fn rows(alloc: Global, chunk: &Chunk) -> anyhow::Result<String> {
+fn rows(alloc: Global, chunk: Chunk) -> anyhow::Result<String> {
+    let kept = kept_rows(alloc, &chunk)?;
+    let own = shown_values(alloc, &chunk.into_rows(alloc)?)?;
+    agreed(&kept, own)
+}
+
+/// The rows, each of which is one of the type.
+fn kept_rows(alloc: Global, chunk: &Chunk) -> anyhow::Result<String> {
     let rows = chunk.rows_of(alloc)?;
-    let mut out = String::new(alloc);
-    push_values(alloc, &mut out, &rows)?;
-    Ok(out)
+    for row in &rows {
+        if !is_row_value(chunk.dtype(), row) {
+            return Err(Error::msg("a row of another type"));
+        }
+    }
+    Ok(shown_values(alloc, &rows)?)
+}
+
+fn cells(alloc: Global, chunk: Chunk) -> anyhow::Result<String> {
+    let kept = shown(alloc, &chunk)?;
+    let own = shown_cells(alloc, chunk)?;
+    agreed(&kept, own)
 }
 
 fn sizes(alloc: Global, chunk: &Chunk) -> anyhow::Result<String> {

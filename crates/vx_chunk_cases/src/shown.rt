@@ -90,13 +90,38 @@ fn push_hex(alloc: Global, out: &mut String, bytes: &[u8]) -> Result<(), AllocEr
     Ok(())
 }
 
-/// The chunk's encoding, its type and its cells.
-pub(crate) fn push_chunk(alloc: Global, out: &mut String, chunk: &Chunk) -> anyhow::Result<()> {
+/// Values as they are shown in a text of their own.
+pub(crate) fn shown_values(alloc: Global, values: &[Value]) -> Result<String, AllocError> {
+    let mut out = String::new(alloc);
+    push_values(alloc, &mut out, values)?;
+    Ok(out)
+}
+
+/// What stands before a chunk's cells: its encoding and its type.
+fn push_head(out: &mut String, chunk: &Chunk) -> Result<(), AllocError> {
     let dtype = chunk.dtype();
     write!(out, "{} {dtype} [", chunk.encoding().id())?;
-    push_cells(alloc, out, &chunk.cells(alloc)?)?;
+    Ok(())
+}
+
+/// The chunk's encoding, its type and its cells.
+pub(crate) fn push_chunk(alloc: Global, out: &mut String, chunk: &Chunk) -> anyhow::Result<()> {
+    push_head(out, chunk)?;
+    match chunk.as_cells() {
+        Some(cells) => push_cells(alloc, out, cells)?,
+        None => push_cells(alloc, out, &chunk.cells(alloc)?)?,
+    }
     out.push_str("]")?;
     Ok(())
+}
+
+/// The same of a chunk that isn't kept.
+pub(crate) fn shown_cells(alloc: Global, chunk: Chunk) -> anyhow::Result<String> {
+    let mut out = String::new(alloc);
+    push_head(&mut out, &chunk)?;
+    push_cells(alloc, &mut out, &chunk.into_cells(alloc)?)?;
+    out.push_str("]")?;
+    Ok(out)
 }
 
 pub(crate) fn shown(alloc: Global, chunk: &Chunk) -> anyhow::Result<String> {

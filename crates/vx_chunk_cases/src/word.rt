@@ -7,6 +7,8 @@ use anyhow::Context;
 pub(crate) enum Word {
     /// The type where rows may be null.
     Nullable,
+    /// The type that an extension is stored as.
+    Storage,
     /// The lengths of a segment's buffers.
     Lengths,
     /// The same, where the bytes are a segment's tree alone.
@@ -44,6 +46,7 @@ impl Word {
     pub(crate) fn from_text(text: &str) -> anyhow::Result<Word> {
         match text {
             "nullable" => Ok(Word::Nullable),
+            "storage" => Ok(Word::Storage),
             "lengths" => Ok(Word::Lengths),
             "tree" => Ok(Word::TreeLengths),
             _ => Ok(Word::Chunk(ChunkWord::from_text(text)?)),

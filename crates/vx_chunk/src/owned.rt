@@ -1,0 +1,62 @@
+//! The rows of a chunk that isn't kept.
+
+ghost use Rattle.std.specs.Prelude.{◌≡◌, ◌<◌, ◌^◌, length, map, IfOk, IfErr};
+ghost use Rattle.vx_model.specs.TreeView.{tree, val};
+ghost use Rattle.vx_model.specs.ChunkData.{pieces_of, cells as cells_in, joined_cells, row_values};
+
+use crate::error::ChunkError;
+use crate::node::{Chunk, Node};
+use crate::reads::total_rows;
+use crate::rows::cells_between;
+use std::alloc::{AllocError, Global};
+use vx_chunk_cells::into_values;
+use vx_model::{Cell, Value};
+
+impl Chunk {
+    /// The rows as cells. Those of plain chunks are moved, under extensions and in parts too; others are copied.
+    pub fn into_cells(self, alloc: Global) -> Result<Vec<Cell>, ChunkError>
+        ensures cells { IfOk result (λ v. map tree v.items ≡ cells_in self) }
+        ensures memory { IfErr result (λ e. e ≡ ChunkError.OutOfMemory) }
+    {
+        Ok(own_cells(self, alloc)?)
+    }
+
+    /// The rows as a reader sees them, moved where `into_cells` moves.
+    pub fn into_rows(self, alloc: Global) -> Result<Vec<Value>, ChunkError>
+        ensures rows { IfOk result (λ v. map val v.items ≡ row_values self) }
+        ensures memory { IfErr result (λ e. e ≡ ChunkError.OutOfMemory) }
+    {
+        Ok(into_values(own_cells(self, alloc)?)?)
+    }
+}
+
+#[cycle(own)]
+#[tactic(auto, using(crate::proofs::OwnSteps::own_rules))]
+fn own_cells(chunk: Chunk, alloc: Global) -> Result<Vec<Cell>, AllocError>
+    ensures { IfOk result (λ v. map tree v.items ≡ cells_in chunk) }
+{
+    let Chunk { node } = chunk;
+    match node {
+        Node::Plain { cells, .. } => Ok(cells),
+        Node::Chunked { parts, .. } => own_parts(parts, alloc),
+        Node::Extension { storage, .. } => own_cells(Box::into_inner(storage), alloc),
+        other => {
+            let chunk = Chunk { node: other };
+            cells_between(&chunk, alloc, 0, chunk.len())
+        }
+    }
+}
+
+#[cycle(own)]
+#[tactic(auto, using(crate::proofs::OwnSteps::own_rules))]
+fn own_parts(parts: Vec<Chunk>, alloc: Global) -> Result<Vec<Cell>, AllocError>
+    requires { length (joined_cells (pieces_of parts.items)) < 2 ^ 64 }
+    ensures { IfOk result (λ v. map tree v.items ≡ joined_cells (pieces_of parts.items)) }
+{
+    let mut cells = Vec::with_capacity(alloc, total_rows(&parts) as usize)?;
+    for part in parts {
+        let mut more = own_cells(part, alloc)?;
+        cells.append(&mut more)?;
+    }
+    Ok(cells)
+}
