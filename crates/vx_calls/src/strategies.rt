@@ -89,8 +89,12 @@ fn by_name(alloc: Global) -> Result<Strategy, BuildError> {
 fn writers_of_names(rt: HostRuntime) -> Result<(), Fail> {
     assert_eq!(rt; DictLayoutOptions::default().constraints.max_len, 65535);
     assert_eq!(rt; ZonedLayoutOptions::default().block_size, 8192);
-    let strategy = by_name(rt.alloc())?;
-    strategy.admitted();
-    assert!(rt; matches!(&strategy, Strategy::Struct(_)));
+    let name = Text::from_str(rt.alloc(), "a")?;
+    match by_name(rt.alloc())?.clone()? {
+        Strategy::Struct(it) => assert!(rt;
+            matches!(it.writer(&name).strategy(), Strategy::Flat(_))
+        ),
+        _ => return Err("no struct".into()),
+    }
     Ok(())
 }

@@ -1,27 +1,17 @@
 -- Overrides stay apart.
-use Rattle.std.proofs.Common.{◌≡◌, ℕ, suc, ◌+◌, ◌<◌, ◌&&◌, Bool, true, false, List, [], ◌∷◌, ◌++◌, length, get_or, ◌⊎◌, inl, inr, refl, sym, ◌∙◌, ap, subst, arith, Option, Some, None}
-use Rattle.std.specs.Prelude.{not, if◌then◌else◌, option_map, bytes_eq}
-use Rattle.std.specs.Cmp.Lexicographic.{bytes_decides}
-use Rattle.vx_field_path.specs.Paths.{overlaps as field_overlaps, is_root as field_root}
+use Rattle.std.proofs.Common.{◌≡◌, ℕ, suc, ◌&&◌, Bool, true, false, List, [], ◌∷◌, ◌++◌, get_or, inl, inr, refl, sym, ◌∙◌, ap, subst, Some, None}
+use Rattle.std.specs.Prelude.{not, option_map}
 use Rattle.vx_strategy_spec.specs.StrategyData.{StrategyData, StrategyList, no_ways, way_at}
-use Rattle.vx_strategy_spec.specs.Admitted.{is_root, overlaps, overlaps_none, are_apart}
-use Rattle.vx_strategy.specs.Places.{first_place}
+use Rattle.vx_strategy_spec.specs.Admitted.{is_root, overlaps, overlaps_none, are_apart, are_admitted}
+use Rattle.vx_strategy.specs.AdmittedStrategy.{AdmittedStrategy, are_overrides, as_overrides, item_overrides}
 use Rattle.vx_strategy.specs.PathWays.{path_ways}
-use Rattle.vx_strategy.specs.Overridden.{Names, appended, first_overlap, is_over, overlap_place, Fits}
+use Rattle.vx_strategy.specs.Overridden.{Names, appended, first_overlap, is_over, overlap_place}
 use Rattle.vx_strategy.specs.declared.overrides.PathWriter.{PathWriter}
 use Rattle.vx_strategy.proofs.PlaceSteps.{later, place_below}
-use Rattle.vx_strategy.proofs.Writers.{either, none_later}
-use Rattle.vx_strategy.proofs.Admits.{both_true}
+use Rattle.vx_strategy.proofs.Writers.{either, none_later, bytes_eq_sym}
+use Rattle.vx_strategy.proofs.Admits.{both_true, left_true, right_true}
 
--- ---- overlapping is symmetric, and said the same below
-
-same_bool : (a b : Bool) → (a ≡ true → b ≡ true) → (b ≡ true → a ≡ true) → a ≡ b
-same_bool true b f g = sym (f refl)
-same_bool false true f g = g refl
-same_bool false false f g = refl
-
-bytes_eq_sym : (a b : List ℕ) → bytes_eq a b ≡ bytes_eq b a
-bytes_eq_sym a b = same_bool (bytes_eq a b) (bytes_eq b a) (λ e. (bytes_decides b a).1 (sym ((bytes_decides a b).0 e))) (λ e. (bytes_decides a b).1 (sym ((bytes_decides b a).0 e)))
+-- ---- overlapping is symmetric
 
 pub overlaps_sym : (p q : Names) → overlaps p q ≡ overlaps q p
 overlaps_sym [] [] = refl
@@ -29,24 +19,15 @@ overlaps_sym [] (b ∷ q) = refl
 overlaps_sym (a ∷ p) [] = refl
 overlaps_sym (a ∷ p) (b ∷ q) = rw (bytes_eq_sym a b, overlaps_sym p q) refl
 
-same_overlaps : (p q : Names) → field_overlaps p q ≡ overlaps p q
-same_overlaps [] q = refl
-same_overlaps (a ∷ p) [] = refl
-same_overlaps (a ∷ p) (b ∷ q) = ap (λ x. bytes_eq a b && x) (same_overlaps p q)
-
 over_is : (path : Names) (w : PathWriter) → is_over path w ≡ overlaps path w.path
-over_is path w = same_overlaps w.path path ∙ overlaps_sym w.path path
-
-pub same_root : (p : Names) → field_root p ≡ is_root p
-same_root [] = refl
-same_root (a ∷ p) = refl
+over_is path w = overlaps_sym w.path path
 
 -- ---- one more override
 
-pub path_push : (path : Names) (w : StrategyData) (ws : List PathWriter)
-    → path_ways (ws ++ (record { path = path; writer = w } ∷ [])) ≡ appended (path_ways ws) path w
+pub path_push : (path : Names) (w : AdmittedStrategy) (ws : List PathWriter)
+    → path_ways (ws ++ (record { path = path; writer = w } ∷ [])) ≡ appended (path_ways ws) path w.item
 path_push path w [] = refl
-path_push path w (x ∷ xs) = ap (way_at x.path x.writer) (path_push path w xs)
+path_push path w (x ∷ xs) = ap (way_at x.path x.writer.item) (path_push path w xs)
 
 pub none_overlaps : (path : Names) (ws : List PathWriter) → overlap_place path ws ≡ None → overlaps_none path (path_ways ws) ≡ true
 none_overlaps path [] is = refl
@@ -86,14 +67,6 @@ first_is path ws k x is at = firsts path ws k x is at
 
 -- ---- they stay apart
 
-left_true : (a b : Bool) → (a && b) ≡ true → a ≡ true
-left_true true b e = refl
-left_true false b e = e
-
-right_true : (a b : Bool) → (a && b) ≡ true → b ≡ true
-right_true true b e = e
-right_true false b e = absurd (cc e)
-
 none_more : (p path : Names) (w : StrategyData) (ws : StrategyList) → overlaps_none p ws ≡ true → overlaps p path ≡ false → overlaps_none p (appended ws path w) ≡ true
 none_more p path w no_ways e o = rw o refl
 none_more p path w (way_at q v ws) e o = rw (left_true (not (overlaps p q)) (overlaps_none p ws) e) (none_more p path w ws (right_true (not (overlaps p q)) (overlaps_none p ws) e) o)
@@ -111,4 +84,13 @@ apart_more path w (way_at q v ws) r o a =
     (both_true _ _ (none_more q path w ws (left_true (overlaps_none q ws) _ rest) off)
     (apart_more path w ws r (right_true (not (overlaps path q)) _ o) (right_true (overlaps_none q ws) _ rest)))
 
-pub ruleset apart_rules = (path_push, none_overlaps, first_is, apart_more, same_root, place_below)
+each_more : (path : Names) (w : AdmittedStrategy) (ws : StrategyList) → are_admitted ws ≡ true → are_admitted (appended ws path w.item) ≡ true
+each_more path w no_ways a = both_true _ _ w.passes refl
+each_more path w (way_at q v ws) a = both_true _ _ (left_true _ (are_admitted ws) a) (each_more path w ws (right_true _ (are_admitted ws) a))
+
+pub overrides_more : (path : Names) (w : AdmittedStrategy) (ws : StrategyList) → is_root path ≡ false → overlaps_none path ws ≡ true → are_overrides ws ≡ true
+    → are_overrides (appended ws path w.item) ≡ true
+overrides_more path w ws r o h =
+    both_true _ _ (apart_more path w.item ws r o (left_true (are_apart ws) (are_admitted ws) h)) (each_more path w ws (right_true (are_apart ws) (are_admitted ws) h))
+
+pub ruleset apart_rules = (path_push, none_overlaps, first_is, overrides_more, item_overrides, place_below)

@@ -1,5 +1,5 @@
 -- A search for the first element that passes a test, one element at a time.
-use Rattle.std.proofs.Common.{◌≡◌, ℕ, suc, ◌+◌, ◌<◌, ◌≤◌, Bool, true, false, List, [], ◌∷◌, length, get_or, drop, refl, sym, ap, arith, add-zero, Option, Some, None}
+use Rattle.std.proofs.Common.{◌≡◌, ℕ, suc, ◌+◌, ◌<◌, ◌≤◌, Bool, true, false, List, [], ◌∷◌, length, get_or, drop, refl, ap, arith, add-zero, Option, Some, None}
 use Rattle.std.specs.Prelude.{if◌then◌else◌, option_map}
 use Rattle.std.proofs.lemmas.List.{drop_more, drop_all}
 use Rattle.vx_strategy.specs.Places.{first_place}

@@ -1,5 +1,5 @@
 -- Wrappers one by one.
-use Rattle.std.proofs.Common.{◌≡◌, ℕ, List, [], ◌∷◌, ◌++◌, length, inl, refl, ap, arith}
+use Rattle.std.proofs.Common.{◌≡◌, List, [], ◌∷◌, ◌++◌, length, inl, refl, ap, arith}
 use Rattle.vx_strategy_spec.specs.StrategyData.{Wraps, no_wraps}
 use Rattle.vx_strategy.specs.WrapViews.{wrap, wraps}
 use Rattle.vx_strategy.specs.Wrapped.{wraps_asked}

@@ -3,11 +3,11 @@ use Rattle.std.specs.Prelude.{ℕ, bytes_eq, Bool, if◌then◌else◌, List, []
 use Rattle.vx_strategy_spec.specs.StrategyData.{StrategyData, StrategyList, no_ways, way_at}
 use Rattle.vx_strategy_spec.specs.Walk.{same_names}
 use Rattle.vx_strategy.specs.Places.{first_place}
-use Rattle.vx_strategy.specs.declared.structs.FieldWriter.{FieldWriter}
+use Rattle.vx_strategy.specs.declared.field_writer.FieldWriter.{FieldWriter}
 
 abbrev pub field_ways : List FieldWriter → StrategyList
 field_ways [] = no_ways
-field_ways (w ∷ ws) = way_at (w.name ∷ []) w.writer (field_ways ws)
+field_ways (w ∷ ws) = way_at (w.name ∷ []) w.writer.item (field_ways ws)
 
 -- the writer of a name takes the place of the one before, or stands behind all
 abbrev pub with_writer : StrategyList → List ℕ → StrategyData → StrategyList

@@ -1,4 +1,6 @@
 pub mod StrategyCode
+pub mod Passing
+pub mod AdmittedStrategy
 pub mod WayDepth
 pub mod OptionViews
 pub mod Places

@@ -17,31 +17,31 @@ use Rattle.vx_strategy.specs.declared.table.TableStrategy.{TableStrategy}
 use Rattle.vx_strategy.specs.declared.zoned.ZonedStrategy.{ZonedStrategy}
 
 abbrev pub chunked_way : ChunkedLayoutStrategy → StrategyData
-chunked_way s = chunked s.chunk_strategy
+chunked_way s = chunked s.child.item
 
 abbrev pub compressed_way : CompressingStrategy → StrategyData
-compressed_way s = compressed s.which (non_zero_u64_get s.concurrency) s.child
+compressed_way s = compressed s.which (non_zero_u64_get s.concurrency) s.child.item
 
 abbrev pub dict_way : DictStrategy → StrategyData
-dict_way s = coded (dict_options s.constraints s.probe) s.codes s.values s.fallback
+dict_way s = coded (dict_options s.constraints s.probe) s.codes.item s.values.item s.fallback.item
 
 abbrev pub repartition_way : RepartitionStrategy → StrategyData
-repartition_way s = grouped (by_blocks (block_rule s.rule)) s.child
+repartition_way s = grouped (by_blocks (block_rule s.rule)) s.child.item
 
 abbrev pub buffered_way : BufferedStrategy → StrategyData
-buffered_way s = grouped (by_bytes s.buffer_size) s.child
+buffered_way s = grouped (by_bytes s.buffer_size) s.child.item
 
 abbrev pub collect_way : CollectStrategy → StrategyData
-collect_way s = grouped into_one s.child
+collect_way s = grouped into_one s.child.item
 
 abbrev pub list_way : ListLayoutStrategy → StrategyData
-list_way s = listed s.elements s.offsets s.validity s.fallback
+list_way s = listed s.elements.item s.offsets.item s.validity.item s.fallback.item
 
 abbrev pub struct_way : StructStrategy → StrategyData
-struct_way s = structured s.validity s.default (field_ways s.writers.items)
+struct_way s = structured s.validity.item s.default.item (field_ways s.writers.items)
 
 abbrev pub zoned_way : ZonedStrategy → StrategyData
-zoned_way s = zoned (zone_rule s.rule) s.child s.stats
+zoned_way s = zoned (zone_rule s.rule) s.child.item s.stats.item
 
 abbrev pub table_way : TableStrategy → StrategyData
-table_way s = tabled s.validity s.leaf s.overrides s.list_layout (wraps s.wrappers.items)
+table_way s = tabled s.validity.item s.leaf.item s.overrides.item s.list_layout (wraps s.wrappers.value.items)

@@ -1,5 +1,5 @@
 -- Options as contracts see them.
-use Rattle.std.specs.Prelude.{ℕ, true, false, List, map, Option, Some, None, option_map}
+use Rattle.std.specs.Prelude.{ℕ, ◌^◌, nat_lt, Bool, true, false, List, map, length, Option, Some, None}
 use Rattle.vx_rules.specs.Blocks.{BlockOptions}
 use Rattle.vx_rules.specs.Runs.{DictOptions}
 use Rattle.vx_aggregate_spec.specs.Aggregate.{Aggregate}
@@ -30,6 +30,11 @@ dict_options c probe = record { max_bytes = c.max_bytes; max_len = c.max_len; pr
 abbrev pub asked : Option (Vec AggregateFn Global) → Option (List Aggregate)
 asked None = None
 asked (Some v) = Some (map aggregate v.items)
+
+-- fewer than 2^32, so the columns of their table are counted in 32 bits
+abbrev pub are_few : Option (List Aggregate) → Bool
+are_few None = true
+are_few (Some aggregates) = nat_lt (length aggregates) (2 ^ 32)
 
 abbrev pub zoned_options : ZonedLayoutOptions → ZonedOptions
 zoned_options o = record { zone_len = o.block_size; aggregates = asked o.aggregate_fns; concurrency = o.concurrency }

@@ -5,4 +5,4 @@ use Rattle.vx_strategy.specs.declared.overrides.PathWriter.{PathWriter}
 
 abbrev pub path_ways : List PathWriter → StrategyList
 path_ways [] = no_ways
-path_ways (w ∷ ws) = way_at w.path w.writer (path_ways ws)
+path_ways (w ∷ ws) = way_at w.path w.writer.item (path_ways ws)

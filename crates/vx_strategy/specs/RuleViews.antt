@@ -4,10 +4,10 @@ use Rattle.vx_rules.specs.Blocks.{BlockOptions}
 use Rattle.vx_strategy_spec.specs.StrategyData.{ZonedOptions}
 use Rattle.vx_strategy.specs.OptionViews.{asked}
 use Rattle.vx_strategy.specs.declared.grouping.BlockRule.{BlockRule}
-use Rattle.vx_strategy.specs.declared.zoned.ZoneRule.{ZoneRule}
+use Rattle.vx_strategy.specs.declared.zone_rule.ZoneRule.{ZoneRule}
 
 abbrev pub block_rule : BlockRule → BlockOptions
 block_rule r = record { minimum = r.minimum; multiple = non_zero_u64_get r.multiple; target = r.target; canonicalize = r.canonicalize }
 
 abbrev pub zone_rule : ZoneRule → ZonedOptions
-zone_rule r = record { zone_len = non_zero_u32_get r.zone_len; aggregates = asked r.aggregates; concurrency = non_zero_u64_get r.concurrency }
+zone_rule r = record { zone_len = non_zero_u32_get r.zone_len; aggregates = asked r.aggregates.value; concurrency = non_zero_u64_get r.concurrency }

@@ -8,7 +8,7 @@ use Rattle.vx_strategy.specs.declared.wrapper.Wrapper.TheVariants as tested
 abbrev pub wrap : Wrapper → Wraps → Wraps
 wrap (tested.Repartition r) ws = wrap_grouped (by_blocks (block_rule r)) ws
 wrap (tested.Buffered size) ws = wrap_grouped (by_bytes size) ws
-wrap (tested.Zoned stats r) ws = wrap_zoned (zone_rule r) stats ws
+wrap (tested.Zoned stats r) ws = wrap_zoned (zone_rule r) stats.item ws
 
 abbrev pub wraps : List Wrapper → Wraps
 wraps [] = no_wraps

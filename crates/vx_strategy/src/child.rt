@@ -1,37 +1,37 @@
 use crate::strategy::Strategy;
-use std::alloc::{AllocFailed, Global};
+use std::alloc::{AllocError, AllocFailed, Global};
 use std::marker::Model;
+use std::sync::Arc;
 
-/// A strategy that another holds. Contracts see its tree of nodes.
+/// A strategy that another holds; its clones share it. Contracts see its tree of nodes, which constructors can make.
 #[derive(Debug, Drop)]
 #[cycle(strategy)]
 pub struct ChildStrategy {
-    inner: Box<Strategy>,
+    inner: Arc<Strategy>,
 }
 
 impl Model for ChildStrategy {
     ghost use Rattle.std.specs.Prelude.{IsTrue};
-    ghost use Rattle.vx_strategy_spec.specs.StrategyData.{StrategyData};
     ghost use Rattle.vx_strategy_spec.specs.Admitted.{is_admitted};
-    ghost use Rattle.vx_strategy.specs.StrategyCode.{way_code};
+    ghost use Rattle.vx_strategy.specs.AdmittedStrategy.{AdmittedStrategy, admitted_code, as_admitted};
 
-    ghost Value = { StrategyData };
+    ghost Value = { AdmittedStrategy };
 
-    ghost coded = { way_code };
+    ghost coded = { admitted_code };
 
     ghost use Rattle.vx_strategy.specs.StrategyView.{strategy_data};
 
-    ghost view = { λ c. strategy_data c.inner.value };
+    ghost view = { λ c. as_admitted (strategy_data c.inner.value) };
 
     ghost invariant = { λ c. IsTrue (is_admitted (strategy_data c.inner.value)) };
 
     ghost use Rattle.vx_strategy.specs.WayDepth.{depth};
 
-    ghost size = { depth };
+    ghost size = { λ a. depth a.item };
 
-    ghost use Rattle.vx_strategy.specs.DepthFalls.{depth_falls};
+    ghost use Rattle.vx_strategy.specs.DepthFalls.{child_falls};
 
-    ghost size_decreases = { λ c h. depth_falls c.inner.value };
+    ghost size_decreases = { λ c h. child_falls c.inner.value h };
 }
 
 impl ChildStrategy {
@@ -39,29 +39,36 @@ impl ChildStrategy {
     ghost use Rattle.vx_strategy_spec.specs.Admitted.{is_admitted};
     ghost use Rattle.vx_strategy.specs.StrategyView.{strategy_data};
 
+    #[tactic(auto, using(crate::proofs::AllAdmitted::child_rules))]
     pub(crate) fn new(
         alloc: Global,
         strategy: Strategy,
     ) -> Result<ChildStrategy, AllocFailed<Strategy>>
-        ensures { IfOk result (λ c. c ≡ strategy_data strategy) }
+        ensures { IfOk result (λ c. c.item ≡ strategy_data strategy) }
     {
-        strategy.admitted();
         Ok(ChildStrategy {
-            inner: Box::new(alloc, strategy)?,
+            inner: Arc::new(alloc, strategy)?,
         })
     }
 
     /// The strategy itself.
+    #[tactic(auto, using(crate::proofs::AllAdmitted::child_rules))]
     pub fn strategy(&self) -> &Strategy
-        ensures { strategy_data result.now ≡ self.now }
+        ensures same { strategy_data result.now ≡ self.now.item }
+        ensures admitted { IsTrue (is_admitted self.now.item) }
     {
         &self.inner
     }
+}
 
-    /// Does nothing; tells a proof that the strategy is one that constructors make.
-    pub(crate) fn admitted(&self)
-        ensures { IsTrue (is_admitted self.now) }
-    {
-        let _ = &self.inner;
+impl Clone for ChildStrategy {
+    ghost use Rattle.std.specs.Prelude.{◌≡◌};
+
+    ghost is_clone = { λ c copy. copy ≡ c };
+
+    fn clone(&self) -> Result<ChildStrategy, AllocError> {
+        Ok(ChildStrategy {
+            inner: Arc::try_clone(&self.inner)?,
+        })
     }
 }

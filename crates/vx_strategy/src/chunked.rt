@@ -1,19 +1,18 @@
 use crate::child::ChildStrategy;
 use crate::error::BuildError;
 use crate::strategy::Strategy;
-use std::alloc::Global;
+use std::alloc::{AllocError, Global};
 
 /// Hands each chunk alone to a child of its own.
 #[derive(Debug, Drop)]
 #[cycle(strategy)]
 pub struct ChunkedLayoutStrategy {
-    pub chunk_strategy: ChildStrategy,
+    child: ChildStrategy,
 }
 
 impl ChunkedLayoutStrategy {
-    ghost use Rattle.std.specs.Prelude.{◌≡◌, IsTrue, IfOk, IfErr};
+    ghost use Rattle.std.specs.Prelude.{◌≡◌, IfOk, IfErr};
     ghost use Rattle.vx_strategy_spec.specs.StrategyData.{chunked};
-    ghost use Rattle.vx_strategy_spec.specs.Admitted.{is_admitted};
     ghost use Rattle.vx_strategy.specs.NodeViews.{chunked_way};
     ghost use Rattle.vx_strategy.specs.StrategyView.{strategy_data};
 
@@ -22,8 +21,14 @@ impl ChunkedLayoutStrategy {
         ensures memory { IfErr result (λ e. e ≡ BuildError.OutOfMemory) }
     {
         Ok(ChunkedLayoutStrategy {
-            chunk_strategy: ChildStrategy::new(alloc, chunk_strategy)?,
+            child: ChildStrategy::new(alloc, chunk_strategy)?,
         })
+    }
+
+    pub fn child(&self) -> &ChildStrategy
+        ensures { result.now ≡ self.now.child }
+    {
+        &self.child
     }
 
     pub fn into_strategy(self) -> Strategy
@@ -31,10 +36,17 @@ impl ChunkedLayoutStrategy {
     {
         Strategy::Chunked(self)
     }
+}
 
-    pub(crate) fn admitted(&self)
-        ensures { IsTrue (is_admitted (chunked_way self.now)) }
-    {
-        self.chunk_strategy.admitted()
+impl Clone for ChunkedLayoutStrategy {
+    ghost use Rattle.std.specs.Prelude.{◌≡◌};
+    ghost use Rattle.vx_strategy.specs.NodeViews.{chunked_way};
+
+    ghost is_clone = { λ s copy. chunked_way copy ≡ chunked_way s };
+
+    fn clone(&self) -> Result<ChunkedLayoutStrategy, AllocError> {
+        Ok(ChunkedLayoutStrategy {
+            child: self.child.clone()?,
+        })
     }
 }

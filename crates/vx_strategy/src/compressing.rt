@@ -1,7 +1,7 @@
 use crate::child::ChildStrategy;
 use crate::error::BuildError;
 use crate::strategy::Strategy;
-use std::alloc::Global;
+use std::alloc::{AllocError, Global};
 use std::num::NonZeroU64;
 
 /// Hands each chunk's image under the compressor on.
@@ -16,9 +16,8 @@ pub struct CompressingStrategy {
 }
 
 impl CompressingStrategy {
-    ghost use Rattle.std.specs.Prelude.{◌≡◌, ◌<◌, IsTrue, IfOk, IfErr};
+    ghost use Rattle.std.specs.Prelude.{◌≡◌, ◌<◌, IfOk, IfErr};
     ghost use Rattle.vx_strategy_spec.specs.StrategyData.{compressed};
-    ghost use Rattle.vx_strategy_spec.specs.Admitted.{is_admitted};
     ghost use Rattle.vx_strategy.specs.NodeViews.{compressed_way};
     ghost use Rattle.vx_strategy.specs.Causes.{ZeroConcurrencyOf};
     ghost use Rattle.vx_strategy.specs.StrategyView.{strategy_data};
@@ -41,7 +40,7 @@ impl CompressingStrategy {
 
     /// Refuses `ZeroConcurrency` exactly at 0.
     pub fn with_concurrency(self, concurrency: u64) -> Result<CompressingStrategy, BuildError>
-        ensures ok { IfOk result (λ s. compressed_way s ≡ compressed self.which concurrency self.child) }
+        ensures ok { IfOk result (λ s. compressed_way s ≡ compressed self.which concurrency self.child.item) }
         ensures some { IfOk result (λ s. 0 < concurrency) }
         ensures refused { IfErr result (ZeroConcurrencyOf concurrency) }
     {
@@ -55,16 +54,44 @@ impl CompressingStrategy {
         })
     }
 
+    pub fn child(&self) -> &ChildStrategy
+        ensures { result.now ≡ self.now.child }
+    {
+        &self.child
+    }
+
+    /// The compressor's number.
+    pub fn which(&self) -> u32
+        ensures { result ≡ self.now.which }
+    {
+        self.which
+    }
+
+    /// How many chunks may wait behind the compressor.
+    pub fn concurrency(&self) -> NonZeroU64
+        ensures { result ≡ self.now.concurrency }
+    {
+        self.concurrency
+    }
+
     pub fn into_strategy(self) -> Strategy
         ensures { strategy_data result ≡ compressed_way self }
     {
         Strategy::Compressing(self)
     }
+}
 
-    pub(crate) fn admitted(&self)
-        ensures { IsTrue (is_admitted (compressed_way self.now)) }
-    {
-        self.child.admitted();
-        let _concurrency = self.concurrency.get();
+impl Clone for CompressingStrategy {
+    ghost use Rattle.std.specs.Prelude.{◌≡◌};
+    ghost use Rattle.vx_strategy.specs.NodeViews.{compressed_way};
+
+    ghost is_clone = { λ s copy. compressed_way copy ≡ compressed_way s };
+
+    fn clone(&self) -> Result<CompressingStrategy, AllocError> {
+        Ok(CompressingStrategy {
+            child: self.child.clone()?,
+            which: self.which,
+            concurrency: self.concurrency,
+        })
     }
 }

@@ -6,7 +6,7 @@ use crate::child::ChildStrategy;
 use crate::error::BuildError;
 use crate::options::{DictLayoutConstraints, DictLayoutOptions};
 use crate::strategy::Strategy;
-use std::alloc::Global;
+use std::alloc::{AllocError, Global};
 use vx_model::DType;
 
 /// Whether a dictionary can hold the type: integers, texts and bytes.
@@ -32,9 +32,8 @@ pub struct DictStrategy {
 }
 
 impl DictStrategy {
-    ghost use Rattle.std.specs.Prelude.{◌≡◌, IsTrue, IfOk, IfErr};
+    ghost use Rattle.std.specs.Prelude.{◌≡◌, IfOk, IfErr};
     ghost use Rattle.vx_strategy_spec.specs.StrategyData.{coded};
-    ghost use Rattle.vx_strategy_spec.specs.Admitted.{is_admitted};
     ghost use Rattle.vx_strategy.specs.OptionViews.{dict_options};
     ghost use Rattle.vx_strategy.specs.NodeViews.{dict_way};
     ghost use Rattle.vx_strategy.specs.StrategyView.{strategy_data};
@@ -60,18 +59,58 @@ impl DictStrategy {
         })
     }
 
+    pub fn codes(&self) -> &ChildStrategy
+        ensures { result.now ≡ self.now.codes }
+    {
+        &self.codes
+    }
+
+    pub fn values(&self) -> &ChildStrategy
+        ensures { result.now ≡ self.now.values }
+    {
+        &self.values
+    }
+
+    /// What no dictionary can hold goes here, and a stream whose first chunk's image is none.
+    pub fn fallback(&self) -> &ChildStrategy
+        ensures { result.now ≡ self.now.fallback }
+    {
+        &self.fallback
+    }
+
+    pub fn constraints(&self) -> DictLayoutConstraints
+        ensures { result ≡ self.now.constraints }
+    {
+        self.constraints
+    }
+
+    /// The compressor's number for the first chunk.
+    pub fn probe(&self) -> u32
+        ensures { result ≡ self.now.probe }
+    {
+        self.probe
+    }
+
     pub fn into_strategy(self) -> Strategy
         ensures { strategy_data result ≡ dict_way self }
     {
         Strategy::Dict(self)
     }
+}
 
-    #[tactic(auto, using(crate::proofs::Admits::admit_rules))]
-    pub(crate) fn admitted(&self)
-        ensures { IsTrue (is_admitted (dict_way self.now)) }
-    {
-        self.codes.admitted();
-        self.values.admitted();
-        self.fallback.admitted()
+impl Clone for DictStrategy {
+    ghost use Rattle.std.specs.Prelude.{◌≡◌};
+    ghost use Rattle.vx_strategy.specs.NodeViews.{dict_way};
+
+    ghost is_clone = { λ s copy. dict_way copy ≡ dict_way s };
+
+    fn clone(&self) -> Result<DictStrategy, AllocError> {
+        Ok(DictStrategy {
+            codes: self.codes.clone()?,
+            values: self.values.clone()?,
+            fallback: self.fallback.clone()?,
+            constraints: self.constraints,
+            probe: self.probe,
+        })
     }
 }

@@ -4,7 +4,7 @@ use crate::child::ChildStrategy;
 use crate::error::BuildError;
 use crate::options::RepartitionWriterOptions;
 use crate::strategy::Strategy;
-use std::alloc::Global;
+use std::alloc::{AllocError, Global};
 use std::num::NonZeroU64;
 
 /// Options of which the block length isn't 0.
@@ -17,7 +17,7 @@ pub(crate) struct BlockRule {
 }
 
 impl BlockRule {
-    ghost use Rattle.std.specs.Prelude.{◌≡◌, ◌<◌, nat_lt, IsTrue, IfOk, IfErr};
+    ghost use Rattle.std.specs.Prelude.{◌≡◌, ◌<◌, IfOk, IfErr};
     ghost use Rattle.vx_strategy.specs.OptionViews.{block_options};
     ghost use Rattle.vx_strategy.specs.RuleViews.{block_rule};
     ghost use Rattle.vx_strategy.specs.Causes.{ZeroBlockLenOf};
@@ -37,25 +37,6 @@ impl BlockRule {
             canonicalize: options.canonicalize,
         })
     }
-
-    /// The options again.
-    pub fn options(&self) -> RepartitionWriterOptions
-        ensures { block_options result ≡ block_rule self.now }
-    {
-        RepartitionWriterOptions {
-            block_size_minimum: self.minimum,
-            block_len_multiple: self.multiple.get(),
-            block_size_target: self.target,
-            canonicalize: self.canonicalize,
-        }
-    }
-
-    #[tactic(auto, using(crate::proofs::Admits::admit_rules))]
-    pub fn admitted(&self)
-        ensures { IsTrue (nat_lt 0 (block_rule self.now).multiple) }
-    {
-        let _multiple = self.multiple.get();
-    }
 }
 
 /// Cuts the rows into blocks of a multiple of the block length.
@@ -67,11 +48,11 @@ pub struct RepartitionStrategy {
 }
 
 impl RepartitionStrategy {
-    ghost use Rattle.std.specs.Prelude.{◌≡◌, ◌<◌, IsTrue, IfOk, IfErr};
+    ghost use Rattle.std.specs.Prelude.{◌≡◌, ◌<◌, IfOk, IfErr};
     ghost use Rattle.vx_strategy_spec.specs.StrategyData.{grouped, by_blocks};
-    ghost use Rattle.vx_strategy_spec.specs.Admitted.{is_admitted};
     ghost use Rattle.vx_strategy.specs.OptionViews.{block_options};
     ghost use Rattle.vx_strategy.specs.NodeViews.{repartition_way};
+    ghost use Rattle.vx_strategy.specs.RuleViews.{block_rule};
     ghost use Rattle.vx_strategy.specs.Causes.{ZeroBlockLenOf};
     ghost use Rattle.vx_strategy.specs.StrategyView.{strategy_data};
 
@@ -92,18 +73,43 @@ impl RepartitionStrategy {
         })
     }
 
+    pub fn child(&self) -> &ChildStrategy
+        ensures { result.now ≡ self.now.child }
+    {
+        &self.child
+    }
+
+    /// Of a block length that isn't 0.
+    pub fn options(&self) -> RepartitionWriterOptions
+        ensures same { block_options result ≡ block_rule self.now.rule }
+        ensures some { 0 < result.block_len_multiple }
+    {
+        RepartitionWriterOptions {
+            block_size_minimum: self.rule.minimum,
+            block_len_multiple: self.rule.multiple.get(),
+            block_size_target: self.rule.target,
+            canonicalize: self.rule.canonicalize,
+        }
+    }
+
     pub fn into_strategy(self) -> Strategy
         ensures { strategy_data result ≡ repartition_way self }
     {
         Strategy::Repartition(self)
     }
+}
 
-    #[tactic(auto, using(crate::proofs::Admits::admit_rules))]
-    pub(crate) fn admitted(&self)
-        ensures { IsTrue (is_admitted (repartition_way self.now)) }
-    {
-        self.child.admitted();
-        self.rule.admitted()
+impl Clone for RepartitionStrategy {
+    ghost use Rattle.std.specs.Prelude.{◌≡◌};
+    ghost use Rattle.vx_strategy.specs.NodeViews.{repartition_way};
+
+    ghost is_clone = { λ s copy. repartition_way copy ≡ repartition_way s };
+
+    fn clone(&self) -> Result<RepartitionStrategy, AllocError> {
+        Ok(RepartitionStrategy {
+            child: self.child.clone()?,
+            rule: self.rule,
+        })
     }
 }
 
@@ -116,9 +122,8 @@ pub struct BufferedStrategy {
 }
 
 impl BufferedStrategy {
-    ghost use Rattle.std.specs.Prelude.{◌≡◌, IsTrue, IfOk, IfErr};
+    ghost use Rattle.std.specs.Prelude.{◌≡◌, IfOk, IfErr};
     ghost use Rattle.vx_strategy_spec.specs.StrategyData.{grouped, by_bytes};
-    ghost use Rattle.vx_strategy_spec.specs.Admitted.{is_admitted};
     ghost use Rattle.vx_strategy.specs.NodeViews.{buffered_way};
     ghost use Rattle.vx_strategy.specs.StrategyView.{strategy_data};
 
@@ -136,16 +141,37 @@ impl BufferedStrategy {
         })
     }
 
+    pub fn child(&self) -> &ChildStrategy
+        ensures { result.now ≡ self.now.child }
+    {
+        &self.child
+    }
+
+    /// The held size in bytes.
+    pub fn buffer_size(&self) -> u64
+        ensures { result ≡ self.now.buffer_size }
+    {
+        self.buffer_size
+    }
+
     pub fn into_strategy(self) -> Strategy
         ensures { strategy_data result ≡ buffered_way self }
     {
         Strategy::Buffered(self)
     }
+}
 
-    pub(crate) fn admitted(&self)
-        ensures { IsTrue (is_admitted (buffered_way self.now)) }
-    {
-        self.child.admitted()
+impl Clone for BufferedStrategy {
+    ghost use Rattle.std.specs.Prelude.{◌≡◌};
+    ghost use Rattle.vx_strategy.specs.NodeViews.{buffered_way};
+
+    ghost is_clone = { λ s copy. buffered_way copy ≡ buffered_way s };
+
+    fn clone(&self) -> Result<BufferedStrategy, AllocError> {
+        Ok(BufferedStrategy {
+            child: self.child.clone()?,
+            buffer_size: self.buffer_size,
+        })
     }
 }
 
@@ -157,9 +183,8 @@ pub struct CollectStrategy {
 }
 
 impl CollectStrategy {
-    ghost use Rattle.std.specs.Prelude.{◌≡◌, IsTrue, IfOk, IfErr};
+    ghost use Rattle.std.specs.Prelude.{◌≡◌, IfOk, IfErr};
     ghost use Rattle.vx_strategy_spec.specs.StrategyData.{grouped, into_one};
-    ghost use Rattle.vx_strategy_spec.specs.Admitted.{is_admitted};
     ghost use Rattle.vx_strategy.specs.NodeViews.{collect_way};
     ghost use Rattle.vx_strategy.specs.StrategyView.{strategy_data};
 
@@ -172,15 +197,28 @@ impl CollectStrategy {
         })
     }
 
+    pub fn child(&self) -> &ChildStrategy
+        ensures { result.now ≡ self.now.child }
+    {
+        &self.child
+    }
+
     pub fn into_strategy(self) -> Strategy
         ensures { strategy_data result ≡ collect_way self }
     {
         Strategy::Collect(self)
     }
+}
 
-    pub(crate) fn admitted(&self)
-        ensures { IsTrue (is_admitted (collect_way self.now)) }
-    {
-        self.child.admitted()
+impl Clone for CollectStrategy {
+    ghost use Rattle.std.specs.Prelude.{◌≡◌};
+    ghost use Rattle.vx_strategy.specs.NodeViews.{collect_way};
+
+    ghost is_clone = { λ s copy. collect_way copy ≡ collect_way s };
+
+    fn clone(&self) -> Result<CollectStrategy, AllocError> {
+        Ok(CollectStrategy {
+            child: self.child.clone()?,
+        })
     }
 }

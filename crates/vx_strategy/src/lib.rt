@@ -1,11 +1,13 @@
 //! Strategies: trees of writing nodes, and their options.
 #![tactic(auto)]
 
+mod at_type;
 mod child;
 mod chunked;
 mod compressing;
 mod dict;
 mod error;
+mod field_writer;
 mod flat;
 mod grouping;
 mod list;
@@ -15,8 +17,10 @@ mod strategy;
 mod structs;
 mod table;
 mod wrapper;
+mod zone_rule;
 mod zoned;
 
+pub use at_type::dispatch;
 pub use child::ChildStrategy;
 pub use chunked::ChunkedLayoutStrategy;
 pub use compressing::CompressingStrategy;

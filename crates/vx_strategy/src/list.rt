@@ -2,7 +2,7 @@ use crate::child::ChildStrategy;
 use crate::error::BuildError;
 use crate::flat::FlatLayoutStrategy;
 use crate::strategy::Strategy;
-use std::alloc::Global;
+use std::alloc::{AllocError, Global};
 
 /// Writes the elements, offsets and validity of lists; a type that isn't a list goes to the fallback.
 #[derive(Debug, Drop)]
@@ -15,9 +15,8 @@ pub struct ListLayoutStrategy {
 }
 
 impl ListLayoutStrategy {
-    ghost use Rattle.std.specs.Prelude.{◌≡◌, IsTrue, IfOk, IfErr};
+    ghost use Rattle.std.specs.Prelude.{◌≡◌, IfOk, IfErr};
     ghost use Rattle.vx_strategy_spec.specs.StrategyData.{listed};
-    ghost use Rattle.vx_strategy_spec.specs.Admitted.{is_admitted};
     ghost use Rattle.vx_strategy.specs.NodeViews.{list_way};
     ghost use Rattle.vx_strategy.specs.OptionViews.{default_flat};
     ghost use Rattle.vx_strategy.specs.StrategyView.{strategy_data};
@@ -41,7 +40,7 @@ impl ListLayoutStrategy {
         alloc: Global,
         elements: Strategy,
     ) -> Result<ListLayoutStrategy, BuildError>
-        ensures ok { IfOk result (λ s. list_way s ≡ listed (strategy_data elements) self.offsets self.validity self.fallback) }
+        ensures ok { IfOk result (λ s. list_way s ≡ listed (strategy_data elements) self.offsets.item self.validity.item self.fallback.item) }
         ensures memory { IfErr result (λ e. e ≡ BuildError.OutOfMemory) }
     {
         Ok(ListLayoutStrategy {
@@ -57,7 +56,7 @@ impl ListLayoutStrategy {
         alloc: Global,
         offsets: Strategy,
     ) -> Result<ListLayoutStrategy, BuildError>
-        ensures ok { IfOk result (λ s. list_way s ≡ listed self.elements (strategy_data offsets) self.validity self.fallback) }
+        ensures ok { IfOk result (λ s. list_way s ≡ listed self.elements.item (strategy_data offsets) self.validity.item self.fallback.item) }
         ensures memory { IfErr result (λ e. e ≡ BuildError.OutOfMemory) }
     {
         Ok(ListLayoutStrategy {
@@ -73,7 +72,7 @@ impl ListLayoutStrategy {
         alloc: Global,
         validity: Strategy,
     ) -> Result<ListLayoutStrategy, BuildError>
-        ensures ok { IfOk result (λ s. list_way s ≡ listed self.elements self.offsets (strategy_data validity) self.fallback) }
+        ensures ok { IfOk result (λ s. list_way s ≡ listed self.elements.item self.offsets.item (strategy_data validity) self.fallback.item) }
         ensures memory { IfErr result (λ e. e ≡ BuildError.OutOfMemory) }
     {
         Ok(ListLayoutStrategy {
@@ -89,7 +88,7 @@ impl ListLayoutStrategy {
         alloc: Global,
         fallback: Strategy,
     ) -> Result<ListLayoutStrategy, BuildError>
-        ensures ok { IfOk result (λ s. list_way s ≡ listed self.elements self.offsets self.validity (strategy_data fallback)) }
+        ensures ok { IfOk result (λ s. list_way s ≡ listed self.elements.item self.offsets.item self.validity.item (strategy_data fallback)) }
         ensures memory { IfErr result (λ e. e ≡ BuildError.OutOfMemory) }
     {
         Ok(ListLayoutStrategy {
@@ -100,19 +99,50 @@ impl ListLayoutStrategy {
         })
     }
 
+    pub fn elements(&self) -> &ChildStrategy
+        ensures { result.now ≡ self.now.elements }
+    {
+        &self.elements
+    }
+
+    pub fn offsets(&self) -> &ChildStrategy
+        ensures { result.now ≡ self.now.offsets }
+    {
+        &self.offsets
+    }
+
+    pub fn validity(&self) -> &ChildStrategy
+        ensures { result.now ≡ self.now.validity }
+    {
+        &self.validity
+    }
+
+    /// What isn't a list goes here.
+    pub fn fallback(&self) -> &ChildStrategy
+        ensures { result.now ≡ self.now.fallback }
+    {
+        &self.fallback
+    }
+
     pub fn into_strategy(self) -> Strategy
         ensures { strategy_data result ≡ list_way self }
     {
         Strategy::List(self)
     }
+}
 
-    #[tactic(auto, using(crate::proofs::Admits::admit_rules))]
-    pub(crate) fn admitted(&self)
-        ensures { IsTrue (is_admitted (list_way self.now)) }
-    {
-        self.elements.admitted();
-        self.offsets.admitted();
-        self.validity.admitted();
-        self.fallback.admitted()
+impl Clone for ListLayoutStrategy {
+    ghost use Rattle.std.specs.Prelude.{◌≡◌};
+    ghost use Rattle.vx_strategy.specs.NodeViews.{list_way};
+
+    ghost is_clone = { λ s copy. list_way copy ≡ list_way s };
+
+    fn clone(&self) -> Result<ListLayoutStrategy, AllocError> {
+        Ok(ListLayoutStrategy {
+            elements: self.elements.clone()?,
+            offsets: self.offsets.clone()?,
+            validity: self.validity.clone()?,
+            fallback: self.fallback.clone()?,
+        })
     }
 }

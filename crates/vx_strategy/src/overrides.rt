@@ -1,16 +1,17 @@
 //! Writers of a table by paths of field names.
 
-ghost use Rattle.std.specs.Prelude.{◌≡◌, IsTrue, OnOk, OnErr};
-ghost use Rattle.vx_strategy_spec.specs.StrategyData.{StrategyList};
-ghost use Rattle.vx_strategy_spec.specs.Admitted.{are_apart, are_admitted};
+ghost use Rattle.std.specs.Prelude.{◌≡◌, option_map, IfOk};
+ghost use Rattle.vx_strategy_spec.specs.Dispatch.{override, below};
 ghost use Rattle.vx_strategy.specs.PathWays.{path_ways};
-ghost use Rattle.vx_strategy.specs.Overridden.{overlap_place};
+ghost use Rattle.vx_strategy.specs.Overridden.{overlap_place, is_own, rest_of};
 
 use crate::child::ChildStrategy;
 use crate::error::BuildError;
-use std::alloc::Global;
+use crate::strategy::Strategy;
+use std::alloc::{AllocError, Global};
 use std::marker::Model;
 use vx_field_path::FieldPath;
+use vx_model::FieldName;
 
 /// The writer of the field at a path.
 #[derive(Debug, Drop)]
@@ -29,38 +30,37 @@ pub struct Overrides {
 
 impl Model for Overrides {
     ghost use Rattle.std.specs.Prelude.{IsTrue};
-    ghost use Rattle.vx_strategy_spec.specs.StrategyData.{StrategyList};
-    ghost use Rattle.vx_strategy_spec.specs.Admitted.{are_apart};
-    ghost use Rattle.vx_strategy.specs.StrategyCode.{ways_code};
+    ghost use Rattle.vx_strategy.specs.AdmittedStrategy.{AdmittedOverrides, are_overrides, as_overrides, overrides_code};
 
-    ghost Value = { StrategyList };
+    ghost Value = { AdmittedOverrides };
 
-    ghost coded = { ways_code };
+    ghost coded = { overrides_code };
 
     ghost use Rattle.vx_strategy.specs.PathWays.{path_ways};
 
-    ghost view = { λ c. path_ways c.list.items };
+    ghost view = { λ c. as_overrides (path_ways c.list.items) };
 
-    ghost invariant = { λ c. IsTrue (are_apart (path_ways c.list.items)) };
+    ghost invariant = { λ c. IsTrue (are_overrides (path_ways c.list.items)) };
 
     ghost use Rattle.vx_strategy.specs.WayDepth.{depths};
 
-    ghost size = { depths };
+    ghost size = { λ a. depths a.item };
 
-    ghost use Rattle.vx_strategy.specs.PathFalls.{depths_fall};
+    ghost use Rattle.vx_strategy.specs.PathFalls.{overrides_fall};
 
-    ghost size_decreases = { λ c h. depths_fall c.list.items };
+    ghost size_decreases = { λ c h. overrides_fall c.list.items h };
 }
 
 impl Overrides {
-    ghost use Rattle.std.specs.Prelude.{◌≡◌, IsTrue, IfOk, IfErr};
+    ghost use Rattle.std.specs.Prelude.{◌≡◌, IfOk, IfErr};
     ghost use Rattle.vx_strategy_spec.specs.StrategyData.{no_ways};
-    ghost use Rattle.vx_strategy_spec.specs.Admitted.{are_admitted};
     ghost use Rattle.vx_strategy.specs.Overridden.{appended, Fits};
     ghost use Rattle.vx_strategy.specs.Causes.{OverrideRefused};
+    ghost use Rattle.vx_strategy.specs.StrategyView.{strategy_data};
 
+    #[tactic(auto, using(crate::proofs::Apart::apart_rules))]
     pub(crate) fn none(alloc: Global) -> Overrides
-        ensures { result ≡ no_ways }
+        ensures { result.item ≡ no_ways }
     {
         Overrides {
             list: Vec::new(alloc),
@@ -71,12 +71,13 @@ impl Overrides {
     #[tactic(auto, using(crate::proofs::Apart::apart_rules))]
     pub(crate) fn with(
         self,
+        alloc: Global,
         path: FieldPath,
-        writer: ChildStrategy,
+        writer: Strategy,
     ) -> Result<Overrides, BuildError>
-        ensures ok { IfOk result (λ o. o ≡ appended self path writer) }
-        ensures fits { IfOk result (λ o. Fits self path) }
-        ensures refused { IfErr result (OverrideRefused self path) }
+        ensures ok { IfOk result (λ o. o.item ≡ appended self.item path (strategy_data writer)) }
+        ensures fits { IfOk result (λ o. Fits self.item path) }
+        ensures refused { IfErr result (OverrideRefused self.item path) }
     {
         let Overrides { mut list } = self;
         if path.is_root() {
@@ -86,16 +87,9 @@ impl Overrides {
             let standing = list.swap_remove(place);
             return Err(BuildError::OverlappingPath(standing.path, path));
         }
+        let writer = ChildStrategy::new(alloc, writer)?;
         list.push(PathWriter { path, writer })?;
         Ok(Overrides { list })
-    }
-
-    /// Does nothing; tells a proof that the strategies are such that constructors make.
-    pub(crate) fn admitted(&self)
-        ensures apart { IsTrue (are_apart self.now) }
-        ensures each { IsTrue (are_admitted self.now) }
-    {
-        all_admitted(&self.list)
     }
 }
 
@@ -112,11 +106,105 @@ fn find_overlap(list: &[PathWriter], path: &FieldPath) -> Option<usize>
     None
 }
 
-#[tactic(auto, using(crate::proofs::Admits::override_rules))]
-fn all_admitted(list: &[PathWriter])
-    ensures { IsTrue (are_admitted (path_ways list.now)) }
+impl Overrides {
+    ghost use Rattle.std.specs.Prelude.{◌≡◌, option_map, IfOk};
+    ghost use Rattle.vx_strategy_spec.specs.Dispatch.{override, below};
+
+    /// The override of a field itself.
+    #[tactic(auto, using(crate::proofs::Below::child_rules))]
+    pub(crate) fn own(&self, name: &FieldName) -> Option<&ChildStrategy>
+        ensures { option_map (λ c. c.now.item) result ≡ override name.now self.now.item }
+    {
+        own_of(&self.list, name)
+    }
+
+    /// The overrides below a field, each without its first name.
+    #[tactic(auto, using(crate::proofs::Below::kept_rules))]
+    pub(crate) fn below(&self, name: &FieldName) -> Result<Overrides, AllocError>
+        ensures { IfOk result (λ o. o.item ≡ below name.now self.now.item) }
+    {
+        Ok(Overrides {
+            list: rests(*self.list.allocator(), &self.list, name)?,
+        })
+    }
+}
+
+#[tactic(auto, using(crate::proofs::Below::own_rules))]
+fn own_of<'a>(list: &'a [PathWriter], name: &FieldName) -> Option<&'a ChildStrategy>
+    ensures { option_map (λ c. c.now.item) result ≡ override name.now (path_ways list.now) }
 {
     for one in list {
-        one.writer.admitted()
+        if is_own(&one.path, name) {
+            return Some(&one.writer);
+        }
     }
+    None
+}
+
+fn is_own(path: &FieldPath, name: &FieldName) -> bool
+    ensures { result ≡ is_own name.now path.now }
+{
+    match path.parts() {
+        [only] => name == only,
+        [] | [_, _, ..] => false,
+    }
+}
+
+/// The overrides below a field, each without its first name.
+#[tactic(auto, using(crate::proofs::Below::rest_rules))]
+fn rests(
+    alloc: Global,
+    list: &[PathWriter],
+    name: &FieldName,
+) -> Result<Vec<PathWriter>, AllocError>
+    ensures { IfOk result (λ rests. path_ways rests.items ≡ below name.now (path_ways list.now)) }
+{
+    let mut rests = Vec::new(alloc);
+    for one in list {
+        if let Some(path) = rest_of(&one.path, name)? {
+            let writer = one.writer.clone()?;
+            rests.push(PathWriter { path, writer })?;
+        }
+    }
+    Ok(rests)
+}
+
+/// What stands behind this name, if something does.
+fn rest_of(path: &FieldPath, name: &FieldName) -> Result<Option<FieldPath>, AllocError>
+    ensures { IfOk result (λ rest. rest ≡ rest_of name.now path.now) }
+{
+    match path.parts() {
+        [first, _, ..] => if name == first {
+            Ok(path.clone()?.step_into())
+        } else {
+            Ok(None)
+        },
+        [] | [_] => Ok(None),
+    }
+}
+
+impl Clone for Overrides {
+    ghost use Rattle.std.specs.Prelude.{◌≡◌};
+
+    ghost is_clone = { λ o copy. copy ≡ o };
+
+    fn clone(&self) -> Result<Overrides, AllocError> {
+        Ok(Overrides {
+            list: copied(*self.list.allocator(), &self.list)?,
+        })
+    }
+}
+
+/// The same overrides, which share their strategies with these.
+fn copied(alloc: Global, list: &[PathWriter]) -> Result<Vec<PathWriter>, AllocError>
+    ensures { IfOk result (λ copies. copies.items ≡ list.now) }
+{
+    let mut copies = Vec::with_capacity(alloc, list.len())?;
+    for one in list {
+        copies.push(PathWriter {
+            path: one.path.clone()?,
+            writer: one.writer.clone()?,
+        })?;
+    }
+    Ok(copies)
 }

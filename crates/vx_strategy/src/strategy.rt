@@ -1,7 +1,3 @@
-ghost use Rattle.std.specs.Prelude.{◌≡◌, IsTrue};
-ghost use Rattle.vx_strategy_spec.specs.Admitted.{is_admitted};
-ghost use Rattle.vx_strategy.specs.StrategyView.{strategy_data};
-
 use crate::chunked::ChunkedLayoutStrategy;
 use crate::compressing::CompressingStrategy;
 use crate::dict::DictStrategy;
@@ -11,8 +7,9 @@ use crate::list::ListLayoutStrategy;
 use crate::structs::StructStrategy;
 use crate::table::TableStrategy;
 use crate::zoned::ZonedStrategy;
+use std::alloc::AllocError;
 
-/// A tree of writing nodes. Each is made by a constructor of its struct, so it is one that can write.
+/// How a stream of chunks is written: a tree of nodes. Constructors alone make one, so each is admitted.
 #[derive(Debug, Drop)]
 #[cycle(strategy)]
 pub enum Strategy {
@@ -29,24 +26,26 @@ pub enum Strategy {
     Table(TableStrategy),
 }
 
-impl Strategy {
-    /// Does nothing; tells a caller's proof that the strategy is one that constructors make.
-    #[tactic(auto, using(crate::proofs::Admits::admit_rules))]
-    pub fn admitted(&self)
-        ensures { IsTrue (is_admitted (strategy_data self.now)) }
-    {
+impl Clone for Strategy {
+    ghost use Rattle.std.specs.Prelude.{◌≡◌};
+    ghost use Rattle.vx_strategy.specs.StrategyView.{strategy_data};
+
+    ghost is_clone = { λ s copy. strategy_data copy ≡ strategy_data s };
+
+    /// Shares what the strategy holds; what is copied are the names and paths of fields.
+    fn clone(&self) -> Result<Strategy, AllocError> {
         match self {
-            Strategy::Flat(_) => {}
-            Strategy::Chunked(s) => s.admitted(),
-            Strategy::Struct(s) => s.admitted(),
-            Strategy::List(s) => s.admitted(),
-            Strategy::Dict(s) => s.admitted(),
-            Strategy::Zoned(s) => s.admitted(),
-            Strategy::Repartition(s) => s.admitted(),
-            Strategy::Buffered(s) => s.admitted(),
-            Strategy::Collect(s) => s.admitted(),
-            Strategy::Compressing(s) => s.admitted(),
-            Strategy::Table(s) => s.admitted(),
+            Strategy::Flat(s) => Ok(s.into_strategy()),
+            Strategy::Chunked(s) => Ok(s.clone()?.into_strategy()),
+            Strategy::Struct(s) => Ok(s.clone()?.into_strategy()),
+            Strategy::List(s) => Ok(s.clone()?.into_strategy()),
+            Strategy::Dict(s) => Ok(s.clone()?.into_strategy()),
+            Strategy::Zoned(s) => Ok(s.clone()?.into_strategy()),
+            Strategy::Repartition(s) => Ok(s.clone()?.into_strategy()),
+            Strategy::Buffered(s) => Ok(s.clone()?.into_strategy()),
+            Strategy::Collect(s) => Ok(s.clone()?.into_strategy()),
+            Strategy::Compressing(s) => Ok(s.clone()?.into_strategy()),
+            Strategy::Table(s) => Ok(s.clone()?.into_strategy()),
         }
     }
 }

@@ -1,20 +1,9 @@
-ghost use Rattle.std.specs.Prelude.{◌≡◌, IsTrue, OnOk};
-ghost use Rattle.vx_strategy_spec.specs.Admitted.{are_admitted};
-ghost use Rattle.vx_strategy.specs.FieldWays.{field_ways, place_of, with_writer};
-
 use crate::child::ChildStrategy;
 use crate::error::BuildError;
+use crate::field_writer::{FieldWriter, copied, find, put};
 use crate::strategy::Strategy;
-use std::alloc::{AllocFailed, Global};
+use std::alloc::{AllocError, Global};
 use vx_model::FieldName;
-
-/// The writer of the fields of one name.
-#[derive(Debug, Drop)]
-#[cycle(strategy)]
-pub(crate) struct FieldWriter {
-    pub name: FieldName,
-    pub writer: ChildStrategy,
-}
 
 /// Writes validity and each field by a writer of its own.
 #[derive(Debug, Drop)]
@@ -26,9 +15,9 @@ pub struct StructStrategy {
 }
 
 impl StructStrategy {
-    ghost use Rattle.std.specs.Prelude.{◌≡◌, map, IsTrue, IfOk, IfErr};
+    ghost use Rattle.std.specs.Prelude.{◌≡◌, map, IfOk, IfErr};
     ghost use Rattle.vx_strategy_spec.specs.StrategyData.{structured, no_ways};
-    ghost use Rattle.vx_strategy_spec.specs.Admitted.{is_admitted};
+    ghost use Rattle.vx_strategy_spec.specs.Dispatch.{override, given_or};
     ghost use Rattle.vx_strategy.specs.NodeViews.{struct_way};
     ghost use Rattle.vx_strategy.specs.FieldWays.{field_ways, with_writer};
     ghost use Rattle.vx_strategy.specs.PairWays.{named_way, with_writers};
@@ -57,16 +46,15 @@ impl StructStrategy {
         name: FieldName,
         writer: Strategy,
     ) -> Result<StructStrategy, BuildError>
-        ensures ok { IfOk result (λ s. struct_way s ≡ structured self.validity self.default (with_writer (field_ways self.writers.items) name (strategy_data writer))) }
+        ensures ok { IfOk result (λ s. struct_way s ≡ structured self.validity.item self.default.item (with_writer (field_ways self.writers.items) name (strategy_data writer))) }
         ensures memory { IfErr result (λ e. e ≡ BuildError.OutOfMemory) }
     {
-        let writer = ChildStrategy::new(alloc, writer)?;
         let StructStrategy {
             validity,
             default,
             mut writers,
         } = self;
-        put(&mut writers, name, writer)?;
+        put(&mut writers, alloc, name, writer)?;
         Ok(StructStrategy {
             validity,
             default,
@@ -80,7 +68,7 @@ impl StructStrategy {
         alloc: Global,
         list: Vec<(FieldName, Strategy)>,
     ) -> Result<StructStrategy, BuildError>
-        ensures ok { IfOk result (λ s. struct_way s ≡ structured self.validity self.default (with_writers (field_ways self.writers.items) (map named_way list.items))) }
+        ensures ok { IfOk result (λ s. struct_way s ≡ structured self.validity.item self.default.item (with_writers (field_ways self.writers.items) (map named_way list.items))) }
         ensures memory { IfErr result (λ e. e ≡ BuildError.OutOfMemory) }
     {
         let StructStrategy {
@@ -89,8 +77,7 @@ impl StructStrategy {
             mut writers,
         } = self;
         for (name, writer) in list {
-            let writer = ChildStrategy::new(alloc, writer)?;
-            put(&mut writers, name, writer)?;
+            put(&mut writers, alloc, name, writer)?;
         }
         Ok(StructStrategy {
             validity,
@@ -99,58 +86,48 @@ impl StructStrategy {
         })
     }
 
+    pub fn validity(&self) -> &ChildStrategy
+        ensures { result.now ≡ self.now.validity }
+    {
+        &self.validity
+    }
+
+    /// The writer of the fields that have none by name.
+    pub fn default(&self) -> &ChildStrategy
+        ensures { result.now ≡ self.now.default }
+    {
+        &self.default
+    }
+
+    /// The writer of the fields of this name.
+    #[tactic(auto, using(crate::proofs::Writers::writer_rules))]
+    pub fn writer(&self, name: &FieldName) -> &ChildStrategy
+        ensures { result.now.item ≡ given_or (override name.now (field_ways self.now.writers.items)) self.now.default.item }
+    {
+        match find(&self.writers, name) {
+            Some(place) => &self.writers[place].writer,
+            None => &self.default,
+        }
+    }
+
     pub fn into_strategy(self) -> Strategy
         ensures { strategy_data result ≡ struct_way self }
     {
         Strategy::Struct(self)
     }
-
-    #[tactic(auto, using(crate::proofs::Admits::admit_rules))]
-    pub(crate) fn admitted(&self)
-        ensures { IsTrue (is_admitted (struct_way self.now)) }
-    {
-        self.validity.admitted();
-        self.default.admitted();
-        all_admitted(&self.writers)
-    }
 }
 
-/// Puts the writer in the place of one of this name, or behind all.
-#[tactic(auto, using(crate::proofs::Writers::put_rules))]
-fn put(
-    writers: &mut Vec<FieldWriter>,
-    name: FieldName,
-    writer: ChildStrategy,
-) -> Result<(), AllocFailed<FieldWriter>>
-    ensures { OnOk result (field_ways writers.new.items ≡ with_writer (field_ways writers.old.items) name writer) }
-{
-    match find(writers, &name) {
-        Some(place) => {
-            writers[place].writer = writer;
-            Ok(())
-        }
-        None => writers.push(FieldWriter { name, writer }),
-    }
-}
+impl Clone for StructStrategy {
+    ghost use Rattle.std.specs.Prelude.{◌≡◌};
+    ghost use Rattle.vx_strategy.specs.NodeViews.{struct_way};
 
-/// The place of the writer of this name.
-#[tactic(auto, using(crate::proofs::PlaceSteps::place_rules))]
-fn find(writers: &[FieldWriter], name: &FieldName) -> Option<usize>
-    ensures { result ≡ place_of name.now writers.now }
-{
-    for i in 0..writers.len() {
-        if writers[i].name == *name {
-            return Some(i);
-        }
-    }
-    None
-}
+    ghost is_clone = { λ s copy. struct_way copy ≡ struct_way s };
 
-#[tactic(auto, using(crate::proofs::Admits::writer_rules))]
-fn all_admitted(writers: &[FieldWriter])
-    ensures { IsTrue (are_admitted (field_ways writers.now)) }
-{
-    for writer in writers {
-        writer.writer.admitted()
+    fn clone(&self) -> Result<StructStrategy, AllocError> {
+        Ok(StructStrategy {
+            validity: self.validity.clone()?,
+            default: self.default.clone()?,
+            writers: copied(*self.writers.allocator(), &self.writers)?,
+        })
     }
 }

@@ -2,8 +2,9 @@ use crate::child::ChildStrategy;
 use crate::error::BuildError;
 use crate::overrides::Overrides;
 use crate::strategy::Strategy;
-use crate::wrapper::{ListWrapper, Wrapper, all_admitted, tested};
-use std::alloc::Global;
+use crate::wrapper::{ListWrapper, Wrapper, tested};
+use std::alloc::{AllocError, Global};
+use std::sync::Arc;
 use vx_field_path::FieldPath;
 
 /// Writes structs field by field, lists where asked for, and every other type by the leaf strategy; a field at the
@@ -17,13 +18,12 @@ pub struct TableStrategy {
     /// Whether lists are laid out as lists; else they go to the leaf.
     pub(crate) list_layout: bool,
     /// What wraps the layout of lists, the outermost first.
-    pub(crate) wrappers: Vec<Wrapper>,
+    pub(crate) wrappers: Arc<Vec<Wrapper>>,
 }
 
 impl TableStrategy {
-    ghost use Rattle.std.specs.Prelude.{◌≡◌, true, false, map, IsTrue, IfOk, IfErr};
+    ghost use Rattle.std.specs.Prelude.{◌≡◌, true, false, map, IfOk, IfErr};
     ghost use Rattle.vx_strategy_spec.specs.StrategyData.{tabled, no_ways, no_wraps};
-    ghost use Rattle.vx_strategy_spec.specs.Admitted.{is_admitted};
     ghost use Rattle.vx_strategy.specs.NodeViews.{table_way};
     ghost use Rattle.vx_strategy.specs.WrapViews.{wraps};
     ghost use Rattle.vx_strategy.specs.Overridden.{appended, all_appended, Fits, AllFit};
@@ -47,7 +47,7 @@ impl TableStrategy {
             leaf: ChildStrategy::new(alloc, fallback)?,
             overrides: Overrides::none(alloc),
             list_layout: false,
-            wrappers: Vec::new(alloc),
+            wrappers: Arc::new(alloc, Vec::new(alloc))?,
         })
     }
 
@@ -59,15 +59,14 @@ impl TableStrategy {
         path: FieldPath,
         writer: Strategy,
     ) -> Result<TableStrategy, BuildError>
-        ensures ok { IfOk result (λ s. table_way s ≡ tabled self.validity self.leaf (appended self.overrides path (strategy_data writer)) self.list_layout (wraps self.wrappers.items)) }
-        ensures fits { IfOk result (λ s. Fits self.overrides path) }
-        ensures refused { IfErr result (OverrideRefused self.overrides path) }
+        ensures ok { IfOk result (λ s. table_way s ≡ tabled self.validity.item self.leaf.item (appended self.overrides.item path (strategy_data writer)) self.list_layout (wraps self.wrappers.value.items)) }
+        ensures fits { IfOk result (λ s. Fits self.overrides.item path) }
+        ensures refused { IfErr result (OverrideRefused self.overrides.item path) }
     {
-        let writer = ChildStrategy::new(alloc, writer)?;
         Ok(TableStrategy {
             validity: self.validity,
             leaf: self.leaf,
-            overrides: self.overrides.with(path, writer)?,
+            overrides: self.overrides.with(alloc, path, writer)?,
             list_layout: self.list_layout,
             wrappers: self.wrappers,
         })
@@ -79,14 +78,13 @@ impl TableStrategy {
         alloc: Global,
         list: Vec<(FieldPath, Strategy)>,
     ) -> Result<TableStrategy, BuildError>
-        ensures ok { IfOk result (λ s. table_way s ≡ tabled self.validity self.leaf (all_appended self.overrides (map path_way list.items)) self.list_layout (wraps self.wrappers.items)) }
-        ensures fits { IfOk result (λ s. AllFit self.overrides (map path_way list.items)) }
-        ensures refused { IfErr result (OverridesRefused self.overrides (map path_way list.items)) }
+        ensures ok { IfOk result (λ s. table_way s ≡ tabled self.validity.item self.leaf.item (all_appended self.overrides.item (map path_way list.items)) self.list_layout (wraps self.wrappers.value.items)) }
+        ensures fits { IfOk result (λ s. AllFit self.overrides.item (map path_way list.items)) }
+        ensures refused { IfErr result (OverridesRefused self.overrides.item (map path_way list.items)) }
     {
         let mut overrides = self.overrides;
         for (path, writer) in list {
-            let writer = ChildStrategy::new(alloc, writer)?;
-            overrides = overrides.with(path, writer)?;
+            overrides = overrides.with(alloc, path, writer)?;
         }
         Ok(TableStrategy {
             validity: self.validity,
@@ -103,7 +101,7 @@ impl TableStrategy {
         alloc: Global,
         leaf: Strategy,
     ) -> Result<TableStrategy, BuildError>
-        ensures ok { IfOk result (λ s. table_way s ≡ tabled self.validity (strategy_data leaf) self.overrides self.list_layout (wraps self.wrappers.items)) }
+        ensures ok { IfOk result (λ s. table_way s ≡ tabled self.validity.item (strategy_data leaf) self.overrides.item self.list_layout (wraps self.wrappers.value.items)) }
         ensures memory { IfErr result (λ e. e ≡ BuildError.OutOfMemory) }
     {
         Ok(TableStrategy {
@@ -120,7 +118,7 @@ impl TableStrategy {
         alloc: Global,
         validity: Strategy,
     ) -> Result<TableStrategy, BuildError>
-        ensures ok { IfOk result (λ s. table_way s ≡ tabled (strategy_data validity) self.leaf self.overrides self.list_layout (wraps self.wrappers.items)) }
+        ensures ok { IfOk result (λ s. table_way s ≡ tabled (strategy_data validity) self.leaf.item self.overrides.item self.list_layout (wraps self.wrappers.value.items)) }
         ensures memory { IfErr result (λ e. e ≡ BuildError.OutOfMemory) }
     {
         Ok(TableStrategy {
@@ -134,7 +132,7 @@ impl TableStrategy {
 
     /// Lists are laid out as lists.
     pub fn with_list_layout(self, alloc: Global) -> Result<TableStrategy, BuildError>
-        ensures ok { IfOk result (λ s. table_way s ≡ tabled self.validity self.leaf self.overrides true no_wraps) }
+        ensures ok { IfOk result (λ s. table_way s ≡ tabled self.validity.item self.leaf.item self.overrides.item true no_wraps) }
         ensures memory { IfErr result (λ e. e ≡ BuildError.OutOfMemory) }
     {
         Ok(TableStrategy {
@@ -142,18 +140,19 @@ impl TableStrategy {
             leaf: self.leaf,
             overrides: self.overrides,
             list_layout: true,
-            wrappers: Vec::new(alloc),
+            wrappers: Arc::new(alloc, Vec::new(alloc))?,
         })
     }
 
     /// Lists are laid out as lists in these wrappers, the first outermost. Refuses as the wrapped strategies'
     /// constructors, for the first wrapper that is refused.
+    #[tactic(auto, using(crate::proofs::Wrappers::wrap_rules))]
     pub fn with_list_layout_factory(
         self,
         alloc: Global,
         wrappers: Vec<ListWrapper>,
     ) -> Result<TableStrategy, BuildError>
-        ensures ok { IfOk result (λ s. table_way s ≡ tabled self.validity self.leaf self.overrides true (wraps_asked wrappers.items)) }
+        ensures ok { IfOk result (λ s. table_way s ≡ tabled self.validity.item self.leaf.item self.overrides.item true (wraps_asked wrappers.items)) }
         ensures wraps { IfOk result (λ s. AllWrap wrappers.items) }
         ensures refused { IfErr result (FirstRefused wrappers.items) }
     {
@@ -162,7 +161,7 @@ impl TableStrategy {
             leaf: self.leaf,
             overrides: self.overrides,
             list_layout: true,
-            wrappers: tested(alloc, wrappers)?,
+            wrappers: Arc::new(alloc, tested(alloc, wrappers)?)?,
         })
     }
 
@@ -171,14 +170,21 @@ impl TableStrategy {
     {
         Strategy::Table(self)
     }
+}
 
-    #[tactic(auto, using(crate::proofs::Admits::admit_rules))]
-    pub(crate) fn admitted(&self)
-        ensures { IsTrue (is_admitted (table_way self.now)) }
-    {
-        self.validity.admitted();
-        self.leaf.admitted();
-        self.overrides.admitted();
-        all_admitted(&self.wrappers)
+impl Clone for TableStrategy {
+    ghost use Rattle.std.specs.Prelude.{◌≡◌};
+    ghost use Rattle.vx_strategy.specs.NodeViews.{table_way};
+
+    ghost is_clone = { λ s copy. table_way copy ≡ table_way s };
+
+    fn clone(&self) -> Result<TableStrategy, AllocError> {
+        Ok(TableStrategy {
+            validity: self.validity.clone()?,
+            leaf: self.leaf.clone()?,
+            overrides: self.overrides.clone()?,
+            list_layout: self.list_layout,
+            wrappers: Arc::try_clone(&self.wrappers)?,
+        })
     }
 }

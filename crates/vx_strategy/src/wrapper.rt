@@ -1,9 +1,7 @@
 //! What wraps a list layout in a table.
 
-ghost use Rattle.std.specs.Prelude.{◌≡◌, IsTrue, IfOk, IfErr};
-ghost use Rattle.vx_strategy_spec.specs.Admitted.{wraps_admitted};
-ghost use Rattle.vx_strategy_spec.specs.StrategyData.{no_wraps};
-ghost use Rattle.vx_strategy.specs.WrapViews.{wrap, wraps};
+ghost use Rattle.std.specs.Prelude.{◌≡◌, IfOk, IfErr};
+ghost use Rattle.vx_strategy.specs.WrapViews.{wraps};
 ghost use Rattle.vx_strategy.specs.Wrapped.{wraps_asked};
 ghost use Rattle.vx_strategy.specs.WrapCauses.{AllWrap, FirstRefused};
 
@@ -12,7 +10,7 @@ use crate::error::BuildError;
 use crate::grouping::BlockRule;
 use crate::options::{RepartitionWriterOptions, ZonedLayoutOptions};
 use crate::strategy::Strategy;
-use crate::zoned::ZoneRule;
+use crate::zone_rule::ZoneRule;
 use std::alloc::Global;
 
 /// A strategy around the list layout of a table, without its child.
@@ -50,7 +48,7 @@ impl ListWrapper {
             ListWrapper::Repartition(options) => Ok(Wrapper::Repartition(BlockRule::new(options)?)),
             ListWrapper::Buffered(size) => Ok(Wrapper::Buffered(size)),
             ListWrapper::Zoned(stats, options) => {
-                let rule = ZoneRule::new(options)?;
+                let rule = ZoneRule::new(alloc, options)?;
                 Ok(Wrapper::Zoned(ChildStrategy::new(alloc, stats)?, rule))
             }
         }
@@ -69,27 +67,4 @@ pub(crate) fn tested(alloc: Global, list: Vec<ListWrapper>) -> Result<Vec<Wrappe
         wrappers.push(wrapper.tested(alloc)?)?;
     }
     Ok(wrappers)
-}
-
-#[tactic(auto, using(crate::proofs::Admits::wrap_rules))]
-pub(crate) fn all_admitted(wrappers: &[Wrapper])
-    ensures { IsTrue (wraps_admitted (wraps wrappers.now)) }
-{
-    for wrapper in wrappers {
-        admitted(wrapper)
-    }
-}
-
-#[tactic(auto, using(crate::proofs::Admits::wrap_rules))]
-fn admitted(wrapper: &Wrapper)
-    ensures { IsTrue (wraps_admitted (wrap wrapper.now no_wraps)) }
-{
-    match wrapper {
-        Wrapper::Repartition(rule) => rule.admitted(),
-        Wrapper::Buffered(_) => {}
-        Wrapper::Zoned(stats, rule) => {
-            rule.admitted();
-            stats.admitted()
-        }
-    }
 }

@@ -112,8 +112,8 @@ fn with_lists(
     table: TableStrategy,
     lists: Option<Vec<ListWrapper>>,
 ) -> Result<Strategy, StrategyError>
-    requires { table_way table ≡ tabled table.validity table.leaf table.overrides false no_wraps }
-    ensures { Gives strategy_data result (with_lists table.validity table.leaf table.overrides (list_wraps lists)) }
+    requires { table_way table ≡ tabled table.validity.item table.leaf.item table.overrides.item false no_wraps }
+    ensures { Gives strategy_data result (with_lists table.validity.item table.leaf.item table.overrides.item (list_wraps lists)) }
 {
     match lists {
         None => Ok(table.into_strategy()),

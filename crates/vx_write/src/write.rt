@@ -105,7 +105,7 @@ fn is_built(strategy: &Strategy, dtype: &DType) -> bool
 {
     match strategy {
         Strategy::Chunked(chunked) => {
-            is_flat_default(chunked.chunk_strategy.strategy()) && is_built_type(dtype)
+            is_flat_default(chunked.child().strategy()) && is_built_type(dtype)
         }
         Strategy::Flat(_) | Strategy::Struct(_) | Strategy::List(_) | Strategy::Dict(_) => false,
         Strategy::Zoned(_) | Strategy::Repartition(_) | Strategy::Buffered(_) => false,

@@ -1,6 +1,5 @@
 use Rattle.std.proofs.Common.{◌≡◌, length}
 use Rattle.std.specs.Vec.Iter.{into_iter_items, into_iter_len}
-use Rattle.vx_strategy_spec.specs.StrategyData.{Wraps}
 use Rattle.vx_strategy.specs.Wrapped.{wraps_asked}
 use Rattle.vx_strategy.specs.WrapCauses.{AllWrap, FirstRefused}
 use Rattle.vx_strategy.specs.declared.error.BuildError.{BuildError}

@@ -8,10 +8,10 @@ use Rattle.vx_strategy.proofs.table.TableStrategy.with_field_writers.Given as go
 
 abbrev pub invariant-loop-path : goal.invariant-loop-path
 invariant-loop-path l = record {
-  same : all_appended l.overrides (map path_way (into_iter_items l.path-iterator))
-      ≡ all_appended l.initial.overrides (map path_way (into_iter_items l.initial.path-iterator));
-  fit : AllFit l.overrides (map path_way (into_iter_items l.path-iterator)) → AllFit l.initial.overrides (map path_way (into_iter_items l.initial.path-iterator));
-  refused : (e : BuildError) → OverridesRefused l.overrides (map path_way (into_iter_items l.path-iterator)) e
-      → OverridesRefused l.initial.overrides (map path_way (into_iter_items l.initial.path-iterator)) e;
+  same : all_appended l.overrides.item (map path_way (into_iter_items l.path-iterator))
+      ≡ all_appended l.initial.overrides.item (map path_way (into_iter_items l.initial.path-iterator));
+  fit : AllFit l.overrides.item (map path_way (into_iter_items l.path-iterator)) → AllFit l.initial.overrides.item (map path_way (into_iter_items l.initial.path-iterator));
+  refused : (e : BuildError) → OverridesRefused l.overrides.item (map path_way (into_iter_items l.path-iterator)) e
+      → OverridesRefused l.initial.overrides.item (map path_way (into_iter_items l.initial.path-iterator)) e;
   left : into_iter_len l.path-iterator ≡ length (into_iter_items l.path-iterator);
 }

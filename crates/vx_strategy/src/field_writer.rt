@@ -1,0 +1,67 @@
+//! Writers of fields by name.
+
+ghost use Rattle.std.specs.Prelude.{◌≡◌, OnOk, IfOk, IfErr};
+ghost use Rattle.vx_strategy.specs.FieldWays.{field_ways, place_of, with_writer};
+ghost use Rattle.vx_strategy.specs.StrategyView.{strategy_data};
+
+use crate::child::ChildStrategy;
+use crate::error::BuildError;
+use crate::strategy::Strategy;
+use std::alloc::{AllocError, Global};
+use vx_model::FieldName;
+
+/// The writer of the fields of one name.
+#[derive(Debug, Drop)]
+#[cycle(strategy)]
+pub(crate) struct FieldWriter {
+    pub name: FieldName,
+    pub writer: ChildStrategy,
+}
+
+/// Puts the writer in the place of one of this name, or behind all.
+#[tactic(auto, using(crate::proofs::Writers::put_rules))]
+pub(crate) fn put(
+    writers: &mut Vec<FieldWriter>,
+    alloc: Global,
+    name: FieldName,
+    writer: Strategy,
+) -> Result<(), BuildError>
+    ensures ok { OnOk result (field_ways writers.new.items ≡ with_writer (field_ways writers.old.items) name (strategy_data writer)) }
+    ensures memory { IfErr result (λ e. e ≡ BuildError.OutOfMemory) }
+{
+    let writer = ChildStrategy::new(alloc, writer)?;
+    match find(writers, &name) {
+        Some(place) => {
+            writers[place].writer = writer;
+            Ok(())
+        }
+        None => Ok(writers.push(FieldWriter { name, writer })?),
+    }
+}
+
+/// The place of the writer of this name.
+#[tactic(auto, using(crate::proofs::PlaceSteps::place_rules))]
+pub(crate) fn find(writers: &[FieldWriter], name: &FieldName) -> Option<usize>
+    ensures { result ≡ place_of name.now writers.now }
+{
+    for i in 0..writers.len() {
+        if writers[i].name == *name {
+            return Some(i);
+        }
+    }
+    None
+}
+
+/// The same writers, which share their strategies with these.
+pub(crate) fn copied(alloc: Global, writers: &[FieldWriter]) -> Result<Vec<FieldWriter>, AllocError>
+    ensures { IfOk result (λ copies. copies.items ≡ writers.now) }
+{
+    let mut copies = Vec::with_capacity(alloc, writers.len())?;
+    for writer in writers {
+        copies.push(FieldWriter {
+            name: writer.name.clone()?,
+            writer: writer.writer.clone()?,
+        })?;
+    }
+    Ok(copies)
+}

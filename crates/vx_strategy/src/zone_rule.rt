@@ -1,0 +1,118 @@
+//! Options of zones that were tested.
+
+ghost use Rattle.std.specs.Prelude.{◌≡◌, ◌<◌, ◌≤◌, ◌⊎◌, ◌^◌, map, IsTrue, MatchOption};
+ghost use Rattle.std.specs.Int.NonZero.{non_zero_u32_get};
+ghost use Rattle.vx_model.specs.Words.{all_by};
+ghost use Rattle.vx_aggregate_spec.specs.Aggregate.{has_options};
+ghost use Rattle.vx_aggregate.specs.AggregateView.{aggregate};
+ghost use Rattle.vx_strategy_spec.specs.Admitted.{are_admitted_aggregates};
+ghost use Rattle.vx_strategy.specs.OptionViews.{asked, are_few};
+
+use crate::error::BuildError;
+use crate::options::ZonedLayoutOptions;
+use std::alloc::{AllocError, Global};
+use std::num::{NonZeroU32, NonZeroU64};
+use std::sync::Arc;
+use vx_aggregate::AggregateFn;
+
+/// Options of which the zone's rows are from 1 to 2^32 - 1, the concurrency isn't 0 and the aggregates are fewer than
+/// 2^32. Clones share the aggregates.
+#[derive(Debug, Drop)]
+pub(crate) struct ZoneRule {
+    pub zone_len: NonZeroU32,
+    pub aggregates: Arc<Option<Vec<AggregateFn>>>,
+    pub concurrency: NonZeroU64,
+    ghost short: { non_zero_u32_get zone_len < 2 ^ 32 },
+    ghost admitted: { IsTrue (are_admitted_aggregates (asked aggregates.value)) },
+    ghost few: { IsTrue (are_few (asked aggregates.value)) },
+}
+
+impl ZoneRule {
+    ghost use Rattle.std.specs.Prelude.{◌≡◌, IfOk, IfErr};
+    ghost use Rattle.vx_strategy.specs.OptionViews.{zoned_options};
+    ghost use Rattle.vx_strategy.specs.RuleViews.{zone_rule};
+    ghost use Rattle.vx_strategy.specs.Causes.{AreZones, NoZonesOf};
+
+    pub fn new(alloc: Global, options: ZonedLayoutOptions) -> Result<ZoneRule, BuildError>
+        ensures ok { IfOk result (λ r. zone_rule r ≡ zoned_options options) }
+        ensures zones { IfOk result (λ r. AreZones options) }
+        ensures refused { IfErr result (NoZonesOf options) }
+    {
+        let Some(zone_len) = zone_length(options.block_size) else {
+            return Err(BuildError::ZoneLength(options.block_size));
+        };
+        let Some(concurrency) = NonZeroU64::new(options.concurrency) else {
+            return Err(BuildError::ZeroConcurrency);
+        };
+        if !are_few(&options.aggregate_fns) {
+            return Err(BuildError::OutOfMemory);
+        }
+        Ok(ZoneRule {
+            zone_len,
+            aggregates: Arc::new(alloc, options.aggregate_fns)?,
+            concurrency,
+        })
+    }
+}
+
+impl Clone for ZoneRule {
+    ghost use Rattle.std.specs.Prelude.{◌≡◌};
+    ghost use Rattle.vx_strategy.specs.RuleViews.{zone_rule};
+
+    ghost is_clone = { λ r copy. zone_rule copy ≡ zone_rule r };
+
+    fn clone(&self) -> Result<ZoneRule, AllocError> {
+        Ok(ZoneRule {
+            zone_len: self.zone_len,
+            aggregates: Arc::try_clone(&self.aggregates)?,
+            concurrency: self.concurrency,
+        })
+    }
+}
+
+/// A number of rows from 1 to 2^32 - 1.
+fn zone_length(rows: u64) -> Option<NonZeroU32>
+    ensures { MatchOption result ((rows ≡ 0) ⊎ (2 ^ 32 ≤ rows)) (λ n. (non_zero_u32_get n ≡ rows) × (0 < rows) × (rows < 2 ^ 32)) }
+{
+    if rows >= 4_294_967_296 {
+        return None;
+    }
+    NonZeroU32::new(rows as u32)
+}
+
+/// Whether the columns of their table can be counted in 32 bits; more want a table of more memory than there is. Visits
+/// each aggregate, which tells that its number is from 1 to 2^32 - 1.
+#[tactic(auto, using(crate::proofs::Admits::aggregate_rules))]
+fn are_few(aggregates: &Option<Vec<AggregateFn>>) -> bool
+    ensures few { result ≡ are_few (asked aggregates.now) }
+    ensures admitted { IsTrue (are_admitted_aggregates (asked aggregates.now)) }
+{
+    match aggregates {
+        None => true,
+        Some(list) => {
+            are_numbered(list);
+            list.len() < 4_294_967_296
+        }
+    }
+}
+
+#[tactic(auto, using(crate::proofs::Admits::aggregate_rules))]
+fn are_numbered(aggregates: &[AggregateFn])
+    ensures { IsTrue (all_by has_options (map aggregate aggregates.now)) }
+{
+    for aggregate in aggregates {
+        is_numbered(aggregate)
+    }
+}
+
+#[tactic(auto, using(crate::proofs::Admits::aggregate_rules))]
+fn is_numbered(one: &AggregateFn)
+    ensures { IsTrue (has_options (aggregate one.now)) }
+{
+    match one {
+        AggregateFn::Max | AggregateFn::Min | AggregateFn::NullCount | AggregateFn::Sum => {}
+        AggregateFn::BoundedMax(n) | AggregateFn::BoundedMin(n) | AggregateFn::Bloom(n) => {
+            let _number = n.get();
+        }
+    }
+}
