@@ -1,24 +1,16 @@
-//! Values that several tests read from text.
+//! Values that several tests stand on.
 
 use serde_json::Value;
 use std::alloc::Global;
 use std::test::Fail;
 use vx_chunk_json::{read_batch, read_type};
-use vx_model::{ArrayContext, DType, EncodingId};
-use vx_strategy::Strategy;
-use vx_strategy_json::read_strategy;
+use vx_model::{ArrayContext, EncodingId};
 use vx_types::Chunk;
 
-pub(crate) fn dtype(alloc: Global, json: &str) -> Result<DType, Fail> {
-    Ok(read_type(alloc, &Value::from_str(alloc, json)?)?)
-}
-
-pub(crate) fn chunk(alloc: Global, dtype: &DType, json: &str) -> Result<Chunk, Fail> {
-    Ok(read_batch(alloc, dtype, &Value::from_str(alloc, json)?)?)
-}
-
-pub(crate) fn strategy(alloc: Global, json: &str) -> Result<Strategy, Fail> {
-    Ok(read_strategy(alloc, &Value::from_str(alloc, json)?)?)
+/// The integers 1 and 2.
+pub(crate) fn two_integers(alloc: Global) -> Result<Chunk, Fail> {
+    let dtype = read_type(alloc, &Value::from_str(alloc, "\"i64\"")?)?;
+    Ok(read_batch(alloc, &dtype, &Value::from_str(alloc, "[1, 2]")?)?)
 }
 
 /// All encodings, in order.

@@ -1,4 +1,4 @@
-//! Sequence ids and pointers, as values.
+//! Sequence ids and pointers as values, and parts of universes.
 
 use std::hash::{DefaultHasher, Hash, Hasher};
 use std::panic::Expect;
@@ -22,4 +22,14 @@ fn ids_are_their_paths(rt: HostRuntime) {
     assert!(rt; universe.least().is_some());
     id.release(&mut universe);
     assert!(rt; universe.least().is_none());
+}
+
+#[test]
+fn a_part_by_itself(rt: HostRuntime) {
+    let (mut universe, pointer) = SequenceId::root(rt.alloc()).expect(&rt, "memory");
+    let mut part = universe.part(&[], &pointer).expect(&rt, "memory");
+    assert!(rt; universe.least().is_none());
+    assert_eq!(rt; part.least(), Some([0].as_slice()));
+    pointer.downgrade().release(&mut part);
+    assert!(rt; part.least().is_none());
 }

@@ -1,6 +1,6 @@
 //! What a write is given.
 
-use crate::fixtures::{chunk, context, dtype};
+use crate::fixtures::{context, two_integers};
 use std::convert::TryFrom;
 use std::panic::Expect;
 use std::test::Fail;
@@ -19,7 +19,7 @@ fn image<C: CompressorPlugin>(compressor: &mut C, chunk: &Chunk) -> Result<u64, 
 #[test]
 fn compressed_chunks(rt: HostRuntime) -> Result<(), Fail> {
     let alloc = rt.alloc();
-    let chunk = chunk(alloc, &dtype(alloc, "\"i64\"")?, "[1, 2]")?;
+    let chunk = two_integers(alloc)?;
     let mut compressor = PlainCompressor::new(vec![in alloc; 1]?);
     assert!(rt; matches!(image(&mut compressor, &chunk), Ok(2)));
     assert!(rt; matches!(image(&mut compressor, &chunk), Err(CompressError::Failed)));

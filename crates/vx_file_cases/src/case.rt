@@ -1,0 +1,29 @@
+//! A case and its answer.
+
+use crate::given::cut;
+use crate::{fails, reading, rows, written};
+use anyhow::{Context, bail};
+use std::alloc::Global;
+
+/// The line of the answer; nothing where the line is no case.
+pub(crate) fn answer(alloc: Global, line: &str) -> anyhow::Result<String> {
+    if line.is_empty() || line.starts_with('#') {
+        return Ok(String::new(alloc));
+    }
+    let (name, rest) = cut(line);
+    let (word, given) = cut(rest);
+    let text = answer_to(alloc, word, given).context(format_args!("in the line {line}"))?;
+    Ok(format!(in alloc; "{name}: {text}\n")?)
+}
+
+fn answer_to(alloc: Global, word: &str, given: &str) -> anyhow::Result<String> {
+    match word {
+        "rows" => rows::reported(alloc, given),
+        "read" => reading::told(alloc, given),
+        "columns" => written::columns(alloc, given),
+        "spelled" => written::spelled(alloc, given),
+        "parsed" => written::parsed(alloc, given),
+        "fails" => fails::told(alloc, given),
+        _ => bail!("no word {word}"),
+    }
+}

@@ -1,0 +1,41 @@
+//! What a case gives.
+
+use anyhow::Context;
+use serde_json::Value;
+use std::alloc::Global;
+use vx_chunk_json::{read_batch, read_type};
+use vx_model::{ArrayContext, DType, EncodingId};
+use vx_strategy::Strategy;
+use vx_strategy_json::read_strategy;
+use vx_types::Chunk;
+
+/// The text before the first space, and the text behind it.
+pub(crate) fn cut(text: &str) -> (&str, &str) {
+    text.split_once(' ').unwrap_or((text, ""))
+}
+
+/// The first part, and the parts behind it.
+pub(crate) fn parts(text: &str) -> anyhow::Result<(&str, &str)> {
+    text.split_once(" / ").context("a part is missing")
+}
+
+pub(crate) fn dtype(alloc: Global, json: &str) -> anyhow::Result<DType> {
+    let value = Value::from_str(alloc, json)?;
+    Ok(read_type(alloc, &value)?)
+}
+
+pub(crate) fn chunk(alloc: Global, dtype: &DType, json: &str) -> anyhow::Result<Chunk> {
+    let value = Value::from_str(alloc, json)?;
+    Ok(read_batch(alloc, dtype, &value)?)
+}
+
+pub(crate) fn strategy(alloc: Global, json: &str) -> anyhow::Result<Strategy> {
+    let value = Value::from_str(alloc, json)?;
+    Ok(read_strategy(alloc, &value)?)
+}
+
+/// All encodings, in order.
+pub(crate) fn context(alloc: Global) -> anyhow::Result<ArrayContext> {
+    let ids = Vec::from_slice(alloc, EncodingId::ALL.as_slice())?;
+    Ok(ArrayContext::try_new(ids)?)
+}

@@ -1,0 +1,97 @@
+//! Filters of booleans and nulls, and lists that they don't take.
+
+ghost use Rattle.std.specs.Prelude.{IsTrue, true};
+ghost use Rattle.vx_model.specs.Ty.{boolean};
+ghost use Rattle.vx_model.specs.ValueData.{is_row_value};
+ghost use Rattle.vx_model.specs.TreeView.{val};
+
+use crate::filters::{Partial, filter};
+use crate::given::cut;
+use std::alloc::{AllocError, Global};
+use vx_bloom::{BloomFilter, BloomOptions, Unsupported};
+use vx_model::{DType, Nullability, Value};
+
+/// A boolean, or null.
+fn value(word: &str) -> Value
+    ensures { IsTrue (is_row_value (boolean true) (val result)) }
+{
+    match word {
+        "true" => Value::Bool(true),
+        "false" => Value::Bool(false),
+        _ => Value::Null,
+    }
+}
+
+/// Inserts the two values of the words.
+fn insert_pair(partial: &mut Partial, pair: &str) -> Result<(), Unsupported> {
+    let (first, second) = cut(pair);
+    let dtype = DType::Bool(Nullability::Nullable);
+    let values = [value(first), value(second)];
+    BloomFilter.accumulate(partial, &dtype, &values)
+}
+
+pub(crate) fn accumulated(alloc: Global, given: &str) -> anyhow::Result<String> {
+    let mut partial = BloomFilter.empty_partial(alloc, &BloomOptions::default())?;
+    for pair in given.split(" / ") {
+        insert_pair(&mut partial, pair)?;
+    }
+    let empty = partial == filter(alloc, "256")?;
+    told(alloc, empty, &partial)
+}
+
+/// Which of the three values the filter contains.
+fn told(alloc: Global, empty: bool, partial: &Partial) -> anyhow::Result<String> {
+    let one = contains(partial, "true")?;
+    let other = contains(partial, "false")?;
+    let null = contains(partial, "null")?;
+    Ok(format!(in alloc; "empty {empty}, true {one}, false {other}, null {null}")?)
+}
+
+fn contains(partial: &Partial, word: &str) -> Result<bool, Unsupported> {
+    partial.contains_scalar(&DType::Bool(Nullability::Nullable), &value(word))
+}
+
+/// The type of lists of booleans.
+fn list_type(alloc: Global) -> Result<DType, AllocError> {
+    let item = Box::new(alloc, DType::Bool(Nullability::Nullable))?;
+    Ok(DType::List(item, Nullability::NonNullable))
+}
+
+/// Inserts null, or the empty list, as a list of booleans.
+fn insert_list(
+    alloc: Global,
+    partial: &mut Partial,
+    null: bool,
+) -> Result<Result<(), Unsupported>, AllocError> {
+    let item = Box::new(alloc, DType::Bool(Nullability::Nullable))?;
+    let dtype = DType::List(item, Nullability::NonNullable);
+    if null {
+        Ok(partial.insert_scalar(&dtype, &Value::Null))
+    } else {
+        Ok(partial.insert_scalar(&dtype, &Value::List(Vec::new(alloc))))
+    }
+}
+
+pub(crate) fn inserted_list(alloc: Global, given: &str) -> anyhow::Result<String> {
+    let mut partial = BloomFilter.empty_partial(alloc, &BloomOptions::default())?;
+    match insert_list(alloc, &mut partial, given == "null")? {
+        Ok(()) => Ok(String::from_str(alloc, "Ok")?),
+        Err(error) => Ok(format!(in alloc; "{error:?}")?),
+    }
+}
+
+/// The state's type on lists of booleans, or on booleans.
+fn state_of(alloc: Global, list: bool) -> Result<Option<DType>, AllocError> {
+    if list {
+        BloomFilter.state_dtype(&list_type(alloc)?)
+    } else {
+        BloomFilter.state_dtype(&DType::Bool(Nullability::Nullable))
+    }
+}
+
+pub(crate) fn state(alloc: Global, given: &str) -> anyhow::Result<String> {
+    match state_of(alloc, given == "list")? {
+        Some(dtype) => Ok(format!(in alloc; "{dtype}")?),
+        None => Ok(String::from_str(alloc, "none")?),
+    }
+}

@@ -1,0 +1,112 @@
+//! Filters, and their bytes.
+
+use crate::given::{bytes, cut, parts};
+use std::alloc::{AllocError, Global};
+use std::num::NonZeroU32;
+use vx_bloom::{BlockCount, BloomFilter, BloomOptions, BloomPartial, HashFn};
+use vx_hash::{ByteHash, XxHash3_64};
+
+pub(crate) type Partial = BloomPartial<XxHash3_64>;
+
+pub(crate) fn options(blocks: u32) -> BloomOptions {
+    let blocks = NonZeroU32::new(blocks).unwrap_or(NonZeroU32::MIN);
+    BloomOptions::new(blocks, HashFn::XxHash3_64)
+}
+
+/// The filter of these words.
+fn filter_of<H: ByteHash>(
+    alloc: Global,
+    blocks: u32,
+    words: &str,
+) -> Result<BloomPartial<H>, AllocError> {
+    let mut partial = BloomPartial::from(alloc, &options(blocks))?;
+    for word in words.split_whitespace() {
+        partial.insert(word.as_bytes());
+    }
+    Ok(partial)
+}
+
+pub(crate) fn filter(alloc: Global, given: &str) -> anyhow::Result<Partial> {
+    let (blocks, words) = cut(given);
+    Ok(filter_of(alloc, blocks.parse::<u32>()?, words)?)
+}
+
+pub(crate) fn shown(alloc: Global, given: &str) -> anyhow::Result<String> {
+    let bytes = filter(alloc, given)?.serialize(alloc)?;
+    let count = bytes.iter().filter(|b| **b != 0).count();
+    let mut text = format!(in alloc; "{} bytes, {count} not 0", bytes.len())?;
+    push_blocks(alloc, &mut text, &bytes)?;
+    Ok(text)
+}
+
+/// The blocks that aren't 0.
+fn push_blocks(alloc: Global, text: &mut String, bytes: &[u8]) -> Result<(), AllocError> {
+    for (number, block) in bytes.chunks(32).enumerate() {
+        if block.iter().any(|b| *b != 0) {
+            let block = hex::encode(alloc, block)?;
+            write!(text, ", block {number} {block}")?;
+        }
+    }
+    Ok(())
+}
+
+pub(crate) fn contained(alloc: Global, given: &str) -> anyhow::Result<String> {
+    let (given, word) = parts(given)?;
+    let contains = filter(alloc, given)?.contains(word.as_bytes());
+    Ok(format!(in alloc; "{contains}")?)
+}
+
+pub(crate) fn read(alloc: Global, given: &str) -> anyhow::Result<String> {
+    let (given, wanted) = parts(given)?;
+    let bytes = bytes(alloc, given)?;
+    let wanted = filter(alloc, wanted)?;
+    read_as(alloc, &bytes, &wanted)
+}
+
+fn read_as(alloc: Global, bytes: &[u8], wanted: &Partial) -> anyhow::Result<String> {
+    match Partial::deserialize(alloc, bytes) {
+        Ok(filter) => Ok(format!(in alloc; "equal {}", filter == *wanted)?),
+        Err(error) => Ok(format!(in alloc; "{error:?}")?),
+    }
+}
+
+pub(crate) fn saturated(alloc: Global, given: &str) -> anyhow::Result<String> {
+    let filter = Partial::deserialize(alloc, &bytes(alloc, given)?)?;
+    let one = BloomFilter.is_saturated(&filter);
+    let other = filter.is_saturated();
+    Ok(format!(in alloc; "{one} {other}")?)
+}
+
+/// Two filters, and a third that both together are to be.
+fn three(alloc: Global, given: &str) -> anyhow::Result<(Partial, Partial, Partial)> {
+    let (first, rest) = parts(given)?;
+    let (second, third) = parts(rest)?;
+    let pair = (filter(alloc, first)?, filter(alloc, second)?);
+    Ok((pair.0, pair.1, filter(alloc, third)?))
+}
+
+pub(crate) fn union(alloc: Global, given: &str) -> anyhow::Result<String> {
+    let (mut a, b, third) = three(alloc, given)?;
+    let equal = a == b;
+    let answer = a.union(&b);
+    Ok(united(alloc, equal, answer, a == third)?)
+}
+
+pub(crate) fn merged(alloc: Global, given: &str) -> anyhow::Result<String> {
+    let (mut a, b, third) = three(alloc, given)?;
+    let equal = a == b;
+    let answer = BloomFilter.merge_partials(&mut a, &b);
+    Ok(united(alloc, equal, answer, a == third)?)
+}
+
+fn united(
+    alloc: Global,
+    equal: bool,
+    answer: Result<(), BlockCount>,
+    third: bool,
+) -> Result<String, AllocError> {
+    match answer {
+        Ok(()) => format!(in alloc; "equal {equal}, then {third}"),
+        Err(error) => format!(in alloc; "equal {equal}, then {error:?}"),
+    }
+}

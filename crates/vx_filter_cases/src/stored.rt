@@ -1,0 +1,33 @@
+//! Filters as stored values.
+
+use crate::filters::{Partial, filter, options};
+use crate::given::parts;
+use std::alloc::Global;
+use vx_bloom::{BloomFilter, PartialError};
+use vx_model::Value;
+
+/// The filter's value, read as a filter of so many blocks.
+fn read_again(alloc: Global, filter: &Partial, blocks: u32) -> Result<Partial, PartialError> {
+    let stored = BloomFilter.to_scalar(alloc, filter)?;
+    BloomFilter.partial_from_scalar(alloc, &options(blocks), &stored)
+}
+
+pub(crate) fn stored(alloc: Global, given: &str) -> anyhow::Result<String> {
+    let (given, blocks) = parts(given)?;
+    let filter = filter(alloc, given)?;
+    match read_again(alloc, &filter, blocks.parse::<u32>()?) {
+        Ok(read) => Ok(format!(in alloc; "equal {}", read == filter)?),
+        Err(error) => Ok(format!(in alloc; "{error:?}")?),
+    }
+}
+
+pub(crate) fn stored_null(alloc: Global, given: &str) -> anyhow::Result<String> {
+    let blocks = given.parse::<u32>()?;
+    let read = BloomFilter.partial_from_scalar(alloc, &options(blocks), &Value::Null)?;
+    let empty = filter(alloc, given)?;
+    Ok(format!(in alloc; "equal {}", read == empty)?)
+}
+
+pub(crate) fn id(alloc: Global) -> anyhow::Result<String> {
+    Ok(String::from_str(alloc, BloomFilter.id())?)
+}

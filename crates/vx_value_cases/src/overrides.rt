@@ -1,0 +1,57 @@
+//! Writers of paths in tables.
+
+use crate::given::parts;
+use crate::strategies::flat;
+use std::alloc::{AllocError, Global};
+use vx_field_path::FieldPath;
+use vx_model::Text;
+use vx_strategy::{BuildError, TableStrategy};
+
+/// A table whose leaf, validity and lists were set after it was made.
+fn table(alloc: Global) -> Result<TableStrategy, BuildError> {
+    TableStrategy::new(alloc, flat(), flat())?
+        .with_default_strategy(alloc, flat())?
+        .with_validity_strategy(alloc, flat())?
+        .with_list_layout(alloc)
+}
+
+/// The path of one name.
+fn path(alloc: Global, name: &str) -> Result<FieldPath, AllocError> {
+    FieldPath::from_name(alloc, Text::from_str(alloc, name)?)?.clone()
+}
+
+/// The table with a writer of the path.
+fn with_writer(
+    alloc: Global,
+    table: TableStrategy,
+    name: &str,
+) -> Result<TableStrategy, BuildError> {
+    let path = path(alloc, name)?;
+    table.with_field_writer(alloc, path, flat())
+}
+
+pub(crate) fn overridden(alloc: Global, given: &str) -> anyhow::Result<String> {
+    let (standing, new) = parts(given)?;
+    let table = with_writer(alloc, table(alloc)?, standing)?;
+    match with_writer(alloc, table, new) {
+        Ok(_) => Ok(String::from_str(alloc, "Ok")?),
+        Err(BuildError::OverlappingPath(standing, new)) => overlap(alloc, &standing, &new),
+        Err(error) => Ok(format!(in alloc; "{error:?}")?),
+    }
+}
+
+fn overlap(alloc: Global, standing: &FieldPath, new: &FieldPath) -> anyhow::Result<String> {
+    let mut text = String::from_str(alloc, "standing")?;
+    push_names(&mut text, standing)?;
+    text.push_str(", new")?;
+    push_names(&mut text, new)?;
+    Ok(text)
+}
+
+fn push_names(text: &mut String, path: &FieldPath) -> Result<(), AllocError> {
+    for name in path.parts() {
+        text.push_str(" ")?;
+        text.push_str(name.as_str())?;
+    }
+    Ok(())
+}
