@@ -64,12 +64,14 @@ pub mod layout {
 
 /// Sequence ids: the order in which segments are appended, whoever makes them.
 pub mod sequence {
-    pub use vx_sequence::{SequenceError, SequenceId, SequencePointer, Universe};
+    pub use vx_sequence::{SequenceError, SequenceId, SequencePointer, Steps, Universe};
 }
 
 /// What a write reads from and appends to, and the ordered write over a sink.
 pub mod sink {
-    pub use vx_order::{Attempt, LocalOrder, Order, OrderError, Receipt};
+    pub use vx_order::{
+        Attempt, LocalOrder, Order, OrderError, Receipt, WriteErrorName, make_ids, split_off,
+    };
     pub use vx_sink::{
         BatchSource, BufferedBytesReservation, BufferedBytesTracker, CompressError,
         CompressorPlugin, Fails, Fallible, LayoutWriterContext, ListSource, MemorySink,

@@ -1,1 +1,4 @@
+mod Children
 mod Smaller
+mod Splits
+mod Told

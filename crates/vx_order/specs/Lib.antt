@@ -1,3 +1,4 @@
 pub mod Answers
-pub mod Store
+pub mod Ids
 pub mod Local
+pub mod Outlet

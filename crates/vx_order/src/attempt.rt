@@ -1,4 +1,5 @@
 //! What a try to write answers.
+use vx_order_answer::Receipt;
 use vx_path::owned::Path;
 use vx_sequence::SequenceId;
 
@@ -8,12 +9,4 @@ pub enum Attempt {
     Written(Receipt),
     /// Another active path is smaller; this is the least one, and the id is handed back.
     Waiting { id: SequenceId, smaller: Path },
-}
-
-/// Which segment was written.
-#[derive(Debug, Drop)]
-pub struct Receipt {
-    pub path: Path,
-    /// The segment's number.
-    pub number: u32,
 }

@@ -2,11 +2,12 @@
 #![tactic(auto)]
 
 mod attempt;
-mod errors;
+mod ids;
 mod local;
 mod ordered;
 
-pub use attempt::{Attempt, Receipt};
-pub use errors::OrderError;
+pub use attempt::Attempt;
+pub use ids::{make_ids, split_off};
 pub use local::LocalOrder;
 pub use ordered::Order;
+pub use vx_order_answer::{OrderError, Receipt, WriteErrorName};

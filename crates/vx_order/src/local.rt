@@ -3,9 +3,10 @@ ghost use Rattle.std.specs.Prelude.{◌≡◌, IsTrue, IfNone, IfSome};
 ghost use Rattle.vx_path.specs.Path.{path_lt};
 ghost use Rattle.vx_sequence.specs.Universe.{IsActive, IsLeast, IsUniverse};
 
-use crate::attempt::{Attempt, Receipt};
-use crate::errors::OrderError;
+use crate::attempt::Attempt;
 use crate::ordered::Order;
+use vx_fault::Fallible;
+use vx_order_answer::{OrderError, Receipt};
 use vx_sequence::{SequenceError, SequenceId, SequencePointer, Universe};
 use vx_sink::{SegmentSink, SinkError};
 
@@ -39,12 +40,20 @@ impl<S: SegmentSink> LocalOrder<S> {
     }
 }
 
+impl<S: SegmentSink> Fallible for LocalOrder<S> {
+    ghost faults = { λ o. S.faults o.sink };
+
+    ghost may_fail = { λ o. S.may_fail o.sink };
+
+    ghost must_fail = { λ o. S.must_fail o.sink };
+}
+
 impl<S: SegmentSink> Order for LocalOrder<S> {
+    ghost use Rattle.vx_order.specs.Outlet.{own};
+
     ghost active = { λ o. o.universe };
 
-    ghost store = { λ o. record { next = S.next o.sink; segments = S.segments o.sink; faults = S.faults o.sink } };
-
-    ghost may_fail = { λ o k. S.may_fail o.sink k };
+    ghost outlet = { λ o. own (record { next = S.next o.sink; segments = S.segments o.sink }) };
 
     ghost may_write = { λ _ _ _. Unit {0} };
 

@@ -1,26 +1,26 @@
 //! The order of writes as a trait.
-ghost use Rattle.std.specs.Prelude.{◌≡◌, ◌↔◌, ℕ, ◌+◌, ◌<◌, ◌≤◌, ◌^◌, List, IsTrue, IfOk, IfErr, OnOk, OnErr};
+ghost use Rattle.std.specs.Prelude.{◌≡◌, ◌↔◌, ℕ, ◌<◌, List, IsTrue, IfOk, IfErr, OnOk, OnErr};
 ghost use Rattle.vx_path.specs.Path.{eof_path, next, path_lt};
 ghost use Rattle.vx_sequence.specs.Universe.{Active, IsActive, IsOpen, IsLeast, IsUniverse, advanced, descended, released};
-ghost use Rattle.vx_fault.specs.Counts.{Counts, IsCalm};
+ghost use Rattle.vx_fault.specs.Counts.{IsCalm};
 
 use crate::attempt::Attempt;
-use crate::errors::OrderError;
+use vx_fault::Fallible;
+use vx_order_answer::OrderError;
 use vx_sequence::{SequenceId, SequencePointer};
 
-/// A universe of paths, and a sink to which segments are appended in the order of their paths.
-pub trait Order {
-    ghost use Rattle.vx_order.specs.Store.{Store};
-    ghost use Rattle.vx_order.specs.Answers.{FullAt, Answers, IsWaiting, IsTooLarge, IsWritten, is_sink_fault, active_after, next_after, segments_after, MayLater};
+/// A universe of paths, and a sink to which segments are appended in the order of their paths. The faults are the sink's.
+///
+/// Where the sink is shared, the count of faults is 0 until it failed this order, and then the greatest u64.
+pub trait Order: Fallible {
+    ghost use Rattle.vx_order.specs.Outlet.{Outlet};
+    ghost use Rattle.vx_order.specs.Answers.{FullAt, HasRoom, IsFull, Answers, After, Unasked, Tells, IsWaiting, IsTooLarge, IsWritten, active_after};
 
     /// The active paths.
     ghost active: { Self → Active };
 
-    /// What the sink tells.
-    ghost store: { Self → Store };
-
-    /// Whether the append after so many others may fail.
-    ghost may_fail: { Self → ℕ → Type 0 };
+    /// What the order tells of its sink, its own or one that it shares.
+    ghost outlet: { Self → Outlet };
 
     /// Which bytes may be written at which path.
     ghost may_write: { Self → List ℕ → List ℕ → Type 0 };
@@ -39,8 +39,9 @@ pub trait Order {
         ensures full { IfErr result (FullAt p.old.last) }
         ensures unchanged { OnErr result ((p.new ≡ p.old) × (active self.new ≡ active self.old)) }
 
-        ensures store { store self.new ≡ store self.old }
-        ensures may_fail { (k : ℕ) → may_fail self.new k → may_fail self.old k }
+        ensures outlet { outlet self.new ≡ outlet self.old }
+        ensures told { Unasked (Self.faults self.old) (Self.faults self.new) (Self.may_fail self.old) (Self.may_fail self.new)
+            (Self.must_fail self.old) (Self.must_fail self.new) }
         ensures may_write { (p b : List ℕ) → may_write self.old p b → may_write self.new p b }
         ensures rules { IsUniverse (active self.old) }
         ensures borrow { borrow self.new ≡ borrow self.old };
@@ -53,8 +54,9 @@ pub trait Order {
         ensures refused { IfErr result (λ r. (r.0 ≡ id) × (r.1 ≡ OrderError.OutOfMemory)) }
         ensures unchanged { OnErr result (active self.new ≡ active self.old) }
 
-        ensures store { store self.new ≡ store self.old }
-        ensures may_fail { (k : ℕ) → may_fail self.new k → may_fail self.old k }
+        ensures outlet { outlet self.new ≡ outlet self.old }
+        ensures told { Unasked (Self.faults self.old) (Self.faults self.new) (Self.may_fail self.old) (Self.may_fail self.new)
+            (Self.must_fail self.old) (Self.must_fail self.new) }
         ensures may_write { (p b : List ℕ) → may_write self.old p b → may_write self.new p b }
         ensures rules { IsUniverse (active self.old) }
         ensures borrow { borrow self.new ≡ borrow self.old };
@@ -63,8 +65,9 @@ pub trait Order {
     fn release(&mut self, id: SequenceId)
         requires { IsActive (active self.old) id }
         ensures active { active self.new ≡ released (active self.old) id }
-        ensures store { store self.new ≡ store self.old }
-        ensures may_fail { (k : ℕ) → may_fail self.new k → may_fail self.old k }
+        ensures outlet { outlet self.new ≡ outlet self.old }
+        ensures told { Unasked (Self.faults self.old) (Self.faults self.new) (Self.may_fail self.old) (Self.may_fail self.new)
+            (Self.must_fail self.old) (Self.must_fail self.new) }
         ensures may_write { (p b : List ℕ) → may_write self.old p b → may_write self.new p b }
         ensures rules { IsUniverse (active self.old) }
         ensures borrow { borrow self.new ≡ borrow self.old };
@@ -83,18 +86,16 @@ pub trait Order {
     ) -> Result<Attempt, (SequenceId, OrderError)>
         requires is_active { IsActive (active self.old) id }
         requires allowed { may_write self.old id bytes.now }
-        ensures answer { Answers (active self.old) (store self.old).next id result }
+        ensures answer { Answers (active self.old) (outlet self.old) id result }
         ensures waits { (q : List ℕ) → IsActive (active self.old) q → IsTrue (path_lt q id) → IsWaiting result }
-        ensures large { IsLeast (active self.old) id → 2 ^ 32 ≤ (store self.old).next → IsTooLarge result }
-        ensures complete { IsLeast (active self.old) id → (store self.old).next < 2 ^ 32
-            → IsCalm (store self.old).faults (store self.new).faults → IsWritten result }
+        ensures large { IsLeast (active self.old) id → IsFull (outlet self.old) → IsTooLarge result }
+        ensures complete { IsLeast (active self.old) id → HasRoom (outlet self.old)
+            → IsCalm (Self.faults self.old) (Self.faults self.new) → IsWritten result }
 
         ensures active { active self.new ≡ active_after (active self.old) id result }
-        ensures next { (store self.new).next ≡ next_after (store self.old).next result }
-        ensures segments { (store self.new).segments ≡ segments_after (store self.old).segments bytes.now result }
-        ensures cause { Counts (store self.old).faults (store self.new).faults (is_sink_fault result) }
-        ensures fails { IsTrue (is_sink_fault result) → may_fail self.old 0 }
-        ensures later { (k : ℕ) → may_fail self.new k → MayLater (may_fail self.old) k result }
+        ensures outlet { After (outlet self.old) bytes.now result (outlet self.new) }
+        ensures told { Tells (Self.faults self.old) (Self.faults self.new) (Self.may_fail self.old) (Self.may_fail self.new)
+            (Self.must_fail self.old) (Self.must_fail self.new) result }
         ensures may_write { (p b : List ℕ) → may_write self.old p b → may_write self.new p b }
         ensures rules { IsUniverse (active self.old) }
         ensures borrow { borrow self.new ≡ borrow self.old };

@@ -5,11 +5,15 @@ use Rattle.std.specs.FinMap as fin
 use Rattle.std.specs.FinMap.{find, from_entries, get-from_entries}
 use Rattle.std.specs.Cmp.Lexicographic.{nat_list_cmp_total}
 use Rattle.vx_sequence.specs.Universe.{path_cmp}
-use Rattle.vx_sequence.specs.Entries.{AreDistinct}
 use Rattle.vx_sequence.proofs.Sets.{same, same_true, same_refl, other_way, same_active}
 
 abbrev Pair : Type 0
 Pair = List ℕ × Bool
+
+-- no path stands twice
+abbrev pub AreDistinct : List (List ℕ × Bool) → Type 0
+AreDistinct [] = Unit {0}
+AreDistinct (e ∷ es) = (find path_cmp e.0 es ≡ None) × AreDistinct es
 
 none_parts : (b : Bool) (x : Bool) (o : Option Bool) → cond b (Some x) o ≡ None → (b ≡ false) × (o ≡ None)
 none_parts true x o h = cc
@@ -51,15 +55,6 @@ none_rest (d ∷ front) back e q n =
     none_parts (same q d.0) d.1 (find path_cmp q (front ++ (e ∷ back))) n in
     let rest : (same q e.0 ≡ false) × (find path_cmp q (front ++ back) ≡ None) = none_rest front back e q parts.1 in
     (rest.0, none_from (same q d.0) d.1 (find path_cmp q (front ++ back)) parts.0 rest.1)
-
-pub distinct_with : (front back : List Pair) (e : Pair) → find path_cmp e.0 (front ++ back) ≡ None → AreDistinct (front ++ back) → AreDistinct (front ++ (e ∷ back))
-distinct_with [] back e n d = (n, d)
-distinct_with (c ∷ front) back e n d =
-    let parts : (same e.0 c.0 ≡ false) × (find path_cmp e.0 (front ++ back) ≡ None) = none_parts (same e.0 c.0) c.1 (find path_cmp e.0 (front ++ back)) n in (
-      find_middle front back e c.0 (none_left front back e.0 parts.1)
-          ∙ none_from (same c.0 e.0) e.1 (find path_cmp c.0 (front ++ back)) (other_way e.0 c.0 parts.0) d.0,
-      distinct_with front back e parts.1 d.1,
-    )
 
 pub distinct_without : (front back : List Pair) (e : Pair) → AreDistinct (front ++ (e ∷ back))
     → (find path_cmp e.0 (front ++ back) ≡ None) × AreDistinct (front ++ back)

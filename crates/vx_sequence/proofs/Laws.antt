@@ -1,12 +1,11 @@
 -- What holds over any list of calls.
-use Rattle.std.proofs.Common.{◌≡◌, ℕ, ◌+◌, ◌⊎◌, Bool, true, false, not, cond, nat_eq, nat_lt, List, [], ◌∷◌, refl, sym, ap, subst, ◌∙◌, inl, inr, ⊎_elim, arith}
+use Rattle.std.proofs.Common.{◌≡◌, ℕ, ◌+◌, ◌⊎◌, true, false, List, [], ◌∷◌, sym, ap, subst, ◌∙◌, inl, inr, ⊎_elim, arith}
 use Rattle.std.specs.FinMap as map
-use Rattle.vx_path.specs.Path.{path_le, path_lt, begins, under, Eof, raised, eof_path, next, inside}
-use Rattle.std.proofs.lemmas.Bool.Decides.{nat_tests}
+use Rattle.vx_path.specs.Path.{path_lt, begins, under, Eof, raised, eof_path, next, inside}
 use Rattle.vx_path.proofs.Path.{path_le-trans, lt_le, under_lt, begins-refl, begins-trans, begins-under, below_raised, begins-inside, raised-next, raised-zero}
 use Rattle.vx_sequence.specs.Universe.{Active, IsActive, IsLeast, IsUniverse, only}
 use Rattle.vx_sequence.specs.Calls.{Call, advance, descend, release, MayCall, after, MayRun, after_all, IsAbove, GoesOn}
-use Rattle.vx_sequence.proofs.Places.{same_parts, begins_under}
+use Rattle.vx_sequence.proofs.Places.{same_parts, begins_under, child_above}
 use Rattle.vx_sequence.proofs.Sets.{is_open_active, not_empty, active_insert, active_remove}
 use Rattle.vx_sequence.proofs.Rules.{removed_rules, advanced_rules, descended_rules}
 
@@ -18,14 +17,6 @@ call_rules u (release p) r m = removed_rules u p r
 pub all_rules : (u : Active) (calls : List Call) → IsUniverse u → MayRun u calls → IsUniverse (after_all u calls)
 all_rules u [] r m = r
 all_rules u (c ∷ calls) r m = all_rules (after u c) calls (call_rules u c r m.0) m.1
-
-same_head : (i : ℕ) (b : Bool) → not b ≡ true → not (cond (nat_eq i i) b (nat_lt i i)) ≡ true
-same_head i b h = grind (arith, nat_tests)
-
--- a path is below its children
-child_above : (p : List ℕ) (j : ℕ) → path_lt p (under p j) ≡ true
-child_above [] j = refl
-child_above (i ∷ p) j = same_head i (path_le (under p j) p) (child_above p j)
 
 -- what a call makes active was active, or is above something that was
 pub made : (u : Active) (c : Call) → MayCall u c → (q : List ℕ) → IsActive (after u c) q → IsActive u q ⊎ IsAbove u q

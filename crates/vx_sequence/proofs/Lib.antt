@@ -1,11 +1,13 @@
+pub mod Ascending
+pub mod Changes
 pub mod Edits
+pub mod Halves
 pub mod Kept
 pub mod Laws
+pub mod Least
 pub mod Part
 pub mod Places
 pub mod Refusals
 pub mod Rules
-pub mod Scans
 pub mod Sets
-pub mod Steps
 pub mod Uses

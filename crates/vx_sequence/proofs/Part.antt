@@ -1,18 +1,19 @@
 -- A part of a universe keeps the two rules.
 use Rattle.std.proofs.Common.{◌≡◌, ℕ, Bool, true, false, List, [], ◌∷◌, ◌++◌, ap₂, ◌<◌, ◌≤◌, ◌+◌, suc, take, drop, get_or, append_assoc, arith, length, slice_index_or, Option, Some, None, is_some, unwrap_or, refl, sym, ap, ◌∙◌, ⊎_elim, subst}
 use Rattle.std.specs.FinMap as map
+use Rattle.std.specs.FinMap.{find}
 use Rattle.std.proofs.lemmas.List.{take_all}
 use Rattle.std.proofs.Math.Seq.{split_at}
 use Rattle.std.proofs.lemmas.Grind.{common_steps}
 use Rattle.std.proofs.lemmas.Bool.{true≢false}
-use Rattle.vx_sequence.specs.Universe.{Active, IsActive, IsOpen, IsUniverse, released}
+use Rattle.vx_sequence.specs.Universe.{path_cmp, Active, IsActive, IsUniverse, released}
 use Rattle.vx_sequence.specs.Part.{CanPart, left_of, parted, IsWithin}
 use Rattle.vx_sequence.proofs.Rules.{removed_rules}
 use Rattle.vx_sequence.proofs.Sets.{get-inserted, get-insert_other, one_path, active_remove, not_empty, none_active}
-use Rattle.vx_sequence.proofs.Edits.{active-push, distinct-push, mark-at}
+use Rattle.vx_sequence.proofs.Edits.{mark-at}
 use Rattle.vx_sequence.proofs.Kept.{get_of}
-use Rattle.vx_sequence.specs.declared.active.Entry.{Entry}
-use Rattle.vx_sequence.specs.Entries.{pairs, active_of, AreDistinct, IsKept}
+use Rattle.vx_sequence.specs.declared.entries.Entry.{Entry}
+use Rattle.vx_sequence.specs.Entries.{pairs, active_of, Ascends, IsAt, IsKept}
 
 marked : (o : Option Bool) → is_some o ≡ true → (b : Bool) × (o ≡ Some b)
 marked None h = absurd (true≢false (sym h))
@@ -78,29 +79,36 @@ left_more u (r ∷ ps) p = left_more (released u r) ps p
 
 -- what the entries of a part are
 pub record IsPart (u : Active) (ps : List (List ℕ)) (es : List Entry) : Type 0 where
-  pub distinct : AreDistinct (pairs es)
+  pub ascends : Ascends es
   pub shows : active_of es ≡ parted u map.empty ps
 
-pub part_push : (u : Active) (ps : List (List ℕ)) (p : List ℕ) (qs : List (List ℕ)) (es : List Entry) (e : Entry) → CanPart u (ps ++ (p ∷ qs)) → IsPart u ps es
-    → e.path ≡ p → e.«open» ≡ unwrap_or (map.get u p) false → IsPart u (ps ++ p ∷ []) (es ++ e ∷ [])
-part_push u ps p qs es e c h same mark =
-    let free : map.get (active_of es) e.path ≡ None =
-    ap (map.get (active_of es)) same ∙ ap (λ v. map.get v p) h.shows ∙ gone u u map.empty ps p (can_at u ps p qs c) (none_active map.empty p (not_empty p)) in
-    record {
-      distinct = distinct-push es e h.distinct free;
-      shows = active-push es e h.distinct free ∙ ap (λ v. map.insert v e.path e.«open») h.shows ∙ ap₂ (λ q b. map.insert (parted u map.empty ps) q b) same mark ∙ sym (parted_more u map.empty ps p);
-    }
+-- what the entries fs are, where `put` put an entry of the path q, marked b, into es
+pub record IsMore (es fs : List Entry) (q : List ℕ) (b : Bool) : Type 0 where
+  pub ascends : Ascends fs
+  pub shows : active_of fs ≡ map.insert (active_of es) q b
+
+part_new : (u : Active) (ps : List (List ℕ)) (p : List ℕ) (qs : List (List ℕ)) (es : List Entry) → CanPart u (ps ++ (p ∷ qs)) → IsPart u ps es
+    → find path_cmp p (pairs es) ≡ None
+part_new u ps p qs es c h =
+    sym (get_of (pairs es) p) ∙ ap (λ v. map.get v p) h.shows ∙ gone u u map.empty ps p (can_at u ps p qs c) (none_active map.empty p (not_empty p))
+
+part_more : (u : Active) (ps : List (List ℕ)) (p : List ℕ) (es fs : List Entry) (q : List ℕ) (b : Bool) → IsPart u ps es → IsMore es fs q b
+    → q ≡ p → b ≡ unwrap_or (map.get u p) false → IsPart u (ps ++ p ∷ []) fs
+part_more u ps p es fs q b h m same mark = record {
+  ascends = m.ascends;
+  shows = m.shows ∙ ap (λ v. map.insert v q b) h.shows ∙ ap₂ (λ r c. map.insert (parted u map.empty ps) r c) same mark ∙ sym (parted_more u map.empty ps p);
+}
 
 pub part_kept : (u : Active) (ps : List (List ℕ)) (es : List Entry) → IsUniverse u → CanPart u ps → IsPart u ps es → IsKept es
 part_kept u ps es r c h = record {
-  distinct = h.distinct;
+  ascends = h.ascends;
   rules = subst IsUniverse (sym h.shows) (within_rules u (parted u map.empty ps) (parted_within u u map.empty ps (λ q a. a) c (empty_within u)) r);
 }
 
-pub mark_of : (es : List Entry) (u : Active) (p : List ℕ) (i : ℕ) → IsKept es → active_of es ≡ u → i < length es → ((d : Entry) → (slice_index_or es i d).path ≡ p) → (d : Entry)
-    → (slice_index_or es i d).«open» ≡ unwrap_or (map.get u p) false
-mark_of es u p i k v l f d =
-    let e = sym (ap (λ w. map.get w p) v) ∙ get_of (pairs es) p ∙ mark-at es i d p l (f d) k.distinct in
+pub mark_of : (es : List Entry) (u : Active) (p : List ℕ) (i : ℕ) → IsKept es → active_of es ≡ u → IsAt es p i → (d : Entry)
+    → (slice_index_or es i d).is_open ≡ unwrap_or (map.get u p) false
+mark_of es u p i k v at d =
+    let e = sym (ap (λ w. map.get w p) v) ∙ get_of (pairs es) p ∙ mark-at es i d p at.within (at.found d) k.ascends in
     sym (ap (λ o. unwrap_or o false) e)
 
 -- the list at the turn of place i
@@ -115,21 +123,31 @@ taken_more ids i d l = grind (arith, common_steps)
 pub turn_active : (u : Active) (ids : List (List ℕ)) (eof : List ℕ) (i : ℕ) (p : List ℕ) → i < length ids → p ≡ get_or ids i p → CanPart u (ids ++ eof ∷ []) → IsActive u p
 turn_active u ids eof i p l e c = subst (IsActive u) (sym e) (can_active u (take i ids) (get_or ids i p) (drop (suc i) ids ++ eof ∷ []) (at_turn u ids eof i p l c))
 
-pub turn_kept : (u : Active) (ids : List (List ℕ)) (eof : List ℕ) (i : ℕ) (p : List ℕ) (es fs : List Entry) (e : Entry) → i < length ids → p ≡ get_or ids i p → CanPart u (ids ++ eof ∷ [])
-    → IsPart u (take i ids) es → e.path ≡ p → e.«open» ≡ unwrap_or (map.get u p) false → fs ≡ es ++ e ∷ [] → IsPart u (take (i + 1) ids) fs
-turn_kept u ids eof i p es fs e l is c h same mark f =
-    let m : e.«open» ≡ unwrap_or (map.get u (get_or ids i p)) false = mark ∙ ap (λ q. unwrap_or (map.get u q) false) is in
-    let h' = part_push u (take i ids) (get_or ids i p) (drop (suc i) ids ++ eof ∷ []) es e (at_turn u ids eof i p l c) h (same ∙ is) m in
-    subst (λ (xs : List Entry). IsPart u (take (i + 1) ids) xs) (sym f) (subst (λ (ps : List (List ℕ)). IsPart u ps (es ++ e ∷ [])) (sym (taken_more ids i p l)) h')
+pub turn_new : (u : Active) (ids : List (List ℕ)) (eof : List ℕ) (i : ℕ) (p : List ℕ) (es : List Entry) (q : List ℕ) → i < length ids → p ≡ get_or ids i p
+    → CanPart u (ids ++ eof ∷ []) → IsPart u (take i ids) es → q ≡ p → find path_cmp q (pairs es) ≡ None
+turn_new u ids eof i p es q l is c h same =
+    ap (λ r. find path_cmp r (pairs es)) (same ∙ is) ∙ part_new u (take i ids) (get_or ids i p) (drop (suc i) ids ++ eof ∷ []) es (at_turn u ids eof i p l c) h
 
-pub all_kept : (u : Active) (ids : List (List ℕ)) (eof : List ℕ) (i : ℕ) (es fs : List Entry) (e : Entry) → length ids ≤ i → CanPart u (ids ++ eof ∷ [])
-    → IsPart u (take i ids) es → e.path ≡ eof → e.«open» ≡ unwrap_or (map.get u eof) false → fs ≡ es ++ e ∷ [] → IsPart u (ids ++ eof ∷ []) fs
-all_kept u ids eof i es fs e l c h same mark f =
-    let h' : IsPart u ids es = subst (λ (ps : List (List ℕ)). IsPart u ps es) (whole_taken ids i l) h in
-    subst (λ (xs : List Entry). IsPart u (ids ++ eof ∷ []) xs) (sym f) (part_push u ids eof [] es e c h' same mark)
+pub turn_kept : (u : Active) (ids : List (List ℕ)) (i : ℕ) (p : List ℕ) (es fs : List Entry) (q : List ℕ) (b : Bool) → i < length ids → p ≡ get_or ids i p
+    → IsPart u (take i ids) es → IsMore es fs q b → q ≡ p → b ≡ unwrap_or (map.get u p) false → IsPart u (take (i + 1) ids) fs
+turn_kept u ids i p es fs q b l is h more same mark =
+    let m : b ≡ unwrap_or (map.get u (get_or ids i p)) false = mark ∙ ap (λ r. unwrap_or (map.get u r) false) is in
+    subst (λ (ps : List (List ℕ)). IsPart u ps fs) (sym (taken_more ids i p l)) (part_more u (take i ids) (get_or ids i p) es fs q b h more (same ∙ is) m)
+
+-- all ids are there
+whole_part : (u : Active) (ids : List (List ℕ)) (i : ℕ) (es : List Entry) → length ids ≤ i → IsPart u (take i ids) es → IsPart u ids es
+whole_part u ids i es l h = subst (λ (ps : List (List ℕ)). IsPart u ps es) (whole_taken ids i l) h
   where
     whole_taken : (ids : List (List ℕ)) (i : ℕ) → length ids ≤ i → take i ids ≡ ids
     whole_taken ids i l = grind (arith, common_steps)
+
+pub eof_new : (u : Active) (ids : List (List ℕ)) (eof : List ℕ) (i : ℕ) (es : List Entry) (q : List ℕ) → length ids ≤ i → CanPart u (ids ++ eof ∷ [])
+    → IsPart u (take i ids) es → q ≡ eof → find path_cmp q (pairs es) ≡ None
+eof_new u ids eof i es q l c h same = ap (λ r. find path_cmp r (pairs es)) same ∙ part_new u ids eof [] es c (whole_part u ids i es l h)
+
+pub all_kept : (u : Active) (ids : List (List ℕ)) (eof : List ℕ) (i : ℕ) (es fs : List Entry) (q : List ℕ) (b : Bool) → length ids ≤ i
+    → IsPart u (take i ids) es → IsMore es fs q b → q ≡ eof → b ≡ unwrap_or (map.get u eof) false → IsPart u (ids ++ eof ∷ []) fs
+all_kept u ids eof i es fs q b l h more same mark = part_more u ids eof es fs q b (whole_part u ids i es l h) more same mark
 
 pub turn_left : (u w : Active) (ids : List (List ℕ)) (eof : List ℕ) (i : ℕ) (p : List ℕ) → i < length ids → p ≡ get_or ids i p → CanPart u (ids ++ eof ∷ [])
     → w ≡ left_of u (take i ids) → IsActive w p

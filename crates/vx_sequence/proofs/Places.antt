@@ -1,8 +1,8 @@
 -- Paths that are not empty, in their two parts.
-use Rattle.std.proofs.Common.{◌≡◌, ◌≢◌, ℕ, ◌<◌, ◌⊎◌, Bool, true, false, List, [], ◌∷◌, ◌++◌, nat_eq, ◌&&◌, ◌||◌, refl, sym, ap, ap₂, ◌∙◌, inl, inr, ⊎_elim, arith}
+use Rattle.std.proofs.Common.{◌≡◌, ◌≢◌, ℕ, ◌<◌, ◌⊎◌, Bool, true, false, not, cond, nat_lt, List, [], ◌∷◌, ◌++◌, nat_eq, ◌&&◌, ◌||◌, refl, sym, ap, ap₂, ◌∙◌, inl, inr, ⊎_elim, arith}
 use Rattle.std.proofs.lemmas.Bool.{true≢false}
 use Rattle.std.proofs.lemmas.Bool.Decides.{nat_tests}
-use Rattle.vx_path.specs.Path.{begins, under, Eof, eof_path}
+use Rattle.vx_path.specs.Path.{path_le, path_lt, begins, under, Eof, eof_path}
 use Rattle.vx_sequence.specs.Universe.{stem_of, last_of, place_of}
 use Rattle.vx_path.proofs.Path.{under_apart}
 
@@ -89,3 +89,11 @@ neither a b h = grind (arith, nat_tests)
 pub siblings_apart : (s : List ℕ) (i j : ℕ) → i < j
     → (begins (under s i) (under s j) ≡ false) × (begins (under s j) (under s i) ≡ false)
 siblings_apart s i j h = neither (begins (under s i) (under s j)) (begins (under s j) (under s i)) (under_apart s i j h)
+
+same_head : (i : ℕ) (b : Bool) → not b ≡ true → not (cond (nat_eq i i) b (nat_lt i i)) ≡ true
+same_head i b h = grind (arith, nat_tests)
+
+-- a path is below its children
+pub child_above : (p : List ℕ) (j : ℕ) → path_lt p (under p j) ≡ true
+child_above [] j = refl
+child_above (i ∷ p) j = same_head i (path_le (under p j) p) (child_above p j)

@@ -1,10 +1,11 @@
 -- The universe of paths: the set of the active ones, each marked open or closed.
-use Rattle.std.specs.Prelude.{◌≡◌, ℕ, ◌+◌, Bool, true, false, List, [], ◌∷◌, IsTrue, IsFalse, Some}
+use Rattle.std.specs.Prelude.{◌≡◌, ℕ, ◌+◌, Bool, true, false, List, [], ◌∷◌, length, IsTrue, IsFalse, Some}
 use Rattle.std.specs.declared.cmp.Ordering.{Ordering}
 use Rattle.std.specs.Ordering.{nat_cmp}
 use Rattle.std.specs.Cmp.Lexicographic.{slice_cmp}
 use Rattle.std.specs.FinMap as map
-use Rattle.vx_path.specs.Path.{path_le, begins, under, Eof, raised, eof_path, next}
+use Rattle.std.specs.List.{filter}
+use Rattle.vx_path.specs.Path.{path_le, path_lt, begins, under, Eof, raised, eof_path, next}
 
 -- the order of paths: lexicographic, a prefix before its extensions
 abbrev pub path_cmp : List ℕ → List ℕ → Ordering
@@ -23,6 +24,10 @@ IsOpen u p = map.get u p ≡ Some true
 -- p is at most each active path
 abbrev pub IsLeast : Active → List ℕ → Type 0
 IsLeast u p = (q : List ℕ) → IsActive u q → IsTrue (path_le p q)
+
+-- how many active paths are below p
+abbrev pub rank : Active → List ℕ → ℕ
+rank u p = length (filter (λ q. path_lt q p) (map.keys u))
 
 -- the two rules of a universe
 pub record IsUniverse (u : Active) : Type 0 where

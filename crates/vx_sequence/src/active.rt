@@ -1,30 +1,27 @@
 //! The universe: which paths are active.
-ghost use Rattle.std.specs.Prelude.{◌≡◌, ◌≢◌, ℕ, ◌<◌, false, List, [], ◌∷◌, ◌++◌, map, length, slice_index_or, unwrap_or, IsTrue, IsSome, MatchOption, IfOk, IfErr, OnOk, OnErr, IsErrOf};
+ghost use Rattle.std.specs.Prelude.{◌≡◌, ◌≢◌, ◌+◌, ◌-◌, ◌*◌, ◌^◌, ◌<◌, ◌≤◌, false, [], ◌∷◌, ◌++◌, unwrap_or, MatchOption, IfOk, IfErr, OnOk, OnErr, IsErrOf};
 ghost use Rattle.std.specs.FinMap as map;
 ghost use Rattle.vx_path.specs.Path.{under, eof_path, next};
 ghost use Rattle.vx_sequence.specs.Part.{CanPart, left_of, parted};
 
+use crate::comparisons::Steps;
+use crate::entries::{Entry, index_of, put, search};
 use crate::errors::SequenceError;
 use crate::ids::SequenceId;
 use crate::pointers::SequencePointer;
 use crate::siblings::sibling;
 use std::alloc::AllocError;
+use std::collections::VecDeque;
 use std::marker::Model;
-use vx_path::owned::{Path, path_le};
-
-/// An active path.
-#[derive(Drop)]
-struct Entry {
-    path: Path,
-    open: bool,
-}
+use std::sync::ledger::Ledger;
+use vx_path::owned::Path;
 
 /// The set of active paths, each marked open, as a pointer's, or closed, as an id's that `advance` gave.
 ///
 /// No active path is a prefix of another, and behind an open one nothing is active.
 #[derive(Drop)]
 pub struct Universe {
-    entries: Vec<Entry>,
+    entries: VecDeque<Entry>,
 }
 
 impl Model for Universe {
@@ -45,14 +42,26 @@ impl Model for Universe {
 }
 
 impl Universe {
-    ghost use Rattle.vx_sequence.specs.Universe.{IsActive, IsOpen, IsLeast, IsUniverse, place_of, only, advanced, descended, split_from, released};
+    ghost use Rattle.vx_sequence.specs.Universe.{IsActive, IsOpen, IsLeast, IsUniverse, rank, place_of, only, advanced, descended, split_from, released};
 
     /// The least active path.
     pub fn least(&self) -> Option<&[u64]>
         ensures least { MatchOption result (self.now ≡ map.empty) (λ p. IsActive self.now p.now × IsLeast self.now p.now) }
         ensures rules { IsUniverse self.now }
     {
-        least_of(&self.entries)
+        Some(self.entries.front()?.path.as_slice())
+    }
+
+    /// The path's place among the active ones in order, or the place where it would stand. It takes no memory.
+    pub fn find<L: Ledger>(&self, path: &[u64], steps: &mut Steps<L>) -> Result<u64, u64>
+        ensures ok { IfOk result (λ i. IsActive self.now path.now × (i ≡ rank self.now path.now)) }
+        ensures err { IfErr result (λ i. ¬ (IsActive self.now path.now) × (i ≡ rank self.now path.now)) }
+        ensures cost { 2 ^ (steps.new - steps.old) ≤ 2 * map.len self.now + 1 }
+    {
+        match search(&self.entries, path, steps) {
+            Ok(place) => Ok(place as u64),
+            Err(place) => Err(place as u64),
+        }
     }
 
     /// A copy of a path, in the memory that holds the active ones.
@@ -68,10 +77,10 @@ impl Universe {
         ensures ok { IfOk result (λ u. u ≡ only (place_of path.now)) }
         ensures memory { IfErr result (λ e. e ≡ SequenceError.OutOfMemory) }
     {
-        let mut entries = Vec::new(path.allocator());
-        entries.push(Entry {
+        let mut entries = VecDeque::new(path.allocator());
+        entries.push_back(Entry {
             path: path.clone()?,
-            open: true,
+            is_open: true,
         })?;
         Ok(Universe { entries })
     }
@@ -89,12 +98,15 @@ impl Universe {
     {
         let next = sibling(*self.entries.allocator(), path)?;
         let copy = next.clone()?;
+        put(
+            &mut self.entries,
+            Entry {
+                path: copy,
+                is_open: true,
+            },
+        )?;
         let at = index_of(&self.entries, path);
-        self.entries.push(Entry {
-            path: copy,
-            open: true,
-        })?;
-        self.entries[at].open = false;
+        self.entries[at].is_open = false;
         Ok(next)
     }
 
@@ -112,7 +124,7 @@ impl Universe {
         let parent = index_of(&self.entries, path);
         self.entries[parent] = Entry {
             path: copy,
-            open: true,
+            is_open: true,
         };
         Ok(child)
     }
@@ -133,14 +145,17 @@ impl Universe {
         let child = Path::child(alloc, path, 0)?;
         let next_copy = next.clone()?;
         let child_copy = child.clone()?;
+        put(
+            &mut self.entries,
+            Entry {
+                path: next_copy,
+                is_open: true,
+            },
+        )?;
         let at = index_of(&self.entries, path);
-        self.entries.push(Entry {
-            path: next_copy,
-            open: true,
-        })?;
         self.entries[at] = Entry {
             path: child_copy,
-            open: true,
+            is_open: true,
         };
         Ok((child, next))
     }
@@ -174,27 +189,27 @@ impl Universe {
         ensures memory { IfErr result (λ e. e ≡ SequenceError.OutOfMemory) }
         ensures rules { IsUniverse self.now }
     {
-        let mut entries = Vec::new(*self.entries.allocator());
+        let mut entries = VecDeque::new(*self.entries.allocator());
         for id in ids {
             let entry = self.entry_of(id.path())?;
-            entries.push(entry)?;
+            put(&mut entries, entry)?;
         }
         let entry = self.entry_of(eof)?;
-        entries.push(entry)?;
+        put(&mut entries, entry)?;
         Ok(Universe { entries })
     }
 
     /// A copy of an active path's entry.
     fn entry_of(&self, path: &[u64]) -> Result<Entry, SequenceError>
         requires { IsActive self.now path.now }
-        ensures ok { IfOk result (λ e. (e.path ≡ path.now) × (e.open ≡ unwrap_or (map.get self.now path.now) false)) }
+        ensures ok { IfOk result (λ e. (e.path ≡ path.now) × (e.is_open ≡ unwrap_or (map.get self.now path.now) false)) }
         ensures memory { IfErr result (λ e. e ≡ SequenceError.OutOfMemory) }
     {
         let at = index_of(&self.entries, path);
         let copy = self.copy_of(path)?;
         Ok(Entry {
             path: copy,
-            open: self.entries[at].open,
+            is_open: self.entries[at].is_open,
         })
     }
 
@@ -207,39 +222,4 @@ impl Universe {
         let at = index_of(&self.entries, path);
         let _entry = self.entries.remove(at);
     }
-}
-
-ghost use Rattle.vx_path.specs.Lists.{In};
-ghost use Rattle.vx_path.specs.Path.{is_least};
-ghost use Rattle.std.specs.FinMap.{find};
-ghost use Rattle.vx_sequence.specs.Universe.{path_cmp};
-ghost use Rattle.vx_sequence.specs.Entries.{paths, pairs};
-
-/// The least path of the entries.
-#[tactic(auto, using(crate::proofs::Scans::least_rules))]
-fn least_of(entries: &[Entry]) -> Option<&[u64]>
-    ensures { MatchOption result (entries.now ≡ []) (λ p. In p.now (paths entries.now) × IsTrue (is_least p.now (paths entries.now))) }
-{
-    let mut least = entries.first()?.path.as_slice();
-    for entry in entries {
-        if path_le(entry.path.as_slice(), least) {
-            least = entry.path.as_slice();
-        }
-    }
-    Some(least)
-}
-
-/// Where the entry of an active path stands.
-#[tactic(auto, using(crate::proofs::Scans::find_rules))]
-fn index_of(entries: &[Entry], path: &[u64]) -> usize
-    requires { IsSome (find path_cmp path.now (pairs entries.now)) }
-    ensures within { result < length entries.now }
-    ensures found { (d : Entry) → (slice_index_or entries.now result d).path ≡ path.now }
-{
-    for (i, entry) in entries.iter().enumerate() {
-        if entry.path.as_slice() == path {
-            return i;
-        }
-    }
-    unreachable!()
 }

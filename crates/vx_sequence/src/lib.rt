@@ -2,6 +2,8 @@
 #![tactic(auto)]
 
 mod active;
+mod comparisons;
+mod entries;
 mod errors;
 mod ids;
 mod pointers;
@@ -9,6 +11,7 @@ pub mod runs;
 mod siblings;
 
 pub use active::Universe;
+pub use comparisons::Steps;
 pub use errors::SequenceError;
 pub use ids::SequenceId;
 pub use pointers::SequencePointer;

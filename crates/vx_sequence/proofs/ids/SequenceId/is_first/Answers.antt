@@ -1,7 +1,7 @@
 use Rattle.std.proofs.Common.{subst}
 use Rattle.vx_sequence.specs.Universe.{IsActive}
 use Rattle.vx_sequence.proofs.Sets.{not_empty}
-use Rattle.vx_sequence.proofs.Scans.{is_the_least}
+use Rattle.vx_sequence.proofs.Least.{is_the_least}
 use Rattle.vx_sequence.proofs.ids.SequenceId.is_first.Goals as goal
 
 pub unreachable-requires : goal.unreachable-requires
