@@ -1,0 +1,45 @@
+//! What layouts of one kind tell besides what all do.
+
+use crate::shown::slots;
+use anyhow::{Result, bail};
+use std::alloc::Global;
+use vx_layout::{Layout, LegacyStatsLayout, ListLayout, ZonedLayout};
+
+pub(crate) fn own(alloc: Global, layout: &Layout) -> Result<String> {
+    match layout {
+        Layout::Struct(fields) => Ok(format!(in alloc; "{}", fields.struct_fields().len())?),
+        Layout::List(list) => of_list(alloc, list),
+        Layout::Dict(dict) => Ok(format!(in alloc; "{}", dict.has_all_values_referenced())?),
+        Layout::Zoned(zoned) => of_zones(alloc, zoned),
+        Layout::LegacyStats(stats) => of_statistics(alloc, stats),
+        Layout::Flat(_) | Layout::Chunked(_) | Layout::Foreign(_) => bail!("nothing of its own"),
+    }
+}
+
+fn of_list(alloc: Global, list: &ListLayout) -> Result<String> {
+    let elements = list.elements().row_count();
+    let offsets = list.offsets().row_count();
+    let has_validity = list.validity().is_some();
+    let ptype = list.offsets_ptype();
+    let dtype = list.elements_dtype();
+    Ok(format!(in alloc; "{elements} {offsets} {has_validity} {ptype:?} {dtype}")?)
+}
+
+fn of_zones(alloc: Global, zoned: &ZonedLayout) -> Result<String> {
+    let count = zoned.present_aggregates().len();
+    Ok(format!(in alloc; "{} {} {count}", zoned.zone_len(), zoned.nzones())?)
+}
+
+fn of_statistics(alloc: Global, stats: &LegacyStatsLayout) -> Result<String> {
+    let count = stats.present_aggregates(alloc)?.len();
+    Ok(format!(in alloc; "{} {count}", stats.nzones())?)
+}
+
+pub(crate) fn with(alloc: Global, layout: &Layout, children: Vec<Layout>) -> Result<String> {
+    match layout {
+        Layout::Chunked(chunked) => {
+            slots(alloc, &chunked.with_children(children)?.into_layout())
+        }
+        _ => bail!("no chunks"),
+    }
+}

@@ -1,0 +1,94 @@
+//! What is read from segments that a case gives: rows, and the lengths of buffers.
+//!
+//! The segments are numbered from the first word on. A segment is cells with commas between them, encoded as `bool` where
+//! the first one is `true`, else as `i8?`; or bytes.
+
+use crate::given::{FLAGS, MAYBE, bytes_in, cut, encodings};
+use anyhow::{Error, Result};
+use std::alloc::{AllocError, Global};
+use vx_chunk::Chunk;
+use vx_layout::{Layout, LayoutDisplay, ReadError, SegmentMap, read_rows};
+use vx_model::{Blob, Cell, DType, fits};
+use vx_segment_writer::encode_segment;
+
+pub(crate) fn segments(alloc: Global, args: &str) -> Result<SegmentMap> {
+    let (first, rest) = cut(args);
+    let first = first.parse::<u32>()?;
+    let mut list = Vec::new(alloc);
+    for word in rest.split_whitespace() {
+        list.push(segment(alloc, word)?)?;
+    }
+    Ok(SegmentMap { first, list })
+}
+
+fn segment(alloc: Global, word: &str) -> Result<Blob> {
+    if word.starts_with('x') {
+        return Ok(Blob::from(bytes_in(alloc, word)?));
+    }
+    let dtype = if word.starts_with("true") {
+        FLAGS
+    } else {
+        MAYBE
+    };
+    encoded(alloc, &chunk(dtype, cells(alloc, word)?)?)
+}
+
+fn encoded(alloc: Global, chunk: &Chunk) -> Result<Blob> {
+    Ok(Blob::from(encode_segment(alloc, &encodings(alloc)?, chunk, true)?))
+}
+
+/// The cells as values of the type.
+fn chunk(dtype: DType, cells: Vec<Cell>) -> Result<Chunk> {
+    if !fits(&dtype, &cells) {
+        return Err(Error::msg("a cell is of another type"));
+    }
+    Ok(Chunk::plain(dtype, cells))
+}
+
+fn cells(alloc: Global, text: &str) -> Result<Vec<Cell>> {
+    let mut cells = Vec::new(alloc);
+    for word in text.split(',') {
+        cells.push(cell(word)?)?;
+    }
+    Ok(cells)
+}
+
+fn cell(word: &str) -> Result<Cell> {
+    match word {
+        "true" => Ok(Cell::Bool(true)),
+        "false" => Ok(Cell::Bool(false)),
+        "null" => Ok(Cell::Null),
+        _ => Ok(Cell::Int(word.parse::<i128>()?)),
+    }
+}
+
+/// The rows, or the fault, as they are printed for a programmer.
+pub(crate) fn rows(alloc: Global, layout: &Layout, segments: &SegmentMap) -> Result<String> {
+    match read_rows(alloc, layout, segments) {
+        Ok(rows) => Ok(format!(in alloc; "{rows:?}")?),
+        Err(error) => Ok(fault(alloc, &error)?),
+    }
+}
+
+fn fault(alloc: Global, error: &ReadError) -> Result<String, AllocError> {
+    match error {
+        ReadError::Foreign(id) => format!(in alloc; "Foreign({})", id.as_str()),
+        error => format!(in alloc; "{error:?}"),
+    }
+}
+
+pub(crate) fn tree<L: LayoutDisplay>(alloc: Global, layout: &L) -> Result<String> {
+    let text = layout.display_tree(alloc)?;
+    Ok(String::from_str(alloc, text.as_str())?)
+}
+
+pub(crate) fn lengths<L: LayoutDisplay>(
+    alloc: Global,
+    layout: &L,
+    segments: &SegmentMap,
+) -> Result<String> {
+    match layout.display_tree_with_segments(alloc, segments) {
+        Ok(text) => Ok(String::from_str(alloc, text.as_str())?),
+        Err(error) => Ok(fault(alloc, &error)?),
+    }
+}
