@@ -101,7 +101,7 @@ pub mod strategy {
         CompressingStrategy, DictLayoutConstraints, DictLayoutOptions, DictStrategy,
         FlatLayoutStrategy, ListLayoutStrategy, ListWrapper, RepartitionStrategy,
         RepartitionWriterOptions, Strategy, StructStrategy, TableStrategy, ZonedLayoutOptions,
-        ZonedStrategy, dict_layout_supported,
+        ZonedStrategy, dict_layout_supported, dispatch,
     };
 }
 

@@ -1,16 +1,18 @@
 //! Values that several tests stand on.
 
-use serde_json::Value;
 use std::alloc::Global;
 use std::test::Fail;
-use vx_chunk_json::{read_batch, read_type};
-use vx_model::{ArrayContext, EncodingId};
+use vx_model::{ArrayContext, Cell, DType, EncodingId, Nullability, PType, fits};
 use vx_types::Chunk;
 
 /// The integers 1 and 2.
 pub(crate) fn two_integers(alloc: Global) -> Result<Chunk, Fail> {
-    let dtype = read_type(alloc, &Value::from_str(alloc, "\"i64\"")?)?;
-    Ok(read_batch(alloc, &dtype, &Value::from_str(alloc, "[1, 2]")?)?)
+    let dtype = DType::Primitive(PType::I64, Nullability::NonNullable);
+    let cells = vec![in alloc; Cell::Int(1), Cell::Int(2)]?;
+    if !fits(&dtype, &cells) {
+        return Err("the cells fit".into());
+    }
+    Ok(Chunk::plain(dtype, cells))
 }
 
 /// All encodings, in order.

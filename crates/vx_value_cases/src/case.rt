@@ -1,7 +1,7 @@
 //! A case and its answer.
 
 use crate::given::cut;
-use crate::{aggregates, fields, overrides, paths, strategies, tables};
+use crate::{aggregates, fields, overrides, paths, standing, strategies, tables};
 use anyhow::{Context, bail};
 use std::alloc::Global;
 
@@ -29,6 +29,7 @@ fn answer_to(alloc: Global, word: &str, given: &str) -> anyhow::Result<String> {
         "stats" => tables::stats(alloc, given),
         "block" => strategies::block(alloc, given),
         "overrides" => overrides::overridden(alloc, given),
+        "dispatch" => standing::dispatched(alloc, given),
         "field" => strategies::field(alloc, given),
         "defaults" => strategies::defaults(alloc),
         _ => bail!("no word {word}"),

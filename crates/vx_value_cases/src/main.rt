@@ -17,6 +17,7 @@
 //! | `block` | a type, a number of bytes | the rows of a block of at most 8192, and whether a dictionary takes the type |
 //! | `overrides` | two names | whether a table takes writers of both, or which paths overlap |
 //! | `field` | a name | the kind of a copy of a strategy that has a writer of the name, and of that writer |
+//! | `dispatch` | a type, a field | the kind that a table stands for at the type, and that of a struct's writer of the field; the table writes `a` in chunks and lays lists out |
 //! | `defaults` | | the length of a dictionary and the rows of a zone by default |
 #![tactic(auto)]
 
@@ -26,6 +27,7 @@ mod fields;
 mod given;
 mod overrides;
 mod paths;
+mod standing;
 mod strategies;
 mod tables;
 

@@ -1,7 +1,7 @@
 //! Strategies that a caller makes, by what no job asks for.
 
 use crate::given::{dtype, parts};
-use std::alloc::Global;
+use std::alloc::{AllocError, Global};
 use vx_model::Text;
 use vx_strategy::{
     BuildError, DictLayoutOptions, FlatLayoutStrategy, RepartitionWriterOptions, Strategy,
@@ -30,35 +30,46 @@ pub(crate) fn block(alloc: Global, given: &str) -> anyhow::Result<String> {
     Ok(format!(in alloc; "{rows} rows, dictionary {dictionary}")?)
 }
 
-/// A writer of the fields of this name.
-fn by_name(alloc: Global, name: &str) -> Result<Strategy, BuildError> {
-    let name = Text::from_str(alloc, name)?;
-    let strategy = StructStrategy::new(alloc, flat(), flat())?;
-    Ok(
-        strategy
-            .with_field_writer(alloc, name, flat())?
-            .into_strategy(),
-    )
+/// A strategy of structs that has a writer of the fields of this name.
+fn with_writer(alloc: Global, name: Text) -> Result<StructStrategy, BuildError> {
+    StructStrategy::new(alloc, flat(), flat())?.with_field_writer(alloc, name, flat())
 }
 
-/// The kind of what writes the field of the name.
-fn writer_kind(strategy: &Strategy, name: &Text) -> &'static str {
+fn by_name(alloc: Global, name: &str) -> Result<Strategy, BuildError> {
+    let name = Text::from_str(alloc, name)?;
+    Ok(with_writer(alloc, name)?.into_strategy())
+}
+
+fn kind(strategy: &Strategy) -> &'static str {
+    match strategy {
+        Strategy::Flat(_) => "flat",
+        Strategy::Chunked(_) => "chunked",
+        Strategy::Struct(_) => "struct",
+        Strategy::List(_) => "list",
+        Strategy::Table(_) => "table",
+        Strategy::Dict(_) | Strategy::Zoned(_) | Strategy::Repartition(_) => "another",
+        Strategy::Buffered(_) | Strategy::Collect(_) | Strategy::Compressing(_) => "another",
+    }
+}
+
+/// The kind of the strategy, and behind a struct's the kind of what writes the field.
+pub(crate) fn kinds(
+    alloc: Global,
+    strategy: &Strategy,
+    field: &Text,
+) -> Result<String, AllocError> {
     match strategy {
         Strategy::Struct(it) => {
-            if matches!(it.writer(name).strategy(), Strategy::Flat(_)) {
-                "struct, flat"
-            } else {
-                "struct, another"
-            }
+            format!(in alloc; "struct, {}", kind(it.writer(field).strategy()))
         }
-        _ => "another",
+        _ => String::from_str(alloc, kind(strategy)),
     }
 }
 
 pub(crate) fn field(alloc: Global, given: &str) -> anyhow::Result<String> {
     let copy = by_name(alloc, given)?.clone()?;
     let name = Text::from_str(alloc, given)?;
-    Ok(String::from_str(alloc, writer_kind(&copy, &name))?)
+    Ok(kinds(alloc, &copy, &name)?)
 }
 
 pub(crate) fn defaults(alloc: Global) -> anyhow::Result<String> {

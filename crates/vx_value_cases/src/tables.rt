@@ -18,14 +18,12 @@ fn aggregates(alloc: Global, json: &str) -> anyhow::Result<Vec<AggregateFn>> {
 }
 
 fn stat_of(name: &str) -> anyhow::Result<Stat> {
-    match name {
-        "max" => Ok(Stat::Max),
-        "min" => Ok(Stat::Min),
-        "sum" => Ok(Stat::Sum),
-        "null_count" => Ok(Stat::NullCount),
-        "uncompressed_size_in_bytes" => Ok(Stat::UncompressedSizeInBytes),
-        _ => bail!("no statistic {name}"),
+    for stat in Stat::ALL {
+        if stat.name() == name {
+            return Ok(stat);
+        }
     }
+    bail!("no statistic {name}")
 }
 
 fn stats_of(alloc: Global, names: &str) -> anyhow::Result<Vec<Stat>> {
