@@ -1,7 +1,7 @@
 //! Rows of flat layouts, and why there are none.
 
 use crate::given::{chunk, context, dtype, parts};
-use std::alloc::Global;
+use std::alloc::{AllocError, Global};
 use vx_layout_tree::{FlatLayout, Layout};
 use vx_model::DType;
 use vx_read::{SegmentMap, read_rows};
@@ -23,27 +23,35 @@ fn segments(alloc: Global, behind: &str) -> anyhow::Result<SegmentMap> {
     Ok(SegmentMap { first: 3, list })
 }
 
-/// What is read of the segment of this number, as a flat layout.
-fn read(
+/// So many rows of the type in the segment of this number.
+fn laid(alloc: Global, dtype: DType, rows: u64, number: u32) -> anyhow::Result<Layout> {
+    let ctx = context(alloc)?;
+    Ok(Layout::Flat(FlatLayout::new(rows, dtype, SegmentId(number), ctx)))
+}
+
+/// What is read of the layout.
+fn read(alloc: Global, layout: &Layout, segments: &SegmentMap) -> Result<String, AllocError> {
+    match read_rows(alloc, layout, segments) {
+        Ok(rows) => format!(in alloc; "{} rows", rows.len()),
+        Err(error) => format!(in alloc; "{error:?}"),
+    }
+}
+
+fn told_of(
     alloc: Global,
-    dtype: DType,
+    of: &str,
     rows: u64,
     number: u32,
-    segments: &SegmentMap,
+    behind: &str,
 ) -> anyhow::Result<String> {
-    let layout = Layout::Flat(FlatLayout::new(rows, dtype, SegmentId(number), context(alloc)?));
-    match read_rows(alloc, &layout, segments) {
-        Ok(rows) => Ok(format!(in alloc; "{} rows", rows.len())?),
-        Err(error) => Ok(format!(in alloc; "{error:?}")?),
-    }
+    let layout = laid(alloc, dtype(alloc, of)?, rows, number)?;
+    let segments = segments(alloc, behind)?;
+    Ok(read(alloc, &layout, &segments)?)
 }
 
 pub(crate) fn told(alloc: Global, given: &str) -> anyhow::Result<String> {
     let (of, rest) = parts(given)?;
     let (rows, rest) = parts(rest)?;
     let (number, behind) = parts(rest)?;
-    let rows = rows.parse::<u64>()?;
-    let number = number.parse::<u32>()?;
-    let segments = segments(alloc, behind)?;
-    read(alloc, dtype(alloc, of)?, rows, number, &segments)
+    told_of(alloc, of, rows.parse::<u64>()?, number.parse::<u32>()?, behind)
 }

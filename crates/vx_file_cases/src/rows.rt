@@ -15,23 +15,19 @@ fn segments_of(alloc: Global, chunk: &Chunk) -> anyhow::Result<SegmentMap> {
     Ok(SegmentMap { first: 0, list })
 }
 
-/// The layout whose rows stand in the segment 0.
+/// The report of the rows that are read from the chunk's segment.
 #[tactic(auto, unfolding(vx_layout_tree::specs::LayoutView::layout_data))]
-fn layout_of(alloc: Global, chunk: &Chunk) -> anyhow::Result<Layout> {
+fn printed(alloc: Global, chunk: &Chunk, segments: &SegmentMap) -> anyhow::Result<String> {
     let ctx = context(alloc)?;
     let dtype = chunk.dtype().clone()?;
-    Ok(Layout::Flat(FlatLayout::new(chunk.len(), dtype, SegmentId(0), ctx)))
-}
-
-/// The report of the rows that are read from the segments.
-fn printed(alloc: Global, layout: &Layout, segments: &SegmentMap) -> anyhow::Result<String> {
-    let rows = read_rows(alloc, layout, segments)?;
-    Ok(report(alloc, 0, layout, &[], &rows)?)
+    let layout = Layout::Flat(FlatLayout::new(chunk.len(), dtype, SegmentId(0), ctx));
+    let rows = read_rows(alloc, &layout, segments)?;
+    Ok(report(alloc, 0, &layout, &[], &rows)?)
 }
 
 fn report_of(alloc: Global, chunk: &Chunk) -> anyhow::Result<String> {
     let segments = segments_of(alloc, chunk)?;
-    printed(alloc, &layout_of(alloc, chunk)?, &segments)
+    printed(alloc, chunk, &segments)
 }
 
 pub(crate) fn reported(alloc: Global, given: &str) -> anyhow::Result<String> {
