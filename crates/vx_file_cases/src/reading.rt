@@ -53,5 +53,11 @@ pub(crate) fn told(alloc: Global, given: &str) -> anyhow::Result<String> {
     let (of, rest) = parts(given)?;
     let (rows, rest) = parts(rest)?;
     let (number, behind) = parts(rest)?;
-    told_of(alloc, of, rows.parse::<u64>()?, number.parse::<u32>()?, behind)
+    told_of(
+        alloc,
+        of,
+        rows.parse::<u64>()?,
+        number.parse::<u32>()?,
+        behind,
+    )
 }
