@@ -8,9 +8,10 @@ ghost use Rattle.vx_layout_bytes.specs.Reading.{own_at as own_read, node_at as n
 ghost use Rattle.vx_layout_bytes.specs.Views.{Gives, own, raw};
 
 use crate::error::GrammarError;
-use crate::fields::{numbered_at, place_of, segments_at, u16_at, u64_at};
+use crate::fields::{numbered_at, segments_at, u16_at, u64_at};
 use crate::node::{Limits, RawNode};
 use std::alloc::Global;
+use vx_byte_reader::place_of;
 use vx_model::Blob;
 
 /// A node without its children.

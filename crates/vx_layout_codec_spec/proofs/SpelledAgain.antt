@@ -26,7 +26,7 @@ use Rattle.vx_layout_bytes.specs.Node.{Own, Node, Nodes, node, no_nodes, first, 
 use Rattle.vx_layout_bytes.specs.Spelled.{numbered, segment_bytes, own_bytes, spelling, spellings}
 use Rattle.vx_layout_bytes.specs.Reading.{Fault, root_at}
 use Rattle.vx_layout_bytes.proofs.NodeLaws.{root_takes}
-use Rattle.vx_layout_bytes.proofs.FieldLaws.{IsBytes}
+use Rattle.vx_byte_reader.proofs.FieldLaws.{IsBytes}
 use Rattle.vx_session.specs.declared.encoding.LayoutEncoding.{LayoutEncoding}
 use Rattle.vx_session.specs.declared.encoding.LayoutEncoding.TheVariants as kinds
 use Rattle.vx_session.specs.Encodings.{layout_id, kind_of}

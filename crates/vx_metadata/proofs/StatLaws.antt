@@ -12,7 +12,7 @@ use Rattle.vx_model.specs.CellData.{bit}
 use Rattle.vx_aggregate.specs.declared.stat.Stat.{Stat}
 use Rattle.vx_aggregate.specs.declared.stat.Stat.TheVariants.{Max, Min, Sum, NullCount, UncompressedSizeInBytes}
 use Rattle.vx_aggregate.specs.Stats.{stat_number}
-use Rattle.vx_cell_codec.proofs.FieldLaws.{IsBytes, guard_some, halves, some_is}
+use Rattle.vx_byte_reader.proofs.FieldLaws.{IsBytes, guard_some, halves, some_is}
 use Rattle.vx_metadata.specs.Values.{are_in_order}
 use Rattle.vx_metadata.specs.Spelled.{stat_bit, legacy_bytes}
 use Rattle.vx_metadata.specs.Reading.{held, stats_in, legacy_in}
