@@ -30,9 +30,9 @@ pub mod layout {
     };
     pub use vx_layout_tree::{
         ChunkedLayout, DictLayout, ELEMENTS_CHILD_INDEX, FlatLayout, ForeignLayout, Layout,
-        LayoutChildren, LayoutError, LayoutKind, LayoutParts, LegacyStatsLayout, ListLayout,
-        NUM_CHILDREN_NON_NULLABLE, OFFSETS_CHILD_INDEX, SegmentList, StructLayout,
-        VALIDITY_CHILD_INDEX, ViewedChildren, ZonedLayout, layout_children,
+        LayoutChildren, LayoutError, LayoutHead, LayoutKind, LayoutParts, LegacyStatsLayout,
+        ListLayout, NUM_CHILDREN_NON_NULLABLE, OFFSETS_CHILD_INDEX, SegmentIds, SegmentList,
+        StructLayout, VALIDITY_CHILD_INDEX, ViewedChildren, ZonedLayout, layout_children,
     };
     pub use vx_metadata::{
         AggregateSpec, DictLayoutMetadata, FlatLayoutMetadata, LegacyStatsMetadata,
@@ -57,9 +57,6 @@ pub mod layout {
 
     /// The same.
     pub type LayoutEncodingId = vx_model::Text;
-
-    /// The segments of a layout itself.
-    pub type SegmentIds = Vec<vx_model::SegmentId>;
 }
 
 /// Sequence ids: the order in which segments are appended, whoever makes them.

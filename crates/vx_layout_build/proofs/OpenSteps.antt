@@ -217,7 +217,7 @@ dict_children_fail e p m d is h = then_fails e _ _ _ (dict_then (parts_of p) m d
 
 pub dict_opens : (p : LayoutParts) (m : List ℕ) (d : DictLayoutMetadata) (t u : Ty) (ws : List Wanted) → spelled m (dict_in m) ≡ Ok d → t ≡ ty p.dtype → u ≡ primitive d.codes_ptype d.is_nullable_codes
     → pair_kids (layout_kids p.children) t u (rules.Same p.row_count) ≡ all_built ws
-    → build_dict (parts_of p) m ≡ (all_built ws >>= λ ls. Ok (layout (dict_kind d.all_values_referenced) (ty p.dtype) p.row_count (map number p.segment_ids.items) (lays_of ls)))
+    → build_dict (parts_of p) m ≡ (all_built ws >>= λ ls. Ok (layout (dict_kind d.all_values_referenced) (ty p.dtype) p.row_count (map number p.segment_ids) (lays_of ls)))
 dict_opens p m d t u ws is first second all = then_opens _ ws (dict_kind d.all_values_referenced) (parts_of p) _ (dict_then (parts_of p) m d is) (rw (← second, ← first) all)
 
 pub ruleset dict_rules = (dict_metadata_fails, dict_children_fail, dict_opens)
@@ -234,7 +234,7 @@ stats_children_fail e p m s is h = then_fails e _ _ _ (stats_then (parts_of p) m
 
 pub stats_opens : (p : LayoutParts) (m : List ℕ) (s : ℕ × List Stat) (t u : Ty) (ws : List Wanted) → spelled m (legacy_in m) ≡ Ok s → t ≡ ty p.dtype → u ≡ legacy_table (ty p.dtype) s.1
     → pair_kids (layout_kids p.children) t u rules.Any ≡ all_built ws
-    → build_stats (parts_of p) m ≡ (all_built ws >>= λ ls. Ok (layout (stats_kind s.0 (map stat_number s.1)) (ty p.dtype) p.row_count (map number p.segment_ids.items) (lays_of ls)))
+    → build_stats (parts_of p) m ≡ (all_built ws >>= λ ls. Ok (layout (stats_kind s.0 (map stat_number s.1)) (ty p.dtype) p.row_count (map number p.segment_ids) (lays_of ls)))
 stats_opens p m s t u ws is first second all = then_opens _ ws (stats_kind s.0 (map stat_number s.1)) (parts_of p) _ (stats_then (parts_of p) m s is) (rw (← second, ← first) all)
 
 pub ruleset stats_rules = (stats_metadata_fails, stats_children_fail, stats_opens)
@@ -255,7 +255,7 @@ list_children_fail e p m o is list h = then_fails e _ _ _ (list_then (parts_of p
 
 pub list_opens : (p : LayoutParts) (m : List ℕ) (o : ListLayoutMetadata) (u : Ty) (ws : List Wanted) → spelled m (list_in m) ≡ Ok o → is_list (ty p.dtype) ≡ true → u ≡ primitive o.offsets_ptype false
     → list_kids (layout_kids p.children) (ty p.dtype) u p.row_count ≡ all_built ws
-    → build_list (parts_of p) m ≡ (all_built ws >>= λ ls. Ok (layout list_kind (ty p.dtype) p.row_count (map number p.segment_ids.items) (lays_of ls)))
+    → build_list (parts_of p) m ≡ (all_built ws >>= λ ls. Ok (layout list_kind (ty p.dtype) p.row_count (map number p.segment_ids) (lays_of ls)))
 list_opens p m o u ws is list ends all = then_opens _ ws list_kind (parts_of p) _ (list_then (parts_of p) m o is list) (rw (← ends) all)
 
 pub ruleset list_rules = (list_metadata_fails, other_type, list_children_fail, list_opens)
@@ -268,7 +268,7 @@ table_children_fail e p m n fns count h = then_fails e _ _ _ (table_then (parts_
 
 pub table_opens : (p : LayoutParts) (m : List ℕ) (n : ℕ) (fns : List Aggregate) (t u : Ty) (ws : List Wanted) → length (layout_kids p.children) ≡ 2 → t ≡ ty p.dtype → u ≡ stats_table (ty p.dtype) fns
     → pair_kids (layout_kids p.children) t u rules.Any ≡ all_built ws
-    → build_zones (parts_of p) m n (Some fns) ≡ (all_built ws >>= λ ls. Ok (layout (zoned_kind n (map spec fns)) (ty p.dtype) p.row_count (map number p.segment_ids.items) (lays_of ls)))
+    → build_zones (parts_of p) m n (Some fns) ≡ (all_built ws >>= λ ls. Ok (layout (zoned_kind n (map spec fns)) (ty p.dtype) p.row_count (map number p.segment_ids) (lays_of ls)))
 table_opens p m n fns t u ws count first second all = then_opens _ ws (zoned_kind n (map spec fns)) (parts_of p) _ (table_then (parts_of p) m n fns (counted (layout_kids p.children) 2 count)) (rw (← second, ← first) all)
 
 pub ruleset table_rules = (table_children_fail, table_opens)
@@ -295,7 +295,7 @@ behind (Err e) zs k p = refl
 
 pub unread_opens : (p : LayoutParts) (m : List ℕ) (n : ℕ) (t : Ty) (ws : List Wanted) (zs : List (LayoutData ℕ)) → t ≡ ty p.dtype
     → column_kids (layout_kids p.children) t no_columns ≡ (all_built ws >>= λ ls. Ok (ls ++ zs))
-    → build_zones (parts_of p) m n None ≡ (all_built ws >>= λ ls. Ok (layout (unread_zoned_kind m) (ty p.dtype) p.row_count (map number p.segment_ids.items) (lays_of (ls ++ zs))))
+    → build_zones (parts_of p) m n None ≡ (all_built ws >>= λ ls. Ok (layout (unread_zoned_kind m) (ty p.dtype) p.row_count (map number p.segment_ids) (lays_of (ls ++ zs))))
 unread_opens p m n t ws zs first all =
     let ps : Parts = parts_of p in
     column_then (child_at ps.kids 0 ps.dtype) (standing_at ps.kids 1 no_columns) (layout_of (unread_zoned_kind m) ps) ∙ ap (λ c. c >>= layout_of (unread_zoned_kind m) ps) (rw (← first) all) ∙ behind (all_built ws) zs (unread_zoned_kind m) ps

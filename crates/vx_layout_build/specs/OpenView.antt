@@ -5,7 +5,7 @@ use Rattle.vx_model.specs.TyView.{ty}
 use Rattle.vx_layout_spec.specs.LayoutTree.{LayoutData, list_kind, dict_kind, zoned_kind, unread_zoned_kind, stats_kind, row_count}
 use Rattle.vx_aggregate.specs.Stats.{stat_number}
 use Rattle.vx_metadata.specs.Values.{are_in_order}
-use Rattle.vx_layout_tree.specs.KindView.{headed}
+use Rattle.vx_layout_tree.specs.HeadView.{headed}
 use Rattle.vx_layout_tree.specs.SpecView.{specs_of}
 use Rattle.vx_layout_tree.specs.ZonedView.{no_columns}
 use Rattle.vx_layout_tree.specs.Made.{validity_count}

@@ -18,7 +18,7 @@ use Rattle.vx_layout_tree.specs.LayoutView.{layout_data, number}
 use Rattle.vx_layout_tree.specs.KidsView.{owned_kid, layout_kids}
 
 abbrev pub parts_of : LayoutParts → Parts
-parts_of p = record { dtype = ty p.dtype; rows = p.row_count; segments = map number p.segment_ids.items; kids = layout_kids p.children }
+parts_of p = record { dtype = ty p.dtype; rows = p.row_count; segments = map number p.segment_ids; kids = layout_kids p.children }
 
 abbrev pub one_kid : OneChild → ChildData
 one_kid (ones.Kept l) = owned_kid (layout_data l)

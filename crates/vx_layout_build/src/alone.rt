@@ -25,7 +25,7 @@ pub(crate) fn build_flat(
     ensures { Gives layout_data result (flat_built (context_of within.now) (parts_of parts) metadata.now) }
 {
     let metadata = flat_metadata(alloc, metadata)?;
-    let segment_id = one_segment(&parts.segment_ids)?;
+    let segment_id = one_segment(parts.segment_ids.as_slice())?;
     has_children(&parts.children, 0)?;
     let ctx = within.array_ctx.clone()?;
     let flat = FlatLayout::new_with_metadata(
@@ -48,7 +48,7 @@ pub(crate) fn build_chunked(
 {
     no_metadata(alloc, metadata)?;
     has_rows(total_rows(&parts.children), parts.row_count)?;
-    Ok(Layout::from_parts(alloc, KindParts::Chunked(parts)))
+    Ok(Layout::from_parts(KindParts::Chunked(parts)))
 }
 
 #[tactic(auto, using(vx_layout_tree::proofs::KidSteps::field_rules), unfolding(vx_session::specs::Kinds::build_struct))]
@@ -65,5 +65,5 @@ pub(crate) fn build_struct(
     }
     has_children(&parts.children, struct_children(&parts.dtype))?;
     all_have_rows(&parts.children, parts.row_count)?;
-    Ok(Layout::from_parts(alloc, KindParts::Struct(parts)))
+    Ok(Layout::from_parts(KindParts::Struct(parts)))
 }

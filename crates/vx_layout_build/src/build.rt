@@ -22,7 +22,9 @@ use crate::opened::{open_dict, open_list, open_stats, open_zoned};
 use std::alloc::{AllocError, Global};
 use std::sync::Arc;
 use vx_layout_bytes::RawNode;
-use vx_layout_tree::{Layout, LayoutChildren, LayoutError, LayoutParts, ViewedChildren};
+use vx_layout_tree::{
+    Layout, LayoutChildren, LayoutError, LayoutParts, SegmentIds, ViewedChildren,
+};
 use vx_model::{Blob, DType};
 use vx_session::{LayoutBuildContext, LayoutEncoding, Scope};
 
@@ -101,7 +103,7 @@ fn parts_of_node(
     let parts = LayoutParts {
         dtype,
         row_count: node.rows,
-        segment_ids,
+        segment_ids: SegmentIds::many(segment_ids),
         children: LayoutChildren::Viewed(ViewedChildren::new(scope, node.children)),
     };
     Ok((parts, node.metadata))
@@ -139,7 +141,7 @@ fn build_open(alloc: Global, frame: Open) -> Result<Layout, LayoutError>
 {
     let Open { frame, wanted } = frame;
     let children = build_all(alloc, wanted)?;
-    Ok(with_built(alloc, frame, children))
+    Ok(with_built(frame, children))
 }
 
 #[cycle(build)]

@@ -152,23 +152,23 @@ pub(crate) fn standing(alloc: Global, child: OneChild) -> Result<LayoutChildren,
 }
 
 /// The layout with the built children.
-pub(crate) fn with_built(alloc: Global, frame: Frame, built: Vec<Layout>) -> Layout
+pub(crate) fn with_built(frame: Frame, built: Vec<Layout>) -> Layout
     requires { fits frame (length built.items) }
     ensures { layout_data result ≡ framed frame (map layout_data built.items) }
 {
     match frame {
-        Frame::List(head) => Layout::from_parts(alloc, KindParts::List(head, built)),
+        Frame::List(head) => Layout::from_parts(KindParts::List(head, built)),
         Frame::Dict(head, all_values_referenced) => {
-            Layout::from_parts(alloc, KindParts::Dict(head, built, all_values_referenced))
+            Layout::from_parts(KindParts::Dict(head, built, all_values_referenced))
         }
         Frame::Zoned(head, zone_len, aggregates) => {
-            Layout::from_parts(alloc, KindParts::Zoned(head, built, zone_len, aggregates))
+            Layout::from_parts(KindParts::Zoned(head, built, zone_len, aggregates))
         }
         Frame::Unread(head, metadata, zones) => {
-            Layout::from_parts(alloc, KindParts::Unread(head, built, metadata, zones))
+            Layout::from_parts(KindParts::Unread(head, built, metadata, zones))
         }
         Frame::LegacyStats(head, zone_len, stats) => {
-            Layout::from_parts(alloc, KindParts::LegacyStats(head, built, zone_len, stats))
+            Layout::from_parts(KindParts::LegacyStats(head, built, zone_len, stats))
         }
     }
 }

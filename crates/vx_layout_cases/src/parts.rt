@@ -6,7 +6,7 @@ use crate::sessions::{build_context, kind_in};
 use crate::shown::slots;
 use anyhow::Result;
 use std::alloc::Global;
-use vx_layout::{Layout, LayoutDeserializeArgs, LayoutEncodingExt, LayoutError, LayoutParts};
+use vx_layout::{Layout, LayoutDeserializeArgs, LayoutEncodingExt, LayoutError, LayoutParts, SegmentIds};
 
 pub(crate) fn built(alloc: Global, args: &str) -> Result<String> {
     let (kind, rest) = cut(args);
@@ -32,7 +32,8 @@ fn parts(alloc: Global, text: &str) -> Result<LayoutParts> {
     let (rows, rest) = cut(rest);
     let rows = rows.parse::<u64>()?;
     let dtype = dtype_in(dtype)?;
-    Ok(LayoutParts::new(dtype, rows, Vec::new(alloc), children_in(alloc, rest)?))
+    let children = children_in(alloc, rest)?;
+    Ok(LayoutParts::new(dtype, rows, SegmentIds::many(Vec::new(alloc)), children))
 }
 
 fn built_by<K: LayoutEncodingExt>(

@@ -11,10 +11,9 @@ use Rattle.vx_layout_tree.specs.LayDepth.{depth, depths}
 use Rattle.vx_layout_tree.specs.LayoutView.{layout_data}
 use Rattle.vx_layout_tree.specs.KidsView.{chunks, fields, layout_kids, owned_kids}
 use Rattle.std.specs.Global.{Vec}
-use Rattle.vx_aggregate.specs.declared.aggregate.AggregateFn.{AggregateFn}
 use Rattle.vx_layout_tree.specs.declared.zoned.ZoneTable.{ZoneTable}
 use Rattle.vx_layout_tree.specs.declared.zoned.ZoneTable.TheVariants as tables
-use Rattle.vx_layout_tree.specs.ZonedView.{no_columns, kind_of_zones, zoned_children}
+use Rattle.vx_layout_tree.specs.ZonedView.{no_columns, kind_of_zones, zoned_children, has_few}
 use Rattle.vx_layout_tree.specs.Copies.{SameChildren, SameTable, kept_depth, table_depth}
 
 pub same_chunks : (t : Ty) (c d : LayoutChildren) → SameChildren c d → chunks t c ≡ chunks t d
@@ -64,16 +63,22 @@ pub ruleset push_rules = (map_push, map_more, one_below)
 
 -- ---- tables of zones
 
-pub same_kind : (n : ℕ) (v w : Vec AggregateFn) (t u : ZoneTable) → SameTable t u → v.items ≡ w.items → kind_of_zones n v t ≡ kind_of_zones n w u
-same_kind n v w tables.Read tables.Read same items = rw items refl
-same_kind n v w tables.Read (tables.Unread y) same items = absurd same
-same_kind n v w (tables.Unread x) tables.Read same items = absurd same
-same_kind n v w (tables.Unread x) (tables.Unread y) same items = rw same.0 refl
+pub same_kind : (t u : ZoneTable) → SameTable t u → kind_of_zones t ≡ kind_of_zones u
+same_kind (tables.Read m v) (tables.Read n w) same = rw (same.0, same.1) refl
+same_kind (tables.Read m v) (tables.Unread y) same = absurd same
+same_kind (tables.Unread x) (tables.Read n w) same = absurd same
+same_kind (tables.Unread x) (tables.Unread y) same = rw same.0 refl
+
+pub same_few : (t u : ZoneTable) → SameTable t u → has_few u → has_few t
+same_few (tables.Read m v) (tables.Read n w) same few = rw same.1 few
+same_few (tables.Read m v) (tables.Unread y) same few = absurd same
+same_few (tables.Unread x) (tables.Read n w) same few = absurd same
+same_few (tables.Unread x) (tables.Unread y) same few = tt
 
 pub same_zones : (v w : Vec Layout) (t u : ZoneTable) → SameTable t u → map layout_data v.items ≡ map layout_data w.items → zoned_children v t ≡ zoned_children w u
-same_zones v w tables.Read tables.Read same kept = kept
-same_zones v w tables.Read (tables.Unread y) same kept = absurd same
-same_zones v w (tables.Unread x) tables.Read same kept = absurd same
+same_zones v w (tables.Read m x) (tables.Read n y) same kept = kept
+same_zones v w (tables.Read m x) (tables.Unread y) same kept = absurd same
+same_zones v w (tables.Unread x) (tables.Read n y) same kept = absurd same
 same_zones v w (tables.Unread x) (tables.Unread y) same kept = rw (kept, same_chunks no_columns x.zones y.zones same.1) refl
 
 front_depths : (ls ms : List (LayoutData ℕ)) → depths (lays_of ls) ≤ depths (lays_of (ls ++ ms))
@@ -85,11 +90,11 @@ back_depths [] ms = omega arith
 back_depths (l ∷ ls) ms = omega (arith, back_depths ls ms)
 
 pub kept_zones : (v : Vec Layout) (t : ZoneTable) → depths (lays_of (map layout_data v.items)) ≤ depths (lays_of (zoned_children v t))
-kept_zones v tables.Read = omega arith
+kept_zones v (tables.Read n x) = omega arith
 kept_zones v (tables.Unread u) = front_depths (map layout_data v.items) (chunks no_columns u.zones)
 
 pub table_below : (v : Vec Layout) (t : ZoneTable) → table_depth t ≤ depths (lays_of (zoned_children v t))
-table_below v tables.Read = omega arith
+table_below v (tables.Read n x) = omega arith
 table_below v (tables.Unread u) = omega (arith, kept_chunks no_columns u.zones, back_depths (map layout_data v.items) (chunks no_columns u.zones))
 
-pub ruleset zoned_rules = (same_kind, same_zones, kept_zones, table_below, lays_in-lays_of)
+pub ruleset zoned_rules = (same_kind, same_few, same_zones, kept_zones, table_below, lays_in-lays_of)

@@ -25,11 +25,11 @@ SameChildren (children.Owned v) (children.Viewed w) = ⊥
 SameChildren (children.Viewed v) (children.Owned w) = ⊥
 SameChildren (children.Viewed v) (children.Viewed w) = SameNodes v w
 
--- the same metadata, where it isn't read
+-- the same aggregates of zones as long, or the same metadata where it isn't read
 abbrev pub SameTable : ZoneTable → ZoneTable → Type 0
-SameTable tables.Read tables.Read = Unit {0}
-SameTable tables.Read (tables.Unread v) = ⊥
-SameTable (tables.Unread u) tables.Read = ⊥
+SameTable (tables.Read m v) (tables.Read n w) = (m ≡ n) × (v.items ≡ w.items)
+SameTable (tables.Read m v) (tables.Unread w) = ⊥
+SameTable (tables.Unread u) (tables.Read n w) = ⊥
 SameTable (tables.Unread u) (tables.Unread v) = (u.metadata ≡ v.metadata) × SameChildren u.zones v.zones
 
 -- the same layout with these chunks
@@ -43,5 +43,5 @@ kept_depth (children.Owned v) = depths (lays_of (map layout_data v.items))
 kept_depth (children.Viewed v) = 0
 
 abbrev pub table_depth : ZoneTable → ℕ
-table_depth tables.Read = 0
+table_depth (tables.Read n v) = 0
 table_depth (tables.Unread u) = kept_depth u.zones

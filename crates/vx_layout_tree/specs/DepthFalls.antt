@@ -52,7 +52,7 @@ depths_behind [] ms = omega arith
 depths_behind (l ∷ ls) ms = omega (arith, depths_behind ls ms, most_deep (l ∷ []))
 
 table_deep : (c : Vec Layout) (table : ZoneTable) → max (most deep-Layout c.items) (deep-ZoneTable table) ≤ depths (lays_of (zoned_children c table))
-table_deep c tables.Read = omega (arith, most_deep c.items)
+table_deep c (tables.Read n v) = omega (arith, most_deep c.items)
 table_deep c (tables.Unread u) = omega (arith, depths_behind c.items (chunks no_columns u.zones), all_deep no_columns u.zones)
 
 pub zones_fall : (c : Vec Layout) (table : ZoneTable) → max (most deep-Layout c.items) (max (deep-ZoneTable table) 0) ≤ depths (lays_of (zoned_children c table))

@@ -1,12 +1,12 @@
 -- A flat layout as contracts see it.
 use Rattle.std.specs.Prelude.{ℕ, List, [], Option, None}
 use Rattle.vx_model.specs.declared.encoding.EncodingId.{EncodingId}
-use Rattle.vx_model.specs.TyView.{ty}
-use Rattle.vx_layout_spec.specs.LayoutTree.{LayoutData, layout, flat_kind, flat_layout}
+use Rattle.vx_layout_spec.specs.LayoutTree.{LayoutData, layout, flat_kind}
 use Rattle.vx_layout_tree.specs.declared.flat.FlatLayout.{FlatLayout}
+use Rattle.vx_layout_tree.specs.HeadView.{headed}
 
 abbrev pub flat_lay : FlatLayout → LayoutData ℕ
-flat_lay f = flat_layout (ty f.dtype) f.row_count f.ctx f.array_tree f.segment_id.0
+flat_lay f = headed (flat_kind f.ctx f.array_tree) f.head []
 
 -- the encodings that a flat layout's segment names by their places
 abbrev pub listed_in : LayoutData ℕ → List EncodingId

@@ -9,22 +9,19 @@ use Rattle.vx_aggregate.specs.Stats.{stat_number}
 use Rattle.vx_metadata.specs.Values.{are_in_order}
 use Rattle.vx_session.specs.Made.{kid_rows}
 use Rattle.vx_session.specs.Kinds.{struct_types}
-use Rattle.vx_layout_tree.specs.declared.parts.LayoutHead.{LayoutHead}
 use Rattle.vx_layout_tree.specs.declared.parts.KindParts.{KindParts}
 use Rattle.vx_layout_tree.specs.declared.parts.KindParts.TheVariants as parts
 use Rattle.vx_layout_tree.specs.declared.kind_ref.KindRef.{KindRef}
 use Rattle.vx_layout_tree.specs.declared.kind_ref.KindRef.TheVariants as refs
 use Rattle.vx_layout_tree.specs.FlatView.{flat_lay}
 use Rattle.vx_layout_tree.specs.KidsView.{chunks, fields, layout_kids}
-use Rattle.vx_layout_tree.specs.LayoutView.{layout_data, seen_layout}
+use Rattle.vx_layout_tree.specs.HeadView.{headed, seen_layout}
+use Rattle.vx_layout_tree.specs.LayoutView.{layout_data}
 use Rattle.vx_layout_tree.specs.Made.{validity_count}
 use Rattle.vx_layout_tree.specs.SpecView.{specs_of}
 use Rattle.vx_layout_tree.specs.ZonedView.{no_columns}
 
 -- ---- parts of a layout
-
-abbrev pub headed : Kind → LayoutHead → List (LayoutData ℕ) → LayoutData ℕ
-headed k h ls = seen_layout k h.dtype h.row_count h.segment_ids ls
 
 abbrev pub whole_lay : KindParts → LayoutData ℕ
 whole_lay (parts.Chunked p) = seen_layout chunked_kind p.dtype p.row_count p.segment_ids (chunks (ty p.dtype) p.children)

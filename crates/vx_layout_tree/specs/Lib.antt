@@ -1,3 +1,5 @@
+pub mod HeldIds
+pub mod HeadView
 pub mod FlatView
 pub mod LayoutCode
 pub mod LayDepth

@@ -1,16 +1,16 @@
-use crate::children::LayoutChildren;
+use crate::children::{LayoutChildren, layout_children};
 use crate::error::LayoutError;
+use crate::head::LayoutHead;
+use crate::layout::Layout;
 use crate::total::total_rows;
 use std::marker::Model;
-use vx_model::{DType, SegmentId};
+use vx_model::DType;
 
 /// Layouts one behind the other.
 #[derive(Debug, Drop)]
 #[cycle(layout)]
 pub struct ChunkedLayout {
-    pub(crate) row_count: u64,
-    pub(crate) dtype: DType,
-    pub(crate) segment_ids: Vec<SegmentId>,
+    pub(crate) head: LayoutHead,
     pub(crate) children: LayoutChildren,
 }
 
@@ -26,12 +26,12 @@ impl Model for ChunkedLayout {
     ghost use Rattle.vx_model.specs.Words.{total_by};
     ghost use Rattle.vx_layout_spec.specs.LayoutTree.{row_count as rows, chunked_kind};
     ghost use Rattle.vx_model.specs.TyView.{ty};
-    ghost use Rattle.vx_layout_tree.specs.LayoutView.{seen_layout};
+    ghost use Rattle.vx_layout_tree.specs.HeadView.{headed};
     ghost use Rattle.vx_layout_tree.specs.KidsView.{chunks};
 
-    ghost view = { λ c. seen_layout chunked_kind c.dtype c.row_count c.segment_ids (chunks (ty c.dtype) c.children) };
+    ghost view = { λ c. headed chunked_kind c.head (chunks (ty c.head.dtype) c.children) };
 
-    ghost invariant = { λ c. total_by rows (chunks (ty c.dtype) c.children) ≡ c.row_count };
+    ghost invariant = { λ c. total_by rows (chunks (ty c.head.dtype) c.children) ≡ c.head.row_count };
 
     ghost use Rattle.vx_layout_tree.specs.LayDepth.{depth};
 
@@ -39,17 +39,19 @@ impl Model for ChunkedLayout {
 
     ghost use Rattle.vx_layout_tree.specs.DepthFalls.{chunks_fall};
 
-    ghost size_decreases = { λ c h. chunks_fall (ty c.dtype) c.children };
+    ghost size_decreases = { λ c h. chunks_fall (ty c.head.dtype) c.children };
 }
 
 impl ChunkedLayout {
-    ghost use Rattle.std.specs.Prelude.{◌≡◌, ◌≢◌, IfErr};
+    ghost use Rattle.std.specs.Prelude.{◌≡◌, ◌≢◌, IfErr, map};
     ghost use Rattle.vx_model.specs.TyView.{ty};
     ghost use Rattle.vx_layout_spec.specs.LayoutTree.{layout_type, children_of};
     ghost use Rattle.vx_layout_tree.specs.KidsView.{chunks};
     ghost use Rattle.vx_layout_tree.specs.Made.{make_chunked};
     ghost use Rattle.vx_layout_tree.specs.Views.{Gives, itself};
     ghost use Rattle.vx_layout_tree.specs.declared.error.LayoutError.TheVariants.{OutOfMemory};
+    ghost use Rattle.vx_layout_tree.specs.Copies.{with_chunks};
+    ghost use Rattle.vx_layout_tree.specs.LayoutView.{layout_data};
 
     /// The children in order. Refuses `RowCount` exactly where their rows don't sum to `row_count`. Takes no memory.
     #[tactic(auto, using(crate::proofs::KidSteps::chunk_rules))]
@@ -68,12 +70,8 @@ impl ChunkedLayout {
                 needs: row_count as u128,
             });
         }
-        Ok(ChunkedLayout {
-            row_count,
-            dtype,
-            segment_ids: Vec::new(children.allocator()),
-            children,
-        })
+        let head = LayoutHead::without_segments(children.allocator(), dtype, row_count);
+        Ok(ChunkedLayout { head, children })
     }
 
     /// The chunks, built when they are asked for where they are nodes of bytes.
@@ -82,5 +80,28 @@ impl ChunkedLayout {
         ensures { chunks (layout_type self.now) result.now ≡ children_of self.now }
     {
         &self.children
+    }
+
+    /// Takes no memory.
+    #[tactic(auto, unfolding(crate::specs::LayoutView::layout_data))]
+    pub fn into_layout(self) -> Layout
+        ensures { layout_data result ≡ self }
+    {
+        Layout::Chunked(self)
+    }
+
+    /// The same layout with these children. Refuses `RowCount` exactly where their rows don't sum to its own.
+    #[tactic(auto, using(crate::proofs::KidSteps::chunk_rules))]
+    pub fn with_children(&self, children: Vec<Layout>) -> Result<ChunkedLayout, LayoutError>
+        ensures { Gives itself result (with_chunks self.now (map layout_data children.items)) }
+    {
+        let children = layout_children(children);
+        let has = total_rows(&children);
+        let needs = self.head.row_count as u128;
+        if has != needs {
+            return Err(LayoutError::RowCount { has, needs });
+        }
+        let head = self.head.clone()?;
+        Ok(ChunkedLayout { head, children })
     }
 }

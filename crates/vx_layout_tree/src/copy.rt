@@ -9,7 +9,6 @@ ghost use Rattle.vx_layout_tree.specs.LayoutView.{layout_data};
 use crate::children::{LayoutChildren, ViewedChildren};
 use crate::flat::FlatLayout;
 use crate::layout::Layout;
-use crate::rebuilt::same_segments;
 use crate::zoned::{UnreadZones, ZoneTable, ZonedLayout};
 use std::alloc::AllocError;
 use vx_layout_bytes::RawNode;
@@ -64,16 +63,10 @@ impl ZonedLayout {
     {
         let children = copies(&self.children)?;
         let table = copy_table(&self.table)?;
-        let segment_ids = same_segments(&self.segment_ids)?;
-        let dtype = self.dtype.clone()?;
-        let aggregates = Vec::from_slice(*self.aggregates.allocator(), &self.aggregates)?;
+        let head = self.head.clone()?;
         Ok(ZonedLayout {
-            row_count: self.row_count,
-            dtype,
-            segment_ids,
+            head,
             children,
-            zone_len: self.zone_len,
-            aggregates,
             table,
         })
     }
@@ -84,7 +77,10 @@ fn copy_table(table: &ZoneTable) -> Result<ZoneTable, AllocError>
     ensures { IfOk result (λ copy. SameTable copy table.now) }
 {
     match table {
-        ZoneTable::Read => Ok(ZoneTable::Read),
+        ZoneTable::Read(zone_len, aggregates) => {
+            let copies = Vec::from_slice(*aggregates.allocator(), aggregates)?;
+            Ok(ZoneTable::Read(*zone_len, copies))
+        }
         ZoneTable::Unread(unread) => {
             let metadata = unread.metadata.clone()?;
             let zones = unread.zones.to_arc()?;
@@ -132,11 +128,9 @@ impl FlatLayout {
     {
         let array_tree = copy_tree(&self.array_tree)?;
         let ctx = self.ctx.clone()?;
-        let dtype = self.dtype.clone()?;
+        let head = self.head.clone()?;
         Ok(FlatLayout {
-            row_count: self.row_count,
-            dtype,
-            segment_id: self.segment_id,
+            head,
             ctx,
             array_tree,
         })

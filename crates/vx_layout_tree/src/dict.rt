@@ -1,17 +1,15 @@
 use crate::error::LayoutError;
+use crate::head::LayoutHead;
 use crate::layout::Layout;
 use crate::shape::{integer_type, is_primitive};
 use std::alloc::Global;
 use std::marker::Model;
-use vx_model::{DType, SegmentId};
 
 /// Values, and a code a row.
 #[derive(Debug, Drop)]
 #[cycle(layout)]
 pub struct DictLayout {
-    pub(crate) row_count: u64,
-    pub(crate) dtype: DType,
-    pub(crate) segment_ids: Vec<SegmentId>,
+    pub(crate) head: LayoutHead,
     pub(crate) children: Vec<Layout>,
     pub(crate) all_values_referenced: bool,
 }
@@ -26,9 +24,11 @@ impl Model for DictLayout {
     ghost coded = { lay_code };
 
     ghost use Rattle.vx_layout_spec.specs.LayoutTree.{dict_kind};
-    ghost use Rattle.vx_layout_tree.specs.LayoutView.{seen};
+    ghost use Rattle.std.specs.Prelude.{map};
+    ghost use Rattle.vx_layout_tree.specs.HeadView.{headed};
+    ghost use Rattle.vx_layout_tree.specs.LayoutView.{layout_data};
 
-    ghost view = { λ c. seen (dict_kind c.all_values_referenced) c.dtype c.row_count c.segment_ids c.children };
+    ghost view = { λ c. headed (dict_kind c.all_values_referenced) c.head (map layout_data c.children.items) };
 
     ghost use Rattle.vx_layout_tree.specs.LayDepth.{depth};
 
@@ -40,9 +40,12 @@ impl Model for DictLayout {
 }
 
 impl DictLayout {
+    ghost use Rattle.std.specs.Prelude.{◌≡◌};
+    ghost use Rattle.vx_layout_spec.specs.LayoutTree.{layout_kind};
     ghost use Rattle.vx_layout_tree.specs.LayoutView.{layout_data};
     ghost use Rattle.vx_layout_tree.specs.Made.{make_dict};
     ghost use Rattle.vx_layout_tree.specs.Views.{Gives, itself};
+    ghost use Rattle.vx_layout_tree.specs.Own.{all_referenced};
 
     /// Of the values' type and the codes' rows. Refuses `ChildType` where the codes are no integers.
     pub fn new(alloc: Global, values: Layout, codes: Layout) -> Result<DictLayout, LayoutError>
@@ -58,11 +61,24 @@ impl DictLayout {
         let children = vec![in alloc; values, codes]?;
         let dtype = children[0].dtype().clone()?;
         Ok(DictLayout {
-            row_count,
-            dtype,
-            segment_ids: Vec::new(alloc),
+            head: LayoutHead::without_segments(alloc, dtype, row_count),
             children,
             all_values_referenced: false,
         })
+    }
+
+    /// Takes no memory.
+    #[tactic(auto, unfolding(crate::specs::LayoutView::layout_data))]
+    pub fn into_layout(self) -> Layout
+        ensures { layout_data result ≡ self }
+    {
+        Layout::Dict(self)
+    }
+
+    /// Whether each value is the value of some row.
+    pub fn has_all_values_referenced(&self) -> bool
+        ensures { result ≡ all_referenced (layout_kind self.now) }
+    {
+        self.all_values_referenced
     }
 }

@@ -1,13 +1,18 @@
+ghost use Rattle.std.specs.Prelude.{◌≡◌, length};
+
+use crate::head::LayoutHead;
+use crate::layout::Layout;
+use crate::segment_ids::SegmentIds;
 use vx_model::{ArrayContext, Blob, DType, SegmentId};
 
 /// One segment that holds one chunk.
 #[derive(Debug, Drop)]
 pub struct FlatLayout {
-    pub(crate) row_count: u64,
-    pub(crate) dtype: DType,
-    pub(crate) segment_id: SegmentId,
+    pub(crate) head: LayoutHead,
     pub(crate) ctx: ArrayContext,
     pub(crate) array_tree: Option<Blob>,
+    // A chunk lies in one segment.
+    ghost one: { length head.segment_ids ≡ 1 },
 }
 
 impl FlatLayout {
@@ -15,6 +20,7 @@ impl FlatLayout {
     ghost use Rattle.vx_model.specs.TyView.{ty};
     ghost use Rattle.vx_layout_spec.specs.LayoutTree.{flat_layout, segments_of};
     ghost use Rattle.vx_layout_tree.specs.FlatView.{flat_lay, listed_in, tree_in};
+    ghost use Rattle.vx_layout_tree.specs.LayoutView.{layout_data};
 
     /// A layout of `row_count` rows in the segment, whose encodings are places in `ctx`. Takes no memory.
     pub fn new(row_count: u64, dtype: DType, segment_id: SegmentId, ctx: ArrayContext) -> FlatLayout
@@ -33,10 +39,13 @@ impl FlatLayout {
     ) -> FlatLayout
         ensures layout_data { flat_lay result ≡ flat_layout (ty dtype) row_count ctx array_tree segment_id.0 }
     {
-        FlatLayout {
-            row_count,
+        let head = LayoutHead {
             dtype,
-            segment_id,
+            row_count,
+            segment_ids: SegmentIds::one(segment_id),
+        };
+        FlatLayout {
+            head,
             ctx,
             array_tree,
         }
@@ -46,7 +55,7 @@ impl FlatLayout {
     pub fn segment_id(&self) -> SegmentId
         ensures { segments_of (flat_lay self.now) ≡ result.0 ∷ [] }
     {
-        self.segment_id
+        self.head.segment_ids.as_slice()[0]
     }
 
     /// The encodings that the segment names by their places.
@@ -61,5 +70,13 @@ impl FlatLayout {
         ensures { result.now ≡ tree_in (flat_lay self.now) }
     {
         &self.array_tree
+    }
+
+    /// Takes no memory.
+    #[tactic(auto, unfolding(crate::specs::LayoutView::layout_data))]
+    pub fn into_layout(self) -> Layout
+        ensures { layout_data result ≡ flat_lay self }
+    {
+        Layout::Flat(self)
     }
 }

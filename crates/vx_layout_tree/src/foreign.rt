@@ -1,4 +1,6 @@
+use crate::head::LayoutHead;
 use crate::layout::Layout;
+use crate::segment_ids::SegmentIds;
 use std::marker::Model;
 use vx_model::{Blob, DType, SegmentId, Text};
 
@@ -6,9 +8,7 @@ use vx_model::{Blob, DType, SegmentId, Text};
 #[derive(Debug, Drop)]
 #[cycle(layout)]
 pub struct ForeignLayout {
-    pub(crate) row_count: u64,
-    pub(crate) dtype: DType,
-    pub(crate) segment_ids: Vec<SegmentId>,
+    pub(crate) head: LayoutHead,
     pub(crate) children: Vec<Layout>,
     pub(crate) id: Text,
     pub(crate) metadata: Blob,
@@ -24,9 +24,11 @@ impl Model for ForeignLayout {
     ghost coded = { lay_code };
 
     ghost use Rattle.vx_layout_spec.specs.LayoutTree.{foreign_kind};
-    ghost use Rattle.vx_layout_tree.specs.LayoutView.{seen};
+    ghost use Rattle.std.specs.Prelude.{map};
+    ghost use Rattle.vx_layout_tree.specs.HeadView.{headed};
+    ghost use Rattle.vx_layout_tree.specs.LayoutView.{layout_data};
 
-    ghost view = { λ c. seen (foreign_kind c.id c.metadata) c.dtype c.row_count c.segment_ids c.children };
+    ghost view = { λ c. headed (foreign_kind c.id c.metadata) c.head (map layout_data c.children.items) };
 
     ghost use Rattle.vx_layout_tree.specs.LayDepth.{depth};
 
@@ -55,12 +57,22 @@ impl ForeignLayout {
         ensures { result ≡ layout (foreign_kind id metadata) (ty dtype) row_count (map number segment_ids.items) (lays_of (map layout_data children.items)) }
     {
         ForeignLayout {
-            row_count,
-            dtype,
-            segment_ids,
+            head: LayoutHead {
+                dtype,
+                row_count,
+                segment_ids: SegmentIds::many(segment_ids),
+            },
             children,
             id,
             metadata,
         }
+    }
+
+    /// Takes no memory.
+    #[tactic(auto, unfolding(crate::specs::LayoutView::layout_data))]
+    pub fn into_layout(self) -> Layout
+        ensures { layout_data result ≡ self }
+    {
+        Layout::Foreign(self)
     }
 }

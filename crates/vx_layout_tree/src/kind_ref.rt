@@ -42,8 +42,8 @@ impl Layout {
             Layout::List(inner) => KindRef::List(&inner.children),
             Layout::Dict(inner) => KindRef::Dict(&inner.children, inner.all_values_referenced),
             Layout::Zoned(inner) => match &inner.table {
-                ZoneTable::Read => {
-                    KindRef::Zoned(&inner.children, inner.zone_len, &inner.aggregates)
+                ZoneTable::Read(zone_len, aggregates) => {
+                    KindRef::Zoned(&inner.children, *zone_len, aggregates)
                 }
                 ZoneTable::Unread(unread) => {
                     KindRef::Unread(&inner.children, &unread.metadata, &unread.zones)

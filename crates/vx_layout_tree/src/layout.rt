@@ -3,12 +3,15 @@ use crate::chunked::ChunkedLayout;
 use crate::dict::DictLayout;
 use crate::flat::FlatLayout;
 use crate::foreign::ForeignLayout;
+use crate::head::LayoutHead;
 use crate::kind::LayoutKind;
+use crate::kind_ref::KindRef;
 use crate::list::ListLayout;
 use crate::stats::LegacyStatsLayout;
 use crate::structs::StructLayout;
 use crate::zoned::{ZoneTable, ZonedLayout};
 use vx_model::{DType, SegmentId};
+use vx_session::LayoutEncoding;
 
 /// A tree that says how to read rows back. Its leaves name segments.
 #[derive(Debug, Drop)]
@@ -33,111 +36,77 @@ impl Layout {
     ghost use Rattle.vx_layout_tree.specs.FlatView.{flat_lay};
     ghost use Rattle.vx_layout_tree.specs.LayoutView.{layout_data, number};
 
-    /// Rows that the layout gives.
+    /// Its type, its rows and its own segments.
     #[tactic(auto, unfolding(crate::specs::LayoutView::layout_data))]
+    pub fn head(&self) -> &LayoutHead
+        ensures dtype { ty result.now.dtype ≡ layout_type (layout_data self.now) }
+        ensures rows { result.now.row_count ≡ rows (layout_data self.now) }
+        ensures segments { map number result.now.segment_ids ≡ segments_of (layout_data self.now) }
+    {
+        match self {
+            Layout::Flat(flat) => &flat.head,
+            Layout::Chunked(inner) => &inner.head,
+            Layout::Struct(inner) => &inner.head,
+            Layout::List(inner) => &inner.head,
+            Layout::Dict(inner) => &inner.head,
+            Layout::Zoned(inner) => &inner.head,
+            Layout::LegacyStats(inner) => &inner.head,
+            Layout::Foreign(inner) => &inner.head,
+        }
+    }
+
+    /// Rows that the layout gives.
     pub fn row_count(&self) -> u64
         ensures { result ≡ rows (layout_data self.now) }
     {
-        match self {
-            Layout::Flat(flat) => flat.row_count,
-            Layout::Chunked(inner) => inner.row_count,
-            Layout::Struct(inner) => inner.row_count,
-            Layout::List(inner) => inner.row_count,
-            Layout::Dict(inner) => inner.row_count,
-            Layout::Zoned(inner) => inner.row_count,
-            Layout::LegacyStats(inner) => inner.row_count,
-            Layout::Foreign(inner) => inner.row_count,
-        }
+        self.head().row_count
     }
 
     /// The type of its rows.
-    #[tactic(auto, unfolding(crate::specs::LayoutView::layout_data))]
     pub fn dtype(&self) -> &DType
         ensures { ty result.now ≡ layout_type (layout_data self.now) }
     {
-        match self {
-            Layout::Flat(flat) => &flat.dtype,
-            Layout::Chunked(inner) => &inner.dtype,
-            Layout::Struct(inner) => &inner.dtype,
-            Layout::List(inner) => &inner.dtype,
-            Layout::Dict(inner) => &inner.dtype,
-            Layout::Zoned(inner) => &inner.dtype,
-            Layout::LegacyStats(inner) => &inner.dtype,
-            Layout::Foreign(inner) => &inner.dtype,
-        }
+        &self.head().dtype
+    }
+
+    /// The segments of the layout itself.
+    pub fn segment_ids(&self) -> &[SegmentId]
+        ensures { map number result.now ≡ segments_of (layout_data self.now) }
+    {
+        self.head().segment_ids.as_slice()
     }
 
     /// An unread zoned layout is `Zoned`.
-    #[tactic(auto, unfolding(crate::specs::LayoutView::layout_data))]
     pub fn kind(&self) -> LayoutKind
         ensures { result ≡ kind_name (layout_kind (layout_data self.now)) }
     {
-        match self {
-            // A field is named in each pattern, here and below, so that the proof sees into the layout.
-            Layout::Flat(_) => LayoutKind::Flat,
-            Layout::Chunked(ChunkedLayout { row_count, .. }) => LayoutKind::Chunked,
-            Layout::Struct(StructLayout { row_count, .. }) => LayoutKind::Struct,
-            Layout::List(ListLayout { row_count, .. }) => LayoutKind::List,
-            Layout::Dict(DictLayout { row_count, .. }) => LayoutKind::Dict,
-            Layout::Zoned(
-                ZonedLayout {
-                    table: ZoneTable::Read,
-                    ..
-                },
-            ) => LayoutKind::Zoned,
-            Layout::Zoned(
-                ZonedLayout {
-                    table: ZoneTable::Unread(_),
-                    ..
-                },
-            ) => LayoutKind::Zoned,
-            Layout::LegacyStats(LegacyStatsLayout { row_count, .. }) => LayoutKind::LegacyStats,
-            Layout::Foreign(ForeignLayout { row_count, .. }) => LayoutKind::Foreign,
+        match self.by_kind() {
+            KindRef::Flat(_) => LayoutKind::Flat,
+            KindRef::Chunked(_) => LayoutKind::Chunked,
+            KindRef::Struct(_) => LayoutKind::Struct,
+            KindRef::List(_) => LayoutKind::List,
+            KindRef::Dict(..) => LayoutKind::Dict,
+            KindRef::Zoned(..) => LayoutKind::Zoned,
+            KindRef::Unread(..) => LayoutKind::Zoned,
+            KindRef::LegacyStats(..) => LayoutKind::LegacyStats,
+            KindRef::Foreign(..) => LayoutKind::Foreign,
         }
     }
 
     /// The id that contexts list, of a foreign layout its own.
-    #[tactic(auto, unfolding(crate::specs::LayoutView::layout_data))]
     pub fn encoding_id(&self) -> &str
         ensures { result.now ≡ kind_id (layout_kind (layout_data self.now)) }
     {
-        match self {
-            Layout::Flat(_) => "vortex.flat",
-            Layout::Chunked(ChunkedLayout { row_count, .. }) => "vortex.chunked",
-            Layout::Struct(StructLayout { row_count, .. }) => "vortex.struct",
-            Layout::List(ListLayout { row_count, .. }) => "vortex.list",
-            Layout::Dict(DictLayout { row_count, .. }) => "vortex.dict",
-            Layout::Zoned(
-                ZonedLayout {
-                    table: ZoneTable::Read,
-                    ..
-                },
-            ) => "vortex.zoned",
-            Layout::Zoned(
-                ZonedLayout {
-                    table: ZoneTable::Unread(_),
-                    ..
-                },
-            ) => "vortex.zoned",
-            Layout::LegacyStats(LegacyStatsLayout { row_count, .. }) => "vortex.stats",
-            Layout::Foreign(foreign) => foreign.id.as_str(),
-        }
-    }
-
-    /// The segments of the layout itself.
-    #[tactic(auto, unfolding(crate::specs::LayoutView::layout_data))]
-    pub fn segment_ids(&self) -> &[SegmentId]
-        ensures { map number result.now ≡ segments_of (layout_data self.now) }
-    {
-        match self {
-            Layout::Flat(flat) => std::slice::from_ref(&flat.segment_id),
-            Layout::Chunked(inner) => &inner.segment_ids,
-            Layout::Struct(inner) => &inner.segment_ids,
-            Layout::List(inner) => &inner.segment_ids,
-            Layout::Dict(inner) => &inner.segment_ids,
-            Layout::Zoned(inner) => &inner.segment_ids,
-            Layout::LegacyStats(inner) => &inner.segment_ids,
-            Layout::Foreign(inner) => &inner.segment_ids,
+        match self.by_kind() {
+            KindRef::Flat(_) => LayoutEncoding::Flat.id(),
+            KindRef::Chunked(_) => LayoutEncoding::Chunked.id(),
+            KindRef::Struct(_) => LayoutEncoding::Struct.id(),
+            KindRef::List(_) => LayoutEncoding::List.id(),
+            KindRef::Dict(..) => LayoutEncoding::Dict.id(),
+            KindRef::Zoned(..) => LayoutEncoding::Zoned.id(),
+            KindRef::Unread(..) => LayoutEncoding::Zoned.id(),
+            KindRef::LegacyStats(..) => LayoutEncoding::LegacyStats.id(),
+            KindRef::Foreign(_, id, _) => id.as_str(),
         }
     }
 
@@ -182,14 +151,15 @@ impl Layout {
         ensures { answered (layout_data self.now) ≡ Ok (layout_data self.now) }
     {
         match self {
+            // A field is named in each pattern, so that the proof sees into the layout.
             Layout::Flat(_) => (),
-            Layout::Chunked(ChunkedLayout { row_count, .. }) => (),
-            Layout::Struct(StructLayout { row_count, .. }) => (),
-            Layout::List(ListLayout { row_count, .. }) => (),
-            Layout::Dict(DictLayout { row_count, .. }) => (),
+            Layout::Chunked(ChunkedLayout { head, .. }) => (),
+            Layout::Struct(StructLayout { head, .. }) => (),
+            Layout::List(ListLayout { head, .. }) => (),
+            Layout::Dict(DictLayout { head, .. }) => (),
             Layout::Zoned(
                 ZonedLayout {
-                    table: ZoneTable::Read,
+                    table: ZoneTable::Read(..),
                     ..
                 },
             ) => (),
@@ -199,8 +169,8 @@ impl Layout {
                     ..
                 },
             ) => (),
-            Layout::LegacyStats(LegacyStatsLayout { row_count, .. }) => (),
-            Layout::Foreign(ForeignLayout { row_count, .. }) => (),
+            Layout::LegacyStats(LegacyStatsLayout { head, .. }) => (),
+            Layout::Foreign(ForeignLayout { head, .. }) => (),
         }
     }
 
@@ -226,30 +196,19 @@ impl Layout {
     }
 
     /// The flat layout that it is, where it is one.
-    #[tactic(auto, unfolding(crate::specs::LayoutView::layout_data))]
     pub fn as_flat(&self) -> Option<&FlatLayout>
         ensures { MatchOption result (kind_name (layout_kind (layout_data self.now)) ≢ Flat) (λ flat. layout_data self.now ≡ flat_lay flat.now) }
     {
-        match self {
-            Layout::Flat(flat) => Some(flat),
-            Layout::Chunked(ChunkedLayout { row_count, .. }) => None,
-            Layout::Struct(StructLayout { row_count, .. }) => None,
-            Layout::List(ListLayout { row_count, .. }) => None,
-            Layout::Dict(DictLayout { row_count, .. }) => None,
-            Layout::Zoned(
-                ZonedLayout {
-                    table: ZoneTable::Read,
-                    ..
-                },
-            ) => None,
-            Layout::Zoned(
-                ZonedLayout {
-                    table: ZoneTable::Unread(_),
-                    ..
-                },
-            ) => None,
-            Layout::LegacyStats(LegacyStatsLayout { row_count, .. }) => None,
-            Layout::Foreign(ForeignLayout { row_count, .. }) => None,
+        match self.by_kind() {
+            KindRef::Flat(flat) => Some(flat),
+            KindRef::Chunked(_) => None,
+            KindRef::Struct(_) => None,
+            KindRef::List(_) => None,
+            KindRef::Dict(..) => None,
+            KindRef::Zoned(..) => None,
+            KindRef::Unread(..) => None,
+            KindRef::LegacyStats(..) => None,
+            KindRef::Foreign(..) => None,
         }
     }
 

@@ -9,13 +9,14 @@ mod display;
 mod error;
 mod flat;
 mod foreign;
+mod head;
 mod kind;
 mod kind_ref;
 mod layout;
 mod list;
-mod own;
 mod parts;
 mod rebuilt;
+mod segment_ids;
 mod shape;
 mod stats;
 mod structs;
@@ -29,14 +30,16 @@ pub use display::SegmentList;
 pub use error::LayoutError;
 pub use flat::FlatLayout;
 pub use foreign::ForeignLayout;
+pub use head::LayoutHead;
 pub use kind::LayoutKind;
 pub use kind_ref::KindRef;
 pub use layout::Layout;
-pub use list::ListLayout;
-pub use own::{
-    ELEMENTS_CHILD_INDEX, NUM_CHILDREN_NON_NULLABLE, OFFSETS_CHILD_INDEX, VALIDITY_CHILD_INDEX,
+pub use list::{
+    ELEMENTS_CHILD_INDEX, ListLayout, NUM_CHILDREN_NON_NULLABLE, OFFSETS_CHILD_INDEX,
+    VALIDITY_CHILD_INDEX,
 };
-pub use parts::{KindParts, LayoutHead, LayoutParts};
+pub use parts::{KindParts, LayoutParts};
+pub use segment_ids::SegmentIds;
 pub use shape::{field_count, fields_in, integers_in, struct_children};
 pub use stats::LegacyStatsLayout;
 pub use structs::StructLayout;

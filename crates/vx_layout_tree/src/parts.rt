@@ -3,21 +3,22 @@
 use crate::children::LayoutChildren;
 use crate::chunked::ChunkedLayout;
 use crate::dict::DictLayout;
+use crate::head::LayoutHead;
 use crate::layout::Layout;
 use crate::list::ListLayout;
+use crate::segment_ids::SegmentIds;
 use crate::stats::LegacyStatsLayout;
 use crate::structs::StructLayout;
 use crate::zoned::{UnreadZones, ZoneTable, ZonedLayout};
-use std::alloc::Global;
 use vx_aggregate::{AggregateFn, Stat};
-use vx_model::{Blob, DType, SegmentId};
+use vx_model::{Blob, DType};
 
 /// What layouts of all kinds have.
 #[derive(Debug, Drop)]
 pub struct LayoutParts {
     pub dtype: DType,
     pub row_count: u64,
-    pub segment_ids: Vec<SegmentId>,
+    pub segment_ids: SegmentIds,
     pub children: LayoutChildren,
 }
 
@@ -28,7 +29,7 @@ impl LayoutParts {
     pub fn new(
         dtype: DType,
         row_count: u64,
-        segment_ids: Vec<SegmentId>,
+        segment_ids: SegmentIds,
         children: LayoutChildren,
     ) -> LayoutParts
         ensures { result ≡ record { dtype = dtype; row_count = row_count; segment_ids = segment_ids; children = children } }
@@ -40,14 +41,25 @@ impl LayoutParts {
             children,
         }
     }
-}
 
-/// What layouts of all kinds have besides children.
-#[derive(Drop)]
-pub struct LayoutHead {
-    pub row_count: u64,
-    pub dtype: DType,
-    pub segment_ids: Vec<SegmentId>,
+    /// Takes no memory.
+    pub(crate) fn into_head(self) -> (LayoutHead, LayoutChildren)
+        ensures head { result.0 ≡ record { dtype = self.dtype; row_count = self.row_count; segment_ids = self.segment_ids } }
+        ensures children { result.1 ≡ self.children }
+    {
+        let LayoutParts {
+            dtype,
+            row_count,
+            segment_ids,
+            children,
+        } = self;
+        let head = LayoutHead {
+            dtype,
+            row_count,
+            segment_ids,
+        };
+        (head, children)
+    }
 }
 
 /// What a layout of a kind is made of, where nothing is tested.
@@ -72,59 +84,38 @@ impl Layout {
 
     /// The layout of the parts. Takes no memory.
     #[tactic(auto, unfolding(crate::specs::LayoutView::layout_data))]
-    pub fn from_parts(alloc: Global, parts: KindParts) -> Layout
+    pub fn from_parts(parts: KindParts) -> Layout
         requires { IsWhole parts }
         ensures { layout_data result ≡ whole_lay parts }
     {
         match parts {
-            KindParts::Chunked(parts) => Layout::Chunked(ChunkedLayout {
-                row_count: parts.row_count,
-                dtype: parts.dtype,
-                segment_ids: parts.segment_ids,
-                children: parts.children,
-            }),
-            KindParts::Struct(parts) => Layout::Struct(StructLayout {
-                row_count: parts.row_count,
-                dtype: parts.dtype,
-                segment_ids: parts.segment_ids,
-                children: parts.children,
-            }),
-            KindParts::List(head, children) => Layout::List(ListLayout {
-                row_count: head.row_count,
-                dtype: head.dtype,
-                segment_ids: head.segment_ids,
-                children,
-            }),
+            KindParts::Chunked(parts) => {
+                let (head, children) = parts.into_head();
+                Layout::Chunked(ChunkedLayout { head, children })
+            }
+            KindParts::Struct(parts) => {
+                let (head, children) = parts.into_head();
+                Layout::Struct(StructLayout { head, children })
+            }
+            KindParts::List(head, children) => Layout::List(ListLayout { head, children }),
             KindParts::Dict(head, children, all_values_referenced) => Layout::Dict(DictLayout {
-                row_count: head.row_count,
-                dtype: head.dtype,
-                segment_ids: head.segment_ids,
+                head,
                 children,
                 all_values_referenced,
             }),
             KindParts::Zoned(head, children, zone_len, aggregates) => Layout::Zoned(ZonedLayout {
-                row_count: head.row_count,
-                dtype: head.dtype,
-                segment_ids: head.segment_ids,
+                head,
                 children,
-                zone_len,
-                aggregates,
-                table: ZoneTable::Read,
+                table: ZoneTable::Read(zone_len, aggregates),
             }),
             KindParts::Unread(head, children, metadata, zones) => Layout::Zoned(ZonedLayout {
-                row_count: head.row_count,
-                dtype: head.dtype,
-                segment_ids: head.segment_ids,
+                head,
                 children,
-                zone_len: 0,
-                aggregates: Vec::new(alloc),
                 table: ZoneTable::Unread(UnreadZones { metadata, zones }),
             }),
             KindParts::LegacyStats(head, children, zone_len, stats) => {
                 Layout::LegacyStats(LegacyStatsLayout {
-                    row_count: head.row_count,
-                    dtype: head.dtype,
-                    segment_ids: head.segment_ids,
+                    head,
                     children,
                     zone_len,
                     stats,

@@ -16,14 +16,6 @@ use crate::list::ListLayout;
 use crate::stats::LegacyStatsLayout;
 use crate::structs::StructLayout;
 use std::alloc::AllocError;
-use vx_model::SegmentId;
-
-/// The same segments.
-pub(crate) fn same_segments(segment_ids: &Vec<SegmentId>) -> Result<Vec<SegmentId>, AllocError>
-    ensures { IfOk result (λ v. v.items ≡ segment_ids.now.items) }
-{
-    Vec::from_slice(*segment_ids.allocator(), segment_ids)
-}
 
 impl ChunkedLayout {
     #[tactic(auto, using(crate::proofs::CopySteps::kind_rules))]
@@ -31,14 +23,8 @@ impl ChunkedLayout {
         requires { chunks (layout_type self.now) children ≡ children_of self.now }
         ensures { IfOk result (λ copy. copy ≡ self.now) }
     {
-        let segment_ids = same_segments(&self.segment_ids)?;
-        let dtype = self.dtype.clone()?;
-        Ok(ChunkedLayout {
-            row_count: self.row_count,
-            dtype,
-            segment_ids,
-            children,
-        })
+        let head = self.head.clone()?;
+        Ok(ChunkedLayout { head, children })
     }
 }
 
@@ -49,14 +35,8 @@ impl StructLayout {
         requires same { fields (layout_type self.now) children ≡ children_of self.now }
         ensures { IfOk result (λ copy. copy ≡ self.now) }
     {
-        let segment_ids = same_segments(&self.segment_ids)?;
-        let dtype = self.dtype.clone()?;
-        Ok(StructLayout {
-            row_count: self.row_count,
-            dtype,
-            segment_ids,
-            children,
-        })
+        let head = self.head.clone()?;
+        Ok(StructLayout { head, children })
     }
 }
 
@@ -66,14 +46,8 @@ impl ListLayout {
         requires { map layout_data children.items ≡ children_of self.now }
         ensures { IfOk result (λ copy. copy ≡ self.now) }
     {
-        let segment_ids = same_segments(&self.segment_ids)?;
-        let dtype = self.dtype.clone()?;
-        Ok(ListLayout {
-            row_count: self.row_count,
-            dtype,
-            segment_ids,
-            children,
-        })
+        let head = self.head.clone()?;
+        Ok(ListLayout { head, children })
     }
 }
 
@@ -83,12 +57,9 @@ impl DictLayout {
         requires { map layout_data children.items ≡ children_of self.now }
         ensures { IfOk result (λ copy. copy ≡ self.now) }
     {
-        let segment_ids = same_segments(&self.segment_ids)?;
-        let dtype = self.dtype.clone()?;
+        let head = self.head.clone()?;
         Ok(DictLayout {
-            row_count: self.row_count,
-            dtype,
-            segment_ids,
+            head,
             children,
             all_values_referenced: self.all_values_referenced,
         })
@@ -101,13 +72,10 @@ impl LegacyStatsLayout {
         requires { map layout_data children.items ≡ children_of self.now }
         ensures { IfOk result (λ copy. copy ≡ self.now) }
     {
-        let segment_ids = same_segments(&self.segment_ids)?;
-        let dtype = self.dtype.clone()?;
+        let head = self.head.clone()?;
         let stats = Vec::from_slice(*self.stats.allocator(), &self.stats)?;
         Ok(LegacyStatsLayout {
-            row_count: self.row_count,
-            dtype,
-            segment_ids,
+            head,
             children,
             zone_len: self.zone_len,
             stats,
@@ -121,14 +89,11 @@ impl ForeignLayout {
         requires { map layout_data children.items ≡ children_of self.now }
         ensures { IfOk result (λ copy. copy ≡ self.now) }
     {
-        let segment_ids = same_segments(&self.segment_ids)?;
-        let dtype = self.dtype.clone()?;
+        let head = self.head.clone()?;
         let id = self.id.clone()?;
         let metadata = self.metadata.clone()?;
         Ok(ForeignLayout {
-            row_count: self.row_count,
-            dtype,
-            segment_ids,
+            head,
             children,
             id,
             metadata,

@@ -1,17 +1,16 @@
 use crate::children::LayoutChildren;
 use crate::error::LayoutError;
+use crate::head::LayoutHead;
 use crate::layout::Layout;
-use crate::shape::struct_children;
+use crate::shape::{fields_in, struct_children};
 use std::marker::Model;
-use vx_model::{DType, SegmentId};
+use vx_model::{DType, StructField};
 
 /// A validity where the type is nullable, then a layout a field.
 #[derive(Debug, Drop)]
 #[cycle(layout)]
 pub struct StructLayout {
-    pub(crate) row_count: u64,
-    pub(crate) dtype: DType,
-    pub(crate) segment_ids: Vec<SegmentId>,
+    pub(crate) head: LayoutHead,
     pub(crate) children: LayoutChildren,
 }
 
@@ -28,12 +27,12 @@ impl Model for StructLayout {
     ghost use Rattle.std.specs.Prelude.{◌≡◌, length};
     ghost use Rattle.vx_model.specs.TyView.{ty};
     ghost use Rattle.vx_session.specs.Kinds.{struct_types};
-    ghost use Rattle.vx_layout_tree.specs.LayoutView.{seen_layout};
+    ghost use Rattle.vx_layout_tree.specs.HeadView.{headed};
     ghost use Rattle.vx_layout_tree.specs.KidsView.{fields, layout_kids};
 
-    ghost view = { λ c. seen_layout struct_kind c.dtype c.row_count c.segment_ids (fields (ty c.dtype) c.children) };
+    ghost view = { λ c. headed struct_kind c.head (fields (ty c.head.dtype) c.children) };
 
-    ghost invariant = { λ c. length (layout_kids c.children) ≡ length (struct_types (ty c.dtype)) };
+    ghost invariant = { λ c. length (layout_kids c.children) ≡ length (struct_types (ty c.head.dtype)) };
 
     ghost use Rattle.vx_layout_tree.specs.LayDepth.{depth};
 
@@ -41,18 +40,19 @@ impl Model for StructLayout {
 
     ghost use Rattle.vx_layout_tree.specs.DepthFalls.{fields_fall};
 
-    ghost size_decreases = { λ c h. fields_fall (ty c.dtype) c.children };
+    ghost size_decreases = { λ c h. fields_fall (ty c.head.dtype) c.children };
 }
 
 impl StructLayout {
     ghost use Rattle.std.specs.Prelude.{◌≡◌, ◌≢◌, map, IfErr};
-    ghost use Rattle.vx_model.specs.TyView.{ty};
+    ghost use Rattle.vx_model.specs.TyView.{ty, field_ty};
     ghost use Rattle.vx_layout_spec.specs.LayoutTree.{layout_type, children_of};
     ghost use Rattle.vx_layout_tree.specs.KidsView.{fields};
     ghost use Rattle.vx_layout_tree.specs.LayoutView.{layout_data};
     ghost use Rattle.vx_layout_tree.specs.Made.{make_struct};
     ghost use Rattle.vx_layout_tree.specs.Views.{Gives, itself};
     ghost use Rattle.vx_layout_tree.specs.declared.error.LayoutError.TheVariants.{OutOfMemory};
+    ghost use Rattle.vx_layout_tree.specs.Children.{fields_of};
 
     /// Refuses `NotAStruct`, then `ChildCount`. Takes no memory.
     #[tactic(auto, using(crate::proofs::KidSteps::field_rules))]
@@ -72,12 +72,9 @@ impl StructLayout {
         if has != needs {
             return Err(LayoutError::ChildCount { has, needs });
         }
-        Ok(StructLayout {
-            row_count,
-            dtype,
-            segment_ids: Vec::new(*children.allocator()),
-            children: LayoutChildren::Owned(children),
-        })
+        let head = LayoutHead::without_segments(*children.allocator(), dtype, row_count);
+        let children = LayoutChildren::Owned(children);
+        Ok(StructLayout { head, children })
     }
 
     /// The validity and the fields, built when they are asked for where they are nodes of bytes.
@@ -86,5 +83,20 @@ impl StructLayout {
         ensures { fields (layout_type self.now) result.now ≡ children_of self.now }
     {
         &self.children
+    }
+
+    /// Takes no memory.
+    #[tactic(auto, unfolding(crate::specs::LayoutView::layout_data))]
+    pub fn into_layout(self) -> Layout
+        ensures { layout_data result ≡ self }
+    {
+        Layout::Struct(self)
+    }
+
+    /// The fields of its type.
+    pub fn struct_fields(&self) -> &[StructField]
+        ensures { map field_ty result.now ≡ fields_of (layout_type self.now) }
+    {
+        fields_in(&self.head.dtype)
     }
 }

@@ -1,11 +1,12 @@
 use crate::children::{LayoutChildren, kept_rows};
 use crate::error::LayoutError;
+use crate::head::LayoutHead;
 use crate::layout::Layout;
 use std::alloc::Global;
 use std::marker::Model;
 use std::num::NonZeroU32;
 use vx_aggregate::{AggregateFn, aggregate_stats_table_dtype};
-use vx_model::{Blob, DType, SegmentId};
+use vx_model::Blob;
 
 /// A table that records an aggregate that isn't known: its metadata, and the table as it was found.
 #[derive(Debug, Drop)]
@@ -15,11 +16,12 @@ pub struct UnreadZones {
     pub(crate) zones: LayoutChildren,
 }
 
-/// Whether the table of the zones is read.
+/// What the table of the zones records, where it is read.
 #[derive(Debug, Drop)]
 #[cycle(layout)]
 pub enum ZoneTable {
-    Read,
+    /// The rows of each zone but the last, and the aggregates.
+    Read(u32, Vec<AggregateFn>),
     Unread(UnreadZones),
 }
 
@@ -27,12 +29,8 @@ pub enum ZoneTable {
 #[derive(Debug, Drop)]
 #[cycle(layout)]
 pub struct ZonedLayout {
-    pub(crate) row_count: u64,
-    pub(crate) dtype: DType,
-    pub(crate) segment_ids: Vec<SegmentId>,
+    pub(crate) head: LayoutHead,
     pub(crate) children: Vec<Layout>,
-    pub(crate) zone_len: u32,
-    pub(crate) aggregates: Vec<AggregateFn>,
     pub(crate) table: ZoneTable,
 }
 
@@ -45,15 +43,12 @@ impl Model for ZonedLayout {
 
     ghost coded = { lay_code };
 
-    ghost use Rattle.vx_layout_tree.specs.LayoutView.{seen_layout};
-    ghost use Rattle.vx_layout_tree.specs.ZonedView.{kind_of_zones, zoned_children};
+    ghost use Rattle.vx_layout_tree.specs.HeadView.{headed};
+    ghost use Rattle.vx_layout_tree.specs.ZonedView.{kind_of_zones, zoned_children, has_few};
 
-    ghost view = { λ c. seen_layout (kind_of_zones c.zone_len c.aggregates c.table) c.dtype c.row_count c.segment_ids (zoned_children c.children c.table) };
+    ghost view = { λ c. headed (kind_of_zones c.table) c.head (zoned_children c.children c.table) };
 
-    ghost use Rattle.std.specs.Prelude.{◌<◌, ◌^◌, length};
-
-    // A number of aggregates stands in four bytes of metadata.
-    ghost invariant = { λ c. length c.aggregates.items < 2 ^ 32 };
+    ghost invariant = { λ c. has_few c.table };
 
     ghost use Rattle.vx_layout_tree.specs.LayDepth.{depth};
 
@@ -65,12 +60,16 @@ impl Model for ZonedLayout {
 }
 
 impl ZonedLayout {
-    ghost use Rattle.std.specs.Prelude.{◌<◌, ◌^◌, length, map};
+    ghost use Rattle.std.specs.Prelude.{◌<◌, ◌^◌, length, map, ◌≡◌};
     ghost use Rattle.std.specs.Int.NonZero.{non_zero_u32_get};
+    ghost use Rattle.vx_aggregate_spec.specs.Aggregate.{spec};
     ghost use Rattle.vx_aggregate.specs.AggregateView.{aggregate};
+    ghost use Rattle.vx_layout_spec.specs.LayoutTree.{children_of, layout_kind};
     ghost use Rattle.vx_layout_tree.specs.LayoutView.{layout_data};
     ghost use Rattle.vx_layout_tree.specs.Made.{make_zoned};
     ghost use Rattle.vx_layout_tree.specs.Views.{Gives, itself};
+    ghost use Rattle.vx_layout_tree.specs.Children.{rows_at};
+    ghost use Rattle.vx_layout_tree.specs.Own.{zone_length, aggregate_specs};
 
     /// Of the column's type and rows. There are fewer than 2^32 aggregates. Refuses `ChildType` where the zones aren't of
     /// their table type.
@@ -95,14 +94,50 @@ impl ZonedLayout {
         let dtype = column.dtype().clone()?;
         let children = vec![in alloc; column, zones]?;
         Ok(ZonedLayout {
-            row_count,
-            dtype,
-            segment_ids: Vec::new(alloc),
+            head: LayoutHead::without_segments(alloc, dtype, row_count),
             children,
-            zone_len: zone_len.get(),
-            aggregates: aggregate_fns,
-            table: ZoneTable::Read,
+            table: ZoneTable::Read(zone_len.get(), aggregate_fns),
         })
+    }
+
+    /// Takes no memory.
+    #[tactic(auto, unfolding(crate::specs::LayoutView::layout_data))]
+    pub fn into_layout(self) -> Layout
+        ensures { layout_data result ≡ self }
+    {
+        Layout::Zoned(self)
+    }
+
+    /// Rows of each zone but the last.
+    pub fn zone_len(&self) -> u32
+        ensures { result ≡ zone_length (layout_kind self.now) }
+    {
+        match &self.table {
+            ZoneTable::Read(zone_len, _) => *zone_len,
+            ZoneTable::Unread(_) => 0,
+        }
+    }
+
+    /// Rows of the table.
+    #[tactic(auto, using(crate::proofs::OwnSteps::zone_rules))]
+    pub fn nzones(&self) -> u64
+        ensures { result ≡ rows_at (children_of self.now) 1 }
+    {
+        if self.nchildren() > 1 {
+            self.child_row_count(1)
+        } else {
+            0
+        }
+    }
+
+    /// What the table records of each zone.
+    pub fn present_aggregates(&self) -> &[AggregateFn]
+        ensures { map spec (map aggregate result.now) ≡ aggregate_specs (layout_kind self.now) }
+    {
+        match &self.table {
+            ZoneTable::Read(_, aggregates) => aggregates,
+            ZoneTable::Unread(_) => &[],
+        }
     }
 }
 
@@ -117,7 +152,7 @@ impl ZonedLayout {
     {
         let kept = self.children.len() as u64;
         match &self.table {
-            ZoneTable::Read => kept,
+            ZoneTable::Read(..) => kept,
             ZoneTable::Unread(unread) => kept + unread.zones.nchildren(),
         }
     }
@@ -129,7 +164,7 @@ impl ZonedLayout {
     {
         let kept = self.children.len() as u64;
         match &self.table {
-            ZoneTable::Read => kept_rows(&self.children, i),
+            ZoneTable::Read(..) => kept_rows(&self.children, i),
             ZoneTable::Unread(unread) => {
                 if i < kept {
                     kept_rows(&self.children, i)

@@ -11,4 +11,4 @@ pub returns-then-has-needs : goal.returns-then-has-needs
 returns-then-has-needs c =
     let sum : c.total_rows-has.result ≡ total_by row_count (map layout_data c.args.children.items) =
     c.total_rows-has.ensures ∙ rw c.layout_children-children.ensures (sym (chunk_sum (layout_type c.args.self.now) (children.Owned c.args.children))) in
-    other_chunks c.args.self.now (map layout_data c.args.children.items) c.total_rows-has.result c.self.inside.row_count (rw (← c.self.view_is) refl) sum c.if-has-needs.true
+    other_chunks c.args.self.now (map layout_data c.args.children.items) c.total_rows-has.result c.self.inside.head.row_count (rw (← c.self.view_is) refl) sum c.if-has-needs.true

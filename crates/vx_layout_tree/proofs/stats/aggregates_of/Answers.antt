@@ -1,6 +1,6 @@
 use Rattle.vx_aggregate.specs.declared.stat.Stat.TheVariants as stats
 use Rattle.vx_layout_tree.proofs.OwnSteps.{next_stat}
-use Rattle.vx_layout_tree.proofs.own.aggregates_of.Goals as goal
+use Rattle.vx_layout_tree.proofs.stats.aggregates_of.Goals as goal
 
 pub loop-stat-preserved : goal.loop-stat-preserved
 loop-stat-preserved c =
