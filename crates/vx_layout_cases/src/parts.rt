@@ -6,7 +6,9 @@ use crate::sessions::{build_context, kind_in};
 use crate::shown::slots;
 use anyhow::Result;
 use std::alloc::Global;
-use vx_layout::{Layout, LayoutDeserializeArgs, LayoutEncodingExt, LayoutError, LayoutParts, SegmentIds};
+use vx_layout::{
+    Layout, LayoutDeserializeArgs, LayoutEncodingExt, LayoutError, LayoutParts, SegmentIds,
+};
 
 pub(crate) fn built(alloc: Global, args: &str) -> Result<String> {
     let (kind, rest) = cut(args);
