@@ -22,9 +22,12 @@ abbrev pub count_of : Tys → ℕ
 count_of no_fields = 0
 count_of (field name t fs) = suc (count_of fs)
 
-pub count-tys_of : (fs : List StructField) → count_of (tys_of (map field_ty fs)) ≡ length fs
+count-tys_of : (fs : List StructField) → count_of (tys_of (map field_ty fs)) ≡ length fs
 count-tys_of [] = refl
 count-tys_of (f ∷ fs) = ap suc (count-tys_of fs)
+
+pub count_is : (t : Ty) (fs : List StructField) → tys_of (map field_ty fs) ≡ struct_fields t → length fs ≡ count_of (struct_fields t)
+count_is t fs e = sym (count-tys_of fs) ∙ ap count_of e
 
 -- ---- the width of a struct's cells
 

@@ -1,11 +1,10 @@
 -- The columns of a struct or a list chunk.
-use Rattle.std.specs.Prelude.{ℕ, ◌&&◌, ◌==◌, Bool, true, false, List, [], ◌∷◌, length, map}
+use Rattle.std.specs.Prelude.{ℕ, ◌&&◌, ◌==◌, Bool, true, false, List, [], ◌∷◌, length}
 use Rattle.vx_model.specs.Words.{all_by, head_or}
-use Rattle.vx_model.specs.Ty.{Ty, Tys, boolean, list, struct, no_fields, field}
-use Rattle.vx_model.specs.CellData.{CellData, null_cell, bool_cell, struct_cell, cell, fits}
+use Rattle.vx_model.specs.Ty.{Ty, Tys, list, struct, no_fields, field}
+use Rattle.vx_model.specs.CellData.{CellData, fits}
 use Rattle.vx_model.specs.ChunkData.{ChunkData, plain_piece, list_piece, extension_piece, cells}
 use Rattle.vx_chunk_cells.specs.Window.{last_of}
-use Rattle.vx_layout_spec.specs.Parts.{flag_of}
 
 -- the fields of a struct type
 abbrev pub struct_fields : Ty → Tys
