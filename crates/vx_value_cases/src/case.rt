@@ -29,6 +29,7 @@ fn answer_to(alloc: Global, word: &str, given: &str) -> anyhow::Result<String> {
         "stats" => tables::stats(alloc, given),
         "block" => strategies::block(alloc, given),
         "overrides" => overrides::overridden(alloc, given),
+        "copy" => strategies::copied(alloc, given),
         "dispatch" => standing::dispatched(alloc, given),
         "field" => strategies::field(alloc, given),
         "defaults" => strategies::defaults(alloc),

@@ -5,6 +5,8 @@ use serde_json::Value;
 use std::alloc::Global;
 use vx_chunk_json::read_type;
 use vx_model::DType;
+use vx_strategy::Strategy;
+use vx_strategy_json::read_strategy;
 
 /// The text before the first space, and the text behind it.
 pub(crate) fn cut(text: &str) -> (&str, &str) {
@@ -19,4 +21,9 @@ pub(crate) fn parts(text: &str) -> anyhow::Result<(&str, &str)> {
 pub(crate) fn dtype(alloc: Global, json: &str) -> anyhow::Result<DType> {
     let value = Value::from_str(alloc, json)?;
     Ok(read_type(alloc, &value)?)
+}
+
+pub(crate) fn strategy(alloc: Global, json: &str) -> anyhow::Result<Strategy> {
+    let value = Value::from_str(alloc, json)?;
+    Ok(read_strategy(alloc, &value)?)
 }

@@ -1,7 +1,7 @@
 //! Answers cases on standard input: what calls on paths, masks, aggregates and strategies give.
 //!
 //! A case is a line `NAME WORD GIVEN`, and its answer a line `NAME: ANSWER`. Empty lines and those that begin with `#` are
-//! left out. Parts of what is given stand between ` / `. Types and aggregates are those of a job.
+//! left out. Parts of what is given stand between ` / `. Types, aggregates and strategies are those of a job.
 //!
 //! | word | given | answer |
 //! |---|---|---|
@@ -17,7 +17,8 @@
 //! | `block` | a type, a number of bytes | the rows of a block of at most 8192, and whether a dictionary takes the type |
 //! | `overrides` | two names | whether a table takes writers of both, or which paths overlap |
 //! | `field` | a name | the kind of a copy of a strategy that has a writer of the name, and of that writer |
-//! | `dispatch` | a type, a field | the kind that a table stands for at the type, and that of a struct's writer of the field; the table writes `a` in chunks and lays lists out |
+//! | `copy` | a strategy | its kind, and whether a copy has the same text |
+//! | `dispatch` | a table, a type, a field | the kind of what the table stands for at the type, and of what a struct of that kind writes the field by, or a wrapper wraps |
 //! | `defaults` | | the length of a dictionary and the rows of a zone by default |
 #![tactic(auto)]
 

@@ -8,7 +8,7 @@ use vx_model::Text;
 use vx_strategy::{BuildError, TableStrategy};
 
 /// A table whose leaf, validity and lists were set after it was made.
-pub(crate) fn table(alloc: Global) -> Result<TableStrategy, BuildError> {
+fn table(alloc: Global) -> Result<TableStrategy, BuildError> {
     TableStrategy::new(alloc, flat(), flat())?
         .with_default_strategy(alloc, flat())?
         .with_validity_strategy(alloc, flat())?
@@ -16,7 +16,7 @@ pub(crate) fn table(alloc: Global) -> Result<TableStrategy, BuildError> {
 }
 
 /// The path of one name.
-pub(crate) fn path(alloc: Global, name: &str) -> Result<FieldPath, AllocError> {
+fn path(alloc: Global, name: &str) -> Result<FieldPath, AllocError> {
     FieldPath::from_name(alloc, Text::from_str(alloc, name)?)?.clone()
 }
 

@@ -1,23 +1,23 @@
 //! What tables stand for at a type.
 
-use crate::given::{dtype, parts};
-use crate::overrides::{path, table};
-use crate::strategies::{flat, kinds};
+use crate::given::{dtype, parts, strategy};
+use crate::strategies::kinds;
+use anyhow::bail;
 use std::alloc::Global;
 use vx_model::Text;
-use vx_strategy::{BuildError, ChunkedLayoutStrategy, TableStrategy, dispatch};
+use vx_strategy::{Strategy, TableStrategy, dispatch};
 
-/// A table that writes the field `a` in chunks.
-fn chunks_at_a(alloc: Global) -> Result<TableStrategy, BuildError> {
-    let path = path(alloc, "a")?;
-    let chunked = ChunkedLayoutStrategy::new(alloc, flat())?;
-    table(alloc)?.with_field_writer(alloc, path, chunked.into_strategy())
+fn at_type(alloc: Global, table: &TableStrategy, given: &str) -> anyhow::Result<String> {
+    let (of, field) = parts(given)?;
+    let field = Text::from_str(alloc, field)?;
+    let stands_for = dispatch(table, &dtype(alloc, of)?)?;
+    Ok(kinds(alloc, &stands_for, &field)?)
 }
 
 pub(crate) fn dispatched(alloc: Global, given: &str) -> anyhow::Result<String> {
-    let (of, field) = parts(given)?;
-    let dtype = dtype(alloc, of)?;
-    let field = Text::from_str(alloc, field)?;
-    let strategy = dispatch(&chunks_at_a(alloc)?, &dtype)?;
-    Ok(kinds(alloc, &strategy, &field)?)
+    let (by, rest) = parts(given)?;
+    match &strategy(alloc, by)? {
+        Strategy::Table(table) => at_type(alloc, table, rest),
+        _ => bail!("no table"),
+    }
 }

@@ -1,6 +1,6 @@
 //! Strategies that a caller makes, by what no job asks for.
 
-use crate::given::{dtype, parts};
+use crate::given::{dtype, parts, strategy};
 use std::alloc::{AllocError, Global};
 use vx_model::Text;
 use vx_strategy::{
@@ -46,24 +46,50 @@ fn kind(strategy: &Strategy) -> &'static str {
         Strategy::Chunked(_) => "chunked",
         Strategy::Struct(_) => "struct",
         Strategy::List(_) => "list",
+        Strategy::Dict(_) => "dict",
+        Strategy::Zoned(_) => "zoned",
+        Strategy::Repartition(_) => "repartition",
+        Strategy::Buffered(_) => "buffered",
+        Strategy::Collect(_) => "collect",
+        Strategy::Compressing(_) => "compress",
         Strategy::Table(_) => "table",
-        Strategy::Dict(_) | Strategy::Zoned(_) | Strategy::Repartition(_) => "another",
-        Strategy::Buffered(_) | Strategy::Collect(_) | Strategy::Compressing(_) => "another",
     }
 }
 
-/// The kind of the strategy, and behind a struct's the kind of what writes the field.
+/// What a struct writes the field by, or what a wrapper wraps.
+fn within<'a>(strategy: &'a Strategy, field: &Text) -> Option<&'a Strategy> {
+    match strategy {
+        Strategy::Struct(it) => Some(it.writer(field).strategy()),
+        Strategy::Zoned(it) => Some(it.child().strategy()),
+        Strategy::Repartition(it) => Some(it.child().strategy()),
+        Strategy::Buffered(it) => Some(it.child().strategy()),
+        Strategy::Flat(_) | Strategy::Chunked(_) | Strategy::List(_) | Strategy::Dict(_) => None,
+        Strategy::Collect(_) | Strategy::Compressing(_) | Strategy::Table(_) => None,
+    }
+}
+
+/// The kind of the strategy, and of what stands within.
 pub(crate) fn kinds(
     alloc: Global,
     strategy: &Strategy,
     field: &Text,
 ) -> Result<String, AllocError> {
-    match strategy {
-        Strategy::Struct(it) => {
-            format!(in alloc; "struct, {}", kind(it.writer(field).strategy()))
-        }
-        _ => String::from_str(alloc, kind(strategy)),
+    match within(strategy, field) {
+        Some(inner) => format!(in alloc; "{}, {}", kind(strategy), kind(inner)),
+        None => String::from_str(alloc, kind(strategy)),
     }
+}
+
+fn is_copied(alloc: Global, strategy: &Strategy) -> Result<bool, AllocError> {
+    let copy = strategy.clone()?;
+    let text = format!(in alloc; "{copy:?}")?;
+    Ok(text.as_str() == format!(in alloc; "{strategy:?}")?.as_str())
+}
+
+pub(crate) fn copied(alloc: Global, given: &str) -> anyhow::Result<String> {
+    let strategy = strategy(alloc, given)?;
+    let same = is_copied(alloc, &strategy)?;
+    Ok(format!(in alloc; "{}, {same}", kind(&strategy))?)
 }
 
 pub(crate) fn field(alloc: Global, given: &str) -> anyhow::Result<String> {
