@@ -2,6 +2,7 @@
 
 use crate::given::{chunk, context, dtype, parts, strategy};
 use anyhow::{bail, ensure};
+use bytes::Bytes;
 use std::alloc::{AllocError, Global};
 use vx_layout_bytes::Limits;
 use vx_layout_codec::{layout_bytes, layout_from_flatbuffer};
@@ -89,6 +90,7 @@ fn layout_of(alloc: Global, bytes: &[u8]) -> anyhow::Result<Layout> {
     let session = session(alloc)?;
     let of = DType::Primitive(PType::I64, Nullability::NonNullable);
     let limits = Limits::default();
+    let bytes = Bytes::copy_from_slice(alloc, bytes)?;
     Ok(layout_from_flatbuffer(alloc, bytes, &of, &ids, &ctx, &session, limits)?)
 }
 

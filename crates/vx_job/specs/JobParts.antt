@@ -6,7 +6,7 @@ use Rattle.vx_model.specs.declared.encoding.EncodingId.{EncodingId}
 use Rattle.vx_model.specs.declared.encoding.EncodingId.TheVariants as encodings
 use Rattle.vx_model.specs.Numbers.{encoding_id}
 use Rattle.vx_model.specs.Distinct.{first_repeat}
-use Rattle.vx_aggregate_spec.specs.Aggregate.{aggregate_id, maximum, minimum, bounded_maximum, bounded_minimum, null_count, sum, bloom}
+use Rattle.vx_session.specs.Ids.{aggregate_ids}
 use Rattle.vx_json.specs.Steps.{given, when}
 use Rattle.vx_json.specs.Values.{all, at, whole, whole_below, or_null, has_members}
 
@@ -38,9 +38,6 @@ distinct es = when (is_none (first_repeat es)) (Some es)
 
 unfoldable pub encodings_of : Data → Option (List EncodingId)
 encodings_of d = option_and_then distinct (all encoding_of d)
-
-abbrev pub aggregate_ids : List (List ℕ)
-aggregate_ids = aggregate_id maximum ∷ aggregate_id minimum ∷ aggregate_id (bounded_maximum 1) ∷ aggregate_id (bounded_minimum 1) ∷ aggregate_id null_count ∷ aggregate_id sum ∷ aggregate_id (bloom 1) ∷ []
 
 unfoldable pub is_among : List ℕ → List (List ℕ) → Bool
 is_among name [] = false

@@ -22,7 +22,7 @@ use vx_chunk_json::{read_batches, read_type};
 use vx_json::{JsonError, count, member};
 use vx_model::{ArrayContext, DType, Text};
 use vx_strategy::Strategy;
-use vx_strategy_json::{StrategyError, read_strategy};
+use vx_strategy_json::read_strategy;
 
 /// What the program is asked to write, and how.
 #[derive(Debug, Drop)]
@@ -131,11 +131,7 @@ fn strategy_in(alloc: Global, members: &Map<String, Value>) -> Result<Strategy, 
 fn strategy_from(alloc: Global, value: &Value) -> Result<Strategy, JsonError>
     ensures { values.Gives strategy_data result (strategy_of (view value.now)) }
 {
-    match read_strategy(alloc, value) {
-        Ok(strategy) => Ok(strategy),
-        Err(StrategyError::Wrong) => Err(JsonError::Wrong),
-        Err(StrategyError::OutOfMemory) => Err(JsonError::OutOfMemory),
-    }
+    Ok(read_strategy(alloc, value)?)
 }
 
 #[tactic(auto, using(crate::proofs::JobSteps::at_rules), unfolding(crate::specs::JobText::batches_in, crate::specs::JobText::batches_of))]

@@ -19,11 +19,12 @@ use crate::foreign_nodes::{build_foreign, segment_ids};
 use crate::one_child::OneChild;
 use crate::open::{Open, Wanted, with_built};
 use crate::opened::{open_dict, open_list, open_stats, open_zoned};
+use bytes::Bytes;
 use std::alloc::{AllocError, Global};
 use std::sync::Arc;
 use vx_layout_bytes::RawNode;
 use vx_layout_tree::{Layout, LayoutChildren, LayoutError, LayoutParts, ViewedChildren};
-use vx_model::{Blob, DType};
+use vx_model::DType;
 use vx_session::{LayoutBuildContext, LayoutEncoding, Scope};
 
 /// The layout that the node is at the type.
@@ -92,7 +93,7 @@ fn parts_of_node(
     scope: &Arc<Scope>,
     dtype: &DType,
     node: RawNode,
-) -> Result<(LayoutParts, Blob), AllocError>
+) -> Result<(LayoutParts, Bytes), AllocError>
     ensures { IfOk result (λ p. (parts_of p.0 ≡ node_parts (scope_of scope.now.value) (ty dtype.now) (raw node)) × (p.1 ≡ (own_of (raw node)).metadata) × (children_depth p.0.children + 1 ≡ depth (raw node))) }
 {
     let segment_ids = segment_ids(alloc, &node.segments)?;

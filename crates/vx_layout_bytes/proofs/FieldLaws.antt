@@ -1,5 +1,5 @@
 -- A field that is read is the field that was written, and what was written is read again.
-use Rattle.std.proofs.Common.{◌≡◌, ℕ, zero, suc, ◌+◌, ◌-◌, ◌^◌, ◌<◌, ◌≤◌, Bool, true, false, cond, ltb, List, [], ◌∷◌, ◌++◌, length, get_or, take, drop, Result, Ok, Err, refl, sym, ap, subst, ◌∙◌, append_assoc, arith, inl, inr}
+use Rattle.std.proofs.Common.{◌≡◌, ℕ, zero, suc, ◌+◌, ◌-◌, ◌^◌, ◌<◌, ◌≤◌, Bool, true, false, cond, ltb, List, [], ◌∷◌, ◌++◌, length, take, drop, Result, Ok, Err, refl, sym, ap, subst, ◌∙◌, append_assoc, arith, inl, inr}
 use Rattle.std.specs.Int.{Width, w16, w32, w64, byte_len, from_le_bytes, to_le_bytes}
 use Rattle.std.specs.List.{AllByRecursion}
 use Rattle.std.proofs.lemmas.Bool.{cases_lt, ltb-false, le-ltb}
@@ -7,15 +7,13 @@ use Rattle.std.proofs.lemmas.List.{take_at, drop_at, take-append-drop, length-ap
 use Rattle.std.proofs.lemmas.Nat.{le_bytes_2, le_bytes_4, le_bytes_8, from_le_bytes-to_le_bytes_2, from_le_bytes-to_le_bytes_4, from_le_bytes-to_le_bytes_8}
 use Rattle.vx_model.specs.Words.{joined_by}
 use Rattle.vx_layout_bytes.specs.Reading.{Fault, bad_grammar, ◌>>=◌, number_at, bytes_at, many_at}
+use Rattle.vx_layout_bytes.specs.Values.{AreBytes}
 
-abbrev pub IsBytes : List ℕ → Type 0
-IsBytes bytes = (i : ℕ) → get_or bytes i 0 < 256
+AreBytes-drop : (n : ℕ) (bytes : List ℕ) → AreBytes bytes → AreBytes (drop n bytes)
+AreBytes-drop n bytes h i = rw get_or-drop (h (n + i))
 
-IsBytes-drop : (n : ℕ) (bytes : List ℕ) → IsBytes bytes → IsBytes (drop n bytes)
-IsBytes-drop n bytes h i = rw get_or-drop (h (n + i))
-
-IsBytes-take : (n : ℕ) (bytes : List ℕ) → IsBytes bytes → IsBytes (take n bytes)
-IsBytes-take n bytes h i =
+AreBytes-take : (n : ℕ) (bytes : List ℕ) → AreBytes bytes → AreBytes (take n bytes)
+AreBytes-take n bytes h i =
     elim (cases_lt i n) [
       | inl lt ↦ rw (get_or-take n bytes i 0 lt) (h i)
       | inr le ↦ rw (get_or_past (take n bytes) i 0 (omega (arith, length-take n bytes))) (omega arith)
@@ -44,27 +42,27 @@ ok_is x y e = cc
 -- what a reader took from the front
 pub record Takes (bytes text rest : List ℕ) : Type 0 where
   pub parts : bytes ≡ text ++ rest
-  pub rest_bytes : IsBytes rest
+  pub rest_bytes : AreBytes rest
 
 pub Takes-then : (a x b y c : List ℕ) → Takes a x b → Takes b y c → Takes a (x ++ y) c
 Takes-then a x b y c p q = record { parts = p.parts ∙ ap (λ (t : List ℕ). x ++ t) q.parts ∙ sym (append_assoc x y c); rest_bytes = q.rest_bytes }
 
-pub Takes-none : (bytes : List ℕ) → IsBytes bytes → Takes bytes [] bytes
+pub Takes-none : (bytes : List ℕ) → AreBytes bytes → Takes bytes [] bytes
 Takes-none bytes fits = record { parts = refl; rest_bytes = fits }
 
 -- A reader is the reader of a spelling: what is read is spelled so and is of the kind, and what is of the kind and
 -- spelled so is read.
 pub record Reads {A : Type 0} (read : List ℕ → Result (A × List ℕ) Fault) (spell : A → List ℕ) (Kind : A → Type 0) : Type 0 where
-  pub takes : (bytes : List ℕ) (x : A) (rest : List ℕ) → IsBytes bytes → read bytes ≡ Ok (x, rest) → Takes bytes (spell x) rest × Kind x
+  pub takes : (bytes : List ℕ) (x : A) (rest : List ℕ) → AreBytes bytes → read bytes ≡ Ok (x, rest) → Takes bytes (spell x) rest × Kind x
   pub again : (x : A) (rest : List ℕ) → Kind x → read (spell x ++ rest) ≡ Ok (x, rest)
 
 -- ---- numbers
 
 record IsWide (w : Width) (limit : ℕ) : Type 0 where
   len : (n : ℕ) → length (to_le_bytes w n) ≡ byte_len w
-  back : (bytes : List ℕ) → length bytes ≡ byte_len w → IsBytes bytes → to_le_bytes w (from_le_bytes w bytes) ≡ bytes
+  back : (bytes : List ℕ) → length bytes ≡ byte_len w → AreBytes bytes → to_le_bytes w (from_le_bytes w bytes) ≡ bytes
   again : (n : ℕ) → n < limit → from_le_bytes w (to_le_bytes w n) ≡ n
-  below : (bytes : List ℕ) → IsBytes bytes → from_le_bytes w bytes < limit
+  below : (bytes : List ℕ) → AreBytes bytes → from_le_bytes w bytes < limit
 
 wide16 : IsWide w16 (2 ^ 16)
 wide16 = record {
@@ -93,14 +91,14 @@ wide64 = record {
 reads_wide : (w : Width) (limit : ℕ) → IsWide w limit → (stop : ℕ) → Reads (number_at w stop) (to_le_bytes w) (λ n. n < limit)
 reads_wide w limit wide stop = record { takes = takes; again = again }
   where
-    takes : (bytes : List ℕ) (n : ℕ) (rest : List ℕ) → IsBytes bytes → number_at w stop bytes ≡ Ok (n, rest) → Takes bytes (to_le_bytes w n) rest × (n < limit)
+    takes : (bytes : List ℕ) (n : ℕ) (rest : List ℕ) → AreBytes bytes → number_at w stop bytes ≡ Ok (n, rest) → Takes bytes (to_le_bytes w n) rest × (n < limit)
     takes bytes n rest fits e =
         let g = guard_ok (ltb (length bytes) (byte_len w)) (bad_grammar (stop - length bytes)) (from_le_bytes w (take (byte_len w) bytes), drop (byte_len w) bytes) (n, rest) e in
         let long : byte_len w ≤ length bytes = ltb-false _ _ g.0 in
         let n-is : from_le_bytes w (take (byte_len w) bytes) ≡ n = ap (λ (p : ℕ × List ℕ). p.0) g.1 in
         let rest-is : drop (byte_len w) bytes ≡ rest = ap (λ (p : ℕ × List ℕ). p.1) g.1 in
-        let front : to_le_bytes w n ≡ take (byte_len w) bytes = rw (← n-is) (wide.back (take (byte_len w) bytes) (omega (arith, length-take (byte_len w) bytes)) (IsBytes-take (byte_len w) bytes fits)) in
-        (record { parts = rw (front, ← rest-is) (sym (take-append-drop (byte_len w) bytes)); rest_bytes = rw (← rest-is) (IsBytes-drop (byte_len w) bytes fits) }, rw (← n-is) (wide.below (take (byte_len w) bytes) (IsBytes-take (byte_len w) bytes fits)))
+        let front : to_le_bytes w n ≡ take (byte_len w) bytes = rw (← n-is) (wide.back (take (byte_len w) bytes) (omega (arith, length-take (byte_len w) bytes)) (AreBytes-take (byte_len w) bytes fits)) in
+        (record { parts = rw (front, ← rest-is) (sym (take-append-drop (byte_len w) bytes)); rest_bytes = rw (← rest-is) (AreBytes-drop (byte_len w) bytes fits) }, rw (← n-is) (wide.below (take (byte_len w) bytes) (AreBytes-take (byte_len w) bytes fits)))
 
     again : (n : ℕ) (rest : List ℕ) → n < limit → number_at w stop (to_le_bytes w n ++ rest) ≡ Ok (n, rest)
     again n rest lt =
@@ -119,12 +117,12 @@ reads_u64 stop = reads_wide w64 (2 ^ 64) wide64 stop
 
 -- ---- bytes
 
-pub bytes_take : (n stop : ℕ) (bytes s rest : List ℕ) → IsBytes bytes → bytes_at n stop bytes ≡ Ok (s, rest) → Takes bytes s rest × (length s ≡ n)
+pub bytes_take : (n stop : ℕ) (bytes s rest : List ℕ) → AreBytes bytes → bytes_at n stop bytes ≡ Ok (s, rest) → Takes bytes s rest × (length s ≡ n)
 bytes_take n stop bytes s rest fits e =
     let g = guard_ok (ltb (length bytes) n) (bad_grammar (stop - length bytes)) (take n bytes, drop n bytes) (s, rest) e in
     let long : n ≤ length bytes = ltb-false _ _ g.0 in
     let own : length (take n bytes) ≡ n = omega (arith, length-take n bytes) in
-    let made : Takes bytes (take n bytes) (drop n bytes) = record { parts = sym (take-append-drop n bytes); rest_bytes = IsBytes-drop n bytes fits } in
+    let made : Takes bytes (take n bytes) (drop n bytes) = record { parts = sym (take-append-drop n bytes); rest_bytes = AreBytes-drop n bytes fits } in
     subst (λ (p : List ℕ × List ℕ). Takes bytes p.0 p.1 × (length p.0 ≡ n)) g.1 (made, own)
 
 pub bytes_again : (stop : ℕ) (s rest : List ℕ) → bytes_at (length s) stop (s ++ rest) ≡ Ok (s, rest)
@@ -135,7 +133,7 @@ bytes_again stop s rest =
 -- ---- many of one kind
 
 pub many_takes : {A : Type 0} (read : List ℕ → Result (A × List ℕ) Fault) (spell : A → List ℕ) (Kind : A → Type 0) → Reads read spell Kind
-    → (n : ℕ) (bytes : List ℕ) (x : List A × List ℕ) → IsBytes bytes → many_at read n bytes ≡ Ok x → Takes bytes (joined_by spell x.0) x.1 × (length x.0 ≡ n) × AllByRecursion Kind x.0
+    → (n : ℕ) (bytes : List ℕ) (x : List A × List ℕ) → AreBytes bytes → many_at read n bytes ≡ Ok x → Takes bytes (joined_by spell x.0) x.1 × (length x.0 ≡ n) × AllByRecursion Kind x.0
 unfolding many_at
 many_takes {A} read spell Kind reads zero bytes x fits e =
     subst (λ (y : List A × List ℕ). Takes bytes (joined_by spell y.0) y.1 × (length y.0 ≡ 0) × AllByRecursion Kind y.0) (ok_is ([], bytes) x e) (Takes-none bytes fits, refl, tt)

@@ -1,5 +1,5 @@
 -- A node that is read is spelled so and within the limits, and what is within the limits and spelled so is read.
-use Rattle.std.proofs.Common.{◌≡◌, ℕ, zero, suc, ◌+◌, ◌-◌, ◌^◌, ◌<◌, ◌≤◌, Bool, true, false, cond, eqb, List, [], ◌∷◌, ◌++◌, length, max, Result, Ok, Err, refl, sym, ap, subst, ◌∙◌, append_assoc, arith}
+use Rattle.std.proofs.Common.{◌≡◌, ℕ, zero, suc, ◌+◌, ◌-◌, ◌^◌, ◌<◌, ◌≤◌, cond, eqb, List, [], ◌++◌, length, Result, Ok, Err, refl, sym, ap, subst, ◌∙◌, append_assoc, arith}
 use Rattle.std.specs.Prelude.{IfOk}
 use Rattle.std.specs.Int.{w16, w32, w64, to_le_bytes}
 use Rattle.std.specs.List.{AllByRecursion}
@@ -9,11 +9,11 @@ use Rattle.vx_model.specs.Words.{joined_by}
 use Rattle.vx_model.specs.CellData.{u64_bytes}
 use Rattle.vx_layout_bytes.specs.declared.error.GrammarError.{GrammarError}
 use Rattle.vx_layout_bytes.specs.Node.{Own, Node, Nodes, node, no_nodes, first, number_of}
-use Rattle.vx_layout_bytes.specs.Values.{FitsOwn, Fits, AllFit, depth, depths, size, sizes, IsWithin}
+use Rattle.vx_layout_bytes.specs.Values.{AreBytes, FitsOwn, Fits, AllFit, depth, depths, size, sizes, IsWithin}
 use Rattle.vx_layout_bytes.specs.Spelled.{u32_bytes, numbered, segment_bytes, own_bytes, spelling, spellings}
-use Rattle.vx_layout_bytes.specs.Reading.{Fault, bad_grammar, ◌>>=◌, number_at, bytes_at, many_at, numbered_at, segments_at, own_at, ReaderOf, many_nodes, none_at, node_with, node_at, root_at}
+use Rattle.vx_layout_bytes.specs.Reading.{bad_grammar, ◌>>=◌, number_at, bytes_at, many_at, numbered_at, segments_at, own_at, ReaderOf, many_nodes, none_at, node_with, node_at, root_at}
 use Rattle.vx_layout_bytes.specs.Views.{Gives}
-use Rattle.vx_layout_bytes.proofs.FieldLaws.{IsBytes, bind_ok, guard_ended, ok_is, Takes, Takes-then, Takes-none, Reads, reads_u16, reads_u32, reads_u64, bytes_take, bytes_again, many_takes, many_again}
+use Rattle.vx_layout_bytes.proofs.FieldLaws.{bind_ok, guard_ended, ok_is, Takes, Takes-then, Takes-none, Reads, reads_u16, reads_u32, reads_u64, bytes_take, bytes_again, many_takes, many_again}
 
 -- ---- a node's own bytes
 
@@ -24,7 +24,7 @@ reads_numbered : (stop : ℕ) → Reads (numbered_at stop) numbered IsNumbered
 unfolding numbered_at
 reads_numbered stop = record { takes = takes; again = again }
   where
-    takes : (bytes s rest : List ℕ) → IsBytes bytes → numbered_at stop bytes ≡ Ok (s, rest) → Takes bytes (numbered s) rest × IsNumbered s
+    takes : (bytes s rest : List ℕ) → AreBytes bytes → numbered_at stop bytes ≡ Ok (s, rest) → Takes bytes (numbered s) rest × IsNumbered s
     takes bytes s rest fits e =
         let a = bind_ok (number_at w64 stop bytes) (λ width. bytes_at width.0 stop width.1) (s, rest) e in
         let t = (reads_u64 stop).takes bytes a.0.0 a.0.1 fits a.1 in
@@ -43,7 +43,7 @@ reads_segments : (stop : ℕ) → Reads (segments_at stop) segment_bytes AreSegm
 unfolding segments_at
 reads_segments stop = record { takes = takes; again = again }
   where
-    takes : (bytes s rest : List ℕ) → IsBytes bytes → segments_at stop bytes ≡ Ok (s, rest) → Takes bytes (segment_bytes s) rest × AreSegments s
+    takes : (bytes s rest : List ℕ) → AreBytes bytes → segments_at stop bytes ≡ Ok (s, rest) → Takes bytes (segment_bytes s) rest × AreSegments s
     takes bytes s rest fits e =
         let a = bind_ok (number_at w64 stop bytes) (λ count. many_at (number_at w32 stop) count.0 count.1) (s, rest) e in
         let t = (reads_u64 stop).takes bytes a.0.0 a.0.1 fits a.1 in
@@ -56,7 +56,7 @@ reads_segments stop = record { takes = takes; again = again }
         ap (segments_at stop) (append_assoc (u64_bytes (length s)) (joined_by u32_bytes s) rest)
         ∙ rw ((reads_u64 stop).again (length s) (joined_by u32_bytes s ++ rest) kind.count) (many_again (number_at w32 stop) u32_bytes (λ n. n < 2 ^ 32) (reads_u32 stop) s rest kind.each)
 
-own_takes : (stop : ℕ) (bytes : List ℕ) (x : Own × ℕ × List ℕ) → IsBytes bytes → own_at stop bytes ≡ Ok x → Takes bytes (own_bytes x.0 x.1) x.2 × FitsOwn x.0 x.1
+own_takes : (stop : ℕ) (bytes : List ℕ) (x : Own × ℕ × List ℕ) → AreBytes bytes → own_at stop bytes ≡ Ok x → Takes bytes (own_bytes x.0 x.1) x.2 × FitsOwn x.0 x.1
 unfolding own_at
 own_takes stop bytes x fits e =
     let a = bind_ok (number_at w16 stop bytes) (λ index. number_at w64 stop index.1 >>= λ rows. numbered_at stop rows.1 >>= λ metadata. segments_at stop metadata.1 >>= λ segments. number_at w64 stop segments.1 >>= λ children. Ok (record { index = index.0; rows = rows.0; metadata = metadata.0; segments = segments.0 }, children.0, children.1)) x e in
@@ -112,9 +112,9 @@ record AllTaken (deep left n : ℕ) (bytes : List ℕ) (x : Nodes × ℕ × List
   number : number_of x.0 ≡ n
 
 abbrev TakesNodes : ℕ → ReaderOf Node → Type 0
-TakesNodes deep read = (left : ℕ) (bytes : List ℕ) (x : Node × ℕ × List ℕ) → IsBytes bytes → read left bytes ≡ Ok x → Taken deep left bytes x
+TakesNodes deep read = (left : ℕ) (bytes : List ℕ) (x : Node × ℕ × List ℕ) → AreBytes bytes → read left bytes ≡ Ok x → Taken deep left bytes x
 
-many_taken : (deep : ℕ) (read : ReaderOf Node) → TakesNodes deep read → (n left : ℕ) (bytes : List ℕ) (x : Nodes × ℕ × List ℕ) → IsBytes bytes → many_nodes read n left bytes ≡ Ok x → AllTaken deep left n bytes x
+many_taken : (deep : ℕ) (read : ReaderOf Node) → TakesNodes deep read → (n left : ℕ) (bytes : List ℕ) (x : Nodes × ℕ × List ℕ) → AreBytes bytes → many_nodes read n left bytes ≡ Ok x → AllTaken deep left n bytes x
 unfolding many_nodes
 many_taken deep read reads zero left bytes x is e =
     subst (AllTaken deep left 0 bytes) (ok_is (no_nodes, left, bytes) x e) (record { takes = Takes-none bytes is; fits = tt; depths = omega arith; sizes = omega arith; number = refl })
@@ -176,7 +176,7 @@ mutual
 
 -- ---- the root
 
-pub root_takes : (deep nodes : ℕ) (bytes : List ℕ) (n : Node) → IsBytes bytes → root_at deep nodes bytes ≡ Ok n → IsWithin deep nodes n × (spelling n ≡ bytes)
+pub root_takes : (deep nodes : ℕ) (bytes : List ℕ) (n : Node) → AreBytes bytes → root_at deep nodes bytes ≡ Ok n → IsWithin deep nodes n × (spelling n ≡ bytes)
 unfolding root_at
 root_takes deep nodes bytes n is e =
     let a = bind_ok (node_at deep (length bytes) nodes bytes) (λ root. cond (eqb (length root.2) 0) (Ok root.0) (Err (bad_grammar (length bytes - length root.2)))) n e in
@@ -196,6 +196,6 @@ root_again deep nodes bytes n within e =
 
 -- ---- what an answer says
 
-pub is_found : {X : Type 0} (view : X → Node) (deep nodes : ℕ) (bytes : List ℕ) (r : Result X GrammarError) → IsBytes bytes → Gives view r (root_at deep nodes bytes) → IfOk r (λ x. IsWithin deep nodes (view x) × (spelling (view x) ≡ bytes))
+pub is_found : {X : Type 0} (view : X → Node) (deep nodes : ℕ) (bytes : List ℕ) (r : Result X GrammarError) → AreBytes bytes → Gives view r (root_at deep nodes bytes) → IfOk r (λ x. IsWithin deep nodes (view x) × (spelling (view x) ≡ bytes))
 is_found view deep nodes bytes (Ok x) is e = root_takes deep nodes bytes (view x) is e
 is_found view deep nodes bytes (Err e) is h = tt

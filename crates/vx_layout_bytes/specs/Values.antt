@@ -1,7 +1,11 @@
 -- Nodes whose numbers fit their fields, and that are within limits.
-use Rattle.std.specs.Prelude.{ℕ, suc, ◌+◌, ◌<◌, ◌≤◌, ◌^◌, max, length}
+use Rattle.std.specs.Prelude.{ℕ, suc, ◌+◌, ◌<◌, ◌≤◌, ◌^◌, max, List, length, get_or}
 use Rattle.std.specs.List.{AllByRecursion}
 use Rattle.vx_layout_bytes.specs.Node.{Own, Node, Nodes, node, no_nodes, first, number_of}
+
+-- each number is a byte
+abbrev pub AreBytes : List ℕ → Type 0
+AreBytes bytes = (i : ℕ) → get_or bytes i 0 < 256
 
 -- a node's own numbers, with so many children
 pub record FitsOwn (o : Own) (n : ℕ) : Type 0 where

@@ -1,5 +1,5 @@
+use bytes::Bytes;
 use std::default::Default;
-use vx_model::Blob;
 
 /// A node of a layout as bytes spell it.
 #[derive(Debug, Drop)]
@@ -8,7 +8,8 @@ pub struct RawNode {
     /// The place of its kind's id in the context.
     pub index: u16,
     pub rows: u64,
-    pub metadata: Blob,
+    /// A part of the bytes that the node was read from.
+    pub metadata: Bytes,
     /// The numbers of its own segments.
     pub segments: Vec<u32>,
     /// In slot order.

@@ -1,6 +1,5 @@
 //! What each word prints.
 
-use crate::bytes::{again, codes, metadata, node};
 use crate::children::{children, copied_children};
 use crate::given::leaves;
 use crate::own::{own, with};
@@ -8,6 +7,7 @@ use crate::parts::built;
 use crate::segments::{lengths, rows, segments, tree};
 use crate::sessions::{copied_scope, known, registered};
 use crate::shown::{as_kinds, names, slots};
+use crate::spelling::{again, codes, metadata, node};
 use crate::walks::{in_slot, present, walk};
 use crate::word::{LayoutWord, Word};
 use anyhow::Result;

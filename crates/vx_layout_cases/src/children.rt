@@ -3,12 +3,13 @@
 use crate::given::{cut, dtype_in, leaves};
 use crate::sessions::scope;
 use anyhow::Result;
+use bytes::Bytes;
 use std::alloc::{AllocError, Global};
 use std::sync::Arc;
 use vx_layout::{
     LayoutChildren, LayoutChildrenWalk, RawNode, Scope, ViewedChildren, layout_children,
 };
-use vx_model::{Blob, DType};
+use vx_model::DType;
 
 pub(crate) fn children_in(alloc: Global, text: &str) -> Result<LayoutChildren> {
     match text.strip_prefix("nodes ") {
@@ -53,7 +54,7 @@ fn raw_node(alloc: Global, index: u16, children: Vec<RawNode>) -> Result<RawNode
     Ok(RawNode {
         index,
         rows: 7,
-        metadata: Blob::from_slice(alloc, &[])?,
+        metadata: Bytes::new(),
         segments: vec![in alloc; 3]?,
         children,
     })

@@ -21,7 +21,6 @@
 #![tactic(auto)]
 
 mod answers;
-mod bytes;
 mod case;
 mod children;
 mod given;
@@ -31,6 +30,7 @@ mod parts;
 mod segments;
 mod sessions;
 mod shown;
+mod spelling;
 mod walks;
 mod word;
 

@@ -1,10 +1,10 @@
 //! Reading a layout from bytes.
 
-ghost use Rattle.std.specs.Prelude.{◌≡◌, ◌≤◌, false, Ok, IfOk};
+ghost use Rattle.std.specs.Prelude.{◌≡◌, ◌≤◌, false, Ok, IfOk, OnOk};
 ghost use Rattle.vx_model.specs.TyView.{ty};
 ghost use Rattle.vx_layout_bytes.specs.Node.{Node};
 ghost use Rattle.vx_layout_bytes.specs.Spelled.{spelling};
-ghost use Rattle.vx_layout_bytes.specs.Values.{IsWithin};
+ghost use Rattle.vx_layout_bytes.specs.Values.{AreBytes, IsWithin};
 ghost use Rattle.vx_layout_bytes.specs.Views.{raw};
 ghost use Rattle.vx_session.specs.Builder.{builder};
 ghost use Rattle.vx_session.specs.Views.{scope_in, scope_of};
@@ -12,8 +12,9 @@ ghost use Rattle.vx_layout_tree.specs.LayoutView.{layout_data};
 ghost use Rattle.vx_layout_tree.specs.Views.{Gives};
 ghost use Rattle.vx_layout_codec_spec.specs.Permitted.{built};
 ghost use Rattle.vx_layout_codec_spec.specs.Bytes.{bytes_in};
-ghost use Rattle.vx_layout_codec_spec.specs.Parsed.{node_within, parsed};
+ghost use Rattle.vx_layout_codec_spec.specs.Parsed.{node_within, parsed, ParsedWithin};
 
+use bytes::Bytes;
 use std::alloc::Global;
 use std::sync::Arc;
 use vx_layout_build::build_node;
@@ -25,7 +26,7 @@ use vx_session::{LayoutContext, Scope, Session};
 /// As `layout_from_flatbuffer_with_options`, where every id must be registered.
 pub fn layout_from_flatbuffer(
     alloc: Global,
-    bytes: &[u8],
+    flatbuffer: Bytes,
     dtype: &DType,
     layout_ctx: &LayoutContext,
     ctx: &ArrayContext,
@@ -33,13 +34,14 @@ pub fn layout_from_flatbuffer(
     limits: Limits,
 ) -> Result<Layout, LayoutError>
     requires { limits.depth ≤ 1024 }
-    ensures again { IfOk result (λ l. built (layout_data l) ≡ Ok tt → bytes_in layout_ctx.now (layout_data l) ≡ Ok bytes.now) }
-    ensures only { (n : Node) → IsWithin limits.depth limits.nodes n → spelling n ≡ bytes.now
+    ensures within { IfOk result (λ l. ParsedWithin (scope_in layout_ctx.now ctx.now session.now false) (ty dtype.now) limits.depth limits.nodes flatbuffer (layout_data l)) }
+    ensures again { IfOk result (λ l. built (layout_data l) ≡ Ok tt → bytes_in layout_ctx.now (layout_data l) ≡ Ok flatbuffer) }
+    ensures only { (n : Node) → IsWithin limits.depth limits.nodes n → spelling n ≡ flatbuffer
         → Gives layout_data result (builder (scope_in layout_ctx.now ctx.now session.now false) n (ty dtype.now)) }
-    ensures exact { Gives layout_data result (parsed (scope_in layout_ctx.now ctx.now session.now false) (ty dtype.now) limits.depth limits.nodes bytes.now) }
+    ensures exact { Gives layout_data result (parsed (scope_in layout_ctx.now ctx.now session.now false) (ty dtype.now) limits.depth limits.nodes flatbuffer) }
 {
     layout_from_flatbuffer_with_options(
-        alloc, bytes, dtype, layout_ctx, ctx, session, limits, false,
+        alloc, flatbuffer, dtype, layout_ctx, ctx, session, limits, false,
     )
 }
 
@@ -47,7 +49,7 @@ pub fn layout_from_flatbuffer(
 /// node whose id isn't registered is kept as it is found, with all below it.
 pub fn layout_from_flatbuffer_with_options(
     alloc: Global,
-    bytes: &[u8],
+    flatbuffer: Bytes,
     dtype: &DType,
     layout_ctx: &LayoutContext,
     ctx: &ArrayContext,
@@ -56,40 +58,44 @@ pub fn layout_from_flatbuffer_with_options(
     allow_unknown: bool,
 ) -> Result<Layout, LayoutError>
     requires { limits.depth ≤ 1024 }
+    // Nothing is built past the limits.
+    ensures within { IfOk result (λ l. ParsedWithin (scope_in layout_ctx.now ctx.now session.now allow_unknown) (ty dtype.now) limits.depth limits.nodes flatbuffer (layout_data l)) }
     // A layout of which each node can be built is spelled as these bytes.
-    ensures again { IfOk result (λ l. built (layout_data l) ≡ Ok tt → bytes_in layout_ctx.now (layout_data l) ≡ Ok bytes.now) }
+    ensures again { IfOk result (λ l. built (layout_data l) ≡ Ok tt → bytes_in layout_ctx.now (layout_data l) ≡ Ok flatbuffer) }
     // What spells a node within the limits is refused by the builds alone.
-    ensures only { (n : Node) → IsWithin limits.depth limits.nodes n → spelling n ≡ bytes.now
+    ensures only { (n : Node) → IsWithin limits.depth limits.nodes n → spelling n ≡ flatbuffer
         → Gives layout_data result (builder (scope_in layout_ctx.now ctx.now session.now allow_unknown) n (ty dtype.now)) }
-    ensures exact { Gives layout_data result (parsed (scope_in layout_ctx.now ctx.now session.now allow_unknown) (ty dtype.now) limits.depth limits.nodes bytes.now) }
+    ensures exact { Gives layout_data result (parsed (scope_in layout_ctx.now ctx.now session.now allow_unknown) (ty dtype.now) limits.depth limits.nodes flatbuffer) }
 {
     layout_ctx.ids();
     let scope = Scope::new(layout_ctx, ctx, session, allow_unknown)?;
-    read_in(alloc, bytes, dtype, scope, limits)
+    read_in(alloc, flatbuffer, dtype, scope, limits)
 }
 
 /// The layout of the type that the bytes spell in the scope.
 fn read_in(
     alloc: Global,
-    bytes: &[u8],
+    flatbuffer: Bytes,
     dtype: &DType,
     scope: Scope,
     limits: Limits,
 ) -> Result<Layout, LayoutError>
     requires { limits.depth ≤ 1024 }
-    ensures { Gives layout_data result (parsed (scope_of scope) (ty dtype.now) limits.depth limits.nodes bytes.now) }
+    ensures exact { Gives layout_data result (parsed (scope_of scope) (ty dtype.now) limits.depth limits.nodes flatbuffer) }
+    ensures octets { OnOk result (AreBytes flatbuffer) }
 {
-    let node = read_within(alloc, bytes, limits)?;
+    let node = read_within(alloc, flatbuffer, limits)?;
     let scope = Arc::new(alloc, scope)?;
     build_node(alloc, &scope, dtype, node)
 }
 
 /// The node that all of the bytes are.
-fn read_within(alloc: Global, bytes: &[u8], limits: Limits) -> Result<RawNode, LayoutError>
+fn read_within(alloc: Global, flatbuffer: Bytes, limits: Limits) -> Result<RawNode, LayoutError>
     requires { limits.depth ≤ 1024 }
-    ensures { Gives raw result (node_within limits.depth limits.nodes bytes.now) }
+    ensures exact { Gives raw result (node_within limits.depth limits.nodes flatbuffer) }
+    ensures octets { OnOk result (AreBytes flatbuffer) }
 {
-    match read_nodes(alloc, bytes, limits) {
+    match read_nodes(alloc, flatbuffer, limits) {
         Ok(node) => Ok(node),
         Err(GrammarError::Grammar(place)) => Err(LayoutError::Grammar(place)),
         Err(GrammarError::TooDeep(place)) => Err(LayoutError::TooDeep(place)),

@@ -13,12 +13,13 @@ ghost use Rattle.vx_layout_codec_spec.specs.NodeOf.{own_in, node_in};
 ghost use Rattle.vx_layout_codec_spec.specs.Bytes.{unless_refused, bytes_in};
 
 use crate::permitted::check_permitted;
+use bytes::Bytes;
 use std::alloc::{AllocError, Global};
 use vx_layout_build::LayoutWalk;
 use vx_layout_bytes::{RawNode, write_node};
 use vx_layout_slots::LayoutSlots;
 use vx_layout_tree::{Layout, LayoutError};
-use vx_model::{Blob, SegmentId};
+use vx_model::SegmentId;
 use vx_session::LayoutContext;
 
 /// The bytes of the layout, in which each id is its place in the context.
@@ -63,7 +64,7 @@ fn own_node(
     ensures fits { IfOk result (λ n. AllFit (nodes_of (map raw children.items)) → Fits (raw n)) }
 {
     let index = ctx.place(layout.encoding_id()).unwrap_or(0);
-    let metadata = Blob::from(layout.metadata(alloc)?);
+    let metadata = Bytes::from_vec(layout.metadata(alloc)?)?;
     let segments = numbers_of(alloc, layout.segment_ids())?;
     Ok(RawNode {
         index,

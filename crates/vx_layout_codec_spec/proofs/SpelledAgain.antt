@@ -25,8 +25,8 @@ use Rattle.vx_metadata.proofs.StatLaws.{legacy_takes}
 use Rattle.vx_layout_bytes.specs.Node.{Own, Node, Nodes, node, no_nodes, first, number_of}
 use Rattle.vx_layout_bytes.specs.Spelled.{numbered, segment_bytes, own_bytes, spelling, spellings}
 use Rattle.vx_layout_bytes.specs.Reading.{Fault, root_at}
+use Rattle.vx_layout_bytes.specs.Values.{AreBytes}
 use Rattle.vx_layout_bytes.proofs.NodeLaws.{root_takes}
-use Rattle.vx_layout_bytes.proofs.FieldLaws.{IsBytes}
 use Rattle.vx_session.specs.declared.encoding.LayoutEncoding.{LayoutEncoding}
 use Rattle.vx_session.specs.declared.encoding.LayoutEncoding.TheVariants as kinds
 use Rattle.vx_session.specs.Encodings.{layout_id, kind_of}
@@ -286,7 +286,7 @@ tables ids o ks ns t zone_len (Some aggregates) are place len kept =
     going ids (node o ns) t (child_at ks 0 t) _ (λ column e. going ids (node o ns) t (child_at ks 1 (stats_table t aggregates)) _ (λ zones f.
     there ids (node o ns) t _ refl (own_again ids (zoned_kind zone_len (map spec aggregates)) o ns t (column ∷ zones ∷ []) refl place (kept aggregates refl) (two_again ids ks ns column zones t (stats_table t aggregates) are len e f))))
 
-stats : (ids : List (List ℕ)) (o : Own) (ks : List ChildData) (ns : Nodes) (t : Ty) → IsBytes o.metadata → AreKids ids ks ns → place_of (codes "vortex.stats") ids ≡ Some o.index
+stats : (ids : List (List ℕ)) (o : Own) (ks : List ChildData) (ns : Nodes) (t : Ty) → AreBytes o.metadata → AreKids ids ks ns → place_of (codes "vortex.stats") ids ≡ Some o.index
     → Makes ids (node o ns) t (build_stats (own_parts o ks t) o.metadata)
 unfolding build_stats
 stats ids o ks ns t bytes are place =
@@ -297,16 +297,16 @@ stats ids o ks ns t bytes are place =
 
 -- ---- aggregates that specs name
 
-bytes_back : (a b : List ℕ) → IsBytes (a ++ b) → IsBytes b
+bytes_back : (a b : List ℕ) → AreBytes (a ++ b) → AreBytes b
 bytes_back [] b h = h
 bytes_back (x ∷ a) b h = bytes_back a b (λ i. h (suc i))
 
-bytes_front : (a b : List ℕ) → IsBytes (a ++ b) → IsBytes a
+bytes_front : (a b : List ℕ) → AreBytes (a ++ b) → AreBytes a
 bytes_front [] b h i = omega arith
 bytes_front (x ∷ a) b h zero = h zero
 bytes_front (x ∷ a) b h (suc i) = bytes_front a b (λ j. h (suc j)) i
 
-option_bytes_of : (s : Spec) → IsBytes (spec_bytes s) → IsBytes s.options
+option_bytes_of : (s : Spec) → AreBytes (spec_bytes s) → AreBytes s.options
 option_bytes_of s h = bytes_back (to_le_bytes w32 (length s.options)) s.options (bytes_back (to_le_bytes w32 (length s.id) ++ s.id) (to_le_bytes w32 (length s.options) ++ s.options) h)
 
 unfoldable pub Name : List Spec → Result (Option (List Aggregate)) Refusal → Type 0
@@ -329,13 +329,13 @@ is_named true through s (Some x) a refusal e = cc e
 is_named false true s o a refusal e = absurd (cc e)
 is_named false false s o a refusal e = absurd (cc e)
 
-spec_named : (c : Context) (s : Spec) (a : Aggregate) → IsBytes s.options → read_spec c s ≡ Ok (Some a) → spec a ≡ s
+spec_named : (c : Context) (s : Spec) (a : Aggregate) → AreBytes s.options → read_spec c s ≡ Ok (Some a) → spec a ≡ s
 unfolding read_spec
 spec_named c s a bytes e =
     let m = means s a bytes (is_named (is_listed s.id c.aggregates && names_aggregate s.id) c.allow_unknown s (aggregate_of s) a (unknown_aggregate s.id) e) in
     rw (m.0, m.1) refl
 
-named : (c : Context) (ss : List Spec) → IsBytes (joined_by spec_bytes ss) → Name ss (read_specs c ss)
+named : (c : Context) (ss : List Spec) → AreBytes (joined_by spec_bytes ss) → Name ss (read_specs c ss)
 unfolding Name
 named c [] bytes = refl
 named c (s ∷ ss) bytes =
@@ -348,12 +348,12 @@ read_named ss (Ok (Some x)) read n e = let same : x ≡ read = cc e in rw (← s
 read_named ss (Ok None) read n e = absurd (cc e)
 read_named ss (Err r) read n e = absurd (cc e)
 
-specs_bytes : (z : Zoned) → IsBytes (zoned_bytes z) → IsBytes (joined_by spec_bytes z.specs)
+specs_bytes : (z : Zoned) → AreBytes (zoned_bytes z) → AreBytes (joined_by spec_bytes z.specs)
 specs_bytes z h =
     bytes_back (to_le_bytes w32 (length z.specs)) (joined_by spec_bytes z.specs)
     (bytes_back (to_le_bytes w32 z.zone_len) (to_le_bytes w32 (length z.specs) ++ joined_by spec_bytes z.specs) (λ i. h (suc i)))
 
-zoned : (ids : List (List ℕ)) (c : Context) (o : Own) (ks : List ChildData) (ns : Nodes) (t : Ty) → IsBytes o.metadata → AreKids ids ks ns → place_of (codes "vortex.zoned") ids ≡ Some o.index
+zoned : (ids : List (List ℕ)) (c : Context) (o : Own) (ks : List ChildData) (ns : Nodes) (t : Ty) → AreBytes o.metadata → AreKids ids ks ns → place_of (codes "vortex.zoned") ids ≡ Some o.index
     → Makes ids (node o ns) t (build_zoned c (own_parts o ks t) o.metadata)
 unfolding build_zoned
 zoned ids c o ks ns t bytes are place =
@@ -364,10 +364,10 @@ zoned ids c o ks ns t bytes are place =
         → zoned_bytes (record { zone_len = z.zone_len; specs = map spec read }) ≡ o.metadata
     kept z e read is =
         let takes : zoned_bytes z ≡ o.metadata = (zoned_takes o.metadata z bytes (is_spelled o.metadata _ z e)).1 in
-        let all : IsBytes (zoned_bytes z) = subst (λ (m : List ℕ). IsBytes m) (sym takes) bytes in
+        let all : AreBytes (zoned_bytes z) = subst (λ (m : List ℕ). AreBytes m) (sym takes) bytes in
         rw (read_named z.specs (read_specs c z.specs) read (named c z.specs (specs_bytes z all)) is) takes
 
-any : (ids : List (List ℕ)) (kind : LayoutEncoding) (c : Context) (o : Own) (ks : List ChildData) (ns : Nodes) (t : Ty) → IsBytes o.metadata → AreKids ids ks ns
+any : (ids : List (List ℕ)) (kind : LayoutEncoding) (c : Context) (o : Own) (ks : List ChildData) (ns : Nodes) (t : Ty) → AreBytes o.metadata → AreKids ids ks ns
     → place_of (layout_id kind) ids ≡ Some o.index → Makes ids (node o ns) t (build_kind kind c (own_parts o ks t) o.metadata)
 any ids kinds.Flat c o ks ns t bytes are place = flat ids c o ks ns t are place
 any ids kinds.Chunked c o ks ns t bytes are place = chunked ids o ks ns t are place
@@ -468,7 +468,7 @@ if_allowed ids n t true r refusal h = h
 if_allowed ids n t false r refusal h = absent ids n t refusal
 
 registered : (s : Scope) (o : Own) (ks : List ChildData) (ns : Nodes) (id : List ℕ) (other : Made) (t : Ty) (k : Option LayoutEncoding) → kind_of id s.registered ≡ k → place_of id s.ids ≡ Some o.index
-    → IsBytes o.metadata → AreKids s.ids ks ns → Makes s.ids (node o ns) t other → Makes s.ids (node o ns) t (build_registered s o ks id other t k)
+    → AreBytes o.metadata → AreKids s.ids ks ns → Makes s.ids (node o ns) t other → Makes s.ids (node o ns) t (build_registered s o ks id other t k)
 registered s o ks ns id other t None is place bytes are h = if_allowed s.ids (node o ns) t s.allow_unknown other _ h
 registered s o ks ns id other t (Some kind) is place bytes are h = any s.ids kind s.context o ks ns t bytes are (rw (kind_named id s.registered kind is) place)
 
@@ -480,7 +480,7 @@ stands_again ids n is_one o t (Err refusal) h b = absurd (cc b)
 -- all metadata are bytes
 abbrev mutual
   pub HasBytes : Node → Type 0
-  HasBytes (node o ns) = IsBytes o.metadata × HaveBytes ns
+  HasBytes (node o ns) = AreBytes o.metadata × HaveBytes ns
 
   pub HaveBytes : Nodes → Type 0
   HaveBytes no_nodes = Unit {0}
@@ -506,7 +506,7 @@ mutual
 -- ---- what is spelled as bytes
 
 mutual
-  node_bytes : (n : Node) → IsBytes (spelling n) → HasBytes n
+  node_bytes : (n : Node) → AreBytes (spelling n) → HasBytes n
   node_bytes (node o ns) h =
       let a = bytes_front (own_bytes o (number_of ns)) (spellings ns) h in
       let b = bytes_back (to_le_bytes w16 o.index) (u64_bytes o.rows ++ (numbered o.metadata ++ (segment_bytes o.segments ++ u64_bytes (number_of ns)))) a in
@@ -514,18 +514,18 @@ mutual
       let m = bytes_front (numbered o.metadata) (segment_bytes o.segments ++ u64_bytes (number_of ns)) c in
       (bytes_back (u64_bytes (length o.metadata)) o.metadata m, nodes_bytes ns (bytes_back (own_bytes o (number_of ns)) (spellings ns) h))
 
-  nodes_bytes : (ns : Nodes) → IsBytes (spellings ns) → HaveBytes ns
+  nodes_bytes : (ns : Nodes) → AreBytes (spellings ns) → HaveBytes ns
   nodes_bytes no_nodes h = tt
   nodes_bytes (first n ns) h = (node_bytes n (bytes_front (spelling n) (spellings ns) h), nodes_bytes ns (bytes_back (spelling n) (spellings ns) h))
 
-spelled_by : (s : Scope) (n : Node) (t : Ty) (bytes : List ℕ) (l : LayoutData ℕ) → are_distinct s.ids ≡ true → IsBytes bytes → spelling n ≡ bytes → builder s n t ≡ Ok l → built l ≡ Ok tt
+spelled_by : (s : Scope) (n : Node) (t : Ty) (bytes : List ℕ) (l : LayoutData ℕ) → are_distinct s.ids ≡ true → AreBytes bytes → spelling n ≡ bytes → builder s n t ≡ Ok l → built l ≡ Ok tt
     → bytes_in s.ids l ≡ Ok bytes
 spelled_by s n t bytes l d fits is e b =
-    let all : IsBytes (spelling n) = subst (λ (m : List ℕ). IsBytes m) (sym is) fits in
+    let all : AreBytes (spelling n) = subst (λ (m : List ℕ). AreBytes m) (sym is) fits in
     let p = made_again s.ids n t (builder s n t) l (built_again s n t d (node_bytes n all)) e b in
     rw (p.0, b, p.1, is) refl
 
-parsed_again : (s : Scope) (t : Ty) (deep nodes : ℕ) (bytes : List ℕ) (l : LayoutData ℕ) → are_distinct s.ids ≡ true → IsBytes bytes → parsed s t deep nodes bytes ≡ Ok l → built l ≡ Ok tt
+parsed_again : (s : Scope) (t : Ty) (deep nodes : ℕ) (bytes : List ℕ) (l : LayoutData ℕ) → are_distinct s.ids ≡ true → AreBytes bytes → parsed s t deep nodes bytes ≡ Ok l → built l ≡ Ok tt
     → bytes_in s.ids l ≡ Ok bytes
 parsed_again s t deep nodes bytes l d fits e b = go (root_at deep nodes bytes) refl
   where

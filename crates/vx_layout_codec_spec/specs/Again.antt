@@ -1,8 +1,8 @@
 -- What bytes are built into is spelled as these bytes, and what is spelled is built again.
-use Rattle.std.specs.Prelude.{◌≡◌, ℕ, ◌<◌, true, List, get_or, Ok}
+use Rattle.std.specs.Prelude.{◌≡◌, ℕ, true, List, Ok}
 use Rattle.vx_model.specs.Ty.{Ty}
 use Rattle.vx_layout_spec.specs.LayoutTree.{LayoutData, layout_type}
-use Rattle.vx_layout_bytes.specs.Values.{IsWithin}
+use Rattle.vx_layout_bytes.specs.Values.{AreBytes, IsWithin}
 use Rattle.vx_session.specs.Ids.{are_distinct}
 use Rattle.vx_session.specs.Scope.{Scope}
 use Rattle.vx_layout_codec_spec.specs.Permitted.{built}
@@ -10,10 +10,6 @@ use Rattle.vx_layout_codec_spec.specs.NodeOf.{node_in}
 use Rattle.vx_layout_codec_spec.specs.Bytes.{bytes_in}
 use Rattle.vx_layout_codec_spec.specs.Parsed.{parsed}
 use Rattle.vx_layout_codec_spec.specs.Sound.{Sound}
-
--- each number is a byte
-abbrev pub AreBytes : List ℕ → Type 0
-AreBytes bytes = (i : ℕ) → get_or bytes i 0 < 256
 
 abbrev pub ParsedIsSpelled : Type 0
 ParsedIsSpelled = (s : Scope) (t : Ty) (deep nodes : ℕ) (bytes : List ℕ) (l : LayoutData ℕ) → are_distinct s.ids ≡ true → AreBytes bytes

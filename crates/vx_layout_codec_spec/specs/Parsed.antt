@@ -1,9 +1,12 @@
 -- What bytes are as a layout: the first fault of the node that they must be, or what that node is built into.
-use Rattle.std.specs.Prelude.{ℕ, List, Result, Ok, Err}
+use Rattle.std.specs.Prelude.{◌≡◌, ℕ, List, Result, Ok, Err}
 use Rattle.vx_model.specs.Ty.{Ty}
 use Rattle.vx_layout_spec.specs.Refusal as refusals
 use Rattle.vx_layout_spec.specs.Refusal.{Refusal}
+use Rattle.vx_layout_spec.specs.LayoutTree.{LayoutData}
 use Rattle.vx_layout_bytes.specs.Node.{Node}
+use Rattle.vx_layout_bytes.specs.Spelled.{spelling}
+use Rattle.vx_layout_bytes.specs.Values.{IsWithin}
 use Rattle.vx_layout_bytes.specs.Reading.{Fault, bad_grammar, too_deep, too_many, root_at}
 use Rattle.vx_session.specs.Scope.{Scope}
 use Rattle.vx_session.specs.Made.{Made}
@@ -28,3 +31,10 @@ built_at s t (Err refusal) = Err refusal
 
 abbrev pub parsed : Scope → Ty → ℕ → ℕ → List ℕ → Made
 parsed s t depth nodes bytes = built_at s t (node_within depth nodes bytes)
+
+-- The bytes spell a node within the limits, and the layout is what that is built into.
+pub record ParsedWithin (s : Scope) (t : Ty) (depth nodes : ℕ) (bytes : List ℕ) (l : LayoutData ℕ) : Type 0 where
+  pub node : Node
+  pub within : IsWithin depth nodes node
+  pub spelled : spelling node ≡ bytes
+  pub built : builder s node t ≡ Ok l

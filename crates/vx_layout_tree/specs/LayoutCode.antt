@@ -5,11 +5,10 @@ use base.Stored.{Gv, gnil, gnum, gcons}
 use denote.Struct.Codes.{itself}
 use Rattle.vx_model.specs.declared.encoding.EncodingId.{EncodingId}
 use Rattle.vx_model.specs.declared.encoding.EncodingId.TheVariants as encodings
-use Rattle.vx_model.specs.declared.ptype.PType.{PType}
-use Rattle.vx_model.specs.declared.ptype.PType.TheVariants.{U8, U16, U32, U64, I8, I16, I32, I64}
 use Rattle.vx_model.specs.Ty.{Ty, Tys, boolean, primitive, utf8, binary, list, struct, extension, no_fields, field}
 use Rattle.vx_layout_spec.specs.Refusal.{Refusal, bad_grammar, too_deep, too_many_nodes, unknown_index, unregistered, not_permitted, child_count, child_type, other_rows, segment_count, bad_metadata, unknown_aggregate, slot_range, field_not_found, no_list, no_struct}
 use Rattle.vx_layout_spec.specs.LayoutTree.{Spec, Kind, flat_kind, chunked_kind, struct_kind, list_kind, dict_kind, zoned_kind, unread_zoned_kind, stats_kind, foreign_kind, refused_kind, LayoutData, LayoutList, layout, no_layouts, child}
+use Rattle.vx_model.specs.Numbers.{encoding_number}
 use Rattle.vx_model.specs.Codes.{flag, flag_of, flag_back, number_of, numbers, numbers_of, numbers_back, ptype, ty_code, ty_of, ty_back}
 
 -- ---- refusals: those of a number, of bytes, of two numbers, of two types, and of nothing
@@ -79,15 +78,6 @@ refusal_back no_struct = refl
 
 -- ---- kinds
 
-abbrev pub encoding : EncodingId → ℕ
-encoding encodings.Plain = 0
-encoding encodings.Constant = 1
-encoding encodings.Dict = 2
-encoding encodings.Chunked = 3
-encoding encodings.List = 4
-encoding encodings.Struct = 5
-encoding encodings.Extension = 6
-
 abbrev pub encoding_of : Gv → EncodingId
 encoding_of (gnum zero) = encodings.Plain
 encoding_of (gnum (suc zero)) = encodings.Constant
@@ -97,7 +87,7 @@ encoding_of (gnum (suc (suc (suc (suc zero))))) = encodings.List
 encoding_of (gnum (suc (suc (suc (suc (suc zero)))))) = encodings.Struct
 encoding_of g = encodings.Extension
 
-pub encoding_back : (e : EncodingId) → encoding_of (gnum (encoding e)) ≡ e
+pub encoding_back : (e : EncodingId) → encoding_of (gnum (encoding_number e)) ≡ e
 encoding_back encodings.Plain = refl
 encoding_back encodings.Constant = refl
 encoding_back encodings.Dict = refl
@@ -108,7 +98,7 @@ encoding_back encodings.Extension = refl
 
 abbrev pub ids : List EncodingId → Gv
 ids [] = gnil
-ids (e ∷ es) = gcons (gnum (encoding e)) (ids es)
+ids (e ∷ es) = gcons (gnum (encoding_number e)) (ids es)
 
 abbrev pub ids_of : Gv → List EncodingId
 ids_of (gcons a b) = encoding_of a ∷ ids_of b

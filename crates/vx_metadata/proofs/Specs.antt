@@ -1,5 +1,6 @@
 -- Specs one after the other.
-use Rattle.std.proofs.Common.{◌≡◌, ℕ, suc, ◌+◌, ◌-◌, ◌<◌, ◌&&◌, Bool, true, false, List, ◌++◌, length, get_or, drop, map, Option, Some, None, refl, sym, ◌∙◌, append_assoc, arith}
+use Rattle.std.proofs.Common.{◌≡◌, ℕ, suc, ◌+◌, ◌-◌, ◌<◌, ◌^◌, ◌&&◌, Bool, true, false, List, ◌++◌, length, get_or, drop, map, Option, Some, None, refl, sym, ◌∙◌, append_assoc, arith}
+use Rattle.std.specs.Prelude.{IsTrue}
 use Rattle.std.specs.Str.{IsUtf8, is_utf8}
 use Rattle.std.proofs.lemmas.Str.{IsUtf8-from_is_utf8, is_utf8-from_IsUtf8}
 use Rattle.std.proofs.lemmas.List.{append-nil, drop_more, drop_all}
@@ -10,7 +11,7 @@ use Rattle.vx_metadata.specs.declared.zoned.AggregateSpec.{AggregateSpec}
 use Rattle.vx_metadata.specs.declared.read_error.ReadError.{ReadError}
 use Rattle.vx_metadata.specs.declared.read_error.ReadError.TheVariants as errors
 use Rattle.vx_metadata.specs.Spelled.{spec_bytes}
-use Rattle.vx_metadata.specs.Values.{is_short_spec}
+use Rattle.vx_metadata.specs.Values.{Zoned, is_short_spec, is_short, has_text_id, IsZoned}
 use Rattle.vx_metadata.specs.Reading.{string_at, name_at}
 use Rattle.vx_metadata.specs.Views.{Stops, spec_of}
 
@@ -22,7 +23,16 @@ pub drop_short : (xs : List AggregateSpec) (i : ℕ) (s : AggregateSpec) → i <
     → all_by is_short_spec (map spec_of (drop i xs)) ≡ (is_short_spec (spec_of s) && all_by is_short_spec (map spec_of (drop (i + 1) xs)))
 drop_short xs i s lt is = rw (drop_more xs i s lt, ← is) refl
 
-pub ruleset spec_rules = (append_assoc, append-nil, drop_all, drop_bytes, drop_short)
+pub drop_ids : (xs : List AggregateSpec) (i : ℕ) (s : AggregateSpec) → i < length xs → s ≡ get_or xs i s
+    → all_by has_text_id (map spec_of (drop i xs)) ≡ (has_text_id (spec_of s) && all_by has_text_id (map spec_of (drop (i + 1) xs)))
+drop_ids xs i s lt is = rw (drop_more xs i s lt, ← is) refl
+
+pub ruleset spec_rules = (append_assoc, append-nil, drop_all, drop_bytes, drop_short, drop_ids)
+
+pub are_zoned : (z : Zoned) → z.zone_len < 2 ^ 32 → IsTrue (is_short z) → IsTrue (all_by has_text_id z.specs) → IsZoned z
+are_zoned z zone_len short ids = record { zone_len = zone_len; short = short; ids = ids }
+
+pub ruleset zoned_rules = (are_zoned)
 
 -- ---- ids
 

@@ -4,7 +4,7 @@ ghost use Rattle.std.specs.Prelude.{◌≡◌, ◌++◌, ◌<◌, ◌^◌, lengt
 ghost use Rattle.vx_model.specs.Words.{joined_by, all_by};
 ghost use Rattle.vx_cell_codec.specs.Reading.{many_at};
 ghost use Rattle.vx_metadata.specs.Spelled.{counted, spec_bytes};
-ghost use Rattle.vx_metadata.specs.Values.{is_short_spec};
+ghost use Rattle.vx_metadata.specs.Values.{is_short_spec, has_text_id};
 ghost use Rattle.vx_metadata.specs.Reading.{spec_at as one_spec, zoned_body, zoned_in};
 ghost use Rattle.vx_metadata.specs.Views.{Gives, Reads, spec_of, zoned};
 
@@ -36,9 +36,14 @@ impl ZonedMetadata {
     ghost use Rattle.vx_metadata.specs.Views.{Gives, zoned};
 
     /// Whether there are fewer than 2^32 specs, and each id and all options have fewer than 2^32 bytes.
+    #[tactic(auto, using(crate::proofs::Specs::zoned_rules))]
     pub fn is_short(&self) -> bool
-        ensures { result ≡ is_short_zoned (zoned self.now) }
+        ensures short { result ≡ is_short_zoned (zoned self.now) }
+        // Then it is read back from its bytes.
+        ensures zoned { IsTrue result → IsZoned (zoned self.now) }
     {
+        // It has 32 bits.
+        let _zone_len = self.zone_len;
         (self.specs.len() as u64) < 4_294_967_296 && are_short(&self.specs)
     }
 
@@ -69,7 +74,8 @@ impl ZonedMetadata {
 
 #[tactic(auto, using(crate::proofs::Specs::spec_rules))]
 fn are_short(specs: &[AggregateSpec]) -> bool
-    ensures { result ≡ all_by is_short_spec (map spec_of specs.now) }
+    ensures short { result ≡ all_by is_short_spec (map spec_of specs.now) }
+    ensures ids { IsTrue result → IsTrue (all_by has_text_id (map spec_of specs.now)) }
 {
     for spec in specs {
         if !is_short(spec) {
@@ -80,7 +86,8 @@ fn are_short(specs: &[AggregateSpec]) -> bool
 }
 
 fn is_short(spec: &AggregateSpec) -> bool
-    ensures { result ≡ is_short_spec (spec_of spec.now) }
+    ensures short { result ≡ is_short_spec (spec_of spec.now) }
+    ensures id { IsTrue (has_text_id (spec_of spec.now)) }
 {
     (spec.id.as_str().len() as u64) < 4_294_967_296
         && (spec.options.as_slice().len() as u64) < 4_294_967_296

@@ -4,4 +4,5 @@ pub mod TableSpecs
 pub mod NodeLayouts
 pub mod ColumnLayouts
 pub mod WrittenLaws
+pub mod Known
 mod Examples

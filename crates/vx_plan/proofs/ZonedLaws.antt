@@ -4,7 +4,7 @@ use Rattle.std.specs.Prelude.{if◌then◌else◌, ◌&&◌, ◌||◌, nat_lt}
 use Rattle.std.specs.Str.{is_utf8}
 use Rattle.std.proofs.lemmas.Bool.Decides.{nat_tests}
 use Rattle.std.proofs.lemmas.List.{append-nil}
-use Rattle.vx_model.specs.Words.{all_by}
+use Rattle.vx_model.specs.Words.{all_by, tail}
 use Rattle.vx_model.specs.Ty.{Ty, boolean, primitive, utf8, binary, list, struct, extension}
 use Rattle.vx_model.specs.CellData.{CellData, null_cell, bool_cell, int_cell, text_cell, bytes_cell, list_cell, struct_cell, fits}
 use Rattle.vx_model.specs.ValueData.{ValueData, value, is_null_value, is_row_value, value_fits}
@@ -12,18 +12,19 @@ use Rattle.vx_model.specs.ChunkData.{cells, row_values}
 use Rattle.vx_path.specs.Path.{Eof, Region, begins, meets, raised, inside, next, under}
 use Rattle.vx_path.specs.Lists.{In}
 use Rattle.vx_path.proofs.Lists.{in_left}
+use Rattle.vx_path.proofs.Sort.{length-sort_by}
 use Rattle.vx_path.proofs.Path.{begins-refl, begins-trans, begins-under, raised_apart, raised-next, region_inside}
 use Rattle.vx_layout_spec.specs.Rows.{and_then, counted}
 use Rattle.vx_layout_spec.specs.LayoutTree.{layout_type}
-use Rattle.vx_aggregate_spec.specs.Aggregate.{Aggregate, maximum, minimum, bounded_maximum, bounded_minimum, null_count, sum, bloom, Column, has_options, default_aggregates}
+use Rattle.vx_aggregate_spec.specs.Aggregate.{Aggregate, maximum, minimum, bounded_maximum, bounded_minimum, null_count, sum, bloom, Column, has_options, state_type, with_state, held_aggregates, default_aggregates}
 use Rattle.vx_zone_spec.specs.Statements.{is_text, AllValues}
 use Rattle.vx_bloom_spec.proofs.ValueFits.{value_fits-value}
-use Rattle.vx_zone_spec.specs.ZoneTable.{Filled, table_type, table_piece, kept_columns}
+use Rattle.vx_zone_spec.specs.ZoneTable.{Filled, name_of, filled, some_values, ordered, table_type, table_piece, kept_columns}
 use Rattle.vx_plan.specs.ZonesHold.{zones_of, records_of, IsZoneCount}
 use Rattle.vx_layout_spec.specs.Real.{Of, is_real_cell}
 use Rattle.vx_zone_spec.specs.Record.{zone_record}
 use Rattle.vx_zone_table_laws.specs.Statements.{Zones, SmallFilter, SmallFilters, records}
-use Rattle.vx_zone_table_laws.proofs.WholeTables.{table_whole, columns_are}
+use Rattle.vx_zone_table_laws.proofs.WholeTables.{any_same, table_whole, columns_are}
 use Rattle.vx_rules.proofs.CellLaws.{Fine, cells_fine}
 use Rattle.vx_rules.proofs.ColumnStreams.{chunk_cells}
 use Rattle.vx_plan.proofs.ZoneRecords.{zones_right, zones_count}
@@ -90,13 +91,64 @@ default_options (extension tag t) = refl
 
 asked_options : (aggregates : Option (List Aggregate)) (t : Ty) → are_admitted_aggregates aggregates ≡ true → all_by has_options (asked aggregates t) ≡ true
 asked_options None t h = default_options t
-asked_options (Some aggregates) t h = h
+asked_options (Some aggregates) t h = front (all_by has_options aggregates) (nat_lt (length aggregates) (2 ^ 32)) h
 
-pub options_of : (o : ZonedOptions) (t : Ty) → is_admitted_zoned o ≡ true → all_by has_options (asked o.aggregates t) ≡ true
-options_of o t h =
+aggregates_of : (o : ZonedOptions) → is_admitted_zoned o ≡ true → are_admitted_aggregates o.aggregates ≡ true
+aggregates_of o h =
     let a : (nat_lt o.zone_len (2 ^ 32) && (nat_lt 0 o.concurrency && are_admitted_aggregates o.aggregates)) ≡ true = back (nat_lt 0 o.zone_len) _ h in
     let b : (nat_lt 0 o.concurrency && are_admitted_aggregates o.aggregates) ≡ true = back (nat_lt o.zone_len (2 ^ 32)) _ a in
-    asked_options o.aggregates t (back (nat_lt 0 o.concurrency) (are_admitted_aggregates o.aggregates) b)
+    back (nat_lt 0 o.concurrency) (are_admitted_aggregates o.aggregates) b
+
+pub options_of : (o : ZonedOptions) (t : Ty) → is_admitted_zoned o ≡ true → all_by has_options (asked o.aggregates t) ≡ true
+options_of o t h = asked_options o.aggregates t (aggregates_of o h)
+
+-- ---- a table has no more columns than were asked for, fewer than 2^32
+
+default_few : (t : Ty) → length (default_aggregates t) ≡ 3
+default_few (boolean n) = refl
+default_few (primitive p n) = refl
+default_few (utf8 n) = refl
+default_few (binary n) = refl
+default_few (list t n) = refl
+default_few (struct fs n) = refl
+default_few (extension tag t) = refl
+
+asked_few : (aggregates : Option (List Aggregate)) (t : Ty) → are_admitted_aggregates aggregates ≡ true → length (asked aggregates t) < 2 ^ 32
+asked_few None t h = omega (arith, default_few t)
+asked_few (Some aggregates) t h = below (length aggregates) (back (all_by has_options aggregates) (nat_lt (length aggregates) (2 ^ 32)) h)
+  where
+    below : (n : ℕ) → nat_lt n (2 ^ 32) ≡ true → n < 2 ^ 32
+    below n h = grind (arith, nat_tests)
+
+held_count : (aggregates : List Aggregate) (t : Ty) → length (held_aggregates aggregates t) ≤ length aggregates
+held_count [] t = omega arith
+held_count (a ∷ aggregates) t = by_state (state_type a t) (held_count aggregates t)
+  where
+    by_state : (o : Option Ty) → length (held_aggregates aggregates t) ≤ length aggregates → length (with_state a o ++ held_aggregates aggregates t) ≤ suc (length aggregates)
+    by_state None h = omega arith
+    by_state (Some u) h = omega arith
+
+filled_count : (columns : List Column) (records : List (List ValueData)) → length (filled columns records) ≡ length columns
+filled_count [] records = refl
+filled_count (a ∷ columns) records = ap suc (filled_count columns (map tail records))
+
+some_count : (cs : List Filled) → length (some_values cs) ≤ length cs
+some_count [] = omega arith
+some_count (c ∷ cs) = by_nulls (all_by is_null_value c.values) (some_count cs)
+  where
+    by_nulls : (b : Bool) → length (some_values cs) ≤ length cs → length (if b then some_values cs else c ∷ some_values cs) ≤ suc (length cs)
+    by_nulls true h = omega arith
+    by_nulls false h = omega arith
+
+pub few_kept : (columns : List Column) (records : List (List ValueData)) (cs : List Filled) → kept_columns columns records ≡ Some cs → length cs ≤ length columns
+few_kept columns [] cs e = absurd (cc e)
+few_kept columns (r ∷ records) cs e =
+    let kept : List Filled = some_values (filled columns (r ∷ records)) in
+    let same : length (ordered kept) ≡ length cs = ap length (any_same (ordered kept) cs e) in
+    omega (arith, same, length-sort_by name_of kept, some_count (filled columns (r ∷ records)), filled_count columns (r ∷ records))
+
+pub few_columns : (o : ZonedOptions) (t : Ty) (records : List (List ValueData)) (cs : List Filled) → is_admitted_zoned o ≡ true → kept_columns (recorded o t) records ≡ Some cs → length cs < 2 ^ 32
+few_columns o t records cs h kept = omega (arith, few_kept (recorded o t) records cs kept, held_count (asked o.aggregates t) t, asked_few o.aggregates t (aggregates_of o h))
 
 small_filter : (a : Aggregate) → has_options a ≡ true → SmallFilter a
 small_filter maximum h = tt

@@ -7,22 +7,22 @@ use Rattle.vx_model.specs.declared.encoding.EncodingId.{EncodingId}
 use Rattle.vx_model.specs.Ty.{Ty}
 use Rattle.vx_model.specs.ChunkData.{ChunkData}
 use Rattle.vx_segment_writer.specs.Segment.{encode, refused, bytes_unless, segment_bytes}
-use Rattle.vx_path.specs.Path.{Eof, inside, next, root_eof}
+use Rattle.vx_path.specs.Path.{Eof, next, root_eof}
 use Rattle.vx_layout_spec.specs.LayoutTree.{LayoutData, lays_of, gathered, renamed, each_renamed}
 use Rattle.vx_layout_spec.specs.Rows.{rows, all_there}
 use Rattle.vx_segment_reader.specs.Codec.{segment_codec}
-use Rattle.vx_plan.specs.PlanData.{Setting, Plan, Fault, Item, row_total}
+use Rattle.vx_plan.specs.PlanData.{Setting, Fault, Item, row_total}
 use Rattle.vx_strategy_spec.specs.StrategyData.{StrategyData, FlatOptions, flat, chunked}
-use Rattle.vx_plan.specs.ChunkedNode.{whole, chunk_plans, chunked_numbers, all_layouts}
+use Rattle.vx_plan.specs.ChunkedNode.{chunk_plans, all_layouts}
 use Rattle.vx_plan.specs.FlatNode.{flat_node, refused_at}
-use Rattle.vx_plan.specs.SourcePlan.{source_plan, taken_plan, source_values, of_schema, batch_items, with_root}
+use Rattle.vx_plan.specs.SourcePlan.{source_plan, taken_plan, source_values, batch_items}
 use Rattle.vx_plan.specs.Number.{segments, numbered, number_of, segment_at}
 use Rattle.vx_plan.specs.InOrder.{InOrder, ChunksInOrder, batch_rows, batch_segments, batch_refusals}
-use Rattle.vx_plan.specs.Valid.{Fit, Valid}
+use Rattle.vx_plan.specs.Valid.{Valid}
 use Rattle.vx_fault.specs.Counts.{Counts, IsCalm}
 use Rattle.vx_fault.specs.Fails.{fails_at}
 use Rattle.vx_fault.specs.Told.{before_told, then_told}
-use Rattle.vx_write.specs.Stream.{Writes, HasCause, MayCome, BehindBatch, TookLast, TookRows, NeedsNumber, WasValid, Stands, is_built}
+use Rattle.vx_write.specs.Stream.{Planned, Wrote, HasCause, MayCome, BehindBatch, TookLast, TookRows, NeedsNumber, Stands, is_built}
 use Rattle.vx_write.specs.Causes.{is_source_fault, is_sink_fault, is_unbuilt}
 use Rattle.vx_write.specs.declared.error.WriteError.{WriteError}
 use Rattle.vx_write.specs.declared.error.WriteError.TheVariants as errors
@@ -33,41 +33,9 @@ use Rattle.vx_report.specs.Report.{report, refused_report}
 use Rattle.vx_report.specs.ZoneText.{ZoneTable, zone_tables, tables_below}
 use Rattle.vx_run.specs.declared.status.Status.{Status}
 use Rattle.vx_run.specs.declared.status.Status.TheVariants.{Done, Refused}
-use Rattle.vx_run.specs.Answers.{job_plan, table_rows, NoneFails, IsWritten, IsReport, refusal_name, is_memory, IsLast, NumberPasses, RowsPass, RefusedFor, batches_given, Begins, IsRefused, Halts, JobAnswer, IsText}
+use Rattle.vx_run.specs.Answers.{job_setting, job_plan, IsValid, table_rows, NoneFails, IsWritten, IsReport, refusal_name, is_memory, IsLast, NumberPasses, RowsPass, RefusedFor, batches_given, Begins, IsRefused, Halts, JobAnswer, IsText}
 
--- a setting that writes these encodings
-abbrev pub plain_setting : List EncodingId → Setting
-plain_setting ids = record { codec = segment_codec; encodings = ids; allowed = None; image = λ which p. p; hash = λ bytes. 0 }
-
-pub writes_all : (ids : List EncodingId) → Writes ids (plain_setting ids)
-writes_all ids = record { encodes = refl; trees = refl; refuses = refl; listed = refl }
-
--- ---- what a built form writes is the same below a nullable struct
-
-same_chunks : (s : Setting) (o : FlatOptions) (t : Ty) (m : Bool) (is : List Item) (e : Eof) → chunk_plans (flat_node s o t) m is e ≡ chunk_plans (flat_node s o t) false is e
-same_chunks s o t m [] e = refl
-same_chunks s o t m (i ∷ is) e = ap (λ (ps : List Plan). flat_node s o t false (i ∷ []) true (inside e) ∷ ps) (same_chunks s o t m is (next e))
-
-same_flat : (s : Setting) (o : FlatOptions) (t : Ty) (m : Bool) (xs : List ChunkData) (ended : Bool) → source_plan s (chunked (flat o)) t m xs ended ≡ source_plan s (chunked (flat o)) t false xs ended
-same_flat s o t m xs ended = ap (λ (ps : List Plan). with_root xs (whole t (row_total (batch_items 0 xs)) (chunked_numbers (batch_items 0 xs) root_eof) ps)) (same_chunks s o t m (batch_items 0 xs) root_eof)
-
-same_marked : (s : Setting) (w : StrategyData) (t : Ty) (m : Bool) (xs : List ChunkData) (ended : Bool) → is_built w t ≡ true → source_plan s w t m xs ended ≡ source_plan s w t false xs ended
-same_marked s w t m xs ended h =
-    let b = built w t h in
-    subst (λ (v : StrategyData). source_plan s v t m xs ended ≡ source_plan s v t false xs ended) (sym b.chunks) (same_flat s b.options t m xs ended)
-
-unmarked : (s : Setting) (w : StrategyData) (t : Ty) (m : Bool) (first tracker : ℕ) (xs : List ChunkData) → is_built w t ≡ true → Valid s w t m first tracker xs → Valid s w t false first tracker xs
-unmarked s w t m first tracker xs h v =
-    let same : source_plan s w t m xs true ≡ source_plan s w t false xs true = same_marked s w t m xs true h in
-    record {
-      faultless = subst (λ (p : Plan). p.faults ≡ []) same v.faultless;
-      of_schema = v.of_schema;
-      numbered = subst (λ (p : Plan). first + length p.pairs ≤ 2 ^ 32) same v.numbered;
-      fit = subst (λ (p : Plan). Fit p.numbers) same v.fit;
-      tracked = subst (λ (p : Plan). tracker + p.reserved < 2 ^ 64) same v.tracked;
-    }
-
--- ---- and has no zone tables
+-- ---- what a built form writes has no zone tables
 
 no_tables_below : (s : Setting) (o : FlatOptions) (t : Ty) (m : Bool) (is : List Item) (e : Eof) (f : List ℕ → ℕ) → tables_below (each_renamed f (lays_of (all_layouts (chunk_plans (flat_node s o t) m is e)))) ≡ []
 no_tables_below s o t m [] e f = refl
@@ -90,25 +58,20 @@ none_at : (path : List ℕ) (r : Option EncodingId) (rest : List Fault) → refu
 none_at path None rest e = (refl, e)
 none_at path (Some id) rest e = absurd cc
 
-encoded : (ids : List EncodingId) (s : Setting) → Writes ids s → (padding : Bool) (p : ChunkData) → s.codec.refused s.encodings p ≡ None → (bytes : List ℕ) × (s.codec.encode s.encodings padding p ≡ Some bytes)
-encoded ids s w padding p none =
-    let refused_is : s.codec.refused s.encodings p ≡ refused ids p = rw (w.refuses, w.listed) refl in
-    let encode_is : s.codec.encode s.encodings padding p ≡ encode ids padding p = rw (w.encodes, w.listed) refl in
-    (segment_bytes ids padding p, encode_is ∙ ap (λ (r : Option EncodingId). bytes_unless r (segment_bytes ids padding p)) (sym refused_is ∙ none))
+batch_count : (j : JobData) (o : FlatOptions) (i : ℕ) (xs : List ChunkData) → batch_refusals (job_setting j) i xs ≡ [] → length (batch_segments (job_setting j) o xs) ≡ length xs
+batch_count j o i [] none = refl
+batch_count j o i (p ∷ ps) none =
+    let split = none_at (0 ∷ i ∷ []) (refused j.options.encodings p) (batch_refusals (job_setting j) (suc i) ps) none in
+    let encoded : encode j.options.encodings o.padding p ≡ Some (segment_bytes j.options.encodings o.padding p) = ap (λ (r : Option EncodingId). bytes_unless r (segment_bytes j.options.encodings o.padding p)) split.0 in
+    rw (encoded, batch_count j o (suc i) ps split.1) refl
 
-batch_count : (ids : List EncodingId) (s : Setting) → Writes ids s → (o : FlatOptions) (i : ℕ) (xs : List ChunkData) → batch_refusals s i xs ≡ [] → length (batch_segments s o xs) ≡ length xs
-batch_count ids s w o i [] none = refl
-batch_count ids s w o i (p ∷ ps) none =
-    let split = none_at (0 ∷ i ∷ []) (s.codec.refused s.encodings p) (batch_refusals s (suc i) ps) none in
-    let bytes = encoded ids s w o.padding p split.0 in
-    rw (bytes.1, batch_count ids s w o (suc i) ps split.1) refl
-
-segment_count : ChunksInOrder → (ids : List EncodingId) (s : Setting) → Writes ids s → (w : StrategyData) (t : Ty) (xs : List ChunkData) → is_built w t ≡ true → (source_plan s w t false xs true).faults ≡ []
-    → length (segments (source_plan s w t false xs true)) ≡ length xs
-segment_count law ids s writes w t xs form none =
-    let b = built w t form in
-    let io : InOrder s b.options w t false xs true = subst (λ (v : StrategyData). InOrder s b.options v t false xs true) (sym b.chunks) (law s b.options (flat b.options) t false xs true refl) in
-    ap length io.segments ∙ batch_count ids s writes b.options 0 xs (sym io.faults ∙ none)
+segment_count : ChunksInOrder → (j : JobData) → is_built j.strategy j.schema ≡ true → (job_plan j).faults ≡ [] → length (segments (job_plan j)) ≡ length j.batches
+segment_count law j form none =
+    let b = built j.strategy j.schema form in
+    let io : InOrder (job_setting j) b.options j.strategy j.schema j.options.marked j.batches true =
+    subst (λ (v : StrategyData). InOrder (job_setting j) b.options v j.schema j.options.marked j.batches true) (sym b.chunks)
+    (law (job_setting j) b.options (flat b.options) j.schema j.options.marked j.batches true refl) in
+    ap length io.segments ∙ batch_count j b.options 0 j.batches (sym io.faults ∙ none)
 
 -- ---- calls that pass are none that the job lets fail
 
@@ -136,10 +99,12 @@ given_passed e stand must passed behind = passed
 
 -- ---- what a write of a job starts from
 
-pub record Start (j : JobData) (ids : List EncodingId) (t : Ty) (first : ℕ) (came : Option (List ChunkData)) (old : Option (List (List ℕ))) : Type 0 where
-  pub listed : ids ≡ j.options.encodings
+pub record Start (j : JobData) (s : Setting) (t : Ty) (m : Bool) (first tracker : ℕ) (came : Option (List ChunkData)) (old : Option (List (List ℕ))) : Type 0 where
+  pub setting : s ≡ job_setting j
   pub schema : t ≡ j.schema
+  pub marked : m ≡ j.options.marked
   pub numbers : first ≡ j.options.next
+  pub counted : tracker ≡ 0
   pub batches : came ≡ Some j.batches
   pub none : old ≡ Some []
 
@@ -168,64 +133,41 @@ pub record Passed (first now : ℕ) (source sink : ℕ → Type 0) : Type 0 wher
   pub appends : (k : ℕ) → k < now - first → ¬ (sink k)
 
 written_so : (j : JobData) {now : ℕ} {old new : Option (List (List ℕ))} {l : LayoutData ℕ} {stored : List (List ℕ)} {source sink : ℕ → Type 0} → old ≡ Some [] → new ≡ Some stored → is_built j.strategy j.schema ≡ true
-    → ((s : Setting) → Writes j.options.encodings s → l ≡ numbered (source_plan s j.strategy j.schema false j.batches true) j.options.next)
-    → ((s : Setting) → Writes j.options.encodings s → new ≡ then_told old (segments (source_plan s j.strategy j.schema false j.batches true)))
-    → ((s : Setting) → Writes j.options.encodings s → now ≡ j.options.next + length (segments (source_plan s j.strategy j.schema false j.batches true)))
-    → ((s : Setting) → Writes j.options.encodings s → rows segment_codec (segment_at j.options.next (segments (source_plan s j.strategy j.schema false j.batches true))) l ≡ Some (source_values j.batches))
-    → now ≤ max j.options.next (2 ^ 32) → length (segments (source_plan (plain_setting j.options.encodings) j.strategy j.schema false j.batches true)) ≡ length j.batches
+    → Wrote j.schema j.options.next now old new l j.batches (job_plan j) → now ≤ max j.options.next (2 ^ 32) → length (segments (job_plan j)) ≡ length j.batches
     → Forced j source sink → Passed j.options.next now source sink → IsWritten j l stored
-written_so j {now} {old} {new} {l} {stored} {source} {sink} none told form laid appended numbers back last each forced passed =
-    let plain : Setting = plain_setting j.options.encodings in
-    let writes : Writes j.options.encodings plain = writes_all j.options.encodings in
-    let same : (s : Setting) → source_plan s j.strategy j.schema false j.batches true ≡ job_plan s j = λ s. sym (same_marked s j.strategy j.schema j.options.marked j.batches true form) in
-    let all : stored ≡ segments (source_plan plain j.strategy j.schema false j.batches true) = told_all none told (appended plain writes) in
+written_so j {now} {old} {new} {l} {stored} {source} {sink} none told form wrote last each forced passed =
+    let all : stored ≡ segments (job_plan j) = told_all none told wrote.appended in
     let count : length stored ≡ length j.batches = ap length all ∙ each in
-    let reached : now ≡ j.options.next + length stored = numbers plain writes ∙ ap (λ (bs : List (List ℕ)). j.options.next + length bs) (sym all) in
+    let reached : now ≡ j.options.next + length stored = wrote.counted ∙ ap (λ (bs : List (List ℕ)). j.options.next + length bs) (sym all) in
     record {
       form = form;
-      laid = λ s w. laid s w ∙ ap (λ (p : Plan). numbered p j.options.next) (same s);
-      appended = λ s w. told_all none told (appended s w) ∙ ap segments (same s);
-      read = ap (λ (bs : List (List ℕ)). rows segment_codec (segment_at j.options.next bs) l) all ∙ back plain writes;
-      numbers = fitting j.options.next now stored (segments (source_plan plain j.strategy j.schema false j.batches true)) all (numbers plain writes) last;
-      no_tables = ap zone_tables (laid plain writes) ∙ no_tables plain j.strategy j.schema false j.batches j.options.next form;
+      laid = wrote.laid;
+      appended = all;
+      read = ap (λ (bs : List (List ℕ)). rows segment_codec (segment_at j.options.next bs) l) all ∙ wrote.read_back;
+      numbers = fitting j.options.next now stored (segments (job_plan j)) all wrote.counted last;
+      no_tables = ap zone_tables wrote.laid ∙ no_tables (job_setting j) j.strategy j.schema j.options.marked j.batches j.options.next form;
       calls = none_fails j source sink (length j.batches + 1) (length stored) forced
           (λ k less. none_more source (now - j.options.next) passed.batches passed.ended k (omega (arith, less, count, reached)))
           (λ k less. passed.appends k (omega (arith, less, reached)));
     }
 
-pub all_written : (j : JobData) {ids : List EncodingId} {t : Ty} {first now : ℕ} {came : Option (List ChunkData)} {old new : Option (List (List ℕ))} {l : LayoutData ℕ} {stored : List (List ℕ)} (source sink : ℕ → Type 0)
-    → Start j ids t first came old → new ≡ Some stored → (is_built j.strategy t ≡ false → ⊥)
-    → ((s : Setting) (xs : List ChunkData) → Writes ids s → came ≡ Some xs → l ≡ numbered (source_plan s j.strategy t false xs true) first)
-    → ((s : Setting) (xs : List ChunkData) → Writes ids s → came ≡ Some xs → new ≡ then_told old (segments (source_plan s j.strategy t false xs true)))
-    → ((s : Setting) (xs : List ChunkData) → Writes ids s → came ≡ Some xs → now ≡ first + length (segments (source_plan s j.strategy t false xs true)))
-    → ((s : Setting) (xs : List ChunkData) → Writes ids s → came ≡ Some xs → rows segment_codec (segment_at first (segments (source_plan s j.strategy t false xs true))) l ≡ Some (source_values xs))
-    → now ≤ max first (2 ^ 32)
-    → ((s : Setting) (xs : List ChunkData) → Writes ids s → came ≡ Some xs → WasValid s j.strategy t first xs)
+pub all_written : (j : JobData) (s : Setting) (t : Ty) (m : Bool) {first now tracker : ℕ} {came : Option (List ChunkData)} {old new : Option (List (List ℕ))} {l : LayoutData ℕ} {stored : List (List ℕ)} (source sink : ℕ → Type 0)
+    → Start j s t m first tracker came old → new ≡ Some stored → (is_built j.strategy t ≡ false → ⊥)
+    → Planned s j.strategy t m came (Wrote t first now old new l) → now ≤ max first (2 ^ 32)
     → ChunksInOrder → Forced j source sink → Passed first now source sink → IsWritten j l stored
-all_written j {t = t} {first = first} {now = now} source sink start told unbuilt laid appended numbers back last valid law forced passed =
+all_written j s t m {first} {now} {tracker} {came} {old} {new} {l} source sink start told unbuilt wrote last law forced passed =
     let form : is_built j.strategy j.schema ≡ true = is_true (is_built j.strategy j.schema) (λ f. unbuilt (ap (is_built j.strategy) start.schema ∙ f)) in
-    let plain : Setting = plain_setting j.options.encodings in
-    let came_valid : WasValid plain j.strategy j.schema first j.batches = rw start.schema at (valid plain j.batches (rw start.listed (writes_all j.options.encodings)) start.batches) in
-    written_so j start.none told form
-    (λ s w. rw (start.schema, start.numbers) at (laid s j.batches (rw start.listed w) start.batches))
-    (λ s w. rw start.schema at (appended s j.batches (rw start.listed w) start.batches))
-    (λ s w. rw (start.schema, start.numbers) at (numbers s j.batches (rw start.listed w) start.batches))
-    (λ s w. rw (start.schema, start.numbers) at (back s j.batches (rw start.listed w) start.batches))
-    (rw start.numbers at last)
-    (segment_count law j.options.encodings plain (writes_all j.options.encodings) j.strategy j.schema j.batches form came_valid.faultless)
+    let so : Wrote j.schema j.options.next now old new l j.batches (job_plan j) = rw (start.setting, start.schema, start.marked, start.numbers) at (wrote j.batches start.batches) in
+    written_so j start.none told form so (rw start.numbers at last) (segment_count law j form so.valid.faultless)
     forced (subst (λ (n : ℕ). Passed n now source sink) start.numbers passed)
 
-report_so : (s : Setting) (j : JobData) {l : LayoutData ℕ} {stored : List (List ℕ)} {text : List ℕ} → IsWritten j l stored → Writes j.options.encodings s
-    → text ≡ report j.options.next l stored [] (source_values j.batches) → IsReport s j text
-report_so s j {l} {stored} w writes is =
-    let layout : l ≡ numbered (job_plan s j) j.options.next = w.laid s writes in
-    let all : stored ≡ segments (job_plan s j) = w.appended s writes in
-    record {
-      read = sym (ap (λ (k : LayoutData ℕ). rows segment_codec (segment_at j.options.next stored) k) layout ∙ ap (λ (bs : List (List ℕ)). rows segment_codec (segment_at j.options.next bs) (numbered (job_plan s j) j.options.next)) all) ∙ w.read;
-      tables = [];
-      tables_read = ap (λ (zs : List ZoneTable). all_there (table_rows (segment_at j.options.next (segments (job_plan s j))) zs)) (sym (ap zone_tables layout) ∙ w.no_tables);
-      shown = is ∙ (ap (λ (k : LayoutData ℕ). report j.options.next k stored [] (source_values j.batches)) layout ∙ ap (λ (bs : List (List ℕ)). report j.options.next (numbered (job_plan s j) j.options.next) bs [] (source_values j.batches)) all);
-    }
+report_so : (j : JobData) {l : LayoutData ℕ} {stored : List (List ℕ)} {text : List ℕ} → IsWritten j l stored → text ≡ report j.options.next l stored [] (source_values j.batches) → IsReport j text
+report_so j {l} {stored} w is = record {
+  read = sym (ap (λ (k : LayoutData ℕ). rows segment_codec (segment_at j.options.next stored) k) w.laid ∙ ap (λ (bs : List (List ℕ)). rows segment_codec (segment_at j.options.next bs) (numbered (job_plan j) j.options.next)) w.appended) ∙ w.read;
+  tables = [];
+  tables_read = ap (λ (zs : List ZoneTable). all_there (table_rows (segment_at j.options.next (segments (job_plan j))) zs)) (sym (ap zone_tables w.laid) ∙ w.no_tables);
+  shown = is ∙ (ap (λ (k : LayoutData ℕ). report j.options.next k stored [] (source_values j.batches)) w.laid ∙ ap (λ (bs : List (List ℕ)). report j.options.next (numbered (job_plan j) j.options.next) bs [] (source_values j.batches)) w.appended);
+}
 
 -- the report of what was written is the job's answer
 pub report_answers : (j : JobData) {l : LayoutData ℕ} {stored : List (List ℕ)} {status : Status} {text : List ℕ} → IsWritten j l stored
@@ -235,8 +177,8 @@ report_answers j {l} {stored} {status} {text} w h =
     let text_is : text ≡ report j.options.next l stored [] (source_values j.batches) = cc in
     subst (λ (st : Status). JobAnswer j st text) (sym h.0) (record {
       form = w.form;
-      calls = λ s writes. subst (λ (bs : List (List ℕ)). NoneFails j (length j.batches + 1) (length bs)) (w.appended s writes) w.calls;
-      told = λ s writes. report_so s j w writes text_is;
+      calls = subst (λ (bs : List (List ℕ)). NoneFails j (length j.batches + 1) (length bs)) w.appended w.calls;
+      told = report_so j w text_is;
     })
 
 -- ---- a job that was refused
@@ -323,15 +265,6 @@ cause_for (errors.TooLarge n) j taken stand now a c is came count memory of_sour
 cause_for errors.OutOfMemory j taken stand now a c is came count memory of_source of_sink unasked cause may = absurd (let f : true ≡ false = memory in cc)
 cause_for errors.Unbuilt j taken stand now a c is came count memory of_source of_sink unasked cause may = unasked cause
 
--- what stands are the first segments of the plan, with the job's mark
-begins : (s : Setting) (j : JobData) (taken : List ChunkData) (bs more : List (List ℕ)) → (is_built j.strategy j.schema ≡ false → bs ≡ [])
-    → segments (taken_plan s j.strategy j.schema false taken false) ≡ bs ++ more → Begins bs (segments (taken_plan s j.strategy j.schema j.options.marked taken false))
-begins s j taken bs more unbuilt is = by_form (is_built j.strategy j.schema) refl
-  where
-    by_form : (b : Bool) → is_built j.strategy j.schema ≡ b → Begins bs (segments (taken_plan s j.strategy j.schema j.options.marked taken false))
-    by_form true e = record { more = more; is = ap segments (same_marked s j.strategy j.schema j.options.marked (of_schema j.schema taken) false e) ∙ is }
-    by_form false e = record { more = segments (taken_plan s j.strategy j.schema j.options.marked taken false); is = ap (λ (cs : List (List ℕ)). cs ++ segments (taken_plan s j.strategy j.schema j.options.marked taken false)) (sym (unbuilt e)) }
-
 -- where a job sets no faults, nothing fails
 no_source : (e : WriteError) {source : Type 0} (sink : Type 0) → MayCome source sink e → (source → ⊥) → is_source_fault e ≡ false
 no_source errors.SourceFault sink may never = absurd (never may)
@@ -361,15 +294,13 @@ pub record PassedBefore (first now : ℕ) (source sink : ℕ → Type 0) (e : Wr
 refused_so : (j : JobData) (e : WriteError) {stood : List (List ℕ)} {now : ℕ} {a c : Option (List ChunkData)} {old new : Option (List (List ℕ))} (source sink must_source must_sink : ℕ → Type 0)
     → a ≡ Some j.batches → old ≡ Some [] → new ≡ Some stood → is_memory e ≡ false
     → ((k : ℕ) → source k → IsTrue (fails_at j.options.faults.source k)) → ((k : ℕ) → sink k → IsTrue (fails_at j.options.faults.sink k))
-    → ((s : Setting) → Writes j.options.encodings s → Stands (λ taken. taken_plan s j.strategy j.schema false taken false) j.options.next now a c old new)
+    → Stands (λ taken. taken_plan (job_setting j) j.strategy j.schema j.options.marked taken false) j.options.next now a c old new
     → HasCause j.schema j.options.encodings (is_built j.strategy j.schema ≡ false) now a c e → MayCome (source (now - j.options.next)) (sink (now - j.options.next)) e
     → Forced j must_source must_sink → PassedBefore j.options.next now must_source must_sink e
     → (is_built j.strategy j.schema ≡ false → is_unbuilt e ≡ true) → (is_built j.strategy j.schema ≡ false → c ≡ a) → (is_built j.strategy j.schema ≡ false → now ≡ j.options.next)
-    → ((s : Setting) (tracker : ℕ) → Writes j.options.encodings s → is_built j.strategy j.schema ≡ true → Valid s j.strategy j.schema false j.options.next tracker j.batches
-    → is_source_fault e ≡ false → is_sink_fault e ≡ false → e ≡ errors.OutOfMemory)
+    → (is_built j.strategy j.schema ≡ true → IsValid j → is_source_fault e ≡ false → is_sink_fault e ≡ false → e ≡ errors.OutOfMemory)
     → IsRefused j e stood
-refused_so j e {stood} {now} {a} {c} {old} {new} source sink must_source must_sink is none told memory of_source of_sink stands cause may forced before unbuilt unasked unsunk complete =
-    let h : Stands (λ taken. taken_plan (plain_setting j.options.encodings) j.strategy j.schema false taken false) j.options.next now a c old new = stands (plain_setting j.options.encodings) (writes_all j.options.encodings) in
+refused_so j e {stood} {now} {a} {c} {old} {new} source sink must_source must_sink is none told memory of_source of_sink h cause may forced before unbuilt unasked unsunk complete =
     let parts = told_parts h.taken a c j.batches h.came is in
     let stand : stood ≡ h.appended = told_all none told h.stands in
     let count : now ≡ j.options.next + length stood = h.numbers ∙ ap (λ (bs : List (List ℕ)). j.options.next + length bs) (sym stand) in
@@ -380,12 +311,7 @@ refused_so j e {stood} {now} {a} {c} {old} {new} source sink must_source must_si
       taken = h.taken;
       later = parts.0;
       parts = parts.1;
-      prefix = λ s writes.
-          let other = stands s writes in
-          let taken_is : other.taken ≡ h.taken = same_taken other.taken h.taken a c j.batches is other.came h.came in
-          let stand_is : other.appended ≡ stood = sym (told_all none told other.stands) in
-          begins s j h.taken stood other.more (λ f. no_items stood (none_stand f))
-          (ap (λ (ps : List ChunkData). segments (taken_plan s j.strategy j.schema false ps false)) (sym taken_is) ∙ (other.prefix ∙ ap (λ (bs : List (List ℕ)). bs ++ other.more) stand_is));
+      prefix = record { more = h.more; is = h.prefix ∙ ap (λ (bs : List (List ℕ)). bs ++ h.more) (sym stand) };
       cause = cause_for e j h.taken (length stood) now a c is h.came count memory
           (λ m. of_source (length stood) (subst source calls m)) (λ m. of_sink (length stood) (subst sink calls m))
           (λ f. (none_taken h.taken a c j.batches is h.came (unasked f), none_stand f)) cause may;
@@ -393,8 +319,8 @@ refused_so j e {stood} {now} {a} {c} {old} {new} source sink must_source must_si
           (none_fails j must_source must_sink (batches_given e (now - j.options.next)) (now - j.options.next) forced
           (given_passed e (now - j.options.next) must_source before.batches before.behind) before.appends);
       built = built_is (is_built j.strategy j.schema) (is_unbuilt e) unbuilt (unbuilt_cause e j.schema j.options.encodings now a c cause);
-      not_valid = λ s tracker writes form no_faults valid.
-          no_call (complete s tracker writes form (unmarked s j.strategy j.schema j.options.marked j.options.next tracker j.batches form valid)
+      not_valid = λ form no_faults valid.
+          no_call (complete form valid
           (no_source e (sink (now - j.options.next)) may (λ m. never_listed j.options.faults.source (now - j.options.next) (ap (λ (f : FailingCalls). f.source) no_faults) (of_source (now - j.options.next) m)))
           (no_sink e (source (now - j.options.next)) may (λ m. never_listed j.options.faults.sink (now - j.options.next) (ap (λ (f : FailingCalls). f.sink) no_faults) (of_sink (now - j.options.next) m))));
     }
@@ -408,27 +334,26 @@ pub record Failing (j : JobData) (e : WriteError) (source sink : ℕ → Type 0)
   pub source_count : Counts source_before source_now (is_source_fault e)
   pub sink_count : Counts sink_before sink_now (is_sink_fault e)
 
-pub write_halts : (j : JobData) (e : WriteError) {ids : List EncodingId} {t : Ty} {first now : ℕ} {a c : Option (List ChunkData)} {old new : Option (List (List ℕ))} {stood : List (List ℕ)}
+pub write_halts : (j : JobData) (e : WriteError) (s : Setting) (t : Ty) (m : Bool) {first now tracker : ℕ} {a c : Option (List ChunkData)} {old new : Option (List (List ℕ))} {stood : List (List ℕ)}
     (source sink must_source must_sink : ℕ → Type 0) {source_before source_now sink_before sink_now : ℕ}
-    → Start j ids t first a old → Failing j e source sink source_before source_now sink_before sink_now → new ≡ Some stood
-    → ((s : Setting) → Writes ids s → Stands (λ taken. taken_plan s j.strategy t false taken false) first now a c old new)
-    → HasCause t ids (is_built j.strategy t ≡ false) now a c e → MayCome (source (now - first)) (sink (now - first)) e
+    → Start j s t m first tracker a old → Failing j e source sink source_before source_now sink_before sink_now → new ≡ Some stood
+    → Stands (λ taken. taken_plan s j.strategy t m taken false) first now a c old new
+    → HasCause t s.encodings (is_built j.strategy t ≡ false) now a c e → MayCome (source (now - first)) (sink (now - first)) e
     → Forced j must_source must_sink → PassedBefore first now must_source must_sink e
     → (is_built j.strategy t ≡ false → is_unbuilt e ≡ true) → (is_built j.strategy t ≡ false → c ≡ a) → (is_built j.strategy t ≡ false → now ≡ first)
-    → ((s : Setting) (tracker : ℕ) (xs : List ChunkData) → Writes ids s → a ≡ Some xs → is_built j.strategy t ≡ true → Valid s j.strategy t false first tracker xs
+    → ((xs : List ChunkData) → a ≡ Some xs → is_built j.strategy t ≡ true → Valid s j.strategy t m first tracker xs
     → IsCalm source_before source_now → IsCalm sink_before sink_now → e ≡ errors.OutOfMemory)
     → now ≤ max first (2 ^ 32) → Halts j e stood
-write_halts j e {t = t} {first = first} {now = now} {a = a} {c = c} {old = old} {new = new} {stood = stood} source sink must_source must_sink start failing told stands cause may forced before unbuilt unasked unsunk complete last =
-    let h = stands (plain_setting j.options.encodings) (rw start.listed (writes_all j.options.encodings)) in
+write_halts j e s t m {first} {now} {tracker} {a} {c} {old} {new} {stood} source sink must_source must_sink start failing told stands cause may forced before unbuilt unasked unsunk complete last =
     let back : is_built j.strategy j.schema ≡ is_built j.strategy t = ap (is_built j.strategy) (sym start.schema) in
     record {
-      numbers = rw start.numbers at (fitting first now stood h.appended (told_all start.none told h.stands) h.numbers last);
+      numbers = rw start.numbers at (fitting first now stood stands.appended (told_all start.none told stands.stands) stands.numbers last);
       refused = λ memory. refused_so j e source sink must_source must_sink start.batches start.none told memory failing.of_source failing.of_sink
-          (λ s w. rw (start.schema, start.numbers) at (stands s (rw start.listed w)))
-          (rw (start.schema, start.listed) at cause) (rw start.numbers at may)
+          (rw (start.setting, start.schema, start.marked, start.numbers) at stands)
+          (rw (start.setting, start.schema) at cause) (rw start.numbers at may)
           forced (subst (λ (n : ℕ). PassedBefore n now must_source must_sink e) start.numbers before)
           (λ f. unbuilt (sym back ∙ f)) (λ f. unasked (sym back ∙ f)) (λ f. unsunk (sym back ∙ f) ∙ start.numbers)
-          (λ s tracker w form valid no_source no_sink. complete s tracker j.batches (rw start.listed w) start.batches (sym back ∙ form) (rw (start.schema, start.numbers) valid)
+          (λ form valid no_source no_sink. complete j.batches start.batches (sym back ∙ form) (rw (start.setting, start.schema, start.marked, start.numbers, start.counted) valid)
           (calm _ _ _ no_source failing.source_none failing.source_count) (calm _ _ _ no_sink failing.sink_none failing.sink_count));
     }
 

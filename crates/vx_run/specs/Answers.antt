@@ -14,7 +14,8 @@ use Rattle.vx_plan.specs.Number.{segments, numbered, segment_at}
 use Rattle.vx_plan.specs.InOrder.{batch_rows}
 use Rattle.vx_plan.specs.Valid.{Valid}
 use Rattle.vx_fault.specs.Fails.{fails_at}
-use Rattle.vx_write.specs.Stream.{Writes, is_built}
+use Rattle.vx_setting.specs.Setting.{real}
+use Rattle.vx_write.specs.Stream.{is_built}
 use Rattle.vx_write.specs.Causes.{is_unbuilt}
 use Rattle.vx_write.specs.InOrder.{AllWritten}
 use Rattle.vx_write.specs.declared.error.WriteError.{WriteError}
@@ -30,9 +31,13 @@ use Rattle.vx_run.specs.declared.status.Status.TheVariants.{Done, Usage, BadJob,
 
 -- ---- a job that is written
 
+-- what the job lists and allows; its compressor's image of a chunk is the chunk
+abbrev pub job_setting : JobData → Setting
+job_setting j = real j.options.encodings j.options.aggregates (λ which p. p)
+
 -- the plan of the job's batches
-abbrev pub job_plan : Setting → JobData → Plan
-job_plan s j = source_plan s j.strategy j.schema j.options.marked j.batches true
+abbrev pub job_plan : JobData → Plan
+job_plan j = source_plan (job_setting j) j.strategy j.schema j.options.marked j.batches true
 
 -- the rows of each zone table
 abbrev pub table_rows : (ℕ → Option (List ℕ)) → List ZoneTable → List (Option (List ValueData))
@@ -48,8 +53,8 @@ pub record NoneFails (j : JobData) (asked appended : ℕ) : Type 0 where
 -- the job's first number, and they give the batches' rows.
 pub record IsWritten (j : JobData) (l : LayoutData ℕ) (stored : List (List ℕ)) : Type 0 where
   pub form : is_built j.strategy j.schema ≡ true
-  pub laid : (s : Setting) → Writes j.options.encodings s → l ≡ numbered (job_plan s j) j.options.next
-  pub appended : (s : Setting) → Writes j.options.encodings s → stored ≡ segments (job_plan s j)
+  pub laid : l ≡ numbered (job_plan j) j.options.next
+  pub appended : stored ≡ segments (job_plan j)
   pub read : rows segment_codec (segment_at j.options.next stored) l ≡ Some (source_values j.batches)
   pub numbers : j.options.next + length stored ≤ max j.options.next (2 ^ 32)
   pub no_tables : zone_tables l ≡ []
@@ -58,17 +63,17 @@ pub record IsWritten (j : JobData) (l : LayoutData ℕ) (stored : List (List ℕ
 
 -- The report of the plan of the job's batches, numbered from the job's first number. The rows and the zone tables that
 -- it shows are those that the layout gives from the segments, and the rows are the batches' rows.
-pub record IsReport (s : Setting) (j : JobData) (text : List ℕ) : Type 0 where
-  pub read : rows segment_codec (segment_at j.options.next (segments (job_plan s j))) (numbered (job_plan s j) j.options.next) ≡ Some (source_values j.batches)
+pub record IsReport (j : JobData) (text : List ℕ) : Type 0 where
+  pub read : rows segment_codec (segment_at j.options.next (segments (job_plan j))) (numbered (job_plan j) j.options.next) ≡ Some (source_values j.batches)
   pub tables : List (List ValueData)
-  pub tables_read : all_there (table_rows (segment_at j.options.next (segments (job_plan s j))) (zone_tables (numbered (job_plan s j) j.options.next))) ≡ Some tables
-  pub shown : text ≡ report j.options.next (numbered (job_plan s j) j.options.next) (segments (job_plan s j)) tables (source_values j.batches)
+  pub tables_read : all_there (table_rows (segment_at j.options.next (segments (job_plan j))) (zone_tables (numbered (job_plan j) j.options.next))) ≡ Some tables
+  pub shown : text ≡ report j.options.next (numbered (job_plan j) j.options.next) (segments (job_plan j)) tables (source_values j.batches)
 
 -- The job is written and told: its form is built, and none of the calls for it fails.
 pub record IsDone (j : JobData) (text : List ℕ) : Type 0 where
   pub form : is_built j.strategy j.schema ≡ true
-  pub calls : (s : Setting) → Writes j.options.encodings s → NoneFails j (length j.batches + 1) (length (segments (job_plan s j)))
-  pub told : (s : Setting) → Writes j.options.encodings s → IsReport s j text
+  pub calls : NoneFails j (length j.batches + 1) (length (segments (job_plan j)))
+  pub told : IsReport j text
 
 -- ---- a job whose write is refused
 
@@ -150,6 +155,10 @@ batches_given (errors.TooLarge n) stand = stand + 1
 batches_given errors.SinkFault stand = stand + 1
 batches_given e stand = stand
 
+-- the job's batches are valid, where nothing is held back yet
+abbrev pub IsValid : JobData → Type 0
+IsValid j = Valid (job_setting j) j.strategy j.schema j.options.marked j.options.next 0 j.batches
+
 -- the job lets no call fail
 abbrev pub SetsNoFaults : JobData → Type 0
 SetsNoFaults j = j.options.faults ≡ failing [] [] []
@@ -165,14 +174,13 @@ pub record IsRefused (j : JobData) (error : WriteError) (stand : List (List ℕ)
   pub taken : List ChunkData
   pub later : List ChunkData
   pub parts : j.batches ≡ taken ++ later
-  pub prefix : (s : Setting) → Writes j.options.encodings s → Begins stand (segments (taken_plan s j.strategy j.schema j.options.marked taken false))
+  pub prefix : Begins stand (segments (taken_plan (job_setting j) j.strategy j.schema j.options.marked taken false))
   pub cause : RefusedFor j taken (length stand) error
   -- the calls before the refusal: those that gave a batch, and those that took a segment
   pub calls : NoneFails j (batches_given error (length stand)) (length stand)
   -- a form that isn't built is refused as that and as nothing else
   pub built : is_built j.strategy j.schema ≡ not (is_unbuilt error)
-  pub not_valid : (s : Setting) (tracker : ℕ) → Writes j.options.encodings s → is_built j.strategy j.schema ≡ true → SetsNoFaults j
-      → ¬ (Valid s j.strategy j.schema j.options.marked j.options.next tracker j.batches)
+  pub not_valid : is_built j.strategy j.schema ≡ true → SetsNoFaults j → ¬ (IsValid j)
 
 -- A write of the job's batches ended early, refused or out of memory; the numbers of the segments that stand fit.
 pub record Halts (j : JobData) (error : WriteError) (stand : List (List ℕ)) : Type 0 where
@@ -188,7 +196,7 @@ pub record IsRefusal (j : JobData) (text : List ℕ) : Type 0 where
 
 -- ---- what is printed
 
--- what is printed of a job, for each setting that writes its encodings
+-- what is printed of a job
 abbrev pub JobAnswer : JobData → Status → List ℕ → Type 0
 JobAnswer j Done text = IsDone j text
 JobAnswer j Refused text = IsRefusal j text

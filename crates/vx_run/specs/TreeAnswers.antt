@@ -1,6 +1,7 @@
 -- What the command `tree` prints, and its status.
 use Rattle.std.specs.Prelude.{ℕ, ◌++◌, true, List, [], ◌∷◌, codes, Result, Ok, Err}
 use Rattle.vx_session.specs.Encodings.{with_kinds}
+use Rattle.vx_session.specs.Ids.{aggregate_ids}
 use Rattle.vx_session.specs.Scope.{Scope}
 use Rattle.vx_session.specs.Made.{Made}
 use Rattle.vx_layout_tree.specs.ErrorNames as layout_errors
@@ -11,10 +12,6 @@ use Rattle.vx_job.specs.TreeText.{TreeData}
 use Rattle.vx_run.specs.declared.status.Status.{Status}
 use Rattle.vx_run.specs.declared.status.Status.TheVariants.{Done, BadJob, Refused}
 use Rattle.vx_run.specs.Answers.{IsText, bad_job}
-
--- the ids of all aggregates
-abbrev pub aggregate_ids : List (List ℕ)
-aggregate_ids = codes "vortex.max" ∷ codes "vortex.min" ∷ codes "vortex.bounded_max" ∷ codes "vortex.bounded_min" ∷ codes "vortex.null_count" ∷ codes "vortex.sum" ∷ codes "vortex.bloom_filter.sbbf" ∷ []
 
 -- what the bytes are built in: the job's ids, kinds and encodings, and all aggregates
 abbrev pub tree_scope : TreeData → Scope

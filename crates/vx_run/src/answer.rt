@@ -8,7 +8,8 @@ ghost use Rattle.vx_layout_tree.specs.LayoutView.{layout_data};
 ghost use Rattle.vx_plan.specs.Number.{segment_at};
 ghost use Rattle.vx_segment_map.specs.SegmentView.{segment_in};
 ghost use Rattle.vx_job.specs.JobText.{job};
-ghost use Rattle.vx_job.specs.JobView.{job_view};
+ghost use Rattle.vx_job.specs.JobView.{ids_view, job_view};
+ghost use Rattle.vx_sink.specs.ContextView.{listed, allowed_in, is_marked, counted};
 ghost use Rattle.vx_report.specs.Report.{report, refused_report};
 ghost use Rattle.vx_report.specs.ZoneText.{zone_tables};
 ghost use Rattle.vx_run.specs.declared.status.Status.TheVariants as statuses;
@@ -18,7 +19,7 @@ use crate::status::Status;
 use std::alloc::{AllocError, Global};
 use vx_job::{Job, JobError, Key, read_job};
 use vx_layout_tree::Layout;
-use vx_model::{Blob, Value};
+use vx_model::{ArrayContext, Blob, Text, Value};
 use vx_read::{ReadError, SegmentMap, read_rows};
 use vx_report::{refused_report, report};
 use vx_sink::{LayoutWriterContext, ListSource, MemorySink, PlainCompressor};
@@ -72,7 +73,7 @@ fn write_batches(alloc: Global, job: Job) -> Result<(Layout, Vec<Blob>), (WriteE
     ensures err { IfErr result (λ r. Halts (job_view job) r.0 r.1.items) }
 {
     vx_plan::chunks_stand_in_order();
-    let mut ctx = LayoutWriterContext::new(job.encodings);
+    let mut ctx = context(job.encodings, job.aggregates, job.marked);
     let faults = job.faults;
     let mut source = ListSource::new(job.schema, job.batches, faults.source);
     let mut sink = MemorySink::new(job.next, faults.sink);
@@ -88,6 +89,29 @@ fn write_batches(alloc: Global, job: Job) -> Result<(Layout, Vec<Blob>), (WriteE
     ) {
         Ok(written) => Ok((written.layout, sink.into_segments())),
         Err(refused) => Err((refused.error, sink.into_segments())),
+    }
+}
+
+/// What a job's write may use.
+fn context(
+    encodings: ArrayContext,
+    aggregates: Option<Vec<Text>>,
+    marked: bool,
+) -> LayoutWriterContext
+    ensures listed { listed result ≡ encodings }
+    ensures allowed { allowed_in result ≡ ids_view aggregates }
+    ensures marked { is_marked result ≡ marked }
+    ensures counted { counted result ≡ 0 }
+{
+    let ctx = LayoutWriterContext::new(encodings);
+    let ctx = match aggregates {
+        Some(ids) => ctx.with_allowed_aggregates(ids),
+        None => ctx,
+    };
+    if marked {
+        ctx.with_nullable_ancestor()
+    } else {
+        ctx
     }
 }
 

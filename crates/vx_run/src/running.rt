@@ -2,17 +2,15 @@
 
 ghost use Rattle.std.specs.Prelude.{◌≡◌, ℕ, ◌+◌, ◌≤◌, ◌<◌, ◌⊎◌, true, false, List, Some, None, Ok, map, length, is_some, string_bytes, IsTrue, IfOk, OnOk, OnErr};
 ghost use Rattle.std.specs.Io.KnownBytes.{Keeps, Appends, IsAtEnd};
-ghost use Rattle.vx_plan.specs.PlanData.{Setting};
-ghost use Rattle.vx_plan.specs.Valid.{Valid};
 ghost use Rattle.vx_fault.specs.Counts.{Counts, IsCalm};
-ghost use Rattle.vx_write.specs.Stream.{Writes, is_built};
+ghost use Rattle.vx_write.specs.Stream.{is_built};
 ghost use Rattle.vx_job.specs.JobText.{JobData, job, limit};
 ghost use Rattle.vx_job.specs.TreeText.{tree_job};
 ghost use Rattle.vx_run.specs.declared.status.Status.{Status};
 ghost use Rattle.vx_run.specs.declared.status.Status.TheVariants as statuses;
 ghost use Rattle.vx_run.specs.declared.command.Command.{Command};
 ghost use Rattle.vx_run.specs.declared.command.Command.TheVariants as commands;
-ghost use Rattle.vx_run.specs.Answers.{IsText, SetsNoFaults};
+ghost use Rattle.vx_run.specs.Answers.{IsText, SetsNoFaults, IsValid};
 ghost use Rattle.vx_run.specs.Commands.{command_of, Answers};
 ghost use Rattle.vx_run.specs.Failures.{input_failed, output_failed};
 ghost use Rattle.vx_run.specs.TreeAnswers.{tree_status};
@@ -52,10 +50,8 @@ pub fn run<I: Input, O: Output>(
     ensures unread { command_of (map string_bytes words.now) ≡ None → is_input_fault result ≡ false }
     ensures untaken { command_of (map string_bytes words.now) ≡ None → I.to_come input.new ≡ I.to_come input.old }
     ensures untouched { command_of (map string_bytes words.now) ≡ None → input.new ≡ input.old }
-    ensures complete { (bytes : List ℕ) (j : JobData) (s : Setting) (tracker : ℕ) → command_of (map string_bytes words.now) ≡ Some commands.Write
-        → I.to_come input.old ≡ Some bytes → job bytes ≡ Ok j
-        → Writes j.options.encodings s → is_built j.strategy j.schema ≡ true → SetsNoFaults j
-        → Valid s j.strategy j.schema j.options.marked j.options.next tracker j.batches
+    ensures complete { (bytes : List ℕ) (j : JobData) → command_of (map string_bytes words.now) ≡ Some commands.Write
+        → I.to_come input.old ≡ Some bytes → job bytes ≡ Ok j → is_built j.strategy j.schema ≡ true → SetsNoFaults j → IsValid j
         → IsCalm (I.faults input.old) (I.faults input.new) → IsCalm (O.faults output.old) (O.faults output.new)
         → (result ≡ statuses.Done) ⊎ (result ≡ statuses.OutOfMemory) }
     ensures told { (bytes : List ℕ) → command_of (map string_bytes words.now) ≡ Some commands.Tree → I.to_come input.old ≡ Some bytes

@@ -2,6 +2,7 @@
 
 ghost use Rattle.std.specs.Prelude.{◌≡◌, ◌≤◌, ◌++◌, true, [], map, codes, string_bytes, IfOk};
 ghost use Rattle.vx_session.specs.Encodings.{with_kinds};
+ghost use Rattle.vx_session.specs.Ids.{aggregate_ids};
 ghost use Rattle.vx_layout_tree.specs.declared.error.LayoutError.TheVariants as layout_errors;
 ghost use Rattle.vx_layout_tree.specs.ErrorNames.{error_name};
 ghost use Rattle.vx_layout_tree.specs.LayoutView.{layout_data};
@@ -11,10 +12,11 @@ ghost use Rattle.vx_job.specs.TreeText.{tree_job};
 ghost use Rattle.vx_job.specs.TreeView.{tree_view};
 ghost use Rattle.vx_run.specs.declared.status.Status.TheVariants as statuses;
 ghost use Rattle.vx_run.specs.Answers.{IsText};
-ghost use Rattle.vx_run.specs.TreeAnswers.{aggregate_ids, job_layout, refused_line, IsShown, IsTreeAnswer};
+ghost use Rattle.vx_run.specs.TreeAnswers.{job_layout, refused_line, IsShown, IsTreeAnswer};
 
 use crate::answer::{Answer, bad_job};
 use crate::status::Status;
+use bytes::Bytes;
 use std::alloc::{AllocError, Global};
 use vx_display::LayoutDisplay;
 use vx_job::{JobError, TreeJob, read_tree_job};
@@ -53,9 +55,10 @@ fn read_layout(alloc: Global, job: TreeJob) -> Result<Layout, LayoutError>
 {
     let options = job.options;
     let session = session(alloc, options.registered, options.allow_unknown)?;
+    let flatbuffer = Bytes::from_vec(job.bytes)?;
     layout_from_flatbuffer_with_options(
         alloc,
-        &job.bytes,
+        flatbuffer,
         &job.dtype,
         &job.layouts,
         &options.encodings,

@@ -1,5 +1,6 @@
 -- Lists of ids: a context of layouts, and the aggregates that a session knows.
 use Rattle.std.specs.Prelude.{ℕ, zero, suc, ◌&&◌, ◌||◌, ◌^◌, not, nat_lt, bytes_eq, Bool, true, false, if◌then◌else◌, List, [], ◌∷◌, length, Option, Some, None}
+use Rattle.vx_aggregate_spec.specs.Aggregate.{maximum, minimum, bounded_maximum, bounded_minimum, null_count, sum, bloom, aggregate_id}
 
 abbrev pub is_listed : List ℕ → List (List ℕ) → Bool
 is_listed id [] = false
@@ -28,3 +29,7 @@ further (Some n) = Some (suc n)
 abbrev pub place_of : List ℕ → List (List ℕ) → Option ℕ
 place_of id [] = None
 place_of id (other ∷ ids) = if bytes_eq other id then Some 0 else further (place_of id ids)
+
+-- the ids of all aggregates
+abbrev pub aggregate_ids : List (List ℕ)
+aggregate_ids = aggregate_id maximum ∷ aggregate_id minimum ∷ aggregate_id (bounded_maximum 1) ∷ aggregate_id (bounded_minimum 1) ∷ aggregate_id null_count ∷ aggregate_id sum ∷ aggregate_id (bloom 1) ∷ []

@@ -85,7 +85,7 @@ fn zone_length(rows: u64) -> Option<NonZeroU32>
 #[tactic(auto, using(crate::proofs::Admits::aggregate_rules))]
 fn are_few(aggregates: &Option<Vec<AggregateFn>>) -> bool
     ensures few { result ≡ are_few (asked aggregates.now) }
-    ensures admitted { IsTrue (are_admitted_aggregates (asked aggregates.now)) }
+    ensures admitted { result ≡ are_admitted_aggregates (asked aggregates.now) }
 {
     match aggregates {
         None => true,

@@ -8,7 +8,7 @@ use Rattle.serde_json.specs.Data.{Data, null, boolean, number, string, array, ob
 use Rattle.serde_json.specs.Find.{get, get_member, as_array}
 use Rattle.serde_json.specs.View.{view, items_view}
 use Rattle.serde_json.specs.declared.value.Value.{Value}
-use Rattle.vx_strategy_json.specs.Parts.{one_member, only_member, two_items, two}
+use Rattle.vx_json.specs.Values.{one_member, only_member, two_items, two}
 
 chosen : (o : Ordering) (rest : Option Data) (d e : Data) → match_ordering o rest (Some d) rest ≡ Some e → (d ≡ e) ⊎ (rest ≡ Some e)
 chosen Less rest d e is = inr is

@@ -3,7 +3,9 @@ use Rattle.std.proofs.Common.{◌≡◌, ℕ, zero, suc, ◌<◌, ◌≤◌, Lis
 use Rattle.std.specs.Prelude.{option_map, option_and_then, codes}
 use Rattle.serde_json.specs.Data.{Data, null, boolean, number, string, array, object, Items, no_items, item, depth, items_depth}
 use Rattle.serde_json.specs.Find.{get, as_str}
-use Rattle.vx_strategy_json.specs.Parts.{given, each, all, at, both_at, or_null, two, both, both_of, pair, only_member}
+use Rattle.vx_json.specs.Steps.{given}
+use Rattle.vx_json.specs.Lists.{each}
+use Rattle.vx_json.specs.Values.{all, at, both_at, or_null, two, both, both_of, pair, only_member}
 use Rattle.vx_strategy_json.specs.Forms.{Reads, form, kind_of, repartition_of, buffered_of, compress_of, zoned_of, dict_form, list_of, struct_of, table_of, zoned_around, kind_of_wrap, wrap_of}
 use Rattle.vx_strategy_json.specs.StrategyText.{strategy_in, strategy_of}
 use Rattle.vx_strategy_json.proofs.Depths.{get_depth, only_depth, two_depth}

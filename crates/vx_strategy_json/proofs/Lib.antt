@@ -1,5 +1,3 @@
-pub mod PartSteps
-pub mod ListSteps
 pub mod Depths
 pub mod Fixed
 pub mod Refused

@@ -12,7 +12,7 @@ use Rattle.vx_strategy.specs.declared.wrapper.ListWrapper.{ListWrapper}
 use Rattle.vx_strategy.specs.declared.wrapper.ListWrapper.TheVariants as asked
 use Rattle.vx_strategy.specs.declared.error.BuildError.{BuildError}
 use Rattle.vx_strategy.specs.declared.error.BuildError.TheVariants as causes
-use Rattle.vx_strategy_json.specs.Parts.{when}
+use Rattle.vx_json.specs.Steps.{when}
 use Rattle.vx_strategy_json.specs.Options.{are_zones}
 use Rattle.vx_strategy_json.specs.Forms.{can_wrap, all_can_wrap, wraps_of}
 use Rattle.vx_strategy_json.specs.Refusals.{refusal}

@@ -9,7 +9,8 @@ use Rattle.vx_strategy_spec.specs.Admitted.{are_apart, is_admitted_grouping}
 use Rattle.vx_strategy.specs.OptionViews.{default_flat}
 use Rattle.vx_strategy.specs.Overridden.{PathWay}
 use Rattle.vx_strategy.specs.PairWays.{NamedWay, with_writers}
-use Rattle.vx_strategy_json.specs.Parts.{given, when, all, at, both_at, whole, whole_below, or_null, pair, has_members, only_member}
+use Rattle.vx_json.specs.Steps.{given, when}
+use Rattle.vx_json.specs.Values.{all, at, both_at, whole, whole_below, or_null, pair, has_members, only_member}
 use Rattle.vx_strategy_json.specs.Options.{flat_of, blocks_of, zones_of, dict_of, are_zones}
 
 abbrev pub Reads : Type 0

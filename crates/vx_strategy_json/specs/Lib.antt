@@ -1,4 +1,3 @@
-pub mod Parts
 pub mod Options
 pub mod Forms
 pub mod StrategyText

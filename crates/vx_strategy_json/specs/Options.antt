@@ -6,7 +6,8 @@ use Rattle.vx_aggregate_spec.specs.Aggregate.{Aggregate, maximum, minimum, bound
 use Rattle.vx_rules.specs.Blocks.{BlockOptions}
 use Rattle.vx_rules.specs.Runs.{DictOptions}
 use Rattle.vx_strategy_spec.specs.StrategyData.{FlatOptions, ZonedOptions}
-use Rattle.vx_strategy_json.specs.Parts.{given, when, all, at, whole, whole_below, or_null, pair, has_members}
+use Rattle.vx_json.specs.Steps.{given, when}
+use Rattle.vx_json.specs.Values.{all, at, whole, whole_below, or_null, pair, has_members}
 
 -- ---- aggregates
 

@@ -1,5 +1,6 @@
 use std::alloc::{AllocError, AllocFailed};
 use thiserror::Error;
+use vx_json::JsonError;
 use vx_strategy::BuildError;
 
 /// Why a JSON value gave no strategy.
@@ -31,6 +32,35 @@ impl<T: Drop> From<AllocFailed<T>> for StrategyError {
 
     fn from(_error: AllocFailed<T>) -> StrategyError {
         StrategyError::OutOfMemory
+    }
+}
+
+impl From<JsonError> for StrategyError {
+    ghost use Rattle.std.specs.Prelude.{◌≡◌};
+    ghost use Rattle.vx_strategy_json.specs.Refusals.{part_refusal};
+
+    ghost from_gives = { λ cause e. e ≡ part_refusal cause };
+
+    fn from(error: JsonError) -> StrategyError {
+        match error {
+            JsonError::Wrong => StrategyError::Wrong,
+            JsonError::OutOfMemory => StrategyError::OutOfMemory,
+        }
+    }
+}
+
+/// For those who read a strategy as a part of a value.
+impl From<StrategyError> for JsonError {
+    ghost use Rattle.std.specs.Prelude.{◌≡◌};
+    ghost use Rattle.vx_strategy_json.specs.Refusals.{as_part};
+
+    ghost from_gives = { λ cause e. e ≡ as_part cause };
+
+    fn from(error: StrategyError) -> JsonError {
+        match error {
+            StrategyError::Wrong => JsonError::Wrong,
+            StrategyError::OutOfMemory => JsonError::OutOfMemory,
+        }
     }
 }
 

@@ -4,7 +4,6 @@
 mod error;
 mod made;
 mod options;
-mod parts;
 mod strategy;
 
 pub use error::StrategyError;

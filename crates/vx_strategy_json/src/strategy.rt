@@ -5,7 +5,7 @@ ghost use Rattle.serde_json.specs.Find.{as_str};
 ghost use Rattle.serde_json.specs.View.{view};
 ghost use Rattle.vx_strategy.specs.PairWays.{named_way, path_way};
 ghost use Rattle.vx_strategy.specs.StrategyView.{strategy_data};
-ghost use Rattle.vx_strategy_json.specs.Parts.{all, at as at_key, both_at as both_in, or_null, pair};
+ghost use Rattle.vx_json.specs.Values.{all, at, both_at as both_in, or_null, pair};
 ghost use Rattle.vx_strategy_json.specs.Forms.{form, kind_of, repartition_of, buffered_of, compress_of, zoned_of, dict_form, list_of, struct_of, table_of, kind_of_wrap, zoned_around, wrap_of as wrap_form};
 ghost use Rattle.vx_strategy_json.specs.StrategyText.{strategy_of, wrap_of};
 ghost use Rattle.vx_strategy_json.specs.Views.{Gives, wrap, list_wraps};
@@ -15,12 +15,13 @@ use crate::made::{in_blocks, in_images, in_zones, listed, with_fields, with_over
 use crate::options::{
     read_blocks, read_buffered_around, read_dict, read_flat, read_grouped_around, read_zones,
 };
-use crate::parts::{
-    at, has_members, only_member, read_items, read_name, read_path, two, u32_at, u64_at,
-};
 use serde_json::Value;
 use std::alloc::Global;
 use vx_field_path::FieldPath;
+use vx_json::{
+    has_members, only_member, read_items, read_pair, read_text, read_texts, u32_at, u64_at,
+    value_at,
+};
 use vx_model::Text;
 use vx_strategy::{
     BufferedStrategy, ChunkedLayoutStrategy, CollectStrategy, DictLayoutOptions, DictStrategy,
@@ -83,15 +84,15 @@ fn read_kind(alloc: Global, kind: &str, value: &Value) -> Result<Strategy, Strat
 }
 
 #[cycle(strategy)]
-#[tactic(auto, using(crate::proofs::Steps::form_rules), unfolding(crate::specs::Parts::at))]
+#[tactic(auto, using(crate::proofs::Steps::form_rules), unfolding(vx_json::specs::Values::at))]
 fn strategy_at(alloc: Global, value: &Value, key: &str) -> Result<Strategy, StrategyError>
-    ensures { Gives strategy_data result (at_key strategy_of key.now (view value.now)) }
+    ensures { Gives strategy_data result (at strategy_of key.now (view value.now)) }
 {
-    read_strategy(alloc, at(value, key)?)
+    read_strategy(alloc, value_at(value, key)?)
 }
 
 #[cycle(strategy)]
-#[tactic(auto, using(crate::proofs::Steps::form_rules), unfolding(crate::specs::Parts::both_at))]
+#[tactic(auto, using(crate::proofs::Steps::form_rules), unfolding(vx_json::specs::Values::both_at))]
 fn both_at(
     alloc: Global,
     value: &Value,
@@ -201,31 +202,31 @@ fn read_struct(alloc: Global, value: &Value) -> Result<Strategy, StrategyError>
 }
 
 #[cycle(strategy)]
-#[tactic(auto, using(crate::proofs::Steps::form_rules), unfolding(crate::specs::Parts::at))]
+#[tactic(auto, using(crate::proofs::Steps::form_rules), unfolding(vx_json::specs::Values::at))]
 fn fields_at(alloc: Global, value: &Value) -> Result<Vec<(Text, Strategy)>, StrategyError>
-    ensures { Gives (λ v. map named_way v.items) result (at_key (all (pair as_str strategy_of)) (codes "fields") (view value.now)) }
+    ensures { Gives (λ v. map named_way v.items) result (at (all (pair as_str strategy_of)) (codes "fields") (view value.now)) }
 {
-    read_fields(alloc, at(value, "fields")?)
+    read_fields(alloc, value_at(value, "fields")?)
 }
 
 #[cycle(strategy)]
-#[tactic(auto, using(crate::proofs::Steps::form_rules), unfolding(crate::specs::Parts::at))]
+#[tactic(auto, using(crate::proofs::Steps::form_rules), unfolding(vx_json::specs::Values::at))]
 fn overrides_at(alloc: Global, value: &Value) -> Result<Vec<(FieldPath, Strategy)>, StrategyError>
-    ensures { Gives (λ v. map path_way v.items) result (at_key (all (pair (all as_str) strategy_of)) (codes "overrides") (view value.now)) }
+    ensures { Gives (λ v. map path_way v.items) result (at (all (pair (all as_str) strategy_of)) (codes "overrides") (view value.now)) }
 {
-    read_overrides(alloc, at(value, "overrides")?)
+    read_overrides(alloc, value_at(value, "overrides")?)
 }
 
 #[cycle(strategy)]
-#[tactic(auto, using(crate::proofs::Steps::form_rules), unfolding(crate::specs::Parts::at))]
+#[tactic(auto, using(crate::proofs::Steps::form_rules), unfolding(vx_json::specs::Values::at))]
 fn lists_at(alloc: Global, value: &Value) -> Result<Option<Vec<ListWrapper>>, StrategyError>
-    ensures { Gives list_wraps result (at_key (or_null (all (wrap_form strategy_of))) (codes "lists") (view value.now)) }
+    ensures { Gives list_wraps result (at (or_null (all (wrap_form strategy_of))) (codes "lists") (view value.now)) }
 {
-    read_lists(alloc, at(value, "lists")?)
+    read_lists(alloc, value_at(value, "lists")?)
 }
 
 #[cycle(strategy)]
-#[tactic(auto, using(crate::proofs::Steps::list_rules), unfolding(crate::specs::Parts::all))]
+#[tactic(auto, using(crate::proofs::Steps::list_rules), unfolding(vx_json::specs::Values::all))]
 fn read_fields(alloc: Global, value: &Value) -> Result<Vec<(Text, Strategy)>, StrategyError>
     ensures { Gives (λ v. map named_way v.items) result (all (pair as_str strategy_of) (view value.now)) }
 {
@@ -238,12 +239,12 @@ fn read_fields(alloc: Global, value: &Value) -> Result<Vec<(Text, Strategy)>, St
 }
 
 #[cycle(strategy)]
-#[tactic(auto, using(crate::proofs::Steps::form_rules), unfolding(crate::specs::Parts::pair))]
+#[tactic(auto, using(crate::proofs::Steps::form_rules), unfolding(vx_json::specs::Values::pair))]
 fn read_field(alloc: Global, value: &Value) -> Result<(Text, Strategy), StrategyError>
     ensures { Gives named_way result (pair as_str strategy_of (view value.now)) }
 {
-    let (name, writer) = two(value)?;
-    let name = read_name(alloc, name)?;
+    let (name, writer) = read_pair(value)?;
+    let name = read_text(alloc, name)?;
     Ok((name, read_strategy(alloc, writer)?))
 }
 
@@ -262,7 +263,7 @@ fn read_table(alloc: Global, value: &Value) -> Result<Strategy, StrategyError>
 }
 
 #[cycle(strategy)]
-#[tactic(auto, using(crate::proofs::Steps::list_rules), unfolding(crate::specs::Parts::all))]
+#[tactic(auto, using(crate::proofs::Steps::list_rules), unfolding(vx_json::specs::Values::all))]
 fn read_overrides(alloc: Global, value: &Value) -> Result<Vec<(FieldPath, Strategy)>, StrategyError>
     ensures { Gives (λ v. map path_way v.items) result (all (pair (all as_str) strategy_of) (view value.now)) }
 {
@@ -275,18 +276,18 @@ fn read_overrides(alloc: Global, value: &Value) -> Result<Vec<(FieldPath, Strate
 }
 
 #[cycle(strategy)]
-#[tactic(auto, using(crate::proofs::Steps::form_rules), unfolding(crate::specs::Parts::pair))]
+#[tactic(auto, using(crate::proofs::Steps::form_rules), unfolding(vx_json::specs::Values::pair))]
 fn read_override(alloc: Global, value: &Value) -> Result<(FieldPath, Strategy), StrategyError>
     ensures { Gives path_way result (pair (all as_str) strategy_of (view value.now)) }
 {
-    let (path, writer) = two(value)?;
-    let path = read_path(alloc, path)?;
+    let (path, writer) = read_pair(value)?;
+    let path = FieldPath::from(read_texts(alloc, path)?);
     Ok((path, read_strategy(alloc, writer)?))
 }
 
 /// Wrappers, or null.
 #[cycle(strategy)]
-#[tactic(auto, using(crate::proofs::Steps::form_rules), unfolding(crate::specs::Parts::or_null))]
+#[tactic(auto, using(crate::proofs::Steps::form_rules), unfolding(vx_json::specs::Values::or_null))]
 fn read_lists(alloc: Global, value: &Value) -> Result<Option<Vec<ListWrapper>>, StrategyError>
     ensures { Gives list_wraps result (or_null (all (wrap_form strategy_of)) (view value.now)) }
 {
@@ -298,7 +299,7 @@ fn read_lists(alloc: Global, value: &Value) -> Result<Option<Vec<ListWrapper>>, 
 }
 
 #[cycle(strategy)]
-#[tactic(auto, using(crate::proofs::Steps::list_rules), unfolding(crate::specs::Parts::all))]
+#[tactic(auto, using(crate::proofs::Steps::list_rules), unfolding(vx_json::specs::Values::all))]
 fn read_wraps(alloc: Global, value: &Value) -> Result<Vec<ListWrapper>, StrategyError>
     ensures { Gives (λ v. map wrap v.items) result (all (wrap_form strategy_of) (view value.now)) }
 {
@@ -329,8 +330,8 @@ fn read_wrap_kind(alloc: Global, kind: &str, value: &Value) -> Result<ListWrappe
     ensures { Gives wrap result (kind_of_wrap strategy_of (kind.now, view value.now)) }
 {
     match kind {
-        "repartition" => read_grouped_around(value),
-        "buffered" => read_buffered_around(value),
+        "repartition" => Ok(read_grouped_around(value)?),
+        "buffered" => Ok(read_buffered_around(value)?),
         "zoned" => read_zoned_around(alloc, value),
         _ => Err(StrategyError::Wrong),
     }

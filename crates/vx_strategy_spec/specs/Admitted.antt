@@ -1,5 +1,5 @@
 -- The strategies that constructors make.
-use Rattle.std.specs.Prelude.{ℕ, ◌^◌, ◌&&◌, nat_lt, not, Bool, true, List, Option, Some, None}
+use Rattle.std.specs.Prelude.{ℕ, ◌^◌, ◌&&◌, nat_lt, not, Bool, true, List, length, Option, Some, None}
 use Rattle.vx_model.specs.Words.{all_by}
 pub use Rattle.vx_field_path.specs.Paths.{is_root, overlaps}
 use Rattle.vx_aggregate_spec.specs.Aggregate.{Aggregate, has_options}
@@ -20,10 +20,10 @@ is_admitted_grouping (by_blocks o) = nat_lt 0 o.multiple
 is_admitted_grouping (by_bytes size) = true
 is_admitted_grouping into_one = true
 
--- bounds and numbers of blocks from 1 to 2^32 - 1
+-- fewer than 2^32, with bounds and numbers of blocks from 1 to 2^32 - 1
 abbrev pub are_admitted_aggregates : Option (List Aggregate) → Bool
 are_admitted_aggregates None = true
-are_admitted_aggregates (Some aggregates) = all_by has_options aggregates
+are_admitted_aggregates (Some aggregates) = all_by has_options aggregates && nat_lt (length aggregates) (2 ^ 32)
 
 -- zones of 1 to 2^32 - 1 rows, and a concurrency of at least 1
 abbrev pub is_admitted_zoned : ZonedOptions → Bool

@@ -2,11 +2,10 @@
 use Rattle.std.proofs.Common.{◌≡◌, ℕ, suc, ◌+◌, ◌≤◌, ◌<◌, ◌^◌, max, ◌&&◌, Bool, true, false, not, List, [], ◌∷◌, ◌++◌, length, Option, Some, None, refl, sym, ap, subst, ◌∙◌, arith}
 use Rattle.std.proofs.lemmas.List.{append-nil}
 use Rattle.vx_model.specs.declared.encoding.EncodingId.{EncodingId}
-use Rattle.vx_model.specs.declared.ptype.PType.TheVariants.{U8, U16, U32, U64, I8, I16, I32, I64}
-use Rattle.vx_model.specs.Ty.{Ty, boolean, primitive, utf8, binary, list, struct, extension}
+use Rattle.vx_model.specs.Ty.{Ty}
 use Rattle.vx_model.specs.TyLaws.{ty_eq_decides}
 use Rattle.vx_model.specs.ChunkData.{ChunkData, piece_type}
-use Rattle.vx_segment_writer.specs.Segment.{encode, refused, bytes_unless, segment_bytes}
+use Rattle.vx_segment_writer.specs.Segment.{encode, bytes_unless, segment_bytes}
 use Rattle.vx_layout_spec.specs.LayoutTree.{LayoutData, gathered}
 use Rattle.vx_plan.specs.PlanData.{Setting, Fault}
 use Rattle.vx_strategy_spec.specs.StrategyData.{StrategyData, FlatOptions, flat, chunked}
@@ -21,9 +20,10 @@ use Rattle.vx_fault.specs.Told.{before_told, then_told, NoneTold}
 use Rattle.vx_write.proofs.Steps.{stored-append, told_same, then_same}
 use Rattle.vx_write.specs.InOrder.{stored_of, flats_of, AllWritten, ReadsBack, AllShort, Finished, Halted}
 use Rattle.vx_segment_reader.specs.Codec.{segment_codec}
+use Rattle.vx_setting.specs.Setting.{real}
 use Rattle.vx_write.proofs.Back.{rows_back}
 use Rattle.vx_write.proofs.Numbers.{Short, numbers_fit, nothing_held}
-use Rattle.vx_write.specs.Stream.{Writes, WasValid, Stands, is_built, is_built_way, is_built_type}
+use Rattle.vx_write.specs.Stream.{Wrote, WasValid, Stands, is_built, is_built_way, is_built_type}
 
 -- ---- which strategies are built
 
@@ -49,27 +49,7 @@ built_way w e = absurd (let f : false ≡ true = e in cc)
 pub built : (w : StrategyData) (t : Ty) → is_built w t ≡ true → IsBuilt w
 built w t e = built_way w (both (is_built_way w) (is_built_type t) e).0
 
-pub built_type : (t : Ty) → is_built_type t ≡ true → t ≡ primitive I64 false
-built_type (primitive I64 false) e = refl
-built_type (primitive U8 false) e = absurd (let f : false ≡ true = e in cc)
-built_type (primitive U16 false) e = absurd (let f : false ≡ true = e in cc)
-built_type (primitive U32 false) e = absurd (let f : false ≡ true = e in cc)
-built_type (primitive U64 false) e = absurd (let f : false ≡ true = e in cc)
-built_type (primitive I8 false) e = absurd (let f : false ≡ true = e in cc)
-built_type (primitive I16 false) e = absurd (let f : false ≡ true = e in cc)
-built_type (primitive I32 false) e = absurd (let f : false ≡ true = e in cc)
-built_type (primitive p true) e = absurd (let f : false ≡ true = e in cc)
-built_type (boolean n) e = absurd (let f : false ≡ true = e in cc)
-built_type (utf8 n) e = absurd (let f : false ≡ true = e in cc)
-built_type (binary n) e = absurd (let f : false ≡ true = e in cc)
-built_type (list t n) e = absurd (let f : false ≡ true = e in cc)
-built_type (struct fs n) e = absurd (let f : false ≡ true = e in cc)
-built_type (extension tag t) e = absurd (let f : false ≡ true = e in cc)
-
-pub requires_type : (w : StrategyData) (t : Ty) → is_built w t ≡ true → t ≡ primitive I64 false
-requires_type w t e = built_type t (both (is_built_way w) (is_built_type t) e).1
-
--- ---- the same words at a setting that writes these encodings
+-- ---- the same words at the setting of writes
 
 none_at : (path : List ℕ) (r : Option EncodingId) (rest : List Fault) → refused_at path r ++ rest ≡ [] → (r ≡ None) × (rest ≡ [])
 none_at path None rest e = (refl, e)
@@ -86,39 +66,36 @@ schema_written : (ids : List EncodingId) (t : Ty) (taken last : List ChunkData) 
 schema_written ids t [] last all = refl
 schema_written ids t (b ∷ bs) last all = rw ((ty_eq_decides (piece_type b) t).1 all.0, schema_written ids t bs last all.2) refl
 
-module _ (ids : List EncodingId) (s : Setting) (writes : Writes ids s) (w : StrategyData) (b : IsBuilt w) (law : ChunksInOrder) where
-  in_order : (t : Ty) (xs : List ChunkData) (ended : Bool) → InOrder s b.options w t false xs ended
-  in_order t xs ended = subst (λ (v : StrategyData). InOrder s b.options v t false xs ended) (sym b.chunks) (law s b.options (flat b.options) t false xs ended refl)
+module _ (ids : List EncodingId) (allowed : Option (List (List ℕ))) (image : ℕ → ChunkData → ChunkData) (w : StrategyData) (b : IsBuilt w) (law : ChunksInOrder) (m : Bool) where
+  abbrev s : Setting
+  s = real ids allowed image
 
-  refused_is : (p : ChunkData) → s.codec.refused s.encodings p ≡ refused ids p
-  refused_is p = rw (writes.refuses, writes.listed) refl
-
-  encode_is : (padding : Bool) (p : ChunkData) → s.codec.encode s.encodings padding p ≡ encode ids padding p
-  encode_is padding p = rw (writes.encodes, writes.listed) refl
+  in_order : (t : Ty) (xs : List ChunkData) (ended : Bool) → InOrder s b.options w t m xs ended
+  in_order t xs ended = subst (λ (v : StrategyData). InOrder s b.options v t m xs ended) (sym b.chunks) (law s b.options (flat b.options) t m xs ended refl)
 
   stored_is : (bs : List ChunkData) → batch_segments s b.options bs ≡ stored_of ids bs
   stored_is [] = refl
-  stored_is (p ∷ bs) = rw (encode_is b.options.padding p, b.padded, stored_is bs) refl
+  stored_is (p ∷ bs) = rw (b.padded, stored_is bs) refl
 
   inlined_is : (p : ChunkData) → inlined s b.options ([], p) ≡ None
   inlined_is p = rw b.apart refl
 
   flats_is : (t : Ty) (first : ℕ) (bs : List ChunkData) → batch_flats s b.options t first bs ≡ flats_of ids t first bs
   flats_is t first [] = refl
-  flats_is t first (p ∷ bs) = rw (inlined_is p, writes.listed, flats_is t (suc first) bs) refl
+  flats_is t first (p ∷ bs) = rw (inlined_is p, flats_is t (suc first) bs) refl
 
   refusals_none : (i : ℕ) (t : Ty) (bs : List ChunkData) → AllWritten ids t bs → batch_refusals s i bs ≡ []
   refusals_none i t [] all = refl
-  refusals_none i t (p ∷ bs) all = rw (refused_is p, all.1, refusals_none (suc i) t bs all.2) refl
+  refusals_none i t (p ∷ bs) all = rw (all.1, refusals_none (suc i) t bs all.2) refl
 
   encodes : (padding : Bool) (p : ChunkData) → s.codec.refused s.encodings p ≡ None → (bytes : List ℕ) × (s.codec.encode s.encodings padding p ≡ Some bytes)
-  encodes padding p none = (segment_bytes ids padding p, encode_is padding p ∙ ap (λ (r : Option EncodingId). bytes_unless r (segment_bytes ids padding p)) (sym (refused_is p) ∙ none))
+  encodes padding p none = (segment_bytes ids padding p, ap (λ (r : Option EncodingId). bytes_unless r (segment_bytes ids padding p)) none)
 
   none_refused : (i : ℕ) (t : Ty) (bs : List ChunkData) → batch_refusals s i bs ≡ [] → OfSchema t bs → AllWritten ids t bs
   none_refused i t [] none typed = tt
   none_refused i t (p ∷ bs) none typed =
       let split = none_at (0 ∷ i ∷ []) (s.codec.refused s.encodings p) (batch_refusals s (suc i) bs) none in
-      (typed.0, sym (refused_is p) ∙ split.0, none_refused (suc i) t bs split.1 typed.1)
+      (typed.0, split.0, none_refused (suc i) t bs split.1 typed.1)
 
   stored_count : (t : Ty) (bs : List ChunkData) → AllWritten ids t bs → length (stored_of ids bs) ≡ length bs
   stored_count t [] all = refl
@@ -126,12 +103,12 @@ module _ (ids : List EncodingId) (s : Setting) (writes : Writes ids s) (w : Stra
 
   pairs_count : (i : ℕ) (t : Ty) (bs : List ChunkData) → AllWritten ids t bs → length (batch_pairs s b.options i bs) ≡ length bs
   pairs_count i t [] all = refl
-  pairs_count i t (p ∷ bs) all = rw (encode_is b.options.padding p, all.1, pairs_count (suc i) t bs all.2) refl
+  pairs_count i t (p ∷ bs) all = rw (all.1, pairs_count (suc i) t bs all.2) refl
 
-  shorts_are : (t : Ty) (bs : List ChunkData) → AllShort ids bs → Short s b.options t bs
+  shorts_are : (t : Ty) (bs : List ChunkData) → AllShort ids bs → Short s b.options t m bs
   shorts_are t [] all = tt
   shorts_are t (p ∷ bs) all = (
-    λ bytes is. all.0 bytes (sym (encode_is b.options.padding p ∙ ap (λ (padding : Bool). encode ids padding p) b.padded) ∙ is),
+    λ bytes is. all.0 bytes (sym (ap (λ (padding : Bool). encode ids padding p) b.padded) ∙ is),
     shorts_are t bs all.1,
   )
 
@@ -143,38 +120,41 @@ module _ (ids : List EncodingId) (s : Setting) (writes : Writes ids s) (w : Stra
     all_written : AllWritten ids t xs
     all_written = subst (AllWritten ids t) taken_all f.written
 
-    pub layout_is : l ≡ numbered (source_plan s w t false xs true) first
+    layout_is : l ≡ numbered (source_plan s w t m xs true) first
     layout_is = f.laid ∙ (rw taken_all (ap (gathered t (batch_rows xs)) (sym (flats_is t first xs))) ∙ sym ((in_order t xs true).layout (refusals_none 0 t xs all_written) encodes first))
 
     -- the rows of the layout are those of the batches
-    pub rows_are : rows segment_codec (segment_at first (segments (source_plan s w t false xs true))) l ≡ Some (source_values xs)
+    rows_are : rows segment_codec (segment_at first (segments (source_plan s w t m xs true))) l ≡ Some (source_values xs)
     rows_are = rw (f.laid, taken_all, (in_order t xs true).segments, stored_is xs) (rows_back segment_codec ids t first xs all_written (subst (ReadsBack segment_codec ids) taken_all f.back))
 
-    pub segments_are : now ≡ then_told before (segments (source_plan s w t false xs true))
+    segments_are : now ≡ then_told before (segments (source_plan s w t m xs true))
     segments_are = f.appended ∙ ap (then_told before) (ap (stored_of ids) taken_all ∙ (sym (stored_is xs) ∙ sym (in_order t xs true).segments))
 
-    pub numbers_are : next ≡ first + length (segments (source_plan s w t false xs true))
+    numbers_are : next ≡ first + length (segments (source_plan s w t m xs true))
     numbers_are = f.numbers ∙ ap (λ (n : ℕ). first + n) (ap length taken_all ∙ (sym (stored_count t xs all_written) ∙ ap length (sym (stored_is xs) ∙ sym (in_order t xs true).segments)))
 
     -- they were valid, since the next number passes 32 bits only where it did before
-    pub was_valid : next ≤ max first (2 ^ 32) → WasValid s w t first xs
+    was_valid : next ≤ max first (2 ^ 32) → WasValid t first xs (source_plan s w t m xs true)
     was_valid last =
         let io = in_order t xs true in
         let count : first + length xs ≤ max first (2 ^ 32) = rw (f.numbers, taken_all) at last in
-        let pairs : length (source_plan s w t false xs true).pairs ≡ length xs = ap length io.pairs ∙ pairs_count 0 t xs all_written in
-        let short : Short s b.options t xs = shorts_are t xs (subst (AllShort ids) taken_all f.short) in
-        let fit : Fit (source_plan s (chunked (flat b.options)) t false xs true).numbers = numbers_fit s b.options t xs short (subst (λ (bs : List ChunkData). batch_rows bs < 2 ^ 64) taken_all f.rows) (omega arith) in
+        let pairs : length (source_plan s w t m xs true).pairs ≡ length xs = ap length io.pairs ∙ pairs_count 0 t xs all_written in
+        let short : Short s b.options t m xs = shorts_are t xs (subst (AllShort ids) taken_all f.short) in
+        let fit : Fit (source_plan s (chunked (flat b.options)) t m xs true).numbers = numbers_fit s b.options t m xs short (subst (λ (bs : List ChunkData). batch_rows bs < 2 ^ 64) taken_all f.rows) (omega arith) in
         record {
           faultless = io.faults ∙ refusals_none 0 t xs all_written;
           whole = subst (AllOf t) taken_all f.whole;
           numbered = rw pairs count;
-          fit = subst (λ (v : StrategyData). Fit (source_plan s v t false xs true).numbers) (sym b.chunks) fit;
-          reserved = subst (λ (v : StrategyData). (source_plan s v t false xs true).reserved ≡ 0) (sym b.chunks) (nothing_held s b.options t xs);
+          fit = subst (λ (v : StrategyData). Fit (source_plan s v t m xs true).numbers) (sym b.chunks) fit;
+          reserved = subst (λ (v : StrategyData). (source_plan s v t m xs true).reserved ≡ 0) (sym b.chunks) (nothing_held s b.options t m xs);
         }
+
+    pub wrote : next ≤ max first (2 ^ 32) → Wrote t first next before now l xs (source_plan s w t m xs true)
+    wrote last = record { laid = layout_is; appended = segments_are; counted = numbers_are; read_back = rows_are; valid = was_valid last }
 
   -- what stands after a refusal
   pub stands : (t : Ty) (first next : ℕ) (a c : Option (List ChunkData)) (before now : Option (List (List ℕ))) → Halted ids t first next a c before now
-      → Stands (λ taken. taken_plan s w t false taken false) first next a c before now
+      → Stands (λ taken. taken_plan s w t m taken false) first next a c before now
   stands t first next a c before now h = record {
     taken = h.taken ++ h.last;
     came = h.came;
@@ -191,24 +171,22 @@ module _ (ids : List EncodingId) (s : Setting) (writes : Writes ids s) (w : Stra
     pub numbered : first + length xs ≤ 2 ^ 32
     pub rows : batch_rows xs < 2 ^ 64
 
-  pub can_write : (t : Ty) (first tracker : ℕ) (xs : List ChunkData) → Valid s w t false first tracker xs → CanWrite t first xs
+  pub can_write : (t : Ty) (first tracker : ℕ) (xs : List ChunkData) → Valid s w t m first tracker xs → CanWrite t first xs
   can_write t first tracker xs v =
       let io = in_order t xs true in
       let all : AllWritten ids t xs = none_refused 0 t xs (sym io.faults ∙ v.faultless) v.of_schema in
-      let count : length (source_plan s w t false xs true).pairs ≡ length xs = ap length io.pairs ∙ pairs_count 0 t xs all in
+      let count : length (source_plan s w t m xs true).pairs ≡ length xs = ap length io.pairs ∙ pairs_count 0 t xs all in
       record { written = all; numbered = rw (← count) v.numbered; rows = io.rows v.fit }
 
 -- a refusal before anything was done
-pub stands_still : (ids : List EncodingId) (s : Setting) (w : StrategyData) (t : Ty) (first : ℕ) (a : Option (List ChunkData)) (before : Option (List (List ℕ)))
-    → Stands (λ taken. taken_plan s w t false taken false) first first a a before before
-stands_still ids s w t first a before = record {
+pub stands_still : (s : Setting) (w : StrategyData) (t : Ty) (m : Bool) (first : ℕ) (a : Option (List ChunkData)) (before : Option (List (List ℕ)))
+    → Stands (λ taken. taken_plan s w t m taken false) first first a a before before
+stands_still s w t m first a before = record {
   taken = [];
   came = told_same a;
   appended = [];
-  more = segments (taken_plan s w t false [] false);
+  more = segments (taken_plan s w t m [] false);
   prefix = refl;
   stands = then_same before;
   numbers = omega arith;
 }
-
-pub ruleset bridge_rules = (requires_type, stands_still)

@@ -1,6 +1,6 @@
 -- What is told of faults, gathered from its parts.
-use Rattle.std.proofs.Common.{◌≡◌, ℕ, zero, suc, ◌+◌, ◌-◌, ◌<◌, Bool, true, false, refl, sym, subst, arith}
-use Rattle.std.specs.Prelude.{IsTrue, ◌⊎◌}
+use Rattle.std.proofs.Common.{◌≡◌, ℕ, zero, suc, ◌+◌, ◌-◌, ◌<◌, true, false, refl, arith}
+use Rattle.std.specs.Prelude.{IsTrue}
 use Rattle.vx_fault.specs.Counts.{Counts}
 use Rattle.vx_fault.specs.Faults.{FaultsTold}
 use Rattle.vx_write.specs.declared.error.WriteError.{WriteError}

@@ -1,4 +1,3 @@
-pub mod RealIntegers
 pub mod Ways
 pub mod Steps
 pub mod Back

@@ -1,19 +1,16 @@
 -- One more batch, and what stands at the end of a write.
 use Rattle.std.proofs.Common.{◌≡◌, ℕ, suc, ◌+◌, ◌≤◌, ◌<◌, ◌^◌, List, [], ◌∷◌, ◌++◌, length, Option, Some, None, refl, sym, subst, Bool, true, false, not, ◌∙◌, arith, add-zero, append_assoc, below_more, inl, inr}
-use Rattle.std.specs.Prelude.{IsTrue}
 use Rattle.std.proofs.lemmas.List.{append-nil, length-append}
 use Rattle.vx_model.specs.declared.encoding.EncodingId.{EncodingId}
-use Rattle.vx_model.specs.Ty.{Ty, primitive, ty_eq}
+use Rattle.vx_model.specs.Ty.{Ty, ty_eq}
 use Rattle.vx_model.specs.TyLaws.{ty_eq_decides}
-use Rattle.vx_model.specs.declared.ptype.PType.TheVariants.{I64}
 use Rattle.vx_model.specs.Distinct.{first_repeat}
 use Rattle.vx_model.specs.TyView.{ty}
 use Rattle.vx_model.specs.declared.dtype.DType.{DType}
 use Rattle.std.specs.Ordering.{on}
-use Rattle.vx_model.specs.ChunkData.{ChunkData, piece_type, cells, is_sound}
+use Rattle.vx_model.specs.ChunkData.{ChunkData, piece_type, cells}
 use Rattle.vx_segment_reader.specs.Codec.{segment_codec}
 use Rattle.vx_segment_reader.proofs.SegmentLaws.{is_lawful}
-use Rattle.vx_write.proofs.RealIntegers.{integers_whole}
 use Rattle.vx_layout_spec.specs.Codec.{Codec}
 use Rattle.vx_layout_spec.specs.Real.{Whole, Of}
 use Rattle.vx_segment_writer.specs.Segment.{encode, refused}
@@ -83,15 +80,11 @@ short-append ids [] b bytes all encoded short = (
 )
 short-append ids (x ∷ xs) b bytes all encoded short = (all.0, short-append ids xs b bytes all.1 encoded short)
 
--- a chunk of 64-bit integers in memory is a whole chunk
-pub chunk_whole : (p : ChunkData) → IsTrue (is_sound p) → piece_type p ≡ primitive I64 false → Whole p
-chunk_whole p sound typed = integers_whole p I64 false sound typed
-
--- a chunk of 64-bit integers is read back from its segment
-pub chunk_back : (ids : List EncodingId) (p : ChunkData) (bytes : List ℕ) → first_repeat ids ≡ None → IsTrue (is_sound p) → piece_type p ≡ primitive I64 false
+-- a whole chunk is read back from its segment
+pub chunk_back : (ids : List EncodingId) (p : ChunkData) (bytes : List ℕ) → first_repeat ids ≡ None → Whole p
     → encode ids true p ≡ Some bytes → length bytes < 2 ^ 64 → ReadsBack segment_codec ids (p ∷ [])
-chunk_back ids p bytes distinct sound typed encoded short =
-    (λ other is. (is_lawful ids distinct).again true p other (chunk_whole p sound typed) is (let same : bytes ≡ other = one_value (sym encoded ∙ is) in subst (λ (b : List ℕ). length b < 2 ^ 64) same short), tt)
+chunk_back ids p bytes distinct whole encoded short =
+    (λ other is. (is_lawful ids distinct).again true p other whole is (let same : bytes ≡ other = one_value (sym encoded ∙ is) in subst (λ (b : List ℕ). length b < 2 ^ 64) same short), tt)
 
 pub not_false : (b : Bool) → false ≡ not b → b ≡ true
 not_false true e = refl
@@ -273,4 +266,4 @@ never_admits total r errors.Unbuilt n is typed fits h = h
 
 pub ruleset step_rules = (begins, goes_on, rows_fit)
 
-pub ruleset batch_rules = (chunk_back, chunk_whole)
+pub ruleset batch_rules = (chunk_back)

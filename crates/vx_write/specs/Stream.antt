@@ -6,7 +6,7 @@ use Rattle.vx_model.specs.declared.ptype.PType.TheVariants.{I64}
 use Rattle.vx_model.specs.Ty.{Ty, primitive}
 use Rattle.vx_model.specs.ChunkData.{ChunkData, piece_type, cells}
 use Rattle.vx_chunk.specs.ChunkView.{piece}
-use Rattle.vx_segment_writer.specs.Segment.{encode, refused, tree_bytes}
+use Rattle.vx_segment_writer.specs.Segment.{refused}
 use Rattle.vx_plan.specs.PlanData.{Setting, Plan}
 use Rattle.vx_strategy_spec.specs.StrategyData.{StrategyData, FlatOptions, flat, chunked}
 use Rattle.vx_plan.specs.InOrder.{batch_rows}
@@ -15,19 +15,18 @@ use Rattle.vx_plan.specs.SourcePlan.{source_plan, source_values}
 use Rattle.vx_layout_spec.specs.LayoutTree.{LayoutData}
 use Rattle.vx_layout_spec.specs.Rows.{rows}
 use Rattle.vx_segment_reader.specs.Codec.{segment_codec}
+use Rattle.vx_setting.specs.Setting.{real}
 use Rattle.vx_plan.specs.Valid.{Fit, AllOf}
 use Rattle.vx_fault.specs.Told.{before_told, then_told}
+use Rattle.vx_sink.specs.declared.context.LayoutWriterContext.{LayoutWriterContext}
+use Rattle.vx_sink.specs.ContextView.{listed, allowed_in}
 use Rattle.vx_write.specs.InOrder.{AllWritten}
 use Rattle.vx_write.specs.declared.error.WriteError.{WriteError}
 use Rattle.vx_write.specs.declared.error.WriteError.TheVariants.{SourceFault, SinkFault, CompressFault, BatchType, NotStruct, DuplicateField, ManyChunks, EmptyList, ZoneCut, ForbiddenAggregate, ForbiddenEncoding, TooLarge, OutOfMemory, Unbuilt}
 
--- A setting that writes these encodings by the grammar of segments. What it reads, hashes and compresses is left
--- open, since nothing that is built asks for it.
-pub record Writes (ids : List EncodingId) (s : Setting) : Type 0 where
-  pub encodes : s.codec.encode ≡ encode
-  pub trees : s.codec.tree_part ≡ tree_bytes
-  pub refuses : s.codec.refused ≡ refused
-  pub listed : s.encodings ≡ ids
+-- the setting of a write: what its context lists and allows, and a compressor's images
+abbrev pub setting_of : LayoutWriterContext → (ℕ → ChunkData → ChunkData) → Setting
+setting_of ctx image = real (listed ctx) (allowed_in ctx) image
 
 -- ---- which forms are built: chunking over flat with its default options, and 64-bit integers without null
 
@@ -118,15 +117,15 @@ BehindBatch must_fail (TooLarge n) = ¬ must_fail
 BehindBatch must_fail SinkFault = ¬ must_fail
 BehindBatch must_fail e = Unit {0}
 
--- An input whose write came to its end was valid: the plan of all batches has no fault and stores so many segments, every
+-- An input whose write came to its end was valid: the plan p of all batches has no fault and stores so many segments, every
 -- batch is a whole chunk of the type, and all numbers fit. Nothing is held back. The next number itself may pass 32 bits
 -- where no segment needs it.
-pub record WasValid (s : Setting) (w : StrategyData) (t : Ty) (first : ℕ) (batches : List ChunkData) : Type 0 where
-  pub faultless : (source_plan s w t false batches true).faults ≡ []
+pub record WasValid (t : Ty) (first : ℕ) (batches : List ChunkData) (p : Plan) : Type 0 where
+  pub faultless : p.faults ≡ []
   pub whole : AllOf t batches
-  pub numbered : first + length (source_plan s w t false batches true).pairs ≤ max first (2 ^ 32)
-  pub fit : Fit (source_plan s w t false batches true).numbers
-  pub reserved : (source_plan s w t false batches true).reserved ≡ 0
+  pub numbered : first + length p.pairs ≤ max first (2 ^ 32)
+  pub fit : Fit p.numbers
+  pub reserved : p.reserved ≡ 0
 
 -- What stands after a refusal: the segments appended are the first of those that the batches taken give.
 pub record Stands (plan_of : List ChunkData → Plan) (first next : ℕ) (to_come_before to_come_now : Option (List ChunkData)) (before now : Option (List (List ℕ))) : Type 0 where
@@ -140,17 +139,17 @@ pub record Stands (plan_of : List ChunkData → Plan) (first next : ℕ) (to_com
 
 -- ---- what a write gives, in few words
 
--- Of each setting that writes these encodings, where the source tells its batches: this holds of the plan of them all.
-abbrev pub Planned : List EncodingId → StrategyData → Ty → Option (List ChunkData) → (Setting → List ChunkData → Plan → Type 0) → Type 0
-Planned ids w t told P = (s : Setting) (xs : List ChunkData) → Writes ids s → told ≡ Some xs → P s xs (source_plan s w t false xs true)
+-- Where the source tells its batches: this holds of them and of the plan of them all.
+abbrev pub Planned : Setting → StrategyData → Ty → Bool → Option (List ChunkData) → (List ChunkData → Plan → Type 0) → Type 0
+Planned s w t m told P = (xs : List ChunkData) → told ≡ Some xs → P xs (source_plan s w t m xs true)
 
 -- A write came to its end, by the plan p of all batches.
-pub record Wrote (w : StrategyData) (t : Ty) (first next : ℕ) (before now : Option (List (List ℕ))) (l : LayoutData ℕ) (s : Setting) (xs : List ChunkData) (p : Plan) : Type 0 where
+pub record Wrote (t : Ty) (first next : ℕ) (before now : Option (List (List ℕ))) (l : LayoutData ℕ) (xs : List ChunkData) (p : Plan) : Type 0 where
   pub laid : l ≡ numbered p first
   pub appended : now ≡ then_told before (segments p)
   pub counted : next ≡ first + length (segments p)
   pub read_back : rows segment_codec (segment_at first (segments p)) l ≡ Some (source_values xs)
-  pub valid : WasValid s w t first xs
+  pub valid : WasValid t first xs p
 
 -- how many calls of the source gave an answer before this error, where so many segments stand
 abbrev pub asked_before : WriteError → ℕ → ℕ

@@ -1,8 +1,6 @@
-//! One column of 64-bit integers, batch by batch.
+//! One column, batch by batch.
 
 ghost use Rattle.std.specs.Prelude.{◌≡◌, ℕ, ◌+◌, ◌-◌, ◌<◌, ◌≤◌, ◌^◌, ◌⊎◌, ◌↔◌, max, Some, None, true, false, List, map, length, is_ok, if◌then◌else◌, IsTrue, IfOk, IfErr, OnOk, OnErr};
-ghost use Rattle.vx_model.specs.declared.ptype.PType.TheVariants.{I64};
-ghost use Rattle.vx_model.specs.Ty.{primitive};
 ghost use Rattle.vx_model.specs.TyView.{ty};
 ghost use Rattle.vx_model.specs.ChunkData.{ChunkData, piece_type, cells};
 ghost use Rattle.vx_chunk.specs.ChunkView.{piece};
@@ -16,7 +14,7 @@ ghost use Rattle.vx_fault.specs.Faults.{Called};
 ghost use Rattle.vx_write.specs.declared.error.WriteError.TheVariants.{OutOfMemory};
 ghost use Rattle.vx_write.specs.Causes.{errs, is_source_fault, is_sink_fault};
 ghost use Rattle.vx_write.specs.InOrder.{AllWritten, BatchWritten, Finished, Halted};
-ghost use Rattle.vx_write.specs.Stream.{HasCause, MayCome, BehindBatch, NotAdmitted, NotWritten, is_built_type};
+ghost use Rattle.vx_write.specs.Stream.{HasCause, MayCome, BehindBatch, NotAdmitted, NotWritten};
 
 use crate::error::WriteError;
 use std::alloc::Global;
@@ -34,7 +32,6 @@ pub(crate) fn write_column<B: BatchSource, S: SegmentSink>(
     source: &mut B,
     sink: &mut S,
 ) -> Result<Layout, WriteError>
-    requires { B.kind source.old ≡ primitive I64 false }
     ensures kind { B.kind source.new ≡ B.kind source.old }
     ensures ok { IfOk result (λ l. Finished ctx.now (B.kind source.old) (S.next sink.old) (S.next sink.new) (layout_data l)
         (B.to_come source.old) (B.to_come source.new) (S.segments sink.old) (S.segments sink.new)) }
@@ -100,7 +97,6 @@ fn write_batch<S: SegmentSink>(
     batch: &Chunk,
     sink: &mut S,
 ) -> Result<Layout, WriteError>
-    requires { piece_type (piece batch.now) ≡ primitive I64 false }
     ensures ok { IfOk result (λ l. BatchWritten ctx.now (S.next sink.old) (piece batch.now) (layout_data l) (S.segments sink.old) (S.segments sink.new)) }
     ensures same { OnErr result (S.segments sink.new ≡ S.segments sink.old) }
     ensures next { S.next sink.new ≡ (if is_ok result then S.next sink.old + 1 else S.next sink.old) }
@@ -114,6 +110,7 @@ fn write_batch<S: SegmentSink>(
     ensures complete { refused ctx.now (piece batch.now) ≡ None → S.next sink.old < 2 ^ 32 → IsCalm (S.faults sink.old) (S.faults sink.new)
         → IfErr result (λ e. e ≡ OutOfMemory) }
 {
+    batch.whole();
     let bytes = encode_segment(alloc, ctx, batch, true)?;
     let number = sink.next_id();
     if number > 4_294_967_295 {

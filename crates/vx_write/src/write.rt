@@ -1,9 +1,9 @@
 //! The one call that writes a stream.
 
-ghost use Rattle.std.specs.Prelude.{◌≡◌, ℕ, ◌-◌, ◌≤◌, ◌^◌, max, true, false, [], IfOk, IfErr, OnOk, OnErr, MatchResult};
+ghost use Rattle.std.specs.Prelude.{◌≡◌, List, Some, ◌-◌, ◌≤◌, ◌^◌, max, true, false, [], IfOk, IfErr, OnOk, OnErr, MatchResult};
+ghost use Rattle.vx_model.specs.ChunkData.{ChunkData};
 ghost use Rattle.vx_model.specs.TyView.{ty};
 ghost use Rattle.vx_layout_tree.specs.LayoutView.{layout_data};
-ghost use Rattle.vx_plan.specs.PlanData.{Setting};
 ghost use Rattle.vx_plan.specs.SourcePlan.{taken_plan};
 ghost use Rattle.vx_plan.specs.Valid.{Valid};
 ghost use Rattle.vx_fault.specs.Counts.{IsCalm};
@@ -15,7 +15,7 @@ ghost use Rattle.vx_strategy.specs.StrategyView.{strategy_data};
 ghost use Rattle.vx_write.specs.Asked.{asked};
 ghost use Rattle.vx_write.specs.Causes.{errs, is_source_fault, is_sink_fault, is_unbuilt};
 ghost use Rattle.vx_strategy.specs.OptionViews.{flat_options};
-ghost use Rattle.vx_write.specs.Stream.{Writes, Planned, Wrote, Stands, HasCause, is_default as is_default_flat, is_flat_default, is_built, is_built_type};
+ghost use Rattle.vx_write.specs.Stream.{setting_of, Planned, Wrote, Stands, HasCause, is_default as is_default_flat, is_flat_default, is_built, is_built_type};
 
 use crate::error::WriteError;
 use crate::stream::write_column;
@@ -45,7 +45,6 @@ pub struct Refused {
 /// The source's type is the schema. After a refusal earlier segments stand. `Unbuilt` comes exactly where the
 /// strategy isn't chunking over flat with its default options, or the type isn't a 64-bit integer without null, and
 /// before the source is asked. The schedule is without effect until tasks are built.
-#[tactic(auto, using(crate::proofs::Bridge::bridge_rules))]
 pub fn write_stream<B: BatchSource, S: SegmentSink, C: CompressorPlugin>(
     alloc: Global,
     strategy: &Strategy,
@@ -56,12 +55,13 @@ pub fn write_stream<B: BatchSource, S: SegmentSink, C: CompressorPlugin>(
     compressor: &mut C,
 ) -> Result<Written, Refused>
     // Ok gives the plan of all batches, from which their rows are read back, and comes of valid input alone.
-    ensures wrote { IfOk result (λ w. Planned (listed ctx.old) (strategy_data strategy.now) (B.kind source.old) (B.to_come source.old)
-        (Wrote (strategy_data strategy.now) (B.kind source.old) (S.next sink.old) (S.next sink.new) (S.segments sink.old) (S.segments sink.new) (layout_data w.layout))) }
+    ensures wrote { IfOk result (λ w. Planned (setting_of ctx.old (C.image (C.kind compressor.old))) (strategy_data strategy.now) (B.kind source.old)
+        (is_marked ctx.old) (B.to_come source.old)
+        (Wrote (B.kind source.old) (S.next sink.old) (S.next sink.new) (S.segments sink.old) (S.segments sink.new) (layout_data w.layout))) }
     ensures ended { OnOk result (NoneTold (B.to_come source.new)) }
     // After a refusal the segments appended are the first of the plan of the batches taken.
-    ensures stands { OnErr result ((s : Setting) → Writes (listed ctx.old) s
-        → Stands (λ taken. taken_plan s (strategy_data strategy.now) (B.kind source.old) false taken false)
+    ensures stands { OnErr result (Stands (λ taken. taken_plan (setting_of ctx.old (C.image (C.kind compressor.old))) (strategy_data strategy.now)
+        (B.kind source.old) (is_marked ctx.old) taken false)
         (S.next sink.old) (S.next sink.new) (B.to_come source.old) (B.to_come source.new) (S.segments sink.old) (S.segments sink.new)) }
     ensures cause { IfErr result (λ r. HasCause (B.kind source.old) (listed ctx.old)
         (is_built (strategy_data strategy.now) (B.kind source.old) ≡ false) (S.next sink.new) (B.to_come source.old) (B.to_come source.new) r.error) }
@@ -76,11 +76,12 @@ pub fn write_stream<B: BatchSource, S: SegmentSink, C: CompressorPlugin>(
     ensures unbuilt { is_built (strategy_data strategy.now) (B.kind source.old) ≡ false
         → MatchResult result (λ _. ⊥) (λ r. is_unbuilt r.error ≡ true) × (source.new ≡ source.old) × (sink.new ≡ sink.old) }
     // Valid input, where nothing fails, gives Ok unless memory runs out.
-    ensures complete { Planned (listed ctx.old) (strategy_data strategy.now) (B.kind source.old) (B.to_come source.old) (λ s xs _. (tracker : ℕ)
+    ensures complete { (xs : List ChunkData) → B.to_come source.old ≡ Some xs
         → is_built (strategy_data strategy.now) (B.kind source.old) ≡ true
-        → Valid s (strategy_data strategy.now) (B.kind source.old) false (S.next sink.old) tracker xs
+        → Valid (setting_of ctx.old (C.image (C.kind compressor.old))) (strategy_data strategy.now) (B.kind source.old) (is_marked ctx.old)
+        (S.next sink.old) (counted ctx.old) xs
         → IsCalm (B.faults source.old) (B.faults source.new) → IsCalm (S.faults sink.old) (S.faults sink.new)
-        → IfErr result (λ r. r.error ≡ OutOfMemory)) }
+        → IfErr result (λ r. r.error ≡ OutOfMemory) }
     ensures same { (listed ctx.new ≡ listed ctx.old) × (allowed_in ctx.new ≡ allowed_in ctx.old) × (is_marked ctx.new ≡ is_marked ctx.old) × (counted ctx.new ≡ counted ctx.old)
         × (B.kind source.new ≡ B.kind source.old) × (S.borrow sink.new ≡ S.borrow sink.old) × (compressor.new ≡ compressor.old) }
     ensures trace { MatchResult result (λ w. w.trace.items ≡ []) (λ r. r.trace.items ≡ []) }

@@ -7,11 +7,11 @@ use Rattle.vx_layout_bytes.proofs.fields.many_segments.Goals as goal
 pub returns-in_err-segment : goal.returns-in_err-segment
 returns-in_err-segment c =
     let p = err_from_is_err_and c.from_residual.result c.from_residual.ensures.1 in
-    rw (p.1, p.2) (many_ends c.in_err-segment.field-0.0 (number_at w32 c.args.stop) c.loop.segments.items c.args.count c.loop.counter c.loop.rest.now (many_at (number_at w32 c.args.stop) c.args.count c.args.bytes.now) c.loop-test.true c.in_err-segment.ensures c.loop.invariant)
+    rw (p.1, p.2) (many_ends c.in_err-segment.field-0.0 (number_at w32 c.args.stop) c.loop.segments.items c.args.count c.loop.counter c.loop.bytes (many_at (number_at w32 c.args.stop) c.args.count c.args.bytes.now) c.loop-test.true c.in_err-segment.ensures c.loop.invariant)
 
 pub loop-preserved : goal.loop-preserved
 loop-preserved c =
-    rw c.in_ok-push.ensures.items (many_goes_on (number_at w32 c.args.stop) c.loop.segments.items c.args.count c.loop.counter c.loop.rest.now c.in_ok-segment.segment c.in_ok-segment.after.now (many_at (number_at w32 c.args.stop) c.args.count c.args.bytes.now) c.loop-test.true c.in_ok-segment.ensures c.loop.invariant)
+    rw c.in_ok-push.ensures.items (many_goes_on (number_at w32 c.args.stop) c.loop.segments.items c.args.count c.loop.counter c.loop.bytes c.in_ok-segment.segment c.u32_at.new.bytes (many_at (number_at w32 c.args.stop) c.args.count c.args.bytes.now) c.loop-test.true c.in_ok-segment.ensures c.loop.invariant)
 
 pub returns : goal.returns
-returns c = many_done (number_at w32 c.args.stop) c.loop.segments.items c.args.count c.loop.counter c.loop.rest.now (many_at (number_at w32 c.args.stop) c.args.count c.args.bytes.now) c.loop-test.false c.loop.invariant
+returns c = many_done (number_at w32 c.args.stop) c.loop.segments.items c.args.count c.loop.counter c.loop.bytes (many_at (number_at w32 c.args.stop) c.args.count c.args.bytes.now) c.loop-test.false c.loop.invariant

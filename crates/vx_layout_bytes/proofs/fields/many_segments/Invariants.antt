@@ -5,4 +5,4 @@ use Rattle.vx_layout_bytes.proofs.Loops.{with_front}
 use Rattle.vx_layout_bytes.proofs.fields.many_segments.Given as goal
 
 abbrev pub invariant-loop : goal.invariant-loop
-invariant-loop l = with_front l.segments.items (many_at (number_at w32 l.stop) (l.count - l.counter) l.rest) ≡ many_at (number_at w32 l.stop) l.count l.bytes
+invariant-loop l = with_front l.segments.items (many_at (number_at w32 l.stop) (l.count - l.counter) l.bytes) ≡ many_at (number_at w32 l.stop) l.count l.fn.bytes

@@ -11,4 +11,4 @@ abbrev pub decreases-nodes_at : goal.decreases-nodes_at
 decreases-nodes_at l = 2 * l.depth + 1
 
 abbrev pub invariant-nodes_at-loop : goal.invariant-nodes_at-loop
-invariant-nodes_at-loop l = with_nodes (map raw l.nodes.items) (many_nodes (node_at l.depth l.stop) (l.count - l.counter) l.left l.rest) ≡ many_nodes (node_at l.depth l.stop) l.count l.fn.left l.bytes
+invariant-nodes_at-loop l = with_nodes (map raw l.nodes.items) (many_nodes (node_at l.depth l.stop) (l.count - l.counter) l.left l.bytes) ≡ many_nodes (node_at l.depth l.stop) l.count l.fn.left l.fn.bytes

@@ -4,10 +4,11 @@ use Rattle.serde_json.specs.Find.{as_str}
 use Rattle.serde_json.specs.View.{view, items_view}
 use Rattle.vx_strategy.specs.PairWays.{named_way, path_way}
 use Rattle.vx_strategy_json.specs.Forms.{wrap_of}
-use Rattle.vx_strategy_json.specs.Parts.{each, all, pair}
+use Rattle.vx_json.specs.Lists.{each}
+use Rattle.vx_json.specs.Values.{all, pair}
 use Rattle.vx_strategy_json.specs.StrategyText.{strategy_of}
 use Rattle.vx_strategy_json.specs.Views.{wrap}
-use Rattle.vx_strategy_json.proofs.ListSteps.{with_front}
+use Rattle.vx_json.proofs.Items.{with_front}
 use Rattle.vx_strategy_json.proofs.strategy.+strategy.Given as goal
 
 abbrev pub decreases-read_strategy : goal.decreases-read_strategy

@@ -1,5 +1,4 @@
-use Rattle.std.proofs.Common.{◌≡◌, ap, ◌∙◌, sym, Option, List, ℕ}
-use Rattle.vx_metadata.specs.declared.dict.DictLayoutMetadata.{DictLayoutMetadata}
+use Rattle.std.proofs.Common.{◌≡◌, ap, ◌∙◌, sym}
 use Rattle.vx_metadata.specs.Spelled.{dict_bytes}
 use Rattle.vx_metadata.specs.Reading.{dict_in}
 use Rattle.vx_metadata.specs.Views.{the_same}

@@ -1,5 +1,4 @@
-use Rattle.std.proofs.Common.{◌≡◌, ap, ◌∙◌, sym, Option, List, ℕ}
-use Rattle.vx_metadata.specs.declared.list.ListLayoutMetadata.{ListLayoutMetadata}
+use Rattle.std.proofs.Common.{◌≡◌, ap, ◌∙◌, sym}
 use Rattle.vx_metadata.specs.Spelled.{list_bytes}
 use Rattle.vx_metadata.specs.Reading.{list_in}
 use Rattle.vx_metadata.specs.Views.{the_same}

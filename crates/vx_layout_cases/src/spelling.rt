@@ -5,6 +5,7 @@ use crate::given::{bytes_in, cut, encodings};
 use crate::sessions::{ids, session};
 use crate::shown::slots;
 use anyhow::{Error, Result, bail};
+use bytes::Bytes;
 use std::alloc::{AllocError, Global};
 use vx_layout::{
     DictLayoutMetadata, FlatLayoutMetadata, Layout, LegacyStatsMetadata, Limits,
@@ -42,13 +43,17 @@ fn parsed(alloc: Global, layout: &Layout, bytes: &[u8]) -> Result<Layout> {
     let encodings = encodings(alloc)?;
     let limits = Limits::default();
     let dtype = layout.dtype();
+    let bytes = Bytes::copy_from_slice(alloc, bytes)?;
     Ok(layout_from_flatbuffer(alloc, bytes, dtype, &ids, &encodings, &session, limits)?)
 }
 
 pub(crate) fn node(alloc: Global, word: &str) -> Result<String> {
     let bytes = write_node(alloc, &node_in(alloc, word)?)?;
     let mut out = shown(alloc, &bytes)?;
-    push_node(&mut out, &read_nodes(alloc, &bytes, Limits::default())?)?;
+    push_node(
+        &mut out,
+        &read_nodes(alloc, Bytes::from_vec(bytes)?, Limits::default())?,
+    )?;
     Ok(out)
 }
 
