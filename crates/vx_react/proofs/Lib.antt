@@ -1,0 +1,4 @@
+pub mod Reacting
+pub mod Following
+pub mod RunsSent
+pub mod ColumnsSent
