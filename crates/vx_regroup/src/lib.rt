@@ -1,0 +1,16 @@
+//! Rules that put a stream's chunks together anew, a chunk at a time: into blocks of rows, by held bytes, into one.
+#![tactic(auto)]
+
+mod buffered;
+mod collect;
+mod cuts;
+mod error;
+mod regroup;
+mod repartition;
+mod walk;
+
+pub use buffered::Buffered;
+pub use collect::Collect;
+pub use error::RegroupError;
+pub use regroup::Regroup;
+pub use repartition::Repartition;
