@@ -1,0 +1,3 @@
+pub mod ListState
+pub mod Offsets
+pub mod Causes
