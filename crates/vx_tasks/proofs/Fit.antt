@@ -195,7 +195,7 @@ held_where P Q (Node t kids rest) h (own, inner, outer) = (λ x i. h x (own x i)
 abbrev pub NamedFrom : List ℕ → ℕ → List (List ℕ) → Type 0
 NamedFrom name j ys = (y : List ℕ) → In y ys → (i : ℕ) × (j ≤ i) × (begins (under name i) y ≡ true)
 
-under_above : (p : List ℕ) (i : ℕ) → path_lt p (under p i) ≡ true
+pub under_above : (p : List ℕ) (i : ℕ) → path_lt p (under p i) ≡ true
 under_above [] i = refl
 under_above (k ∷ p) i = more k (path_le (under p i) p) (under_above p i)
   where

@@ -15,3 +15,7 @@ pub mod Refusals
 pub mod Queues
 pub mod Picks
 pub mod Befores
+pub mod Walked
+pub mod Passing
+pub mod Many
+pub mod Joins

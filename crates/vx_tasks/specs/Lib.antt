@@ -9,3 +9,7 @@ pub mod NodeLaws
 pub mod Runs
 pub mod Broken
 pub mod Queues
+pub mod Walks
+pub mod Passing
+pub mod Many
+pub mod Joins
