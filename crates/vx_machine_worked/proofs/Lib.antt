@@ -1,0 +1,9 @@
+mod Words
+mod Chunks
+mod Columns
+mod Groups
+mod Dictionaries
+mod Zones
+mod Scripts
+mod Held
+mod Refusals
