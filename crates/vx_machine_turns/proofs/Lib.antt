@@ -24,3 +24,4 @@ pub mod GoodMore
 pub mod GoodZoned
 pub mod GoodDict
 pub mod Goods
+pub mod WholeLaws

@@ -87,15 +87,15 @@ starts_act a acts g c l t = ((λ i m. (ap (λ z. for_child i z) g, ap (λ z. has
 -- ---- the same of a list that has a first action
 
 -- its first action does nothing to a child
-still : (k : ℕ) (xs : List Act) → xs ≡ top xs ∷ tail xs → (top xs).gives ≡ [] → (top xs).shuts ≡ [] → length (top xs).starts ≡ 0 → Tidy k (tail xs) → Tidy k xs
+pub still : (k : ℕ) (xs : List Act) → xs ≡ top xs ∷ tail xs → (top xs).gives ≡ [] → (top xs).shuts ≡ [] → length (top xs).starts ≡ 0 → Tidy k (tail xs) → Tidy k xs
 still k xs e g c n t = subst (λ z. Tidy k z) (sym e) (still_act k (top xs) (tail xs) g c n t)
 
 -- or gives child c something
-put : (k c : ℕ) (i : Item) (xs : List Act) → xs ≡ top xs ∷ tail xs → (top xs).gives ≡ (c, i) ∷ [] → (top xs).shuts ≡ [] → length (top xs).starts ≡ 0 → c < k → Tidy k (tail xs) → Tidy k xs
+pub put : (k c : ℕ) (i : Item) (xs : List Act) → xs ≡ top xs ∷ tail xs → (top xs).gives ≡ (c, i) ∷ [] → (top xs).shuts ≡ [] → length (top xs).starts ≡ 0 → c < k → Tidy k (tail xs) → Tidy k xs
 put k c i xs e g d n l t = subst (λ z. Tidy k z) (sym e) (put_act k c i (top xs) (tail xs) g d n l t)
 
 -- or closes the only child's queue
-shuts : (k : ℕ) (xs : List Act) → xs ≡ top xs ∷ tail xs → (top xs).gives ≡ [] → (top xs).shuts ≡ 0 ∷ [] → length (top xs).starts ≡ 0 → 0 < k → gifts 0 (tail xs) ≡ [] → Tidy k (tail xs) → Tidy k xs
+pub shuts : (k : ℕ) (xs : List Act) → xs ≡ top xs ∷ tail xs → (top xs).gives ≡ [] → (top xs).shuts ≡ 0 ∷ [] → length (top xs).starts ≡ 0 → 0 < k → gifts 0 (tail xs) ≡ [] → Tidy k (tail xs) → Tidy k xs
 shuts k xs e g c n l none t = subst (λ z. Tidy k z) (sym e) (close_act k (top xs) (tail xs) g c n l none t)
 
 -- or starts the first child

@@ -22,3 +22,4 @@ pub mod Duties
 pub mod Planned
 pub mod Tidy
 pub mod Paths
+pub mod Whole
