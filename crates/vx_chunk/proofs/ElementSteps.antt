@@ -1,5 +1,5 @@
 -- The elements of each encoding's rows.
-use Rattle.std.proofs.Common.{◌≡◌, ℕ, zero, suc, ◌+◌, ◌-◌, ◌*◌, ◌<◌, ◌≤◌, ◌&&◌, Bool, true, false, Option, Some, None, List, [], ◌∷◌, ◌++◌, length, take, drop, get_or, map, refl, ap, sym, ◌∙◌, arith, eqb-true, append_assoc, append-nil, length-append, Box}
+use Rattle.std.proofs.Common.{◌≡◌, ℕ, zero, suc, ◌+◌, ◌-◌, ◌<◌, ◌≤◌, ◌&&◌, Bool, true, List, [], ◌∷◌, ◌++◌, length, take, drop, get_or, map, refl, ap, sym, ◌∙◌, arith, eqb-true, append_assoc, append-nil, length-append, Box}
 use Rattle.std.specs.Prelude.{replicate, ◌==◌, ◌^◌}
 use Rattle.std.proofs.lemmas.List.{drop_more, length-map, length-replicate}
 use Rattle.std.specs.Global.{Vec, Global}
@@ -11,7 +11,7 @@ use Rattle.vx_model.specs.declared.cell.Cell.{Cell}
 use Rattle.vx_model.specs.TyView.{ty}
 use Rattle.vx_model.specs.TreeView.{tree}
 use Rattle.vx_model.specs.Words.{head_or, tail, all_by}
-use Rattle.vx_model.specs.Ty.{Ty, boolean, primitive, utf8, binary, list, struct, extension, is_list, list_item}
+use Rattle.vx_model.specs.Ty.{Ty, boolean, primitive, utf8, binary, list, struct, extension, is_list}
 use Rattle.vx_model.specs.CellData.{CellData, null_cell, bool_cell, int_cell, text_cell, bytes_cell, list_cell, struct_cell, items, fits, flag_fits}
 use Rattle.vx_model.specs.ChunkData.{ChunkData, plain_piece, constant_piece, dict_piece, chunked_piece, list_piece, struct_piece, extension_piece, pieces_of, piece_type, is_sound, cells, joined_cells, list_rows, struct_rows, picked, is_dict_type, has_elements}
 use Rattle.vx_model.proofs.CellViews.{items_trees_of}
@@ -19,16 +19,16 @@ use Rattle.vx_chunk_cells.specs.Window.{window, last_of, Within, counted}
 use Rattle.vx_layout_spec.specs.Parts.{elements_of, all_elements, ends}
 use Rattle.vx_chunk_cells.proofs.Tests.{left_true, right_true}
 use Rattle.vx_chunk_cells.proofs.Windows.{window-all, window-none, length-window}
-use Rattle.vx_chunk_cells.proofs.ListSteps.{first_is}
 use Rattle.vx_chunk_cells.proofs.CountSteps.{all_elements-append, ends-append, length-all_elements-replicate}
-use Rattle.vx_chunk.specs.Parts.{element_type, is_plain, cover, keeps_elements}
+use Rattle.vx_chunk_cells.specs.Parts.{element_type, cover}
+use Rattle.vx_chunk.specs.Parts.{is_plain, keeps_elements}
 use Rattle.vx_chunk.proofs.Depths.{depth_in}
 use Rattle.vx_chunk.proofs.Lengths.{length-struct_rows, length-list_rows, drop_joined}
 use Rattle.vx_chunk.proofs.FlagSteps.{leaf_elements, leaf_picked}
 use Rattle.vx_chunk.proofs.CellsFit.{all_append, cells_fit, cells_short, of_type}
 use Rattle.vx_chunk.proofs.NodeSound.{in_dict, in_list}
-use Rattle.vx_chunk.proofs.Offsets.{offsets_within}
-use Rattle.vx_chunk.proofs.RowGoals.{dict_cells, list_cells, struct_cells, last_at}
+use Rattle.vx_chunk_cells.proofs.OffsetLaws.{offsets_within}
+use Rattle.vx_chunk.proofs.RowGoals.{dict_cells, list_cells, struct_cells}
 use Rattle.vx_chunk.proofs.SizeLaws.{joined_spans}
 
 -- ---- no lists
@@ -159,28 +159,6 @@ pub ruleset element_rules = (append_assoc, append-nil, length-all_elements-repli
 
 pub ruleset span_rules = (append_assoc, append-nil)
 
--- ---- a list's type is told
-
-pub item_told : (t u : Ty) → Some u ≡ list_item t → u ≡ element_type t
-item_told (list t n) u e = cc
-item_told (boolean n) u e = cc
-item_told (primitive p n) u e = cc
-item_told (utf8 n) u e = cc
-item_told (binary n) u e = cc
-item_told (struct fs n) u e = cc
-item_told (extension tag t) u e = cc
-
-pub no_item_told : (t : Ty) → None ≡ list_item t → is_list t ≡ true → ⊥
-no_item_told (list t n) e h = cc
-no_item_told (boolean n) e h = cc
-no_item_told (primitive p n) e h = cc
-no_item_told (utf8 n) e h = cc
-no_item_told (binary n) e h = cc
-no_item_told (struct fs n) e h = cc
-no_item_told (extension tag t) e h = cc
-
-pub ruleset type_rules = (item_told, no_item_told)
-
 -- ---- elements that stand just as rows have them
 
 plain_is : (e : ChunkData) → is_plain e ≡ true → e ≡ plain_piece (piece_type e) (cells e)
@@ -237,5 +215,3 @@ kept_elements n t es offsets valid e s k =
       offsets = from_none os sound.some first ∙ ap (λ (r : List ℕ). 0 ∷ r) (sym ends_are);
       short = rw all (cells_short p sound.elements_sound);
     }
-
-pub ruleset cover_rules = (first_is, last_at)

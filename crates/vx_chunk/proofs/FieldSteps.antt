@@ -1,20 +1,20 @@
 -- Columns of structs, field by field.
-use Rattle.std.proofs.Common.{◌≡◌, ℕ, zero, suc, ◌+◌, ◌<◌, ◌≤◌, ◌&&◌, Bool, true, false, Option, Some, None, List, [], ◌∷◌, ◌++◌, length, drop, get_or, map, refl, ap, sym, ◌∙◌, arith, append_assoc, eqb-true, eq-eqb}
+use Rattle.std.proofs.Common.{◌≡◌, ℕ, zero, suc, ◌+◌, ◌<◌, ◌&&◌, Bool, true, List, [], ◌∷◌, ◌++◌, length, drop, get_or, map, refl, ap, sym, ◌∙◌, arith, append_assoc, eq-eqb}
 use Rattle.std.specs.Global.{Vec}
-use Rattle.std.proofs.lemmas.List.{drop_more, drop_all, append-nil, length-map}
+use Rattle.std.proofs.lemmas.List.{drop_more, append-nil}
 use Rattle.vx_model.specs.declared.dtype.StructField.{StructField}
 use Rattle.vx_model.specs.declared.cell.Cell.{Cell}
 use Rattle.vx_model.specs.Words.{all_by, head_or, tail}
-use Rattle.vx_model.specs.Ty.{Ty, Tys, boolean, primitive, utf8, binary, list, struct, extension, no_fields, field, tys_of, is_struct, struct_tys}
+use Rattle.vx_model.specs.Ty.{Ty, Tys, boolean, primitive, utf8, binary, list, struct, extension, no_fields, field, tys_of, is_struct}
 use Rattle.vx_model.specs.TyView.{ty, field_ty}
 use Rattle.vx_model.specs.CellData.{CellData, CellList, null_cell, bool_cell, int_cell, text_cell, bytes_cell, list_cell, struct_cell, no_cells, cell, items, fits, fields_fit, struct_fits, flag_fits}
 use Rattle.vx_model.specs.ChunkData.{ChunkData, plain_piece}
 use Rattle.vx_model.proofs.Views.{field_ty_is}
 use Rattle.vx_chunk_cells.specs.Columns.{trees_in, rows_across}
-use Rattle.vx_chunk_cells.specs.Parts.{fields_of, has_width}
+use Rattle.vx_chunk_cells.specs.Parts.{struct_fields, fields_of, has_width}
 use Rattle.vx_chunk_cells.proofs.Tests.{left_true, right_true, both_true}
 use Rattle.vx_chunk_cells.proofs.RowWindows.{map_joined}
-use Rattle.vx_chunk.specs.Parts.{typed_columns, columns_fit, struct_fields}
+use Rattle.vx_chunk.specs.Parts.{typed_columns, columns_fit}
 use Rattle.vx_layout_spec.specs.Parts.{first_of, others_of, plain_fields}
 
 -- fields of a type
@@ -22,9 +22,12 @@ abbrev pub count_of : Tys → ℕ
 count_of no_fields = 0
 count_of (field name t fs) = suc (count_of fs)
 
-pub count-tys_of : (fs : List StructField) → count_of (tys_of (map field_ty fs)) ≡ length fs
+count-tys_of : (fs : List StructField) → count_of (tys_of (map field_ty fs)) ≡ length fs
 count-tys_of [] = refl
 count-tys_of (f ∷ fs) = ap suc (count-tys_of fs)
+
+pub count_is : (t : Ty) (fs : List StructField) → tys_of (map field_ty fs) ≡ struct_fields t → length fs ≡ count_of (struct_fields t)
+count_is t fs e = sym (count-tys_of fs) ∙ ap count_of e
 
 -- ---- the width of a struct's cells
 
@@ -178,25 +181,3 @@ all_typed chunks target fs [] e h = sym (append-nil chunks) ∙ (rw (typed_none 
 all_typed chunks target fs (c ∷ columns) e h = absurd (omega arith)
 
 pub ruleset field_rules = (append_assoc, append-nil, drop_typed, drop_fit, typed_none)
-
--- ---- a struct's fields are told
-
-pub fields_told : (t : Ty) (fs : Tys) → Some fs ≡ struct_tys t → fs ≡ struct_fields t
-fields_told (struct gs n) fs e = cc
-fields_told (boolean n) fs e = cc
-fields_told (primitive p n) fs e = cc
-fields_told (utf8 n) fs e = cc
-fields_told (binary n) fs e = cc
-fields_told (list t n) fs e = cc
-fields_told (extension tag t) fs e = cc
-
-pub no_fields_told : (t : Ty) → None ≡ struct_tys t → is_struct t ≡ true → ⊥
-no_fields_told (struct gs n) e h = cc
-no_fields_told (boolean n) e h = cc
-no_fields_told (primitive p n) e h = cc
-no_fields_told (utf8 n) e h = cc
-no_fields_told (binary n) e h = cc
-no_fields_told (list t n) e h = cc
-no_fields_told (extension tag t) e h = cc
-
-pub ruleset type_rules = (fields_told, no_fields_told)

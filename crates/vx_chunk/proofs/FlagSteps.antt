@@ -1,7 +1,7 @@
 -- The flags of each encoding's rows.
-use Rattle.std.proofs.Common.{◌≡◌, ℕ, zero, suc, ◌+◌, ◌-◌, ◌<◌, ◌≤◌, ◌&&◌, Bool, true, false, List, [], ◌∷◌, ◌++◌, length, take, drop, get_or, map, refl, ap, sym, ◌∙◌, arith, append_assoc, append-nil, rules}
+use Rattle.std.proofs.Common.{◌≡◌, ℕ, zero, suc, ◌+◌, ◌-◌, ◌<◌, Bool, true, false, List, [], ◌∷◌, ◌++◌, length, drop, get_or, map, refl, arith, append_assoc, append-nil, rules}
 use Rattle.std.specs.Prelude.{replicate, pos, negsuc}
-use Rattle.std.proofs.lemmas.List.{drop_more, length-map, map-append}
+use Rattle.std.proofs.lemmas.List.{drop_more, map-append}
 use Rattle.vx_model.specs.declared.dtype.DType as dt
 use Rattle.vx_model.specs.declared.ptype.Nullability.TheVariants.{NonNullable}
 use Rattle.vx_model.specs.TyView.{ty}

@@ -1,5 +1,5 @@
 -- What is left to show where rows are put together.
-use Rattle.std.proofs.Common.{◌≡◌, ℕ, ◌+◌, ◌-◌, ◌<◌, ◌≤◌, ◌&&◌, min, Bool, true, List, [], ◌∷◌, ◌++◌, length, take, drop, get_or, map, refl, sym, arith, append_assoc, Box}
+use Rattle.std.proofs.Common.{◌≡◌, ℕ, ◌+◌, ◌-◌, ◌<◌, ◌≤◌, ◌&&◌, min, Bool, true, List, [], ◌∷◌, ◌++◌, length, take, drop, get_or, map, refl, arith, append_assoc, Box}
 use Rattle.std.specs.Prelude.{nat_le, ◌==◌}
 use Rattle.std.specs.Global.{Vec, Global}
 use Rattle.std.proofs.lemmas.List.{drop_more, take_more, map-append}
@@ -24,8 +24,7 @@ use Rattle.vx_chunk_cells.proofs.Windows.{window-append, window-map, length-wind
 use Rattle.vx_chunk_cells.proofs.RowWindows.{window-list_rows, window-struct_rows, list_rows-rebased, map_joined}
 use Rattle.vx_chunk_cells.proofs.Steps.{column_more}
 use Rattle.vx_chunk.proofs.RowSteps.{each_cells-pieces_of}
-use Rattle.vx_chunk.proofs.Offsets.{offsets_within}
-use Rattle.vx_chunk_cells.proofs.ListSteps.{last_is}
+use Rattle.vx_chunk_cells.proofs.OffsetLaws.{offsets_within}
 
 -- ---- what a node's cells are
 
@@ -57,10 +56,6 @@ rows_below n t es offsets valid to e s le =
 pub list_window : (n : Node) (t : DType) (es : Box ChunkData Global) (offsets : Vec ℕ) (valid : Vec Bool) (from to : ℕ) → n ≡ nd.List t es offsets valid → from ≤ to
     → list_rows (cells es.value) (window from (to + 1) offsets.items) (drop from valid.items) ≡ window from to (cells (node_piece n))
 list_window n t es offsets valid from to e le = rw (list_cells n t es offsets valid e, window-list_rows (cells es.value) from to offsets.items valid.items le) refl
-
--- the last offset by its place
-pub last_at : (os : List ℕ) → 1 ≤ length os → get_or os (length os - 1) 0 ≡ last_of os
-last_at os some = sym (last_is os (length os - 1) (omega arith))
 
 -- the elements between the first and the last offset give the lists
 pub lists_cut : (es : List CellData) (os : List ℕ) (valid : List Bool) → are_offsets (length es) os ≡ true

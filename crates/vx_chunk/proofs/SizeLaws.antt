@@ -17,7 +17,7 @@ use Rattle.vx_chunk.specs.Sizes.{span_size, span_sizes, each_span_size}
 use Rattle.vx_chunk.proofs.Sound.{of_chunked, of_list, of_struct, of_extension}
 use Rattle.vx_chunk.proofs.CellsFit.{of_type}
 use Rattle.vx_chunk.proofs.Lengths.{length-list_rows, length-struct_rows}
-use Rattle.vx_chunk.proofs.Offsets.{offsets_window, offsets_within}
+use Rattle.vx_chunk_cells.proofs.OffsetLaws.{offsets_window, offsets_within}
 
 -- ---- lists
 

@@ -13,7 +13,7 @@ use Rattle.vx_chunk.proofs.Sound.{of_dict, of_chunked, of_list, of_struct, of_ex
 use Rattle.vx_chunk_cells.proofs.Windows.{window-map, window-replicate, window-append, window-back, window-nil}
 use Rattle.vx_chunk_cells.proofs.RowWindows.{window-list_rows, window-struct_rows, list_rows-take_flags, struct_rows-take_flags}
 use Rattle.vx_chunk.proofs.Lengths.{length-list_rows, length-struct_rows}
-use Rattle.vx_chunk.proofs.Offsets.{offsets_window, offsets_within}
+use Rattle.vx_chunk_cells.proofs.OffsetLaws.{offsets_window, offsets_within}
 use Rattle.vx_chunk_cells.proofs.ListSteps.{length-rebased}
 use Rattle.vx_chunk.proofs.RowGoals.{lists_cut}
 

@@ -14,7 +14,7 @@ use Rattle.vx_chunk.proofs.Sound.{of_plain, of_constant, of_dict, of_chunked, of
 use Rattle.vx_chunk.proofs.CellsFit.{all_take, all_drop}
 use Rattle.vx_chunk_cells.proofs.Windows.{length-window, window-nil}
 use Rattle.vx_chunk.proofs.Lengths.{length-list_rows, length-struct_rows}
-use Rattle.vx_chunk.proofs.Offsets.{offsets_window, offsets_within, lower}
+use Rattle.vx_chunk_cells.proofs.OffsetLaws.{offsets_window, offsets_within, lower}
 use Rattle.vx_chunk_cells.proofs.Tests.{le_test}
 use Rattle.vx_chunk_cells.proofs.ListSteps.{length-rebased}
 use Rattle.vx_chunk.proofs.SliceLaws.{sliced_type, sliced_simple, sliced_chunked, sliced_cells, parts_cells, HasRows, have_fields}

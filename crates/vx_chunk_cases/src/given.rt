@@ -2,7 +2,7 @@
 
 use anyhow::Context;
 use serde_json::Value;
-use std::alloc::Global;
+use std::alloc::{AllocError, Global};
 use vx_chunk::Chunk;
 use vx_chunk_json::{read_batch, read_type};
 use vx_model::{ArrayContext, DType, EncodingId};
@@ -38,4 +38,9 @@ fn decoded(alloc: Global, given: &Value, dtype: &DType) -> anyhow::Result<Chunk>
 pub(crate) fn every_encoding(alloc: Global) -> anyhow::Result<ArrayContext> {
     let ids = Vec::from_slice(alloc, EncodingId::ALL.as_slice())?;
     Ok(ArrayContext::try_new(ids)?)
+}
+
+/// The value in a box. One that is wide and lives beside a `?` makes a proof long, and its box doesn't.
+pub(crate) fn boxed<T: Drop>(alloc: Global, value: T) -> Result<Box<T>, AllocError> {
+    Ok(Box::new(alloc, value)?)
 }

@@ -1,7 +1,7 @@
 -- Steps of taking lists and structs apart.
-use Rattle.std.proofs.Common.{◌≡◌, ℕ, zero, suc, ◌+◌, ◌-◌, ◌<◌, ◌≤◌, Bool, true, List, [], ◌∷◌, ◌++◌, length, take, drop, get_or, map, refl, ap, sym, ◌∙◌, arith, append_assoc, rules, length-append, eqb-true, ◌&&◌}
+use Rattle.std.proofs.Common.{◌≡◌, ℕ, zero, suc, ◌+◌, ◌-◌, ◌<◌, ◌≤◌, Bool, true, List, [], ◌∷◌, ◌++◌, length, drop, get_or, map, refl, ap, sym, ◌∙◌, arith, append_assoc, rules, length-append, eqb-true, ◌&&◌}
 use Rattle.std.specs.Prelude.{replicate}
-use Rattle.std.proofs.lemmas.List.{map_push, map_more, take_more, drop_more, append-nil, length-map, map-append}
+use Rattle.std.proofs.lemmas.List.{map_push, map_more, drop_more, append-nil, length-map}
 use Rattle.vx_model.specs.Words.{head_or, tail, all_by}
 use Rattle.vx_model.specs.CellData.{CellData, null_cell, bool_cell, int_cell, text_cell, bytes_cell, list_cell, struct_cell, items}
 use Rattle.vx_model.specs.declared.cell.Cell.{Cell}

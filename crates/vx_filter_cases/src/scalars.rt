@@ -57,8 +57,9 @@ fn scalar(alloc: Global, name: &str, text: &str) -> anyhow::Result<(DType, Value
 pub(crate) fn scalar_answer(alloc: Global, given: &str) -> anyhow::Result<String> {
     let (name, rest) = cut(given);
     let (text, hashed) = cut(rest);
+    let bytes = bytes(alloc, hashed)?;
     let (dtype, value) = scalar(alloc, name, text)?;
-    hashed_as(alloc, &dtype, &value, &bytes(alloc, hashed)?)
+    hashed_as(alloc, &dtype, &value, &bytes)
 }
 
 /// Whether the value goes into a filter as these bytes.

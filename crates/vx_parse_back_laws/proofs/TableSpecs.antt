@@ -19,6 +19,7 @@ use Rattle.vx_metadata.specs.Values.{is_short_spec, has_text_id, IsZoned}
 use Rattle.vx_session.specs.Ids.{is_listed}
 use Rattle.vx_session.specs.Scope.{Context, Scope}
 use Rattle.vx_session.specs.Made.{◌>>=◌}
+use Rattle.vx_session.proofs.Named.{known as named}
 use Rattle.vx_session.specs.Kinds.{names_aggregate, with_options, let_through, read_spec, in_front, read_on, read_specs}
 use Rattle.vx_strategy_spec.specs.Admitted.{is_admitted_zoned}
 use Rattle.vx_strategy_spec.specs.StrategyData.{ZonedOptions}
@@ -83,15 +84,6 @@ are_columns o t records cs ok kept f i =
 pub specs_named : (cs : List Filled) → map spec (table_aggregates cs) ≡ table_specs cs
 specs_named [] = refl
 specs_named (c ∷ cs) = ap (λ specs. spec c.aggregate ∷ specs) (specs_named cs)
-
-named : (a : Aggregate) → names_aggregate (aggregate_id a) ≡ true
-named maximum = refl
-named minimum = refl
-named (bounded_maximum n) = refl
-named (bounded_minimum n) = refl
-named null_count = refl
-named sum = refl
-named (bloom n) = refl
 
 spec_read : (c : Context) (a : Aggregate) → is_listed (aggregate_id a) c.aggregates ≡ true → has_options a ≡ true → read_spec c (spec a) ≡ Ok (Some a)
 unfolding read_spec

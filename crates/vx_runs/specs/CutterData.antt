@@ -14,7 +14,7 @@ use Rattle.vx_chunk.specs.ChunkCode.{cells_code, cells_of, cells_back}
 use Rattle.vx_rules.specs.Runs.{DictOptions}
 use Rattle.vx_react.specs.Reactor.{Output}
 use Rattle.vx_react.specs.Cutter.{Cutting, cutter}
-use Rattle.vx_strategy.specs.declared.options.DictLayoutConstraints.{DictLayoutConstraints}
+use Rattle.vx_strategy_options.specs.declared.options.DictLayoutConstraints.{DictLayoutConstraints}
 
 -- the type of its rows, its constraints, and the run that goes on
 pub record CutterData : Type 0 where

@@ -7,13 +7,13 @@ ghost use Rattle.vx_model.specs.TyView.{ty};
 ghost use Rattle.vx_model.specs.TreeView.{tree};
 ghost use Rattle.vx_rules.specs.Columns.{offset_cell};
 ghost use Rattle.vx_rules.specs.Runs.{code_type, codes_piece};
-ghost use Rattle.vx_strategy.specs.OptionViews.{dict_options};
+ghost use Rattle.vx_strategy_options.specs.OptionViews.{dict_options};
 ghost use Rattle.vx_runs.specs.Cutting.{is_code_of};
 
 use std::alloc::{AllocError, Global};
 use vx_chunk::Chunk;
 use vx_model::{Cell, DType, Nullability, PType};
-use vx_strategy::DictLayoutConstraints;
+use vx_strategy_options::DictLayoutConstraints;
 
 /// The codes as a plain chunk of the type that the greatest number of cells needs.
 #[tactic(auto, using(crate::proofs::CodeSteps::code_rules))]

@@ -8,7 +8,7 @@ ghost use Rattle.vx_model.specs.TyView.{ty};
 ghost use Rattle.vx_model.specs.TreeView.{tree};
 ghost use Rattle.vx_rules.specs.Runs.{stretches};
 ghost use Rattle.vx_react.specs.Cutter.{cut_outputs, next_number};
-ghost use Rattle.vx_strategy.specs.OptionViews.{dict_options};
+ghost use Rattle.vx_strategy_options.specs.OptionViews.{dict_options};
 ghost use Rattle.vx_runs.specs.Cutting.{Standing};
 ghost use Rattle.vx_runs.specs.Refused.{IsPast};
 ghost use Rattle.vx_runs.specs.CutterData.{started, gives_at, held_at, with_cutting};
@@ -23,7 +23,7 @@ use vx_chunk::Chunk;
 use vx_model::{Cell, DType};
 use vx_react::Place;
 use vx_slots::CellTable;
-use vx_strategy::DictLayoutConstraints;
+use vx_strategy_options::DictLayoutConstraints;
 
 /// The run that goes on.
 #[derive(Drop)]
@@ -66,7 +66,7 @@ impl Model for RunCutter {
     ghost coded = { cutter_code };
 
     ghost use Rattle.vx_model.specs.TyView.{ty};
-    ghost use Rattle.vx_strategy.specs.OptionViews.{dict_options};
+    ghost use Rattle.vx_strategy_options.specs.OptionViews.{dict_options};
     ghost use Rattle.vx_runs.specs.CutterData.{cutter_view};
     ghost use Rattle.vx_runs.specs.Cutting.{Standing};
 
@@ -76,7 +76,7 @@ impl Model for RunCutter {
 }
 
 impl RunCutter {
-    /// A cutter at the first run; takes no memory. `vx_strategy::dict_layout_supported` tests the condition.
+    /// A cutter at the first run; takes no memory. `vx_chunk_cells::is_dict_type` tests the condition.
     pub fn new(alloc: Global, constraints: DictLayoutConstraints, dtype: DType) -> RunCutter
         requires { IsTrue (is_dict_type (ty dtype)) }
         ensures { result ≡ started dtype constraints }

@@ -10,7 +10,7 @@ ghost use Rattle.vx_rules.specs.Runs.{codes_piece};
 ghost use Rattle.vx_react.specs.declared.place.Place.TheVariants.{Codes, Values};
 ghost use Rattle.vx_react.specs.Reactor.{Output};
 ghost use Rattle.vx_react.specs.Cutter.{closed_outputs};
-ghost use Rattle.vx_strategy.specs.OptionViews.{dict_options};
+ghost use Rattle.vx_strategy_options.specs.OptionViews.{dict_options};
 ghost use Rattle.vx_runs.specs.Cutting.{pairs, is_code_of, ClosedFit};
 ghost use Rattle.vx_runs.specs.Refused.{IsPast};
 
@@ -21,7 +21,7 @@ use std::alloc::{AllocError, Global};
 use vx_chunk::Chunk;
 use vx_model::{Cell, DType};
 use vx_react::Place;
-use vx_strategy::DictLayoutConstraints;
+use vx_strategy_options::DictLayoutConstraints;
 
 /// The number of the run behind so many.
 pub(crate) fn number_after(number: u64, count: usize) -> Result<u64, RunError>

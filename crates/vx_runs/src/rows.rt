@@ -7,7 +7,7 @@ ghost use Rattle.vx_model.specs.ChunkData.{is_dict_type};
 ghost use Rattle.vx_model.specs.TyView.{ty};
 ghost use Rattle.vx_model.specs.TreeView.{tree};
 ghost use Rattle.vx_rules.specs.Runs.{Cut, behind, stretches, cells_fit, cell_cost, same_cell};
-ghost use Rattle.vx_strategy.specs.OptionViews.{dict_options};
+ghost use Rattle.vx_strategy_options.specs.OptionViews.{dict_options};
 ghost use Rattle.vx_runs.specs.Cutting.{limited, behind_all, cut_with, cut_of, Running};
 
 use crate::costs::cell_cost;
@@ -15,7 +15,7 @@ use std::alloc::{AllocError, Global};
 use std::mem;
 use vx_model::{Cell, DType};
 use vx_slots::CellTable;
-use vx_strategy::DictLayoutConstraints;
+use vx_strategy_options::DictLayoutConstraints;
 
 /// A run's codes at the chunk in which it ends, and its distinct cells.
 #[derive(Drop)]

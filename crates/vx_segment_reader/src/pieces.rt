@@ -12,7 +12,8 @@ use crate::node::Node;
 use crate::rest::{Frame, Rest, is_shaped, next_buffer, next_node, number};
 use crate::simple::{encoding_at, offsets_of, read_constant, read_plain, read_simple, validity_of};
 use vx_chunk::Chunk;
-use vx_chunk::conditions::{are_codes, are_offsets, is_dict_type};
+use vx_chunk::conditions::are_codes;
+use vx_chunk_cells::{are_offsets, is_dict_type};
 use vx_model::{DType, EncodingId, Nullability, PType, StructField};
 
 /// The type of codes by its number.

@@ -22,7 +22,7 @@ spec_named id options = record { id = id; options = options }
 
 -- ---- an aggregate of the id
 
-known : (a : Aggregate) → names_aggregate (aggregate_id a) ≡ true
+pub known : (a : Aggregate) → names_aggregate (aggregate_id a) ≡ true
 known maximum = refl
 known minimum = refl
 known (bounded_maximum n) = refl

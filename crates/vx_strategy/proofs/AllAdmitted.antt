@@ -2,7 +2,7 @@
 use Rattle.std.proofs.Common.{◌≡◌, true, List, [], ◌∷◌, refl}
 use Rattle.vx_strategy_spec.specs.StrategyData.{by_blocks}
 use Rattle.vx_strategy_spec.specs.Admitted.{is_admitted, are_admitted, are_apart, wraps_admitted, is_admitted_grouping, is_admitted_zoned}
-use Rattle.vx_strategy.specs.AdmittedStrategy.{as_admitted, item_admitted}
+use Rattle.vx_strategy.specs.AdmittedStrategy.{item_admitted}
 use Rattle.vx_strategy.specs.RuleViews.{block_rule, zone_rule}
 use Rattle.vx_strategy.specs.FieldWays.{field_ways}
 use Rattle.vx_strategy.specs.WrapViews.{wraps}
@@ -14,7 +14,7 @@ use Rattle.vx_strategy.specs.declared.strategy.Strategy.{Strategy}
 use Rattle.vx_strategy.specs.declared.strategy.Strategy.TheVariants.{Flat, Chunked, Struct, List as ListStrategy, Dict, Zoned, Repartition, Buffered, Collect, Compressing, Table}
 use Rattle.vx_strategy.specs.declared.wrapper.Wrapper.{Wrapper}
 use Rattle.vx_strategy.specs.declared.wrapper.Wrapper.TheVariants as tested
-use Rattle.vx_strategy.proofs.Admits.{both_true, left_true, right_true, above_zero, below_u32}
+use Rattle.vx_strategy_options.proofs.Admits.{both_true, left_true, right_true, above_zero, below_u32}
 
 blocks_admitted : (r : BlockRule) → is_admitted_grouping (by_blocks (block_rule r)) ≡ true
 blocks_admitted r = above_zero _ r.multiple.ok

@@ -3,13 +3,13 @@ use Rattle.std.proofs.Common.{◌≡◌, ℕ, suc, ◌&&◌, Bool, true, false, 
 use Rattle.std.specs.Prelude.{not, option_map}
 use Rattle.vx_strategy_spec.specs.StrategyData.{StrategyData, StrategyList, no_ways, way_at}
 use Rattle.vx_strategy_spec.specs.Admitted.{is_root, overlaps, overlaps_none, are_apart, are_admitted}
-use Rattle.vx_strategy.specs.AdmittedStrategy.{AdmittedStrategy, are_overrides, as_overrides, item_overrides}
+use Rattle.vx_strategy.specs.AdmittedStrategy.{AdmittedStrategy, are_overrides, item_overrides}
 use Rattle.vx_strategy.specs.PathWays.{path_ways}
 use Rattle.vx_strategy.specs.Overridden.{Names, appended, first_overlap, is_over, overlap_place}
 use Rattle.vx_strategy.specs.declared.overrides.PathWriter.{PathWriter}
 use Rattle.vx_strategy.proofs.PlaceSteps.{later, place_below}
 use Rattle.vx_strategy.proofs.Writers.{either, none_later, bytes_eq_sym}
-use Rattle.vx_strategy.proofs.Admits.{both_true, left_true, right_true}
+use Rattle.vx_strategy_options.proofs.Admits.{both_true, left_true, right_true}
 
 -- ---- overlapping is symmetric
 

@@ -39,8 +39,9 @@ impl ChildStrategy {
     ghost use Rattle.vx_strategy_spec.specs.Admitted.{is_admitted};
     ghost use Rattle.vx_strategy.specs.StrategyView.{strategy_data};
 
+    /// The strategy behind a count of those who share it.
     #[tactic(auto, using(crate::proofs::AllAdmitted::child_rules))]
-    pub(crate) fn new(
+    pub fn new(
         alloc: Global,
         strategy: Strategy,
     ) -> Result<ChildStrategy, AllocFailed<Strategy>>

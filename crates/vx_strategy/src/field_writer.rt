@@ -13,7 +13,7 @@ use vx_model::FieldName;
 /// The writer of the fields of one name.
 #[derive(Debug, Drop)]
 #[cycle(strategy)]
-pub(crate) struct FieldWriter {
+pub struct FieldWriter {
     pub name: FieldName,
     pub writer: ChildStrategy,
 }

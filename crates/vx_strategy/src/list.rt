@@ -8,17 +8,17 @@ use std::alloc::{AllocError, Global};
 #[derive(Debug, Drop)]
 #[cycle(strategy)]
 pub struct ListLayoutStrategy {
-    pub(crate) elements: ChildStrategy,
-    pub(crate) offsets: ChildStrategy,
-    pub(crate) validity: ChildStrategy,
-    pub(crate) fallback: ChildStrategy,
+    pub elements: ChildStrategy,
+    pub offsets: ChildStrategy,
+    pub validity: ChildStrategy,
+    pub fallback: ChildStrategy,
 }
 
 impl ListLayoutStrategy {
     ghost use Rattle.std.specs.Prelude.{◌≡◌, IfOk, IfErr};
     ghost use Rattle.vx_strategy_spec.specs.StrategyData.{listed};
     ghost use Rattle.vx_strategy.specs.NodeViews.{list_way};
-    ghost use Rattle.vx_strategy.specs.OptionViews.{default_flat};
+    ghost use Rattle.vx_strategy.specs.FlatViews.{default_flat};
     ghost use Rattle.vx_strategy.specs.StrategyView.{strategy_data};
 
     /// All flat.

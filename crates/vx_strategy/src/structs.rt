@@ -9,9 +9,9 @@ use vx_model::FieldName;
 #[derive(Debug, Drop)]
 #[cycle(strategy)]
 pub struct StructStrategy {
-    pub(crate) validity: ChildStrategy,
-    pub(crate) default: ChildStrategy,
-    pub(crate) writers: Vec<FieldWriter>,
+    pub validity: ChildStrategy,
+    pub default: ChildStrategy,
+    pub writers: Vec<FieldWriter>,
 }
 
 impl StructStrategy {

@@ -12,13 +12,13 @@ use vx_field_path::FieldPath;
 #[derive(Debug, Drop)]
 #[cycle(strategy)]
 pub struct TableStrategy {
-    pub(crate) validity: ChildStrategy,
-    pub(crate) leaf: ChildStrategy,
-    pub(crate) overrides: Overrides,
+    pub validity: ChildStrategy,
+    pub leaf: ChildStrategy,
+    pub overrides: Overrides,
     /// Whether lists are laid out as lists; else they go to the leaf.
-    pub(crate) list_layout: bool,
+    pub list_layout: bool,
     /// What wraps the layout of lists, the outermost first.
-    pub(crate) wrappers: Arc<Vec<Wrapper>>,
+    pub wrappers: Arc<Vec<Wrapper>>,
 }
 
 impl TableStrategy {

@@ -1,7 +1,8 @@
 //! Strategies of parts that were read. What a constructor refuses is wrong.
 
 ghost use Rattle.std.specs.Prelude.{◌≡◌, map, Some, false};
-ghost use Rattle.vx_strategy.specs.OptionViews.{default_flat, block_options, zoned_options};
+ghost use Rattle.vx_strategy.specs.FlatViews.{default_flat};
+ghost use Rattle.vx_strategy_options.specs.OptionViews.{block_options, zoned_options};
 ghost use Rattle.vx_strategy.specs.NodeViews.{list_way, table_way};
 ghost use Rattle.vx_strategy.specs.PairWays.{named_way, path_way};
 ghost use Rattle.vx_strategy.specs.StrategyView.{strategy_data};

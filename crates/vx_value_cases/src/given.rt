@@ -2,7 +2,7 @@
 
 use anyhow::Context;
 use serde_json::Value;
-use std::alloc::Global;
+use std::alloc::{AllocError, Global};
 use vx_chunk_json::read_type;
 use vx_model::DType;
 use vx_strategy::Strategy;
@@ -26,4 +26,9 @@ pub(crate) fn dtype(alloc: Global, json: &str) -> anyhow::Result<DType> {
 pub(crate) fn strategy(alloc: Global, json: &str) -> anyhow::Result<Strategy> {
     let value = Value::from_str(alloc, json)?;
     Ok(read_strategy(alloc, &value)?)
+}
+
+/// The value in a box. One that is wide and lives beside a `?` makes a proof long, and its box doesn't.
+pub(crate) fn boxed<T: Drop>(alloc: Global, value: T) -> Result<Box<T>, AllocError> {
+    Ok(Box::new(alloc, value)?)
 }
