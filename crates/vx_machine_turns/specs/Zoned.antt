@@ -33,7 +33,7 @@ zoned_turn s n records last zones rows i = record {
 
 abbrev pub zoned_end : ZonedNode → ℕ → ℕ → Option (List Filled) → Act
 zoned_end n zones rows None = ends_as passes
-zoned_end n zones rows (Some cs) = record (ends_as (zones_of n.type rows n.options.zone_len (table_specs cs))) { numbers = zones ∷ []; indices = (n.eof.last + 2) ∷ [] }
+zoned_end n zones rows (Some cs) = record (ends_as (zones_of n.type rows n.options.zone_len (table_specs cs))) { numbers = zones ∷ [] }
 
 abbrev pub table_seed : ZonedNode → List Filled → Seed
 table_seed n cs = seed_of (n.table (table_type cs)) false (under n.name 1) (next (next n.eof))
@@ -52,6 +52,7 @@ zoned_joins s n zones (Some cs) =
       gives = gives_to 1 (table_items cs zones n.eof);
       shuts = 1 ∷ [];
       uses = raised n.eof 1 ∷ [];
+      indices = (n.eof.last + 2) ∷ [];
       refusal = start_fault s (n.table (table_type cs)) false;
     }
     ∷ does Join ∷ []
