@@ -4,6 +4,7 @@ use Rattle.std.proofs.lemmas.Grind.{common_steps}
 use Rattle.std.specs.Prelude.{◌&&◌, nat_lt, codes, bytes_eq, MatchResult, if◌then◌else◌}
 use Rattle.std.proofs.lemmas.Bool.Decides.{nat_tests}
 use Rattle.std.specs.Int.{w32, to_le_bytes}
+use Rattle.std.proofs.lemmas.Bool.{and_parts}
 use Rattle.vx_bloom_spec.specs.Bytes.{number_bytes, number_at}
 use Rattle.vx_bloom_options.specs.Options.{blocks_in, hash_fn_in, hash_number, options_bytes, ReadsOptions}
 use Rattle.vx_bloom_options.specs.declared.options.BloomOptions.{BloomOptions}
@@ -53,18 +54,10 @@ no_options (bounded_maximum n) e = absurd (omega arith)
 no_options (bounded_minimum n) e = absurd (omega arith)
 no_options (bloom n) e = absurd (omega arith)
 
-left_true : (a b : Bool) → (a && b) ≡ true → a ≡ true
-left_true true b e = refl
-left_true false b e = e
-
-right_true : (a b : Bool) → (a && b) ≡ true → b ≡ true
-right_true true b e = e
-right_true false b e = absurd (cc e)
-
 in_range : (n : ℕ) → (nat_lt 0 n && nat_lt n (2 ^ 32)) ≡ true → (0 < n) × (n < 2 ^ 32)
 in_range n e = (
-  let h = left_true (nat_lt 0 n) (nat_lt n (2 ^ 32)) e in grind (arith, nat_tests),
-  let h = right_true (nat_lt 0 n) (nat_lt n (2 ^ 32)) e in grind (arith, nat_tests),
+  let h = (and_parts (nat_lt 0 n) (nat_lt n (2 ^ 32)) e).0 in grind (arith, nat_tests),
+  let h = (and_parts (nat_lt 0 n) (nat_lt n (2 ^ 32)) e).1 in grind (arith, nat_tests),
 )
 
 -- a bound's options are no others than these

@@ -5,16 +5,9 @@ use Rattle.std.specs.Int.{w32, to_le_bytes, from_le_bytes}
 use Rattle.std.specs.Cmp.Lexicographic.{bytes_decides}
 use Rattle.std.proofs.lemmas.Nat.{from_le_bytes-to_le_bytes_4}
 use Rattle.std.proofs.lemmas.Bool.Decides.{nat_tests}
+use Rattle.std.proofs.lemmas.Bool.{and_parts}
 use Rattle.vx_aggregate_spec.specs.Aggregate.{Aggregate, maximum, minimum, bounded_maximum, bounded_minimum, null_count, sum, bloom, with_number}
 use Rattle.vx_aggregate_spec.specs.Statements.{SpecsAreRead}
-
-front : (a b : Bool) → (a && b) ≡ true → a ≡ true
-front true b e = refl
-front false b e = e
-
-back : (a b : Bool) → (a && b) ≡ true → b ≡ true
-back true b e = e
-back false b e = cc
 
 below : (n : ℕ) → nat_lt n (2 ^ 32) ≡ true → n < 2 ^ 32
 below n h = grind (arith, nat_tests)
@@ -38,12 +31,12 @@ specs_are_read maximum h = refl
 specs_are_read minimum h = refl
 specs_are_read null_count h = refl
 specs_are_read sum h = refl
-specs_are_read (bounded_maximum n) h = ap (λ bytes. with_number bounded_maximum [] bytes) (sym (nothing_behind (to_le_bytes w32 n))) ∙ number_read bounded_maximum [] n (front (nat_lt 0 n) (nat_lt n (2 ^ 32)) h) (back (nat_lt 0 n) (nat_lt n (2 ^ 32)) h)
+specs_are_read (bounded_maximum n) h = ap (λ bytes. with_number bounded_maximum [] bytes) (sym (nothing_behind (to_le_bytes w32 n))) ∙ number_read bounded_maximum [] n (and_parts (nat_lt 0 n) (nat_lt n (2 ^ 32)) h).0 (and_parts (nat_lt 0 n) (nat_lt n (2 ^ 32)) h).1
   where
     nothing_behind : (xs : List ℕ) → xs ++ [] ≡ xs
     nothing_behind xs = Rattle.std.proofs.lemmas.List.append-nil xs
-specs_are_read (bounded_minimum n) h = ap (λ bytes. with_number bounded_minimum [] bytes) (sym (nothing_behind (to_le_bytes w32 n))) ∙ number_read bounded_minimum [] n (front (nat_lt 0 n) (nat_lt n (2 ^ 32)) h) (back (nat_lt 0 n) (nat_lt n (2 ^ 32)) h)
+specs_are_read (bounded_minimum n) h = ap (λ bytes. with_number bounded_minimum [] bytes) (sym (nothing_behind (to_le_bytes w32 n))) ∙ number_read bounded_minimum [] n (and_parts (nat_lt 0 n) (nat_lt n (2 ^ 32)) h).0 (and_parts (nat_lt 0 n) (nat_lt n (2 ^ 32)) h).1
   where
     nothing_behind : (xs : List ℕ) → xs ++ [] ≡ xs
     nothing_behind xs = Rattle.std.proofs.lemmas.List.append-nil xs
-specs_are_read (bloom n) h = number_read bloom (0 ∷ 0 ∷ 0 ∷ 0 ∷ []) n (front (nat_lt 0 n) (nat_lt n (2 ^ 32)) h) (back (nat_lt 0 n) (nat_lt n (2 ^ 32)) h)
+specs_are_read (bloom n) h = number_read bloom (0 ∷ 0 ∷ 0 ∷ 0 ∷ []) n (and_parts (nat_lt 0 n) (nat_lt n (2 ^ 32)) h).0 (and_parts (nat_lt 0 n) (nat_lt n (2 ^ 32)) h).1

@@ -2,6 +2,7 @@
 use Rattle.std.proofs.Common.{◌≡◌, ℕ, suc, ◌+◌, ◌<◌, ◌≤◌, ◌^◌, ◌&&◌, ◌||◌, Bool, true, false, List, [], ◌∷◌, ◌++◌, map, length, refl, ap, ap₂, arith, length-append}
 use Rattle.std.specs.Prelude.{if◌then◌else◌, nat_le, nat_lt, pos}
 use Rattle.std.proofs.lemmas.Bool.Decides.{nat_tests}
+use Rattle.std.proofs.lemmas.Bool.{and_from, and_parts}
 use Rattle.vx_model.specs.declared.ptype.PType.{PType}
 use Rattle.vx_model.specs.declared.ptype.PType.TheVariants.{U8, U16, U32, U64}
 use Rattle.vx_model.specs.Numbers.{int_fits}
@@ -10,35 +11,16 @@ use Rattle.vx_model.specs.Ty.{Ty, primitive}
 use Rattle.vx_model.specs.CellData.{CellData, fits}
 use Rattle.vx_model.specs.ChunkData.{ChunkData, plain_piece, cells, cell_at, picked, is_sound, is_code_type, is_dict_type, is_unsigned, is_code}
 use Rattle.vx_layout_spec.specs.Real.{Of, is_real_cell}
+use Rattle.vx_layout_spec.proofs.CellsFit.{all_append}
 use Rattle.vx_rules.specs.Columns.{offset_cell}
 use Rattle.vx_rules.specs.Runs.{same_cell, has_cell, with_cell, place_in, distinct_from}
-use Rattle.vx_rules.proofs.CellLaws.{Fine, plain_of, all_append, left_true, right_true, both_true}
+use Rattle.vx_rules.proofs.CellLaws.{Fine, plain_of}
+use Rattle.vx_rules.proofs.RunLaws.{Is, same_cell_true, self_same, place_is, has_last}
 use Rattle.vx_compressor_spec.specs.TableImage.{distinct, codes_of, code_ptype, dictionary}
-use Rattle.vx_compressor_spec.proofs.Same.{same_cell_true, self_same}
 
 -- ---- the cell at its place
 
--- a place with its cell
-abbrev Is : List CellData → ℕ → CellData → Type 0
-Is ds n c = (n < length ds) × (cell_at ds n ≡ c)
-
-place_is : (c : CellData) (ds : List CellData) → has_cell c ds ≡ true → Is ds (place_in c ds) c
-place_is c [] h = cc
-place_is c (d ∷ ds) h = go (same_cell d c) (same_cell_true d c) h (place_is c ds)
-  where
-    go : (b : Bool) → (b ≡ true → d ≡ c) → (b || has_cell c ds) ≡ true → (has_cell c ds ≡ true → Is ds (place_in c ds) c) → Is (d ∷ ds) (if b then 0 else suc (place_in c ds)) c
-    go true s h r = (omega arith, s refl)
-    go false s h r = let w : Is ds (place_in c ds) c = r h in let l : place_in c ds < length ds = w.0 in (omega arith, w.1)
-
-has_last : (c : CellData) (ds : List CellData) → same_cell c c ≡ true → has_cell c (ds ++ (c ∷ [])) ≡ true
-has_last c [] s = ap (λ b. b || false) s
-has_last c (d ∷ ds) s = go (same_cell d c) (has_last c ds s)
-  where
-    go : (b : Bool) → has_cell c (ds ++ (c ∷ [])) ≡ true → (b || has_cell c (ds ++ (c ∷ []))) ≡ true
-    go true h = refl
-    go false h = h
-
-has_more : (c d : CellData) (ds : List CellData) → has_cell c ds ≡ true → has_cell c (ds ++ (d ∷ [])) ≡ true
+pub has_more : (c d : CellData) (ds : List CellData) → has_cell c ds ≡ true → has_cell c (ds ++ (d ∷ [])) ≡ true
 has_more c d [] h = cc
 has_more c d (e ∷ ds) h = go (same_cell e c) h (has_more c d ds)
   where
@@ -46,14 +28,14 @@ has_more c d (e ∷ ds) h = go (same_cell e c) h (has_more c d ds)
     go true h r = refl
     go false h r = r h
 
-has_with : (c d : CellData) (ds : List CellData) → has_cell c ds ≡ true → has_cell c (with_cell ds d) ≡ true
+pub has_with : (c d : CellData) (ds : List CellData) → has_cell c ds ≡ true → has_cell c (with_cell ds d) ≡ true
 has_with c d ds h = go (has_cell d ds)
   where
     go : (b : Bool) → has_cell c (if b then ds else ds ++ (d ∷ [])) ≡ true
     go true = h
     go false = has_more c d ds h
 
-has_itself : (c : CellData) (ds : List CellData) → same_cell c c ≡ true → has_cell c (with_cell ds c) ≡ true
+pub has_itself : (c : CellData) (ds : List CellData) → same_cell c c ≡ true → has_cell c (with_cell ds c) ≡ true
 has_itself c ds s = go (has_cell c ds) refl
   where
     go : (b : Bool) → has_cell c ds ≡ b → has_cell c (if b then ds else ds ++ (c ∷ [])) ≡ true
@@ -61,40 +43,40 @@ has_itself c ds s = go (has_cell c ds) refl
     go false e = has_last c ds s
 
 -- a cell that is there stays
-stays : (c : CellData) (ds cs : List CellData) → has_cell c ds ≡ true → has_cell c (distinct_from ds cs) ≡ true
+pub stays : (c : CellData) (ds cs : List CellData) → has_cell c ds ≡ true → has_cell c (distinct_from ds cs) ≡ true
 stays c ds [] h = h
 stays c ds (d ∷ cs) h = stays c (with_cell ds d) cs (has_with c d ds h)
 
 -- ---- the distinct cells
 
-abbrev HaveAll : List CellData → List CellData → Type 0
+abbrev pub HaveAll : List CellData → List CellData → Type 0
 HaveAll ds [] = Unit {0}
 HaveAll ds (c ∷ cs) = (has_cell c ds ≡ true) × HaveAll ds cs
 
-have_all : (t : Ty) → is_dict_type t ≡ true → (ds cs : List CellData) → all_by (fits t) cs ≡ true → HaveAll (distinct_from ds cs) cs
+pub have_all : (t : Ty) → is_dict_type t ≡ true → (ds cs : List CellData) → all_by (fits t) cs ≡ true → HaveAll (distinct_from ds cs) cs
 have_all t d ds [] f = tt
 have_all t d ds (c ∷ cs) f =
-    (stays c (with_cell ds c) cs (has_itself c ds (self_same t c d (left_true (fits t c) _ f))), have_all t d (with_cell ds c) cs (right_true (fits t c) _ f))
+    (stays c (with_cell ds c) cs (has_itself c ds (self_same t c d (and_parts (fits t c) _ f).0)), have_all t d (with_cell ds c) cs (and_parts (fits t c) _ f).1)
 
 with_all : (f : CellData → Bool) (ds : List CellData) (c : CellData) → all_by f ds ≡ true → f c ≡ true → all_by f (with_cell ds c) ≡ true
 with_all f ds c h e = go (has_cell c ds)
   where
     go : (b : Bool) → all_by f (if b then ds else ds ++ (c ∷ [])) ≡ true
     go true = h
-    go false = all_append f ds (c ∷ []) h (both_true (f c) true e refl)
+    go false = all_append f ds (c ∷ []) h (and_from (f c) true e refl)
 
-distinct_all : (f : CellData → Bool) (ds cs : List CellData) → all_by f ds ≡ true → all_by f cs ≡ true → all_by f (distinct_from ds cs) ≡ true
+pub distinct_all : (f : CellData → Bool) (ds cs : List CellData) → all_by f ds ≡ true → all_by f cs ≡ true → all_by f (distinct_from ds cs) ≡ true
 distinct_all f ds [] h g = h
-distinct_all f ds (c ∷ cs) h g = distinct_all f (with_cell ds c) cs (with_all f ds c h (left_true (f c) _ g)) (right_true (f c) _ g)
+distinct_all f ds (c ∷ cs) h g = distinct_all f (with_cell ds c) cs (with_all f ds c h (and_parts (f c) _ g).0) (and_parts (f c) _ g).1
 
-with_longer : (ds : List CellData) (c : CellData) → length (with_cell ds c) ≤ suc (length ds)
+pub with_longer : (ds : List CellData) (c : CellData) → length (with_cell ds c) ≤ suc (length ds)
 with_longer ds c = go (has_cell c ds)
   where
     go : (b : Bool) → length (if b then ds else ds ++ (c ∷ [])) ≤ suc (length ds)
     go true = omega arith
     go false = let e : length (ds ++ (c ∷ [])) ≡ length ds + 1 = length-append ds (c ∷ []) in omega arith
 
-distinct_few : (ds cs : List CellData) → length (distinct_from ds cs) ≤ length ds + length cs
+pub distinct_few : (ds cs : List CellData) → length (distinct_from ds cs) ≤ length ds + length cs
 distinct_few ds [] = omega arith
 distinct_few ds (c ∷ cs) =
     let a : length (distinct_from (with_cell ds c) cs) ≤ length (with_cell ds c) + length cs = distinct_few (with_cell ds c) cs in let b : length (with_cell ds c) ≤ suc (length ds) = with_longer ds c in omega arith
@@ -105,7 +87,7 @@ codes_back : (ds cs : List CellData) → HaveAll ds cs → map (picked ds) (map 
 codes_back ds [] h = refl
 codes_back ds (c ∷ cs) h = ap₂ (λ x y. x ∷ y) (place_is c ds h.0).1 (codes_back ds cs h.1)
 
-length-codes_of : (ds cs : List CellData) → length (map offset_cell (codes_of ds cs)) ≡ length cs
+pub length-codes_of : (ds cs : List CellData) → length (map offset_cell (codes_of ds cs)) ≡ length cs
 length-codes_of ds [] = refl
 length-codes_of ds (c ∷ cs) = ap suc (length-codes_of ds cs)
 
@@ -130,7 +112,7 @@ code_fits k n l m = go (nat_le k 256) (nat_le k 65536) (nat_le k (2 ^ 32)) refl 
     go false false true e f g = words g
     go false false false e f g = longs
 
-code_unsigned : (k : ℕ) → is_unsigned (code_ptype k) ≡ true
+pub code_unsigned : (k : ℕ) → is_unsigned (code_ptype k) ≡ true
 code_unsigned k = go (nat_le k 256) (nat_le k 65536) (nat_le k (2 ^ 32))
   where
     go : (a b c : Bool) → is_unsigned (if a then U8 else if b then U16 else if c then U32 else U64) ≡ true
@@ -139,25 +121,25 @@ code_unsigned k = go (nat_le k 256) (nat_le k 65536) (nat_le k (2 ^ 32))
     go false false true = refl
     go false false false = refl
 
-code_type_is : (p : PType) → is_unsigned p ≡ true → is_code_type (primitive p false) ≡ true
-code_type_is p e = both_true (is_unsigned p) true e refl
+pub code_type_is : (p : PType) → is_unsigned p ≡ true → is_code_type (primitive p false) ≡ true
+code_type_is p e = and_from (is_unsigned p) true e refl
 
 below : (n k : ℕ) → n < k → nat_lt n k ≡ true
 below n k l = grind (arith, nat_tests)
 
-codes_fit : (k : ℕ) (ds cs : List CellData) → k ≡ length ds → k < 2 ^ 64 → HaveAll ds cs → all_by (fits (primitive (code_ptype k) false)) (map offset_cell (codes_of ds cs)) ≡ true
+pub codes_fit : (k : ℕ) (ds cs : List CellData) → k ≡ length ds → k < 2 ^ 64 → HaveAll ds cs → all_by (fits (primitive (code_ptype k) false)) (map offset_cell (codes_of ds cs)) ≡ true
 codes_fit k ds [] e m h = refl
 codes_fit k ds (c ∷ cs) e m h =
     let l : place_in c ds < length ds = (place_is c ds h.0).0 in
-    both_true (int_fits (code_ptype k) (pos (place_in c ds))) _ (code_fits k (place_in c ds) (omega arith) m) (codes_fit k ds cs e m h.1)
+    and_from (int_fits (code_ptype k) (pos (place_in c ds))) _ (code_fits k (place_in c ds) (omega arith) m) (codes_fit k ds cs e m h.1)
 
 codes_real : (ds cs : List CellData) → all_by is_real_cell (map offset_cell (codes_of ds cs)) ≡ true
 codes_real ds [] = refl
 codes_real ds (c ∷ cs) = codes_real ds cs
 
-codes_within : (ds cs : List CellData) → HaveAll ds cs → all_by (is_code (length ds)) (map offset_cell (codes_of ds cs)) ≡ true
+pub codes_within : (ds cs : List CellData) → HaveAll ds cs → all_by (is_code (length ds)) (map offset_cell (codes_of ds cs)) ≡ true
 codes_within ds [] h = refl
-codes_within ds (c ∷ cs) h = both_true (nat_lt (place_in c ds) (length ds)) _ (below (place_in c ds) (length ds) (place_is c ds h.0).0) (codes_within ds cs h.1)
+codes_within ds (c ∷ cs) h = and_from (nat_lt (place_in c ds) (length ds)) _ (below (place_in c ds) (length ds) (place_is c ds h.0).0) (codes_within ds cs h.1)
 
 -- ---- the dictionary
 
@@ -182,12 +164,12 @@ dictionary_same t cs d f =
         typed = refl;
         whole = record {
           sound =
-              both_true (is_sound (plain_piece (primitive (code_ptype (length (distinct cs))) false) (map offset_cell (codes_of (distinct cs) cs))) && is_sound (plain_piece t (distinct cs))) _
-              (both_true (is_sound (plain_piece (primitive (code_ptype (length (distinct cs))) false) (map offset_cell (codes_of (distinct cs) cs)))) _ codes.whole.sound values.whole.sound)
-              (both_true (is_code_type (primitive (code_ptype (length (distinct cs))) false) && is_dict_type t) _
-              (both_true (is_code_type (primitive (code_ptype (length (distinct cs))) false)) (is_dict_type t) (code_type_is (code_ptype (length (distinct cs))) (code_unsigned (length (distinct cs)))) d)
+              and_from (is_sound (plain_piece (primitive (code_ptype (length (distinct cs))) false) (map offset_cell (codes_of (distinct cs) cs))) && is_sound (plain_piece t (distinct cs))) _
+              (and_from (is_sound (plain_piece (primitive (code_ptype (length (distinct cs))) false) (map offset_cell (codes_of (distinct cs) cs)))) _ codes.whole.sound values.whole.sound)
+              (and_from (is_code_type (primitive (code_ptype (length (distinct cs))) false) && is_dict_type t) _
+              (and_from (is_code_type (primitive (code_ptype (length (distinct cs))) false)) (is_dict_type t) (code_type_is (code_ptype (length (distinct cs))) (code_unsigned (length (distinct cs)))) d)
               (codes_within (distinct cs) cs have));
-          real = both_true (all_by is_real_cell (map offset_cell (codes_of (distinct cs) cs))) _ codes.whole.real values.whole.real;
+          real = and_from (all_by is_real_cell (map offset_cell (codes_of (distinct cs) cs))) _ codes.whole.real values.whole.real;
         };
       };
       cells = codes_back (distinct cs) cs have;

@@ -1,12 +1,13 @@
 -- The table compressor's images keep the cells.
 use Rattle.std.proofs.Common.{◌≡◌, ◌^◌, ◌&&◌, Bool, true, false, List, [], ◌∷◌, length, refl, sym, ap, ap₂, subst}
 use Rattle.std.specs.Prelude.{if◌then◌else◌, ◌==◌, ◌*◌, nat_le, nat_lt, replicate}
+use Rattle.std.proofs.lemmas.Bool.{and_from, and_parts}
 use Rattle.vx_model.specs.Words.{all_by}
 use Rattle.vx_model.specs.Ty.{Ty}
 use Rattle.vx_model.specs.CellData.{CellData, fits}
 use Rattle.vx_model.specs.ChunkData.{ChunkData, plain_piece, constant_piece, cells, is_dict_type}
 use Rattle.vx_layout_spec.specs.Real.{is_real_cell}
-use Rattle.vx_rules.proofs.CellLaws.{Fine, cells_fine, plain_of, left_true, right_true, both_true, below_test}
+use Rattle.vx_rules.proofs.CellLaws.{Fine, cells_fine, plain_of, below_test}
 use Rattle.vx_compressor_spec.specs.TableImage.{tree_eq, distinct, dictionary, small_image, chosen_image, coded_image, table_image}
 use Rattle.vx_compressor_spec.specs.Statements.{ImagesKeepCells}
 use Rattle.vx_compressor_spec.proofs.Same.{tree_eq_true}
@@ -18,15 +19,15 @@ plain_same t cs f = record { whole = plain_of t cs f; cells = refl }
 -- one cell so many times
 repeated : (c : CellData) (cs : List CellData) → all_by (tree_eq c) cs ≡ true → replicate (length cs) c ≡ cs
 repeated c [] h = refl
-repeated c (d ∷ cs) h = ap₂ (λ x y. x ∷ y) (tree_eq_true c d (left_true (tree_eq c d) _ h)) (repeated c cs (right_true (tree_eq c d) _ h))
+repeated c (d ∷ cs) h = ap₂ (λ x y. x ∷ y) (tree_eq_true c d (and_parts (tree_eq c d) _ h).0) (repeated c cs (and_parts (tree_eq c d) _ h).1)
 
 constant_same : (t : Ty) (c : CellData) (cs : List CellData) → Fine t (c ∷ cs) → all_by (tree_eq c) cs ≡ true → Same t (c ∷ cs) (constant_piece t c (length (c ∷ cs)))
 constant_same t c cs f h = record {
   whole = record {
     typed = refl;
     whole = record {
-      sound = both_true (fits t c) (nat_lt (length (c ∷ cs)) (2 ^ 64)) (left_true (fits t c) _ f.fit) (below_test (length (c ∷ cs)) f.short);
-      real = left_true (is_real_cell c) _ f.real;
+      sound = and_from (fits t c) (nat_lt (length (c ∷ cs)) (2 ^ 64)) (and_parts (fits t c) _ f.fit).0 (below_test (length (c ∷ cs)) f.short);
+      real = (and_parts (is_real_cell c) _ f.real).0;
     };
   };
   cells = ap (λ z. c ∷ z) (repeated c cs h);

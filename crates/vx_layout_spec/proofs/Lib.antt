@@ -1,2 +1,3 @@
+pub mod CellsFit
 pub mod LayoutLaws
 pub mod RealLaws

@@ -10,11 +10,12 @@ use Rattle.vx_model.specs.CellData.{int_cell}
 use Rattle.vx_model.specs.ChunkData.{ChunkData, plain_piece, cells}
 use Rattle.vx_layout_spec.specs.LayoutTree.{LayoutData}
 use Rattle.vx_aggregate_spec.specs.Aggregate.{maximum, minimum, bounded_maximum, bounded_minimum, null_count, sum, bloom, aggregate_id}
-use Rattle.vx_cell_codec.specs.Reading as fields
-use Rattle.vx_cell_codec.specs.Reading.{front_at}
-use Rattle.vx_metadata.specs.Reading.{count_at, string_at, name_at, spec_at, zoned_body}
+use Rattle.vx_byte_reader.specs.Fields as fields
+use Rattle.vx_byte_reader.specs.Fields.{front_at, number_at}
+use Rattle.vx_byte_reader.specs.Places.{many_at}
+use Rattle.vx_metadata.specs.Reading.{string_at, name_at, spec_at, zoned_body}
 use Rattle.vx_layout_bytes.specs.Spelled.{spelling}
-use Rattle.vx_layout_bytes.specs.Reading.{many_at, numbered_at, segments_at, own_at, many_nodes, none_at, node_with, root_at}
+use Rattle.vx_layout_bytes.specs.Reading.{numbered_at, segments_at, own_at, many_nodes, none_at, node_with, root_at}
 use Rattle.vx_session.specs.Encodings.{all_encodings}
 use Rattle.vx_session.specs.Scope.{Scope}
 use Rattle.vx_session.specs.Kinds.{read_spec, build_flat, build_chunked, build_zoned}
@@ -67,5 +68,5 @@ unfolding scope setting plain zones_of_2 batches
 known = ((refl, omega arith, refl), ((refl, (((refl, refl), tt), (((refl, refl), tt), tt))), (((refl, refl), tt), tt)))
 
 again : parsed scope (primitive I32 false) 3 5 (spelling (node_in scope.ids written)) ≡ Ok written
-unfolding scope setting plain zones_of_2 batches is_utf8 chars encode_utf8 front_at fields.many_at count_at string_at name_at spec_at zoned_body many_at numbered_at segments_at own_at many_nodes none_at node_with root_at read_spec build_flat build_chunked build_zoned
+unfolding scope setting plain zones_of_2 batches is_utf8 chars encode_utf8 front_at number_at fields.many_at string_at name_at spec_at zoned_body many_at numbered_at segments_at own_at many_nodes none_at node_with root_at read_spec build_flat build_chunked build_zoned
 again = refl

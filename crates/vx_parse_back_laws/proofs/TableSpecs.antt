@@ -4,6 +4,7 @@ use Rattle.std.specs.Prelude.{if◌then◌else◌, nat_lt}
 use Rattle.std.specs.Str.{chars, is_utf8}
 use Rattle.std.specs.Char.{encode_utf8}
 use Rattle.std.proofs.lemmas.Bool.Decides.{nat_tests}
+use Rattle.std.proofs.lemmas.Bool.{and_from, and_parts}
 use Rattle.vx_model.specs.Words.{all_by, tail}
 use Rattle.vx_model.specs.Ty.{Ty}
 use Rattle.vx_model.specs.ValueData.{ValueData}
@@ -19,23 +20,13 @@ use Rattle.vx_metadata.specs.Values.{is_short_spec, has_text_id, IsZoned}
 use Rattle.vx_session.specs.Ids.{is_listed}
 use Rattle.vx_session.specs.Scope.{Context, Scope}
 use Rattle.vx_session.specs.Made.{◌>>=◌}
+use Rattle.vx_session.proofs.Named.{known as named}
 use Rattle.vx_session.specs.Kinds.{names_aggregate, with_options, let_through, read_spec, in_front, read_on, read_specs}
 use Rattle.vx_strategy_spec.specs.Admitted.{is_admitted_zoned}
 use Rattle.vx_strategy_spec.specs.StrategyData.{ZonedOptions}
 use Rattle.vx_plan.specs.ZonedNode.{asked, recorded}
 use Rattle.vx_plan.proofs.ZonedLaws.{options_of}
 use Rattle.vx_parse_back_laws.specs.Knowing.{is_known}
-
-front : (a b : Bool) → (a && b) ≡ true → a ≡ true
-front true b e = refl
-front false b e = e
-
-back : (a b : Bool) → (a && b) ≡ true → b ≡ true
-back true b e = e
-back false b e = cc
-
-both : (a b : Bool) → a ≡ true → b ≡ true → (a && b) ≡ true
-both a b e f = rw (e, f) refl
 
 -- ---- the columns of a table
 
@@ -56,8 +47,8 @@ held (a ∷ aggregates) t c i = go (state_type a t) refl (λ j. held aggregates 
 
 options_in : (aggregates : List Aggregate) → all_by has_options aggregates ≡ true → (a : Aggregate) → In a aggregates → has_options a ≡ true
 options_in [] h a i = absurd i
-options_in (b ∷ aggregates) h a (inl q) = ap has_options q ∙ front (has_options b) (all_by has_options aggregates) h
-options_in (b ∷ aggregates) h a (inr i) = options_in aggregates (back (has_options b) (all_by has_options aggregates) h) a i
+options_in (b ∷ aggregates) h a (inl q) = ap has_options q ∙ (and_parts (has_options b) (all_by has_options aggregates) h).0
+options_in (b ∷ aggregates) h a (inr i) = options_in aggregates (and_parts (has_options b) (all_by has_options aggregates) h).1 a i
 
 filled_from : (columns : List Column) (records : List (List ValueData)) (f : Filled) → In f (filled columns records) → In (column_of f) columns
 filled_from [] records f i = absurd i
@@ -84,15 +75,6 @@ pub specs_named : (cs : List Filled) → map spec (table_aggregates cs) ≡ tabl
 specs_named [] = refl
 specs_named (c ∷ cs) = ap (λ specs. spec c.aggregate ∷ specs) (specs_named cs)
 
-named : (a : Aggregate) → names_aggregate (aggregate_id a) ≡ true
-named maximum = refl
-named minimum = refl
-named (bounded_maximum n) = refl
-named (bounded_minimum n) = refl
-named null_count = refl
-named sum = refl
-named (bloom n) = refl
-
 spec_read : (c : Context) (a : Aggregate) → is_listed (aggregate_id a) c.aggregates ≡ true → has_options a ≡ true → read_spec c (spec a) ≡ Ok (Some a)
 unfolding read_spec
 spec_read c a known options = go (is_listed (aggregate_id a) c.aggregates) (names_aggregate (aggregate_id a)) (aggregate_of (spec a)) known (named a) (specs_are_read a options)
@@ -104,9 +86,9 @@ pub specs_read : (s : Scope) (t : Ty) (cs : List Filled) → all_by (is_known s.
 specs_read s t [] known are = refl
 specs_read s t (c ∷ cs) known are =
     let column : IsColumn t (column_of c) = are c (inl refl) in
-    let one : read_spec s.context (spec c.aggregate) ≡ Ok (Some c.aggregate) = spec_read s.context c.aggregate (front (is_known s.context (spec c.aggregate)) (all_by (is_known s.context) (table_specs cs)) known) column.options in
+    let one : read_spec s.context (spec c.aggregate) ≡ Ok (Some c.aggregate) = spec_read s.context c.aggregate (and_parts (is_known s.context (spec c.aggregate)) (all_by (is_known s.context) (table_specs cs)) known).0 column.options in
     let others : read_specs s.context (table_specs cs) ≡ Ok (Some (table_aggregates cs)) =
-    specs_read s t cs (back (is_known s.context (spec c.aggregate)) (all_by (is_known s.context) (table_specs cs)) known) (λ f i. are f (inr i)) in
+    specs_read s t cs (and_parts (is_known s.context (spec c.aggregate)) (all_by (is_known s.context) (table_specs cs)) known).1 (λ f i. are f (inr i)) in
     ap (λ (r : Result (Option Aggregate) Refusal). r >>= λ o. read_on o (read_specs s.context (table_specs cs))) one
     ∙ ap (λ (r : Result (Option (List Aggregate)) Refusal). r >>= in_front c.aggregate) others
 
@@ -123,7 +105,7 @@ spec_short (bloom n) = refl
 
 all_short : (cs : List Filled) → all_by is_short_spec (table_specs cs) ≡ true
 all_short [] = refl
-all_short (c ∷ cs) = both (is_short_spec (spec c.aggregate)) (all_by is_short_spec (table_specs cs)) (spec_short c.aggregate) (all_short cs)
+all_short (c ∷ cs) = and_from (is_short_spec (spec c.aggregate)) (all_by is_short_spec (table_specs cs)) (spec_short c.aggregate) (all_short cs)
 
 spec_text : (a : Aggregate) → has_text_id (spec a) ≡ true
 unfolding is_utf8 chars encode_utf8
@@ -137,7 +119,7 @@ spec_text (bloom n) = refl
 
 all_text : (cs : List Filled) → all_by has_text_id (table_specs cs) ≡ true
 all_text [] = refl
-all_text (c ∷ cs) = both (has_text_id (spec c.aggregate)) (all_by has_text_id (table_specs cs)) (spec_text c.aggregate) (all_text cs)
+all_text (c ∷ cs) = and_from (has_text_id (spec c.aggregate)) (all_by has_text_id (table_specs cs)) (spec_text c.aggregate) (all_text cs)
 
 below : (n m : ℕ) → n < m → nat_lt n m ≡ true
 below n m h = grind (arith, nat_tests)
@@ -146,11 +128,11 @@ above : (n m : ℕ) → nat_lt n m ≡ true → n < m
 above n m h = grind (arith, nat_tests)
 
 zone_short : (o : ZonedOptions) → is_admitted_zoned o ≡ true → o.zone_len < 2 ^ 32
-zone_short o h = above o.zone_len (2 ^ 32) (front (nat_lt o.zone_len (2 ^ 32)) _ (back (nat_lt 0 o.zone_len) _ h))
+zone_short o h = above o.zone_len (2 ^ 32) (and_parts (nat_lt o.zone_len (2 ^ 32)) _ (and_parts (nat_lt 0 o.zone_len) _ h).1).0
 
 pub metadata_fits : (o : ZonedOptions) (cs : List Filled) → is_admitted_zoned o ≡ true → length (table_specs cs) < 2 ^ 32 → IsZoned (record { zone_len = o.zone_len; specs = table_specs cs })
 metadata_fits o cs ok few = record {
   zone_len = zone_short o ok;
-  short = both (nat_lt (length (table_specs cs)) (2 ^ 32)) (all_by is_short_spec (table_specs cs)) (below (length (table_specs cs)) (2 ^ 32) few) (all_short cs);
+  short = and_from (nat_lt (length (table_specs cs)) (2 ^ 32)) (all_by is_short_spec (table_specs cs)) (below (length (table_specs cs)) (2 ^ 32) few) (all_short cs);
   ids = all_text cs;
 }

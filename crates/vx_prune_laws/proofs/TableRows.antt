@@ -2,7 +2,7 @@
 use Rattle.std.proofs.Common.{◌≡◌, ℕ, suc, ◌<◌, ◌&&◌, Bool, true, false, List, [], ◌∷◌, ◌++◌, map, length, take, Option, Some, None, refl, sym, ap, ap₂, ◌∙◌, subst, inl, inr, ⊎_elim, arith}
 use Rattle.std.specs.Prelude.{if◌then◌else◌, nat_le, nat_lt, ◌^◌, ℤ}
 use Rattle.std.specs.Str.{chars}
-use Rattle.std.proofs.lemmas.Bool.{true≢false}
+use Rattle.std.proofs.lemmas.Bool.{true≢false, and_parts}
 use Rattle.std.proofs.lemmas.Bool.Decides.{nat_tests}
 use Rattle.std.proofs.lemmas.Option.{none-some}
 use Rattle.vx_model.specs.declared.ptype.PType.{PType}
@@ -32,14 +32,6 @@ use Rattle.vx_zone_table_laws.proofs.TableTypes.{IsColumn, column_of, AreColumns
 use Rattle.vx_aggregate_spec.specs.Tables.{stats_table}
 use Rattle.vx_plan.specs.PlanData.{Setting}
 use Rattle.vx_plan.specs.ZonesHold.{records_of}
-
-front : (a b : Bool) → (a && b) ≡ true → a ≡ true
-front true b e = refl
-front false b e = e
-
-back : (a b : Bool) → (a && b) ≡ true → b ≡ true
-back true b e = e
-back false b e = cc
 
 -- ---- values of aggregates are no lists and no structs
 
@@ -74,8 +66,8 @@ value_flat t u (bool_value b) e h = tt
 value_flat t u (int_value b) e h = tt
 value_flat t u (text_value b) e h = tt
 value_flat t u (bytes_value b) e h = tt
-value_flat t u (list_value b) e h = fits_flat t u (list_value b) e (front (value_fits t (list_value b)) true h)
-value_flat t u (struct_value b) e h = fits_flat t u (struct_value b) e (front (value_fits t (struct_value b)) true h)
+value_flat t u (list_value b) e h = fits_flat t u (list_value b) e (and_parts (value_fits t (list_value b)) true h).0
+value_flat t u (struct_value b) e h = fits_flat t u (struct_value b) e (and_parts (value_fits t (struct_value b)) true h).0
 
 greatest_flat : (t u : Ty) → bound_state t ≡ Some u → (vs : List ValueData) → AllValues t vs → Flat (greatest vs)
 greatest_flat t u e [] h = tt
@@ -154,11 +146,11 @@ Held t (a ∷ columns) = (state_type a.0 t ≡ Some a.1) × (has_options a.0 ≡
 
 held_are : (t : Ty) (aggregates : List Aggregate) → all_by has_options aggregates ≡ true → Held t (held_aggregates aggregates t)
 held_are t [] h = tt
-held_are t (a ∷ aggregates) h = go (state_type a t) refl (held_are t aggregates (back (has_options a) (all_by has_options aggregates) h))
+held_are t (a ∷ aggregates) h = go (state_type a t) refl (held_are t aggregates (and_parts (has_options a) (all_by has_options aggregates) h).1)
   where
     go : (o : Option Ty) → state_type a t ≡ o → Held t (held_aggregates aggregates t) → Held t (with_state a o ++ held_aggregates aggregates t)
     go None e rest = rest
-    go (Some u) e rest = (e, front (has_options a) (all_by has_options aggregates) h, rest)
+    go (Some u) e rest = (e, (and_parts (has_options a) (all_by has_options aggregates) h).0, rest)
 
 heads_are : (s : Setting) (t : Ty) (a : Column) (columns : List Column) (zs : List (List ValueData)) → map (head_or null_value) (records_of s t (a ∷ columns) zs) ≡ map (λ vs. aggregate_value s.hash t vs a.0) zs
 heads_are s t a columns [] = refl
@@ -321,5 +313,5 @@ filter_holds s small t zs fs h z all vs rec blocks stored i v j n =
     let k : (f : Filled) × Kept s t zs f × (bloom blocks ≡ f.aggregate) = listed_kept s t zs fs h (bloom blocks) (bytes_value stored) vs i in
     let options : has_options (bloom blocks) ≡ true = ap has_options k.2 ∙ k.1.options in
     let state : state_type (bloom blocks) t ≡ Some k.0.state = ap (λ a. state_type a t) k.2 ∙ k.1.state in
-    (stored_filter_contains s.hash t blocks z stored small (filter_order t k.0.state state) all (some blocks (front (nat_lt 0 blocks) (nat_lt blocks (2 ^ 32)) options))
-    (few blocks (back (nat_lt 0 blocks) (nat_lt blocks (2 ^ 32)) options)) (value_in s.hash t z (paired (table_aggregates fs) vs) rec (bloom blocks) (bytes_value stored) i)).contains v j n
+    (stored_filter_contains s.hash t blocks z stored small (filter_order t k.0.state state) all (some blocks (and_parts (nat_lt 0 blocks) (nat_lt blocks (2 ^ 32)) options).0)
+    (few blocks (and_parts (nat_lt 0 blocks) (nat_lt blocks (2 ^ 32)) options).1) (value_in s.hash t z (paired (table_aggregates fs) vs) rec (bloom blocks) (bytes_value stored) i)).contains v j n

@@ -1,7 +1,7 @@
 -- The splitters give the columns of structs and of lists.
 use Rattle.std.proofs.Common.{◌≡◌, ℕ, zero, suc, ◌+◌, ◌<◌, Bool, true, false, List, [], ◌∷◌, ◌++◌, length, map, drop, refl, sym, ap, ap₂, ◌∙◌, subst, arith, length-append, eq-eqb}
 use Rattle.std.specs.Prelude.{if◌then◌else◌, ◌==◌, ◌&&◌, not}
-use Rattle.std.proofs.lemmas.Bool.{true≢false}
+use Rattle.std.proofs.lemmas.Bool.{true≢false, and_parts}
 use Rattle.std.proofs.lemmas.Bool.Decides.{nat_tests}
 use Rattle.vx_model.specs.Words.{tail}
 use Rattle.vx_model.specs.Ty.{Ty, Tys, struct, no_fields, field, fields_in, ty_eq}
@@ -11,7 +11,6 @@ use Rattle.vx_path.specs.Path.{under}
 use Rattle.vx_layout_spec.specs.Parts.{all_elements, others_of, plain_fields, field_pieces}
 use Rattle.vx_rules.specs.Stream.{Chunk, stream_cells, Chunks}
 use Rattle.vx_rules.specs.Columns.{Split, struct_splits, struct_columns, list_splits, list_columns, column, other_columns, head_piece}
-use Rattle.vx_rules.proofs.CellLaws.{left_true, right_true}
 use Rattle.vx_rules.proofs.ColumnStreams.{elements_append}
 use Rattle.vx_react.specs.declared.place.Place.TheVariants.{Column}
 use Rattle.vx_react.specs.Reactor.{Sent, placed, sends, state_after, sent_to}
@@ -84,8 +83,8 @@ matched_length no_fields [] n h = refl
 matched_length no_fields (p ∷ ps) n h = absurd (true≢false (sym h))
 matched_length (field name t fs) [] n h = absurd (true≢false (sym h))
 matched_length (field name t fs) (p ∷ ps) n h =
-    let rest : ((length (cells p) == n) && match_fields fs ps n) ≡ true = right_true (ty_eq (piece_type p) t) _ h in
-    ap suc (matched_length fs ps n (right_true (length (cells p) == n) _ rest))
+    let rest : ((length (cells p) == n) && match_fields fs ps n) ≡ true = (and_parts (ty_eq (piece_type p) t) _ h).1 in
+    ap suc (matched_length fs ps n (and_parts (length (cells p) == n) _ rest).1)
 
 plain_length : (fs : Tys) (cs : List CellData) → length (plain_fields fs cs) ≡ length (fields_in fs)
 plain_length no_fields cs = refl
@@ -94,8 +93,8 @@ plain_length (field name t fs) cs = ap suc (plain_length fs (map others_of cs))
 own_length : (fs : Tys) (m : Bool) (u : Ty) (ps : ChunkList) (valid : List Bool) (n : ℕ) → u ≡ struct fs m → is_sound (struct_piece u ps valid n) ≡ true → length (pieces_in ps) ≡ length (fields_in fs)
 own_length fs m u ps valid n e h =
     let sound : is_sound (struct_piece (struct fs m) ps valid n) ≡ true = subst (λ z. is_sound (struct_piece z ps valid n) ≡ true) e h in
-    let own : _ ≡ true = right_true (are_sound ps) _ sound in
-    matched_length fs (pieces_in ps) n (left_true (match_fields fs (pieces_in ps) n) _ own)
+    let own : _ ≡ true = (and_parts (are_sound ps) _ sound).1 in
+    matched_length fs (pieces_in ps) n (and_parts (match_fields fs (pieces_in ps) n) _ own).0
 
 field_length : (fs : Tys) (m : Bool) (p : ChunkData) → piece_type p ≡ struct fs m → is_sound p ≡ true → length (field_pieces fs p) ≡ length (fields_in fs)
 field_length fs m (plain_piece t cs) e h = plain_length fs cs

@@ -11,10 +11,11 @@ use Rattle.vx_model.specs.ChunkData.{ChunkData, plain_piece, cells}
 use Rattle.vx_path.specs.Lists.{In}
 use Rattle.vx_path.proofs.Lists.{in_cases}
 use Rattle.vx_layout_spec.specs.Real.{Of, is_real_cell}
+use Rattle.vx_layout_spec.proofs.CellsFit.{all_append, all_take, all_drop}
 use Rattle.vx_rules.specs.Stream.{Chunk, piece_cells, Chunks, PiecesOf}
 use Rattle.vx_rules.specs.Regroup.{Rule, ranked, regrouped}
 use Rattle.vx_rules.specs.Blocks.{BlockOptions, block_len, steps, check_points, is_cut, cut_rows, block_sizes, cut_off, left_over, last_block, sizes_at, blocks}
-use Rattle.vx_rules.proofs.CellLaws.{Fine, cells_fine, plain_of, all_append, all_take, all_drop, left_true}
+use Rattle.vx_rules.proofs.CellLaws.{Fine, cells_fine, plain_of}
 use Rattle.vx_rules.proofs.RegroupLaws.{Regroups, piece_cells-append, pieces_append}
 
 -- rows that fit the type and are real

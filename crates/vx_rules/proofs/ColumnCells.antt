@@ -2,7 +2,7 @@
 use Rattle.std.proofs.Common.{◌≡◌, ℕ, zero, suc, ◌+◌, ◌-◌, ◌<◌, ◌≤◌, ◌^◌, ◌⊎◌, ◌&&◌, ◌||◌, Bool, true, false, cond, List, [], ◌∷◌, ◌++◌, map, length, take, drop, refl, sym, ap, ap₂, ◌∙◌, subst, inl, inr, ⊎_elim, arith, append_assoc, length-append, eqb-true}
 use Rattle.std.specs.Prelude.{nat_lt, ◌==◌}
 use Rattle.std.proofs.lemmas.List.{append-nil, length-map, map-append}
-use Rattle.std.proofs.lemmas.Bool.{true≢false}
+use Rattle.std.proofs.lemmas.Bool.{true≢false, and_from, and_parts}
 use Rattle.vx_model.specs.Words.{all_by, head_or, tail}
 use Rattle.vx_model.specs.Ty.{Ty, Tys, boolean, primitive, utf8, binary, list, struct, extension, no_fields, field, ty_eq}
 use Rattle.vx_model.specs.TyLaws.{ty_eq_decides}
@@ -14,7 +14,8 @@ use Rattle.vx_layout_spec.specs.Real.{Of, Whole, is_real_cell, are_real_cells, i
 use Rattle.vx_layout_spec.specs.Rows.{zipped, kept, kept_rows}
 use Rattle.vx_rules.specs.Columns.{struct_columns}
 use Rattle.vx_layout_spec.specs.Parts.{flag_of, validity_piece, first_of, others_of, plain_fields, field_pieces}
-use Rattle.vx_rules.proofs.CellLaws.{Fine, left_true, right_true, both_true, all_append, cells_fine, plain_of, of_type, no_last, ColumnsFit}
+use Rattle.vx_layout_spec.proofs.CellsFit.{all_append, ColumnsFit}
+use Rattle.vx_rules.proofs.CellLaws.{Fine, cells_fine, plain_of, of_type, no_last}
 
 -- ---- structs: the fields' cells
 
@@ -65,10 +66,10 @@ kept_fields no_fields no_pieces n s r h = tt
 kept_fields no_fields (part p ps) n s r h = absurd (true≢false (sym h))
 kept_fields (field name t fs) no_pieces n s r h = absurd (true≢false (sym h))
 kept_fields (field name t fs) (part p ps) n s r h =
-    let rest : _ ≡ true = right_true (ty_eq (piece_type p) t) _ h in (
-      record { typed = of_type (piece_type p) t (left_true (ty_eq (piece_type p) t) _ h); whole = record { sound = left_true (is_sound p) (are_sound ps) s; real = left_true (is_real p) (are_real ps) r } },
-      eqb-true (length (cells p)) n (left_true (length (cells p) == n) _ rest),
-      kept_fields fs ps n (right_true (is_sound p) (are_sound ps) s) (right_true (is_real p) (are_real ps) r) (right_true (length (cells p) == n) _ rest),
+    let rest : _ ≡ true = (and_parts (ty_eq (piece_type p) t) _ h).1 in (
+      record { typed = of_type (piece_type p) t (and_parts (ty_eq (piece_type p) t) _ h).0; whole = record { sound = (and_parts (is_sound p) (are_sound ps) s).0; real = (and_parts (is_real p) (are_real ps) r).0 } },
+      eqb-true (length (cells p)) n (and_parts (length (cells p) == n) _ rest).0,
+      kept_fields fs ps n (and_parts (is_sound p) (are_sound ps) s).1 (and_parts (is_real p) (are_real ps) r).1 (and_parts (length (cells p) == n) _ rest).1,
     )
 
 fields_fit_columns : (fs : Tys) (ps : List ChunkData) (n : ℕ) → FieldsOf fs ps n → ColumnsFit fs (each_cell ps) n
@@ -84,12 +85,12 @@ AreStructs fs m cs = (all_by (fits (struct fs m)) cs ≡ true) × (all_by is_rea
 first_fits_one : (name : List ℕ) (t : Ty) (fs : Tys) (m : Bool) (c : CellData) → fits (struct (field name t fs) m) c ≡ true → is_real_cell c ≡ true
     → (fits t (first_of c) ≡ true) × (is_real_cell (first_of c) ≡ true) × (fits (struct fs m) (others_of c) ≡ true) × (is_real_cell (others_of c) ≡ true)
 first_fits_one name t fs m (struct_cell v (cell c cs)) h r =
-    let flag : flag_fits v m ≡ true = left_true (flag_fits v m) _ h in
-    let inner : (fits t c && fields_fit fs (items cs)) ≡ true = right_true (flag_fits v m) _ h in (
-      left_true (fits t c) _ inner,
-      left_true (is_real_cell c) (are_real_cells cs) r,
-      both_true (flag_fits v m) (fields_fit fs (items cs)) flag (right_true (fits t c) _ inner),
-      right_true (is_real_cell c) (are_real_cells cs) r,
+    let flag : flag_fits v m ≡ true = (and_parts (flag_fits v m) _ h).0 in
+    let inner : (fits t c && fields_fit fs (items cs)) ≡ true = (and_parts (flag_fits v m) _ h).1 in (
+      (and_parts (fits t c) _ inner).0,
+      (and_parts (is_real_cell c) (are_real_cells cs) r).0,
+      and_from (flag_fits v m) (fields_fit fs (items cs)) flag (and_parts (fits t c) _ inner).1,
+      (and_parts (is_real_cell c) (are_real_cells cs) r).1,
     )
 first_fits_one name t fs m (struct_cell v no_cells) h r = absurd (no_last (flag_fits v m) h)
 first_fits_one name t fs m null_cell h r = absurd (true≢false (sym h))
@@ -104,12 +105,12 @@ firsts_fit : (name : List ℕ) (t : Ty) (fs : Tys) (m : Bool) (cs : List CellDat
 firsts_fit name t fs m [] h = (refl, refl, (refl, refl))
 firsts_fit name t fs m (c ∷ cs) h =
     let a : (fits t (first_of c) ≡ true) × (is_real_cell (first_of c) ≡ true) × (fits (struct fs m) (others_of c) ≡ true) × (is_real_cell (others_of c) ≡ true) =
-    first_fits_one name t fs m c (left_true (fits (struct (field name t fs) m) c) _ h.0) (left_true (is_real_cell c) _ h.1) in
+    first_fits_one name t fs m c (and_parts (fits (struct (field name t fs) m) c) _ h.0).0 (and_parts (is_real_cell c) _ h.1).0 in
     let b : (all_by (fits t) (map first_of cs) ≡ true) × (all_by is_real_cell (map first_of cs) ≡ true) × AreStructs fs m (map others_of cs) =
-    firsts_fit name t fs m cs (right_true (fits (struct (field name t fs) m) c) _ h.0, right_true (is_real_cell c) _ h.1) in (
-      both_true (fits t (first_of c)) _ a.0 b.0,
-      both_true (is_real_cell (first_of c)) _ a.1 b.1,
-      (both_true (fits (struct fs m) (others_of c)) _ a.2 b.2.0, both_true (is_real_cell (others_of c)) _ a.3 b.2.1),
+    firsts_fit name t fs m cs ((and_parts (fits (struct (field name t fs) m) c) _ h.0).1, (and_parts (is_real_cell c) _ h.1).1) in (
+      and_from (fits t (first_of c)) _ a.0 b.0,
+      and_from (is_real_cell (first_of c)) _ a.1 b.1,
+      (and_from (fits (struct fs m) (others_of c)) _ a.2 b.2.0, and_from (is_real_cell (others_of c)) _ a.3 b.2.1),
     )
 
 plain_fields_of : (fs : Tys) (m : Bool) (cs : List CellData) (n : ℕ) → AreStructs fs m cs → length cs ≡ n → n < 2 ^ 64 → FieldsOf fs (plain_fields fs cs) n
@@ -130,8 +131,8 @@ other_type : (fs : Tys) (m : Bool) (u : Ty) → u ≡ struct fs m → (ps : Chun
     → (FieldsOf fs (pieces_in ps) n) × (length (struct_rows n (each_cells ps) valid) ≡ n) × (each_cell (pieces_in ps) ≡ field_cells fs (struct_rows n (each_cells ps) valid))
 other_type fs m u e ps valid n w =
     let s : is_sound (struct_piece (struct fs m) ps valid n) ≡ true = subst (λ z. is_sound (struct_piece z ps valid n) ≡ true) e w.sound in
-    let a : _ ≡ true = right_true (are_sound ps) _ s in
-    let f : FieldsOf fs (pieces_in ps) n = kept_fields fs ps n (left_true (are_sound ps) _ s) w.real (left_true (match_fields fs (pieces_in ps) n) _ a) in (
+    let a : _ ≡ true = (and_parts (are_sound ps) _ s).1 in
+    let f : FieldsOf fs (pieces_in ps) n = kept_fields fs ps n (and_parts (are_sound ps) _ s).0 w.real (and_parts (match_fields fs (pieces_in ps) n) _ a).0 in (
       f,
       Rattle.vx_rules.proofs.CellLaws.length-struct_rows n (each_cells ps) valid,
       each_cell-in ps ∙ sym (fields_made fs n (each_cells ps) valid (subst (λ z. ColumnsFit fs z n) (each_cell-in ps) (fields_fit_columns fs (pieces_in ps) n f))),
@@ -168,7 +169,7 @@ head_values : (fs : Tys) (v : Bool) (inner : CellList) (cs : List CellData) → 
 head_values no_fields v no_cells cs h = refl
 head_values no_fields v (cell c inner) cs h = absurd (true≢false (sym h))
 head_values (field name t fs) v no_cells cs h = absurd (true≢false (sym h))
-head_values (field name t fs) v (cell c inner) cs h = ap (one_value (value c)) (head_values fs v inner (map others_of cs) (right_true (fits t c) _ h))
+head_values (field name t fs) v (cell c inner) cs h = ap (one_value (value c)) (head_values fs v inner (map others_of cs) (and_parts (fits t c) _ h).1)
 
 tail_values : (fs : Tys) (c : CellData) (cs : List CellData) → map tail (column_values (field_cells fs (c ∷ cs))) ≡ column_values (field_cells fs cs)
 tail_values no_fields c cs = refl
@@ -179,8 +180,8 @@ pub zipped_fields : (fs : Tys) (m : Bool) (cs : List CellData) → all_by (fits 
 zipped_fields fs m [] h = refl
 zipped_fields fs m (struct_cell v inner ∷ cs) h =
     ap₂ (λ x y. struct_value x ∷ y)
-    (head_values fs v inner cs (right_true (flag_fits v m) _ (left_true (fits (struct fs m) (struct_cell v inner)) _ h)))
-    (ap (zipped (length cs)) (tail_values fs (struct_cell v inner) cs) ∙ zipped_fields fs m cs (right_true (fits (struct fs m) (struct_cell v inner)) _ h))
+    (head_values fs v inner cs (and_parts (flag_fits v m) _ (and_parts (fits (struct fs m) (struct_cell v inner)) _ h).0).1)
+    (ap (zipped (length cs)) (tail_values fs (struct_cell v inner) cs) ∙ zipped_fields fs m cs (and_parts (fits (struct fs m) (struct_cell v inner)) _ h).1)
 zipped_fields fs m (null_cell ∷ cs) h = absurd (true≢false (sym h))
 zipped_fields fs m (bool_cell b ∷ cs) h = absurd (true≢false (sym h))
 zipped_fields fs m (int_cell b ∷ cs) h = absurd (true≢false (sym h))
@@ -226,7 +227,7 @@ valid_flag t (bool_cell b) h = refl
 valid_flag t (int_cell i) h = refl
 valid_flag t (text_cell s) h = refl
 valid_flag t (bytes_cell s) h = refl
-valid_flag t (list_cell v cs) h = flag_true v (left_true (flag_fits v false) _ h)
+valid_flag t (list_cell v cs) h = flag_true v (and_parts (flag_fits v false) _ h).0
 valid_flag t (struct_cell v cs) h = absurd (true≢false (sym h))
 
 valid_struct : (fs : Tys) (c : CellData) → fits (struct fs false) c ≡ true → flag_of c ≡ true
@@ -236,15 +237,15 @@ valid_struct fs (int_cell i) h = refl
 valid_struct fs (text_cell s) h = refl
 valid_struct fs (bytes_cell s) h = refl
 valid_struct fs (list_cell v cs) h = absurd (true≢false (sym h))
-valid_struct fs (struct_cell v cs) h = flag_true v (left_true (flag_fits v false) _ h)
+valid_struct fs (struct_cell v cs) h = flag_true v (and_parts (flag_fits v false) _ h).0
 
 pub structs_valid : (fs : Tys) (cs : List CellData) → all_by (fits (struct fs false)) cs ≡ true → map inner_value cs ≡ map value cs
 structs_valid fs [] h = refl
-structs_valid fs (c ∷ cs) h = ap₂ (λ x y. x ∷ y) (all_valid_one c (valid_struct fs c (left_true (fits (struct fs false) c) _ h))) (structs_valid fs cs (right_true (fits (struct fs false) c) _ h))
+structs_valid fs (c ∷ cs) h = ap₂ (λ x y. x ∷ y) (all_valid_one c (valid_struct fs c (and_parts (fits (struct fs false) c) _ h).0)) (structs_valid fs cs (and_parts (fits (struct fs false) c) _ h).1)
 
 pub lists_valid : (t : Ty) (cs : List CellData) → all_by (fits (list t false)) cs ≡ true → map inner_value cs ≡ map value cs
 lists_valid t [] h = refl
-lists_valid t (c ∷ cs) h = ap₂ (λ x y. x ∷ y) (all_valid_one c (valid_flag t c (left_true (fits (list t false) c) _ h))) (lists_valid t cs (right_true (fits (list t false) c) _ h))
+lists_valid t (c ∷ cs) h = ap₂ (λ x y. x ∷ y) (all_valid_one c (valid_flag t c (and_parts (fits (list t false) c) _ h).0)) (lists_valid t cs (and_parts (fits (list t false) c) _ h).1)
 
 -- ---- validity
 

@@ -2,7 +2,7 @@
 use Rattle.std.proofs.Common.{◌≡◌, ℕ, zero, suc, ◌+◌, ◌-◌, ◌<◌, ◌≤◌, ◌^◌, ◌⊎◌, ◌&&◌, Bool, true, false, List, [], ◌∷◌, ◌++◌, map, length, take, drop, Option, Some, None, refl, sym, ap, ap₂, ◌∙◌, subst, inl, inr, ⊎_elim, arith, append_assoc, length-append, eq-eqb}
 use Rattle.std.specs.Prelude.{nat_lt, nat_le, pos, negsuc, int_lt, if◌then◌else◌}
 use Rattle.std.proofs.lemmas.List.{append-nil, length-map, map-append}
-use Rattle.std.proofs.lemmas.Bool.{true≢false}
+use Rattle.std.proofs.lemmas.Bool.{true≢false, and_from, and_parts}
 use Rattle.std.proofs.lemmas.Bool.Decides.{nat_tests}
 use Rattle.vx_model.specs.Words.{all_by, head_or, tail}
 use Rattle.vx_model.specs.Ty.{Ty, Tys, boolean, primitive, list, struct, no_fields, field}
@@ -15,7 +15,8 @@ use Rattle.vx_layout_spec.specs.Rows.{and_then, all_there, offset_of, offsets_ag
 use Rattle.vx_rules.specs.Stream.{Chunk, chunk_paths, stream_cells, Chunks}
 use Rattle.vx_rules.specs.Columns.{struct_columns, Split, struct_splits, list_splits, list_columns, head_piece, column, other_columns, offset_entries, offset_cell, offset_type}
 use Rattle.vx_layout_spec.specs.Parts.{flag_of, validity_piece, first_of, others_of, field_pieces, elements_of, all_elements, ends}
-use Rattle.vx_rules.proofs.CellLaws.{Fine, left_true, right_true, both_true, all_append, cells_fine, plain_of, below}
+use Rattle.vx_layout_spec.proofs.CellsFit.{all_append}
+use Rattle.vx_rules.proofs.CellLaws.{Fine, cells_fine, plain_of, below}
 use Rattle.vx_rules.proofs.ColumnCells.{field_cells, each_cell, FieldsOf, fields_are, validity_of, inner_value, column_values}
 
 -- ---- paths and beginnings
@@ -196,7 +197,7 @@ offsets_ok : (count from : ℕ) (cs : List CellData) → from + length (all_elem
 offsets_ok count from [] h = le_test from count (omega arith)
 offsets_ok count from (c ∷ cs) h =
     let l : length (elements_of c ++ all_elements cs) ≡ length (elements_of c) + length (all_elements cs) = length-append (elements_of c) (all_elements cs) in
-    both_true (nat_le from (from + length (elements_of c))) (are_offsets count ((from + length (elements_of c)) ∷ ends (from + length (elements_of c)) cs))
+    and_from (nat_le from (from + length (elements_of c))) (are_offsets count ((from + length (elements_of c)) ∷ ends (from + length (elements_of c)) cs))
     (le_test from (from + length (elements_of c)) (omega arith)) (offsets_ok count (from + length (elements_of c)) cs (omega arith))
 
 -- cells of lists
@@ -233,9 +234,9 @@ spans_are : (t : Ty) (n : Bool) (before : List ValueData) (from : ℕ) (cs : Lis
 spans_are t n before from [] h e = refl
 spans_are t n before from (c ∷ cs) h e =
     ap₂ (λ x y. x ∷ y)
-    (ap (λ z. list_value (vals_of z)) span ∙ span_one t n c (left_true (fits (list t n) c) _ h))
+    (ap (λ z. list_value (vals_of z)) span ∙ span_one t n c (and_parts (fits (list t n) c) _ h).0)
     (ap (λ z. spans z ((from + length (elements_of c)) ∷ ends (from + length (elements_of c)) cs)) moved
-    ∙ spans_are t n (before ++ map value (elements_of c)) (from + length (elements_of c)) cs (right_true (fits (list t n) c) _ h) count)
+    ∙ spans_are t n (before ++ map value (elements_of c)) (from + length (elements_of c)) cs (and_parts (fits (list t n) c) _ h).1 count)
   where
     moved : before ++ map value (elements_of c ++ all_elements cs) ≡ (before ++ map value (elements_of c)) ++ map value (all_elements cs)
     moved = ap (λ z. before ++ z) (map-append value (elements_of c) (all_elements cs)) ∙ sym (append_assoc before (map value (elements_of c)) (map value (all_elements cs)))
@@ -265,16 +266,16 @@ elements_fine : (t : Ty) (n : Bool) (cs : List CellData) → AreLists t n cs →
     → (all_by (fits t) (all_elements cs) ≡ true) × (all_by is_real_cell (all_elements cs) ≡ true)
 elements_fine t n [] h r = (refl, refl)
 elements_fine t n (c ∷ cs) h r =
-    let a : (all_by (fits t) (elements_of c) ≡ true) × (all_by is_real_cell (elements_of c) ≡ true) = one c (left_true (fits (list t n) c) _ h) (left_true (is_real_cell c) _ r) in
-    let b : (all_by (fits t) (all_elements cs) ≡ true) × (all_by is_real_cell (all_elements cs) ≡ true) = elements_fine t n cs (right_true (fits (list t n) c) _ h) (right_true (is_real_cell c) _ r) in
+    let a : (all_by (fits t) (elements_of c) ≡ true) × (all_by is_real_cell (elements_of c) ≡ true) = one c (and_parts (fits (list t n) c) _ h).0 (and_parts (is_real_cell c) _ r).0 in
+    let b : (all_by (fits t) (all_elements cs) ≡ true) × (all_by is_real_cell (all_elements cs) ≡ true) = elements_fine t n cs (and_parts (fits (list t n) c) _ h).1 (and_parts (is_real_cell c) _ r).1 in
     (all_append (fits t) (elements_of c) (all_elements cs) a.0 b.0, all_append is_real_cell (elements_of c) (all_elements cs) a.1 b.1)
   where
     real_items : (cs : CellList) → are_real_cells cs ≡ true → all_by is_real_cell (items cs) ≡ true
     real_items no_cells e = refl
-    real_items (cell d ds) e = both_true (is_real_cell d) (all_by is_real_cell (items ds)) (left_true (is_real_cell d) _ e) (real_items ds (right_true (is_real_cell d) _ e))
+    real_items (cell d ds) e = and_from (is_real_cell d) (all_by is_real_cell (items ds)) (and_parts (is_real_cell d) _ e).0 (real_items ds (and_parts (is_real_cell d) _ e).1)
 
     one : (c : CellData) → fits (list t n) c ≡ true → is_real_cell c ≡ true → (all_by (fits t) (elements_of c) ≡ true) × (all_by is_real_cell (elements_of c) ≡ true)
-    one (list_cell v ds) e f = (right_true (flag_fits v n) _ e, real_items ds (left_true (are_real_cells ds) _ f))
+    one (list_cell v ds) e f = ((and_parts (flag_fits v n) _ e).1, real_items ds (and_parts (are_real_cells ds) _ f).0)
     one (struct_cell v ds) e f = absurd (true≢false (sym e))
     one null_cell e f = (refl, refl)
     one (bool_cell b) e f = (refl, refl)
@@ -290,7 +291,7 @@ ends_fit : (from : ℕ) (cs : List CellData) → from + length (all_elements cs)
 ends_fit from [] h = refl
 ends_fit from (c ∷ cs) h =
     let l : length (elements_of c ++ all_elements cs) ≡ length (elements_of c) + length (all_elements cs) = length-append (elements_of c) (all_elements cs) in
-    both_true (fits offset_type (offset_cell (from + length (elements_of c)))) (all_by (fits offset_type) (map offset_cell (ends (from + length (elements_of c)) cs)))
+    and_from (fits offset_type (offset_cell (from + length (elements_of c)))) (all_by (fits offset_type) (map offset_cell (ends (from + length (elements_of c)) cs)))
     (u64_fits (from + length (elements_of c)) (omega arith)) (ends_fit (from + length (elements_of c)) cs (omega arith))
 
 offsets_real : (ns : List ℕ) → all_by is_real_cell (map offset_cell ns) ≡ true
@@ -311,7 +312,7 @@ elements_piece t n p o lt =
 entries_fit : (first : Bool) (from : ℕ) (cs : List CellData) → from + length (all_elements cs) < 2 ^ 64
     → (all_by (fits offset_type) (map offset_cell (offset_entries first from cs)) ≡ true) × (length (offset_entries first from cs) ≤ suc (length cs))
 entries_fit true from cs h = (
-  both_true (fits offset_type (offset_cell from)) (all_by (fits offset_type) (map offset_cell (ends from cs))) (u64_fits from (omega arith)) (ends_fit from cs h),
+  and_from (fits offset_type (offset_cell from)) (all_by (fits offset_type) (map offset_cell (ends from cs))) (u64_fits from (omega arith)) (ends_fit from cs h),
   (let l : length (ends from cs) ≡ length cs = length-ends from cs in omega arith),
 )
 entries_fit false from cs h = (ends_fit from cs h, (let l : length (ends from cs) ≡ length cs = length-ends from cs in omega arith))

@@ -2,7 +2,7 @@
 use Rattle.std.proofs.Common.{◌≡◌, ℕ, zero, suc, ◌+◌, ◌-◌, ◌*◌, ◌<◌, ◌≤◌, ◌^◌, ◌⊎◌, ◌&&◌, Bool, true, false, cond, not, List, [], ◌∷◌, ◌++◌, map, length, refl, sym, ap, ap₂, ◌∙◌, subst, inl, inr, ⊎_elim, arith, append_assoc, length-append}
 use Rattle.std.specs.Prelude.{if◌then◌else◌, nat_le, nat_lt, min}
 use Rattle.std.proofs.lemmas.List.{append-nil}
-use Rattle.std.proofs.lemmas.Bool.{cases_Bool, true≢false}
+use Rattle.std.proofs.lemmas.Bool.{cases_Bool, true≢false, and_from, and_parts}
 use Rattle.std.proofs.lemmas.Bool.Decides.{nat_tests}
 use Rattle.vx_model.specs.Words.{all_by, total_by}
 use Rattle.vx_model.specs.Ty.{Ty, ty_eq}
@@ -17,7 +17,7 @@ use Rattle.vx_rules.specs.Stream.{Chunk, chunk_paths, stream_cells, piece_cells,
 use Rattle.vx_rules.specs.Regroup.{Rule}
 use Rattle.vx_rules.specs.Flushes.{twice, flushed, still_held, is_full, flushes, concatenated, chunk_pieces, last_path, collected}
 use Rattle.vx_layout_spec.specs.Parts.{parts_of, all_parts}
-use Rattle.vx_rules.proofs.CellLaws.{left_true, right_true, both_true, below_test}
+use Rattle.vx_rules.proofs.CellLaws.{below_test}
 use Rattle.vx_rules.proofs.RegroupLaws.{Regroups, Onto, onto_none, piece_cells-append, pieces_append}
 
 -- ---- buffering
@@ -121,14 +121,14 @@ parts_append : (t : Ty) (ps qs : List ChunkData) → Parts t ps → Parts t qs �
 parts_append t [] qs g h = h
 parts_append t (p ∷ ps) qs g h =
     let r : Parts t (ps ++ qs) = parts_append t ps qs (record {
-      sound = right_true (is_sound p) (are_sound (pieces_of ps)) g.sound;
-      real = right_true (is_real p) (are_real (pieces_of ps)) g.real;
-      parts = right_true (ty_eq (piece_type p) t && not (is_chunked p)) (are_parts t ps) g.parts;
+      sound = (and_parts (is_sound p) (are_sound (pieces_of ps)) g.sound).1;
+      real = (and_parts (is_real p) (are_real (pieces_of ps)) g.real).1;
+      parts = (and_parts (ty_eq (piece_type p) t && not (is_chunked p)) (are_parts t ps) g.parts).1;
     }) h in
     record {
-      sound = both_true (is_sound p) (are_sound (pieces_of (ps ++ qs))) (left_true (is_sound p) (are_sound (pieces_of ps)) g.sound) r.sound;
-      real = both_true (is_real p) (are_real (pieces_of (ps ++ qs))) (left_true (is_real p) (are_real (pieces_of ps)) g.real) r.real;
-      parts = both_true (ty_eq (piece_type p) t && not (is_chunked p)) (are_parts t (ps ++ qs)) (left_true (ty_eq (piece_type p) t && not (is_chunked p)) (are_parts t ps) g.parts) r.parts;
+      sound = and_from (is_sound p) (are_sound (pieces_of (ps ++ qs))) (and_parts (is_sound p) (are_sound (pieces_of ps)) g.sound).0 r.sound;
+      real = and_from (is_real p) (are_real (pieces_of (ps ++ qs))) (and_parts (is_real p) (are_real (pieces_of ps)) g.real).0 r.real;
+      parts = and_from (ty_eq (piece_type p) t && not (is_chunked p)) (are_parts t (ps ++ qs)) (and_parts (ty_eq (piece_type p) t && not (is_chunked p)) (are_parts t ps) g.parts).0 r.parts;
     }
 
 pieces_of_in : (ps : ChunkList) → pieces_of (pieces_in ps) ≡ ps
@@ -137,10 +137,10 @@ pieces_of_in (part p ps) = ap (part p) (pieces_of_in ps)
 
 one_part : (t : Ty) (p : ChunkData) → Of t p → is_chunked p ≡ false → Parts t (p ∷ [])
 one_part t p o n = record {
-  sound = both_true (is_sound p) true o.whole.sound refl;
-  real = both_true (is_real p) true o.whole.real refl;
-  parts = both_true (ty_eq (piece_type p) t && not (is_chunked p)) true
-      (both_true (ty_eq (piece_type p) t) (not (is_chunked p)) ((ty_eq_decides (piece_type p) t).1 o.typed) (ap not n)) refl;
+  sound = and_from (is_sound p) true o.whole.sound refl;
+  real = and_from (is_real p) true o.whole.real refl;
+  parts = and_from (ty_eq (piece_type p) t && not (is_chunked p)) true
+      (and_from (ty_eq (piece_type p) t) (not (is_chunked p)) ((ty_eq_decides (piece_type p) t).1 o.typed) (ap not n)) refl;
 }
 
 parts_are : (t : Ty) (p : ChunkData) → Of t p → Parts t (parts_of p)
@@ -150,9 +150,9 @@ parts_are t (dict_piece codes values) o = one_part t (dict_piece codes values) o
 parts_are t (chunked_piece u ps) o =
     let s : is_sound (chunked_piece u ps) ≡ true = o.whole.sound in
     record {
-      sound = ap are_sound (pieces_of_in ps) ∙ left_true (are_sound ps) _ s;
+      sound = ap are_sound (pieces_of_in ps) ∙ (and_parts (are_sound ps) _ s).0;
       real = ap are_real (pieces_of_in ps) ∙ o.whole.real;
-      parts = subst (λ v. are_parts v (pieces_in ps) ≡ true) o.typed (left_true (are_parts u (pieces_in ps)) _ (right_true (are_sound ps) _ s));
+      parts = subst (λ v. are_parts v (pieces_in ps) ≡ true) o.typed (and_parts (are_parts u (pieces_in ps)) _ (and_parts (are_sound ps) _ s).1).0;
     }
 parts_are t (list_piece u e offsets valid) o = one_part t (list_piece u e offsets valid) o refl
 parts_are t (struct_piece u ps valid n) o = one_part t (struct_piece u ps valid n) o refl
@@ -172,8 +172,8 @@ concatenated_of t ps h lt =
     record {
       typed = refl;
       whole = record {
-        sound = both_true (are_sound (pieces_of (all_parts ps))) _ a.sound
-            (both_true (are_parts t (pieces_in (pieces_of (all_parts ps)))) _ (ap (are_parts t) (pieces_in_of (all_parts ps)) ∙ a.parts)
+        sound = and_from (are_sound (pieces_of (all_parts ps))) _ a.sound
+            (and_from (are_parts t (pieces_in (pieces_of (all_parts ps)))) _ (ap (are_parts t) (pieces_in_of (all_parts ps)) ∙ a.parts)
             (ap (λ z. nat_lt (length z) (2 ^ 64)) (concatenated_cells t ps) ∙ below_test (length (piece_cells ps)) lt));
         real = a.real;
       };

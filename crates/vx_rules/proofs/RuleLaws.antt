@@ -2,7 +2,7 @@
 use Rattle.std.proofs.Common.{◌≡◌, ℕ, zero, suc, ◌+◌, ◌-◌, ◌*◌, ◌/◌, ◌<◌, ◌≤◌, ◌^◌, ◌⊎◌, ◌&&◌, Bool, true, false, List, [], ◌∷◌, ◌++◌, map, length, take, drop, Option, Some, None, refl, sym, ap, ap₂, ◌∙◌, subst, inl, inr, ⊎_elim, arith, append_assoc, length-append, length-take, length-drop}
 use Rattle.std.specs.Prelude.{if◌then◌else◌, nat_le, min, max}
 use Rattle.std.proofs.lemmas.List.{append-nil, length-map, map-append, length-take-le}
-use Rattle.std.proofs.lemmas.Bool.{cases_Bool, true≢false}
+use Rattle.std.proofs.lemmas.Bool.{cases_Bool, true≢false, and_parts}
 use Rattle.std.proofs.lemmas.Bool.Decides.{nat_tests}
 use Rattle.std.proofs.Math.Nat.{div-eq-sub-div, mul-div-le, mul-suc}
 use Rattle.vx_model.specs.Words.{total_by}
@@ -20,7 +20,6 @@ use Rattle.vx_rules.specs.Flushes.{twice, flushes}
 use Rattle.vx_rules.specs.Columns.{offset_cell}
 use Rattle.vx_rules.specs.Runs.{DictOptions, with_cell, place_in, cells_fit, Cut, behind, stretches, cut_at, Run, runs, distinct_from}
 use Rattle.vx_rules.specs.Statements.{KeepsRows, RegroupingKeepsRows, AllButLast, IsMultiple, BlocksAreMultiples, held_after, BufferHoldsLess, RunsGive, RunsGiveRows, CutLongest, RunsAreLongest}
-use Rattle.vx_rules.proofs.CellLaws.{left_true, right_true}
 use Rattle.vx_rules.proofs.RegroupLaws.{regrouped_rows}
 use Rattle.vx_rules.proofs.BlockLaws.{Rows, blocks_regroup}
 use Rattle.vx_rules.proofs.FlushLaws.{flushes_regroup, collected_rows, holds_less}
@@ -66,8 +65,8 @@ sizes_are len minimum t c rows [] h w = tt
 sizes_are len minimum t c rows (p ∷ ps) h w = ⊎_elim
     (λ (y : is_cut len minimum t rows (p - c) ≡ true).
     subst (λ b. Multiples len rows (if b then cut else kept)) (sym y) (
-      (some_blocks len (p - c) h (le_of len (p - c) (left_true (nat_le len (p - c)) _ y))).0,
-      (some_blocks len (p - c) h (le_of len (p - c) (left_true (nat_le len (p - c)) _ y))).1,
+      (some_blocks len (p - c) h (le_of len (p - c) (and_parts (nat_le len (p - c)) _ y).0)).0,
+      (some_blocks len (p - c) h (le_of len (p - c) (and_parts (nat_le len (p - c)) _ y).0)).1,
       (let a : cut_rows len (p - c) ≤ p - c = mul-div-le (p - c) len in let b : p ≤ c + length rows = w.0 in omega arith),
       sizes_are len minimum t (c + cut_rows len (p - c)) (drop (cut_rows len (p - c)) rows) ps h
           (moved (let a : cut_rows len (p - c) ≤ p - c = mul-div-le (p - c) len in let b : p ≤ c + length rows = w.0 in let l : length (drop (cut_rows len (p - c)) rows) ≡ length rows - cut_rows len (p - c) = length-drop (cut_rows len (p - c)) rows in

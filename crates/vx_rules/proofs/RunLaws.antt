@@ -4,7 +4,7 @@ use Rattle.std.specs.Prelude.{if◌then◌else◌, nat_le, nat_lt, min, max, byt
 use Rattle.std.specs.Ordering.{int_eq}
 use Rattle.std.specs.Cmp.{booleans_Decides}
 use Rattle.std.specs.Cmp.Lexicographic.{bytes_decides}
-use Rattle.std.proofs.lemmas.Bool.{cases_Bool, true≢false, or_cases}
+use Rattle.std.proofs.lemmas.Bool.{cases_Bool, true≢false, or_cases, and_from, and_parts}
 use Rattle.std.proofs.lemmas.Bool.Decides.{nat_tests, Decides-int_eq}
 use Rattle.std.proofs.lemmas.List.{append-nil, length-map, map-append}
 use mathlib.Core.Bool.{beq}
@@ -15,13 +15,13 @@ use Rattle.vx_model.specs.ValueData.{ValueData, value}
 use Rattle.vx_model.specs.ChunkData.{cell_at, is_dict_type}
 use Rattle.vx_layout_spec.specs.Real.{is_real_cell}
 use Rattle.vx_layout_spec.specs.Rows.{and_then, all_there, picked, value_at, dict_rows}
+use Rattle.vx_layout_spec.proofs.CellsFit.{all_append}
 use Rattle.vx_rules.specs.Columns.{offset_cell}
 use Rattle.vx_rules.specs.Runs.{DictOptions, same_cell, has_cell, with_cell, place_in, most_cells, cells_fit, Cut, behind, stretches}
-use Rattle.vx_rules.proofs.CellLaws.{left_true, right_true, both_true, all_append}
 
 -- ---- cells
 
-same_cell_true : (c d : CellData) → same_cell c d ≡ true → c ≡ d
+pub same_cell_true : (c d : CellData) → same_cell c d ≡ true → c ≡ d
 same_cell_true null_cell null_cell e = refl
 same_cell_true (bool_cell a) (bool_cell b) e = ap bool_cell ((booleans_Decides a b).0 e)
 same_cell_true (int_cell a) (int_cell b) e = ap int_cell ((Decides-int_eq a b).0 e)
@@ -30,7 +30,7 @@ same_cell_true (bytes_cell a) (bytes_cell b) e = ap bytes_cell ((bytes_decides a
 same_cell_true c d e = cc
 
 -- a cell that a dictionary can hold is the same as itself
-self_same : (t : Ty) (c : CellData) → is_dict_type t ≡ true → fits t c ≡ true → same_cell c c ≡ true
+pub self_same : (t : Ty) (c : CellData) → is_dict_type t ≡ true → fits t c ≡ true → same_cell c c ≡ true
 self_same t null_cell d f = refl
 self_same t (bool_cell b) d f = (booleans_Decides b b).1 refl
 self_same t (int_cell n) d f = (Decides-int_eq n n).1 refl
@@ -59,7 +59,7 @@ is_more (d ∷ ds) more (suc n) c h =
     let r : Is (ds ++ more) n c = is_more ds more n c ((let k : n < length ds = omega arith in k), h.1) in
     let k : n < length (ds ++ more) = r.0 in (omega arith, r.1)
 
-place_is : (c : CellData) (ds : List CellData) → has_cell c ds ≡ true → Is ds (place_in c ds) c
+pub place_is : (c : CellData) (ds : List CellData) → has_cell c ds ≡ true → Is ds (place_in c ds) c
 place_is c [] h = cc
 place_is c (d ∷ ds) h = go (same_cell d c) (same_cell_true d c) h (place_is c ds)
   where
@@ -67,7 +67,7 @@ place_is c (d ∷ ds) h = go (same_cell d c) (same_cell_true d c) h (place_is c 
     go true s h r = (omega arith, s refl)
     go false s h r = let w : Is ds (place_in c ds) c = r h in let l : place_in c ds < length ds = w.0 in (omega arith, w.1)
 
-has_last : (c : CellData) (ds : List CellData) → same_cell c c ≡ true → has_cell c (ds ++ (c ∷ [])) ≡ true
+pub has_last : (c : CellData) (ds : List CellData) → same_cell c c ≡ true → has_cell c (ds ++ (c ∷ [])) ≡ true
 has_last c [] s = ap (λ b. b || false) s
 has_last c (d ∷ ds) s = go (same_cell d c) (has_last c ds s)
   where
@@ -164,7 +164,7 @@ with_all f ds c h e = go (has_cell c ds)
   where
     go : (b : Bool) → all_by f (if b then ds else ds ++ (c ∷ [])) ≡ true
     go true = h
-    go false = all_append f ds (c ∷ []) h (both_true (f c) true e refl)
+    go false = all_append f ds (c ∷ []) h (and_from (f c) true e refl)
 
 -- ---- the stretches
 
@@ -187,7 +187,7 @@ stretches_give o t d first ds codes done (c ∷ cs) x h few f r =
     (extends_further first ds (with_cell ds c) x (with_extends ds c))
     (decodes_append (with_cell ds c) codes (place_in c (with_cell ds c) ∷ []) done (c ∷ []) (decodes_more ds (with_cell ds c) codes done (with_extends ds c) h) (with_place ds c self, tt))
     (record { fit = with_all (fits t) ds c few.fit cf; real = with_all is_real_cell ds c few.real cr; few = few_of (length (with_cell ds c)) (most_cells o) _ y })
-    (right_true (fits t c) _ f) (right_true (is_real_cell c) _ r))))
+    (and_parts (fits t c) _ f).1 (and_parts (is_real_cell c) _ r).1)))
     (λ (n : cells_fit o t (with_cell ds c) ≡ false).
     subst (λ b. Given (if b then goes_on else ends_here)) (sym n) (
       done,
@@ -197,19 +197,19 @@ stretches_give o t d first ds codes done (c ∷ cs) x h few f r =
       h,
       few,
       stretches_give o t d [] (c ∷ []) (0 ∷ []) (c ∷ []) cs (record { more = c ∷ []; same = refl }) ((omega arith, refl), tt)
-          (record { fit = both_true (fits t c) true cf refl; real = both_true (is_real_cell c) true cr refl; few = omega arith })
-          (right_true (fits t c) _ f) (right_true (is_real_cell c) _ r),
+          (record { fit = and_from (fits t c) true cf refl; real = and_from (is_real_cell c) true cr refl; few = omega arith })
+          (and_parts (fits t c) _ f).1 (and_parts (is_real_cell c) _ r).1,
     ))
     (cases_Bool (cells_fit o t (with_cell ds c)))
   where
     cf : fits t c ≡ true
-    cf = left_true (fits t c) _ f
+    cf = (and_parts (fits t c) _ f).0
 
     cr : is_real_cell c ≡ true
-    cr = left_true (is_real_cell c) _ r
+    cr = (and_parts (is_real_cell c) _ r).0
 
     self : same_cell c c ≡ true
-    self = self_same t c d (left_true (fits t c) _ f)
+    self = self_same t c d (and_parts (fits t c) _ f).0
 
     goes_on : Cut
     goes_on = stretches o t (with_cell ds c) (codes ++ (place_in c (with_cell ds c) ∷ [])) cs

@@ -1,7 +1,7 @@
 -- The streams of runs: their rows, their chunks, their paths and their beginnings.
 use Rattle.std.proofs.Common.{◌≡◌, ℕ, zero, suc, ◌+◌, ◌-◌, ◌<◌, ◌≤◌, ◌^◌, ◌⊎◌, Bool, true, false, List, [], ◌∷◌, ◌++◌, map, length, Option, Some, None, refl, sym, ap, ap₂, ◌∙◌, subst, inl, inr, ⊎_elim, arith, append_assoc, length-append}
 use Rattle.std.specs.Prelude.{if◌then◌else◌, nat_le, nat_lt, min, max, pos}
-use Rattle.std.proofs.lemmas.Bool.{cases_Bool, true≢false}
+use Rattle.std.proofs.lemmas.Bool.{cases_Bool, true≢false, and_from}
 use Rattle.std.proofs.lemmas.Bool.Decides.{nat_tests}
 use Rattle.std.proofs.lemmas.List.{append-nil, length-map, map-append}
 use Rattle.vx_model.specs.declared.ptype.PType.TheVariants.{U8, U16}
@@ -17,7 +17,7 @@ use Rattle.vx_layout_spec.specs.Real.{Of, is_real_cell}
 use Rattle.vx_rules.specs.Stream.{Chunk, chunk_paths, stream_cells, Chunks}
 use Rattle.vx_rules.specs.Columns.{offset_cell}
 use Rattle.vx_rules.specs.Runs.{DictOptions, most_cells, Cut, code_type, codes_piece, Run, ended_runs, next_codes, open_run, cut_at, runs_from, runs}
-use Rattle.vx_rules.proofs.CellLaws.{Fine, cells_fine, plain_of, both_true}
+use Rattle.vx_rules.proofs.CellLaws.{Fine, cells_fine, plain_of}
 use Rattle.vx_rules.proofs.RegroupLaws.{stream_cells-append, chunks_append, chunk_paths-append, Onto, scattered_both, apart_both}
 use Rattle.vx_rules.proofs.RunLaws.{Is, Extends, extends_self, Decodes, decodes_more, decodes_append, decodes_length, decodes_none, Distinct, Gives, stretches_give}
 
@@ -75,7 +75,7 @@ codes_fit o t ds [] (c ∷ cs) d h = absurd h
 codes_fit o t ds (n ∷ ns) [] d h = absurd h
 codes_fit o t ds (n ∷ ns) (c ∷ cs) d h =
     let r : (all_by (fits (code_type o)) (map offset_cell ns) ≡ true) × (all_by is_real_cell (map offset_cell ns) ≡ true) = codes_fit o t ds ns cs d h.1 in
-    (both_true (fits (code_type o) (offset_cell n)) _ (code_fits o t ds n d h.0.0) r.0, r.1)
+    (and_from (fits (code_type o) (offset_cell n)) _ (code_fits o t ds n d h.0.0) r.0, r.1)
 
 codes_whole : (o : DictOptions) (t : Ty) (ds : List CellData) (ns : List ℕ) (cs : List CellData) → Distinct o t ds → Decodes ds ns cs → length cs < 2 ^ 64 → Of (code_type o) (codes_piece o ns)
 codes_whole o t ds ns cs d h lt =

@@ -1,5 +1,5 @@
 -- Plans of small streams at their edges. The codec here spells a chunk by its count of rows.
-use Rattle.std.proofs.Common.{◌≡◌, ℕ, true, false, List, [], ◌∷◌, map, take, length, Some, None, Bool, refl}
+use Rattle.std.proofs.Common.{◌≡◌, ℕ, true, false, List, [], ◌∷◌, map, take, length, Option, Some, None, Bool, refl}
 use Rattle.std.specs.Prelude.{pos, codes, replicate}
 use Rattle.vx_model.specs.declared.ptype.PType.TheVariants.{U8, U16, I32}
 use Rattle.vx_model.specs.declared.encoding.EncodingId.TheVariants.{Plain}
@@ -13,9 +13,9 @@ use Rattle.vx_plan.specs.PlanData.{Setting, paths, fault, empty_list, forbidden_
 use Rattle.vx_plan.specs.SourcePlan.{source_plan, start_fault}
 use Rattle.vx_plan.specs.Number.{sorted, numbered}
 
--- zone tables may have minima alone
-minima : Setting
-minima = record {
+-- by the aggregates that zone tables may have, and the compressor's images
+abbrev counting : Option (List (List ℕ)) → (ℕ → ChunkData → ChunkData) → Setting
+counting allowed image = record {
   codec = record {
     encode = λ es padding p. Some (length (cells p) ∷ []);
     tree_part = λ es padding p. [];
@@ -23,10 +23,14 @@ minima = record {
     decode = λ es t b. None;
   };
   encodings = Plain ∷ [];
-  allowed = Some (codes "vortex.min" ∷ []);
-  image = λ which p. p;
+  allowed = allowed;
+  image = image;
   hash = λ b. 0;
 }
+
+-- zone tables may have minima alone
+minima : Setting
+minima = counting (Some (codes "vortex.min" ∷ [])) (λ which p. p)
 
 flats : StrategyData
 flats = flat (record { padding = true; inline = false })
@@ -101,18 +105,7 @@ marked_validity = refl
 
 -- all aggregates are let through, and each image is a dictionary
 every : Setting
-every = record {
-  codec = record {
-    encode = λ es padding p. Some (length (cells p) ∷ []);
-    tree_part = λ es padding p. [];
-    refused = λ es p. None;
-    decode = λ es t b. None;
-  };
-  encodings = Plain ∷ [];
-  allowed = None;
-  image = λ which p. dict_piece p p;
-  hash = λ b. 0;
-}
+every = counting None (λ which p. dict_piece p p)
 
 tables_behind : paths (sorted (source_plan every (zoned zones_of_3 chunks (zoned zones_of_3 flats flats)) i32 false (i32s 3 ∷ i32s 3 ∷ i32s 1 ∷ []) true).pairs)
     ≡ (0 ∷ 0 ∷ []) ∷ (0 ∷ 1 ∷ []) ∷ (0 ∷ 2 ∷ []) ∷ (2 ∷ 0 ∷ []) ∷ (4 ∷ 0 ∷ []) ∷ []

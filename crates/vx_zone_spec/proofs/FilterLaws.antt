@@ -2,7 +2,7 @@
 use Rattle.std.proofs.Common.{◌≡◌, ℕ, zero, suc, ◌+◌, ◌*◌, ◌/◌, ◌<◌, ◌≤◌, ◌-◌, ◌^◌, ◌&&◌, Bool, true, false, not, List, [], ◌∷◌, ◌++◌, length, Some, refl, sym, ap, ◌∙◌, subst, inl, inr, ⊎_elim, arith, length-append, ◌%◌, get_or, map, slice_index}
 use Rattle.std.specs.Prelude.{◌==◌, filter, bit_or}
 use Rattle.std.specs.Option.{option_to_list}
-use Rattle.std.proofs.lemmas.Bool.{true≢false, cases_lt}
+use Rattle.std.proofs.lemmas.Bool.{true≢false, cases_lt, and_parts}
 use Rattle.std.proofs.Math.Nat.{div-lt_iff_lt-mul, mul-le-mul_left}
 use Rattle.vx_model.specs.Ty.{Ty, has_order}
 use Rattle.vx_model.specs.ValueData.{ValueData, null_value}
@@ -176,14 +176,6 @@ stored_filter_contains hash t blocks vs stored small o all some few e =
 some_blocks : (n blocks : ℕ) → n ≡ 32 * blocks → is_filter_length n ≡ true → 0 < blocks
 some_blocks n blocks e h = grind (arith, nat_tests)
 
-front : (a b : Bool) → (a && b) ≡ true → a ≡ true
-front true b e = refl
-front false b e = e
-
-back : (a b : Bool) → (a && b) ≡ true → b ≡ true
-back true b e = e
-back false b e = cc
-
 not_both : (b : Bool) → not b ≡ true → b ≡ true → ⊥
 not_both true h e = true≢false (sym h)
 not_both false h e = true≢false (sym e)
@@ -193,6 +185,6 @@ pub stored_contains : (hash : List ℕ → ℕ) (t : Ty) (blocks : ℕ) (vs : Li
     → bytes_lack hash t v (filter_bytes (filter_of blocks (value_hashes hash t vs))) ≡ true → ⊥
 stored_contains hash t blocks vs v small o all i n h =
     let bytes : List ℕ = filter_bytes (filter_of blocks (value_hashes hash t vs)) in
-    not_both (may_contain_hash (filter_at bytes) (value_hash hash t v)) (back (is_filter_length (length bytes)) _ h)
+    not_both (may_contain_hash (filter_at bytes) (value_hash hash t v)) (and_parts (is_filter_length (length bytes)) _ h).1
     (contained hash t blocks vs small o all
-    (some_blocks (length bytes) blocks (stored_length blocks (value_hashes hash t vs)) (front (is_filter_length (length bytes)) _ h)) v i n)
+    (some_blocks (length bytes) blocks (stored_length blocks (value_hashes hash t vs)) (and_parts (is_filter_length (length bytes)) _ h).0) v i n)

@@ -1,7 +1,7 @@
 -- The laws of the order of values.
 use Rattle.std.proofs.Common.{◌≡◌, ◌⊎◌, ◌&&◌, ◌||◌, Bool, true, false, not, List, [], ◌∷◌, refl, sym, ap, ◌∙◌, subst, inl, inr, ⊎_elim, arith}
 use Rattle.std.specs.Prelude.{if◌then◌else◌, int_lt, ℤ}
-use Rattle.std.proofs.lemmas.Bool.{cases_Bool, true≢false}
+use Rattle.std.proofs.lemmas.Bool.{cases_Bool, true≢false, and_parts}
 use Rattle.std.proofs.lemmas.Int.{ints}
 use Rattle.vx_model.specs.ValueData.{ValueData, null_value, bool_value, int_value, text_value, bytes_value, list_value, struct_value}
 use Rattle.vx_path.specs.Path.{path_le}
@@ -12,14 +12,6 @@ use Rattle.vx_zone_spec.proofs.Sorts.{Sort, truths, numbers, texts, blobs, neste
 clash : (b : Bool) → not b ≡ true → b ≡ true → ⊥
 clash true h e = true≢false (sym h)
 clash false h e = true≢false (sym e)
-
-first : (a b : Bool) → (a && b) ≡ true → a ≡ true
-first true b e = refl
-first false b e = e
-
-second : (a b : Bool) → (a && b) ≡ true → b ≡ true
-second true b e = e
-second false b e = cc
 
 double : (b : Bool) → not (not b) ≡ b
 double true = refl
@@ -120,9 +112,9 @@ le_total s v w p h = absurd p
 pub same_equal : (v w : ValueData) → value_same v w ≡ true → v ≡ w
 same_equal (bool_value true) (bool_value true) h = refl
 same_equal (bool_value false) (bool_value false) h = refl
-same_equal (int_value a) (int_value b) h = ap int_value (int_same a b (first (not (int_lt b a)) (not (int_lt a b)) h) (second (not (int_lt b a)) (not (int_lt a b)) h))
-same_equal (text_value a) (text_value b) h = ap text_value (path_le-antisym a b (first (path_le a b) (path_le b a) h) (second (path_le a b) (path_le b a) h))
-same_equal (bytes_value a) (bytes_value b) h = ap bytes_value (path_le-antisym a b (first (path_le a b) (path_le b a) h) (second (path_le a b) (path_le b a) h))
+same_equal (int_value a) (int_value b) h = ap int_value (int_same a b (and_parts (not (int_lt b a)) (not (int_lt a b)) h).0 (and_parts (not (int_lt b a)) (not (int_lt a b)) h).1)
+same_equal (text_value a) (text_value b) h = ap text_value (path_le-antisym a b (and_parts (path_le a b) (path_le b a) h).0 (and_parts (path_le a b) (path_le b a) h).1)
+same_equal (bytes_value a) (bytes_value b) h = ap bytes_value (path_le-antisym a b (and_parts (path_le a b) (path_le b a) h).0 (and_parts (path_le a b) (path_le b a) h).1)
 same_equal v w h = cc
 
 -- ---- negated comparisons, of values of one sort

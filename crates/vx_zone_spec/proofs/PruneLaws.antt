@@ -1,7 +1,7 @@
 -- Pruning is sound.
 use Rattle.std.proofs.Common.{◌≡◌, ℕ, ◌+◌, ◌≤◌, ◌⊎◌, ◌&&◌, ◌||◌, Bool, true, false, not, List, [], ◌∷◌, length, Option, Some, None, refl, sym, ap, ap₂, ◌∙◌, subst, inl, inr, ⊎_elim, arith, eqb-true}
 use Rattle.std.specs.Prelude.{pos}
-use Rattle.std.proofs.lemmas.Bool.{true≢false, or_cases}
+use Rattle.std.proofs.lemmas.Bool.{true≢false, or_cases, and_from, and_parts}
 use Rattle.vx_model.specs.Ty.{Ty, boolean, primitive, utf8, binary, list, struct, extension, has_order}
 use Rattle.vx_model.specs.ValueData.{ValueData, null_value, bool_value, int_value, text_value, bytes_value, list_value, struct_value, is_null_value}
 use Rattle.vx_path.specs.Lists.{In}
@@ -117,14 +117,6 @@ not_nested s v l e = none v (subst (λ z. Literal z v) e l)
     none (list_value b) l = l
     none (struct_value b) l = l
 
-left_part : (a b : Bool) → (a && b) ≡ true → a ≡ true
-left_part true b h = refl
-left_part false b h = h
-
-right_part : (a b : Bool) → (a && b) ≡ true → b ≡ true
-right_part true b h = h
-right_part false b h = cc
-
 not_null : (u : ValueData) → not (is_null_value u) ≡ true → u ≡ null_value → ⊥
 not_null u h e = true≢false (sym (subst (λ z. not (is_null_value z) ≡ true) e h))
 
@@ -136,12 +128,12 @@ module _ (hash : List ℕ → ℕ) (t : Ty) (s : Sort) (vs : List ValueData) (al
   Beneath f = (u : ValueData) × (f u ≡ true) × ((w : ValueData) → In w vs → (w ≡ null_value → ⊥) → value_le u w ≡ true)
 
   one_upper : (f : ValueData → Bool) (a : Aggregate) (u : ValueData) → u ≡ aggregate_value hash t vs a → upper_passes f a u ≡ true → Above f
-  one_upper f maximum u e h = (u, right_part (not (is_null_value u)) (f u) h, λ w i m. subst (λ z. value_le w z ≡ true) (sym e) (at_most s n vs all w i m))
+  one_upper f maximum u e h = (u, (and_parts (not (is_null_value u)) (f u) h).1, λ w i m. subst (λ z. value_le w z ≡ true) (sym e) (at_most s n vs all w i m))
   one_upper f (bounded_maximum k) u e h = (
     u,
-    right_part (not (is_null_value u)) (f u) h,
+    (and_parts (not (is_null_value u)) (f u) h).1,
     λ w i m. subst (λ z. value_le w z ≡ true) (sym e)
-        (within_upper s n vs all k w i m (λ z. not_null u (left_part (not (is_null_value u)) (f u) h) (e ∙ z))),
+        (within_upper s n vs all k w i m (λ z. not_null u (and_parts (not (is_null_value u)) (f u) h).0 (e ∙ z))),
   )
   one_upper f minimum u e h = absurd (true≢false (sym h))
   one_upper f (bounded_minimum k) u e h = absurd (true≢false (sym h))
@@ -150,8 +142,8 @@ module _ (hash : List ℕ → ℕ) (t : Ty) (s : Sort) (vs : List ValueData) (al
   one_upper f (bloom k) u e h = absurd (true≢false (sym h))
 
   one_lower : (f : ValueData → Bool) (a : Aggregate) (u : ValueData) → u ≡ aggregate_value hash t vs a → lower_passes f a u ≡ true → Beneath f
-  one_lower f minimum u e h = (u, right_part (not (is_null_value u)) (f u) h, λ w i m. subst (λ z. value_le z w ≡ true) (sym e) (at_least s n vs all w i m))
-  one_lower f (bounded_minimum k) u e h = (u, right_part (not (is_null_value u)) (f u) h, λ w i m. subst (λ z. value_le z w ≡ true) (sym e) (within_lower s n vs all k w i m))
+  one_lower f minimum u e h = (u, (and_parts (not (is_null_value u)) (f u) h).1, λ w i m. subst (λ z. value_le z w ≡ true) (sym e) (at_least s n vs all w i m))
+  one_lower f (bounded_minimum k) u e h = (u, (and_parts (not (is_null_value u)) (f u) h).1, λ w i m. subst (λ z. value_le z w ≡ true) (sym e) (within_lower s n vs all k w i m))
   one_lower f maximum u e h = absurd (true≢false (sym h))
   one_lower f (bounded_maximum k) u e h = absurd (true≢false (sym h))
   one_lower f null_count u e h = absurd (true≢false (sym h))
@@ -326,8 +318,8 @@ module _ (hash : List ℕ → ℕ) (t : Ty) (s : Sort) (vs : List ValueData) (r 
   rules : (p : Predicate) → Literals s p → ruled_out hash t r (length vs) p ≡ true → (w : ValueData) → In w vs → says p w ≡ Some true → ⊥
   rules (eq v) l h w i e =
       let c : (w ≡ null_value → ⊥) × (value_same w v ≡ true) = said w (value_same w v) e in
-      let low : value_le w v ≡ true = left_part (value_le w v) (value_le v w) c.1 in
-      let high : value_le v w ≡ true = right_part (value_le w v) (value_le v w) c.1 in
+      let low : value_le w v ≡ true = (and_parts (value_le w v) (value_le v w) c.1).0 in
+      let high : value_le v w ≡ true = (and_parts (value_le w v) (value_le v w) c.1).1 in
       ⊎_elim
       (λ b. ⊎_elim
       (λ x. let u = upper_found hash t s vs all (not_nested s v l) (λ u. value_lt u v) r rec x in lt_not_ge u.0 v u.1 (le_trans v w u.0 high (u.2 w i c.0)))
@@ -339,10 +331,10 @@ module _ (hash : List ℕ → ℕ) (t : Ty) (s : Sort) (vs : List ValueData) (r 
       let c : (w ≡ null_value → ⊥) × (not (value_same w v) ≡ true) = said w (not (value_same w v)) e in
       ⊎_elim
       (λ b.
-      let u = upper_found hash t s vs all (not_nested s v l) (λ u. value_same u v) r rec (left_part (some_upper (λ u. value_same u v) r) (some_lower (λ u. value_same u v) r) b) in
-      let d = lower_found hash t s vs all (not_nested s v l) (λ u. value_same u v) r rec (right_part (some_upper (λ u. value_same u v) r) (some_lower (λ u. value_same u v) r) b) in
-      let low : value_le w v ≡ true = le_trans w u.0 v (u.2 w i c.0) (left_part (value_le u.0 v) (value_le v u.0) u.1) in
-      let high : value_le v w ≡ true = le_trans v d.0 w (right_part (value_le d.0 v) (value_le v d.0) d.1) (d.2 w i c.0) in
+      let u = upper_found hash t s vs all (not_nested s v l) (λ u. value_same u v) r rec (and_parts (some_upper (λ u. value_same u v) r) (some_lower (λ u. value_same u v) r) b).0 in
+      let d = lower_found hash t s vs all (not_nested s v l) (λ u. value_same u v) r rec (and_parts (some_upper (λ u. value_same u v) r) (some_lower (λ u. value_same u v) r) b).1 in
+      let low : value_le w v ≡ true = le_trans w u.0 v (u.2 w i c.0) (and_parts (value_le u.0 v) (value_le v u.0) u.1).0 in
+      let high : value_le v w ≡ true = le_trans v d.0 w (and_parts (value_le d.0 v) (value_le v d.0) d.1).1 (d.2 w i c.0) in
       true≢false (sym (sym (ap not (ap₂ (λ a b. a && b) low high)) ∙ c.1)))
       (λ b. nulls_only b w i c.0)
       (or_cases (some_upper (λ u. value_same u v) r && some_lower (λ u. value_same u v) r) (null_count_is (length vs) r) h)
@@ -372,8 +364,8 @@ module _ (hash : List ℕ → ℕ) (t : Ty) (s : Sort) (vs : List ValueData) (r 
       let c : (says p w ≡ Some true) × (says q w ≡ Some true) = both_true (says p w) (says q w) e in
       ⊎_elim (λ x. rules p l.0 x w i c.0) (λ x. rules q l.1 x w i c.1) (or_cases (ruled_out hash t r (length vs) p) (ruled_out hash t r (length vs) q) h)
   rules (either p q) l h w i e =
-      ⊎_elim (λ c. rules p l.0 (left_part (ruled_out hash t r (length vs) p) (ruled_out hash t r (length vs) q) h) w i c)
-      (λ c. rules q l.1 (right_part (ruled_out hash t r (length vs) p) (ruled_out hash t r (length vs) q) h) w i c) (either_true (says p w) (says q w) e)
+      ⊎_elim (λ c. rules p l.0 (and_parts (ruled_out hash t r (length vs) p) (ruled_out hash t r (length vs) q) h).0 w i c)
+      (λ c. rules q l.1 (and_parts (ruled_out hash t r (length vs) p) (ruled_out hash t r (length vs) q) h).1 w i c) (either_true (says p w) (says q w) e)
   rules (negated p) l h w i e = true≢false (sym h)
 
 mutual
@@ -430,17 +422,6 @@ pruning_is_sound hash t p vs r small all fits rec h w i e =
 
 -- ---- Not at the leaves
 
-front : (a b : Bool) → (a && b) ≡ true → a ≡ true
-front true b e = refl
-front false b e = e
-
-back : (a b : Bool) → (a && b) ≡ true → b ≡ true
-back true b e = e
-back false b e = cc
-
-both_hold : (a b : Bool) → a ≡ true → b ≡ true → (a && b) ≡ true
-both_hold a b e f = rw (e, f) refl
-
 mutual
   pushed_leaves : (p : Predicate) → is_pushed (pushed p) ≡ true
   pushed_leaves (eq v) = refl
@@ -451,8 +432,8 @@ mutual
   pushed_leaves (gt_eq v) = refl
   pushed_leaves is_null = refl
   pushed_leaves is_not_null = refl
-  pushed_leaves (both p q) = both_hold (is_pushed (pushed p)) (is_pushed (pushed q)) (pushed_leaves p) (pushed_leaves q)
-  pushed_leaves (either p q) = both_hold (is_pushed (pushed p)) (is_pushed (pushed q)) (pushed_leaves p) (pushed_leaves q)
+  pushed_leaves (both p q) = and_from (is_pushed (pushed p)) (is_pushed (pushed q)) (pushed_leaves p) (pushed_leaves q)
+  pushed_leaves (either p q) = and_from (is_pushed (pushed p)) (is_pushed (pushed q)) (pushed_leaves p) (pushed_leaves q)
   pushed_leaves (negated p) = opposite_leaves p
 
   opposite_leaves : (p : Predicate) → is_pushed (opposite p) ≡ true
@@ -464,8 +445,8 @@ mutual
   opposite_leaves (gt_eq v) = refl
   opposite_leaves is_null = refl
   opposite_leaves is_not_null = refl
-  opposite_leaves (both p q) = both_hold (is_pushed (opposite p)) (is_pushed (opposite q)) (opposite_leaves p) (opposite_leaves q)
-  opposite_leaves (either p q) = both_hold (is_pushed (opposite p)) (is_pushed (opposite q)) (opposite_leaves p) (opposite_leaves q)
+  opposite_leaves (both p q) = and_from (is_pushed (opposite p)) (is_pushed (opposite q)) (opposite_leaves p) (opposite_leaves q)
+  opposite_leaves (either p q) = and_from (is_pushed (opposite p)) (is_pushed (opposite q)) (opposite_leaves p) (opposite_leaves q)
   opposite_leaves (negated p) = pushed_leaves p
 
 mutual
@@ -479,9 +460,9 @@ mutual
   pushed_fits t is_null h = h
   pushed_fits t is_not_null h = h
   pushed_fits t (both p q) h =
-      both_hold (predicate_fits t (pushed p)) (predicate_fits t (pushed q)) (pushed_fits t p (front (predicate_fits t p) (predicate_fits t q) h)) (pushed_fits t q (back (predicate_fits t p) (predicate_fits t q) h))
+      and_from (predicate_fits t (pushed p)) (predicate_fits t (pushed q)) (pushed_fits t p (and_parts (predicate_fits t p) (predicate_fits t q) h).0) (pushed_fits t q (and_parts (predicate_fits t p) (predicate_fits t q) h).1)
   pushed_fits t (either p q) h =
-      both_hold (predicate_fits t (pushed p)) (predicate_fits t (pushed q)) (pushed_fits t p (front (predicate_fits t p) (predicate_fits t q) h)) (pushed_fits t q (back (predicate_fits t p) (predicate_fits t q) h))
+      and_from (predicate_fits t (pushed p)) (predicate_fits t (pushed q)) (pushed_fits t p (and_parts (predicate_fits t p) (predicate_fits t q) h).0) (pushed_fits t q (and_parts (predicate_fits t p) (predicate_fits t q) h).1)
   pushed_fits t (negated p) h = opposite_fits t p h
 
   opposite_fits : (t : Ty) (p : Predicate) → predicate_fits t p ≡ true → predicate_fits t (opposite p) ≡ true
@@ -494,9 +475,9 @@ mutual
   opposite_fits t is_null h = h
   opposite_fits t is_not_null h = h
   opposite_fits t (both p q) h =
-      both_hold (predicate_fits t (opposite p)) (predicate_fits t (opposite q)) (opposite_fits t p (front (predicate_fits t p) (predicate_fits t q) h)) (opposite_fits t q (back (predicate_fits t p) (predicate_fits t q) h))
+      and_from (predicate_fits t (opposite p)) (predicate_fits t (opposite q)) (opposite_fits t p (and_parts (predicate_fits t p) (predicate_fits t q) h).0) (opposite_fits t q (and_parts (predicate_fits t p) (predicate_fits t q) h).1)
   opposite_fits t (either p q) h =
-      both_hold (predicate_fits t (opposite p)) (predicate_fits t (opposite q)) (opposite_fits t p (front (predicate_fits t p) (predicate_fits t q) h)) (opposite_fits t q (back (predicate_fits t p) (predicate_fits t q) h))
+      and_from (predicate_fits t (opposite p)) (predicate_fits t (opposite q)) (opposite_fits t p (and_parts (predicate_fits t p) (predicate_fits t q) h).0) (opposite_fits t q (and_parts (predicate_fits t p) (predicate_fits t q) h).1)
   opposite_fits t (negated p) h = pushed_fits t p h
 
 pub not_is_pushed : NotIsPushed

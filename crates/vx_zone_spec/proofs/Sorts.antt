@@ -2,7 +2,7 @@
 use Rattle.std.proofs.Common.{◌≡◌, ℕ, ◌&&◌, Bool, true, false, not, List, [], ◌∷◌, Some, refl, sym, ap, ◌∙◌, ⊎_elim}
 use Rattle.std.specs.Str.{is_utf8}
 use Rattle.std.specs.Option.{option_map}
-use Rattle.std.proofs.lemmas.Bool.{true≢false}
+use Rattle.std.proofs.lemmas.Bool.{true≢false, and_parts}
 use Rattle.vx_model.specs.Ty.{Ty, boolean, primitive, utf8, binary, list, struct, extension, has_order}
 use Rattle.vx_model.specs.ValueData.{ValueData, null_value, bool_value, int_value, text_value, bytes_value, list_value, struct_value, value_fits, is_null_value}
 use Rattle.vx_path.specs.Lists.{In}
@@ -65,14 +65,6 @@ sort_of (list t n) = nested
 sort_of (struct fs n) = nested
 sort_of (extension tag t) = sort_of t
 
-left_of : (a b : Bool) → (a && b) ≡ true → a ≡ true
-left_of true b e = refl
-left_of false b e = e
-
-right_of : (a b : Bool) → (a && b) ≡ true → b ≡ true
-right_of true b e = e
-right_of false b e = cc
-
 fitting_sort : (t : Ty) (v : ValueData) → value_fits t v ≡ true → is_text v ≡ true → has_sort (sort_of t) v ≡ true
 fitting_sort t null_value f e = refl
 fitting_sort (boolean n) (bool_value b) f e = refl
@@ -86,12 +78,12 @@ fitting_sort t v f e = absurd (true≢false (sym f))
 
 pub value_sort : (t : Ty) (v : ValueData) → is_value_of t v ≡ true → has_sort (sort_of t) v ≡ true
 value_sort t null_value h = refl
-value_sort t (bool_value b) h = fitting_sort t (bool_value b) (left_of (value_fits t (bool_value b)) true h) refl
-value_sort t (int_value b) h = fitting_sort t (int_value b) (left_of (value_fits t (int_value b)) true h) refl
-value_sort t (text_value b) h = fitting_sort t (text_value b) (left_of (value_fits t (text_value b)) (is_utf8 b) h) (right_of (value_fits t (text_value b)) (is_utf8 b) h)
-value_sort t (bytes_value b) h = fitting_sort t (bytes_value b) (left_of (value_fits t (bytes_value b)) true h) refl
-value_sort t (list_value b) h = fitting_sort t (list_value b) (left_of (value_fits t (list_value b)) true h) refl
-value_sort t (struct_value b) h = fitting_sort t (struct_value b) (left_of (value_fits t (struct_value b)) true h) refl
+value_sort t (bool_value b) h = fitting_sort t (bool_value b) (and_parts (value_fits t (bool_value b)) true h).0 refl
+value_sort t (int_value b) h = fitting_sort t (int_value b) (and_parts (value_fits t (int_value b)) true h).0 refl
+value_sort t (text_value b) h = fitting_sort t (text_value b) (and_parts (value_fits t (text_value b)) (is_utf8 b) h).0 (and_parts (value_fits t (text_value b)) (is_utf8 b) h).1
+value_sort t (bytes_value b) h = fitting_sort t (bytes_value b) (and_parts (value_fits t (bytes_value b)) true h).0 refl
+value_sort t (list_value b) h = fitting_sort t (list_value b) (and_parts (value_fits t (list_value b)) true h).0 refl
+value_sort t (struct_value b) h = fitting_sort t (struct_value b) (and_parts (value_fits t (struct_value b)) true h).0 refl
 
 pub values_sort : (t : Ty) (vs : List ValueData) → AllValues t vs → AllSort (sort_of t) vs
 values_sort t [] h = tt
@@ -124,8 +116,8 @@ fitting_literal t v o n f = absurd (true≢false (sym f))
 
 pub literal_sort : (t : Ty) (v : ValueData) → is_literal t v ≡ true → Literal (sort_of t) v
 literal_sort t v h =
-    let r : (not (is_null_value v) && value_fits t v) ≡ true = right_of (has_order t) (not (is_null_value v) && value_fits t v) h in
-    fitting_literal t v (left_of (has_order t) (not (is_null_value v) && value_fits t v) h) (left_of (not (is_null_value v)) (value_fits t v) r) (right_of (not (is_null_value v)) (value_fits t v) r)
+    let r : (not (is_null_value v) && value_fits t v) ≡ true = (and_parts (has_order t) (not (is_null_value v) && value_fits t v) h).1 in
+    fitting_literal t v (and_parts (has_order t) (not (is_null_value v) && value_fits t v) h).0 (and_parts (not (is_null_value v)) (value_fits t v) r).0 (and_parts (not (is_null_value v)) (value_fits t v) r).1
 
 pub literals_sort : (t : Ty) (p : Predicate) → predicate_fits t p ≡ true → Literals (sort_of t) p
 literals_sort t (eq v) h = literal_sort t v h
@@ -136,8 +128,8 @@ literals_sort t (gt v) h = literal_sort t v h
 literals_sort t (gt_eq v) h = literal_sort t v h
 literals_sort t is_null h = tt
 literals_sort t is_not_null h = tt
-literals_sort t (both p q) h = (literals_sort t p (left_of (predicate_fits t p) (predicate_fits t q) h), literals_sort t q (right_of (predicate_fits t p) (predicate_fits t q) h))
-literals_sort t (either p q) h = (literals_sort t p (left_of (predicate_fits t p) (predicate_fits t q) h), literals_sort t q (right_of (predicate_fits t p) (predicate_fits t q) h))
+literals_sort t (both p q) h = (literals_sort t p (and_parts (predicate_fits t p) (predicate_fits t q) h).0, literals_sort t q (and_parts (predicate_fits t p) (predicate_fits t q) h).1)
+literals_sort t (either p q) h = (literals_sort t p (and_parts (predicate_fits t p) (predicate_fits t q) h).0, literals_sort t q (and_parts (predicate_fits t p) (predicate_fits t q) h).1)
 literals_sort t (negated p) h = literals_sort t p h
 
 -- ---- hashes
@@ -155,12 +147,12 @@ fitting_hash hash t v o f n = absurd (true≢false (sym f))
 
 fits_unless_null : (t : Ty) (v : ValueData) → is_value_of t v ≡ true → (v ≡ null_value → ⊥) → value_fits t v ≡ true
 fits_unless_null t null_value h n = absurd (n refl)
-fits_unless_null t (bool_value b) h n = left_of (value_fits t (bool_value b)) true h
-fits_unless_null t (int_value b) h n = left_of (value_fits t (int_value b)) true h
-fits_unless_null t (text_value b) h n = left_of (value_fits t (text_value b)) (is_utf8 b) h
-fits_unless_null t (bytes_value b) h n = left_of (value_fits t (bytes_value b)) true h
-fits_unless_null t (list_value b) h n = left_of (value_fits t (list_value b)) true h
-fits_unless_null t (struct_value b) h n = left_of (value_fits t (struct_value b)) true h
+fits_unless_null t (bool_value b) h n = (and_parts (value_fits t (bool_value b)) true h).0
+fits_unless_null t (int_value b) h n = (and_parts (value_fits t (int_value b)) true h).0
+fits_unless_null t (text_value b) h n = (and_parts (value_fits t (text_value b)) (is_utf8 b) h).0
+fits_unless_null t (bytes_value b) h n = (and_parts (value_fits t (bytes_value b)) true h).0
+fits_unless_null t (list_value b) h n = (and_parts (value_fits t (list_value b)) true h).0
+fits_unless_null t (struct_value b) h n = (and_parts (value_fits t (struct_value b)) true h).0
 
 -- a value that isn't null has a hash
 pub value_hashed : (hash : List ℕ → ℕ) (t : Ty) (v : ValueData) → has_order t ≡ true → is_value_of t v ≡ true → (v ≡ null_value → ⊥) → (b : List ℕ) × (value_hash hash t v ≡ Some (hash b))

@@ -1,7 +1,7 @@
 -- A record rules out exactly what the table says.
 use Rattle.std.proofs.Common.{◌≡◌, ℕ, ◌/◌, ◌%◌, ◌<◌, ◌^◌, ◌⊎◌, ◌&&◌, ◌||◌, Bool, true, false, not, List, [], ◌∷◌, length, refl, sym, ap, subst, inl, inr, ⊎_elim, arith, eqb-true, eq-eqb}
 use Rattle.std.specs.Prelude.{pos}
-use Rattle.std.proofs.lemmas.Bool.{true≢false, or_cases}
+use Rattle.std.proofs.lemmas.Bool.{true≢false, or_cases, and_from, and_parts}
 use Rattle.std.proofs.lemmas.Bool.Decides.{nat_tests}
 use Rattle.vx_model.specs.Ty.{Ty}
 use Rattle.vx_model.specs.ValueData.{ValueData, null_value, bool_value, int_value, text_value, bytes_value, list_value, struct_value, is_null_value}
@@ -12,17 +12,6 @@ use Rattle.vx_aggregate_spec.specs.Aggregate.{Aggregate, maximum, minimum, bound
 use Rattle.vx_zone_spec.specs.ValueOrder.{value_le, value_lt, value_same}
 use Rattle.vx_zone_spec.specs.Pruning.{Predicate, ZoneRecord, eq, not_eq, lt, lt_eq, gt, gt_eq, is_null, is_not_null, both, either, negated, upper_passes, lower_passes, some_upper, some_lower, counts, null_count_is, is_filter_length, bytes_lack, lacks, some_filter_lacks, ruled_out, pushed}
 use Rattle.vx_zone_spec.specs.Statements.{IsUpper, IsLower, Upper, Lower, Lacking, Nulls, RulesOut, TableIsExact}
-
-front : (a b : Bool) → (a && b) ≡ true → a ≡ true
-front true b e = refl
-front false b e = e
-
-back : (a b : Bool) → (a && b) ≡ true → b ≡ true
-back true b e = e
-back false b e = cc
-
-hold : (a b : Bool) → a ≡ true → b ≡ true → (a && b) ≡ true
-hold a b e f = rw (e, f) refl
 
 or_left : (a b : Bool) → a ≡ true → (a || b) ≡ true
 or_left a b e = rw e refl
@@ -50,9 +39,9 @@ module _ (f : ValueData → Bool) where
   upper_more x r u = record { aggregate = u.aggregate; bound = u.bound; listed = inr u.listed; is_upper = u.is_upper; some = u.some; passes = u.passes }
 
   one_upper : (a : Aggregate) (u : ValueData) (r : ZoneRecord) → upper_passes f a u ≡ true → Upper f ((a, u) ∷ r)
-  one_upper maximum u r h = record { aggregate = maximum; bound = u; listed = inl refl; is_upper = tt; some = some_row u (front (not (is_null_value u)) (f u) h); passes = back (not (is_null_value u)) (f u) h }
+  one_upper maximum u r h = record { aggregate = maximum; bound = u; listed = inl refl; is_upper = tt; some = some_row u (and_parts (not (is_null_value u)) (f u) h).0; passes = (and_parts (not (is_null_value u)) (f u) h).1 }
   one_upper (bounded_maximum n) u r h =
-      record { aggregate = bounded_maximum n; bound = u; listed = inl refl; is_upper = tt; some = some_row u (front (not (is_null_value u)) (f u) h); passes = back (not (is_null_value u)) (f u) h }
+      record { aggregate = bounded_maximum n; bound = u; listed = inl refl; is_upper = tt; some = some_row u (and_parts (not (is_null_value u)) (f u) h).0; passes = (and_parts (not (is_null_value u)) (f u) h).1 }
   one_upper a u r h = absurd (true≢false (sym h))
 
   upper_of : (r : ZoneRecord) → some_upper f r ≡ true → Upper f r
@@ -60,8 +49,8 @@ module _ (f : ValueData → Bool) where
   upper_of (x ∷ r) h = ⊎_elim (λ e. one_upper x.0 x.1 r e) (λ e. upper_more x r (upper_of r e)) (or_cases (upper_passes f x.0 x.1) (some_upper f r) h)
 
   upper_here : (a : Aggregate) (u : ValueData) → IsUpper a → (u ≡ null_value → ⊥) → f u ≡ true → upper_passes f a u ≡ true
-  upper_here maximum u i n p = hold (not (is_null_value u)) (f u) (row_some u n) p
-  upper_here (bounded_maximum k) u i n p = hold (not (is_null_value u)) (f u) (row_some u n) p
+  upper_here maximum u i n p = and_from (not (is_null_value u)) (f u) (row_some u n) p
+  upper_here (bounded_maximum k) u i n p = and_from (not (is_null_value u)) (f u) (row_some u n) p
   upper_here a u i n p = absurd i
 
   upper_in : (r : ZoneRecord) (a : Aggregate) (u : ValueData) → In (a, u) r → IsUpper a → (u ≡ null_value → ⊥) → f u ≡ true → some_upper f r ≡ true
@@ -74,9 +63,9 @@ module _ (f : ValueData → Bool) where
   lower_more x r u = record { aggregate = u.aggregate; bound = u.bound; listed = inr u.listed; is_lower = u.is_lower; some = u.some; passes = u.passes }
 
   one_lower : (a : Aggregate) (u : ValueData) (r : ZoneRecord) → lower_passes f a u ≡ true → Lower f ((a, u) ∷ r)
-  one_lower minimum u r h = record { aggregate = minimum; bound = u; listed = inl refl; is_lower = tt; some = some_row u (front (not (is_null_value u)) (f u) h); passes = back (not (is_null_value u)) (f u) h }
+  one_lower minimum u r h = record { aggregate = minimum; bound = u; listed = inl refl; is_lower = tt; some = some_row u (and_parts (not (is_null_value u)) (f u) h).0; passes = (and_parts (not (is_null_value u)) (f u) h).1 }
   one_lower (bounded_minimum n) u r h =
-      record { aggregate = bounded_minimum n; bound = u; listed = inl refl; is_lower = tt; some = some_row u (front (not (is_null_value u)) (f u) h); passes = back (not (is_null_value u)) (f u) h }
+      record { aggregate = bounded_minimum n; bound = u; listed = inl refl; is_lower = tt; some = some_row u (and_parts (not (is_null_value u)) (f u) h).0; passes = (and_parts (not (is_null_value u)) (f u) h).1 }
   one_lower a u r h = absurd (true≢false (sym h))
 
   lower_of : (r : ZoneRecord) → some_lower f r ≡ true → Lower f r
@@ -84,8 +73,8 @@ module _ (f : ValueData → Bool) where
   lower_of (x ∷ r) h = ⊎_elim (λ e. one_lower x.0 x.1 r e) (λ e. lower_more x r (lower_of r e)) (or_cases (lower_passes f x.0 x.1) (some_lower f r) h)
 
   lower_here : (a : Aggregate) (u : ValueData) → IsLower a → (u ≡ null_value → ⊥) → f u ≡ true → lower_passes f a u ≡ true
-  lower_here minimum u i n p = hold (not (is_null_value u)) (f u) (row_some u n) p
-  lower_here (bounded_minimum k) u i n p = hold (not (is_null_value u)) (f u) (row_some u n) p
+  lower_here minimum u i n p = and_from (not (is_null_value u)) (f u) (row_some u n) p
+  lower_here (bounded_minimum k) u i n p = and_from (not (is_null_value u)) (f u) (row_some u n) p
   lower_here a u i n p = absurd i
 
   lower_in : (r : ZoneRecord) (a : Aggregate) (u : ValueData) → In (a, u) r → IsLower a → (u ≡ null_value → ⊥) → f u ≡ true → some_lower f r ≡ true
@@ -146,8 +135,8 @@ module _ (hash : List ℕ → ℕ) (t : Ty) (v : ValueData) where
     blocks = n;
     stored = b;
     listed = inl refl;
-    whole = length_is (length b) (front (is_filter_length (length b)) _ h);
-    lacks = not_contained (may_contain_hash (filter_at b) (value_hash hash t v)) (back (is_filter_length (length b)) _ h);
+    whole = length_is (length b) (and_parts (is_filter_length (length b)) _ h).0;
+    lacks = not_contained (may_contain_hash (filter_at b) (value_hash hash t v)) (and_parts (is_filter_length (length b)) _ h).1;
   }
   one_lacking a u r h = absurd (true≢false (sym h))
 
@@ -156,7 +145,7 @@ module _ (hash : List ℕ → ℕ) (t : Ty) (v : ValueData) where
   lacking_of (x ∷ r) h = ⊎_elim (λ e. one_lacking x.0 x.1 r e) (λ e. lacking_more x r (lacking_of r e)) (or_cases (lacks hash t v x.0 x.1) (some_filter_lacks hash t v r) h)
 
   lacking_here : (b : List ℕ) → IsFilterLength (length b) → may_contain_hash (filter_at b) (value_hash hash t v) ≡ false → bytes_lack hash t v b ≡ true
-  lacking_here b w l = hold (is_filter_length (length b)) (not (may_contain_hash (filter_at b) (value_hash hash t v))) (is_length (length b) w.whole w.some w.few) (ap not l)
+  lacking_here b w l = and_from (is_filter_length (length b)) (not (may_contain_hash (filter_at b) (value_hash hash t v))) (is_length (length b) w.whole w.some w.few) (ap not l)
 
   lacking_in : (r : ZoneRecord) (n : ℕ) (b : List ℕ) → In (bloom n, bytes_value b) r → bytes_lack hash t v b ≡ true → some_filter_lacks hash t v r ≡ true
   lacking_in [] n b i h = absurd i
@@ -184,7 +173,7 @@ module _ (hash : List ℕ → ℕ) (t : Ty) (r : ZoneRecord) (n : ℕ) where
       (λ a. ⊎_elim (λ e. inr (inr (inl (lacking_of hash t v r e)))) (λ e. inr (inr (inr (nulls_of n r e)))) (or_cases (some_filter_lacks hash t v r) (null_count_is n r) a))
       (or_cases (some_upper (λ u. value_lt u v) r || some_lower (λ l. value_lt v l) r) (some_filter_lacks hash t v r || null_count_is n r) h)
   only (not_eq v) h = or_of (some_upper (λ u. value_same u v) r && some_lower (λ l. value_same l v) r) (null_count_is n r)
-      (λ e. (upper_of (λ u. value_same u v) r (front (some_upper (λ u. value_same u v) r) _ e), lower_of (λ l. value_same l v) r (back (some_upper (λ u. value_same u v) r) _ e))) (nulls_of n r) h
+      (λ e. (upper_of (λ u. value_same u v) r (and_parts (some_upper (λ u. value_same u v) r) _ e).0, lower_of (λ l. value_same l v) r (and_parts (some_upper (λ u. value_same u v) r) _ e).1)) (nulls_of n r) h
   only (lt v) h = or_of (some_lower (λ l. value_le v l) r) (null_count_is n r) (lower_of (λ l. value_le v l) r) (nulls_of n r) h
   only (lt_eq v) h = or_of (some_lower (λ l. value_lt v l) r) (null_count_is n r) (lower_of (λ l. value_lt v l) r) (nulls_of n r) h
   only (gt v) h = or_of (some_upper (λ u. value_le u v) r) (null_count_is n r) (upper_of (λ u. value_le u v) r) (nulls_of n r) h
@@ -192,7 +181,7 @@ module _ (hash : List ℕ → ℕ) (t : Ty) (r : ZoneRecord) (n : ℕ) where
   only is_null h = nulls_of 0 r h
   only is_not_null h = nulls_of n r h
   only (both p q) h = or_of (ruled_out hash t r n p) (ruled_out hash t r n q) (only p) (only q) h
-  only (either p q) h = (only p (front (ruled_out hash t r n p) (ruled_out hash t r n q) h), only q (back (ruled_out hash t r n p) (ruled_out hash t r n q) h))
+  only (either p q) h = (only p (and_parts (ruled_out hash t r n p) (ruled_out hash t r n q) h).0, only q (and_parts (ruled_out hash t r n p) (ruled_out hash t r n q) h).1)
   only (negated p) h = true≢false (sym h)
 
   whenever : (p : Predicate) → RulesOut hash t r n p → ruled_out hash t r n p ≡ true
@@ -201,7 +190,7 @@ module _ (hash : List ℕ → ℕ) (t : Ty) (r : ZoneRecord) (n : ℕ) where
   whenever (eq v) (inr (inr (inl l))) = or_right (some_upper (λ u. value_lt u v) r || some_lower (λ l. value_lt v l) r) _ (or_left (some_filter_lacks hash t v r) _ (from_lacking hash t v r l))
   whenever (eq v) (inr (inr (inr l))) = or_right (some_upper (λ u. value_lt u v) r || some_lower (λ l. value_lt v l) r) _ (or_right (some_filter_lacks hash t v r) _ (from_nulls n r l))
   whenever (not_eq v) h = of_or (some_upper (λ u. value_same u v) r && some_lower (λ l. value_same l v) r) (null_count_is n r)
-      (λ (e : Upper (λ u. value_same u v) r × Lower (λ l. value_same l v) r). hold (some_upper (λ u. value_same u v) r) _ (from_upper (λ u. value_same u v) r e.0) (from_lower (λ l. value_same l v) r e.1))
+      (λ (e : Upper (λ u. value_same u v) r × Lower (λ l. value_same l v) r). and_from (some_upper (λ u. value_same u v) r) _ (from_upper (λ u. value_same u v) r e.0) (from_lower (λ l. value_same l v) r e.1))
       (from_nulls n r) h
   whenever (lt v) h = of_or (some_lower (λ l. value_le v l) r) (null_count_is n r) (from_lower (λ l. value_le v l) r) (from_nulls n r) h
   whenever (lt_eq v) h = of_or (some_lower (λ l. value_lt v l) r) (null_count_is n r) (from_lower (λ l. value_lt v l) r) (from_nulls n r) h
@@ -210,7 +199,7 @@ module _ (hash : List ℕ → ℕ) (t : Ty) (r : ZoneRecord) (n : ℕ) where
   whenever is_null h = from_nulls 0 r h
   whenever is_not_null h = from_nulls n r h
   whenever (both p q) h = of_or (ruled_out hash t r n p) (ruled_out hash t r n q) (whenever p) (whenever q) h
-  whenever (either p q) h = hold (ruled_out hash t r n p) (ruled_out hash t r n q) (whenever p h.0) (whenever q h.1)
+  whenever (either p q) h = and_from (ruled_out hash t r n p) (ruled_out hash t r n q) (whenever p h.0) (whenever q h.1)
   whenever (negated p) h = absurd h
 
 pub table_is_exact : TableIsExact

@@ -3,7 +3,7 @@ use Rattle.std.proofs.Common.{◌≡◌, ◌≢◌, ℕ, zero, suc, ◌+◌, ◌
 use Rattle.std.specs.Prelude.{if◌then◌else◌, nat_le, min, pos, ℤ}
 use Rattle.std.specs.Char.{encode_utf8, IsScalar}
 use Rattle.std.specs.Str.{is_utf8, chars, encode_utf8_all, all_scalars}
-use Rattle.std.proofs.lemmas.Bool.{true≢false, cases_lt}
+use Rattle.std.proofs.lemmas.Bool.{true≢false, cases_lt, and_from, and_parts}
 use Rattle.std.proofs.lemmas.Bool.Decides.{nat_tests}
 use Rattle.std.proofs.lemmas.List.{append-nil, length-map}
 use Rattle.std.proofs.lemmas.Str.{IsUtf8-from_is_utf8, is_utf8-from_IsUtf8, scalars-chars}
@@ -30,17 +30,6 @@ use Rattle.vx_zone_spec.specs.ValueOrder.{value_le, greater, lesser, greatest, l
 use Rattle.vx_zone_spec.specs.Bounds.{front_chars, byte_rises, char_rises, next_char, raised_before, raised_last, upper_bound, lower_bound, text_or_null, bytes_or_null}
 use Rattle.vx_zone_spec.specs.Record.{nulls, exact_sum, sum_value, aggregate_value}
 use Rattle.vx_zone_spec.specs.ZoneTable.{state_cell}
-
-left_true : (a b : Bool) → (a && b) ≡ true → a ≡ true
-left_true true b e = refl
-left_true false b e = e
-
-right_true : (a b : Bool) → (a && b) ≡ true → b ≡ true
-right_true true b e = e
-right_true false b e = cc
-
-both_true : (a b : Bool) → a ≡ true → b ≡ true → (a && b) ≡ true
-both_true a b e f = rw (e, f) refl
 
 below_test : (n : ℕ) → n < 2 ^ 64 → is_length n ≡ true
 below_test n h = grind (arith, nat_tests)
@@ -78,7 +67,7 @@ held_value t u c e f r = absurd (true≢false (sym f))
 
 pub held_values : (t u : Ty) (cs : List CellData) → bound_state t ≡ Some u → all_by (fits t) cs ≡ true → all_by is_real_cell cs ≡ true → AllHold u (map value cs)
 held_values t u [] e f r = tt
-held_values t u (c ∷ cs) e f r = (held_value t u c e (left_true (fits t c) _ f) (left_true (is_real_cell c) _ r), held_values t u cs e (right_true (fits t c) _ f) (right_true (is_real_cell c) _ r))
+held_values t u (c ∷ cs) e f r = (held_value t u c e (and_parts (fits t c) _ f).0 (and_parts (is_real_cell c) _ r).0, held_values t u cs e (and_parts (fits t c) _ f).1 (and_parts (is_real_cell c) _ r).1)
 
 null_held : (t u : Ty) → bound_state t ≡ Some u → Holds u null_value
 null_held (boolean n) u e = let s : boolean true ≡ u = cc in rw (← s) (record { fit = refl; real = refl })
@@ -117,26 +106,26 @@ least_held u (v ∷ vs) n h = ⊎_elim (λ e. subst (Holds u) (sym e) h.0) (λ e
 
 raised_are : (p r : List ℕ) → all_by is_byte p ≡ true → raised_last byte_rises suc p ≡ Some r → (all_by is_byte r ≡ true) × (length r ≤ length p)
 raised_are [] r h e = cc
-raised_are (x ∷ p) r h e = go (raised_last byte_rises suc p) (λ ys f. raised_are p ys (right_true (is_byte x) _ h) f) e
+raised_are (x ∷ p) r h e = go (raised_last byte_rises suc p) (λ ys f. raised_are p ys (and_parts (is_byte x) _ h).1 f) e
   where
     byte_suc : (x : ℕ) → byte_rises x ≡ true → is_byte (suc x) ≡ true
     byte_suc x b = grind (arith, nat_tests)
 
     here : (b : Bool) → byte_rises x ≡ b → (if b then Some (suc x ∷ []) else None) ≡ Some r → (all_by is_byte r ≡ true) × (length r ≤ suc (length p))
     here false f g = cc
-    here true f g = let s : suc x ∷ [] ≡ r = cc in subst (λ z. (all_by is_byte z ≡ true) × (length z ≤ suc (length p))) s (both_true (is_byte (suc x)) true (byte_suc x f) refl, omega arith)
+    here true f g = let s : suc x ∷ [] ≡ r = cc in subst (λ z. (all_by is_byte z ≡ true) × (length z ≤ suc (length p))) s (and_from (is_byte (suc x)) true (byte_suc x f) refl, omega arith)
 
     go : (o : Option (List ℕ)) → ((ys : List ℕ) → o ≡ Some ys → (all_by is_byte ys ≡ true) × (length ys ≤ length p)) → raised_before byte_rises suc x o ≡ Some r → (all_by is_byte r ≡ true) × (length r ≤ suc (length p))
     go None f g = here (byte_rises x) refl g
     go (Some ys) f g = let s : x ∷ ys ≡ r = cc in
         let w : (all_by is_byte ys ≡ true) × (length ys ≤ length p) = f ys refl in
         let l : length ys ≤ length p = w.1 in
-        subst (λ z. (all_by is_byte z ≡ true) × (length z ≤ suc (length p))) s (both_true (is_byte x) (all_by is_byte ys) (left_true (is_byte x) _ h) w.0, omega arith)
+        subst (λ z. (all_by is_byte z ≡ true) × (length z ≤ suc (length p))) s (and_from (is_byte x) (all_by is_byte ys) (and_parts (is_byte x) _ h).0 w.0, omega arith)
 
 all_take : (n : ℕ) (xs : List ℕ) → all_by is_byte xs ≡ true → all_by is_byte (take n xs) ≡ true
 all_take zero xs g = refl
 all_take (suc n) [] g = refl
-all_take (suc n) (x ∷ xs) g = both_true (is_byte x) (all_by is_byte (take n xs)) (left_true (is_byte x) _ g) (all_take n xs (right_true (is_byte x) _ g))
+all_take (suc n) (x ∷ xs) g = and_from (is_byte x) (all_by is_byte (take n xs)) (and_parts (is_byte x) _ g).0 (all_take n xs (and_parts (is_byte x) _ g).1)
 
 take_shorter : (n : ℕ) (xs : List ℕ) → length (take n xs) ≤ length xs
 take_shorter n xs = let l : length (take n xs) ≡ min n (length xs) = length-take n xs in omega arith
@@ -148,17 +137,17 @@ upper_bytes n x r = go (nat_le (length x) n) (raised_last byte_rises suc (take n
     go true o e = record { fit = refl; real = r }
     go false None e = record { fit = refl; real = refl }
     go false (Some y) e =
-        let w : (all_by is_byte y ≡ true) × (length y ≤ length (take n x)) = raised_are (take n x) y (all_take n x (left_true (all_by is_byte x) _ r)) e in
+        let w : (all_by is_byte y ≡ true) × (length y ≤ length (take n x)) = raised_are (take n x) y (all_take n x (and_parts (all_by is_byte x) _ r).0) e in
         let l : length y ≤ length (take n x) = w.1 in
         let k : length (take n x) ≤ length x = take_shorter n x in
-        let m : length x < 2 ^ 64 = test_below (length x) (right_true (all_by is_byte x) _ r) in
-        record { fit = refl; real = both_true (all_by is_byte y) (is_length (length y)) w.0 (below_test (length y) (omega arith)) }
+        let m : length x < 2 ^ 64 = test_below (length x) (and_parts (all_by is_byte x) _ r).1 in
+        record { fit = refl; real = and_from (all_by is_byte y) (is_length (length y)) w.0 (below_test (length y) (omega arith)) }
 
 lower_bytes : (n : ℕ) (x : List ℕ) → is_real_cell (bytes_cell x) ≡ true → Holds (binary true) (lower_bound n (bytes_value x))
 lower_bytes n x r =
     let k : length (take n x) ≤ length x = take_shorter n x in
-    let m : length x < 2 ^ 64 = test_below (length x) (right_true (all_by is_byte x) _ r) in
-    record { fit = refl; real = both_true (all_by is_byte (take n x)) (is_length (length (take n x))) (all_take n x (left_true (all_by is_byte x) _ r)) (below_test (length (take n x)) (omega arith)) }
+    let m : length x < 2 ^ 64 = test_below (length x) (and_parts (all_by is_byte x) _ r).1 in
+    record { fit = refl; real = and_from (all_by is_byte (take n x)) (is_length (length (take n x))) (all_take n x (and_parts (all_by is_byte x) _ r).0) (below_test (length (take n x)) (omega arith)) }
 
 -- ---- raised characters
 
@@ -234,7 +223,7 @@ chars_raised n [] r h e = absurd (Rattle.std.proofs.lemmas.Option.none-some r e)
 chars_raised n (x ∷ p) r h e = go (raised_last char_rises next_char p) (λ k ys c f. chars_raised k p ys c f) e
   where
     sx : IsScalar x
-    sx = left_true _ (all_scalars p) h.scalar
+    sx = (and_parts _ (all_scalars p) h.scalar).0
 
     whole : length (encode_utf8 x ++ encode_utf8_all p) ≡ length (encode_utf8 x) + length (encode_utf8_all p)
     whole = length-append (encode_utf8 x) (encode_utf8_all p)
@@ -245,7 +234,7 @@ chars_raised n (x ∷ p) r h e = go (raised_last char_rises next_char p) (λ k y
     here : (b : Bool) → char_rises x ≡ b → (if b then Some (next_char x ∷ []) else None) ≡ Some r → Chars (n + 1) r
     here false f g = absurd (Rattle.std.proofs.lemmas.Option.none-some r g)
     here true f g = subst (Chars (n + 1)) (Rattle.std.proofs.lemmas.Option.same_Some (next_char x ∷ []) r g) (record {
-      scalar = both_true _ true (scalar_next x sx f) refl;
+      scalar = and_from _ true (scalar_next x sx f) refl;
       few = (let a : length (encode_utf8 x ++ encode_utf8_all p) ≡ length (encode_utf8 x) + length (encode_utf8_all p) = whole in let b : length (encode_utf8 x ++ encode_utf8_all p) ≤ n = total in
           let l : length (encode_utf8 (next_char x)) ≤ length (encode_utf8 x) + 1 = next_longer x in
           let k : length (encode_utf8 (next_char x) ++ []) ≡ length (encode_utf8 (next_char x)) = ap length (append-nil (encode_utf8 (next_char x))) in omega arith);
@@ -255,14 +244,14 @@ chars_raised n (x ∷ p) r h e = go (raised_last char_rises next_char p) (λ k y
     go None f g = here (char_rises x) refl g
     go (Some ys) f g =
         let a : length (encode_utf8 x ++ encode_utf8_all p) ≡ length (encode_utf8 x) + length (encode_utf8_all p) = whole in let b : length (encode_utf8 x ++ encode_utf8_all p) ≤ n = total in
-        let c : Chars (n - length (encode_utf8 x) + 1) ys = f (n - length (encode_utf8 x)) ys (record { scalar = right_true _ (all_scalars p) h.scalar; few = omega arith }) refl in
+        let c : Chars (n - length (encode_utf8 x) + 1) ys = f (n - length (encode_utf8 x)) ys (record { scalar = (and_parts _ (all_scalars p) h.scalar).1; few = omega arith }) refl in
         let few : length (encode_utf8_all ys) ≤ n - length (encode_utf8 x) + 1 = c.few in
         let k : length (encode_utf8 x ++ encode_utf8_all ys) ≡ length (encode_utf8 x) + length (encode_utf8_all ys) = length-append (encode_utf8 x) (encode_utf8_all ys) in
-        subst (Chars (n + 1)) (Rattle.std.proofs.lemmas.Option.same_Some (x ∷ ys) r g) (record { scalar = both_true _ (all_scalars ys) sx c.scalar; few = omega arith })
+        subst (Chars (n + 1)) (Rattle.std.proofs.lemmas.Option.same_Some (x ∷ ys) r g) (record { scalar = and_from _ (all_scalars ys) sx c.scalar; few = omega arith })
 
 front_are : (n : ℕ) (cs : List ℕ) → all_scalars cs ≡ true → Chars n (front_chars n cs)
 front_are n [] h = record { scalar = refl; few = omega arith }
-front_are n (c ∷ cs) h = go (nat_le (length (encode_utf8 c)) n) refl (front_are (n - length (encode_utf8 c)) cs (right_true _ (all_scalars cs) h))
+front_are n (c ∷ cs) h = go (nat_le (length (encode_utf8 c)) n) refl (front_are (n - length (encode_utf8 c)) cs (and_parts _ (all_scalars cs) h).1)
   where
     le_of : (a b : ℕ) → nat_le a b ≡ true → a ≤ b
     le_of a b h = grind (arith, nat_tests)
@@ -273,20 +262,20 @@ front_are n (c ∷ cs) h = go (nat_le (length (encode_utf8 c)) n) refl (front_ar
         let few : length (encode_utf8_all (front_chars (n - length (encode_utf8 c)) cs)) ≤ n - length (encode_utf8 c) = r.few in
         let k : length (encode_utf8 c ++ encode_utf8_all (front_chars (n - length (encode_utf8 c)) cs)) ≡ length (encode_utf8 c) + length (encode_utf8_all (front_chars (n - length (encode_utf8 c)) cs)) =
         length-append (encode_utf8 c) (encode_utf8_all (front_chars (n - length (encode_utf8 c)) cs)) in
-        record { scalar = both_true _ (all_scalars (front_chars (n - length (encode_utf8 c)) cs)) (left_true _ (all_scalars cs) h) r.scalar; few = omega arith }
+        record { scalar = and_from _ (all_scalars (front_chars (n - length (encode_utf8 c)) cs)) (and_parts _ (all_scalars cs) h).0 r.scalar; few = omega arith }
     go false e r = record { scalar = refl; few = omega arith }
 
 text_held : (n : ℕ) (cs : List ℕ) → Chars n cs → n < 2 ^ 64 → Holds (utf8 true) (text_value (encode_utf8_all cs))
 text_held n cs c small =
     let few : length (encode_utf8_all cs) ≤ n = c.few in
-    record { fit = refl; real = both_true (is_utf8 (encode_utf8_all cs)) (is_length (length (encode_utf8_all cs))) (is_utf8-from_IsUtf8 (encode_utf8_all cs) (cs, (c.scalar, refl))) (below_test (length (encode_utf8_all cs)) (omega arith)) }
+    record { fit = refl; real = and_from (is_utf8 (encode_utf8_all cs)) (is_length (length (encode_utf8_all cs))) (is_utf8-from_IsUtf8 (encode_utf8_all cs) (cs, (c.scalar, refl))) (below_test (length (encode_utf8_all cs)) (omega arith)) }
 
 module _ (n : ℕ) (x : List ℕ) (r : is_real_cell (text_cell x) ≡ true) where
   are_scalars : all_scalars (chars x) ≡ true
-  are_scalars = scalars-chars x (IsUtf8-from_is_utf8 x (left_true (is_utf8 x) _ r))
+  are_scalars = scalars-chars x (IsUtf8-from_is_utf8 x (and_parts (is_utf8 x) _ r).0)
 
   short : length x < 2 ^ 64
-  short = test_below (length x) (right_true (is_utf8 x) _ r)
+  short = test_below (length x) (and_parts (is_utf8 x) _ r).1
 
   upper_text : Holds (utf8 true) (upper_bound n (text_value x))
   upper_text = go (nat_le (length x) n) refl (raised_last char_rises next_char (front_chars n (chars x))) refl
@@ -397,11 +386,11 @@ sum_held (Some p) u n e = let s : primitive p true ≡ u = cc in subst (λ z. Ho
 
 append_all : (xs ys : List ℕ) → all_by is_byte xs ≡ true → all_by is_byte ys ≡ true → all_by is_byte (xs ++ ys) ≡ true
 append_all [] ys g h = h
-append_all (x ∷ xs) ys g h = both_true (is_byte x) (all_by is_byte (xs ++ ys)) (left_true (is_byte x) _ g) (append_all xs ys (right_true (is_byte x) _ g) h)
+append_all (x ∷ xs) ys g h = and_from (is_byte x) (all_by is_byte (xs ++ ys)) (and_parts (is_byte x) _ g).0 (append_all xs ys (and_parts (is_byte x) _ g).1 h)
 
 low_bytes : (i k n : ℕ) → all_by is_byte (bytes_low_first i k n) ≡ true
 low_bytes i zero n = refl
-low_bytes i (suc k) n = both_true (is_byte (byte_at i n)) (all_by is_byte (bytes_low_first (suc i) k n)) (low (byte_at i n) (byte_low i n)) (low_bytes (suc i) k n)
+low_bytes i (suc k) n = and_from (is_byte (byte_at i n)) (all_by is_byte (bytes_low_first (suc i) k n)) (low (byte_at i n) (byte_low i n)) (low_bytes (suc i) k n)
   where
     low : (b : ℕ) → b < 256 → is_byte b ≡ true
     low b h = grind (arith, nat_tests)
@@ -455,7 +444,7 @@ filter_is blocks hashes small =
     let m : length (flat_map block_bytes (map (λ p. or_all (masks_in blocks hashes p)) (range_with_len 0 blocks))) ≡ 32 * length (range_with_len 0 blocks) = a.1 in
     record {
       fit = refl;
-      real = both_true (all_by is_byte (filter_bytes (filter_of blocks hashes))) (is_length (length (filter_bytes (filter_of blocks hashes)))) a.0
+      real = and_from (all_by is_byte (filter_bytes (filter_of blocks hashes))) (is_length (length (filter_bytes (filter_of blocks hashes)))) a.0
           (below_test (length (filter_bytes (filter_of blocks hashes))) (omega arith));
     }
 

@@ -4,6 +4,7 @@ use Rattle.std.specs.Prelude.{if◌then◌else◌, nat_lt, ◌==◌}
 use Rattle.std.proofs.lemmas.List.{length-map}
 use Rattle.std.proofs.lemmas.Bool.Decides.{nat_tests}
 use Rattle.std.proofs.lemmas.Option.{none-some, same_Some}
+use Rattle.std.proofs.lemmas.Bool.{and_from}
 use Rattle.vx_model.specs.Words.{all_by, head_or, tail}
 use Rattle.vx_model.specs.Ty.{Ty, ty_eq}
 use Rattle.vx_model.specs.TyLaws.{ty_eq_decides}
@@ -18,9 +19,6 @@ use Rattle.vx_zone_spec.specs.Record.{zone_record}
 use Rattle.vx_zone_spec.specs.ZoneTable.{Filled, name_of, filled, some_values, ordered, state_cell, table_fields, table_type, table_columns, any_columns, kept_columns, table_piece}
 use Rattle.vx_zone_table_laws.specs.Statements.{Zones, SmallFilter, SmallFilters, records, TablesAreWhole}
 use Rattle.vx_zone_table_laws.proofs.StateCells.{AllHold, aggregate_held}
-
-both : (a b : Bool) → a ≡ true → b ≡ true → (a && b) ≡ true
-both a b e f = rw (e, f) refl
 
 -- a column of so many values that its type can hold
 pub record Good (n : ℕ) (f : Filled) : Type 0 where
@@ -91,7 +89,7 @@ cells_held : (u : Ty) (vs : List ValueData) → AllHold u vs → (all_by (fits u
 cells_held u [] h = (refl, refl)
 cells_held u (v ∷ vs) h =
     let r : (all_by (fits u) (map state_cell vs) ≡ true) × (all_by is_real_cell (map state_cell vs) ≡ true) = cells_held u vs h.1 in
-    (both (fits u (state_cell v)) (all_by (fits u) (map state_cell vs)) h.0.fit r.0, both (is_real_cell (state_cell v)) (all_by is_real_cell (map state_cell vs)) h.0.real r.1)
+    (and_from (fits u (state_cell v)) (all_by (fits u) (map state_cell vs)) h.0.fit r.0, and_from (is_real_cell (state_cell v)) (all_by is_real_cell (map state_cell vs)) h.0.real r.1)
 
 below : (n : ℕ) → n < 2 ^ 64 → nat_lt n (2 ^ 64) ≡ true
 below n h = grind (arith, nat_tests)
@@ -110,11 +108,11 @@ columned n (c ∷ cs) small h =
     let held : (all_by (fits c.state) (map state_cell c.values) ≡ true) × (all_by is_real_cell (map state_cell c.values) ≡ true) = cells_held c.state c.values g.held in
     let count : length (map state_cell c.values) ≡ n = length-map c.values state_cell ∙ g.count in
     record {
-      sound = both (is_sound (plain_piece c.state (map state_cell c.values))) (are_sound (pieces_of (table_columns cs)))
-          (both (all_by (fits c.state) (map state_cell c.values)) (nat_lt (length (map state_cell c.values)) (2 ^ 64)) held.0 (below (length (map state_cell c.values)) (omega arith))) rest.sound;
-      real = both (all_by is_real_cell (map state_cell c.values)) (are_real (pieces_of (table_columns cs))) held.1 rest.real;
-      fields = both (ty_eq c.state c.state) _ ((ty_eq_decides c.state c.state).1 refl)
-          (both (length (map state_cell c.values) == n) (match_fields (table_fields cs) (pieces_in (pieces_of (table_columns cs))) n) (eq-eqb (length (map state_cell c.values)) n count) rest.fields);
+      sound = and_from (is_sound (plain_piece c.state (map state_cell c.values))) (are_sound (pieces_of (table_columns cs)))
+          (and_from (all_by (fits c.state) (map state_cell c.values)) (nat_lt (length (map state_cell c.values)) (2 ^ 64)) held.0 (below (length (map state_cell c.values)) (omega arith))) rest.sound;
+      real = and_from (all_by is_real_cell (map state_cell c.values)) (are_real (pieces_of (table_columns cs))) held.1 rest.real;
+      fields = and_from (ty_eq c.state c.state) _ ((ty_eq_decides c.state c.state).1 refl)
+          (and_from (length (map state_cell c.values) == n) (match_fields (table_fields cs) (pieces_in (pieces_of (table_columns cs))) n) (eq-eqb (length (map state_cell c.values)) n count) rest.fields);
     }
 
 pub table_whole : (hash : List ℕ → ℕ) (t : Ty) (columns : List Column) (zs : List (List CellData)) (table : List Filled) → Columns t columns → Zones t zs → length zs < 2 ^ 64
@@ -124,9 +122,9 @@ table_whole hash t columns zs table are z short e =
     record {
       typed = refl;
       whole = record {
-        sound = both (are_sound (pieces_of (table_columns table))) _ c.sound
-            (both (match_fields (table_fields table) (pieces_in (pieces_of (table_columns table))) (length zs)) _ c.fields
-            (both (nat_lt (length zs) (2 ^ 64)) (are_flags (table_type table) (length zs) []) (below (length zs) short) refl));
+        sound = and_from (are_sound (pieces_of (table_columns table))) _ c.sound
+            (and_from (match_fields (table_fields table) (pieces_in (pieces_of (table_columns table))) (length zs)) _ c.fields
+            (and_from (nat_lt (length zs) (2 ^ 64)) (are_flags (table_type table) (length zs) []) (below (length zs) short) refl));
         real = c.real;
       };
     }
