@@ -45,7 +45,7 @@ nil_of (x ∷ xs) e = absurd (no_true refl e)
 no_sum : (x y z : ℕ) → nat_eq (x + y + z) 0 ≡ (nat_eq x 0 && nat_eq y 0 && nat_eq z 0)
 no_sum x y z = grind (arith, nat_tests)
 
-refuses-plain : (k : ℕ) (xs : List Act) → refuses_in (plain k xs) ≡ any_refuses xs
+pub refuses-plain : (k : ℕ) (xs : List Act) → refuses_in (plain k xs) ≡ any_refuses xs
 refuses-plain k [] = refl
 refuses-plain k (a ∷ xs) = ap (λ z. refuses a || z) (refuses-plain (length a.starts + k) xs)
 

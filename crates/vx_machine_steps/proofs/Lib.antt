@@ -10,6 +10,8 @@ pub mod Moves
 pub mod Laws
 pub mod Listed
 pub mod Sorted
+pub mod Births
+pub mod Unrefused
 pub mod Noted
 pub mod Summed
 pub mod Neats

@@ -96,7 +96,7 @@ told_in : (o : Option What) (later : List What) (w : What) → In w (told o []) 
 told_in (Some v) later w i = i
 told_in None later w i = absurd i
 
-no_refusal : (a : Act) (later : List What) → refuses a ≡ false → told a.refusal later ≡ later
+pub no_refusal : (a : Act) (later : List What) → refuses a ≡ false → told a.refusal later ≡ later
 no_refusal a later e = by a.refusal (or_false a.misfit (is_some a.refusal) e).1
   where
     by : (o : Option What) → is_some o ≡ false → told o later ≡ later

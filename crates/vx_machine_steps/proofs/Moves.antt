@@ -226,4 +226,4 @@ agree s all d cut ps pp acts j (Work h ks r) (fits, keeps, apart, deeper, others
         (rw (top_is, below_is) (due_may s all t (length h.past) kids (counts ks) h ks g sg k.calm full_now (λ j'. join_now g.act (ahead s g.head (gifts j acts) (h.closed || shut j acts)) w j')))
         ∙ ap (λ z. cond (may all h.seed ks g.act.kind) (record { name = h.seed.name; action = plain_one (born h.past + length (firsts h.seed)) g.act; after = z } ∷ []) [])
         (rw (top_is, below_is, beside_is) (sym (own_count s (less d h.seed.type) h g ks r sg)))
-        ∙ by_test (may all h.seed ks g.act.kind) (record { name = h.seed.name; act = g.act; before = born h.past + length (firsts h.seed); after = Work g.head (feed (less d h.seed.type) g.act 0 ks) r })
+        ∙ by_test (may all h.seed ks g.act.kind) (record { name = h.seed.name; act = g.act; before = born h.past + length (firsts h.seed); room = less d h.seed.type; after = Work g.head (feed (less d h.seed.type) g.act 0 ks) r })

@@ -15,6 +15,7 @@ pub record Own (s : Setting) (all : List (List ℕ)) (d : Fuel) (h : Head) (ks r
   pub due_is : due s h ≡ Some due_now
   pub allowed : may all h.seed ks due_now.act.kind ≡ true
   pub act_is : m.act ≡ due_now.act
+  pub room_is : m.room ≡ less d h.seed.type
   pub after_is : m.after ≡ Work due_now.head (feed (less d h.seed.type) due_now.act 0 ks) r
 
 own_in : (s : Setting) (all : List (List ℕ)) (d : Fuel) (h : Head) (ks r : Tree) (m : TreeMove) (o : Option Due) → due s h ≡ o → In m (move_own all d h ks r o) → Own s all d h ks r m
@@ -22,13 +23,13 @@ own_in s all d h ks r m None e i = absurd i
 own_in s all d h ks r m (Some g) e i = by (cases_Bool (may all h.seed ks g.act.kind))
   where
     it : TreeMove
-    it = record { name = h.seed.name; act = g.act; before = born h.past + length (firsts h.seed); after = Work g.head (feed (less d h.seed.type) g.act 0 ks) r }
+    it = record { name = h.seed.name; act = g.act; before = born h.past + length (firsts h.seed); room = less d h.seed.type; after = Work g.head (feed (less d h.seed.type) g.act 0 ks) r }
 
     by : (may all h.seed ks g.act.kind ≡ true) ⊎ (may all h.seed ks g.act.kind ≡ false) → Own s all d h ks r m
     by (inl t) =
         let o : In m (it ∷ []) = rw t at i in
         let w : m ≡ it = ⊎_elim (λ y. y) (λ y. absurd y) o in
-        rw w (record { due_now = g; due_is = e; allowed = t; act_is = refl; after_is = refl })
+        rw w (record { due_now = g; due_is = e; allowed = t; act_is = refl; room_is = refl; after_is = refl })
     by (inr t) = let o : In m [] = rw t at i in absurd o
 
 pub data Where (s : Setting) (all : List (List ℕ)) (d : Fuel) (h : Head) (ks r : Tree) (m : TreeMove) : Type 0 where

@@ -8,26 +8,10 @@ use Rattle.vx_machine_turns.specs.Turns.{turn, firsts}
 use Rattle.vx_machine_turns.specs.Scripts.{script}
 use Rattle.vx_machine_turns.specs.Readings.{Reading, row_of, unread}
 use Rattle.vx_machine_turns.specs.Tidy.{Spares}
+use Rattle.vx_machine_turns.proofs.DutyLaws.{row_same, unread_same}
 use Rattle.vx_machine_steps.specs.Moves.{take_first, take_more, end_first, end_more, Due, doing, due_more, due_todo, due}
 use Rattle.vx_machine_steps.specs.Tree.{Head, Tree, Leaf, Work, further, ahead, read, sprout_row, quiet, sprout, feed}
 use Rattle.vx_machine_steps.proofs.Plain.{or_assoc}
-
--- children that aren't started are read by what is given to them alone
-pub row_same : {F : Type 0} (s : Setting) (v : Reading F) (deeper : Seed → List Seed → List Act → F) (j : ℕ) (qs : List Seed) (xs ys : List Act)
-    → ((i : ℕ) → j ≤ i → (gifts i xs ≡ gifts i ys) × (shut i xs ≡ shut i ys)) → row_of s v deeper j qs xs ≡ row_of s v deeper j qs ys
-row_same s v deeper j [] xs ys h = refl
-row_same s v deeper j (q ∷ qs) xs ys h =
-    let e : gifts j xs ≡ gifts j ys = (h j (omega arith)).0 in
-    let f : shut j xs ≡ shut j ys = (h j (omega arith)).1 in
-    let g : row_of s v deeper (suc j) qs xs ≡ row_of s v deeper (suc j) qs ys = row_same s v deeper (suc j) qs xs ys (λ i l. h i (omega arith)) in
-    ap (λ z. v.make q (script s q.local z (shut j xs)) (deeper q (firsts q ++ births (script s q.local z (shut j xs))) (script s q.local z (shut j xs))) (row_of s v deeper (suc j) qs xs)) e
-    ∙ ap (λ z. v.make q (script s q.local (gifts j ys) z) (deeper q (firsts q ++ births (script s q.local (gifts j ys) z)) (script s q.local (gifts j ys) z)) (row_of s v deeper (suc j) qs xs)) f
-    ∙ ap (λ z. v.make q (script s q.local (gifts j ys) (shut j ys)) (deeper q (firsts q ++ births (script s q.local (gifts j ys) (shut j ys))) (script s q.local (gifts j ys) (shut j ys))) z) g
-
-pub unread_same : {F : Type 0} (s : Setting) (v : Reading F) (d : Fuel) (j : ℕ) (qs : List Seed) (xs ys : List Act)
-    → ((i : ℕ) → j ≤ i → (gifts i xs ≡ gifts i ys) × (shut i xs ≡ shut i ys)) → unread s v d j qs xs ≡ unread s v d j qs ys
-unread_same s v spent j qs xs ys h = refl
-unread_same s v (fuel g) j qs xs ys h = row_same s v (λ q. unread s v (g q.type) 0) j qs xs ys h
 
 spared : (a : Act) (k : ℕ) (acts : List Act) → Spares a k → (i : ℕ) → k ≤ i → (gifts i acts ≡ gifts i (a ∷ acts)) × (shut i acts ≡ shut i (a ∷ acts))
 spared a k acts h i l =

@@ -9,10 +9,11 @@ use Rattle.vx_machine_turns.specs.Fuels.{Fuel, spent, fuel, less}
 use Rattle.vx_machine_turns.specs.Turns.{firsts}
 use Rattle.vx_machine_turns.specs.Readings.{Reading, unread}
 use Rattle.vx_machine_turns.specs.Source.{source_acts, source_seed}
+use Rattle.vx_machine_turns.proofs.DutyLaws.{unread_same}
 use Rattle.vx_machine_steps.specs.Laws.{StartReads}
 use Rattle.vx_machine_steps.specs.Start.{root_seed}
 use Rattle.vx_machine_steps.specs.Tree.{read, quiet, sprout}
-use Rattle.vx_machine_steps.proofs.Seen.{unread_same, sprouted}
+use Rattle.vx_machine_steps.proofs.Seen.{sprouted}
 
 unread_nil : {F : Type 0} (s : Setting) (v : Reading F) (d : Fuel) (j : ℕ) (acts : List Act) → unread s v d j [] acts ≡ v.none
 unread_nil s v spent j acts = refl

@@ -17,7 +17,7 @@ use Rattle.vx_tasks.specs.Good.{Good}
 use Rattle.vx_tasks.proofs.Machine.{machine_rules, machine_order, machine_named}
 use Rattle.vx_strategy_spec.specs.StrategyData.{StrategyData}
 use Rattle.vx_strategy_spec.specs.Walk.{walk}
-use Rattle.vx_plan.specs.PlanData.{Setting, Item, What, Plan, places, empty_list}
+use Rattle.vx_plan.specs.PlanData.{Setting, Item, What, Plan, places}
 use Rattle.vx_plan.specs.Valid.{Has}
 use Rattle.vx_plan.specs.SourcePlan.{plan, batch_items, source_plan}
 use Rattle.vx_plan.proofs.SourceLaws.{paths_distinct}
@@ -26,7 +26,7 @@ use Rattle.vx_machine_turns.specs.Acts.{Seed, Act, gifts, shut, births, wrote, f
 use Rattle.vx_machine_turns.specs.Starts.{seed_of, start_fault}
 use Rattle.vx_machine_turns.specs.Turns.{firsts, start_indices}
 use Rattle.vx_machine_turns.specs.Scripts.{script}
-use Rattle.vx_machine_turns.specs.Fuels.{Fuel, spent, fuel, fuel_of, Enough}
+use Rattle.vx_machine_turns.specs.Fuels.{Fuel, spent, fuel, fuel_of, whole_fuel, Enough}
 use Rattle.vx_machine_turns.specs.Readings.{Reading, unread, row_of, shaped, pair_reading, fault_reading, layout_reading, number_reading, index_reading, start_reading, raise_reading, lower_reading}
 use Rattle.vx_machine_turns.specs.Plain.{plain, task_of, script_reading}
 use Rattle.vx_machine_turns.specs.Source.{source_acts, source_seed}
@@ -40,7 +40,7 @@ use Rattle.vx_machine_steps.specs.Tree.{read, forest}
 use Rattle.vx_machine_steps.specs.Start.{root_seed, start}
 use Rattle.vx_machine_steps.specs.Laws.{OneEach}
 use Rattle.vx_machine_steps.specs.Stands.{Stands}
-use Rattle.vx_machine_steps.specs.StartPlanned.{whole_fuel, started, IsPlanned, StartIsPlanned}
+use Rattle.vx_machine_steps.specs.StartPlanned.{started, IsPlanned, StartIsPlanned}
 use Rattle.vx_machine_steps.proofs.Start.{start_reads}
 use Rattle.vx_machine_steps.proofs.Sorted.{scattered_is_one}
 use Rattle.vx_machine_steps.proofs.Standing.{start_stands}
@@ -251,7 +251,7 @@ module _ (s : Setting) (w : StrategyData) (t : Ty) (m : Bool) (bs : List ChunkDa
     indices = λ n i. ⊎_elim (λ a. source_index n a) (λ a. more_numbers n (meets_plan.indices n a))
         (in_cases n (indices_in (source_acts first_batch bs fits)) (indices_in (duty_script s (root_duty s w t m bs fits))
         ++ below s index_reading (fuel_of (walk form_nodes w t)) (root_duty s w t m bs fits)) (subst (λ z. In n z) indices_are i));
-    starts = λ n i. ⊎_elim (λ a. inl (more_numbers n a)) (λ a. inr a) (meets_plan.starts n (subst (λ z. In n z) starts_are i));
+    starts = λ n i. more_numbers n (meets_plan.starts n (subst (λ z. In n z) starts_are i));
     raises = reads raise_reading ∙ adds (raised_in (source_acts first_batch bs fits)) (raised_in (duty_script s (root_duty s w t m bs fits)))
         (below s raise_reading (fuel_of (walk form_nodes w t)) (root_duty s w t m bs fits)) (raises_none first_batch bs fits) ∙ meets_plan.raises;
     lowers = λ e. reads lower_reading ∙ adds (lowered_in (source_acts first_batch bs fits)) (lowered_in (duty_script s (root_duty s w t m bs fits)))

@@ -1,18 +1,22 @@
 -- Sums over what is done.
-use Rattle.std.proofs.Common.{◌≡◌, ◌+◌, ◌≤◌, ◌||◌, ◌∷◌, ◌++◌, ◌∙◌, ℕ, suc, List, length, refl, sym, ap, arith, []}
+use Rattle.std.proofs.Common.{◌≡◌, ◌+◌, ◌≤◌, ◌||◌, ◌∷◌, ◌++◌, ◌∙◌, ℕ, suc, Bool, List, length, refl, sym, ap, arith, []}
 use Rattle.vx_path.specs.Lists.{In}
 use Rattle.vx_tasks.specs.Task.{next}
 use Rattle.vx_tasks.specs.State.{Zeros, left}
 use Rattle.vx_plan.specs.PlanData.{Setting}
+use Rattle.vx_model.specs.ChunkData.{ChunkData}
 use Rattle.vx_machine_turns.specs.Acts.{Seed, Act, gifts, shut, births, born, raised_in, lowered_in}
+use Rattle.vx_machine_turns.specs.Forms.{Form}
 use Rattle.vx_machine_turns.specs.Fuels.{Fuel, spent, fuel, less}
 use Rattle.vx_machine_turns.specs.Turns.{firsts}
 use Rattle.vx_machine_turns.specs.Scripts.{script}
+use Rattle.vx_machine_turns.specs.Source.{source_seed}
 use Rattle.vx_machine_turns.specs.Readings.{Reading, row_of, unread, raise_reading, lower_reading}
 use Rattle.vx_machine_turns.specs.Plain.{plain, task_of, script_reading}
 use Rattle.vx_machine_steps.specs.Laws.{Sums}
 use Rattle.vx_machine_steps.specs.Moves.{Due, all_paths, TreeMove, tree_moves}
 use Rattle.vx_machine_steps.specs.Runs.{Runs, acts_of, done}
+use Rattle.vx_machine_steps.specs.Start.{start}
 use Rattle.vx_machine_steps.specs.Tree.{Tree, Leaf, Work, ahead, read, counts, sprout_row, quiet, sprout, feed}
 use Rattle.vx_machine_steps.proofs.Places.{Where, here, under, aside, which}
 use Rattle.vx_machine_steps.proofs.Plain.{next_is}
@@ -139,8 +143,32 @@ lowered_in-append : (xs ys : List Act) → lowered_in (xs ++ ys) ≡ lowered_in 
 lowered_in-append [] ys = omega arith
 lowered_in-append (a ∷ xs) ys = let e : lowered_in (xs ++ ys) ≡ lowered_in xs + lowered_in ys = lowered_in-append xs ys in omega arith
 
+raised_adds : Additive raised_in
+raised_adds = record { nothing = refl; both = raised_in-append }
+
+lowered_adds : Additive lowered_in
+lowered_adds = record { nothing = refl; both = lowered_in-append }
+
 pub sum_raised : Sums raised_in raise_reading
-sum_raised = sums raised_in (record { nothing = refl; both = raised_in-append })
+sum_raised = sums raised_in raised_adds
 
 pub sum_lowered : Sums lowered_in lower_reading
-sum_lowered = sums lowered_in (record { nothing = refl; both = lowered_in-append })
+sum_lowered = sums lowered_in lowered_adds
+
+-- Nothing is done at the start.
+
+start_done : (f : List Act → ℕ) → Additive f → (d : Fuel) (k : Form) (m : Bool) (bs : List ChunkData) (fits : Bool) → done f (start d k m bs fits) ≡ 0
+start_done f add d k m bs fits =
+    let a : f [] ≡ 0 = add.nothing in
+    let b : done f (sprout (less d (source_seed k m).type) quiet 0 (firsts (source_seed k m))) ≡ 0 = sprout_done f add (less d (source_seed k m).type) 0 quiet (firsts (source_seed k m)) in
+    omega (arith, a, b)
+
+pub raised_start : (d : Fuel) (k : Form) (m : Bool) (bs : List ChunkData) (fits : Bool) → done raised_in (start d k m bs fits) ≡ 0
+raised_start d k m bs fits = start_done raised_in raised_adds d k m bs fits
+
+pub lowered_start : (d : Fuel) (k : Form) (m : Bool) (bs : List ChunkData) (fits : Bool) → done lowered_in (start d k m bs fits) ≡ 0
+lowered_start d k m bs fits = start_done lowered_in lowered_adds d k m bs fits
+
+-- A move, whether it refuses or not, adds what its act does.
+pub move_raised : (s : Setting) (all : List (List ℕ)) (d : Fuel) (t : Tree) (m : TreeMove) → In m (tree_moves s all d t) → done raised_in m.after ≡ done raised_in t + m.act.raises
+move_raised s all d t m i = let a : done raised_in m.after ≡ done raised_in t + (m.act.raises + 0) = move_done raised_in raised_adds s all d t m i in omega (arith, a)

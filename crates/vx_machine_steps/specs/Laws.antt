@@ -5,7 +5,7 @@ use Rattle.vx_path.specs.Sort.{sort_by}
 use Rattle.vx_path.specs.Path.{Scattered}
 use Rattle.vx_tasks.specs.Task.{Join}
 use Rattle.vx_tasks.specs.State.{Zeros, left}
-use Rattle.vx_tasks.specs.Rules.{AtLeast, KeepsRules, KeepsOrder}
+use Rattle.vx_tasks.specs.Rules.{AtLeast, KeepsRules, KeepsOrder, NoneRefuses}
 use Rattle.vx_tasks.specs.Run.{all_held, all_moves, work, Leads, nth, run, note, trace}
 use Rattle.vx_tasks.specs.Runs.{first_batch, noted}
 use Rattle.vx_plan.specs.PlanData.{Setting, Pair, What, paths}
@@ -14,7 +14,7 @@ use Rattle.vx_machine_turns.specs.Acts.{Seed, Act, refuses}
 use Rattle.vx_machine_turns.specs.Forms.{Form}
 use Rattle.vx_machine_turns.specs.Fuels.{Fuel, less}
 use Rattle.vx_machine_turns.specs.Turns.{firsts}
-use Rattle.vx_machine_turns.specs.Readings.{Reading, unread, pair_reading, fault_reading}
+use Rattle.vx_machine_turns.specs.Readings.{Reading, unread, pair_reading, fault_reading, start_reading}
 use Rattle.vx_machine_turns.specs.Plain.{task_of}
 use Rattle.vx_machine_turns.specs.Source.{source_acts, source_seed}
 use Rattle.vx_machine_turns.specs.Tidy.{Tidy}
@@ -22,7 +22,7 @@ use Rattle.vx_machine_steps.specs.Moves.{Due, due, all_paths, all_over, TreeMove
 use Rattle.vx_machine_steps.specs.Runs.{Runs, pick_of, RunsBy, notes, picks_after, acts_of, appended, done}
 use Rattle.vx_machine_steps.specs.Stands.{Neat, AllNeat, Stands}
 use Rattle.vx_machine_steps.specs.Start.{root_seed, start}
-use Rattle.vx_machine_steps.specs.Tree.{Tree, Leaf, Work, read, forest, counts}
+use Rattle.vx_machine_steps.specs.Tree.{Tree, Leaf, Work, read, forest, counts, opened}
 
 -- The machine and the theory.
 
@@ -141,10 +141,19 @@ pub record Sums (f : List Act → ℕ) (v : Reading ℕ) : Type 0 where
 abbrev pub Lists : {A : Type 0} → (Act → List A) → Reading (List A) → Type 0
 Lists {A} f v = (s : Setting) (d : Fuel) (t : Tree) (m : TreeMove) → Stands s d t → In m (machine_moves s d t) → (x : A) → In x (f m.act) → In x (read s v d 0 [] t)
 
+-- how far a move's births bring their pointers, is among what is read off the state
+abbrev pub BirthsWithin : Type 0
+BirthsWithin = (s : Setting) (d : Fuel) (t : Tree) (m : TreeMove) → Stands s d t → In m (machine_moves s d t) → (x : ℕ) → In x (opened m.room m.act.starts)
+    → In x (read s start_reading d 0 [] t)
+
 -- what a move refuses is the first refusal of its task
 abbrev pub RefusalsWithin : Type 0
 RefusalsWithin = (s : Setting) (d : Fuel) (t : Tree) (m : TreeMove) (w : What) → Stands s d t → In m (machine_moves s d t) → m.act.refusal ≡ Some w
     → In w (read s fault_reading d 0 [] t)
+
+-- where no script refuses, there is none
+abbrev pub NoneRefused : Type 0
+NoneRefused = (s : Setting) (d : Fuel) (t : Tree) → NoneRefuses (forest s d t) → read s fault_reading d 0 [] t ≡ []
 
 -- The start.
 
@@ -152,6 +161,11 @@ RefusalsWithin = (s : Setting) (d : Fuel) (t : Tree) (m : TreeMove) (w : What) �
 abbrev pub StartReads : {F : Type 0} → Reading F → Type 0
 StartReads v = (s : Setting) (d : Fuel) (f : Form) (m : Bool) (bs : List ChunkData) (fits : Bool) → read s v d 0 [] (start d f m bs fits)
     ≡ v.make (source_seed f m) (source_acts first_batch bs fits) (unread s v (less d (source_seed f m).type) 0 (root_seed f m ∷ []) (source_acts first_batch bs fits)) v.none
+
+-- how far the root brings its pointer, and all that is started with it
+abbrev pub StartOpens : Type 0
+StartOpens = (s : Setting) (d : Fuel) (f : Form) (m : Bool) (bs : List ChunkData) (fits : Bool) (x : ℕ) → In x (opened (less d (source_seed f m).type) (root_seed f m ∷ []))
+    → In x (read s start_reading d 0 [] (start d f m bs fits))
 
 -- A task whose script is tidy, behind the children that are started with it, is neat.
 abbrev pub TidyIsNeat : Type 0

@@ -91,8 +91,9 @@ may all q ks Join = all_over ks
 pub record TreeMove : Type 0 where
   pub name : List ℕ
   pub act : Act
-  -- how many children its task has started before it
+  -- how many children its task has started before it, and how deep those that it starts may grow
   pub before : ℕ
+  pub room : Fuel
   pub after : Tree
 
 abbrev pub move_own : List (List ℕ) → Fuel → Head → Tree → Tree → Option Due → List TreeMove
@@ -102,14 +103,15 @@ move_own all d h ks r (Some g) = cond (may all h.seed ks g.act.kind)
       name = h.seed.name;
       act = g.act;
       before = born h.past + length (firsts h.seed);
+      room = less d h.seed.type;
       after = Work g.head (feed (less d h.seed.type) g.act 0 ks) r;
     } ∷ []) []
 
 abbrev pub in_kids : Head → Tree → TreeMove → TreeMove
-in_kids h r m = record { name = m.name; act = m.act; before = m.before; after = Work h m.after r }
+in_kids h r m = record { name = m.name; act = m.act; before = m.before; room = m.room; after = Work h m.after r }
 
 abbrev pub in_rest : Head → Tree → TreeMove → TreeMove
-in_rest h ks m = record { name = m.name; act = m.act; before = m.before; after = Work h ks m.after }
+in_rest h ks m = record { name = m.name; act = m.act; before = m.before; room = m.room; after = Work h ks m.after }
 
 -- a task's move, those below it, and those beside it, where these paths are held in all
 abbrev pub tree_moves : Setting → List (List ℕ) → Fuel → Tree → List TreeMove

@@ -6,7 +6,7 @@ use Rattle.vx_plan.specs.PlanData.{Setting, Item}
 use Rattle.vx_machine_turns.specs.Acts.{Seed, Act, does, for_child, gifts, shut, births}
 use Rattle.vx_machine_turns.specs.Locals.{Local}
 use Rattle.vx_machine_turns.specs.Fuels.{Fuel, spent, fuel, less}
-use Rattle.vx_machine_turns.specs.Turns.{firsts}
+use Rattle.vx_machine_turns.specs.Turns.{firsts, start_indices}
 use Rattle.vx_machine_turns.specs.Scripts.{script}
 use Rattle.vx_machine_turns.specs.Readings.{Reading, unread}
 use Rattle.vx_machine_turns.specs.Plain.{script_reading}
@@ -83,6 +83,15 @@ quiet = does Join
 abbrev pub sprout : Fuel → Act → ℕ → List Seed → Tree
 sprout spent a j qs = Leaf
 sprout (fuel g) a j qs = sprout_row (λ q. sprout (g q.type) quiet 0) a j qs
+
+-- how far pointers come where these are started, with all that is started with them
+abbrev pub opened_row : (Seed → List Seed → List ℕ) → List Seed → List ℕ
+opened_row deeper [] = []
+opened_row deeper (q ∷ qs) = start_indices q.local ++ (deeper q (firsts q) ++ opened_row deeper qs)
+
+abbrev pub opened : Fuel → List Seed → List ℕ
+opened spent qs = []
+opened (fuel g) qs = opened_row (λ q. opened (g q.type)) qs
 
 -- what an act does to the children, from number j on
 abbrev pub feed : Fuel → Act → ℕ → Tree → Tree

@@ -6,7 +6,7 @@
 ghost use Rattle.vx_machine_turns.specs.Acts.{written_by, raised_in, lowered_in};
 ghost use Rattle.vx_machine_turns.specs.Readings.{pair_reading, fault_reading, layout_reading, number_reading, index_reading, start_reading, raise_reading, lower_reading};
 ghost use Rattle.vx_machine_steps.specs.StartPlanned.{StartIsPlanned};
-ghost use Rattle.vx_machine_steps.specs.Laws.{MovesAgree, HeldAgrees, MoveKeeps, RunsLead, ReadingStays, ScatteredIsOne, AppendedFirst, AllSorted, JoinsAreFree, EndIsFree, OverIsDone, SomeMove, MovesLower, RunsCount, NotesAgree, NotesGrow, NotesEnd, Sums, Lists, RefusalsWithin, StartReads, TidyIsNeat, StartIsNeat, StartStands};
+ghost use Rattle.vx_machine_steps.specs.Laws.{MovesAgree, HeldAgrees, MoveKeeps, RunsLead, ReadingStays, ScatteredIsOne, AppendedFirst, AllSorted, JoinsAreFree, EndIsFree, OverIsDone, SomeMove, MovesLower, RunsCount, NotesAgree, NotesGrow, NotesEnd, Sums, Lists, BirthsWithin, RefusalsWithin, NoneRefused, StartReads, StartOpens, TidyIsNeat, StartIsNeat, StartStands};
 
 /// Each move is one of the theory, and the state that it leads to stands again.
 pub fn steps()
@@ -63,11 +63,13 @@ pub fn totals()
     ensures pairs { Lists (λ a. written_by a.kind a.bytes) pair_reading }
     ensures numbers { Lists (λ a. a.numbers) number_reading }
     ensures indices { Lists (λ a. a.indices) index_reading }
+    ensures births { BirthsWithin }
 {}
 
 /// What a move refuses.
 pub fn refusals()
-    ensures { RefusalsWithin }
+    ensures within { RefusalsWithin }
+    ensures none { NoneRefused }
 {}
 
 /// The start of a strategy's machine: it stands, and what is read off it is planned.
@@ -83,6 +85,7 @@ pub fn starts()
     ensures numbers { StartReads number_reading }
     ensures indices { StartReads index_reading }
     ensures starts { StartReads start_reading }
+    ensures opened { StartOpens }
     ensures raised { StartReads raise_reading }
     ensures lowered { StartReads lower_reading }
     ensures tidy { TidyIsNeat }

@@ -4,7 +4,7 @@ use Rattle.std.proofs.lemmas.List.{append-nil}
 use Rattle.vx_model.specs.Ty.{Ty}
 use Rattle.vx_path.specs.Lists.{In}
 use Rattle.vx_path.proofs.Lists.{in_left, in_right, in_cases}
-use Rattle.vx_plan.specs.PlanData.{Setting, Plan, What, Fault, empty_list}
+use Rattle.vx_plan.specs.PlanData.{Setting, Plan, What, Fault}
 use Rattle.vx_plan.specs.ChunkedNode.{all_pairs, all_faults, all_layouts, all_numbers, all_reserved}
 use Rattle.vx_plan.specs.Valid.{Has}
 use Rattle.vx_plan.proofs.PlanLists.{nil_left, nil_right, nil_both}
@@ -25,6 +25,23 @@ row_is s v g j acts (c ∷ cs) (e, f, h) =
     ap (λ z. v.make c.seed (script s c.seed.local z (shut j acts)) (unread s v (g c.seed.type) 0 (firsts c.seed ++ births (script s c.seed.local z (shut j acts))) (script s c.seed.local z (shut j acts))) (row_of s v (λ q. unread s v (g q.type) 0) (suc j) (seeds cs) acts)) e
     ∙ ap (λ z. v.make c.seed (script s c.seed.local c.items z) (unread s v (g c.seed.type) 0 (firsts c.seed ++ births (script s c.seed.local c.items z)) (script s c.seed.local c.items z)) (row_of s v (λ q. unread s v (g q.type) 0) (suc j) (seeds cs) acts)) f
     ∙ ap (λ z. v.make c.seed (duty_script s c) (below s v (g c.seed.type) c) z) (row_is s v g (suc j) acts cs h)
+
+-- children that aren't started are read by what is given to them alone
+pub row_same : {F : Type 0} (s : Setting) (v : Reading F) (deeper : Seed → List Seed → List Act → F) (j : ℕ) (qs : List Seed) (xs ys : List Act)
+    → ((i : ℕ) → j ≤ i → (gifts i xs ≡ gifts i ys) × (shut i xs ≡ shut i ys)) → row_of s v deeper j qs xs ≡ row_of s v deeper j qs ys
+row_same s v deeper j [] xs ys h = refl
+row_same s v deeper j (q ∷ qs) xs ys h =
+    let e : gifts j xs ≡ gifts j ys = (h j (omega arith)).0 in
+    let f : shut j xs ≡ shut j ys = (h j (omega arith)).1 in
+    let g : row_of s v deeper (suc j) qs xs ≡ row_of s v deeper (suc j) qs ys = row_same s v deeper (suc j) qs xs ys (λ i l. h i (omega arith)) in
+    ap (λ z. v.make q (script s q.local z (shut j xs)) (deeper q (firsts q ++ births (script s q.local z (shut j xs))) (script s q.local z (shut j xs))) (row_of s v deeper (suc j) qs xs)) e
+    ∙ ap (λ z. v.make q (script s q.local (gifts j ys) z) (deeper q (firsts q ++ births (script s q.local (gifts j ys) z)) (script s q.local (gifts j ys) z)) (row_of s v deeper (suc j) qs xs)) f
+    ∙ ap (λ z. v.make q (script s q.local (gifts j ys) (shut j ys)) (deeper q (firsts q ++ births (script s q.local (gifts j ys) (shut j ys))) (script s q.local (gifts j ys) (shut j ys))) z) g
+
+pub unread_same : {F : Type 0} (s : Setting) (v : Reading F) (d : Fuel) (j : ℕ) (qs : List Seed) (xs ys : List Act)
+    → ((i : ℕ) → j ≤ i → (gifts i xs ≡ gifts i ys) × (shut i xs ≡ shut i ys)) → unread s v d j qs xs ≡ unread s v d j qs ys
+unread_same s v spent j qs xs ys h = refl
+unread_same s v (fuel g) j qs xs ys h = row_same s v (λ q. unread s v (g q.type) 0) j qs xs ys h
 
 -- what stands below a task is what its duties grow
 pub below_is : {F : Type 0} (s : Setting) (v : Reading F) (g : Ty → Fuel) (c : Duty) (cs : List Duty) → firsts c.seed ++ births (duty_script s c) ≡ seeds cs → Given (duty_script s c) 0 cs
@@ -174,24 +191,12 @@ indices_are s g (c ∷ cs) (p ∷ ps) (h, hs) n i =
     ⊎_elim (λ a. most_left n p.numbers (all_numbers ps) (h.indices n a)) (λ a. most_right n p.numbers (all_numbers ps) (indices_are s g cs ps hs n a))
     (split_in n (indices_in (duty_script s c)) (below s index_reading (g c.seed.type) c) (grown s index_reading g cs) i)
 
--- at most a number of the plan, or a list is refused for want of a chunk
-abbrev pub Placed : ℕ → List ℕ → List Fault → Type 0
-Placed n ns fs = AtMost n ns ⊎ Has empty_list fs
-
-placed_left : (n : ℕ) (ms ns : List ℕ) (fs gs : List Fault) → Placed n ms fs → Placed n (ms ++ ns) (fs ++ gs)
-placed_left n ms ns fs gs (inl a) = inl (most_left n ms ns a)
-placed_left n ms ns fs gs (inr a) = inr (has_left empty_list fs gs a)
-
-placed_right : (n : ℕ) (ms ns : List ℕ) (fs gs : List Fault) → Placed n ns gs → Placed n (ms ++ ns) (fs ++ gs)
-placed_right n ms ns fs gs (inl a) = inl (most_right n ms ns a)
-placed_right n ms ns fs gs (inr a) = inr (has_right empty_list fs gs a)
-
-placed_are : (s : Setting) (g : Ty → Fuel) (cs : List Duty) (ps : List Plan) → AllMeet s g cs ps → (n : ℕ) → In n (grown s start_reading g cs) → Placed n (all_numbers ps) (all_faults ps)
+placed_are : (s : Setting) (g : Ty → Fuel) (cs : List Duty) (ps : List Plan) → AllMeet s g cs ps → (n : ℕ) → In n (grown s start_reading g cs) → AtMost n (all_numbers ps)
 placed_are s g [] [] h n i = absurd i
 placed_are s g [] (p ∷ ps) h n i = absurd h
 placed_are s g (c ∷ cs) [] h n i = absurd h
 placed_are s g (c ∷ cs) (p ∷ ps) (h, hs) n i =
-    ⊎_elim (λ a. placed_left n p.numbers (all_numbers ps) p.faults (all_faults ps) (h.starts n a)) (λ a. placed_right n p.numbers (all_numbers ps) p.faults (all_faults ps) (placed_are s g cs ps hs n a))
+    ⊎_elim (λ a. most_left n p.numbers (all_numbers ps) (h.starts n a)) (λ a. most_right n p.numbers (all_numbers ps) (placed_are s g cs ps hs n a))
     (split_in n (start_indices c.seed.local) (below s start_reading (g c.seed.type) c) (grown s start_reading g cs) i)
 
 raises_are : (s : Setting) (g : Ty → Fuel) (cs : List Duty) (ps : List Plan) → AllMeet s g cs ps → grown s raise_reading g cs ≡ all_reserved ps
@@ -254,9 +259,9 @@ spread s g c cs p ps fs own h all = record {
   indices = λ n i. subst (λ z. AtMost n z) (sym h.numbers)
       (⊎_elim (λ a. most_left n own (all_numbers ps) (h.moves n a)) (λ a. most_right n own (all_numbers ps) (indices_are s g cs ps all n (subst (λ z. In n z) (under_it index_reading) a)))
       (in_cases n (indices_in (duty_script s c)) (below s index_reading (fuel g) c) i));
-  starts = λ n i. subst (λ z. Placed n z p.faults) (sym h.numbers) (subst (λ z. Placed n (own ++ all_numbers ps) z) (sym h.faults)
-      (⊎_elim (λ a. inl (most_left n own (all_numbers ps) (h.places n a))) (λ a. placed_right n own (all_numbers ps) fs (all_faults ps) (placed_are s g cs ps all n (subst (λ z. In n z) (under_it start_reading) a)))
-      (in_cases n (start_indices c.seed.local) (below s start_reading (fuel g) c) i)));
+  starts = λ n i. subst (λ z. AtMost n z) (sym h.numbers)
+      (⊎_elim (λ a. most_left n own (all_numbers ps) (h.places n a)) (λ a. most_right n own (all_numbers ps) (placed_are s g cs ps all n (subst (λ z. In n z) (under_it start_reading) a)))
+      (in_cases n (start_indices c.seed.local) (below s start_reading (fuel g) c) i));
   raises = ap (λ z. raised_in (duty_script s c) + z) (under_it raise_reading ∙ raises_are s g cs ps all) ∙ sym h.reserved;
   lowers = λ e. ap (λ z. z + below s lower_reading (fuel g) c) (h.lowers e) ∙ ap (λ z. raised_in (duty_script s c) + z) (under_it lower_reading ∙ lowers_are s g cs ps all (h.ends e)) ∙ sym h.reserved;
 }

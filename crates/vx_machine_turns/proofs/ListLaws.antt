@@ -16,13 +16,13 @@ use Rattle.vx_machine_turns.specs.Locals.{ListNode, list_local}
 use Rattle.vx_machine_turns.specs.Acts.{Act, gifts, shut, births, wrote, first_refusal, shape_in, numbers_in, indices_in, raised_in, lowered_in, list_of, or_else}
 use Rattle.vx_machine_turns.specs.Starts.{start_fault, list_columns_of, local_of}
 use Rattle.vx_machine_turns.specs.Columns.{column_seeds, column_puts}
-use Rattle.vx_machine_turns.specs.Turns.{firsts}
+use Rattle.vx_machine_turns.specs.Turns.{firsts, start_indices}
 use Rattle.vx_machine_turns.specs.Scripts.{script}
 use Rattle.vx_machine_turns.specs.Fuels.{Fuel, spent, fuel, Enough}
-use Rattle.vx_machine_turns.specs.Readings.{shaped, pair_reading, fault_reading, number_reading, index_reading, raise_reading, lower_reading}
+use Rattle.vx_machine_turns.specs.Readings.{shaped, pair_reading, fault_reading, number_reading, index_reading, start_reading, raise_reading, lower_reading}
 use Rattle.vx_machine_turns.specs.Duties.{Duty, duty_of, seeds, duty_script, below, Given}
 use Rattle.vx_machine_turns.specs.Planned.{AtMost, Meets, Fair}
-use Rattle.vx_machine_turns.proofs.DutyLaws.{Parent, spread, first_start, first_any, still, zero_more, unraised, has_here, cons_nil, most_right, most_later, most_here}
+use Rattle.vx_machine_turns.proofs.DutyLaws.{Parent, unread_same, spread, first_start, first_any, still, zero_more, unraised, has_here, cons_nil, most_right, most_later, most_here}
 use Rattle.vx_machine_turns.proofs.ColumnLaws.{column_duties, puts_add, gifts_filled, gifts_append, all_puts, ends_last, columns_given, column_seeds_are, columns_ended, AllFair, columns_meet, same_length, one_fair}
 
 -- what is counted at each item: rows, offsets, elements
@@ -51,7 +51,7 @@ module _ (s : Setting) (n : ListNode) where
     calm : first_refusal acts ≡ []
     born : births acts ≡ []
     numbers : numbers_in acts ≡ told_counts from rows items
-    indices : indices_in acts ≡ []
+    indices : (x : ℕ) → In x (indices_in acts) → x ≡ length n.writers
     raises : raised_in acts ≡ 0
     lowers : lowered_in acts ≡ 0
     closes : (k : ℕ) → k < length n.writers → shut k acts ≡ ended
@@ -70,7 +70,7 @@ module _ (s : Setting) (n : ListNode) where
         calm = q.calm ∙ h.calm;
         born = q.born ∙ h.born;
         numbers = ap (λ z. (rows + rows_in i.1) ∷ suc (rows + rows_in i.1) ∷ (from + elements_in i.1) ∷ z) (q.numbers ∙ h.numbers);
-        indices = q.indices ∙ h.indices;
+        indices = λ x k. ⊎_elim (λ e. e) (λ e. h.indices x (subst (λ z. In x z) q.indices e)) k;
         raises = zero_more (q.raises ∙ h.raises);
         lowers = zero_more (q.lowers ∙ h.lowers);
         closes = λ k l. q.closes k ∙ h.closes k l;
@@ -87,20 +87,20 @@ module _ (s : Setting) (n : ListNode) where
         calm = h.calm;
         born = h.born;
         numbers = h.numbers;
-        indices = h.indices;
+        indices = λ x i. absurd (subst (λ z. In x z) h.indices i);
         raises = zero_more h.raises;
         lowers = zero_more h.lowers;
         closes = λ k l. h.closes k l;
         gives = λ k. h.gives k;
         shape = λ q. ap (λ z. Some (list_of (list n.elements n.nullable) z)) (omega arith);
       }
-  later_facts from rows [] false = record { silent = refl; calm = refl; born = refl; numbers = refl; indices = refl; raises = refl; lowers = refl; closes = λ k l. refl; gives = λ k. refl; shape = λ q. cc }
+  later_facts from rows [] false = record { silent = refl; calm = refl; born = refl; numbers = refl; indices = λ x i. absurd i; raises = refl; lowers = refl; closes = λ k l. refl; gives = λ k. refl; shape = λ q. cc }
   later_facts from rows (i ∷ is) ended = step false from rows i is ended (later_facts (from + elements_in i.1) (rows + rows_in i.1) is ended)
 
   -- from the start
   facts : (items : List Item) (ended : Bool) → (items ≡ [] → ended ≡ true → ⊥) → Facts (S true 0 0 items ended) items ended true 0 0
   facts [] true b = absurd (b refl refl)
-  facts [] false b = record { silent = refl; calm = refl; born = refl; numbers = refl; indices = refl; raises = refl; lowers = refl; closes = λ k l. refl; gives = λ k. refl; shape = λ q. cc }
+  facts [] false b = record { silent = refl; calm = refl; born = refl; numbers = refl; indices = λ x i. absurd i; raises = refl; lowers = refl; closes = λ k l. refl; gives = λ k. refl; shape = λ q. cc }
   facts (i ∷ is) ended b = step true 0 0 i is ended (later_facts (0 + elements_in i.1) (0 + rows_in i.1) is ended)
 
 columns_start : (s : Setting) (t : Ty) (n m : Bool) (es os v : Form) (name : List ℕ) (xs : List Split) (ended : Bool) (e : Eof)
@@ -150,7 +150,8 @@ list_parent s t n m es os v a b c name items ended e begun same =
       shapes = λ q. ap (λ z. shaped z (all_layouts (list_plans t n es os v m items ended e))) (h.shape q)
           ∙ ap (λ z. list_layout (list t n) z (all_layouts (list_plans t n es os v m items ended e)) ∷ []) (omega arith);
       counts = λ x i. among x (counts_cases 0 0 1 refl items x (subst (λ z. In x z) h.numbers i));
-      moves = λ x i. absurd (subst (λ z. In x z) h.indices i);
+      moves = λ x i. behind x (most_right x (row_totals items) (length ks ∷ (e.last + length ks) ∷ [])
+          (most_here x (length ks) ((e.last + length ks) ∷ []) (let q : x ≡ length ws = h.indices x i in omega (arith, q, same))));
       places = λ x i. behind x (most_right x (row_totals items) (length ks ∷ (e.last + length ks) ∷ [])
           (most_later x (length ks) ((e.last + length ks) ∷ []) (most_here x (e.last + length ks) [] (at_start_index x i))));
       lowers = λ q. h.lowers ∙ sym h.raises;
@@ -192,9 +193,9 @@ list_fair s t n es os v a b c h i j = record { fair = go }
         (columns_meet s g (list_writers n m es os v) ws fair name 0 (list_splits t n true 0 items) ended e)
 
     -- below one that refuses an empty stream nothing is done
-    empty : (m : Bool) (name : List ℕ) (e : Eof) (d : Fuel) → ((w : What) → start_fault s (list_form t n a b c) m ≡ Some w → Has w (list_columns_plan t n es os v m [] false e).faults)
+    empty : (m : Bool) (name : List ℕ) (e : Eof) (d : Fuel) → Meets s d (duty_of s (list_form t n a b c) m name [] false e) (list_columns_plan t n es os v m [] false e)
         → Meets s d (duty_of s (list_form t n a b c) m name [] true e) (no_lists_plan t n es os v m e)
-    empty m name e d z =
+    empty m name e d open_meets =
         let c0 : Duty = duty_of s (list_form t n a b c) m name [] true e in
         let own : Fault = fault empty_list at_end in
         let later : List Fault = (list_columns_plan t n es os v m [] false e).faults in
@@ -202,16 +203,16 @@ list_fair s t n es os v a b c h i j = record { fair = go }
           pairs = still (List Pair) s pair_reading (λ q. refl) d 0 (firsts c0.seed ++ []) (duty_script s c0) (λ k. (refl, refl));
           cause = λ w i. ⊎_elim (λ q. has_here w own later q) (λ q. absurd (subst (λ z. In w z) (still (List What) s fault_reading (λ q. refl) d 0 (firsts c0.seed ++ []) (duty_script s c0) (λ k. (refl, refl))) q)) i;
           clean = λ q r. absurd (cons_nil empty_list (below s fault_reading d c0) q);
-          begins = λ w q. let x : Has w later = z w q in (x.0, inr x.1, x.2);
+          begins = λ w q. let x : Has w later = open_meets.begins w q in (x.0, inr x.1, x.2);
           layout = λ q r. absurd (cons_nil own later r);
           numbers = λ x i. absurd (subst (λ z. In x z) (still (List ℕ) s number_reading (λ q. refl) d 0 (firsts c0.seed ++ []) (duty_script s c0) (λ k. (refl, refl))) i);
           indices = λ x i. absurd (subst (λ z. In x z) (still (List ℕ) s index_reading (λ q. refl) d 0 (firsts c0.seed ++ []) (duty_script s c0) (λ k. (refl, refl))) i);
-          starts = λ x i. inr (has_here empty_list own later refl);
+          starts = λ x i. open_meets.starts x (subst (λ z. In x (start_indices c0.seed.local ++ z)) (unread_same s start_reading d 0 (firsts c0.seed ++ []) (duty_script s c0) [] (λ k l. (refl, refl))) i);
           raises = ap (λ y. 0 + y) (still ℕ s raise_reading (λ q. refl) d 0 (firsts c0.seed ++ []) (duty_script s c0) (λ k. (refl, refl)));
           lowers = λ h. ap (λ y. 0 + y) (still ℕ s lower_reading (λ q. refl) d 0 (firsts c0.seed ++ []) (duty_script s c0) (λ k. (refl, refl)));
         }
 
     go : (m : Bool) (name : List ℕ) (items : List Item) (ended : Bool) (e : Eof) (d : Fuel) → Enough d (list_form t n a b c) → Meets s d (duty_of s (list_form t n a b c) m name items ended e) (list_node t n es os v m items ended e)
-    go m name [] true e d enough = empty m name e d (λ w q. (columns m name [] false e d enough (λ x r. absurd (true≢false (sym r)))).begins w q)
+    go m name [] true e d enough = empty m name e d (columns m name [] false e d enough (λ x r. absurd (true≢false (sym r))))
     go m name [] false e d enough = columns m name [] false e d enough (λ q r. absurd (true≢false (sym r)))
     go m name (x ∷ xs) ended e d enough = columns m name (x ∷ xs) ended e d enough (λ q r. absurd (cons_nil x xs q))

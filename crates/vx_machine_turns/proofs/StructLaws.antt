@@ -1,5 +1,5 @@
 -- A struct's task and its columns are its plan.
-use Rattle.std.proofs.Common.{◌≡◌, ℕ, suc, ◌+◌, ◌≤◌, ◌<◌, ◌||◌, inl, inr, Bool, true, false, List, [], ◌∷◌, ◌++◌, length, Option, Some, None, refl, sym, ap, ap₂, ◌∙◌, subst, arith}
+use Rattle.std.proofs.Common.{◌≡◌, ℕ, suc, ◌+◌, ◌≤◌, ◌<◌, ◌||◌, inl, inr, ⊎_elim, Bool, true, false, List, [], ◌∷◌, ◌++◌, length, Option, Some, None, refl, sym, ap, ap₂, ◌∙◌, subst, arith}
 use Rattle.vx_model.specs.Ty.{Ty, Tys, struct, no_fields, field}
 use Rattle.vx_path.specs.Lists.{In}
 use Rattle.vx_path.proofs.Lists.{in_left}
@@ -36,7 +36,7 @@ module _ (s : Setting) (n : StructNode) where
     calm : first_refusal acts ≡ []
     born : births acts ≡ []
     numbers : numbers_in acts ≡ totals rows_in rows items
-    indices : indices_in acts ≡ []
+    indices : (x : ℕ) → In x (indices_in acts) → x ≡ length n.writers
     raises : raised_in acts ≡ 0
     lowers : lowered_in acts ≡ 0
     closes : (k : ℕ) → k < length n.writers → shut k acts ≡ ended
@@ -51,14 +51,14 @@ module _ (s : Setting) (n : StructNode) where
         calm = h.calm;
         born = h.born;
         numbers = h.numbers;
-        indices = h.indices;
+        indices = λ x i. absurd (subst (λ z. In x z) h.indices i);
         raises = zero_more h.raises;
         lowers = zero_more h.lowers;
         closes = λ k l. h.closes k l;
         gives = λ k. h.gives k;
         shape = λ q. ap (λ z. Some (struct_of (struct n.fields n.nullable) z)) (omega arith);
       }
-  facts rows [] false = record { silent = refl; calm = refl; born = refl; numbers = refl; indices = refl; raises = refl; lowers = refl; closes = λ k l. refl; gives = λ k. refl; shape = λ q. cc }
+  facts rows [] false = record { silent = refl; calm = refl; born = refl; numbers = refl; indices = λ x i. absurd i; raises = refl; lowers = refl; closes = λ k l. refl; gives = λ k. refl; shape = λ q. cc }
   facts rows (i ∷ is) ended =
       let rest : List Act = S (rows + rows_in i.1) is ended in
       let puts : List Act = column_puts 0 i.0 (struct_columns n.fields n.nullable i.1) n.writers in
@@ -69,7 +69,7 @@ module _ (s : Setting) (n : StructNode) where
         calm = q.calm ∙ h.calm;
         born = q.born ∙ h.born;
         numbers = ap (λ z. (rows + rows_in i.1) ∷ z) (q.numbers ∙ h.numbers);
-        indices = q.indices ∙ h.indices;
+        indices = λ x k. ⊎_elim (λ e. e) (λ e. h.indices x (subst (λ z. In x z) q.indices e)) k;
         raises = zero_more (q.raises ∙ h.raises);
         lowers = zero_more (q.lowers ∙ h.lowers);
         closes = λ k l. q.closes k ∙ h.closes k l;
@@ -178,7 +178,8 @@ struct_parent s fs n m v f ks ls name items ended e same =
       shapes = λ q. ap (λ z. shaped z (all_layouts (struct_plans fs n v ks m items ended e))) (h.shape q)
           ∙ ap (λ z. struct_layout (struct fs n) z (all_layouts (struct_plans fs n v ks m items ended e)) ∷ []) (omega arith);
       counts = λ x i. in_left x (row_totals items) (length (struct_writers n m v ks) ∷ (e.last + length (struct_writers n m v ks)) ∷ []) (subst (λ z. In x z) h.numbers i);
-      moves = λ x i. absurd (subst (λ z. In x z) h.indices i);
+      moves = λ x i. most_right x (row_totals items) (length (struct_writers n m v ks) ∷ (e.last + length (struct_writers n m v ks)) ∷ [])
+          (most_here x (length (struct_writers n m v ks)) ((e.last + length (struct_writers n m v ks)) ∷ []) (let q : x ≡ length ws = h.indices x i in omega (arith, q, same)));
       places = λ x i. most_right x (row_totals items) (length (struct_writers n m v ks) ∷ (e.last + length (struct_writers n m v ks)) ∷ [])
           (most_later x (length (struct_writers n m v ks)) ((e.last + length (struct_writers n m v ks)) ∷ [])
           (most_here x (e.last + length (struct_writers n m v ks)) [] (at_start_index x i)));

@@ -1,5 +1,5 @@
 -- The source on its batches, the root on what it gives, and all below.
-use Rattle.std.proofs.Common.{◌≡◌, ℕ, suc, ◌+◌, ◌≤◌, ◌⊎◌, inl, inr, ⊎_elim, Bool, true, false, not, List, [], ◌∷◌, ◌++◌, length, Option, Some, None, refl, sym, ap, ◌∙◌, subst, arith}
+use Rattle.std.proofs.Common.{◌≡◌, ℕ, suc, ◌+◌, ◌≤◌, inl, inr, ⊎_elim, Bool, true, false, not, List, [], ◌∷◌, ◌++◌, length, refl, sym, ap, ◌∙◌, subst, arith}
 use Rattle.std.proofs.lemmas.Bool.Decides.{nat_tests}
 use Rattle.std.proofs.lemmas.List.{append-nil}
 use Rattle.vx_model.specs.Ty.{Ty}
@@ -17,23 +17,20 @@ use Rattle.vx_tasks.specs.Runs.{first_batch}
 use Rattle.vx_tasks.specs.Nodes.{acts, puts, source_script, source_task, batch_paths, machine}
 use Rattle.vx_tasks.specs.Good.{Good}
 use Rattle.vx_tasks.proofs.Machine.{machine_rules, machine_order, machine_named}
-use Rattle.vx_strategy_spec.specs.StrategyData.{StrategyData}
 use Rattle.vx_strategy_spec.specs.Walk.{walk}
-use Rattle.vx_plan.specs.PlanData.{Setting, Item, Plan, What, places, empty_list}
-use Rattle.vx_plan.specs.SourcePlan.{plan, source_plan, batch_items}
-use Rattle.vx_plan.specs.Valid.{Has}
+use Rattle.vx_plan.specs.PlanData.{Setting, Item, Plan, places}
+use Rattle.vx_plan.specs.SourcePlan.{plan, batch_items}
 use Rattle.vx_plan.proofs.SourceLaws.{batches_apart}
 use Rattle.vx_machine_turns.specs.Forms.{Form, form_nodes, form_type}
-use Rattle.vx_machine_turns.specs.Acts.{Act, close_queues, wrote, first_refusal, any_refuses, gifts, shut, shape_in, numbers_in, indices_in, raised_in, lowered_in}
-use Rattle.vx_machine_turns.specs.Source.{source_acts, source_firsts, source_seed}
-use Rattle.vx_machine_turns.specs.Fuels.{Fuel, spent, fuel, Enough}
+use Rattle.vx_machine_turns.specs.Acts.{close_queues, wrote, first_refusal, any_refuses, gifts, shut, shape_in, numbers_in, indices_in, raised_in, lowered_in}
+use Rattle.vx_machine_turns.specs.Source.{source_acts, source_seed}
+use Rattle.vx_machine_turns.specs.Fuels.{Fuel, spent, fuel}
 use Rattle.vx_machine_turns.specs.Readings.{Reading, pair_reading, fault_reading, layout_reading, number_reading, index_reading, start_reading, raise_reading, lower_reading, shaped}
 use Rattle.vx_machine_turns.specs.Turns.{start_indices}
 use Rattle.vx_machine_turns.specs.Plain.{plain, task_of, script_reading}
 use Rattle.vx_machine_turns.specs.Duties.{Duty, duty_of, duty_script, below}
-use Rattle.vx_machine_turns.specs.Planned.{AtMost, Meets, Fair}
-use Rattle.vx_machine_turns.specs.Tidy.{Tidy}
-use Rattle.vx_machine_turns.specs.Whole.{below_source, whole, Silent, SourceIsSilent, SourceIsTidy, MeetsAll, MachineIsPlanned, MachineIsGood}
+use Rattle.vx_machine_turns.specs.Planned.{Meets}
+use Rattle.vx_machine_turns.specs.Whole.{below_source, Silent, SourceIsSilent, SourceIsTidy, MeetsAll, MachineIsPlanned, MachineIsGood}
 use Rattle.vx_machine_turns.proofs.DutyLaws.{row_is, most_here, most_later}
 use Rattle.vx_machine_turns.proofs.Planned.{tasks_are_planned}
 use Rattle.vx_machine_turns.proofs.TidyLaws.{still, put, shuts}
@@ -106,7 +103,7 @@ module _ (s : Setting) (f : Form) (m : Bool) (bs : List ChunkData) (fits : Bool)
         indices = λ k i. ⊎_elim (λ a. most_here k n p.numbers (let l : k ≤ 0 + length bs = pointer_comes first_batch bs fits k a in omega (arith, l, e)))
             (λ a. most_later k n p.numbers (h.indices k (subst (λ z. In k z) indices a)))
             (in_cases k (indices_in (source_acts first_batch bs fits)) (below_source s index_reading (fuel g) f m bs fits) i);
-        starts = λ k i. ⊎_elim (λ a. inl (most_later k n p.numbers a)) (λ a. inr a) (h.starts k (subst (λ z. In k z) starts i));
+        starts = λ k i. most_later k n p.numbers (h.starts k (subst (λ z. In k z) starts i));
         raises = one raise_reading g ∙ no_rest (raised_in (duty_script s c)) (below s raise_reading (g (form_type f)) c) ∙ h.raises;
         lowers = λ x. one lower_reading g ∙ no_rest (lowered_in (duty_script s c)) (below s lower_reading (g (form_type f)) c) ∙ h.lowers x;
       }

@@ -36,6 +36,10 @@ abbrev mutual
   fuels_of no_forms = spent
   fuels_of (form_then f fs) = join (fuel_of f) (fuels_of fs)
 
+-- Of a form's whole machine: it has the source, and below that the root, whose fuel is the form's.
+abbrev pub whole_fuel : Form → Fuel
+whole_fuel f = fuel (λ t. fuel (λ u. fuel_of f))
+
 -- one level further down
 abbrev pub Through : (Fuel → Type 0) → Ty → Fuel → Type 0
 Through P t spent = ⊥

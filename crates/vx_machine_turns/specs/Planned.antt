@@ -1,11 +1,11 @@
 -- What is read off a form's task and all below it, against the plan.
-use Rattle.std.specs.Prelude.{◌≡◌, ℕ, ◌+◌, ◌≤◌, ◌⊎◌, Bool, true, List, [], ◌∷◌, ◌++◌, Some, None}
+use Rattle.std.specs.Prelude.{◌≡◌, ℕ, ◌+◌, ◌≤◌, Bool, true, List, [], ◌∷◌, ◌++◌, Some, None}
 use Rattle.vx_model.specs.Ty.{Ty}
 use Rattle.vx_path.specs.Lists.{In}
 use Rattle.vx_path.specs.Path.{Eof}
 use Rattle.vx_strategy_spec.specs.StrategyData.{StrategyData}
 use Rattle.vx_strategy_spec.specs.Walk.{walk}
-use Rattle.vx_plan.specs.PlanData.{Setting, Item, Plan, Node, What, empty_list}
+use Rattle.vx_plan.specs.PlanData.{Setting, Item, Plan, Node, What}
 use Rattle.vx_plan.specs.SourcePlan.{plan}
 use Rattle.vx_plan.specs.SourcePlan as plans
 use Rattle.vx_plan.specs.Valid.{Has}
@@ -32,9 +32,9 @@ pub record Meets (s : Setting) (d : Fuel) (c : Duty) (p : Plan) : Type 0 where
   pub layout : c.ended ≡ true → p.faults ≡ [] → shaped (shape_in (duty_script s c)) (below s layout_reading d c) ≡ p.layout ∷ []
   -- what they count is among the plan's numbers
   pub numbers : (n : ℕ) → In n (numbers_in (duty_script s c) ++ below s number_reading d c) → In n p.numbers
-  -- and how far their pointers come is at most one of these; a list that is refused for want of a chunk has no numbers
+  -- and how far their pointers come, in actions and at starts, is at most one of these
   pub indices : (n : ℕ) → In n (indices_in (duty_script s c) ++ below s index_reading d c) → AtMost n p.numbers
-  pub starts : (n : ℕ) → In n (start_indices c.seed.local ++ below s start_reading d c) → AtMost n p.numbers ⊎ Has empty_list p.faults
+  pub starts : (n : ℕ) → In n (start_indices c.seed.local ++ below s start_reading d c) → AtMost n p.numbers
   -- what they add to the tracker; once all have ended, all of it is taken from it again
   pub raises : raised_in (duty_script s c) + below s raise_reading d c ≡ p.reserved
   pub lowers : c.ended ≡ true → lowered_in (duty_script s c) + below s lower_reading d c ≡ p.reserved

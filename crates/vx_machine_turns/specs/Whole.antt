@@ -1,5 +1,5 @@
 -- The source on its batches, the root on what it gives, and all below.
-use Rattle.std.specs.Prelude.{◌≡◌, ℕ, ◌+◌, ◌⊎◌, Bool, true, not, if◌then◌else◌, List, [], ◌∷◌, ◌++◌, Some, None}
+use Rattle.std.specs.Prelude.{◌≡◌, ℕ, Bool, true, not, if◌then◌else◌, List, [], ◌∷◌, ◌++◌, Some, None}
 use Rattle.vx_model.specs.Ty.{Ty}
 use Rattle.vx_model.specs.ChunkData.{ChunkData}
 use Rattle.vx_path.specs.Lists.{In}
@@ -10,7 +10,7 @@ use Rattle.vx_tasks.specs.Rules.{KeepsRules, KeepsOrder, Rises, names}
 use Rattle.vx_tasks.specs.Runs.{first_batch}
 use Rattle.vx_strategy_spec.specs.StrategyData.{StrategyData}
 use Rattle.vx_strategy_spec.specs.Walk.{walk}
-use Rattle.vx_plan.specs.PlanData.{Setting, Plan, What, empty_list}
+use Rattle.vx_plan.specs.PlanData.{Setting, Plan, What}
 use Rattle.vx_plan.specs.SourcePlan.{source_plan}
 use Rattle.vx_plan.specs.Valid.{Has}
 use Rattle.vx_machine_turns.specs.Forms.{Form, form_nodes, form_type}
@@ -62,7 +62,7 @@ pub record MeetsAll (s : Setting) (d : Fuel) (f : Form) (m : Bool) (bs : List Ch
   pub numbers : (n : ℕ) → In n (below_source s number_reading d f m bs fits) → In n p.numbers
   -- how far the source's pointer comes, too
   pub indices : (n : ℕ) → In n (indices_in (source_acts first_batch bs fits) ++ below_source s index_reading d f m bs fits) → AtMost n p.numbers
-  pub starts : (n : ℕ) → In n (below_source s start_reading d f m bs fits) → AtMost n p.numbers ⊎ Has empty_list p.faults
+  pub starts : (n : ℕ) → In n (below_source s start_reading d f m bs fits) → AtMost n p.numbers
   pub raises : below_source s raise_reading d f m bs fits ≡ p.reserved
   pub lowers : fits ≡ true → below_source s lower_reading d f m bs fits ≡ p.reserved
 

@@ -16,7 +16,8 @@ use Rattle.vx_layout_spec.specs.LayoutTree.{LayoutData, layout_type, struct_layo
 use Rattle.vx_rules.specs.Stream.{Chunk, Chunks, stream_cells, chunk_paths}
 use Rattle.vx_rules.specs.Columns.{Split, struct_splits, list_splits, column, other_columns, offset_cell, offset_type}
 use Rattle.vx_layout_spec.specs.Parts.{flag_of, all_elements, ends}
-use Rattle.vx_rules.proofs.CellLaws.{cells_fine, all_append}
+use Rattle.vx_layout_spec.proofs.CellsFit.{all_append}
+use Rattle.vx_rules.proofs.CellLaws.{cells_fine}
 use Rattle.vx_rules.proofs.ColumnCells.{field_cells, column_values, inner_value, zipped_fields, flags_keep, structs_valid, lists_valid}
 use Rattle.vx_rules.proofs.ColumnStreams.{split_paths, unders, column_paths, other_paths, struct_paths, list_paths, column-append, other_columns-append, struct_splits-append, list_splits_begin, field_streams, StreamsOf, streams_cells, streams_are, chunk_cells, all_chunk_cells, struct_shows, nullable_shows, validity_stream, lists_are, elements_stream, offsets_stream, list_validity_stream, elements_append}
 use Rattle.vx_plan.specs.PlanData.{Setting, Item, Plan, Node, paths, places, stream_values, summed, totals, rows_in, row_total}

@@ -4,6 +4,7 @@ use Rattle.std.specs.Prelude.{if◌then◌else◌, ◌&&◌, ◌||◌, nat_lt}
 use Rattle.std.specs.Str.{is_utf8}
 use Rattle.std.proofs.lemmas.Bool.Decides.{nat_tests}
 use Rattle.std.proofs.lemmas.List.{append-nil}
+use Rattle.std.proofs.lemmas.Bool.{and_from, and_parts}
 use Rattle.vx_model.specs.Words.{all_by, tail}
 use Rattle.vx_model.specs.Ty.{Ty, boolean, primitive, utf8, binary, list, struct, extension}
 use Rattle.vx_model.specs.CellData.{CellData, null_cell, bool_cell, int_cell, text_cell, bytes_cell, list_cell, struct_cell, fits}
@@ -39,14 +40,6 @@ use Rattle.vx_plan.proofs.PlanLists.{ItemsOf, Holds, Gives, counted_same, nil_le
 use Rattle.vx_plan.proofs.Spots.{Apart, Lies, two_parts, apart_both, apart_inside}
 use Rattle.vx_plan.proofs.FlatLaws.{Reads, Placed, Grows, Typed}
 use Rattle.vx_plan.proofs.ChunkedLaws.{paths-append}
-
-front : (a b : Bool) → (a && b) ≡ true → a ≡ true
-front true b e = refl
-front false b e = e
-
-back : (a b : Bool) → (a && b) ≡ true → b ≡ true
-back true b e = e
-back false b e = cc
 
 -- ---- rows: the data child's
 
@@ -91,13 +84,13 @@ default_options (extension tag t) = refl
 
 asked_options : (aggregates : Option (List Aggregate)) (t : Ty) → are_admitted_aggregates aggregates ≡ true → all_by has_options (asked aggregates t) ≡ true
 asked_options None t h = default_options t
-asked_options (Some aggregates) t h = front (all_by has_options aggregates) (nat_lt (length aggregates) (2 ^ 32)) h
+asked_options (Some aggregates) t h = (and_parts (all_by has_options aggregates) (nat_lt (length aggregates) (2 ^ 32)) h).0
 
 aggregates_of : (o : ZonedOptions) → is_admitted_zoned o ≡ true → are_admitted_aggregates o.aggregates ≡ true
 aggregates_of o h =
-    let a : (nat_lt o.zone_len (2 ^ 32) && (nat_lt 0 o.concurrency && are_admitted_aggregates o.aggregates)) ≡ true = back (nat_lt 0 o.zone_len) _ h in
-    let b : (nat_lt 0 o.concurrency && are_admitted_aggregates o.aggregates) ≡ true = back (nat_lt o.zone_len (2 ^ 32)) _ a in
-    back (nat_lt 0 o.concurrency) (are_admitted_aggregates o.aggregates) b
+    let a : (nat_lt o.zone_len (2 ^ 32) && (nat_lt 0 o.concurrency && are_admitted_aggregates o.aggregates)) ≡ true = (and_parts (nat_lt 0 o.zone_len) _ h).1 in
+    let b : (nat_lt 0 o.concurrency && are_admitted_aggregates o.aggregates) ≡ true = (and_parts (nat_lt o.zone_len (2 ^ 32)) _ a).1 in
+    (and_parts (nat_lt 0 o.concurrency) (are_admitted_aggregates o.aggregates) b).1
 
 pub options_of : (o : ZonedOptions) (t : Ty) → is_admitted_zoned o ≡ true → all_by has_options (asked o.aggregates t) ≡ true
 options_of o t h = asked_options o.aggregates t (aggregates_of o h)
@@ -115,7 +108,7 @@ default_few (extension tag t) = refl
 
 asked_few : (aggregates : Option (List Aggregate)) (t : Ty) → are_admitted_aggregates aggregates ≡ true → length (asked aggregates t) < 2 ^ 32
 asked_few None t h = omega (arith, default_few t)
-asked_few (Some aggregates) t h = below (length aggregates) (back (all_by has_options aggregates) (nat_lt (length aggregates) (2 ^ 32)) h)
+asked_few (Some aggregates) t h = below (length aggregates) (and_parts (all_by has_options aggregates) (nat_lt (length aggregates) (2 ^ 32)) h).1
   where
     below : (n : ℕ) → nat_lt n (2 ^ 32) ≡ true → n < 2 ^ 32
     below n h = grind (arith, nat_tests)
@@ -157,14 +150,14 @@ small_filter (bounded_maximum n) h = tt
 small_filter (bounded_minimum n) h = tt
 small_filter null_count h = tt
 small_filter sum h = tt
-small_filter (bloom n) h = few n (back (nat_lt 0 n) (nat_lt n (2 ^ 32)) h)
+small_filter (bloom n) h = few n (and_parts (nat_lt 0 n) (nat_lt n (2 ^ 32)) h).1
   where
     few : (n : ℕ) → nat_lt n (2 ^ 32) ≡ true → n < 2 ^ 32
     few n h = grind (arith, nat_tests)
 
 small_filters : (aggregates : List Aggregate) → all_by has_options aggregates ≡ true → SmallFilters aggregates
 small_filters [] h = tt
-small_filters (a ∷ aggregates) h = (small_filter a (front (has_options a) (all_by has_options aggregates) h), small_filters aggregates (back (has_options a) (all_by has_options aggregates) h))
+small_filters (a ∷ aggregates) h = (small_filter a (and_parts (has_options a) (all_by has_options aggregates) h).0, small_filters aggregates (and_parts (has_options a) (all_by has_options aggregates) h).1)
 
 -- the table is a whole chunk
 pub whole_table : (s : Setting) (o : ZonedOptions) (t : Ty) (items : List Item) (cs : List Filled) → ItemsOf t items → length items < 2 ^ 64 → kept_columns (recorded o t) (zone_records s t (recorded o t) items) ≡ Some cs
@@ -181,15 +174,12 @@ text_of : (c : CellData) → is_real_cell c ≡ true → is_text (value c) ≡ t
 text_of null_cell h = refl
 text_of (bool_cell b) h = refl
 text_of (int_cell b) h = refl
-text_of (text_cell b) h = front (is_utf8 b) _ h
+text_of (text_cell b) h = (and_parts (is_utf8 b) _ h).0
 text_of (bytes_cell b) h = refl
 text_of (list_cell true cs) h = refl
 text_of (list_cell false cs) h = refl
 text_of (struct_cell true cs) h = refl
 text_of (struct_cell false cs) h = refl
-
-hold : (a b : Bool) → a ≡ true → b ≡ true → (a && b) ≡ true
-hold a b e f = rw (e, f) refl
 
 or_fits : (a b : Bool) → b ≡ true → (a || b) ≡ true
 or_fits true b e = refl
@@ -198,9 +188,9 @@ or_fits false b e = e
 cells_values : (t : Ty) (cs : List CellData) → all_by (fits t) cs ≡ true → all_by is_real_cell cs ≡ true → AllValues t (map value cs)
 cells_values t [] f r = tt
 cells_values t (c ∷ cs) f r = (
-  hold (is_row_value t (value c)) (is_text (value c)) (or_fits (is_null_value (value c)) (value_fits t (value c)) (value_fits-value t c (front (fits t c) (all_by (fits t) cs) f)))
-      (text_of c (front (is_real_cell c) (all_by is_real_cell cs) r)),
-  cells_values t cs (back (fits t c) (all_by (fits t) cs) f) (back (is_real_cell c) (all_by is_real_cell cs) r),
+  and_from (is_row_value t (value c)) (is_text (value c)) (or_fits (is_null_value (value c)) (value_fits t (value c)) (value_fits-value t c (and_parts (fits t c) (all_by (fits t) cs) f).0))
+      (text_of c (and_parts (is_real_cell c) (all_by is_real_cell cs) r).0),
+  cells_values t cs (and_parts (fits t c) (all_by (fits t) cs) f).1 (and_parts (is_real_cell c) (all_by is_real_cell cs) r).1,
 )
 
 values_append : (t : Ty) (vs ws : List ValueData) → AllValues t vs → AllValues t ws → AllValues t (vs ++ ws)

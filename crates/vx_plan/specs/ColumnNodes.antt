@@ -70,13 +70,14 @@ list_columns_plan t n es os v m items ended e =
     beside (list_layout (list t n) (row_total items) (all_layouts (list_plans t n es os v m items ended e)))
     (list_numbers items (list_writers n m es os v) e) (list_plans t n es os v m items ended e)
 
--- a stream that has ended without a chunk is refused, behind which stand the faults of its columns' empty streams
+-- a stream that has ended without a chunk is refused, behind which stand the faults of its columns' empty streams; their
+-- numbers are those of streams that may go on, since the columns start with the node
 abbrev pub no_lists_plan : Ty → Bool → Node → Node → Node → Bool → Eof → Plan
 no_lists_plan t n es os v m e = record {
   pairs = [];
   faults = fault empty_list at_end ∷ (list_columns_plan t n es os v m [] false e).faults;
   layout = list_layout (list t n) 0 [];
-  numbers = [];
+  numbers = (list_columns_plan t n es os v m [] false e).numbers;
   reserved = 0;
 }
 

@@ -1,5 +1,6 @@
 use Rattle.vx_machine_turns.specs.Readings.{pair_reading, fault_reading, layout_reading, number_reading, index_reading, start_reading, raise_reading, lower_reading}
 use Rattle.vx_machine_steps.proofs.Neats.{tidy_is_neat}
+use Rattle.vx_machine_steps.proofs.Births.{start_opens}
 use Rattle.vx_machine_steps.proofs.Start.{start_reads}
 use Rattle.vx_machine_steps.proofs.Fresh.{start_is_neat}
 use Rattle.vx_machine_steps.proofs.Standing.{start_stands}
@@ -22,6 +23,9 @@ returns-clause-indices c = start_reads index_reading
 
 pub returns-clause-starts : goal.returns-clause-starts
 returns-clause-starts c = start_reads start_reading
+
+pub returns-clause-opened : goal.returns-clause-opened
+returns-clause-opened c = start_opens
 
 pub returns-clause-raised : goal.returns-clause-raised
 returns-clause-raised c = start_reads raise_reading

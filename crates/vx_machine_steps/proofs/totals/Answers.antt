@@ -1,5 +1,6 @@
 use Rattle.vx_machine_steps.proofs.Summed.{sum_raised, sum_lowered}
 use Rattle.vx_machine_steps.proofs.Listed.{list_pairs, list_numbers, list_indices}
+use Rattle.vx_machine_steps.proofs.Births.{births_within}
 use Rattle.vx_machine_steps.proofs.totals.Goals as goal
 
 pub returns-clause-raised : goal.returns-clause-raised
@@ -16,3 +17,6 @@ returns-clause-numbers c = list_numbers
 
 pub returns-clause-indices : goal.returns-clause-indices
 returns-clause-indices c = list_indices
+
+pub returns-clause-births : goal.returns-clause-births
+returns-clause-births c = births_within
