@@ -10,8 +10,10 @@ use Rattle.vx_model.specs.Ty.{Ty, Tys, boolean, primitive, utf8, binary, list, s
 use Rattle.vx_model.specs.CellData.{CellData, CellList, null_cell, bool_cell, int_cell, text_cell, bytes_cell, list_cell, struct_cell, trees_of, items, bit, flag_bytes, u64_bytes, int_bytes, flag_fits, bool_fits, primitive_fits, text_fits, bytes_fits, list_fits, struct_fits, none_fit, first_fits, fits, fields_fit, bool_spelling, primitive_spelling, text_spelling, list_spelling, struct_spelling, nothing_spelled, first_spelled, spelling, fields_spelling}
 use Rattle.vx_model.proofs.CellViews.{items_trees_of, trees_of_items}
 use Rattle.vx_layout_spec.specs.Real.{is_length, is_real_cell, are_real_cells}
-use Rattle.vx_cell_codec.specs.Reading.{◌>>=◌, flag_at, number_at, blob_at, text_at, int_at, many_at, valid_at, leaf_at, list_at, struct_at, nothing_at, first_at, cell_at, fields_at}
-use Rattle.vx_cell_codec.proofs.FieldLaws.{IsBytes, bind_some, guard_some, some_is, both_true, halves, Takes, Takes-then, Takes-none, Reads, bit_byte, Any, reads_flag, Flagged, reads_valid, reads_number, blob_spelling, IsBlob, reads_blob, IsText, reads_text, Each, many_takes, many_again}
+use Rattle.vx_byte_reader.specs.Fields.{◌>>=◌, flag_at, many_at}
+use Rattle.vx_byte_reader.proofs.FieldLaws.{IsBytes, bind_some, guard_some, some_is, both_true, halves, Takes, Takes-then, Takes-none, Reads, bit_byte, Any, reads_flag, Each, many_takes, many_again}
+use Rattle.vx_cell_codec.specs.Reading.{number_at, blob_at, text_at, int_at, valid_at, leaf_at, list_at, struct_at, nothing_at, first_at, cell_at, fields_at}
+use Rattle.vx_cell_codec.proofs.FieldLaws.{Flagged, reads_valid, reads_number, blob_spelling, IsBlob, reads_blob, IsText, reads_text}
 use Rattle.vx_cell_codec.proofs.IntLaws.{reads_int}
 
 -- a cell that the test lets in and that can be in memory

@@ -7,11 +7,13 @@ use Rattle.std.proofs.lemmas.List.{append-nil, nil_from_length, drop_more}
 use Rattle.vx_model.specs.Words.{joined_by}
 use Rattle.vx_model.specs.CellData.{bit, u64_bytes}
 use Rattle.vx_cell_codec.specs.declared.error.CellError.{CellError}
-use Rattle.vx_cell_codec.specs.Reading.{number_at, flag_at, many_at}
+use Rattle.vx_byte_reader.specs.Fields.{flag_at, many_at}
+use Rattle.vx_byte_reader.proofs.FieldLaws.{IsBytes, bind_some, guard_some, halves, bit_byte, Any, reads_flag, Each, many_takes, many_again}
+use Rattle.vx_byte_reader.proofs.FieldLoops.{with_front}
+use Rattle.vx_cell_codec.specs.Reading.{number_at}
 use Rattle.vx_cell_codec.specs.Columns.{ascend, offsets_at, flags_at, AreOffsets, AreFlags}
 use Rattle.vx_cell_codec.specs.Views.{Gives}
-use Rattle.vx_cell_codec.proofs.FieldLaws.{IsBytes, bind_some, guard_some, halves, bit_byte, Any, reads_flag, IsNumber, reads_number, Each, many_takes, many_again}
-use Rattle.vx_cell_codec.proofs.Loops.{with_front}
+use Rattle.vx_cell_codec.proofs.FieldLaws.{IsNumber, reads_number}
 
 -- ---- steps of the loops
 

@@ -13,10 +13,11 @@ use Rattle.vx_model.specs.Ty.{Ty, boolean, primitive, utf8, binary, list, struct
 use Rattle.vx_model.specs.CellData.{CellData, null_cell, bool_cell, int_cell, text_cell, bytes_cell, list_cell, struct_cell, items, bit, flag_bytes, u64_bytes, int_bytes, fits, spelling}
 use Rattle.vx_layout_spec.specs.Real.{is_real_cell}
 use Rattle.vx_cell_codec.specs.declared.error.CellError.{CellError}
-use Rattle.vx_cell_codec.specs.Reading.{many_at, cell_at, cells_at, only_cell_at}
+use Rattle.vx_cell_codec.specs.Reading.{cell_at, cells_at, only_cell_at}
 use Rattle.vx_cell_codec.specs.Filled.{AreFilled}
 use Rattle.vx_cell_codec.specs.Views.{Gives}
-use Rattle.vx_cell_codec.proofs.FieldLaws.{IsBytes, bind_some, guard_some, both_true, halves}
+use Rattle.vx_byte_reader.specs.Fields.{many_at}
+use Rattle.vx_byte_reader.proofs.FieldLaws.{IsBytes, bind_some, guard_some, both_true, halves}
 use Rattle.vx_cell_codec.proofs.CellLaws.{reads_cell, rows_take, rows_again}
 
 pub cells_take : (t : Ty) (rows : ℕ) (bytes : List ℕ) (cs : List CellData) → IsBytes bytes → cells_at t rows bytes ≡ Some cs → AreFilled t rows bytes cs

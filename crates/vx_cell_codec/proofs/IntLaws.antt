@@ -1,45 +1,18 @@
 -- Integers that are read are spelled so and fit, and what fits and is spelled so is read.
-use Rattle.std.proofs.Common.{◌≡◌, ℕ, suc, ◌-◌, ◌^◌, ◌<◌, List, [], ◌∷◌, ◌++◌, length, Some, refl, sym, ap, subst, ◌∙◌, arith, IsTrue, inl, inr}
+use Rattle.std.proofs.Common.{◌≡◌, ℕ, suc, ◌-◌, ◌^◌, ◌<◌, List, ◌++◌, length, Some, refl, sym, ap, subst, ◌∙◌, arith, IsTrue, inl, inr}
 use Rattle.std.specs.Prelude.{ℤ, pos, negsuc}
 use Rattle.std.specs.Int.{Width, w8, w16, w32, w64, byte_len, from_le_bytes, to_le_bytes, cast_signed, cast_unsigned}
 use Rattle.std.proofs.lemmas.Bool.{cases_lt, le-ltb}
 use Rattle.std.proofs.lemmas.Bool.Decides.{nat_tests}
 use Rattle.std.proofs.lemmas.Int.{of_z-to_z, to_z-of_z, to_z_pos}
-use Rattle.std.proofs.lemmas.Nat.{le_bytes_2, le_bytes_4, le_bytes_8, from_le_bytes-to_le_bytes_2, from_le_bytes-to_le_bytes_4, from_le_bytes-to_le_bytes_8}
 use mir.Val.{SFits}
 use Rattle.vx_model.specs.declared.ptype.PType.{PType}
 use Rattle.vx_model.specs.declared.ptype.PType.TheVariants.{U8, U16, U32, U64, I8, I16, I32, I64}
 use Rattle.vx_model.specs.Numbers.{ptype_bytes, is_between, int_fits}
 use Rattle.vx_model.specs.CellData.{int_bytes}
-use Rattle.vx_cell_codec.specs.Reading.{front_at, int_from, int_at}
-use Rattle.vx_cell_codec.proofs.FieldLaws.{IsBytes, bind_some, some_is, Takes, Reads, front_takes, front_again}
-
--- ---- bytes of natural numbers
-
-record IsWide (w : Width) (limit : ℕ) : Type 0 where
-  back : (s : List ℕ) → length s ≡ byte_len w → IsBytes s → to_le_bytes w (from_le_bytes w s) ≡ s
-  again : (n : ℕ) → n < limit → from_le_bytes w (to_le_bytes w n) ≡ n
-  below : (s : List ℕ) → IsBytes s → from_le_bytes w s < limit
-
-byte_back : (s : List ℕ) → length s ≡ 1 → IsBytes s → to_le_bytes w8 (from_le_bytes w8 s) ≡ s
-byte_back [] e fits = absurd (omega (arith, e))
-byte_back (b ∷ []) e fits = ap (λ (x : ℕ). x ∷ []) (omega (arith, fits 0))
-byte_back (a ∷ b ∷ s) e fits = absurd (omega (arith, e))
-
-byte_again : (n : ℕ) → n < 2 ^ 8 → from_le_bytes w8 (to_le_bytes w8 n) ≡ n
-byte_again n lt = omega (arith, lt)
-
-wide8 : IsWide w8 (2 ^ 8)
-wide8 = record { back = byte_back; again = byte_again; below = λ s fits. omega (arith, fits 0) }
-
-wide16 : IsWide w16 (2 ^ 16)
-wide16 = record { back = λ s len fits. le_bytes_2 s _ len fits refl; again = λ n lt. from_le_bytes-to_le_bytes_2 n lt; below = λ s fits. omega (arith, fits 0, fits 1) }
-
-wide32 : IsWide w32 (2 ^ 32)
-wide32 = record { back = λ s len fits. le_bytes_4 s _ len fits refl; again = λ n lt. from_le_bytes-to_le_bytes_4 n lt; below = λ s fits. omega (arith, fits 0, fits 1, fits 2, fits 3) }
-
-wide64 : IsWide w64 (2 ^ 64)
-wide64 = record { back = λ s len fits. le_bytes_8 s _ len fits refl; again = λ n lt. from_le_bytes-to_le_bytes_8 n lt; below = λ s fits. omega (arith, fits 0, fits 1, fits 2, fits 3, fits 4, fits 5, fits 6, fits 7) }
+use Rattle.vx_byte_reader.specs.Fields.{front_at}
+use Rattle.vx_byte_reader.proofs.FieldLaws.{IsBytes, bind_some, some_is, Takes, Reads, front_takes, front_again, IsWide, wide8, wide16, wide32, wide64}
+use Rattle.vx_cell_codec.specs.Reading.{int_from, int_at}
 
 -- ---- each integer type
 

@@ -3,7 +3,8 @@ use Rattle.std.specs.Prelude.{◌≡◌, ℕ, suc, ◌^◌, ◌<◌, ◌&&◌, �
 use Rattle.std.specs.List.{AllByRecursion}
 use Rattle.vx_model.specs.Words.{joined_by}
 use Rattle.vx_model.specs.CellData.{bit, u64_bytes}
-use Rattle.vx_cell_codec.specs.Reading.{◌>>=◌, number_at, flag_at, many_at}
+use Rattle.vx_byte_reader.specs.Fields.{◌>>=◌, flag_at, many_at}
+use Rattle.vx_cell_codec.specs.Reading.{number_at}
 
 -- none is below the one before it
 abbrev pub ascend : List ℕ → Bool

@@ -1,33 +1,18 @@
 -- Reading cells from left to right. A reader gives a value and the bytes behind it, or nothing where there is none.
-use Rattle.std.specs.Prelude.{ℕ, zero, suc, Bool, true, false, if◌then◌else◌, List, [], ◌∷◌, length, take, drop, Option, Some, None, option_and_then, nat_lt, ◌==◌, ℤ, pos}
+use Rattle.std.specs.Prelude.{ℕ, Bool, true, if◌then◌else◌, List, [], ◌∷◌, length, Option, Some, None, ◌==◌, ℤ, pos}
 use Rattle.std.specs.Int.{w8, w16, w32, w64, from_le_bytes, cast_signed}
 use Rattle.std.specs.Str.{is_utf8}
+use Rattle.vx_byte_reader.specs.Fields as fields
+use Rattle.vx_byte_reader.specs.Fields.{◌>>=◌, front_at, flag_at, many_at}
 use Rattle.vx_model.specs.declared.ptype.PType.{PType}
 use Rattle.vx_model.specs.declared.ptype.PType.TheVariants.{U8, U16, U32, U64, I8, I16, I32, I64}
 use Rattle.vx_model.specs.Numbers.{ptype_bytes}
 use Rattle.vx_model.specs.Ty.{Ty, Tys, boolean, primitive, utf8, binary, list, struct, extension, no_fields, field}
 use Rattle.vx_model.specs.CellData.{CellData, null_cell, bool_cell, int_cell, text_cell, bytes_cell, list_cell, struct_cell, trees_of, flag_fits}
 
-infixl 10 ◌>>=◌
-abbrev pub ◌>>=◌ : {A B : Type 0} → Option A → (A → Option B) → Option B
-o >>= f = option_and_then f o
-
--- the first n bytes
-unfoldable pub front_at : ℕ → List ℕ → Option (List ℕ × List ℕ)
-front_at n bytes = if nat_lt (length bytes) n then None else Some (take n bytes, drop n bytes)
-
--- 0 or 1
-abbrev pub flag_at : List ℕ → Option (Bool × List ℕ)
-flag_at [] = None
-flag_at (zero ∷ rest) = Some (false, rest)
-flag_at (suc zero ∷ rest) = Some (true, rest)
-flag_at (suc (suc b) ∷ rest) = None
-
 -- a length or a count
-unfoldable pub number_at : List ℕ → Option (ℕ × List ℕ)
-number_at bytes = do
-  front ← front_at 8 bytes
-  Some (from_le_bytes w64 front.0, front.1)
+abbrev pub number_at : List ℕ → Option (ℕ × List ℕ)
+number_at = fields.number_at w64
 
 -- a length, and that many bytes
 unfoldable pub blob_at : List ℕ → Option (List ℕ × List ℕ)
@@ -56,14 +41,6 @@ unfoldable pub int_at : PType → List ℕ → Option (ℤ × List ℕ)
 int_at p bytes = do
   front ← front_at (ptype_bytes p) bytes
   Some (int_from p front.0, front.1)
-
--- so many values, one after the other
-unfoldable pub many_at : {A : Type 0} → (List ℕ → Option (A × List ℕ)) → ℕ → List ℕ → Option (List A × List ℕ)
-many_at read zero bytes = Some ([], bytes)
-many_at read (suc n) bytes = do
-  first ← read bytes
-  others ← many_at read n first.1
-  Some (first.0 ∷ others.0, others.1)
 
 -- ---- cells
 

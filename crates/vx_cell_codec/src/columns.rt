@@ -1,7 +1,8 @@
 //! Offsets and flags of rows.
 
 ghost use Rattle.std.specs.Prelude.{◌≡◌, List, Bool, suc, IfOk, Some, ℕ};
-ghost use Rattle.vx_cell_codec.specs.Reading.{number_at as one_number, flag_at as one_flag, many_at};
+ghost use Rattle.vx_byte_reader.specs.Fields.{flag_at as one_flag, many_at};
+ghost use Rattle.vx_cell_codec.specs.Reading.{number_at as one_number};
 ghost use Rattle.vx_cell_codec.specs.Columns.{ascend as ascending, offsets_at, flags_at, AreOffsets, AreFlags};
 ghost use Rattle.vx_cell_codec.specs.Views.{Gives};
 

@@ -1,32 +1,32 @@
 //! Fields of cells: flags, numbers, integers, texts. Each reader returns a value and the bytes behind it.
 
-ghost use Rattle.std.specs.Prelude.{◌≡◌, ◌&&◌, length};
+ghost use Rattle.std.specs.Prelude.{◌≡◌, length, IfOk};
 ghost use Rattle.vx_model.specs.Numbers.{ptype_bytes};
-ghost use Rattle.vx_cell_codec.specs.Reading.{front_at as first_bytes, flag_at as one_flag, number_at as one_number, blob_at as one_blob, text_at as one_text, int_from as int_in, int_at as one_int, valid_at as one_valid};
+ghost use Rattle.vx_byte_reader.specs.Fields.{front_at as first_bytes, flag_at as one_flag};
+ghost use Rattle.vx_cell_codec.specs.Reading.{number_at as one_number, blob_at as one_blob, text_at as one_text, int_from as int_in, int_at as one_int, valid_at as one_valid};
 ghost use Rattle.vx_cell_codec.specs.Views.{Gives};
 
 use crate::error::CellError;
 use std::alloc::Global;
+use vx_byte_reader::{front_at, u64_at};
 use vx_model::{Blob, PType, Text};
 
-#[tactic(auto, unfolding(crate::specs::Reading::front_at))]
-fn front_at(n: u64, bytes: &[u8]) -> Result<(&[u8], &[u8]), CellError>
-    ensures { Gives (λ x. (x.0.now, x.1.now)) result (first_bytes n bytes.now) }
+fn slice_of(n: u64, bytes: &[u8]) -> Result<(&[u8], &[u8]), CellError>
+    ensures front { Gives (λ x. (x.0.now, x.1.now)) result (first_bytes n bytes.now) }
+    ensures count { IfOk result (λ x. length x.0.now ≡ n) }
 {
-    if (bytes.len() as u64) < n {
-        return Err(CellError::NoCells);
+    match front_at(n, bytes) {
+        Some(field) => Ok(field),
+        None => Err(CellError::NoCells),
     }
-    Ok(bytes.split_at(n as usize))
 }
 
 pub(crate) fn flag_at(bytes: &[u8]) -> Result<(bool, &[u8]), CellError>
     ensures { Gives (λ x. (x.0, x.1.now)) result (one_flag bytes.now) }
 {
-    match bytes {
-        [] => Err(CellError::NoCells),
-        [0, rest @ ..] => Ok((false, rest)),
-        [1, rest @ ..] => Ok((true, rest)),
-        [_, ..] => Err(CellError::NoCells),
+    match vx_byte_reader::flag_at(bytes) {
+        Some(field) => Ok(field),
+        None => Err(CellError::NoCells),
     }
 }
 
@@ -42,18 +42,13 @@ pub(crate) fn valid_at(nullable: bool, bytes: &[u8]) -> Result<(bool, &[u8]), Ce
 }
 
 /// A length or a count.
-#[tactic(auto, unfolding(crate::specs::Reading::number_at, crate::specs::Reading::front_at))]
 pub(crate) fn number_at(bytes: &[u8]) -> Result<(u64, &[u8]), CellError>
     ensures { Gives (λ x. (x.0, x.1.now)) result (one_number bytes.now) }
 {
-    if bytes.len() < 8 {
-        return Err(CellError::NoCells);
+    match u64_at(bytes) {
+        Some(field) => Ok(field),
+        None => Err(CellError::NoCells),
     }
-    let (front, rest) = bytes.split_at(8);
-    let number = u64::from_le_bytes([
-        front[0], front[1], front[2], front[3], front[4], front[5], front[6], front[7],
-    ]);
-    Ok((number, rest))
 }
 
 #[tactic(auto, unfolding(crate::specs::Reading::blob_at))]
@@ -61,7 +56,7 @@ fn slice_at(bytes: &[u8]) -> Result<(&[u8], &[u8]), CellError>
     ensures { Gives (λ x. (x.0.now, x.1.now)) result (one_blob bytes.now) }
 {
     let (length, rest) = number_at(bytes)?;
-    front_at(length, rest)
+    slice_of(length, rest)
 }
 
 pub(crate) fn blob_at(alloc: Global, bytes: &[u8]) -> Result<(Blob, &[u8]), CellError>
@@ -98,14 +93,10 @@ fn int_from(ptype: PType, s: &[u8]) -> i128
     }
 }
 
-#[tactic(auto, unfolding(crate::specs::Reading::int_at, crate::specs::Reading::front_at))]
+#[tactic(auto, unfolding(crate::specs::Reading::int_at))]
 pub(crate) fn int_at(ptype: PType, bytes: &[u8]) -> Result<(i128, &[u8]), CellError>
     ensures { Gives (λ x. (x.0, x.1.now)) result (one_int ptype bytes.now) }
 {
-    let width = ptype.byte_width() as usize;
-    if bytes.len() < width {
-        return Err(CellError::NoCells);
-    }
-    let (front, rest) = bytes.split_at(width);
+    let (front, rest) = slice_of(ptype.byte_width(), bytes)?;
     Ok((int_from(ptype, front), rest))
 }

@@ -1,12 +1,13 @@
 //! Reading cells.
 
-ghost use Rattle.std.specs.Prelude.{◌≡◌, ◌≤◌, ◌∷◌, [], List, length, map, IfOk, Some};
+ghost use Rattle.std.specs.Prelude.{◌≤◌, ◌∷◌, [], List, length, map, IfOk, Some};
 ghost use Rattle.vx_model.specs.Numbers.{is_nullable};
 ghost use Rattle.vx_model.specs.Ty.{tys_of};
 ghost use Rattle.vx_model.specs.TyView.{ty, field_ty};
-ghost use Rattle.vx_model.specs.CellData.{CellData, null_cell, bool_cell, int_cell, text_cell, bytes_cell};
+ghost use Rattle.vx_model.specs.CellData.{CellData, bool_cell, int_cell, text_cell, bytes_cell};
 ghost use Rattle.vx_model.specs.TreeView.{tree};
-ghost use Rattle.vx_cell_codec.specs.Reading.{flag_at as one_flag, int_at as one_int, text_at as one_text, blob_at as one_blob, many_at, leaf_at, cell_at, fields_at, cells_at, only_cell_at};
+ghost use Rattle.vx_byte_reader.specs.Fields.{flag_at as one_flag, many_at};
+ghost use Rattle.vx_cell_codec.specs.Reading.{int_at as one_int, text_at as one_text, blob_at as one_blob, leaf_at, cell_at, fields_at, cells_at, only_cell_at};
 ghost use Rattle.vx_cell_codec.specs.Filled.{AreFilled};
 ghost use Rattle.vx_cell_codec.specs.Views.{Gives};
 

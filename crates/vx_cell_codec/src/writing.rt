@@ -5,7 +5,7 @@ ghost use Rattle.vx_model.specs.Words.{all_by, joined_by};
 ghost use Rattle.vx_model.specs.Numbers.{is_nullable};
 ghost use Rattle.vx_model.specs.Ty.{tys_of};
 ghost use Rattle.vx_model.specs.TyView.{ty, field_ty};
-ghost use Rattle.vx_model.specs.CellData.{fits, fields_fit, primitive_fits, flag_bytes, bit, u64_bytes, int_bytes, bool_spelling, primitive_spelling, text_spelling, spelling, fields_spelling};
+ghost use Rattle.vx_model.specs.CellData.{fits, fields_fit, primitive_fits, flag_bytes, u64_bytes, int_bytes, bool_spelling, primitive_spelling, text_spelling, spelling, fields_spelling};
 ghost use Rattle.vx_model.specs.Numbers.{int_fits};
 ghost use Rattle.vx_model.specs.TreeView.{tree};
 

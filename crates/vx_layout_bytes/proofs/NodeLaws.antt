@@ -7,13 +7,16 @@ use Rattle.std.proofs.lemmas.Bool.{eqb-true}
 use Rattle.std.proofs.lemmas.List.{append-nil, nil_from_length}
 use Rattle.vx_model.specs.Words.{joined_by}
 use Rattle.vx_model.specs.CellData.{u64_bytes}
+use Rattle.vx_byte_reader.specs.Places.{◌>>=◌, many_at}
+use Rattle.vx_byte_reader.proofs.FieldLaws.{Takes, Takes-then, Takes-none}
+use Rattle.vx_byte_reader.proofs.PlaceLaws.{bind_ok, guard_ended, ok_is, Reads, many_takes, many_again}
 use Rattle.vx_layout_bytes.specs.declared.error.GrammarError.{GrammarError}
 use Rattle.vx_layout_bytes.specs.Node.{Own, Node, Nodes, node, no_nodes, first, number_of}
 use Rattle.vx_layout_bytes.specs.Values.{AreBytes, FitsOwn, Fits, AllFit, depth, depths, size, sizes, IsWithin}
 use Rattle.vx_layout_bytes.specs.Spelled.{u32_bytes, numbered, segment_bytes, own_bytes, spelling, spellings}
-use Rattle.vx_layout_bytes.specs.Reading.{bad_grammar, ◌>>=◌, number_at, bytes_at, many_at, numbered_at, segments_at, own_at, ReaderOf, many_nodes, none_at, node_with, node_at, root_at}
+use Rattle.vx_layout_bytes.specs.Reading.{bad_grammar, number_at, bytes_at, numbered_at, segments_at, own_at, ReaderOf, many_nodes, none_at, node_with, node_at, root_at}
 use Rattle.vx_layout_bytes.specs.Views.{Gives}
-use Rattle.vx_layout_bytes.proofs.FieldLaws.{bind_ok, guard_ended, ok_is, Takes, Takes-then, Takes-none, Reads, reads_u16, reads_u32, reads_u64, bytes_take, bytes_again, many_takes, many_again}
+use Rattle.vx_layout_bytes.proofs.FieldLaws.{reads_u16, reads_u32, reads_u64, bytes_take, bytes_again}
 
 -- ---- a node's own bytes
 

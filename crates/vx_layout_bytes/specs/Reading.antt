@@ -1,7 +1,9 @@
--- Reading bytes from left to right, with the first fault that is met. A fault names a place: `stop` is the place at
--- which the bytes that are read end, so what is left tells the place of a field.
-use Rattle.std.specs.Prelude.{ℕ, zero, suc, ◌-◌, List, [], ◌∷◌, length, take, drop, Result, Ok, Err, nat_lt, ◌==◌, if◌then◌else◌}
-use Rattle.std.specs.Int.{Width, w16, w32, w64, byte_len, from_le_bytes}
+-- Reading the bytes of a node, with the first fault that is met.
+use Rattle.std.specs.Prelude.{ℕ, zero, suc, ◌-◌, List, length, Result, Ok, Err, ◌==◌, if◌then◌else◌}
+use Rattle.std.specs.Int.{Width, w16, w32, w64}
+use Rattle.vx_byte_reader.specs.Fields as fields
+use Rattle.vx_byte_reader.specs.Fields.{front_at}
+use Rattle.vx_byte_reader.specs.Places.{◌>>=◌, field_at, many_at}
 use Rattle.vx_layout_bytes.specs.Node.{Own, Node, Nodes, node, no_nodes, first}
 
 pub data Fault : Type 0 where
@@ -12,27 +14,12 @@ pub data Fault : Type 0 where
   -- the node that starts here is one more than the limit
   too_many : ℕ → Fault
 
-infixl 10 ◌>>=◌
-abbrev pub ◌>>=◌ : {A B : Type 0} → Result A Fault → (A → Result B Fault) → Result B Fault
-(Ok x) >>= f = f x
-(Err e) >>= f = Err e
-
--- A field is a value and the bytes behind it. One that isn't whole is a fault at its start.
+-- a number; so many bytes
 abbrev pub number_at : Width → ℕ → List ℕ → Result (ℕ × List ℕ) Fault
-number_at w stop bytes =
-    if nat_lt (length bytes) (byte_len w) then Err (bad_grammar (stop - length bytes)) else Ok (from_le_bytes w (take (byte_len w) bytes), drop (byte_len w) bytes)
+number_at w = field_at bad_grammar (fields.number_at w)
 
--- so many bytes
 abbrev pub bytes_at : ℕ → ℕ → List ℕ → Result (List ℕ × List ℕ) Fault
-bytes_at n stop bytes = if nat_lt (length bytes) n then Err (bad_grammar (stop - length bytes)) else Ok (take n bytes, drop n bytes)
-
--- so many fields, one after the other
-unfoldable pub many_at : {A : Type 0} → (List ℕ → Result (A × List ℕ) Fault) → ℕ → List ℕ → Result (List A × List ℕ) Fault
-many_at read zero bytes = Ok ([], bytes)
-many_at read (suc n) bytes = do
-  one ← read bytes
-  others ← many_at read n one.1
-  Ok (one.0 ∷ others.0, others.1)
+bytes_at n = field_at bad_grammar (front_at n)
 
 -- bytes behind their number
 unfoldable pub numbered_at : ℕ → List ℕ → Result (List ℕ × List ℕ) Fault

@@ -2,7 +2,8 @@
 
 ghost use Rattle.std.specs.Prelude.{◌≡◌, ◌-◌, length};
 ghost use Rattle.std.specs.Int.{w16, w32, w64};
-ghost use Rattle.vx_layout_bytes.specs.Reading.{number_at, bytes_at, many_at, numbered_at as numbered_bytes, segments_at as listed_segments};
+ghost use Rattle.vx_byte_reader.specs.Places.{many_at};
+ghost use Rattle.vx_layout_bytes.specs.Reading.{number_at, bytes_at, numbered_at as numbered_bytes, segments_at as listed_segments};
 ghost use Rattle.vx_layout_bytes.specs.Views.{Gives};
 
 use crate::error::GrammarError;
@@ -16,6 +17,7 @@ pub(crate) fn place_of(stop: u64, rest: &Bytes) -> u64
     stop.saturating_sub(rest.len() as u64)
 }
 
+#[tactic(auto, unfolding(vx_byte_reader::specs::Fields::number_at, vx_byte_reader::specs::Fields::front_at))]
 pub(crate) fn u16_at(stop: u64, bytes: &mut Bytes) -> Result<u16, GrammarError>
     ensures { Gives (λ n. (n, bytes.new)) result (number_at w16 stop bytes.old) }
 {
@@ -25,6 +27,7 @@ pub(crate) fn u16_at(stop: u64, bytes: &mut Bytes) -> Result<u16, GrammarError>
     }
 }
 
+#[tactic(auto, unfolding(vx_byte_reader::specs::Fields::number_at, vx_byte_reader::specs::Fields::front_at))]
 fn u32_at(stop: u64, bytes: &mut Bytes) -> Result<u32, GrammarError>
     ensures { Gives (λ n. (n, bytes.new)) result (number_at w32 stop bytes.old) }
 {
@@ -34,6 +37,7 @@ fn u32_at(stop: u64, bytes: &mut Bytes) -> Result<u32, GrammarError>
     }
 }
 
+#[tactic(auto, unfolding(vx_byte_reader::specs::Fields::number_at, vx_byte_reader::specs::Fields::front_at))]
 pub(crate) fn u64_at(stop: u64, bytes: &mut Bytes) -> Result<u64, GrammarError>
     ensures { Gives (λ n. (n, bytes.new)) result (number_at w64 stop bytes.old) }
 {
@@ -44,6 +48,7 @@ pub(crate) fn u64_at(stop: u64, bytes: &mut Bytes) -> Result<u64, GrammarError>
 }
 
 /// So many bytes, as a part of the same memory.
+#[tactic(auto, unfolding(vx_byte_reader::specs::Fields::front_at))]
 fn part_at(stop: u64, n: u64, bytes: &mut Bytes) -> Result<Bytes, GrammarError>
     ensures { Gives (λ part. (part, bytes.new)) result (bytes_at n stop bytes.old) }
 {

@@ -1,10 +1,8 @@
 -- Metadata of a dictionary and of a list: what is read has these bytes, and what has these bytes is read.
-use Rattle.std.proofs.Common.{◌≡◌, ℕ, zero, suc, Bool, true, false, List, [], ◌∷◌, Option, Some, None, refl, sym, ap, subst, ◌∙◌}
-use Rattle.vx_model.specs.declared.ptype.PType.{PType}
-use Rattle.vx_model.specs.Numbers.{ptype_number}
+use Rattle.std.proofs.Common.{◌≡◌, ℕ, zero, suc, Bool, true, false, List, [], ◌∷◌, Some, refl, sym, ap, subst}
 use Rattle.vx_model.specs.CellData.{bit}
-use Rattle.vx_cell_codec.specs.Reading.{◌>>=◌}
-use Rattle.vx_cell_codec.proofs.FieldLaws.{bind_some, some_is}
+use Rattle.vx_byte_reader.specs.Fields.{◌>>=◌}
+use Rattle.vx_byte_reader.proofs.FieldLaws.{bind_some, some_is}
 use Rattle.vx_metadata.specs.declared.dict.DictLayoutMetadata.{DictLayoutMetadata}
 use Rattle.vx_metadata.specs.declared.list.ListLayoutMetadata.{ListLayoutMetadata}
 use Rattle.vx_metadata.specs.Spelled.{dict_bytes, list_bytes}

@@ -1,15 +1,14 @@
 -- Metadata of zoned layouts: what is read is spelled so, and what is spelled so is read.
-use Rattle.std.proofs.Common.{◌≡◌, ℕ, zero, suc, ◌^◌, ◌<◌, ◌&&◌, Bool, true, false, cond, eqb, ltb, List, [], ◌∷◌, ◌++◌, length, Option, Some, None, refl, sym, ap, subst, ◌∙◌, append_assoc, arith, IsTrue}
-use Rattle.std.specs.Int.{w32, to_le_bytes, from_le_bytes}
+use Rattle.std.proofs.Common.{◌≡◌, ℕ, zero, suc, ◌^◌, ◌<◌, cond, eqb, ltb, List, [], ◌∷◌, ◌++◌, length, Some, None, refl, sym, ap, subst, ◌∙◌, append_assoc, IsTrue}
+use Rattle.std.specs.Int.{w32, to_le_bytes}
 use Rattle.std.specs.Str.{is_utf8}
 use Rattle.std.proofs.lemmas.Bool.{ltb-true, lt-ltb, eqb-true}
 use Rattle.std.proofs.lemmas.List.{append-nil, nil_from_length}
-use Rattle.std.proofs.lemmas.Nat.{le_bytes_4, from_le_bytes-to_le_bytes_4}
 use Rattle.vx_model.specs.Words.{joined_by, all_by}
 use Rattle.vx_layout_spec.specs.LayoutTree.{Spec}
-use Rattle.vx_cell_codec.specs.Reading.{◌>>=◌, front_at, many_at}
-use Rattle.vx_cell_codec.proofs.FieldLaws.{IsBytes, bind_some, guard_some, some_is, both_true, halves, Takes, Takes-then, Reads, front_takes, front_again, Each, many_takes, many_again}
-use Rattle.vx_metadata.specs.Values.{Zoned, is_short_spec, is_short, has_text_id, IsZoned}
+use Rattle.vx_byte_reader.specs.Fields.{◌>>=◌, front_at, many_at}
+use Rattle.vx_byte_reader.proofs.FieldLaws.{IsBytes, bind_some, guard_some, some_is, both_true, halves, Takes, Takes-then, Reads, front_takes, front_again, reads_u32, Each, many_takes, many_again}
+use Rattle.vx_metadata.specs.Values.{Zoned, is_short_spec, has_text_id, IsZoned}
 use Rattle.vx_metadata.specs.Spelled.{counted, spec_bytes, zoned_bytes}
 use Rattle.vx_metadata.specs.Reading.{count_at, string_at, name_at, spec_at, zoned_body, zoned_in}
 
@@ -20,19 +19,7 @@ abbrev IsCount : ℕ → Type 0
 IsCount n = n < 2 ^ 32
 
 reads_count : Reads count_at u32_bytes IsCount
-unfolding count_at
-reads_count = record { takes = takes; again = again }
-  where
-    takes : (bytes : List ℕ) (n : ℕ) (rest : List ℕ) → IsBytes bytes → count_at bytes ≡ Some (n, rest) → Takes bytes (u32_bytes n) rest × IsCount n
-    takes bytes n rest fits e =
-        let a = bind_some (front_at 4 bytes) (λ front. Some (from_le_bytes w32 front.0, front.1)) (n, rest) e in
-        let t = front_takes 4 bytes a.0.0 a.0.1 fits a.1 in
-        let same : u32_bytes (from_le_bytes w32 a.0.0) ≡ a.0.0 = le_bytes_4 a.0.0 _ t.1 t.2 refl in
-        let below : from_le_bytes w32 a.0.0 < 2 ^ 32 = omega (arith, t.2 0, t.2 1, t.2 2, t.2 3) in
-        subst (λ (p : ℕ × List ℕ). Takes bytes (u32_bytes p.0) p.1 × IsCount p.0) (some_is (from_le_bytes w32 a.0.0, a.0.1) (n, rest) a.2) (subst (λ (s : List ℕ). Takes bytes s a.0.1) (sym same) t.0, below)
-
-    again : (n : ℕ) (rest : List ℕ) → IsCount n → count_at (u32_bytes n ++ rest) ≡ Some (n, rest)
-    again n rest small = rw (front_again 4 (u32_bytes n) rest refl) (ap (λ (k : ℕ). Some (k, rest)) (from_le_bytes-to_le_bytes_4 n small))
+reads_count = reads_u32
 
 abbrev IsString : List ℕ → Type 0
 IsString s = IsTrue (ltb (length s) (2 ^ 32))

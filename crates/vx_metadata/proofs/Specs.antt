@@ -1,12 +1,12 @@
 -- Specs one after the other.
-use Rattle.std.proofs.Common.{◌≡◌, ℕ, suc, ◌+◌, ◌-◌, ◌<◌, ◌^◌, ◌&&◌, Bool, true, false, List, ◌++◌, length, get_or, drop, map, Option, Some, None, refl, sym, ◌∙◌, append_assoc, arith}
+use Rattle.std.proofs.Common.{◌≡◌, ℕ, ◌+◌, ◌-◌, ◌<◌, ◌^◌, ◌&&◌, Bool, true, false, List, ◌++◌, length, get_or, drop, map, Option, Some, None, refl, append_assoc}
 use Rattle.std.specs.Prelude.{IsTrue}
 use Rattle.std.specs.Str.{IsUtf8, is_utf8}
 use Rattle.std.proofs.lemmas.Str.{IsUtf8-from_is_utf8, is_utf8-from_IsUtf8}
 use Rattle.std.proofs.lemmas.List.{append-nil, drop_more, drop_all}
 use Rattle.vx_model.specs.Words.{joined_by, all_by}
-use Rattle.vx_cell_codec.specs.Reading.{many_at}
-use Rattle.vx_cell_codec.proofs.Loops.{with_front}
+use Rattle.vx_byte_reader.specs.Fields.{many_at}
+use Rattle.vx_byte_reader.proofs.FieldLoops.{with_front, many_stops}
 use Rattle.vx_metadata.specs.declared.zoned.AggregateSpec.{AggregateSpec}
 use Rattle.vx_metadata.specs.declared.read_error.ReadError.{ReadError}
 use Rattle.vx_metadata.specs.declared.read_error.ReadError.TheVariants as errors
@@ -53,14 +53,6 @@ name_read bytes s rest e h = rw (e, is_utf8-from_IsUtf8 s h) refl
 stops_with : {A B : Type 0} (e : ReadError) (r : Option A) (total : Option B) → (r ≡ None → total ≡ None) → Stops e r → Stops e total
 stops_with errors.NotSpelled r total carry h = carry h
 stops_with errors.OutOfMemory r total carry h = tt
-
-many_stops : {A : Type 0} (read : List ℕ → Option (A × List ℕ)) (front : List A) (count i : ℕ) (bytes : List ℕ) (total : Option (List A × List ℕ)) → i < count → read bytes ≡ None
-    → with_front front (many_at read (count - i) bytes) ≡ total → total ≡ None
-unfolding many_at
-many_stops read front count i bytes total lt h so_far =
-    let k : count - i ≡ suc (count - (i + 1)) = omega arith in
-    let one : with_front front (many_at read (count - i) bytes) ≡ None = rw (k, h) refl in
-    sym so_far ∙ one
 
 pub many_ends : {A : Type 0} (e : ReadError) (read : List ℕ → Option (A × List ℕ)) (front : List A) (count i : ℕ) (bytes : List ℕ) (total : Option (List A × List ℕ)) → i < count → Stops e (read bytes)
     → with_front front (many_at read (count - i) bytes) ≡ total → Stops e total

@@ -1,8 +1,8 @@
 -- Statistics and their bits: lists in order are told by five flags.
-use Rattle.std.proofs.Common.{◌≡◌, ℕ, zero, suc, ◌+◌, ◌-◌, ◌*◌, ◌/◌, ◌%◌, ◌^◌, ◌<◌, ◌≤◌, ◌==◌, ◌&&◌, Bool, true, false, cond, ltb, List, [], ◌∷◌, ◌++◌, length, get_or, drop, Option, Some, None, refl, sym, ap, subst, ◌∙◌, IsTrue, append_assoc, arith}
+use Rattle.std.proofs.Common.{◌≡◌, ℕ, zero, suc, ◌+◌, ◌-◌, ◌*◌, ◌/◌, ◌%◌, ◌^◌, ◌<◌, ◌≤◌, ◌==◌, ◌&&◌, Bool, true, false, cond, ltb, List, [], ◌∷◌, ◌++◌, length, get_or, drop, Some, refl, sym, ap, subst, ◌∙◌, IsTrue, append_assoc, arith}
 use Rattle.std.specs.Prelude.{nat_lt}
 use Rattle.std.specs.Int.{w32, to_le_bytes, from_le_bytes}
-use Rattle.std.proofs.lemmas.Bool.{ltb-true, lt-ltb}
+use Rattle.std.proofs.lemmas.Bool.{ltb-true}
 use Rattle.std.proofs.lemmas.Grind.{common_steps}
 use Rattle.std.proofs.lemmas.Bool.Decides.{nat_tests}
 use Rattle.std.proofs.lemmas.List.{append-nil, drop_more, drop_all, length-drop}
@@ -12,10 +12,10 @@ use Rattle.vx_model.specs.CellData.{bit}
 use Rattle.vx_aggregate.specs.declared.stat.Stat.{Stat}
 use Rattle.vx_aggregate.specs.declared.stat.Stat.TheVariants.{Max, Min, Sum, NullCount, UncompressedSizeInBytes}
 use Rattle.vx_aggregate.specs.Stats.{stat_number}
-use Rattle.vx_cell_codec.proofs.FieldLaws.{IsBytes, guard_some, halves, some_is}
+use Rattle.vx_byte_reader.proofs.FieldLaws.{IsBytes, guard_some, halves}
 use Rattle.vx_metadata.specs.Values.{are_in_order}
 use Rattle.vx_metadata.specs.Spelled.{stat_bit, legacy_bytes}
-use Rattle.vx_metadata.specs.Reading.{held, stats_in, legacy_in}
+use Rattle.vx_metadata.specs.Reading.{stats_in, legacy_in}
 
 -- ---- five flags
 

@@ -6,7 +6,7 @@ use Rattle.vx_model.specs.declared.ptype.PType.{PType}
 use Rattle.vx_model.specs.declared.ptype.PType.TheVariants.{U8, U16, U32, U64, I8, I16, I32, I64}
 use Rattle.vx_model.specs.Words.{joined_by}
 use Rattle.vx_layout_spec.specs.LayoutTree.{Spec}
-use Rattle.vx_cell_codec.specs.Reading.{◌>>=◌, front_at, many_at}
+use Rattle.vx_byte_reader.specs.Fields.{◌>>=◌, front_at, number_at, many_at}
 use Rattle.vx_aggregate.specs.declared.stat.Stat.{Stat}
 use Rattle.vx_metadata.specs.declared.dict.DictLayoutMetadata.{DictLayoutMetadata}
 use Rattle.vx_metadata.specs.declared.list.ListLayoutMetadata.{ListLayoutMetadata}
@@ -47,10 +47,8 @@ list_in bytes = None
 -- ---- zoned
 
 -- a length or a count
-unfoldable pub count_at : List ℕ → Option (ℕ × List ℕ)
-count_at bytes = do
-  front ← front_at 4 bytes
-  Some (from_le_bytes w32 front.0, front.1)
+abbrev pub count_at : List ℕ → Option (ℕ × List ℕ)
+count_at = number_at w32
 
 -- a length, and that many bytes
 unfoldable pub string_at : List ℕ → Option (List ℕ × List ℕ)

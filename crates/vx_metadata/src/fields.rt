@@ -1,12 +1,13 @@
 //! Fields of metadata. Each reader returns a value and the bytes behind it.
 
 ghost use Rattle.std.specs.Prelude.{◌≡◌};
-ghost use Rattle.vx_cell_codec.specs.Reading.{front_at as first_bytes};
+ghost use Rattle.vx_byte_reader.specs.Fields.{front_at as first_bytes};
 ghost use Rattle.vx_metadata.specs.Reading.{ptype_in, flag_in, count_at as one_count, string_at as one_string, name_at as one_name};
 ghost use Rattle.vx_metadata.specs.Views.{Reads};
 
 use crate::read_error::ReadError;
 use std::alloc::Global;
+use vx_byte_reader::{front_at, u32_at};
 use vx_model::{Blob, PType, Text};
 
 /// The integer type whose number the byte is.
@@ -28,29 +29,23 @@ pub(crate) fn flag_of(byte: u8) -> Option<bool>
     }
 }
 
-#[tactic(auto, unfolding(vx_cell_codec::specs::Reading::front_at))]
-fn front_at(n: u32, bytes: &[u8]) -> Result<(&[u8], &[u8]), ReadError>
+fn slice_of(n: u32, bytes: &[u8]) -> Result<(&[u8], &[u8]), ReadError>
     ensures { Reads (λ x. (x.0.now, x.1.now)) result (first_bytes n bytes.now) }
 {
-    if (bytes.len() as u64) < n as u64 {
-        return Err(ReadError::NotSpelled);
+    match front_at(n as u64, bytes) {
+        Some(field) => Ok(field),
+        None => Err(ReadError::NotSpelled),
     }
-    Ok(bytes.split_at(n as usize))
 }
 
 /// A length or a count.
-#[tactic(auto, unfolding(crate::specs::Reading::count_at, vx_cell_codec::specs::Reading::front_at))]
 pub(crate) fn count_at(bytes: &[u8]) -> Result<(u32, &[u8]), ReadError>
     ensures { Reads (λ x. (x.0, x.1.now)) result (one_count bytes.now) }
 {
-    if bytes.len() < 4 {
-        return Err(ReadError::NotSpelled);
+    match u32_at(bytes) {
+        Some(field) => Ok(field),
+        None => Err(ReadError::NotSpelled),
     }
-    let (front, rest) = bytes.split_at(4);
-    Ok((
-        u32::from_le_bytes([front[0], front[1], front[2], front[3]]),
-        rest,
-    ))
 }
 
 #[tactic(auto, unfolding(crate::specs::Reading::string_at))]
@@ -58,7 +53,7 @@ fn slice_at(bytes: &[u8]) -> Result<(&[u8], &[u8]), ReadError>
     ensures { Reads (λ x. (x.0.now, x.1.now)) result (one_string bytes.now) }
 {
     let (length, rest) = count_at(bytes)?;
-    front_at(length, rest)
+    slice_of(length, rest)
 }
 
 pub(crate) fn blob_at(alloc: Global, bytes: &[u8]) -> Result<(Blob, &[u8]), ReadError>

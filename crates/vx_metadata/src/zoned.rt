@@ -2,7 +2,7 @@
 
 ghost use Rattle.std.specs.Prelude.{◌≡◌, ◌++◌, ◌<◌, ◌^◌, length, map, IsTrue, IfOk, OnOk};
 ghost use Rattle.vx_model.specs.Words.{joined_by, all_by};
-ghost use Rattle.vx_cell_codec.specs.Reading.{many_at};
+ghost use Rattle.vx_byte_reader.specs.Fields.{many_at};
 ghost use Rattle.vx_metadata.specs.Spelled.{counted, spec_bytes};
 ghost use Rattle.vx_metadata.specs.Values.{is_short_spec, has_text_id};
 ghost use Rattle.vx_metadata.specs.Reading.{spec_at as one_spec, zoned_body, zoned_in};

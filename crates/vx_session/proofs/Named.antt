@@ -6,6 +6,7 @@ use Rattle.std.specs.Cmp.Lexicographic.{bytes_decides}
 use Rattle.std.proofs.lemmas.Nat.{le_bytes_4}
 use Rattle.std.proofs.lemmas.List.{append-nil}
 use Rattle.std.proofs.lemmas.Bool.Decides.{nat_tests}
+use Rattle.std.proofs.lemmas.Bool.{and_from}
 use Rattle.vx_layout_spec.specs.LayoutTree.{Spec}
 use Rattle.vx_aggregate_spec.specs.Aggregate.{Aggregate, aggregate_id, option_bytes, maximum, minimum, bounded_maximum, bounded_minimum, null_count, sum, bloom, has_options, without_options, with_number, aggregate_of}
 use Rattle.vx_aggregate_spec.proofs.SpecLaws.{specs_are_read}
@@ -22,7 +23,7 @@ spec_named id options = record { id = id; options = options }
 
 -- ---- an aggregate of the id
 
-known : (a : Aggregate) → names_aggregate (aggregate_id a) ≡ true
+pub known : (a : Aggregate) → names_aggregate (aggregate_id a) ≡ true
 known maximum = refl
 known minimum = refl
 known (bounded_maximum n) = refl
@@ -75,10 +76,6 @@ three true true false e = absurd (cc e)
 three true false c e = absurd (cc e)
 three false b c e = absurd (cc e)
 
-both : (a b : Bool) → a ≡ true → b ≡ true → (a && b) ≡ true
-both true b e f = f
-both false b e f = absurd (cc e)
-
 abbrev four : List ℕ → ℕ
 four bytes = from_le_bytes w32 (take 4 bytes)
 
@@ -121,7 +118,7 @@ numbered f a rest s is few e r =
     rw (← p.1) (
       is.id (four s.options) ∙ same_id (aggregate_id (f 1)) s.id e,
       is.bytes (four s.options) ∙ ap (λ r. to_le_bytes w32 (four s.options) ++ r) (sym behind) ∙ four_back s.options few long,
-      is.range (four s.options) ∙ both (nat_lt 0 (four s.options)) (nat_lt (four s.options) (2 ^ 32)) t.2 low,
+      is.range (four s.options) ∙ and_from (nat_lt 0 (four s.options)) (nat_lt (four s.options) (2 ^ 32)) t.2 low,
     )
 
 none_behind : (xs : List ℕ) → xs ≡ xs ++ []

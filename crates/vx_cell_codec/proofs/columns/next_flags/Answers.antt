@@ -1,6 +1,7 @@
 use Rattle.std.proofs.lemmas.Result.{err_from_is_err_and}
-use Rattle.vx_cell_codec.specs.Reading.{flag_at, many_at}
-use Rattle.vx_cell_codec.proofs.Loops.{many_goes_on, many_ends, many_done}
+use Rattle.vx_byte_reader.specs.Fields.{flag_at, many_at}
+use Rattle.vx_byte_reader.proofs.FieldLoops.{many_goes_on, many_done}
+use Rattle.vx_cell_codec.proofs.Loops.{many_ends}
 use Rattle.vx_cell_codec.proofs.columns.next_flags.Goals as goal
 
 pub returns-in_err-flag : goal.returns-in_err-flag

@@ -1,6 +1,6 @@
 use Rattle.std.proofs.Common.{◌≡◌, ◌-◌}
-use Rattle.vx_cell_codec.specs.Reading.{flag_at, many_at}
-use Rattle.vx_cell_codec.proofs.Loops.{with_front}
+use Rattle.vx_byte_reader.specs.Fields.{flag_at, many_at}
+use Rattle.vx_byte_reader.proofs.FieldLoops.{with_front}
 use Rattle.vx_cell_codec.proofs.columns.next_flags.Given as goal
 
 abbrev pub invariant-loop : goal.invariant-loop

@@ -1,7 +1,9 @@
 use Rattle.std.proofs.Common.{◌≡◌, ◌-◌, suc, arith}
 use Rattle.std.proofs.lemmas.Result.{err_from_is_err_and}
-use Rattle.vx_cell_codec.specs.Reading.{number_at, many_at}
-use Rattle.vx_cell_codec.proofs.Loops.{many_goes_on, many_ends, many_done}
+use Rattle.vx_byte_reader.specs.Fields.{many_at}
+use Rattle.vx_cell_codec.specs.Reading.{number_at}
+use Rattle.vx_byte_reader.proofs.FieldLoops.{many_goes_on, many_done}
+use Rattle.vx_cell_codec.proofs.Loops.{many_ends}
 use Rattle.vx_cell_codec.proofs.ColumnLaws.{first_of_many}
 use Rattle.vx_cell_codec.proofs.columns.next_offsets.Goals as goal
 

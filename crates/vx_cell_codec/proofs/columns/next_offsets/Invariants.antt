@@ -1,6 +1,7 @@
 use Rattle.std.proofs.Common.{◌≡◌, ◌-◌, suc}
-use Rattle.vx_cell_codec.specs.Reading.{number_at, many_at}
-use Rattle.vx_cell_codec.proofs.Loops.{with_front}
+use Rattle.vx_byte_reader.specs.Fields.{many_at}
+use Rattle.vx_cell_codec.specs.Reading.{number_at}
+use Rattle.vx_byte_reader.proofs.FieldLoops.{with_front}
 use Rattle.vx_cell_codec.proofs.columns.next_offsets.Given as goal
 
 abbrev pub invariant-loop : goal.invariant-loop

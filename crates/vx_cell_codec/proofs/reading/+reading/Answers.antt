@@ -4,8 +4,10 @@ use Rattle.std.proofs.lemmas.List.{map_push}
 use Rattle.vx_model.specs.Ty.{tys_of}
 use Rattle.vx_model.specs.TyView.{ty, field_ty}
 use Rattle.vx_model.specs.TreeView.{tree}
-use Rattle.vx_cell_codec.specs.Reading.{many_at, cell_at, fields_at}
-use Rattle.vx_cell_codec.proofs.Loops.{many_goes_on, many_ends, many_done, fields_go_on, fields_end, fields_done}
+use Rattle.vx_byte_reader.specs.Fields.{many_at}
+use Rattle.vx_cell_codec.specs.Reading.{cell_at, fields_at}
+use Rattle.vx_byte_reader.proofs.FieldLoops.{many_goes_on, many_done}
+use Rattle.vx_cell_codec.proofs.Loops.{many_ends, fields_go_on, fields_end, fields_done}
 use Rattle.vx_cell_codec.proofs.reading.+reading.Goals as goal
 
 pub next_cells-returns-in_err-cell : goal.next_cells-returns-in_err-cell

@@ -2,8 +2,10 @@ use Rattle.std.proofs.Common.{◌≡◌, ◌-◌, map}
 use Rattle.vx_model.specs.Ty.{tys_of}
 use Rattle.vx_model.specs.TyView.{ty, field_ty}
 use Rattle.vx_model.specs.TreeView.{tree}
-use Rattle.vx_cell_codec.specs.Reading.{many_at, cell_at, fields_at}
-use Rattle.vx_cell_codec.proofs.Loops.{with_front, rest_at}
+use Rattle.vx_byte_reader.specs.Fields.{many_at}
+use Rattle.vx_cell_codec.specs.Reading.{cell_at, fields_at}
+use Rattle.vx_byte_reader.proofs.FieldLoops.{with_front}
+use Rattle.vx_cell_codec.proofs.Loops.{rest_at}
 use Rattle.vx_cell_codec.proofs.reading.+reading.Given as goal
 
 abbrev pub invariant-next_cells-loop : goal.invariant-next_cells-loop

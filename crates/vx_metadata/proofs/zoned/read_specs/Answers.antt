@@ -1,8 +1,8 @@
 use Rattle.std.proofs.Common.{◌≡◌, ◌++◌, ◌∷◌, [], map}
 use Rattle.std.proofs.lemmas.Result.{err_from_is_err_and}
 use Rattle.std.proofs.lemmas.List.{map_push}
-use Rattle.vx_cell_codec.specs.Reading.{many_at}
-use Rattle.vx_cell_codec.proofs.Loops.{many_goes_on, many_done}
+use Rattle.vx_byte_reader.specs.Fields.{many_at}
+use Rattle.vx_byte_reader.proofs.FieldLoops.{many_goes_on, many_done}
 use Rattle.vx_metadata.specs.Reading.{spec_at}
 use Rattle.vx_metadata.specs.Views.{spec_of}
 use Rattle.vx_metadata.proofs.Specs.{many_ends}

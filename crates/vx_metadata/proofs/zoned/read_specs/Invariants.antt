@@ -1,6 +1,6 @@
 use Rattle.std.proofs.Common.{◌≡◌, ◌-◌, map}
-use Rattle.vx_cell_codec.specs.Reading.{many_at}
-use Rattle.vx_cell_codec.proofs.Loops.{with_front}
+use Rattle.vx_byte_reader.specs.Fields.{many_at}
+use Rattle.vx_byte_reader.proofs.FieldLoops.{with_front}
 use Rattle.vx_metadata.specs.Reading.{spec_at}
 use Rattle.vx_metadata.specs.Views.{spec_of}
 use Rattle.vx_metadata.proofs.zoned.read_specs.Given as goal

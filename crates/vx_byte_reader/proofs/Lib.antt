@@ -1,0 +1,4 @@
+pub mod FieldLaws
+pub mod FieldLoops
+pub mod PlaceLaws
+pub mod PlaceLoops
