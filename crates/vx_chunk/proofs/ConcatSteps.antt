@@ -1,10 +1,10 @@
 -- Parts of chunks, one behind the other.
-use Rattle.std.proofs.Common.{◌≡◌, ℕ, ◌&&◌, Bool, true, false, List, [], ◌∷◌, ◌++◌, length, refl, ap, sym, ◌∙◌, subst, append_assoc, append-nil}
+use Rattle.std.proofs.Common.{◌≡◌, ℕ, ◌&&◌, true, false, List, [], ◌∷◌, ◌++◌, refl, ap, ◌∙◌, subst, append_assoc, append-nil}
 use Rattle.std.specs.Prelude.{not}
+use Rattle.std.proofs.lemmas.Bool.{and_from, and_parts}
 use Rattle.vx_model.specs.Ty.{Ty, ty_eq}
 use Rattle.vx_model.specs.CellData.{CellData}
 use Rattle.vx_model.specs.ChunkData.{ChunkData, plain_piece, constant_piece, dict_piece, chunked_piece, list_piece, struct_piece, extension_piece, pieces_of, pieces_in, piece_type, cells, joined_cells, is_chunked, is_sound, are_sound, are_parts}
-use Rattle.vx_chunk_cells.proofs.Tests.{left_true, right_true, both_true}
 use Rattle.vx_chunk.specs.Conditions.{are_of_type, IsPast, IsTooLarge}
 use Rattle.vx_chunk.specs.declared.error.ChunkError.{ChunkError}
 use Rattle.vx_chunk.specs.declared.error.ChunkError.TheVariants.{TooLarge, OutOfMemory}
@@ -33,7 +33,7 @@ flat_cells (p ∷ ps) = joined-append (parts_of p) (all_parts ps) ∙ ap (λ (r 
 
 -- a chunk that isn't chunked is its own part
 alone : (t : Ty) (p : ChunkData) → ty_eq (piece_type p) t ≡ true → is_chunked p ≡ false → are_parts t (p ∷ []) ≡ true
-alone t p h n = both_true (ty_eq (piece_type p) t && not (is_chunked p)) true (both_true (ty_eq (piece_type p) t) (not (is_chunked p)) h (ap not n)) refl
+alone t p h n = and_from (ty_eq (piece_type p) t && not (is_chunked p)) true (and_from (ty_eq (piece_type p) t) (not (is_chunked p)) h (ap not n)) refl
 
 -- the parts of a sound chunk of the type
 pub parts_typed : (t : Ty) (p : ChunkData) → is_sound p ≡ true → ty_eq (piece_type p) t ≡ true → are_parts t (parts_of p) ≡ true
@@ -48,16 +48,16 @@ parts_typed t (extension_piece u p) s h = alone t (extension_piece u p) h refl
 pub are_parts-append : (t : Ty) (ps qs : List ChunkData) → are_parts t ps ≡ true → are_parts t qs ≡ true → are_parts t (ps ++ qs) ≡ true
 are_parts-append t [] qs h k = k
 are_parts-append t (p ∷ ps) qs h k =
-    both_true (ty_eq (piece_type p) t && not (is_chunked p)) _ (left_true (ty_eq (piece_type p) t && not (is_chunked p)) _ h)
-    (are_parts-append t ps qs (right_true (ty_eq (piece_type p) t && not (is_chunked p)) _ h) k)
+    and_from (ty_eq (piece_type p) t && not (is_chunked p)) _ (and_parts (ty_eq (piece_type p) t && not (is_chunked p)) _ h).0
+    (are_parts-append t ps qs (and_parts (ty_eq (piece_type p) t && not (is_chunked p)) _ h).1 k)
 
 -- the parts of sound chunks of the type
 pub flat_typed : (t : Ty) (ps : List ChunkData) → are_of_type t ps ≡ true → are_sound (pieces_of ps) ≡ true → are_parts t (all_parts ps) ≡ true
 flat_typed t [] h s = refl
 flat_typed t (p ∷ ps) h s =
     are_parts-append t (parts_of p) (all_parts ps)
-    (parts_typed t p (left_true (is_sound p) (are_sound (pieces_of ps)) s) (left_true (ty_eq (piece_type p) t) (are_of_type t ps) h))
-    (flat_typed t ps (right_true (ty_eq (piece_type p) t) (are_of_type t ps) h) (right_true (is_sound p) (are_sound (pieces_of ps)) s))
+    (parts_typed t p (and_parts (is_sound p) (are_sound (pieces_of ps)) s).0 (and_parts (ty_eq (piece_type p) t) (are_of_type t ps) h).0)
+    (flat_typed t ps (and_parts (ty_eq (piece_type p) t) (are_of_type t ps) h).1 (and_parts (is_sound p) (are_sound (pieces_of ps)) s).1)
 
 pub past_is_too_large : (n : ℕ) (e : ChunkError) → IsPast n e → IsTooLarge n e
 past_is_too_large n (TooLarge m) h = h

@@ -1,8 +1,9 @@
 -- The elements of each encoding's rows.
-use Rattle.std.proofs.Common.{◌≡◌, ℕ, zero, suc, ◌+◌, ◌-◌, ◌*◌, ◌<◌, ◌≤◌, ◌&&◌, Bool, true, false, Option, Some, None, List, [], ◌∷◌, ◌++◌, length, take, drop, get_or, map, refl, ap, sym, ◌∙◌, arith, eqb-true, append_assoc, append-nil, length-append, Box}
+use Rattle.std.proofs.Common.{◌≡◌, ℕ, zero, suc, ◌+◌, ◌-◌, ◌<◌, ◌≤◌, ◌&&◌, Bool, true, List, [], ◌∷◌, ◌++◌, length, take, drop, get_or, map, refl, ap, sym, ◌∙◌, arith, eqb-true, append_assoc, append-nil, length-append, Box}
 use Rattle.std.specs.Prelude.{replicate, ◌==◌, ◌^◌}
 use Rattle.std.proofs.lemmas.List.{drop_more, length-map, length-replicate}
 use Rattle.std.specs.Global.{Vec, Global}
+use Rattle.std.proofs.lemmas.Bool.{and_parts}
 use Rattle.vx_model.specs.declared.dtype.DType.{DType}
 use Rattle.vx_chunk.specs.declared.node.Node.{Node}
 use Rattle.vx_chunk.specs.declared.node.Node.TheVariants as nd
@@ -11,24 +12,24 @@ use Rattle.vx_model.specs.declared.cell.Cell.{Cell}
 use Rattle.vx_model.specs.TyView.{ty}
 use Rattle.vx_model.specs.TreeView.{tree}
 use Rattle.vx_model.specs.Words.{head_or, tail, all_by}
-use Rattle.vx_model.specs.Ty.{Ty, boolean, primitive, utf8, binary, list, struct, extension, is_list, list_item}
+use Rattle.vx_model.specs.Ty.{Ty, boolean, primitive, utf8, binary, list, struct, extension, is_list}
 use Rattle.vx_model.specs.CellData.{CellData, null_cell, bool_cell, int_cell, text_cell, bytes_cell, list_cell, struct_cell, items, fits, flag_fits}
 use Rattle.vx_model.specs.ChunkData.{ChunkData, plain_piece, constant_piece, dict_piece, chunked_piece, list_piece, struct_piece, extension_piece, pieces_of, piece_type, is_sound, cells, joined_cells, list_rows, struct_rows, picked, is_dict_type, has_elements}
 use Rattle.vx_model.proofs.CellViews.{items_trees_of}
 use Rattle.vx_chunk_cells.specs.Window.{window, last_of, Within, counted}
 use Rattle.vx_layout_spec.specs.Parts.{elements_of, all_elements, ends}
-use Rattle.vx_chunk_cells.proofs.Tests.{left_true, right_true}
+use Rattle.vx_layout_spec.proofs.CellsFit.{all_append}
 use Rattle.vx_chunk_cells.proofs.Windows.{window-all, window-none, length-window}
-use Rattle.vx_chunk_cells.proofs.ListSteps.{first_is}
 use Rattle.vx_chunk_cells.proofs.CountSteps.{all_elements-append, ends-append, length-all_elements-replicate}
-use Rattle.vx_chunk.specs.Parts.{element_type, is_plain, cover, keeps_elements}
+use Rattle.vx_chunk_cells.specs.Parts.{element_type, cover}
+use Rattle.vx_chunk.specs.Parts.{is_plain, keeps_elements}
 use Rattle.vx_chunk.proofs.Depths.{depth_in}
 use Rattle.vx_chunk.proofs.Lengths.{length-struct_rows, length-list_rows, drop_joined}
 use Rattle.vx_chunk.proofs.FlagSteps.{leaf_elements, leaf_picked}
-use Rattle.vx_chunk.proofs.CellsFit.{all_append, cells_fit, cells_short, of_type}
+use Rattle.vx_chunk.proofs.CellsFit.{cells_fit, cells_short, of_type}
 use Rattle.vx_chunk.proofs.NodeSound.{in_dict, in_list}
-use Rattle.vx_chunk.proofs.Offsets.{offsets_within}
-use Rattle.vx_chunk.proofs.RowGoals.{dict_cells, list_cells, struct_cells, last_at}
+use Rattle.vx_chunk_cells.proofs.OffsetLaws.{offsets_within}
+use Rattle.vx_chunk.proofs.RowGoals.{dict_cells, list_cells, struct_cells}
 use Rattle.vx_chunk.proofs.SizeLaws.{joined_spans}
 
 -- ---- no lists
@@ -133,7 +134,7 @@ parts_apart ps i p old new offsets more es os lt is e o h k =
 -- ---- types
 
 items_fit : (t : Ty) (n : Bool) (c : CellData) → fits (list t n) c ≡ true → all_by (fits t) (elements_of c) ≡ true
-items_fit t n (list_cell valid cs) h = right_true (flag_fits valid n) (all_by (fits t) (items cs)) h
+items_fit t n (list_cell valid cs) h = (and_parts (flag_fits valid n) (all_by (fits t) (items cs)) h).1
 items_fit t n null_cell h = cc
 items_fit t n (bool_cell b) h = cc
 items_fit t n (int_cell i) h = cc
@@ -144,7 +145,7 @@ items_fit t n (struct_cell valid cs) h = cc
 of_lists : (t : Ty) (n : Bool) (cs : List CellData) → all_by (fits (list t n)) cs ≡ true → all_by (fits t) (all_elements cs) ≡ true
 of_lists t n [] h = refl
 of_lists t n (c ∷ cs) h =
-    all_append (fits t) (elements_of c) (all_elements cs) (items_fit t n c (left_true (fits (list t n) c) (all_by (fits (list t n)) cs) h)) (of_lists t n cs (right_true (fits (list t n) c) (all_by (fits (list t n)) cs) h))
+    all_append (fits t) (elements_of c) (all_elements cs) (items_fit t n c (and_parts (fits (list t n) c) (all_by (fits (list t n)) cs) h).0) (of_lists t n cs (and_parts (fits (list t n) c) (all_by (fits (list t n)) cs) h).1)
 
 pub elements_fit : (t : Ty) (cs : List CellData) → is_list t ≡ true → all_by (fits t) cs ≡ true → all_by (fits (element_type t)) (all_elements cs) ≡ true
 elements_fit (list t n) cs l h = of_lists t n cs h
@@ -158,28 +159,6 @@ elements_fit (extension tag t) cs l h = cc
 pub ruleset element_rules = (append_assoc, append-nil, length-all_elements-replicate, struct_elements, struct_ends, length-struct_rows, length-replicate, drop_counts, drop_joined, depth_in)
 
 pub ruleset span_rules = (append_assoc, append-nil)
-
--- ---- a list's type is told
-
-pub item_told : (t u : Ty) → Some u ≡ list_item t → u ≡ element_type t
-item_told (list t n) u e = cc
-item_told (boolean n) u e = cc
-item_told (primitive p n) u e = cc
-item_told (utf8 n) u e = cc
-item_told (binary n) u e = cc
-item_told (struct fs n) u e = cc
-item_told (extension tag t) u e = cc
-
-pub no_item_told : (t : Ty) → None ≡ list_item t → is_list t ≡ true → ⊥
-no_item_told (list t n) e h = cc
-no_item_told (boolean n) e h = cc
-no_item_told (primitive p n) e h = cc
-no_item_told (utf8 n) e h = cc
-no_item_told (binary n) e h = cc
-no_item_told (struct fs n) e h = cc
-no_item_told (extension tag t) e h = cc
-
-pub ruleset type_rules = (item_told, no_item_told)
 
 -- ---- elements that stand just as rows have them
 
@@ -221,9 +200,9 @@ kept_elements n t es offsets valid e s k =
     let p : ChunkData = es.value in
     let sound = in_list n t es offsets valid e s in
     let kept : (is_plain p && cover (length (cells p)) os) ≡ true = rw e at k in
-    let covers : cover (length (cells p)) os ≡ true = right_true (is_plain p) _ kept in
-    let first : head_or 0 os ≡ 0 = eqb-true (head_or 0 os) 0 (left_true (head_or 0 os == 0) _ covers) in
-    let last : last_of os ≡ length (cells p) = eqb-true (last_of os) (length (cells p)) (right_true (head_or 0 os == 0) _ covers) in
+    let covers : cover (length (cells p)) os ≡ true = (and_parts (is_plain p) _ kept).1 in
+    let first : head_or 0 os ≡ 0 = eqb-true (head_or 0 os) 0 (and_parts (head_or 0 os == 0) _ covers).0 in
+    let last : last_of os ≡ length (cells p) = eqb-true (last_of os) (length (cells p)) (and_parts (head_or 0 os == 0) _ covers).1 in
     let parts = list_parts_are n t es offsets valid e s in
     let span : window (head_or 0 os) (last_of os) (cells p) ≡ cells p = rw (first, last) (window-all (length (cells p)) (cells p) refl) in
     let all : all_elements (cells (node_piece n)) ≡ cells p = parts.0 ∙ span in
@@ -233,9 +212,7 @@ kept_elements n t es offsets valid e s k =
     let tails : counted 0 (head_or 0 os) (tail os) ≡ tail os = rw first (counted_from_none (tail os)) in
     let ends_are : ends 0 (cells (node_piece n)) ≡ tail os = parts.1 0 ∙ tails in
     record {
-      elements = plain_is p (left_true (is_plain p) _ kept) ∙ same;
+      elements = plain_is p (and_parts (is_plain p) _ kept).0 ∙ same;
       offsets = from_none os sound.some first ∙ ap (λ (r : List ℕ). 0 ∷ r) (sym ends_are);
       short = rw all (cells_short p sound.elements_sound);
     }
-
-pub ruleset cover_rules = (first_is, last_at)

@@ -1,20 +1,20 @@
 -- Columns of structs, field by field.
-use Rattle.std.proofs.Common.{◌≡◌, ℕ, zero, suc, ◌+◌, ◌<◌, ◌≤◌, ◌&&◌, Bool, true, false, Option, Some, None, List, [], ◌∷◌, ◌++◌, length, drop, get_or, map, refl, ap, sym, ◌∙◌, arith, append_assoc, eqb-true, eq-eqb}
+use Rattle.std.proofs.Common.{◌≡◌, ℕ, zero, suc, ◌+◌, ◌<◌, ◌&&◌, Bool, true, List, [], ◌∷◌, ◌++◌, length, drop, get_or, map, refl, ap, sym, ◌∙◌, arith, append_assoc, eq-eqb}
 use Rattle.std.specs.Global.{Vec}
-use Rattle.std.proofs.lemmas.List.{drop_more, drop_all, append-nil, length-map}
+use Rattle.std.proofs.lemmas.List.{drop_more, append-nil}
+use Rattle.std.proofs.lemmas.Bool.{and_from, and_parts}
 use Rattle.vx_model.specs.declared.dtype.StructField.{StructField}
 use Rattle.vx_model.specs.declared.cell.Cell.{Cell}
 use Rattle.vx_model.specs.Words.{all_by, head_or, tail}
-use Rattle.vx_model.specs.Ty.{Ty, Tys, boolean, primitive, utf8, binary, list, struct, extension, no_fields, field, tys_of, is_struct, struct_tys}
+use Rattle.vx_model.specs.Ty.{Ty, Tys, boolean, primitive, utf8, binary, list, struct, extension, no_fields, field, tys_of, is_struct}
 use Rattle.vx_model.specs.TyView.{ty, field_ty}
 use Rattle.vx_model.specs.CellData.{CellData, CellList, null_cell, bool_cell, int_cell, text_cell, bytes_cell, list_cell, struct_cell, no_cells, cell, items, fits, fields_fit, struct_fits, flag_fits}
 use Rattle.vx_model.specs.ChunkData.{ChunkData, plain_piece}
 use Rattle.vx_model.proofs.Views.{field_ty_is}
 use Rattle.vx_chunk_cells.specs.Columns.{trees_in, rows_across}
-use Rattle.vx_chunk_cells.specs.Parts.{fields_of, has_width}
-use Rattle.vx_chunk_cells.proofs.Tests.{left_true, right_true, both_true}
+use Rattle.vx_chunk_cells.specs.Parts.{struct_fields, fields_of, has_width}
 use Rattle.vx_chunk_cells.proofs.RowWindows.{map_joined}
-use Rattle.vx_chunk.specs.Parts.{typed_columns, columns_fit, struct_fields}
+use Rattle.vx_chunk.specs.Parts.{typed_columns, columns_fit}
 use Rattle.vx_layout_spec.specs.Parts.{first_of, others_of, plain_fields}
 
 -- fields of a type
@@ -22,9 +22,12 @@ abbrev pub count_of : Tys → ℕ
 count_of no_fields = 0
 count_of (field name t fs) = suc (count_of fs)
 
-pub count-tys_of : (fs : List StructField) → count_of (tys_of (map field_ty fs)) ≡ length fs
+count-tys_of : (fs : List StructField) → count_of (tys_of (map field_ty fs)) ≡ length fs
 count-tys_of [] = refl
 count-tys_of (f ∷ fs) = ap suc (count-tys_of fs)
+
+pub count_is : (t : Ty) (fs : List StructField) → tys_of (map field_ty fs) ≡ struct_fields t → length fs ≡ count_of (struct_fields t)
+count_is t fs e = sym (count-tys_of fs) ∙ ap count_of e
 
 -- ---- the width of a struct's cells
 
@@ -32,10 +35,10 @@ fits_width : (fs : Tys) (cs : CellList) → fields_fit fs (items cs) ≡ true �
 fits_width no_fields no_cells h = refl
 fits_width no_fields (cell c cs) h = cc
 fits_width (field name t fs) no_cells h = cc
-fits_width (field name t fs) (cell c cs) h = ap suc (fits_width fs cs (right_true (fits t c) (fields_fit fs (items cs)) h))
+fits_width (field name t fs) (cell c cs) h = ap suc (fits_width fs cs (and_parts (fits t c) (fields_fit fs (items cs)) h).1)
 
 struct_width : (fs : Tys) (n : Bool) (c : CellData) → struct_fits n (fields_fit fs) c ≡ true → has_width (count_of fs) c ≡ true
-struct_width fs n (struct_cell valid cs) h = eq-eqb (length (items cs)) (count_of fs) (fits_width fs cs (right_true (flag_fits valid n) (fields_fit fs (items cs)) h))
+struct_width fs n (struct_cell valid cs) h = eq-eqb (length (items cs)) (count_of fs) (fits_width fs cs (and_parts (flag_fits valid n) (fields_fit fs (items cs)) h).1)
 struct_width fs n null_cell h = cc
 struct_width fs n (bool_cell b) h = cc
 struct_width fs n (int_cell i) h = cc
@@ -46,7 +49,7 @@ struct_width fs n (list_cell v cs) h = cc
 all_width : (fs : Tys) (n : Bool) (cs : List CellData) → all_by (struct_fits n (fields_fit fs)) cs ≡ true → all_by (has_width (count_of fs)) cs ≡ true
 all_width fs n [] h = refl
 all_width fs n (c ∷ cs) h =
-    both_true (has_width (count_of fs) c) _ (struct_width fs n c (left_true (struct_fits n (fields_fit fs) c) _ h)) (all_width fs n cs (right_true (struct_fits n (fields_fit fs) c) _ h))
+    and_from (has_width (count_of fs) c) _ (struct_width fs n c (and_parts (struct_fits n (fields_fit fs) c) _ h).0) (all_width fs n cs (and_parts (struct_fits n (fields_fit fs) c) _ h).1)
 
 pub cells_width : (t : Ty) (cs : List CellData) → is_struct t ≡ true → all_by (fits t) cs ≡ true → all_by (has_width (count_of (struct_fields t))) cs ≡ true
 cells_width (struct fs n) cs s h = all_width fs n cs h
@@ -91,7 +94,7 @@ columns_are (field name t fs) cs = rw (map_joined (head_or null_cell) fields_of 
 
 first_held : (name : List ℕ) (t : Ty) (fs : Tys) (c : CellData) → fields_fit (field name t fs) (fields_of c) ≡ true → fits t (first_of c) ≡ true
 first_held name t fs (struct_cell valid no_cells) h = cc
-first_held name t fs (struct_cell valid (cell c cs)) h = left_true (fits t c) (fields_fit fs (items cs)) h
+first_held name t fs (struct_cell valid (cell c cs)) h = (and_parts (fits t c) (fields_fit fs (items cs)) h).0
 first_held name t fs null_cell h = cc
 first_held name t fs (bool_cell b) h = cc
 first_held name t fs (int_cell i) h = cc
@@ -101,7 +104,7 @@ first_held name t fs (list_cell v cs) h = cc
 
 others_held : (name : List ℕ) (t : Ty) (fs : Tys) (c : CellData) → fields_fit (field name t fs) (fields_of c) ≡ true → fields_fit fs (fields_of (others_of c)) ≡ true
 others_held name t fs (struct_cell valid no_cells) h = cc
-others_held name t fs (struct_cell valid (cell c cs)) h = right_true (fits t c) (fields_fit fs (items cs)) h
+others_held name t fs (struct_cell valid (cell c cs)) h = (and_parts (fits t c) (fields_fit fs (items cs)) h).1
 others_held name t fs null_cell h = cc
 others_held name t fs (bool_cell b) h = cc
 others_held name t fs (int_cell i) h = cc
@@ -117,25 +120,25 @@ hold fs (c ∷ cs) = fields_fit fs (fields_of c) && hold fs cs
 hold_first : (name : List ℕ) (t : Ty) (fs : Tys) (cs : List CellData) → hold (field name t fs) cs ≡ true → all_by (fits t) (map first_of cs) ≡ true
 hold_first name t fs [] h = refl
 hold_first name t fs (c ∷ cs) h =
-    both_true (fits t (first_of c)) _ (first_held name t fs c (left_true (fields_fit (field name t fs) (fields_of c)) _ h)) (hold_first name t fs cs (right_true (fields_fit (field name t fs) (fields_of c)) _ h))
+    and_from (fits t (first_of c)) _ (first_held name t fs c (and_parts (fields_fit (field name t fs) (fields_of c)) _ h).0) (hold_first name t fs cs (and_parts (fields_fit (field name t fs) (fields_of c)) _ h).1)
 
 hold_others : (name : List ℕ) (t : Ty) (fs : Tys) (cs : List CellData) → hold (field name t fs) cs ≡ true → hold fs (map others_of cs) ≡ true
 hold_others name t fs [] h = refl
 hold_others name t fs (c ∷ cs) h =
-    both_true (fields_fit fs (fields_of (others_of c))) _ (others_held name t fs c (left_true (fields_fit (field name t fs) (fields_of c)) _ h)) (hold_others name t fs cs (right_true (fields_fit (field name t fs) (fields_of c)) _ h))
+    and_from (fields_fit fs (fields_of (others_of c))) _ (others_held name t fs c (and_parts (fields_fit (field name t fs) (fields_of c)) _ h).0) (hold_others name t fs cs (and_parts (fields_fit (field name t fs) (fields_of c)) _ h).1)
 
 holds_fit : (fs : Tys) (cs : List CellData) → hold fs cs ≡ true → columns_fit fs (rows_across (count_of fs) (map fields_of cs)) ≡ true
 holds_fit no_fields cs h = refl
 holds_fit (field name t fs) cs h =
     rw (map_joined (head_or null_cell) fields_of first_of cs first_is, map_others cs)
-    (both_true (all_by (fits t) (map first_of cs)) _ (hold_first name t fs cs h) (holds_fit fs (map others_of cs) (hold_others name t fs cs h)))
+    (and_from (all_by (fits t) (map first_of cs)) _ (hold_first name t fs cs h) (holds_fit fs (map others_of cs) (hold_others name t fs cs h)))
 
 struct_holds : (fs : Tys) (n : Bool) (cs : List CellData) → all_by (struct_fits n (fields_fit fs)) cs ≡ true → hold fs cs ≡ true
 struct_holds fs n [] h = refl
-struct_holds fs n (c ∷ cs) h = both_true (fields_fit fs (fields_of c)) _ (of_struct c (left_true (struct_fits n (fields_fit fs) c) _ h)) (struct_holds fs n cs (right_true (struct_fits n (fields_fit fs) c) _ h))
+struct_holds fs n (c ∷ cs) h = and_from (fields_fit fs (fields_of c)) _ (of_struct c (and_parts (struct_fits n (fields_fit fs) c) _ h).0) (struct_holds fs n cs (and_parts (struct_fits n (fields_fit fs) c) _ h).1)
   where
     of_struct : (c : CellData) → struct_fits n (fields_fit fs) c ≡ true → fields_fit fs (fields_of c) ≡ true
-    of_struct (struct_cell valid cs) h = right_true (flag_fits valid n) (fields_fit fs (items cs)) h
+    of_struct (struct_cell valid cs) h = (and_parts (flag_fits valid n) (fields_fit fs (items cs)) h).1
     of_struct null_cell h = cc
     of_struct (bool_cell b) h = cc
     of_struct (int_cell i) h = cc
@@ -178,25 +181,3 @@ all_typed chunks target fs [] e h = sym (append-nil chunks) ∙ (rw (typed_none 
 all_typed chunks target fs (c ∷ columns) e h = absurd (omega arith)
 
 pub ruleset field_rules = (append_assoc, append-nil, drop_typed, drop_fit, typed_none)
-
--- ---- a struct's fields are told
-
-pub fields_told : (t : Ty) (fs : Tys) → Some fs ≡ struct_tys t → fs ≡ struct_fields t
-fields_told (struct gs n) fs e = cc
-fields_told (boolean n) fs e = cc
-fields_told (primitive p n) fs e = cc
-fields_told (utf8 n) fs e = cc
-fields_told (binary n) fs e = cc
-fields_told (list t n) fs e = cc
-fields_told (extension tag t) fs e = cc
-
-pub no_fields_told : (t : Ty) → None ≡ struct_tys t → is_struct t ≡ true → ⊥
-no_fields_told (struct gs n) e h = cc
-no_fields_told (boolean n) e h = cc
-no_fields_told (primitive p n) e h = cc
-no_fields_told (utf8 n) e h = cc
-no_fields_told (binary n) e h = cc
-no_fields_told (list t n) e h = cc
-no_fields_told (extension tag t) e h = cc
-
-pub ruleset type_rules = (fields_told, no_fields_told)

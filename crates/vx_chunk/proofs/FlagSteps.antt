@@ -1,7 +1,8 @@
 -- The flags of each encoding's rows.
-use Rattle.std.proofs.Common.{◌≡◌, ℕ, zero, suc, ◌+◌, ◌-◌, ◌<◌, ◌≤◌, ◌&&◌, Bool, true, false, List, [], ◌∷◌, ◌++◌, length, take, drop, get_or, map, refl, ap, sym, ◌∙◌, arith, append_assoc, append-nil, rules}
+use Rattle.std.proofs.Common.{◌≡◌, ℕ, zero, suc, ◌+◌, ◌-◌, ◌<◌, Bool, true, false, List, [], ◌∷◌, ◌++◌, length, drop, get_or, map, refl, arith, append_assoc, append-nil, rules}
 use Rattle.std.specs.Prelude.{replicate, pos, negsuc}
-use Rattle.std.proofs.lemmas.List.{drop_more, length-map, map-append}
+use Rattle.std.proofs.lemmas.List.{drop_more, map-append}
+use Rattle.std.proofs.lemmas.Bool.{and_parts}
 use Rattle.vx_model.specs.declared.dtype.DType as dt
 use Rattle.vx_model.specs.declared.ptype.Nullability.TheVariants.{NonNullable}
 use Rattle.vx_model.specs.TyView.{ty}
@@ -11,7 +12,6 @@ use Rattle.vx_model.specs.CellData.{CellData, null_cell, bool_cell, int_cell, te
 use Rattle.vx_model.specs.ChunkData.{ChunkData, pieces_of, cells, joined_cells, list_rows, struct_rows, picked, cell_at, is_dict_type}
 use Rattle.vx_chunk_cells.specs.Parts.{row_flags}
 use Rattle.vx_layout_spec.specs.Parts.{flag_of, elements_of}
-use Rattle.vx_chunk_cells.proofs.Tests.{left_true, right_true}
 use Rattle.vx_chunk_cells.proofs.Steps.{map-replicate}
 use Rattle.vx_chunk.proofs.Depths.{depth_in}
 
@@ -60,8 +60,8 @@ leaf_fits t (bytes_cell s) d h = refl
 
 leaf_at : (t : Ty) (vs : List CellData) (n : ℕ) → is_dict_type t ≡ true → all_by (fits t) vs ≡ true → is_leaf (cell_at vs n) ≡ true
 leaf_at t [] n d h = refl
-leaf_at t (v ∷ vs) zero d h = leaf_fits t v d (left_true (fits t v) (all_by (fits t) vs) h)
-leaf_at t (v ∷ vs) (suc n) d h = leaf_at t vs n d (right_true (fits t v) (all_by (fits t) vs) h)
+leaf_at t (v ∷ vs) zero d h = leaf_fits t v d (and_parts (fits t v) (all_by (fits t) vs) h).0
+leaf_at t (v ∷ vs) (suc n) d h = leaf_at t vs n d (and_parts (fits t v) (all_by (fits t) vs) h).1
 
 -- a dictionary's values are leaves
 pub leaf_picked : (t : Ty) (vs : List CellData) (c : CellData) → is_dict_type t ≡ true → all_by (fits t) vs ≡ true → is_leaf (picked vs c) ≡ true

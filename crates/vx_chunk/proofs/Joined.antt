@@ -1,13 +1,13 @@
 -- Sizes and rows of chunks that are joined or cut.
 use Rattle.std.proofs.Common.{◌≡◌, ℕ, ◌+◌, ◌≤◌, true, List, [], ◌∷◌, ◌++◌, length, map, refl, sym, ap, ◌∙◌, arith}
 use Rattle.std.proofs.lemmas.List.{map-append, length-map}
+use Rattle.std.proofs.lemmas.Bool.{and_parts}
 use Rattle.vx_model.specs.Words.{joined_by, total_by}
 use Rattle.vx_model.specs.Ty.{Ty, ty_eq}
 use Rattle.vx_model.specs.CellData.{CellData, cell_size}
 use Rattle.vx_model.specs.ValueData.{value}
 use Rattle.vx_model.specs.ChunkData.{ChunkData, plain_piece, constant_piece, dict_piece, chunked_piece, list_piece, struct_piece, extension_piece, pieces_of, piece_type, cells, joined_cells, row_values, row_size, held, held_parts}
 use Rattle.vx_chunk_cells.specs.Window.{window}
-use Rattle.vx_chunk_cells.proofs.Tests.{left_true, right_true}
 use Rattle.vx_chunk_cells.proofs.Windows.{window-map}
 use Rattle.vx_chunk_cells.proofs.SizeSteps.{total-append}
 use Rattle.vx_chunk.specs.Conditions.{are_of_type}
@@ -42,9 +42,9 @@ held_sum (p ∷ ps) =
 rows_of_type : (t : Ty) (ps : List ChunkData) → are_of_type t ps ≡ true → total_by (cell_size t) (joined_cells (pieces_of ps)) ≡ total_by row_size ps
 rows_of_type t [] h = refl
 rows_of_type t (p ∷ ps) h =
-    let same : piece_type p ≡ t = of_type (piece_type p) t (left_true (ty_eq (piece_type p) t) (are_of_type t ps) h) in
+    let same : piece_type p ≡ t = of_type (piece_type p) t (and_parts (ty_eq (piece_type p) t) (are_of_type t ps) h).0 in
     let first : total_by (cell_size t) (cells p) ≡ row_size p = ap (λ u. total_by (cell_size u) (cells p)) (sym same) in
-    let rest : total_by (cell_size t) (joined_cells (pieces_of ps)) ≡ total_by row_size ps = rows_of_type t ps (right_true (ty_eq (piece_type p) t) (are_of_type t ps) h) in
+    let rest : total_by (cell_size t) (joined_cells (pieces_of ps)) ≡ total_by row_size ps = rows_of_type t ps (and_parts (ty_eq (piece_type p) t) (are_of_type t ps) h).1 in
     total-append (cell_size t) (cells p) (joined_cells (pieces_of ps)) ∙ omega arith
 
 pub row_sum : (t : Ty) (ps : List ChunkData) → are_of_type t ps ≡ true → total_by (cell_size t) (joined_cells (pieces_of (all_parts ps))) ≡ total_by row_size ps

@@ -1,9 +1,7 @@
 pub mod Sound
 pub mod NodeSound
 pub mod Lengths
-pub mod Codes
 pub mod Parts
-pub mod Offsets
 pub mod Depths
 pub mod CellsFit
 pub mod RowSteps

@@ -1,9 +1,10 @@
 -- What is left to show where rows are put together.
-use Rattle.std.proofs.Common.{◌≡◌, ℕ, ◌+◌, ◌-◌, ◌<◌, ◌≤◌, ◌&&◌, min, Bool, true, List, [], ◌∷◌, ◌++◌, length, take, drop, get_or, map, refl, sym, arith, append_assoc, Box}
+use Rattle.std.proofs.Common.{◌≡◌, ℕ, ◌+◌, ◌-◌, ◌<◌, ◌≤◌, ◌&&◌, min, Bool, true, List, [], ◌∷◌, ◌++◌, length, take, drop, get_or, map, refl, arith, append_assoc, Box}
 use Rattle.std.specs.Prelude.{nat_le, ◌==◌}
 use Rattle.std.specs.Global.{Vec, Global}
 use Rattle.std.proofs.lemmas.List.{drop_more, take_more, map-append}
 use Rattle.std.proofs.lemmas.Bool.Decides.{nat_tests}
+use Rattle.std.proofs.lemmas.Bool.{and_from, and_parts}
 use Rattle.vx_model.specs.declared.dtype.DType.{DType}
 use Rattle.vx_model.specs.Words.{head_or}
 use Rattle.vx_model.specs.Ty.{Ty, Tys, boolean, primitive, utf8, binary, list, struct, extension, no_fields, field, ty_eq}
@@ -16,7 +17,6 @@ use Rattle.vx_chunk.specs.ChunkView.{node_piece}
 use Rattle.vx_chunk_cells.specs.Window.{window, rebased, last_of}
 use Rattle.vx_chunk_cells.specs.Columns.{rows_across, pushed_each}
 use Rattle.vx_chunk.specs.Rows.{have_rows, column}
-use Rattle.vx_chunk_cells.proofs.Tests.{left_true, right_true, both_true}
 use Rattle.vx_chunk.proofs.Sound.{pieces_in-pieces_of}
 use Rattle.vx_chunk.proofs.NodeSound.{in_list, in_struct}
 use Rattle.vx_chunk.proofs.Lengths.{length-list_rows, length-struct_rows}
@@ -24,8 +24,7 @@ use Rattle.vx_chunk_cells.proofs.Windows.{window-append, window-map, length-wind
 use Rattle.vx_chunk_cells.proofs.RowWindows.{window-list_rows, window-struct_rows, list_rows-rebased, map_joined}
 use Rattle.vx_chunk_cells.proofs.Steps.{column_more}
 use Rattle.vx_chunk.proofs.RowSteps.{each_cells-pieces_of}
-use Rattle.vx_chunk.proofs.Offsets.{offsets_within}
-use Rattle.vx_chunk_cells.proofs.ListSteps.{last_is}
+use Rattle.vx_chunk_cells.proofs.OffsetLaws.{offsets_within}
 
 -- ---- what a node's cells are
 
@@ -58,10 +57,6 @@ pub list_window : (n : Node) (t : DType) (es : Box ChunkData Global) (offsets : 
     → list_rows (cells es.value) (window from (to + 1) offsets.items) (drop from valid.items) ≡ window from to (cells (node_piece n))
 list_window n t es offsets valid from to e le = rw (list_cells n t es offsets valid e, window-list_rows (cells es.value) from to offsets.items valid.items le) refl
 
--- the last offset by its place
-pub last_at : (os : List ℕ) → 1 ≤ length os → get_or os (length os - 1) 0 ≡ last_of os
-last_at os some = sym (last_is os (length os - 1) (omega arith))
-
 -- the elements between the first and the last offset give the lists
 pub lists_cut : (es : List CellData) (os : List ℕ) (valid : List Bool) → are_offsets (length es) os ≡ true
     → list_rows (window (head_or 0 os) (last_of os) es) (rebased (head_or 0 os) os) valid ≡ list_rows es os valid
@@ -74,9 +69,9 @@ of_rows no_fields [] n to h le = refl
 of_rows no_fields (p ∷ ps) n to h le = cc
 of_rows (field name t fs) [] n to h le = cc
 of_rows (field name t fs) (p ∷ ps) n to h le =
-    let rest : _ ≡ true = right_true (ty_eq (piece_type p) t) _ h in
-    let same : (length (cells p) == n) ≡ true = left_true (length (cells p) == n) _ rest in
-    both_true (nat_le to (length (cells p))) _ (grind (arith, nat_tests)) (of_rows fs ps n to (right_true (length (cells p) == n) _ rest) le)
+    let rest : _ ≡ true = (and_parts (ty_eq (piece_type p) t) _ h).1 in
+    let same : (length (cells p) == n) ≡ true = (and_parts (length (cells p) == n) _ rest).0 in
+    and_from (nat_le to (length (cells p))) _ (grind (arith, nat_tests)) (of_rows fs ps n to (and_parts (length (cells p) == n) _ rest).1 le)
 
 fields_rows : (t : Ty) (ps : List ChunkData) (n to : ℕ) → has_fields t ps n ≡ true → to ≤ n → have_rows to ps ≡ true
 fields_rows (struct fs m) ps n to h le = of_rows fs ps n to h le
@@ -104,8 +99,8 @@ struct_window n t ps valid rows from to e le within =
 pub rows_more : (to : ℕ) (ps : List ChunkData) (i : ℕ) (p : ChunkData) → i < length ps → p ≡ get_or ps i p → have_rows to (drop i ps) ≡ true → (to ≤ length (cells p)) × (have_rows to (drop (i + 1) ps) ≡ true)
 rows_more to ps i p lt is h =
     let here : (nat_le to (length (cells p)) && have_rows to (drop (i + 1) ps)) ≡ true = rw (drop_more ps i p lt, ← is) at h in
-    let first : nat_le to (length (cells p)) ≡ true = left_true (nat_le to (length (cells p))) _ here in
-    (grind (arith, nat_tests), right_true (nat_le to (length (cells p))) _ here)
+    let first : nat_le to (length (cells p)) ≡ true = (and_parts (nat_le to (length (cells p))) _ here).0 in
+    (grind (arith, nat_tests), (and_parts (nat_le to (length (cells p))) _ here).1)
 
 pub columns_more : (from to : ℕ) (ps : List ChunkData) (i : ℕ) (p : ChunkData) (rows : List (List CellData)) (c : List CellData) → i < length ps → p ≡ get_or ps i p → to ≤ length (cells p) → c ≡ window from to (cells p)
     → rows ≡ rows_across (to - from) (map (column from to) (take i ps)) → pushed_each rows c ≡ rows_across (to - from) (map (column from to) (take (i + 1) ps))

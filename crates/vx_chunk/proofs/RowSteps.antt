@@ -9,7 +9,7 @@ use Rattle.vx_model.specs.ChunkData.{ChunkData, pieces_of, cells, each_cells, ce
 use Rattle.vx_model.specs.TreeView.{tree}
 use Rattle.vx_chunk_cells.proofs.Windows.{window-map, window-replicate}
 use Rattle.vx_chunk_cells.proofs.Steps.{replicate_push, map-replicate}
-use Rattle.vx_chunk.proofs.Codes.{tree_int}
+use Rattle.vx_chunk_cells.proofs.CodeSteps.{tree_int}
 use Rattle.vx_chunk.proofs.Depths.{depth_in}
 
 pub cell_at_in : (cs : List Cell) (i : ℕ) (c : Cell) → i < length cs → c ≡ get_or cs i c → cell_at (map tree cs) i ≡ tree c

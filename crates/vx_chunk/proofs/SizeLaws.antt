@@ -2,14 +2,13 @@
 use Rattle.std.proofs.Common.{◌≡◌, ℕ, zero, suc, ◌+◌, ◌-◌, ◌*◌, ◌≤◌, ◌&&◌, min, Bool, true, List, [], ◌∷◌, ◌++◌, length, take, drop, map, refl, sym, ap, ◌∙◌, subst, arith, eqb-true}
 use Rattle.std.specs.Prelude.{◌==◌}
 use Rattle.std.proofs.lemmas.List.{length-replicate, take_all, drop-drop}
-use Rattle.std.proofs.lemmas.Bool.{true≢false}
+use Rattle.std.proofs.lemmas.Bool.{true≢false, and_parts}
 use Rattle.vx_model.specs.Words.{total_by, head_or, tail}
 use Rattle.vx_model.specs.Ty.{Ty, Tys, boolean, primitive, utf8, binary, list, struct, extension, no_fields, field, ty_eq}
 use Rattle.vx_model.specs.CellData.{CellData, null_cell, trees_of, items, cell_size, fields_size, list_size, struct_size, null_byte}
 use Rattle.vx_model.specs.ChunkData.{ChunkData, ChunkList, plain_piece, constant_piece, dict_piece, chunked_piece, list_piece, struct_piece, extension_piece, no_pieces, part, pieces_in, piece_type, cells, joined_cells, each_cells, list_rows, struct_rows, picked, row_size, are_parts, match_fields, is_sound, are_sound}
 use Rattle.vx_model.proofs.CellViews.{items_trees_of}
 use Rattle.vx_chunk_cells.specs.Window.{window, last_of, Within}
-use Rattle.vx_chunk_cells.proofs.Tests.{left_true, right_true}
 use Rattle.vx_chunk_cells.proofs.Windows.{window-map, window-replicate, window-append, window-nil, window-none, window-all, length-window}
 use Rattle.vx_chunk_cells.proofs.RowWindows.{window-list_rows, window-struct_rows}
 use Rattle.vx_chunk_cells.proofs.SizeSteps.{total-append, total-replicate}
@@ -17,7 +16,7 @@ use Rattle.vx_chunk.specs.Sizes.{span_size, span_sizes, each_span_size}
 use Rattle.vx_chunk.proofs.Sound.{of_chunked, of_list, of_struct, of_extension}
 use Rattle.vx_chunk.proofs.CellsFit.{of_type}
 use Rattle.vx_chunk.proofs.Lengths.{length-list_rows, length-struct_rows}
-use Rattle.vx_chunk.proofs.Offsets.{offsets_window, offsets_within}
+use Rattle.vx_chunk_cells.proofs.OffsetLaws.{offsets_window, offsets_within}
 
 -- ---- lists
 
@@ -151,11 +150,11 @@ mutual
   parts_law t no_pieces from to s h le = rw (window-nil {X = CellData} from to) refl
   parts_law t (part p ps) from to s h le =
       let n : ℕ = length (cells p) in
-      let typed : piece_type p ≡ t = of_type (piece_type p) t (left_true (ty_eq (piece_type p) t) _ (left_true (ty_eq (piece_type p) t && _) _ h)) in
+      let typed : piece_type p ≡ t = of_type (piece_type p) t (and_parts (ty_eq (piece_type p) t) _ (and_parts (ty_eq (piece_type p) t && _) _ h).0).0 in
       let here : span_size p (min from n) (min to n) ≡ total_by (cell_size t) (window (min from n) (min to n) (cells p)) =
-      subst (λ u. span_size p (min from n) (min to n) ≡ total_by (cell_size u) (window (min from n) (min to n) (cells p))) typed (span_law p (min from n) (min to n) (left_true (is_sound p) (are_sound ps) s) (omega arith) (omega arith)) in
+      subst (λ u. span_size p (min from n) (min to n) ≡ total_by (cell_size u) (window (min from n) (min to n) (cells p))) typed (span_law p (min from n) (min to n) (and_parts (is_sound p) (are_sound ps) s).0 (omega arith) (omega arith)) in
       let there : span_sizes ps (from - n) (to - n) ≡ total_by (cell_size t) (window (from - n) (to - n) (joined_cells ps)) =
-      parts_law t ps (from - n) (to - n) (right_true (is_sound p) (are_sound ps) s) (right_true _ (are_parts t (pieces_in ps)) h) (omega arith) in
+      parts_law t ps (from - n) (to - n) (and_parts (is_sound p) (are_sound ps) s).1 (and_parts _ (are_parts t (pieces_in ps)) h).1 (omega arith) in
       rw (window-append from to (cells p) (joined_cells ps), total-append (cell_size t) (window (min from n) (min to n) (cells p)) (window (from - n) (to - n) (joined_cells ps)), here, there) refl
 
   each_law : (fs : Tys) (ps : ChunkList) (from to n : ℕ) → are_sound ps ≡ true → match_fields fs (pieces_in ps) n ≡ true → from ≤ to → to ≤ n
@@ -164,12 +163,12 @@ mutual
   each_law no_fields (part p ps) from to n s h le within = cc
   each_law (field name t fs) no_pieces from to n s h le within = cc
   each_law (field name t fs) (part p ps) from to n s h le within =
-      let typed : piece_type p ≡ t = of_type (piece_type p) t (left_true (ty_eq (piece_type p) t) _ h) in
-      let rest : _ ≡ true = right_true (ty_eq (piece_type p) t) _ h in
-      let count : length (cells p) ≡ n = eqb-true (length (cells p)) n (left_true (length (cells p) == n) _ rest) in
+      let typed : piece_type p ≡ t = of_type (piece_type p) t (and_parts (ty_eq (piece_type p) t) _ h).0 in
+      let rest : _ ≡ true = (and_parts (ty_eq (piece_type p) t) _ h).1 in
+      let count : length (cells p) ≡ n = eqb-true (length (cells p)) n (and_parts (length (cells p) == n) _ rest).0 in
       let here : span_size p from to ≡ total_by (cell_size t) (window from to (cells p)) =
-      subst (λ u. span_size p from to ≡ total_by (cell_size u) (window from to (cells p))) typed (span_law p from to (left_true (is_sound p) (are_sound ps) s) le (omega arith)) in
-      let there = each_law fs ps from to n (right_true (is_sound p) (are_sound ps) s) (right_true (length (cells p) == n) _ rest) le within in
+      subst (λ u. span_size p from to ≡ total_by (cell_size u) (window from to (cells p))) typed (span_law p from to (and_parts (is_sound p) (are_sound ps) s).0 le (omega arith)) in
+      let there = each_law fs ps from to n (and_parts (is_sound p) (are_sound ps) s).1 (and_parts (length (cells p) == n) _ rest).1 le within in
       ((length-window from to (cells p) (omega arith), there.0), rw (here, there.1) refl)
 
 pub all_rows : (p : ChunkData) (n : ℕ) → is_sound p ≡ true → n ≡ length (cells p) → span_size p 0 n ≡ row_size p

@@ -2,7 +2,7 @@
 use Rattle.std.proofs.Common.{◌≡◌, ℕ, ◌+◌, ◌-◌, ◌*◌, ◌<◌, min, Bool, true, List, length, drop, get_or, map, refl, arith, eqb-true, Box}
 use Rattle.std.specs.Prelude.{◌==◌, if◌then◌else◌}
 use Rattle.std.specs.Global.{Vec, Global}
-use Rattle.std.proofs.lemmas.List.{drop_more, drop_all, length-map, length-replicate}
+use Rattle.std.proofs.lemmas.List.{drop_more, length-map, length-replicate}
 use Rattle.vx_model.specs.declared.cell.Cell.{Cell}
 use Rattle.vx_model.specs.declared.dtype.DType.{DType}
 use Rattle.vx_model.specs.Words.{total_by}
@@ -20,7 +20,7 @@ use Rattle.vx_chunk.specs.Sizes.{span_size, span_sizes, each_span_size}
 use Rattle.vx_chunk_cells.proofs.Windows.{window-map, window-replicate}
 use Rattle.vx_chunk_cells.proofs.Steps.{map-replicate}
 use Rattle.vx_chunk_cells.proofs.SizeSteps.{total_same, total-replicate}
-use Rattle.vx_chunk.proofs.Codes.{tree_int, tree_null}
+use Rattle.vx_chunk_cells.proofs.CodeSteps.{tree_int}
 use Rattle.vx_chunk.proofs.RowSteps.{cell_at_in, cell_at-replicate}
 use Rattle.vx_chunk.proofs.Depths.{depth_in}
 

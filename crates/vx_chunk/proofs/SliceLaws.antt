@@ -3,17 +3,17 @@ use Rattle.std.proofs.Common.{◌≡◌, ℕ, ◌+◌, ◌-◌, ◌≤◌, nat_l
 use Rattle.std.specs.Prelude.{◌==◌, if◌then◌else◌}
 use Rattle.std.proofs.lemmas.List.{length-map, length-replicate, length-take, length-drop}
 use Rattle.std.proofs.lemmas.Bool.Decides.{nat_tests}
+use Rattle.std.proofs.lemmas.Bool.{and_parts}
 use Rattle.vx_model.specs.Words.{head_or}
 use Rattle.vx_model.specs.Ty.{Ty, Tys, boolean, primitive, utf8, binary, list, struct, extension, no_fields, field, ty_eq}
 use Rattle.vx_model.specs.ChunkData.{ChunkData, ChunkList, plain_piece, constant_piece, dict_piece, chunked_piece, list_piece, struct_piece, extension_piece, no_pieces, part, pieces_in, piece_type, cells, joined_cells, each_cells, list_rows, picked, is_chunked, is_simple, are_offsets, match_fields, has_fields, is_sound, are_sound}
 use Rattle.vx_chunk_cells.specs.Window.{window, rebased, last_of}
 use Rattle.vx_chunk.specs.Slice.{sliced, sliced_parts, sliced_each}
-use Rattle.vx_chunk_cells.proofs.Tests.{left_true, right_true}
 use Rattle.vx_chunk.proofs.Sound.{of_dict, of_chunked, of_list, of_struct, of_extension}
 use Rattle.vx_chunk_cells.proofs.Windows.{window-map, window-replicate, window-append, window-back, window-nil}
 use Rattle.vx_chunk_cells.proofs.RowWindows.{window-list_rows, window-struct_rows, list_rows-take_flags, struct_rows-take_flags}
 use Rattle.vx_chunk.proofs.Lengths.{length-list_rows, length-struct_rows}
-use Rattle.vx_chunk.proofs.Offsets.{offsets_window, offsets_within}
+use Rattle.vx_chunk_cells.proofs.OffsetLaws.{offsets_window, offsets_within}
 use Rattle.vx_chunk_cells.proofs.ListSteps.{length-rebased}
 use Rattle.vx_chunk.proofs.RowGoals.{lists_cut}
 
@@ -58,9 +58,9 @@ columns_have no_fields no_pieces n h = tt
 columns_have no_fields (part p ps) n h = cc
 columns_have (field name t fs) no_pieces n h = cc
 columns_have (field name t fs) (part p ps) n h =
-    let rest : _ ≡ true = right_true (ty_eq (piece_type p) t) _ h in
-    let same : length (cells p) ≡ n = eqb-true (length (cells p)) n (left_true (length (cells p) == n) _ rest) in
-    (omega arith, columns_have fs ps n (right_true (length (cells p) == n) _ rest))
+    let rest : _ ≡ true = (and_parts (ty_eq (piece_type p) t) _ h).1 in
+    let same : length (cells p) ≡ n = eqb-true (length (cells p)) n (and_parts (length (cells p) == n) _ rest).0 in
+    (omega arith, columns_have fs ps n (and_parts (length (cells p) == n) _ rest).1)
 
 pub have_fields : (t : Ty) (ps : ChunkList) (n : ℕ) → has_fields t (pieces_in ps) n ≡ true → HasRows n ps
 have_fields (struct fs m) ps n h = columns_have fs ps n h
@@ -113,12 +113,12 @@ mutual
   parts_cells no_pieces from to s le = sym (window-nil from to)
   parts_cells (part p ps) from to s le =
       let n : ℕ = length (cells p) in
-      let here : cells (sliced p (min from n) (min to n)) ≡ window (min from n) (min to n) (cells p) = sliced_cells p (min from n) (min to n) (left_true (is_sound p) (are_sound ps) s) (omega arith) (omega arith) in
-      let there : joined_cells (sliced_parts ps (from - n) (to - n)) ≡ window (from - n) (to - n) (joined_cells ps) = parts_cells ps (from - n) (to - n) (right_true (is_sound p) (are_sound ps) s) (omega arith) in
+      let here : cells (sliced p (min from n) (min to n)) ≡ window (min from n) (min to n) (cells p) = sliced_cells p (min from n) (min to n) (and_parts (is_sound p) (are_sound ps) s).0 (omega arith) (omega arith) in
+      let there : joined_cells (sliced_parts ps (from - n) (to - n)) ≡ window (from - n) (to - n) (joined_cells ps) = parts_cells ps (from - n) (to - n) (and_parts (is_sound p) (are_sound ps) s).1 (omega arith) in
       part_choice (nat_lt (min from n) (min to n)) p (sliced p (min from n) (min to n)) (sliced_parts ps (from - n) (to - n)) (min from n) (min to n) refl here
       ∙ ap (λ r. window (min from n) (min to n) (cells p) ++ r) there ∙ sym (window-append from to (cells p) (joined_cells ps))
 
   fields_cells : (ps : ChunkList) (from to n : ℕ) → are_sound ps ≡ true → from ≤ to → to ≤ n → HasRows n ps → each_cells (sliced_each ps from to) ≡ map (window from to) (each_cells ps)
   fields_cells no_pieces from to n s le within h = refl
   fields_cells (part p ps) from to n s le within h =
-      rw (sliced_cells p from to (left_true (is_sound p) (are_sound ps) s) le (omega (arith, h.0)), fields_cells ps from to n (right_true (is_sound p) (are_sound ps) s) le within h.1) refl
+      rw (sliced_cells p from to (and_parts (is_sound p) (are_sound ps) s).0 le (omega (arith, h.0)), fields_cells ps from to n (and_parts (is_sound p) (are_sound ps) s).1 le within h.1) refl

@@ -1,9 +1,9 @@
 -- Slices, part by part.
-use Rattle.std.proofs.Common.{◌≡◌, ℕ, zero, suc, ◌+◌, ◌-◌, ◌<◌, ◌≤◌, min, nat_lt, Bool, true, false, List, [], ◌∷◌, ◌++◌, length, take, drop, get_or, map, refl, ap, sym, ◌∙◌, arith, append_assoc, length-drop}
-use Rattle.std.proofs.lemmas.List.{map_push, map_more, take_more, drop_more, append-nil, drop_min}
+use Rattle.std.proofs.Common.{◌≡◌, ◌-◌, List, refl, ap, ◌∙◌, append_assoc}
+use Rattle.std.proofs.lemmas.List.{append-nil}
 use Rattle.vx_model.specs.ChunkData.{ChunkData, ChunkList, pieces_of, pieces_in, no_pieces, part}
 use Rattle.vx_chunk.proofs.Depths.{depth_in}
-use Rattle.vx_chunk_cells.proofs.Windows.{window-map, take_same, drop-map}
+use Rattle.vx_chunk_cells.proofs.Windows.{window-map}
 
 pub pieces_of-pieces_in : (ps : ChunkList) → pieces_of (pieces_in ps) ≡ ps
 pieces_of-pieces_in no_pieces = refl

@@ -1,18 +1,8 @@
 -- Steps of the walk that tells that a chunk is whole.
-use Rattle.std.proofs.Common.{◌≡◌, ℕ, zero, suc, ◌+◌, ◌<◌, ◌^◌, ◌&&◌, nat_lt, Bool, true, List, [], ◌∷◌, length, get_or, drop, map, refl, ◌∙◌, arith}
-use Rattle.std.proofs.lemmas.List.{drop_more, length-map}
-use Rattle.std.proofs.lemmas.Bool.Decides.{nat_tests}
-use Rattle.std.specs.Global.{Vec}
-use Rattle.vx_model.specs.declared.cell.Cell.{Cell}
-use Rattle.vx_model.specs.declared.cell.Cell as cl
-use Rattle.vx_model.specs.Words.{all_by}
-use Rattle.vx_model.specs.CellData.{trees_of}
-use Rattle.vx_model.specs.TreeView.{tree}
+use Rattle.std.proofs.Common.{◌≡◌, ℕ, ◌+◌, ◌<◌, ◌&&◌, List, length, get_or, drop, refl}
+use Rattle.std.proofs.lemmas.List.{drop_more}
 use Rattle.vx_model.specs.ChunkData.{ChunkData, pieces_of}
-use Rattle.vx_model.proofs.CellViews.{items_trees_of, tree_list, tree_struct, drop_all_by}
-use Rattle.vx_layout_spec.specs.Real.{is_byte, is_real_cell, are_real_cells, is_real, are_real}
-use Rattle.vx_layout_spec.proofs.RealLaws.{real_trees_of}
-use Rattle.vx_chunk_cells.proofs.Tests.{both_true, below_test}
+use Rattle.vx_layout_spec.specs.Real.{is_real, are_real}
 use Rattle.vx_chunk.proofs.Depths.{depth_in}
 
 -- chunks from place i on, at one more step
@@ -20,20 +10,4 @@ pub drop_real : (ps : List ChunkData) (i : ℕ) (p : ChunkData) → i < length p
     → are_real (pieces_of (drop i ps)) ≡ (is_real p && are_real (pieces_of (drop (i + 1) ps)))
 drop_real ps i p lt is = rw (drop_more ps i p lt, ← is) refl
 
-byte_test : (n : ℕ) → n < 256 → nat_lt n 256 ≡ true
-byte_test n h = grind (arith, nat_tests)
-
-pub all_bytes : (bs : List ℕ) → ((i : ℕ) → get_or bs i 0 < 256) → all_by is_byte bs ≡ true
-all_bytes [] h = refl
-all_bytes (b ∷ bs) h = both_true (nat_lt b 256) (all_by is_byte bs) (byte_test b (h 0)) (all_bytes bs (λ i. h (suc i)))
-
-pub list_real : (d : Cell) (valid : Bool) (v : Vec Cell) → d ≡ cl.List valid v → all_by is_real_cell (map tree v.items) ≡ true → length v.items < 2 ^ 64 → is_real_cell (tree d) ≡ true
-list_real d valid v e h short =
-    rw (e, tree_list valid v)
-    (both_true (are_real_cells (trees_of (map tree v.items))) _ (real_trees_of (map tree v.items) ∙ h)
-    (rw (items_trees_of (map tree v.items), length-map v.items tree) (below_test (length v.items) short)))
-
-pub struct_real : (d : Cell) (valid : Bool) (v : Vec Cell) → d ≡ cl.Struct valid v → all_by is_real_cell (map tree v.items) ≡ true → is_real_cell (tree d) ≡ true
-struct_real d valid v e h = rw (e, tree_struct valid v) (real_trees_of (map tree v.items) ∙ h)
-
-pub ruleset whole_rules = (drop_real, drop_all_by, list_real, struct_real, below_test, depth_in)
+pub ruleset whole_rules = (drop_real, depth_in)

@@ -1,14 +1,12 @@
 -- Types, cells and chunks as trees of numbers, one to one: by this a proof tells two chunks apart.
-use Rattle.std.specs.Prelude.{◌≡◌, ℕ, zero, suc, Bool, true, false, List, [], ◌∷◌, pos, negsuc, refl}
+use Rattle.std.specs.Prelude.{◌≡◌, zero, suc, false, List, [], ◌∷◌, pos, negsuc, refl}
 use Rattle.std.specs.Coded.{Coded, code_by}
 use base.Stored.{Gv, gnil, gnum, gcons}
 use denote.Struct.Codes.{itself}
-use Rattle.vx_model.specs.declared.ptype.PType.{PType}
-use Rattle.vx_model.specs.declared.ptype.PType.TheVariants.{U8, U16, U32, U64, I8, I16, I32, I64}
-use Rattle.vx_model.specs.Ty.{Ty, Tys, boolean, primitive, utf8, binary, list, struct, extension, no_fields, field}
+use Rattle.vx_model.specs.Ty.{boolean}
 use Rattle.vx_model.specs.CellData.{CellData, CellList, null_cell, bool_cell, int_cell, text_cell, bytes_cell, list_cell, struct_cell, no_cells, cell}
 use Rattle.vx_model.specs.ChunkData.{ChunkData, ChunkList, plain_piece, constant_piece, dict_piece, chunked_piece, list_piece, struct_piece, extension_piece, no_pieces, part}
-use Rattle.vx_model.specs.Codes.{flag, flag_of, flag_back, number_of, numbers, numbers_of, numbers_back, flags, flags_of, flags_back, ptype, ty_code, ty_of, ty_back}
+use Rattle.vx_model.specs.Codes.{flag, flag_of, flag_back, number_of, numbers, numbers_of, numbers_back, flags, flags_of, flags_back, ty_code, ty_of, ty_back}
 
 -- ---- cells
 

@@ -1,21 +1,10 @@
 -- The columns of a struct or a list chunk.
-use Rattle.std.specs.Prelude.{ℕ, ◌&&◌, ◌==◌, Bool, true, false, List, [], ◌∷◌, length, map}
-use Rattle.vx_model.specs.Words.{all_by, head_or}
-use Rattle.vx_model.specs.Ty.{Ty, Tys, boolean, list, struct, no_fields, field}
-use Rattle.vx_model.specs.CellData.{CellData, null_cell, bool_cell, struct_cell, cell, fits}
+use Rattle.std.specs.Prelude.{◌&&◌, Bool, true, false, List, [], ◌∷◌, length}
+use Rattle.vx_model.specs.Words.{all_by}
+use Rattle.vx_model.specs.Ty.{Tys, no_fields, field}
+use Rattle.vx_model.specs.CellData.{CellData, fits}
 use Rattle.vx_model.specs.ChunkData.{ChunkData, plain_piece, list_piece, extension_piece, cells}
-use Rattle.vx_chunk_cells.specs.Window.{last_of}
-use Rattle.vx_layout_spec.specs.Parts.{flag_of}
-
--- the fields of a struct type
-abbrev pub struct_fields : Ty → Tys
-struct_fields (struct fs n) = fs
-struct_fields t = no_fields
-
--- the type of a list's elements
-abbrev pub element_type : Ty → Ty
-element_type (list t n) = t
-element_type t = t
+use Rattle.vx_chunk_cells.specs.Parts.{cover}
 
 -- a plain chunk a field
 abbrev pub typed_columns : Tys → List (List CellData) → List ChunkData
@@ -39,10 +28,6 @@ keeps_cells p = false
 abbrev pub is_plain : ChunkData → Bool
 is_plain (plain_piece t cs) = true
 is_plain p = false
-
--- offsets from 0 to so many elements
-abbrev pub cover : ℕ → List ℕ → Bool
-cover count os = (head_or 0 os == 0) && (last_of os == count)
 
 -- the elements are plain, and just those of the rows, in their places
 abbrev pub keeps_elements : ChunkData → Bool

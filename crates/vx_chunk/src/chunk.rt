@@ -107,7 +107,7 @@ impl Chunk {
         }
     }
 
-    /// The storage's rows under the extension type. `conditions::has_storage` tests the condition.
+    /// The storage's rows under the extension type. `vx_chunk_cells::has_storage` tests the condition.
     pub fn extension(alloc: Global, dtype: DType, storage: Chunk) -> Result<Chunk, ChunkError>
         requires { IsTrue (has_storage (ty dtype) (piece_type storage)) }
         ensures ok { IfOk result (λ c. c ≡ extension_piece (ty dtype) storage) }

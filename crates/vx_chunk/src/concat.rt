@@ -2,7 +2,7 @@
 
 ghost use Rattle.std.specs.Prelude.{◌≡◌, ◌++◌, length, IsTrue, IfOk, IfErr, OnOk};
 ghost use Rattle.vx_model.specs.TyView.{ty};
-ghost use Rattle.vx_model.specs.ChunkData.{chunked_piece, pieces_of, piece_type, cells as cells_in, joined_cells};
+ghost use Rattle.vx_model.specs.ChunkData.{chunked_piece, pieces_of, cells as cells_in, joined_cells};
 ghost use Rattle.vx_chunk.specs.Conditions.{are_of_type, IsTooLarge};
 ghost use Rattle.vx_layout_spec.specs.Parts.{parts_of, all_parts};
 

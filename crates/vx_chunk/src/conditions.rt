@@ -1,48 +1,20 @@
 //! Tests of what the constructors ask.
 
-ghost use Rattle.std.specs.Prelude.{◌≡◌, ◌&&◌, not, length, map, IsTrue};
+ghost use Rattle.std.specs.Prelude.{◌≡◌, ◌&&◌, not, map, IsTrue};
 ghost use Rattle.vx_model.specs.Words.{all_by};
 ghost use Rattle.vx_model.specs.Ty.{tys_of, ty_eq};
 ghost use Rattle.vx_model.specs.TyView.{ty, field_ty};
-ghost use Rattle.vx_model.specs.TreeView.{tree};
-ghost use Rattle.vx_model.specs.ChunkData.{piece_type, cells as cells_in, is_simple, is_chunked, is_unsigned as unsigned, is_code_type as of_codes, is_dict_type as of_values, is_code as is_place, are_parts as are_parts_of, are_offsets as ascend, are_flags as are_flags_of, has_elements as of_elements, has_storage as of_storage, has_fields as of_fields, match_fields as match_types};
+ghost use Rattle.vx_model.specs.ChunkData.{piece_type, cells as cells_in, is_simple, is_chunked, is_code as is_place, are_parts as are_parts_of, has_fields as of_fields, match_fields as match_types};
 ghost use Rattle.vx_chunk.specs.Conditions.{makes_dict as dict_of, makes_list as list_of, makes_struct as struct_of, are_of_type as all_of_type};
 
 use crate::node::{Chunk, Node};
-use vx_model::{Cell, DType, PType, StructField};
-
-/// Whether a dictionary's codes may have the type: non-nullable and unsigned.
-pub fn is_code_type(dtype: &DType) -> bool
-    ensures { result ≡ of_codes (ty dtype.now) }
-{
-    match dtype {
-        DType::Primitive(p, n) => is_unsigned(*p) && !n.is_nullable(),
-        DType::Bool(_) | DType::Utf8(_) | DType::Binary(_) => false,
-        DType::List(..) | DType::Struct(..) | DType::Extension(_) => false,
-    }
-}
-
-fn is_unsigned(ptype: PType) -> bool
-    ensures { result ≡ unsigned ptype }
-{
-    match ptype {
-        PType::U8 | PType::U16 | PType::U32 | PType::U64 => true,
-        PType::I8 | PType::I16 | PType::I32 | PType::I64 => false,
-    }
-}
-
-/// Whether a dictionary's values may have the type: integers, texts or bytes.
-pub fn is_dict_type(dtype: &DType) -> bool
-    ensures { result ≡ of_values (ty dtype.now) }
-{
-    match dtype {
-        DType::Primitive(..) | DType::Utf8(_) | DType::Binary(_) => true,
-        DType::Bool(_) | DType::List(..) | DType::Struct(..) | DType::Extension(_) => false,
-    }
-}
+use vx_chunk_cells::{
+    are_flags, are_offsets, are_places, has_elements, is_code, is_code_type, is_dict_type,
+};
+use vx_model::{DType, StructField};
 
 /// Whether each of the codes is below the number of values.
-#[tactic(auto, using(crate::proofs::Codes::code_rules))]
+#[tactic(auto, using(vx_chunk_cells::proofs::CodeSteps::code_rules))]
 pub fn are_codes(codes: &Chunk, count: u64) -> bool
     requires { IsTrue (is_simple codes.now) }
     ensures { result ≡ all_by (is_place count) (cells_in codes.now) }
@@ -55,31 +27,8 @@ pub fn are_codes(codes: &Chunk, count: u64) -> bool
     }
 }
 
-#[tactic(auto, using(crate::proofs::Codes::code_rules))]
-fn are_places(cells: &[Cell], count: u64) -> bool
-    ensures { result ≡ all_by (is_place count) (map tree cells.now) }
-{
-    for cell in cells {
-        if !is_code(cell, count) {
-            return false;
-        }
-    }
-    true
-}
-
-/// Whether the cell is a code below the number of values.
-#[tactic(auto, using(crate::proofs::Codes::code_rules))]
-pub fn is_code(cell: &Cell, count: u64) -> bool
-    ensures { result ≡ is_place count (tree cell.now) }
-{
-    match cell {
-        Cell::Int(n) => 0 <= *n && *n < i128::from(count),
-        _ => false,
-    }
-}
-
 /// Whether the two make a dictionary.
-#[tactic(auto, using(crate::proofs::Codes::code_rules))]
+#[tactic(auto, using(vx_chunk_cells::proofs::CodeSteps::code_rules))]
 pub fn makes_dict(codes: &Chunk, values: &Chunk) -> bool
     ensures { result ≡ dict_of codes.now values.now }
 {
@@ -127,57 +76,6 @@ pub fn are_of_type(dtype: &DType, chunks: &[Chunk]) -> bool
         }
     }
     true
-}
-
-/// Whether the offsets, at least one, ascend and end within so many elements.
-#[tactic(auto, using(crate::proofs::Offsets::offset_rules))]
-pub fn are_offsets(offsets: &[u64], count: u64) -> bool
-    ensures { result ≡ ascend count offsets.now }
-{
-    if offsets.is_empty() {
-        return false;
-    }
-    for i in 1..offsets.len() {
-        if offsets[i - 1] > offsets[i] {
-            return false;
-        }
-    }
-    offsets[offsets.len() - 1] <= count
-}
-
-/// Whether there is a flag a row where the type is nullable, and else none.
-pub fn are_flags(dtype: &DType, rows: u64, valid: &[bool]) -> bool
-    ensures { result ≡ are_flags_of (ty dtype.now) rows valid.now }
-{
-    if dtype.is_nullable() {
-        valid.len() as u64 == rows
-    } else {
-        valid.is_empty()
-    }
-}
-
-/// Whether the type is a list of such elements.
-#[tactic(auto, using(vx_model::proofs::Views::view_rules))]
-pub fn has_elements(dtype: &DType, elements: &DType) -> bool
-    ensures { result ≡ of_elements (ty dtype.now) (ty elements.now) }
-{
-    match dtype {
-        DType::List(items, _) => **items == *elements,
-        DType::Bool(_) | DType::Primitive(..) | DType::Utf8(_) | DType::Binary(_) => false,
-        DType::Struct(..) | DType::Extension(_) => false,
-    }
-}
-
-/// Whether the type is an extension of such a storage.
-#[tactic(auto, using(vx_model::proofs::Views::view_rules))]
-pub fn has_storage(dtype: &DType, storage: &DType) -> bool
-    ensures { result ≡ of_storage (ty dtype.now) (ty storage.now) }
-{
-    match dtype {
-        DType::Extension(ext) => *ext.storage == *storage,
-        DType::Bool(_) | DType::Primitive(..) | DType::Utf8(_) | DType::Binary(_) => false,
-        DType::List(..) | DType::Struct(..) => false,
-    }
 }
 
 /// Whether the type is a struct, and each field has a chunk of its type with so many rows.

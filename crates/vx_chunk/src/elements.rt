@@ -1,15 +1,15 @@
 //! The elements of list chunks.
 
-ghost use Rattle.std.specs.Prelude.{◌≡◌, ◌∷◌, ◌++◌, ◌<◌, ◌≤◌, ◌-◌, ◌*◌, ◌^◌, length, map, replicate, IsTrue, IfOk, IfErr, OnOk};
+ghost use Rattle.std.specs.Prelude.{◌≡◌, ◌∷◌, ◌++◌, ◌<◌, ◌≤◌, ◌-◌, ◌*◌, ◌^◌, length, map, IsTrue, IfOk, IfErr, OnOk};
 ghost use Rattle.vx_model.specs.Words.{head_or, tail};
 ghost use Rattle.vx_model.specs.Ty.{is_list};
-ghost use Rattle.vx_model.specs.TyView.{ty};
 ghost use Rattle.vx_model.specs.TreeView.{tree};
 ghost use Rattle.vx_model.specs.ChunkData.{piece_type, pieces_of, plain_piece, cells as cells_in, joined_cells, are_offsets};
-ghost use Rattle.vx_chunk_cells.specs.Window.{window, last_of, counted, Within};
+ghost use Rattle.vx_chunk_cells.specs.Window.{window, last_of, counted};
+ghost use Rattle.vx_chunk_cells.specs.Parts.{element_type};
 ghost use Rattle.vx_layout_spec.specs.Parts.{flag_of as is_valid, all_elements, ends};
 ghost use Rattle.vx_chunk.specs.Conditions.{IsTooLarge};
-ghost use Rattle.vx_chunk.specs.Parts.{element_type, is_plain, cover, keeps_elements};
+ghost use Rattle.vx_chunk.specs.Parts.{is_plain, keeps_elements};
 
 use crate::error::ChunkError;
 use crate::flags::flags;
@@ -17,9 +17,10 @@ use crate::node::{Chunk, Node};
 use crate::rows::push_between;
 use std::alloc::{AllocError, Global};
 use vx_chunk_cells::{
-    count_elements, element_len, push_apart, push_copies_apart, push_counted, push_same_offset,
+    copied_elements, count_elements, cover, items_of, push_apart, push_copies_apart, push_counted,
+    push_same_offset, span_len,
 };
-use vx_model::{Cell, DType};
+use vx_model::Cell;
 
 impl Chunk {
     /// The elements of all rows of a list chunk, plain, those of invalid rows too; where each row's begin, and where
@@ -74,18 +75,6 @@ impl Chunk {
     }
 }
 
-/// The type of a list's elements.
-#[tactic(auto, using(crate::proofs::ElementSteps::type_rules))]
-fn items_of(dtype: &DType) -> &DType
-    requires { IsTrue (is_list (ty dtype.now)) }
-    ensures { ty result.now ≡ element_type (ty dtype.now) }
-{
-    match dtype.as_list() {
-        Some(items) => items,
-        None => unreachable!(),
-    }
-}
-
 /// Whether the elements are plain, and just those of the rows, in their places.
 fn keeps_elements(chunk: &Chunk) -> bool
     ensures { result ≡ keeps_elements chunk.now }
@@ -107,15 +96,6 @@ fn is_plain(chunk: &Chunk) -> bool
     matches!(&chunk.node, Node::Plain { .. })
 }
 
-/// Whether the offsets begin at 0 and end at the number of elements.
-#[tactic(auto, using(crate::proofs::ElementSteps::cover_rules))]
-fn cover(offsets: &[u64], count: u64) -> bool
-    requires { 1 ≤ length offsets.now }
-    ensures { result ≡ cover count offsets.now }
-{
-    offsets[0] == 0 && offsets[offsets.len() - 1] == count
-}
-
 /// Elements of all rows.
 #[cycle(counts)]
 #[tactic(auto, using(crate::proofs::ElementSteps::element_rules))]
@@ -131,25 +111,6 @@ fn element_count(chunk: &Chunk) -> u128
         Node::List { offsets, .. } => span_len(offsets),
         Node::Extension { storage, .. } => element_count(storage),
     }
-}
-
-/// How far it is from the first place to the last.
-#[tactic(auto, using(crate::proofs::ElementSteps::span_rules))]
-fn span_len(places: &[u64]) -> u128
-    requires some { 1 ≤ length places.now }
-    requires ascend { Within (head_or 0 places.now) (last_of places.now) places.now }
-    ensures span { result ≡ last_of places.now - head_or 0 places.now }
-    ensures bound { result ≤ (length places.now - 1) * (2 ^ 64 - 1) }
-{
-    u128::from(places[places.len() - 1] - places[0])
-}
-
-#[tactic(auto, using(crate::proofs::ElementSteps::element_rules))]
-fn copied_elements(cell: &Cell, rows: u64) -> u128
-    ensures count { result ≡ length (all_elements (replicate rows (tree cell.now))) }
-    ensures bound { result ≤ rows * (2 ^ 64 - 1) }
-{
-    u128::from(rows) * u128::from(element_len(cell))
 }
 
 #[cycle(counts)]

@@ -8,14 +8,15 @@ ghost use Rattle.vx_model.specs.CellData.{fits};
 ghost use Rattle.vx_model.specs.TreeView.{tree};
 ghost use Rattle.vx_model.specs.ChunkData.{piece_type, cells as cells_in};
 ghost use Rattle.vx_chunk_cells.specs.Columns.{trees_in};
-ghost use Rattle.vx_chunk.specs.Parts.{struct_fields, typed_columns, columns_fit};
+ghost use Rattle.vx_chunk_cells.specs.Parts.{struct_fields};
+ghost use Rattle.vx_chunk.specs.Parts.{typed_columns, columns_fit};
 ghost use Rattle.vx_layout_spec.specs.Parts.{field_pieces, plain_fields};
 
 use crate::copy::copy_all;
 use crate::error::ChunkError;
 use crate::node::{Chunk, Node};
 use std::alloc::{AllocError, Global};
-use vx_chunk_cells::columns_of;
+use vx_chunk_cells::{columns_of, types_of};
 use vx_model::{Cell, DType, StructField};
 
 impl Chunk {
@@ -77,18 +78,6 @@ fn field_columns(alloc: Global, dtype: &DType, cells: Vec<Cell>) -> Result<Vec<C
     let types = types_of(dtype);
     let columns = columns_of(alloc, cells, types.len())?;
     typed(alloc, types, columns)
-}
-
-/// The fields of a struct type.
-#[tactic(auto, using(crate::proofs::FieldSteps::type_rules))]
-fn types_of(dtype: &DType) -> &[StructField]
-    requires { IsTrue (is_struct (ty dtype.now)) }
-    ensures { tys_of (map field_ty result.now) ≡ struct_fields (ty dtype.now) }
-{
-    match dtype.as_struct() {
-        Some(fields) => fields,
-        None => unreachable!(),
-    }
 }
 
 /// A plain chunk of each column.

@@ -1,6 +1,6 @@
 //! Laws of sizes and of rows.
 
-ghost use Rattle.std.specs.Prelude.{◌≡◌, ◌+◌, ◌≤◌, ℕ, List, length, map, IsTrue};
+ghost use Rattle.std.specs.Prelude.{◌≡◌, ◌+◌, ◌≤◌, ℕ, List, length, IsTrue};
 ghost use Rattle.vx_model.specs.Words.{joined_by, total_by};
 ghost use Rattle.vx_model.specs.Ty.{Ty};
 ghost use Rattle.vx_model.specs.CellData.{CellData};

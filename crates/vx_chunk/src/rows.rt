@@ -1,18 +1,17 @@
 //! The rows of a chunk as cells.
 
-ghost use Rattle.std.specs.Prelude.{◌≡◌, ◌++◌, ◌<◌, ◌≤◌, ◌+◌, ◌-◌, length, map, replicate, drop, IsTrue, IfOk, IfErr, OnOk};
+ghost use Rattle.std.specs.Prelude.{◌≡◌, ◌++◌, ◌≤◌, ◌-◌, length, map, IsTrue, IfOk, IfErr, OnOk};
 ghost use Rattle.vx_model.specs.TreeView.{tree};
 ghost use Rattle.vx_model.specs.ChunkData.{pieces_of, cells as cells_in, joined_cells, list_rows, struct_rows, picked, is_simple, are_offsets};
 ghost use Rattle.vx_chunk_cells.specs.Window.{window};
 ghost use Rattle.vx_chunk.specs.Rows.{have_rows, column};
 
-use crate::conditions::is_code;
 use crate::error::ChunkError;
 use crate::node::{Chunk, Node};
 use std::alloc::{AllocError, Global};
 use vx_chunk_cells::{
-    empty_rows, flags_from, offsets_between, push_cells, push_copies, push_each, push_lists,
-    push_structs,
+    empty_rows, flags_from, is_code, offsets_between, push_cells, push_copies, push_each,
+    push_lists, push_structs,
 };
 use vx_model::Cell;
 

@@ -2,9 +2,7 @@
 
 ghost use Rattle.std.specs.Prelude.{◌≡◌, ◌↔◌, ◌<◌, ◌≤◌, ◌^◌, ◌-◌, ◌*◌, min, length, map, IsTrue, IsOk, IfOk, IfErr};
 ghost use Rattle.vx_model.specs.Words.{total_by, head_or};
-ghost use Rattle.vx_model.specs.Ty.{nullable};
-ghost use Rattle.vx_model.specs.CellData.{cell_size as size_of, null_byte as byte_of};
-ghost use Rattle.vx_model.specs.TyView.{ty};
+ghost use Rattle.vx_model.specs.CellData.{cell_size as size_of};
 ghost use Rattle.vx_model.specs.TreeView.{tree};
 ghost use Rattle.vx_model.specs.ChunkData.{piece_type, pieces_of, cells as cells_in, picked, row_size, held, held_parts, is_simple, are_offsets};
 ghost use Rattle.vx_chunk_cells.specs.Window.{window, last_of};
@@ -12,11 +10,10 @@ ghost use Rattle.vx_chunk.specs.Conditions.{IsPast, IsFarPast};
 ghost use Rattle.vx_chunk.specs.Rows.{have_rows};
 ghost use Rattle.vx_chunk.specs.Sizes.{span_size, span_sizes, each_span_size};
 
-use crate::conditions::is_code;
 use crate::error::ChunkError;
 use crate::node::{Chunk, Node};
-use vx_chunk_cells::{cell_size, cells_size, offsets_between};
-use vx_model::{Cell, DType};
+use vx_chunk_cells::{cell_size, cells_size, is_code, null_byte, offsets_between, times};
+use vx_model::Cell;
 
 impl Chunk {
     /// Bytes that the chunk takes as it is held, takes no memory: a constant's cell and a dictionary's values count
@@ -111,28 +108,15 @@ fn span_bytes(chunk: &Chunk, from: u64, to: u64) -> u128
             ..
         } => {
             let offsets = offsets_between(offsets, from, to);
-            let heads = times(to - from, 8 + null_byte(dtype));
+            let heads = times(to - from, 8 + null_byte(dtype.is_nullable()));
             elements_bytes(elements, offsets).saturating_add(heads)
         }
         Node::Struct { dtype, fields, .. } => {
-            let flags = times(to - from, null_byte(dtype));
+            let flags = times(to - from, null_byte(dtype.is_nullable()));
             fields_bytes(fields, from, to).saturating_add(flags)
         }
         Node::Extension { storage, .. } => span_bytes(storage, from, to),
     }
-}
-
-fn times(rows: u64, bytes: u128) -> u128
-    ensures { result ≡ min (rows * bytes) (2 ^ 128 - 1) }
-{
-    u128::from(rows).saturating_mul(bytes)
-}
-
-/// One byte where the type has a null.
-fn null_byte(dtype: &DType) -> u128
-    ensures { result ≡ byte_of (nullable (ty dtype.now)) }
-{
-    if dtype.is_nullable() { 1 } else { 0 }
 }
 
 #[cycle(spans)]

@@ -1,13 +1,12 @@
 //! Some of a chunk's rows, in the same encoding.
 
-ghost use Rattle.std.specs.Prelude.{◌≡◌, ◌≤◌, length, map, IsTrue, IfOk, IfErr};
+ghost use Rattle.std.specs.Prelude.{◌≡◌, ◌≤◌, length, IsTrue, IfOk, IfErr};
 ghost use Rattle.vx_model.specs.Words.{head_or};
 ghost use Rattle.vx_model.specs.TyView.{ty};
-ghost use Rattle.vx_model.specs.TreeView.{tree};
-ghost use Rattle.vx_model.specs.ChunkData.{pieces_of, pieces_in, piece_type, cells as cells_in, is_sound, are_offsets, list_piece};
+ghost use Rattle.vx_model.specs.ChunkData.{pieces_of, piece_type, cells as cells_in, is_sound, are_offsets, list_piece};
 ghost use Rattle.vx_chunk.specs.ChunkView.{node_piece};
 ghost use Rattle.vx_chunk.specs.Encoded.{encoding_of};
-ghost use Rattle.vx_chunk_cells.specs.Window.{window, rebased, last_of, Within};
+ghost use Rattle.vx_chunk_cells.specs.Window.{window, rebased, last_of};
 ghost use Rattle.vx_chunk.specs.Rows.{have_rows};
 ghost use Rattle.vx_chunk.specs.Slice.{sliced, sliced_parts, sliced_each};
 

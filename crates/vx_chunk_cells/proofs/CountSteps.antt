@@ -28,3 +28,5 @@ length-all_elements-replicate zero c = omega arith
 length-all_elements-replicate (suc n) c = rw (length-append (elements_of c) (all_elements (replicate n c)), length-all_elements-replicate n c) (omega arith)
 
 pub ruleset count_rules = (count_more)
+
+pub ruleset copied_rules = (length-all_elements-replicate)

@@ -8,3 +8,7 @@ pub mod PartSteps
 pub mod CountSteps
 pub mod ValueSteps
 pub mod SizeSteps
+pub mod TypeSteps
+pub mod CodeSteps
+pub mod OffsetLaws
+pub mod RealSteps

@@ -42,6 +42,10 @@ last_is (o ∷ []) (suc n) e = absurd (omega arith)
 last_is (o ∷ p ∷ os) zero e = absurd (omega arith)
 last_is (o ∷ p ∷ os) (suc n) e = last_is (p ∷ os) n (omega arith)
 
+-- the last offset by its place
+pub last_at : (os : List ℕ) → 1 ≤ length os → get_or os (length os - 1) 0 ≡ last_of os
+last_at os some = sym (last_is os (length os - 1) (omega arith))
+
 -- the row at place i, and those behind it
 pub one_more : (es : List CellData) (os : List ℕ) (v : List Bool) (i : ℕ) → i + 1 < length os
     → list_rows es (drop i os) v ≡ list_cell (head_or true v) (trees_of (window (get_or os i 0) (get_or os (i + 1) 0) es)) ∷ list_rows es (drop (i + 1) os) (tail v)

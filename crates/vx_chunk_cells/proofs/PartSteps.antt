@@ -1,7 +1,8 @@
 -- Steps of taking lists and structs apart.
-use Rattle.std.proofs.Common.{◌≡◌, ℕ, zero, suc, ◌+◌, ◌-◌, ◌<◌, ◌≤◌, Bool, true, List, [], ◌∷◌, ◌++◌, length, take, drop, get_or, map, refl, ap, sym, ◌∙◌, arith, append_assoc, rules, length-append, eqb-true, ◌&&◌}
+use Rattle.std.proofs.Common.{◌≡◌, ℕ, zero, suc, ◌+◌, ◌-◌, ◌<◌, ◌≤◌, Bool, true, List, [], ◌∷◌, ◌++◌, length, drop, get_or, map, refl, ap, sym, ◌∙◌, arith, append_assoc, rules, length-append, eqb-true, ◌&&◌}
 use Rattle.std.specs.Prelude.{replicate}
-use Rattle.std.proofs.lemmas.List.{map_push, map_more, take_more, drop_more, append-nil, length-map, map-append}
+use Rattle.std.proofs.lemmas.List.{map_push, map_more, drop_more, append-nil, length-map}
+use Rattle.std.proofs.lemmas.Bool.{and_parts}
 use Rattle.vx_model.specs.Words.{head_or, tail, all_by}
 use Rattle.vx_model.specs.CellData.{CellData, null_cell, bool_cell, int_cell, text_cell, bytes_cell, list_cell, struct_cell, items}
 use Rattle.vx_model.specs.declared.cell.Cell.{Cell}
@@ -12,7 +13,6 @@ use Rattle.vx_chunk_cells.specs.Columns.{rows_across, pushed_each}
 use Rattle.vx_chunk_cells.specs.Parts.{row_flags, fields_of, has_width}
 use Rattle.vx_layout_spec.specs.Parts.{elements_of, all_elements, ends}
 use Rattle.vx_chunk_cells.proofs.Steps.{replicate_push, column_more, pushed_each-nil}
-use Rattle.vx_chunk_cells.proofs.Tests.{left_true, right_true}
 use Rattle.vx_chunk_cells.proofs.RowWindows.{drop-tail}
 
 pub tree_bool : (b : Bool) → tree (cl.Bool b) ≡ bool_cell b
@@ -52,7 +52,7 @@ pub width_more : (n : ℕ) (columns : List (List CellData)) (c : CellData) (cs r
     → (pushed_each (rows_across n columns) (fields_of c) ≡ rows_across n (columns ++ fields_of c ∷ [])) × (all_by (has_width n) cs ≡ true)
 width_more n columns c cs rest e h =
     let both : (has_width n c && all_by (has_width n) cs) ≡ true = rw e at h in
-    (column_more n columns (fields_of c) (wide n c (left_true (has_width n c) (all_by (has_width n) cs) both)), right_true (has_width n c) (all_by (has_width n) cs) both)
+    (column_more n columns (fields_of c) (wide n c (and_parts (has_width n c) (all_by (has_width n) cs) both).0), (and_parts (has_width n c) (all_by (has_width n) cs) both).1)
 
 -- one copy of a list more
 pub copies_more : (n i : ℕ) (c : CellData) (old new : List Cell) (offsets more : List ℕ) (es : List CellData) (os : List ℕ) → i < n → map tree new ≡ map tree old ++ elements_of c → more ≡ offsets ++ (length old + length (elements_of c)) ∷ []

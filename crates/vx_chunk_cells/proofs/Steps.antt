@@ -1,7 +1,7 @@
 -- Steps of the loops that put rows together.
 use Rattle.std.proofs.Common.{◌≡◌, ℕ, zero, suc, ◌+◌, ◌-◌, ◌<◌, ◌≤◌, Bool, true, List, [], ◌∷◌, ◌++◌, length, take, drop, get_or, set, map, refl, ap, sym, ◌∙◌, arith, append_assoc}
 use Rattle.std.specs.Prelude.{replicate}
-use Rattle.std.proofs.lemmas.List.{map_push, map_more, take_more, drop_more, append-nil, drop_all, take_all, take_more_set, drop-set-lt, map-append, take-append-drop, set-get_or, take_at}
+use Rattle.std.proofs.lemmas.List.{map_push, map_more, drop_more, append-nil, drop_all, take_all, take_more_set, drop-set-lt, map-append, take-append-drop, set-get_or, take_at}
 use Rattle.std.specs.Global.{Vec}
 use Rattle.vx_model.specs.Words.{head_or, tail}
 use Rattle.vx_model.specs.CellData.{CellData, null_cell}

@@ -92,6 +92,15 @@ pub fn element_len(cell: &Cell) -> u64
     }
 }
 
+/// Elements of so many copies of a list.
+#[tactic(auto, using(crate::proofs::CountSteps::copied_rules))]
+pub fn copied_elements(cell: &Cell, rows: u64) -> u128
+    ensures count { result ≡ length (all_elements (replicate rows (tree cell.now))) }
+    ensures bound { result ≤ rows * (2 ^ 64 - 1) }
+{
+    u128::from(rows) * u128::from(element_len(cell))
+}
+
 /// The elements of the lists behind the elements, and where each list ends behind the offsets.
 #[tactic(auto, using(crate::proofs::PartSteps::part_rules))]
 pub fn push_apart(

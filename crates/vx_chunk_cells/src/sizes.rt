@@ -1,6 +1,6 @@
 //! Bytes that cells count for.
 
-ghost use Rattle.std.specs.Prelude.{◌≡◌, ◌-◌, ◌^◌, min, map};
+ghost use Rattle.std.specs.Prelude.{◌≡◌, ◌-◌, ◌*◌, ◌^◌, min, map};
 ghost use Rattle.vx_model.specs.Words.{total_by};
 ghost use Rattle.vx_model.specs.Numbers.{is_nullable};
 ghost use Rattle.vx_model.specs.Ty.{tys_of};
@@ -33,20 +33,20 @@ pub fn cell_size(dtype: &DType, cell: &Cell) -> u128
     ensures { result ≡ min (size_of (ty dtype.now) (tree cell.now)) (2 ^ 128 - 1) }
 {
     match dtype {
-        DType::Bool(n) => u128::from(1 + null_byte(*n)),
-        DType::Primitive(p, n) => u128::from(p.byte_width() + null_byte(*n)),
+        DType::Bool(n) => 1 + null_byte(n.is_nullable()),
+        DType::Primitive(p, n) => u128::from(p.byte_width()) + null_byte(n.is_nullable()),
         DType::Utf8(n) | DType::Binary(n) => text_size(*n, cell),
         DType::List(items, n) => match cell {
             Cell::List(_, cells) => {
-                cells_size(items, cells).saturating_add(u128::from(8 + null_byte(*n)))
+                cells_size(items, cells).saturating_add(8 + null_byte(n.is_nullable()))
             }
-            _ => u128::from(8 + null_byte(*n)),
+            _ => 8 + null_byte(n.is_nullable()),
         },
         DType::Struct(fields, n) => match cell {
             Cell::Struct(_, cells) => {
-                fields_size(&fields.fields, cells).saturating_add(u128::from(null_byte(*n)))
+                fields_size(&fields.fields, cells).saturating_add(null_byte(n.is_nullable()))
             }
-            _ => u128::from(null_byte(*n)),
+            _ => null_byte(n.is_nullable()),
         },
         DType::Extension(ext) => cell_size(&ext.storage, cell),
     }
@@ -75,12 +75,19 @@ fn text_size(nullability: Nullability, cell: &Cell) -> u128
         Cell::Binary(blob) => blob.as_slice().len(),
         _ => 0,
     };
-    length as u128 + 16 + u128::from(null_byte(nullability))
+    length as u128 + 16 + null_byte(nullability.is_nullable())
 }
 
 /// One byte where the type has a null.
-pub fn null_byte(nullability: Nullability) -> u64
-    ensures { result ≡ byte_of (is_nullable nullability) }
+pub fn null_byte(nullable: bool) -> u128
+    ensures { result ≡ byte_of nullable }
 {
-    if nullability.is_nullable() { 1 } else { 0 }
+    if nullable { 1 } else { 0 }
+}
+
+/// The bytes of so many rows of the same size, at most the greatest u128.
+pub fn times(rows: u64, bytes: u128) -> u128
+    ensures { result ≡ min (rows * bytes) (2 ^ 128 - 1) }
+{
+    u128::from(rows).saturating_mul(bytes)
 }

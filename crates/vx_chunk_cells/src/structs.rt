@@ -1,6 +1,6 @@
 //! Structs of cells put together of columns.
 
-ghost use Rattle.std.specs.Prelude.{◌≡◌, ◌++◌, [], length, map, IfOk, OnOk};
+ghost use Rattle.std.specs.Prelude.{◌≡◌, ◌++◌, [], map, IfOk, OnOk};
 ghost use Rattle.vx_model.specs.TreeView.{tree};
 ghost use Rattle.vx_chunk_cells.specs.Columns.{trees_in, pushed_each, rows_across, structs};
 

@@ -1,6 +1,7 @@
 -- What is read of a type fits it.
 use Rattle.std.proofs.Common.{◌≡◌, ◌&&◌, Bool, true, false, List, Option, Some, None, refl, subst}
 use Rattle.std.specs.Prelude.{ℤ, IsTrue, if◌then◌else◌, Result, Ok, Err, ℕ}
+use Rattle.std.proofs.lemmas.Bool.{and_from}
 use Rattle.hex.specs.Hex.{decode_of}
 use Rattle.hex.specs.declared.error.FromHexError.{FromHexError}
 use Rattle.serde_json.specs.Data.{Data, null, boolean as bool, number, string, array, object, Items, no_items, item}
@@ -19,10 +20,6 @@ use Rattle.vx_chunk_json.specs.Cells.{bool_of, ranged, int_of, text_of, decoded,
 abbrev pub passes : {A : Type 0} → (A → Bool) → Option A → Bool
 passes f None = true
 passes f (Some x) = f x
-
-both : (a b : Bool) → a ≡ true → b ≡ true → (a && b) ≡ true
-both true b h k = k
-both false b h k = h
 
 -- ---- leaves
 
@@ -81,7 +78,7 @@ first_passes : {A : Type 0} (f : A → Bool) (x : Option A) (xs : Option (List A
 unfolding first_and
 first_passes f None xs h k = refl
 first_passes f (Some x) None h k = refl
-first_passes f (Some x) (Some xs) h k = both (f x) (all_by f xs) h k
+first_passes f (Some x) (Some xs) h k = and_from (f x) (all_by f xs) h k
 
 each_passes : {A : Type 0} (f : A → Bool) (read : Data → Option A) → ((d : Data) → passes f (read d) ≡ true) → (ds : Items) → passes (all_by f) (each read ds) ≡ true
 each_passes f read h no_items = refl
@@ -93,11 +90,11 @@ found_passes g (Some ds) read h = h ds
 
 list_with_passes : (n : Bool) (f : CellData → Bool) (valid : Bool) (cs : Option (List CellData)) → flag_fits valid n ≡ true → passes (all_by f) cs ≡ true → passes (list_fits n f) (list_with valid cs) ≡ true
 list_with_passes n f valid None h k = refl
-list_with_passes n f valid (Some cs) h k = both (flag_fits valid n) (all_by f (items (trees_of cs))) h (rw (items_trees_of cs) k)
+list_with_passes n f valid (Some cs) h k = and_from (flag_fits valid n) (all_by f (items (trees_of cs))) h (rw (items_trees_of cs) k)
 
 struct_with_passes : (n : Bool) (g : List CellData → Bool) (valid : Bool) (cs : Option (List CellData)) → flag_fits valid n ≡ true → passes g cs ≡ true → passes (struct_fits n g) (struct_with valid cs) ≡ true
 struct_with_passes n g valid None h k = refl
-struct_with_passes n g valid (Some cs) h k = both (flag_fits valid n) (g (items (trees_of cs))) h (rw (items_trees_of cs) k)
+struct_with_passes n g valid (Some cs) h k = and_from (flag_fits valid n) (g (items (trees_of cs))) h (rw (items_trees_of cs) k)
 
 list_passes : (n : Bool) (f : CellData → Bool) (read : Items → Option (List CellData)) → ((ds : Items) → passes (all_by f) (read ds) ≡ true) → (d : Data) → passes (list_fits n f) (list_of n read d) ≡ true
 list_passes true f read h null = refl
@@ -126,7 +123,7 @@ both_pass : (f : CellData → Bool) (g : List CellData → Bool) (x : Option Cel
 unfolding first_and
 both_pass f g None xs h k = refl
 both_pass f g (Some x) None h k = refl
-both_pass f g (Some x) (Some xs) h k = both (f x) (g xs) h k
+both_pass f g (Some x) (Some xs) h k = and_from (f x) (g xs) h k
 
 then_passes : (f : CellData → Bool) (g : List CellData → Bool) (read : Data → Option CellData) (others : Items → Option (List CellData)) → ((d : Data) → passes f (read d) ≡ true) → ((ds : Items) → passes g (others ds) ≡ true)
     → (ds : Items) → passes (first_fits f g) (first_then read others ds) ≡ true

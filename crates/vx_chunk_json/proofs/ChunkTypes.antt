@@ -6,7 +6,7 @@ use Rattle.vx_model.specs.Ty.{Ty, nullable}
 use Rattle.vx_model.specs.CellData.{CellData}
 use Rattle.vx_model.specs.ChunkData.{ChunkData, dict_piece, chunked_piece, list_piece, struct_piece, extension_piece, pieces_of, piece_type, joined_cells, are_parts, has_storage}
 use Rattle.vx_chunk.specs.Conditions.{makes_dict, makes_list, makes_struct}
-use Rattle.vx_chunk.specs.Parts.{element_type, struct_fields}
+use Rattle.vx_chunk_cells.specs.Parts.{element_type, struct_fields}
 use Rattle.vx_json.specs.Members.{has_keys, number_in}
 use Rattle.vx_json.specs.Lists.{each}
 use Rattle.vx_chunk_json.specs.Cells.{cell_of, cell_in}

@@ -8,7 +8,7 @@ ghost use Rattle.vx_model.specs.ChunkData.{ChunkData, piece_type, has_elements, 
 ghost use Rattle.vx_model.specs.TyView.{ty, field_ty};
 ghost use Rattle.vx_json.specs.Lists.{each};
 ghost use Rattle.vx_chunk_json.specs.Chunks.{has_parts as are_parts, inner_type, dict_of, chunked_of, extension_of, codes_in, chunk_of, chunk_at, chunks_at, list_at, struct_at, columns_at, columns_in};
-ghost use Rattle.vx_chunk.specs.Parts.{element_type, struct_fields};
+ghost use Rattle.vx_chunk_cells.specs.Parts.{element_type, struct_fields};
 ghost use Rattle.vx_json.specs.Views.{Gives};
 
 use crate::encodings::{

@@ -14,6 +14,7 @@ use crate::cells::{read_cell, read_cells};
 use serde_json::{Map, Value};
 use std::alloc::Global;
 use vx_chunk::{Chunk, ChunkError, conditions};
+use vx_chunk_cells::has_storage;
 use vx_json::{JsonError, array_at, member, number_at};
 use vx_model::{DType, Nullability, PType};
 
@@ -147,7 +148,7 @@ pub(crate) fn make_extension(
 ) -> Result<Chunk, JsonError>
     ensures { Gives (λ c. c) result (extension_of (ty dtype.now) (Some storage)) }
 {
-    if !conditions::has_storage(dtype, storage.dtype()) {
+    if !has_storage(dtype, storage.dtype()) {
         return Err(JsonError::Wrong);
     }
     made(Chunk::extension(alloc, dtype.clone()?, storage))

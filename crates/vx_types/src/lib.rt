@@ -2,6 +2,7 @@
 #![tactic(auto)]
 
 pub use vx_chunk::{Chunk, ChunkError, conditions};
+pub use vx_chunk_cells::has_storage;
 pub use vx_model::{
     ArrayContext, Blob, Cell, ContextError, DType, EncodingId, ExtDType, FieldName, IdTooLarge,
     Nullability, PType, SegmentId, StructField, StructFields, Text, Value,

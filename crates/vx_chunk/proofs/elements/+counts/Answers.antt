@@ -1,7 +1,7 @@
 use Rattle.std.proofs.Common.{length, ⊎_elim}
 use Rattle.vx_model.specs.ChunkData.{cells}
 use Rattle.vx_chunk.proofs.NodeSound.{in_list}
-use Rattle.vx_chunk.proofs.Offsets.{offsets_within}
+use Rattle.vx_chunk_cells.proofs.OffsetLaws.{offsets_within}
 use Rattle.vx_chunk.proofs.ElementSteps.{list_count, dict_none, struct_none}
 use Rattle.vx_chunk.proofs.elements.+counts.Goals as goal
 

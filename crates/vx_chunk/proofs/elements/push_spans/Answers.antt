@@ -5,10 +5,9 @@ use Rattle.vx_model.specs.Words.{head_or}
 use Rattle.vx_model.specs.TreeView.{tree}
 use Rattle.vx_model.specs.ChunkData.{cells}
 use Rattle.vx_chunk_cells.specs.Window.{window, last_of}
-use Rattle.vx_chunk_cells.proofs.ListSteps.{first_is}
+use Rattle.vx_chunk_cells.proofs.ListSteps.{first_is, last_at}
 use Rattle.vx_chunk_cells.proofs.Windows.{length-window}
-use Rattle.vx_chunk.proofs.Offsets.{offsets_within, some_offset}
-use Rattle.vx_chunk.proofs.RowGoals.{last_at}
+use Rattle.vx_chunk_cells.proofs.OffsetLaws.{offsets_within, some_offset}
 use Rattle.vx_chunk.proofs.elements.push_spans.Goals as goal
 
 pub push_between-requires-clause-order : goal.push_between-requires-clause-order

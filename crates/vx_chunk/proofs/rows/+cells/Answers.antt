@@ -8,11 +8,11 @@ use Rattle.vx_chunk_cells.specs.Columns.{trees_in, rows_across}
 use Rattle.vx_chunk.specs.Rows.{column}
 use Rattle.vx_chunk.proofs.NodeSound.{in_dict, in_list}
 use Rattle.vx_chunk_cells.proofs.Windows.{length-window}
-use Rattle.vx_chunk.proofs.Offsets.{offsets_window, offsets_within, some_offset}
+use Rattle.vx_chunk_cells.proofs.OffsetLaws.{offsets_window, offsets_within, some_offset}
 use Rattle.vx_chunk.proofs.Depths.{depth_in}
-use Rattle.vx_chunk_cells.proofs.ListSteps.{first_is}
+use Rattle.vx_chunk_cells.proofs.ListSteps.{first_is, last_at}
 use Rattle.vx_chunk_cells.proofs.Steps.{structs-rows_across}
-use Rattle.vx_chunk.proofs.RowGoals.{dict_window, rows_below, list_window, last_at, lists_cut, fields_have, struct_window, rows_more, columns_more, parts_more}
+use Rattle.vx_chunk.proofs.RowGoals.{dict_window, rows_below, list_window, lists_cut, fields_have, struct_window, rows_more, columns_more, parts_more}
 use Rattle.vx_chunk.proofs.rows.+cells.Goals as goal
 
 pub push_between-push_values-requires-clause-values :

@@ -1,10 +1,10 @@
 use Rattle.std.proofs.Common.{◌≤◌, length, arith, rules}
 use Rattle.vx_model.specs.ChunkData.{cells}
-use Rattle.vx_chunk_cells.proofs.ListSteps.{first_is}
+use Rattle.vx_chunk_cells.proofs.ListSteps.{first_is, last_at}
 use Rattle.vx_chunk.proofs.NodeSound.{in_dict, in_list}
-use Rattle.vx_chunk.proofs.Offsets.{offsets_window, offsets_within, some_offset}
+use Rattle.vx_chunk_cells.proofs.OffsetLaws.{offsets_window, offsets_within, some_offset}
 use Rattle.vx_chunk.proofs.Depths.{depth_in}
-use Rattle.vx_chunk.proofs.RowGoals.{rows_below, last_at, fields_have, rows_more}
+use Rattle.vx_chunk.proofs.RowGoals.{rows_below, fields_have, rows_more}
 use Rattle.vx_chunk.proofs.SizeSteps.{dict_span}
 use Rattle.vx_chunk.proofs.sizes.+spans.Goals as goal
 

@@ -1,7 +1,7 @@
 use Rattle.std.proofs.Common.{sym, ◌∙◌}
 use Rattle.vx_model.specs.TreeView.{tree}
 use Rattle.vx_model.specs.ChunkData.{cells}
-use Rattle.vx_chunk.proofs.Codes.{tree_null}
+use Rattle.vx_chunk_cells.proofs.CodeSteps.{tree_null}
 use Rattle.vx_chunk.proofs.RowSteps.{picked_past}
 use Rattle.vx_chunk.proofs.sizes.value_bytes.Goals as goal
 

@@ -5,9 +5,9 @@ use Rattle.vx_chunk.specs.ChunkView.{node_piece}
 use Rattle.vx_chunk.specs.Slice.{sliced_parts, sliced_each}
 use Rattle.vx_chunk.proofs.NodeSound.{in_list}
 use Rattle.vx_chunk.proofs.Depths.{depth_in}
-use Rattle.vx_chunk.proofs.Offsets.{offsets_window, offsets_within, some_offset}
-use Rattle.vx_chunk_cells.proofs.ListSteps.{first_is}
-use Rattle.vx_chunk.proofs.RowGoals.{rows_below, last_at, fields_have, rows_more}
+use Rattle.vx_chunk_cells.proofs.OffsetLaws.{offsets_window, offsets_within, some_offset}
+use Rattle.vx_chunk_cells.proofs.ListSteps.{first_is, last_at}
+use Rattle.vx_chunk.proofs.RowGoals.{rows_below, fields_have, rows_more}
 use Rattle.vx_chunk.proofs.SliceSound.{sliced_sound}
 use Rattle.vx_chunk.proofs.SliceSteps.{all_kept}
 use Rattle.vx_chunk.proofs.slice.+slice.Goals as goal

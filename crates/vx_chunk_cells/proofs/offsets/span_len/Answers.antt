@@ -1,9 +1,8 @@
 use Rattle.std.proofs.Common.{◌-◌, length, arith}
 use Rattle.vx_model.specs.Words.{head_or}
 use Rattle.vx_chunk_cells.specs.Window.{last_of}
-use Rattle.vx_chunk_cells.proofs.ListSteps.{first_is, from_first}
-use Rattle.vx_chunk.proofs.RowGoals.{last_at}
-use Rattle.vx_chunk.proofs.elements.span_len.Goals as goal
+use Rattle.vx_chunk_cells.proofs.ListSteps.{first_is, from_first, last_at}
+use Rattle.vx_chunk_cells.proofs.offsets.span_len.Goals as goal
 
 pub overflow_sub-places-2 : goal.overflow_sub-places-2
 overflow_sub-places-2 c =
