@@ -4,6 +4,7 @@
 /// Types, cells, chunks, and the segments that chunks are written as and read from.
 pub mod types {
     pub use vx_chunk::{Chunk, ChunkError, conditions};
+    pub use vx_chunk_cells::has_storage;
     pub use vx_field_path::{FieldMask, FieldPath};
     pub use vx_model::{
         ArrayContext, Blob, Cell, ContextError, DType, EncodingId, ExtDType, FieldName, IdTooLarge,
@@ -98,11 +99,14 @@ pub mod zones {
 pub mod strategy {
     pub use vx_strategy::{
         BufferedStrategy, BuildError, ChildStrategy, ChunkedLayoutStrategy, CollectStrategy,
-        CompressingStrategy, DictLayoutConstraints, DictLayoutOptions, DictStrategy,
-        FlatLayoutStrategy, ListLayoutStrategy, ListWrapper, RepartitionStrategy,
-        RepartitionWriterOptions, Strategy, StructStrategy, TableStrategy, ZonedLayoutOptions,
-        ZonedStrategy, dict_layout_supported, dispatch,
+        CompressingStrategy, DictStrategy, FlatLayoutStrategy, ListLayoutStrategy, ListWrapper,
+        RepartitionStrategy, Strategy, StructStrategy, TableStrategy, ZonedStrategy,
+        dict_layout_supported,
     };
+    pub use vx_strategy_options::{
+        DictLayoutConstraints, DictLayoutOptions, RepartitionWriterOptions, ZonedLayoutOptions,
+    };
+    pub use vx_table_dispatch::dispatch;
 }
 
 /// Writing a stream of batches by a strategy.

@@ -1,15 +1,15 @@
 -- Overrides stay apart.
 use Rattle.std.proofs.Common.{◌≡◌, ℕ, suc, ◌&&◌, Bool, true, false, List, [], ◌∷◌, ◌++◌, get_or, inl, inr, refl, sym, ◌∙◌, ap, subst, Some, None}
 use Rattle.std.specs.Prelude.{not, option_map}
+use Rattle.std.proofs.lemmas.Bool.{and_from, and_parts}
 use Rattle.vx_strategy_spec.specs.StrategyData.{StrategyData, StrategyList, no_ways, way_at}
 use Rattle.vx_strategy_spec.specs.Admitted.{is_root, overlaps, overlaps_none, are_apart, are_admitted}
-use Rattle.vx_strategy.specs.AdmittedStrategy.{AdmittedStrategy, are_overrides, as_overrides, item_overrides}
+use Rattle.vx_strategy.specs.AdmittedStrategy.{AdmittedStrategy, are_overrides, item_overrides}
 use Rattle.vx_strategy.specs.PathWays.{path_ways}
 use Rattle.vx_strategy.specs.Overridden.{Names, appended, first_overlap, is_over, overlap_place}
 use Rattle.vx_strategy.specs.declared.overrides.PathWriter.{PathWriter}
 use Rattle.vx_strategy.proofs.PlaceSteps.{later, place_below}
 use Rattle.vx_strategy.proofs.Writers.{either, none_later, bytes_eq_sym}
-use Rattle.vx_strategy.proofs.Admits.{both_true, left_true, right_true}
 
 -- ---- overlapping is symmetric
 
@@ -69,7 +69,7 @@ first_is path ws k x is at = firsts path ws k x is at
 
 none_more : (p path : Names) (w : StrategyData) (ws : StrategyList) → overlaps_none p ws ≡ true → overlaps p path ≡ false → overlaps_none p (appended ws path w) ≡ true
 none_more p path w no_ways e o = rw o refl
-none_more p path w (way_at q v ws) e o = rw (left_true (not (overlaps p q)) (overlaps_none p ws) e) (none_more p path w ws (right_true (not (overlaps p q)) (overlaps_none p ws) e) o)
+none_more p path w (way_at q v ws) e o = rw (and_parts (not (overlaps p q)) (overlaps_none p ws) e).0 (none_more p path w ws (and_parts (not (overlaps p q)) (overlaps_none p ws) e).1 o)
 
 not_true : (b : Bool) → not b ≡ true → b ≡ false
 not_true true e = sym e
@@ -78,19 +78,19 @@ not_true false e = refl
 pub apart_more : (path : Names) (w : StrategyData) (ws : StrategyList) → is_root path ≡ false → overlaps_none path ws ≡ true → are_apart ws ≡ true → are_apart (appended ws path w) ≡ true
 apart_more path w no_ways r o a = rw r refl
 apart_more path w (way_at q v ws) r o a =
-    let rest : (overlaps_none q ws && are_apart ws) ≡ true = right_true (not (is_root q)) _ a in
-    let off : overlaps q path ≡ false = overlaps_sym q path ∙ not_true (overlaps path q) (left_true (not (overlaps path q)) (overlaps_none path ws) o) in
-    both_true _ _ (left_true (not (is_root q)) _ a)
-    (both_true _ _ (none_more q path w ws (left_true (overlaps_none q ws) _ rest) off)
-    (apart_more path w ws r (right_true (not (overlaps path q)) _ o) (right_true (overlaps_none q ws) _ rest)))
+    let rest : (overlaps_none q ws && are_apart ws) ≡ true = (and_parts (not (is_root q)) _ a).1 in
+    let off : overlaps q path ≡ false = overlaps_sym q path ∙ not_true (overlaps path q) (and_parts (not (overlaps path q)) (overlaps_none path ws) o).0 in
+    and_from _ _ (and_parts (not (is_root q)) _ a).0
+    (and_from _ _ (none_more q path w ws (and_parts (overlaps_none q ws) _ rest).0 off)
+    (apart_more path w ws r (and_parts (not (overlaps path q)) _ o).1 (and_parts (overlaps_none q ws) _ rest).1))
 
 each_more : (path : Names) (w : AdmittedStrategy) (ws : StrategyList) → are_admitted ws ≡ true → are_admitted (appended ws path w.item) ≡ true
-each_more path w no_ways a = both_true _ _ w.passes refl
-each_more path w (way_at q v ws) a = both_true _ _ (left_true _ (are_admitted ws) a) (each_more path w ws (right_true _ (are_admitted ws) a))
+each_more path w no_ways a = and_from _ _ w.passes refl
+each_more path w (way_at q v ws) a = and_from _ _ (and_parts _ (are_admitted ws) a).0 (each_more path w ws (and_parts _ (are_admitted ws) a).1)
 
 pub overrides_more : (path : Names) (w : AdmittedStrategy) (ws : StrategyList) → is_root path ≡ false → overlaps_none path ws ≡ true → are_overrides ws ≡ true
     → are_overrides (appended ws path w.item) ≡ true
 overrides_more path w ws r o h =
-    both_true _ _ (apart_more path w.item ws r o (left_true (are_apart ws) (are_admitted ws) h)) (each_more path w ws (right_true (are_apart ws) (are_admitted ws) h))
+    and_from _ _ (apart_more path w.item ws r o (and_parts (are_apart ws) (are_admitted ws) h).0) (each_more path w ws (and_parts (are_apart ws) (are_admitted ws) h).1)
 
 pub ruleset apart_rules = (path_push, none_overlaps, first_is, overrides_more, item_overrides, place_below)

@@ -1,9 +1,5 @@
-pub mod Admits
 pub mod AllAdmitted
 pub mod PlaceSteps
-pub mod BlockLen
 pub mod Writers
 pub mod Apart
 pub mod Wrappers
-pub mod Below
-pub mod Dispatched

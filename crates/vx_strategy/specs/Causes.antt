@@ -5,8 +5,8 @@ use Rattle.vx_strategy_spec.specs.Admitted.{is_root}
 use Rattle.vx_strategy.specs.Overridden.{Names, PathWay, Fits, first_overlap, appended}
 use Rattle.vx_strategy.specs.declared.error.BuildError.{BuildError}
 use Rattle.vx_strategy.specs.declared.error.BuildError.TheVariants.{ZeroBlockLen, ZeroConcurrency, ZoneLength, RootPath, OverlappingPath, OutOfMemory}
-use Rattle.vx_strategy.specs.declared.options.RepartitionWriterOptions.{RepartitionWriterOptions}
-use Rattle.vx_strategy.specs.declared.options.ZonedLayoutOptions.{ZonedLayoutOptions}
+use Rattle.vx_strategy_options.specs.declared.options.RepartitionWriterOptions.{RepartitionWriterOptions}
+use Rattle.vx_strategy_options.specs.declared.options.ZonedLayoutOptions.{ZonedLayoutOptions}
 
 abbrev pub ZeroConcurrencyOf : ℕ → BuildError → Type 0
 ZeroConcurrencyOf n ZeroConcurrency = n ≡ 0

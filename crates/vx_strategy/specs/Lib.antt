@@ -2,7 +2,7 @@ pub mod StrategyCode
 pub mod Passing
 pub mod AdmittedStrategy
 pub mod WayDepth
-pub mod OptionViews
+pub mod FlatViews
 pub mod Places
 pub mod RuleViews
 pub mod FieldWays

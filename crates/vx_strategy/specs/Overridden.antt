@@ -1,5 +1,5 @@
 -- Overrides of a table, one more at a time.
-use Rattle.std.specs.Prelude.{◌≡◌, ℕ, bytes_eq, Bool, true, false, if◌then◌else◌, List, [], ◌∷◌, Option, Some, None}
+use Rattle.std.specs.Prelude.{◌≡◌, ℕ, Bool, true, false, if◌then◌else◌, List, [], ◌∷◌, Option, Some, None}
 use Rattle.vx_strategy.specs.Places.{first_place}
 use Rattle.vx_strategy_spec.specs.StrategyData.{StrategyData, StrategyList, no_ways, way_at}
 use Rattle.vx_strategy_spec.specs.Admitted.{is_root, overlaps, overlaps_none}
@@ -40,15 +40,3 @@ is_over path w = overlaps w.path path
 -- the place of the first path that overlaps
 abbrev pub overlap_place : Names → List PathWriter → Option ℕ
 overlap_place path ws = first_place (is_over path) ws
-
--- the path of a field itself, of this name
-abbrev pub is_own : List ℕ → Names → Bool
-is_own name [] = false
-is_own name (a ∷ []) = bytes_eq name a
-is_own name (a ∷ b ∷ path) = false
-
--- what stands behind a name, if something does
-abbrev pub rest_of : List ℕ → Names → Option Names
-rest_of name [] = None
-rest_of name (a ∷ []) = None
-rest_of name (a ∷ b ∷ path) = if bytes_eq name a then Some (b ∷ path) else None

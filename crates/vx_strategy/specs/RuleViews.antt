@@ -2,7 +2,7 @@
 use Rattle.std.specs.Int.NonZero.{non_zero_u32_get, non_zero_u64_get}
 use Rattle.vx_rules.specs.Blocks.{BlockOptions}
 use Rattle.vx_strategy_spec.specs.StrategyData.{ZonedOptions}
-use Rattle.vx_strategy.specs.OptionViews.{asked}
+use Rattle.vx_strategy_options.specs.OptionViews.{asked}
 use Rattle.vx_strategy.specs.declared.grouping.BlockRule.{BlockRule}
 use Rattle.vx_strategy.specs.declared.zone_rule.ZoneRule.{ZoneRule}
 

@@ -1,6 +1,6 @@
 -- A strategy as contracts see it.
 use Rattle.vx_strategy_spec.specs.StrategyData.{StrategyData, flat}
-use Rattle.vx_strategy.specs.OptionViews.{flat_options}
+use Rattle.vx_strategy.specs.FlatViews.{flat_options}
 use Rattle.vx_strategy.specs.NodeViews.{chunked_way, compressed_way, dict_way, repartition_way, buffered_way, collect_way, list_way, struct_way, zoned_way, table_way}
 use Rattle.vx_strategy.specs.declared.strategy.Strategy.{Strategy}
 use Rattle.vx_strategy.specs.declared.strategy.Strategy.TheVariants.{Flat, Chunked, Struct, List as ListStrategy, Dict, Zoned, Repartition, Buffered, Collect, Compressing, Table}

@@ -1,7 +1,7 @@
 -- What wraps a list layout.
 use Rattle.std.specs.Prelude.{List, [], ◌∷◌}
 use Rattle.vx_strategy_spec.specs.StrategyData.{Wraps, no_wraps, wrap_grouped, wrap_zoned, by_blocks, by_bytes}
-use Rattle.vx_strategy.specs.OptionViews.{block_options, zoned_options}
+use Rattle.vx_strategy_options.specs.OptionViews.{block_options, zoned_options}
 use Rattle.vx_strategy.specs.StrategyView.{strategy_data}
 use Rattle.vx_strategy.specs.declared.wrapper.ListWrapper.{ListWrapper}
 use Rattle.vx_strategy.specs.declared.wrapper.ListWrapper.TheVariants as asked

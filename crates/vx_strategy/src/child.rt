@@ -39,16 +39,35 @@ impl ChildStrategy {
     ghost use Rattle.vx_strategy_spec.specs.Admitted.{is_admitted};
     ghost use Rattle.vx_strategy.specs.StrategyView.{strategy_data};
 
+    /// The strategy behind a count of those who share it.
     #[tactic(auto, using(crate::proofs::AllAdmitted::child_rules))]
-    pub(crate) fn new(
-        alloc: Global,
-        strategy: Strategy,
-    ) -> Result<ChildStrategy, AllocFailed<Strategy>>
+    pub fn new(alloc: Global, strategy: Strategy) -> Result<ChildStrategy, AllocFailed<Strategy>>
         ensures { IfOk result (λ c. c.item ≡ strategy_data strategy) }
     {
         Ok(ChildStrategy {
             inner: Arc::new(alloc, strategy)?,
         })
+    }
+
+    /// As `new`, without the strategy back where memory runs out.
+    pub(crate) fn held(alloc: Global, strategy: Strategy) -> Result<ChildStrategy, AllocError>
+        ensures { IfOk result (λ c. c.item ≡ strategy_data strategy) }
+    {
+        Ok(ChildStrategy::new(alloc, strategy)?)
+    }
+
+    /// Two strategies, each as `held`.
+    pub(crate) fn both_held(
+        alloc: Global,
+        one: Strategy,
+        other: Strategy,
+    ) -> Result<(ChildStrategy, ChildStrategy), AllocError>
+        ensures one { IfOk result (λ p. p.0.item ≡ strategy_data one) }
+        ensures other { IfOk result (λ p. p.1.item ≡ strategy_data other) }
+    {
+        let one = ChildStrategy::held(alloc, one);
+        let other = ChildStrategy::held(alloc, other);
+        Ok((one?, other?))
     }
 
     /// The strategy itself.

@@ -21,7 +21,7 @@ impl ChunkedLayoutStrategy {
         ensures memory { IfErr result (λ e. e ≡ BuildError.OutOfMemory) }
     {
         Ok(ChunkedLayoutStrategy {
-            child: ChildStrategy::new(alloc, chunk_strategy)?,
+            child: ChildStrategy::held(alloc, chunk_strategy)?,
         })
     }
 

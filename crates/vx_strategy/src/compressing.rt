@@ -32,7 +32,7 @@ impl CompressingStrategy {
         ensures memory { IfErr result (λ e. e ≡ BuildError.OutOfMemory) }
     {
         Ok(CompressingStrategy {
-            child: ChildStrategy::new(alloc, child)?,
+            child: ChildStrategy::held(alloc, child)?,
             which,
             concurrency: NonZeroU64::MIN,
         })

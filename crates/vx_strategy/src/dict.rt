@@ -4,10 +4,10 @@ ghost use Rattle.vx_model.specs.TyView.{ty};
 
 use crate::child::ChildStrategy;
 use crate::error::BuildError;
-use crate::options::{DictLayoutConstraints, DictLayoutOptions};
 use crate::strategy::Strategy;
 use std::alloc::{AllocError, Global};
 use vx_model::DType;
+use vx_strategy_options::{DictLayoutConstraints, DictLayoutOptions};
 
 /// Whether a dictionary can hold the type: integers, texts and bytes.
 pub fn dict_layout_supported(dtype: &DType) -> bool
@@ -34,7 +34,7 @@ pub struct DictStrategy {
 impl DictStrategy {
     ghost use Rattle.std.specs.Prelude.{◌≡◌, IfOk, IfErr};
     ghost use Rattle.vx_strategy_spec.specs.StrategyData.{coded};
-    ghost use Rattle.vx_strategy.specs.OptionViews.{dict_options};
+    ghost use Rattle.vx_strategy_options.specs.OptionViews.{dict_options};
     ghost use Rattle.vx_strategy.specs.NodeViews.{dict_way};
     ghost use Rattle.vx_strategy.specs.StrategyView.{strategy_data};
 
@@ -50,10 +50,12 @@ impl DictStrategy {
         ensures ok { IfOk result (λ s. dict_way s ≡ coded (dict_options options.constraints probe) (strategy_data codes) (strategy_data values) (strategy_data fallback)) }
         ensures memory { IfErr result (λ e. e ≡ BuildError.OutOfMemory) }
     {
+        let fallback = ChildStrategy::held(alloc, fallback);
+        let (codes, values) = ChildStrategy::both_held(alloc, codes, values)?;
         Ok(DictStrategy {
-            codes: ChildStrategy::new(alloc, codes)?,
-            values: ChildStrategy::new(alloc, values)?,
-            fallback: ChildStrategy::new(alloc, fallback)?,
+            codes,
+            values,
+            fallback: fallback?,
             constraints: options.constraints,
             probe,
         })

@@ -13,7 +13,7 @@ use vx_model::FieldName;
 /// The writer of the fields of one name.
 #[derive(Debug, Drop)]
 #[cycle(strategy)]
-pub(crate) struct FieldWriter {
+pub struct FieldWriter {
     pub name: FieldName,
     pub writer: ChildStrategy,
 }
@@ -29,7 +29,7 @@ pub(crate) fn put(
     ensures ok { OnOk result (field_ways writers.new.items ≡ with_writer (field_ways writers.old.items) name (strategy_data writer)) }
     ensures memory { IfErr result (λ e. e ≡ BuildError.OutOfMemory) }
 {
-    let writer = ChildStrategy::new(alloc, writer)?;
+    let writer = ChildStrategy::held(alloc, writer)?;
     match find(writers, &name) {
         Some(place) => {
             writers[place].writer = writer;

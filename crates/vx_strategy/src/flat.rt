@@ -12,7 +12,7 @@ pub struct FlatLayoutStrategy {
 impl FlatLayoutStrategy {
     ghost use Rattle.std.specs.Prelude.{◌≡◌, true, false};
     ghost use Rattle.vx_strategy_spec.specs.StrategyData.{flat};
-    ghost use Rattle.vx_strategy.specs.OptionViews.{flat_options};
+    ghost use Rattle.vx_strategy.specs.FlatViews.{flat_options};
     ghost use Rattle.vx_strategy.specs.StrategyView.{strategy_data};
 
     /// Buffers padded to multiples of eight bytes, and no array tree in the layout.

@@ -2,14 +2,14 @@
 
 use crate::child::ChildStrategy;
 use crate::error::BuildError;
-use crate::options::RepartitionWriterOptions;
 use crate::strategy::Strategy;
 use std::alloc::{AllocError, Global};
 use std::num::NonZeroU64;
+use vx_strategy_options::RepartitionWriterOptions;
 
 /// Options of which the block length isn't 0.
 #[derive(Clone, Copy, Debug)]
-pub(crate) struct BlockRule {
+pub struct BlockRule {
     pub minimum: u64,
     pub multiple: NonZeroU64,
     pub target: Option<u64>,
@@ -18,7 +18,7 @@ pub(crate) struct BlockRule {
 
 impl BlockRule {
     ghost use Rattle.std.specs.Prelude.{◌≡◌, ◌<◌, IfOk, IfErr};
-    ghost use Rattle.vx_strategy.specs.OptionViews.{block_options};
+    ghost use Rattle.vx_strategy_options.specs.OptionViews.{block_options};
     ghost use Rattle.vx_strategy.specs.RuleViews.{block_rule};
     ghost use Rattle.vx_strategy.specs.Causes.{ZeroBlockLenOf};
 
@@ -50,7 +50,7 @@ pub struct RepartitionStrategy {
 impl RepartitionStrategy {
     ghost use Rattle.std.specs.Prelude.{◌≡◌, ◌<◌, IfOk, IfErr};
     ghost use Rattle.vx_strategy_spec.specs.StrategyData.{grouped, by_blocks};
-    ghost use Rattle.vx_strategy.specs.OptionViews.{block_options};
+    ghost use Rattle.vx_strategy_options.specs.OptionViews.{block_options};
     ghost use Rattle.vx_strategy.specs.NodeViews.{repartition_way};
     ghost use Rattle.vx_strategy.specs.RuleViews.{block_rule};
     ghost use Rattle.vx_strategy.specs.Causes.{ZeroBlockLenOf};
@@ -68,7 +68,7 @@ impl RepartitionStrategy {
     {
         let rule = BlockRule::new(options)?;
         Ok(RepartitionStrategy {
-            child: ChildStrategy::new(alloc, child)?,
+            child: ChildStrategy::held(alloc, child)?,
             rule,
         })
     }
@@ -136,7 +136,7 @@ impl BufferedStrategy {
         ensures memory { IfErr result (λ e. e ≡ BuildError.OutOfMemory) }
     {
         Ok(BufferedStrategy {
-            child: ChildStrategy::new(alloc, child)?,
+            child: ChildStrategy::held(alloc, child)?,
             buffer_size,
         })
     }
@@ -193,7 +193,7 @@ impl CollectStrategy {
         ensures memory { IfErr result (λ e. e ≡ BuildError.OutOfMemory) }
     {
         Ok(CollectStrategy {
-            child: ChildStrategy::new(alloc, child)?,
+            child: ChildStrategy::held(alloc, child)?,
         })
     }
 

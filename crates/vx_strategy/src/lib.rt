@@ -1,7 +1,6 @@
-//! Strategies: trees of writing nodes, and their options.
+//! Strategies: trees of writing nodes.
 #![tactic(auto)]
 
-mod at_type;
 mod child;
 mod chunked;
 mod compressing;
@@ -11,7 +10,6 @@ mod field_writer;
 mod flat;
 mod grouping;
 mod list;
-mod options;
 mod overrides;
 mod strategy;
 mod structs;
@@ -20,20 +18,21 @@ mod wrapper;
 mod zone_rule;
 mod zoned;
 
-pub use at_type::dispatch;
 pub use child::ChildStrategy;
 pub use chunked::ChunkedLayoutStrategy;
 pub use compressing::CompressingStrategy;
 pub use dict::{DictStrategy, dict_layout_supported};
 pub use error::BuildError;
+pub use field_writer::FieldWriter;
 pub use flat::FlatLayoutStrategy;
 pub use grouping::{BufferedStrategy, CollectStrategy, RepartitionStrategy};
 pub use list::ListLayoutStrategy;
-pub use options::{
-    DictLayoutConstraints, DictLayoutOptions, RepartitionWriterOptions, ZonedLayoutOptions,
-};
+pub use overrides::{Overrides, PathWriter};
 pub use strategy::Strategy;
 pub use structs::StructStrategy;
 pub use table::TableStrategy;
-pub use wrapper::ListWrapper;
+pub use vx_strategy_options::{
+    DictLayoutConstraints, DictLayoutOptions, RepartitionWriterOptions, ZonedLayoutOptions,
+};
+pub use wrapper::{ListWrapper, Wrapper};
 pub use zoned::ZonedStrategy;

@@ -8,17 +8,17 @@ use std::alloc::{AllocError, Global};
 #[derive(Debug, Drop)]
 #[cycle(strategy)]
 pub struct ListLayoutStrategy {
-    pub(crate) elements: ChildStrategy,
-    pub(crate) offsets: ChildStrategy,
-    pub(crate) validity: ChildStrategy,
-    pub(crate) fallback: ChildStrategy,
+    pub elements: ChildStrategy,
+    pub offsets: ChildStrategy,
+    pub validity: ChildStrategy,
+    pub fallback: ChildStrategy,
 }
 
 impl ListLayoutStrategy {
     ghost use Rattle.std.specs.Prelude.{◌≡◌, IfOk, IfErr};
     ghost use Rattle.vx_strategy_spec.specs.StrategyData.{listed};
     ghost use Rattle.vx_strategy.specs.NodeViews.{list_way};
-    ghost use Rattle.vx_strategy.specs.OptionViews.{default_flat};
+    ghost use Rattle.vx_strategy.specs.FlatViews.{default_flat};
     ghost use Rattle.vx_strategy.specs.StrategyView.{strategy_data};
 
     /// All flat.
@@ -28,10 +28,10 @@ impl ListLayoutStrategy {
     {
         let flat = FlatLayoutStrategy::default();
         Ok(ListLayoutStrategy {
-            elements: ChildStrategy::new(alloc, flat.into_strategy())?,
-            offsets: ChildStrategy::new(alloc, flat.into_strategy())?,
-            validity: ChildStrategy::new(alloc, flat.into_strategy())?,
-            fallback: ChildStrategy::new(alloc, flat.into_strategy())?,
+            elements: ChildStrategy::held(alloc, flat.into_strategy())?,
+            offsets: ChildStrategy::held(alloc, flat.into_strategy())?,
+            validity: ChildStrategy::held(alloc, flat.into_strategy())?,
+            fallback: ChildStrategy::held(alloc, flat.into_strategy())?,
         })
     }
 
@@ -44,7 +44,7 @@ impl ListLayoutStrategy {
         ensures memory { IfErr result (λ e. e ≡ BuildError.OutOfMemory) }
     {
         Ok(ListLayoutStrategy {
-            elements: ChildStrategy::new(alloc, elements)?,
+            elements: ChildStrategy::held(alloc, elements)?,
             offsets: self.offsets,
             validity: self.validity,
             fallback: self.fallback,
@@ -61,7 +61,7 @@ impl ListLayoutStrategy {
     {
         Ok(ListLayoutStrategy {
             elements: self.elements,
-            offsets: ChildStrategy::new(alloc, offsets)?,
+            offsets: ChildStrategy::held(alloc, offsets)?,
             validity: self.validity,
             fallback: self.fallback,
         })
@@ -78,7 +78,7 @@ impl ListLayoutStrategy {
         Ok(ListLayoutStrategy {
             elements: self.elements,
             offsets: self.offsets,
-            validity: ChildStrategy::new(alloc, validity)?,
+            validity: ChildStrategy::held(alloc, validity)?,
             fallback: self.fallback,
         })
     }
@@ -95,7 +95,7 @@ impl ListLayoutStrategy {
             elements: self.elements,
             offsets: self.offsets,
             validity: self.validity,
-            fallback: ChildStrategy::new(alloc, fallback)?,
+            fallback: ChildStrategy::held(alloc, fallback)?,
         })
     }
 

@@ -1,9 +1,7 @@
 //! Writers of a table by paths of field names.
 
-ghost use Rattle.std.specs.Prelude.{◌≡◌, option_map, IfOk};
-ghost use Rattle.vx_strategy_spec.specs.Dispatch.{override, below};
-ghost use Rattle.vx_strategy.specs.PathWays.{path_ways};
-ghost use Rattle.vx_strategy.specs.Overridden.{overlap_place, is_own, rest_of};
+ghost use Rattle.std.specs.Prelude.{◌≡◌, IfOk};
+ghost use Rattle.vx_strategy.specs.Overridden.{overlap_place};
 
 use crate::child::ChildStrategy;
 use crate::error::BuildError;
@@ -11,12 +9,11 @@ use crate::strategy::Strategy;
 use std::alloc::{AllocError, Global};
 use std::marker::Model;
 use vx_field_path::FieldPath;
-use vx_model::FieldName;
 
 /// The writer of the field at a path.
 #[derive(Debug, Drop)]
 #[cycle(strategy)]
-pub(crate) struct PathWriter {
+pub struct PathWriter {
     pub path: FieldPath,
     pub writer: ChildStrategy,
 }
@@ -25,7 +22,7 @@ pub(crate) struct PathWriter {
 #[derive(Debug, Drop)]
 #[cycle(strategy)]
 pub struct Overrides {
-    list: Vec<PathWriter>,
+    pub list: Vec<PathWriter>,
 }
 
 impl Model for Overrides {
@@ -58,8 +55,9 @@ impl Overrides {
     ghost use Rattle.vx_strategy.specs.Causes.{OverrideRefused};
     ghost use Rattle.vx_strategy.specs.StrategyView.{strategy_data};
 
+    /// No overrides.
     #[tactic(auto, using(crate::proofs::Apart::apart_rules))]
-    pub(crate) fn none(alloc: Global) -> Overrides
+    pub fn none(alloc: Global) -> Overrides
         ensures { result.item ≡ no_ways }
     {
         Overrides {
@@ -87,7 +85,7 @@ impl Overrides {
             let standing = list.swap_remove(place);
             return Err(BuildError::OverlappingPath(standing.path, path));
         }
-        let writer = ChildStrategy::new(alloc, writer)?;
+        let writer = ChildStrategy::held(alloc, writer)?;
         list.push(PathWriter { path, writer })?;
         Ok(Overrides { list })
     }
@@ -104,83 +102,6 @@ fn find_overlap(list: &[PathWriter], path: &FieldPath) -> Option<usize>
         }
     }
     None
-}
-
-impl Overrides {
-    ghost use Rattle.std.specs.Prelude.{◌≡◌, option_map, IfOk};
-    ghost use Rattle.vx_strategy_spec.specs.Dispatch.{override, below};
-
-    /// The override of a field itself.
-    #[tactic(auto, using(crate::proofs::Below::child_rules))]
-    pub(crate) fn own(&self, name: &FieldName) -> Option<&ChildStrategy>
-        ensures { option_map (λ c. c.now.item) result ≡ override name.now self.now.item }
-    {
-        own_of(&self.list, name)
-    }
-
-    /// The overrides below a field, each without its first name.
-    #[tactic(auto, using(crate::proofs::Below::kept_rules))]
-    pub(crate) fn below(&self, name: &FieldName) -> Result<Overrides, AllocError>
-        ensures { IfOk result (λ o. o.item ≡ below name.now self.now.item) }
-    {
-        Ok(Overrides {
-            list: rests(*self.list.allocator(), &self.list, name)?,
-        })
-    }
-}
-
-#[tactic(auto, using(crate::proofs::Below::own_rules))]
-fn own_of<'a>(list: &'a [PathWriter], name: &FieldName) -> Option<&'a ChildStrategy>
-    ensures { option_map (λ c. c.now.item) result ≡ override name.now (path_ways list.now) }
-{
-    for one in list {
-        if is_own(&one.path, name) {
-            return Some(&one.writer);
-        }
-    }
-    None
-}
-
-fn is_own(path: &FieldPath, name: &FieldName) -> bool
-    ensures { result ≡ is_own name.now path.now }
-{
-    match path.parts() {
-        [only] => name == only,
-        [] | [_, _, ..] => false,
-    }
-}
-
-/// The overrides below a field, each without its first name.
-#[tactic(auto, using(crate::proofs::Below::rest_rules))]
-fn rests(
-    alloc: Global,
-    list: &[PathWriter],
-    name: &FieldName,
-) -> Result<Vec<PathWriter>, AllocError>
-    ensures { IfOk result (λ rests. path_ways rests.items ≡ below name.now (path_ways list.now)) }
-{
-    let mut rests = Vec::new(alloc);
-    for one in list {
-        if let Some(path) = rest_of(&one.path, name)? {
-            let writer = one.writer.clone()?;
-            rests.push(PathWriter { path, writer })?;
-        }
-    }
-    Ok(rests)
-}
-
-/// What stands behind this name, if something does.
-fn rest_of(path: &FieldPath, name: &FieldName) -> Result<Option<FieldPath>, AllocError>
-    ensures { IfOk result (λ rest. rest ≡ rest_of name.now path.now) }
-{
-    match path.parts() {
-        [first, _, ..] => if name == first {
-            Ok(path.clone()?.step_into())
-        } else {
-            Ok(None)
-        },
-        [] | [_] => Ok(None),
-    }
 }
 
 impl Clone for Overrides {

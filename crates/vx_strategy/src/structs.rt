@@ -9,9 +9,9 @@ use vx_model::FieldName;
 #[derive(Debug, Drop)]
 #[cycle(strategy)]
 pub struct StructStrategy {
-    pub(crate) validity: ChildStrategy,
-    pub(crate) default: ChildStrategy,
-    pub(crate) writers: Vec<FieldWriter>,
+    pub validity: ChildStrategy,
+    pub default: ChildStrategy,
+    pub writers: Vec<FieldWriter>,
 }
 
 impl StructStrategy {
@@ -31,9 +31,10 @@ impl StructStrategy {
         ensures ok { IfOk result (λ s. struct_way s ≡ structured (strategy_data validity) (strategy_data default) no_ways) }
         ensures memory { IfErr result (λ e. e ≡ BuildError.OutOfMemory) }
     {
+        let (validity, default) = ChildStrategy::both_held(alloc, validity, default)?;
         Ok(StructStrategy {
-            validity: ChildStrategy::new(alloc, validity)?,
-            default: ChildStrategy::new(alloc, default)?,
+            validity,
+            default,
             writers: Vec::new(alloc),
         })
     }

@@ -12,13 +12,13 @@ use vx_field_path::FieldPath;
 #[derive(Debug, Drop)]
 #[cycle(strategy)]
 pub struct TableStrategy {
-    pub(crate) validity: ChildStrategy,
-    pub(crate) leaf: ChildStrategy,
-    pub(crate) overrides: Overrides,
+    pub validity: ChildStrategy,
+    pub leaf: ChildStrategy,
+    pub overrides: Overrides,
     /// Whether lists are laid out as lists; else they go to the leaf.
-    pub(crate) list_layout: bool,
+    pub list_layout: bool,
     /// What wraps the layout of lists, the outermost first.
-    pub(crate) wrappers: Arc<Vec<Wrapper>>,
+    pub wrappers: Arc<Vec<Wrapper>>,
 }
 
 impl TableStrategy {
@@ -42,9 +42,10 @@ impl TableStrategy {
         ensures ok { IfOk result (λ s. table_way s ≡ tabled (strategy_data validity) (strategy_data fallback) no_ways false no_wraps) }
         ensures memory { IfErr result (λ e. e ≡ BuildError.OutOfMemory) }
     {
+        let (validity, leaf) = ChildStrategy::both_held(alloc, validity, fallback)?;
         Ok(TableStrategy {
-            validity: ChildStrategy::new(alloc, validity)?,
-            leaf: ChildStrategy::new(alloc, fallback)?,
+            validity,
+            leaf,
             overrides: Overrides::none(alloc),
             list_layout: false,
             wrappers: Arc::new(alloc, Vec::new(alloc))?,
@@ -106,7 +107,7 @@ impl TableStrategy {
     {
         Ok(TableStrategy {
             validity: self.validity,
-            leaf: ChildStrategy::new(alloc, leaf)?,
+            leaf: ChildStrategy::held(alloc, leaf)?,
             overrides: self.overrides,
             list_layout: self.list_layout,
             wrappers: self.wrappers,
@@ -122,7 +123,7 @@ impl TableStrategy {
         ensures memory { IfErr result (λ e. e ≡ BuildError.OutOfMemory) }
     {
         Ok(TableStrategy {
-            validity: ChildStrategy::new(alloc, validity)?,
+            validity: ChildStrategy::held(alloc, validity)?,
             leaf: self.leaf,
             overrides: self.overrides,
             list_layout: self.list_layout,

@@ -7,11 +7,12 @@ ghost use Rattle.vx_strategy.specs.WrapCauses.{AllWrap, FirstRefused};
 
 use crate::child::ChildStrategy;
 use crate::error::BuildError;
-use crate::grouping::BlockRule;
-use crate::options::{RepartitionWriterOptions, ZonedLayoutOptions};
+use crate::grouping::{BlockRule, BufferedStrategy, RepartitionStrategy};
 use crate::strategy::Strategy;
 use crate::zone_rule::ZoneRule;
-use std::alloc::Global;
+use crate::zoned::ZonedStrategy;
+use std::alloc::{AllocError, Global};
+use vx_strategy_options::{RepartitionWriterOptions, ZonedLayoutOptions};
 
 /// A strategy around the list layout of a table, without its child.
 #[derive(Debug, Drop)]
@@ -26,7 +27,7 @@ pub enum ListWrapper {
 /// A wrapper whose options were tested.
 #[derive(Debug, Drop)]
 #[cycle(strategy)]
-pub(crate) enum Wrapper {
+pub enum Wrapper {
     Repartition(BlockRule),
     Buffered(u64),
     Zoned(ChildStrategy, ZoneRule),
@@ -49,7 +50,37 @@ impl ListWrapper {
             ListWrapper::Buffered(size) => Ok(Wrapper::Buffered(size)),
             ListWrapper::Zoned(stats, options) => {
                 let rule = ZoneRule::new(alloc, options)?;
-                Ok(Wrapper::Zoned(ChildStrategy::new(alloc, stats)?, rule))
+                Ok(Wrapper::Zoned(ChildStrategy::held(alloc, stats)?, rule))
+            }
+        }
+    }
+}
+
+impl Wrapper {
+    ghost use Rattle.std.specs.Prelude.{◌≡◌, IfOk};
+    ghost use Rattle.vx_strategy_spec.specs.StrategyData.{no_wraps};
+    ghost use Rattle.vx_strategy_spec.specs.Dispatch.{wrapped};
+    ghost use Rattle.vx_strategy.specs.WrapViews.{wrap};
+    ghost use Rattle.vx_strategy.specs.StrategyView.{strategy_data};
+
+    /// The strategy in this wrapper.
+    pub fn around(&self, alloc: Global, inner: Strategy) -> Result<Strategy, AllocError>
+        ensures { IfOk result (λ s. strategy_data s ≡ wrapped (wrap self.now no_wraps) (strategy_data inner)) }
+    {
+        let child = ChildStrategy::held(alloc, inner)?;
+        match self {
+            Wrapper::Repartition(rule) => {
+                let rule = *rule;
+                Ok(RepartitionStrategy { child, rule }.into_strategy())
+            }
+            Wrapper::Buffered(size) => {
+                let buffer_size = *size;
+                Ok(BufferedStrategy { child, buffer_size }.into_strategy())
+            }
+            Wrapper::Zoned(stats, rule) => {
+                let stats = stats.clone()?;
+                let rule = rule.clone()?;
+                Ok(ZonedStrategy { child, stats, rule }.into_strategy())
             }
         }
     }

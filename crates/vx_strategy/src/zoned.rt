@@ -1,11 +1,11 @@
 use crate::child::ChildStrategy;
 use crate::error::BuildError;
-use crate::options::ZonedLayoutOptions;
 use crate::strategy::Strategy;
 use crate::zone_rule::ZoneRule;
 use std::alloc::{AllocError, Global};
 use std::num::{NonZeroU32, NonZeroU64};
 use vx_aggregate::AggregateFn;
+use vx_strategy_options::ZonedLayoutOptions;
 
 /// Records each zone's rows, and hands them on.
 #[derive(Debug, Drop)]
@@ -22,7 +22,7 @@ impl ZonedStrategy {
     ghost use Rattle.vx_aggregate.specs.AggregateView.{aggregate};
     ghost use Rattle.vx_strategy.specs.RuleViews.{zone_rule};
     ghost use Rattle.vx_strategy_spec.specs.StrategyData.{zoned};
-    ghost use Rattle.vx_strategy.specs.OptionViews.{are_few, zoned_options};
+    ghost use Rattle.vx_strategy_options.specs.OptionViews.{are_few, zoned_options};
     ghost use Rattle.vx_strategy.specs.NodeViews.{zoned_way};
     ghost use Rattle.vx_strategy.specs.Causes.{AreZones, NoZonesOf};
     ghost use Rattle.vx_strategy.specs.StrategyView.{strategy_data};
@@ -38,12 +38,10 @@ impl ZonedStrategy {
         ensures zones { IfOk result (λ s. AreZones options) }
         ensures refused { IfErr result (NoZonesOf options) }
     {
+        let children = ChildStrategy::both_held(alloc, child, stats);
         let rule = ZoneRule::new(alloc, options)?;
-        Ok(ZonedStrategy {
-            child: ChildStrategy::new(alloc, child)?,
-            stats: ChildStrategy::new(alloc, stats)?,
-            rule,
-        })
+        let (child, stats) = children?;
+        Ok(ZonedStrategy { child, stats, rule })
     }
 
     pub fn child(&self) -> &ChildStrategy

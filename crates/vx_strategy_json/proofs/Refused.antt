@@ -5,9 +5,9 @@ use Rattle.std.specs.Prelude.{nat_lt}
 use Rattle.vx_strategy.specs.Causes.{ZeroBlockLenOf, ZeroConcurrencyOf, NoZonesOf, AreZones}
 use Rattle.vx_strategy.specs.WrapCauses.{Wraps as CanWrap, AllWrap, WrapRefused, FirstRefused}
 use Rattle.vx_strategy.specs.Wrapped.{wraps_asked}
-use Rattle.vx_strategy.specs.OptionViews.{zoned_options}
-use Rattle.vx_strategy.specs.declared.options.RepartitionWriterOptions.{RepartitionWriterOptions}
-use Rattle.vx_strategy.specs.declared.options.ZonedLayoutOptions.{ZonedLayoutOptions}
+use Rattle.vx_strategy_options.specs.OptionViews.{zoned_options}
+use Rattle.vx_strategy_options.specs.declared.options.RepartitionWriterOptions.{RepartitionWriterOptions}
+use Rattle.vx_strategy_options.specs.declared.options.ZonedLayoutOptions.{ZonedLayoutOptions}
 use Rattle.vx_strategy.specs.declared.wrapper.ListWrapper.{ListWrapper}
 use Rattle.vx_strategy.specs.declared.wrapper.ListWrapper.TheVariants as asked
 use Rattle.vx_strategy.specs.declared.error.BuildError.{BuildError}

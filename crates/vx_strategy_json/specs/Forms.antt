@@ -6,7 +6,7 @@ use Rattle.vx_rules.specs.Blocks.{BlockOptions}
 use Rattle.vx_rules.specs.Runs.{DictOptions}
 use Rattle.vx_strategy_spec.specs.StrategyData.{StrategyData, StrategyList, Wraps, ZonedOptions, Grouping, by_blocks, by_bytes, into_one, flat, chunked, grouped, compressed, coded, zoned, structured, listed, tabled, no_ways, way_at, no_wraps, wrap_grouped, wrap_zoned}
 use Rattle.vx_strategy_spec.specs.Admitted.{are_apart, is_admitted_grouping}
-use Rattle.vx_strategy.specs.OptionViews.{default_flat}
+use Rattle.vx_strategy.specs.FlatViews.{default_flat}
 use Rattle.vx_strategy.specs.Overridden.{PathWay}
 use Rattle.vx_strategy.specs.PairWays.{NamedWay, with_writers}
 use Rattle.vx_json.specs.Steps.{given, when}

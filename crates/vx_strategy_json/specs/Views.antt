@@ -3,7 +3,7 @@ use Rattle.std.specs.Prelude.{◌≡◌, List, Result, Ok, Err, Option, Some, No
 use Rattle.std.proofs.Common.{Vec}
 use Rattle.std.specs.Global.{Global}
 use Rattle.vx_strategy_spec.specs.StrategyData.{by_blocks, by_bytes}
-use Rattle.vx_strategy.specs.OptionViews.{block_options, zoned_options}
+use Rattle.vx_strategy_options.specs.OptionViews.{block_options, zoned_options}
 use Rattle.vx_strategy.specs.StrategyView.{strategy_data}
 use Rattle.vx_strategy.specs.declared.wrapper.ListWrapper.{ListWrapper}
 use Rattle.vx_strategy.specs.declared.wrapper.ListWrapper.TheVariants as asked

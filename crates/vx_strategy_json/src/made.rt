@@ -1,12 +1,14 @@
-//! Strategies of parts that were read. What a constructor refuses is wrong.
+//! Strategies of parts that were read. What a constructor refuses is wrong. A part stays in its box until a constructor
+//! takes it.
 
 ghost use Rattle.std.specs.Prelude.{◌≡◌, map, Some, false};
-ghost use Rattle.vx_strategy.specs.OptionViews.{default_flat, block_options, zoned_options};
+ghost use Rattle.vx_strategy.specs.FlatViews.{default_flat};
+ghost use Rattle.vx_strategy_options.specs.OptionViews.{block_options, dict_options, zoned_options};
 ghost use Rattle.vx_strategy.specs.NodeViews.{list_way, table_way};
 ghost use Rattle.vx_strategy.specs.PairWays.{named_way, path_way};
 ghost use Rattle.vx_strategy.specs.StrategyView.{strategy_data};
-ghost use Rattle.vx_strategy_spec.specs.StrategyData.{listed, tabled, no_wraps};
-ghost use Rattle.vx_strategy_json.specs.Forms.{in_blocks, in_images, in_zones, with_fields, without_lists, with_lists, with_overrides};
+ghost use Rattle.vx_strategy_spec.specs.StrategyData.{coded, listed, tabled, no_wraps};
+ghost use Rattle.vx_strategy_json.specs.Forms.{in_blocks, in_bytes, in_images, in_zones, with_fields, without_lists, with_lists, with_overrides};
 ghost use Rattle.vx_strategy_json.specs.Views.{Gives, list_wraps};
 
 use crate::error::StrategyError;
@@ -14,32 +16,48 @@ use std::alloc::Global;
 use vx_field_path::FieldPath;
 use vx_model::Text;
 use vx_strategy::{
-    CompressingStrategy, ListLayoutStrategy, ListWrapper, RepartitionStrategy,
-    RepartitionWriterOptions, Strategy, StructStrategy, TableStrategy, ZonedLayoutOptions,
-    ZonedStrategy,
+    BufferedStrategy, CompressingStrategy, DictLayoutOptions, DictStrategy, ListLayoutStrategy,
+    ListWrapper, RepartitionStrategy, RepartitionWriterOptions, Strategy, StructStrategy,
+    TableStrategy, ZonedLayoutOptions, ZonedStrategy,
 };
+
+pub(crate) fn boxed(alloc: Global, strategy: Strategy) -> Result<Box<Strategy>, StrategyError>
+    ensures { Gives (λ b. strategy_data b.value) result (Some (strategy_data strategy)) }
+{
+    Ok(Box::new(alloc, strategy)?)
+}
 
 #[tactic(auto, using(crate::proofs::Refused::block_rules))]
 pub(crate) fn in_blocks(
     alloc: Global,
     options: RepartitionWriterOptions,
-    child: Strategy,
+    child: Box<Strategy>,
 ) -> Result<Strategy, StrategyError>
-    ensures { Gives strategy_data result (in_blocks (block_options options) (strategy_data child)) }
+    ensures { Gives strategy_data result (in_blocks (block_options options) (strategy_data child.value)) }
 {
-    Ok(RepartitionStrategy::new(alloc, child, options)?.into_strategy())
+    Ok(RepartitionStrategy::new(alloc, Box::into_inner(child), options)?.into_strategy())
+}
+
+pub(crate) fn in_bytes(
+    alloc: Global,
+    child: Box<Strategy>,
+    size: u64,
+) -> Result<Strategy, StrategyError>
+    ensures { Gives strategy_data result (Some (in_bytes (strategy_data child.value) size)) }
+{
+    Ok(BufferedStrategy::new(alloc, Box::into_inner(child), size)?.into_strategy())
 }
 
 #[tactic(auto, using(crate::proofs::Refused::concurrency_rules))]
 pub(crate) fn in_images(
     alloc: Global,
-    child: Strategy,
+    child: Box<Strategy>,
     which: u32,
     concurrency: u64,
 ) -> Result<Strategy, StrategyError>
-    ensures { Gives strategy_data result (in_images (strategy_data child) which concurrency) }
+    ensures { Gives strategy_data result (in_images (strategy_data child.value) which concurrency) }
 {
-    let strategy = CompressingStrategy::new(alloc, child, which)?;
+    let strategy = CompressingStrategy::new(alloc, Box::into_inner(child), which)?;
     Ok(strategy.with_concurrency(concurrency)?.into_strategy())
 }
 
@@ -47,62 +65,85 @@ pub(crate) fn in_images(
 pub(crate) fn in_zones(
     alloc: Global,
     options: ZonedLayoutOptions,
-    child: Strategy,
-    stats: Strategy,
+    child: Box<Strategy>,
+    stats: Box<Strategy>,
 ) -> Result<Strategy, StrategyError>
-    ensures { Gives strategy_data result (in_zones (zoned_options options) (strategy_data child) (strategy_data stats)) }
+    ensures { Gives strategy_data result (in_zones (zoned_options options) (strategy_data child.value) (strategy_data stats.value)) }
 {
-    Ok(ZonedStrategy::new(alloc, child, stats, options)?.into_strategy())
+    let child = Box::into_inner(child);
+    Ok(ZonedStrategy::new(alloc, child, Box::into_inner(stats), options)?.into_strategy())
+}
+
+pub(crate) fn with_codes(
+    alloc: Global,
+    options: DictLayoutOptions,
+    probe: u32,
+    codes: Box<Strategy>,
+    values: Box<Strategy>,
+    fallback: Box<Strategy>,
+) -> Result<Strategy, StrategyError>
+    ensures { Gives strategy_data result (Some (coded (dict_options options.constraints probe) (strategy_data codes.value) (strategy_data values.value) (strategy_data fallback.value))) }
+{
+    let codes = Box::into_inner(codes);
+    let values = Box::into_inner(values);
+    let fallback = Box::into_inner(fallback);
+    Ok(DictStrategy::new(alloc, codes, values, fallback, options, probe)?.into_strategy())
 }
 
 /// Elements and offsets; the rest is flat.
 fn with_columns(
     alloc: Global,
-    elements: Strategy,
-    offsets: Strategy,
+    elements: Box<Strategy>,
+    offsets: Box<Strategy>,
 ) -> Result<ListLayoutStrategy, StrategyError>
-    ensures { Gives list_way result (Some (listed (strategy_data elements) (strategy_data offsets) default_flat default_flat)) }
+    ensures { Gives list_way result (Some (listed (strategy_data elements.value) (strategy_data offsets.value) default_flat default_flat)) }
 {
     let list = ListLayoutStrategy::default(alloc)?;
-    let list = list.with_elements(alloc, elements)?;
-    Ok(list.with_offsets(alloc, offsets)?)
+    let list = list.with_elements(alloc, Box::into_inner(elements))?;
+    Ok(list.with_offsets(alloc, Box::into_inner(offsets))?)
 }
 
 pub(crate) fn listed(
     alloc: Global,
-    elements: Strategy,
-    offsets: Strategy,
-    validity: Strategy,
-    fallback: Strategy,
+    elements: Box<Strategy>,
+    offsets: Box<Strategy>,
+    validity: Box<Strategy>,
+    fallback: Box<Strategy>,
 ) -> Result<Strategy, StrategyError>
-    ensures { Gives strategy_data result (Some (listed (strategy_data elements) (strategy_data offsets) (strategy_data validity) (strategy_data fallback))) }
+    ensures { Gives strategy_data result (Some (listed (strategy_data elements.value) (strategy_data offsets.value) (strategy_data validity.value) (strategy_data fallback.value))) }
 {
     let list = with_columns(alloc, elements, offsets)?;
-    let list = list.with_validity(alloc, validity)?;
-    Ok(list.with_fallback(alloc, fallback)?.into_strategy())
+    let list = list.with_validity(alloc, Box::into_inner(validity))?;
+    Ok(
+        list.with_fallback(alloc, Box::into_inner(fallback))?
+            .into_strategy(),
+    )
 }
 
 pub(crate) fn with_fields(
     alloc: Global,
-    validity: Strategy,
-    default: Strategy,
+    validity: Box<Strategy>,
+    default: Box<Strategy>,
     fields: Vec<(Text, Strategy)>,
 ) -> Result<Strategy, StrategyError>
-    ensures { Gives strategy_data result (Some (with_fields (strategy_data validity) (strategy_data default) (map named_way fields.items))) }
+    ensures { Gives strategy_data result (Some (with_fields (strategy_data validity.value) (strategy_data default.value) (map named_way fields.items))) }
 {
-    let strategy = StructStrategy::new(alloc, validity, default)?;
+    let validity = Box::into_inner(validity);
+    let strategy = StructStrategy::new(alloc, validity, Box::into_inner(default))?;
     Ok(strategy.with_field_writers(alloc, fields)?.into_strategy())
 }
 
 /// A table that doesn't lay out lists.
 fn with_paths(
     alloc: Global,
-    validity: Strategy,
-    leaf: Strategy,
+    validity: Box<Strategy>,
+    leaf: Box<Strategy>,
     overrides: Vec<(FieldPath, Strategy)>,
 ) -> Result<TableStrategy, StrategyError>
-    ensures { Gives table_way result (without_lists (strategy_data validity) (strategy_data leaf) (map path_way overrides.items)) }
+    ensures { Gives table_way result (without_lists (strategy_data validity.value) (strategy_data leaf.value) (map path_way overrides.items)) }
 {
+    let validity = Box::into_inner(validity);
+    let leaf = Box::into_inner(leaf);
     let table = TableStrategy::new(alloc, validity, leaf)?;
     Ok(table.with_field_writers(alloc, overrides)?)
 }
@@ -127,12 +168,12 @@ fn with_lists(
 
 pub(crate) fn with_overrides(
     alloc: Global,
-    validity: Strategy,
-    leaf: Strategy,
+    validity: Box<Strategy>,
+    leaf: Box<Strategy>,
     overrides: Vec<(FieldPath, Strategy)>,
     lists: Option<Vec<ListWrapper>>,
 ) -> Result<Strategy, StrategyError>
-    ensures { Gives strategy_data result (with_overrides (strategy_data validity) (strategy_data leaf) (map path_way overrides.items) (list_wraps lists)) }
+    ensures { Gives strategy_data result (with_overrides (strategy_data validity.value) (strategy_data leaf.value) (map path_way overrides.items) (list_wraps lists)) }
 {
     let table = with_paths(alloc, validity, leaf, overrides)?;
     with_lists(alloc, table, lists)

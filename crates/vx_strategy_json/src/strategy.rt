@@ -1,17 +1,21 @@
 //! Strategies of all kinds, with those that they hold.
 
-ghost use Rattle.std.specs.Prelude.{◌≡◌, map, codes};
+ghost use Rattle.std.specs.Prelude.{◌≡◌, map, option_map, codes};
 ghost use Rattle.serde_json.specs.Find.{as_str};
 ghost use Rattle.serde_json.specs.View.{view};
 ghost use Rattle.vx_strategy.specs.PairWays.{named_way, path_way};
 ghost use Rattle.vx_strategy.specs.StrategyView.{strategy_data};
+ghost use Rattle.vx_strategy_spec.specs.StrategyData.{chunked, grouped, into_one};
 ghost use Rattle.vx_json.specs.Values.{all, at, both_at as both_in, or_null, pair};
 ghost use Rattle.vx_strategy_json.specs.Forms.{form, kind_of, repartition_of, buffered_of, compress_of, zoned_of, dict_form, list_of, struct_of, table_of, kind_of_wrap, zoned_around, wrap_of as wrap_form};
 ghost use Rattle.vx_strategy_json.specs.StrategyText.{strategy_of, wrap_of};
 ghost use Rattle.vx_strategy_json.specs.Views.{Gives, wrap, list_wraps};
 
 use crate::error::StrategyError;
-use crate::made::{in_blocks, in_images, in_zones, listed, with_fields, with_overrides};
+use crate::made::{
+    boxed, in_blocks, in_bytes, in_images, in_zones, listed, with_codes, with_fields,
+    with_overrides,
+};
 use crate::options::{
     read_blocks, read_buffered_around, read_dict, read_flat, read_grouped_around, read_zones,
 };
@@ -24,8 +28,8 @@ use vx_json::{
 };
 use vx_model::Text;
 use vx_strategy::{
-    BufferedStrategy, ChunkedLayoutStrategy, CollectStrategy, DictLayoutOptions, DictStrategy,
-    FlatLayoutStrategy, ListWrapper, Strategy,
+    ChunkedLayoutStrategy, CollectStrategy, DictLayoutOptions, FlatLayoutStrategy, ListWrapper,
+    Strategy,
 };
 
 /// The strategy that the value stands for: an object of one member, whose key is the kind, or `"flat"`. All keys of a
@@ -66,11 +70,8 @@ fn read_kind(alloc: Global, kind: &str, value: &Value) -> Result<Strategy, Strat
 {
     match kind {
         "flat" => Ok(read_flat(value)?.into_strategy()),
-        "chunked" => Ok(ChunkedLayoutStrategy::new(
-            alloc,
-            read_strategy(alloc, value)?,
-        )?.into_strategy()),
-        "collect" => Ok(CollectStrategy::new(alloc, read_strategy(alloc, value)?)?.into_strategy()),
+        "chunked" => read_chunked(alloc, value),
+        "collect" => read_collect(alloc, value),
         "struct" => read_struct(alloc, value),
         "list" => read_list(alloc, value),
         "dict" => read_dictionary(alloc, value),
@@ -84,11 +85,30 @@ fn read_kind(alloc: Global, kind: &str, value: &Value) -> Result<Strategy, Strat
 }
 
 #[cycle(strategy)]
-#[tactic(auto, using(crate::proofs::Steps::form_rules), unfolding(vx_json::specs::Values::at))]
-fn strategy_at(alloc: Global, value: &Value, key: &str) -> Result<Strategy, StrategyError>
-    ensures { Gives strategy_data result (at strategy_of key.now (view value.now)) }
+#[tactic(auto, using(crate::proofs::Steps::form_rules))]
+fn read_chunked(alloc: Global, value: &Value) -> Result<Strategy, StrategyError>
+    ensures { Gives strategy_data result (option_map chunked (strategy_of (view value.now))) }
 {
-    read_strategy(alloc, value_at(value, key)?)
+    let child = read_strategy(alloc, value)?;
+    Ok(ChunkedLayoutStrategy::new(alloc, child)?.into_strategy())
+}
+
+#[cycle(strategy)]
+#[tactic(auto, using(crate::proofs::Steps::form_rules))]
+fn read_collect(alloc: Global, value: &Value) -> Result<Strategy, StrategyError>
+    ensures { Gives strategy_data result (option_map (grouped into_one) (strategy_of (view value.now))) }
+{
+    let child = read_strategy(alloc, value)?;
+    Ok(CollectStrategy::new(alloc, child)?.into_strategy())
+}
+
+#[cycle(strategy)]
+#[tactic(auto, using(crate::proofs::Steps::form_rules), unfolding(vx_json::specs::Values::at))]
+fn strategy_at(alloc: Global, value: &Value, key: &str) -> Result<Box<Strategy>, StrategyError>
+    ensures { Gives (λ b. strategy_data b.value) result (at strategy_of key.now (view value.now)) }
+{
+    let strategy = read_strategy(alloc, value_at(value, key)?)?;
+    boxed(alloc, strategy)
 }
 
 #[cycle(strategy)]
@@ -98,8 +118,8 @@ fn both_at(
     value: &Value,
     first: &str,
     second: &str,
-) -> Result<(Strategy, Strategy), StrategyError>
-    ensures { Gives (λ p. (strategy_data p.0, strategy_data p.1)) result (both_in strategy_of first.now second.now (view value.now)) }
+) -> Result<(Box<Strategy>, Box<Strategy>), StrategyError>
+    ensures { Gives (λ p. (strategy_data p.0.value, strategy_data p.1.value)) result (both_in strategy_of first.now second.now (view value.now)) }
 {
     let one = strategy_at(alloc, value, first)?;
     let other = strategy_at(alloc, value, second)?;
@@ -129,7 +149,7 @@ fn read_buffered(alloc: Global, value: &Value) -> Result<Strategy, StrategyError
     }
     let child = strategy_at(alloc, value, "child")?;
     let size = u64_at(value, "size")?;
-    Ok(BufferedStrategy::new(alloc, child, size)?.into_strategy())
+    in_bytes(alloc, child, size)
 }
 
 #[cycle(strategy)]
@@ -171,8 +191,7 @@ fn read_dictionary(alloc: Global, value: &Value) -> Result<Strategy, StrategyErr
     let (codes, values) = both_at(alloc, value, "codes", "values")?;
     let fallback = strategy_at(alloc, value, "fallback")?;
     let options = DictLayoutOptions { constraints };
-    let strategy = DictStrategy::new(alloc, codes, values, fallback, options, probe)?;
-    Ok(strategy.into_strategy())
+    with_codes(alloc, options, probe, codes, values, fallback)
 }
 
 #[cycle(strategy)]
@@ -347,5 +366,5 @@ fn read_zoned_around(alloc: Global, value: &Value) -> Result<ListWrapper, Strate
     }
     let options = read_zones(alloc, value)?;
     let stats = strategy_at(alloc, value, "stats")?;
-    Ok(ListWrapper::Zoned(stats, options))
+    Ok(ListWrapper::Zoned(Box::into_inner(stats), options))
 }

@@ -21,4 +21,4 @@ pub returns : goal.returns
 returns c =
     let ps = map path_way c.args.overrides.items in
     let none : c.in_ok-table.table.overrides.item ≡ no_ways = cc (c.in_ok-table.ensures.ok) in
-    rw (all_apart ps (rw none at c.in_ok-with_field_writers.ensures.fits)) (cc (c.in_ok-with_field_writers.ensures.ok, appended_all ps, c.in_ok-table.ensures.ok))
+    rw (all_apart ps (rw none at c.in_ok-with_field_writers.ensures.fits)) (cc (c.in_ok-with_field_writers.ensures.ok, appended_all ps, c.in_ok-table.ensures.ok, c.into_inner-validity.ensures, c.into_inner-leaf.ensures))

@@ -20,6 +20,12 @@ decreases-read_form l = 4 * depth (view l.value.now) + 1
 abbrev pub decreases-read_kind : goal.decreases-read_kind
 decreases-read_kind l = 4 * depth (view l.value.now) + 4
 
+abbrev pub decreases-read_chunked : goal.decreases-read_chunked
+decreases-read_chunked l = 4 * depth (view l.value.now) + 3
+
+abbrev pub decreases-read_collect : goal.decreases-read_collect
+decreases-read_collect l = 4 * depth (view l.value.now) + 3
+
 abbrev pub decreases-strategy_at : goal.decreases-strategy_at
 decreases-strategy_at l = 4 * depth (view l.value.now) + 1
 

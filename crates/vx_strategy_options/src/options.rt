@@ -23,7 +23,7 @@ impl RepartitionWriterOptions {
     ghost use Rattle.std.specs.Prelude.{◌≡◌};
     ghost use Rattle.vx_model.specs.TyView.{ty};
     ghost use Rattle.vx_rules.specs.Blocks.{block_len};
-    ghost use Rattle.vx_strategy.specs.OptionViews.{block_options};
+    ghost use Rattle.vx_strategy_options.specs.OptionViews.{block_options};
 
     /// The block length in rows at a column's type: the multiple, or fewer rows where a target and the size of an
     /// element say so, at least 1.

@@ -2,7 +2,7 @@ use Rattle.std.proofs.Common.{◌≡◌, ◌≤◌, take, length}
 use Rattle.vx_strategy_spec.specs.Dispatch.{wrapped}
 use Rattle.vx_strategy.specs.StrategyView.{strategy_data}
 use Rattle.vx_strategy.specs.WrapViews.{wraps}
-use Rattle.vx_strategy.proofs.at_type.in_wrappers.Given as goal
+use Rattle.vx_table_dispatch.proofs.at_type.in_wrappers.Given as goal
 
 abbrev pub invariant-loop-left : goal.invariant-loop-left
 invariant-loop-left l = record {

@@ -3,26 +3,21 @@
 ghost use Rattle.std.specs.Prelude.{◌≡◌, if◌then◌else◌, map, IfOk};
 ghost use Rattle.vx_model.specs.Ty.{tys_of};
 ghost use Rattle.vx_model.specs.TyView.{ty, field_ty};
-ghost use Rattle.vx_strategy_spec.specs.StrategyData.{structured, listed, tabled, no_ways, no_wraps};
+ghost use Rattle.vx_strategy_spec.specs.StrategyData.{structured, listed, tabled, no_ways};
 ghost use Rattle.vx_strategy_spec.specs.Dispatch.{dispatch, field_writer, field_writers, wrapped};
 ghost use Rattle.vx_strategy.specs.FieldWays.{field_ways};
 ghost use Rattle.vx_strategy.specs.NodeViews.{list_way, table_way};
 ghost use Rattle.vx_strategy.specs.StrategyView.{strategy_data};
-ghost use Rattle.vx_strategy.specs.WrapViews.{wrap, wraps};
+ghost use Rattle.vx_strategy.specs.WrapViews.{wraps};
 
-use crate::child::ChildStrategy;
-use crate::field_writer::FieldWriter;
-use crate::grouping::{BufferedStrategy, RepartitionStrategy};
-use crate::list::ListLayoutStrategy;
-use crate::overrides::Overrides;
-use crate::strategy::Strategy;
-use crate::structs::StructStrategy;
-use crate::table::TableStrategy;
-use crate::wrapper::Wrapper;
-use crate::zoned::ZonedStrategy;
+use crate::overrides::{below, own};
 use std::alloc::{AllocError, Global};
 use std::sync::Arc;
 use vx_model::{DType, FieldName, StructField};
+use vx_strategy::{
+    ChildStrategy, FieldWriter, ListLayoutStrategy, Overrides, Strategy, StructStrategy,
+    TableStrategy, Wrapper,
+};
 
 /// The strategy that writes at this type what the table writes. It shares the table's strategies; a struct's takes time
 /// for each field and override.
@@ -74,9 +69,9 @@ fn writers_of(table: &TableStrategy, fields: &[StructField]) -> Result<Vec<Field
 fn field_writer(table: &TableStrategy, name: &FieldName) -> Result<ChildStrategy, AllocError>
     ensures { IfOk result (λ c. c.item ≡ field_writer table.now.validity.item table.now.leaf.item table.now.overrides.item table.now.list_layout (wraps table.now.wrappers.value.items) name.now) }
 {
-    match table.overrides.own(name) {
+    match own(&table.overrides, name) {
         Some(writer) => writer.clone(),
-        None => descended(table, table.overrides.below(name)?),
+        None => descended(table, below(&table.overrides, name)?),
     }
 }
 
@@ -131,28 +126,7 @@ fn in_wrappers(alloc: Global, wrappers: &[Wrapper], inner: Strategy) -> Result<S
     let mut left = wrappers.len();
     while left > 0 {
         left -= 1;
-        strategy = in_wrapper(alloc, &wrappers[left], strategy)?;
+        strategy = wrappers[left].around(alloc, strategy)?;
     }
     Ok(strategy)
-}
-
-fn in_wrapper(alloc: Global, wrapper: &Wrapper, inner: Strategy) -> Result<Strategy, AllocError>
-    ensures { IfOk result (λ s. strategy_data s ≡ wrapped (wrap wrapper.now no_wraps) (strategy_data inner)) }
-{
-    let child = ChildStrategy::new(alloc, inner)?;
-    match wrapper {
-        Wrapper::Repartition(rule) => {
-            let rule = *rule;
-            Ok(RepartitionStrategy { child, rule }.into_strategy())
-        }
-        Wrapper::Buffered(size) => {
-            let buffer_size = *size;
-            Ok(BufferedStrategy { child, buffer_size }.into_strategy())
-        }
-        Wrapper::Zoned(stats, rule) => {
-            let stats = stats.clone()?;
-            let rule = rule.clone()?;
-            Ok(ZonedStrategy { child, stats, rule }.into_strategy())
-        }
-    }
 }

@@ -2,15 +2,16 @@
 use Rattle.std.proofs.Common.{◌≡◌, ℕ, ◌+◌, ◌<◌, Bool, true, false, bytes_eq, List, [], ◌∷◌, ◌++◌, length, get_or, drop, refl, sym, ◌∙◌, ap, Option, Some, None}
 use Rattle.std.specs.Prelude.{if◌then◌else◌}
 use Rattle.std.proofs.lemmas.List.{drop_more, drop_all}
+use Rattle.std.proofs.lemmas.Bool.{and_from, and_parts}
 use Rattle.vx_strategy_spec.specs.StrategyData.{StrategyData, StrategyList, no_ways, way_at}
 use Rattle.vx_strategy_spec.specs.Admitted.{are_apart, are_admitted}
 use Rattle.vx_strategy_spec.specs.Dispatch.{override, below}
 use Rattle.vx_strategy_spec.proofs.AdmittedLaws.{below_apart, below_admitted}
-use Rattle.vx_strategy.specs.AdmittedStrategy.{AdmittedStrategy, are_overrides, as_overrides, item_overrides}
+use Rattle.vx_strategy.specs.AdmittedStrategy.{are_overrides, item_overrides}
 use Rattle.vx_strategy.specs.PathWays.{path_ways}
-use Rattle.vx_strategy.specs.Overridden.{Names, is_own, rest_of}
+use Rattle.vx_strategy.specs.Overridden.{Names}
 use Rattle.vx_strategy.specs.declared.overrides.PathWriter.{PathWriter}
-use Rattle.vx_strategy.proofs.Admits.{both_true, left_true, right_true}
+use Rattle.vx_table_dispatch.specs.Paths.{is_own, rest_of}
 
 own_first : (name : List ℕ) (path : Names) (w : StrategyData) (ws : StrategyList) (answer : Bool) → is_own name path ≡ answer
     → override name (way_at path w ws) ≡ (if answer then Some w else override name ws)
@@ -73,7 +74,7 @@ below_later name xs i x lt is e = below_at name xs i x lt is ∙ ap (λ r. with_
 pub ruleset rest_rules = (paths_push, paths_end, below_here, below_later, drop_all)
 
 pub below_overrides : (name : List ℕ) (ws : StrategyList) → are_overrides ws ≡ true → are_overrides (below name ws) ≡ true
-below_overrides name ws h = both_true _ _ (below_apart name ws (left_true (are_apart ws) (are_admitted ws) h)) (below_admitted name ws (right_true (are_apart ws) (are_admitted ws) h))
+below_overrides name ws h = and_from _ _ (below_apart name ws (and_parts (are_apart ws) (are_admitted ws) h).0) (below_admitted name ws (and_parts (are_apart ws) (are_admitted ws) h).1)
 
 pub ruleset kept_rules = (below_overrides, item_overrides)
 

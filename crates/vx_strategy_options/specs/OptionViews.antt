@@ -1,24 +1,16 @@
 -- Options as contracts see them.
-use Rattle.std.specs.Prelude.{ℕ, ◌^◌, nat_lt, Bool, true, false, List, map, length, Option, Some, None}
+use Rattle.std.specs.Prelude.{ℕ, ◌^◌, nat_lt, Bool, true, List, map, length, Option, Some, None}
 use Rattle.vx_rules.specs.Blocks.{BlockOptions}
 use Rattle.vx_rules.specs.Runs.{DictOptions}
 use Rattle.vx_aggregate_spec.specs.Aggregate.{Aggregate}
-use Rattle.vx_strategy_spec.specs.StrategyData.{StrategyData, FlatOptions, ZonedOptions, flat}
+use Rattle.vx_strategy_spec.specs.StrategyData.{ZonedOptions}
 use Rattle.vx_aggregate.specs.AggregateView.{aggregate}
 use Rattle.vx_aggregate.specs.declared.aggregate.AggregateFn.{AggregateFn}
 use Rattle.std.proofs.Common.{Vec}
 use Rattle.std.specs.Global.{Global}
-use Rattle.vx_strategy.specs.declared.flat.FlatLayoutStrategy.{FlatLayoutStrategy}
-use Rattle.vx_strategy.specs.declared.options.RepartitionWriterOptions.{RepartitionWriterOptions}
-use Rattle.vx_strategy.specs.declared.options.DictLayoutConstraints.{DictLayoutConstraints}
-use Rattle.vx_strategy.specs.declared.options.ZonedLayoutOptions.{ZonedLayoutOptions}
-
-abbrev pub flat_options : FlatLayoutStrategy → FlatOptions
-flat_options f = record { padding = f.include_padding; inline = f.inline_array_node }
-
--- padded, and without an array tree
-abbrev pub default_flat : StrategyData
-default_flat = flat (record { padding = true; inline = false })
+use Rattle.vx_strategy_options.specs.declared.options.RepartitionWriterOptions.{RepartitionWriterOptions}
+use Rattle.vx_strategy_options.specs.declared.options.DictLayoutConstraints.{DictLayoutConstraints}
+use Rattle.vx_strategy_options.specs.declared.options.ZonedLayoutOptions.{ZonedLayoutOptions}
 
 abbrev pub block_options : RepartitionWriterOptions → BlockOptions
 block_options o = record { minimum = o.block_size_minimum; multiple = o.block_len_multiple; target = o.block_size_target; canonicalize = o.canonicalize }

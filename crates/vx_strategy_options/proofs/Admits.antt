@@ -3,21 +3,11 @@ use Rattle.std.proofs.Common.{◌≡◌, ℕ, ◌+◌, ◌<◌, ◌^◌, ◌&&�
 use Rattle.std.specs.Prelude.{nat_lt}
 use Rattle.std.proofs.lemmas.List.{drop_more, drop_all, length-map}
 use Rattle.std.proofs.lemmas.Bool.Decides.{nat_tests}
+use Rattle.std.proofs.lemmas.Bool.{and_from}
 use Rattle.vx_model.specs.Words.{all_by}
 use Rattle.vx_aggregate_spec.specs.Aggregate.{has_options}
 use Rattle.vx_aggregate.specs.AggregateView.{aggregate}
 use Rattle.vx_aggregate.specs.declared.aggregate.AggregateFn.{AggregateFn}
-
-pub both_true : (a b : Bool) → a ≡ true → b ≡ true → (a && b) ≡ true
-both_true a b e f = cc
-
-pub left_true : (a b : Bool) → (a && b) ≡ true → a ≡ true
-left_true true b e = refl
-left_true false b e = e
-
-pub right_true : (a b : Bool) → (a && b) ≡ true → b ≡ true
-right_true true b e = e
-right_true false b e = absurd (cc e)
 
 pub above_zero : (n : ℕ) → 0 < n → nat_lt 0 n ≡ true
 above_zero n h = grind (arith, nat_tests)
@@ -29,4 +19,4 @@ pub drop_aggregates : (xs : List AggregateFn) (i : ℕ) (a : AggregateFn) → i 
     → all_by has_options (map aggregate (drop i xs)) ≡ (has_options (aggregate a) && all_by has_options (map aggregate (drop (i + 1) xs)))
 drop_aggregates xs i a lt is = rw (drop_more xs i a lt, ← is) refl
 
-pub ruleset aggregate_rules = (both_true, above_zero, below_u32, length-map, drop_all, drop_aggregates)
+pub ruleset aggregate_rules = (and_from, above_zero, below_u32, length-map, drop_all, drop_aggregates)
