@@ -5,6 +5,7 @@ use Rattle.std.specs.List.{remove}
 use Rattle.std.proofs.lemmas.List.{length-map}
 use Rattle.std.proofs.lemmas.Bool.Decides.{nat_tests}
 use Rattle.std.specs.Global.{Vec}
+use Rattle.std.proofs.lemmas.Bool.{and_parts}
 use Rattle.vx_model.specs.declared.row_value.Value.{Value}
 use Rattle.vx_model.specs.Words.{all_by, head_or}
 use Rattle.vx_model.specs.ValueData.{ValueData}
@@ -60,18 +61,13 @@ pub ruleset count_rules = (counted_of, valid_of)
 all_counts : (n : ℕ) (parts : List (List ValueData)) → counts_fault n parts ≡ None → all_by (has_count n) parts ≡ true
 all_counts n parts e = all_fit n parts ∙ ap fits e
 
-both_true : (a b : Bool) → (a && b) ≡ true → (a ≡ true) × (b ≡ true)
-both_true true true e = (refl, refl)
-both_true true false e = cc
-both_true false b e = cc
-
 pub plain_structs : (n : ℕ) (parts : List (List ValueData)) → counts_fault n parts ≡ None → and_then (counted n) (struct_rows false n parts) ≡ Some (zipped n parts)
 plain_structs n parts e = rw (all_counts n parts e) (counted_whole n (zipped n parts) (zipped_length n parts))
 
 pub structs_valid : (n : ℕ) (flags : List ValueData) (columns : List (List ValueData)) → counts_fault n (flags ∷ columns) ≡ None
     → and_then (counted n) (struct_rows true n (flags ∷ columns)) ≡ Some (kept_rows flags (zipped n columns))
 structs_valid n flags columns e =
-    let both : (has_count n flags ≡ true) × (all_by (has_count n) columns ≡ true) = both_true (has_count n flags) (all_by (has_count n) columns) (all_counts n (flags ∷ columns) e) in
+    let both : (has_count n flags ≡ true) × (all_by (has_count n) columns ≡ true) = and_parts (has_count n flags) (all_by (has_count n) columns) (all_counts n (flags ∷ columns) e) in
     rw (both.1, both.0) (counted_whole n (kept_rows flags (zipped n columns)) (kept_length flags (zipped n columns) ∙ zipped_length n columns))
 
 -- the first, and the others

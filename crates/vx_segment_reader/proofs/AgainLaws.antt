@@ -2,7 +2,7 @@
 use Rattle.std.proofs.Common.{◌≡◌, ℕ, zero, suc, ◌+◌, ◌-◌, ◌^◌, ◌<◌, ◌≤◌, Bool, true, false, cond, List, [], ◌∷◌, ◌++◌, length, map, Option, Some, None, Result, Ok, Err, refl, sym, ap, subst, ◌∙◌, append_assoc, arith, IsTrue}
 use Rattle.std.specs.Prelude.{◌&&◌, ◌==◌, not, nat_le, slice_get, pos}
 use Rattle.std.specs.List.{AllByRecursion}
-use Rattle.std.proofs.lemmas.Bool.{eqb-true, eq-eqb}
+use Rattle.std.proofs.lemmas.Bool.{eqb-true, eq-eqb, and_parts}
 use Rattle.std.proofs.lemmas.List.{append-nil, length-map, length-replicate, nil_from_length}
 use Rattle.vx_model.specs.declared.encoding.EncodingId.{EncodingId}
 use Rattle.vx_model.specs.declared.encoding.EncodingId.TheVariants as encodings
@@ -17,7 +17,7 @@ use Rattle.vx_model.specs.TyLaws.{ty_eq_decides}
 use Rattle.vx_model.specs.CellData.{CellData, bit, u64_bytes, fits, spelling}
 use Rattle.vx_model.specs.ChunkData.{ChunkData, ChunkList, plain_piece, constant_piece, dict_piece, chunked_piece, list_piece, struct_piece, extension_piece, no_pieces, part, pieces_of, pieces_in, piece_type, cells, joined_cells, each_cells, picked, is_sound, are_sound, is_simple, is_chunked, is_code_type, is_dict_type, is_code, are_parts, are_offsets, are_flags, match_fields, validity_size}
 use Rattle.vx_layout_spec.specs.Real.{is_real_cell, is_real, are_real}
-use Rattle.vx_chunk_cells.proofs.Tests.{left_true, right_true, below}
+use Rattle.vx_chunk_cells.proofs.Tests.{below}
 use Rattle.vx_chunk.proofs.Sound.{of_plain, of_constant}
 use Rattle.vx_chunk.proofs.Lengths.{length-list_rows, length-struct_rows}
 use Rattle.vx_segment_writer.specs.Head.{Head}
@@ -27,7 +27,8 @@ use Rattle.vx_cell_codec.specs.Filled.{AreFilled}
 use Rattle.vx_cell_codec.specs.Columns.{ascend, offsets_at, flags_at, AreOffsets, AreFlags}
 use Rattle.vx_cell_codec.proofs.FilledLaws.{cells_again, only_again}
 use Rattle.vx_cell_codec.proofs.ColumnLaws.{offsets_again, flags_again}
-use Rattle.vx_segment_reader.specs.Reading.{Fault, ◌>>=◌}
+use Rattle.vx_byte_reader.specs.Places.{◌>>=◌}
+use Rattle.vx_segment_reader.specs.Reading.{Fault}
 use Rattle.vx_segment_reader.specs.Pieces.{Rest, Frame, number, unless_bad, given, node_of, buffer_of, is_shaped, flag_buffers, flags_of, pieces_at, plain_at, constant_at, code_type, simple_of, simple_at, are_codes, dict_at, chunked_at, list_at, have_rows, struct_at, extension_at, part_of, part_at, whole_of, whole_at, no_pieces_at, piece_then, own_of, columns_at, piece_at}
 use Rattle.vx_segment_reader.proofs.PieceTypes.{same_type}
 
@@ -191,10 +192,10 @@ parts_again frame t no_pieces ns bs agains typed = refl
 parts_again frame t (part p ps) ns bs agains typed =
     let ctx : List EncodingId = frame.ids in
     let read : Rest → Result (ChunkData × Rest) Fault = part_at frame t (own_of frame t) in
-    let first : (ty_eq (piece_type p) t && not (is_chunked p)) ≡ true = left_true (ty_eq (piece_type p) t && not (is_chunked p)) _ typed in
-    let others : are_parts t (pieces_in ps) ≡ true = right_true (ty_eq (piece_type p) t && not (is_chunked p)) _ typed in
-    let kind : piece_type p ≡ t = (ty_eq_decides (piece_type p) t).0 (left_true (ty_eq (piece_type p) t) _ first) in
-    let apart : is_chunked p ≡ false = not_true (is_chunked p) (right_true (ty_eq (piece_type p) t) _ first) in
+    let first : (ty_eq (piece_type p) t && not (is_chunked p)) ≡ true = (and_parts (ty_eq (piece_type p) t && not (is_chunked p)) _ typed).0 in
+    let others : are_parts t (pieces_in ps) ≡ true = (and_parts (ty_eq (piece_type p) t && not (is_chunked p)) _ typed).1 in
+    let kind : piece_type p ≡ t = (ty_eq_decides (piece_type p) t).0 (and_parts (ty_eq (piece_type p) t) _ first).0 in
+    let apart : is_chunked p ≡ false = not_true (is_chunked p) (and_parts (ty_eq (piece_type p) t) _ first).1 in
     let nodes : (heads ctx p ++ heads_below ctx ps) ++ ns ≡ heads ctx p ++ (heads_below ctx ps ++ ns) = append_assoc (heads ctx p) (heads_below ctx ps) ns in
     let texts : (buffers p ++ buffers_below ps) ++ bs ≡ buffers p ++ (buffers_below ps ++ bs) = append_assoc (buffers p) (buffers_below ps) bs in
     let one : read (rest_of (heads ctx p ++ (heads_below ctx ps ++ ns)) (buffers p ++ (buffers_below ps ++ bs))) ≡ Ok (p, rest_of (heads_below ctx ps ++ ns) (buffers_below ps ++ bs)) = subst (λ (u : Ty). part_at frame u (own_of frame u) (rest_of (heads ctx p ++ (heads_below ctx ps ++ ns)) (buffers p ++ (buffers_below ps ++ bs))) ≡ Ok (p, rest_of (heads_below ctx ps ++ ns) (buffers_below ps ++ bs))) kind (agains.0.as_part apart (heads_below ctx ps ++ ns) (buffers_below ps ++ bs)) in

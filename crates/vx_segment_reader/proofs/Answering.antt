@@ -12,7 +12,7 @@ use Rattle.vx_segment_reader.specs.Reading.{Fault}
 use Rattle.vx_segment_reader.specs.Segment.{decode}
 use Rattle.vx_segment_reader.specs.Codec.{IsSegment}
 use Rattle.vx_segment_reader.specs.Views.{Fails, Gives}
-use Rattle.vx_segment_reader.proofs.Fields.{IsBytes}
+use Rattle.vx_byte_reader.proofs.FieldLaws.{IsBytes}
 use Rattle.vx_segment_reader.proofs.SegmentLaws.{decode_takes, decode_again}
 
 abbrev itself : ChunkData → ChunkData

@@ -6,10 +6,12 @@ use Rattle.std.proofs.lemmas.Bool.{eqb-true, ltb-false, le-ltb}
 use Rattle.std.proofs.lemmas.List.{nil_from_length, length-append, length-take, length-drop, length-replicate, take-append-drop, take_at, drop_at, drop-drop}
 use Rattle.vx_model.specs.CellData.{u64_bytes}
 use Rattle.vx_segment_writer.specs.Segment.{padding_at, laid_out}
-use Rattle.vx_segment_reader.specs.Reading.{Fault, bad_grammar, ◌>>=◌}
+use Rattle.vx_byte_reader.specs.Places.{◌>>=◌}
+use Rattle.vx_segment_reader.specs.Reading.{Fault, bad_grammar}
 use Rattle.vx_segment_reader.specs.Segment.{set_byte, buffer_at, buffers_at, halves_at, halves_of}
 use Rattle.vx_segment_reader.proofs.BufferSteps.{buffer_is}
-use Rattle.vx_segment_reader.proofs.Fields.{IsBytes, IsBytes-take, IsBytes-drop, bind_ok, guard_ended, ok_is, wide64}
+use Rattle.vx_byte_reader.proofs.FieldLaws.{IsBytes, IsBytes-take, IsBytes-drop, wide64}
+use Rattle.vx_byte_reader.proofs.PlaceLaws.{bind_ok, guard_ended, ok_is}
 
 padding_zeros : (padded : Bool) (at : ℕ) → padding_at padded at ≡ replicate (length (padding_at padded at)) 0
 padding_zeros true at = ap (λ (k : ℕ). replicate k 0) (sym (length-replicate ((8 - at % 8) % 8) 0))

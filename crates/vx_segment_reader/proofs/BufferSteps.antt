@@ -5,7 +5,8 @@ use Rattle.std.proofs.lemmas.List.{append-nil, drop_more, length-replicate, leng
 use Rattle.vx_segment_writer.specs.Segment.{padding_at}
 use Rattle.vx_segment_reader.specs.declared.node.Node.{Node}
 use Rattle.vx_segment_reader.specs.declared.error.DecodeError.{DecodeError}
-use Rattle.vx_segment_reader.specs.Reading.{Fault, bad_grammar, ◌>>=◌}
+use Rattle.vx_byte_reader.specs.Places.{◌>>=◌}
+use Rattle.vx_segment_reader.specs.Reading.{Fault, bad_grammar}
 use Rattle.vx_segment_reader.specs.Segment.{set_byte, unless_set, buffer_at, buffers_at, lengths_of}
 use Rattle.vx_segment_reader.specs.Views.{Fails, head}
 use Rattle.vx_segment_reader.proofs.Loops.{fails_with}

@@ -2,7 +2,7 @@
 use Rattle.std.proofs.Common.{◌≡◌, ℕ, zero, suc, ◌+◌, ◌-◌, ◌^◌, ◌<◌, ◌≤◌, Bool, true, false, cond, List, [], ◌∷◌, ◌++◌, length, map, Option, Some, None, Result, Ok, Err, refl, sym, ap, subst, ◌∙◌, append_assoc, arith, IsTrue}
 use Rattle.std.specs.Prelude.{◌&&◌, ◌==◌, nat_le, slice_get}
 use Rattle.std.specs.List.{AllByRecursion}
-use Rattle.std.proofs.lemmas.Bool.{eqb-true, eq-eqb, leb-true}
+use Rattle.std.proofs.lemmas.Bool.{eqb-true, eq-eqb, leb-true, and_parts}
 use Rattle.std.proofs.lemmas.List.{length-append, nil_from_length}
 use Rattle.vx_model.specs.declared.encoding.EncodingId.{EncodingId}
 use Rattle.vx_model.specs.declared.encoding.EncodingId.TheVariants as encodings
@@ -12,14 +12,14 @@ use Rattle.vx_model.specs.TyLaws.{ty_eq_decides}
 use Rattle.vx_model.specs.CellData.{bit, u64_bytes, spelling}
 use Rattle.vx_model.specs.ChunkData.{ChunkData, ChunkList, plain_piece, constant_piece, dict_piece, chunked_piece, list_piece, struct_piece, extension_piece, no_pieces, part, pieces_of, pieces_in, piece_type, cells, joined_cells, each_cells, list_rows, is_sound, are_sound, is_chunked, are_offsets, are_flags, has_elements, has_storage, has_fields, match_fields, validity_size}
 use Rattle.vx_layout_spec.specs.Real.{is_real, are_real}
-use Rattle.vx_chunk_cells.proofs.Tests.{left_true, right_true}
 use Rattle.vx_chunk.proofs.Sound.{of_plain, of_constant, of_dict, of_chunked, of_list, of_struct, of_extension}
 use Rattle.vx_chunk.proofs.Lengths.{length-list_rows, length-struct_rows}
 use Rattle.vx_segment_writer.specs.Head.{Head}
 use Rattle.vx_segment_writer.specs.Segment.{validity_buffer, own_buffers, buffers, buffers_below, count_pieces, head_of, heads, heads_below, own_refusal, refused, refused_below}
 use Rattle.vx_cell_codec.specs.Columns.{ascend, offsets_at, flags_at, AreOffsets, AreFlags}
 use Rattle.vx_cell_codec.proofs.ColumnLaws.{offsets_again, flags_again}
-use Rattle.vx_segment_reader.specs.Reading.{Fault, ◌>>=◌}
+use Rattle.vx_byte_reader.specs.Places.{◌>>=◌}
+use Rattle.vx_segment_reader.specs.Reading.{Fault}
 use Rattle.vx_segment_reader.specs.Pieces.{Rest, Frame, number, flags_of, list_at, have_rows, struct_at, extension_at, no_pieces_at, piece_then, count_fields, own_of, columns_at, piece_at}
 use Rattle.vx_segment_reader.proofs.AgainLaws.{rest_of, Ready, ReadyAll, placed, own_listed, none_of, at_part, at_whole, plain_again, constant_again, dict_again, PartAgain, WholeAgain, Again, pieces_of-pieces_in, chunked_again}
 use Rattle.vx_segment_reader.proofs.RowsFit.{rows_fit}
@@ -43,18 +43,18 @@ offsets_ascend : (count : ℕ) (os : List ℕ) → are_offsets count os ≡ true
 offsets_ascend count [] e = absurd cc
 offsets_ascend count (a ∷ []) e = refl
 offsets_ascend count (a ∷ b ∷ os) e =
-    rw (left_true (nat_le a b) _ e, offsets_ascend count (b ∷ os) (right_true (nat_le a b) _ e)) refl
+    rw ((and_parts (nat_le a b) _ e).0, offsets_ascend count (b ∷ os) (and_parts (nat_le a b) _ e).1) refl
 
 first_within : (count a : ℕ) (os : List ℕ) → are_offsets count (a ∷ os) ≡ true → a ≤ count
 first_within count a [] e = leb-true a count e
 first_within count a (b ∷ os) e =
-    let low = leb-true a b (left_true (nat_le a b) _ e) in
-    omega (arith, low, first_within count b os (right_true (nat_le a b) _ e))
+    let low = leb-true a b (and_parts (nat_le a b) _ e).0 in
+    omega (arith, low, first_within count b os (and_parts (nat_le a b) _ e).1)
 
 offsets_small : (count : ℕ) (os : List ℕ) → count < 2 ^ 64 → are_offsets count os ≡ true → AllByRecursion (λ n. n < 2 ^ 64) os
 offsets_small count [] few e = absurd cc
 offsets_small count (a ∷ []) few e = (omega (arith, few, first_within count a [] e), tt)
-offsets_small count (a ∷ b ∷ os) few e = (omega (arith, few, first_within count a (b ∷ os) e), offsets_small count (b ∷ os) few (right_true (nat_le a b) _ e))
+offsets_small count (a ∷ b ∷ os) few e = (omega (arith, few, first_within count a (b ∷ os) e), offsets_small count (b ∷ os) few (and_parts (nat_le a b) _ e).1)
 
 pub list_again : (frame : Frame) (u : Ty) (m : Bool) (e : ChunkData) (offsets : List ℕ) (valid : List Bool) (k : ℕ) (ns : List Head) (bs : List (List ℕ)) → WholeAgain frame e → u ≡ piece_type e → length (cells e) < 2 ^ 64 → are_offsets (length (cells e)) offsets ≡ true
     → 1 ≤ length offsets → length valid ≡ cond m (length offsets - 1) 0
@@ -83,8 +83,8 @@ columns_again frame no_fields (part p ps) rows ns bs agains e = absurd cc
 columns_again frame (field name t fs) no_pieces rows ns bs agains e = absurd cc
 columns_again frame (field name t fs) (part p ps) rows ns bs agains e =
     let ctx : List EncodingId = frame.ids in
-    let kind : piece_type p ≡ t = (ty_eq_decides (piece_type p) t).0 (left_true (ty_eq (piece_type p) t) _ e) in
-    let others : match_fields fs (pieces_in ps) rows ≡ true = right_true (length (cells p) == rows) _ (right_true (ty_eq (piece_type p) t) _ e) in
+    let kind : piece_type p ≡ t = (ty_eq_decides (piece_type p) t).0 (and_parts (ty_eq (piece_type p) t) _ e).0 in
+    let others : match_fields fs (pieces_in ps) rows ≡ true = (and_parts (length (cells p) == rows) _ (and_parts (ty_eq (piece_type p) t) _ e).1).1 in
     let nodes : (heads ctx p ++ heads_below ctx ps) ++ ns ≡ heads ctx p ++ (heads_below ctx ps ++ ns) = append_assoc (heads ctx p) (heads_below ctx ps) ns in
     let texts : (buffers p ++ buffers_below ps) ++ bs ≡ buffers p ++ (buffers_below ps ++ bs) = append_assoc (buffers p) (buffers_below ps) bs in
     let one : piece_at frame t (rest_of (heads ctx p ++ (heads_below ctx ps ++ ns)) (buffers p ++ (buffers_below ps ++ bs))) ≡ Ok (p, rest_of (heads_below ctx ps ++ ns) (buffers_below ps ++ bs)) = subst (λ (u : Ty). piece_at frame u (rest_of (heads ctx p ++ (heads_below ctx ps ++ ns)) (buffers p ++ (buffers_below ps ++ bs))) ≡ Ok (p, rest_of (heads_below ctx ps ++ ns) (buffers_below ps ++ bs))) kind (agains.0.whole (heads_below ctx ps ++ ns) (buffers_below ps ++ bs)) in
@@ -95,14 +95,14 @@ fields_have no_fields [] rows e = refl
 fields_have no_fields (p ∷ ps) rows e = absurd cc
 fields_have (field name t fs) [] rows e = absurd cc
 fields_have (field name t fs) (p ∷ ps) rows e =
-    let more = right_true (ty_eq (piece_type p) t) _ e in
-    rw (left_true (length (cells p) == rows) _ more, fields_have fs ps rows (right_true (length (cells p) == rows) _ more)) refl
+    let more = (and_parts (ty_eq (piece_type p) t) _ e).1 in
+    rw ((and_parts (length (cells p) == rows) _ more).0, fields_have fs ps rows (and_parts (length (cells p) == rows) _ more).1) refl
 
 fields_count : (fs : Tys) (ps : ChunkList) (rows : ℕ) → match_fields fs (pieces_in ps) rows ≡ true → count_pieces ps ≡ count_fields fs
 fields_count no_fields no_pieces rows e = refl
 fields_count no_fields (part p ps) rows e = absurd cc
 fields_count (field name t fs) no_pieces rows e = absurd cc
-fields_count (field name t fs) (part p ps) rows e = ap suc (fields_count fs ps rows (right_true (length (cells p) == rows) _ (right_true (ty_eq (piece_type p) t) _ e)))
+fields_count (field name t fs) (part p ps) rows e = ap suc (fields_count fs ps rows (and_parts (length (cells p) == rows) _ (and_parts (ty_eq (piece_type p) t) _ e).1).1)
 
 pub struct_again : (frame : Frame) (fs : Tys) (m : Bool) (ps : ChunkList) (valid : List Bool) (rows k : ℕ) (ns : List Head) (bs : List (List ℕ)) → AllByRecursion (Again frame) (pieces_in ps) → match_fields fs (pieces_in ps) rows ≡ true → length valid ≡ cond m rows 0
     → struct_at (struct fs m) m (count_fields fs) (columns_at frame fs) k (head_of frame.ids (struct_piece (struct fs m) ps valid rows)) (rest_of (heads_below frame.ids ps ++ ns) ((own_buffers (struct_piece (struct fs m) ps valid rows) ++ buffers_below ps) ++ bs)) ≡ Ok (struct_piece (struct fs m) ps valid rows, rest_of ns bs)

@@ -2,7 +2,7 @@
 use Rattle.std.proofs.Common.{◌≡◌, ℕ, zero, suc, ◌+◌, ◌-◌, Bool, true, false, cond, eqb, List, [], ◌∷◌, ◌++◌, length, map, Option, Some, None, Result, Ok, Err, refl, sym, ap, subst, ◌∙◌, append_assoc, arith}
 use Rattle.std.specs.Prelude.{◌&&◌, ◌==◌, slice_get}
 use Rattle.std.specs.List.{AllByRecursion}
-use Rattle.std.proofs.lemmas.Bool.{eqb-true}
+use Rattle.std.proofs.lemmas.Bool.{eqb-true, and_parts}
 use Rattle.std.proofs.lemmas.List.{append-nil, length-map}
 use Rattle.vx_model.specs.declared.encoding.EncodingId.{EncodingId}
 use Rattle.vx_model.specs.declared.encoding.EncodingId.TheVariants as encodings
@@ -19,12 +19,14 @@ use Rattle.vx_segment_writer.specs.Segment.{validity_buffer, own_buffers, buffer
 use Rattle.vx_segment_writer.proofs.Steps.{count_is}
 use Rattle.vx_cell_codec.specs.Columns.{offsets_at, flags_at}
 use Rattle.vx_cell_codec.proofs.ColumnLaws.{offsets_take, flags_take}
-use Rattle.vx_segment_reader.specs.Reading.{Fault, ◌>>=◌}
+use Rattle.vx_byte_reader.specs.Places.{◌>>=◌}
+use Rattle.vx_segment_reader.specs.Reading.{Fault}
 use Rattle.vx_segment_reader.specs.Segment.{lengths_of}
 use Rattle.vx_segment_reader.specs.Pieces.{Rest, Frame, number, unless_bad, given, first_node, node_of, buffer_of, is_shaped, flag_buffers, flags_of, pieces_at, code_type, simple_of, simple_at, are_codes, dict_at, chunked_at, list_at, have_rows, struct_at, extension_at}
-use Rattle.vx_segment_reader.proofs.Fields.{IsBytes, bind_ok, ok_is}
+use Rattle.vx_byte_reader.proofs.FieldLaws.{IsBytes}
+use Rattle.vx_byte_reader.proofs.PlaceLaws.{bind_ok, ok_is}
 use Rattle.vx_segment_reader.proofs.BufferLaws.{lengths}
-use Rattle.vx_segment_reader.proofs.PieceTypes.{unless_ok, given_ok, just, both, simple_typed}
+use Rattle.vx_segment_reader.proofs.PieceTypes.{unless_ok, given_ok, just, simple_typed}
 use Rattle.vx_segment_reader.proofs.PieceLaws.{Fine, Begun, Took, TookPiece, TookAll, took_then, took_nothing, At, head_is, node_took, no_lengths, is_nil, Buffer, buffer_is, Shape, shape_of, begun_fine, OneLeft, one_left, plain_takes, constant_takes}
 
 -- a reader of chunks takes what it spells
@@ -116,10 +118,10 @@ dict_takes frame t k n rest x indexed at begun e =
     let f = unless_ok k (are_codes n.rows c.0.0 d.0.0) (Ok (dict_piece c.0.0 d.0.0, d.0.1)) x d.2 in
     let codes : ChunkData = c.0.0 in
     let values : ChunkData = d.0.0 in
-    let shape = both (is_dict_type t) ((length n.lengths == 0) && (n.children == 2)) a.0 in
-    let counts = both (length n.lengths == 0) (n.children == 2) shape.1 in
+    let shape = and_parts (is_dict_type t) ((length n.lengths == 0) && (n.children == 2)) a.0 in
+    let counts = and_parts (length n.lengths == 0) (n.children == 2) shape.1 in
     let none : length n.lengths ≡ 0 = eqb-true _ _ counts.0 in
-    let rows = both (length (cells codes) == n.rows) (all_by (is_code (length (cells values))) (cells codes)) f.0 in
+    let rows = and_parts (length (cells codes) == n.rows) (all_by (is_code (length (cells values))) (cells codes)) f.0 in
     let fine = begun_fine n rest begun none in
     let one = simple_takes frame (primitive b.0 false) indexed rest c.0 fine c.1 in
     let two = simple_takes frame t indexed c.0.1 d.0 one.fine d.1 in
@@ -140,7 +142,7 @@ chunked_takes ctx t read k n rest x takes at begun e =
     let a = unless_ok k ((n.extra == 0) && (length n.lengths == 0)) (pieces_at read n.children rest >>= λ parts. unless_bad k (length (joined_cells (pieces_of parts.0)) == n.rows) (Ok (chunked_piece t (pieces_of parts.0), parts.1))) x e in
     let b = bind_ok (pieces_at read n.children rest) (λ parts. unless_bad k (length (joined_cells (pieces_of parts.0)) == n.rows) (Ok (chunked_piece t (pieces_of parts.0), parts.1))) x a.1 in
     let c = unless_ok k (length (joined_cells (pieces_of b.0.0)) == n.rows) (Ok (chunked_piece t (pieces_of b.0.0), b.0.1)) x b.2 in
-    let bare = both (n.extra == 0) (length n.lengths == 0) a.0 in
+    let bare = and_parts (n.extra == 0) (length n.lengths == 0) a.0 in
     let none : length n.lengths ≡ 0 = eqb-true _ _ bare.1 in
     let below = pieces_take ctx read takes n.children rest b.0 (begun_fine n rest begun none) b.1 in
     let ps : ChunkList = pieces_of b.0.0 in

@@ -2,6 +2,7 @@
 use Rattle.std.proofs.Common.{◌≡◌, ℕ, ◌-◌, ◌^◌, ◌<◌, Bool, true, false, cond, List, [], ◌∷◌, ◌++◌, length, Option, Some, None, Result, Ok, Err, refl, sym, ap, subst, ◌∙◌}
 use Rattle.std.specs.Prelude.{◌&&◌, slice_get}
 use Rattle.std.specs.List.{AllByRecursion}
+use Rattle.std.proofs.lemmas.Bool.{and_parts}
 use Rattle.vx_model.specs.declared.encoding.EncodingId.{EncodingId}
 use Rattle.vx_model.specs.declared.encoding.EncodingId.TheVariants as encodings
 use Rattle.vx_model.specs.Words.{joined_by}
@@ -10,7 +11,6 @@ use Rattle.vx_model.specs.TyLaws.{ty_eq_decides}
 use Rattle.vx_model.specs.CellData.{CellData, spelling}
 use Rattle.vx_model.specs.ChunkData.{ChunkData, ChunkList, plain_piece, constant_piece, dict_piece, chunked_piece, list_piece, struct_piece, extension_piece, no_pieces, part, pieces_in, piece_type, cells, is_sound, are_sound}
 use Rattle.vx_layout_spec.specs.Real.{is_real, are_real}
-use Rattle.vx_chunk_cells.proofs.Tests.{left_true, right_true}
 use Rattle.vx_chunk.proofs.Sound.{SoundDict, of_dict, of_chunked, of_list, of_struct, of_extension}
 use Rattle.vx_segment_writer.specs.Head.{Head}
 use Rattle.vx_segment_writer.specs.Segment.{own_buffers, buffers, buffers_below, head_of, heads, heads_below, own_refusal, refused, refused_below}
@@ -50,8 +50,8 @@ dict_whole frame codes values ready =
     let known = of_dict codes values ready.sound in
     let parts = none_of (own_refusal ctx encodings.Dict) _ ready.listed in
     let below = none_of (refused ctx codes) (refused ctx values) parts.1 in
-    let codes_ready : Ready ctx codes = record { sound = known.codes_sound; real = left_true (is_real codes) _ ready.real; listed = below.0 } in
-    let values_ready : Ready ctx values = record { sound = known.values_sound; real = right_true (is_real codes) _ ready.real; listed = below.1 } in
+    let codes_ready : Ready ctx codes = record { sound = known.codes_sound; real = (and_parts (is_real codes) _ ready.real).0; listed = below.0 } in
+    let values_ready : Ready ctx values = record { sound = known.values_sound; real = (and_parts (is_real codes) _ ready.real).1; listed = below.1 } in
     let got = placed ctx encodings.Dict (own_listed ctx encodings.Dict parts.0) in
     record {
       as_part = λ apart ns bs.
@@ -160,4 +160,4 @@ mutual
   agains_of frame no_pieces ready = tt
   agains_of frame (part p ps) ready =
       let listed = none_of (refused frame.ids p) (refused_below frame.ids ps) ready.listed in
-      (again_of frame p (record { sound = left_true (is_sound p) _ ready.sound; real = left_true (is_real p) _ ready.real; listed = listed.0 }), agains_of frame ps (record { sound = right_true (is_sound p) _ ready.sound; real = right_true (is_real p) _ ready.real; listed = listed.1 }))
+      (again_of frame p (record { sound = (and_parts (is_sound p) _ ready.sound).0; real = (and_parts (is_real p) _ ready.real).0; listed = listed.0 }), agains_of frame ps (record { sound = (and_parts (is_sound p) _ ready.sound).1; real = (and_parts (is_real p) _ ready.real).1; listed = listed.1 }))

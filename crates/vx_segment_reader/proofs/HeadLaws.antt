@@ -2,6 +2,7 @@
 use Rattle.std.proofs.Common.{◌≡◌, ℕ, zero, suc, ◌+◌, ◌^◌, ◌<◌, ◌≤◌, Bool, true, false, cond, List, [], ◌∷◌, ◌++◌, length, map, refl, sym, ap, ◌∙◌, append_assoc, arith}
 use Rattle.std.specs.List.{AllByRecursion}
 use Rattle.std.proofs.lemmas.List.{append-nil, length-append, length-map}
+use Rattle.std.proofs.lemmas.Bool.{and_parts}
 use Rattle.vx_model.specs.declared.encoding.EncodingId.{EncodingId}
 use Rattle.vx_model.specs.Words.{joined_by}
 use Rattle.vx_model.specs.Places.{place_of}
@@ -9,7 +10,6 @@ use Rattle.vx_model.specs.Ty.{Ty, nullable}
 use Rattle.vx_model.specs.CellData.{CellData, bit}
 use Rattle.vx_model.specs.ChunkData.{ChunkData, ChunkList, plain_piece, constant_piece, dict_piece, chunked_piece, list_piece, struct_piece, extension_piece, no_pieces, part, cells, is_sound, are_sound}
 use Rattle.vx_chunk.specs.Encoded.{encoding_of}
-use Rattle.vx_chunk_cells.proofs.Tests.{left_true, right_true}
 use Rattle.vx_chunk.proofs.Sound.{of_dict, of_chunked, of_list, of_struct, of_extension}
 use Rattle.vx_segment_writer.specs.Head.{Head}
 use Rattle.vx_segment_writer.specs.Segment.{padding_at, laid_out, validity_buffer, own_buffers, buffers, buffers_below, count_pieces, child_count, head_of, heads, heads_below}
@@ -160,8 +160,8 @@ mutual
   below_fit ctx (part p ps) places sound short few =
       let sum = length-append (heads ctx p) (heads_below ctx ps) in
       all_join IsHead (heads ctx p) (heads_below ctx ps)
-      (heads_fit ctx p places (left_true (is_sound p) _ sound) (all_left Short (buffers p) (buffers_below ps) short) (omega (arith, few, sum)))
-      (below_fit ctx ps places (right_true (is_sound p) _ sound) (all_right Short (buffers p) (buffers_below ps) short) (omega (arith, few, sum)))
+      (heads_fit ctx p places (and_parts (is_sound p) _ sound).0 (all_left Short (buffers p) (buffers_below ps) short) (omega (arith, few, sum)))
+      (below_fit ctx ps places (and_parts (is_sound p) _ sound).1 (all_right Short (buffers p) (buffers_below ps) short) (omega (arith, few, sum)))
 
 -- each buffer is shorter than all of them
 pub laid_short : (padded : Bool) (at : ℕ) (bs : List (List ℕ)) → length (laid_out padded at bs) < 2 ^ 64 → AllByRecursion Short bs

@@ -3,49 +3,20 @@ use Rattle.std.proofs.Common.{◌≡◌, ℕ, zero, suc, ◌-◌, ◌+◌, ◌�
 use Rattle.std.proofs.lemmas.List.{append-nil, map_push}
 use Rattle.vx_segment_reader.specs.declared.error.DecodeError.{DecodeError}
 use Rattle.vx_segment_reader.specs.declared.error.DecodeError.TheVariants as errors
-use Rattle.vx_segment_reader.specs.Reading.{Fault, bad_grammar, bad_type, ◌>>=◌, many_at, node_at, nodes_at}
+use Rattle.vx_byte_reader.specs.Places.{◌>>=◌, many_at}
+use Rattle.vx_byte_reader.proofs.PlaceLoops.{with_front, regroup, many_stops}
+use Rattle.vx_segment_reader.specs.Reading.{Fault, bad_grammar, bad_type, node_at, nodes_at}
 use Rattle.vx_segment_writer.specs.Head.{Head}
 use Rattle.vx_segment_reader.specs.Views.{Fails}
-
--- what was read before, and what is still read
-abbrev pub with_front : {A : Type 0} → List A → Result (List A × List ℕ) Fault → Result (List A × List ℕ) Fault
-with_front front read = read >>= λ x. Ok (front ++ x.0, x.1)
-
-regroup : {A : Type 0} (front : List A) (n : A) (read : Result (List A × List ℕ) Fault) → with_front front (read >>= λ x. Ok (n ∷ x.0, x.1)) ≡ with_front (front ++ n ∷ []) read
-regroup front n (Ok x) = ap (λ (ns : List _). Ok (ns, x.1)) (simp append_assoc)
-regroup front n (Err f) = refl
-
-pub many_goes_on : {A : Type 0} (read : List ℕ → Result (A × List ℕ) Fault) (front : List A) (count i : ℕ) (bytes : List ℕ) (n : A) (after : List ℕ) (total : Result (List A × List ℕ) Fault) → i < count → read bytes ≡ Ok (n, after)
-    → with_front front (many_at read (count - i) bytes) ≡ total → with_front (front ++ n ∷ []) (many_at read (count - (i + 1)) after) ≡ total
-unfolding many_at
-many_goes_on read front count i bytes n after total lt h so_far =
-    let k : count - i ≡ suc (count - (i + 1)) = omega arith in
-    let one : with_front front (many_at read (count - i) bytes) ≡ with_front (front ++ n ∷ []) (many_at read (count - (i + 1)) after) = rw (k, h) (regroup front n (many_at read (count - (i + 1)) after)) in
-    sym one ∙ so_far
 
 pub fails_with : {A B : Type 0} (e : DecodeError) (r : Result A Fault) (total : Result B Fault) → ((f : Fault) → r ≡ Err f → total ≡ Err f) → Fails e r → Fails e total
 fails_with (errors.Grammar p) r total carry h = carry (bad_grammar p) h
 fails_with (errors.BadType n) r total carry h = carry (bad_type n) h
 fails_with errors.OutOfMemory r total carry h = tt
 
-many_stops : {A : Type 0} (read : List ℕ → Result (A × List ℕ) Fault) (front : List A) (count i : ℕ) (bytes : List ℕ) (total : Result (List A × List ℕ) Fault) (f : Fault) → i < count → read bytes ≡ Err f
-    → with_front front (many_at read (count - i) bytes) ≡ total → total ≡ Err f
-unfolding many_at
-many_stops read front count i bytes total f lt h so_far =
-    let k : count - i ≡ suc (count - (i + 1)) = omega arith in
-    let one : with_front front (many_at read (count - i) bytes) ≡ Err f = rw (k, h) refl in
-    sym so_far ∙ one
-
 pub many_ends : {A : Type 0} (e : DecodeError) (read : List ℕ → Result (A × List ℕ) Fault) (front : List A) (count i : ℕ) (bytes : List ℕ) (total : Result (List A × List ℕ) Fault) → i < count → Fails e (read bytes)
     → with_front front (many_at read (count - i) bytes) ≡ total → Fails e total
 many_ends e read front count i bytes total lt h so_far = fails_with e (read bytes) total (λ f is. many_stops read front count i bytes total f lt is so_far) h
-
-pub many_done : {A : Type 0} (read : List ℕ → Result (A × List ℕ) Fault) (front : List A) (count i : ℕ) (bytes : List ℕ) (total : Result (List A × List ℕ) Fault) → count ≤ i → with_front front (many_at read (count - i) bytes) ≡ total → total ≡ Ok (front, bytes)
-unfolding many_at
-many_done read front count i bytes total le so_far =
-    let k : count - i ≡ 0 = omega arith in
-    let one : with_front front (many_at read (count - i) bytes) ≡ Ok (front, bytes) = rw k (ap (λ (ns : List _). Ok (ns, bytes)) (append-nil front)) in
-    sym so_far ∙ one
 
 pub ruleset many_rules = (append_assoc)
 

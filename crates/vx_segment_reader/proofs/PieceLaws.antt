@@ -2,7 +2,7 @@
 use Rattle.std.proofs.Common.{◌≡◌, ℕ, zero, suc, ◌+◌, ◌-◌, Bool, true, false, cond, eqb, List, [], ◌∷◌, ◌++◌, length, map, Option, Some, None, Result, Ok, Err, refl, sym, ap, subst, ◌∙◌, append_assoc, arith}
 use Rattle.std.specs.Prelude.{◌&&◌, ◌==◌, ◌||◌, slice_get}
 use Rattle.std.specs.List.{AllByRecursion}
-use Rattle.std.proofs.lemmas.Bool.{eqb-true, eq-eqb}
+use Rattle.std.proofs.lemmas.Bool.{eqb-true, eq-eqb, and_parts}
 use Rattle.std.proofs.lemmas.List.{append-nil, length-map, length-replicate, nil_from_length}
 use Rattle.vx_model.specs.declared.encoding.EncodingId.{EncodingId}
 use Rattle.vx_model.specs.declared.encoding.EncodingId.TheVariants as encodings
@@ -23,12 +23,14 @@ use Rattle.vx_cell_codec.specs.Reading.{cells_at, only_cell_at}
 use Rattle.vx_cell_codec.specs.Columns.{offsets_at, flags_at}
 use Rattle.vx_cell_codec.proofs.FilledLaws.{cells_take, only_take}
 use Rattle.vx_cell_codec.proofs.ColumnLaws.{offsets_take, flags_take}
-use Rattle.vx_segment_reader.specs.Reading.{Fault, bad_type, ◌>>=◌}
+use Rattle.vx_byte_reader.specs.Places.{◌>>=◌}
+use Rattle.vx_segment_reader.specs.Reading.{Fault, bad_type}
 use Rattle.vx_segment_reader.specs.Segment.{lengths_of}
 use Rattle.vx_segment_reader.specs.Pieces.{Rest, Frame, number, unless_bad, given, node_of, first_buffer, buffer_of, is_shaped, flag_buffers, flags_of, pieces_at, plain_at, constant_at, code_type, simple_of, simple_at, are_codes, dict_at, chunked_at, list_at, have_rows, struct_at, extension_at, list_own, struct_own, extension_own, part_of, part_at, whole_of, whole_at, no_pieces_at, piece_then, count_fields, own_of, columns_at, piece_at}
-use Rattle.vx_segment_reader.proofs.Fields.{IsBytes, bind_ok, ok_is}
+use Rattle.vx_byte_reader.proofs.FieldLaws.{IsBytes}
+use Rattle.vx_byte_reader.proofs.PlaceLaws.{bind_ok, ok_is}
 use Rattle.vx_segment_reader.proofs.BufferLaws.{lengths}
-use Rattle.vx_segment_reader.proofs.PieceTypes.{unless_ok, given_ok, both, simple_typed}
+use Rattle.vx_segment_reader.proofs.PieceTypes.{unless_ok, given_ok, simple_typed}
 
 -- what is known of what is still to be read: buffers are bytes, of the lengths that the nodes tell
 pub record Fine (rest : Rest) : Type 0 where
@@ -145,8 +147,8 @@ pub record Shape (buffers children : ℕ) (n : Head) : Type 0 where
 
 pub shape_of : (buffers children : ℕ) (n : Head) → is_shaped buffers children n ≡ true → Shape buffers children n
 shape_of buffers children n e =
-    let a = both (n.extra == 0) ((length n.lengths == buffers) && (n.children == children)) e in
-    let b = both (length n.lengths == buffers) (n.children == children) a.1 in
+    let a = and_parts (n.extra == 0) ((length n.lengths == buffers) && (n.children == children)) e in
+    let b = and_parts (length n.lengths == buffers) (n.children == children) a.1 in
     record { extra = eqb-true _ _ a.0; count = eqb-true _ _ b.0; below = eqb-true _ _ b.1 }
 
 -- a node without buffers leaves all of them

@@ -13,7 +13,8 @@ use Rattle.vx_model.specs.declared.dtype.DType.{DType}
 use Rattle.vx_model.specs.declared.dtype.DType as dt
 use Rattle.vx_model.specs.declared.dtype.ExtDType.{ExtDType, out-ExtDType}
 use Rattle.vx_segment_reader.specs.declared.error.DecodeError.{DecodeError}
-use Rattle.vx_segment_reader.specs.Reading.{Fault, ◌>>=◌}
+use Rattle.vx_byte_reader.specs.Places.{◌>>=◌}
+use Rattle.vx_segment_reader.specs.Reading.{Fault}
 use Rattle.vx_segment_reader.specs.Pieces.{Rest, Frame, pieces_at, have_rows, no_pieces_at, piece_then, piece_at, columns_at, count_fields}
 use Rattle.vx_segment_reader.specs.TypeDepth.{ty_depth, tys_depth}
 use Rattle.vx_segment_reader.specs.Views.{Fails}

@@ -1,7 +1,7 @@
 -- What is read as a chunk of a type has that type.
 use Rattle.std.proofs.Common.{◌≡◌, ℕ, zero, suc, ◌+◌, ◌-◌, ◌^◌, ◌<◌, Bool, true, false, cond, IsTrue, List, [], ◌∷◌, length, Option, Some, None, Result, Ok, Err, refl, sym, ap, subst, ◌∙◌, arith}
 use Rattle.std.specs.Prelude.{◌&&◌, ◌==◌, not, slice_get}
-use Rattle.std.proofs.lemmas.Bool.{eqb-true, eq-eqb}
+use Rattle.std.proofs.lemmas.Bool.{eqb-true, eq-eqb, and_parts}
 use Rattle.vx_model.specs.declared.encoding.EncodingId.{EncodingId}
 use Rattle.vx_model.specs.declared.encoding.EncodingId.TheVariants as encodings
 use Rattle.vx_model.specs.declared.ptype.PType.{PType}
@@ -15,9 +15,10 @@ use Rattle.vx_chunk.specs.Conditions.{makes_dict, makes_list, makes_struct}
 use Rattle.vx_segment_writer.specs.Head.{Head}
 use Rattle.vx_cell_codec.specs.Reading.{cells_at, only_cell_at}
 use Rattle.vx_cell_codec.specs.Columns.{offsets_at}
-use Rattle.vx_segment_reader.specs.Reading.{Fault, bad_type, ◌>>=◌}
+use Rattle.vx_byte_reader.specs.Places.{◌>>=◌}
+use Rattle.vx_segment_reader.specs.Reading.{Fault}
 use Rattle.vx_segment_reader.specs.Pieces.{Rest, Frame, number, unless_bad, given, node_of, buffer_of, is_shaped, flag_buffers, flags_of, pieces_at, plain_at, constant_at, code_type, simple_of, simple_at, are_codes, dict_at, chunked_at, list_at, have_rows, struct_at, extension_at, Own, list_own, struct_own, extension_own, count_fields, part_of, part_at, whole_of, whole_at, no_pieces_at, piece_then, own_of, columns_at, piece_at}
-use Rattle.vx_segment_reader.proofs.Fields.{bind_ok, ok_is}
+use Rattle.vx_byte_reader.proofs.PlaceLaws.{bind_ok, ok_is}
 
 pub unless_ok : {A : Type 0} (k : ℕ) (b : Bool) (r : Result A Fault) (x : A) → unless_bad k b r ≡ Ok x → (b ≡ true) × (r ≡ Ok x)
 unless_ok k true r x e = (refl, e)
@@ -29,10 +30,6 @@ just x = Some x
 pub given_ok : {A : Type 0} (k : ℕ) (o : Option A) (x : A) → given k o ≡ Ok x → o ≡ Some x
 given_ok k (Some y) x e = ap just (ok_is y x e)
 given_ok k None x e = absurd cc
-
-pub both : (a b : Bool) → (a && b) ≡ true → (a ≡ true) × (b ≡ true)
-both true b e = (refl, e)
-both false b e = absurd cc
 
 pub same_type : (s t : Ty) → s ≡ t → ty_eq s t ≡ true
 same_type s t e = (ty_eq_decides s t).1 e
@@ -227,7 +224,7 @@ columns_match frame (field name t fs) rows rest x e have =
     let b = bind_ok (columns_at frame fs a.0.1) (λ more. Ok (a.0.0 ∷ more.0, more.1)) x a.2 in
     let made : List ChunkData × Rest = (a.0.0 ∷ b.0.0, b.0.1) in
     let is : made ≡ x = ok_is made x b.2 in
-    let each : ((length (cells a.0.0) == rows) ≡ true) × (have_rows rows b.0.0 ≡ true) = both (length (cells a.0.0) == rows) (have_rows rows b.0.0) (subst (λ (y : List ChunkData × Rest). have_rows rows y.0 ≡ true) (sym is) have) in
+    let each : ((length (cells a.0.0) == rows) ≡ true) × (have_rows rows b.0.0 ≡ true) = and_parts (length (cells a.0.0) == rows) (have_rows rows b.0.0) (subst (λ (y : List ChunkData × Rest). have_rows rows y.0 ≡ true) (sym is) have) in
     subst (λ (y : List ChunkData × Rest). match_fields (field name t fs) y.0 rows ≡ true) is (rw (same_type (piece_type a.0.0) t (piece_typed frame t rest a.0 a.1), each.0, columns_match frame fs rows a.0.1 b.0 b.1 each.1) refl)
 
 -- ---- what the constructors ask
@@ -239,21 +236,11 @@ not_rows n rows small large = decided (n == rows) refl
     decided true e = absurd (large (rw (eqb-true n rows e) small))
     decided false e = refl
 
-pub chunked_refused : (t : Ty) (read : Rest → Result (ChunkData × Rest) Fault) (k : ℕ) (n : Head) (rest : Rest) (parts : List ChunkData) (after : Rest) → ((n.extra == 0) && (length n.lengths == 0)) ≡ true
-    → pieces_at read n.children rest ≡ Ok (parts, after) → (length (joined_cells (pieces_of parts)) == n.rows) ≡ false → chunked_at t read k n rest ≡ Err (bad_type k)
-unfolding chunked_at
-chunked_refused t read k n rest parts after shape e f = rw (shape, e, f) refl
-
 pub list_elements : (t u : Ty) (n : Bool) (p : ChunkData) → t ≡ list u n → piece_type p ≡ u → has_elements t (piece_type p) ≡ true
 list_elements t u n p e f = rw (e, f) (same_type u u refl)
 
 pub flags_count : (t : Ty) (rows n : ℕ) (valid : List Bool) → n ≡ rows → length valid ≡ cond (nullable t) rows 0 → are_flags t n valid ≡ true
 flags_count t rows n valid same e = rw same (eq-eqb (length valid) (cond (nullable t) rows 0) e)
-
-pub list_made : (t s u : Ty) (p : ChunkData) (offsets : List ℕ) (valid : List Bool) (rows : ℕ) → s ≡ t → t ≡ list u (nullable t) → piece_type p ≡ u → are_offsets (length (cells p)) offsets ≡ true → length offsets ≡ rows + 1 → length valid ≡ cond (nullable t) rows 0
-    → makes_list s p offsets valid ≡ true
-list_made t s u p offsets valid rows same e f within count flags =
-    rw (same, list_elements t u (nullable t) p e f, within, flags_count t rows (length offsets - 1) valid (omega (arith, count)) flags) refl
 
 pub struct_made : (frame : Frame) (t s : Ty) (fs : Tys) (rest after : Rest) (columns : List ChunkData) (valid : List Bool) (rows : ℕ) → s ≡ t → t ≡ struct fs (nullable t) → columns_at frame fs rest ≡ Ok (columns, after) → have_rows rows columns ≡ true → length valid ≡ cond (nullable t) rows 0
     → makes_struct s columns valid rows ≡ true

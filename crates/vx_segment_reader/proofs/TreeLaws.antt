@@ -6,11 +6,14 @@ use Rattle.std.proofs.lemmas.Bool.{eqb-true}
 use Rattle.std.proofs.lemmas.List.{append-nil, nil_from_length, length-append}
 use Rattle.vx_model.specs.Words.{joined_by}
 use Rattle.vx_model.specs.CellData.{bit, u64_bytes}
-use Rattle.vx_segment_reader.specs.Reading.{bad_grammar, ◌>>=◌, number_at, byte_at, flag_at, many_at, node_at, nodes_at, RawTree, tree_at}
+use Rattle.vx_byte_reader.specs.Places.{◌>>=◌, many_at}
+use Rattle.vx_segment_reader.specs.Reading.{bad_grammar, number_at, byte_at, flag_at, node_at, nodes_at, RawTree, tree_at}
 use Rattle.vx_segment_writer.specs.Head.{Head}
 use Rattle.vx_segment_writer.specs.Head.{head_spelling}
 use Rattle.vx_segment_reader.specs.Spelled.{are_trees, tree_spelling, IsHead}
-use Rattle.vx_segment_reader.proofs.Fields.{IsBytes, bind_ok, guard_ended, ok_is, Takes, Takes-then, wide16, number_takes, number_again, u64_takes, u64_again, byte_takes, flag_takes, flag_again, many_takes, many_again}
+use Rattle.vx_byte_reader.proofs.FieldLaws.{IsBytes, Takes, Takes-then}
+use Rattle.vx_byte_reader.proofs.PlaceLaws.{bind_ok, guard_ended, ok_is, many_takes, many_again}
+use Rattle.vx_segment_reader.proofs.Fields.{reads_u16, reads_u64, reads_byte, reads_flag}
 
 node_takes : (stop : ℕ) (bytes : List ℕ) (x : Head × List ℕ) → IsBytes bytes → node_at stop bytes ≡ Ok x → Takes bytes (head_spelling x.0) x.1
 unfolding node_at
@@ -21,12 +24,12 @@ node_takes stop bytes x fits e =
     let d = bind_ok (byte_at stop c.0.1) (λ count. many_at (number_at w64 stop) count.0 count.1 >>= λ lengths. number_at w64 stop lengths.1 >>= λ children. Ok (record { index = a.0.0; rows = b.0.0; extra = c.0.0; lengths = lengths.0; children = children.0 }, children.1)) x c.2 in
     let f = bind_ok (many_at (number_at w64 stop) d.0.0 d.0.1) (λ lengths. number_at w64 stop lengths.1 >>= λ children. Ok (record { index = a.0.0; rows = b.0.0; extra = c.0.0; lengths = lengths.0; children = children.0 }, children.1)) x d.2 in
     let g = bind_ok (number_at w64 stop f.0.1) (λ children. Ok (record { index = a.0.0; rows = b.0.0; extra = c.0.0; lengths = f.0.0; children = children.0 }, children.1)) x f.2 in
-    let t0 = (number_takes w16 (2 ^ 16) wide16 stop bytes a.0.0 a.0.1 fits a.1).0 in
-    let t1 = u64_takes stop a.0.1 b.0.0 b.0.1 t0.rest_fits b.1 in
-    let t2 = byte_takes stop b.0.1 c.0.0 c.0.1 t1.rest_fits c.1 in
-    let t3 = byte_takes stop c.0.1 d.0.0 d.0.1 t2.rest_fits d.1 in
-    let t4 = many_takes (number_at w64 stop) u64_bytes (u64_takes stop) d.0.0 d.0.1 f.0 t3.rest_fits f.1 in
-    let t5 = u64_takes stop f.0.1 g.0.0 g.0.1 t4.0.rest_fits g.1 in
+    let t0 = ((reads_u16 stop).takes bytes a.0.0 a.0.1 fits a.1).0 in
+    let t1 = ((reads_u64 stop).takes a.0.1 b.0.0 b.0.1 t0.rest_bytes b.1).0 in
+    let t2 = ((reads_byte stop).takes b.0.1 c.0.0 c.0.1 t1.rest_bytes c.1).0 in
+    let t3 = ((reads_byte stop).takes c.0.1 d.0.0 d.0.1 t2.rest_bytes d.1).0 in
+    let t4 = many_takes (number_at w64 stop) u64_bytes (λ m. m < 2 ^ 64) (reads_u64 stop) d.0.0 d.0.1 f.0 t3.rest_bytes f.1 in
+    let t5 = ((reads_u64 stop).takes f.0.1 g.0.0 g.0.1 t4.0.rest_bytes g.1).0 in
     let e45 = Takes-then d.0.1 (joined_by u64_bytes f.0.0) f.0.1 (u64_bytes g.0.0) g.0.1 t4.0 t5 in
     let e35 = Takes-then c.0.1 (d.0.0 ∷ []) d.0.1 (joined_by u64_bytes f.0.0 ++ u64_bytes g.0.0) g.0.1 t3 e45 in
     let counted : Takes c.0.1 (length f.0.0 ∷ (joined_by u64_bytes f.0.0 ++ u64_bytes g.0.0)) g.0.1 = subst (λ (k : ℕ). Takes c.0.1 (k ∷ (joined_by u64_bytes f.0.0 ++ u64_bytes g.0.0)) g.0.1) (sym t4.1) e35 in
@@ -42,21 +45,21 @@ node_again stop n rest fits =
     let tail : List ℕ = joined_by u64_bytes n.lengths ++ u64_bytes n.children in
     let e2 : (joined_by u64_bytes n.lengths ++ u64_bytes n.children) ++ rest ≡ joined_by u64_bytes n.lengths ++ (u64_bytes n.children ++ rest) = append_assoc (joined_by u64_bytes n.lengths) (u64_bytes n.children) rest in
     let regrouped : head_spelling n ++ rest ≡ to_le_bytes w16 n.index ++ (u64_bytes n.rows ++ (n.extra ∷ length n.lengths ∷ (joined_by u64_bytes n.lengths ++ (u64_bytes n.children ++ rest)))) = append_assoc (to_le_bytes w16 n.index) (u64_bytes n.rows ++ (n.extra ∷ length n.lengths ∷ tail)) rest ∙ ap (λ (x : List ℕ). to_le_bytes w16 n.index ++ x) (append_assoc (u64_bytes n.rows) (n.extra ∷ length n.lengths ∷ tail) rest) ∙ ap (λ (x : List ℕ). to_le_bytes w16 n.index ++ (u64_bytes n.rows ++ (n.extra ∷ length n.lengths ∷ x))) e2 in
-    ap (node_at stop) regrouped ∙ rw (number_again w16 (2 ^ 16) wide16 stop n.index (u64_bytes n.rows ++ (n.extra ∷ length n.lengths ∷ (joined_by u64_bytes n.lengths ++ (u64_bytes n.children ++ rest)))) fits.index, u64_again stop n.rows (n.extra ∷ length n.lengths ∷ (joined_by u64_bytes n.lengths ++ (u64_bytes n.children ++ rest))) fits.rows, many_again (number_at w64 stop) u64_bytes (λ m. m < 2 ^ 64) (u64_again stop) n.lengths (u64_bytes n.children ++ rest) fits.lengths, u64_again stop n.children rest fits.children) refl
+    ap (node_at stop) regrouped ∙ rw ((reads_u16 stop).again n.index (u64_bytes n.rows ++ (n.extra ∷ length n.lengths ∷ (joined_by u64_bytes n.lengths ++ (u64_bytes n.children ++ rest)))) fits.index, (reads_u64 stop).again n.rows (n.extra ∷ length n.lengths ∷ (joined_by u64_bytes n.lengths ++ (u64_bytes n.children ++ rest))) fits.rows, many_again (number_at w64 stop) u64_bytes (λ m. m < 2 ^ 64) (reads_u64 stop) n.lengths (u64_bytes n.children ++ rest) fits.lengths, (reads_u64 stop).again n.children rest fits.children) refl
 
 pub nodes_take : (fuel pending stop : ℕ) (bytes : List ℕ) (x : List Head × List ℕ) → IsBytes bytes → nodes_at fuel pending stop bytes ≡ Ok x
     → Takes bytes (joined_by head_spelling x.0) x.1 × (are_trees pending x.0 ≡ true)
 unfolding nodes_at
 nodes_take zero zero stop bytes x fits e =
-    subst (λ (y : List Head × List ℕ). Takes bytes (joined_by head_spelling y.0) y.1 × (are_trees 0 y.0 ≡ true)) (ok_is ([], bytes) x e) (record { parts = refl; rest_fits = fits }, refl)
+    subst (λ (y : List Head × List ℕ). Takes bytes (joined_by head_spelling y.0) y.1 × (are_trees 0 y.0 ≡ true)) (ok_is ([], bytes) x e) (record { parts = refl; rest_bytes = fits }, refl)
 nodes_take (suc fuel) zero stop bytes x fits e =
-    subst (λ (y : List Head × List ℕ). Takes bytes (joined_by head_spelling y.0) y.1 × (are_trees 0 y.0 ≡ true)) (ok_is ([], bytes) x e) (record { parts = refl; rest_fits = fits }, refl)
+    subst (λ (y : List Head × List ℕ). Takes bytes (joined_by head_spelling y.0) y.1 × (are_trees 0 y.0 ≡ true)) (ok_is ([], bytes) x e) (record { parts = refl; rest_bytes = fits }, refl)
 nodes_take zero (suc pending) stop bytes x fits e = absurd cc
 nodes_take (suc fuel) (suc pending) stop bytes x fits e =
     let a = bind_ok (node_at stop bytes) (λ first. nodes_at fuel (pending + first.0.children) stop first.1 >>= λ others. Ok (first.0 ∷ others.0, others.1)) x e in
     let b = bind_ok (nodes_at fuel (pending + a.0.0.children) stop a.0.1) (λ others. Ok (a.0.0 ∷ others.0, others.1)) x a.2 in
     let first = node_takes stop bytes a.0 fits a.1 in
-    let second = nodes_take fuel (pending + a.0.0.children) stop a.0.1 b.0 first.rest_fits b.1 in
+    let second = nodes_take fuel (pending + a.0.0.children) stop a.0.1 b.0 first.rest_bytes b.1 in
     let both = Takes-then bytes (head_spelling a.0.0) a.0.1 (joined_by head_spelling b.0.0) b.0.1 first second.0 in
     let made : List Head × List ℕ = (a.0.0 ∷ b.0.0, b.0.1) in
     subst (λ (y : List Head × List ℕ). Takes bytes (joined_by head_spelling y.0) y.1 × (are_trees (suc pending) y.0 ≡ true)) (ok_is made x b.2) (both, second.1)
@@ -88,8 +91,8 @@ tree_takes stop bytes t fits e =
     let b = bind_ok (nodes_at (length a.0.1) 1 stop a.0.1) (λ nodes. cond (eqb (length nodes.1) 0) (Ok (record { padded = a.0.0; nodes = nodes.0 })) (Err (bad_grammar (stop - length nodes.1)))) t a.2 in
     let made : RawTree = record { padded = a.0.0; nodes = b.0.0 } in
     let g = guard_ended (eqb (length b.0.1) 0) (bad_grammar (stop - length b.0.1)) made t b.2 in
-    let first = flag_takes stop bytes a.0.0 a.0.1 fits a.1 in
-    let second = nodes_take (length a.0.1) 1 stop a.0.1 b.0 first.rest_fits b.1 in
+    let first = ((reads_flag stop).takes bytes a.0.0 a.0.1 fits a.1).0 in
+    let second = nodes_take (length a.0.1) 1 stop a.0.1 b.0 first.rest_bytes b.1 in
     let nothing : b.0.1 ≡ [] = nil_from_length b.0.1 (eqb-true _ _ g.0) in
     let both = (Takes-then bytes (bit a.0.0 ∷ []) a.0.1 (joined_by head_spelling b.0.0) b.0.1 first second.0).parts in
     let whole : bytes ≡ tree_spelling made = both ∙ ap (λ (r : List ℕ). (bit a.0.0 ∷ joined_by head_spelling b.0.0) ++ r) nothing ∙ append-nil (bit a.0.0 ∷ joined_by head_spelling b.0.0) in
@@ -100,4 +103,4 @@ unfolding tree_at
 tree_again stop t trees fits =
     let text : List ℕ = joined_by head_spelling t.nodes in
     let nodes : nodes_at (length text) 1 stop text ≡ Ok (t.nodes, []) = ap (nodes_at (length text) 1 stop) (sym (append-nil text)) ∙ nodes_again (length text) 1 stop t.nodes [] (enough t.nodes) trees fits in
-    rw (flag_again stop t.padded text, nodes) refl
+    rw ((reads_flag stop).again t.padded text tt, nodes) refl

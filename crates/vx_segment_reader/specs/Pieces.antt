@@ -11,7 +11,8 @@ use Rattle.vx_model.specs.ChunkData.{ChunkData, ChunkList, plain_piece, constant
 use Rattle.vx_segment_writer.specs.Head.{Head}
 use Rattle.vx_cell_codec.specs.Reading.{cells_at, only_cell_at}
 use Rattle.vx_cell_codec.specs.Columns.{offsets_at, flags_at}
-use Rattle.vx_segment_reader.specs.Reading.{Fault, bad_type, ◌>>=◌}
+use Rattle.vx_byte_reader.specs.Places.{◌>>=◌}
+use Rattle.vx_segment_reader.specs.Reading.{Fault, bad_type}
 
 -- what is still to be read: nodes in pre-order, and their buffers
 pub record Rest : Type 0 where
@@ -32,6 +33,10 @@ number frame rest = frame.total - length rest.nodes
 -- the node is refused unless the test holds
 abbrev pub unless_bad : {A : Type 0} → ℕ → Bool → Result A Fault → Result A Fault
 unless_bad k b read = if b then read else Err (bad_type k)
+
+-- what a node is where its parts fit
+abbrev pub made_at : ℕ → Bool → ChunkData → Rest → Result (ChunkData × Rest) Fault
+made_at k fit p rest = unless_bad k fit (Ok (p, rest))
 
 -- the node is refused where there is nothing
 abbrev pub given : {A : Type 0} → ℕ → Option A → Result A Fault

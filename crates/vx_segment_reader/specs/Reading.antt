@@ -1,7 +1,8 @@
--- Reading bytes from left to right, with the first fault that is met. A fault of the grammar names a place in the
--- segment: `stop` is the place at which the bytes that are read end, so what is left tells the place of a field.
-use Rattle.std.specs.Prelude.{ℕ, zero, suc, ◌+◌, ◌-◌, Bool, true, false, List, [], ◌∷◌, length, take, drop, Result, Ok, Err, nat_lt, ◌==◌, if◌then◌else◌}
-use Rattle.std.specs.Int.{Width, w16, w64, byte_len, from_le_bytes}
+-- Reading the tree of a segment, with the first fault that is met. A fault of the grammar names a place in the segment.
+use Rattle.std.specs.Prelude.{ℕ, zero, suc, ◌+◌, ◌-◌, Bool, List, [], ◌∷◌, length, Result, Ok, Err, ◌==◌, if◌then◌else◌}
+use Rattle.std.specs.Int.{Width, w16, w64}
+use Rattle.vx_byte_reader.specs.Fields as fields
+use Rattle.vx_byte_reader.specs.Places.{◌>>=◌, field_at, many_at}
 use Rattle.vx_segment_writer.specs.Head.{Head}
 
 pub data Fault : Type 0 where
@@ -10,34 +11,15 @@ pub data Fault : Type 0 where
   -- the node of this number, in pre-order from 0, isn't one of the type
   bad_type : ℕ → Fault
 
-infixl 10 ◌>>=◌
-abbrev pub ◌>>=◌ : {A B : Type 0} → Result A Fault → (A → Result B Fault) → Result B Fault
-(Ok x) >>= f = f x
-(Err e) >>= f = Err e
-
--- A field is a value and the bytes behind it. One that isn't whole is a fault at its start.
+-- a number, a byte, a flag
 abbrev pub number_at : Width → ℕ → List ℕ → Result (ℕ × List ℕ) Fault
-number_at w stop bytes =
-    if nat_lt (length bytes) (byte_len w) then Err (bad_grammar (stop - length bytes)) else Ok (from_le_bytes w (take (byte_len w) bytes), drop (byte_len w) bytes)
+number_at w = field_at bad_grammar (fields.number_at w)
 
 abbrev pub byte_at : ℕ → List ℕ → Result (ℕ × List ℕ) Fault
-byte_at stop [] = Err (bad_grammar stop)
-byte_at stop (b ∷ rest) = Ok (b, rest)
+byte_at = field_at bad_grammar fields.byte_at
 
--- 0 or 1
 abbrev pub flag_at : ℕ → List ℕ → Result (Bool × List ℕ) Fault
-flag_at stop [] = Err (bad_grammar stop)
-flag_at stop (zero ∷ rest) = Ok (false, rest)
-flag_at stop (suc zero ∷ rest) = Ok (true, rest)
-flag_at stop (suc (suc b) ∷ rest) = Err (bad_grammar (stop - suc (length rest)))
-
--- so many fields, one after the other
-unfoldable pub many_at : {A : Type 0} → (List ℕ → Result (A × List ℕ) Fault) → ℕ → List ℕ → Result (List A × List ℕ) Fault
-many_at read zero bytes = Ok ([], bytes)
-many_at read (suc n) bytes = do
-  first ← read bytes
-  others ← many_at read n first.1
-  Ok (first.0 ∷ others.0, others.1)
+flag_at = field_at bad_grammar fields.flag_at
 
 -- ---- the tree of encodings
 

@@ -4,6 +4,7 @@
 mod buffers;
 mod error;
 mod law;
+mod made;
 mod node;
 mod pieces;
 mod rest;

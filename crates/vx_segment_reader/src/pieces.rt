@@ -1,18 +1,19 @@
 //! Chunks of every encoding. A chunk is read no deeper than its type.
 
-ghost use Rattle.std.specs.Prelude.{◌≡◌, ◌&&◌, ◌==◌, map, length, IsTrue};
-ghost use Rattle.vx_model.specs.Ty.{tys_of, list, struct, nullable};
-ghost use Rattle.vx_model.specs.ChunkData.{has_storage, is_simple, is_dict_type as of_values};
+ghost use Rattle.std.specs.Prelude.{◌≡◌, ◌&&◌, ◌==◌, false, map, length, IsTrue};
+ghost use Rattle.vx_model.specs.Ty.{tys_of, primitive, list, struct, nullable};
+ghost use Rattle.vx_model.specs.ChunkData.{has_storage, is_dict_type as of_values};
 ghost use Rattle.vx_model.specs.TyView.{ty, field_ty};
-ghost use Rattle.vx_segment_reader.specs.Pieces.{code_type as type_of_codes, have_rows as all_have, are_codes as fit_codes, count_fields, dict_at, pieces_at, chunked_at, list_at, struct_at, extension_at, own_of, part_of, part_at, piece_at, columns_at};
+ghost use Rattle.vx_segment_reader.specs.Pieces.{code_type as type_of_codes, have_rows as all_have, count_fields, simple_at, dict_at, pieces_at, chunked_at, list_at, struct_at, extension_at, own_of, part_of, part_at, piece_at, columns_at};
 ghost use Rattle.vx_segment_reader.specs.Views.{Gives, head, frame as framed, rest as left};
 
 use crate::error::DecodeError;
+use crate::made::{made_chunked, made_dict, made_extension, made_list};
 use crate::node::Node;
 use crate::rest::{Frame, Rest, is_shaped, next_buffer, next_node, number};
 use crate::simple::{encoding_at, offsets_of, read_constant, read_plain, read_simple, validity_of};
 use vx_chunk::Chunk;
-use vx_chunk::conditions::{are_codes, are_offsets, is_dict_type};
+use vx_chunk_cells::is_dict_type;
 use vx_model::{DType, EncodingId, Nullability, PType, StructField};
 
 /// The type of codes by its number.
@@ -35,15 +36,20 @@ fn is_dict(dtype: &DType, node: &Node) -> bool
     is_dict_type(dtype) && (node.lengths.is_empty() && node.children == 2)
 }
 
-/// Whether there is a code a row, each below the number of values.
-fn fit_rows(rows: u64, codes: &Chunk, values: &Chunk) -> bool
-    requires { IsTrue (is_simple codes.now) }
-    ensures { result ≡ fit_codes rows codes.now values.now }
+/// The codes of a dictionary, of a type that isn't nullable.
+#[tactic(auto, using(crate::proofs::PieceSteps::dict_rules))]
+fn read_codes<'a>(
+    frame: &Frame,
+    ptype: PType,
+    rest: Rest<'a>,
+) -> Result<(Chunk, Rest<'a>), DecodeError>
+    ensures { Gives (λ x. (x.0, left x.1)) result (simple_at (framed frame.now) (primitive ptype false) (left rest.entry)) }
 {
-    codes.len() == rows && are_codes(codes, values.len())
+    let dtype = DType::Primitive(ptype, Nullability::NonNullable);
+    read_simple(frame, &dtype, rest)
 }
 
-#[tactic(auto, using(crate::proofs::PieceSteps::dict_rules), unfolding(crate::specs::Pieces::dict_at))]
+#[tactic(auto, unfolding(crate::specs::Pieces::dict_at))]
 fn read_dict<'a>(
     frame: &Frame,
     dtype: &DType,
@@ -59,16 +65,9 @@ fn read_dict<'a>(
     let Some(ptype) = code_type(node.extra) else {
         return Err(DecodeError::BadType(k));
     };
-    let codes_type = DType::Primitive(ptype, Nullability::NonNullable);
-    let (codes, rest) = read_simple(frame, &codes_type, rest)?;
+    let (codes, rest) = read_codes(frame, ptype, rest)?;
     let (values, rest) = read_simple(frame, dtype, rest)?;
-    if !fit_rows(node.rows, &codes, &values) {
-        return Err(DecodeError::BadType(k));
-    }
-    match Chunk::dict(frame.alloc, codes, values) {
-        Ok(chunk) => Ok((chunk, rest)),
-        Err(_) => Err(DecodeError::OutOfMemory),
-    }
+    made_dict(frame.alloc, k, node.rows, codes, values, rest)
 }
 
 /// Whether the node has no buffers, and nothing more to tell.
@@ -112,15 +111,8 @@ fn read_chunked<'a>(
     if !is_bare(node) {
         return Err(DecodeError::BadType(k));
     }
-    let rows = node.rows;
     let (parts, rest) = read_parts(frame, dtype, node.children, rest)?;
-    let Ok(chunk) = Chunk::chunked(dtype.clone()?, parts) else {
-        return Err(DecodeError::BadType(k));
-    };
-    if chunk.len() != rows {
-        return Err(DecodeError::BadType(k));
-    }
-    Ok((chunk, rest))
+    made_chunked(dtype, k, node.rows, parts, rest)
 }
 
 #[cycle(pieces)]
@@ -144,13 +136,7 @@ fn read_list<'a>(
     let offsets = offsets_of(frame.alloc, k, node.rows, buffer)?;
     let (valid, rest) = validity_of(frame.alloc, nullable, k, node.rows, rest)?;
     let (elements, rest) = read_piece(frame, items, rest)?;
-    if !are_offsets(&offsets, elements.len()) {
-        return Err(DecodeError::BadType(k));
-    }
-    match Chunk::list(frame.alloc, dtype.clone()?, elements, offsets, valid) {
-        Ok(chunk) => Ok((chunk, rest)),
-        Err(_) => Err(DecodeError::OutOfMemory),
-    }
+    made_list(frame.alloc, dtype, k, elements, offsets, valid, rest)
 }
 
 /// A chunk a field, in order.
@@ -231,13 +217,7 @@ fn read_extension<'a>(
         return Err(DecodeError::BadType(k));
     }
     let (storage, rest) = read_piece(frame, storage, rest)?;
-    if storage.len() != node.rows {
-        return Err(DecodeError::BadType(k));
-    }
-    match Chunk::extension(frame.alloc, dtype.clone()?, storage) {
-        Ok(chunk) => Ok((chunk, rest)),
-        Err(_) => Err(DecodeError::OutOfMemory),
-    }
+    made_extension(frame.alloc, dtype, k, node.rows, storage, rest)
 }
 
 /// The encoding that the type's kind alone has.

@@ -2,61 +2,56 @@
 
 ghost use Rattle.std.specs.Prelude.{◌≡◌, ◌-◌, length, map};
 ghost use Rattle.std.specs.Int.{w16, w64};
-ghost use Rattle.vx_segment_reader.specs.Reading.{number_at, byte_at, flag_at, many_at, node_at, nodes_at, tree_at};
+ghost use Rattle.vx_byte_reader.specs.Places.{many_at};
+ghost use Rattle.vx_segment_reader.specs.Reading.{number_at, byte_at, flag_at, node_at, nodes_at, tree_at};
 ghost use Rattle.vx_segment_reader.specs.Views.{Gives, head, raw_tree};
 ghost use Rattle.vx_segment_reader.specs.declared.error.DecodeError.TheVariants.{Grammar};
 
 use crate::error::DecodeError;
 use crate::node::{EncodingTree, Node};
 use std::alloc::Global;
+use vx_byte_reader::place_of;
 
 /// The fault at what is left of the bytes that end at the place `stop`.
 fn fault_at(stop: u64, rest: &[u8]) -> DecodeError
     ensures { result ≡ Grammar (stop - length rest.now) }
 {
-    DecodeError::Grammar(stop.saturating_sub(rest.len() as u64))
+    DecodeError::Grammar(place_of(stop, rest))
 }
 
 fn u16_at(stop: u64, bytes: &[u8]) -> Result<(u16, &[u8]), DecodeError>
     ensures { Gives (λ x. (x.0, x.1.now)) result (number_at w16 stop bytes.now) }
 {
-    if bytes.len() < 2 {
-        return Err(fault_at(stop, bytes));
+    match vx_byte_reader::u16_at(bytes) {
+        Some(field) => Ok(field),
+        None => Err(fault_at(stop, bytes)),
     }
-    let (front, rest) = bytes.split_at(2);
-    Ok((u16::from_le_bytes([front[0], front[1]]), rest))
 }
 
 fn u64_at(stop: u64, bytes: &[u8]) -> Result<(u64, &[u8]), DecodeError>
     ensures { Gives (λ x. (x.0, x.1.now)) result (number_at w64 stop bytes.now) }
 {
-    if bytes.len() < 8 {
-        return Err(fault_at(stop, bytes));
+    match vx_byte_reader::u64_at(bytes) {
+        Some(field) => Ok(field),
+        None => Err(fault_at(stop, bytes)),
     }
-    let (front, rest) = bytes.split_at(8);
-    let number = u64::from_le_bytes([
-        front[0], front[1], front[2], front[3], front[4], front[5], front[6], front[7],
-    ]);
-    Ok((number, rest))
 }
 
 fn u8_at(stop: u64, bytes: &[u8]) -> Result<(u8, &[u8]), DecodeError>
     ensures { Gives (λ x. (x.0, x.1.now)) result (byte_at stop bytes.now) }
 {
-    match bytes {
-        [] => Err(DecodeError::Grammar(stop)),
-        [byte, rest @ ..] => Ok((*byte, rest)),
+    match vx_byte_reader::u8_at(bytes) {
+        Some(field) => Ok(field),
+        None => Err(fault_at(stop, bytes)),
     }
 }
 
 fn bool_at(stop: u64, bytes: &[u8]) -> Result<(bool, &[u8]), DecodeError>
     ensures { Gives (λ x. (x.0, x.1.now)) result (flag_at stop bytes.now) }
 {
-    match bytes {
-        [] => Err(DecodeError::Grammar(stop)),
-        [0, rest @ ..] => Ok((false, rest)),
-        [1, rest @ ..] => Ok((true, rest)),
-        [_, ..] => Err(fault_at(stop, bytes)),
+    match vx_byte_reader::flag_at(bytes) {
+        Some(field) => Ok(field),
+        None => Err(fault_at(stop, bytes)),
     }
 }
 

@@ -1,24 +1,17 @@
-use Rattle.std.proofs.Common.{◌++◌, ◌∷◌, [], ℕ, List, map, ◌<◌, ◌^◌, cond, length, ◌≡◌, sym, ◌∙◌, rules, arith}
+use Rattle.std.proofs.Common.{◌++◌, ◌∷◌, [], ℕ, List, map, ◌-◌, cond, length, ◌≡◌, refl, sym, ◌∙◌, rules, arith}
 use Rattle.std.proofs.lemmas.Result.{err_from_is_err_and}
 use Rattle.vx_model.specs.declared.dtype.DType as dt
-use Rattle.vx_model.specs.Ty.{tys_of}
+use Rattle.vx_model.specs.Ty.{tys_of, nullable}
 use Rattle.vx_model.specs.TyView.{ty, field_ty}
 use Rattle.vx_model.proofs.Views.{ty_extension}
 use Rattle.vx_segment_reader.specs.Pieces.{pieces_at, part_at, own_of, columns_at}
 use Rattle.vx_segment_reader.specs.Views.{frame, rest, head}
-use Rattle.vx_segment_reader.proofs.PieceTypes.{parts_typed, piece_typed, chunked_refused, not_rows, list_made, struct_made, storage_made}
+use Rattle.vx_segment_reader.proofs.PieceTypes.{parts_typed, piece_typed, list_elements, flags_count, struct_made, storage_made}
 use Rattle.vx_segment_reader.proofs.PieceSteps.{own_rules, storage_of, parts_go_on, parts_end, parts_done, columns_go_on, columns_end, columns_done}
 use Rattle.vx_segment_reader.proofs.pieces.+pieces.Goals as goal
 
-pub read_chunked-chunked-requires : goal.read_chunked-chunked-requires
-read_chunked-chunked-requires t c =
-    rw c.in_ok-clone.ensures.cases (parts_typed (frame c.args.frame.now) (ty c.args.dtype.now) _ _ _ c.in_ok-parts.ensures)
-
-pub read_chunked-returns-in_default : goal.read_chunked-returns-in_default
-read_chunked-returns-in_default t c =
-    let small : c.args.node.now.rows < 2 ^ 64 = search rules in
-    chunked_refused (ty c.args.dtype.now) _ c.args.k (head c.args.node.now) (rest c.args.rest) c.in_ok-parts.parts.items (rest c.in_ok-parts.rest) (sym c.is_bare.ensures ∙ c.if-not-is_bare.false) c.in_ok-parts.ensures
-    (not_rows _ c.args.node.now.rows small (λ few. absurd (let h = c.in_default.ensures.fits.1 few in cc)))
+pub read_chunked-made_chunked-requires : goal.read_chunked-made_chunked-requires
+read_chunked-made_chunked-requires t c = parts_typed (frame c.args.frame.now) (ty c.args.dtype.now) _ _ _ c.in_ok-parts.ensures
 
 pub read_columns-returns-in_err-column : goal.read_columns-returns-in_err-column
 read_columns-returns-in_err-column t c =
@@ -32,16 +25,18 @@ read_columns-loop-field-preserved t c =
 pub read_columns-returns : goal.read_columns-returns
 read_columns-returns t c = columns_done (frame c.args.frame.now) c.args.fields.now c.loop-field.columns.items c.loop-field.field-index (rest c.loop-field.rest) (columns_at (frame c.args.frame.now) (tys_of (map field_ty c.args.fields.now)) (rest c.args.rest)) c.loop-field-test.false c.loop-field.invariant
 
-pub read_extension-extension-requires : goal.read_extension-extension-requires
-read_extension-extension-requires t c =
-    storage_made (ty c.args.dtype.now) _ (ty c.args.storage.now) c.in_ok-storage.storage c.in_ok-clone.ensures.cases c.requires (piece_typed (frame c.args.frame.now) (ty c.args.storage.now) _ _ c.in_ok-storage.ensures)
+pub read_extension-made_extension-requires : goal.read_extension-made_extension-requires
+read_extension-made_extension-requires t c =
+    storage_made (ty c.args.dtype.now) _ (ty c.args.storage.now) c.in_ok-storage.storage refl c.requires (piece_typed (frame c.args.frame.now) (ty c.args.storage.now) _ _ c.in_ok-storage.ensures)
 
-pub read_list-list-requires : goal.read_list-list-requires
-read_list-list-requires t c =
-    list_made (ty c.args.dtype.now) _ (ty c.args.items.now) c.in_ok-elements.elements c.in_ok-offsets.offsets.items c.in_ok-valid.valid.items c.args.node.now.rows c.in_ok-clone.ensures.cases c.requires
-    (piece_typed (frame c.args.frame.now) (ty c.args.items.now) _ _ c.in_ok-elements.ensures)
-    (rw (c.len.ensures.rows, c.deref.ensures.value) at (sym c.are_offsets.ensures ∙ c.if-not-are_offsets.false))
-    c.in_ok-offsets.ensures.count (rw c.is_nullable-nullable.ensures at c.in_ok-valid.ensures.count)
+pub read_list-made_list-requires : goal.read_list-made_list-requires
+read_list-made_list-requires t c =
+    let u = ty c.args.items.now in
+    let many = c.in_ok-offsets.ensures.count in
+    record {
+      elements = list_elements (ty c.args.dtype.now) u (nullable (ty c.args.dtype.now)) c.in_ok-elements.elements c.requires (piece_typed (frame c.args.frame.now) u _ _ c.in_ok-elements.ensures);
+      flags = flags_count (ty c.args.dtype.now) c.args.node.now.rows (length c.in_ok-offsets.offsets.items - 1) c.in_ok-valid.valid.items (omega (arith, many)) (rw c.is_nullable-nullable.ensures at c.in_ok-valid.ensures.count);
+    }
 
 pub read_own-read_extension-requires : goal.read_own-read_extension-requires
 read_own-read_extension-requires t c =

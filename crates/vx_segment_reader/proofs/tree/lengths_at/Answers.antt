@@ -1,7 +1,9 @@
 use Rattle.std.proofs.lemmas.Result.{err_from_is_err_and}
 use Rattle.std.specs.Int.{w64}
-use Rattle.vx_segment_reader.specs.Reading.{number_at, many_at}
-use Rattle.vx_segment_reader.proofs.Loops.{many_goes_on, many_ends, many_done}
+use Rattle.vx_byte_reader.specs.Places.{many_at}
+use Rattle.vx_segment_reader.specs.Reading.{number_at}
+use Rattle.vx_byte_reader.proofs.PlaceLoops.{many_goes_on, many_done}
+use Rattle.vx_segment_reader.proofs.Loops.{many_ends}
 use Rattle.vx_segment_reader.proofs.tree.lengths_at.Goals as goal
 
 pub returns-in_err-length : goal.returns-in_err-length
