@@ -15,7 +15,9 @@ pub(crate) fn check_built(layout: &Layout) -> Result<(), LayoutError>
     layout.built();
     for i in 0..layout.nchildren() {
         let child = layout.child(i)?;
-        check_built(child.layout())?;
+        let checked = check_built(child.layout());
+        drop(child);
+        checked?;
     }
     Ok(())
 }

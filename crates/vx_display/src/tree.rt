@@ -36,7 +36,9 @@ pub(crate) fn push_tree(
         let first = branch(style.alloc, rest, last, layout, i)?;
         let below = trunk(style.alloc, rest, last)?;
         let child = child_at(layout, i)?;
-        push_tree(style, out, &first, &below, child.layout())?;
+        let pushed = push_tree(style, out, &first, &below, child.layout());
+        drop(child);
+        pushed?;
     }
     Ok(())
 }

@@ -181,12 +181,22 @@ fn build_one(alloc: Global, child: OneChild, dtype: &DType) -> Result<Layout, La
 fn kept_as(layout: Layout, dtype: &DType) -> Result<Layout, LayoutError>
     ensures { Gives layout_data result ((owned_kid (layout_data layout)).build (ty dtype.now)) }
 {
-    if layout.dtype() == dtype {
-        Ok(layout)
-    } else {
-        Err(LayoutError::ChildType {
-            has: layout.dtype().clone()?,
-            needs: dtype.clone()?,
-        })
+    match check_type(&layout, dtype) {
+        Ok(()) => Ok(layout),
+        Err(error) => Err(error),
     }
+}
+
+/// Whether the layout is of the type. Refuses `ChildType` where it is of another.
+fn check_type(layout: &Layout, dtype: &DType) -> Result<(), LayoutError>
+    ensures { Gives (λ u. layout_data layout.now) result ((owned_kid (layout_data layout.now)).build (ty dtype.now)) }
+{
+    if layout.dtype() == dtype {
+        return Ok(());
+    }
+    let has = layout.dtype().clone()?;
+    Err(LayoutError::ChildType {
+        has,
+        needs: dtype.clone()?,
+    })
 }

@@ -47,7 +47,9 @@ fn node_of(alloc: Global, layout: &Layout, ctx: &LayoutContext) -> Result<RawNod
     let mut children = Vec::new(alloc);
     for i in 0..layout.nchildren() {
         let child = layout.child(i)?;
-        children.push(node_of(alloc, child.layout(), ctx)?)?;
+        let node = node_of(alloc, child.layout(), ctx);
+        drop(child);
+        children.push(node?)?;
     }
     Ok(own_node(alloc, layout, ctx, children)?)
 }

@@ -48,14 +48,14 @@ impl DictLayout {
     pub fn new(alloc: Global, values: Layout, codes: Layout) -> Result<DictLayout, LayoutError>
         ensures { Gives itself result (make_dict (layout_data values) (layout_data codes)) }
     {
-        if !is_primitive(codes.dtype()) {
+        let children = vec![in alloc; values, codes]?;
+        if !is_primitive(children[1].dtype()) {
             return Err(LayoutError::ChildType {
-                has: codes.dtype().clone()?,
+                has: children[1].dtype().clone()?,
                 needs: integer_type(),
             });
         }
-        let row_count = codes.row_count();
-        let children = vec![in alloc; values, codes]?;
+        let row_count = children[1].row_count();
         let dtype = children[0].dtype().clone()?;
         Ok(DictLayout {
             row_count,

@@ -1,6 +1,6 @@
 //! The text of a layout: `vortex.flat(i64, rows=1, segments=[0])`.
 
-ghost use Rattle.std.specs.Prelude.{◌≡◌, ◌++◌, true, decimal, map};
+ghost use Rattle.std.specs.Prelude.{◌++◌, true, decimal, map};
 ghost use Rattle.std.specs.Fmt.{WritesOnOk};
 ghost use Rattle.vx_layout_tree.specs.LayoutView.{number, layout_data};
 ghost use Rattle.vx_model.specs.Shown.{comma};
@@ -84,12 +84,6 @@ fn write_numbers<W: Write>(f: &mut Formatter<W>, segments: &[SegmentId]) -> fmt:
 fn write_number<W: Write>(f: &mut Formatter<W>, first: bool, number: u32) -> fmt::Result
     ensures { WritesOnOk W.write_str_gives f.old result (comma first ++ decimal number) f.new }
 {
-    f.write_str(before(first))?;
+    f.write_str(if first { "" } else { ", " })?;
     write!(f, "{number}")
-}
-
-fn before(first: bool) -> &'static str
-    ensures { result.now ≡ comma first }
-{
-    if first { "" } else { ", " }
 }

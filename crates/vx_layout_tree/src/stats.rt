@@ -1,5 +1,6 @@
 use crate::error::LayoutError;
 use crate::layout::Layout;
+use crate::shape::column_type;
 use std::alloc::Global;
 use std::marker::Model;
 use vx_aggregate::{Stat, legacy_stats_table_dtype};
@@ -65,16 +66,10 @@ impl LegacyStatsLayout {
         requires { IsTrue (are_in_order stats.items) }
         ensures { Gives itself result (make_stats (layout_data column) (layout_data zones) zone_len stats.items) }
     {
-        let needs = legacy_stats_table_dtype(alloc, column.dtype(), &stats)?;
-        if *zones.dtype() != needs {
-            return Err(LayoutError::ChildType {
-                has: zones.dtype().clone()?,
-                needs,
-            });
-        }
-        let row_count = column.row_count();
-        let dtype = column.dtype().clone()?;
         let children = vec![in alloc; column, zones]?;
+        let needs = legacy_stats_table_dtype(alloc, children[0].dtype(), &stats)?;
+        let dtype = column_type(&children[0], &children[1], needs)?;
+        let row_count = children[0].row_count();
         Ok(LegacyStatsLayout {
             row_count,
             dtype,

@@ -1,6 +1,7 @@
 use crate::children::{LayoutChildren, kept_rows};
 use crate::error::LayoutError;
 use crate::layout::Layout;
+use crate::shape::column_type;
 use std::alloc::Global;
 use std::marker::Model;
 use std::num::NonZeroU32;
@@ -84,16 +85,10 @@ impl ZonedLayout {
         requires { length aggregate_fns.items < 2 ^ 32 }
         ensures { Gives itself result (make_zoned (layout_data column) (layout_data zones) (non_zero_u32_get zone_len) (map aggregate aggregate_fns.items)) }
     {
-        let needs = aggregate_stats_table_dtype(alloc, column.dtype(), &aggregate_fns)?;
-        if *zones.dtype() != needs {
-            return Err(LayoutError::ChildType {
-                has: zones.dtype().clone()?,
-                needs,
-            });
-        }
-        let row_count = column.row_count();
-        let dtype = column.dtype().clone()?;
         let children = vec![in alloc; column, zones]?;
+        let needs = aggregate_stats_table_dtype(alloc, children[0].dtype(), &aggregate_fns)?;
+        let dtype = column_type(&children[0], &children[1], needs)?;
+        let row_count = children[0].row_count();
         Ok(ZonedLayout {
             row_count,
             dtype,

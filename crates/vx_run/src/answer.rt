@@ -63,7 +63,7 @@ fn write_job(alloc: Global, job: Job) -> Result<Answer, AllocError>
     let first = job.next;
     match write_batches(alloc, job) {
         Ok((layout, segments)) => written(alloc, first, &layout, segments),
-        Err((error, segments)) => refusal(alloc, first, error, segments),
+        Err((error, segments)) => refusal(alloc, first, &error, &segments),
     }
 }
 
@@ -119,17 +119,17 @@ fn context(
 fn refusal(
     alloc: Global,
     first: u64,
-    error: WriteError,
-    segments: Vec<Blob>,
+    error: &WriteError,
+    segments: &Vec<Blob>,
 ) -> Result<Answer, AllocError>
-    requires { first + length segments.items ≤ max first (2 ^ 32) }
-    ensures { IfOk result (λ a. (is_memory error ≡ false) × IsText statuses.Refused (refused_report (refusal_name error) first segments.items) a.status (string_bytes a.text)) }
+    requires { first + length segments.now.items ≤ max first (2 ^ 32) }
+    ensures { IfOk result (λ a. (is_memory error.now ≡ false) × IsText statuses.Refused (refused_report (refusal_name error.now) first segments.now.items) a.status (string_bytes a.text)) }
 {
-    let name = refusal_name(&error);
+    let name = refusal_name(error);
     if let WriteError::OutOfMemory = error {
         return Err(AllocError);
     }
-    let text = refused_report(alloc, name, first, &segments)?;
+    let text = refused_report(alloc, name, first, segments)?;
     Ok(Answer {
         status: Status::Refused,
         text,

@@ -1,6 +1,7 @@
 -- From the batches in order to the plan.
 use Rattle.std.proofs.Common.{◌≡◌, ℕ, suc, ◌+◌, ◌≤◌, ◌<◌, ◌^◌, max, ◌&&◌, Bool, true, false, not, List, [], ◌∷◌, ◌++◌, length, Option, Some, None, refl, sym, ap, subst, ◌∙◌, arith}
 use Rattle.std.proofs.lemmas.List.{append-nil}
+use Rattle.std.proofs.lemmas.Bool.{and_parts}
 use Rattle.vx_model.specs.declared.encoding.EncodingId.{EncodingId}
 use Rattle.vx_model.specs.Ty.{Ty}
 use Rattle.vx_model.specs.TyLaws.{ty_eq_decides}
@@ -27,10 +28,6 @@ use Rattle.vx_write.specs.Stream.{Wrote, WasValid, Stands, is_built, is_built_wa
 
 -- ---- which strategies are built
 
-both : (a b : Bool) → (a && b) ≡ true → (a ≡ true) × (b ≡ true)
-both true b e = (refl, e)
-both false b e = absurd (let f : false ≡ true = e in cc)
-
 pub record IsBuilt (w : StrategyData) : Type 0 where
   pub options : FlatOptions
   pub chunks : w ≡ chunked (flat options)
@@ -42,12 +39,12 @@ not_true true e = absurd (let f : false ≡ true = e in cc)
 not_true false e = refl
 
 built_way : (w : StrategyData) → is_built_way w ≡ true → IsBuilt w
-built_way (chunked (flat o)) e = let h = both o.padding _ e in record { options = o; chunks = refl; padded = h.0; apart = not_true o.inline h.1 }
+built_way (chunked (flat o)) e = let h = and_parts o.padding _ e in record { options = o; chunks = refl; padded = h.0; apart = not_true o.inline h.1 }
 built_way (chunked w) e = absurd (let f : false ≡ true = e in cc)
 built_way w e = absurd (let f : false ≡ true = e in cc)
 
 pub built : (w : StrategyData) (t : Ty) → is_built w t ≡ true → IsBuilt w
-built w t e = built_way w (both (is_built_way w) (is_built_type t) e).0
+built w t e = built_way w (and_parts (is_built_way w) (is_built_type t) e).0
 
 -- ---- the same words at the setting of writes
 

@@ -14,7 +14,7 @@ ghost use Rattle.vx_write.specs.declared.error.WriteError.TheVariants.{OutOfMemo
 ghost use Rattle.vx_strategy.specs.StrategyView.{strategy_data};
 ghost use Rattle.vx_write.specs.Asked.{asked};
 ghost use Rattle.vx_write.specs.Causes.{errs, is_source_fault, is_sink_fault, is_unbuilt};
-ghost use Rattle.vx_strategy.specs.OptionViews.{flat_options};
+ghost use Rattle.vx_strategy.specs.FlatViews.{flat_options};
 ghost use Rattle.vx_write.specs.Stream.{setting_of, Planned, Wrote, Stands, HasCause, is_default as is_default_flat, is_flat_default, is_built, is_built_type};
 
 use crate::error::WriteError;

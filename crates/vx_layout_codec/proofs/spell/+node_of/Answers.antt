@@ -15,22 +15,22 @@ returns-in_err-child-clause-node t c =
     let lt : c.loop-i.i < length (children_of (layout_data c.args.layout.now)) = omega (arith, c.loop-i-test.true, c.nchildren-i-end.ensures) in
     rw (p.1, p.2) (child_fails (layout_data c.args.layout.now) c.loop-i.i _ _ lt c.loop-i.invariant.built c.in_err-child.ensures)
 
-pub returns-in_err-node_of-clause-node : goal.returns-in_err-node_of-clause-node
-returns-in_err-node_of-clause-node t c =
-    let p = err_from_is_err_and c.from_residual-in_err-node_of.result c.from_residual-in_err-node_of.ensures.1 in
+pub returns-in_err-node-clause-node : goal.returns-in_err-node-clause-node
+returns-in_err-node-clause-node t c =
+    let p = err_from_is_err_and c.from_residual-in_err-node.result c.from_residual-in_err-node.ensures.1 in
     let lt : c.loop-i.i < length (children_of (layout_data c.args.layout.now)) = omega (arith, c.loop-i-test.true, c.nchildren-i-end.ensures) in
     let at : child_in (children_of (layout_data c.args.layout.now)) c.loop-i.i ≡ Ok (layout_data c.layout.result.now) = cc (c.in_ok-child.ensures, c.layout.ensures) in
-    rw (p.1, p.2) (below_fails (layout_data c.args.layout.now) c.loop-i.i _ (layout_data c.layout.result.now) _ _ lt c.loop-i.invariant.built at c.in_err-node_of.ensures.node)
+    rw (p.1, p.2) (below_fails (layout_data c.args.layout.now) c.loop-i.i _ (layout_data c.layout.result.now) _ _ lt c.loop-i.invariant.built at c.in_err-node.ensures.node)
 
 pub loop-i-preserved : goal.loop-i-preserved
 loop-i-preserved t c =
     let lt : c.loop-i.i < length (children_of (layout_data c.args.layout.now)) = omega (arith, c.loop-i-test.true, c.nchildren-i-end.ensures) in
     let at : child_in (children_of (layout_data c.args.layout.now)) c.loop-i.i ≡ Ok (layout_data c.layout.result.now) = cc (c.in_ok-child.ensures, c.layout.ensures) in
-    let more : map raw c.push.new.self.items ≡ map raw c.loop-i.children.items ++ (raw c.in_ok-node_of.field-0 ∷ []) = rw c.in_ok-push.ensures.items (map_push _ _ _) in
+    let more : map raw c.push.new.self.items ≡ map raw c.loop-i.children.items ++ (raw c.in_ok-node.field-0 ∷ []) = rw c.in_ok-push.ensures.items (map_push _ _ _) in
     record {
-      built = next_built (layout_data c.args.layout.now) c.loop-i.i (layout_data c.layout.result.now) _ _ lt c.loop-i.invariant.built at c.in_ok-node_of.ensures.node;
-      nodes = next_node c.args.ctx.now (layout_data c.args.layout.now) c.loop-i.i (layout_data c.layout.result.now) (map raw c.loop-i.children.items) _ (raw c.in_ok-node_of.field-0) _ lt at c.in_ok-node_of.ensures.node (rw c.in_ok-push.ensures.items (map_push _ _ _)) c.loop-i.invariant.nodes;
-      fits = rw more (all_fit_more (map raw c.loop-i.children.items) (raw c.in_ok-node_of.field-0) c.loop-i.invariant.fits c.in_ok-node_of.ensures.fits);
+      built = next_built (layout_data c.args.layout.now) c.loop-i.i (layout_data c.layout.result.now) _ _ lt c.loop-i.invariant.built at c.in_ok-node.ensures.node;
+      nodes = next_node c.args.ctx.now (layout_data c.args.layout.now) c.loop-i.i (layout_data c.layout.result.now) (map raw c.loop-i.children.items) _ (raw c.in_ok-node.field-0) _ lt at c.in_ok-node.ensures.node (rw c.in_ok-push.ensures.items (map_push _ _ _)) c.loop-i.invariant.nodes;
+      fits = rw more (all_fit_more (map raw c.loop-i.children.items) (raw c.in_ok-node.field-0) c.loop-i.invariant.fits c.in_ok-node.ensures.fits);
     }
 
 pub returns-clause-node : goal.returns-clause-node
