@@ -2,13 +2,13 @@
 use Rattle.std.proofs.Common.{◌≡◌, ℕ, ◌+◌, ◌-◌, ◌<◌, ◌≤◌, Bool, true, List, [], ◌∷◌, ◌++◌, map, length, take, drop, sum, get_or, refl, sym, ap, ap₂, ◌∙◌, arith, length-append}
 use Rattle.std.proofs.lemmas.List.{length-map, map-append, take-map, drop-map, drop_more, drop-take, take_at, length-take-le}
 use Rattle.std.proofs.lemmas.List.Sums.{sum_by_more, sum_by-take-le, sum_by-cons}
-use Rattle.vx_rules.proofs.CellLaws.{all_take, all_drop, all_append}
 use Rattle.vx_model.specs.Words.{all_by}
 use Rattle.vx_model.specs.Ty.{Ty}
 use Rattle.vx_model.specs.CellData.{CellData}
 use Rattle.vx_model.specs.ChunkData.{ChunkData, plain_piece}
 use Rattle.vx_model.specs.declared.cell.Cell.{Cell}
 use Rattle.vx_model.specs.TreeView.{tree}
+use Rattle.vx_layout_spec.proofs.CellsFit.{all_take, all_drop, all_append}
 use Rattle.vx_rules.specs.Blocks.{block_sizes, tested_sizes, check_points, cut_off, left_over}
 use Rattle.vx_regroup.specs.Rules.{sizes_behind, tested_behind}
 use Rattle.vx_regroup.proofs.WalkSteps.{walk_rules}

@@ -5,8 +5,8 @@ use Rattle.std.proofs.lemmas.Bool.Decides.{nat_tests}
 use Rattle.vx_model.specs.Ty.{Ty, ty_eq}
 use Rattle.vx_model.specs.TyLaws.{ty_eq_decides}
 use Rattle.vx_model.specs.ChunkData.{ChunkData, piece_type}
+use Rattle.vx_layout_spec.proofs.CellsFit.{all_append}
 use Rattle.vx_chunk.specs.Conditions.{are_of_type}
-use Rattle.vx_chunk.proofs.CellsFit.{all_append}
 use Rattle.vx_regroup.specs.declared.error.RegroupError.TheVariants.{TooLarge}
 use Rattle.vx_regroup.specs.Refusals.{first_past, IsTold, Refuses}
 

@@ -9,24 +9,6 @@ use Rattle.vx_model.specs.CellData.{CellData, null_cell, bool_cell, int_cell, te
 use Rattle.vx_model.specs.ChunkData.{is_dict_type}
 use Rattle.vx_rules.specs.Runs.{same_cell, has_cell, with_cell, place_in}
 
--- a cell that a dictionary can hold is the same as itself
-pub self_same : (t : Ty) (c : CellData) → is_dict_type t ≡ true → fits t c ≡ true → same_cell c c ≡ true
-self_same t null_cell d f = refl
-self_same t (bool_cell b) d f = (booleans_Decides b b).1 refl
-self_same t (int_cell n) d f = (Decides-int_eq n n).1 refl
-self_same t (text_cell s) d f = (bytes_decides s s).1 refl
-self_same t (bytes_cell s) d f = (bytes_decides s s).1 refl
-self_same (primitive p n) (list_cell v cs) d f = cc
-self_same (utf8 n) (list_cell v cs) d f = cc
-self_same (binary n) (list_cell v cs) d f = cc
-self_same (primitive p n) (struct_cell v cs) d f = cc
-self_same (utf8 n) (struct_cell v cs) d f = cc
-self_same (binary n) (struct_cell v cs) d f = cc
-self_same (boolean n) c d f = cc
-self_same (list t n) c d f = cc
-self_same (struct fs n) c d f = cc
-self_same (extension tag t) c d f = cc
-
 -- a new cell has the last place
 pub place_behind : (c : CellData) (ds : List CellData) → has_cell c ds ≡ false → same_cell c c ≡ true → place_in c (ds ++ c ∷ []) ≡ length ds
 place_behind c [] h p = ap (λ (b : Bool). if b then zero else suc zero) p

@@ -11,8 +11,8 @@ use Rattle.vx_rules.specs.Runs.{DictOptions, Cut, behind, stretches, with_cell, 
 use Rattle.vx_react.specs.declared.place.Place.TheVariants.{Codes, Values}
 use Rattle.vx_react.specs.Reactor.{Output}
 use Rattle.vx_react.specs.Cutter.{Cutting, next_number, closed_outputs, cut_outputs}
-use Rattle.vx_strategy.specs.declared.options.DictLayoutConstraints.{DictLayoutConstraints}
-use Rattle.vx_strategy.specs.OptionViews.{dict_options}
+use Rattle.vx_strategy_options.specs.declared.options.DictLayoutConstraints.{DictLayoutConstraints}
+use Rattle.vx_strategy_options.specs.OptionViews.{dict_options}
 use Rattle.vx_runs.specs.declared.rows.Closed.{Closed}
 use Rattle.vx_runs.specs.Cutting.{pair_of, pairs, cut_of}
 use Rattle.vx_runs.specs.CutterData.{CutterData, cutter_view, gives_at, held_at, with_cutting}

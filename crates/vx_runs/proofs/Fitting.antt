@@ -1,7 +1,7 @@
 -- What rows are cut into makes chunks: codes of the node's type, and cells of the rows' type.
 use Rattle.std.proofs.Common.{◌≡◌, ℕ, ◌-◌, ◌<◌, ◌≤◌, ◌^◌, ◌&&◌, ◌||◌, Bool, true, false, List, [], ◌∷◌, ◌++◌, length, refl, sym, subst, ⊎_elim, arith}
 use Rattle.std.specs.Prelude.{if◌then◌else◌, nat_le, min, max}
-use Rattle.std.proofs.lemmas.Bool.{cases_Bool}
+use Rattle.std.proofs.lemmas.Bool.{cases_Bool, and_from, and_parts}
 use Rattle.std.proofs.lemmas.Bool.Decides.{nat_tests}
 use Rattle.vx_model.specs.declared.ptype.PType.TheVariants.{U8, U16}
 use Rattle.vx_model.specs.Words.{all_by}
@@ -12,22 +12,12 @@ use Rattle.vx_rules.specs.Columns.{offset_cell}
 use Rattle.vx_rules.specs.Runs.{DictOptions, Cut, behind, stretches, same_cell, has_cell, with_cell, place_in, cells_fit, most_cells}
 use Rattle.vx_runs.specs.declared.rows.Closed.{Closed}
 use Rattle.vx_runs.specs.Cutting.{cut_of, is_code_of, ClosedFit, Standing}
-use Rattle.vx_runs.proofs.Cells.{self_same, with_place}
-
-left : (a b : Bool) → (a && b) ≡ true → a ≡ true
-left true b h = refl
-left false b h = h
-
-right : (a b : Bool) → (a && b) ≡ true → b ≡ true
-right true b h = h
-right false b h = cc
-
-both : (a b : Bool) → a ≡ true → b ≡ true → (a && b) ≡ true
-both a b e f = cc
+use Rattle.vx_rules.proofs.RunLaws.{self_same}
+use Rattle.vx_runs.proofs.Cells.{with_place}
 
 all_append : {X : Type 0} (f : X → Bool) (xs : List X) (x : X) → all_by f xs ≡ true → f x ≡ true → all_by f (xs ++ x ∷ []) ≡ true
-all_append f [] x h e = both (f x) true e refl
-all_append f (y ∷ ys) x h e = both (f y) (all_by f (ys ++ x ∷ [])) (left (f y) (all_by f ys) h) (all_append f ys x (right (f y) (all_by f ys) h) e)
+all_append f [] x h e = and_from (f x) true e refl
+all_append f (y ∷ ys) x h e = and_from (f y) (all_by f (ys ++ x ∷ [])) (and_parts (f y) (all_by f ys) h).0 (all_append f ys x (and_parts (f y) (all_by f ys) h).1 e)
 
 -- ---- codes
 
@@ -69,7 +59,7 @@ with_all f ds c h e = go (has_cell c ds)
     go false = all_append f ds c h e
 
 zero_fits : (o : DictOptions) → all_by (is_code_of o) (0 ∷ []) ≡ true
-zero_fits o = both (is_code_of o 0) true (code_fits o 0 1 (let l : 1 ≤ max 1 (most_cells o) = omega arith in l) (omega arith)) refl
+zero_fits o = and_from (is_code_of o 0) true (code_fits o 0 1 (let l : 1 ≤ max 1 (most_cells o) = omega arith in l) (omega arith)) refl
 
 pub stretches_fit : (o : DictOptions) (t : Ty) → is_dict_type t ≡ true → (ds : List CellData) (codes : List ℕ) (rows : List CellData) → all_by (fits t) ds ≡ true → all_by (is_code_of o) codes ≡ true
     → all_by (fits t) rows ≡ true → CutFits o t (stretches o t ds codes rows)
@@ -81,18 +71,18 @@ stretches_fit o t d ds codes (c ∷ cs) f a g =
     (stretches_fit o t d (with_cell ds c) (codes ++ place_in c (with_cell ds c) ∷ []) cs
     (with_all (fits t) ds c f fit)
     (all_append (is_code_of o) codes (place_in c (with_cell ds c)) a (code_fits o (place_in c (with_cell ds c)) (length (with_cell ds c)) (few_of (length (with_cell ds c)) (most_cells o) _ y) (with_place c ds self)))
-    (right (fits t c) _ g)))
+    (and_parts (fits t c) _ g).1))
     (λ (n : cells_fit o t (with_cell ds c) ≡ false).
     subst (λ (b : Bool). CutFits o t (if b then goes_on else ends_here)) (sym n)
     (behind_fits o t codes ds (stretches o t (c ∷ []) (0 ∷ []) cs) a f
-    (stretches_fit o t d (c ∷ []) (0 ∷ []) cs (both (fits t c) true fit refl) (zero_fits o) (right (fits t c) _ g))))
+    (stretches_fit o t d (c ∷ []) (0 ∷ []) cs (and_from (fits t c) true fit refl) (zero_fits o) (and_parts (fits t c) _ g).1)))
     (cases_Bool (cells_fit o t (with_cell ds c)))
   where
     fit : fits t c ≡ true
-    fit = left (fits t c) _ g
+    fit = (and_parts (fits t c) _ g).0
 
     self : same_cell c c ≡ true
-    self = self_same t c d (left (fits t c) _ g)
+    self = self_same t c d (and_parts (fits t c) _ g).0
 
     goes_on : Cut
     goes_on = stretches o t (with_cell ds c) (codes ++ place_in c (with_cell ds c) ∷ []) cs

@@ -12,7 +12,8 @@ use Rattle.vx_model.specs.TreeView.{tree}
 use Rattle.vx_rules.specs.Runs.{DictOptions, Cut, behind, stretches, same_cell, has_cell, place_in, cell_cost, cells_fit, most_cells}
 use Rattle.vx_runs.specs.declared.rows.Closed.{Closed}
 use Rattle.vx_runs.specs.Cutting.{pairs, cut_of, behind_all, cut_with, Running}
-use Rattle.vx_runs.proofs.Cells.{self_same, place_behind}
+use Rattle.vx_rules.proofs.RunLaws.{self_same}
+use Rattle.vx_runs.proofs.Cells.{place_behind}
 
 -- ---- whether distinct cells fit
 
@@ -64,15 +65,15 @@ pub ruleset fit_rules = (none_runs, more_runs, none_more)
 
 -- ---- one row
 
-row_known : (o : DictOptions) (t : Ty) (ds : List CellData) (codes : List ℕ) (c : CellData) (more : List CellData) → has_cell c ds ≡ true → cells_fit o t ds ≡ true
+pub row_known : (o : DictOptions) (t : Ty) (ds : List CellData) (codes : List ℕ) (c : CellData) (more : List CellData) → has_cell c ds ≡ true → cells_fit o t ds ≡ true
     → stretches o t ds (codes ++ place_in c ds ∷ []) more ≡ stretches o t ds codes (c ∷ more)
 row_known o t ds codes c more h f = rw (h, f) refl
 
-row_new : (o : DictOptions) (t : Ty) (ds : List CellData) (codes : List ℕ) (c : CellData) (more : List CellData) → has_cell c ds ≡ false → same_cell c c ≡ true → cells_fit o t (ds ++ c ∷ []) ≡ true
+pub row_new : (o : DictOptions) (t : Ty) (ds : List CellData) (codes : List ℕ) (c : CellData) (more : List CellData) → has_cell c ds ≡ false → same_cell c c ≡ true → cells_fit o t (ds ++ c ∷ []) ≡ true
     → stretches o t (ds ++ c ∷ []) (codes ++ length ds ∷ []) more ≡ stretches o t ds codes (c ∷ more)
 row_new o t ds codes c more h p f = rw (h, f, place_behind c ds h p) refl
 
-row_ends : (o : DictOptions) (t : Ty) (ds : List CellData) (codes : List ℕ) (c : CellData) (more : List CellData) → has_cell c ds ≡ false → cells_fit o t (ds ++ c ∷ []) ≡ false
+pub row_ends : (o : DictOptions) (t : Ty) (ds : List CellData) (codes : List ℕ) (c : CellData) (more : List CellData) → has_cell c ds ≡ false → cells_fit o t (ds ++ c ∷ []) ≡ false
     → behind codes ds (stretches o t (c ∷ []) (0 ∷ []) more) ≡ stretches o t ds codes (c ∷ more)
 row_ends o t ds codes c more h f = rw (h, f) refl
 

@@ -7,17 +7,17 @@ ghost use Rattle.vx_model.specs.TyView.{ty};
 ghost use Rattle.vx_model.specs.TreeView.{tree};
 ghost use Rattle.vx_rules.specs.Columns.{offset_cell};
 ghost use Rattle.vx_rules.specs.Runs.{code_type, codes_piece};
-ghost use Rattle.vx_strategy.specs.OptionViews.{dict_options};
+ghost use Rattle.vx_strategy_options.specs.OptionViews.{dict_options};
 ghost use Rattle.vx_runs.specs.Cutting.{is_code_of};
 
 use std::alloc::{AllocError, Global};
 use vx_chunk::Chunk;
 use vx_model::{Cell, DType, Nullability, PType};
-use vx_strategy::DictLayoutConstraints;
+use vx_strategy_options::DictLayoutConstraints;
 
-/// The codes as a plain chunk of the type that the greatest number of cells needs.
+/// The codes as a plain chunk of the type that the greatest number of cells needs. Takes time by the codes.
 #[tactic(auto, using(crate::proofs::CodeSteps::code_rules))]
-pub(crate) fn codes_chunk(
+pub fn codes_chunk(
     alloc: Global,
     limits: DictLayoutConstraints,
     codes: &[u64],
@@ -36,7 +36,8 @@ fn code_dtype(limits: DictLayoutConstraints) -> DType
     DType::Primitive(code_ptype(limits), Nullability::NonNullable)
 }
 
-fn code_ptype(limits: DictLayoutConstraints) -> PType
+/// One byte where the limit is at most 255 cells, else two.
+pub fn code_ptype(limits: DictLayoutConstraints) -> PType
     ensures { result ≡ (if nat_le limits.max_len 255 then U8 else U16) }
 {
     if limits.max_len <= 255 {

@@ -6,24 +6,23 @@ ghost use Rattle.vx_model.specs.CellData.{fits};
 ghost use Rattle.vx_model.specs.ChunkData.{piece_type, is_dict_type};
 ghost use Rattle.vx_model.specs.TyView.{ty};
 ghost use Rattle.vx_model.specs.TreeView.{tree};
+ghost use Rattle.vx_chunk.specs.Conditions.{IsTooLarge};
 ghost use Rattle.vx_rules.specs.Runs.{stretches};
 ghost use Rattle.vx_react.specs.Cutter.{cut_outputs, next_number};
-ghost use Rattle.vx_strategy.specs.OptionViews.{dict_options};
+ghost use Rattle.vx_strategy_options.specs.OptionViews.{dict_options};
 ghost use Rattle.vx_runs.specs.Cutting.{Standing};
-ghost use Rattle.vx_runs.specs.Refused.{IsPast};
 ghost use Rattle.vx_runs.specs.CutterData.{started, gives_at, held_at, with_cutting};
 
-use crate::error::RunError;
 use crate::outputs::{code_outputs, number_after, push_values};
 use crate::rows::{Rows, cut};
 use std::alloc::Global;
 use std::marker::Model;
 use std::mem;
-use vx_chunk::Chunk;
+use vx_chunk::{Chunk, ChunkError};
 use vx_model::{Cell, DType};
 use vx_react::Place;
 use vx_slots::CellTable;
-use vx_strategy::DictLayoutConstraints;
+use vx_strategy_options::DictLayoutConstraints;
 
 /// The run that goes on.
 #[derive(Drop)]
@@ -66,7 +65,7 @@ impl Model for RunCutter {
     ghost coded = { cutter_code };
 
     ghost use Rattle.vx_model.specs.TyView.{ty};
-    ghost use Rattle.vx_strategy.specs.OptionViews.{dict_options};
+    ghost use Rattle.vx_strategy_options.specs.OptionViews.{dict_options};
     ghost use Rattle.vx_runs.specs.CutterData.{cutter_view};
     ghost use Rattle.vx_runs.specs.Cutting.{Standing};
 
@@ -76,7 +75,7 @@ impl Model for RunCutter {
 }
 
 impl RunCutter {
-    /// A cutter at the first run; takes no memory. `vx_strategy::dict_layout_supported` tests the condition.
+    /// A cutter at the first run; takes no memory. `vx_chunk_cells::is_dict_type` tests the condition.
     pub fn new(alloc: Global, constraints: DictLayoutConstraints, dtype: DType) -> RunCutter
         requires { IsTrue (is_dict_type (ty dtype)) }
         ensures { result ≡ started dtype constraints }
@@ -97,12 +96,12 @@ impl RunCutter {
         alloc: Global,
         item: Chunk,
         last: bool,
-    ) -> Result<Vec<(Place, Chunk)>, RunError>
+    ) -> Result<Vec<(Place, Chunk)>, ChunkError>
         requires { piece_type item ≡ self.old.typed }
         ensures gives { IfOk result (λ v. (probe : ℕ) → v.items ≡ gives_at probe self.old item last) }
         ensures holds { OnOk result (last ≡ false → (probe : ℕ) → self.new ≡ with_cutting self.old (held_at probe self.old item)) }
         ensures fits { OnOk result ((held_at 0 self.old item).number < 2 ^ 64) }
-        ensures refused { IfErr result (IsPast (held_at 0 self.old item).number) }
+        ensures refused { IfErr result (IsTooLarge (held_at 0 self.old item).number) }
     {
         item.sound();
         let cells = item.into_cells(alloc)?;
@@ -128,7 +127,7 @@ fn cut_off(
     run: OpenRun,
     cells: Vec<Cell>,
     last: bool,
-) -> Result<CutOff, RunError>
+) -> Result<CutOff, ChunkError>
     requires standing { Standing (dict_options limits 0) (ty dtype.now) run.distinct run.cost }
     requires fit { IsTrue (all_by (fits (ty dtype.now)) (map tree cells.items)) }
     ensures gives { IfOk result (λ r. r.outputs.items ≡ cut_outputs (dict_options limits 0) (ty dtype.now) run.number (stretches (dict_options limits 0) (ty dtype.now) run.distinct [] (map tree cells.items)) last) }
@@ -136,7 +135,7 @@ fn cut_off(
     ensures distinct { IfOk result (λ r. last ≡ false → r.run.distinct ≡ (stretches (dict_options limits 0) (ty dtype.now) run.distinct [] (map tree cells.items)).distinct) }
     ensures standing { IfOk result (λ r. Standing (dict_options limits 0) (ty dtype.now) r.run.distinct r.run.cost) }
     ensures fits { OnOk result (next_number run.number (stretches (dict_options limits 0) (ty dtype.now) run.distinct [] (map tree cells.items)).closed < 2 ^ 64) }
-    ensures refused { IfErr result (IsPast (next_number run.number (stretches (dict_options limits 0) (ty dtype.now) run.distinct [] (map tree cells.items)).closed)) }
+    ensures refused { IfErr result (IsTooLarge (next_number run.number (stretches (dict_options limits 0) (ty dtype.now) run.distinct [] (map tree cells.items)).closed)) }
 {
     let OpenRun {
         number,

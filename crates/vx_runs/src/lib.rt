@@ -4,9 +4,9 @@
 mod codes;
 mod costs;
 mod cutter;
-mod error;
 mod outputs;
 mod rows;
 
+pub use codes::{code_ptype, codes_chunk};
 pub use cutter::RunCutter;
-pub use error::RunError;
+pub use rows::cost_with;

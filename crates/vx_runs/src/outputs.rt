@@ -6,32 +6,31 @@ ghost use Rattle.vx_model.specs.CellData.{fits};
 ghost use Rattle.vx_model.specs.ChunkData.{plain_piece};
 ghost use Rattle.vx_model.specs.TyView.{ty};
 ghost use Rattle.vx_model.specs.TreeView.{tree};
+ghost use Rattle.vx_chunk.specs.Conditions.{IsTooLarge};
 ghost use Rattle.vx_rules.specs.Runs.{codes_piece};
 ghost use Rattle.vx_react.specs.declared.place.Place.TheVariants.{Codes, Values};
 ghost use Rattle.vx_react.specs.Reactor.{Output};
 ghost use Rattle.vx_react.specs.Cutter.{closed_outputs};
-ghost use Rattle.vx_strategy.specs.OptionViews.{dict_options};
+ghost use Rattle.vx_strategy_options.specs.OptionViews.{dict_options};
 ghost use Rattle.vx_runs.specs.Cutting.{pairs, is_code_of, ClosedFit};
-ghost use Rattle.vx_runs.specs.Refused.{IsPast};
 
 use crate::codes::codes_chunk;
-use crate::error::RunError;
 use crate::rows::Closed;
 use std::alloc::{AllocError, Global};
-use vx_chunk::Chunk;
+use vx_chunk::{Chunk, ChunkError};
 use vx_model::{Cell, DType};
 use vx_react::Place;
-use vx_strategy::DictLayoutConstraints;
+use vx_strategy_options::DictLayoutConstraints;
 
 /// The number of the run behind so many.
-pub(crate) fn number_after(number: u64, count: usize) -> Result<u64, RunError>
+pub(crate) fn number_after(number: u64, count: usize) -> Result<u64, ChunkError>
     ensures ok { IfOk result (λ n. n ≡ number + count) }
     ensures fits { IfOk result (λ n. n < 2 ^ 64) }
-    ensures refused { IfErr result (IsPast (number + count)) }
+    ensures refused { IfErr result (IsTooLarge (number + count)) }
 {
     let after = u128::from(number) + count as u128;
     if after > u128::from(u64::MAX) {
-        return Err(RunError::TooLarge(after));
+        return Err(ChunkError::TooLarge(after));
     }
     Ok(after as u64)
 }

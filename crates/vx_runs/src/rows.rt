@@ -7,15 +7,15 @@ ghost use Rattle.vx_model.specs.ChunkData.{is_dict_type};
 ghost use Rattle.vx_model.specs.TyView.{ty};
 ghost use Rattle.vx_model.specs.TreeView.{tree};
 ghost use Rattle.vx_rules.specs.Runs.{Cut, behind, stretches, cells_fit, cell_cost, same_cell};
-ghost use Rattle.vx_strategy.specs.OptionViews.{dict_options};
-ghost use Rattle.vx_runs.specs.Cutting.{limited, behind_all, cut_with, cut_of, Running};
+ghost use Rattle.vx_strategy_options.specs.OptionViews.{dict_options};
+ghost use Rattle.vx_runs.specs.Cutting.{behind_all, cut_with, cut_of, Running};
 
 use crate::costs::cell_cost;
 use std::alloc::{AllocError, Global};
 use std::mem;
 use vx_model::{Cell, DType};
 use vx_slots::CellTable;
-use vx_strategy::DictLayoutConstraints;
+use vx_strategy_options::DictLayoutConstraints;
 
 /// A run's codes at the chunk in which it ends, and its distinct cells.
 #[derive(Drop)]
@@ -101,14 +101,7 @@ fn add_row(
         rows.codes.push(place)?;
         return Ok(());
     }
-    let Some(cost) = cost_with(
-        &rows.distinct,
-        rows.cost,
-        dtype,
-        limits.max_bytes,
-        limits.max_len,
-        &cell,
-    ) else {
+    let Some(cost) = cost_with(&rows.distinct, rows.cost, dtype, limits, &cell) else {
         return next_run(rows, alloc, dtype, cell);
     };
     let place = rows.distinct.len();
@@ -118,19 +111,18 @@ fn add_row(
     Ok(())
 }
 
-/// What the distinct cells cost with one more, where they fit then.
+/// What the distinct cells cost with one more, where they fit then. Takes the time of looking at the one.
 #[tactic(auto, using(crate::proofs::Steps::fit_rules))]
-fn cost_with(
+pub fn cost_with(
     distinct: &CellTable,
     cost: u128,
     dtype: &DType,
-    max_bytes: u64,
-    max_len: u16,
+    limits: DictLayoutConstraints,
     cell: &Cell,
 ) -> Option<u128>
-    requires { Running (limited max_bytes max_len) (ty dtype.now) distinct.now cost }
-    ensures { MatchOption result (cells_fit (limited max_bytes max_len) (ty dtype.now) (distinct.now ++ tree cell.now ∷ []) ≡ false)
-        (λ n. Running (limited max_bytes max_len) (ty dtype.now) (distinct.now ++ tree cell.now ∷ []) n) }
+    requires { Running (dict_options limits 0) (ty dtype.now) distinct.now cost }
+    ensures { MatchOption result (cells_fit (dict_options limits 0) (ty dtype.now) (distinct.now ++ tree cell.now ∷ []) ≡ false)
+        (λ n. Running (dict_options limits 0) (ty dtype.now) (distinct.now ++ tree cell.now ∷ []) n) }
 {
     let added = cell_cost(dtype, cell);
     let count = distinct.len();
@@ -138,7 +130,7 @@ fn cost_with(
         return Some(added);
     }
     let total = cost + added;
-    if count >= u64::from(max_len) || total > u128::from(max_bytes) {
+    if count >= u64::from(limits.max_len) || total > u128::from(limits.max_bytes) {
         return None;
     }
     Some(total)

@@ -1,5 +1,6 @@
 -- The columns of a chunk of lists.
 use Rattle.std.proofs.Common.{◌≡◌, ℕ, ◌+◌, ◌-◌, ◌*◌, ◌<◌, ◌≤◌, ◌^◌, min, true, List, [], ◌∷◌, ◌++◌, length, refl, arith, rules, length-append}
+use Rattle.std.proofs.lemmas.Bool.{and_parts}
 use Rattle.vx_model.specs.declared.dtype.DType as dt
 use Rattle.vx_model.specs.declared.ptype.PType.TheVariants.{U64}
 use Rattle.vx_model.specs.declared.ptype.Nullability.TheVariants.{NonNullable}
@@ -10,7 +11,7 @@ use Rattle.vx_model.specs.ChunkData.{ChunkData, piece_type, cells}
 use Rattle.vx_layout_spec.specs.Parts.{elements_of, all_elements}
 use Rattle.vx_layout_spec.specs.Real.{is_length, is_real_cell, are_real_cells, Whole}
 use Rattle.vx_rules.specs.Columns.{offset_type}
-use Rattle.vx_rules.proofs.CellLaws.{Fine, left_true, right_true, below, cells_fine}
+use Rattle.vx_rules.proofs.CellLaws.{Fine, below, cells_fine}
 use Rattle.vx_chunk.proofs.FlagSteps.{ty_flags, bools_fit}
 use Rattle.vx_split.specs.Causes.{IsPast, Tells}
 use Rattle.vx_split.specs.declared.error.SplitError.{SplitError}
@@ -25,7 +26,7 @@ pub ruleset type_rules = (ty_offsets, ty_flags, bools_fit)
 
 -- a list in memory has fewer than 2^64 elements
 few_here : (c : CellData) → is_real_cell c ≡ true → length (elements_of c) ≤ 2 ^ 64 - 1
-few_here (list_cell valid cs) h = let lt : length (items cs) < 2 ^ 64 = below (length (items cs)) (right_true (are_real_cells cs) (is_length (length (items cs))) h) in omega arith
+few_here (list_cell valid cs) h = let lt : length (items cs) < 2 ^ 64 = below (length (items cs)) (and_parts (are_real_cells cs) (is_length (length (items cs))) h).1 in omega arith
 few_here (struct_cell valid cs) h = omega arith
 few_here null_cell h = omega arith
 few_here (bool_cell b) h = omega arith
@@ -36,8 +37,8 @@ few_here (bytes_cell s) h = omega arith
 few_elements : (cs : List CellData) → all_by is_real_cell cs ≡ true → length (all_elements cs) ≤ length cs * (2 ^ 64 - 1)
 few_elements [] h = omega arith
 few_elements (c ∷ cs) h =
-    let here : length (elements_of c) ≤ 2 ^ 64 - 1 = few_here c (left_true (is_real_cell c) (all_by is_real_cell cs) h) in
-    let rest : length (all_elements cs) ≤ length cs * (2 ^ 64 - 1) = few_elements cs (right_true (is_real_cell c) (all_by is_real_cell cs) h) in
+    let here : length (elements_of c) ≤ 2 ^ 64 - 1 = few_here c (and_parts (is_real_cell c) (all_by is_real_cell cs) h).0 in
+    let rest : length (all_elements cs) ≤ length cs * (2 ^ 64 - 1) = few_elements cs (and_parts (is_real_cell c) (all_by is_real_cell cs) h).1 in
     let both : length (elements_of c ++ all_elements cs) ≡ length (elements_of c) + length (all_elements cs) = length-append (elements_of c) (all_elements cs) in
     omega arith
 

@@ -12,7 +12,7 @@ use Rattle.vx_model.specs.Ty.{Ty, Tys, boolean, primitive, utf8, binary, list, s
 use Rattle.vx_model.specs.TyView.{field_ty}
 use Rattle.vx_model.proofs.Views.{field_ty_is}
 use Rattle.vx_strategy_spec.specs.Walk.{is_name, repeated}
-use Rattle.vx_chunk.proofs.FieldSteps.{fields_told}
+use Rattle.vx_chunk_cells.proofs.TypeSteps.{fields_told}
 
 abbrev pub names_of : List StructField → List (List ℕ)
 names_of [] = []

@@ -2,13 +2,13 @@
 use Rattle.std.proofs.Common.{◌≡◌, ℕ, ◌+◌, ◌<◌, ◌^◌, ◌&&◌, suc, Bool, true, false, List, [], ◌∷◌, length, map, refl, ap, ◌∙◌, arith, rules}
 use Rattle.std.specs.Prelude.{ℤ}
 use Rattle.std.proofs.lemmas.List.{map_push, map_more, take_all}
+use Rattle.std.proofs.lemmas.Bool.{and_parts}
 use Rattle.vx_model.specs.declared.cell.Cell as cl
 use Rattle.vx_model.specs.Words.{all_by}
 use Rattle.vx_model.specs.CellData.{CellData, int_cell, fits}
 use Rattle.vx_model.specs.TreeView.{tree}
 use Rattle.vx_layout_spec.specs.Parts.{elements_of, all_elements, ends}
 use Rattle.vx_rules.specs.Columns.{offset_entries, offset_cell, offset_type}
-use Rattle.vx_rules.proofs.CellLaws.{left_true}
 use Rattle.vx_rules.proofs.ColumnStreams.{offsets_piece}
 use Rattle.vx_split.specs.Offsets.{cell_behind, entries}
 
@@ -36,4 +36,4 @@ entries_behind false base cs =
 
 pub entries_fit : (first : Bool) (base : ℕ) (cs : List CellData) → base + length (all_elements cs) < 2 ^ 64 → suc (length cs) < 2 ^ 64
     → all_by (fits offset_type) (map offset_cell (offset_entries first base cs)) ≡ true
-entries_fit first base cs lt many = left_true (all_by (fits offset_type) (map offset_cell (offset_entries first base cs))) _ (offsets_piece first base cs lt many).whole.sound
+entries_fit first base cs lt many = (and_parts (all_by (fits offset_type) (map offset_cell (offset_entries first base cs))) _ (offsets_piece first base cs lt many).whole.sound).0

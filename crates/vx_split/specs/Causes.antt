@@ -2,7 +2,7 @@
 use Rattle.std.specs.Prelude.{◌≡◌, ℕ, ◌-◌, ◌^◌, ◌≤◌, min, true, false, Some}
 use Rattle.vx_model.specs.Ty.{Ty, is_struct}
 use Rattle.vx_strategy_spec.specs.Walk.{duplicate}
-use Rattle.vx_chunk.specs.Parts.{struct_fields}
+use Rattle.vx_chunk_cells.specs.Parts.{struct_fields}
 use Rattle.vx_chunk.specs.declared.error.ChunkError.{ChunkError}
 use Rattle.vx_chunk.specs.declared.error.ChunkError.TheVariants as chunks
 use Rattle.vx_split.specs.declared.error.SplitError.{SplitError}

@@ -1,13 +1,14 @@
 -- What the splitters know.
-use Rattle.std.specs.Prelude.{◌≡◌, ℕ, ◌+◌, Bool, false, length}
-use Rattle.std.specs.Coded.{Coded, code_by}
-use Rattle.std.proofs.Common.{ap₂}
-use base.Stored.{Gv, gnum, gcons}
+use Rattle.std.specs.Prelude.{ℕ, Bool, refl}
+use Rattle.std.specs.Coded.{Coded, code_by, coded×, coded_ℕ, coded_bool}
+use base.Stored.{Gv}
 use denote.Struct.Codes.{itself}
-use Rattle.vx_model.specs.Ty.{Ty, boolean}
-use Rattle.vx_model.specs.Codes.{flag, flag_of, flag_back, number_of, ty_code, ty_of, ty_back}
-use Rattle.vx_model.specs.ChunkData.{ChunkData, cells}
-use Rattle.vx_layout_spec.specs.Parts.{all_elements}
+use Rattle.vx_model.specs.Ty.{Ty, nullable}
+use Rattle.vx_model.specs.Codes.{ty_code, ty_of, ty_back}
+use Rattle.vx_model.specs.ChunkData.{ChunkData}
+use Rattle.vx_chunk_cells.specs.Parts.{element_type}
+use Rattle.vx_react.specs.Reactor.{Reactor}
+use Rattle.vx_react.specs.Splitter.{Splitting, list_splitter}
 
 -- that of structs: the type
 abbrev pub ty_coded : Coded Ty
@@ -22,25 +23,27 @@ pub record ListState : Type 0 where
 abbrev pub state_at : Ty → Bool → ℕ → ListState
 state_at t first base = record { typed = t; first = first; base = base }
 
--- the elements up to the end of the next chunk
-abbrev pub elements_to : ListState → ChunkData → ℕ
-elements_to s p = s.base + length (all_elements (cells p))
+-- ---- what the rule says
 
--- behind that chunk
+abbrev pub splitting_of : ListState → Splitting
+splitting_of s = record { first = s.first; base = s.base }
+
+abbrev pub with_splitting : ListState → Splitting → ListState
+with_splitting s x = state_at s.typed x.first x.base
+
+-- the splitter of lists of a type
+abbrev pub splitter_at : Ty → Reactor Splitting
+splitter_at t = list_splitter (element_type t) (nullable t)
+
+-- behind the next chunk
 abbrev pub behind : ListState → ChunkData → ListState
-behind s p = state_at s.typed false (elements_to s p)
+behind s p = with_splitting s ((splitter_at s.typed).holds (splitting_of s) p)
 
--- ---- as trees of numbers, one to one
+-- the elements up to its end
+abbrev pub elements_to : ListState → ChunkData → ℕ
+elements_to s p = (behind s p).base
 
-abbrev pub state_code : ListState → Gv
-state_code s = gcons (ty_code s.typed) (gcons (flag s.first) (gnum s.base))
-
-abbrev pub state_of : Gv → ListState
-state_of (gcons t (gcons first base)) = state_at (ty_of t) (flag_of first) (number_of base)
-state_of g = state_at (boolean false) false 0
-
-pub state_back : (s : ListState) → state_of (state_code s) ≡ s
-state_back s = ap₂ (λ (t : Ty) (first : Bool). state_at t first s.base) (ty_back s.typed) (flag_back s.first)
+-- ---- as trees of numbers
 
 abbrev pub state_coded : Coded ListState
-state_coded = code_by Gv itself state_code state_of state_back
+state_coded = code_by (Ty × (Bool × ℕ)) (coded× ty_coded (coded× coded_bool coded_ℕ)) (λ s. (s.typed, (s.first, s.base))) (λ p. state_at p.0 p.1.0 p.1.1) (λ _. refl)

@@ -4,7 +4,7 @@ ghost use Rattle.std.specs.Prelude.{◌≡◌, ◌∷◌, IsTrue, IfOk, IfErr};
 ghost use Rattle.vx_model.specs.Ty.{is_struct};
 ghost use Rattle.vx_model.specs.ChunkData.{piece_type};
 ghost use Rattle.vx_layout_spec.specs.Parts.{validity_piece, field_pieces};
-ghost use Rattle.vx_chunk.specs.Parts.{struct_fields};
+ghost use Rattle.vx_chunk_cells.specs.Parts.{struct_fields};
 
 use crate::error::SplitError;
 use crate::names::repeated_name;
@@ -42,7 +42,7 @@ impl ColumnSplit {
     ghost use Rattle.vx_model.specs.ChunkData.{piece_type};
     ghost use Rattle.vx_rules.specs.Columns.{struct_columns};
     ghost use Rattle.vx_strategy_spec.specs.Walk.{duplicate};
-    ghost use Rattle.vx_chunk.specs.Parts.{struct_fields};
+    ghost use Rattle.vx_chunk_cells.specs.Parts.{struct_fields};
     ghost use Rattle.vx_split.specs.Causes.{IsRefused};
 
     /// The splitter of this type. Refuses `NotStruct` exactly where the type isn't a struct, and then takes no memory;

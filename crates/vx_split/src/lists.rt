@@ -8,7 +8,7 @@ ghost use Rattle.vx_model.specs.TreeView.{tree};
 ghost use Rattle.vx_model.specs.ChunkData.{piece_type, plain_piece, cells};
 ghost use Rattle.vx_layout_spec.specs.Parts.{flag_of, all_elements, ends};
 ghost use Rattle.vx_rules.specs.Columns.{list_columns, offset_type};
-ghost use Rattle.vx_chunk.specs.Parts.{element_type};
+ghost use Rattle.vx_chunk_cells.specs.Parts.{element_type};
 ghost use Rattle.vx_split.specs.Causes.{IsPast};
 
 use crate::error::SplitError;
@@ -51,7 +51,7 @@ impl ListSplit {
     ghost use Rattle.vx_model.specs.ChunkData.{piece_type};
     ghost use Rattle.vx_layout_spec.specs.Real.{Whole};
     ghost use Rattle.vx_rules.specs.Columns.{list_columns};
-    ghost use Rattle.vx_chunk.specs.Parts.{element_type};
+    ghost use Rattle.vx_chunk_cells.specs.Parts.{element_type};
     ghost use Rattle.vx_split.specs.ListState.{state_at, elements_to, behind};
     ghost use Rattle.vx_split.specs.Causes.{IsPast, Tells};
 

@@ -2,7 +2,7 @@ use Rattle.std.proofs.Common.{List, ap₂, ◌∙◌}
 use Rattle.vx_model.specs.Words.{all_by}
 use Rattle.vx_model.specs.Ty.{Ty}
 use Rattle.vx_model.specs.CellData.{CellData, fits}
-use Rattle.vx_strategy.specs.OptionViews.{dict_options}
+use Rattle.vx_strategy_options.specs.OptionViews.{dict_options}
 use Rattle.vx_runs.proofs.CodeSteps.{codes_fit}
 use Rattle.vx_runs.proofs.codes.codes_chunk.Goals as goal
 

@@ -8,7 +8,7 @@ use Rattle.vx_model.specs.TreeView.{tree}
 use Rattle.vx_rules.specs.Runs.{stretches, codes_piece}
 use Rattle.vx_react.specs.declared.place.Place.TheVariants.{Codes, Values}
 use Rattle.vx_react.specs.Cutter.{cut_outputs, closed_outputs}
-use Rattle.vx_strategy.specs.OptionViews.{dict_options}
+use Rattle.vx_strategy_options.specs.OptionViews.{dict_options}
 use Rattle.vx_runs.specs.Cutting.{pairs, is_code_of}
 use Rattle.vx_runs.proofs.Fitting.{cut_fits}
 use Rattle.vx_runs.proofs.Cutters.{number_is, gives_open, gives_last}

@@ -3,7 +3,7 @@ use Rattle.std.specs.Vec.Iter.{into_iter_items}
 use Rattle.vx_model.specs.TyView.{ty}
 use Rattle.vx_react.specs.Reactor.{Output}
 use Rattle.vx_react.specs.Cutter.{closed_outputs}
-use Rattle.vx_strategy.specs.OptionViews.{dict_options}
+use Rattle.vx_strategy_options.specs.OptionViews.{dict_options}
 use Rattle.vx_runs.specs.Cutting.{pairs, ClosedFit}
 use Rattle.vx_runs.proofs.outputs.push_closed.Given as goal
 

@@ -4,7 +4,7 @@ use Rattle.vx_model.specs.Words.{all_by}
 use Rattle.vx_model.specs.CellData.{fits}
 use Rattle.vx_model.specs.TyView.{ty}
 use Rattle.vx_model.specs.TreeView.{tree}
-use Rattle.vx_strategy.specs.OptionViews.{dict_options}
+use Rattle.vx_strategy_options.specs.OptionViews.{dict_options}
 use Rattle.vx_runs.specs.Cutting.{cut_with, Running}
 use Rattle.vx_runs.proofs.rows.add_rows.Given as goal
 

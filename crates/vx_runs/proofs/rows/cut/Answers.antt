@@ -1,7 +1,7 @@
 use Rattle.std.proofs.Common.{List, ℕ, map, ap₂, ◌∙◌}
 use Rattle.vx_model.specs.TyView.{ty}
 use Rattle.vx_model.specs.TreeView.{tree}
-use Rattle.vx_strategy.specs.OptionViews.{dict_options}
+use Rattle.vx_strategy_options.specs.OptionViews.{dict_options}
 use Rattle.vx_runs.specs.declared.rows.Closed.{Closed}
 use Rattle.vx_runs.specs.Cutting.{cut_with}
 use Rattle.vx_runs.proofs.Steps.{cut_is}

@@ -8,7 +8,7 @@ use Rattle.vx_model.specs.TreeView.{tree}
 use Rattle.vx_chunk.proofs.CellsFit.{cells_fit}
 use Rattle.vx_rules.specs.Runs.{stretches}
 use Rattle.vx_react.specs.Cutter.{cut_outputs}
-use Rattle.vx_strategy.specs.OptionViews.{dict_options}
+use Rattle.vx_strategy_options.specs.OptionViews.{dict_options}
 use Rattle.vx_runs.specs.declared.cutter.OpenRun.{OpenRun}
 use Rattle.vx_runs.specs.CutterData.{CutterData}
 use Rattle.vx_runs.proofs.Cutters.{chunk_gives}
