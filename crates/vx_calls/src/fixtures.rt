@@ -6,13 +6,13 @@ use vx_model::{ArrayContext, Cell, DType, EncodingId, Nullability, PType, fits};
 use vx_types::Chunk;
 
 /// The integers 1 and 2.
-pub(crate) fn two_integers(alloc: Global) -> Result<Chunk, Fail> {
+pub(crate) fn two_integers(alloc: Global) -> Result<Box<Chunk>, Fail> {
     let dtype = DType::Primitive(PType::I64, Nullability::NonNullable);
     let cells = vec![in alloc; Cell::Int(1), Cell::Int(2)]?;
     if !fits(&dtype, &cells) {
         return Err("the cells fit".into());
     }
-    Ok(Chunk::plain(dtype, cells))
+    Ok(Box::new(alloc, Chunk::plain(dtype, cells))?)
 }
 
 /// All encodings, in order.

@@ -5,35 +5,49 @@ ghost use Rattle.vx_sequence.specs.Universe.{IsActive, released};
 
 use std::panic::Expect;
 use std::process::Abort;
-use vx_order::{Attempt, LocalOrder, Order, OrderError, Receipt};
-use vx_path::owned::Path;
+use vx_order::{Attempt, LocalOrder, Order, OrderError};
 use vx_sequence::SequenceId;
 use vx_sink::{MemorySink, SegmentSink};
 
-fn written<O: Order>(rt: &impl Abort, order: &mut O, id: SequenceId, bytes: &[u8]) -> Receipt
+/// Writes the bytes, and tests the path and the number of the receipt.
+fn written<O: Order>(
+    rt: &impl Abort,
+    order: &mut O,
+    id: SequenceId,
+    bytes: &[u8],
+    path: &[u64],
+    number: u32,
+)
     requires active { IsActive (O.active order.old) id }
     requires allowed { O.may_write order.old id bytes.now }
     ensures { O.active order.new ≡ released (O.active order.old) id }
 {
     match order.try_write(id, bytes) {
-        Ok(Attempt::Written(receipt)) => receipt,
+        Ok(Attempt::Written(receipt)) => {
+            assert!(rt; receipt.path.as_slice() == path && receipt.number == number);
+        }
         _ => panic!(rt; "not written"),
     }
 }
 
+/// Waits for the smaller path.
 fn waits<O: Order>(
     rt: &impl Abort,
     order: &mut O,
     id: SequenceId,
     bytes: &[u8],
-) -> (SequenceId, Path)
+    path: &[u64],
+) -> SequenceId
     requires active { IsActive (O.active order.old) id }
     requires allowed { O.may_write order.old id bytes.now }
-    ensures id { result.0 ≡ id }
+    ensures id { result ≡ id }
     ensures active { O.active order.new ≡ O.active order.old }
 {
     match order.try_write(id, bytes) {
-        Ok(Attempt::Waiting { id, smaller }) => (id, smaller),
+        Ok(Attempt::Waiting { id, smaller }) => {
+            assert!(rt; smaller.as_slice() == path);
+            id
+        }
         _ => panic!(rt; "doesn't wait"),
     }
 }
@@ -65,18 +79,12 @@ fn the_smaller_path_goes_first(rt: HostRuntime) {
     let mut order = LocalOrder::new(&mut sink, universe);
 
     assert!(rt; first < second && order.is_least(&first));
-    let (second, smaller) = waits(&rt, &mut order, second, &[2]);
-    assert_eq!(rt; smaller.as_slice(), [0, 0].as_slice());
-    let receipt = written(&rt, &mut order, first, &[1]);
-    assert_eq!(rt; receipt.path.as_slice(), [0, 0].as_slice());
-    assert_eq!(rt; receipt.number, 0);
-    let receipt = written(&rt, &mut order, second, &[2]);
-    assert_eq!(rt; receipt.path.as_slice(), [1].as_slice());
-    assert_eq!(rt; receipt.number, 1);
+    let second = waits(&rt, &mut order, second, &[2], &[0, 0]);
+    written(&rt, &mut order, first, &[1], &[0, 0], 0);
+    written(&rt, &mut order, second, &[2], &[1], 1);
 
     let lent = order.into_sink();
-    assert_eq!(rt; lent.segments().len(), 2);
-    assert_eq!(rt; lent.next_id(), 2);
+    assert!(rt; lent.segments().len() == 2 && lent.next_id() == 2);
 }
 
 #[test]
@@ -89,13 +97,12 @@ fn refusals_hand_the_id_back(rt: HostRuntime) {
     let id = order.advance(&mut pointer).expect(&rt, "memory");
     let (id, error) = refused(&rt, &mut order, id, &[7]);
     assert!(rt; matches!(error, OrderError::SinkFault));
-    let receipt = written(&rt, &mut order, id, &[7]);
-    assert_eq!(rt; receipt.number, 4_294_967_295);
+    written(&rt, &mut order, id, &[7], &[0], 4_294_967_295);
 
     let below = order.descend(pointer.downgrade()).expect(&rt, "memory");
     let (id, error) = refused(&rt, &mut order, below.downgrade(), &[8]);
     assert!(rt; matches!(error, OrderError::TooLarge(4_294_967_296)));
-    assert_eq!(rt; id.path(), [1, 0].as_slice());
+    assert!(rt; id.path() == [1, 0].as_slice());
     order.release(id);
-    assert_eq!(rt; order.into_sink().segments().len(), 1);
+    assert!(rt; order.into_sink().segments().len() == 1);
 }

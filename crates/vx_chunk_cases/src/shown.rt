@@ -3,6 +3,7 @@
 
 use serde_json::Value as Json;
 use std::alloc::{AllocError, Global};
+use vx_case_lines::boxed;
 use vx_chunk::Chunk;
 use vx_model::{Cell, Value};
 
@@ -75,8 +76,7 @@ fn push_bool(out: &mut String, flag: bool) -> Result<(), AllocError> {
 }
 
 fn push_integer(out: &mut String, number: i128) -> Result<(), AllocError> {
-    write!(out, "{number}")?;
-    Ok(())
+    write!(out, "{number}")
 }
 
 fn push_quoted(alloc: Global, out: &mut String, text: &str) -> Result<(), AllocError> {
@@ -86,8 +86,7 @@ fn push_quoted(alloc: Global, out: &mut String, text: &str) -> Result<(), AllocE
 
 fn push_hex(alloc: Global, out: &mut String, bytes: &[u8]) -> Result<(), AllocError> {
     let text = hex::encode(alloc, bytes)?;
-    write!(out, "\"{text}\"")?;
-    Ok(())
+    write!(out, "\"{text}\"")
 }
 
 /// Values as they are shown in a text of their own.
@@ -97,35 +96,52 @@ pub(crate) fn shown_values(alloc: Global, values: &[Value]) -> Result<String, Al
     Ok(out)
 }
 
+/// The cells in square brackets.
+pub(crate) fn shown_cells(alloc: Global, cells: &[Cell]) -> Result<String, AllocError> {
+    let mut out = String::from_str(alloc, "[")?;
+    push_cells(alloc, &mut out, cells)?;
+    out.push_str("]")?;
+    Ok(out)
+}
+
 /// What stands before a chunk's cells: its encoding and its type.
-fn push_head(out: &mut String, chunk: &Chunk) -> Result<(), AllocError> {
+pub(crate) fn head(alloc: Global, chunk: &Chunk) -> Result<String, AllocError> {
     let dtype = chunk.dtype();
-    write!(out, "{} {dtype} [", chunk.encoding().id())?;
-    Ok(())
+    format!(in alloc; "{} {dtype} ", chunk.encoding().id())
+}
+
+pub(crate) fn cells_of(alloc: Global, chunk: &Chunk) -> anyhow::Result<String> {
+    if let Some(cells) = chunk.as_cells() {
+        return Ok(shown_cells(alloc, cells)?);
+    }
+    let cells = chunk.cells(alloc)?;
+    Ok(shown_cells(alloc, &cells)?)
 }
 
 /// The chunk's encoding, its type and its cells.
-pub(crate) fn push_chunk(alloc: Global, out: &mut String, chunk: &Chunk) -> anyhow::Result<()> {
-    push_head(out, chunk)?;
-    match chunk.as_cells() {
-        Some(cells) => push_cells(alloc, out, cells)?,
-        None => push_cells(alloc, out, &chunk.cells(alloc)?)?,
-    }
-    out.push_str("]")?;
-    Ok(())
-}
-
-/// The same of a chunk that isn't kept.
-pub(crate) fn shown_cells(alloc: Global, chunk: Chunk) -> anyhow::Result<String> {
-    let mut out = String::new(alloc);
-    push_head(&mut out, &chunk)?;
-    push_cells(alloc, &mut out, &chunk.into_cells(alloc)?)?;
-    out.push_str("]")?;
-    Ok(out)
-}
-
 pub(crate) fn shown(alloc: Global, chunk: &Chunk) -> anyhow::Result<String> {
-    let mut out = String::new(alloc);
-    push_chunk(alloc, &mut out, chunk)?;
-    Ok(out)
+    let mut text = head(alloc, chunk)?;
+    text.push_str(&cells_of(alloc, chunk)?)?;
+    Ok(text)
+}
+
+/// The columns, a bar behind each.
+pub(crate) fn shown_columns(alloc: Global, chunks: &[Chunk]) -> anyhow::Result<String> {
+    let mut text = String::new(alloc);
+    for chunk in chunks {
+        text.push_str(&shown(alloc, chunk)?)?;
+        text.push_str(" | ")?;
+    }
+    Ok(text)
+}
+
+/// A list's elements, offsets and flags.
+pub(crate) fn list_text(
+    alloc: Global,
+    parts: (Chunk, Vec<u64>, Vec<bool>),
+) -> anyhow::Result<String> {
+    let (elements, offsets, valid) = parts;
+    let elements = boxed(alloc, elements)?;
+    let elements = shown(alloc, &elements)?;
+    Ok(format!(in alloc; "{elements} | {offsets:?} | {valid:?}")?)
 }

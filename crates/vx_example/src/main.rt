@@ -13,23 +13,25 @@ fn integers() -> DType {
     DType::Primitive(PType::I64, Nullability::NonNullable)
 }
 
-fn batch(cells: Vec<Cell>) -> Result<Chunk> {
+fn push_batch(batches: &mut Vec<Chunk>, cells: Vec<Cell>) -> Result<()> {
     let dtype = integers();
     ensure!(fits(&dtype, &cells), "a cell is no 64-bit integer");
-    Ok(Chunk::plain(dtype, cells))
+    batches.push(Chunk::plain(dtype, cells))?;
+    Ok(())
 }
 
 fn batches(alloc: Global) -> Result<Vec<Chunk>> {
-    let first = batch(vec![in alloc; Cell::Int(1), Cell::Int(2)]?)?;
-    let second = batch(vec![in alloc; Cell::Int(3)]?)?;
-    Ok(vec![in alloc; first, second]?)
+    let mut batches = Vec::new(alloc);
+    push_batch(&mut batches, vec![in alloc; Cell::Int(1), Cell::Int(2)]?)?;
+    push_batch(&mut batches, vec![in alloc; Cell::Int(3)]?)?;
+    Ok(batches)
 }
 
 /// Writes the batches of the source, each as a chunk by itself.
 fn write(alloc: Global, source: &mut ListSource, sink: &mut MemorySink) -> Result<Layout> {
+    let encodings = ArrayContext::try_new(vec![in alloc; EncodingId::Plain]?)?;
     let flat = FlatLayoutStrategy::default().into_strategy();
     let strategy = ChunkedLayoutStrategy::new(alloc, flat)?.into_strategy();
-    let encodings = ArrayContext::try_new(vec![in alloc; EncodingId::Plain]?)?;
     let mut ctx = LayoutWriterContext::new(encodings);
     let mut plain = PlainCompressor::new(Vec::new(alloc));
     match write_stream(alloc, &strategy, &mut ctx, source, sink, &[], &mut plain) {
@@ -38,14 +40,24 @@ fn write(alloc: Global, source: &mut ListSource, sink: &mut MemorySink) -> Resul
     }
 }
 
+/// Reads the rows of the layout from the segments, and prints each in a line.
+fn print_rows(
+    rt: &impl Print,
+    alloc: Global,
+    layout: &Layout,
+    segments: &SegmentMap,
+) -> Result<()> {
+    for row in read_rows(alloc, layout, segments)? {
+        println!(rt; "{row:?}")?;
+    }
+    Ok(())
+}
+
 fn main(rt: HostRuntime) -> Result<()> {
     let alloc = rt.alloc();
     let mut source = ListSource::new(integers(), batches(alloc)?, Vec::new(alloc));
     let mut sink = MemorySink::new(0, Vec::new(alloc));
     let layout = write(alloc, &mut source, &mut sink)?;
     let list = sink.into_segments();
-    for row in read_rows(alloc, &layout, &SegmentMap { first: 0, list })? {
-        println!(rt; "{row:?}")?;
-    }
-    Ok(())
+    print_rows(&rt, alloc, &layout, &SegmentMap { first: 0, list })
 }

@@ -1,13 +1,13 @@
 //! A case and its answer.
 
-use crate::given::cut;
-use crate::{fails, reading, rows, written};
+use crate::{columns, fails, reading, spelling};
 use anyhow::{Context, bail};
 use std::alloc::Global;
+use vx_case_lines::{cut, is_case};
 
 /// The line of the answer; nothing where the line is no case.
 pub(crate) fn answer(alloc: Global, line: &str) -> anyhow::Result<String> {
-    if line.is_empty() || line.starts_with('#') {
+    if !is_case(line) {
         return Ok(String::new(alloc));
     }
     let (name, rest) = cut(line);
@@ -18,11 +18,9 @@ pub(crate) fn answer(alloc: Global, line: &str) -> anyhow::Result<String> {
 
 fn answer_to(alloc: Global, word: &str, given: &str) -> anyhow::Result<String> {
     match word {
-        "rows" => rows::reported(alloc, given),
-        "read" => reading::told(alloc, given),
-        "columns" => written::columns(alloc, given),
-        "spelled" => written::spelled(alloc, given),
-        "parsed" => written::parsed(alloc, given),
+        "rows" | "read" | "parsed" => reading::told(alloc, word, given),
+        "columns" => columns::told(alloc, given),
+        "spelled" => spelling::spelled(alloc, given),
         "fails" => fails::told(alloc, given),
         _ => bail!("no word {word}"),
     }

@@ -1,60 +1,33 @@
 //! Writes from and to these objects, one of which fails in mid-stream.
 
-use crate::given::{chunk, context, cut, dtype, strategy};
+use crate::given::{INTEGERS, integers};
 use crate::own_objects::{Broken, Counter, Fault, Stack};
-use crate::written::CHUNKED;
-use std::alloc::Global;
-use vx_sink::LayoutWriterContext;
-use vx_types::{Chunk, DType};
-use vx_write::{WriteError, write_stream};
+use crate::written::write;
+use std::alloc::{AllocError, Global};
+use vx_case_lines::cut;
 
-/// The batches 2 and 1, the last one first.
-fn batches(alloc: Global, dtype: &DType) -> anyhow::Result<Vec<Chunk>> {
-    let one = chunk(alloc, dtype, "[1]")?;
-    Ok(vec![in alloc; one, chunk(alloc, dtype, "[2]")?]?)
-}
-
-/// A source of these batches, of which the call after so many fails.
+/// A source of the batches 2 and 1, of which the call after so many fails.
 fn source(alloc: Global, calls_before: u64) -> anyhow::Result<Stack> {
-    let dtype = dtype(alloc, "\"i64\"")?;
-    let batches = batches(alloc, &dtype)?;
-    let fault = Fault {
-        calls_before,
-        count: 0,
-    };
+    let batches = integers(alloc, "[1] / [2]")?;
     Ok(Stack {
-        dtype,
+        dtype: INTEGERS,
         batches,
-        fault,
+        fault: Fault::after(calls_before),
     })
 }
 
-/// A sink of which the call after so many fails.
-fn sink(calls_before: u64) -> Counter {
-    let fault = Fault {
-        calls_before,
-        count: 0,
-    };
-    Counter { next: 0, fault }
-}
-
-fn name(error: &WriteError) -> &'static str {
-    match error {
-        WriteError::SourceFault => "SourceFault",
-        WriteError::SinkFault => "SinkFault",
-        _ => "another",
-    }
-}
-
 /// How the write to the sink ends.
-fn written(alloc: Global, source: &mut Stack, sink: &mut Counter) -> anyhow::Result<&'static str> {
-    let by = strategy(alloc, CHUNKED)?;
-    let mut ctx = LayoutWriterContext::new(context(alloc)?);
-    let mut compressor = Broken { faults: 0 };
-    match write_stream(alloc, &by, &mut ctx, source, sink, &[], &mut compressor) {
-        Ok(_) => Ok("Ok"),
-        Err(refused) => Ok(name(&refused.error)),
+fn ending(alloc: Global, source: &mut Stack, sink: &mut Counter) -> Result<String, AllocError> {
+    match write(alloc, source, sink, &mut Broken { faults: 0 }) {
+        Ok(_) => String::from_str(alloc, "Ok"),
+        Err(refusal) => format!(in alloc; "{refusal}"),
     }
+}
+
+fn ended(alloc: Global, source: &mut Stack, mut sink: Counter) -> Result<String, AllocError> {
+    let ending = ending(alloc, source, &mut sink)?;
+    let left = source.batches.len();
+    format!(in alloc; "{ending}, {} segments, {left} batches left", sink.next)
 }
 
 pub(crate) fn told(alloc: Global, given: &str) -> anyhow::Result<String> {
@@ -66,8 +39,5 @@ pub(crate) fn told(alloc: Global, given: &str) -> anyhow::Result<String> {
         (u64::MAX, call)
     };
     let mut source = source(alloc, of_source)?;
-    let mut sink = sink(of_sink);
-    let answer = written(alloc, &mut source, &mut sink)?;
-    let left = source.batches.len();
-    Ok(format!(in alloc; "{answer}, {} segments, {left} batches left", sink.next)?)
+    Ok(ended(alloc, &mut source, Counter::new(of_sink))?)
 }

@@ -15,11 +15,12 @@
 #![tactic(auto)]
 
 mod case;
+mod columns;
 mod fails;
 mod given;
 mod own_objects;
 mod reading;
-mod rows;
+mod spelling;
 mod written;
 
 use std::io;

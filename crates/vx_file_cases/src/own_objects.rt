@@ -17,6 +17,14 @@ pub(crate) struct Fault {
 }
 
 impl Fault {
+    /// The call after so many fails.
+    pub fn after(calls_before: u64) -> Fault {
+        Fault {
+            calls_before,
+            count: 0,
+        }
+    }
+
     /// Whether this call fails.
     fn falls(&mut self) -> bool
         ensures { Counts self.old.count self.new.count result }
@@ -70,6 +78,16 @@ impl BatchSource for Stack {
 pub(crate) struct Counter {
     pub next: u64,
     pub fault: Fault,
+}
+
+impl Counter {
+    /// No segments; the append after so many fails.
+    pub fn new(calls_before: u64) -> Counter {
+        Counter {
+            next: 0,
+            fault: Fault::after(calls_before),
+        }
+    }
 }
 
 impl Fallible for Counter {

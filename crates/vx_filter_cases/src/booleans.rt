@@ -6,9 +6,9 @@ ghost use Rattle.vx_model.specs.ValueData.{is_row_value};
 ghost use Rattle.vx_model.specs.TreeView.{val};
 
 use crate::filters::{Partial, filter};
-use crate::given::cut;
 use std::alloc::{AllocError, Global};
 use vx_bloom::{BloomFilter, BloomOptions, Unsupported};
+use vx_case_lines::cut;
 use vx_model::{DType, Nullability, Value};
 
 /// A boolean, or null.
@@ -31,16 +31,22 @@ fn insert_pair(partial: &mut Partial, pair: &str) -> Result<(), Unsupported> {
 }
 
 pub(crate) fn accumulated(alloc: Global, given: &str) -> anyhow::Result<String> {
+    let partial = filter_of(alloc, given)?;
+    told(alloc, &partial)
+}
+
+/// The filter of the pairs.
+fn filter_of(alloc: Global, given: &str) -> anyhow::Result<Partial> {
     let mut partial = BloomFilter.empty_partial(alloc, &BloomOptions::default())?;
     for pair in given.split(" / ") {
         insert_pair(&mut partial, pair)?;
     }
-    let empty = partial == filter(alloc, "256")?;
-    told(alloc, empty, &partial)
+    Ok(partial)
 }
 
-/// Which of the three values the filter contains.
-fn told(alloc: Global, empty: bool, partial: &Partial) -> anyhow::Result<String> {
+/// Whether the filter is empty, and which of the three values it contains.
+fn told(alloc: Global, partial: &Partial) -> anyhow::Result<String> {
+    let empty = *partial == filter(alloc, "256")?;
     let one = contains(partial, "true")?;
     let other = contains(partial, "false")?;
     let null = contains(partial, "null")?;
@@ -90,8 +96,13 @@ fn state_of(alloc: Global, list: bool) -> Result<Option<DType>, AllocError> {
 }
 
 pub(crate) fn state(alloc: Global, given: &str) -> anyhow::Result<String> {
-    match state_of(alloc, given == "list")? {
-        Some(dtype) => Ok(format!(in alloc; "{dtype}")?),
-        None => Ok(String::from_str(alloc, "none")?),
+    let state = state_of(alloc, given == "list")?;
+    Ok(shown(alloc, &state)?)
+}
+
+fn shown(alloc: Global, state: &Option<DType>) -> Result<String, AllocError> {
+    match state {
+        Some(dtype) => format!(in alloc; "{dtype}"),
+        None => String::from_str(alloc, "none"),
     }
 }

@@ -1,13 +1,13 @@
 //! A case and its answer.
 
-use crate::given::cut;
 use crate::{booleans, filters, hashes, options, scalars, stored};
 use anyhow::{Context, bail};
 use std::alloc::Global;
+use vx_case_lines::{cut, is_case};
 
 /// The line of the answer; nothing where the line is no case.
 pub(crate) fn answer(alloc: Global, line: &str) -> anyhow::Result<String> {
-    if line.is_empty() || line.starts_with('#') {
+    if !is_case(line) {
         return Ok(String::new(alloc));
     }
     let (name, rest) = cut(line);
@@ -23,8 +23,7 @@ fn answer_to(alloc: Global, word: &str, given: &str) -> anyhow::Result<String> {
         "contains" => filters::contained(alloc, given),
         "read" => filters::read(alloc, given),
         "saturated" => filters::saturated(alloc, given),
-        "union" => filters::union(alloc, given),
-        "merge" => filters::merged(alloc, given),
+        "union" | "merge" => filters::union(alloc, word, given),
         "options" => options::read(alloc, given),
         "default_options" => options::default_bytes(alloc),
         "scalar" => scalars::scalar_answer(alloc, given),

@@ -1,9 +1,10 @@
 //! Filters, and their bytes.
 
-use crate::given::{bytes, cut, parts};
+use crate::given::bytes;
 use std::alloc::{AllocError, Global};
 use std::num::NonZeroU32;
 use vx_bloom::{BlockCount, BloomFilter, BloomOptions, BloomPartial, HashFn};
+use vx_case_lines::{cut, parts};
 use vx_hash::{ByteHash, XxHash3_64};
 
 pub(crate) type Partial = BloomPartial<XxHash3_64>;
@@ -60,13 +61,13 @@ pub(crate) fn read(alloc: Global, given: &str) -> anyhow::Result<String> {
     let (given, wanted) = parts(given)?;
     let bytes = bytes(alloc, given)?;
     let wanted = filter(alloc, wanted)?;
-    read_as(alloc, &bytes, &wanted)
+    Ok(read_as(alloc, &bytes, &wanted)?)
 }
 
-fn read_as(alloc: Global, bytes: &[u8], wanted: &Partial) -> anyhow::Result<String> {
+fn read_as(alloc: Global, bytes: &[u8], wanted: &Partial) -> Result<String, AllocError> {
     match Partial::deserialize(alloc, bytes) {
-        Ok(filter) => Ok(format!(in alloc; "equal {}", filter == *wanted)?),
-        Err(error) => Ok(format!(in alloc; "{error:?}")?),
+        Ok(filter) => format!(in alloc; "equal {}", filter == *wanted),
+        Err(error) => format!(in alloc; "{error:?}"),
     }
 }
 
@@ -85,18 +86,20 @@ fn three(alloc: Global, given: &str) -> anyhow::Result<(Partial, Partial, Partia
     Ok((pair.0, pair.1, filter(alloc, third)?))
 }
 
-pub(crate) fn union(alloc: Global, given: &str) -> anyhow::Result<String> {
+/// Of the words `union` and `merge`.
+pub(crate) fn union(alloc: Global, word: &str, given: &str) -> anyhow::Result<String> {
     let (mut a, b, third) = three(alloc, given)?;
     let equal = a == b;
-    let answer = a.union(&b);
+    let answer = unite(word, &mut a, &b);
     Ok(united(alloc, equal, answer, a == third)?)
 }
 
-pub(crate) fn merged(alloc: Global, given: &str) -> anyhow::Result<String> {
-    let (mut a, b, third) = three(alloc, given)?;
-    let equal = a == b;
-    let answer = BloomFilter.merge_partials(&mut a, &b);
-    Ok(united(alloc, equal, answer, a == third)?)
+fn unite(word: &str, a: &mut Partial, b: &Partial) -> Result<(), BlockCount> {
+    if word == "union" {
+        a.union(b)
+    } else {
+        BloomFilter.merge_partials(a, b)
+    }
 }
 
 fn united(

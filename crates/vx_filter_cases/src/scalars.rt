@@ -6,9 +6,10 @@ ghost use Rattle.vx_model.specs.TyView.{ty};
 ghost use Rattle.vx_model.specs.TreeView.{val};
 
 use crate::filters::{Partial, options};
-use crate::given::{bytes, cut};
+use crate::given::bytes;
 use anyhow::Context;
 use std::alloc::{AllocError, Global};
+use vx_case_lines::cut;
 use vx_model::{Blob, Cell, DType, ExtDType, Nullability, PType, Text, Value, fits_one};
 
 /// The type as one of its own.
@@ -57,8 +58,9 @@ fn scalar(alloc: Global, name: &str, text: &str) -> anyhow::Result<(DType, Value
 pub(crate) fn scalar_answer(alloc: Global, given: &str) -> anyhow::Result<String> {
     let (name, rest) = cut(given);
     let (text, hashed) = cut(rest);
+    let bytes = bytes(alloc, hashed)?;
     let (dtype, value) = scalar(alloc, name, text)?;
-    hashed_as(alloc, &dtype, &value, &bytes(alloc, hashed)?)
+    hashed_as(alloc, &dtype, &value, &bytes)
 }
 
 /// Whether the value goes into a filter as these bytes.

@@ -1,9 +1,9 @@
 //! Filters as stored values.
 
 use crate::filters::{Partial, filter, options};
-use crate::given::parts;
-use std::alloc::Global;
+use std::alloc::{AllocError, Global};
 use vx_bloom::{BloomFilter, PartialError};
+use vx_case_lines::parts;
 use vx_model::Value;
 
 /// The filter's value, read as a filter of so many blocks.
@@ -14,10 +14,15 @@ fn read_again(alloc: Global, filter: &Partial, blocks: u32) -> Result<Partial, P
 
 pub(crate) fn stored(alloc: Global, given: &str) -> anyhow::Result<String> {
     let (given, blocks) = parts(given)?;
+    let blocks = blocks.parse::<u32>()?;
     let filter = filter(alloc, given)?;
-    match read_again(alloc, &filter, blocks.parse::<u32>()?) {
-        Ok(read) => Ok(format!(in alloc; "equal {}", read == filter)?),
-        Err(error) => Ok(format!(in alloc; "{error:?}")?),
+    Ok(stored_as(alloc, &filter, blocks)?)
+}
+
+fn stored_as(alloc: Global, filter: &Partial, blocks: u32) -> Result<String, AllocError> {
+    match read_again(alloc, filter, blocks) {
+        Ok(read) => format!(in alloc; "equal {}", read == *filter),
+        Err(error) => format!(in alloc; "{error:?}"),
     }
 }
 

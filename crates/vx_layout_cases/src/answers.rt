@@ -1,52 +1,62 @@
 //! What each word prints.
 
-use crate::children::{children, copied_children};
-use crate::given::leaves;
+use crate::children::asked_of;
 use crate::own::{own, with};
-use crate::parts::built;
-use crate::segments::{lengths, rows, segments, tree};
+use crate::segments::{lengths, rows, tree};
 use crate::sessions::{copied_scope, known, registered};
 use crate::shown::{as_kinds, names, slots};
 use crate::spelling::{again, codes, metadata, node};
 use crate::walks::{in_slot, present, walk};
-use crate::word::{LayoutWord, Word};
-use anyhow::Result;
+use anyhow::{Result, bail};
 use std::alloc::Global;
+use vx_case_lines::boxed;
 use vx_layout::Layout;
 
 pub(crate) fn layout_answer(
     alloc: Global,
-    word: LayoutWord,
+    word: &str,
     args: &str,
     layout: &Layout,
 ) -> Result<String> {
     match word {
-        LayoutWord::Slots => slots(alloc, layout),
-        LayoutWord::Copied => slots(alloc, &layout.to_layout()?),
-        LayoutWord::Slot => in_slot(alloc, layout, args.parse::<u64>()?),
-        LayoutWord::Names => names(alloc, layout),
-        LayoutWord::Kinds => as_kinds(alloc, layout),
-        LayoutWord::Own => own(alloc, layout),
-        LayoutWord::With => with(alloc, layout, leaves(alloc, args)?),
-        LayoutWord::Present => present(alloc, layout),
-        LayoutWord::Walk => walk(alloc, layout),
-        LayoutWord::Tree => tree(alloc, layout),
-        LayoutWord::Lengths => lengths(alloc, layout, &segments(alloc, args)?),
-        LayoutWord::Rows => rows(alloc, layout, &segments(alloc, args)?),
-        LayoutWord::Again => again(alloc, layout),
+        "build" | "slots" => slots(alloc, layout),
+        "copy" | "slot" | "with" => slots_of_other(alloc, word, args, layout),
+        "names" => names(alloc, layout),
+        "kinds" => as_kinds(alloc, layout),
+        "own" => own(alloc, layout),
+        "present" => present(alloc, layout),
+        "walk" => walk(alloc, layout),
+        "tree" => tree(alloc, layout),
+        "lengths" => lengths(alloc, layout, args),
+        "rows" => rows(alloc, layout, args),
+        "again" => again(alloc, layout),
+        _ => bail!("no such word"),
     }
 }
 
-pub(crate) fn answer(alloc: Global, word: Word, args: &str) -> Result<String> {
+/// The layout that the word makes of the layout.
+fn other(alloc: Global, word: &str, args: &str, layout: &Layout) -> Result<Layout> {
     match word {
-        Word::Children => children(alloc, args),
-        Word::ChildrenCopy => copied_children(alloc, args),
-        Word::Build => built(alloc, args),
-        Word::Known => known(alloc, args),
-        Word::Register => registered(alloc, args),
-        Word::Scope => copied_scope(alloc, args),
-        Word::Node => node(alloc, args),
-        Word::Metadata => metadata(alloc, args),
-        Word::Codes => codes(alloc, args),
+        "copy" => Ok(layout.to_layout()?),
+        "slot" => in_slot(layout, args),
+        _ => with(alloc, layout, args),
+    }
+}
+
+fn slots_of_other(alloc: Global, word: &str, args: &str, layout: &Layout) -> Result<String> {
+    let other = boxed(alloc, other(alloc, word, args, layout)?)?;
+    slots(alloc, &other)
+}
+
+pub(crate) fn answer(alloc: Global, word: &str, args: &str) -> Result<String> {
+    match word {
+        "children" | "children_copy" => asked_of(alloc, word, args),
+        "known" => known(alloc, args),
+        "register" => registered(alloc, args),
+        "scope" => copied_scope(alloc, args),
+        "node" => node(alloc, args),
+        "metadata" => metadata(alloc, args),
+        "codes" => codes(alloc, args),
+        _ => bail!("no such word"),
     }
 }

@@ -1,16 +1,15 @@
 //! A case and its answer.
 
 use crate::answers::{answer, layout_answer};
-use crate::given::cut;
 use crate::layouts::layout;
-use crate::word::{LayoutWord, Word};
 use anyhow::Result;
 use std::alloc::{AllocError, Global};
+use vx_case_lines::{boxed, cut, is_case};
 
 /// The lines of the answer, each behind the name of the case.
 pub(crate) fn answers(alloc: Global, line: &str) -> Result<String, AllocError> {
     let mut out = String::new(alloc);
-    if line.is_empty() || line.starts_with('#') {
+    if !is_case(line) {
         return Ok(out);
     }
     let (name, asked) = cut(line);
@@ -30,19 +29,17 @@ fn answer_or_refusal(alloc: Global, asked: &str) -> Result<String, AllocError> {
 }
 
 fn answered(alloc: Global, asked: &str) -> Result<String> {
-    match asked.split_once(" = ") {
-        Some((head, given)) => of_layout(alloc, head, given),
-        None => without_layout(alloc, asked),
+    if let Some((head, given)) = asked.split_once(" = ") {
+        let (word, args) = cut(head);
+        return of_layout(alloc, word, args, given);
+    }
+    match cut(asked) {
+        ("build", parts) => of_layout(alloc, "build", parts, asked),
+        (word, args) => answer(alloc, word, args),
     }
 }
 
-fn of_layout(alloc: Global, head: &str, given: &str) -> Result<String> {
-    let (word, args) = cut(head);
-    let word = LayoutWord::from_text(word)?;
-    layout_answer(alloc, word, args, &layout(alloc, given)?)
-}
-
-fn without_layout(alloc: Global, asked: &str) -> Result<String> {
-    let (word, args) = cut(asked);
-    answer(alloc, Word::from_text(word)?, args)
+fn of_layout(alloc: Global, word: &str, args: &str, given: &str) -> Result<String> {
+    let layout = boxed(alloc, layout(alloc, given)?)?;
+    layout_answer(alloc, word, args, &layout)
 }

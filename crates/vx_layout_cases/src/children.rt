@@ -1,13 +1,15 @@
 //! Children by themselves: layouts that are kept, and nodes that are built when they are asked for.
 
-use crate::given::{cut, dtype_in, leaves};
+use crate::given::{dtype_in, leaves, push};
 use crate::sessions::scope;
 use anyhow::Result;
 use bytes::Bytes;
 use std::alloc::{AllocError, Global};
 use std::sync::Arc;
+use vx_case_lines::{boxed, cut};
 use vx_layout::{
-    LayoutChildren, LayoutChildrenWalk, RawNode, Scope, ViewedChildren, layout_children,
+    LayoutChild, LayoutChildren, LayoutChildrenWalk, RawNode, Scope, ViewedChildren,
+    layout_children,
 };
 use vx_model::DType;
 
@@ -31,7 +33,7 @@ fn shared_scope(alloc: Global) -> Result<Arc<Scope>> {
 fn nodes_in(alloc: Global, text: &str) -> Result<Vec<RawNode>> {
     let mut nodes = Vec::new(alloc);
     for word in text.split_whitespace() {
-        nodes.push(node_in(alloc, word)?)?;
+        push(&mut nodes, node_in(alloc, word)?)?;
     }
     Ok(nodes)
 }
@@ -60,16 +62,23 @@ fn raw_node(alloc: Global, index: u16, children: Vec<RawNode>) -> Result<RawNode
     })
 }
 
-pub(crate) fn children(alloc: Global, args: &str) -> Result<String> {
+/// Of the words `children` and `children_copy`.
+pub(crate) fn asked_of(alloc: Global, word: &str, args: &str) -> Result<String> {
     let (dtype, text) = cut(args);
-    let children = children_in(alloc, text)?;
-    asked(alloc, &children, &dtype_in(dtype)?)
+    let dtype = dtype_in(dtype)?;
+    asked_as(alloc, word, text, &dtype)
 }
 
-pub(crate) fn copied_children(alloc: Global, args: &str) -> Result<String> {
-    let (dtype, text) = cut(args);
-    let copy = children_in(alloc, text)?.to_arc()?;
-    asked(alloc, &copy, &dtype_in(dtype)?)
+fn children_as(alloc: Global, word: &str, text: &str) -> Result<LayoutChildren> {
+    match word {
+        "children_copy" => Ok(children_in(alloc, text)?.to_arc()?),
+        _ => children_in(alloc, text),
+    }
+}
+
+fn asked_as(alloc: Global, word: &str, text: &str, dtype: &DType) -> Result<String> {
+    let children = children_as(alloc, word, text)?;
+    asked(alloc, &children, dtype)
 }
 
 fn asked(alloc: Global, children: &LayoutChildren, dtype: &DType) -> Result<String> {
@@ -77,22 +86,27 @@ fn asked(alloc: Global, children: &LayoutChildren, dtype: &DType) -> Result<Stri
     for i in 0..children.nchildren() {
         let whole = children.child_is_indivisible(i);
         let rows = children.child_row_count(i);
-        push_child(&mut out, children, i, dtype)?;
+        push_child(alloc, &mut out, children, i, dtype)?;
         write!(out, " {whole} {rows}\n")?;
     }
-    push_child(&mut out, children, children.nchildren(), dtype)?;
+    push_child(alloc, &mut out, children, children.nchildren(), dtype)?;
     Ok(out)
 }
 
 /// The child in a line, or the name of the refusal.
 fn push_child(
+    alloc: Global,
     out: &mut String,
     children: &LayoutChildren,
     index: u64,
     dtype: &DType,
 ) -> Result<(), AllocError> {
     match children.child(index, dtype) {
-        Ok(child) => write!(out, "{}", child.layout()),
+        Ok(child) => push_layout(out, boxed(alloc, child)?),
         Err(error) => out.push_str(error.name()),
     }
+}
+
+fn push_layout(out: &mut String, child: Box<LayoutChild<'_>>) -> Result<(), AllocError> {
+    write!(out, "{}", child.layout())
 }

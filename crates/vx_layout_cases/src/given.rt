@@ -1,9 +1,9 @@
 //! What the words of a case say: types, leaves and bytes.
 
 use anyhow::{Context, Result, bail};
-use std::alloc::Global;
+use std::alloc::{AllocError, Global};
 use vx_layout::{FlatLayout, Layout};
-use vx_model::{ArrayContext, DType, EncodingId, Nullability, PType, SegmentId};
+use vx_model::{ArrayContext, Blob, DType, EncodingId, Nullability, PType, SegmentId};
 
 pub(crate) const NUMBERS: DType = DType::Primitive(PType::U8, Nullability::NonNullable);
 
@@ -12,11 +12,6 @@ pub(crate) const TEXTS: DType = DType::Utf8(Nullability::NonNullable);
 pub(crate) const MAYBE: DType = DType::Primitive(PType::I8, Nullability::Nullable);
 
 pub(crate) const FLAGS: DType = DType::Bool(Nullability::NonNullable);
-
-/// The first word, and the text behind it.
-pub(crate) fn cut(text: &str) -> (&str, &str) {
-    text.split_once(' ').unwrap_or((text, ""))
-}
 
 pub(crate) fn dtype_in(word: &str) -> Result<DType> {
     match word {
@@ -45,17 +40,38 @@ pub(crate) fn place(text: &str) -> Result<(u64, SegmentId)> {
     Ok((rows.parse::<u64>()?, SegmentId(segment.parse::<u32>()?)))
 }
 
-pub(crate) fn leaf(alloc: Global, word: &str) -> Result<Layout> {
-    let (dtype, text) = word.split_once(':').context("no type")?;
-    let (rows, segment) = place(text)?;
-    let encodings = encodings(alloc)?;
-    Ok(FlatLayout::new(rows, dtype_in(dtype)?, segment, encodings).into_layout())
+/// The array tree that the text is; none where it is empty.
+fn tree_in(alloc: Global, text: &str) -> Result<Option<Blob>> {
+    if text.is_empty() {
+        return Ok(None);
+    }
+    Ok(Some(Blob::from(bytes_in(alloc, text)?)))
 }
 
-/// One leaf or two.
+/// The leaf with an array tree.
+pub(crate) fn leaf_with(alloc: Global, word: &str, tree: &str) -> Result<Layout> {
+    let (dtype, text) = word.split_once(':').context("no type")?;
+    let (rows, segment) = place(text)?;
+    let tree = tree_in(alloc, tree)?;
+    let encodings = encodings(alloc)?;
+    let dtype = dtype_in(dtype)?;
+    Ok(FlatLayout::new_with_metadata(rows, dtype, segment, encodings, tree).into_layout())
+}
+
+pub(crate) fn leaf(alloc: Global, word: &str) -> Result<Layout> {
+    leaf_with(alloc, word, "")
+}
+
 pub(crate) fn leaves(alloc: Global, text: &str) -> Result<Vec<Layout>> {
-    match text.split_once(' ') {
-        Some((first, second)) => Ok(vec![in alloc; leaf(alloc, first)?, leaf(alloc, second)?]?),
-        None => Ok(vec![in alloc; leaf(alloc, text)?]?),
+    let mut leaves = Vec::new(alloc);
+    for word in text.split_whitespace() {
+        push(&mut leaves, leaf(alloc, word)?)?;
     }
+    Ok(leaves)
+}
+
+/// Puts the item behind the others.
+pub(crate) fn push<T: Drop>(items: &mut Vec<T>, item: T) -> Result<(), AllocError> {
+    items.push(item)?;
+    Ok(())
 }

@@ -1,12 +1,15 @@
 //! The layout that a case names.
 
-ghost use Rattle.std.specs.Prelude.{◌≤◌, length, IfOk};
+ghost use Rattle.std.specs.Prelude.{◌≤◌, length, IsTrue, IfOk};
+ghost use Rattle.vx_metadata.specs.Values.{are_in_order};
 
 use crate::children::children_in;
-use crate::given::{NUMBERS, TEXTS, bytes_in, cut, dtype_in, encodings, leaf, leaves, place};
-use anyhow::{Context, Error, Result, bail};
+use crate::given::{NUMBERS, TEXTS, dtype_in, encodings, leaf, leaf_with, leaves, place, push};
+use crate::parts::built;
+use anyhow::{Error, Result, bail};
 use std::alloc::{AllocError, Global};
 use std::num::NonZeroU32;
+use vx_case_lines::{boxed, cut};
 use vx_layout::{
     AggregateFn, ChunkedLayout, DictLayout, FlatLayout, ForeignLayout, Layout, LegacyStatsLayout,
     ListLayout, Stat, StructLayout, ZonedLayout, aggregate_stats_table_dtype, are_in_order,
@@ -16,6 +19,7 @@ use vx_model::{Blob, DType, Nullability, StructField, StructFields, Text};
 
 pub(crate) fn layout(alloc: Global, text: &str) -> Result<Layout> {
     match cut(text) {
+        ("build", rest) => built(alloc, rest),
         ("foreign", rest) => foreign(alloc, rest),
         (kind, rest) => of_kind(alloc, kind, rest),
     }
@@ -36,95 +40,88 @@ fn of_kind(alloc: Global, kind: &str, rest: &str) -> Result<Layout> {
     }
 }
 
-fn alone(alloc: Global, text: &str) -> Result<Layout> {
-    let (kind, rest) = cut(text);
-    of_kind(alloc, kind, rest)
-}
-
 fn flat(alloc: Global, text: &str) -> Result<Layout> {
-    match text.split_once(' ') {
-        Some((word, tree)) => with_tree(alloc, word, tree),
-        None => leaf(alloc, text),
-    }
-}
-
-fn with_tree(alloc: Global, word: &str, tree: &str) -> Result<Layout> {
-    let (dtype, text) = word.split_once(':').context("no type")?;
-    let (rows, segment) = place(text)?;
-    let tree = Some(Blob::from(bytes_in(alloc, tree)?));
-    let encodings = encodings(alloc)?;
-    let dtype = dtype_in(dtype)?;
-    Ok(FlatLayout::new_with_metadata(rows, dtype, segment, encodings, tree).into_layout())
+    let (word, tree) = cut(text);
+    leaf_with(alloc, word, tree)
 }
 
 fn chunked(alloc: Global, text: &str) -> Result<Layout> {
     let (rows, rest) = cut(text);
     let rows = rows.parse::<u64>()?;
-    Ok(ChunkedLayout::new(rows, NUMBERS, children_in(alloc, rest)?)?.into_layout())
+    let children = children_in(alloc, rest)?;
+    Ok(ChunkedLayout::new(rows, NUMBERS, children)?.into_layout())
 }
 
 fn fields(alloc: Global, nullability: Nullability, text: &str) -> Result<Layout> {
     let (rows, rest) = cut(text);
     let (field, rest) = cut(rest);
     let rows = rows.parse::<u64>()?;
-    let dtype = record_of(alloc, dtype_in(field)?, nullability)?;
-    Ok(StructLayout::new(rows, dtype, leaves(alloc, rest)?)?.into_layout())
+    let leaves = leaves(alloc, rest)?;
+    let dtype = record_of(alloc, field, nullability)?;
+    Ok(StructLayout::new(rows, dtype, leaves)?.into_layout())
 }
 
 /// A struct with the field a of the type.
-fn record_of(alloc: Global, dtype: DType, nullability: Nullability) -> Result<DType, AllocError> {
+fn record_of(alloc: Global, word: &str, nullability: Nullability) -> Result<DType> {
     let name = Text::from_str(alloc, "a")?;
+    let dtype = dtype_in(word)?;
     let fields = vec![in alloc; StructField { name, dtype }]?;
     Ok(DType::Struct(StructFields { fields }, nullability))
 }
 
 fn list(alloc: Global, nullability: Nullability, text: &str) -> Result<Layout> {
     let (elements, rest) = cut(text);
-    let dtype = list_of(alloc, dtype_in(elements)?, nullability)?;
-    let (elements, rest) = cut(rest);
-    list_above(alloc, dtype, leaf(alloc, elements)?, rest)
+    let leaves = leaves(alloc, rest)?;
+    if leaves.len() < 2 {
+        bail!("a list without offsets");
+    }
+    let dtype = list_of(alloc, elements, nullability)?;
+    list_above(alloc, dtype, leaves)
 }
 
-fn list_of(alloc: Global, elements: DType, nullability: Nullability) -> Result<DType, AllocError> {
-    Ok(DType::List(Box::new(alloc, elements)?, nullability))
+fn list_of(alloc: Global, elements: &str, nullability: Nullability) -> Result<DType> {
+    let elements = Box::new(alloc, dtype_in(elements)?)?;
+    Ok(DType::List(elements, nullability))
 }
 
-fn list_above(alloc: Global, dtype: DType, elements: Layout, text: &str) -> Result<Layout> {
-    let (offsets, validity) = cut(text);
-    let offsets = leaf(alloc, offsets)?;
-    let validity = maybe_leaf(alloc, validity)?;
+/// The list of elements, offsets and, where there is a third leaf, a validity.
+fn list_above(alloc: Global, dtype: DType, mut leaves: Vec<Layout>) -> Result<Layout>
+    requires { 2 ≤ length leaves.items }
+{
+    let elements = leaves.remove(0);
+    let offsets = leaves.remove(0);
+    let validity = leaves.pop();
     Ok(ListLayout::new(alloc, dtype, elements, offsets, validity)?.into_layout())
 }
 
-fn maybe_leaf(alloc: Global, word: &str) -> Result<Option<Layout>> {
-    if word.is_empty() {
-        return Ok(None);
-    }
-    Ok(Some(leaf(alloc, word)?))
-}
-
 fn dict(alloc: Global, text: &str) -> Result<Layout> {
-    let (values, codes) = cut(text);
-    let values = leaf(alloc, values)?;
-    Ok(DictLayout::new(alloc, values, leaf(alloc, codes)?)?.into_layout())
+    let mut leaves = leaves(alloc, text)?;
+    if leaves.len() < 2 {
+        bail!("a dictionary without codes");
+    }
+    let values = leaves.remove(0);
+    let codes = leaves.remove(0);
+    Ok(DictLayout::new(alloc, values, codes)?.into_layout())
 }
 
 fn zoned(alloc: Global, text: &str) -> Result<Layout> {
     let (column, rest) = cut(text);
     let (zones, aggregate) = cut(rest);
     let maxima = maxima(alloc, aggregate)?;
-    zoned_above(alloc, leaf(alloc, column)?, zones, maxima)
+    let column = boxed(alloc, leaf(alloc, column)?)?;
+    let zones = zones_of(alloc, column.dtype(), &maxima, zones)?;
+    zoned_of(alloc, column, zones, maxima)
 }
 
-fn zoned_above(
+fn zoned_of(
     alloc: Global,
-    column: Layout,
-    zones: &str,
+    column: Box<Layout>,
+    zones: Layout,
     maxima: Vec<AggregateFn>,
 ) -> Result<Layout>
     requires { length maxima.items ≤ 1 }
 {
-    let zones = zones_of(alloc, column.dtype(), &maxima, zones)?;
+    let column = Box::into_inner(column);
     Ok(ZonedLayout::try_new(alloc, column, zones, NonZeroU32::MIN, maxima)?.into_layout())
 }
 
@@ -149,28 +146,34 @@ fn statistics(alloc: Global, text: &str) -> Result<Layout> {
     let (column, rest) = cut(text);
     let (zones, stat) = cut(rest);
     let maxima = older_maxima(alloc, stat)?;
-    statistics_above(alloc, leaf(alloc, column)?, zones, maxima)
+    let column = boxed(alloc, leaf(alloc, column)?)?;
+    let zones = older_zones_of(alloc, column.dtype(), &maxima, zones)?;
+    statistics_of(alloc, column, zones, maxima)
 }
 
-fn statistics_above(
+fn statistics_of(
     alloc: Global,
-    column: Layout,
-    zones: &str,
+    column: Box<Layout>,
+    zones: Layout,
     maxima: Vec<Stat>,
-) -> Result<Layout> {
-    let zones = older_zones_of(alloc, column.dtype(), &maxima, zones)?;
-    if !are_in_order(&maxima) {
-        return Err(Error::msg("statistics out of order"));
-    }
+) -> Result<Layout>
+    requires { IsTrue (are_in_order maxima.items) }
+{
+    let column = Box::into_inner(column);
     Ok(LegacyStatsLayout::new(alloc, column, zones, 2, maxima)?.into_layout())
 }
 
-fn older_maxima(alloc: Global, word: &str) -> Result<Vec<Stat>, AllocError> {
+fn older_maxima(alloc: Global, word: &str) -> Result<Vec<Stat>>
+    ensures { IfOk result (λ v. IsTrue (are_in_order v.items)) }
+{
+    let mut maxima = Vec::new(alloc);
     if word == "max" {
-        Ok(vec![in alloc; Stat::Max]?)
-    } else {
-        Ok(Vec::new(alloc))
+        maxima.push(Stat::Max)?;
     }
+    if !are_in_order(&maxima) {
+        return Err(Error::msg("statistics out of order"));
+    }
+    Ok(maxima)
 }
 
 fn older_zones_of(alloc: Global, column: &DType, maxima: &[Stat], text: &str) -> Result<Layout> {
@@ -189,11 +192,17 @@ fn foreign(alloc: Global, text: &str) -> Result<Layout> {
 }
 
 fn below(alloc: Global, text: &str) -> Result<Vec<Layout>> {
+    let mut layouts = Vec::new(alloc);
     if text.is_empty() {
-        return Ok(Vec::new(alloc));
+        return Ok(layouts);
     }
-    match text.split_once(" / ") {
-        Some((first, second)) => Ok(vec![in alloc; alone(alloc, first)?, alone(alloc, second)?]?),
-        None => Ok(vec![in alloc; alone(alloc, text)?]?),
+    for text in text.split(" / ") {
+        push(&mut layouts, alone(alloc, text)?)?;
     }
+    Ok(layouts)
+}
+
+fn alone(alloc: Global, text: &str) -> Result<Layout> {
+    let (kind, rest) = cut(text);
+    of_kind(alloc, kind, rest)
 }

@@ -1,9 +1,9 @@
 //! What layouts of one kind tell besides what all do.
 
-use crate::shown::slots;
+use crate::given::leaves;
 use anyhow::{Result, bail};
 use std::alloc::Global;
-use vx_layout::{Layout, LegacyStatsLayout, ListLayout, ZonedLayout};
+use vx_layout::{ChunkedLayout, Layout, LegacyStatsLayout, ListLayout, ZonedLayout};
 
 pub(crate) fn own(alloc: Global, layout: &Layout) -> Result<String> {
     match layout {
@@ -35,11 +35,15 @@ fn of_statistics(alloc: Global, stats: &LegacyStatsLayout) -> Result<String> {
     Ok(format!(in alloc; "{} {count}", stats.nzones())?)
 }
 
-pub(crate) fn with(alloc: Global, layout: &Layout, children: Vec<Layout>) -> Result<String> {
+/// The chunked layout with these leaves instead.
+pub(crate) fn with(alloc: Global, layout: &Layout, args: &str) -> Result<Layout> {
     match layout {
-        Layout::Chunked(chunked) => {
-            slots(alloc, &chunked.with_children(children)?.into_layout())
-        }
+        Layout::Chunked(chunked) => with_leaves(alloc, chunked, args),
         _ => bail!("no chunks"),
     }
+}
+
+fn with_leaves(alloc: Global, chunked: &ChunkedLayout, args: &str) -> Result<Layout> {
+    let leaves = leaves(alloc, args)?;
+    Ok(chunked.with_children(leaves)?.into_layout())
 }

@@ -1,22 +1,21 @@
 //! Layouts that kinds build of parts.
 
 use crate::children::children_in;
-use crate::given::{bytes_in, cut, dtype_in};
+use crate::given::{bytes_in, dtype_in};
 use crate::sessions::{build_context, kind_in};
-use crate::shown::slots;
 use anyhow::Result;
 use std::alloc::Global;
+use vx_case_lines::cut;
 use vx_layout::{Layout, LayoutDeserializeArgs, LayoutEncodingExt, LayoutError, LayoutParts};
 
-pub(crate) fn built(alloc: Global, args: &str) -> Result<String> {
+/// The layout that the kind builds of the metadata and the parts.
+pub(crate) fn built(alloc: Global, args: &str) -> Result<Layout> {
     let (kind, rest) = cut(args);
     let (metadata, rest) = cut(rest);
-    let kind = kind_in(alloc, kind)?;
     let metadata = bytes_in(alloc, metadata)?;
-    slots(
-        alloc,
-        &built_by(alloc, &kind, given(alloc, rest)?, &metadata)?,
-    )
+    let kind = kind_in(alloc, kind)?;
+    let args = given(alloc, rest)?;
+    Ok(built_by(alloc, &kind, args, &metadata)?)
 }
 
 fn given(alloc: Global, text: &str) -> Result<LayoutDeserializeArgs> {
@@ -31,8 +30,9 @@ fn parts(alloc: Global, text: &str) -> Result<LayoutParts> {
     let (dtype, rest) = cut(text);
     let (rows, rest) = cut(rest);
     let rows = rows.parse::<u64>()?;
+    let children = children_in(alloc, rest)?;
     let dtype = dtype_in(dtype)?;
-    Ok(LayoutParts::new(dtype, rows, Vec::new(alloc), children_in(alloc, rest)?))
+    Ok(LayoutParts::new(dtype, rows, Vec::new(alloc), children))
 }
 
 fn built_by<K: LayoutEncodingExt>(

@@ -3,20 +3,21 @@
 //! The segments are numbered from the first word on. A segment is cells with commas between them, encoded as `bool` where
 //! the first one is `true`, else as `i8?`; or bytes.
 
-use crate::given::{FLAGS, MAYBE, bytes_in, cut, encodings};
+use crate::given::{FLAGS, MAYBE, bytes_in, encodings, push};
 use anyhow::{Error, Result};
 use std::alloc::{AllocError, Global};
+use vx_case_lines::{boxed, cut};
 use vx_chunk::Chunk;
 use vx_layout::{Layout, LayoutDisplay, ReadError, SegmentMap, read_rows};
-use vx_model::{Blob, Cell, DType, fits};
+use vx_model::{Blob, Cell, DType, Value, fits};
 use vx_segment_writer::encode_segment;
 
-pub(crate) fn segments(alloc: Global, args: &str) -> Result<SegmentMap> {
+fn segments(alloc: Global, args: &str) -> Result<SegmentMap> {
     let (first, rest) = cut(args);
     let first = first.parse::<u32>()?;
     let mut list = Vec::new(alloc);
     for word in rest.split_whitespace() {
-        list.push(segment(alloc, word)?)?;
+        push(&mut list, segment(alloc, word)?)?;
     }
     Ok(SegmentMap { first, list })
 }
@@ -25,20 +26,27 @@ fn segment(alloc: Global, word: &str) -> Result<Blob> {
     if word.starts_with('x') {
         return Ok(Blob::from(bytes_in(alloc, word)?));
     }
-    let dtype = if word.starts_with("true") {
-        FLAGS
-    } else {
-        MAYBE
-    };
-    encoded(alloc, &chunk(dtype, cells(alloc, word)?)?)
+    let chunk = boxed(alloc, chunk(alloc, word)?)?;
+    encoded(alloc, &chunk)
 }
 
 fn encoded(alloc: Global, chunk: &Chunk) -> Result<Blob> {
-    Ok(Blob::from(encode_segment(alloc, &encodings(alloc)?, chunk, true)?))
+    let encodings = encodings(alloc)?;
+    Ok(Blob::from(encode_segment(alloc, &encodings, chunk, true)?))
 }
 
-/// The cells as values of the type.
-fn chunk(dtype: DType, cells: Vec<Cell>) -> Result<Chunk> {
+fn dtype_of(word: &str) -> DType {
+    if word.starts_with("true") {
+        FLAGS
+    } else {
+        MAYBE
+    }
+}
+
+/// The cells as values of their type.
+fn chunk(alloc: Global, word: &str) -> Result<Chunk> {
+    let cells = cells(alloc, word)?;
+    let dtype = dtype_of(word);
     if !fits(&dtype, &cells) {
         return Err(Error::msg("a cell is of another type"));
     }
@@ -48,7 +56,7 @@ fn chunk(dtype: DType, cells: Vec<Cell>) -> Result<Chunk> {
 fn cells(alloc: Global, text: &str) -> Result<Vec<Cell>> {
     let mut cells = Vec::new(alloc);
     for word in text.split(',') {
-        cells.push(cell(word)?)?;
+        push(&mut cells, cell(word)?)?;
     }
     Ok(cells)
 }
@@ -62,12 +70,21 @@ fn cell(word: &str) -> Result<Cell> {
     }
 }
 
+pub(crate) fn rows(alloc: Global, layout: &Layout, args: &str) -> Result<String> {
+    let segments = segments(alloc, args)?;
+    Ok(rows_in(alloc, layout, &segments)?)
+}
+
 /// The rows, or the fault, as they are printed for a programmer.
-pub(crate) fn rows(alloc: Global, layout: &Layout, segments: &SegmentMap) -> Result<String> {
+fn rows_in(alloc: Global, layout: &Layout, segments: &SegmentMap) -> Result<String, AllocError> {
     match read_rows(alloc, layout, segments) {
-        Ok(rows) => Ok(format!(in alloc; "{rows:?}")?),
-        Err(error) => Ok(fault(alloc, &error)?),
+        Ok(rows) => shown(alloc, &rows),
+        Err(error) => fault(alloc, &error),
     }
+}
+
+fn shown(alloc: Global, rows: &[Value]) -> Result<String, AllocError> {
+    format!(in alloc; "{rows:?}")
 }
 
 fn fault(alloc: Global, error: &ReadError) -> Result<String, AllocError> {
@@ -82,13 +99,18 @@ pub(crate) fn tree<L: LayoutDisplay>(alloc: Global, layout: &L) -> Result<String
     Ok(String::from_str(alloc, text.as_str())?)
 }
 
-pub(crate) fn lengths<L: LayoutDisplay>(
+pub(crate) fn lengths(alloc: Global, layout: &Layout, args: &str) -> Result<String> {
+    let segments = segments(alloc, args)?;
+    Ok(lengths_in(alloc, layout, &segments)?)
+}
+
+fn lengths_in<L: LayoutDisplay>(
     alloc: Global,
     layout: &L,
     segments: &SegmentMap,
-) -> Result<String> {
+) -> Result<String, AllocError> {
     match layout.display_tree_with_segments(alloc, segments) {
-        Ok(text) => Ok(String::from_str(alloc, text.as_str())?),
-        Err(error) => Ok(fault(alloc, &error)?),
+        Ok(text) => String::from_str(alloc, text.as_str()),
+        Err(error) => fault(alloc, &error),
     }
 }

@@ -1,13 +1,14 @@
 //! What layouts are built in.
 
-use crate::given::{cut, encodings};
+use crate::given::{encodings, push};
 use anyhow::{Context, Error, Result};
 use std::alloc::{AllocError, Global};
+use vx_case_lines::cut;
 use vx_layout::{
     LayoutBuildContext, LayoutContext, LayoutEncoding, LayoutSession, LayoutSessionExt, Scope,
     Session,
 };
-use vx_model::Text;
+use vx_model::{ArrayContext, Text};
 
 const IDS: &str =
     "vortex.flat vortex.chunked vortex.struct vortex.list vortex.dict vortex.zoned vortex.stats";
@@ -15,7 +16,7 @@ const IDS: &str =
 fn texts(alloc: Global, words: &str) -> Result<Vec<Text>, AllocError> {
     let mut texts = Vec::new(alloc);
     for word in words.split_whitespace() {
-        texts.push(Text::from_str(alloc, word)?)?;
+        push(&mut texts, Text::from_str(alloc, word)?)?;
     }
     Ok(texts)
 }
@@ -42,7 +43,12 @@ pub(crate) fn session(alloc: Global) -> Result<Session, AllocError> {
 pub(crate) fn scope(alloc: Global) -> Result<Scope> {
     let ids = ids(alloc)?;
     let encodings = encodings(alloc)?;
-    Ok(Scope::new(&ids, &encodings, &session(alloc)?, false)?)
+    scope_of(alloc, &ids, &encodings)
+}
+
+fn scope_of(alloc: Global, ids: &LayoutContext, encodings: &ArrayContext) -> Result<Scope> {
+    let session = session(alloc)?;
+    Ok(Scope::new(ids, encodings, &session, false)?)
 }
 
 /// What a kind is built in where no aggregate is known.
@@ -71,17 +77,35 @@ fn is_known<S: LayoutSessionExt>(session: &S, id: &str) -> bool {
 
 pub(crate) fn registered(alloc: Global, args: &str) -> Result<String> {
     let (kind, id) = cut(args);
-    let kind = kind_in(alloc, kind)?;
+    let layouts = alone(alloc, kind)?;
+    Ok(found(alloc, &layouts, id)?)
+}
+
+/// The kind is registered, and no other.
+fn alone(alloc: Global, id: &str) -> Result<LayoutSession> {
+    let kind = kind_in(alloc, id)?;
     let mut layouts = LayoutSession::empty(alloc);
     layouts.register(kind)?;
+    Ok(layouts)
+}
+
+fn found(alloc: Global, layouts: &LayoutSession, id: &str) -> Result<String, AllocError> {
     match layouts.registry().find(id) {
-        Some(found) => Ok(format!(in alloc; "{found}")?),
-        None => Ok(String::from_str(alloc, "nothing")?),
+        Some(found) => format!(in alloc; "{found}"),
+        None => String::from_str(alloc, "nothing"),
     }
 }
 
 pub(crate) fn copied_scope(alloc: Global, id: &str) -> Result<String> {
-    let copy = scope(alloc)?.clone()?;
+    let copy = scope_copy(alloc)?;
+    scope_text(alloc, &copy, id)
+}
+
+fn scope_copy(alloc: Global) -> Result<Scope> {
+    Ok(scope(alloc)?.clone()?)
+}
+
+fn scope_text(alloc: Global, copy: &Scope, id: &str) -> Result<String> {
     let count = copy.ids.ids().len();
     let place = copy.ids.place(id);
     let aggregates = copy.context.aggregates.len();

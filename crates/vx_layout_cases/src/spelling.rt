@@ -1,18 +1,19 @@
 //! Layouts, nodes and metadata as bytes.
 
 use crate::children::node_in;
-use crate::given::{bytes_in, cut, encodings};
+use crate::given::{bytes_in, encodings};
 use crate::sessions::{ids, session};
 use crate::shown::slots;
 use anyhow::{Error, Result, bail};
 use bytes::Bytes;
 use std::alloc::{AllocError, Global};
+use vx_case_lines::{boxed, cut};
 use vx_layout::{
-    DictLayoutMetadata, FlatLayoutMetadata, Layout, LegacyStatsMetadata, Limits,
-    ListLayoutMetadata, RawNode, ZonedMetadata, layout_bytes, layout_from_flatbuffer, read_nodes,
-    write_node,
+    DictLayoutMetadata, FlatLayoutMetadata, Layout, LayoutContext, LegacyStatsMetadata, Limits,
+    ListLayoutMetadata, RawNode, Session, ZonedMetadata, layout_bytes, layout_from_flatbuffer,
+    read_nodes, write_node,
 };
-use vx_model::PType;
+use vx_model::{DType, PType};
 
 fn shown(alloc: Global, bytes: &[u8]) -> Result<String, AllocError> {
     let text = hex::encode(alloc, bytes)?;
@@ -21,40 +22,61 @@ fn shown(alloc: Global, bytes: &[u8]) -> Result<String, AllocError> {
 
 pub(crate) fn again(alloc: Global, layout: &Layout) -> Result<String> {
     let bytes = spelled(alloc, layout)?;
-    same_as(alloc, &parsed(alloc, layout, &bytes)?, &bytes)
+    let read = boxed(alloc, parsed(alloc, layout.dtype(), &bytes)?)?;
+    same_as(alloc, &read, &bytes)
 }
 
 /// The slots of the layout, where it has these bytes.
 fn same_as(alloc: Global, layout: &Layout, bytes: &[u8]) -> Result<String> {
-    if spelled(alloc, layout)?.as_slice() != bytes {
+    let again = spelled(alloc, layout)?;
+    if again.as_slice() != bytes {
         return Err(Error::msg("other bytes"));
     }
     slots(alloc, layout)
 }
 
 fn spelled(alloc: Global, layout: &Layout) -> Result<Vec<u8>> {
-    Ok(layout_bytes(alloc, layout, &ids(alloc)?)?)
+    let ids = ids(alloc)?;
+    Ok(layout_bytes(alloc, layout, &ids)?)
 }
 
-/// What the bytes of the layout are, where each kind is registered.
-fn parsed(alloc: Global, layout: &Layout, bytes: &[u8]) -> Result<Layout> {
+/// What the bytes of a layout of the type are, where each kind is registered.
+fn parsed(alloc: Global, dtype: &DType, bytes: &[u8]) -> Result<Layout> {
     let ids = ids(alloc)?;
     let session = session(alloc)?;
+    parsed_in(alloc, dtype, bytes, &ids, &session)
+}
+
+fn parsed_in(
+    alloc: Global,
+    dtype: &DType,
+    bytes: &[u8],
+    ids: &LayoutContext,
+    session: &Session,
+) -> Result<Layout> {
     let encodings = encodings(alloc)?;
-    let limits = Limits::default();
-    let dtype = layout.dtype();
     let bytes = Bytes::copy_from_slice(alloc, bytes)?;
-    Ok(layout_from_flatbuffer(alloc, bytes, dtype, &ids, &encodings, &session, limits)?)
+    let limits = Limits::default();
+    Ok(layout_from_flatbuffer(alloc, bytes, dtype, ids, &encodings, session, limits)?)
 }
 
 pub(crate) fn node(alloc: Global, word: &str) -> Result<String> {
-    let bytes = write_node(alloc, &node_in(alloc, word)?)?;
+    let bytes = node_bytes(alloc, word)?;
     let mut out = shown(alloc, &bytes)?;
-    push_node(
-        &mut out,
-        &read_nodes(alloc, Bytes::from_vec(bytes)?, Limits::default())?,
-    )?;
+    push_nodes(alloc, &mut out, bytes)?;
     Ok(out)
+}
+
+fn node_bytes(alloc: Global, word: &str) -> Result<Vec<u8>> {
+    let node = node_in(alloc, word)?;
+    Ok(write_node(alloc, &node)?)
+}
+
+/// What is read from the bytes, in a line of its own.
+fn push_nodes(alloc: Global, out: &mut String, bytes: Vec<u8>) -> Result<()> {
+    let bytes = Bytes::from_vec(bytes)?;
+    let node = read_nodes(alloc, bytes, Limits::default())?;
+    Ok(push_node(out, &node)?)
 }
 
 fn push_node(out: &mut String, node: &RawNode) -> Result<(), AllocError> {

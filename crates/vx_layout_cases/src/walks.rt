@@ -1,15 +1,17 @@
 //! Children by their slots, and walks over trees.
 
-use crate::shown::slots;
-use anyhow::Result;
+ghost use Rattle.std.specs.Iterator.{IsFinite};
+
+use anyhow::{Result, bail};
 use std::alloc::{AllocError, Global};
+use vx_case_lines::boxed;
 use vx_layout::{Layout, LayoutChild, LayoutWalk};
 
-/// The slots of a layout by itself that equals what stands in the slot.
-pub(crate) fn in_slot(alloc: Global, layout: &Layout, slot: u64) -> Result<String> {
-    match layout.slot(slot)? {
-        Some(child) => slots(alloc, &child.into_layout()?),
-        None => Ok(String::from_str(alloc, "nothing")?),
+/// A layout by itself that equals what stands in the slot.
+pub(crate) fn in_slot(layout: &Layout, slot: &str) -> Result<Layout> {
+    match layout.slot(slot.parse::<u64>()?)? {
+        Some(child) => Ok(child.into_layout()?),
+        None => bail!("nothing"),
     }
 }
 
@@ -19,17 +21,27 @@ pub(crate) fn present(alloc: Global, layout: &Layout) -> Result<String> {
 }
 
 pub(crate) fn walk(alloc: Global, layout: &Layout) -> Result<String> {
-    let mut out = String::new(alloc);
-    for node in layout.depth_first_traversal(alloc) {
-        push_id(&mut out, node)?;
-    }
-    Ok(out)
+    Ok(ids(alloc, layout.depth_first_traversal(alloc))?)
 }
 
-fn push_id(out: &mut String, node: Result<LayoutChild<'_>, AllocError>) -> Result<(), AllocError> {
-    let node = node?;
-    if !out.is_empty() {
-        out.push_str(" ")?;
+/// The ids of the nodes.
+fn ids<'a, I: Iterator<Item = Result<LayoutChild<'a>, AllocError>>>(
+    alloc: Global,
+    nodes: I,
+) -> Result<String, AllocError>
+    requires can { I.can_next nodes }
+    requires ends { IsFinite (I.remaining nodes) }
+{
+    let mut ids = String::new(alloc);
+    for node in nodes {
+        push_id(&mut ids, boxed(alloc, node?)?)?;
     }
-    out.push_str(node.layout().encoding_id())
+    Ok(ids)
+}
+
+fn push_id(ids: &mut String, node: Box<LayoutChild<'_>>) -> Result<(), AllocError> {
+    if !ids.is_empty() {
+        ids.push_str(" ")?;
+    }
+    ids.push_str(node.layout().encoding_id())
 }

@@ -1,9 +1,9 @@
 //! Aggregates by their names.
 
-use crate::given::dtype;
 use serde_json::Value;
 use std::alloc::{AllocError, Global};
 use vx_aggregate::{AggregateFn, SpecError, default_zoned_aggregate_fns};
+use vx_model::DType;
 use vx_strategy_json::read_aggregate;
 
 /// The aggregate that its id and its options name.
@@ -15,15 +15,20 @@ fn again(
     Ok(AggregateFn::from_spec(aggregate.id(), &options))
 }
 
+fn read(alloc: Global, given: &str) -> anyhow::Result<AggregateFn> {
+    let value = Value::from_str(alloc, given)?;
+    Ok(read_aggregate(&value)?)
+}
+
 pub(crate) fn aggregate(alloc: Global, given: &str) -> anyhow::Result<String> {
-    let aggregate = read_aggregate(&Value::from_str(alloc, given)?)?;
+    let aggregate = read(alloc, given)?;
     let again = again(alloc, aggregate)? == Ok(aggregate);
     Ok(format!(in alloc; "{aggregate}, again {again}")?)
 }
 
-pub(crate) fn zoned(alloc: Global, given: &str) -> anyhow::Result<String> {
-    let kept = default_zoned_aggregate_fns(alloc, &dtype(alloc, given)?)?;
-    Ok(shown(alloc, &kept)?)
+pub(crate) fn zoned(alloc: Global, dtype: &DType) -> Result<String, AllocError> {
+    let kept = default_zoned_aggregate_fns(alloc, dtype)?;
+    shown(alloc, &kept)
 }
 
 /// The aggregates, one behind the other.

@@ -1,13 +1,15 @@
 //! A case and its answer.
 
-use crate::given::cut;
-use crate::{aggregates, fields, overrides, paths, standing, strategies, tables};
+use crate::given::dtype;
+use crate::{aggregates, fields, overrides, paths, strategies, tables};
 use anyhow::{Context, bail};
 use std::alloc::Global;
+use vx_case_lines::{cut, is_case};
+use vx_model::DType;
 
 /// The line of the answer; nothing where the line is no case.
 pub(crate) fn answer(alloc: Global, line: &str) -> anyhow::Result<String> {
-    if line.is_empty() || line.starts_with('#') {
+    if !is_case(line) {
         return Ok(String::new(alloc));
     }
     let (name, rest) = cut(line);
@@ -22,17 +24,26 @@ fn answer_to(alloc: Global, word: &str, given: &str) -> anyhow::Result<String> {
         "child" => paths::child(alloc, given),
         "mask" => fields::mask_answer(alloc, given),
         "aggregate" => aggregates::aggregate(alloc, given),
-        "zoned" => aggregates::zoned(alloc, given),
-        "table" => tables::table(alloc, given),
-        "legacy" => tables::legacy(alloc, given),
+        "zoned" | "table" | "legacy" | "block" => of_type(alloc, word, given),
         "stat" => tables::stat(alloc, given),
         "stats" => tables::stats(alloc, given),
-        "block" => strategies::block(alloc, given),
         "overrides" => overrides::overridden(alloc, given),
-        "copy" => strategies::copied(alloc, given),
-        "dispatch" => standing::dispatched(alloc, given),
-        "field" => strategies::field(alloc, given),
+        "copy" | "dispatch" | "field" => strategies::told(alloc, word, given),
         "defaults" => strategies::defaults(alloc),
         _ => bail!("no word {word}"),
+    }
+}
+
+fn of_type(alloc: Global, word: &str, given: &str) -> anyhow::Result<String> {
+    let (of, rest) = given.split_once(" / ").unwrap_or((given, ""));
+    let dtype = dtype(alloc, of)?;
+    answer_of(alloc, word, &dtype, rest)
+}
+
+fn answer_of(alloc: Global, word: &str, of: &DType, given: &str) -> anyhow::Result<String> {
+    match word {
+        "zoned" => Ok(aggregates::zoned(alloc, of)?),
+        "block" => Ok(strategies::block(alloc, of, given)?),
+        _ => tables::table(alloc, word, of, given),
     }
 }

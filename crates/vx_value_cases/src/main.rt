@@ -28,7 +28,6 @@ mod fields;
 mod given;
 mod overrides;
 mod paths;
-mod standing;
 mod strategies;
 mod tables;
 

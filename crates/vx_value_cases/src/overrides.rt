@@ -1,8 +1,8 @@
 //! Writers of paths in tables.
 
-use crate::given::parts;
 use crate::strategies::flat;
 use std::alloc::{AllocError, Global};
+use vx_case_lines::parts;
 use vx_field_path::FieldPath;
 use vx_model::Text;
 use vx_strategy::{BuildError, TableStrategy};

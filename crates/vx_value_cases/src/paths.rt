@@ -1,7 +1,7 @@
 //! Paths.
 
-use crate::given::parts;
 use std::alloc::{AllocError, Global};
+use vx_case_lines::parts;
 use vx_path::owned::{Path, path_le};
 
 fn path(alloc: Global, text: &str) -> anyhow::Result<Path> {
@@ -14,12 +14,6 @@ fn path(alloc: Global, text: &str) -> anyhow::Result<Path> {
     Ok(Path::from_slice(alloc, &numbers)?)
 }
 
-pub(crate) fn compared(alloc: Global, given: &str) -> anyhow::Result<String> {
-    let (one, other) = parts(given)?;
-    let one = path(alloc, one)?;
-    Ok(compared_to(alloc, &one, &path(alloc, other)?)?)
-}
-
 fn compared_to(alloc: Global, one: &Path, other: &Path) -> Result<String, AllocError> {
     let less = one < other;
     let equal = one == other;
@@ -28,16 +22,36 @@ fn compared_to(alloc: Global, one: &Path, other: &Path) -> Result<String, AllocE
     format!(in alloc; "less {less}, equal {equal}, at most {most}, at least {least}")
 }
 
-pub(crate) fn child(alloc: Global, given: &str) -> anyhow::Result<String> {
-    let (stem, rest) = parts(given)?;
-    let (index, copied) = parts(rest)?;
+fn compared_with(alloc: Global, one: &Path, other: &str) -> anyhow::Result<String> {
+    let other = path(alloc, other)?;
+    Ok(compared_to(alloc, one, &other)?)
+}
+
+pub(crate) fn compared(alloc: Global, given: &str) -> anyhow::Result<String> {
+    let (one, other) = parts(given)?;
+    let one = path(alloc, one)?;
+    compared_with(alloc, &one, other)
+}
+
+fn child_of(alloc: Global, stem: &str, index: u64) -> anyhow::Result<Path> {
     let stem = path(alloc, stem)?;
-    let child = Path::child(alloc, stem.as_slice(), index.parse::<u64>()?)?;
-    Ok(copied_as(alloc, &child, &path(alloc, copied)?)?)
+    Ok(Path::child(alloc, stem.as_slice(), index)?)
 }
 
 fn copied_as(alloc: Global, child: &Path, path: &Path) -> Result<String, AllocError> {
     let copy = path.clone()?;
     let is_copy = copy == *child;
     format!(in alloc; "{child:?}, a copy {is_copy}")
+}
+
+fn copied_from(alloc: Global, child: &Path, copied: &str) -> anyhow::Result<String> {
+    let copied = path(alloc, copied)?;
+    Ok(copied_as(alloc, child, &copied)?)
+}
+
+pub(crate) fn child(alloc: Global, given: &str) -> anyhow::Result<String> {
+    let (stem, rest) = parts(given)?;
+    let (index, copied) = parts(rest)?;
+    let child = child_of(alloc, stem, index.parse::<u64>()?)?;
+    copied_from(alloc, &child, copied)
 }

@@ -1,12 +1,15 @@
-//! Strategies that a caller makes, by what no job asks for.
+//! Strategies, and what stands for a table at a type.
 
-use crate::given::{dtype, parts, strategy};
+use crate::given::{dtype, strategy};
+use anyhow::bail;
 use std::alloc::{AllocError, Global};
-use vx_model::Text;
+use vx_case_lines::{boxed, parts};
+use vx_model::{DType, Text};
 use vx_strategy::{
     BuildError, DictLayoutOptions, FlatLayoutStrategy, RepartitionWriterOptions, Strategy,
     StructStrategy, ZonedLayoutOptions, dict_layout_supported,
 };
+use vx_table_dispatch::dispatch;
 
 pub(crate) fn flat() -> Strategy {
     FlatLayoutStrategy::default().into_strategy()
@@ -22,12 +25,16 @@ fn blocks_aiming_at(target: Option<u64>) -> RepartitionWriterOptions {
     }
 }
 
-pub(crate) fn block(alloc: Global, given: &str) -> anyhow::Result<String> {
-    let (of, target) = parts(given)?;
-    let dtype = dtype(alloc, of)?;
-    let rows = blocks_aiming_at(target.parse().ok()).effective_block_len(&dtype);
-    let dictionary = dict_layout_supported(&dtype);
-    Ok(format!(in alloc; "{rows} rows, dictionary {dictionary}")?)
+pub(crate) fn block(alloc: Global, dtype: &DType, target: &str) -> Result<String, AllocError> {
+    let rows = blocks_aiming_at(target.parse().ok()).effective_block_len(dtype);
+    let dictionary = dict_layout_supported(dtype);
+    format!(in alloc; "{rows} rows, dictionary {dictionary}")
+}
+
+pub(crate) fn defaults(alloc: Global) -> anyhow::Result<String> {
+    let most = DictLayoutOptions::default().constraints.max_len;
+    let rows = ZonedLayoutOptions::default().block_size;
+    Ok(format!(in alloc; "dictionary {most}, zone {rows}")?)
 }
 
 /// A strategy of structs that has a writer of the fields of this name.
@@ -69,37 +76,69 @@ fn within<'a>(strategy: &'a Strategy, field: &Text) -> Option<&'a Strategy> {
 }
 
 /// The kind of the strategy, and of what stands within.
-pub(crate) fn kinds(
-    alloc: Global,
-    strategy: &Strategy,
-    field: &Text,
-) -> Result<String, AllocError> {
-    match within(strategy, field) {
-        Some(inner) => format!(in alloc; "{}, {}", kind(strategy), kind(inner)),
-        None => String::from_str(alloc, kind(strategy)),
+fn kinds(alloc: Global, strategy: &Strategy, field: &str) -> anyhow::Result<String> {
+    let field = Text::from_str(alloc, field)?;
+    match within(strategy, &field) {
+        Some(inner) => Ok(format!(in alloc; "{}, {}", kind(strategy), kind(inner))?),
+        None => Ok(String::from_str(alloc, kind(strategy))?),
     }
 }
 
-fn is_copied(alloc: Global, strategy: &Strategy) -> Result<bool, AllocError> {
-    let copy = strategy.clone()?;
-    let text = format!(in alloc; "{copy:?}")?;
-    Ok(text.as_str() == format!(in alloc; "{strategy:?}")?.as_str())
+/// The kind of the strategy, and whether the copy has its text.
+fn compared(alloc: Global, strategy: &Strategy, copy: &Strategy) -> anyhow::Result<String> {
+    let text = format!(in alloc; "{strategy:?}")?;
+    let same = format!(in alloc; "{copy:?}")?.as_str() == text.as_str();
+    Ok(format!(in alloc; "{}, {same}", kind(strategy))?)
 }
 
-pub(crate) fn copied(alloc: Global, given: &str) -> anyhow::Result<String> {
-    let strategy = strategy(alloc, given)?;
-    let same = is_copied(alloc, &strategy)?;
-    Ok(format!(in alloc; "{}, {same}", kind(&strategy))?)
+/// What the table stands for at the type.
+fn at_type(alloc: Global, table: &Strategy, given: &str) -> anyhow::Result<Strategy> {
+    let Strategy::Table(table) = table else {
+        bail!("no table");
+    };
+    let (of, _) = parts(given)?;
+    let dtype = dtype(alloc, of)?;
+    Ok(dispatch(table, &dtype)?)
 }
 
-pub(crate) fn field(alloc: Global, given: &str) -> anyhow::Result<String> {
-    let copy = by_name(alloc, given)?.clone()?;
-    let name = Text::from_str(alloc, given)?;
-    Ok(kinds(alloc, &copy, &name)?)
+/// What the strategy stands for, or a copy of it.
+fn made(alloc: Global, word: &str, of: &Strategy, given: &str) -> anyhow::Result<Strategy> {
+    match word {
+        "dispatch" => at_type(alloc, of, given),
+        _ => Ok(of.clone()?),
+    }
 }
 
-pub(crate) fn defaults(alloc: Global) -> anyhow::Result<String> {
-    let most = DictLayoutOptions::default().constraints.max_len;
-    let rows = ZonedLayoutOptions::default().block_size;
-    Ok(format!(in alloc; "dictionary {most}, zone {rows}")?)
+fn shown(
+    alloc: Global,
+    word: &str,
+    of: &Strategy,
+    made: &Strategy,
+    given: &str,
+) -> anyhow::Result<String> {
+    match word {
+        "copy" => compared(alloc, of, made),
+        "dispatch" => kinds(alloc, made, parts(given)?.1),
+        _ => kinds(alloc, made, given),
+    }
+}
+
+fn told_of(alloc: Global, word: &str, of: &Strategy, given: &str) -> anyhow::Result<String> {
+    let made = boxed(alloc, made(alloc, word, of, given)?)?;
+    shown(alloc, word, of, &made, given)
+}
+
+/// The strategy that the word asks about.
+fn asked(alloc: Global, word: &str, text: &str) -> anyhow::Result<Strategy> {
+    match word {
+        "field" => Ok(by_name(alloc, text)?),
+        _ => strategy(alloc, text),
+    }
+}
+
+/// Of the words `copy`, `field` and `dispatch`.
+pub(crate) fn told(alloc: Global, word: &str, given: &str) -> anyhow::Result<String> {
+    let (text, rest) = given.split_once(" / ").unwrap_or((given, given));
+    let strategy = boxed(alloc, asked(alloc, word, text)?)?;
+    told_of(alloc, word, &strategy, rest)
 }

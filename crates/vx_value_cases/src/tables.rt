@@ -1,10 +1,10 @@
 //! The tables that aggregates and statistics fill.
 
-use crate::given::{cut, dtype, parts};
 use anyhow::{Context, bail};
 use serde_json::Value;
 use std::alloc::{AllocError, Global};
 use vx_aggregate::{AggregateFn, Stat, aggregate_stats_table_dtype, legacy_stats_table_dtype};
+use vx_case_lines::cut;
 use vx_model::DType;
 use vx_strategy_json::read_aggregate;
 
@@ -49,17 +49,20 @@ fn fields_of(alloc: Global, dtype: &DType) -> Result<String, AllocError> {
     Ok(text)
 }
 
-pub(crate) fn table(alloc: Global, given: &str) -> anyhow::Result<String> {
-    let (of, by) = parts(given)?;
-    let aggregates = aggregates(alloc, by)?;
-    let table = aggregate_stats_table_dtype(alloc, &dtype(alloc, of)?, &aggregates)?;
-    Ok(fields_of(alloc, &table)?)
+/// The table of aggregates, or of statistics.
+fn table_by(alloc: Global, word: &str, of: &DType, by: &str) -> anyhow::Result<DType> {
+    if word == "table" {
+        let aggregates = aggregates(alloc, by)?;
+        Ok(aggregate_stats_table_dtype(alloc, of, &aggregates)?)
+    } else {
+        let stats = stats_of(alloc, by)?;
+        Ok(legacy_stats_table_dtype(alloc, of, &stats)?)
+    }
 }
 
-pub(crate) fn legacy(alloc: Global, given: &str) -> anyhow::Result<String> {
-    let (of, by) = parts(given)?;
-    let stats = stats_of(alloc, by)?;
-    let table = legacy_stats_table_dtype(alloc, &dtype(alloc, of)?, &stats)?;
+/// Of the words `table` and `legacy`.
+pub(crate) fn table(alloc: Global, word: &str, of: &DType, by: &str) -> anyhow::Result<String> {
+    let table = table_by(alloc, word, of, by)?;
     Ok(fields_of(alloc, &table)?)
 }
 

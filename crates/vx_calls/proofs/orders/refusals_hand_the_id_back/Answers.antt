@@ -20,8 +20,8 @@ refused-id-requires-clause-active g c =
     let active = rw c.expect-id.ensures at c.advance.ensures.active in
     rw (active, id) (advanced_id c.new-order.result.universe c.expect-universe.result.1)
 
-pub written-receipt-requires-clause-active : goal.written-receipt-requires-clause-active
-written-receipt-requires-clause-active g c =
+pub written-requires-clause-active : goal.written-requires-clause-active
+written-requires-clause-active g c =
     let id = rw c.expect-id.ensures at c.advance.ensures.id in
     let active = rw c.expect-id.ensures at c.advance.ensures.active in
     rw (c.refused-id.ensures.active, c.refused-id.ensures.id, active, id) (advanced_id c.new-order.result.universe c.expect-universe.result.1)
@@ -34,7 +34,7 @@ descend-requires g c =
     let active = rw c.expect-id.ensures at c.advance.ensures.active in
     let first : c.refused-id.result.0 ≡ 0 ∷ [] = c.refused-id.ensures.id ∙ id ∙ ap eof_path made.1 in
     let second : c.downgrade.result ≡ 1 ∷ [] = c.downgrade.ensures ∙ ap eof_path (pointer ∙ ap next made.1) in
-    rw (c.written-receipt.ensures, c.refused-id.ensures.active)
+    rw (c.written.ensures, c.refused-id.ensures.active)
     (released_active c.advance.new.self.universe c.refused-id.result.0 c.downgrade.result
     (λ e. absurd (omega (arith, ap (λ r. get_or r 0 9) (sym second ∙ e ∙ first))))
     (rw (active, c.downgrade.ensures, pointer) (next_active c.new-order.result.universe c.expect-universe.result.1)))
@@ -43,11 +43,11 @@ pub refused-id-requires-2-clause-active : goal.refused-id-requires-2-clause-acti
 refused-id-requires-2-clause-active g c =
     let pointer = rw c.expect-below.ensures at c.descend.ensures.pointer in
     let active = rw c.expect-below.ensures at c.descend.ensures.active in
-    rw (active, c.downgrade-2.ensures, pointer.0, pointer.1) (child_active c.written-receipt.new.order.universe c.downgrade.result)
+    rw (active, c.downgrade-2.ensures, pointer.0, pointer.1) (child_active c.written.new.order.universe c.downgrade.result)
 
 pub release-requires : goal.release-requires
 release-requires g c =
     let pointer = rw c.expect-below.ensures at c.descend.ensures.pointer in
     let active = rw c.expect-below.ensures at c.descend.ensures.active in
     rw (c.refused-id-2.ensures.active, c.refused-id-2.ensures.id, active, c.downgrade-2.ensures, pointer.0, pointer.1)
-    (child_active c.written-receipt.new.order.universe c.downgrade.result)
+    (child_active c.written.new.order.universe c.downgrade.result)

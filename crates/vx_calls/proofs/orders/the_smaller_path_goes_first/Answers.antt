@@ -26,21 +26,21 @@ waits-second-requires-clause-active g c =
     let universe = rw c.expect-off.ensures at c.split.ensures.universe in
     rw (c.new-order.ensures.universe, universe, c.downgrade-second.ensures, parts.1) (second_active c.expect-universe.result.0 c.expect-universe.result.1)
 
-pub written-receipt-requires-clause-active : goal.written-receipt-requires-clause-active
-written-receipt-requires-clause-active g c =
+pub written-requires-clause-active : goal.written-requires-clause-active
+written-requires-clause-active g c =
     let parts = rw c.expect-off.ensures at c.split.ensures.parts in
     let universe = rw c.expect-off.ensures at c.split.ensures.universe in
     rw (c.waits-second.ensures.active, c.new-order.ensures.universe, universe, c.downgrade-first.ensures, parts.0)
     (first_active c.expect-universe.result.0 c.expect-universe.result.1)
 
-pub written-receipt-requires-2-clause-active : goal.written-receipt-requires-2-clause-active
-written-receipt-requires-2-clause-active g c =
+pub written-requires-2-clause-active : goal.written-requires-2-clause-active
+written-requires-2-clause-active g c =
     let made = rw c.expect-universe.ensures at c.root.ensures.root in
     let parts = rw c.expect-off.ensures at c.split.ensures.parts in
     let universe = rw c.expect-off.ensures at c.split.ensures.universe in
     let first : c.downgrade-first.result ≡ 0 ∷ 0 ∷ [] = c.downgrade-first.ensures ∙ ap eof_path (parts.0 ∙ ap inside made.1) in
     let second : c.downgrade-second.result ≡ 1 ∷ [] = c.downgrade-second.ensures ∙ ap eof_path (parts.1 ∙ ap next made.1) in
-    rw (c.written-receipt.ensures, c.waits-second.ensures.active, c.waits-second.ensures.id)
+    rw (c.written.ensures, c.waits-second.ensures.active, c.waits-second.ensures.id)
     (released_active c.new-order.result.universe c.downgrade-first.result c.downgrade-second.result
     (λ e. absurd (omega (arith, ap (λ r. get_or r 0 9) (sym second ∙ e ∙ first))))
     (rw (c.new-order.ensures.universe, universe, c.downgrade-second.ensures, parts.1)
