@@ -1,0 +1,6 @@
+mod Standing
+mod Stepping
+mod Noting
+mod Ending
+mod Causing
+mod Fitting
