@@ -1,0 +1,4 @@
+pub mod Stocks
+pub mod MoveLaws
+pub mod CallLaws
+pub mod Lists

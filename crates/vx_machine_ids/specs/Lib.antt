@@ -1,0 +1,3 @@
+pub mod Stock
+pub mod Balance
+pub mod Laws
