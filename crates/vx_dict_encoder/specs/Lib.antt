@@ -1,0 +1,4 @@
+pub mod Front
+pub mod Coding
+pub mod EncoderData
+pub mod Statements
