@@ -1,0 +1,14 @@
+use Rattle.vx_machine.proofs.Finishing.{done_parts, done_none}
+use Rattle.vx_machine.proofs.machine.Task.into_layout.Goals as goal
+
+pub destroy_empty-requires : goal.destroy_empty-requires
+destroy_empty-requires c = (done_parts c.args.self c.requires).alone
+
+pub destroy_empty-requires-2 : goal.destroy_empty-requires-2
+destroy_empty-requires-2 c = (done_parts c.args.self c.requires).idle
+
+pub destroy_empty-requires-3 : goal.destroy_empty-requires-3
+destroy_empty-requires-3 c = (done_parts c.args.self c.requires).empty
+
+pub returns : goal.returns
+returns c = done_none c.args.self c.requires
