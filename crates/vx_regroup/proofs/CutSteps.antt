@@ -9,8 +9,9 @@ use Rattle.vx_model.specs.ChunkData.{ChunkData, plain_piece}
 use Rattle.vx_model.specs.declared.cell.Cell.{Cell}
 use Rattle.vx_model.specs.TreeView.{tree}
 use Rattle.vx_layout_spec.proofs.CellsFit.{all_take, all_drop, all_append}
-use Rattle.vx_rules.specs.Blocks.{block_sizes, tested_sizes, check_points, cut_off, left_over}
-use Rattle.vx_regroup.specs.Rules.{sizes_behind, tested_behind}
+use Rattle.vx_rules.specs.Blocks.{block_sizes, tested_sizes, check_points, sizes_at, cut_off, left_over}
+use Rattle.vx_plan.specs.GroupNode.{tested_at as tested_by}
+use Rattle.vx_regroup.specs.Rules.{exactly}
 use Rattle.vx_regroup.proofs.WalkSteps.{walk_rules}
 use Rattle.vx_regroup.proofs.Lists.{drop_both, take_both}
 
@@ -87,10 +88,10 @@ module _ (cells rows added : List Cell) (held : ℕ) (whole : cells ≡ rows ++ 
       let c : length (map tree added) ≡ length added = length-map added tree in
       ap₂ (check_points len) (count ∙ sym (length-map rows tree)) (let e : length cells - held ≡ length (map tree added) = omega arith in e)
 
-  pub sizes_are : (len minimum : ℕ) (t : Ty) → block_sizes len minimum t 0 (map tree cells) (check_points len held (length cells - held)) ≡ sizes_behind len minimum t (map tree rows) (map tree added)
+  pub sizes_are : (len minimum : ℕ) (t : Ty) → block_sizes len minimum t 0 (map tree cells) (check_points len held (length cells - held)) ≡ sizes_at (exactly len minimum) t (map tree rows) (plain_piece t (map tree added))
   sizes_are len minimum t = ap₂ (λ (z : List CellData) (ps : List ℕ). block_sizes len minimum t 0 z ps) trees_are (points_are len)
 
-  pub tested_are : (len minimum : ℕ) (t : Ty) → tested_sizes len minimum t 0 (map tree cells) (check_points len held (length cells - held)) ≡ tested_behind len minimum t (map tree rows) (map tree added)
+  pub tested_are : (len minimum : ℕ) (t : Ty) → tested_sizes len minimum t 0 (map tree cells) (check_points len held (length cells - held)) ≡ tested_by (exactly len minimum) t (map tree rows) (plain_piece t (map tree added))
   tested_are len minimum t = ap₂ (λ (z : List CellData) (ps : List ℕ). tested_sizes len minimum t 0 z ps) trees_are (points_are len)
 
 pub ruleset left_rules = (walk_rules, left_over_is, left_fit)

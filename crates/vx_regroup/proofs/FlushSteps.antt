@@ -36,7 +36,7 @@ module _ (ks : List Kept) (total : ℕ) (c : ChunkData) (bytes : ℕ) (s : Buffe
   pub new_total : total + bytes ≡ total_by held (chunks_in ks ++ (c ∷ []))
   new_total = let a : total_by held (chunks_in ks ++ (c ∷ [])) ≡ total_by held (chunks_in ks) + held c = held-append (chunks_in ks) c in let b : total ≡ total_by held (chunks_in ks) = s.summed in omega arith
 
-  pub sum_is : bytes < 2 ^ 64 → first_past (weights (chunks_in ks) c) ≡ first_past ((total + bytes) ∷ [])
+  pub sum_is : bytes < 2 ^ 64 → first_past (weights 0 (chunks_in ks) c) ≡ first_past ((total + bytes) ∷ [])
   sum_is h =
       past_later (held c) (total_by held (chunks_in ks ++ (c ∷ [])) ∷ []) (subst (λ n. n < 2 ^ 64) e h)
       ∙ ap (λ (n : ℕ). first_past (n ∷ [])) (sym new_total)

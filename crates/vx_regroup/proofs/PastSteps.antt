@@ -7,7 +7,7 @@ use Rattle.vx_model.specs.TyLaws.{ty_eq_decides}
 use Rattle.vx_model.specs.ChunkData.{ChunkData, piece_type}
 use Rattle.vx_layout_spec.proofs.CellsFit.{all_append}
 use Rattle.vx_chunk.specs.Conditions.{are_of_type}
-use Rattle.vx_regroup.specs.declared.error.RegroupError.TheVariants.{TooLarge}
+use Rattle.vx_chunk.specs.declared.error.ChunkError.TheVariants.{TooLarge}
 use Rattle.vx_regroup.specs.Refusals.{first_past, IsTold, Refuses}
 
 pub below : (n : ℕ) → n < 2 ^ 64 → nat_lt n (2 ^ 64) ≡ true

@@ -11,8 +11,8 @@ use Rattle.vx_model.specs.declared.cell.Cell.{Cell}
 use Rattle.vx_model.specs.TreeView.{tree}
 use Rattle.vx_chunk_cells.proofs.SizeSteps.{total-append}
 use Rattle.vx_rules.specs.Blocks.{is_cut, cut_rows, block_sizes, tested_sizes, steps}
-use Rattle.vx_regroup.specs.declared.error.RegroupError.{RegroupError}
-use Rattle.vx_regroup.specs.declared.error.RegroupError.TheVariants.{TooLarge}
+use Rattle.vx_chunk.specs.declared.error.ChunkError.{ChunkError}
+use Rattle.vx_chunk.specs.declared.error.ChunkError.TheVariants.{TooLarge}
 use Rattle.vx_regroup.specs.Refusals.{first_past, Refuses}
 use Rattle.vx_regroup.specs.Walks.{Stands, sizes_with, past_with}
 use Rattle.vx_regroup.proofs.Lists.{take_both, drop_both, sum-append}
@@ -151,7 +151,7 @@ pub next_past : (len minimum : ℕ) (t : Ty) (rows : List CellData) (cut after s
     → past_with len minimum t rows after (steps (seen + len) len left ++ (last ∷ [])) ≡ all
 next_past len minimum t rows cut after seen left last all e h = h (steps (seen + len) len left ++ (last ∷ [])) ∙ e
 
-pub next_refused : (len minimum : ℕ) (t : Ty) (rows : List CellData) (cut seen left last : ℕ) (all : Option ℕ) (error : RegroupError)
+pub next_refused : (len minimum : ℕ) (t : Ty) (rows : List CellData) (cut seen left last : ℕ) (all : Option ℕ) (error : ChunkError)
     → past_with len minimum t rows cut (steps seen len (suc left) ++ (last ∷ [])) ≡ all
     → ((ps : List ℕ) → Refuses (past_with len minimum t rows cut ((seen + len) ∷ ps)) error)
     → Refuses all error

@@ -1,9 +1,7 @@
 -- Which number is refused, and how it is told.
 use Rattle.std.specs.Prelude.{◌≡◌, ℕ, ◌-◌, ◌^◌, min, nat_lt, if◌then◌else◌, List, [], ◌∷◌, Option, Some, None}
 use Rattle.vx_chunk.specs.declared.error.ChunkError.{ChunkError}
-use Rattle.vx_chunk.specs.declared.error.ChunkError.TheVariants as of
-use Rattle.vx_regroup.specs.declared.error.RegroupError.{RegroupError}
-use Rattle.vx_regroup.specs.declared.error.RegroupError.TheVariants.{TooLarge, OutOfMemory}
+use Rattle.vx_chunk.specs.declared.error.ChunkError.TheVariants.{TooLarge, OutOfMemory}
 
 -- the first number that is above the greatest u64
 abbrev pub first_past : List ℕ → Option ℕ
@@ -16,10 +14,6 @@ IsTold None m = ⊥
 IsTold (Some n) m = m ≡ min n (2 ^ 128 - 1)
 
 -- refused for that number and for no other, or for want of memory
-abbrev pub Refuses : Option ℕ → RegroupError → Type 0
+abbrev pub Refuses : Option ℕ → ChunkError → Type 0
 Refuses past (TooLarge m) = IsTold past m
 Refuses past OutOfMemory = Unit {0}
-
-abbrev pub as_regroup : ChunkError → RegroupError
-as_regroup (of.TooLarge n) = TooLarge n
-as_regroup of.OutOfMemory = OutOfMemory

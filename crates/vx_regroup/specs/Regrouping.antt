@@ -3,7 +3,7 @@ use Rattle.std.specs.Prelude.{◌≡◌, ℕ, Bool, List, [], ◌∷◌}
 use Rattle.vx_model.specs.Ty.{Ty}
 use Rattle.vx_model.specs.ChunkData.{ChunkData, piece_type}
 use Rattle.vx_rules.specs.Flushes.{flushes}
-use Rattle.vx_regroup.specs.Rules.{given, block_rule, rows_after, tested_at, chunks_after, weighed_at, gathers, all_after, counted_at}
+use Rattle.vx_regroup.specs.Rules.{given, block_rule, rows_after, tested_at, chunks_after, weighed_at, collected_at, all_after, counted_at}
 use Rattle.vx_regroup.specs.declared.regroup.Regroup.{Regroup}
 use Rattle.vx_regroup.specs.declared.regroup.Regroup.TheVariants.{Repartition, Buffered, Collect}
 
@@ -30,7 +30,7 @@ Takes (Collect h) c = piece_type c ≡ h.typed
 abbrev pub given_by : Regroup → ChunkData → Bool → List ChunkData
 given_by (Repartition h) c last = given (block_rule h) h.rows c last
 given_by (Buffered h) c last = given (flushes h.size) h.chunks c last
-given_by (Collect h) c last = given (gathers h.typed) h.chunks c last
+given_by (Collect h) c last = collected_at h c last
 
 -- what is held behind it, where it isn't the last
 abbrev pub after : Regroup → ChunkData → Regroup

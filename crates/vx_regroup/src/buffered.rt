@@ -8,12 +8,11 @@ ghost use Rattle.vx_regroup.specs.Kept.{chunks_in, BufferStands};
 ghost use Rattle.vx_regroup.specs.Refusals.{first_past, Refuses};
 ghost use Rattle.vx_regroup.specs.Rules.{given, chunks_after, weights, weighed_at};
 
-use crate::error::RegroupError;
 use std::alloc::{AllocError, Global};
 use std::collections::VecDeque;
 use std::marker::Model;
 use std::mem;
-use vx_chunk::Chunk;
+use vx_chunk::{Chunk, ChunkError};
 
 /// A chunk and the bytes that it takes as it is held.
 #[derive(Drop)]
@@ -64,7 +63,7 @@ impl Buffered {
         alloc: Global,
         chunk: Chunk,
         last: bool,
-    ) -> Result<Vec<Chunk>, RegroupError>
+    ) -> Result<Vec<Chunk>, ChunkError>
         ensures gives { IfOk result (λ v. v.items ≡ given (flushes self.old.size) self.old.chunks chunk last) }
         ensures holds { OnOk result (last ≡ false → self.new ≡ chunks_after self.old chunk) }
         ensures fits { OnOk result (first_past (weighed_at self.old chunk last) ≡ None) }
@@ -92,13 +91,13 @@ fn pushed(
     chunk: Chunk,
     total: u64,
     size: u64,
-) -> Result<(Vec<Chunk>, VecDeque<Kept>, u64), RegroupError>
+) -> Result<(Vec<Chunk>, VecDeque<Kept>, u64), ChunkError>
     requires { BufferStands kept.items total }
     ensures leaves { IfOk result (λ r. r.0.items ≡ (flushes size).leaves (chunks_in kept.items) chunk) }
     ensures holds { IfOk result (λ r. chunks_in r.1.items ≡ (flushes size).holds (chunks_in kept.items) chunk) }
     ensures stands { IfOk result (λ r. BufferStands r.1.items r.2) }
-    ensures fits { OnOk result (first_past (weights (chunks_in kept.items) chunk) ≡ None) }
-    ensures refused { IfErr result (Refuses (first_past (weights (chunks_in kept.items) chunk))) }
+    ensures fits { OnOk result (first_past (weights size (chunks_in kept.items) chunk) ≡ None) }
+    ensures refused { IfErr result (Refuses (first_past (weights size (chunks_in kept.items) chunk))) }
 {
     let bytes = chunk.nbytes()?;
     let total = total_with(total, bytes)?;
@@ -111,14 +110,14 @@ fn pushed(
 
 /// The sum, where it fits 64 bits.
 #[tactic(auto, using(crate::proofs::PastSteps::past_rules))]
-fn total_with(total: u64, bytes: u64) -> Result<u64, RegroupError>
+fn total_with(total: u64, bytes: u64) -> Result<u64, ChunkError>
     ensures ok { IfOk result (λ n. n ≡ total + bytes) }
     ensures fits { OnOk result (first_past ((total + bytes) ∷ []) ≡ None) }
     ensures refused { IfErr result (Refuses (first_past ((total + bytes) ∷ []))) }
 {
     let sum = u128::from(total) + u128::from(bytes);
     if sum > u128::from(u64::MAX) {
-        return Err(RegroupError::TooLarge(sum));
+        return Err(ChunkError::TooLarge(sum));
     }
     Ok(sum as u64)
 }

@@ -7,9 +7,8 @@ ghost use Rattle.vx_chunk.specs.Conditions.{are_of_type};
 ghost use Rattle.vx_rules.specs.Flushes.{concatenated};
 ghost use Rattle.vx_regroup.specs.Held.{all_view};
 ghost use Rattle.vx_regroup.specs.Refusals.{first_past, Refuses};
-ghost use Rattle.vx_regroup.specs.Rules.{given, gathers, all_after, row_count, counted_at};
+ghost use Rattle.vx_regroup.specs.Rules.{collected_at, all_after, row_count, counted_at};
 
-use crate::error::RegroupError;
 use std::alloc::Global;
 use std::marker::Model;
 use std::mem;
@@ -54,9 +53,9 @@ impl Collect {
         alloc: Global,
         chunk: Chunk,
         last: bool,
-    ) -> Result<Vec<Chunk>, RegroupError>
+    ) -> Result<Vec<Chunk>, ChunkError>
         requires { piece_type chunk ≡ self.old.typed }
-        ensures gives { IfOk result (λ v. v.items ≡ given (gathers self.old.typed) self.old.chunks chunk last) }
+        ensures gives { IfOk result (λ v. v.items ≡ collected_at self.old chunk last) }
         ensures holds { OnOk result (last ≡ false → self.new ≡ all_after self.old chunk) }
         ensures fits { OnOk result (first_past (counted_at self.old chunk last) ≡ None) }
         ensures refused { IfErr result (Refuses (first_past (counted_at self.old chunk last))) }
@@ -73,24 +72,13 @@ impl Collect {
 
 /// The rows of all chunks in one.
 #[tactic(auto, using(crate::proofs::PastSteps::past_rules))]
-fn as_one(alloc: Global, dtype: &DType, chunks: Vec<Chunk>) -> Result<Vec<Chunk>, RegroupError>
+fn as_one(alloc: Global, dtype: &DType, chunks: Vec<Chunk>) -> Result<Vec<Chunk>, ChunkError>
     requires { IsTrue (are_of_type (ty dtype.now) chunks.items) }
     ensures one { IfOk result (λ v. v.items ≡ concatenated (ty dtype.now) chunks.items ∷ []) }
     ensures fits { OnOk result (first_past (row_count chunks.items ∷ []) ≡ None) }
     ensures refused { IfErr result (Refuses (first_past (row_count chunks.items ∷ []))) }
 {
-    match Chunk::concat(alloc, dtype.clone()?, chunks) {
-        Ok(whole) => {
-            whole.sound();
-            Ok(vec![in alloc; whole]?)
-        }
-        Err(ChunkError::TooLarge(rows)) => Err(past(rows)),
-        Err(ChunkError::OutOfMemory) => Err(RegroupError::OutOfMemory),
-    }
-}
-
-fn past(rows: u128) -> RegroupError
-    ensures { Refuses (Some rows) result }
-{
-    RegroupError::TooLarge(rows)
+    let whole = Chunk::concat(alloc, dtype.clone()?, chunks)?;
+    whole.sound();
+    Ok(vec![in alloc; whole]?)
 }

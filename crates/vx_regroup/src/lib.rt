@@ -4,13 +4,11 @@
 mod buffered;
 mod collect;
 mod cuts;
-mod error;
 mod regroup;
 mod repartition;
 mod walk;
 
 pub use buffered::Buffered;
 pub use collect::Collect;
-pub use error::RegroupError;
 pub use regroup::Regroup;
 pub use repartition::Repartition;

@@ -9,10 +9,9 @@ ghost use Rattle.vx_regroup.specs.Regrouping.{new_blocks, new_buffer, new_collec
 
 use crate::buffered::Buffered;
 use crate::collect::Collect;
-use crate::error::RegroupError;
 use crate::repartition::Repartition;
 use std::alloc::Global;
-use vx_chunk::Chunk;
+use vx_chunk::{Chunk, ChunkError};
 use vx_model::DType;
 
 /// A rule, and what it holds of the chunks that came.
@@ -57,7 +56,7 @@ impl Regroup {
         alloc: Global,
         chunk: Chunk,
         last: bool,
-    ) -> Result<Vec<Chunk>, RegroupError>
+    ) -> Result<Vec<Chunk>, ChunkError>
         requires { Takes self.old chunk }
         ensures gives { IfOk result (λ v. v.items ≡ given_by self.old chunk last) }
         ensures holds { OnOk result (last ≡ false → self.new ≡ after self.old chunk) }

@@ -1,23 +1,23 @@
 //! Rows leave in blocks of a multiple of the block length.
 
-ghost use Rattle.std.specs.Prelude.{◌≡◌, ◌<◌, ◌++◌, [], false, map, IfOk, OnOk, IfErr, IsTrue};
-ghost use Rattle.vx_model.specs.ChunkData.{piece_type};
+ghost use Rattle.std.specs.Prelude.{◌≡◌, ◌<◌, [], false, map, IfOk, OnOk, IfErr, IsTrue};
+ghost use Rattle.vx_model.specs.ChunkData.{piece_type, plain_piece};
 ghost use Rattle.vx_model.specs.TyView.{ty};
 ghost use Rattle.vx_model.specs.TreeView.{tree};
 ghost use Rattle.vx_model.specs.Words.{total_by, all_by};
 ghost use Rattle.vx_model.specs.CellData.{cell_size as size_of, fits};
-ghost use Rattle.vx_rules.specs.Blocks.{BlockOptions, block_len, blocks, cut_off, left_over};
+ghost use Rattle.vx_rules.specs.Blocks.{BlockOptions, block_len, blocks};
+ghost use Rattle.vx_plan.specs.GroupNode.{tested_at as tested_by};
 ghost use Rattle.vx_regroup.specs.Held.{rows_view};
 ghost use Rattle.vx_regroup.specs.Refusals.{first_past, Refuses};
-ghost use Rattle.vx_regroup.specs.Rules.{given, block_rule, rows_after, sizes_behind, tested_behind, tested_at};
+ghost use Rattle.vx_regroup.specs.Rules.{given, exactly, block_rule, rows_after, tested_at};
 
 use crate::cuts::{blocks_off, joined, push_last};
-use crate::error::RegroupError;
 use crate::walk::walked;
 use std::alloc::Global;
 use std::marker::Model;
 use std::mem;
-use vx_chunk::Chunk;
+use vx_chunk::{Chunk, ChunkError};
 use vx_model::{Cell, DType};
 
 /// Holds rows until they leave in blocks, which are plain.
@@ -68,7 +68,7 @@ impl Repartition {
         alloc: Global,
         chunk: Chunk,
         last: bool,
-    ) -> Result<Vec<Chunk>, RegroupError>
+    ) -> Result<Vec<Chunk>, ChunkError>
         requires { piece_type chunk ≡ self.old.typed }
         ensures gives { IfOk result (λ v. v.items ≡ given (block_rule self.old) self.old.rows chunk last) }
         ensures holds { OnOk result (last ≡ false → self.new ≡ rows_after self.old chunk) }
@@ -110,17 +110,17 @@ fn cut_behind(
     rows: Vec<Cell>,
     added: Vec<Cell>,
     total: u64,
-) -> Result<(Vec<Chunk>, Vec<Cell>, u64), RegroupError>
+) -> Result<(Vec<Chunk>, Vec<Cell>, u64), ChunkError>
     requires some { 0 < len }
     requires fit { IsTrue (all_by (fits (ty dtype.now)) (map tree rows.items)) }
     requires more_fit { IsTrue (all_by (fits (ty dtype.now)) (map tree added.items)) }
     requires summed { total ≡ total_by (size_of (ty dtype.now)) (map tree rows.items) }
-    ensures leaves { IfOk result (λ r. r.0.items ≡ cut_off (ty dtype.now) (map tree rows.items ++ map tree added.items) (sizes_behind len minimum (ty dtype.now) (map tree rows.items) (map tree added.items))) }
-    ensures left { IfOk result (λ r. map tree r.1.items ≡ left_over (map tree rows.items ++ map tree added.items) (sizes_behind len minimum (ty dtype.now) (map tree rows.items) (map tree added.items))) }
+    ensures leaves { IfOk result (λ r. r.0.items ≡ (blocks (exactly len minimum) (ty dtype.now)).leaves (map tree rows.items) (plain_piece (ty dtype.now) (map tree added.items))) }
+    ensures left { IfOk result (λ r. map tree r.1.items ≡ (blocks (exactly len minimum) (ty dtype.now)).holds (map tree rows.items) (plain_piece (ty dtype.now) (map tree added.items))) }
     ensures fit { IfOk result (λ r. IsTrue (all_by (fits (ty dtype.now)) (map tree r.1.items))) }
     ensures summed { IfOk result (λ r. r.2 ≡ total_by (size_of (ty dtype.now)) (map tree r.1.items)) }
-    ensures fits { OnOk result (first_past (tested_behind len minimum (ty dtype.now) (map tree rows.items) (map tree added.items)) ≡ None) }
-    ensures refused { IfErr result (Refuses (first_past (tested_behind len minimum (ty dtype.now) (map tree rows.items) (map tree added.items)))) }
+    ensures fits { OnOk result (first_past (tested_by (exactly len minimum) (ty dtype.now) (map tree rows.items) (plain_piece (ty dtype.now) (map tree added.items))) ≡ None) }
+    ensures refused { IfErr result (Refuses (first_past (tested_by (exactly len minimum) (ty dtype.now) (map tree rows.items) (plain_piece (ty dtype.now) (map tree added.items))))) }
 {
     let held = rows.len();
     let rows = joined(rows, added)?;

@@ -9,8 +9,8 @@ ghost use Rattle.vx_rules.specs.Blocks.{block_sizes as sizes_of, tested_sizes as
 ghost use Rattle.vx_regroup.specs.Refusals.{first_past, Refuses};
 ghost use Rattle.vx_regroup.specs.Walks.{Stands, sizes_with, past_with};
 
-use crate::error::RegroupError;
 use std::alloc::Global;
+use vx_chunk::ChunkError;
 use vx_chunk_cells::cells_size;
 use vx_model::{Cell, DType};
 
@@ -34,7 +34,7 @@ pub(crate) fn walked(
     cells: &[Cell],
     held: usize,
     total: u64,
-) -> Result<Walk, RegroupError>
+) -> Result<Walk, ChunkError>
     requires some { 0 < len }
     requires within { held ≤ length cells.now }
     requires summed { total ≡ total_by (size_of (ty dtype.now)) (take held (map tree cells.now)) }
@@ -67,7 +67,7 @@ fn check(
     minimum: u64,
     cells: &[Cell],
     point: usize,
-) -> Result<(), RegroupError>
+) -> Result<(), ChunkError>
     requires some { 0 < len }
     requires order { walk.old.seen ≤ point }
     requires within { point ≤ length cells.now }
@@ -85,7 +85,7 @@ fn check(
     let added = size_between(dtype, cells, walk.seen, point);
     let total = u128::from(walk.total).saturating_add(added);
     if total > u128::from(u64::MAX) {
-        return Err(RegroupError::TooLarge(total));
+        return Err(ChunkError::TooLarge(total));
     }
     let rows = point - walk.cut;
     if rows < len || total < u128::from(minimum) {

@@ -3,9 +3,10 @@ use Rattle.vx_model.specs.Words.{all_by}
 use Rattle.vx_model.specs.CellData.{fits}
 use Rattle.vx_model.specs.TyView.{ty}
 use Rattle.vx_model.specs.TreeView.{tree}
-use Rattle.vx_rules.specs.Blocks.{cut_off, left_over}
+use Rattle.vx_model.specs.ChunkData.{plain_piece}
+use Rattle.vx_rules.specs.Blocks.{sizes_at, cut_off, left_over}
 use Rattle.vx_regroup.specs.Refusals.{first_past, Refuses}
-use Rattle.vx_regroup.specs.Rules.{sizes_behind}
+use Rattle.vx_regroup.specs.Rules.{exactly}
 use Rattle.std.proofs.lemmas.Result.{err_from_is_err_and}
 use Rattle.vx_regroup.proofs.CutSteps.{left_over_is, left_fit, trees_are, sizes_are, tested_are}
 use Rattle.vx_regroup.proofs.repartition.cut_behind.Goals as goal
@@ -22,7 +23,7 @@ pub returns-clause-left : goal.returns-clause-left
 returns-clause-left c =
     let count : c.len-held.result ≡ length c.args.rows.items = search rules in
     let x : c.deref.result.now ≡ c.args.rows.items ++ c.args.added.items = c.deref.ensures.value ∙ c.in_ok-rows.ensures in
-    let sizes : c.in_ok-walk.walk.sizes.items ≡ sizes_behind c.args.len c.args.minimum (ty c.args.dtype.now) (map tree c.args.rows.items) (map tree c.args.added.items)
+    let sizes : c.in_ok-walk.walk.sizes.items ≡ sizes_at (exactly c.args.len c.args.minimum) (ty c.args.dtype.now) (map tree c.args.rows.items) (plain_piece (ty c.args.dtype.now) (map tree c.args.added.items))
     = c.in_ok-walk.ensures.sizes ∙ sizes_are c.deref.result.now c.args.rows.items c.args.added.items c.len-held.result x count c.args.len c.args.minimum (ty c.args.dtype.now) in
     c.in_ok-blocks.ensures.left
     ∙ ap₂ drop (sym c.in_ok-walk.ensures.stands.cut_is) (trees_are c.in_ok-rows.rows.items c.args.rows.items c.args.added.items c.len-held.result c.in_ok-rows.ensures count)

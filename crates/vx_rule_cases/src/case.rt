@@ -1,0 +1,48 @@
+//! A case and its answer.
+
+use crate::given::{Stream, batches_in, dtype_in};
+use crate::{rules, table, tallies};
+use anyhow::Context;
+use serde_json::Value;
+use std::alloc::Global;
+use vx_case_lines::{boxed, cut, is_case};
+use vx_model::DType;
+
+/// The lines of the answer; none where the line is no case.
+pub(crate) fn answer(alloc: Global, line: &str) -> anyhow::Result<String> {
+    if !is_case(line) {
+        return Ok(String::new(alloc));
+    }
+    let (name, rest) = cut(line);
+    answer_to(alloc, name, rest).context(format_args!("in the line {line}"))
+}
+
+fn answer_to(alloc: Global, name: &str, rest: &str) -> anyhow::Result<String> {
+    let (words, object) = rest.split_once(" = ").unwrap_or((rest, ""));
+    let (word, given) = cut(words);
+    if word == "tally" {
+        return tallies::told(alloc, name, given);
+    }
+    let object = Value::from_str(alloc, object)?;
+    let dtype = boxed(alloc, dtype_in(alloc, &object)?)?;
+    of_batches(alloc, name, word, given, &dtype, batches_in(&object)?)
+}
+
+fn of_batches(
+    alloc: Global,
+    name: &str,
+    word: &str,
+    given: &str,
+    dtype: &DType,
+    batches: &[Value],
+) -> anyhow::Result<String> {
+    let stream = Stream {
+        name,
+        dtype,
+        batches,
+    };
+    match word {
+        "table" => table::told(alloc, stream),
+        _ => rules::told(alloc, word, given, stream),
+    }
+}

@@ -1,0 +1,39 @@
+//! Answers cases on standard input: what rules in memory, tables of cells and tallies give.
+//!
+//! A case is a line `NAME WORD GIVEN.. = OBJECT`. The object says a type (`schema`) and chunks of it as batches of a job
+//! (`batches`), which are handed over in order, the last one as the last. A line of the answer tells the batch at which
+//! a chunk leaves, its rank there, its place, and the chunk: encoding, type and cells, of many the first and the last.
+//! Where a batch is refused, the last line says why. Empty lines and those that begin with `#` are left out.
+//!
+//! | word | given | answer |
+//! |---|---|---|
+//! | `blocks` | rows of a block, its least bytes, and where a size is aimed at, that | the blocks, of `Regroup` and of `Repartition` |
+//! | `held` | a size in bytes | the chunks that leave, of `Regroup` and of `Buffered` |
+//! | `joined` | | the chunk of all, of `Regroup` and of `Collect` |
+//! | `fields` | | the columns of structs |
+//! | `lists` | | the columns of lists |
+//! | `runs` | the bytes that distinct cells cost at most, their greatest number | the codes and the values of runs |
+//! | `table` | | the place of each cell in a table that takes those that are new, and the table's cells |
+//! | `tally` | calls, their numbers behind colons; no object | the answers |
+#![tactic(auto)]
+
+mod case;
+mod given;
+mod lines;
+mod rule;
+mod rules;
+mod shown;
+mod table;
+mod tallies;
+
+use std::io;
+
+fn main(rt: HostRuntime) -> anyhow::Result<()> {
+    let alloc = rt.alloc();
+    let cases = io::read_to_string(alloc, rt.stdin())?;
+    for line in cases.lines() {
+        let text = case::answer(alloc, line)?;
+        print!(rt; "{text}")?;
+    }
+    Ok(())
+}

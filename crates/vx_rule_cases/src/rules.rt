@@ -1,0 +1,165 @@
+//! Which rule a word names.
+
+ghost use Rattle.std.specs.Prelude.{◌<◌, IsTrue};
+ghost use Rattle.vx_model.specs.Ty.{is_list};
+ghost use Rattle.vx_model.specs.TyView.{ty};
+ghost use Rattle.vx_model.specs.ChunkData.{is_dict_type};
+
+use crate::given::Stream;
+use crate::lines::lines;
+use anyhow::{Error, bail};
+use std::alloc::{AllocError, Global};
+use vx_case_lines::cut;
+use vx_chunk_cells::is_dict_type;
+use vx_regroup::{Buffered, Collect, Regroup, Repartition};
+use vx_runs::RunCutter;
+use vx_split::{ColumnSplit, ListSplit, SplitError};
+use vx_strategy_options::{DictLayoutConstraints, RepartitionWriterOptions};
+
+pub(crate) fn told(
+    alloc: Global,
+    word: &str,
+    given: &str,
+    stream: Stream,
+) -> anyhow::Result<String> {
+    match word {
+        "blocks" => blocks(alloc, given, stream),
+        "held" => held(alloc, given.parse::<u64>()?, stream),
+        "joined" => joined(alloc, stream),
+        "fields" => fields(alloc, stream),
+        "lists" => lists(alloc, stream),
+        "runs" => runs(alloc, given, stream),
+        _ => bail!("no word {word}"),
+    }
+}
+
+/// The text, where both calls give it.
+fn agreed(one: String, other: String) -> anyhow::Result<String> {
+    if one.as_str() != other.as_str() {
+        return Err(Error::msg("the two calls differ"));
+    }
+    Ok(one)
+}
+
+fn blocks(alloc: Global, given: &str, stream: Stream) -> anyhow::Result<String> {
+    let (rows, rest) = cut(given);
+    let (minimum, target) = cut(rest);
+    let options = RepartitionWriterOptions {
+        block_size_minimum: minimum.parse::<u64>()?,
+        block_len_multiple: rows.parse::<u64>()?,
+        block_size_target: target.parse::<u64>().ok(),
+        canonicalize: false,
+    };
+    let len = options.effective_block_len(stream.dtype);
+    if len == 0 {
+        bail!("no rows");
+    }
+    let one = regrouped_blocks(alloc, len, options.block_size_minimum, stream)?;
+    agreed(
+        one,
+        own_blocks(alloc, len, options.block_size_minimum, stream)?,
+    )
+}
+
+fn regrouped_blocks(
+    alloc: Global,
+    len: u64,
+    minimum: u64,
+    stream: Stream,
+) -> Result<String, AllocError>
+    requires { 0 < len }
+{
+    let mut rule = Regroup::repartition(alloc, stream.dtype.clone()?, len, minimum);
+    lines(alloc, &mut rule, stream)
+}
+
+fn own_blocks(alloc: Global, len: u64, minimum: u64, stream: Stream) -> Result<String, AllocError>
+    requires { 0 < len }
+{
+    let mut rule = Repartition::new(alloc, stream.dtype.clone()?, len, minimum);
+    lines(alloc, &mut rule, stream)
+}
+
+fn held(alloc: Global, size: u64, stream: Stream) -> anyhow::Result<String> {
+    let one = regrouped_held(alloc, size, stream)?;
+    agreed(one, own_held(alloc, size, stream)?)
+}
+
+fn regrouped_held(alloc: Global, size: u64, stream: Stream) -> Result<String, AllocError> {
+    let mut rule = Regroup::buffered(alloc, size);
+    lines(alloc, &mut rule, stream)
+}
+
+fn own_held(alloc: Global, size: u64, stream: Stream) -> Result<String, AllocError> {
+    let mut rule = Buffered::new(alloc, size);
+    lines(alloc, &mut rule, stream)
+}
+
+fn joined(alloc: Global, stream: Stream) -> anyhow::Result<String> {
+    let one = regrouped_all(alloc, stream)?;
+    agreed(one, own_all(alloc, stream)?)
+}
+
+fn regrouped_all(alloc: Global, stream: Stream) -> Result<String, AllocError> {
+    let mut rule = Regroup::collect(alloc, stream.dtype.clone()?);
+    lines(alloc, &mut rule, stream)
+}
+
+fn own_all(alloc: Global, stream: Stream) -> Result<String, AllocError> {
+    let mut rule = Collect::new(alloc, stream.dtype.clone()?);
+    lines(alloc, &mut rule, stream)
+}
+
+fn fields(alloc: Global, stream: Stream) -> anyhow::Result<String> {
+    match ColumnSplit::new(alloc, stream.dtype.clone()?) {
+        Ok(mut rule) => Ok(lines(alloc, &mut rule, stream)?),
+        Err(refused) => Ok(refusal(alloc, stream.name, &refused)?),
+    }
+}
+
+/// Why there is no splitter, with the name that is there twice.
+fn refusal(alloc: Global, name: &str, refused: &SplitError) -> Result<String, AllocError> {
+    match refused {
+        SplitError::DuplicateField(field) => {
+            format!(in alloc; "{name}: {refused}, {}\n", field.as_str())
+        }
+        _ => format!(in alloc; "{name}: {refused}\n"),
+    }
+}
+
+fn lists(alloc: Global, stream: Stream) -> anyhow::Result<String> {
+    if !stream.dtype.is_list() {
+        bail!("no list");
+    }
+    Ok(list_columns(alloc, stream)?)
+}
+
+fn list_columns(alloc: Global, stream: Stream) -> Result<String, AllocError>
+    requires { IsTrue (is_list (ty stream.dtype.now)) }
+{
+    let mut rule = ListSplit::new(stream.dtype.clone()?);
+    lines(alloc, &mut rule, stream)
+}
+
+fn runs(alloc: Global, given: &str, stream: Stream) -> anyhow::Result<String> {
+    let (bytes, len) = cut(given);
+    let limits = DictLayoutConstraints {
+        max_bytes: bytes.parse::<u64>()?,
+        max_len: len.parse::<u16>()?,
+    };
+    if !is_dict_type(stream.dtype) {
+        bail!("no type of a dictionary");
+    }
+    Ok(run_outputs(alloc, limits, stream)?)
+}
+
+fn run_outputs(
+    alloc: Global,
+    limits: DictLayoutConstraints,
+    stream: Stream,
+) -> Result<String, AllocError>
+    requires { IsTrue (is_dict_type (ty stream.dtype.now)) }
+{
+    let mut rule = RunCutter::new(alloc, limits, stream.dtype.clone()?);
+    lines(alloc, &mut rule, stream)
+}
