@@ -26,6 +26,7 @@ pub mod layout {
     pub use vx_layout_codec::{
         layout_bytes, layout_from_flatbuffer, layout_from_flatbuffer_with_options,
     };
+    pub use vx_layout_fields::LayoutFields;
     pub use vx_layout_slots::{
         ChildNames, ChildRowOffsets, ChildTypes, LayoutChildType, LayoutSlots,
     };

@@ -61,13 +61,15 @@ impl DictEncoder {
 
     /// The codes of the longest front of the rows with which the distinct cells fit, as a plain chunk, and how many rows
     /// it has; its cells stand in the dictionary then. Takes time by the rows. Those that are held as cells are looked
-    /// at where they are; only what is new to the dictionary is copied. After an error nothing is known of its cells.
+    /// at where they are; only what is new to the dictionary is copied. After an error the
+    /// dictionary has no cells.
     #[tactic(auto, using(crate::proofs::Encoders::encode_rules))]
     pub fn encode(&mut self, alloc: Global, rows: &Chunk) -> Result<(Chunk, u64), ChunkError>
         requires { piece_type rows.now ≡ self.old.typed }
         ensures codes { IfOk result (λ r. r.0 ≡ codes_piece (options_of self.old) (front_at self.old rows.now).0) }
         ensures count { IfOk result (λ r. r.1 ≡ length (front_at self.old rows.now).0) }
         ensures holds { OnOk result (self.new ≡ with_distinct self.old (front_at self.old rows.now).1) }
+        ensures err { OnErr result (self.new ≡ with_distinct self.old []) }
         ensures memory { IfErr result (λ e. e ≡ ChunkError.OutOfMemory) }
     {
         rows.sound();

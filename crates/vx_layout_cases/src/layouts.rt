@@ -3,12 +3,13 @@
 ghost use Rattle.std.specs.Prelude.{◌≤◌, length, IsTrue, IfOk};
 ghost use Rattle.vx_metadata.specs.Values.{are_in_order};
 
-use crate::children::children_in;
-use crate::given::{NUMBERS, TEXTS, dtype_in, encodings, leaf, leaf_with, leaves, place, push};
 use crate::parts::built;
 use anyhow::{Error, Result, bail};
 use std::alloc::{AllocError, Global};
 use std::num::NonZeroU32;
+use vx_case_layouts::{
+    NUMBERS, TEXTS, children_in, dtype_in, encodings, leaf, leaf_with, leaves, place, push,
+};
 use vx_case_lines::{boxed, cut};
 use vx_layout::{
     AggregateFn, ChunkedLayout, DictLayout, FlatLayout, ForeignLayout, Layout, LegacyStatsLayout,

@@ -54,7 +54,6 @@
 mod answers;
 mod case;
 mod children;
-mod given;
 mod layouts;
 mod own;
 mod parts;

@@ -1,8 +1,8 @@
 //! What layouts of one kind tell besides what all do.
 
-use crate::given::leaves;
 use anyhow::{Result, bail};
 use std::alloc::Global;
+use vx_case_layouts::leaves;
 use vx_layout::{ChunkedLayout, Layout, LegacyStatsLayout, ListLayout, ZonedLayout};
 
 pub(crate) fn own(alloc: Global, layout: &Layout) -> Result<String> {

@@ -1,10 +1,8 @@
 //! Layouts that kinds build of parts.
 
-use crate::children::children_in;
-use crate::given::{bytes_in, dtype_in};
-use crate::sessions::{build_context, kind_in};
 use anyhow::Result;
 use std::alloc::Global;
+use vx_case_layouts::{build_context, bytes_in, children_in, dtype_in, kind_in};
 use vx_case_lines::cut;
 use vx_layout::{Layout, LayoutDeserializeArgs, LayoutEncodingExt, LayoutError, LayoutParts};
 

@@ -3,9 +3,9 @@
 //! The segments are numbered from the first word on. A segment is cells with commas between them, encoded as `bool` where
 //! the first one is `true`, else as `i8?`; or bytes.
 
-use crate::given::{FLAGS, MAYBE, bytes_in, encodings, push};
 use anyhow::{Error, Result};
 use std::alloc::{AllocError, Global};
+use vx_case_layouts::{FLAGS, MAYBE, bytes_in, encodings, push};
 use vx_case_lines::{boxed, cut};
 use vx_chunk::Chunk;
 use vx_layout::{Layout, LayoutDisplay, ReadError, SegmentMap, read_rows};

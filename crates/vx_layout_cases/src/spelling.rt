@@ -1,12 +1,10 @@
 //! Layouts, nodes and metadata as bytes.
 
-use crate::children::node_in;
-use crate::given::{bytes_in, encodings};
-use crate::sessions::{ids, session};
 use crate::shown::slots;
 use anyhow::{Error, Result, bail};
 use bytes::Bytes;
 use std::alloc::{AllocError, Global};
+use vx_case_layouts::{bytes_in, encodings, ids, node_in, session};
 use vx_case_lines::{boxed, cut};
 use vx_layout::{
     DictLayoutMetadata, FlatLayoutMetadata, Layout, LayoutContext, LegacyStatsMetadata, Limits,

@@ -1,7 +1,7 @@
 //! A case and its answer.
 
 use crate::given::dtype;
-use crate::{aggregates, fields, overrides, paths, strategies, tables};
+use crate::{aggregates, fields, matching, overrides, paths, strategies, tables};
 use anyhow::{Context, bail};
 use std::alloc::Global;
 use vx_case_lines::{cut, is_case};
@@ -24,7 +24,7 @@ fn answer_to(alloc: Global, word: &str, given: &str) -> anyhow::Result<String> {
         "child" => paths::child(alloc, given),
         "mask" => fields::mask_answer(alloc, given),
         "aggregate" => aggregates::aggregate(alloc, given),
-        "zoned" | "table" | "legacy" | "block" => of_type(alloc, word, given),
+        "fields" | "zoned" | "table" | "legacy" | "block" => of_type(alloc, word, given),
         "stat" => tables::stat(alloc, given),
         "stats" => tables::stats(alloc, given),
         "overrides" => overrides::overridden(alloc, given),
@@ -42,6 +42,7 @@ fn of_type(alloc: Global, word: &str, given: &str) -> anyhow::Result<String> {
 
 fn answer_of(alloc: Global, word: &str, of: &DType, given: &str) -> anyhow::Result<String> {
     match word {
+        "fields" => matching::matched_fields(alloc, of, given),
         "zoned" => Ok(aggregates::zoned(alloc, of)?),
         "block" => Ok(strategies::block(alloc, of, given)?),
         _ => tables::table(alloc, word, of, given),

@@ -12,7 +12,7 @@ fn path(alloc: Global, words: &str) -> Result<FieldPath, AllocError> {
     Ok(FieldPath::from(names))
 }
 
-fn mask(alloc: Global, text: &str) -> Result<FieldMask, AllocError> {
+pub(crate) fn mask(alloc: Global, text: &str) -> Result<FieldMask, AllocError> {
     if let Some(names) = text.strip_prefix("prefix") {
         Ok(FieldMask::Prefix(path(alloc, names)?))
     } else if let Some(names) = text.strip_prefix("exact") {
@@ -23,7 +23,7 @@ fn mask(alloc: Global, text: &str) -> Result<FieldMask, AllocError> {
 }
 
 /// The mask as it is given, and `-` for none.
-fn shown(alloc: Global, mask: Option<FieldMask>) -> Result<String, AllocError> {
+pub(crate) fn shown(alloc: Global, mask: Option<FieldMask>) -> Result<String, AllocError> {
     match mask {
         None => String::from_str(alloc, "-"),
         Some(FieldMask::All) => String::from_str(alloc, "all"),

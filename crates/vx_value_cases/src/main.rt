@@ -8,6 +8,7 @@
 //! | `compare` | two paths, `-` being the empty one | whether the first is less, equal, at most, at least the second |
 //! | `child` | a path, an index, a path | the child of the first at the index, and whether it is a copy of the second |
 //! | `mask` | `all`, or `prefix` or `exact` and names | the mask below the first name, whether it takes all fields, the first name |
+//! | `fields` | a struct type that isn't nullable, masks | of a struct layout the numbers of the fields that are meant, each with the mask as seen from it, or the name that isn't there |
 //! | `aggregate` | an aggregate | its text, and whether its id and options name it |
 //! | `zoned` | a type | the aggregates that are kept of the type |
 //! | `table` | a type, aggregates | the fields of the zone table; nullable ones have a `?` |
@@ -26,6 +27,7 @@ mod aggregates;
 mod case;
 mod fields;
 mod given;
+mod matching;
 mod overrides;
 mod paths;
 mod strategies;

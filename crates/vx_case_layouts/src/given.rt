@@ -5,15 +5,15 @@ use std::alloc::{AllocError, Global};
 use vx_layout::{FlatLayout, Layout};
 use vx_model::{ArrayContext, Blob, DType, EncodingId, Nullability, PType, SegmentId};
 
-pub(crate) const NUMBERS: DType = DType::Primitive(PType::U8, Nullability::NonNullable);
+pub const NUMBERS: DType = DType::Primitive(PType::U8, Nullability::NonNullable);
 
-pub(crate) const TEXTS: DType = DType::Utf8(Nullability::NonNullable);
+pub const TEXTS: DType = DType::Utf8(Nullability::NonNullable);
 
-pub(crate) const MAYBE: DType = DType::Primitive(PType::I8, Nullability::Nullable);
+pub const MAYBE: DType = DType::Primitive(PType::I8, Nullability::Nullable);
 
-pub(crate) const FLAGS: DType = DType::Bool(Nullability::NonNullable);
+pub const FLAGS: DType = DType::Bool(Nullability::NonNullable);
 
-pub(crate) fn dtype_in(word: &str) -> Result<DType> {
+pub fn dtype_in(word: &str) -> Result<DType> {
     match word {
         "u8" => Ok(NUMBERS),
         "i8?" => Ok(MAYBE),
@@ -23,19 +23,19 @@ pub(crate) fn dtype_in(word: &str) -> Result<DType> {
     }
 }
 
-pub(crate) fn bytes_in(alloc: Global, word: &str) -> Result<Vec<u8>> {
+pub fn bytes_in(alloc: Global, word: &str) -> Result<Vec<u8>> {
     let text = word.strip_prefix("x").context("no bytes")?;
     Ok(hex::decode(alloc, text)?)
 }
 
 /// All encodings.
-pub(crate) fn encodings(alloc: Global) -> Result<ArrayContext> {
+pub fn encodings(alloc: Global) -> Result<ArrayContext> {
     let ids = Vec::from_slice(alloc, EncodingId::ALL.as_slice())?;
     Ok(ArrayContext::try_new(ids)?)
 }
 
 /// So many rows, and their segment.
-pub(crate) fn place(text: &str) -> Result<(u64, SegmentId)> {
+pub fn place(text: &str) -> Result<(u64, SegmentId)> {
     let (rows, segment) = text.split_once(':').context("no segment")?;
     Ok((rows.parse::<u64>()?, SegmentId(segment.parse::<u32>()?)))
 }
@@ -49,7 +49,7 @@ fn tree_in(alloc: Global, text: &str) -> Result<Option<Blob>> {
 }
 
 /// The leaf with an array tree.
-pub(crate) fn leaf_with(alloc: Global, word: &str, tree: &str) -> Result<Layout> {
+pub fn leaf_with(alloc: Global, word: &str, tree: &str) -> Result<Layout> {
     let (dtype, text) = word.split_once(':').context("no type")?;
     let (rows, segment) = place(text)?;
     let tree = tree_in(alloc, tree)?;
@@ -58,11 +58,11 @@ pub(crate) fn leaf_with(alloc: Global, word: &str, tree: &str) -> Result<Layout>
     Ok(FlatLayout::new_with_metadata(rows, dtype, segment, encodings, tree).into_layout())
 }
 
-pub(crate) fn leaf(alloc: Global, word: &str) -> Result<Layout> {
+pub fn leaf(alloc: Global, word: &str) -> Result<Layout> {
     leaf_with(alloc, word, "")
 }
 
-pub(crate) fn leaves(alloc: Global, text: &str) -> Result<Vec<Layout>> {
+pub fn leaves(alloc: Global, text: &str) -> Result<Vec<Layout>> {
     let mut leaves = Vec::new(alloc);
     for word in text.split_whitespace() {
         push(&mut leaves, leaf(alloc, word)?)?;
@@ -71,7 +71,7 @@ pub(crate) fn leaves(alloc: Global, text: &str) -> Result<Vec<Layout>> {
 }
 
 /// Puts the item behind the others.
-pub(crate) fn push<T: Drop>(items: &mut Vec<T>, item: T) -> Result<(), AllocError> {
+pub fn push<T: Drop>(items: &mut Vec<T>, item: T) -> Result<(), AllocError> {
     items.push(item)?;
     Ok(())
 }

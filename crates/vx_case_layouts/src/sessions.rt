@@ -1,0 +1,63 @@
+//! What layouts are built in.
+
+use crate::given::{encodings, push};
+use anyhow::{Context, Error, Result};
+use std::alloc::{AllocError, Global};
+use vx_layout::{LayoutBuildContext, LayoutContext, LayoutEncoding, LayoutSession, Scope, Session};
+use vx_model::{ArrayContext, Text};
+
+const IDS: &str =
+    "vortex.flat vortex.chunked vortex.struct vortex.list vortex.dict vortex.zoned vortex.stats";
+
+fn texts(alloc: Global, words: &str) -> Result<Vec<Text>, AllocError> {
+    let mut texts = Vec::new(alloc);
+    for word in words.split_whitespace() {
+        push(&mut texts, Text::from_str(alloc, word)?)?;
+    }
+    Ok(texts)
+}
+
+/// The ids of all kinds.
+pub fn ids(alloc: Global) -> Result<LayoutContext> {
+    let ids = texts(alloc, IDS)?;
+    if !LayoutContext::is_context(alloc, &ids)? {
+        return Err(Error::msg("an id is there twice"));
+    }
+    Ok(LayoutContext::new(ids))
+}
+
+/// All kinds and the maximum.
+pub fn session(alloc: Global) -> Result<Session, AllocError> {
+    Ok(Session {
+        layouts: LayoutSession::default(alloc)?,
+        aggregates: texts(alloc, "vortex.max")?,
+        allow_unknown: false,
+    })
+}
+
+/// The same, with the ids of all kinds.
+pub fn scope(alloc: Global) -> Result<Scope> {
+    let ids = ids(alloc)?;
+    let encodings = encodings(alloc)?;
+    scope_of(alloc, &ids, &encodings)
+}
+
+fn scope_of(alloc: Global, ids: &LayoutContext, encodings: &ArrayContext) -> Result<Scope> {
+    let session = session(alloc)?;
+    Ok(Scope::new(ids, encodings, &session, false)?)
+}
+
+/// What a kind is built in where no aggregate is known.
+pub fn build_context(alloc: Global) -> Result<LayoutBuildContext> {
+    Ok(LayoutBuildContext {
+        array_ctx: encodings(alloc)?,
+        aggregates: Vec::new(alloc),
+        allow_unknown: false,
+    })
+}
+
+/// The kind that has the id.
+pub fn kind_in(alloc: Global, id: &str) -> Result<LayoutEncoding> {
+    let layouts = LayoutSession::default(alloc)?;
+    layouts.registry().find(id).context("no such kind")
+}

@@ -1,0 +1,3 @@
+pub mod SameSteps
+pub mod CodeSteps
+pub mod ImageSteps

@@ -1,0 +1,2 @@
+pub mod GuardView
+pub mod Causes

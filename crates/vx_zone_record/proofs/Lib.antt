@@ -1,0 +1,13 @@
+pub mod BoundSteps
+pub mod FilterSteps
+pub mod FoldSteps
+pub mod HeldSteps
+pub mod OrderSteps
+pub mod RecordSteps
+pub mod RowValues
+pub mod ScalarSteps
+pub mod StateFits
+pub mod SumSteps
+pub mod TextSteps
+pub mod ValueSteps
+pub mod Walks

@@ -1,0 +1,16 @@
+//! Records of zones: one value for each aggregate of a column, folded over the zone's rows.
+#![tactic(auto)]
+
+mod bounds;
+mod error;
+mod filter;
+mod folds;
+mod held;
+mod row;
+mod scalar;
+mod values;
+mod zones;
+
+pub use error::RecordError;
+pub use held::held_aggregates;
+pub use zones::{cells_record, zone_record};

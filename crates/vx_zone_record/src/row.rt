@@ -1,0 +1,53 @@
+//! What a column's rows can be held as.
+
+ghost use Rattle.std.specs.Prelude.{◌≡◌};
+ghost use Rattle.vx_zone_record.specs.Scalars.{scalar_value, shallow};
+
+use crate::scalar::Scalar;
+use vx_model::{Cell, Value};
+
+/// A row of a column. A cell is read as a reader sees it.
+pub(crate) trait Row {
+    ghost use Rattle.vx_model.specs.ValueData.{ValueData};
+
+    // the value that a reader sees
+    ghost seen: { Self → ValueData };
+
+    fn scalar(&self) -> Scalar<'_>
+        ensures { scalar_value result ≡ shallow (seen self.now) };
+}
+
+impl Row for Value {
+    ghost use Rattle.vx_model.specs.TreeView.{val};
+
+    ghost seen = { val };
+
+    fn scalar(&self) -> Scalar<'_> {
+        match self {
+            Value::Null => Scalar::Null,
+            Value::Bool(b) => Scalar::Bool(*b),
+            Value::Int(n) => Scalar::Int(*n),
+            Value::Utf8(text) => Scalar::Utf8(text),
+            Value::Binary(bytes) => Scalar::Binary(bytes),
+            Value::List(_) | Value::Struct(_) => Scalar::Nested,
+        }
+    }
+}
+
+impl Row for Cell {
+    ghost use Rattle.vx_model.specs.ValueData.{value};
+    ghost use Rattle.vx_model.specs.TreeView.{tree};
+
+    ghost seen = { λ c. value (tree c) };
+
+    fn scalar(&self) -> Scalar<'_> {
+        match self {
+            Cell::Null | Cell::List(false, _) | Cell::Struct(false, _) => Scalar::Null,
+            Cell::Bool(b) => Scalar::Bool(*b),
+            Cell::Int(n) => Scalar::Int(*n),
+            Cell::Utf8(text) => Scalar::Utf8(text),
+            Cell::Binary(bytes) => Scalar::Binary(bytes),
+            Cell::List(true, _) | Cell::Struct(true, _) => Scalar::Nested,
+        }
+    }
+}
