@@ -23,9 +23,9 @@ use Rattle.vx_fault.specs.Counts.{Counts, IsCalm}
 use Rattle.vx_fault.specs.Fails.{fails_at}
 use Rattle.vx_fault.specs.Told.{before_told, then_told}
 use Rattle.vx_write.specs.Stream.{Planned, Wrote, HasCause, MayCome, BehindBatch, TookLast, TookRows, NeedsNumber, Stands, is_built}
-use Rattle.vx_write.specs.Causes.{is_source_fault, is_sink_fault, is_unbuilt}
-use Rattle.vx_write.specs.declared.error.WriteError.{WriteError}
-use Rattle.vx_write.specs.declared.error.WriteError.TheVariants as errors
+use Rattle.vx_write_answer.specs.Causes.{is_source_fault, is_sink_fault, is_unbuilt}
+use Rattle.vx_write_answer.specs.declared.error.WriteError.{WriteError}
+use Rattle.vx_write_answer.specs.declared.error.WriteError.TheVariants as errors
 use Rattle.vx_write.proofs.Bridge.{built}
 use Rattle.vx_job.specs.JobParts.{FailingCalls}
 use Rattle.vx_job.specs.JobText.{JobData}
@@ -260,6 +260,7 @@ cause_for errors.ManyChunks j taken stand now a c is came count memory of_source
 cause_for errors.EmptyList j taken stand now a c is came count memory of_source of_sink unasked cause may = absurd cause
 cause_for (errors.ZoneCut n) j taken stand now a c is came count memory of_source of_sink unasked cause may = absurd cause
 cause_for (errors.ForbiddenAggregate id) j taken stand now a c is came count memory of_source of_sink unasked cause may = absurd cause
+cause_for (errors.Stopped column name) j taken stand now a c is came count memory of_source of_sink unasked cause may = absurd cause
 cause_for (errors.ForbiddenEncoding id) j taken stand now a c is came count memory of_source of_sink unasked cause may = record { batch = cause.batch; last = last_is j taken a c is came cause.last; typed = cause.typed; first = cause.first }
 cause_for (errors.TooLarge n) j taken stand now a c is came count memory of_source of_sink unasked cause may = large_for j taken stand n now a c is came count cause
 cause_for errors.OutOfMemory j taken stand now a c is came count memory of_source of_sink unasked cause may = absurd (let f : true ≡ false = memory in cc)

@@ -1,9 +1,9 @@
 -- What a write tells of faults, taken apart.
 use Rattle.std.proofs.Common.{ℕ, ◌+◌, ◌<◌, refl, arith}
 use Rattle.vx_fault.specs.Faults.{FaultsTold}
-use Rattle.vx_write.specs.declared.error.WriteError.{WriteError}
-use Rattle.vx_write.specs.declared.error.WriteError.TheVariants.{SourceFault, SinkFault, CompressFault, BatchType, NotStruct, DuplicateField, ManyChunks, EmptyList, ZoneCut, ForbiddenAggregate, ForbiddenEncoding, TooLarge, OutOfMemory, Unbuilt}
-use Rattle.vx_write.specs.Causes.{is_source_fault, is_sink_fault}
+use Rattle.vx_write_answer.specs.declared.error.WriteError.{WriteError}
+use Rattle.vx_write_answer.specs.declared.error.WriteError.TheVariants.{SourceFault, SinkFault, CompressFault, BatchType, NotStruct, DuplicateField, ManyChunks, EmptyList, ZoneCut, ForbiddenAggregate, ForbiddenEncoding, TooLarge, OutOfMemory, Unbuilt}
+use Rattle.vx_write_answer.specs.Causes.{is_source_fault, is_sink_fault}
 use Rattle.vx_write.specs.Stream.{MayCome, BehindBatch, asked_before}
 
 -- where a fault may come

@@ -16,10 +16,10 @@ use Rattle.vx_plan.specs.Valid.{Valid}
 use Rattle.vx_fault.specs.Fails.{fails_at}
 use Rattle.vx_setting.specs.Setting.{real}
 use Rattle.vx_write.specs.Stream.{is_built}
-use Rattle.vx_write.specs.Causes.{is_unbuilt}
+use Rattle.vx_write_answer.specs.Causes.{is_unbuilt}
 use Rattle.vx_write.specs.InOrder.{AllWritten}
-use Rattle.vx_write.specs.declared.error.WriteError.{WriteError}
-use Rattle.vx_write.specs.declared.error.WriteError.TheVariants as errors
+use Rattle.vx_write_answer.specs.declared.error.WriteError.{WriteError}
+use Rattle.vx_write_answer.specs.declared.error.WriteError.TheVariants as errors
 use Rattle.vx_job.specs.declared.error.Key.{Key}
 use Rattle.vx_job.specs.JobParts.{failing}
 use Rattle.vx_job.specs.JobText.{JobData}
@@ -93,6 +93,7 @@ refusal_name (errors.ForbiddenEncoding id) = codes "ForbiddenEncoding"
 refusal_name (errors.TooLarge n) = codes "TooLarge"
 refusal_name errors.OutOfMemory = codes "OutOfMemory"
 refusal_name errors.Unbuilt = codes "Unbuilt"
+refusal_name (errors.Stopped column name) = codes "Stopped"
 
 abbrev pub is_memory : WriteError → Bool
 is_memory errors.OutOfMemory = true
@@ -144,6 +145,7 @@ RefusedFor j taken stand errors.ManyChunks = ⊥
 RefusedFor j taken stand errors.EmptyList = ⊥
 RefusedFor j taken stand (errors.ZoneCut n) = ⊥
 RefusedFor j taken stand (errors.ForbiddenAggregate id) = ⊥
+RefusedFor j taken stand (errors.Stopped column name) = ⊥
 RefusedFor j taken stand errors.OutOfMemory = ⊥
 
 -- How often the source gave a batch before the refusal, where so many segments stand: once for each, and once more where

@@ -155,6 +155,7 @@ fn refusal_name(error: &WriteError) -> &'static str
         WriteError::TooLarge(_) => "TooLarge",
         WriteError::OutOfMemory => "OutOfMemory",
         WriteError::Unbuilt => "Unbuilt",
+        WriteError::Stopped(_, _) => "Stopped",
     }
 }
 

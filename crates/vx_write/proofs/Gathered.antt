@@ -3,9 +3,9 @@ use Rattle.std.proofs.Common.{◌≡◌, ℕ, zero, suc, ◌+◌, ◌-◌, ◌<�
 use Rattle.std.specs.Prelude.{IsTrue}
 use Rattle.vx_fault.specs.Counts.{Counts}
 use Rattle.vx_fault.specs.Faults.{FaultsTold}
-use Rattle.vx_write.specs.declared.error.WriteError.{WriteError}
-use Rattle.vx_write.specs.declared.error.WriteError.TheVariants.{SourceFault, SinkFault, CompressFault, BatchType, NotStruct, DuplicateField, ManyChunks, EmptyList, ZoneCut, ForbiddenAggregate, ForbiddenEncoding, TooLarge, OutOfMemory, Unbuilt}
-use Rattle.vx_write.specs.Causes.{is_source_fault, is_sink_fault}
+use Rattle.vx_write_answer.specs.declared.error.WriteError.{WriteError}
+use Rattle.vx_write_answer.specs.declared.error.WriteError.TheVariants.{SourceFault, SinkFault, CompressFault, BatchType, NotStruct, DuplicateField, ManyChunks, EmptyList, ZoneCut, ForbiddenAggregate, ForbiddenEncoding, TooLarge, OutOfMemory, Unbuilt, Stopped}
+use Rattle.vx_write_answer.specs.Causes.{is_source_fault, is_sink_fault}
 use Rattle.vx_write.specs.Stream.{MayCome, BehindBatch, asked_before}
 
 never : {A : Type 0} → IsTrue false → A
@@ -43,6 +43,7 @@ source_refused (ZoneCut m) before now n may must other count come passed behind 
 source_refused (ForbiddenAggregate s) before now n may must other count come passed behind = record { counted = count; allowed = λ t. never t; passed = passed }
 source_refused OutOfMemory before now n may must other count come passed behind = record { counted = count; allowed = λ t. never t; passed = passed }
 source_refused Unbuilt before now n may must other count come passed behind = record { counted = count; allowed = λ t. never t; passed = passed }
+source_refused (Stopped column name) before now n may must other count come passed behind = record { counted = count; allowed = λ t. never t; passed = passed }
 
 pub sink_ended : (before now n : ℕ) (may must : ℕ → Type 0) → Counts before now false → ((k : ℕ) → k < n → ¬ must k) → FaultsTold before now may must n false
 sink_ended before now n may must count passed = record { counted = count; allowed = λ t. never t; passed = passed }

@@ -20,8 +20,8 @@ use Rattle.vx_plan.specs.Valid.{AllOf}
 use Rattle.vx_model.specs.Words.{total_by}
 use Rattle.vx_fault.specs.Told.{before_told, then_told}
 use Rattle.vx_write.specs.InOrder.{stored_of, flats_of, AllWritten, ReadsBack, AllShort, Done, BatchWritten, Halted}
-use Rattle.vx_write.specs.declared.error.WriteError.{WriteError}
-use Rattle.vx_write.specs.declared.error.WriteError.TheVariants as errors
+use Rattle.vx_write_answer.specs.declared.error.WriteError.{WriteError}
+use Rattle.vx_write_answer.specs.declared.error.WriteError.TheVariants as errors
 use Rattle.vx_write.specs.Stream.{TookLast, HasCause, BehindBatch, NotAdmitted, NotWritten}
 
 pub told_more : (xs ys : List ChunkData) (a b c : Option (List ChunkData)) → a ≡ before_told xs b → b ≡ before_told ys c → a ≡ before_told (xs ++ ys) c
@@ -172,6 +172,7 @@ admit_cause p c next r (errors.ForbiddenAggregate id) d came typed h = h
 admit_cause p c next r (errors.ForbiddenEncoding id) d came typed h = absurd h
 admit_cause p c next r errors.OutOfMemory d came typed h = tt
 admit_cause p c next r errors.Unbuilt d came typed h = h
+admit_cause p c next r (errors.Stopped column name) d came typed h = h
 
 pub write_cause : {ids : List EncodingId} {t : Ty} {first : ℕ} {flats : List (LayoutData ℕ)} {total : ℕ} {a b : Option (List ChunkData)} {s u : Option (List (List ℕ))}
     (p : ChunkData) (c : Option (List ChunkData)) (next : ℕ) (e : WriteError) → Done ids t first flats total a b s u
@@ -182,6 +183,7 @@ write_cause p c next errors.SinkFault d came typed h = tt
 write_cause p c next errors.OutOfMemory d came typed h = tt
 write_cause p c next errors.SourceFault d came typed h = tt
 write_cause p c next errors.Unbuilt d came typed h = h
+write_cause p c next (errors.Stopped column name) d came typed h = h
 write_cause p c next (errors.BatchType chunk) d came typed h = absurd h
 write_cause p c next errors.CompressFault d came typed h = h
 write_cause p c next errors.NotStruct d came typed h = h
@@ -209,6 +211,7 @@ behind_batch (errors.ZoneCut n) must never = tt
 behind_batch (errors.ForbiddenAggregate id) must never = tt
 behind_batch errors.OutOfMemory must never = tt
 behind_batch errors.Unbuilt must never = tt
+behind_batch (errors.Stopped column name) must never = tt
 
 -- `before` speaks of the calls from the first, `now` of those behind n of them
 pub passed : (before now : ℕ → Type 0) (n : ℕ) → ((k : ℕ) → before (n + k) → now k) → ¬ now 0 → ¬ before n
@@ -263,6 +266,7 @@ never_admits total r (errors.ForbiddenAggregate id) n is typed fits h = h
 never_admits total r (errors.ForbiddenEncoding id) n is typed fits h = h
 never_admits total r errors.OutOfMemory n is typed fits h = h
 never_admits total r errors.Unbuilt n is typed fits h = h
+never_admits total r (errors.Stopped column name) n is typed fits h = h
 
 pub ruleset step_rules = (begins, goes_on, rows_fit)
 

@@ -1,4 +1,3 @@
-pub mod Causes
 pub mod InOrder
 pub mod Stream
 pub mod ColumnCount

@@ -21,8 +21,8 @@ use Rattle.vx_fault.specs.Told.{before_told, then_told}
 use Rattle.vx_sink.specs.declared.context.LayoutWriterContext.{LayoutWriterContext}
 use Rattle.vx_sink.specs.ContextView.{listed, allowed_in}
 use Rattle.vx_write.specs.InOrder.{AllWritten}
-use Rattle.vx_write.specs.declared.error.WriteError.{WriteError}
-use Rattle.vx_write.specs.declared.error.WriteError.TheVariants.{SourceFault, SinkFault, CompressFault, BatchType, NotStruct, DuplicateField, ManyChunks, EmptyList, ZoneCut, ForbiddenAggregate, ForbiddenEncoding, TooLarge, OutOfMemory, Unbuilt}
+use Rattle.vx_write_answer.specs.declared.error.WriteError.{WriteError}
+use Rattle.vx_write_answer.specs.declared.error.WriteError.TheVariants.{SourceFault, SinkFault, CompressFault, BatchType, NotStruct, DuplicateField, ManyChunks, EmptyList, ZoneCut, ForbiddenAggregate, ForbiddenEncoding, TooLarge, OutOfMemory, Unbuilt, Stopped}
 
 -- the setting of a write: what its context lists and allows, and a compressor's images
 abbrev pub setting_of : LayoutWriterContext → (ℕ → ChunkData → ChunkData) → Setting
@@ -102,6 +102,7 @@ HasCause t ids unbuilt next before now ManyChunks = ⊥
 HasCause t ids unbuilt next before now EmptyList = ⊥
 HasCause t ids unbuilt next before now (ZoneCut n) = ⊥
 HasCause t ids unbuilt next before now (ForbiddenAggregate id) = ⊥
+HasCause t ids unbuilt next before now (Stopped column name) = ⊥
 
 -- whether the next call of the source or the sink may be one that fails
 abbrev pub MayCome : Type 0 → Type 0 → WriteError → Type 0

@@ -2,12 +2,9 @@
 #![tactic(auto)]
 
 mod columns;
-mod error;
 mod stream;
-mod trace;
 mod write;
 
 pub use columns::column_count;
-pub use error::WriteError;
-pub use trace::{ActionKind, Step};
+pub use vx_write_answer::{ActionKind, Step, WriteError};
 pub use write::{Refused, Written, write_stream};

@@ -11,18 +11,18 @@ ghost use Rattle.vx_model.specs.Words.{total_by};
 ghost use Rattle.vx_plan.specs.InOrder.{batch_rows};
 ghost use Rattle.vx_fault.specs.Counts.{Counts, IsCalm};
 ghost use Rattle.vx_fault.specs.Faults.{Called};
-ghost use Rattle.vx_write.specs.declared.error.WriteError.TheVariants.{OutOfMemory};
-ghost use Rattle.vx_write.specs.Causes.{errs, is_source_fault, is_sink_fault};
+ghost use Rattle.vx_write_answer.specs.declared.error.WriteError.TheVariants.{OutOfMemory};
+ghost use Rattle.vx_write_answer.specs.Causes.{errs, is_source_fault, is_sink_fault};
 ghost use Rattle.vx_write.specs.InOrder.{AllWritten, BatchWritten, Finished, Halted};
 ghost use Rattle.vx_write.specs.Stream.{HasCause, MayCome, BehindBatch, NotAdmitted, NotWritten};
 
-use crate::error::WriteError;
 use std::alloc::Global;
 use vx_chunk::Chunk;
 use vx_layout_tree::{ChunkedLayout, FlatLayout, Layout, LayoutError, layout_children};
 use vx_model::{ArrayContext, DType};
 use vx_segment_writer::encode_segment;
 use vx_sink::{BatchSource, SegmentSink};
+use vx_write_answer::WriteError;
 
 #[tactic(auto, using(crate::proofs::Steps::step_rules))]
 /// Writes the source's batches as one column.

@@ -10,21 +10,20 @@ ghost use Rattle.vx_fault.specs.Counts.{IsCalm};
 ghost use Rattle.vx_fault.specs.Faults.{FaultsTold};
 ghost use Rattle.vx_fault.specs.Told.{NoneTold};
 ghost use Rattle.vx_sink.specs.ContextView.{listed, allowed_in, is_marked, counted};
-ghost use Rattle.vx_write.specs.declared.error.WriteError.TheVariants.{OutOfMemory};
+ghost use Rattle.vx_write_answer.specs.declared.error.WriteError.TheVariants.{OutOfMemory};
 ghost use Rattle.vx_strategy.specs.StrategyView.{strategy_data};
 ghost use Rattle.vx_write.specs.Asked.{asked};
-ghost use Rattle.vx_write.specs.Causes.{errs, is_source_fault, is_sink_fault, is_unbuilt};
+ghost use Rattle.vx_write_answer.specs.Causes.{errs, is_source_fault, is_sink_fault, is_unbuilt};
 ghost use Rattle.vx_strategy.specs.FlatViews.{flat_options};
 ghost use Rattle.vx_write.specs.Stream.{setting_of, Planned, Wrote, Stands, HasCause, is_default as is_default_flat, is_flat_default, is_built, is_built_type};
 
-use crate::error::WriteError;
 use crate::stream::write_column;
-use crate::trace::Step;
 use std::alloc::Global;
 use vx_layout_tree::Layout;
 use vx_model::{DType, Nullability, PType};
 use vx_sink::{BatchSource, CompressorPlugin, LayoutWriterContext, SegmentSink};
 use vx_strategy::{FlatLayoutStrategy, Strategy};
+use vx_write_answer::{Step, WriteError};
 
 /// What a write gives: where its rows are, and the steps that it took. The trace stays empty until tasks are built.
 #[derive(Debug, Drop)]

@@ -6,8 +6,12 @@ use Rattle.vx_sink.specs.declared.sink.SinkError.{SinkError}
 use Rattle.vx_sink.specs.declared.sink.SinkError.TheVariants as sink
 use Rattle.vx_segment_writer.specs.declared.error.EncodeError.{EncodeError}
 use Rattle.vx_segment_writer.specs.declared.error.EncodeError.TheVariants as encoding
-use Rattle.vx_write.specs.declared.error.WriteError.{WriteError}
-use Rattle.vx_write.specs.declared.error.WriteError.TheVariants.{SourceFault, SinkFault, CompressFault, ForbiddenEncoding, OutOfMemory, Unbuilt}
+use Rattle.vx_order_answer.specs.declared.errors.OrderError.{OrderError}
+use Rattle.vx_order_answer.specs.declared.errors.OrderError.TheVariants as order
+use Rattle.vx_split.specs.declared.error.SplitError.{SplitError}
+use Rattle.vx_split.specs.declared.error.SplitError.TheVariants as split
+use Rattle.vx_write_answer.specs.declared.error.WriteError.{WriteError}
+use Rattle.vx_write_answer.specs.declared.error.WriteError.TheVariants.{SourceFault, SinkFault, CompressFault, NotStruct, DuplicateField, ForbiddenEncoding, TooLarge, OutOfMemory, Unbuilt, Stopped}
 
 abbrev pub of_source : SourceError → WriteError
 of_source source.Failed = SourceFault
@@ -20,6 +24,18 @@ of_sink sink.OutOfMemory = OutOfMemory
 abbrev pub of_encode : EncodeError → WriteError
 of_encode (encoding.EncodingNotListed id) = ForbiddenEncoding id
 of_encode encoding.OutOfMemory = OutOfMemory
+
+abbrev pub of_order : OrderError → WriteError
+of_order (order.TooLarge n) = TooLarge n
+of_order order.SinkFault = SinkFault
+of_order order.OutOfMemory = OutOfMemory
+of_order (order.Stopped by name) = Stopped by name
+
+abbrev pub of_split : SplitError → WriteError
+of_split split.NotStruct = NotStruct
+of_split (split.DuplicateField name) = DuplicateField name
+of_split (split.TooLarge n) = TooLarge n
+of_split split.OutOfMemory = OutOfMemory
 
 abbrev pub is_source_fault : WriteError → Bool
 is_source_fault SourceFault = true

@@ -2,8 +2,10 @@ use std::alloc::{AllocError, AllocFailed};
 use thiserror::Error;
 use vx_chunk::Chunk;
 use vx_model::{EncodingId, FieldName, Text};
+use vx_order_answer::{OrderError, WriteErrorName};
 use vx_segment_writer::EncodeError;
 use vx_sink::{SinkError, SourceError};
+use vx_split::SplitError;
 
 /// Why a write was refused.
 #[derive(Debug, Drop, Error)]
@@ -41,7 +43,7 @@ pub enum WriteError {
     /// A stored chunk's first encoding in pre-order that isn't listed.
     #[error("{0:?} is not in the array context")]
     ForbiddenEncoding(EncodingId),
-    /// A segment's number passes u32, or a count of rows passes u64: this number.
+    /// A segment's number passes u32, or a count of rows, a path's last index or a count of elements passes u64: this number.
     #[error("{0} is too large")]
     TooLarge(u128),
     #[error("out of memory")]
@@ -49,11 +51,14 @@ pub enum WriteError {
     /// The strategy or the schema uses a form that isn't built.
     #[error("this form is not built")]
     Unbuilt,
+    /// Of a column that is written beside others: this one was refused under this name, and the whole write ends.
+    #[error("column {0} was refused: {1:?}")]
+    Stopped(u64, WriteErrorName),
 }
 
 impl From<AllocError> for WriteError {
     ghost use Rattle.std.specs.Prelude.{◌≡◌};
-    ghost use Rattle.vx_write.specs.declared.error.WriteError.TheVariants.{OutOfMemory};
+    ghost use Rattle.vx_write_answer.specs.declared.error.WriteError.TheVariants.{OutOfMemory};
 
     ghost from_gives = { λ _ e. e ≡ OutOfMemory };
 
@@ -64,7 +69,7 @@ impl From<AllocError> for WriteError {
 
 impl<T: Drop> From<AllocFailed<T>> for WriteError {
     ghost use Rattle.std.specs.Prelude.{◌≡◌};
-    ghost use Rattle.vx_write.specs.declared.error.WriteError.TheVariants.{OutOfMemory};
+    ghost use Rattle.vx_write_answer.specs.declared.error.WriteError.TheVariants.{OutOfMemory};
 
     ghost from_gives = { λ _ e. e ≡ OutOfMemory };
 
@@ -75,7 +80,7 @@ impl<T: Drop> From<AllocFailed<T>> for WriteError {
 
 impl From<SourceError> for WriteError {
     ghost use Rattle.std.specs.Prelude.{◌≡◌};
-    ghost use Rattle.vx_write.specs.Causes.{of_source};
+    ghost use Rattle.vx_write_answer.specs.Causes.{of_source};
 
     ghost from_gives = { λ s e. e ≡ of_source s };
 
@@ -89,7 +94,7 @@ impl From<SourceError> for WriteError {
 
 impl From<SinkError> for WriteError {
     ghost use Rattle.std.specs.Prelude.{◌≡◌};
-    ghost use Rattle.vx_write.specs.Causes.{of_sink};
+    ghost use Rattle.vx_write_answer.specs.Causes.{of_sink};
 
     ghost from_gives = { λ s e. e ≡ of_sink s };
 
@@ -103,7 +108,7 @@ impl From<SinkError> for WriteError {
 
 impl From<EncodeError> for WriteError {
     ghost use Rattle.std.specs.Prelude.{◌≡◌};
-    ghost use Rattle.vx_write.specs.Causes.{of_encode};
+    ghost use Rattle.vx_write_answer.specs.Causes.{of_encode};
 
     ghost from_gives = { λ s e. e ≡ of_encode s };
 
@@ -111,6 +116,38 @@ impl From<EncodeError> for WriteError {
         match error {
             EncodeError::EncodingNotListed(id) => WriteError::ForbiddenEncoding(id),
             EncodeError::OutOfMemory => WriteError::OutOfMemory,
+        }
+    }
+}
+
+impl From<OrderError> for WriteError {
+    ghost use Rattle.std.specs.Prelude.{◌≡◌};
+    ghost use Rattle.vx_write_answer.specs.Causes.{of_order};
+
+    ghost from_gives = { λ s e. e ≡ of_order s };
+
+    fn from(error: OrderError) -> WriteError {
+        match error {
+            OrderError::TooLarge(n) => WriteError::TooLarge(n),
+            OrderError::SinkFault => WriteError::SinkFault,
+            OrderError::OutOfMemory => WriteError::OutOfMemory,
+            OrderError::Stopped(column, name) => WriteError::Stopped(column, name),
+        }
+    }
+}
+
+impl From<SplitError> for WriteError {
+    ghost use Rattle.std.specs.Prelude.{◌≡◌};
+    ghost use Rattle.vx_write_answer.specs.Causes.{of_split};
+
+    ghost from_gives = { λ s e. e ≡ of_split s };
+
+    fn from(error: SplitError) -> WriteError {
+        match error {
+            SplitError::NotStruct => WriteError::NotStruct,
+            SplitError::DuplicateField(name) => WriteError::DuplicateField(name),
+            SplitError::TooLarge(n) => WriteError::TooLarge(n),
+            SplitError::OutOfMemory => WriteError::OutOfMemory,
         }
     }
 }

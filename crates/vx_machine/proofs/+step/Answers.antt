@@ -1,0 +1,79 @@
+use Rattle.std.proofs.Common.{rules, ◌≡◌, ◌+◌, ◌*◌, ◌-◌, ◌<◌, ◌≤◌, ◌∙◌, length, get_or, sym, ap, subst, arith, true, refl}
+use Rattle.vx_sequence.specs.Universe.{Active}
+use Rattle.vx_machine_ids.specs.Stock.{one}
+use Rattle.vx_machine_ids.specs.Balance.{Owned}
+use Rattle.vx_machine_ids.proofs.Lists.{at_owned, at_moved}
+use Rattle.vx_machine.specs.Pairs.{next_pairs, task_pairs, tasks_pairs, AllMay}
+use Rattle.vx_machine.specs.Ready.{may_now, kids_of, ready_in, ready_among, counted}
+use Rattle.vx_machine.specs.Sizes.{task_count, count_of_all}
+use Rattle.vx_machine.specs.Stocks.{task_stock, tasks_stock}
+use Rattle.vx_machine.specs.declared.task.Task.{Task, out-Task}
+use Rattle.vx_machine.specs.declared.task.Task.TheOpen.{Task-F}
+use Rattle.vx_machine.specs.declared.task.Task.TheViews.{roll-Task, the_lemmas}
+use Rattle.vx_machine.proofs.TaskParts.{out_roll, task_count_out, head_owned, kids_owned, slice_moved, kids_of_roll, count_at}
+use Rattle.vx_machine.proofs.PairSteps.{head_may, kids_may, kid_may}
+use Rattle.vx_machine.proofs.Readiness.{ready_in_out, one_true}
+use Rattle.vx_machine.proofs.+step.Goals as goal
+
+pub task::Task::step-may-ready-requires : goal.task::Task::step-may-ready-requires
+task::Task::step-may-ready-requires g t c = head_owned (g.O.Order.active c.args.order.now) c.args.self.now c.requires.owned
+
+pub task::Task::step-act-requires-clause-ready : goal.task::Task::step-act-requires-clause-ready
+task::Task::step-act-requires-clause-ready g t c =
+    let u : Active = g.O.Order.active c.args.order.now in
+    let a : c.may-ready.result ≡ may_now u (out-Task c.args.self.now).head (kids_of (out-Task c.args.self.now).kids.items) = c.may-ready.ensures ∙ ap (λ z. may_now u (out-Task c.args.self.now).head (kids_of z)) c.deref.ensures.value in
+    let now : may_now u (out-Task c.args.self.now).head (kids_of (out-Task c.args.self.now).kids.items) ≡ true = sym a ∙ one_true c.may-ready.result c.args.k (subst (λ n. c.args.k < n) c.one-own.ensures c.if-k-own.true) in
+    subst (λ (z : Task-F Task). may_now u z.head (kids_of z.kids.items) ≡ true) (sym (out_roll (out-Task c.args.self.now))) now
+
+pub task::Task::step-act-requires-clause-allowed : goal.task::Task::step-act-requires-clause-allowed
+task::Task::step-act-requires-clause-allowed g t c =
+    subst (λ (z : Task-F Task). AllMay (g.O.Order.may_write c.args.order.now) (next_pairs z.head.todo.items)) (sym (out_roll (out-Task c.args.self.now)))
+    (head_may (g.O.Order.may_write c.args.order.now) c.args.self.now c.requires.allowed)
+
+pub task::Task::step-step_kids-requires : goal.task::Task::step-step_kids-requires
+task::Task::step-step_kids-requires g t c κs within =
+    let u : Active = g.O.Order.active c.args.order.now in
+    let v : out-Task (roll-Task (out-Task c.args.self.now)) ≡ out-Task c.args.self.now = out_roll (out-Task c.args.self.now) in
+    let kv : c.deref_mut.result.now ≡ (out-Task c.args.self.now).kids.items = c.deref_mut.ensures.value ∙ ap (λ (z : Task-F Task). z.kids.items) v in
+    let o : Owned u (tasks_stock c.deref_mut.result.now) = subst (λ z. Owned u (tasks_stock z)) (sym kv) (kids_owned u c.args.self.now c.requires.owned) in
+    let n : count_of_all c.deref_mut.result.now ≡ count_of_all (out-Task c.args.self.now).kids.items = ap count_of_all kv in
+    let m : task_count c.args.self.now ≡ 1 + count_of_all (out-Task c.args.self.now).kids.items = task_count_out c.args.self.now in
+    let falls : 2 * count_of_all c.deref_mut.result.now + 1 < 2 * task_count c.args.self.now = omega (arith, n, m) in
+    let a : c.may-ready.result ≡ may_now u (out-Task c.args.self.now).head (kids_of (out-Task c.args.self.now).kids.items) = c.may-ready.ensures ∙ ap (λ z. may_now u (out-Task c.args.self.now).head (kids_of z)) c.deref.ensures.value in
+    let x : c.one-own.result ≡ one (may_now u (out-Task c.args.self.now).head (kids_of (out-Task c.args.self.now).kids.items)) = c.one-own.ensures ∙ ap one a in
+    let e : ready_in u c.args.self.now ≡ one (may_now u (out-Task c.args.self.now).head (kids_of (out-Task c.args.self.now).kids.items)) + ready_among u (out-Task c.args.self.now).kids.items = ready_in_out u c.args.self.now in
+    let y : ready_among u c.deref_mut.result.now ≡ ready_among u (out-Task c.args.self.now).kids.items = ap (ready_among u) kv in
+    let there : c.args.k - c.one-own.result < counted (ready_among u c.deref_mut.result.now) = omega (arith, x, e, y, c.requires.there, c.if-k-own.false) in
+    let may : AllMay (g.O.Order.may_write c.args.order.now) (tasks_pairs c.deref_mut.result.now) =
+    subst (λ z. AllMay (g.O.Order.may_write c.args.order.now) (tasks_pairs z)) (sym kv) (kids_may (g.O.Order.may_write c.args.order.now) c.args.self.now c.requires.allowed) in
+    search (rules, arith, o, falls, there, may)
+
+pub task::Task::step-returns-clause-moved : goal.task::Task::step-returns-clause-moved
+task::Task::step-returns-clause-moved g t c =
+    let v : out-Task (roll-Task (out-Task c.args.self.now)) ≡ out-Task c.args.self.now = out_roll (out-Task c.args.self.now) in
+    let kv : c.deref_mut.result.now ≡ (out-Task c.args.self.now).kids.items = c.deref_mut.ensures.value ∙ ap (λ (z : Task-F Task). z.kids.items) v in
+    slice_moved (g.O.Order.active c.args.order.now) (g.O.Order.active c.step_kids.new.order) c.args.self.now _ c.requires.owned c.deref_mut.result.now c.step_kids.new.kids kv
+    (simp the_lemmas refl) (kids_of_roll _ _ c.step_kids.new.kids (omega (arith, c.deref_mut.ensures.len))) c.step_kids.ensures.moved
+
+pub step::step_kids-step-requires : goal.step::step_kids-step-requires
+step::step_kids-step-requires g t c κs within =
+    let u : Active = g.O.Order.active c.args.order.now in
+    let i = c.find_ready-place.result.0 in
+    let x : Task = get_or c.args.kids.now i c.index-kids-place.result in
+    let h : i < length c.args.kids.now = c.find_ready-place.ensures.place in
+    let is : get_or c.args.kids.now i x ≡ x = ap (λ z. get_or c.args.kids.now i z) (sym c.index-kids-place.is) in
+    let o : Owned u (task_stock x) = at_owned task_stock u c.args.kids.now i x h is c.requires.owned in
+    let n : task_count x ≤ count_of_all c.args.kids.now = count_at c.args.kids.now i x h is in
+    let falls : 2 * task_count x < 2 * count_of_all c.args.kids.now + 1 = omega (arith, n) in
+    let there : c.find_ready-place.result.1 < counted (ready_in u x) = c.find_ready-place.ensures.within c.index-kids-place.result in
+    let may : AllMay (g.O.Order.may_write c.args.order.now) (task_pairs x) = kid_may (g.O.Order.may_write c.args.order.now) c.args.kids.now i x h is c.requires.allowed in
+    search (rules, arith, o, falls, there, may)
+
+pub step::step_kids-returns-clause-moved : goal.step::step_kids-returns-clause-moved
+step::step_kids-returns-clause-moved g t c =
+    let u : Active = g.O.Order.active c.args.order.now in
+    let v : Active = g.O.Order.active c.step.new.order in
+    let i = c.find_ready-place.result.0 in
+    let x : Task = get_or c.args.kids.now i c.index-kids-place.result in
+    let is : get_or c.args.kids.now i x ≡ x = ap (λ z. get_or c.args.kids.now i z) (sym c.index-kids-place.is) in
+    at_moved task_stock u v c.args.kids.now i x c.step.new.self c.find_ready-place.ensures.place is c.requires.owned c.step.ensures.moved

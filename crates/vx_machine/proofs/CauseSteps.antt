@@ -1,0 +1,96 @@
+-- Refusals of other crates' calls, as errors of a write.
+use Rattle.std.proofs.Common.{◌≡◌, ℕ, ◌^◌, ◌≤◌, Option, Err, List, sym, subst, ⊎_elim, arith}
+use Rattle.vx_model.specs.Ty.{Ty}
+use Rattle.vx_model.specs.ChunkData.{ChunkData}
+use Rattle.vx_fault.specs.Counts.{Counts}
+use Rattle.vx_fault.specs.Faults.{Called}
+use Rattle.vx_sequence.specs.Universe.{Active}
+use Rattle.vx_sink.specs.Source.{source_failed}
+use Rattle.vx_sink.specs.declared.source.SourceError.{SourceError}
+use Rattle.vx_sink.specs.declared.source.SourceError.TheVariants as source
+use Rattle.vx_segment_writer.specs.declared.error.EncodeError.{EncodeError}
+use Rattle.vx_segment_writer.specs.declared.error.EncodeError.TheVariants as encoding
+use Rattle.vx_order_answer.specs.declared.errors.OrderError.{OrderError}
+use Rattle.vx_order_answer.specs.declared.errors.OrderError.TheVariants as order
+use Rattle.vx_split.specs.declared.error.SplitError.{SplitError}
+use Rattle.vx_split.specs.declared.error.SplitError.TheVariants as split
+use Rattle.vx_split.specs.Causes.{IsRefused}
+use Rattle.vx_order.specs.Outlet.{Outlet, own, shared}
+use Rattle.vx_order.specs.Answers.{FullAt, IsPast, Refuses, TellsRefused}
+use Rattle.vx_write_answer.specs.declared.error.WriteError.{WriteError}
+use Rattle.vx_write_answer.specs.declared.error.WriteError.TheVariants as errors
+use Rattle.vx_write_answer.specs.Causes.{of_source, of_encode, of_order, of_split, is_sink_fault, is_source_fault}
+use Rattle.vx_machine.specs.Causes.{MayCome, ActMay, StartMay}
+use Rattle.vx_machine.specs.Source.{SourceMay, ReadsNone}
+
+-- ---- of an order
+
+pub full_starts : (last : ℕ) (e : OrderError) → FullAt last e → StartMay (of_order e)
+full_starts last (order.TooLarge n) h = h.0
+full_starts last order.SinkFault h = absurd h
+full_starts last order.OutOfMemory h = tt
+full_starts last (order.Stopped by name) h = absurd h
+
+past_large : (o : Outlet) (n : ℕ) → IsPast o n → 2 ^ 32 ≤ n
+past_large (own s) n h = omega (arith, h.0, h.1)
+past_large (shared s) n h = h.0
+
+pub refused_may : (u : Active) (o : Outlet) (id : List ℕ) (e : OrderError) → Refuses u o id e → ActMay (of_order e)
+refused_may u o id (order.TooLarge n) h = past_large o n h.1
+refused_may u o id order.SinkFault h = tt
+refused_may u o id order.OutOfMemory h = tt
+refused_may u o id (order.Stopped by name) h = tt
+
+pub refused_counts : (b n : ℕ) (may may_then must must_then : ℕ → Type 0) (e : OrderError) → TellsRefused b n may may_then must must_then e → Counts b n (is_sink_fault (of_order e))
+refused_counts b n may may_then must must_then (order.TooLarge k) h = h.counted
+refused_counts b n may may_then must must_then order.SinkFault h = h.counted
+refused_counts b n may may_then must must_then order.OutOfMemory h = ⊎_elim (λ x. x.counted) (λ x. x.counted) h
+refused_counts b n may may_then must must_then (order.Stopped by name) h = h.counted
+
+-- ---- of a splitter, and of the encoder
+
+pub split_starts : (t : Ty) (e : SplitError) → IsRefused t e → StartMay (of_split e)
+split_starts t split.NotStruct h = tt
+split_starts t (split.DuplicateField name) h = tt
+split_starts t (split.TooLarge n) h = absurd h
+split_starts t split.OutOfMemory h = tt
+
+pub split_may : (e : SplitError) → e ≡ split.OutOfMemory → MayCome (of_split e)
+split_may e is = subst (λ x. MayCome (of_split x)) (sym is) tt
+
+pub encode_may : (e : EncodeError) → MayCome (of_encode e)
+encode_may (encoding.EncodingNotListed id) = tt
+encode_may encoding.OutOfMemory = tt
+
+-- ---- of a source
+
+pub source_may : (t : Ty) (e : SourceError) → SourceMay t (of_source e)
+source_may t source.Failed = tt
+source_may t source.OutOfMemory = tt
+
+pub source_counts : (b n : ℕ) (may may_then must must_then : ℕ → Type 0) (e : SourceError) → Called b n may may_then must must_then (source_failed (Err e)) → Counts b n (is_source_fault (of_source e))
+source_counts b n may may_then must must_then source.Failed h = h.counted
+source_counts b n may may_then must must_then source.OutOfMemory h = h.counted
+
+pub source_reads : (before now : Option (List ChunkData)) (e : SourceError) → now ≡ before → ReadsNone before now (of_source e)
+source_reads before now source.Failed h = h
+source_reads before now source.OutOfMemory h = h
+
+-- ---- of a start
+
+pub start_may : (e : WriteError) → StartMay e → MayCome e
+start_may errors.SourceFault h = absurd h
+start_may errors.SinkFault h = absurd h
+start_may errors.CompressFault h = absurd h
+start_may (errors.BatchType c) h = absurd h
+start_may errors.NotStruct h = tt
+start_may (errors.DuplicateField name) h = tt
+start_may errors.ManyChunks h = absurd h
+start_may errors.EmptyList h = absurd h
+start_may (errors.ZoneCut n) h = absurd h
+start_may (errors.ForbiddenAggregate id) h = absurd h
+start_may (errors.ForbiddenEncoding id) h = absurd h
+start_may (errors.TooLarge n) h = omega (arith, h)
+start_may errors.OutOfMemory h = tt
+start_may errors.Unbuilt h = absurd h
+start_may (errors.Stopped by name) h = absurd h

@@ -1,0 +1,15 @@
+pub mod IdMoves
+pub mod TaskParts
+pub mod Readiness
+pub mod StartWeights
+pub mod Finishing
+pub mod TypeSteps
+pub mod DueSteps
+pub mod PairSteps
+pub mod CauseSteps
+pub mod StartMoves
+pub mod JoinSteps
+pub mod WriteSteps
+pub mod ActCauses
+pub mod ActMoves
+pub mod MachineMoves

@@ -1,0 +1,83 @@
+use Rattle.std.proofs.Common.{◌≡◌, List, length, true, sym, ap, subst, ◌∙◌}
+use Rattle.std.proofs.lemmas.Bool.{and_parts}
+use Rattle.vx_sequence.specs.Universe.{Active}
+use Rattle.vx_machine_ids.specs.Stock.{both}
+use Rattle.vx_machine.specs.Pairs.{due_pairs, AllMay}
+use Rattle.vx_machine.specs.Ready.{Kid, may_due, kids_of, all_made, can_join}
+use Rattle.vx_machine.specs.Stocks.{item_stock, stored_stock, due_stock, local_stock, tasks_stock}
+use Rattle.vx_machine.specs.declared.item.Due.{Due}
+use Rattle.vx_machine.specs.declared.item.Due.TheVariants.{Put, Append, Join}
+use Rattle.vx_machine.specs.declared.node.Shape.{Shape}
+use Rattle.vx_machine.proofs.ActMoves.{put_owned, put_moved, append_owned, append_moved, join_owned, join_moved, close_moved}
+use Rattle.vx_machine.proofs.ActCauses.{memory_may, all_wider, calm_counts}
+use Rattle.vx_machine.proofs.Readiness.{least_means}
+use Rattle.vx_machine.proofs.advance.act.Goals as goal
+
+by_case : (u : Active) (ks : List Kid) (d e : Due) → d ≡ e → may_due u d ks ≡ true → may_due u e ks ≡ true
+by_case u ks d e is h = sym (ap (λ x. may_due u x ks) is) ∙ h
+
+pub put-requires-clause-owned : goal.put-requires-clause-owned
+put-requires-clause-owned g c =
+    put_owned (g.O.Order.active c.args.order.now) (local_stock c.args.local.now) (tasks_stock c.args.kids.now.items) (due_stock c.args.due) (item_stock c.in-Put.item) (ap due_stock c.in-Put.is) c.requires.owned
+
+pub put-requires-clause-room : goal.put-requires-clause-room
+put-requires-clause-room g c = by_case (g.O.Order.active c.args.order.now) (kids_of c.args.kids.now.items) c.args.due (Put c.in-Put.child c.in-Put.item) c.in-Put.is c.requires.ready
+
+pub returns-in-Put-clause-moved : goal.returns-in-Put-clause-moved
+returns-in-Put-clause-moved g c =
+    put_moved (g.O.Order.active c.args.order.now) (local_stock c.args.local.now) (tasks_stock c.args.kids.now.items) (due_stock c.args.due) (item_stock c.in-Put.item) (ap due_stock c.in-Put.is) c.requires.owned
+    (g.O.Order.active c.put.new.order) (tasks_stock c.put.new.kids.items) c.put.ensures.moved
+
+pub returns-in-Put-clause-faults : goal.returns-in-Put-clause-faults
+returns-in-Put-clause-faults g c =
+    calm_counts (g.O.Fallible.faults c.args.order.now) (g.O.Fallible.faults c.put.new.order) c.put.result (memory_may c.put.result c.put.ensures.memory) c.put.ensures.faults
+
+pub returns-in-Put-clause-cause : goal.returns-in-Put-clause-cause
+returns-in-Put-clause-cause g c = all_wider c.put.result (memory_may c.put.result c.put.ensures.memory)
+
+pub append_due-requires-clause-owned : goal.append_due-requires-clause-owned
+append_due-requires-clause-owned g c =
+    append_owned (g.O.Order.active c.args.order.now) (local_stock c.args.local.now) (tasks_stock c.args.kids.now.items) (due_stock c.args.due) (stored_stock c.in-Append.stored) (ap due_stock c.in-Append.is) c.requires.owned
+
+pub append_due-requires-clause-least : goal.append_due-requires-clause-least
+append_due-requires-clause-least g c =
+    least_means (g.O.Order.active c.args.order.now) c.in-Append.stored.id (by_case (g.O.Order.active c.args.order.now) (kids_of c.args.kids.now.items) c.args.due (Append c.in-Append.stored) c.in-Append.is c.requires.ready)
+
+pub append_due-requires-clause-allowed : goal.append_due-requires-clause-allowed
+append_due-requires-clause-allowed g c =
+    (subst (λ d. AllMay (g.O.Order.may_write c.args.order.now) (due_pairs d)) c.in-Append.is c.requires.allowed).0
+
+pub returns-in-Append-clause-moved : goal.returns-in-Append-clause-moved
+returns-in-Append-clause-moved g c =
+    append_moved (g.O.Order.active c.args.order.now) (local_stock c.args.local.now) (tasks_stock c.args.kids.now.items) (due_stock c.args.due) (stored_stock c.in-Append.stored) (ap due_stock c.in-Append.is) c.requires.owned
+    (g.O.Order.active c.append_due.new.order) (local_stock c.append_due.new.local) c.append_due.ensures.moved
+
+pub returns-in-Close-clause-moved : goal.returns-in-Close-clause-moved
+returns-in-Close-clause-moved g c =
+    close_moved (g.O.Order.active c.args.order.now) (local_stock c.args.local.now) (tasks_stock c.args.kids.now.items) (due_stock c.args.due) (ap due_stock c.in-Close.is) c.requires.owned
+    (tasks_stock c.close_all.new.kids.items) c.close_all.ensures
+
+pub join_due-requires-clause-owned : goal.join_due-requires-clause-owned
+join_due-requires-clause-owned g c =
+    join_owned (g.O.Order.active c.args.order.now) (local_stock c.args.local.now) (tasks_stock c.args.kids.now.items) (due_stock c.args.due) (ap due_stock c.in-Join.is) c.requires.owned
+
+may_join : (u : Active) (ks : List Kid) (d : Due) (h : Shape) → d ≡ Join h → may_due u d ks ≡ true → (all_made ks ≡ true) × (can_join h (length ks) ≡ true)
+may_join u ks d h is m = and_parts (all_made ks) (can_join h (length ks)) (by_case u ks d (Join h) is m)
+
+pub join_due-requires-clause-made : goal.join_due-requires-clause-made
+join_due-requires-clause-made g c = (may_join (g.O.Order.active c.args.order.now) (kids_of c.args.kids.now.items) c.args.due c.in-Join.shape c.in-Join.is c.requires.ready).0
+
+pub join_due-requires-clause-fits : goal.join_due-requires-clause-fits
+join_due-requires-clause-fits g c = (may_join (g.O.Order.active c.args.order.now) (kids_of c.args.kids.now.items) c.args.due c.in-Join.shape c.in-Join.is c.requires.ready).1
+
+pub returns-in-Join-clause-moved : goal.returns-in-Join-clause-moved
+returns-in-Join-clause-moved g c =
+    join_moved (g.O.Order.active c.args.order.now) (local_stock c.args.local.now) (tasks_stock c.args.kids.now.items) (due_stock c.args.due) (ap due_stock c.in-Join.is) c.requires.owned
+    (g.O.Order.active c.join_due.new.order) (both (local_stock c.join_due.new.local) (tasks_stock c.join_due.new.kids.items)) c.join_due.ensures.moved
+
+pub returns-in-Join-clause-faults : goal.returns-in-Join-clause-faults
+returns-in-Join-clause-faults g c =
+    calm_counts (g.O.Fallible.faults c.args.order.now) (g.O.Fallible.faults c.join_due.new.order) c.join_due.result c.join_due.ensures.cause c.join_due.ensures.faults
+
+pub returns-in-Join-clause-cause : goal.returns-in-Join-clause-cause
+returns-in-Join-clause-cause g c = all_wider c.join_due.result c.join_due.ensures.cause

@@ -1,0 +1,52 @@
+use Rattle.std.proofs.Common.{sym, ap, subst, ◌∙◌}
+use Rattle.vx_fault.specs.Counts.{Counts}
+use Rattle.vx_machine_ids.specs.Stock.{both}
+use Rattle.vx_machine.specs.Pairs.{next_pairs, AllMay}
+use Rattle.vx_machine.specs.Ready.{may_todo, kids_of}
+use Rattle.vx_machine.specs.Stocks.{items_stock, head_stock, local_stock, tasks_stock}
+use Rattle.vx_machine.proofs.ActMoves.{act_owned, act_moved, idle_owned, idle_moved}
+use Rattle.vx_machine.proofs.ActCauses.{wider, calm}
+use Rattle.vx_machine.proofs.advance.advance.Goals as goal
+
+pub act-requires-clause-owned : goal.act-requires-clause-owned
+act-requires-clause-owned g c =
+    act_owned (g.O.Order.active c.args.order.now) (local_stock c.args.head.now.local) (items_stock c.args.head.now.inbox.items) (tasks_stock c.args.kids.now.items)
+    c.args.head.now.todo.items c.pop_front.new.self.items c.in-Some.due c.in-Some.ensures.items c.requires.owned
+
+pub act-requires-clause-ready : goal.act-requires-clause-ready
+act-requires-clause-ready g c =
+    sym (ap (may_todo (g.O.Order.active c.args.order.now) c.args.head.now (kids_of c.args.kids.now.items)) c.in-Some.ensures.items) ∙ c.requires.ready
+
+pub act-requires-clause-allowed : goal.act-requires-clause-allowed
+act-requires-clause-allowed g c =
+    subst (λ ds. AllMay (g.O.Order.may_write c.args.order.now) (next_pairs ds)) c.in-Some.ensures.items c.requires.allowed
+
+pub returns-in-Some-clause-moved : goal.returns-in-Some-clause-moved
+returns-in-Some-clause-moved g c =
+    act_moved (g.O.Order.active c.args.order.now) (local_stock c.args.head.now.local) (items_stock c.args.head.now.inbox.items) (tasks_stock c.args.kids.now.items)
+    c.args.head.now.todo.items c.pop_front.new.self.items c.in-Some.due c.in-Some.ensures.items c.requires.owned
+    (g.O.Order.active c.act.new.order) (local_stock c.act.new.local) (tasks_stock c.act.new.kids.items) c.act.ensures.moved
+
+pub take_next-requires : goal.take_next-requires
+take_next-requires g c =
+    idle_owned (g.O.Order.active c.args.order.now) (local_stock c.args.head.now.local) (items_stock c.args.head.now.inbox.items) (tasks_stock c.args.kids.now.items)
+    c.args.head.now.todo.items c.pop_front.new.self.items c.in-None.ensures.items c.requires.owned
+
+pub returns-in-Ok-clause-moved : goal.returns-in-Ok-clause-moved
+returns-in-Ok-clause-moved g c =
+    idle_moved (g.O.Order.active c.args.order.now) (local_stock c.args.head.now.local) (items_stock c.args.head.now.inbox.items) (tasks_stock c.args.kids.now.items)
+    c.args.head.now.todo.items c.pop_front.new.self.items c.in-None.ensures.items c.requires.owned
+    (g.O.Order.active c.take_next.new.order) (both (head_stock c.take_next.new.head) (tasks_stock c.take_next.new.kids.items)) c.take_next.ensures.moved
+
+pub returns-in-Err-clause-moved : goal.returns-in-Err-clause-moved
+returns-in-Err-clause-moved g c =
+    idle_moved (g.O.Order.active c.args.order.now) (local_stock c.args.head.now.local) (items_stock c.args.head.now.inbox.items) (tasks_stock c.args.kids.now.items)
+    c.args.head.now.todo.items c.pop_front.new.self.items c.in-None.ensures.items c.requires.owned
+    (g.O.Order.active c.take_next.new.order) (both (head_stock c.take_next.new.head) (tasks_stock c.take_next.new.kids.items)) c.take_next.ensures.moved
+
+pub returns-in-Err-clause-faults : goal.returns-in-Err-clause-faults
+returns-in-Err-clause-faults g c =
+    subst (λ b. Counts (g.O.Fallible.faults c.args.order.now) (g.O.Fallible.faults c.take_next.new.order) b) (sym (calm c.in-Err.error c.in-Err.ensures.cause)) c.take_next.ensures.faults
+
+pub returns-in-Err-clause-cause : goal.returns-in-Err-clause-cause
+returns-in-Err-clause-cause g c = wider c.in-Err.error c.in-Err.ensures.cause

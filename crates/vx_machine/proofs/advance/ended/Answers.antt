@@ -1,0 +1,38 @@
+use Rattle.std.proofs.Common.{ap, refl}
+use Rattle.vx_machine_ids.specs.Stock.{none, end_stock, ok_stock}
+use Rattle.vx_machine.specs.Stocks.{stored_stock, dues_stock, local_stock}
+use Rattle.vx_machine.proofs.ActMoves.{ok_none, ended_none, ended_full, ended_owned, ended_chunked}
+use Rattle.vx_machine.proofs.DueSteps.{one_more, one_free}
+use Rattle.vx_machine.proofs.advance.ended.Goals as goal
+
+pub returns-in-Empty-clause-moved : goal.returns-in-Empty-clause-moved
+returns-in-Empty-clause-moved g c =
+    ended_none (g.O.Order.active c.args.order.now) (local_stock c.args.local) (ok_stock local_stock c.end_empty.result) (dues_stock c.args.todo.now.items) (dues_stock c.args.todo.now.items)
+    (ap local_stock c.in-Empty.is) (ok_none c.end_empty.result c.end_empty.ensures.local) refl c.requires.owned
+
+pub returns-in-Full-clause-moved : goal.returns-in-Full-clause-moved
+returns-in-Full-clause-moved g c =
+    ended_full (g.O.Order.active c.args.order.now) (local_stock c.args.local) (stored_stock c.in-Full.stored) (dues_stock c.args.todo.now.items) (dues_stock c.push_back_reserved.new.self.items)
+    (ap local_stock c.in-Full.is) (one_more c.args.todo.now.items c.push_back_reserved.new.self.items _ c.push_back_reserved.ensures.items) c.requires.owned
+
+pub give_up_pointer-requires : goal.give_up_pointer-requires
+give_up_pointer-requires g c =
+    ended_owned (g.O.Order.active c.args.order.now) (local_stock c.args.local) (end_stock c.in-Chunked.eof) (dues_stock c.args.todo.now.items) (ap local_stock c.in-Chunked.is) c.requires.owned
+
+pub returns-in-Chunked-clause-moved : goal.returns-in-Chunked-clause-moved
+returns-in-Chunked-clause-moved g c =
+    ended_chunked (g.O.Order.active c.args.order.now) (g.O.Order.active c.give_up_pointer.new.order) (local_stock c.args.local) (end_stock c.in-Chunked.eof) (dues_stock c.args.todo.now.items) (dues_stock c.push_back_reserved-in-Chunked.new.self.items)
+    (ap local_stock c.in-Chunked.is) (one_free c.args.todo.now.items c.push_back_reserved-in-Chunked.new.self.items _ c.push_back_reserved-in-Chunked.ensures.items refl) c.requires.owned c.give_up_pointer.ensures.moved
+
+pub returns-in-Columns-clause-moved : goal.returns-in-Columns-clause-moved
+returns-in-Columns-clause-moved g c =
+    ended_none (g.O.Order.active c.args.order.now) (local_stock c.args.local) (ok_stock local_stock c.end_columns.result) (dues_stock c.args.todo.now.items) (dues_stock c.end_columns.new.todo.items)
+    (ap local_stock c.in-Columns.is) (ok_none c.end_columns.result c.end_columns.ensures.local) c.end_columns.ensures.todo c.requires.owned
+
+pub returns-in-Over-clause-moved : goal.returns-in-Over-clause-moved
+returns-in-Over-clause-moved g c =
+    ended_none (g.O.Order.active c.args.order.now) (local_stock c.args.local) none (dues_stock c.args.todo.now.items) (dues_stock c.args.todo.now.items) (ap local_stock c.in-Over.is) refl refl c.requires.owned
+
+pub returns-in-Made-clause-moved : goal.returns-in-Made-clause-moved
+returns-in-Made-clause-moved g c =
+    ended_none (g.O.Order.active c.args.order.now) (local_stock c.args.local) none (dues_stock c.args.todo.now.items) (dues_stock c.args.todo.now.items) (ap local_stock c.in-Made.is) refl refl c.requires.owned

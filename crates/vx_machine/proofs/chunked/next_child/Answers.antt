@@ -1,0 +1,34 @@
+use Rattle.std.proofs.Common.{sym, subst}
+use Rattle.std.proofs.lemmas.Result.{err_from_is_err_and}
+use Rattle.vx_sequence.specs.Universe.{Active}
+use Rattle.vx_machine_ids.specs.Stock.{Stock, both, end_stock, ok_stock}
+use Rattle.vx_machine_ids.specs.Balance.{Moved}
+use Rattle.vx_machine_ids.proofs.Stocks.{both_none}
+use Rattle.vx_machine_ids.proofs.MoveLaws.{moved_none}
+use Rattle.vx_machine.specs.Stocks.{task_stock}
+use Rattle.vx_machine.proofs.CauseSteps.{start_may}
+use Rattle.vx_machine.proofs.chunked.next_child.Goals as goal
+
+pub returns-in_err-name-clause-moved : goal.returns-in_err-name-clause-moved
+returns-in_err-name-clause-moved g c =
+    let u : Active = g.O.Order.active c.args.order.now in
+    let e : Stock = end_stock c.args.eof.now in
+    let p = err_from_is_err_and c.from_residual.result c.from_residual.ensures.1 in
+    subst (λ r. Moved u u e (both e (ok_stock task_stock r))) (sym p.1) (subst (λ s. Moved u u e s) (sym (both_none e)) (moved_none u e c.requires))
+
+pub returns-in_err-dtype-clause-moved : goal.returns-in_err-dtype-clause-moved
+returns-in_err-dtype-clause-moved g c =
+    let u : Active = g.O.Order.active c.args.order.now in
+    let e : Stock = end_stock c.args.eof.now in
+    let p = err_from_is_err_and c.from_residual-in_err-dtype.result c.from_residual-in_err-dtype.ensures.1 in
+    subst (λ r. Moved u u e (both e (ok_stock task_stock r))) (sym p.1) (subst (λ s. Moved u u e s) (sym (both_none e)) (moved_none u e c.requires))
+
+pub returns-in_err-kid-clause-moved : goal.returns-in_err-kid-clause-moved
+returns-in_err-kid-clause-moved g c =
+    let p = err_from_is_err_and c.from_residual-in_err-kid.result c.from_residual-in_err-kid.ensures.1 in
+    subst (λ r. Moved (g.O.Order.active c.args.order.now) (g.O.Order.active c.start_under.new.order) (end_stock c.args.eof.now) (both (end_stock c.start_under.new.eof) (ok_stock task_stock r))) (sym p.1) c.in_err-kid.ensures.moved
+
+pub returns-in_err-kid-clause-cause : goal.returns-in_err-kid-clause-cause
+returns-in_err-kid-clause-cause g c =
+    let p = err_from_is_err_and c.from_residual-in_err-kid.result c.from_residual-in_err-kid.ensures.1 in
+    rw (p.1, p.2) (start_may c.in_err-kid.field-0.0 c.in_err-kid.ensures.cause)

@@ -1,0 +1,15 @@
+use Rattle.std.proofs.Common.{◌≡◌, ◌≤◌, ◌+◌, vec_len}
+use Rattle.std.specs.VecDeque.{deque_len, deque_capacity}
+use Rattle.vx_machine_ids.specs.Stock.{both}
+use Rattle.vx_machine.specs.Stocks.{all_ids, dues_stock}
+use Rattle.vx_machine.proofs.columns.add_puts.Given as goal
+
+abbrev pub invariant-puts : goal.invariant-puts
+invariant-puts l = record {
+  same : vec_len l.ids ≡ vec_len l.columns;
+  room : deque_len l.todo + vec_len l.columns ≤ deque_capacity l.todo;
+  stock : both (all_ids l.ids) (dues_stock l.todo.items) ≡ both (all_ids l.initial.ids) (dues_stock l.initial.todo.items);
+}
+
+abbrev pub decreases-puts : goal.decreases-puts
+decreases-puts l = vec_len l.columns

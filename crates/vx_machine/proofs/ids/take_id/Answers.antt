@@ -1,0 +1,20 @@
+use Rattle.vx_machine_ids.proofs.CallLaws.{owned_open}
+use Rattle.vx_machine.proofs.IdMoves.{took, not_took}
+use Rattle.vx_machine.proofs.ids.take_id.Goals as goal
+
+pub advance-requires : goal.advance-requires
+advance-requires g c = owned_open (g.O.Order.active c.args.order.now) c.args.pointer.now c.requires
+
+pub returns-in-Ok-clause-moved : goal.returns-in-Ok-clause-moved
+returns-in-Ok-clause-moved g c = took (g.O.Order.active c.args.order.now) (g.O.Order.active c.advance.new.self) c.args.pointer.now c.advance.new.p c.in-Ok.id
+    c.in-Ok.ensures.rules c.in-Ok.ensures.active c.in-Ok.ensures.pointer c.in-Ok.ensures.id c.requires
+
+pub returns-in-Ok-clause-faults : goal.returns-in-Ok-clause-faults
+returns-in-Ok-clause-faults g c = c.advance.ensures.told.counted
+
+pub returns-in-Err-clause-moved : goal.returns-in-Err-clause-moved
+returns-in-Err-clause-moved g c = not_took (g.O.Order.active c.args.order.now) (g.O.Order.active c.advance.new.self) c.args.pointer.now c.advance.new.p
+    c.in-Err.ensures.unchanged.1 c.in-Err.ensures.unchanged.0 c.requires
+
+pub returns-in-Err-clause-faults : goal.returns-in-Err-clause-faults
+returns-in-Err-clause-faults g c = c.advance.ensures.told.counted

@@ -1,0 +1,11 @@
+use Rattle.vx_machine.proofs.Finishing.{finished_parts, finished_none, closed_is}
+use Rattle.vx_machine.proofs.machine.Machine.finish.Goals as goal
+
+pub into_layout-layout-requires : goal.into_layout-layout-requires
+into_layout-layout-requires c = (finished_parts c.args.self c.requires).1
+
+pub unreachable-requires : goal.unreachable-requires
+unreachable-requires c = c.in_default.not-Finished (closed_is c.args.self.phase (finished_parts c.args.self c.requires).0)
+
+pub returns : goal.returns
+returns c = finished_none c.args.self c.requires

@@ -1,0 +1,15 @@
+use Rattle.std.proofs.Common.{ap}
+use Rattle.vx_machine.specs.Stocks.{task_stock}
+use Rattle.vx_machine.specs.Source.{phase_stock}
+use Rattle.vx_machine.proofs.MachineMoves.{source_owned, source_moved}
+use Rattle.vx_machine.proofs.machine.Machine.step_source.Goals as goal
+
+pub act_source-phase-requires : goal.act_source-phase-requires
+act_source-phase-requires g c =
+    source_owned (g.O.Order.active c.args.order.now) (phase_stock c.args.self.now.phase) (phase_stock c.replace-phase.result) (task_stock c.args.self.now.root) (ap phase_stock c.replace-phase.ensures.value) c.requires
+
+pub returns-clause-moved : goal.returns-clause-moved
+returns-clause-moved g c =
+    source_moved (g.O.Order.active c.args.order.now) (g.O.Order.active c.act_source-phase.new.order) (phase_stock c.args.self.now.phase) (phase_stock c.replace-phase.result)
+    (phase_stock c.act_source-phase.result.0) (phase_stock c.set_phase.new.phase) (task_stock c.args.self.now.root) (task_stock c.act_source-phase.new.root)
+    (ap phase_stock c.replace-phase.ensures.value) (ap phase_stock c.set_phase.ensures) c.act_source-phase.ensures.moved

@@ -1,0 +1,44 @@
+use Rattle.std.proofs.Common.{subst, ◌∙◌, refl, arith}
+use Rattle.vx_sequence.specs.Universe.{Active}
+use Rattle.vx_machine_ids.specs.Stock.{none}
+use Rattle.vx_machine_ids.specs.Balance.{Moved}
+use Rattle.vx_machine_ids.proofs.MoveLaws.{moved_none, moved_then, owned_now}
+use Rattle.vx_machine.specs.Pairs.{task_pairs}
+use Rattle.vx_machine.specs.Whole.{machine_stock}
+use Rattle.vx_machine.proofs.PairSteps.{all_may}
+use Rattle.vx_machine.proofs.running.run.Goals as goal
+
+pub steps-init : goal.steps-init
+steps-init g c = record {
+  owned = c.requires.owned;
+  moved = moved_none (g.O.Order.active c.args.order.now) (machine_stock c.args.machine) c.requires.owned;
+  kind = refl;
+  source_faults = refl;
+  sink_faults = refl;
+}
+
+pub returns-then-finished-clause-moved : goal.returns-then-finished-clause-moved
+returns-then-finished-clause-moved g c =
+    subst (λ s. Moved (g.O.Order.active c.args.order.now) (g.O.Order.active c.steps.order) (machine_stock c.args.machine) s) c.finish.ensures c.steps.invariant.moved
+
+pub step-requires-clause-ready : goal.step-requires-clause-ready
+step-requires-clause-ready g c = omega (arith, c.ready.ensures, c.if-ready-eq0.false)
+
+pub step-requires-clause-allowed : goal.step-requires-clause-allowed
+step-requires-clause-allowed g c = all_may (g.O.Order.may_write c.steps.order) (λ p b. c.requires.allowed c.steps.order p b) (task_pairs c.steps.machine.root)
+
+pub returns-then-ready-eq0-clause-moved : goal.returns-then-ready-eq0-clause-moved
+returns-then-ready-eq0-clause-moved g c =
+    moved_then (g.O.Order.active c.args.order.now) (g.O.Order.active c.steps.order) (g.O.Order.active c.refuse.new.order) (machine_stock c.args.machine) (machine_stock c.steps.machine) none c.steps.invariant.moved c.refuse.ensures.moved
+
+pub steps-preserved : goal.steps-preserved
+steps-preserved g c =
+    let u : Active = g.O.Order.active c.steps.order in
+    let v : Active = g.O.Order.active c.step.new.order in
+    record {
+      owned = owned_now u v (machine_stock c.steps.machine) (machine_stock c.step.new.self) c.steps.invariant.owned c.step.ensures.moved;
+      moved = moved_then (g.O.Order.active c.args.order.now) u v (machine_stock c.args.machine) (machine_stock c.steps.machine) (machine_stock c.step.new.self) c.steps.invariant.moved c.step.ensures.moved;
+      kind = c.step.ensures.kind ∙ c.steps.invariant.kind;
+      source_faults = c.in-Ok.ensures.source_count ∙ c.steps.invariant.source_faults;
+      sink_faults = c.in-Ok.ensures.sink_count ∙ c.steps.invariant.sink_faults;
+    }

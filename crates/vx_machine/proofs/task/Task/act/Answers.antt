@@ -1,0 +1,32 @@
+use Rattle.vx_sequence.specs.Universe.{Active}
+use Rattle.vx_machine_ids.specs.Stock.{Stock, both}
+use Rattle.vx_machine.specs.Stocks.{head_stock, tasks_stock}
+use Rattle.vx_machine.specs.declared.task.Task.{out-Task}
+use Rattle.vx_machine.specs.declared.task.Task.TheViews.{roll-Task}
+use Rattle.vx_machine.proofs.TaskParts.{parts_owned, parts_moved, rolled}
+use Rattle.vx_machine.proofs.task.Task.act.Goals as goal
+
+pub advance-requires-clause-owned : goal.advance-requires-clause-owned
+advance-requires-clause-owned g c = parts_owned (g.O.Order.active c.args.order.now) c.args.self.now c.requires.owned
+
+pub advance-requires-clause-ready : goal.advance-requires-clause-ready
+advance-requires-clause-ready g c = c.requires.ready
+
+pub advance-requires-clause-allowed : goal.advance-requires-clause-allowed
+advance-requires-clause-allowed g c = c.requires.allowed
+
+pub returns-in-Ok-clause-moved : goal.returns-in-Ok-clause-moved
+returns-in-Ok-clause-moved g c =
+    let u : Active = g.O.Order.active c.args.order.now in
+    let v : Active = g.O.Order.active c.advance.new.order in
+    let s : Stock = both (head_stock (out-Task c.args.self.now).head) (tasks_stock (out-Task c.args.self.now).kids.items) in
+    parts_moved u c.args.self.now c.requires.owned v (roll-Task (record { head = c.advance.new.head; kids = c.advance.new.kids }))
+    (rolled u v s (record { head = c.advance.new.head; kids = c.advance.new.kids }) c.advance.ensures.moved)
+
+pub returns-in-Err-clause-moved : goal.returns-in-Err-clause-moved
+returns-in-Err-clause-moved g c =
+    let u : Active = g.O.Order.active c.args.order.now in
+    let v : Active = g.O.Order.active c.advance.new.order in
+    let s : Stock = both (head_stock (out-Task c.args.self.now).head) (tasks_stock (out-Task c.args.self.now).kids.items) in
+    parts_moved u c.args.self.now c.requires.owned v (roll-Task (record { head = c.advance.new.head; kids = c.advance.new.kids }))
+    (rolled u v s (record { head = c.advance.new.head; kids = c.advance.new.kids }) c.advance.ensures.moved)

@@ -1,0 +1,47 @@
+-- Which errors a task's act may meet.
+use Rattle.std.specs.Prelude.{◌≡◌, ◌^◌, ◌≤◌}
+use Rattle.vx_write_answer.specs.declared.error.WriteError.{WriteError}
+use Rattle.vx_write_answer.specs.declared.error.WriteError.TheVariants.{SourceFault, SinkFault, CompressFault, BatchType, NotStruct, DuplicateField, ManyChunks, EmptyList, ZoneCut, ForbiddenAggregate, ForbiddenEncoding, TooLarge, OutOfMemory, Unbuilt, Stopped}
+
+-- A line an error, of an act that asks no sink. A number is too large where it passes 64 bits.
+abbrev pub MayCome : WriteError → Type 0
+MayCome SourceFault = ⊥
+MayCome SinkFault = ⊥
+MayCome CompressFault = ⊥
+MayCome (BatchType c) = Unit {0}
+MayCome NotStruct = Unit {0}
+MayCome (DuplicateField name) = Unit {0}
+MayCome ManyChunks = Unit {0}
+MayCome EmptyList = ⊥
+MayCome (ZoneCut n) = ⊥
+MayCome (ForbiddenAggregate id) = ⊥
+MayCome (ForbiddenEncoding id) = Unit {0}
+MayCome (TooLarge n) = 2 ^ 64 ≤ n
+MayCome OutOfMemory = Unit {0}
+MayCome Unbuilt = ⊥
+MayCome (Stopped by name) = ⊥
+
+-- the same of an act that may append: a segment's number passes 32 bits
+abbrev pub ActMay : WriteError → Type 0
+ActMay SinkFault = Unit {0}
+ActMay (Stopped by name) = Unit {0}
+ActMay (TooLarge n) = 2 ^ 32 ≤ n
+ActMay e = MayCome e
+
+-- the same of what starts a task
+abbrev pub StartMay : WriteError → Type 0
+StartMay NotStruct = Unit {0}
+StartMay (DuplicateField name) = Unit {0}
+StartMay (TooLarge n) = n ≡ 2 ^ 64
+StartMay OutOfMemory = Unit {0}
+StartMay SourceFault = ⊥
+StartMay SinkFault = ⊥
+StartMay CompressFault = ⊥
+StartMay (BatchType c) = ⊥
+StartMay ManyChunks = ⊥
+StartMay EmptyList = ⊥
+StartMay (ZoneCut n) = ⊥
+StartMay (ForbiddenAggregate id) = ⊥
+StartMay (ForbiddenEncoding id) = ⊥
+StartMay Unbuilt = ⊥
+StartMay (Stopped by name) = ⊥

@@ -1,0 +1,8 @@
+pub mod Built
+pub mod Stocks
+pub mod Sizes
+pub mod Ready
+pub mod Pairs
+pub mod Causes
+pub mod Source
+pub mod Whole

@@ -1,0 +1,43 @@
+//! Which strategies are built.
+
+ghost use Rattle.std.specs.Prelude.{◌≡◌};
+ghost use Rattle.vx_strategy.specs.FieldWays.{field_ways};
+ghost use Rattle.vx_strategy.specs.StrategyView.{strategy_data};
+ghost use Rattle.vx_machine.specs.Built.{is_built, are_built};
+
+use vx_strategy::{FieldWriter, Strategy};
+
+/// Whether the strategy names only nodes that are built.
+#[cycle(built)]
+pub(crate) fn is_built(strategy: &Strategy) -> bool
+    ensures { result ≡ is_built (strategy_data strategy.now) }
+{
+    match strategy {
+        Strategy::Flat(flat) => !flat.inline_array_node,
+        Strategy::Chunked(chunked) => is_built(chunked.child().strategy()),
+        Strategy::Struct(fields) => {
+            let validity = is_built(fields.validity().strategy());
+            let default = is_built(fields.default().strategy());
+            let writers = are_built(&fields.writers);
+            validity && (default && writers)
+        }
+        Strategy::List(_) | Strategy::Dict(_) | Strategy::Zoned(_) | Strategy::Repartition(_) => {
+            false
+        }
+        Strategy::Buffered(_) | Strategy::Collect(_) | Strategy::Compressing(_) => false,
+        Strategy::Table(_) => false,
+    }
+}
+
+#[cycle(built)]
+fn are_built(writers: &[FieldWriter]) -> bool
+    ensures { result ≡ are_built (field_ways writers.now) }
+{
+    'writers: for writer in writers {
+        let built = is_built(writer.writer.strategy());
+        if !built {
+            return false;
+        }
+    }
+    true
+}

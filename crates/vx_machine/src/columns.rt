@@ -1,0 +1,122 @@
+//! A struct node hands its columns the parts of each chunk.
+
+ghost use Rattle.std.specs.Prelude.{◌≡◌, ◌↔◌, ◌+◌, ◌<◌, ◌≤◌, ◌^◌, vec_len, IsTrue, IfOk, IfErr, OnOk};
+ghost use Rattle.std.specs.VecDeque.{deque_len, deque_capacity};
+ghost use Rattle.vx_model.specs.ChunkData.{piece_type};
+ghost use Rattle.vx_model.specs.TyView.{ty};
+ghost use Rattle.vx_machine_ids.specs.Stock.{none, both, id_stock};
+ghost use Rattle.vx_machine_ids.specs.Balance.{Owned, Moved};
+ghost use Rattle.vx_machine.specs.Stocks.{all_ids, item_stock, dues_stock};
+ghost use Rattle.vx_machine.specs.Causes.{MayCome};
+
+use crate::ids::{give_up_id, take_children};
+use crate::item::{Due, Item};
+use crate::kinds::ColumnsNode;
+use std::alloc::Global;
+use std::collections::VecDeque;
+use vx_chunk::Chunk;
+use vx_model::DType;
+use vx_order::Order;
+use vx_sequence::SequenceId;
+use vx_write_answer::WriteError;
+
+/// The rows of one more chunk to those before it.
+pub(crate) fn add_rows(rows: u64, more: u64) -> Result<u64, WriteError>
+    ensures ok { IfOk result (λ n. n ≡ rows + more) }
+    ensures fits { OnOk result (rows + more < 2 ^ 64) }
+    ensures cause { IfErr result MayCome }
+{
+    let total = u128::from(rows) + u128::from(more);
+    if total > u128::from(u64::MAX) {
+        return Err(WriteError::TooLarge(total));
+    }
+    Ok(total as u64)
+}
+
+/// Whether the chunk is of the type.
+pub(crate) fn has_type(chunk: &Chunk, dtype: &DType) -> bool
+    ensures { IsTrue result ↔ (piece_type chunk.now ≡ ty dtype.now) }
+{
+    chunk.dtype() == dtype
+}
+
+/// The chunk's columns, with room for what is to be done with them, and the rows with it.
+fn split_chunk(
+    alloc: Global,
+    node: &ColumnsNode,
+    rows: u64,
+    todo: &mut VecDeque<Due>,
+    chunk: Chunk,
+) -> Result<(Vec<Chunk>, u64), WriteError>
+    ensures todo { todo.new.items ≡ todo.old.items }
+    ensures room { IfOk result (λ r. deque_len todo.new + vec_len r.0 ≤ deque_capacity todo.new) }
+    ensures cause { IfErr result MayCome }
+{
+    if !has_type(&chunk, &node.dtype) {
+        return Err(WriteError::BatchType(chunk));
+    }
+    let rows = add_rows(rows, chunk.len())?;
+    let columns = node.split.react(alloc, chunk)?;
+    todo.reserve(columns.len())?;
+    Ok((columns, rows))
+}
+
+/// The chunk is to be put on the queue of the child whose number is that of the ids before the last one, which it takes.
+fn add_put(todo: &mut VecDeque<Due>, ids: &mut Vec<SequenceId>, chunk: Chunk)
+    requires some { 0 < vec_len ids.old }
+    requires room { deque_len todo.old < deque_capacity todo.old }
+    ensures stock { both (all_ids ids.new) (dues_stock todo.new.items) ≡ both (all_ids ids.old) (dues_stock todo.old.items) }
+    ensures ids { vec_len ids.new + 1 ≡ vec_len ids.old }
+    ensures todo { deque_len todo.new ≡ deque_len todo.old + 1 }
+    ensures capacity { deque_capacity todo.new ≡ deque_capacity todo.old }
+{
+    match ids.pop() {
+        Some(id) => todo.push_front_reserved(Due::Put {
+            child: ids.len(),
+            item: Item { id, chunk },
+        }),
+        None => unreachable!(),
+    }
+}
+
+/// A column each is to be put next on the queue of its child.
+fn add_puts(todo: &mut VecDeque<Due>, mut ids: Vec<SequenceId>, mut columns: Vec<Chunk>)
+    requires same { vec_len ids ≡ vec_len columns }
+    requires room { deque_len todo.old + vec_len columns ≤ deque_capacity todo.old }
+    ensures { dues_stock todo.new.items ≡ both (all_ids ids) (dues_stock todo.old.items) }
+{
+    'puts: while let Some(chunk) = columns.pop() {
+        add_put(todo, &mut ids, chunk);
+    }
+    ids.destroy_empty();
+}
+
+/// Takes a chunk: each of its columns is to be put on the queue of a child, under a child of the chunk's id.
+pub(crate) fn take_columns<O: Order>(
+    alloc: Global,
+    order: &mut O,
+    node: &ColumnsNode,
+    rows: &mut u64,
+    todo: &mut VecDeque<Due>,
+    item: Item,
+) -> Result<(), WriteError>
+    requires { Owned (O.active order.old) (both (dues_stock todo.old.items) (item_stock item)) }
+    ensures moved { Moved (O.active order.old) (O.active order.new) (both (dues_stock todo.old.items) (item_stock item)) (dues_stock todo.new.items) }
+    ensures outlet { O.outlet order.new ≡ O.outlet order.old }
+    ensures faults { O.faults order.new ≡ O.faults order.old }
+    ensures cause { IfErr result MayCome }
+{
+    let Item { id, chunk } = item;
+    match split_chunk(alloc, node, *rows, todo, chunk) {
+        Ok((columns, total)) => {
+            let ids = take_children(alloc, order, id, columns.len())?;
+            add_puts(todo, ids, columns);
+            *rows = total;
+            Ok(())
+        }
+        Err(error) => {
+            give_up_id(order, id);
+            Err(error)
+        }
+    }
+}

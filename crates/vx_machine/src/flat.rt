@@ -1,0 +1,161 @@
+//! A flat node stores its one chunk as one segment.
+
+ghost use Rattle.std.specs.Prelude.{◌≡◌, IfErr};
+ghost use Rattle.vx_fault.specs.Counts.{Counts};
+ghost use Rattle.vx_sequence.specs.Universe.{IsLeast};
+ghost use Rattle.vx_machine_ids.specs.Stock.{none, both, id_stock};
+ghost use Rattle.vx_machine_ids.specs.Balance.{Owned, Moved};
+ghost use Rattle.vx_write_answer.specs.Causes.{errs, is_sink_fault};
+ghost use Rattle.vx_machine.specs.Stocks.{item_stock, local_stock, stored_stock};
+ghost use Rattle.vx_machine.specs.Causes.{MayCome, ActMay};
+
+use crate::ids::give_up_id;
+use crate::item::{Item, Segment, Stored};
+use crate::kinds::FlatNode;
+use crate::node::{Local, give_up_local};
+use std::alloc::{AllocError, Global};
+use std::mem;
+use std::sync::Arc;
+use vx_chunk::Chunk;
+use vx_layout_tree::{FlatLayout, Layout};
+use vx_model::{ArrayContext, DType, SegmentId};
+use vx_order::{Attempt, Order};
+use vx_segment_writer::encode_segment;
+use vx_sequence::SequenceId;
+use vx_sink::LayoutWriterContext;
+use vx_write_answer::WriteError;
+
+/// Puts something else in mind. What was there is given up.
+pub(crate) fn set_local<O: Order>(order: &mut O, local: &mut Local, new: Local)
+    requires { Owned (O.active order.old) (both (local_stock local.old) (local_stock new)) }
+    ensures moved { Moved (O.active order.old) (O.active order.new) (both (local_stock local.old) (local_stock new)) (local_stock local.new) }
+    ensures local { local.new ≡ new }
+    ensures outlet { O.outlet order.new ≡ O.outlet order.old }
+    ensures faults { O.faults order.new ≡ O.faults order.old }
+{
+    let old = mem::replace(local, new);
+    give_up_local(order, old);
+}
+
+/// The chunk's segment.
+fn store(
+    alloc: Global,
+    ctx: &LayoutWriterContext,
+    node: &FlatNode,
+    chunk: &Chunk,
+) -> Result<Segment, WriteError>
+    ensures { IfErr result MayCome }
+{
+    let bytes = encode_segment(alloc, ctx.array_ctx(), chunk, node.options.include_padding)?;
+    let dtype = Arc::try_clone(&node.dtype)?;
+    Ok(Segment {
+        bytes,
+        rows: chunk.len(),
+        dtype,
+    })
+}
+
+/// The segment of a first chunk; a further one is refused.
+fn first_segment(
+    alloc: Global,
+    ctx: &LayoutWriterContext,
+    local: &Local,
+    chunk: &Chunk,
+) -> Result<Segment, WriteError>
+    ensures { IfErr result MayCome }
+{
+    match local {
+        Local::Empty(node) => store(alloc, ctx, node, chunk),
+        _ => Err(WriteError::ManyChunks),
+    }
+}
+
+/// Takes the first chunk, or refuses a further one.
+pub(crate) fn take_flat<O: Order>(
+    alloc: Global,
+    ctx: &LayoutWriterContext,
+    order: &mut O,
+    local: &mut Local,
+    item: Item,
+) -> Result<(), WriteError>
+    requires { Owned (O.active order.old) (both (local_stock local.old) (item_stock item)) }
+    ensures moved { Moved (O.active order.old) (O.active order.new) (both (local_stock local.old) (item_stock item)) (local_stock local.new) }
+    ensures outlet { O.outlet order.new ≡ O.outlet order.old }
+    ensures faults { O.faults order.new ≡ O.faults order.old }
+    ensures cause { IfErr result MayCome }
+{
+    let Item { id, chunk } = item;
+    match first_segment(alloc, ctx, local, &chunk) {
+        Ok(segment) => {
+            set_local(order, local, Local::Full(Stored { id, segment }));
+            Ok(())
+        }
+        Err(error) => {
+            give_up_id(order, id);
+            Err(error)
+        }
+    }
+}
+
+/// Appends the bytes at the least path.
+fn write<O: Order>(order: &mut O, id: SequenceId, bytes: &[u8]) -> Result<u32, WriteError>
+    requires owned { Owned (O.active order.old) (id_stock id) }
+    requires least { IsLeast (O.active order.old) id }
+    requires allowed { O.may_write order.old id bytes.now }
+    ensures moved { Moved (O.active order.old) (O.active order.new) (id_stock id) none }
+    ensures faults { Counts (O.faults order.old) (O.faults order.new) (errs is_sink_fault result) }
+    ensures cause { IfErr result ActMay }
+{
+    match order.try_write(id, bytes) {
+        Ok(Attempt::Written(receipt)) => Ok(receipt.number),
+        Ok(
+            Attempt::Waiting {
+                id,
+                smaller: _smaller,
+            },
+        ) => {
+            prove!(false);
+            order.release(id);
+            Err(WriteError::OutOfMemory)
+        }
+        Err((id, error)) => {
+            order.release(id);
+            Err(error.into())
+        }
+    }
+}
+
+fn layout_parts(
+    ctx: &LayoutWriterContext,
+    dtype: &DType,
+) -> Result<(DType, ArrayContext), AllocError> {
+    let dtype = dtype.clone()?;
+    Ok((dtype, ctx.array_ctx().clone()?))
+}
+
+/// Appends the segment. All memory is taken before the sink is called.
+pub(crate) fn append<O: Order>(
+    ctx: &LayoutWriterContext,
+    order: &mut O,
+    stored: Stored,
+) -> Result<Layout, WriteError>
+    requires owned { Owned (O.active order.old) (stored_stock stored) }
+    requires least { IsLeast (O.active order.old) stored.id }
+    requires allowed { O.may_write order.old stored.id stored.segment.bytes.items }
+    ensures moved { Moved (O.active order.old) (O.active order.new) (stored_stock stored) none }
+    ensures faults { Counts (O.faults order.old) (O.faults order.new) (errs is_sink_fault result) }
+    ensures cause { IfErr result ActMay }
+{
+    let Stored { id, segment } = stored;
+    match layout_parts(ctx, &segment.dtype) {
+        Ok((dtype, encodings)) => {
+            let number = write(order, id, &segment.bytes)?;
+            let flat = FlatLayout::new(segment.rows, dtype, SegmentId(number), encodings);
+            Ok(Layout::Flat(flat))
+        }
+        Err(_) => {
+            give_up_id(order, id);
+            Err(WriteError::OutOfMemory)
+        }
+    }
+}

@@ -1,0 +1,85 @@
+//! Ids and pointers of an order, taken and given up in balance.
+
+ghost use Rattle.std.specs.Prelude.{◌≡◌, vec_len, IfOk, IfErr, OnErr};
+ghost use Rattle.vx_order.specs.Answers.{FullAt};
+ghost use Rattle.vx_machine_ids.specs.Stock.{none, both, id_stock, end_stock, ok_stock};
+ghost use Rattle.vx_machine_ids.specs.Balance.{Owned, Moved};
+ghost use Rattle.vx_machine.specs.Stocks.{all_ids};
+
+use std::alloc::Global;
+use vx_order::{Order, OrderError, make_ids, split_off};
+use vx_sequence::{SequenceId, SequencePointer};
+
+pub(crate) fn give_up_id<O: Order>(order: &mut O, id: SequenceId)
+    requires { Owned (O.active order.old) (id_stock id) }
+    ensures moved { Moved (O.active order.old) (O.active order.new) (id_stock id) none }
+    ensures outlet { O.outlet order.new ≡ O.outlet order.old }
+    ensures faults { O.faults order.new ≡ O.faults order.old }
+{
+    order.release(id);
+}
+
+/// Gives the pointer up, and its path with it.
+pub fn give_up_pointer<O: Order>(order: &mut O, pointer: SequencePointer)
+    requires { Owned (O.active order.old) (end_stock pointer) }
+    ensures moved { Moved (O.active order.old) (O.active order.new) (end_stock pointer) none }
+    ensures outlet { O.outlet order.new ≡ O.outlet order.old }
+    ensures faults { O.faults order.new ≡ O.faults order.old }
+{
+    order.release(pointer.downgrade());
+}
+
+/// The id of the pointer's path; the pointer goes on.
+pub(crate) fn take_id<O: Order>(
+    order: &mut O,
+    pointer: &mut SequencePointer,
+) -> Result<SequenceId, OrderError>
+    requires { Owned (O.active order.old) (end_stock pointer.old) }
+    ensures moved { Moved (O.active order.old) (O.active order.new) (end_stock pointer.old) (both (end_stock pointer.new) (ok_stock id_stock result)) }
+    ensures full { IfErr result (FullAt pointer.old.last) }
+    ensures same { OnErr result (pointer.new ≡ pointer.old) }
+    ensures outlet { O.outlet order.new ≡ O.outlet order.old }
+    ensures faults { O.faults order.new ≡ O.faults order.old }
+{
+    match order.advance(pointer) {
+        Ok(id) => Ok(id),
+        Err(error) => Err(error),
+    }
+}
+
+/// A pointer below the pointer's path; the other one goes on.
+pub fn take_below<O: Order>(
+    order: &mut O,
+    pointer: &mut SequencePointer,
+) -> Result<SequencePointer, OrderError>
+    requires { Owned (O.active order.old) (end_stock pointer.old) }
+    ensures moved { Moved (O.active order.old) (O.active order.new) (end_stock pointer.old) (both (end_stock pointer.new) (ok_stock end_stock result)) }
+    ensures full { IfErr result (FullAt pointer.old.last) }
+    ensures outlet { O.outlet order.new ≡ O.outlet order.old }
+    ensures faults { O.faults order.new ≡ O.faults order.old }
+{
+    match split_off(order, pointer) {
+        Ok(below) => Ok(below),
+        Err(error) => Err(error),
+    }
+}
+
+/// The first `count` children of the id, which is given up.
+pub(crate) fn take_children<O: Order>(
+    alloc: Global,
+    order: &mut O,
+    id: SequenceId,
+    count: usize,
+) -> Result<Vec<SequenceId>, OrderError>
+    requires { Owned (O.active order.old) (id_stock id) }
+    ensures moved { Moved (O.active order.old) (O.active order.new) (id_stock id) (ok_stock all_ids result) }
+    ensures count { IfOk result (λ ids. vec_len ids ≡ count) }
+    ensures memory { IfErr result (λ e. e ≡ OrderError.OutOfMemory) }
+    ensures outlet { O.outlet order.new ≡ O.outlet order.old }
+    ensures faults { O.faults order.new ≡ O.faults order.old }
+{
+    match make_ids(alloc, order, id, count) {
+        Ok(ids) => Ok(ids),
+        Err(error) => Err(error),
+    }
+}

@@ -1,0 +1,104 @@
+//! Chunks at their places: as they stand in queues, and as segments that are to be appended.
+
+ghost use Rattle.std.specs.Prelude.{◌≡◌};
+ghost use Rattle.vx_machine_ids.specs.Stock.{none};
+ghost use Rattle.vx_machine_ids.specs.Balance.{Owned, Moved};
+ghost use Rattle.vx_machine.specs.Stocks.{item_stock, items_stock, stored_stock, due_stock, dues_stock};
+
+use crate::ids::give_up_id;
+use crate::node::Shape;
+use std::collections::VecDeque;
+use std::sync::Arc;
+use vx_chunk::Chunk;
+use vx_model::DType;
+use vx_order::Order;
+use vx_sequence::SequenceId;
+
+/// A chunk, and the place of what is written of it.
+pub(crate) struct Item {
+    pub id: SequenceId,
+    pub chunk: Chunk,
+}
+
+/// A chunk's segment, and what its layout needs.
+pub(crate) struct Stored {
+    pub id: SequenceId,
+    pub segment: Segment,
+}
+
+#[derive(Drop)]
+pub(crate) struct Segment {
+    pub bytes: Vec<u8>,
+    pub rows: u64,
+    pub dtype: Arc<DType>,
+}
+
+/// What is left of a task's present block.
+pub(crate) enum Due {
+    Put { child: usize, item: Item },
+    Append(Stored),
+    /// Closes the queues of all children.
+    Close,
+    Join(Shape),
+}
+
+pub(crate) fn give_up_item<O: Order>(order: &mut O, item: Item)
+    requires { Owned (O.active order.old) (item_stock item) }
+    ensures moved { Moved (O.active order.old) (O.active order.new) (item_stock item) none }
+    ensures outlet { O.outlet order.new ≡ O.outlet order.old }
+    ensures faults { O.faults order.new ≡ O.faults order.old }
+{
+    let Item { id, chunk: _chunk } = item;
+    give_up_id(order, id);
+}
+
+pub(crate) fn give_up_stored<O: Order>(order: &mut O, stored: Stored)
+    requires { Owned (O.active order.old) (stored_stock stored) }
+    ensures moved { Moved (O.active order.old) (O.active order.new) (stored_stock stored) none }
+    ensures outlet { O.outlet order.new ≡ O.outlet order.old }
+    ensures faults { O.faults order.new ≡ O.faults order.old }
+{
+    let Stored {
+        id,
+        segment: _segment,
+    } = stored;
+    give_up_id(order, id);
+}
+
+pub(crate) fn give_up_due<O: Order>(order: &mut O, due: Due)
+    requires { Owned (O.active order.old) (due_stock due) }
+    ensures moved { Moved (O.active order.old) (O.active order.new) (due_stock due) none }
+    ensures outlet { O.outlet order.new ≡ O.outlet order.old }
+    ensures faults { O.faults order.new ≡ O.faults order.old }
+{
+    match due {
+        Due::Put { child: _, item } => give_up_item(order, item),
+        Due::Append(stored) => give_up_stored(order, stored),
+        Due::Close => {}
+        Due::Join(_shape) => {}
+    }
+}
+
+pub(crate) fn give_up_items<O: Order>(order: &mut O, mut items: VecDeque<Item>)
+    requires { Owned (O.active order.old) (items_stock items.items) }
+    ensures moved { Moved (O.active order.old) (O.active order.new) (items_stock items.items) none }
+    ensures outlet { O.outlet order.new ≡ O.outlet order.old }
+    ensures faults { O.faults order.new ≡ O.faults order.old }
+{
+    'items: while let Some(item) = items.pop_back() {
+        give_up_item(order, item);
+    }
+    items.destroy_empty();
+}
+
+pub(crate) fn give_up_dues<O: Order>(order: &mut O, mut dues: VecDeque<Due>)
+    requires { Owned (O.active order.old) (dues_stock dues.items) }
+    ensures moved { Moved (O.active order.old) (O.active order.new) (dues_stock dues.items) none }
+    ensures outlet { O.outlet order.new ≡ O.outlet order.old }
+    ensures faults { O.faults order.new ≡ O.faults order.old }
+{
+    'dues: while let Some(due) = dues.pop_back() {
+        give_up_due(order, due);
+    }
+    dues.destroy_empty();
+}

@@ -1,0 +1,26 @@
+//! The step machine: tasks that take chunks from queues, put parts of them on others, and append segments in the order of
+//! their paths, a step at a time. So far it has the nodes that need no compressor and hold nothing back: flat, chunked
+//! and struct.
+#![tactic(auto)]
+
+mod advance;
+mod built;
+mod chunked;
+mod columns;
+mod flat;
+mod ids;
+mod item;
+mod join;
+mod kinds;
+mod machine;
+mod node;
+mod ready;
+mod running;
+mod source;
+mod start;
+mod step;
+mod task;
+
+pub use ids::{give_up_pointer, take_below};
+pub use machine::Machine;
+pub use running::run;

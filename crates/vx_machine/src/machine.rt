@@ -1,0 +1,310 @@
+//! The machine.
+
+ghost use Rattle.std.specs.Prelude.{◌≡◌, ◌<◌, ◌%◌, IsTrue, IfOk, IfErr, OnOk};
+ghost use Rattle.vx_fault.specs.Counts.{Counts};
+ghost use Rattle.vx_strategy.specs.StrategyView.{strategy_data};
+ghost use Rattle.vx_machine_ids.specs.Stock.{none, both, end_stock, ok_stock};
+ghost use Rattle.vx_machine_ids.specs.Balance.{Owned, Moved, Exact, IsNone};
+ghost use Rattle.vx_write_answer.specs.Causes.{errs, is_source_fault, is_sink_fault};
+ghost use Rattle.vx_machine.specs.Built.{is_built};
+ghost use Rattle.vx_machine.specs.Causes.{StartMay};
+ghost use Rattle.vx_machine.specs.Pairs.{task_pairs, AllMay};
+ghost use Rattle.vx_machine.specs.Ready.{is_done as is_done_task, counted};
+ghost use Rattle.vx_machine.specs.Source.{SourceMay};
+ghost use Rattle.vx_machine.specs.Stocks.{task_stock};
+ghost use Rattle.vx_machine.specs.Whole.{machine_stock, machine_ready, may_source as may_act, has_closed as is_closed, is_finished, StepMay, WholeStartMay};
+
+use crate::built::is_built;
+use crate::ids::give_up_pointer;
+use crate::node::Local;
+use crate::ready::{is_made, one};
+use crate::source::{Phase, act_source, give_up_phase};
+use crate::start::start_task;
+use crate::step::Did;
+use crate::task::{Head, Task};
+use std::alloc::Global;
+use std::mem;
+use std::sync::Arc;
+use vx_layout_tree::Layout;
+use vx_model::DType;
+use vx_order::Order;
+use vx_path::owned::Path;
+use vx_sequence::SequencePointer;
+use vx_sink::{BatchSource, CompressorPlugin, LayoutWriterContext};
+use vx_strategy::Strategy;
+use vx_write_answer::{ActionKind, Step, WriteError};
+
+/// Tasks that write a stream of batches: the source's, named `[0]`, and those of nodes, of which the root's is named `[1]`.
+///
+/// A machine must be spent, by `finish` or `refuse`.
+pub struct Machine {
+    alloc: Global,
+    phase: Phase,
+    root: Task,
+}
+
+/// What the root starts with.
+fn root_parts(alloc: Global, dtype: &DType) -> Result<(Path, Arc<DType>), WriteError>
+    ensures { IfErr result (λ e. e ≡ WriteError.OutOfMemory) }
+{
+    let name = Path::child(alloc, &[], 1)?;
+    let dtype = Arc::new(alloc, dtype.clone()?)?;
+    Ok((name, dtype))
+}
+
+/// The root's task.
+fn start_root<O: Order>(
+    alloc: Global,
+    strategy: &Strategy,
+    dtype: &DType,
+    marked: bool,
+    order: &mut O,
+    eof: SequencePointer,
+) -> Result<Task, WriteError>
+    requires owned { Owned (O.active order.old) (end_stock eof) }
+    requires built { IsTrue (is_built (strategy_data strategy.now)) }
+    ensures moved { Moved (O.active order.old) (O.active order.new) (end_stock eof) (ok_stock task_stock result) }
+    ensures outlet { O.outlet order.new ≡ O.outlet order.old }
+    ensures faults { O.faults order.new ≡ O.faults order.old }
+    ensures cause { IfErr result StartMay }
+{
+    match root_parts(alloc, dtype) {
+        Ok((name, dtype)) => start_task(alloc, order, strategy, dtype, marked, name, eof),
+        Err(error) => {
+            give_up_pointer(order, eof);
+            Err(error)
+        }
+    }
+}
+
+fn has_closed(phase: &Phase) -> bool
+    ensures { result ≡ is_closed phase.now }
+{
+    match phase {
+        Phase::Finished => true,
+        Phase::Reading(_) | Phase::Giving(_, _) | Phase::Closing => false,
+    }
+}
+
+impl Task {
+    /// Whether its layout is there, and nothing else.
+    fn is_done(&self) -> bool
+        ensures { result ≡ is_done_task self.now }
+    {
+        let made = is_made(&self.head.local);
+        let idle = self.head.todo.is_empty();
+        let empty = self.head.inbox.is_empty();
+        let alone = self.kids.is_empty();
+        made && (idle && (empty && alone))
+    }
+
+    /// The layout of a task that has done all.
+    fn into_layout(self) -> Layout
+        requires { IsTrue (is_done_task self) }
+        ensures { task_stock self ≡ none }
+    {
+        let Task { head, kids } = self;
+        kids.destroy_empty();
+        let Head {
+            name: _name,
+            local,
+            todo,
+            inbox,
+            places: _,
+            closed: _,
+        } = head;
+        todo.destroy_empty();
+        inbox.destroy_empty();
+        match local {
+            Local::Made(layout) => layout,
+            _ => unreachable!(),
+        }
+    }
+}
+
+fn set_phase(phase: &mut Phase, new: Phase)
+    requires { phase.old ≡ Phase.Finished }
+    ensures { phase.new ≡ new }
+{
+    match mem::replace(phase, new) {
+        Phase::Finished => {}
+        _ => unreachable!(),
+    }
+}
+
+impl Machine {
+    /// The machine before its first step. The batches get paths from `stream` on; what is written behind all of them goes on
+    /// from `eof`.
+    ///
+    /// `Unbuilt` comes where the strategy names a node that isn't built. `NotStruct` and `DuplicateField` come of the nodes that
+    /// start with the root, `TooLarge(2^64)` where a path index has no next one. Refused, both pointers are given up.
+    pub fn start<O: Order>(
+        alloc: Global,
+        strategy: &Strategy,
+        dtype: &DType,
+        ctx: &LayoutWriterContext,
+        order: &mut O,
+        stream: SequencePointer,
+        eof: SequencePointer,
+    ) -> Result<Machine, WriteError>
+        requires { Owned (O.active order.old) (both (end_stock stream) (end_stock eof)) }
+        ensures moved { Moved (O.active order.old) (O.active order.new) (both (end_stock stream) (end_stock eof)) (ok_stock machine_stock result) }
+        ensures built { OnOk result (IsTrue (is_built (strategy_data strategy.now))) }
+        ensures outlet { O.outlet order.new ≡ O.outlet order.old }
+        ensures faults { O.faults order.new ≡ O.faults order.old }
+        ensures cause { IfErr result (WholeStartMay (is_built (strategy_data strategy.now))) }
+    {
+        if !is_built(strategy) {
+            give_up_pointer(order, stream);
+            give_up_pointer(order, eof);
+            return Err(WriteError::Unbuilt);
+        }
+        match start_root(
+            alloc,
+            strategy,
+            dtype,
+            ctx.has_nullable_ancestor(),
+            order,
+            eof,
+        ) {
+            Ok(root) => Ok(Machine {
+                alloc,
+                phase: Phase::Reading(stream),
+                root,
+            }),
+            Err(error) => {
+                give_up_pointer(order, stream);
+                Err(error)
+            }
+        }
+    }
+
+    fn source_may(&self) -> bool
+        ensures { result ≡ may_act self.now.phase self.now.root }
+    {
+        match &self.phase {
+            Phase::Reading(_) | Phase::Closing => true,
+            Phase::Giving(_, _) => self.root.head.inbox.len() < self.root.head.places,
+            Phase::Finished => false,
+        }
+    }
+
+    /// How many tasks are ready, as far as 64 bits tell. It counts them anew.
+    pub fn ready<O: Order>(&self, order: &O) -> u64
+        requires { Owned (O.active order.now) (machine_stock self.now) }
+        ensures { result ≡ counted (machine_ready (O.active order.now) self.now) }
+    {
+        let own = one(self.source_may());
+        own.saturating_add(self.root.ready(order))
+    }
+
+    /// The source's next act.
+    fn step_source<O: Order, B: BatchSource>(
+        &mut self,
+        source: &mut B,
+        order: &mut O,
+    ) -> Result<ActionKind, WriteError>
+        requires { Owned (O.active order.old) (machine_stock self.old) }
+        ensures moved { Moved (O.active order.old) (O.active order.new) (machine_stock self.old) (machine_stock self.new) }
+        ensures outlet { O.outlet order.new ≡ O.outlet order.old }
+        ensures faults { O.faults order.new ≡ O.faults order.old }
+        ensures kind { B.kind source.new ≡ B.kind source.old }
+        ensures counted { Counts (B.faults source.old) (B.faults source.new) (errs is_source_fault result) }
+        ensures cause { IfErr result (SourceMay (B.kind source.old)) }
+    {
+        let phase = mem::replace(&mut self.phase, Phase::Finished);
+        let (phase, result) = act_source(order, source, phase, &mut self.root);
+        set_phase(&mut self.phase, phase);
+        result
+    }
+
+    /// The ready task at the place `pick` modulo their number does its next act; tasks are in the order of their names.
+    ///
+    /// After an error `refuse` alone is left to call. `SourceFault` and `SinkFault` come where that object's count of faults
+    /// says so.
+    pub fn step<B: BatchSource, O: Order, C: CompressorPlugin>(
+        &mut self,
+        pick: u64,
+        ctx: &mut LayoutWriterContext,
+        source: &mut B,
+        order: &mut O,
+        _compressor: &mut C,
+    ) -> Result<Step, WriteError>
+        requires owned { Owned (O.active order.old) (machine_stock self.old) }
+        requires ready { 0 < machine_ready (O.active order.old) self.old }
+        requires allowed { AllMay (O.may_write order.old) (task_pairs self.old.root) }
+        ensures moved { Moved (O.active order.old) (O.active order.new) (machine_stock self.old) (machine_stock self.new) }
+        ensures told { IfOk result (λ s. (s.ready ≡ counted (machine_ready (O.active order.old) self.old)) × (s.picked ≡ pick % s.ready)) }
+        ensures kind { B.kind source.new ≡ B.kind source.old }
+        ensures source_count { Counts (B.faults source.old) (B.faults source.new) (errs is_source_fault result) }
+        ensures sink_count { Counts (O.faults order.old) (O.faults order.new) (errs is_sink_fault result) }
+        ensures cause { IfErr result StepMay }
+    {
+        let ready = self.ready(order);
+        let picked = pick % ready;
+        let own = one(self.source_may());
+        if picked < own {
+            let task = Path::child(self.alloc, &[], 0)?;
+            return match self.step_source(source, order) {
+                Ok(action) => Ok(Step {
+                    ready,
+                    picked,
+                    task,
+                    action,
+                }),
+                Err(error) => Err(error),
+            };
+        }
+        match self.root.step(self.alloc, ctx, order, picked - own) {
+            Ok(Did { task, action }) => Ok(Step {
+                ready,
+                picked,
+                task,
+                action,
+            }),
+            Err(error) => Err(error),
+        }
+    }
+
+    /// Whether the root's layout is there, and nothing is left to do.
+    pub fn finished(&self) -> bool
+        ensures { result ≡ is_finished self.now }
+    {
+        let closed = has_closed(&self.phase);
+        closed && self.root.is_done()
+    }
+
+    /// The root's layout. No id is held by then.
+    pub fn finish(self) -> Layout
+        requires { IsTrue (is_finished self) }
+        ensures { machine_stock self ≡ none }
+    {
+        let Machine {
+            alloc: _,
+            phase,
+            root,
+        } = self;
+        let layout = root.into_layout();
+        match phase {
+            Phase::Finished => layout,
+            _ => unreachable!(),
+        }
+    }
+
+    /// Gives up all ids and pointers, after an error as well. What is active then is what was, less what the machine held.
+    pub fn refuse<O: Order>(self, _ctx: &mut LayoutWriterContext, order: &mut O)
+        requires { Owned (O.active order.old) (machine_stock self) }
+        ensures moved { Moved (O.active order.old) (O.active order.new) (machine_stock self) none }
+        ensures empty { Exact (O.active order.old) (machine_stock self) → IsNone (O.active order.new) }
+        ensures outlet { O.outlet order.new ≡ O.outlet order.old }
+        ensures faults { O.faults order.new ≡ O.faults order.old }
+    {
+        let Machine {
+            alloc: _,
+            phase,
+            root,
+        } = self;
+        give_up_phase(order, phase);
+        root.refuse(order);
+    }
+}

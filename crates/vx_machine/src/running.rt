@@ -1,0 +1,68 @@
+//! A machine from its start to its end.
+
+ghost use Rattle.std.specs.Prelude.{◌≡◌, List, ℕ, slice_index, IfErr};
+ghost use Rattle.vx_fault.specs.Counts.{Counts};
+ghost use Rattle.vx_machine_ids.specs.Stock.{none, both};
+ghost use Rattle.vx_machine_ids.specs.Balance.{Owned, Moved};
+ghost use Rattle.vx_write_answer.specs.Causes.{errs, is_source_fault, is_sink_fault};
+ghost use Rattle.vx_machine.specs.Whole.{machine_stock, StepMay};
+
+use crate::machine::Machine;
+use vx_layout_tree::Layout;
+use vx_order::Order;
+use vx_sink::{BatchSource, CompressorPlugin, LayoutWriterContext};
+use vx_write_answer::{Step, WriteError};
+
+/// The pick of this place; past the schedule's end the first task.
+fn pick_at(schedule: &[u64], place: usize) -> u64
+    ensures { result ≡ slice_index schedule.now place }
+{
+    match schedule.get(place) {
+        Some(pick) => *pick,
+        None => 0,
+    }
+}
+
+/// Steps by the schedule until the machine has finished or a step is refused. The steps that are done are put behind the
+/// trace, which was empty; a step's place in it is the place of its pick.
+///
+/// `None` comes where no task is ready, which the laws of tasks rule out for a machine that was started and stepped.
+pub fn run<B: BatchSource, O: Order, C: CompressorPlugin>(
+    mut machine: Machine,
+    ctx: &mut LayoutWriterContext,
+    source: &mut B,
+    order: &mut O,
+    compressor: &mut C,
+    schedule: &[u64],
+    trace: &mut Vec<Step>,
+) -> Result<Option<Layout>, WriteError>
+    requires owned { Owned (O.active order.old) (machine_stock machine) }
+    requires allowed { (o : O) (p b : List ℕ) → O.may_write o p b }
+    ensures moved { Moved (O.active order.old) (O.active order.new) (machine_stock machine) none }
+    ensures kind { B.kind source.new ≡ B.kind source.old }
+    ensures source_count { Counts (B.faults source.old) (B.faults source.new) (errs is_source_fault result) }
+    ensures sink_count { Counts (O.faults order.old) (O.faults order.new) (errs is_sink_fault result) }
+    ensures cause { IfErr result StepMay }
+{
+    'steps: loop {
+        if machine.finished() {
+            return Ok(Some(machine.finish()));
+        }
+        if machine.ready(order) == 0 {
+            machine.refuse(ctx, order);
+            return Ok(None);
+        }
+        if let Err(_) = trace.reserve(1) {
+            machine.refuse(ctx, order);
+            return Err(WriteError::OutOfMemory);
+        }
+        let pick = pick_at(schedule, trace.len());
+        match machine.step(pick, ctx, source, order, compressor) {
+            Ok(step) => trace.push_reserved(step),
+            Err(error) => {
+                machine.refuse(ctx, order);
+                return Err(error);
+            }
+        }
+    }
+}

@@ -1,0 +1,178 @@
+//! The source's task: it reads batches and puts them on the root's queue.
+
+ghost use Rattle.std.specs.Prelude.{◌≡◌, IfOk, IfErr};
+ghost use Rattle.vx_model.specs.ChunkData.{piece_type};
+ghost use Rattle.vx_fault.specs.Counts.{Counts};
+ghost use Rattle.vx_order.specs.Answers.{FullAt};
+ghost use Rattle.vx_machine_ids.specs.Stock.{none, both, id_stock, end_stock};
+ghost use Rattle.vx_machine_ids.specs.Balance.{Owned, Moved};
+ghost use Rattle.vx_write_answer.specs.Causes.{errs, is_source_fault};
+ghost use Rattle.vx_machine.specs.Source.{phase_stock, Reads, IsTyped, SourceMay};
+ghost use Rattle.vx_machine.specs.Stocks.{task_stock};
+
+use crate::columns::has_type;
+use crate::ids::{give_up_id, give_up_pointer, take_id};
+use crate::item::{Item, give_up_item};
+use crate::task::Task;
+use vx_chunk::Chunk;
+use vx_order::{Order, OrderError};
+use vx_sequence::{SequenceId, SequencePointer};
+use vx_sink::BatchSource;
+use vx_write_answer::{ActionKind, WriteError};
+
+/// What the source does next.
+pub(crate) enum Phase {
+    /// It reads the batch of this path.
+    Reading(SequencePointer),
+    /// It puts this batch on the root's queue.
+    Giving(SequencePointer, Item),
+    /// It closes the root's queue.
+    Closing,
+    Finished,
+}
+
+pub(crate) fn give_up_phase<O: Order>(order: &mut O, phase: Phase)
+    requires { Owned (O.active order.old) (phase_stock phase) }
+    ensures moved { Moved (O.active order.old) (O.active order.new) (phase_stock phase) none }
+    ensures outlet { O.outlet order.new ≡ O.outlet order.old }
+    ensures faults { O.faults order.new ≡ O.faults order.old }
+{
+    match phase {
+        Phase::Reading(pointer) => give_up_pointer(order, pointer),
+        Phase::Giving(pointer, item) => {
+            give_up_pointer(order, pointer);
+            give_up_item(order, item);
+        }
+        Phase::Closing => {}
+        Phase::Finished => {}
+    }
+}
+
+/// The next batch, which is of the source's type.
+fn next_batch<B: BatchSource>(source: &mut B) -> Result<Option<Chunk>, WriteError>
+    ensures kind { B.kind source.new ≡ B.kind source.old }
+    ensures typed { IfOk result (IsTyped (B.kind source.old)) }
+    ensures reads { Reads (B.to_come source.old) (B.to_come source.new) result }
+    ensures counted { Counts (B.faults source.old) (B.faults source.new) (errs is_source_fault result) }
+    ensures cause { IfErr result (SourceMay (B.kind source.old)) }
+{
+    match source.next() {
+        Ok(Some(batch)) => {
+            if !has_type(&batch, source.dtype()) {
+                return Err(WriteError::BatchType(batch));
+            }
+            Ok(Some(batch))
+        }
+        Ok(None) => Ok(None),
+        Err(error) => Err(error.into()),
+    }
+}
+
+/// The source's answer where its batch's path is taken.
+fn read_at<O: Order, B: BatchSource>(
+    order: &mut O,
+    source: &mut B,
+    pointer: SequencePointer,
+    id: SequenceId,
+) -> (Phase, Result<ActionKind, WriteError>)
+    requires { Owned (O.active order.old) (both (end_stock pointer) (id_stock id)) }
+    ensures moved { Moved (O.active order.old) (O.active order.new) (both (end_stock pointer) (id_stock id)) (phase_stock result.0) }
+    ensures outlet { O.outlet order.new ≡ O.outlet order.old }
+    ensures faults { O.faults order.new ≡ O.faults order.old }
+    ensures kind { B.kind source.new ≡ B.kind source.old }
+    ensures counted { Counts (B.faults source.old) (B.faults source.new) (errs is_source_fault result.1) }
+    ensures cause { IfErr result.1 (SourceMay (B.kind source.old)) }
+{
+    match next_batch(source) {
+        Ok(Some(chunk)) => (
+            Phase::Giving(pointer, Item { id, chunk }),
+            Ok(ActionKind::Batch),
+        ),
+        Ok(None) => {
+            give_up_id(order, id);
+            give_up_pointer(order, pointer);
+            (Phase::Closing, Ok(ActionKind::End))
+        }
+        Err(error) => {
+            give_up_id(order, id);
+            (Phase::Reading(pointer), Err(error))
+        }
+    }
+}
+
+/// The source's answer where its batch can have no path: only a batch is refused for it.
+fn read_none<O: Order, B: BatchSource>(
+    order: &mut O,
+    source: &mut B,
+    pointer: SequencePointer,
+    full: OrderError,
+) -> (Phase, Result<ActionKind, WriteError>)
+    requires owned { Owned (O.active order.old) (end_stock pointer) }
+    requires full { FullAt pointer.last full }
+    ensures moved { Moved (O.active order.old) (O.active order.new) (end_stock pointer) (phase_stock result.0) }
+    ensures outlet { O.outlet order.new ≡ O.outlet order.old }
+    ensures faults { O.faults order.new ≡ O.faults order.old }
+    ensures kind { B.kind source.new ≡ B.kind source.old }
+    ensures counted { Counts (B.faults source.old) (B.faults source.new) (errs is_source_fault result.1) }
+    ensures cause { IfErr result.1 (SourceMay (B.kind source.old)) }
+{
+    match next_batch(source) {
+        Ok(Some(_batch)) => (Phase::Reading(pointer), Err(full.into())),
+        Ok(None) => {
+            give_up_pointer(order, pointer);
+            (Phase::Closing, Ok(ActionKind::End))
+        }
+        Err(error) => (Phase::Reading(pointer), Err(error)),
+    }
+}
+
+fn read<O: Order, B: BatchSource>(
+    order: &mut O,
+    source: &mut B,
+    mut pointer: SequencePointer,
+) -> (Phase, Result<ActionKind, WriteError>)
+    requires { Owned (O.active order.old) (end_stock pointer) }
+    ensures moved { Moved (O.active order.old) (O.active order.new) (end_stock pointer) (phase_stock result.0) }
+    ensures outlet { O.outlet order.new ≡ O.outlet order.old }
+    ensures faults { O.faults order.new ≡ O.faults order.old }
+    ensures kind { B.kind source.new ≡ B.kind source.old }
+    ensures counted { Counts (B.faults source.old) (B.faults source.new) (errs is_source_fault result.1) }
+    ensures cause { IfErr result.1 (SourceMay (B.kind source.old)) }
+{
+    match take_id(order, &mut pointer) {
+        Ok(id) => read_at(order, source, pointer, id),
+        Err(full) => read_none(order, source, pointer, full),
+    }
+}
+
+/// The source's next act.
+pub(crate) fn act_source<O: Order, B: BatchSource>(
+    order: &mut O,
+    source: &mut B,
+    phase: Phase,
+    root: &mut Task,
+) -> (Phase, Result<ActionKind, WriteError>)
+    requires { Owned (O.active order.old) (both (phase_stock phase) (task_stock root.old)) }
+    ensures moved { Moved (O.active order.old) (O.active order.new) (both (phase_stock phase) (task_stock root.old)) (both (phase_stock result.0) (task_stock root.new)) }
+    ensures outlet { O.outlet order.new ≡ O.outlet order.old }
+    ensures faults { O.faults order.new ≡ O.faults order.old }
+    ensures kind { B.kind source.new ≡ B.kind source.old }
+    ensures counted { Counts (B.faults source.old) (B.faults source.new) (errs is_source_fault result.1) }
+    ensures cause { IfErr result.1 (SourceMay (B.kind source.old)) }
+{
+    match phase {
+        Phase::Reading(pointer) => read(order, source, pointer),
+        Phase::Giving(pointer, item) => match root.give(item) {
+            Ok(()) => (Phase::Reading(pointer), Ok(ActionKind::Put)),
+            Err(item) => {
+                give_up_item(order, item);
+                (Phase::Reading(pointer), Err(WriteError::OutOfMemory))
+            }
+        },
+        Phase::Closing => {
+            root.shut();
+            (Phase::Finished, Ok(ActionKind::Close))
+        }
+        Phase::Finished => (Phase::Finished, Ok(ActionKind::Close)),
+    }
+}

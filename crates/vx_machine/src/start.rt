@@ -1,0 +1,348 @@
+//! How tasks start.
+
+ghost use Rattle.std.specs.Prelude.{◌≡◌, ◌+◌, ◌≤◌, IsTrue, vec_len, vec_capacity, IfErr, OnOk};
+ghost use Rattle.vx_model.specs.TyView.{ty};
+ghost use Rattle.vx_strategy.specs.NodeViews.{struct_way};
+ghost use Rattle.vx_strategy.specs.StrategyView.{strategy_data};
+ghost use Rattle.vx_machine_ids.specs.Stock.{none, both, end_stock, ok_stock};
+ghost use Rattle.vx_machine_ids.specs.Balance.{Owned, Moved};
+ghost use Rattle.vx_machine.specs.Built.{is_built};
+ghost use Rattle.vx_machine.specs.Causes.{StartMay};
+ghost use Rattle.vx_machine.specs.Stocks.{local_stock, task_stock, tasks_stock};
+
+use crate::ids::{give_up_pointer, take_below};
+use crate::kinds::{ChunkedNode, ColumnsNode, FlatNode};
+use crate::node::Local;
+use crate::task::{Head, Task, refuse_all};
+use std::alloc::{AllocError, Global};
+use std::collections::VecDeque;
+use std::sync::Arc;
+use vx_layout_tree::fields_in;
+use vx_model::{DType, Nullability, StructField};
+use vx_order::Order;
+use vx_path::owned::Path;
+use vx_sequence::SequencePointer;
+use vx_split::ColumnSplit;
+use vx_strategy::{ChildStrategy, ChunkedLayoutStrategy, Strategy, StructStrategy};
+use vx_write_answer::WriteError;
+
+/// A task that waits for its first chunk, with the children that are started with it.
+pub(crate) fn waiting(alloc: Global, name: Path, local: Local, kids: Vec<Task>) -> Task
+    ensures { task_stock result ≡ both (local_stock local) (tasks_stock kids.items) }
+{
+    Task {
+        head: Head {
+            name,
+            local,
+            todo: VecDeque::new(alloc),
+            inbox: VecDeque::new(alloc),
+            places: 1,
+            closed: false,
+        },
+        kids,
+    }
+}
+
+fn chunked_node(
+    chunked: &ChunkedLayoutStrategy,
+    dtype: Arc<DType>,
+    marked: bool,
+) -> Result<ChunkedNode, WriteError>
+    requires { IsTrue (is_built chunked.now.child.item) }
+    ensures { IfErr result StartMay }
+{
+    Ok(ChunkedNode {
+        dtype,
+        child: chunked.child().clone()?,
+        marked,
+    })
+}
+
+fn columns_node(alloc: Global, dtype: Arc<DType>) -> Result<ColumnsNode, WriteError>
+    ensures { IfErr result StartMay }
+{
+    let copy = DType::clone(&dtype)?;
+    let split = ColumnSplit::new(alloc, copy)?;
+    Ok(ColumnsNode { dtype, split })
+}
+
+/// Room for one more child, and its name.
+pub(crate) fn next_name(
+    alloc: Global,
+    name: &Path,
+    kids: &mut Vec<Task>,
+) -> Result<Path, AllocError>
+    ensures kids { kids.new.items ≡ kids.old.items }
+    ensures room { OnOk result (vec_len kids.new + 1 ≤ vec_capacity kids.new) }
+{
+    kids.reserve(1)?;
+    let name = Path::child(alloc, name.as_slice(), kids.len() as u64)?;
+    Ok(name)
+}
+
+/// The task of a strategy that is built, at a type. Refused, it gives up the pointer and all that was made of it.
+///
+/// It refuses a struct node of another type, and repeated names of fields, of all nodes that start with it.
+#[cycle(start)]
+pub(crate) fn start_task<O: Order>(
+    alloc: Global,
+    order: &mut O,
+    strategy: &Strategy,
+    dtype: Arc<DType>,
+    marked: bool,
+    name: Path,
+    eof: SequencePointer,
+) -> Result<Task, WriteError>
+    requires owned { Owned (O.active order.old) (end_stock eof) }
+    requires built { IsTrue (is_built (strategy_data strategy.now)) }
+    ensures moved { Moved (O.active order.old) (O.active order.new) (end_stock eof) (ok_stock task_stock result) }
+    ensures outlet { O.outlet order.new ≡ O.outlet order.old }
+    ensures faults { O.faults order.new ≡ O.faults order.old }
+    ensures cause { IfErr result StartMay }
+{
+    match strategy {
+        Strategy::Flat(options) => {
+            let node = FlatNode {
+                options: *options,
+                dtype,
+            };
+            give_up_pointer(order, eof);
+            Ok(waiting(alloc, name, Local::Empty(node), Vec::new(alloc)))
+        }
+        Strategy::Chunked(chunked) => {
+            start_chunked(alloc, order, chunked, dtype, marked, name, eof)
+        }
+        Strategy::Struct(fields) => match columns_node(alloc, dtype) {
+            Ok(node) => start_columns(alloc, order, fields, node, marked, name, eof),
+            Err(error) => {
+                give_up_pointer(order, eof);
+                Err(error)
+            }
+        },
+        Strategy::List(_) | Strategy::Dict(_) | Strategy::Zoned(_) => unreachable!(),
+        Strategy::Repartition(_) | Strategy::Buffered(_) | Strategy::Collect(_) => unreachable!(),
+        Strategy::Compressing(_) | Strategy::Table(_) => unreachable!(),
+    }
+}
+
+/// A chunked node's task, which keeps the pointer.
+fn start_chunked<O: Order>(
+    alloc: Global,
+    order: &mut O,
+    chunked: &ChunkedLayoutStrategy,
+    dtype: Arc<DType>,
+    marked: bool,
+    name: Path,
+    eof: SequencePointer,
+) -> Result<Task, WriteError>
+    requires owned { Owned (O.active order.old) (end_stock eof) }
+    requires built { IsTrue (is_built chunked.now.child.item) }
+    ensures moved { Moved (O.active order.old) (O.active order.new) (end_stock eof) (ok_stock task_stock result) }
+    ensures outlet { O.outlet order.new ≡ O.outlet order.old }
+    ensures faults { O.faults order.new ≡ O.faults order.old }
+    ensures cause { IfErr result StartMay }
+{
+    match chunked_node(chunked, dtype, marked) {
+        Ok(node) => {
+            let local = Local::Chunked(node, eof, 0);
+            Ok(waiting(alloc, name, local, Vec::new(alloc)))
+        }
+        Err(error) => {
+            give_up_pointer(order, eof);
+            Err(error)
+        }
+    }
+}
+
+/// A struct's task with its columns, whose pointers are split off; the rest of the pointer is given up.
+#[cycle(start)]
+fn start_columns<O: Order>(
+    alloc: Global,
+    order: &mut O,
+    fields: &StructStrategy,
+    node: ColumnsNode,
+    marked: bool,
+    name: Path,
+    mut eof: SequencePointer,
+) -> Result<Task, WriteError>
+    requires owned { Owned (O.active order.old) (end_stock eof) }
+    requires built { IsTrue (is_built (struct_way fields.now)) }
+    ensures moved { Moved (O.active order.old) (O.active order.new) (end_stock eof) (ok_stock task_stock result) }
+    ensures outlet { O.outlet order.new ≡ O.outlet order.old }
+    ensures faults { O.faults order.new ≡ O.faults order.old }
+    ensures cause { IfErr result StartMay }
+{
+    let mut kids = Vec::new(alloc);
+    let started = start_each(
+        alloc,
+        order,
+        fields,
+        &node.dtype,
+        marked,
+        &name,
+        &mut eof,
+        &mut kids,
+    );
+    give_up_pointer(order, eof);
+    match started {
+        Ok(()) => Ok(waiting(alloc, name, Local::Columns(node, 0), kids)),
+        Err(error) => {
+            refuse_all(kids, order);
+            Err(error)
+        }
+    }
+}
+
+/// Starts the validity where the type is nullable, and then each field. After an error what was started is in the list.
+#[cycle(start)]
+fn start_each<O: Order>(
+    alloc: Global,
+    order: &mut O,
+    fields: &StructStrategy,
+    dtype: &DType,
+    marked: bool,
+    name: &Path,
+    eof: &mut SequencePointer,
+    kids: &mut Vec<Task>,
+) -> Result<(), WriteError>
+    requires owned { Owned (O.active order.old) (both (end_stock eof.old) (tasks_stock kids.old.items)) }
+    requires built { IsTrue (is_built (struct_way fields.now)) }
+    ensures moved { Moved (O.active order.old) (O.active order.new) (both (end_stock eof.old) (tasks_stock kids.old.items)) (both (end_stock eof.new) (tasks_stock kids.new.items)) }
+    ensures outlet { O.outlet order.new ≡ O.outlet order.old }
+    ensures faults { O.faults order.new ≡ O.faults order.old }
+    ensures cause { IfErr result StartMay }
+{
+    let nullable = dtype.is_nullable();
+    start_validity(alloc, order, fields, nullable, marked, name, eof, kids)?;
+    let marked = marked || nullable;
+    'fields: for field in fields_in(dtype) {
+        start_field(alloc, order, fields, field, marked, name, eof, kids)?;
+    }
+    Ok(())
+}
+
+/// Starts the validity, where there is one.
+#[cycle(start)]
+fn start_validity<O: Order>(
+    alloc: Global,
+    order: &mut O,
+    fields: &StructStrategy,
+    nullable: bool,
+    marked: bool,
+    name: &Path,
+    eof: &mut SequencePointer,
+    kids: &mut Vec<Task>,
+) -> Result<(), WriteError>
+    requires owned { Owned (O.active order.old) (both (end_stock eof.old) (tasks_stock kids.old.items)) }
+    requires built { IsTrue (is_built (struct_way fields.now)) }
+    ensures moved { Moved (O.active order.old) (O.active order.new) (both (end_stock eof.old) (tasks_stock kids.old.items)) (both (end_stock eof.new) (tasks_stock kids.new.items)) }
+    ensures outlet { O.outlet order.new ≡ O.outlet order.old }
+    ensures faults { O.faults order.new ≡ O.faults order.old }
+    ensures cause { IfErr result StartMay }
+{
+    if !nullable {
+        return Ok(());
+    }
+    let flags = Arc::new(alloc, DType::Bool(Nullability::NonNullable))?;
+    start_column(
+        alloc,
+        order,
+        fields.validity(),
+        flags,
+        marked,
+        name,
+        eof,
+        kids,
+    )?;
+    Ok(())
+}
+
+/// Starts a field's column, by the writer of its name.
+#[cycle(start)]
+fn start_field<O: Order>(
+    alloc: Global,
+    order: &mut O,
+    fields: &StructStrategy,
+    field: &StructField,
+    marked: bool,
+    name: &Path,
+    eof: &mut SequencePointer,
+    kids: &mut Vec<Task>,
+) -> Result<(), WriteError>
+    requires owned { Owned (O.active order.old) (both (end_stock eof.old) (tasks_stock kids.old.items)) }
+    requires built { IsTrue (is_built (struct_way fields.now)) }
+    ensures moved { Moved (O.active order.old) (O.active order.new) (both (end_stock eof.old) (tasks_stock kids.old.items)) (both (end_stock eof.new) (tasks_stock kids.new.items)) }
+    ensures outlet { O.outlet order.new ≡ O.outlet order.old }
+    ensures faults { O.faults order.new ≡ O.faults order.old }
+    ensures cause { IfErr result StartMay }
+{
+    let dtype = Arc::new(alloc, field.dtype.clone()?)?;
+    let writer = fields.writer(&field.name);
+    start_column(alloc, order, writer, dtype, marked, name, eof, kids)?;
+    Ok(())
+}
+
+/// Starts one more child.
+#[cycle(start)]
+fn start_column<O: Order>(
+    alloc: Global,
+    order: &mut O,
+    writer: &ChildStrategy,
+    dtype: Arc<DType>,
+    marked: bool,
+    name: &Path,
+    eof: &mut SequencePointer,
+    kids: &mut Vec<Task>,
+) -> Result<(), WriteError>
+    requires owned { Owned (O.active order.old) (both (end_stock eof.old) (tasks_stock kids.old.items)) }
+    requires built { IsTrue (is_built writer.now.item) }
+    ensures moved { Moved (O.active order.old) (O.active order.new) (both (end_stock eof.old) (tasks_stock kids.old.items)) (both (end_stock eof.new) (tasks_stock kids.new.items)) }
+    ensures outlet { O.outlet order.new ≡ O.outlet order.old }
+    ensures faults { O.faults order.new ≡ O.faults order.old }
+    ensures cause { IfErr result StartMay }
+{
+    let name = next_name(alloc, name, kids)?;
+    let kid = start_under(alloc, order, writer, dtype, marked, name, eof)?;
+    kids.push_reserved(kid);
+    Ok(())
+}
+
+/// A task whose pointer is split off.
+#[cycle(start)]
+pub(crate) fn start_under<O: Order>(
+    alloc: Global,
+    order: &mut O,
+    writer: &ChildStrategy,
+    dtype: Arc<DType>,
+    marked: bool,
+    name: Path,
+    eof: &mut SequencePointer,
+) -> Result<Task, WriteError>
+    requires owned { Owned (O.active order.old) (end_stock eof.old) }
+    requires built { IsTrue (is_built writer.now.item) }
+    ensures moved { Moved (O.active order.old) (O.active order.new) (end_stock eof.old) (both (end_stock eof.new) (ok_stock task_stock result)) }
+    ensures outlet { O.outlet order.new ≡ O.outlet order.old }
+    ensures faults { O.faults order.new ≡ O.faults order.old }
+    ensures cause { IfErr result StartMay }
+{
+    let below = split_below(order, eof)?;
+    let kid = start_task(alloc, order, writer.strategy(), dtype, marked, name, below)?;
+    Ok(kid)
+}
+
+/// As `take_below`, with the error of a start.
+fn split_below<O: Order>(
+    order: &mut O,
+    eof: &mut SequencePointer,
+) -> Result<SequencePointer, WriteError>
+    requires { Owned (O.active order.old) (end_stock eof.old) }
+    ensures moved { Moved (O.active order.old) (O.active order.new) (end_stock eof.old) (both (end_stock eof.new) (ok_stock end_stock result)) }
+    ensures outlet { O.outlet order.new ≡ O.outlet order.old }
+    ensures faults { O.faults order.new ≡ O.faults order.old }
+    ensures cause { IfErr result StartMay }
+{
+    match take_below(order, eof) {
+        Ok(below) => Ok(below),
+        Err(full) => Err(full.into()),
+    }
+}

@@ -1,0 +1,93 @@
+//! A step of the k-th ready task.
+
+ghost use Rattle.std.specs.Prelude.{◌<◌, IsTrue, IfErr};
+ghost use Rattle.vx_fault.specs.Counts.{Counts};
+ghost use Rattle.vx_machine_ids.specs.Balance.{Owned, Moved};
+ghost use Rattle.vx_write_answer.specs.Causes.{errs, is_sink_fault};
+ghost use Rattle.vx_machine.specs.Causes.{ActMay};
+ghost use Rattle.vx_machine.specs.Pairs.{next_pairs, task_pairs, tasks_pairs, AllMay};
+ghost use Rattle.vx_machine.specs.Ready.{kids_of, may_now, ready_in, ready_among, counted};
+ghost use Rattle.vx_machine.specs.Stocks.{task_stock, tasks_stock};
+ghost use Rattle.vx_machine.specs.declared.task.Task.{out-Task};
+
+use crate::advance::advance;
+use crate::ready::{find_ready, may, one};
+use crate::task::Task;
+use std::alloc::Global;
+use vx_order::Order;
+use vx_path::owned::Path;
+use vx_sink::LayoutWriterContext;
+use vx_write_answer::{ActionKind, WriteError};
+
+/// What a task did.
+#[derive(Drop)]
+pub(crate) struct Did {
+    pub task: Path,
+    pub action: ActionKind,
+}
+
+impl Task {
+    /// Does its own next act.
+    fn act<O: Order>(
+        &mut self,
+        alloc: Global,
+        ctx: &LayoutWriterContext,
+        order: &mut O,
+    ) -> Result<Did, WriteError>
+        requires owned { Owned (O.active order.old) (task_stock self.old) }
+        requires ready { IsTrue (may_now (O.active order.old) (out-Task self.old).head (kids_of (out-Task self.old).kids.items)) }
+        requires allowed { AllMay (O.may_write order.old) (next_pairs (out-Task self.old).head.todo.items) }
+        ensures moved { Moved (O.active order.old) (O.active order.new) (task_stock self.old) (task_stock self.new) }
+        ensures faults { Counts (O.faults order.old) (O.faults order.new) (errs is_sink_fault result) }
+        ensures cause { IfErr result ActMay }
+    {
+        let task = self.head.name.clone()?;
+        match advance(alloc, ctx, order, &mut self.head, &mut self.kids) {
+            Ok(action) => Ok(Did { task, action }),
+            Err(error) => Err(error),
+        }
+    }
+
+    /// The k-th ready one of this task and all below it does its next act.
+    #[cycle(step)]
+    pub(crate) fn step<O: Order>(
+        &mut self,
+        alloc: Global,
+        ctx: &LayoutWriterContext,
+        order: &mut O,
+        k: u64,
+    ) -> Result<Did, WriteError>
+        requires owned { Owned (O.active order.old) (task_stock self.old) }
+        requires there { k < counted (ready_in (O.active order.old) self.old) }
+        requires allowed { AllMay (O.may_write order.old) (task_pairs self.old) }
+        ensures moved { Moved (O.active order.old) (O.active order.new) (task_stock self.old) (task_stock self.new) }
+        ensures faults { Counts (O.faults order.old) (O.faults order.new) (errs is_sink_fault result) }
+        ensures cause { IfErr result ActMay }
+    {
+        let ready = may(order, &self.head, &self.kids);
+        let own = one(ready);
+        if k < own {
+            return self.act(alloc, ctx, order);
+        }
+        step_kids(&mut self.kids, alloc, ctx, order, k - own)
+    }
+}
+
+#[cycle(step)]
+fn step_kids<O: Order>(
+    kids: &mut [Task],
+    alloc: Global,
+    ctx: &LayoutWriterContext,
+    order: &mut O,
+    k: u64,
+) -> Result<Did, WriteError>
+    requires owned { Owned (O.active order.old) (tasks_stock kids.old) }
+    requires there { k < counted (ready_among (O.active order.old) kids.old) }
+    requires allowed { AllMay (O.may_write order.old) (tasks_pairs kids.old) }
+    ensures moved { Moved (O.active order.old) (O.active order.new) (tasks_stock kids.old) (tasks_stock kids.new) }
+    ensures faults { Counts (O.faults order.old) (O.faults order.new) (errs is_sink_fault result) }
+    ensures cause { IfErr result ActMay }
+{
+    let (place, left) = find_ready(order, kids, k);
+    kids[place].step(alloc, ctx, order, left)
+}

@@ -1,0 +1,531 @@
+-- What a task itself can do is what the abstract one can.
+use Rattle.std.proofs.Common.{◌≡◌, ◌+◌, ◌<◌, ◌&&◌, ◌==◌, ◌∷◌, ◌++◌, ◌∙◌, ℕ, suc, Bool, true, false, not, cond, if◌then◌else◌, List, map, length, refl, sym, ap, subst, inl, inr, arith, get_or, append_assoc, append-nil, length-append, Option, Some, None, is_some, []}
+use Rattle.std.proofs.lemmas.Bool.Decides.{nat_tests}
+use Rattle.vx_model.specs.declared.encoding.EncodingId.{EncodingId}
+use Rattle.vx_model.specs.Ty.{Ty, Tys, struct, no_fields, field, fields_in}
+use Rattle.vx_model.specs.ChunkData.{ChunkData}
+use Rattle.vx_path.specs.Lists.{In}
+use Rattle.vx_path.proofs.Lists.{in_left, in_right}
+use Rattle.vx_path.specs.Path.{Eof, under, inside, next}
+use Rattle.vx_layout_spec.specs.LayoutTree.{renamed, flat_layout, gathered, struct_layout}
+use Rattle.vx_layout_spec.specs.Codec.{Lawful}
+use Rattle.vx_rules.specs.Columns.{struct_columns}
+use Rattle.vx_tasks.specs.Task.{Join, TakeEnd}
+use Rattle.vx_tasks.specs.Nodes.{numbers}
+use Rattle.vx_strategy_spec.specs.StrategyData.{FlatOptions}
+use Rattle.vx_plan.specs.PlanData.{Setting, Item, row_total, rows_in}
+use Rattle.vx_plan.specs.FlatNode.{segment}
+use Rattle.vx_machine_turns.specs.Forms.{Writer, chunked_form, form_type}
+use Rattle.vx_machine_turns.specs.Locals.{ChunkedNode, StructNode, Local, flat_empty, flat_full, chunked_local, struct_local}
+use Rattle.vx_machine_turns.specs.Acts.{Seed, Act, alone, gathers, struct_of, does, put_item, close_queues, born, shape_in, numbers_in}
+use Rattle.vx_machine_turns.specs.Columns.{column_puts, column_ends}
+use Rattle.vx_machine_turns.specs.Flat.{forbidden}
+use Rattle.vx_machine_turns.specs.Struct.{struct_end}
+use Rattle.vx_machine_turns.specs.Scripts.{as_kind, with_holds, all_uses, filled}
+use Rattle.vx_machine_turns.specs.Starts.{start_fault, local_of, seed_of}
+use Rattle.vx_machine_turns.specs.Readings.{shaped}
+use Rattle.vx_machine_turns.specs.Turns.{firsts, start_indices}
+use Rattle.vx_machine_turns.specs.Fuels.{Fuel, spent, fuel, less, Enough}
+use Rattle.vx_machine_steps.specs.Tree.{Head, Tree, Leaf, Work, feed, opened}
+use Rattle.vx_machine_steps.specs.Moves.{due, take_first, take_more, end_first, all_paths, all_over, is_full, move_own}
+use Rattle.vx_machine_view.specs.State.{Stored, fold_chunks, fold_columns, Next, append, shut_kids, join_kids, Mind, no_chunk, one_chunk, by_chunk, by_column, ending, made, Desk, Tasks, no_tasks, task_then}
+use Rattle.vx_machine_view.specs.Start.{first_indices, started_task}
+use Rattle.vx_machine_view.specs.Acts.{count, add, give, do_act, end_columns, stored, puts, column_count}
+use Rattle.vx_machine_view.specs.Moves.{has_room, may_act, own_step}
+use Rattle.vx_machine_view.specs.Built.{Built, field_types, column_types}
+use Rattle.vx_machine_view.specs.Typed.{Typed, AllTyped, EachTyped}
+use Rattle.vx_machine_view.specs.Shows.{Counted, Stage, waits_end, appends, splits, gathers_all, hands, shuts, Done, Shows, append_of, laid, rows_of, types_of, task_rows, shape_rows}
+use Rattle.vx_machine_view.specs.Steps.{AllPairs, Steady, SameStep}
+use Rattle.vx_machine_view.proofs.Words.{true_false, numbers_in-append, shape_last, type_fits, columns_each, each_length}
+use Rattle.vx_machine_view.proofs.Feeding.{opened_none, Leaves, feed_none, feed_types, no_tree, count_types, count-add, none_counted, room_is, given, one_more, rows_one_more}
+use Rattle.vx_machine_view.proofs.Beginning.{task_begun, first_rows, opened_is}
+
+shorter : (before : List Ty) (t : Ty) (ts : List Ty) (j : ℕ) → length before ≡ j → j < length (before ++ (t ∷ ts))
+shorter before t ts j e = let h : length (before ++ (t ∷ ts)) ≡ length before + suc (length ts) = length-append before (t ∷ ts) in omega (arith, h, e)
+
+longer : (before : List Ty) (t : Ty) (j : ℕ) → length before ≡ j → length (before ++ (t ∷ [])) ≡ suc j
+longer before t j e = let h : length (before ++ (t ∷ [])) ≡ length before + 1 = length-append before (t ∷ []) in omega (arith, h, e)
+
+no_forbidden : (x : Option EncodingId) → is_some (forbidden x) ≡ false → x ≡ None
+no_forbidden None e = refl
+no_forbidden (Some id) e = cc
+
+no_refusal : {A : Type 0} (x : Option A) → is_some x ≡ false → x ≡ None
+no_refusal None e = refl
+no_refusal (Some y) e = cc
+
+pub one_pair : {A B : Type 0} (P : A → B → Type 0) (x : A) (y : B) (a b : Bool) → a ≡ b → (b ≡ true → P x y) → AllPairs P (cond a (x ∷ []) []) (cond b (y ∷ []) [])
+one_pair P x y true true e f = (f refl, tt)
+one_pair P x y true false e f = absurd (true_false e)
+one_pair P x y false true e f = absurd (true_false (sym e))
+one_pair P x y false false e f = tt
+
+columns_counted : (fs : Tys) (n : Bool) → column_count (struct fs n) ≡ length (column_types fs n)
+columns_counted fs n = by n
+  where
+    fields : (fs : Tys) → length (fields_in fs) ≡ length (field_types fs)
+    fields no_fields = refl
+    fields (field name t fs) = ap suc (fields fs)
+
+    by : (n : Bool) → column_count (struct fs n) ≡ length (column_types fs n)
+    by true = let e : length (fields_in fs) ≡ length (field_types fs) = fields fs in let h : length (fields_in fs) + 1 ≡ suc (length (field_types fs)) = omega (arith, e) in h
+    by false = let e : length (fields_in fs) ≡ length (field_types fs) = fields fs in let h : length (fields_in fs) + 0 ≡ length (field_types fs) = omega (arith, e) in h
+
+not_none : (k : ℕ) → (suc k == 0) ≡ false
+not_none k = grind (arith, nat_tests)
+
+-- how far pointers come where one more child of a chunked task is started
+chunk_opened : (d : Fuel) (n : ChunkedNode) (j : ℕ) (e : Eof) → Enough d (chunked_form n.type n.child) → Built (chunked_form n.type n.child)
+    → opened d (seed_of n.child n.mark (under n.name j) (inside e) ∷ []) ≡ first_indices n.child (inside e)
+chunk_opened spent n j e en b = absurd en
+chunk_opened (fuel g) n j e en b =
+    ap (λ z. start_indices (local_of n.child n.mark (under n.name j) (inside e)) ++ z) (append-nil (opened (g (form_type n.child)) (firsts (seed_of n.child n.mark (under n.name j) (inside e)))))
+    ∙ opened_is n.child n.mark (under n.name j) (inside e) (g (form_type n.child)) b.1 en
+
+-- one more child of a chunked task
+chunk_fed : (s : Setting) (number : List ℕ → ℕ) (d : Fuel) (q : Seed) (n : ChunkedNode) (e : Eof) (x : Item) (a : Act) (ks : Tasks) (hs : Tree) → Enough d (chunked_form n.type n.child)
+    → Built (chunked_form n.type n.child) → q.spare ≡ [] → start_fault s n.child n.mark ≡ None → Typed n.type x.1 → Shows s number d q 0 ks hs → n.name ≡ q.name
+    → a.gives ≡ (count ks, x) ∷ [] → a.shuts ≡ count ks ∷ [] → a.starts ≡ seed_of n.child n.mark (under n.name (count ks)) (inside e) ∷ []
+    → Shows s number d q 0 (add ks (started_task n.child n.mark (under q.name (count ks)) (inside e) (x ∷ []) true)) (feed d a 0 hs)
+    × (rows_of (feed d a 0 hs) ≡ rows_of hs + rows_in x.1)
+chunk_fed s number spent q n e x a ks hs en b sp f ty k nm g sh st = absurd en
+chunk_fed s number (fuel g) q n e x a ks hs en b sp f ty k nm gs sh st =
+    let c : count ks ≡ 0 + count ks = omega arith in (
+      subst (λ z. Shows s number (fuel g) q 0 (add ks (started_task n.child n.mark (under z (count ks)) (inside e) (x ∷ []) true)) (feed (fuel g) a 0 hs)) nm
+          (one_more s number g q 0 (count ks) a x (seed_of n.child n.mark (under n.name (count ks)) (inside e)) ks
+          (started_task n.child n.mark (under n.name (count ks)) (inside e) (x ∷ []) true) hs k c gs sh st
+          (task_begun s number g q (count ks) n.child n.mark (under n.name (count ks)) (inside e) (x ∷ []) true sp (subst (λ z. Typed z x.1) (sym b.0) ty, tt) b.1 f en)),
+      rows_one_more s number g q 0 (count ks) a x (seed_of n.child n.mark (under n.name (count ks)) (inside e)) ks hs k c gs st
+          (first_rows n.child n.mark (under n.name (count ks)) (inside e) x b.1),
+    )
+
+-- rows that were counted before an act or by it
+counted_before : (past : List Act) (a : Act) (n : ℕ) → Counted past n → Counted (past ++ (a ∷ [])) n
+counted_before past a n (inl e) = inl e
+counted_before past a n (inr i) = inr (subst (In n) (sym (numbers_in-append past (a ∷ []))) (in_left n (numbers_in past) (numbers_in (a ∷ [])) i))
+
+counted_now : (past : List Act) (a : Act) (n : ℕ) → In n (a.numbers ++ []) → Counted (past ++ (a ∷ [])) n
+counted_now past a n i = inr (subst (In n) (sym (numbers_in-append past (a ∷ []))) (in_right n (numbers_in past) (a.numbers ++ []) i))
+
+module _ (s : Setting) (number : List ℕ → ℕ) (segment_number : ℕ) (all : List (List ℕ)) (d : Fuel) (q0 : Seed) (j0 : ℕ) (q : Seed) (places : ℕ) (ks more : Tasks) (hs r : Tree) (past : List Act) where
+  abbrev pub desk : Mind → List Next → List Item → Bool → Desk
+  desk mind left xs closed = record { name = q.name; mind = mind; todo = left; inbox = xs; places = places; closed = closed }
+
+  abbrev pub head : List Act → List Act → Local → Bool → List Item → Bool → Head
+  head done todo l over xs closed = record { seed = q; past = done; todo = todo; local = l; over = over; inbox = xs; closed = closed }
+
+  -- what is ready of a task, by itself
+  abbrev pub Own : Mind → List Next → List Act → Local → Bool → List Item → Bool → Type 0
+  Own mind left todo l over xs closed =
+      AllPairs (SameStep s number segment_number d q0 j0 (task_then (desk mind left xs closed) ks more) (Work (head past todo l over xs closed) hs r))
+      (cond (may_act all (desk mind left xs closed) ks left) (own_step (desk mind left xs closed) more (do_act s segment_number (desk mind left xs closed) ks left) ∷ []) [])
+      (move_own all d (head past todo l over xs closed) hs r (due s (head past todo l over xs closed)))
+
+  -- how a task and its children stand after an act
+  abbrev pub Then : Mind → List Next → Tasks → Act → List Act → Local → Bool → List Item → Bool → Type 0
+  Then mind left kids a todo l over xs closed =
+      Shows s number d q0 j0 (task_then (desk mind left xs closed) kids more) (Work (head (past ++ (a ∷ [])) todo l over xs closed) (feed (less d q.type) a 0 hs) r)
+
+  abbrev pub Stays : Desk → Mind → List Next → Tasks → Head → Act → List Act → Local → Bool → List Item → Bool → Type 0
+  Stays c mind left kids h a todo l over xs closed =
+      Steady (task_then c ks more) (task_then (desk mind left xs closed) kids more) (Work h hs r) (Work (head (past ++ (a ∷ [])) todo l over xs closed) (feed (less d q.type) a 0 hs) r)
+
+  pub then_open : (mind : Mind) (left : List Next) (kids : Tasks) (a : Act) (todo : List Act) (l : Local) (over : Bool) (xs : List Item) (closed : Bool)
+      → places ≡ 1 + get_or q0.spare j0 0 → Shows s number d q0 (suc j0) more r → AllTyped q.type xs
+      → Stage s (less d q.type) mind left kids q (past ++ (a ∷ [])) todo l over (feed (less d q.type) a 0 hs)
+      → Shows s number (less d q.type) q 0 kids (feed (less d q.type) a 0 hs) → Then mind left kids a todo l over xs closed
+  then_open mind left kids a todo l over xs closed pl sm ty st k = (record { name = refl; inbox = refl; closed = refl; places = pl; typed = ty }, inl (st, k), sm)
+
+  pub then_done : (mind : Mind) (left : List Next) (kids : Tasks) (a : Act) (todo : List Act) (l : Local) (over : Bool) (xs : List Item) (closed : Bool)
+      → places ≡ 1 + get_or q0.spare j0 0 → Shows s number d q0 (suc j0) more r → AllTyped q.type xs
+      → Done number mind left kids (past ++ (a ∷ [])) todo over (feed (less d q.type) a 0 hs) → Then mind left kids a todo l over xs closed
+  then_done mind left kids a todo l over xs closed pl sm ty w = (record { name = refl; inbox = refl; closed = refl; places = pl; typed = ty }, inr w, sm)
+
+  pub then_steady : (c : Desk) (mind : Mind) (left : List Next) (kids : Tasks) (h : Head) (a : Act) (todo : List Act) (l : Local) (over : Bool) (xs : List Item) (closed : Bool)
+      → task_rows over l (past ++ (a ∷ [])) xs ≡ task_rows h.over h.local h.past h.inbox → q.type ≡ h.seed.type → Stays c mind left kids h a todo l over xs closed
+  then_steady c mind left kids h a todo l over xs closed e t = record { count_is = refl; rows_are = ap (λ z. z + rows_of r) e; types_are = ap (λ z. z ∷ types_of r) t }
+
+  -- ---- flat
+
+  module _ (law : Lawful s.codec s.encodings) (pl : places ≡ 1 + get_or q0.spare j0 0) (sm : Shows s number d q0 (suc j0) more r) (kids : Shows s number (less d q.type) q 0 ks hs) where
+    still : (a : Act) → Leaves a 0 → Shows s number (less d q.type) q 0 ks (feed (less d q.type) a 0 hs)
+    still a l = subst (Shows s number (less d q.type) q 0 ks) (sym (feed_none (less d q.type) a 0 hs l)) kids
+
+    pub bare : (a : Act) → Leaves a 0 → ks ≡ no_tasks → feed (less d q.type) a 0 hs ≡ Leaf
+    bare a l n = feed_none (less d q.type) a 0 hs l ∙ no_tree s number (less d q.type) q 0 ks hs n kids
+
+    first_taken : (o : FlatOptions) (t : Ty) (x : Item) (xs : List Item) (closed : Bool) → o.inline ≡ false → ks ≡ no_tasks → shape_in past ≡ None → AllTyped q.type xs
+        → is_some (forbidden (s.codec.refused s.encodings x.1)) ≡ false
+        → Then (stored t x (segment s o x)) [] ks (take_first s (flat_empty o t) x) [] (flat_full o t x (segment s o x)) false xs closed
+        × Stays (desk (no_chunk o t) [] (x ∷ xs) closed) (stored t x (segment s o x)) [] ks (head past [] (flat_empty o t) false (x ∷ xs) closed) (take_first s (flat_empty o t) x) [] (flat_full o t x (segment s o x)) false xs closed
+    first_taken o t x xs closed il nk un ty f = by (law.encodes o.padding x.1 (no_forbidden (s.codec.refused s.encodings x.1) f))
+      where
+        by : (bytes : List ℕ) × (s.codec.encode s.encodings o.padding x.1 ≡ Some bytes)
+            → Then (stored t x (segment s o x)) [] ks (take_first s (flat_empty o t) x) [] (flat_full o t x (segment s o x)) false xs closed
+            × Stays (desk (no_chunk o t) [] (x ∷ xs) closed) (stored t x (segment s o x)) [] ks (head past [] (flat_empty o t) false (x ∷ xs) closed) (take_first s (flat_empty o t) x) [] (flat_full o t x (segment s o x)) false xs closed
+        by (bytes, e) = (
+          then_open (stored t x (segment s o x)) [] ks (take_first s (flat_empty o t) x) [] (flat_full o t x (segment s o x)) false xs closed pl sm ty
+              (waits_end o t x bytes il nk (record { mind_is = ap (stored t x) e; local_is = ap (flat_full o t x) e; idle = refl; rest = refl; on = refl; unshaped = shape_last past (take_first s (flat_empty o t) x) un }))
+              (still (take_first s (flat_empty o t) x) (record { gives = λ i l. refl; shuts = λ i l. refl; starts = refl })),
+          then_steady (desk (no_chunk o t) [] (x ∷ xs) closed) (stored t x (segment s o x)) [] ks (head past [] (flat_empty o t) false (x ∷ xs) closed) (take_first s (flat_empty o t) x) [] (flat_full o t x (segment s o x)) false xs closed
+              (let h : rows_in x.1 + row_total xs ≡ 0 + (rows_in x.1 + row_total xs) = omega arith in h) refl,
+        )
+
+    pub first_own : (o : FlatOptions) (t : Ty) → o.inline ≡ false → ks ≡ no_tasks → shape_in past ≡ None → (xs : List Item) (closed : Bool) → AllTyped q.type xs
+        → Own (no_chunk o t) [] [] (flat_empty o t) false xs closed
+    first_own o t il nk un [] false ty = tt
+    first_own o t il nk un [] true ty = (
+      record {
+        name = refl;
+        kind = refl;
+        refusal = refl;
+        misfit = refl;
+        numbers = refl;
+        indices = sym (opened_none (less d q.type));
+        wrote = refl;
+        untracked = (refl, refl);
+        after = λ f n. (
+          then_done (made (gathered t 0 [])) [] ks (end_first s (flat_empty o t)) [] (flat_empty o t) true [] true pl sm tt (record {
+            layout = gathered t 0 [];
+            mind_is = refl;
+            idle = refl;
+            no_kids = nk;
+            rest = refl;
+            off = refl;
+            below = ap all_over (bare (end_first s (flat_empty o t)) (record { gives = λ i l. refl; shuts = λ i l. refl; starts = refl }) nk);
+            free = ap all_paths (bare (end_first s (flat_empty o t)) (record { gives = λ i l. refl; shuts = λ i l. refl; starts = refl }) nk);
+            laid_is = ap (λ z. map (renamed number) (shaped z (laid (feed (less d q.type) (end_first s (flat_empty o t)) 0 hs)))) (shape_last past (end_first s (flat_empty o t)) un);
+            rows_are = sym (ap shape_rows (shape_last past (end_first s (flat_empty o t)) un));
+          }),
+          then_steady (desk (no_chunk o t) [] [] true) (made (gathered t 0 [])) [] ks (head past [] (flat_empty o t) false [] true) (end_first s (flat_empty o t)) [] (flat_empty o t) true [] true
+              (ap shape_rows (shape_last past (end_first s (flat_empty o t)) un)) refl,
+        );
+      },
+      tt,
+    )
+    first_own o t il nk un (x ∷ xs) closed ty = (
+      record {
+        name = refl;
+        kind = refl;
+        refusal = refl;
+        misfit = refl;
+        numbers = refl;
+        indices = sym (opened_none (less d q.type));
+        wrote = refl;
+        untracked = (refl, refl);
+        after = λ f n. first_taken o t x xs closed il nk un ty.1 f;
+      },
+      tt,
+    )
+
+    pub one_own : (o : FlatOptions) (t : Ty) (i : Item) (bytes : List ℕ) → o.inline ≡ false → ks ≡ no_tasks → shape_in past ≡ None → (xs : List Item) (closed : Bool) → AllTyped q.type xs
+        → Own (one_chunk (record { id = i.0; bytes = bytes; rows = rows_in i.1; type = t })) [] [] (flat_full o t i (Some bytes)) false xs closed
+    one_own o t i bytes il nk un [] false ty = tt
+    one_own o t i bytes il nk un (x ∷ xs) closed ty = (
+      record {
+        name = refl;
+        kind = refl;
+        refusal = refl;
+        misfit = refl;
+        numbers = refl;
+        indices = sym (opened_none (less d q.type));
+        wrote = refl;
+        untracked = (refl, refl);
+        after = λ f n. absurd (true_false f);
+      },
+      tt,
+    )
+    one_own o t i bytes il nk un [] true ty =
+        let x : Stored = record { id = i.0; bytes = bytes; rows = rows_in i.1; type = t } in
+        let l : Local = flat_full o t i (Some bytes) in
+        let sh : shape_in (past ++ (end_first s l ∷ [])) ≡ Some (alone (flat_layout t (rows_in i.1) s.encodings None i.0)) =
+        shape_last past (end_first s l) un ∙ ap (λ z. Some (alone (flat_layout t (rows_in i.1) s.encodings (if z then Some (s.codec.tree_part s.encodings o.padding i.1) else None) i.0))) il in (
+          record {
+            name = refl;
+            kind = refl;
+            refusal = refl;
+            misfit = refl;
+            numbers = refl;
+            indices = sym (opened_none (less d q.type));
+            wrote = refl;
+            untracked = (refl, refl);
+            after = λ f n. (
+              then_open ending (append x ∷ []) ks (end_first s l) (append_of x ∷ []) l true [] true pl sm tt
+                  (appends x nk (record { mind_is = refl; left_is = refl; rest = refl; off = refl; shape_is = sh }))
+                  (still (end_first s l) (record { gives = λ i l. refl; shuts = λ i l. refl; starts = refl })),
+              then_steady (desk (one_chunk x) [] [] true) ending (append x ∷ []) ks (head past [] l false [] true) (end_first s l) (append_of x ∷ []) l true [] true
+                  (ap shape_rows sh ∙ (let h : rows_in i.1 ≡ rows_in i.1 + 0 = omega arith in h)) refl,
+            );
+          },
+          tt,
+        )
+
+    -- ---- chunked
+
+    pub chunks_own : (n : ChunkedNode) (e : Eof) → n.name ≡ q.name → q.type ≡ n.type → q.spare ≡ [] → Built (chunked_form n.type n.child) → Enough (less d q.type) (chunked_form n.type n.child)
+        → Counted past (rows_of hs) → shape_in past ≡ None → (xs : List Item) (closed : Bool) → AllTyped q.type xs
+        → Own (by_chunk n.mark n.type n.child e (rows_of hs)) [] [] (chunked_local n (count ks) e (rows_of hs)) false xs closed
+    chunks_own n e nm t sp b en ct un [] false ty = tt
+    chunks_own n e nm t sp b en ct un [] true ty =
+        let m : Mind = by_chunk n.mark n.type n.child e (rows_of hs) in
+        let l : Local = chunked_local n (count ks) e (rows_of hs) in
+        let none : Leaves (end_first s l) 0 = record { gives = λ i k. refl; shuts = λ i k. refl; starts = refl } in
+        let sh : shape_in (past ++ (end_first s l ∷ [])) ≡ Some (gathers n.type (rows_of hs)) = shape_last past (end_first s l) un in (
+          record {
+            name = refl;
+            kind = refl;
+            refusal = refl;
+            misfit = refl;
+            numbers = refl;
+            indices = sym (opened_none (less d q.type));
+            wrote = refl;
+            untracked = (refl, refl);
+            after = λ f k. (
+              then_open ending (join_kids (fold_chunks n.type) ∷ []) ks (end_first s l) (does Join ∷ []) l true [] true pl sm tt
+                  (gathers_all n.type (subst (Counted (past ++ (end_first s l ∷ []))) (ap rows_of (sym (feed_none (less d q.type) (end_first s l) 0 hs none))) (counted_before past (end_first s l) (rows_of hs) ct)) (record {
+                    mind_is = refl;
+                    left_is = refl;
+                    rest = refl;
+                    off = refl;
+                    shape_is = sh ∙ ap (λ z. Some (gathers n.type (rows_of z))) (sym (feed_none (less d q.type) (end_first s l) 0 hs none));
+                  })) (still (end_first s l) none),
+              then_steady (desk m [] [] true) ending (join_kids (fold_chunks n.type) ∷ []) ks (head past [] l false [] true) (end_first s l) (does Join ∷ []) l true [] true
+                  (ap shape_rows sh ∙ (let h : rows_of hs ≡ rows_of hs + 0 = omega arith in h)) refl,
+            );
+          },
+          tt,
+        )
+    chunks_own n e nm t sp b en ct un (x ∷ xs) closed ty =
+        let m : Mind = by_chunk n.mark n.type n.child e (rows_of hs) in
+        let l : Local = chunked_local n (count ks) e (rows_of hs) in
+        let a : Act = take_first s l x in
+        let new : Tasks = started_task n.child n.mark (under q.name (count ks)) (inside e) (x ∷ []) true in
+        let m2 : Mind = by_chunk n.mark n.type n.child (next e) (rows_of hs + rows_in x.1) in
+        let l2 : Local = chunked_local n (suc (count ks)) (next e) (rows_of hs + rows_in x.1) in (
+          record {
+            name = refl;
+            kind = refl;
+            refusal = refl;
+            misfit = refl;
+            numbers = refl;
+            indices = ap (λ z. (e.last + 1) ∷ z) (sym (chunk_opened (less d q.type) n (count ks) e en b));
+            wrote = refl;
+            untracked = (refl, refl);
+            after = λ f k.
+                let w : Shows s number (less d q.type) q 0 (add ks new) (feed (less d q.type) a 0 hs) × (rows_of (feed (less d q.type) a 0 hs) ≡ rows_of hs + rows_in x.1) =
+                chunk_fed s number (less d q.type) q n e x a ks hs en b sp (no_refusal (start_fault s n.child n.mark) f) (subst (λ z. Typed z x.1) t ty.0) kids nm refl refl refl in (
+                  then_open m2 [] (add ks new) a [] l2 false xs closed pl sm ty.1
+                      (splits n (next e) nm t sp b en (subst (Counted (past ++ (a ∷ []))) (sym w.1) (counted_now past a (rows_of hs + rows_in x.1) (inl refl))) (record {
+                        mind_is = ap (by_chunk n.mark n.type n.child (next e)) (sym w.1);
+                        local_is = ap (λ z. chunked_local n z (next e) (rows_of hs + rows_in x.1)) (sym (count-add ks _ _)) ∙ ap (chunked_local n (count (add ks new)) (next e)) (sym w.1);
+                        idle = refl;
+                        rest = refl;
+                        on = refl;
+                        unshaped = shape_last past a un;
+                      })) w.0,
+                  then_steady (desk m [] (x ∷ xs) closed) m2 [] (add ks new) (head past [] l false (x ∷ xs) closed) a [] l2 false xs closed
+                      (let h : (rows_of hs + rows_in x.1) + row_total xs ≡ rows_of hs + (rows_in x.1 + row_total xs) = omega arith in h) refl,
+                );
+          },
+          tt,
+        )
+
+    -- ---- struct
+
+    -- it puts the next column
+    pub put_own : (n : StructNode) (rows j : ℕ) (p : List ℕ) (x : ChunkData) (ps : List ChunkData) (w : Writer) (ws : List Writer) (before : List Ty) (t : Ty) (ts : List Ty)
+        → q.type ≡ struct n.fields n.nullable → types_of hs ≡ column_types n.fields n.nullable → length n.writers ≡ length (column_types n.fields n.nullable)
+        → column_types n.fields n.nullable ≡ before ++ (t ∷ ts) → length before ≡ j → Typed t x → EachTyped ts ps → length ws ≡ length ps → shape_in past ≡ None
+        → (xs : List Item) (closed : Bool) → AllTyped q.type xs
+        → Own (by_column (struct n.fields n.nullable) rows) (puts j p (x ∷ ps)) (filled [] (column_puts j p (x ∷ ps) (w ∷ ws))) (struct_local n rows) false xs closed
+    put_own n rows j p x ps w ws before t ts is_type types many split place tx tps same un xs closed ty =
+        let m : Mind = by_column (struct n.fields n.nullable) rows in
+        let l : Local = struct_local n rows in
+        let a : Act = with_holds (all_uses (column_puts (suc j) p ps ws) ++ []) (put_item j (under p j, x)) in
+        one_pair
+        (SameStep s number segment_number d q0 j0 (task_then (desk m (puts j p (x ∷ ps)) xs closed) ks more) (Work (head past (filled [] (column_puts j p (x ∷ ps) (w ∷ ws))) l false xs closed) hs r))
+        (own_step (desk m (puts j p (x ∷ ps)) xs closed) more (do_act s segment_number (desk m (puts j p (x ∷ ps)) xs closed) ks (puts j p (x ∷ ps)))) _
+        (has_room j ks) (not (is_full q 0 hs j))
+        (room_is s number (less d q.type) q 0 j j ks hs kids (subst (λ z. j < length z) (sym (types ∙ split)) (shorter before t ts j place)) (let h : j ≡ 0 + j = omega arith in h))
+        (λ k. record {
+          name = refl;
+          kind = refl;
+          refusal = refl;
+          misfit = refl;
+          numbers = refl;
+          indices = sym (opened_none (less d q.type));
+          wrote = refl;
+          untracked = (refl, refl);
+          after = λ f y. (
+            then_open m (puts (suc j) p ps) (give j (under p j, x) ks) a (filled [] (column_puts (suc j) p ps ws)) l false xs closed pl sm ty
+                (hands n rows (suc j) p ps ws (record {
+                  mind_is = refl;
+                  local_is = refl;
+                  left_is = refl;
+                  rest = refl;
+                  on = refl;
+                  unshaped = shape_last past a un;
+                  type_is = is_type;
+                  kids = feed_types (less d q.type) a 0 hs refl ∙ types;
+                  as_many = many;
+                  before = before ++ (t ∷ []);
+                  behind = ts;
+                  split = split ∙ sym (append_assoc before (t ∷ []) ts);
+                  place = longer before t j place;
+                  typed = tps;
+                  same = same;
+                }))
+                (given s number (less d q.type) q 0 j j a (under p j, x) t before ts ks hs kids (types ∙ split) place tx (let h : j ≡ 0 + j = omega arith in h) refl refl refl),
+            then_steady (desk m (puts j p (x ∷ ps)) xs closed) m (puts (suc j) p ps) (give j (under p j, x) ks) (head past (filled [] (column_puts j p (x ∷ ps) (w ∷ ws))) l false xs closed) a
+                (filled [] (column_puts (suc j) p ps ws)) l false xs closed refl refl,
+          );
+        })
+
+    -- what it does at the end, by whether it has columns
+    EndAs : StructNode → ℕ → Bool → List Writer → Type 0
+    EndAs n rows b ws =
+        let m : Mind = by_column (struct n.fields n.nullable) rows in
+        let a : Act = with_holds (all_uses (column_ends ws) ++ []) (as_kind TakeEnd (struct_end n rows)) in
+        SameStep s number segment_number d q0 j0 (task_then (desk m [] [] true) ks more) (Work (head past [] (struct_local n rows) false [] true) hs r)
+        (own_step (desk m [] [] true) more (end_columns b (struct n.fields n.nullable) rows (desk m [] [] true) ks))
+        (record {
+          name = q.name;
+          act = a;
+          before = born past + length (firsts q);
+          room = less d q.type;
+          after = Work (head (past ++ (a ∷ [])) (filled [] (column_ends ws)) (struct_local n rows) true [] true) (feed (less d q.type) a 0 hs) r;
+        })
+
+    end_none : (n : StructNode) (rows : ℕ) → count ks ≡ 0 → shape_in past ≡ None → EndAs n rows true []
+    unfolding EndAs
+    end_none n rows c un =
+        let m : Mind = by_column (struct n.fields n.nullable) rows in
+        let l : Local = struct_local n rows in
+        let a : Act = with_holds [] (as_kind TakeEnd (struct_end n rows)) in
+        let none : Leaves a 0 = record { gives = λ i k. refl; shuts = λ i k. refl; starts = refl } in
+        let sh : shape_in (past ++ (a ∷ [])) ≡ Some (struct_of (struct n.fields n.nullable) rows) = shape_last past a un in
+        let lf : feed (less d q.type) a 0 hs ≡ Leaf = bare a none (none_counted ks c) in record {
+          name = refl;
+          kind = refl;
+          refusal = refl;
+          misfit = refl;
+          numbers = refl;
+          indices = sym (opened_none (less d q.type));
+          wrote = refl;
+          untracked = (refl, refl);
+          after = λ f k. (
+            then_done (made (struct_layout (struct n.fields n.nullable) rows [])) [] ks a [] l true [] true pl sm tt (record {
+              layout = struct_layout (struct n.fields n.nullable) rows [];
+              mind_is = refl;
+              idle = refl;
+              no_kids = none_counted ks c;
+              rest = refl;
+              off = refl;
+              below = ap all_over lf;
+              free = ap all_paths lf;
+              laid_is = ap (λ z. map (renamed number) (shaped z (laid (feed (less d q.type) a 0 hs)))) sh ∙ ap (λ z. map (renamed number) (struct_layout (struct n.fields n.nullable) rows (laid z) ∷ [])) lf;
+              rows_are = sym (ap shape_rows sh);
+            }),
+            then_steady (desk m [] [] true) (made (struct_layout (struct n.fields n.nullable) rows [])) [] ks (head past [] l false [] true) a [] l true [] true
+                (ap shape_rows sh ∙ (let h : rows ≡ rows + 0 = omega arith in h)) refl,
+          );
+        }
+
+    end_some : (n : StructNode) (rows : ℕ) (w : Writer) (ws : List Writer) → count ks ≡ length (w ∷ ws) → column_count (struct n.fields n.nullable) ≡ count ks → shape_in past ≡ None
+        → EndAs n rows false (w ∷ ws)
+    unfolding EndAs
+    end_some n rows w ws c cc' un =
+        let t : Ty = struct n.fields n.nullable in
+        let m : Mind = by_column t rows in
+        let l : Local = struct_local n rows in
+        let a : Act = with_holds [] (as_kind TakeEnd (struct_end n rows)) in
+        let none : Leaves a 0 = record { gives = λ i k. refl; shuts = λ i k. refl; starts = refl } in
+        let sh : shape_in (past ++ (a ∷ [])) ≡ Some (struct_of t rows) = shape_last past a un in record {
+          name = refl;
+          kind = refl;
+          refusal = refl;
+          misfit = refl;
+          numbers = refl;
+          indices = sym (opened_none (less d q.type));
+          wrote = refl;
+          untracked = (refl, refl);
+          after = λ f k. (
+            then_open ending (shut_kids ∷ join_kids (fold_columns t rows) ∷ []) ks a (close_queues (numbers 0 (length (w ∷ ws))) ∷ does Join ∷ []) l true [] true pl sm tt
+                (shuts t rows cc' (record {
+                  mind_is = refl;
+                  left_is = refl;
+                  rest = ap (λ z. close_queues (numbers 0 z) ∷ does Join ∷ []) (sym c);
+                  off = refl;
+                  shape_is = sh;
+                })) (still a none),
+            then_steady (desk m [] [] true) ending (shut_kids ∷ join_kids (fold_columns t rows) ∷ []) ks (head past [] l false [] true) a (close_queues (numbers 0 (length (w ∷ ws))) ∷ does Join ∷ []) l true [] true
+                (ap shape_rows sh ∙ (let h : rows ≡ rows + 0 = omega arith in h)) refl,
+          );
+        }
+
+    pub columns_own : (n : StructNode) (rows : ℕ) → q.type ≡ struct n.fields n.nullable → types_of hs ≡ column_types n.fields n.nullable
+        → length n.writers ≡ length (column_types n.fields n.nullable) → shape_in past ≡ None → (xs : List Item) (closed : Bool) → AllTyped q.type xs
+        → Own (by_column (struct n.fields n.nullable) rows) [] [] (struct_local n rows) false xs closed
+    unfolding EndAs
+    columns_own n rows is_type types many un [] false ty = tt
+    columns_own n rows is_type types many un [] true ty = (by n.writers refl, tt)
+      where
+        counted : count ks ≡ length (column_types n.fields n.nullable)
+        counted = count_types s number (less d q.type) q 0 ks hs kids ∙ ap length types
+
+        all_columns : column_count (struct n.fields n.nullable) ≡ count ks
+        all_columns = columns_counted n.fields n.nullable ∙ sym counted
+
+        by : (ws : List Writer) → n.writers ≡ ws → EndAs n rows ((count ks == 0) && (0 == column_count (struct n.fields n.nullable))) n.writers
+        by [] e =
+            let c : count ks ≡ 0 = counted ∙ sym many ∙ ap length e in
+            let b : ((count ks == 0) && (0 == column_count (struct n.fields n.nullable))) ≡ true =
+            ap (λ z. (z == 0) && (0 == column_count (struct n.fields n.nullable))) c ∙ ap (λ z. 0 == z) (all_columns ∙ c) in
+            subst (λ z. EndAs n rows z n.writers) (sym b) (subst (EndAs n rows true) (sym e) (end_none n rows c un))
+        by (w ∷ ws) e =
+            let c : count ks ≡ length (w ∷ ws) = counted ∙ sym many ∙ ap length e in
+            let b : ((count ks == 0) && (0 == column_count (struct n.fields n.nullable))) ≡ false = ap (λ z. (z == 0) && (0 == column_count (struct n.fields n.nullable))) c
+            ∙ ap (λ z. z && (0 == column_count (struct n.fields n.nullable))) (not_none (length ws)) in
+            subst (λ z. EndAs n rows z n.writers) (sym b) (subst (EndAs n rows false) (sym e) (end_some n rows w ws c all_columns un))
+    columns_own n rows is_type types many un (x ∷ xs) closed ty =
+        let t : Ty = struct n.fields n.nullable in
+        let m : Mind = by_column t rows in
+        let l : Local = struct_local n rows in
+        let a : Act = take_first s l x in
+        let none : Leaves a 0 = record { gives = λ i k. refl; shuts = λ i k. refl; starts = refl } in
+        let tx : Typed t x.1 = subst (λ z. Typed z x.1) is_type ty.0 in
+        let each : EachTyped (column_types n.fields n.nullable) (struct_columns n.fields n.nullable x.1) = columns_each n.fields n.nullable x.1 tx in (
+          record {
+            name = refl;
+            kind = refl;
+            refusal = refl;
+            misfit = ap not (type_fits t x.1 tx);
+            numbers = refl;
+            indices = ap (λ z. z ∷ []) (columns_counted n.fields n.nullable ∙ sym many) ∙ ap (λ z. length n.writers ∷ z) (sym (opened_none (less d q.type)));
+            wrote = refl;
+            untracked = (refl, refl);
+            after = λ f k. (
+              then_open (by_column t (rows + rows_in x.1)) (puts 0 x.0 (struct_columns n.fields n.nullable x.1)) ks a (take_more s l x) (struct_local n (rows + rows_in x.1)) false xs closed pl sm ty.1
+                  (hands n (rows + rows_in x.1) 0 x.0 (struct_columns n.fields n.nullable x.1) n.writers (record {
+                    mind_is = refl;
+                    local_is = refl;
+                    left_is = refl;
+                    rest = refl;
+                    on = refl;
+                    unshaped = shape_last past a un;
+                    type_is = is_type;
+                    kids = ap types_of (feed_none (less d q.type) a 0 hs none) ∙ types;
+                    as_many = many;
+                    before = [];
+                    behind = column_types n.fields n.nullable;
+                    split = refl;
+                    place = refl;
+                    typed = each;
+                    same = many ∙ sym (each_length (column_types n.fields n.nullable) (struct_columns n.fields n.nullable x.1) each);
+                  })) (still a none),
+              then_steady (desk m [] (x ∷ xs) closed) (by_column t (rows + rows_in x.1)) (puts 0 x.0 (struct_columns n.fields n.nullable x.1)) ks (head past [] l false (x ∷ xs) closed) a (take_more s l x)
+                  (struct_local n (rows + rows_in x.1)) false xs closed (let h : (rows + rows_in x.1) + row_total xs ≡ rows + (rows_in x.1 + row_total xs) = omega arith in h) refl,
+            );
+          },
+          tt,
+        )

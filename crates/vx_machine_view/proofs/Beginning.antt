@@ -1,0 +1,166 @@
+-- A form's task shows the abstract one at its start, with all that is started with it.
+use Rattle.std.proofs.Common.{◌≡◌, ◌+◌, ◌||◌, ◌∷◌, ◌++◌, ◌∙◌, ℕ, suc, Bool, true, false, List, length, refl, sym, ap, subst, inl, arith, append_assoc, append-nil, get_or, Some, None, []}
+use Rattle.vx_model.specs.Ty.{Ty, Tys, boolean, struct, no_fields, field}
+use Rattle.vx_path.specs.Path.{Eof, under, inside, next}
+use Rattle.vx_plan.specs.PlanData.{Setting, Item, not_struct, duplicate_field, rows_in}
+use Rattle.vx_machine_turns.specs.Forms.{Form, Forms, flat_form, chunked_form, grouped_form, compressed_form, dict_form, zoned_form, no_struct_form, struct_form, list_form, no_forms, form_then, form_type, Writer}
+use Rattle.vx_machine_turns.specs.Locals.{struct_local}
+use Rattle.vx_machine_turns.specs.Acts.{Seed}
+use Rattle.vx_machine_turns.specs.Columns.{column_seeds}
+use Rattle.vx_machine_turns.specs.Starts.{start_fault, start_faults, marked_forms, local_of, seed_of}
+use Rattle.vx_machine_turns.specs.Turns.{firsts, start_indices}
+use Rattle.vx_machine_turns.specs.Fuels.{Fuel, spent, fuel, Enough, AllEnough}
+use Rattle.vx_machine_steps.specs.Tree.{Tree, Leaf, Work, fresh, quiet, sprout, opened}
+use Rattle.vx_machine_view.specs.State.{by_column, Tasks, no_tasks}
+use Rattle.vx_machine_view.specs.Start.{first_mind, first_kids, field_tasks, waiting, form_count, first_indices, field_indices, started_task}
+use Rattle.vx_machine_view.specs.Built.{Built, AllBuilt, field_types, column_types}
+use Rattle.vx_machine_view.specs.Typed.{AllTyped}
+use Rattle.vx_machine_view.specs.Shows.{Alike, Stage, waits_first, splits, hands, Shows, types_of, task_rows}
+use Rattle.vx_machine_view.proofs.Words.{none_some, or_none}
+use Rattle.vx_machine_view.proofs.Feeding.{sprout_none, opened_none}
+
+module _ (s : Setting) (number : List ℕ → ℕ) where
+  none_begun : (d : Fuel) (q : Seed) → Shows s number d q 0 no_tasks (sprout d quiet 0 [])
+  none_begun d q = subst (Shows s number d q 0 no_tasks) (sym (sprout_none d quiet 0)) tt
+
+  alike : (q : Seed) (j : ℕ) (f : Form) (m : Bool) (name : List ℕ) (e : Eof) (xs : List Item) (closed : Bool) → q.spare ≡ [] → AllTyped (form_type f) xs
+      → Alike q j (waiting name (first_mind f m e) xs closed) (fresh (seed_of f m name e) xs closed)
+  alike q j f m name e xs closed sp ty = record { name = refl; inbox = refl; closed = refl; places = ap (λ z. 1 + get_or z j 0) (sym sp); typed = ty }
+
+  abbrev Columns : Forms → Tys → Bool → List ℕ → ℕ → Eof → (Ty → Fuel) → Seed → Type 0
+  Columns ks fs m name c e g q =
+      Shows s number (fuel g) q c (field_tasks ks m name c e) (sprout (fuel g) quiet c (column_seeds name c (marked_forms m ks) e))
+      × (types_of (sprout (fuel g) quiet c (column_seeds name c (marked_forms m ks) e)) ≡ field_types fs) × (length (marked_forms m ks) ≡ length (field_types fs))
+
+  columns_stage : (fs : Tys) (n : Bool) (ws : List Writer) (name : List ℕ) (e : Eof) (q : Seed) (d : Fuel) (hs : Tree) (ks : Tasks) → q.type ≡ struct fs n → types_of hs ≡ column_types fs n
+      → length ws ≡ length (column_types fs n)
+      → Stage s d (by_column (struct fs n) 0) [] ks q [] [] (struct_local (record { name = name; fields = fs; nullable = n; writers = ws; eof = e }) 0) false hs
+  columns_stage fs n ws name e q d hs ks t k l = hands (record { name = name; fields = fs; nullable = n; writers = ws; eof = e }) 0 (length (column_types fs n)) [] [] [] (record {
+    mind_is = refl;
+    local_is = refl;
+    left_is = refl;
+    rest = refl;
+    on = refl;
+    unshaped = refl;
+    type_is = t;
+    kids = k;
+    as_many = l;
+    before = column_types fs n;
+    behind = [];
+    split = sym (append-nil (column_types fs n));
+    place = refl;
+    typed = tt;
+    same = refl;
+  })
+
+  mutual
+    pub begun : (f : Form) (m : Bool) (name : List ℕ) (e : Eof) (d : Fuel) → Built f → start_fault s f m ≡ None → Enough d f
+        → (Stage s d (first_mind f m e) [] (first_kids f m name e) (seed_of f m name e) [] [] (local_of f m name e) false (sprout d quiet 0 (firsts (seed_of f m name e)))
+        × Shows s number d (seed_of f m name e) 0 (first_kids f m name e) (sprout d quiet 0 (firsts (seed_of f m name e))))
+    begun (flat_form o t) m name e d b f n = (
+      waits_first o t b refl (record { mind_is = refl; local_is = refl; idle = refl; rest = refl; on = refl; unshaped = refl }),
+      none_begun d (seed_of (flat_form o t) m name e),
+    )
+    begun (chunked_form t k) m name e spent b f n = absurd n
+    begun (chunked_form t k) m name e (fuel g) b f n = (
+      splits (record { name = name; mark = m; type = t; child = k }) e refl refl refl b n (inl refl) (record { mind_is = refl; local_is = refl; idle = refl; rest = refl; on = refl; unshaped = refl }),
+      tt,
+    )
+    begun (struct_form fs n (Some a) v ks) m name e d b f h = absurd (none_some (duplicate_field a) (sym f))
+    begun (struct_form fs n None v ks) m name e spent b f h = absurd h
+    begun (struct_form fs true None v ks) m name e (fuel g) b f h =
+        let q : Seed = seed_of (struct_form fs true None v ks) m name e in
+        let no : (start_fault s v m ≡ None) × (start_faults s ks (m || true) ≡ None) = or_none (start_fault s v m) (start_faults s ks (m || true)) f in
+        let k : Columns ks fs (m || true) name 1 (next e) g q = fields_begun ks fs (m || true) name 1 (next e) g q refl b.2 no.1 h.1 in (
+          columns_stage fs true ((m, v) ∷ marked_forms (m || true) ks) name e q (fuel g) (sprout (fuel g) quiet 0 (firsts q)) (first_kids (struct_form fs true None v ks) m name e) refl
+              (ap (λ z. z ∷ types_of (sprout (fuel g) quiet 1 (column_seeds name 1 (marked_forms (m || true) ks) (next e)))) b.0 ∙ ap (λ z. boolean false ∷ z) k.1) (ap suc k.2),
+          (alike q 0 v m (under name 0) (inside e) [] false refl tt, inl (begun v m (under name 0) (inside e) (g (form_type v)) b.1 no.0 h.0), k.0),
+        )
+    begun (struct_form fs false None v ks) m name e (fuel g) b f h =
+        let q : Seed = seed_of (struct_form fs false None v ks) m name e in
+        let k : Columns ks fs (m || false) name 0 e g q = fields_begun ks fs (m || false) name 0 e g q refl b.2 f h.1 in (
+          columns_stage fs false (marked_forms (m || false) ks) name e q (fuel g) (sprout (fuel g) quiet 0 (firsts q)) (first_kids (struct_form fs false None v ks) m name e) refl k.1 k.2,
+          k.0,
+        )
+    begun (no_struct_form t) m name e d b f n = absurd (none_some not_struct (sym f))
+    begun (grouped_form g t k) m name e d b f n = absurd b
+    begun (compressed_form which room t k) m name e d b f n = absurd b
+    begun (dict_form o t c v w) m name e d b f n = absurd b
+    begun (zoned_form o t k stats) m name e d b f n = absurd b
+    begun (list_form t n es os v) m name e d b f h = absurd b
+
+    fields_begun : (ks : Forms) (fs : Tys) (m : Bool) (name : List ℕ) (c : ℕ) (e : Eof) (g : Ty → Fuel) (q : Seed) → q.spare ≡ [] → AllBuilt fs ks → start_faults s ks m ≡ None → AllEnough g ks
+        → Columns ks fs m name c e g q
+    fields_begun no_forms no_fields m name c e g q sp b f n = (tt, refl, refl)
+    fields_begun no_forms (field a t fs) m name c e g q sp b f n = absurd b
+    fields_begun (form_then k ks) no_fields m name c e g q sp b f n = absurd b
+    fields_begun (form_then k ks) (field a t fs) m name c e g q sp b f n =
+        let no : (start_fault s k m ≡ None) × (start_faults s ks m ≡ None) = or_none (start_fault s k m) (start_faults s ks m) f in
+        let l : Columns ks fs m name (suc c) (next e) g q = fields_begun ks fs m name (suc c) (next e) g q sp b.2 no.1 n.1 in (
+          (alike q c k m (under name c) (inside e) [] false sp tt, inl (begun k m (under name c) (inside e) (g (form_type k)) b.1 no.0 n.0), l.0),
+          ap (λ z. z ∷ types_of (sprout (fuel g) quiet (suc c) (column_seeds name (suc c) (marked_forms m ks) (next e)))) b.0 ∙ ap (λ z. t ∷ z) l.1,
+          ap suc l.2,
+        )
+
+  -- the task alone, with this queue
+  pub task_begun : (g : Ty → Fuel) (q : Seed) (j : ℕ) (f : Form) (m : Bool) (name : List ℕ) (e : Eof) (xs : List Item) (closed : Bool) → q.spare ≡ [] → AllTyped (form_type f) xs → Built f
+      → start_fault s f m ≡ None → Enough (g (form_type f)) f
+      → Shows s number (fuel g) q j (started_task f m name e xs closed)
+      (Work (fresh (seed_of f m name e) xs closed) (sprout (g (form_type f)) quiet 0 (firsts (seed_of f m name e))) Leaf)
+  task_begun g q j f m name e xs closed sp ty b n h = (alike q j f m name e xs closed sp ty, inl (begun f m name e (g (form_type f)) b n h), tt)
+
+-- it has no rows but those in its queue
+pub first_rows : (f : Form) (m : Bool) (name : List ℕ) (e : Eof) (i : Item) → Built f → task_rows false (local_of f m name e) [] (i ∷ []) ≡ rows_in i.1
+first_rows (flat_form o t) m name e i b = let h : 0 + (rows_in i.1 + 0) ≡ rows_in i.1 = omega arith in h
+first_rows (chunked_form t k) m name e i b = let h : 0 + (rows_in i.1 + 0) ≡ rows_in i.1 = omega arith in h
+first_rows (struct_form fs n (Some a) v ks) m name e i b = let h : 0 + (rows_in i.1 + 0) ≡ rows_in i.1 = omega arith in h
+first_rows (struct_form fs n None v ks) m name e i b = let h : 0 + (rows_in i.1 + 0) ≡ rows_in i.1 = omega arith in h
+first_rows (no_struct_form t) m name e i b = let h : 0 + (rows_in i.1 + 0) ≡ rows_in i.1 = omega arith in h
+first_rows (grouped_form g t k) m name e i b = absurd b
+first_rows (compressed_form which room t k) m name e i b = absurd b
+first_rows (dict_form o t c v w) m name e i b = absurd b
+first_rows (zoned_form o t k stats) m name e i b = absurd b
+first_rows (list_form t n es os v) m name e i b = absurd b
+
+-- ---- how far pointers come
+
+column_length : (ks : Forms) (m : Bool) → length (marked_forms m ks) ≡ form_count ks
+column_length no_forms m = refl
+column_length (form_then k ks) m = ap suc (column_length ks m)
+
+mutual
+  pub opened_is : (f : Form) (m : Bool) (name : List ℕ) (e : Eof) (d : Fuel) → Built f → Enough d f
+      → start_indices (local_of f m name e) ++ opened d (firsts (seed_of f m name e)) ≡ first_indices f e
+  opened_is (flat_form o t) m name e d b n = opened_none d
+  opened_is (chunked_form t k) m name e d b n = opened_none d
+  opened_is (struct_form fs n (Some a) v ks) m name e d b h = opened_none d
+  opened_is (struct_form fs n None v ks) m name e spent b h = absurd h
+  opened_is (struct_form fs true None v ks) m name e (fuel g) b h =
+      let a : List ℕ = start_indices (local_of v m (under name 0) (inside e)) in
+      let z : List ℕ = opened (g (form_type v)) (firsts (seed_of v m (under name 0) (inside e))) in
+      let r : List ℕ = opened (fuel g) (column_seeds name 1 (marked_forms (m || true) ks) (next e)) in
+      ap (λ y. (e.last + y) ∷ (a ++ (z ++ r))) (ap suc (column_length ks (m || true)))
+      ∙ ap (λ y. (e.last + suc (form_count ks)) ∷ y)
+      (sym (append_assoc a z r) ∙ ap (λ y. y ++ r) (opened_is v m (under name 0) (inside e) (g (form_type v)) b.1 h.0)
+      ∙ ap (λ y. first_indices v (inside e) ++ y) (fields_opened ks fs (m || true) name 1 (next e) g b.2 h.1))
+  opened_is (struct_form fs false None v ks) m name e (fuel g) b h =
+      ap (λ y. (e.last + y) ∷ opened (fuel g) (column_seeds name 0 (marked_forms (m || false) ks) e)) (column_length ks (m || false))
+      ∙ ap (λ y. (e.last + form_count ks) ∷ y) (fields_opened ks fs (m || false) name 0 e g b.2 h.1)
+  opened_is (no_struct_form t) m name e d b n = opened_none d
+  opened_is (grouped_form g t k) m name e d b n = absurd b
+  opened_is (compressed_form which room t k) m name e d b n = absurd b
+  opened_is (dict_form o t c v w) m name e d b n = absurd b
+  opened_is (zoned_form o t k stats) m name e d b n = absurd b
+  opened_is (list_form t n es os v) m name e d b h = absurd b
+
+  fields_opened : (ks : Forms) (fs : Tys) (m : Bool) (name : List ℕ) (c : ℕ) (e : Eof) (g : Ty → Fuel) → AllBuilt fs ks → AllEnough g ks
+      → opened (fuel g) (column_seeds name c (marked_forms m ks) e) ≡ field_indices ks e
+  fields_opened no_forms no_fields m name c e g b n = refl
+  fields_opened no_forms (field a t fs) m name c e g b n = absurd b
+  fields_opened (form_then k ks) no_fields m name c e g b n = absurd b
+  fields_opened (form_then k ks) (field a t fs) m name c e g b n =
+      let x : List ℕ = start_indices (local_of k m (under name c) (inside e)) in
+      let z : List ℕ = opened (g (form_type k)) (firsts (seed_of k m (under name c) (inside e))) in
+      let r : List ℕ = opened (fuel g) (column_seeds name (suc c) (marked_forms m ks) (next e)) in
+      sym (append_assoc x z r) ∙ ap (λ y. y ++ r) (opened_is k m (under name c) (inside e) (g (form_type k)) b.1 n.0)
+      ∙ ap (λ y. first_indices k (inside e) ++ y) (fields_opened ks fs m name (suc c) (next e) g b.2 n.1)

@@ -1,0 +1,192 @@
+-- The rows of layouts that are joined were counted before.
+use Rattle.std.proofs.Common.{◌≡◌, ◌||◌, ◌&&◌, ◌==◌, ◌⊎◌, ◌∷◌, ◌++◌, ◌∙◌, ℕ, suc, Bool, true, false, cond, List, map, refl, sym, ap, subst, inl, inr, []}
+use Rattle.vx_model.specs.Words.{total_by}
+use Rattle.vx_model.specs.Ty.{Ty}
+use Rattle.vx_model.specs.ChunkData.{ChunkData}
+use Rattle.vx_layout_spec.specs.LayoutTree.{row_count}
+use Rattle.vx_path.specs.Lists.{In}
+use Rattle.vx_path.proofs.Lists.{in_left, in_right, in_cases, from_map}
+use Rattle.vx_plan.specs.PlanData.{Setting, Item}
+use Rattle.vx_machine_turns.specs.Locals.{Local}
+use Rattle.vx_machine_turns.specs.Acts.{Seed, Act, numbers_in, gifts, shut}
+use Rattle.vx_machine_turns.specs.Readings.{number_reading}
+use Rattle.vx_machine_turns.specs.Source.{source_seed}
+use Rattle.vx_machine_turns.specs.Fuels.{Fuel, less}
+use Rattle.vx_machine_steps.specs.Tree.{Head, Tree, Leaf, Work, ahead, read}
+use Rattle.vx_machine_promises.specs.Write.{Write, Future, Answer, unasked, came, over, depth}
+use Rattle.vx_machine_view.specs.State.{Mind, no_chunk, one_chunk, by_chunk, by_column, ending, made, Desk, Tasks, no_tasks, task_then}
+use Rattle.vx_machine_view.specs.Acts.{count, layouts_in, column_count, take_chunk, end_columns, take_end, do_take, do_act, puts}
+use Rattle.vx_machine_view.specs.Moves.{Step, all_made, may_act, own_step, in_kids, in_rest, steps}
+use Rattle.vx_machine_view.specs.Shows.{Counted, Stage, waits_first, waits_end, appends, splits, gathers_all, hands, shuts, joins_columns, Done, Shows}
+use Rattle.vx_machine_view.specs.Machine.{Phase, reading, giving, closing, finished, Machine, may_source, WholeStep, source_step, in_root, whole_steps}
+use Rattle.vx_machine_view.specs.Whole.{form_of, phase_acts, source_at, root_depth, ShowsMachine}
+use Rattle.vx_machine_view.proofs.Words.{and_left, numbers_in-append}
+use Rattle.vx_machine_view.proofs.Joining.{AllLaid, laid_all}
+
+-- nothing is joined where an item or the end is taken
+
+chunk_joins : (s : Setting) (c : Desk) (ks : Tasks) (i : Item) (xs : List Item) (mind : Mind) → (take_chunk s c ks i xs mind).joined ≡ []
+chunk_joins s c ks i xs (no_chunk o t) = refl
+chunk_joins s c ks i xs (one_chunk x) = refl
+chunk_joins s c ks i xs (by_chunk m t f e rows) = refl
+chunk_joins s c ks i xs (by_column t rows) = refl
+chunk_joins s c ks i xs ending = refl
+chunk_joins s c ks i xs (made l) = refl
+
+columns_join : (b : Bool) (t : Ty) (rows : ℕ) (c : Desk) (ks : Tasks) → (end_columns b t rows c ks).joined ≡ []
+columns_join true t rows c ks = refl
+columns_join false t rows c ks = refl
+
+end_joins : (c : Desk) (ks : Tasks) (mind : Mind) → (take_end c ks mind).joined ≡ []
+end_joins c ks (no_chunk o t) = refl
+end_joins c ks (one_chunk x) = refl
+end_joins c ks (by_chunk m t f e rows) = refl
+end_joins c ks (by_column t rows) = columns_join ((count ks == 0) && (0 == column_count t)) t rows c ks
+end_joins c ks ending = refl
+end_joins c ks (made l) = refl
+
+take_joins : (s : Setting) (c : Desk) (ks : Tasks) (xs : List Item) → (do_take s c ks xs).joined ≡ []
+take_joins s c ks [] = end_joins c ks c.mind
+take_joins s c ks (i ∷ xs) = chunk_joins s c ks i xs c.mind
+
+module _ (s : Setting) (number : List ℕ → ℕ) (next : ℕ) (all : List (List ℕ)) where
+  idle_joins : (c : Desk) (ks : Tasks) → c.todo ≡ [] → (do_act s next c ks c.todo).joined ≡ []
+  idle_joins c ks e = ap (λ z. (do_act s next c ks z).joined) e ∙ take_joins s c ks c.inbox
+
+  puts_join : (c : Desk) (ks : Tasks) (j : ℕ) (p : List ℕ) (xs : List ChunkData) → (do_act s next c ks (puts j p xs)).joined ≡ []
+  puts_join c ks j p [] = take_joins s c ks c.inbox
+  puts_join c ks j p (x ∷ xs) = refl
+
+  nothing : (past : List Act) (ns : List ℕ) → ns ≡ [] → (n : ℕ) → In n ns → Counted past n
+  nothing past ns e n i = absurd (subst (In n) e i)
+
+  own_joins : (d : Fuel) (c : Desk) (ks : Tasks) (q : Seed) (past todo : List Act) (l : Local) (off : Bool) (hs : Tree) → Stage s d c.mind c.todo ks q past todo l off hs → Shows s number d q 0 ks hs
+      → may_act all c ks c.todo ≡ true → (n : ℕ) → In n (do_act s next c ks c.todo).joined → Counted past n
+  own_joins d c ks q past todo l off hs (waits_first o t i k w) sh m = nothing past (do_act s next c ks c.todo).joined (idle_joins c ks w.idle)
+  own_joins d c ks q past todo l off hs (waits_end o t x b i k w) sh m = nothing past (do_act s next c ks c.todo).joined (idle_joins c ks w.idle)
+  own_joins d c ks q past todo l off hs (appends x k w) sh m = nothing past (do_act s next c ks c.todo).joined (ap (λ z. (do_act s next c ks z).joined) w.left_is)
+  own_joins d c ks q past todo l off hs (splits n e nm t sp b en u w) sh m = nothing past (do_act s next c ks c.todo).joined (idle_joins c ks w.idle)
+  own_joins d c ks q past todo l off hs (gathers_all t u w) sh m = λ n i. by n (subst (In n) (ap (λ z. (do_act s next c ks z).joined) w.left_is) i)
+    where
+      there : AllLaid s number ks hs
+      there = laid_all s number d q 0 ks hs sh (and_left (all_made ks) true (sym (ap (may_act all c ks) w.left_is) ∙ m))
+
+      by : (n : ℕ) → In n (total_by row_count (layouts_in ks) ∷ []) → Counted past n
+      by n (inl e) = subst (Counted past) (sym (e ∙ there.rows)) u
+      by n (inr i) = absurd i
+  own_joins d c ks q past todo l off hs (hands n rows j p xs ws w) sh m = nothing past (do_act s next c ks c.todo).joined (ap (λ z. (do_act s next c ks z).joined) w.left_is ∙ puts_join c ks j p xs)
+  own_joins d c ks q past todo l off hs (shuts t rows k w) sh m = nothing past (do_act s next c ks c.todo).joined (ap (λ z. (do_act s next c ks z).joined) w.left_is)
+  own_joins d c ks q past todo l off hs (joins_columns t rows k w) sh m = nothing past (do_act s next c ks c.todo).joined (ap (λ z. (do_act s next c ks z).joined) w.left_is)
+
+  -- of all tasks: what is joined is none, or is among the numbers that are read off the state
+  pub joins_counted : (d : Fuel) (q : Seed) (j : ℕ) (cs : Tasks) (t : Tree) (acts : List Act) → Shows s number d q j cs t → (w : Step) → In w (steps s all next cs) → (n : ℕ) → In n w.joined
+      → (n ≡ 0) ⊎ In n (read s number_reading d j acts t)
+  joins_counted d q j no_tasks t acts sh w i n k = absurd i
+  joins_counted d q j (task_then c ks more) Leaf acts sh w i n k = absurd sh
+  joins_counted d q j (task_then c ks more) (Work h hs r) acts sh w i n k =
+      all_of (in_cases w (cond (may_act all c ks c.todo) (own_step c more (do_act s next c ks c.todo) ∷ []) [] ++ map (in_kids c more) (steps s all next ks)) (map (in_rest c ks) (steps s all next more)) i)
+      (λ v x y z. joins_counted (less d h.seed.type) h.seed 0 ks hs to_do v x y n z)
+      (λ x y z. joins_counted d q (suc j) more r acts sh.2 x y n z)
+    where
+      to_do : List Act
+      to_do = ahead s h (gifts j acts) (h.closed || shut j acts)
+
+      own_list : List ℕ
+      own_list = numbers_in (h.past ++ to_do)
+
+      kid_list : List ℕ
+      kid_list = read s number_reading (less d h.seed.type) 0 to_do hs
+
+      rest_list : List ℕ
+      rest_list = read s number_reading d (suc j) acts r
+
+      lift_own : Counted h.past n → (n ≡ 0) ⊎ In n (own_list ++ (kid_list ++ rest_list))
+      lift_own (inl e) = inl e
+      lift_own (inr x) = inr (in_left n own_list (kid_list ++ rest_list) (subst (In n) (sym (numbers_in-append h.past to_do)) (in_left n (numbers_in h.past) (numbers_in to_do) x)))
+
+      lift_kid : (n ≡ 0) ⊎ In n kid_list → (n ≡ 0) ⊎ In n (own_list ++ (kid_list ++ rest_list))
+      lift_kid (inl e) = inl e
+      lift_kid (inr x) = inr (in_right n own_list (kid_list ++ rest_list) (in_left n kid_list rest_list x))
+
+      lift_rest : (n ≡ 0) ⊎ In n rest_list → (n ≡ 0) ⊎ In n (own_list ++ (kid_list ++ rest_list))
+      lift_rest (inl e) = inl e
+      lift_rest (inr x) = inr (in_right n own_list (kid_list ++ rest_list) (in_right n kid_list rest_list x))
+
+      of_own : (b : Bool) → may_act all c ks c.todo ≡ b → In w (cond b (own_step c more (do_act s next c ks c.todo) ∷ []) [])
+          → (Stage s (less d h.seed.type) c.mind c.todo ks h.seed h.past h.todo h.local h.over hs × Shows s number (less d h.seed.type) h.seed 0 ks hs)
+          ⊎ Done number c.mind c.todo ks h.past h.todo h.over hs → Counted h.past n
+      of_own true m (inl e) (inl (st, v)) = own_joins (less d h.seed.type) c ks h.seed h.past h.todo h.local h.over hs st v m n (subst (λ (z : Step). In n z.joined) e k)
+      of_own true m (inl e) (inr f) = nothing h.past (do_act s next c ks c.todo).joined (idle_joins c ks f.idle) n (subst (λ (z : Step). In n z.joined) e k)
+      of_own true m (inr x) v = absurd x
+      of_own false m x v = absurd x
+
+      of_kid : (x : Step) × In x (steps s all next ks) × (w ≡ in_kids c more x)
+          → (Stage s (less d h.seed.type) c.mind c.todo ks h.seed h.past h.todo h.local h.over hs × Shows s number (less d h.seed.type) h.seed 0 ks hs)
+          ⊎ Done number c.mind c.todo ks h.past h.todo h.over hs
+          → (Shows s number (less d h.seed.type) h.seed 0 ks hs → (v : Step) → In v (steps s all next ks) → In n v.joined → (n ≡ 0) ⊎ In n kid_list) → (n ≡ 0) ⊎ In n kid_list
+      of_kid (x, y, e) (inl (st, v)) deeper = deeper v x y (subst (λ (z : Step). In n z.joined) e k)
+      of_kid (x, y, e) (inr f) deeper = absurd (subst (λ z. In x (steps s all next z)) f.no_kids y)
+
+      of_rest : (x : Step) × In x (steps s all next more) × (w ≡ in_rest c ks x) → ((v : Step) → In v (steps s all next more) → In n v.joined → (n ≡ 0) ⊎ In n rest_list) → (n ≡ 0) ⊎ In n rest_list
+      of_rest (x, y, e) others = others x y (subst (λ (z : Step). In n z.joined) e k)
+
+      of_front : In w (cond (may_act all c ks c.todo) (own_step c more (do_act s next c ks c.todo) ∷ []) []) ⊎ In w (map (in_kids c more) (steps s all next ks))
+          → (Shows s number (less d h.seed.type) h.seed 0 ks hs → (v : Step) → In v (steps s all next ks) → In n v.joined → (n ≡ 0) ⊎ In n kid_list)
+          → (n ≡ 0) ⊎ In n (own_list ++ (kid_list ++ rest_list))
+      of_front (inl a) deeper = lift_own (of_own (may_act all c ks c.todo) refl a sh.1)
+      of_front (inr b) deeper = lift_kid (of_kid (from_map (in_kids c more) w (steps s all next ks) b) sh.1 deeper)
+
+      all_of : In w (cond (may_act all c ks c.todo) (own_step c more (do_act s next c ks c.todo) ∷ []) [] ++ map (in_kids c more) (steps s all next ks)) ⊎ In w (map (in_rest c ks) (steps s all next more))
+          → (Shows s number (less d h.seed.type) h.seed 0 ks hs → (v : Step) → In v (steps s all next ks) → In n v.joined → (n ≡ 0) ⊎ In n kid_list)
+          → ((v : Step) → In v (steps s all next more) → In n v.joined → (n ≡ 0) ⊎ In n rest_list) → (n ≡ 0) ⊎ In n (own_list ++ (kid_list ++ rest_list))
+      all_of (inl a) deeper others =
+          of_front (in_cases w (cond (may_act all c ks c.todo) (own_step c more (do_act s next c ks c.todo) ∷ []) []) (map (in_kids c more) (steps s all next ks)) a) deeper
+      all_of (inr b) deeper others = lift_rest (of_rest (from_map (in_rest c ks) w (steps s all next more) b) others)
+
+-- the source joins nothing
+source_joins : (a : Answer) (p : Phase) (root : Tasks) → (source_step a p root).joined ≡ []
+source_joins unasked (reading e) root = refl
+source_joins (came b) (reading e) root = refl
+source_joins over (reading e) root = refl
+source_joins a (giving e i) root = refl
+source_joins a closing root = refl
+source_joins a finished root = refl
+
+-- of the whole machine
+pub whole_joins : (g : Write) (number : List ℕ → ℕ) (next : ℕ) (all : List (List ℕ)) (a : Answer) (f : Future) (m : Machine) (t : Tree) → ShowsMachine g number m f t
+    → (w : WholeStep) → In w (whole_steps g.setting all next a m) → (n : ℕ) → In n w.joined → (n ≡ 0) ⊎ In n (read g.setting number_reading (depth g) 0 [] t)
+whole_joins g number next all a f m t sh w i n k =
+    subst (λ z. (n ≡ 0) ⊎ In n (read g.setting number_reading (depth g) 0 [] z)) (sym sh.tree_is)
+    (all_of (in_cases w (cond (may_source m.phase m.root) (source_step a m.phase m.root ∷ []) []) (map (in_root m.phase) (steps g.setting all next m.root)) i))
+  where
+    src : Head
+    src = source_at g sh.past (phase_acts m.phase f)
+
+    to_do : List Act
+    to_do = ahead g.setting src [] (src.closed || false)
+
+    own_list : List ℕ
+    own_list = numbers_in (sh.past ++ to_do)
+
+    kid_list : List ℕ
+    kid_list = read g.setting number_reading (root_depth g) 0 to_do sh.kids
+
+    rest_list : List ℕ
+    rest_list = read g.setting number_reading (depth g) 1 [] Leaf
+
+    of_own : (b : Bool) → In w (cond b (source_step a m.phase m.root ∷ []) []) → ⊥
+    of_own true (inl e) = subst (In n) (ap (λ (z : WholeStep). z.joined) e ∙ source_joins a m.phase m.root) k
+    of_own true (inr x) = x
+    of_own false x = x
+
+    of_root : (x : Step) × In x (steps g.setting all next m.root) × (w ≡ in_root m.phase x) → (n ≡ 0) ⊎ In n kid_list
+    of_root (x, y, e) = joins_counted g.setting number next all (root_depth g) (source_seed (form_of g) g.mark) 0 m.root sh.kids to_do sh.root x y n (subst (λ (z : WholeStep). In n z.joined) e k)
+
+    lift : (n ≡ 0) ⊎ In n kid_list → (n ≡ 0) ⊎ In n (own_list ++ (kid_list ++ rest_list))
+    lift (inl e) = inl e
+    lift (inr x) = inr (in_right n own_list (kid_list ++ rest_list) (in_left n kid_list rest_list x))
+
+    all_of : In w (cond (may_source m.phase m.root) (source_step a m.phase m.root ∷ []) []) ⊎ In w (map (in_root m.phase) (steps g.setting all next m.root))
+        → (n ≡ 0) ⊎ In n (own_list ++ (kid_list ++ rest_list))
+    all_of (inl x) = absurd (of_own (may_source m.phase m.root) x)
+    all_of (inr x) = lift (of_root (from_map (in_root m.phase) w (steps g.setting all next m.root) x))

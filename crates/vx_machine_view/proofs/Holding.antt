@@ -1,0 +1,60 @@
+-- What the program's tasks hold is what the abstract ones hold.
+use Rattle.std.proofs.Common.{◌≡◌, ◌⊎◌, ◌∷◌, ◌++◌, ◌∙◌, ℕ, suc, Bool, List, map, length, refl, sym, ap, inl, inr, arith, []}
+use Rattle.vx_model.specs.ChunkData.{ChunkData}
+use Rattle.vx_path.specs.Path.{under}
+use Rattle.vx_plan.specs.PlanData.{Setting}
+use Rattle.vx_machine_turns.specs.Forms.{Writer}
+use Rattle.vx_machine_turns.specs.Locals.{Local}
+use Rattle.vx_machine_turns.specs.Acts.{Seed, Act}
+use Rattle.vx_machine_turns.specs.Columns.{column_puts}
+use Rattle.vx_machine_turns.specs.Scripts.{all_uses, filled}
+use Rattle.vx_machine_turns.specs.Fuels.{Fuel, less}
+use Rattle.vx_machine_steps.specs.Tree.{Tree, Leaf, Work}
+use Rattle.vx_machine_steps.specs.Moves.{holding, all_paths}
+use Rattle.vx_machine_steps.specs.Stands.{kept_now, AllHold}
+use Rattle.vx_machine_view.specs.State.{Next, Mind, Tasks, no_tasks, task_then}
+use Rattle.vx_machine_view.specs.Acts.{puts}
+use Rattle.vx_machine_view.specs.Shows.{Stage, waits_first, waits_end, appends, splits, gathers_all, hands, shuts, joins_columns, Done, Shows}
+use Rattle.vx_machine_view.specs.Machine.{next_ids, mind_ids, held_by}
+use Rattle.vx_machine_view.proofs.Words.{carried}
+
+puts_ids : (j : ℕ) (p : List ℕ) (xs : List ChunkData) (ws : List Writer) → length ws ≡ length xs → next_ids (puts j p xs) ≡ all_uses (filled [] (column_puts j p xs ws))
+puts_ids j p [] [] e = refl
+puts_ids j p [] (w ∷ ws) e = absurd (omega (arith, e))
+puts_ids j p (x ∷ xs) [] e = absurd (omega (arith, e))
+puts_ids j p (x ∷ xs) (w ∷ ws) e = ap (λ z. under p j ∷ z) (puts_ids (suc j) p xs ws (omega (arith, e)))
+
+stage_holds : (s : Setting) (d : Fuel) (mind : Mind) (left : List Next) (ks : Tasks) (q : Seed) (past todo : List Act) (l : Local) (over : Bool) (hs : Tree)
+    → Stage s d mind left ks q past todo l over hs → next_ids left ++ mind_ids mind ≡ all_uses todo ++ kept_now over l
+stage_holds s d mind left ks q past todo l over hs (waits_first o t i k w) = carried (λ m f a l o. next_ids f ++ mind_ids m ≡ all_uses a ++ kept_now o l) w.mind_is w.idle w.rest w.local_is w.on refl
+stage_holds s d mind left ks q past todo l over hs (waits_end o t x b i k w) = carried (λ m f a l o. next_ids f ++ mind_ids m ≡ all_uses a ++ kept_now o l) w.mind_is w.idle w.rest w.local_is w.on refl
+stage_holds s d mind left ks q past todo l over hs (appends x k w) = carried (λ m f a z o. next_ids f ++ mind_ids m ≡ all_uses a ++ kept_now o z) w.mind_is w.left_is w.rest refl w.off refl
+stage_holds s d mind left ks q past todo l over hs (splits n e nm t sp b en u w) = carried (λ m f a l o. next_ids f ++ mind_ids m ≡ all_uses a ++ kept_now o l) w.mind_is w.idle w.rest w.local_is w.on refl
+stage_holds s d mind left ks q past todo l over hs (gathers_all t u w) = carried (λ m f a z o. next_ids f ++ mind_ids m ≡ all_uses a ++ kept_now o z) w.mind_is w.left_is w.rest refl w.off refl
+stage_holds s d mind left ks q past todo l over hs (hands n rows j p xs ws w) = carried (λ m f a l o. next_ids f ++ mind_ids m ≡ all_uses a ++ kept_now o l) w.mind_is w.left_is w.rest w.local_is w.on
+    (ap (λ z. z ++ []) (puts_ids j p xs ws w.same))
+stage_holds s d mind left ks q past todo l over hs (shuts t rows c w) = carried (λ m f a z o. next_ids f ++ mind_ids m ≡ all_uses a ++ kept_now o z) w.mind_is w.left_is w.rest refl w.off refl
+stage_holds s d mind left ks q past todo l over hs (joins_columns t rows c w) = carried (λ m f a z o. next_ids f ++ mind_ids m ≡ all_uses a ++ kept_now o z) w.mind_is w.left_is w.rest refl w.off refl
+
+done_holds : (number : List ℕ → ℕ) (mind : Mind) (left : List Next) (ks : Tasks) (past todo : List Act) (l : Local) (over : Bool) (hs : Tree) → Done number mind left ks past todo over hs
+    → next_ids left ++ mind_ids mind ≡ all_uses todo ++ kept_now over l
+done_holds number mind left ks past todo l over hs w = carried (λ m f a z o. next_ids f ++ mind_ids m ≡ all_uses a ++ kept_now o z) w.mind_is w.idle w.rest refl w.off refl
+
+pub held_is : (s : Setting) (number : List ℕ → ℕ) (d : Fuel) (q : Seed) (j : ℕ) (cs : Tasks) (t : Tree) → Shows s number d q j cs t → AllHold t → held_by cs ≡ all_paths t
+held_is s number d q j no_tasks Leaf w k = refl
+held_is s number d q j no_tasks (Work h hs r) w k = absurd w
+held_is s number d q j (task_then c ks more) Leaf w k = absurd w
+held_is s number d q j (task_then c ks more) (Work h hs r) w k =
+    ap (λ z. (map (λ i. i.0) z ++ ((next_ids c.todo ++ mind_ids c.mind) ++ held_by ks)) ++ held_by more) w.0.inbox
+    ∙ ap (λ z. (map (λ i. i.0) h.inbox ++ z) ++ held_by more) (by w.1 (λ v. held_is s number (less d h.seed.type) h.seed 0 ks hs v k.1))
+    ∙ ap (λ z. (map (λ i. i.0) h.inbox ++ (holding h ++ all_paths hs)) ++ z) (held_is s number d q (suc j) more r w.2 k.2)
+  where
+    by : (Stage s (less d h.seed.type) c.mind c.todo ks h.seed h.past h.todo h.local h.over hs × Shows s number (less d h.seed.type) h.seed 0 ks hs)
+        ⊎ Done number c.mind c.todo ks h.past h.todo h.over hs
+        → (Shows s number (less d h.seed.type) h.seed 0 ks hs → held_by ks ≡ all_paths hs) → (next_ids c.todo ++ mind_ids c.mind) ++ held_by ks ≡ holding h ++ all_paths hs
+    by (inl (st, v)) below =
+        ap (λ z. z ++ held_by ks) (stage_holds s (less d h.seed.type) c.mind c.todo ks h.seed h.past h.todo h.local h.over hs st ∙ sym k.0.held)
+        ∙ ap (λ z. holding h ++ z) (below v)
+    by (inr e) below =
+        ap (λ z. z ++ held_by ks) (done_holds number c.mind c.todo ks h.past h.todo h.local h.over hs e ∙ sym k.0.held)
+        ∙ ap (λ z. holding h ++ held_by z) e.no_kids ∙ ap (λ z. holding h ++ z) (sym e.free)

@@ -1,0 +1,15 @@
+pub mod Words
+pub mod Feeding
+pub mod Beginning
+pub mod Joining
+pub mod Acting
+pub mod Folding
+pub mod Moving
+pub mod Holding
+pub mod Building
+pub mod Sounding
+pub mod Ending
+pub mod Wholes
+pub mod Counting
+pub mod Underway
+pub mod Placing

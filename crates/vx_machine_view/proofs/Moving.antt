@@ -1,0 +1,239 @@
+-- What tasks can do is what the abstract ones can, on all levels.
+use Rattle.std.proofs.Common.{◌≡◌, ◌+◌, ◌&&◌, ◌⊎◌, ◌∷◌, ◌++◌, ◌∙◌, ℕ, suc, Bool, true, false, cond, not, List, map, length, refl, sym, ap, subst, inl, inr, arith, get_or, Some, []}
+use Rattle.vx_model.specs.ChunkData.{ChunkData}
+use Rattle.vx_layout_spec.specs.Codec.{Lawful}
+use Rattle.vx_tasks.specs.Task.{Join}
+use Rattle.vx_tasks.specs.Nodes.{numbers}
+use Rattle.vx_model.specs.Ty.{Ty, struct}
+use Rattle.vx_plan.specs.PlanData.{Setting, Item}
+use Rattle.vx_machine_turns.specs.Forms.{Writer}
+use Rattle.vx_machine_turns.specs.Locals.{StructNode, Local, chunked_local, struct_local}
+use Rattle.vx_machine_turns.specs.Acts.{Seed, Act, does, close_queues, gathers}
+use Rattle.vx_machine_turns.specs.Columns.{column_puts}
+use Rattle.vx_machine_turns.specs.Scripts.{filled}
+use Rattle.vx_machine_turns.specs.Fuels.{Fuel, less}
+use Rattle.vx_machine_steps.specs.Tree.{Head, Tree, Leaf, Work}
+use Rattle.vx_machine_steps.specs.Moves.{Due, doing, due, due_todo, is_nil, all_paths, all_over, TreeMove, tree_moves, move_own}
+use Rattle.vx_machine_steps.specs.Moves as abstract
+use Rattle.vx_machine_steps.specs.Laws.{JoinsFree}
+use Rattle.vx_machine_view.specs.State.{Next, Mind, by_chunk, by_column, Desk, Tasks, no_tasks, task_then}
+use Rattle.vx_machine_view.specs.Acts.{count, do_act, puts}
+use Rattle.vx_machine_view.specs.Moves.{Step, own_step, in_kids, in_rest, steps, may_act, may_take, is_over}
+use Rattle.vx_machine_view.specs.Built.{column_types}
+use Rattle.vx_machine_view.specs.Typed.{AllTyped, EachTyped}
+use Rattle.vx_machine_view.specs.Shows.{Alike, Hands, Counted, Stage, waits_first, waits_end, appends, splits, gathers_all, hands, shuts, joins_columns, Done, Shows, rows_of, task_rows}
+use Rattle.vx_machine_view.specs.Steps.{AllPairs, Steady, SameStep, StepsShow}
+use Rattle.vx_machine_view.proofs.Words.{carried, pairs_append, pairs_map}
+use Rattle.vx_machine_view.proofs.Feeding.{none_counted}
+use Rattle.vx_machine_view.proofs.Joining.{over_due, over_idle}
+use Rattle.vx_machine_view.proofs.Acting.{desk, Own, first_own, one_own, chunks_own, put_own, columns_own}
+use Rattle.vx_machine_view.proofs.Folding.{append_own, gather_own, shut_own, join_own}
+
+-- ---- a task by itself
+
+no_length : {A : Type 0} (xs : List A) → length xs ≡ 0 → xs ≡ []
+no_length [] e = refl
+no_length (x ∷ xs) e = absurd (omega (arith, e))
+
+own_moves : (s : Setting) (number : List ℕ → ℕ) (next : ℕ) (all : List (List ℕ)) (d : Fuel) (q0 : Seed) (j0 : ℕ) (q : Seed) (places : ℕ) (ks more : Tasks) (hs r : Tree) (past : List Act)
+    → Lawful s.codec s.encodings → places ≡ 1 + get_or q0.spare j0 0 → Shows s number d q0 (suc j0) more r → Shows s number (less d q.type) q 0 ks hs
+    → (mind : Mind) (left : List Next) (todo : List Act) (l : Local) (over : Bool) (xs : List Item) (closed : Bool) → AllTyped q.type xs
+    → (todo ≡ does Join ∷ [] → all_over hs ≡ true → all_paths hs ≡ [])
+    → Stage s (less d q.type) mind left ks q past todo l over hs → Own s number next all d q0 j0 q places ks more hs r past mind left todo l over xs closed
+own_moves s number next all d q0 j0 q places ks more hs r past law pl sm kids mind left todo l over xs closed ty free st = by st
+  where
+    on_columns : (n : StructNode) (rows j : ℕ) (p : List ℕ) (ps : List ChunkData) (ws : List Writer) → Hands mind left q past todo l over hs n rows j p ps ws
+        → Own s number next all d q0 j0 q places ks more hs r past mind left todo l over xs closed
+    on_columns n rows j p ps ws w = carried (λ m f a l o. Own s number next all d q0 j0 q places ks more hs r past m f a l o xs closed) w.mind_is w.left_is w.rest w.local_is w.on
+        (go ps ws w.behind w.split w.typed w.same)
+      where
+        go : (ps : List ChunkData) (ws : List Writer) (behind : List Ty) → column_types n.fields n.nullable ≡ w.before ++ behind → EachTyped behind ps → length ws ≡ length ps
+            → Own s number next all d q0 j0 q places ks more hs r past (by_column (struct n.fields n.nullable) rows) (puts j p ps) (filled [] (column_puts j p ps ws)) (struct_local n rows) false xs closed
+        go [] ws behind sp tps same =
+            subst (λ z. Own s number next all d q0 j0 q places ks more hs r past (by_column (struct n.fields n.nullable) rows) [] (filled [] (column_puts j p [] z)) (struct_local n rows) false xs closed)
+            (sym (no_length ws same)) (columns_own s number next all d q0 j0 q places ks more hs r past law pl sm kids n rows w.type_is w.kids w.as_many w.unshaped xs closed ty)
+        go (x ∷ ps) [] behind sp tps same = absurd (omega (arith, same))
+        go (x ∷ ps) (y ∷ ws) [] sp tps same = absurd tps
+        go (x ∷ ps) (y ∷ ws) (t ∷ ts) sp tps same =
+            put_own s number next all d q0 j0 q places ks more hs r past law pl sm kids n rows j p x ps y ws w.before t ts w.type_is w.kids w.as_many sp w.place tps.0 tps.1
+            (let z : length ws ≡ length ps = omega (arith, same) in z) w.unshaped xs closed ty
+
+    by : Stage s (less d q.type) mind left ks q past todo l over hs → Own s number next all d q0 j0 q places ks more hs r past mind left todo l over xs closed
+    by (waits_first o t il nk w) = carried (λ m f a l o. Own s number next all d q0 j0 q places ks more hs r past m f a l o xs closed) w.mind_is w.idle w.rest w.local_is w.on
+        (first_own s number next all d q0 j0 q places ks more hs r past law pl sm kids o t il nk w.unshaped xs closed ty)
+    by (waits_end o t i bytes il nk w) = carried (λ m f a l o. Own s number next all d q0 j0 q places ks more hs r past m f a l o xs closed) w.mind_is w.idle w.rest w.local_is w.on
+        (one_own s number next all d q0 j0 q places ks more hs r past law pl sm kids o t i bytes il nk w.unshaped xs closed ty)
+    by (appends x nk w) = carried (λ m f a z o. Own s number next all d q0 j0 q places ks more hs r past m f a z o xs closed) w.mind_is w.left_is w.rest refl w.off
+        (append_own s number next all d q0 j0 q places ks more hs r past law pl sm kids x l nk w.shape_is xs closed ty)
+    by (splits n e nm t sp b en u w) = carried (λ m f a l o. Own s number next all d q0 j0 q places ks more hs r past m f a l o xs closed) w.mind_is w.idle w.rest w.local_is w.on
+        (chunks_own s number next all d q0 j0 q places ks more hs r past law pl sm kids n e nm t sp b en u w.unshaped xs closed ty)
+    by (gathers_all t u w) = carried (λ m f a z o. Own s number next all d q0 j0 q places ks more hs r past m f a z o xs closed) w.mind_is w.left_is w.rest refl w.off
+        (gather_own s number next all d q0 j0 q places ks more hs r past law pl sm kids t l w.shape_is (free w.rest) xs closed ty)
+    by (hands n rows j p ps ws w) = on_columns n rows j p ps ws w
+    by (shuts t rows c w) = carried (λ m f a z o. Own s number next all d q0 j0 q places ks more hs r past m f a z o xs closed) w.mind_is w.left_is w.rest refl w.off
+        (shut_own s number next all d q0 j0 q places ks more hs r past law pl sm kids t rows l c w.shape_is xs closed ty)
+    by (joins_columns t rows c w) = carried (λ m f a z o. Own s number next all d q0 j0 q places ks more hs r past m f a z o xs closed) w.mind_is w.left_is w.rest refl w.off
+        (join_own s number next all d q0 j0 q places ks more hs r past law pl sm kids t rows l c w.shape_is (free w.rest) xs closed ty)
+
+-- ---- a task whose children have moved
+
+stage_on : (s : Setting) (d : Fuel) (mind : Mind) (left : List Next) (ks kids : Tasks) (q : Seed) (past todo : List Act) (l : Local) (over : Bool) (hs ts : Tree)
+    → Steady ks kids hs ts → Stage s d mind left ks q past todo l over hs → Stage s d mind left kids q past todo l over ts
+stage_on s d mind left ks kids q past todo l over hs ts st (waits_first o t i k w) = waits_first o t i (none_counted kids (st.count_is ∙ ap count k)) w
+stage_on s d mind left ks kids q past todo l over hs ts st (waits_end o t x b i k w) = waits_end o t x b i (none_counted kids (st.count_is ∙ ap count k)) w
+stage_on s d mind left ks kids q past todo l over hs ts st (appends x k w) = appends x (none_counted kids (st.count_is ∙ ap count k)) w
+stage_on s d mind left ks kids q past todo l over hs ts st (splits n e nm t sp b en u w) = splits n e nm t sp b en (subst (Counted past) (sym st.rows_are) u) (record {
+  mind_is = w.mind_is ∙ ap (by_chunk n.mark n.type n.child e) (sym st.rows_are);
+  local_is = w.local_is ∙ ap (λ z. chunked_local n z e (rows_of hs)) (sym st.count_is) ∙ ap (chunked_local n (count kids) e) (sym st.rows_are);
+  idle = w.idle;
+  rest = w.rest;
+  on = w.on;
+  unshaped = w.unshaped;
+})
+stage_on s d mind left ks kids q past todo l over hs ts st (gathers_all t u w) = gathers_all t (subst (Counted past) (sym st.rows_are) u) (record {
+  mind_is = w.mind_is;
+  left_is = w.left_is;
+  rest = w.rest;
+  off = w.off;
+  shape_is = w.shape_is ∙ ap (λ z. Some (gathers t z)) (sym st.rows_are);
+})
+stage_on s d mind left ks kids q past todo l over hs ts st (hands n rows j p xs ws w) = hands n rows j p xs ws (record {
+  mind_is = w.mind_is;
+  local_is = w.local_is;
+  left_is = w.left_is;
+  rest = w.rest;
+  on = w.on;
+  unshaped = w.unshaped;
+  type_is = w.type_is;
+  kids = st.types_are ∙ w.kids;
+  as_many = w.as_many;
+  before = w.before;
+  behind = w.behind;
+  split = w.split;
+  place = w.place;
+  typed = w.typed;
+  same = w.same;
+})
+stage_on s d mind left ks kids q past todo l over hs ts st (shuts t rows c w) = shuts t rows (c ∙ sym st.count_is) (record {
+  mind_is = w.mind_is;
+  left_is = w.left_is;
+  rest = w.rest ∙ ap (λ z. close_queues (numbers 0 z) ∷ does Join ∷ []) (sym st.count_is);
+  off = w.off;
+  shape_is = w.shape_is;
+})
+stage_on s d mind left ks kids q past todo l over hs ts st (joins_columns t rows c w) = joins_columns t rows (c ∙ sym st.count_is) w
+
+-- ---- all
+
+none_left : {A B : Type 0} (P : A → B → Type 0) (xs : List A) (ys : List B) → xs ≡ [] → ys ≡ [] → AllPairs P xs ys
+none_left P xs ys e f = subst (λ z. AllPairs P z ys) (sym e) (subst (AllPairs P []) (sym f) tt)
+
+module _ (s : Setting) (number : List ℕ → ℕ) (next : ℕ) (all : List (List ℕ)) (law : Lawful s.codec s.encodings) where
+  own_pairs : (d : Fuel) (q : Seed) (j : ℕ) (c : Desk) (ks more : Tasks) (h : Head) (hs r : Tree) → JoinsFree s (Work h hs r) → Alike q j c h
+      → Stage s (less d h.seed.type) c.mind c.todo ks h.seed h.past h.todo h.local h.over hs → Shows s number (less d h.seed.type) h.seed 0 ks hs → Shows s number d q (suc j) more r
+      → AllPairs (SameStep s number next d q j (task_then c ks more) (Work h hs r)) (cond (may_act all c ks c.todo) (own_step c more (do_act s next c ks c.todo) ∷ []) []) (move_own all d h hs r (due s h))
+  own_pairs d q j c ks more h hs r jf al st kids sm =
+      subst (λ (z : Desk). AllPairs (SameStep s number next d q j (task_then z ks more) (Work h hs r)) (cond (may_act all z ks z.todo) (own_step z more (do_act s next z ks z.todo) ∷ []) []) (move_own all d h hs r (due s h)))
+      (sym same_desk)
+      (own_moves s number next all d q j h.seed c.places ks more hs r h.past law al.places sm kids c.mind c.todo h.todo h.local h.over h.inbox h.closed al.typed
+      (λ e o. jf.0 (doing h (does Join) [] h.local h.over h.inbox) (ap (due_todo s h) e) refl o) st)
+    where
+      same_desk : c ≡ desk s number next all d q j h.seed c.places ks more hs r h.past c.mind c.todo h.inbox h.closed
+      same_desk =
+          ap (λ z. let k : Desk = record { name = z; mind = c.mind; todo = c.todo; inbox = c.inbox; places = c.places; closed = c.closed } in k) al.name
+          ∙ ap (λ z. let k : Desk = record { name = h.seed.name; mind = c.mind; todo = c.todo; inbox = z; places = c.places; closed = c.closed } in k) al.inbox
+          ∙ ap (λ z. let k : Desk = record { name = h.seed.name; mind = c.mind; todo = c.todo; inbox = h.inbox; places = c.places; closed = z } in k) al.closed
+
+  -- a child's step
+  from_kid : (d : Fuel) (q : Seed) (j : ℕ) (c : Desk) (ks more : Tasks) (h : Head) (hs r : Tree) → Alike q j c h
+      → Stage s (less d h.seed.type) c.mind c.todo ks h.seed h.past h.todo h.local h.over hs → Shows s number d q (suc j) more r
+      → (w : Step) (m : TreeMove) → SameStep s number next (less d h.seed.type) h.seed 0 ks hs w m
+      → SameStep s number next d q j (task_then c ks more) (Work h hs r) (in_kids c more w) (abstract.in_kids h r m)
+  from_kid d q j c ks more h hs r al st sm w m x = record {
+    name = x.name;
+    kind = x.kind;
+    refusal = x.refusal;
+    misfit = x.misfit;
+    numbers = x.numbers;
+    indices = x.indices;
+    wrote = x.wrote;
+    untracked = x.untracked;
+    after = λ f n. let y : Shows s number (less d h.seed.type) h.seed 0 w.after m.after × Steady ks w.after hs m.after = x.after f n in (
+      (al, inl (stage_on s (less d h.seed.type) c.mind c.todo ks w.after h.seed h.past h.todo h.local h.over hs m.after y.1 st, y.0), sm),
+      record { count_is = refl; rows_are = refl; types_are = refl },
+    );
+  }
+
+  -- a later sibling's
+  from_rest : (d : Fuel) (q : Seed) (j : ℕ) (c : Desk) (ks more : Tasks) (h : Head) (hs r : Tree) → Alike q j c h
+      → (Stage s (less d h.seed.type) c.mind c.todo ks h.seed h.past h.todo h.local h.over hs × Shows s number (less d h.seed.type) h.seed 0 ks hs)
+      ⊎ Done number c.mind c.todo ks h.past h.todo h.over hs
+      → (w : Step) (m : TreeMove) → SameStep s number next d q (suc j) more r w m
+      → SameStep s number next d q j (task_then c ks more) (Work h hs r) (in_rest c ks w) (abstract.in_rest h hs m)
+  from_rest d q j c ks more h hs r al st w m x = record {
+    name = x.name;
+    kind = x.kind;
+    refusal = x.refusal;
+    misfit = x.misfit;
+    numbers = x.numbers;
+    indices = x.indices;
+    wrote = x.wrote;
+    untracked = x.untracked;
+    after = λ f n. let y : Shows s number d q (suc j) w.after m.after × Steady more w.after r m.after = x.after f n in (
+      (al, st, y.0),
+      record {
+        count_is = ap suc y.1.count_is;
+        rows_are = ap (λ z. task_rows h.over h.local h.past h.inbox + z) y.1.rows_are;
+        types_are = ap (λ z. h.seed.type ∷ z) y.1.types_are;
+      },
+    );
+  }
+
+  show_all : (d : Fuel) (q : Seed) (j : ℕ) (cs : Tasks) (t : Tree) → Shows s number d q j cs t → JoinsFree s t
+      → AllPairs (SameStep s number next d q j cs t) (steps s all next cs) (tree_moves s all d t)
+  show_all d q j no_tasks Leaf w jf = tt
+  show_all d q j no_tasks (Work h hs r) w jf = absurd w
+  show_all d q j (task_then c ks more) Leaf w jf = absurd w
+  show_all d q j (task_then c ks more) (Work h hs r) w jf =
+      by w.1 (λ k. show_all (less d h.seed.type) h.seed 0 ks hs k jf.1) (show_all d q (suc j) more r w.2 jf.2)
+    where
+      by : (Stage s (less d h.seed.type) c.mind c.todo ks h.seed h.past h.todo h.local h.over hs × Shows s number (less d h.seed.type) h.seed 0 ks hs)
+          ⊎ Done number c.mind c.todo ks h.past h.todo h.over hs
+          → (Shows s number (less d h.seed.type) h.seed 0 ks hs → AllPairs (SameStep s number next (less d h.seed.type) h.seed 0 ks hs) (steps s all next ks) (tree_moves s all (less d h.seed.type) hs))
+          → AllPairs (SameStep s number next d q (suc j) more r) (steps s all next more) (tree_moves s all d r)
+          → AllPairs (SameStep s number next d q j (task_then c ks more) (Work h hs r)) (steps s all next (task_then c ks more)) (tree_moves s all d (Work h hs r))
+      by (inl (st, k)) below beside =
+          pairs_append (SameStep s number next d q j (task_then c ks more) (Work h hs r))
+          (cond (may_act all c ks c.todo) (own_step c more (do_act s next c ks c.todo) ∷ []) [] ++ map (in_kids c more) (steps s all next ks)) (map (in_rest c ks) (steps s all next more))
+          (move_own all d h hs r (due s h) ++ map (abstract.in_kids h r) (tree_moves s all (less d h.seed.type) hs)) (map (abstract.in_rest h hs) (tree_moves s all d r))
+          (pairs_append (SameStep s number next d q j (task_then c ks more) (Work h hs r))
+          (cond (may_act all c ks c.todo) (own_step c more (do_act s next c ks c.todo) ∷ []) []) (map (in_kids c more) (steps s all next ks))
+          (move_own all d h hs r (due s h)) (map (abstract.in_kids h r) (tree_moves s all (less d h.seed.type) hs))
+          (own_pairs d q j c ks more h hs r jf w.0 st k w.2)
+          (pairs_map (SameStep s number next (less d h.seed.type) h.seed 0 ks hs) (SameStep s number next d q j (task_then c ks more) (Work h hs r)) (in_kids c more) (abstract.in_kids h r)
+          (from_kid d q j c ks more h hs r w.0 st w.2) (steps s all next ks) (tree_moves s all (less d h.seed.type) hs) (below k)))
+          (pairs_map (SameStep s number next d q (suc j) more r) (SameStep s number next d q j (task_then c ks more) (Work h hs r)) (in_rest c ks) (abstract.in_rest h hs)
+          (from_rest d q j c ks more h hs r w.0 (inl (st, k))) (steps s all next more) (tree_moves s all d r) beside)
+      by (inr e) below beside =
+          pairs_append (SameStep s number next d q j (task_then c ks more) (Work h hs r))
+          (cond (may_act all c ks c.todo) (own_step c more (do_act s next c ks c.todo) ∷ []) [] ++ map (in_kids c more) (steps s all next ks)) (map (in_rest c ks) (steps s all next more))
+          (move_own all d h hs r (due s h) ++ map (abstract.in_kids h r) (tree_moves s all (less d h.seed.type) hs)) (map (abstract.in_rest h hs) (tree_moves s all d r))
+          (none_left (SameStep s number next d q j (task_then c ks more) (Work h hs r))
+          (cond (may_act all c ks c.todo) (own_step c more (do_act s next c ks c.todo) ∷ []) [] ++ map (in_kids c more) (steps s all next ks))
+          (move_own all d h hs r (due s h) ++ map (abstract.in_kids h r) (tree_moves s all (less d h.seed.type) hs))
+          (ap (λ z. cond z (own_step c more (do_act s next c ks c.todo) ∷ []) [] ++ map (in_kids c more) (steps s all next ks)) not_now
+          ∙ ap (λ z. map (in_kids c more) (steps s all next z)) e.no_kids)
+          (ap (λ z. move_own all d h hs r z ++ map (abstract.in_kids h r) (tree_moves s all (less d h.seed.type) hs)) (over_due s h (ap is_nil e.rest) e.off)
+          ∙ ap (map (abstract.in_kids h r)) (over_idle s all (less d h.seed.type) hs e.below)))
+          (pairs_map (SameStep s number next d q (suc j) more r) (SameStep s number next d q j (task_then c ks more) (Work h hs r)) (in_rest c ks) (abstract.in_rest h hs)
+          (from_rest d q j c ks more h hs r w.0 (inr e)) (steps s all next more) (tree_moves s all d r) beside)
+        where
+          taken_none : (xs : List Item) (b : Bool) → may_take c.mind xs b ≡ false
+          taken_none [] b = ap (λ z. not (is_over z) && b) e.mind_is
+          taken_none (x ∷ xs) b = ap (λ z. not (is_over z)) e.mind_is
+
+          not_now : may_act all c ks c.todo ≡ false
+          not_now = ap (may_act all c ks) e.idle ∙ taken_none c.inbox c.closed
+
+pub steps_show : StepsShow
+steps_show s number next all d q j cs t law w jf = show_all s number next all law d q j cs t w jf

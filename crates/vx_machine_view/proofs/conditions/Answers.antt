@@ -1,0 +1,12 @@
+use Rattle.vx_machine_view.proofs.Building.{built_is_built}
+use Rattle.vx_machine_view.proofs.Sounding.{sound_is_typed, least_agrees}
+use Rattle.vx_machine_view.proofs.conditions.Goals as goal
+
+pub returns-clause-built : goal.returns-clause-built
+returns-clause-built c = built_is_built
+
+pub returns-clause-typed : goal.returns-clause-typed
+returns-clause-typed c = sound_is_typed
+
+pub returns-clause-least : goal.returns-clause-least
+returns-clause-least c = least_agrees

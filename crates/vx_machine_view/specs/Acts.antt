@@ -1,0 +1,177 @@
+-- What a task's next act does to it and to its children.
+use Rattle.std.specs.Prelude.{ℕ, zero, suc, ◌+◌, ◌==◌, ◌&&◌, not, if◌then◌else◌, Bool, true, false, List, [], ◌∷◌, ◌++◌, length, Option, Some, None}
+use Rattle.vx_model.specs.declared.encoding.EncodingId.{EncodingId}
+use Rattle.vx_model.specs.Words.{total_by}
+use Rattle.vx_model.specs.Ty.{Ty, struct, fields_in, ty_eq}
+use Rattle.vx_model.specs.ChunkData.{ChunkData, piece_type}
+use Rattle.vx_path.specs.Path.{under, inside, next}
+use Rattle.vx_layout_spec.specs.LayoutTree.{LayoutData, row_count, flat_layout, gathered, struct_layout}
+use Rattle.vx_rules.specs.Columns.{struct_columns}
+use Rattle.vx_tasks.specs.Task.{Kind}
+use Rattle.vx_tasks.specs.Task.Prompt.{Close}
+use Rattle.vx_tasks.specs.Task.Kind.{Free, Take, TakeEnd, Put, Append, Join}
+use Rattle.vx_plan.specs.PlanData.{Setting, Item, Pair, What, many_chunks, rows_in}
+use Rattle.vx_plan.specs.FlatNode.{segment, length_of}
+use Rattle.vx_machine_turns.specs.Starts.{start_fault}
+use Rattle.vx_machine_turns.specs.Flat.{forbidden}
+use Rattle.vx_machine_view.specs.State.{Fold, fold_chunks, fold_columns, Next, put, append, shut_kids, join_kids, Mind, no_chunk, one_chunk, by_chunk, by_column, ending, made, Desk, Tasks, no_tasks, task_then}
+use Rattle.vx_machine_view.specs.Start.{first_indices, started_task}
+
+-- ---- children
+
+abbrev pub count : Tasks → ℕ
+count no_tasks = 0
+count (task_then c ks r) = suc (count r)
+
+-- one more behind the others
+abbrev pub add : Tasks → Tasks → Tasks
+add no_tasks new = new
+add (task_then c ks r) new = task_then c ks (add r new)
+
+abbrev pub with_item : Desk → Item → Desk
+with_item c i = record { name = c.name; mind = c.mind; todo = c.todo; inbox = c.inbox ++ (i ∷ []); places = c.places; closed = c.closed }
+
+-- an item on the queue of child j
+abbrev pub give : ℕ → Item → Tasks → Tasks
+give j i no_tasks = no_tasks
+give zero i (task_then c ks r) = task_then (with_item c i) ks r
+give (suc j) i (task_then c ks r) = task_then c ks (give j i r)
+
+abbrev pub shut_desk : Desk → Desk
+shut_desk c = record { name = c.name; mind = c.mind; todo = c.todo; inbox = c.inbox; places = c.places; closed = true }
+
+-- the queues of all closed
+abbrev pub shut_all : Tasks → Tasks
+shut_all no_tasks = no_tasks
+shut_all (task_then c ks r) = task_then (shut_desk c) ks (shut_all r)
+
+abbrev pub layout_in : Mind → List (LayoutData ℕ)
+layout_in (made l) = l ∷ []
+layout_in (no_chunk o t) = []
+layout_in (one_chunk x) = []
+layout_in (by_chunk m t f e rows) = []
+layout_in (by_column t rows) = []
+layout_in ending = []
+
+-- the layouts of those that have done all
+abbrev pub layouts_in : Tasks → List (LayoutData ℕ)
+layouts_in no_tasks = []
+layouts_in (task_then c ks r) = layout_in c.mind ++ layouts_in r
+
+-- ---- what an act does
+
+pub record Did : Type 0 where
+  pub kind : Kind
+  -- why it is refused: by the plan's words, or since the chunk has another type; where it is, the rest means nothing
+  pub refusal : Option What
+  pub misfit : Bool
+  -- what must fit 64 bits: rows and lengths, and how far pointers come
+  pub numbers : List ℕ
+  pub indices : List ℕ
+  -- what it appends
+  pub wrote : List Pair
+  -- the rows of the layouts that it joins, summed, where they have no other count
+  pub joined : List ℕ
+  pub desk : Desk
+  pub kids : Tasks
+
+-- the task with this in mind, this left to do and this queue
+abbrev pub now : Desk → Mind → List Next → List Item → Desk
+now c mind todo inbox = record { name = c.name; mind = mind; todo = todo; inbox = inbox; places = c.places; closed = c.closed }
+
+abbrev pub done_as : Kind → Desk → Tasks → Did
+done_as k c ks = record { kind = k; refusal = None; misfit = false; numbers = []; indices = []; wrote = []; joined = []; desk = c; kids = ks }
+
+abbrev pub folded : Fold → List (LayoutData ℕ) → LayoutData ℕ
+folded (fold_chunks t) ls = gathered t (total_by row_count ls) ls
+folded (fold_columns t rows) ls = struct_layout t rows ls
+
+abbrev pub joined_rows : Fold → List (LayoutData ℕ) → List ℕ
+joined_rows (fold_chunks t) ls = total_by row_count ls ∷ []
+joined_rows (fold_columns t rows) ls = []
+
+-- Of what is left of its block: the layouts name these encodings, and an append gets this number. Joined children are given up.
+abbrev pub do_next : List EncodingId → ℕ → Desk → Tasks → Next → List Next → Did
+do_next ids number c ks (put j i) todo = done_as (Put j) (now c c.mind todo c.inbox) (give j i ks)
+do_next ids number c ks (append x) todo = record (done_as (Append x.id) (now c (made (flat_layout x.type x.rows ids None number)) todo c.inbox) ks) { wrote = (x.id, x.bytes) ∷ [] }
+do_next ids number c ks shut_kids todo = done_as (Free Close) (now c c.mind todo c.inbox) (shut_all ks)
+do_next ids number c ks (join_kids f) todo = record (done_as Join (now c (made (folded f (layouts_in ks))) todo c.inbox) no_tasks) { joined = joined_rows f (layouts_in ks) }
+
+-- a chunk's segment, where it can be encoded
+abbrev pub stored : Ty → Item → Option (List ℕ) → Mind
+stored t i None = ending
+stored t i (Some bytes) = one_chunk (record { id = i.0; bytes = bytes; rows = rows_in i.1; type = t })
+
+abbrev pub columns_in : Ty → ChunkData → List ChunkData
+columns_in (struct fs n) p = struct_columns fs n p
+columns_in t p = []
+
+-- the columns of a type: validity where it is nullable, and the fields
+abbrev pub column_count : Ty → ℕ
+column_count (struct fs n) = length (fields_in fs) + (if n then 1 else 0)
+column_count t = 0
+
+-- a column each, from number c on, for the queue of its child
+abbrev pub puts : ℕ → List ℕ → List ChunkData → List Next
+puts c p [] = []
+puts c p (x ∷ xs) = put c (under p c, x) ∷ puts (suc c) p xs
+
+-- takes a chunk, behind which these are left in its queue
+abbrev pub take_chunk : Setting → Desk → Tasks → Item → List Item → Mind → Did
+take_chunk s c ks i xs (no_chunk o t) = record {
+  kind = Take;
+  refusal = forbidden (s.codec.refused s.encodings i.1);
+  misfit = false;
+  numbers = rows_in i.1 ∷ length_of (segment s o i);
+  indices = [];
+  wrote = [];
+  joined = [];
+  desk = now c (stored t i (segment s o i)) [] xs;
+  kids = ks;
+}
+take_chunk s c ks i xs (one_chunk x) = record { kind = Take; refusal = Some many_chunks; misfit = false; numbers = []; indices = []; wrote = []; joined = []; desk = now c (one_chunk x) [] xs; kids = ks }
+take_chunk s c ks i xs (by_chunk m t f e rows) = record {
+  kind = Take;
+  refusal = start_fault s f m;
+  misfit = false;
+  numbers = (rows + rows_in i.1) ∷ [];
+  indices = (e.last + 1) ∷ first_indices f (inside e);
+  wrote = [];
+  joined = [];
+  desk = now c (by_chunk m t f (next e) (rows + rows_in i.1)) [] xs;
+  kids = add ks (started_task f m (under c.name (count ks)) (inside e) (i ∷ []) true);
+}
+take_chunk s c ks i xs (by_column t rows) = record {
+  kind = Take;
+  refusal = None;
+  misfit = not (ty_eq (piece_type i.1) t);
+  numbers = (rows + rows_in i.1) ∷ [];
+  indices = column_count t ∷ [];
+  wrote = [];
+  joined = [];
+  desk = now c (by_column t (rows + rows_in i.1)) (puts 0 i.0 (columns_in t i.1)) xs;
+  kids = ks;
+}
+take_chunk s c ks i xs ending = done_as Take (now c ending [] xs) ks
+take_chunk s c ks i xs (made l) = done_as Take (now c (made l) [] xs) ks
+
+-- a struct node without columns has its layout at once
+abbrev pub end_columns : Bool → Ty → ℕ → Desk → Tasks → Did
+end_columns true t rows c ks = done_as TakeEnd (now c (made (struct_layout t rows [])) [] []) ks
+end_columns false t rows c ks = done_as TakeEnd (now c ending (shut_kids ∷ join_kids (fold_columns t rows) ∷ []) []) ks
+
+abbrev pub take_end : Desk → Tasks → Mind → Did
+take_end c ks (no_chunk o t) = done_as TakeEnd (now c (made (gathered t 0 [])) [] []) ks
+take_end c ks (one_chunk x) = done_as TakeEnd (now c ending (append x ∷ []) []) ks
+take_end c ks (by_chunk m t f e rows) = done_as TakeEnd (now c ending (join_kids (fold_chunks t) ∷ []) []) ks
+take_end c ks (by_column t rows) = end_columns ((count ks == 0) && (0 == column_count t)) t rows c ks
+take_end c ks ending = done_as TakeEnd (now c ending [] []) ks
+take_end c ks (made l) = done_as TakeEnd (now c (made l) [] []) ks
+
+abbrev pub do_take : Setting → Desk → Tasks → List Item → Did
+do_take s c ks (i ∷ xs) = take_chunk s c ks i xs c.mind
+do_take s c ks [] = take_end c ks c.mind
+
+abbrev pub do_act : Setting → ℕ → Desk → Tasks → List Next → Did
+do_act s number c ks (x ∷ todo) = do_next s.encodings number c ks x todo
+do_act s number c ks [] = do_take s c ks c.inbox

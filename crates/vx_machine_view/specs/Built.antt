@@ -1,0 +1,52 @@
+-- Which strategies and forms are built: those of flat, chunked and struct nodes.
+use Rattle.std.specs.Prelude.{◌≡◌, ◌&&◌, not, Bool, true, false, List, [], ◌∷◌, IsFalse}
+use Rattle.vx_model.specs.Ty.{Ty, Tys, boolean, no_fields, field}
+use Rattle.vx_strategy_spec.specs.StrategyData.{StrategyData, StrategyList, flat, chunked, grouped, compressed, coded, zoned, structured, listed, tabled, no_ways, way_at}
+use Rattle.vx_machine_turns.specs.Forms.{Form, Forms, flat_form, chunked_form, grouped_form, compressed_form, dict_form, zoned_form, no_struct_form, struct_form, list_form, no_forms, form_then, form_type}
+
+abbrev mutual
+  -- a flat layout doesn't keep its array tree yet
+  pub is_built : StrategyData → Bool
+  is_built (flat o) = not o.inline
+  is_built (chunked w) = is_built w
+  is_built (grouped g w) = false
+  is_built (compressed which room w) = false
+  is_built (coded o c v f) = false
+  is_built (zoned o w stats) = false
+  is_built (structured v d ws) = is_built v && (is_built d && are_built ws)
+  is_built (listed e o v f) = false
+  is_built (tabled v l ws lists wraps) = false
+
+  pub are_built : StrategyList → Bool
+  are_built no_ways = true
+  are_built (way_at path w ws) = is_built w && are_built ws
+
+-- the types of a struct's columns: validity where it is nullable, then the fields
+
+abbrev pub field_types : Tys → List Ty
+field_types no_fields = []
+field_types (field name t fs) = t ∷ field_types fs
+
+abbrev pub column_types : Tys → Bool → List Ty
+column_types fs true = boolean false ∷ field_types fs
+column_types fs false = field_types fs
+
+-- a form of these kinds, where each child has the type of what it is handed
+abbrev mutual
+  pub Built : Form → Type 0
+  Built (flat_form o t) = IsFalse o.inline
+  Built (chunked_form t k) = (form_type k ≡ t) × Built k
+  Built (struct_form fs n name v ks) = (form_type v ≡ boolean false) × Built v × AllBuilt fs ks
+  -- its start refuses
+  Built (no_struct_form t) = Unit {0}
+  Built (grouped_form g t k) = ⊥
+  Built (compressed_form which room t k) = ⊥
+  Built (dict_form o t c v f) = ⊥
+  Built (zoned_form o t k stats) = ⊥
+  Built (list_form t n es os v) = ⊥
+
+  pub AllBuilt : Tys → Forms → Type 0
+  AllBuilt no_fields no_forms = Unit {0}
+  AllBuilt no_fields (form_then f ks) = ⊥
+  AllBuilt (field name t fs) no_forms = ⊥
+  AllBuilt (field name t fs) (form_then f ks) = (form_type f ≡ t) × Built f × AllBuilt fs ks

@@ -1,0 +1,12 @@
+pub mod State
+pub mod Start
+pub mod Acts
+pub mod Moves
+pub mod Machine
+pub mod Built
+pub mod Typed
+pub mod Shows
+pub mod Steps
+pub mod Whole
+pub mod Underway
+pub mod Places

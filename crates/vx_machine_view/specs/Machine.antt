@@ -1,0 +1,125 @@
+-- The whole machine: the source's task, and the root with all below it.
+use Rattle.std.specs.Prelude.{ℕ, ◌+◌, ◌&&◌, cond, Bool, true, false, List, [], ◌∷◌, ◌++◌, map, Option, None}
+use Rattle.vx_path.specs.Path.{Eof, root_eof, eof_path, next}
+use Rattle.vx_tasks.specs.Task.{Kind, Free, Put, Batch, End, Close}
+use Rattle.vx_tasks.specs.Runs.{first_batch}
+use Rattle.vx_plan.specs.PlanData.{Setting, Item, Pair, What}
+use Rattle.vx_machine_turns.specs.Forms.{Form}
+use Rattle.vx_machine_promises.specs.Write.{Answer, unasked, came, over}
+use Rattle.vx_machine_view.specs.State.{Next, put, append, shut_kids, join_kids, Mind, no_chunk, one_chunk, by_chunk, by_column, ending, made, Tasks, no_tasks, task_then}
+use Rattle.vx_machine_view.specs.Start.{started_task}
+use Rattle.vx_machine_view.specs.Acts.{give, shut_all}
+use Rattle.vx_machine_view.specs.Moves.{is_made, has_room, Step, steps}
+
+-- what the source does next
+pub data Phase : Type 0 where
+  -- it reads the batch of this path
+  reading : Eof → Phase
+  -- it puts this batch on the root's queue
+  giving : Eof → Item → Phase
+  -- it closes the root's queue
+  closing : Phase
+  finished : Phase
+
+pub record Machine : Type 0 where
+  pub phase : Phase
+  pub root : Tasks
+
+-- at the start, where the form's start doesn't refuse
+abbrev pub start : Form → Bool → Machine
+start f m = record { phase = reading first_batch; root = started_task f m (1 ∷ []) root_eof [] false }
+
+abbrev pub may_source : Phase → Tasks → Bool
+may_source (reading e) root = true
+may_source (giving e i) root = has_room 0 root
+may_source closing root = true
+may_source finished root = false
+
+-- a ready task's act, and the machine after it
+pub record WholeStep : Type 0 where
+  pub name : List ℕ
+  pub kind : Kind
+  pub refusal : Option What
+  pub misfit : Bool
+  pub numbers : List ℕ
+  pub indices : List ℕ
+  pub wrote : List Pair
+  pub joined : List ℕ
+  pub after : Machine
+
+abbrev pub source_did : Kind → Phase → Tasks → WholeStep
+source_did k phase root = record { name = 0 ∷ []; kind = k; refusal = None; misfit = false; numbers = []; indices = []; wrote = []; joined = []; after = record { phase = phase; root = root } }
+
+-- what the source reads is told: a batch of the type, or the end; where nothing is told, it is of another type, and so refused
+abbrev pub read_batch : Answer → Eof → Tasks → WholeStep
+read_batch (came b) e root = record (source_did (Free Batch) (giving (next e) (eof_path e, b)) root) { indices = (e.last + 1) ∷ [] }
+read_batch over e root = source_did (Free End) closing root
+read_batch unasked e root = record (source_did (Free Batch) (reading e) root) { misfit = true }
+
+abbrev pub source_step : Answer → Phase → Tasks → WholeStep
+source_step a (reading e) root = read_batch a e root
+source_step a (giving e i) root = source_did (Put 0) (reading e) (give 0 i root)
+source_step a closing root = source_did (Free Close) finished (shut_all root)
+source_step a finished root = source_did (Free Close) finished root
+
+abbrev pub in_root : Phase → Step → WholeStep
+in_root phase w = record { name = w.name; kind = w.kind; refusal = w.refusal; misfit = w.misfit; numbers = w.numbers; indices = w.indices; wrote = w.wrote; joined = w.joined; after = record { phase = phase; root = w.after } }
+
+-- what the ready tasks would do, the source first
+abbrev pub whole_steps : Setting → List (List ℕ) → ℕ → Answer → Machine → List WholeStep
+whole_steps s all number a m = cond (may_source m.phase m.root) (source_step a m.phase m.root ∷ []) [] ++ map (in_root m.phase) (steps s all number m.root)
+
+-- ---- the end
+
+abbrev pub has_closed : Phase → Bool
+has_closed finished = true
+has_closed (reading e) = false
+has_closed (giving e i) = false
+has_closed closing = false
+
+abbrev pub is_empty : {A : Type 0} → List A → Bool
+is_empty [] = true
+is_empty (x ∷ xs) = false
+
+abbrev pub no_more : Tasks → Bool
+no_more no_tasks = true
+no_more (task_then c ks r) = false
+
+-- its layout is there, and nothing else
+abbrev pub is_done : Tasks → Bool
+is_done no_tasks = false
+is_done (task_then c ks r) = is_made c.mind && (is_empty c.todo && (is_empty c.inbox && no_more ks))
+
+abbrev pub is_finished : Machine → Bool
+is_finished m = has_closed m.phase && is_done m.root
+
+-- ---- what is held
+
+abbrev pub next_ids : List Next → List (List ℕ)
+next_ids [] = []
+next_ids (put j i ∷ todo) = i.0 ∷ next_ids todo
+next_ids (append x ∷ todo) = x.id ∷ next_ids todo
+next_ids (shut_kids ∷ todo) = next_ids todo
+next_ids (join_kids f ∷ todo) = next_ids todo
+
+abbrev pub mind_ids : Mind → List (List ℕ)
+mind_ids (no_chunk o t) = []
+mind_ids (one_chunk x) = x.id ∷ []
+mind_ids (by_chunk m t f e rows) = eof_path e ∷ []
+mind_ids (by_column t rows) = []
+mind_ids ending = []
+mind_ids (made l) = []
+
+-- the paths of all ids and pointers of these tasks
+abbrev pub held_by : Tasks → List (List ℕ)
+held_by no_tasks = []
+held_by (task_then c ks r) = (map (λ i. i.0) c.inbox ++ ((next_ids c.todo ++ mind_ids c.mind) ++ held_by ks)) ++ held_by r
+
+abbrev pub phase_ids : Phase → List (List ℕ)
+phase_ids (reading e) = eof_path e ∷ []
+phase_ids (giving e i) = i.0 ∷ eof_path e ∷ []
+phase_ids closing = []
+phase_ids finished = []
+
+abbrev pub machine_ids : Machine → List (List ℕ)
+machine_ids m = phase_ids m.phase ++ held_by m.root

@@ -1,0 +1,178 @@
+-- The program's tasks against the abstract machine's.
+use Rattle.std.specs.Prelude.{◌≡◌, ◌+◌, ◌⊎◌, ℕ, suc, Bool, true, false, List, [], ◌∷◌, ◌++◌, map, length, get_or, Option, Some, None, IsTrue, IsFalse}
+use Rattle.vx_model.specs.Ty.{Ty, struct}
+use Rattle.vx_model.specs.ChunkData.{ChunkData}
+use Rattle.vx_path.specs.Lists.{In}
+use Rattle.vx_path.specs.Path.{Eof}
+use Rattle.vx_layout_spec.specs.LayoutTree.{LayoutData, row_count, renamed, flat_layout}
+use Rattle.vx_tasks.specs.Task.Kind.{Append, Join}
+use Rattle.vx_tasks.specs.Nodes.{numbers}
+use Rattle.vx_strategy_spec.specs.StrategyData.{FlatOptions}
+use Rattle.vx_plan.specs.PlanData.{Setting, Item, row_total, rows_in}
+use Rattle.vx_machine_turns.specs.Forms.{Writer, chunked_form}
+use Rattle.vx_machine_turns.specs.Locals.{ChunkedNode, StructNode, Local, flat_empty, flat_full, flat_many, chunked_local, struct_local, list_local, blocks_local, bytes_local, collect_local, compressed_local, outlet_local, dict_local, fallback_local, runs_local, zoned_local, idle_local, source_local, outside_local}
+use Rattle.vx_machine_turns.specs.Acts.{Seed, Act, Shape, alone, gathers, struct_of, list_of, runs_of, zones_of, passes, does, close_queues, shape_in, numbers_in}
+use Rattle.vx_machine_turns.specs.Fuels.{Fuel, less, Enough}
+use Rattle.vx_machine_turns.specs.Columns.{column_puts}
+use Rattle.vx_machine_turns.specs.Readings.{shaped}
+use Rattle.vx_machine_turns.specs.Scripts.{filled}
+use Rattle.vx_machine_steps.specs.Tree.{Head, Tree, Leaf, Work}
+use Rattle.vx_machine_steps.specs.Moves.{all_paths, all_over}
+use Rattle.vx_machine_view.specs.State.{Stored, fold_chunks, fold_columns, Next, append, shut_kids, join_kids, Mind, no_chunk, one_chunk, by_chunk, by_column, ending, made, Desk, Tasks, no_tasks, task_then}
+use Rattle.vx_machine_view.specs.Acts.{count, column_count, puts}
+use Rattle.vx_machine_view.specs.Built.{Built, column_types}
+use Rattle.vx_machine_view.specs.Typed.{AllTyped, EachTyped}
+
+-- ---- what is read off the abstract tree
+
+-- the layouts of tasks that have done all
+abbrev pub laid : Tree → List (LayoutData (List ℕ))
+laid Leaf = []
+laid (Work h ks r) = shaped (shape_in h.past) (laid ks) ++ laid r
+
+abbrev pub types_of : Tree → List Ty
+types_of Leaf = []
+types_of (Work h ks r) = h.seed.type ∷ types_of r
+
+-- a task's rows: once it has seen the end, by its layout's shape
+
+abbrev pub shape_rows : Option Shape → ℕ
+shape_rows None = 0
+shape_rows (Some (alone l)) = row_count l
+shape_rows (Some (gathers t n)) = n
+shape_rows (Some (struct_of t n)) = n
+shape_rows (Some (list_of t n)) = n
+shape_rows (Some (runs_of t n ns)) = n
+shape_rows (Some (zones_of t n zone specs)) = n
+shape_rows (Some passes) = 0
+
+abbrev pub local_rows : Local → ℕ
+local_rows (flat_empty o t) = 0
+local_rows (flat_full o t i b) = rows_in i.1
+local_rows (chunked_local n j e rows) = rows
+local_rows (struct_local n rows) = rows
+local_rows flat_many = 0
+local_rows (list_local n first from rows) = rows
+local_rows (blocks_local o n x j rows) = rows
+local_rows (bytes_local size n x j rows) = rows
+local_rows (collect_local n x rows) = rows
+local_rows (compressed_local n) = 0
+local_rows (outlet_local n) = 0
+local_rows (dict_local n) = 0
+local_rows fallback_local = 0
+local_rows (runs_local n r j rows) = rows
+local_rows (zoned_local n records last zones rows) = rows
+local_rows idle_local = 0
+local_rows (source_local f m) = 0
+local_rows outside_local = 0
+
+abbrev pub task_rows : Bool → Local → List Act → List Item → ℕ
+task_rows true l past xs = shape_rows (shape_in past)
+task_rows false l past xs = local_rows l + row_total xs
+
+-- of all these tasks, before the end also those in their queues
+abbrev pub rows_of : Tree → ℕ
+rows_of Leaf = 0
+rows_of (Work h ks r) = task_rows h.over h.local h.past h.inbox + rows_of r
+
+-- ---- a task by itself
+
+-- child j of a seed
+pub record Alike (q : Seed) (j : ℕ) (c : Desk) (h : Head) : Type 0 where
+  pub name : c.name ≡ h.seed.name
+  pub inbox : c.inbox ≡ h.inbox
+  pub closed : c.closed ≡ h.closed
+  pub places : c.places ≡ 1 + get_or q.spare j 0
+  pub typed : AllTyped h.seed.type h.inbox
+
+-- it waits for a chunk or the end, with this in mind
+pub record Rests (mind : Mind) (left : List Next) (past todo : List Act) (l : Local) (over : Bool) (mind_now : Mind) (local_now : Local) : Type 0 where
+  pub mind_is : mind ≡ mind_now
+  pub local_is : l ≡ local_now
+  pub idle : left ≡ []
+  pub rest : todo ≡ []
+  pub on : over ≡ false
+  pub unshaped : shape_in past ≡ None
+
+-- it has seen the end, and has this left to do
+pub record Ends (mind : Mind) (left : List Next) (past todo : List Act) (over : Bool) (left_now : List Next) (acts : List Act) (shape : Shape) : Type 0 where
+  pub mind_is : mind ≡ ending
+  pub left_is : left ≡ left_now
+  pub rest : todo ≡ acts
+  pub off : over ≡ true
+  pub shape_is : shape_in past ≡ Some shape
+
+-- a struct puts these columns next, from number j on of the chunk at p
+pub record Hands (mind : Mind) (left : List Next) (q : Seed) (past todo : List Act) (l : Local) (over : Bool) (hs : Tree) (n : StructNode) (rows j : ℕ) (p : List ℕ) (xs : List ChunkData) (ws : List Writer) : Type 0 where
+  pub mind_is : mind ≡ by_column (struct n.fields n.nullable) rows
+  pub local_is : l ≡ struct_local n rows
+  pub left_is : left ≡ puts j p xs
+  pub rest : todo ≡ filled [] (column_puts j p xs ws)
+  pub on : over ≡ false
+  pub unshaped : shape_in past ≡ None
+  pub type_is : q.type ≡ struct n.fields n.nullable
+  -- its children are its columns
+  pub kids : types_of hs ≡ column_types n.fields n.nullable
+  pub as_many : length n.writers ≡ length (column_types n.fields n.nullable)
+  -- what is left are the last of them
+  pub before : List Ty
+  pub behind : List Ty
+  pub split : column_types n.fields n.nullable ≡ before ++ behind
+  pub place : length before ≡ j
+  pub typed : EachTyped behind xs
+  pub same : length ws ≡ length xs
+
+abbrev pub append_of : Stored → Act
+append_of x = record (does (Append x.id)) { uses = x.id ∷ []; bytes = x.bytes }
+
+-- rows that were counted, of one that has done these acts
+abbrev pub Counted : List Act → ℕ → Type 0
+Counted past n = (n ≡ 0) ⊎ In n (numbers_in past)
+
+-- A task that hasn't done all: what the program's has in mind and left to do, with its children, against the abstract one's past,
+-- what that has left and its local, with its children, which may go as deep as d.
+pub data Stage (s : Setting) (d : Fuel) (mind : Mind) (left : List Next) (ks : Tasks) (q : Seed) (past todo : List Act) (l : Local) (over : Bool) (hs : Tree) : Type 0 where
+  waits_first : (o : FlatOptions) (t : Ty) → IsFalse o.inline → ks ≡ no_tasks → Rests mind left past todo l over (no_chunk o t) (flat_empty o t)
+      → Stage s d mind left ks q past todo l over hs
+  waits_end : (o : FlatOptions) (t : Ty) (i : Item) (bytes : List ℕ) → IsFalse o.inline → ks ≡ no_tasks
+      → Rests mind left past todo l over (one_chunk (record { id = i.0; bytes = bytes; rows = rows_in i.1; type = t })) (flat_full o t i (Some bytes))
+      → Stage s d mind left ks q past todo l over hs
+  appends : (x : Stored) → ks ≡ no_tasks → Ends mind left past todo over (append x ∷ []) (append_of x ∷ []) (alone (flat_layout x.type x.rows s.encodings None x.id))
+      → Stage s d mind left ks q past todo l over hs
+  -- the children have all rows so far
+  splits : (n : ChunkedNode) (e : Eof) → n.name ≡ q.name → q.type ≡ n.type → q.spare ≡ [] → Built (chunked_form n.type n.child) → Enough d (chunked_form n.type n.child)
+      → Counted past (rows_of hs) → Rests mind left past todo l over (by_chunk n.mark n.type n.child e (rows_of hs)) (chunked_local n (count ks) e (rows_of hs))
+      → Stage s d mind left ks q past todo l over hs
+  gathers_all : (t : Ty) → Counted past (rows_of hs) → Ends mind left past todo over (join_kids (fold_chunks t) ∷ []) (does Join ∷ []) (gathers t (rows_of hs))
+      → Stage s d mind left ks q past todo l over hs
+  hands : (n : StructNode) (rows j : ℕ) (p : List ℕ) (xs : List ChunkData) (ws : List Writer) → Hands mind left q past todo l over hs n rows j p xs ws
+      → Stage s d mind left ks q past todo l over hs
+  shuts : (t : Ty) (rows : ℕ) → column_count t ≡ count ks
+      → Ends mind left past todo over (shut_kids ∷ join_kids (fold_columns t rows) ∷ []) (close_queues (numbers 0 (count ks)) ∷ does Join ∷ []) (struct_of t rows)
+      → Stage s d mind left ks q past todo l over hs
+  joins_columns : (t : Ty) (rows : ℕ) → column_count t ≡ count ks → Ends mind left past todo over (join_kids (fold_columns t rows) ∷ []) (does Join ∷ []) (struct_of t rows)
+      → Stage s d mind left ks q past todo l over hs
+
+-- A task that has done all: its children are given up, and the layout is theirs, where `number` tells each segment's.
+pub record Done (number : List ℕ → ℕ) (mind : Mind) (left : List Next) (ks : Tasks) (past todo : List Act) (over : Bool) (hs : Tree) : Type 0 where
+  pub layout : LayoutData ℕ
+  pub mind_is : mind ≡ made layout
+  pub idle : left ≡ []
+  pub no_kids : ks ≡ no_tasks
+  pub rest : todo ≡ []
+  pub off : over ≡ true
+  pub below : IsTrue (all_over hs)
+  pub free : all_paths hs ≡ []
+  pub laid_is : map (renamed number) (shaped (shape_in past) (laid hs)) ≡ layout ∷ []
+  pub rows_are : row_count layout ≡ shape_rows (shape_in past)
+
+-- The tasks show the abstract ones: those from number j on of a seed, and all below them.
+abbrev pub Shows : Setting → (List ℕ → ℕ) → Fuel → Seed → ℕ → Tasks → Tree → Type 0
+Shows s number d q j no_tasks Leaf = Unit {0}
+Shows s number d q j no_tasks (Work h hs r) = ⊥
+Shows s number d q j (task_then c ks more) Leaf = ⊥
+Shows s number d q j (task_then c ks more) (Work h hs r) =
+    Alike q j c h
+    × ((Stage s (less d h.seed.type) c.mind c.todo ks h.seed h.past h.todo h.local h.over hs × Shows s number (less d h.seed.type) h.seed 0 ks hs)
+    ⊎ Done number c.mind c.todo ks h.past h.todo h.over hs)
+    × Shows s number d q (suc j) more r

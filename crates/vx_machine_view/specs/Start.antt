@@ -1,0 +1,72 @@
+-- The task of a form, with all that is started with it.
+use Rattle.std.specs.Prelude.{ℕ, suc, ◌+◌, ◌||◌, if◌then◌else◌, Bool, true, false, List, [], ◌∷◌, ◌++◌, Some, None}
+use Rattle.vx_model.specs.Ty.{struct}
+use Rattle.vx_path.specs.Path.{Eof, under, inside, next}
+use Rattle.vx_plan.specs.PlanData.{Item}
+use Rattle.vx_machine_turns.specs.Forms.{Form, Forms, flat_form, chunked_form, grouped_form, compressed_form, dict_form, zoned_form, no_struct_form, struct_form, list_form, no_forms, form_then}
+use Rattle.vx_machine_view.specs.State.{Mind, no_chunk, by_chunk, by_column, ending, Desk, Tasks, no_tasks, task_then}
+
+-- what it has in mind before a chunk comes: its mark and its pointer; kinds that aren't built start nothing
+abbrev pub first_mind : Form → Bool → Eof → Mind
+first_mind (flat_form o t) m e = no_chunk o t
+first_mind (chunked_form t k) m e = by_chunk m t k e 0
+first_mind (struct_form fs n name v ks) m e = by_column (struct fs n) 0
+first_mind (grouped_form g t k) m e = ending
+first_mind (compressed_form which room t k) m e = ending
+first_mind (dict_form o t c v f) m e = ending
+first_mind (zoned_form o t k stats) m e = ending
+first_mind (no_struct_form t) m e = ending
+first_mind (list_form t n es os v) m e = ending
+
+-- with this queue, of one place
+abbrev pub waiting : List ℕ → Mind → List Item → Bool → Desk
+waiting name mind inbox closed = record { name = name; mind = mind; todo = []; inbox = inbox; places = 1; closed = closed }
+
+-- A struct's columns start with it: validity where it is nullable, then the fields. Column c has the c-th name below, and a
+-- pointer inside the c-th path from e on.
+abbrev mutual
+  pub first_kids : Form → Bool → List ℕ → Eof → Tasks
+  first_kids (struct_form fs n name v ks) m at e =
+      if n
+      then task_then (waiting (under at 0) (first_mind v m (inside e)) [] false) (first_kids v m (under at 0) (inside e)) (field_tasks ks (m || n) at 1 (next e))
+      else field_tasks ks (m || n) at 0 e
+  first_kids (flat_form o t) m at e = no_tasks
+  first_kids (chunked_form t k) m at e = no_tasks
+  first_kids (grouped_form g t k) m at e = no_tasks
+  first_kids (compressed_form which room t k) m at e = no_tasks
+  first_kids (dict_form o t c v f) m at e = no_tasks
+  first_kids (zoned_form o t k stats) m at e = no_tasks
+  first_kids (no_struct_form t) m at e = no_tasks
+  first_kids (list_form t n es os v) m at e = no_tasks
+
+  pub field_tasks : Forms → Bool → List ℕ → ℕ → Eof → Tasks
+  field_tasks no_forms m at c e = no_tasks
+  field_tasks (form_then f fs) m at c e =
+      task_then (waiting (under at c) (first_mind f m (inside e)) [] false) (first_kids f m (under at c) (inside e)) (field_tasks fs m at (suc c) (next e))
+
+-- How far pointers come where it is started: behind the last column's. A form whose start refuses at once moves none.
+abbrev pub form_count : Forms → ℕ
+form_count no_forms = 0
+form_count (form_then f fs) = suc (form_count fs)
+
+abbrev mutual
+  pub first_indices : Form → Eof → List ℕ
+  first_indices (struct_form fs n (Some name) v ks) e = []
+  first_indices (struct_form fs true None v ks) e = (e.last + suc (form_count ks)) ∷ (first_indices v (inside e) ++ field_indices ks (next e))
+  first_indices (struct_form fs false None v ks) e = (e.last + form_count ks) ∷ field_indices ks e
+  first_indices (flat_form o t) e = []
+  first_indices (chunked_form t k) e = []
+  first_indices (grouped_form g t k) e = []
+  first_indices (compressed_form which room t k) e = []
+  first_indices (dict_form o t c v f) e = []
+  first_indices (zoned_form o t k stats) e = []
+  first_indices (no_struct_form t) e = []
+  first_indices (list_form t n es os v) e = []
+
+  pub field_indices : Forms → Eof → List ℕ
+  field_indices no_forms e = []
+  field_indices (form_then f fs) e = first_indices f (inside e) ++ field_indices fs (next e)
+
+-- the task alone, with this queue
+abbrev pub started_task : Form → Bool → List ℕ → Eof → List Item → Bool → Tasks
+started_task f m name e inbox closed = task_then (waiting name (first_mind f m e) inbox closed) (first_kids f m name e) no_tasks

@@ -1,0 +1,58 @@
+-- The step machine as the program keeps it, in plain data: ids and pointers by their paths, chunks and layouts by their data.
+use Rattle.std.specs.Prelude.{ℕ, Bool, List}
+use Rattle.vx_model.specs.Ty.{Ty}
+use Rattle.vx_path.specs.Path.{Eof}
+use Rattle.vx_layout_spec.specs.LayoutTree.{LayoutData}
+use Rattle.vx_strategy_spec.specs.StrategyData.{FlatOptions}
+use Rattle.vx_plan.specs.PlanData.{Item}
+use Rattle.vx_machine_turns.specs.Forms.{Form}
+
+-- a chunk's segment that is to be appended: its path, its bytes, and what its layout needs
+pub record Stored : Type 0 where
+  pub id : List ℕ
+  pub bytes : List ℕ
+  pub rows : ℕ
+  pub type : Ty
+
+-- how a layout is made of the children's
+pub data Fold : Type 0 where
+  fold_chunks : Ty → Fold
+  -- with the rows
+  fold_columns : Ty → ℕ → Fold
+
+-- what is left of a task's present block
+pub data Next : Type 0 where
+  put : ℕ → Item → Next
+  append : Stored → Next
+  -- the queues of all children
+  shut_kids : Next
+  join_kids : Fold → Next
+
+-- what a task has in mind between two chunks
+pub data Mind : Type 0 where
+  -- a flat node's: no chunk came; one came
+  no_chunk : FlatOptions → Ty → Mind
+  one_chunk : Stored → Mind
+  -- a chunked node's: whether a nullable struct stands above, type, child, the pointer at the next child's eof path, rows so far
+  by_chunk : Bool → Ty → Form → Eof → ℕ → Mind
+  -- a struct node's: type and rows so far
+  by_column : Ty → ℕ → Mind
+  -- it has seen the end of its stream
+  ending : Mind
+  -- it has done all
+  made : LayoutData ℕ → Mind
+
+-- a task by itself
+pub record Desk : Type 0 where
+  pub name : List ℕ
+  pub mind : Mind
+  pub todo : List Next
+  -- its queue, with its places, and whether it is closed
+  pub inbox : List Item
+  pub places : ℕ
+  pub closed : Bool
+
+-- the first task, its children, and its later siblings
+pub data Tasks : Type 0 where
+  no_tasks : Tasks
+  task_then : Desk → Tasks → Tasks → Tasks

@@ -1,0 +1,153 @@
+-- The whole machine against the abstract one, for each future of its source.
+use Rattle.std.specs.Prelude.{◌≡◌, ℕ, zero, suc, Bool, true, false, List, [], ◌∷◌, ◌++◌, map, length, Some, None, IsTrue, IsFalse}
+use Rattle.vx_model.specs.ChunkData.{ChunkData, piece_type, is_sound}
+use Rattle.vx_model.specs.Ty.{Ty}
+use Rattle.vx_path.specs.Lists.{In}
+use Rattle.vx_path.specs.Path.{eof_path}
+use Rattle.vx_layout_spec.specs.LayoutTree.{renamed}
+use Rattle.vx_layout_spec.specs.Codec.{Lawful}
+use Rattle.vx_tasks.specs.Task.{Append}
+use Rattle.vx_tasks.specs.Run.{nth}
+use Rattle.vx_strategy_spec.specs.StrategyData.{StrategyData}
+use Rattle.vx_strategy_spec.specs.Walk.{walk}
+use Rattle.vx_plan.specs.PlanData.{Setting}
+use Rattle.vx_plan.specs.SourcePlan.{start_fault}
+use Rattle.vx_machine_turns.specs.Forms.{Form, form_nodes, form_type}
+use Rattle.vx_machine_turns.specs.Locals.{source_local}
+use Rattle.vx_machine_turns.specs.Acts.{Act, put_item, close_queues, passes, shape_in, refuses, written_by}
+use Rattle.vx_machine_turns.specs.Readings.{layout_reading}
+use Rattle.vx_machine_turns.specs.Source.{source_acts, source_seed}
+use Rattle.vx_machine_turns.specs.Fuels.{Fuel, less}
+use Rattle.vx_machine_steps.specs.Tree.{Head, Tree, Leaf, Work, read, opened}
+use Rattle.vx_machine_steps.specs.Moves.{holding, all_paths, all_over, TreeMove, tree_moves}
+use Rattle.vx_machine_steps.specs.Stands.{Stands}
+use Rattle.vx_machine_promises.specs.Write.{Write, Future, Open, Answer, unasked, came, over, depth, begin, before, heard_by}
+use Rattle.vx_machine_view.specs.State.{Tasks}
+use Rattle.vx_machine_view.specs.Acts.{layouts_in}
+use Rattle.vx_machine_view.specs.Moves.{steps}
+use Rattle.vx_machine_view.specs.Built.{is_built, Built}
+use Rattle.vx_machine_view.specs.Typed.{Typed}
+use Rattle.vx_machine_view.specs.Shows.{Shows, types_of}
+use Rattle.vx_machine_view.specs.Machine.{Phase, reading, giving, closing, finished, Machine, start, WholeStep, whole_steps, is_finished, phase_ids, machine_ids}
+
+abbrev pub form_of : Write → Form
+form_of g = walk form_nodes g.way g.type
+
+-- what the source still does where it stands, and this comes of it
+abbrev pub phase_acts : Phase → Future → List Act
+phase_acts (reading e) f = source_acts e f.later f.fits
+phase_acts (giving e i) f = record (put_item 0 i) { holds = eof_path e ∷ [] } ∷ source_acts e f.later f.fits
+phase_acts closing f = close_queues (0 ∷ []) ∷ []
+phase_acts finished f = []
+
+-- the batch that it is to put is of the type
+abbrev pub PhaseTyped : Ty → Phase → Type 0
+PhaseTyped t (reading e) = Unit {0}
+PhaseTyped t (giving e i) = Typed t i.1
+PhaseTyped t closing = Unit {0}
+PhaseTyped t finished = Unit {0}
+
+-- once it has ended, it has told that it hands the root's layout on
+abbrev pub PhaseShape : List Act → Phase → Type 0
+PhaseShape past (reading e) = shape_in past ≡ None
+PhaseShape past (giving e i) = shape_in past ≡ None
+PhaseShape past closing = shape_in past ≡ Some passes
+PhaseShape past finished = shape_in past ≡ Some passes
+
+abbrev pub source_at : Write → List Act → List Act → Head
+source_at g past todo = record {
+  seed = source_seed (form_of g) g.mark;
+  past = past;
+  todo = todo;
+  local = source_local (form_of g) g.mark;
+  over = true;
+  inbox = [];
+  closed = true;
+}
+
+-- what the root and all below it may grow to
+abbrev pub root_depth : Write → Fuel
+root_depth g = less (depth g) (form_type (form_of g))
+
+-- The machine shows the state, where this comes of its source, and segments get these numbers.
+pub record ShowsMachine (g : Write) (number : List ℕ → ℕ) (m : Machine) (f : Future) (t : Tree) : Type 0 where
+  pub past : List Act
+  pub kids : Tree
+  pub tree_is : t ≡ Work (source_at g past (phase_acts m.phase f)) kids Leaf
+  pub root : Shows g.setting number (root_depth g) (source_seed (form_of g) g.mark) 0 m.root kids
+  pub one : types_of kids ≡ g.type ∷ []
+  pub typed : PhaseTyped g.type m.phase
+  pub shape : PhaseShape past m.phase
+  pub held : holding (source_at g past (phase_acts m.phase f)) ≡ phase_ids m.phase
+
+-- ---- the start
+
+-- where the strategy is built, and its start refuses nothing
+abbrev pub StartShows : Type 0
+StartShows = (g : Write) (number : List ℕ → ℕ) (f : Future) → IsTrue (is_built g.way) → start_fault g.setting g.way g.type g.mark ≡ None
+    → ShowsMachine g number (start (form_of g) g.mark) f (begin g [] f)
+
+-- ---- steps
+
+-- The answer is that of the step at this place: only the first step asks, where the source reads. It is told a chunk of the type,
+-- or the end; or it is told nothing, where what comes next is of another type.
+abbrev pub Asks : Ty → Future → Phase → ℕ → Answer → Type 0
+Asks t f (reading e) zero unasked = (f.later ≡ []) × (f.fits ≡ false)
+Asks t f (reading e) zero (came b) = Typed t b
+Asks t f (reading e) zero over = Unit {0}
+Asks t f (reading e) (suc k) a = a ≡ unasked
+Asks t f (giving e i) k a = a ≡ unasked
+Asks t f closing k a = a ≡ unasked
+Asks t f finished k a = a ≡ unasked
+
+-- A step is a move. Where that isn't refused, and an append gets the number of its path, it leads to a state that is shown.
+pub record SameWhole (g : Write) (number : List ℕ → ℕ) (next : ℕ) (f : Future) (w : WholeStep) (m : TreeMove) : Type 0 where
+  pub name : w.name ≡ m.name
+  pub kind : w.kind ≡ m.act.kind
+  pub refusal : w.refusal ≡ m.act.refusal
+  pub misfit : w.misfit ≡ m.act.misfit
+  pub numbers : w.numbers ≡ m.act.numbers
+  pub indices : w.indices ≡ m.act.indices ++ opened m.room m.act.starts
+  pub wrote : w.wrote ≡ written_by m.act.kind m.act.bytes
+  pub untracked : (m.act.raises ≡ 0) × (m.act.lowers ≡ 0)
+  pub after : IsFalse (refuses m.act) → ((p : List ℕ) → m.act.kind ≡ Append p → next ≡ number p) → ShowsMachine g number w.after f m.after
+
+-- so it is of the step at each place
+abbrev pub StepShows : Type 0
+StepShows = (g : Write) (number : List ℕ → ℕ) (next : ℕ) (all : List (List ℕ)) (heard : Bool) (a : Answer) (f : Future) (m : Machine) (t : Tree) (k : ℕ) (w : WholeStep)
+    → Lawful g.setting.codec g.setting.encodings → Stands g.setting (depth g) t → Open (heard_by heard a) f → ShowsMachine g number m (before a f) t
+    → nth (whole_steps g.setting all next a m) k ≡ Some w → Asks g.type f m.phase k a
+    → (v : TreeMove) × (nth (tree_moves g.setting all (depth g) t) k ≡ Some v) × SameWhole g number next f w v
+
+-- as many are ready
+abbrev pub ReadyShows : Type 0
+ReadyShows = (g : Write) (number : List ℕ → ℕ) (next : ℕ) (all : List (List ℕ)) (a : Answer) (f : Future) (m : Machine) (t : Tree) → Lawful g.setting.codec g.setting.encodings
+    → Stands g.setting (depth g) t → ShowsMachine g number m f t → length (whole_steps g.setting all next a m) ≡ length (tree_moves g.setting all (depth g) t)
+
+-- ---- what is held, and the end
+
+abbrev pub HeldShows : Type 0
+HeldShows = (g : Write) (number : List ℕ → ℕ) (f : Future) (m : Machine) (t : Tree) → Stands g.setting (depth g) t → ShowsMachine g number m f t → machine_ids m ≡ all_paths t
+
+abbrev pub FinishShows : Type 0
+FinishShows = (g : Write) (number : List ℕ → ℕ) (f : Future) (m : Machine) (t : Tree) → Stands g.setting (depth g) t → ShowsMachine g number m f t → is_finished m ≡ all_over t
+
+-- the layout that is made is the one that is read off the state
+abbrev pub LayoutShows : Type 0
+LayoutShows = (g : Write) (number : List ℕ → ℕ) (f : Future) (m : Machine) (t : Tree) → Stands g.setting (depth g) t → ShowsMachine g number m f t → IsTrue (all_over t)
+    → layouts_in m.root ≡ map (renamed number) (read g.setting layout_reading (depth g) 0 [] t)
+
+-- ---- forms and chunks
+
+-- a built strategy's form is built
+abbrev pub BuiltIsBuilt : Type 0
+BuiltIsBuilt = (w : StrategyData) (t : Ty) → IsTrue (is_built w) → Built (walk form_nodes w t)
+
+-- a sound chunk is of its type through and through
+abbrev pub SoundIsTyped : Type 0
+SoundIsTyped = (p : ChunkData) (t : Ty) → IsTrue (is_sound p) → piece_type p ≡ t → Typed t p
+
+-- which path is the least depends on no order in which paths are listed, nor on how often
+abbrev pub LeastAgrees : Type 0
+LeastAgrees = (s : Setting) (all held : List (List ℕ)) (next : ℕ) (cs : Tasks) → ((p : List ℕ) → In p all → In p held) → ((p : List ℕ) → In p held → In p all)
+    → steps s all next cs ≡ steps s held next cs
