@@ -1,7 +1,7 @@
 //! A case and its answer.
 
 use crate::given::{Stream, batches_in, dtype_in};
-use crate::{rules, table, tallies};
+use crate::{images, rules, table, tallies, zones};
 use anyhow::Context;
 use serde_json::Value;
 use std::alloc::Global;
@@ -23,26 +23,28 @@ fn answer_to(alloc: Global, name: &str, rest: &str) -> anyhow::Result<String> {
     if word == "tally" {
         return tallies::told(alloc, name, given);
     }
-    let object = Value::from_str(alloc, object)?;
+    let object = boxed(alloc, Value::from_str(alloc, object)?)?;
     let dtype = boxed(alloc, dtype_in(alloc, &object)?)?;
-    of_batches(alloc, name, word, given, &dtype, batches_in(&object)?)
+    of_object(alloc, name, word, given, &dtype, &object)
 }
 
-fn of_batches(
+fn of_object(
     alloc: Global,
     name: &str,
     word: &str,
     given: &str,
     dtype: &DType,
-    batches: &[Value],
+    object: &Value,
 ) -> anyhow::Result<String> {
     let stream = Stream {
         name,
         dtype,
-        batches,
+        batches: batches_in(object)?,
     };
     match word {
+        "compress" => images::told(alloc, given, stream),
         "table" => table::told(alloc, stream),
+        "zones" => zones::told(alloc, given, object, stream),
         _ => rules::told(alloc, word, given, stream),
     }
 }

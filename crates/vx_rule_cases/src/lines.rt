@@ -16,15 +16,16 @@ use vx_model::DType;
 use vx_react::Place;
 
 /// A line for each chunk; where a batch is refused, the last line says why.
-pub(crate) fn lines<R: Rule>(
+pub(crate) fn lines<R: Rule + Drop>(
     alloc: Global,
-    rule: &mut R,
+    rule: R,
     stream: Stream,
 ) -> Result<String, AllocError>
-    requires { R.is_at rule.old (ty stream.dtype.now) }
+    requires { R.is_at rule.entry (ty stream.dtype.now) }
 {
+    let mut rule = rule;
     let mut out = String::new(alloc);
-    if let Err(error) = push_lines(alloc, &mut out, rule, stream) {
+    if let Err(error) = push_lines(alloc, &mut out, &mut rule, stream) {
         write!(out, "{}: {error}\n", stream.name)?;
     }
     Ok(out)
@@ -48,10 +49,11 @@ fn push_lines<R: Rule>(
 
 /// The chunk, where it is of the type.
 #[tactic(auto, using(vx_model::specs::TyLaws::ty_eq_decides))]
-fn of_type(dtype: &DType, chunk: Chunk) -> anyhow::Result<Chunk>
+pub(crate) fn of_type(dtype: &DType, chunk: Chunk) -> anyhow::Result<Chunk>
     ensures { IfOk result (λ c. piece_type c ≡ ty dtype.now) }
 {
     if chunk.dtype() != dtype {
+        drop(chunk);
         bail!("a batch of another type");
     }
     Ok(chunk)

@@ -8,6 +8,7 @@ ghost use Rattle.vx_regroup.specs.Regrouping.{Takes};
 
 use std::alloc::{AllocError, Global};
 use vx_chunk::Chunk;
+use vx_dict_encoder::DictEncoder;
 use vx_model::DType;
 use vx_react::Place;
 use vx_regroup::{Buffered, Collect, Regroup, Repartition};
@@ -126,6 +127,29 @@ impl Rule for RunCutter {
         last: bool,
     ) -> anyhow::Result<Vec<(Place, Chunk)>> {
         Ok(self.react(alloc, chunk, last)?)
+    }
+}
+
+impl Rule for DictEncoder {
+    ghost is_at = { λ r t. r.typed ≡ t };
+
+    /// The codes at the place of how many rows they have, and behind the last chunk what `reset` gives, twice.
+    fn step(
+        &mut self,
+        alloc: Global,
+        dtype: &DType,
+        chunk: Chunk,
+        last: bool,
+    ) -> anyhow::Result<Vec<(Place, Chunk)>> {
+        let front = self.encode(alloc, &chunk);
+        drop(chunk);
+        let (codes, rows) = front?;
+        let mut given = vec![in alloc; (Place::Codes(rows), codes)]?;
+        if last {
+            given.push((Place::Values(0), self.reset(alloc)?))?;
+            given.push((Place::Values(1), self.reset(alloc)?))?;
+        }
+        Ok(given)
     }
 }
 

@@ -6,7 +6,7 @@ ghost use Rattle.vx_model.specs.ChunkData.{cells};
 use std::alloc::{AllocError, Global};
 use vx_case_lines::boxed;
 use vx_chunk::Chunk;
-use vx_model::Cell;
+use vx_model::{Cell, Value};
 
 /// The greatest number of rows that are shown one by one.
 const MOST: u64 = 20;
@@ -29,6 +29,27 @@ pub(crate) fn push_cells(out: &mut String, cells: &[Cell]) -> Result<(), AllocEr
             out.push_str(", ")?;
         }
         push_cell(out, &cells[i])?;
+    }
+    Ok(())
+}
+
+fn push_value(out: &mut String, value: &Value) -> Result<(), AllocError> {
+    match value {
+        Value::Null => out.push_str("null"),
+        Value::Bool(flag) => write!(out, "{flag}"),
+        Value::Int(n) => write!(out, "{n}"),
+        Value::Utf8(text) => write!(out, "{:?}", text.as_str()),
+        Value::Binary(bytes) => write!(out, "{:?}", bytes.as_slice()),
+        Value::List(_) | Value::Struct(_) => write!(out, "{value:?}"),
+    }
+}
+
+pub(crate) fn push_values(out: &mut String, values: &[Value]) -> Result<(), AllocError> {
+    for i in 0..values.len() {
+        if i > 0 {
+            out.push_str(", ")?;
+        }
+        push_value(out, &values[i])?;
     }
     Ok(())
 }

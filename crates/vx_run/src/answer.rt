@@ -62,8 +62,16 @@ fn write_job(alloc: Global, job: Job) -> Result<Answer, AllocError>
 {
     let first = job.next;
     match write_batches(alloc, job) {
-        Ok((layout, segments)) => written(alloc, first, &layout, segments),
-        Err((error, segments)) => refusal(alloc, first, &error, &segments),
+        Ok((layout, segments)) => {
+            let answer = written(alloc, first, &layout, segments);
+            drop(layout);
+            answer
+        }
+        Err((error, segments)) => {
+            let answer = refusal(alloc, first, &error, &segments);
+            drop(error);
+            answer
+        }
     }
 }
 
@@ -87,8 +95,14 @@ fn write_batches(alloc: Global, job: Job) -> Result<(Layout, Vec<Blob>), (WriteE
         &job.schedule,
         &mut compressor,
     ) {
-        Ok(written) => Ok((written.layout, sink.into_segments())),
-        Err(refused) => Err((refused.error, sink.into_segments())),
+        Ok(written) => {
+            drop(job.strategy);
+            Ok((written.layout, sink.into_segments()))
+        }
+        Err(refused) => {
+            drop(job.strategy);
+            Err((refused.error, sink.into_segments()))
+        }
     }
 }
 

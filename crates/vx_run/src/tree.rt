@@ -42,9 +42,17 @@ fn show(alloc: Global, job: TreeJob) -> Result<Answer, AllocError>
     ensures { IfOk result (λ a. IsShown (job_layout (tree_view job)) a.status (string_bytes a.text)) }
 {
     match read_layout(alloc, job) {
-        Ok(layout) => shown(alloc, &layout),
+        Ok(layout) => {
+            let answer = shown(alloc, &layout);
+            drop(layout);
+            answer
+        }
         Err(LayoutError::OutOfMemory) => Err(AllocError),
-        Err(error) => refused(alloc, &error),
+        Err(error) => {
+            let answer = refused(alloc, &error);
+            drop(error);
+            answer
+        }
     }
 }
 
