@@ -48,11 +48,12 @@ fn node_above(alloc: Global, above: &str, below: &str) -> Result<RawNode> {
 
 /// Seven rows in segment 3, of the id at the place, above these.
 fn raw_node(alloc: Global, index: u16, children: Vec<RawNode>) -> Result<RawNode> {
+    let segments = vec![in alloc; 3]?;
     Ok(RawNode {
         index,
         rows: 7,
         metadata: Bytes::new(),
-        segments: vec![in alloc; 3]?,
+        segments,
         children,
     })
 }

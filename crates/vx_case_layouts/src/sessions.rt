@@ -44,7 +44,9 @@ pub fn scope(alloc: Global) -> Result<Scope> {
 
 fn scope_of(alloc: Global, ids: &LayoutContext, encodings: &ArrayContext) -> Result<Scope> {
     let session = session(alloc)?;
-    Ok(Scope::new(ids, encodings, &session, false)?)
+    let scope = Scope::new(ids, encodings, &session, false);
+    drop(session);
+    Ok(scope?)
 }
 
 /// What a kind is built in where no aggregate is known.

@@ -14,8 +14,8 @@ impl Chunk {
         ensures memory { IfErr result (λ e. e ≡ ChunkError.OutOfMemory) }
     {
         self.sound();
-        let dtype = self.dtype().clone()?;
         let cells = self.cells(alloc)?;
+        let dtype = self.dtype().clone()?;
         Ok(Chunk::plain(dtype, cells))
     }
 }

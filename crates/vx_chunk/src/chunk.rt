@@ -43,7 +43,10 @@ impl Chunk {
     {
         codes.sound();
         values.sound();
-        let codes = Box::new(alloc, codes)?;
+        let Ok(codes) = Box::new(alloc, codes) else {
+            drop(values);
+            return Err(ChunkError::OutOfMemory);
+        };
         let values = Box::new(alloc, values)?;
         Ok(Chunk {
             node: Node::Dict { codes, values },
@@ -59,6 +62,7 @@ impl Chunk {
     {
         let rows = total_rows(&parts);
         if rows > u128::from(u64::MAX) {
+            drop(dtype);
             return Err(ChunkError::TooLarge(rows));
         }
         all_sound(&parts);

@@ -45,7 +45,10 @@ fn push_flat(chunk: Chunk, out: &mut Vec<Chunk>) -> Result<(), AllocError>
 {
     let Chunk { node } = chunk;
     match node {
-        Node::Chunked { mut parts, .. } => out.append(&mut parts),
+        Node::Chunked { dtype, mut parts } => {
+            drop(dtype);
+            out.append(&mut parts)
+        }
         other => {
             out.push(Chunk { node: other })?;
             Ok(())

@@ -31,21 +31,21 @@ fn copy_node(node: &Node) -> Result<Node, AllocError>
 {
     match node {
         Node::Plain { dtype, cells } => Ok(Node::Plain {
-            dtype: dtype.clone()?,
             cells: copy_cells(*cells.allocator(), cells)?,
+            dtype: dtype.clone()?,
         }),
         Node::Constant { dtype, cell, rows } => Ok(Node::Constant {
-            dtype: dtype.clone()?,
             cell: cell.clone()?,
             rows: *rows,
+            dtype: dtype.clone()?,
         }),
         Node::Dict { codes, values } => Ok(Node::Dict {
             codes: copy_box(codes)?,
             values: copy_box(values)?,
         }),
         Node::Chunked { dtype, parts } => Ok(Node::Chunked {
-            dtype: dtype.clone()?,
             parts: copy_all(parts)?,
+            dtype: dtype.clone()?,
         }),
         Node::List {
             dtype,
@@ -53,10 +53,10 @@ fn copy_node(node: &Node) -> Result<Node, AllocError>
             offsets,
             valid,
         } => Ok(Node::List {
-            dtype: dtype.clone()?,
             elements: copy_box(elements)?,
             offsets: Vec::from_slice(*offsets.allocator(), offsets)?,
             valid: Vec::from_slice(*valid.allocator(), valid)?,
+            dtype: dtype.clone()?,
         }),
         Node::Struct {
             dtype,
@@ -64,14 +64,14 @@ fn copy_node(node: &Node) -> Result<Node, AllocError>
             valid,
             rows,
         } => Ok(Node::Struct {
-            dtype: dtype.clone()?,
             fields: copy_all(fields)?,
             valid: Vec::from_slice(*valid.allocator(), valid)?,
             rows: *rows,
+            dtype: dtype.clone()?,
         }),
         Node::Extension { dtype, storage } => Ok(Node::Extension {
-            dtype: dtype.clone()?,
             storage: copy_box(storage)?,
+            dtype: dtype.clone()?,
         }),
     }
 }

@@ -39,12 +39,12 @@ impl Chunk {
         if count > u128::from(u64::MAX) {
             return Err(ChunkError::TooLarge(count));
         }
-        let dtype = items_of(self.dtype()).clone()?;
         let mut elements = Vec::with_capacity(alloc, count as usize)?;
         let mut offsets = Vec::with_capacity(alloc, (self.len() as usize).saturating_add(1))?;
         offsets.push(0)?;
         push_lists_apart(self, &mut elements, &mut offsets)?;
         let valid = flags(self, alloc)?;
+        let dtype = items_of(self.dtype()).clone()?;
         Ok((Chunk::plain(dtype, elements), offsets, valid))
     }
 
@@ -59,16 +59,25 @@ impl Chunk {
         ensures refused { IfErr result (IsTooLarge (length (all_elements (cells_in self)))) }
     {
         if !keeps_elements(&self) {
-            return self.list_parts(alloc);
+            let parts = self.list_parts(alloc);
+            drop(self);
+            return parts;
         }
-        let valid = flags(&self, alloc)?;
+        let Ok(valid) = flags(&self, alloc) else {
+            drop(self);
+            return Err(ChunkError::OutOfMemory);
+        };
         let Chunk { node } = self;
         match node {
             Node::List {
+                dtype,
                 elements,
                 offsets,
                 ..
-            } => Ok((Box::into_inner(elements), offsets, valid)),
+            } => {
+                drop(dtype);
+                Ok((Box::into_inner(elements), offsets, valid))
+            }
             Node::Plain { .. } | Node::Constant { .. } | Node::Dict { .. } => unreachable!(),
             Node::Chunked { .. } | Node::Struct { .. } | Node::Extension { .. } => unreachable!(),
         }

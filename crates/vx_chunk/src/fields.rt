@@ -42,7 +42,10 @@ impl Chunk {
     {
         let Chunk { node } = self;
         match node {
-            Node::Struct { fields, .. } => Ok(fields),
+            Node::Struct { dtype, fields, .. } => {
+                drop(dtype);
+                Ok(fields)
+            }
             other => Chunk { node: other }.into_plain_fields(alloc),
         }
     }
@@ -63,7 +66,10 @@ impl Chunk {
         ensures memory { IfErr result (λ e. e ≡ ChunkError.OutOfMemory) }
     {
         self.sound();
-        let dtype = self.dtype().clone()?;
+        let Ok(dtype) = self.dtype().clone() else {
+            drop(self);
+            return Err(ChunkError::OutOfMemory);
+        };
         let cells = self.into_cells(alloc)?;
         Ok(field_columns(alloc, &dtype, cells)?)
     }

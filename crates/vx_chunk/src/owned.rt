@@ -37,12 +37,23 @@ fn own_cells(chunk: Chunk, alloc: Global) -> Result<Vec<Cell>, AllocError>
 {
     let Chunk { node } = chunk;
     match node {
-        Node::Plain { cells, .. } => Ok(cells),
-        Node::Chunked { parts, .. } => own_parts(parts, alloc),
-        Node::Extension { storage, .. } => own_cells(Box::into_inner(storage), alloc),
+        Node::Plain { dtype, cells } => {
+            drop(dtype);
+            Ok(cells)
+        }
+        Node::Chunked { dtype, parts } => {
+            drop(dtype);
+            own_parts(parts, alloc)
+        }
+        Node::Extension { dtype, storage } => {
+            drop(dtype);
+            own_cells(Box::into_inner(storage), alloc)
+        }
         other => {
             let chunk = Chunk { node: other };
-            cells_between(&chunk, alloc, 0, chunk.len())
+            let cells = cells_between(&chunk, alloc, 0, chunk.len());
+            drop(chunk);
+            cells
         }
     }
 }

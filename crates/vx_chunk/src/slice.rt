@@ -52,21 +52,21 @@ fn cut_node(node: &Node, alloc: Global, from: u64, to: u64) -> Result<Node, Allo
 {
     match node {
         Node::Plain { dtype, cells } => Ok(Node::Plain {
-            dtype: dtype.clone()?,
             cells: copy_cells(alloc, &cells[from as usize..to as usize])?,
+            dtype: dtype.clone()?,
         }),
         Node::Constant { dtype, cell, .. } => Ok(Node::Constant {
-            dtype: dtype.clone()?,
             cell: cell.clone()?,
             rows: to - from,
+            dtype: dtype.clone()?,
         }),
         Node::Dict { codes, values } => Ok(Node::Dict {
             codes: Box::new(alloc, cut(codes, alloc, from, to)?)?,
             values: Box::new(alloc, (**values).clone()?)?,
         }),
         Node::Chunked { dtype, parts } => Ok(Node::Chunked {
-            dtype: dtype.clone()?,
             parts: cut_parts(parts, alloc, from, to)?,
+            dtype: dtype.clone()?,
         }),
         Node::List {
             dtype,
@@ -89,14 +89,14 @@ fn cut_node(node: &Node, alloc: Global, from: u64, to: u64) -> Result<Node, Allo
             valid,
             ..
         } => Ok(Node::Struct {
-            dtype: dtype.clone()?,
             fields: cut_each(fields, alloc, from, to)?,
             valid: Vec::from_slice(alloc, flags_between(valid, from, to))?,
             rows: to - from,
+            dtype: dtype.clone()?,
         }),
         Node::Extension { dtype, storage } => Ok(Node::Extension {
-            dtype: dtype.clone()?,
             storage: Box::new(alloc, cut(storage, alloc, from, to)?)?,
+            dtype: dtype.clone()?,
         }),
     }
 }
@@ -117,10 +117,10 @@ fn cut_list(
     let first = offsets[0];
     let last = offsets[offsets.len() - 1];
     Ok(Node::List {
-        dtype: dtype.clone()?,
         elements: Box::new(alloc, cut(elements, alloc, first, last)?)?,
         offsets: rebase(alloc, offsets)?,
         valid: Vec::from_slice(alloc, valid)?,
+        dtype: dtype.clone()?,
     })
 }
 

@@ -23,8 +23,9 @@ pub(crate) fn answer(alloc: Global, word: &str, given: &Value) -> anyhow::Result
 }
 
 fn nullable(alloc: Global, given: &Value) -> anyhow::Result<String> {
-    let dtype = dtype_in(alloc, given)?.as_nullable()?;
-    Ok(format!(in alloc; "{dtype}")?)
+    let dtype = dtype_in(alloc, given)?;
+    let nullable = boxed(alloc, dtype.as_nullable()?)?;
+    Ok(format!(in alloc; "{}", *nullable)?)
 }
 
 fn storage(alloc: Global, given: &Value) -> anyhow::Result<String> {

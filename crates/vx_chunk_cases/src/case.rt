@@ -4,7 +4,7 @@ use crate::answers::answer;
 use anyhow::Context;
 use serde_json::Value;
 use std::alloc::{AllocError, Global};
-use vx_case_lines::is_case;
+use vx_case_lines::{boxed, is_case};
 
 /// A line for each word of the case.
 pub(crate) fn answers(alloc: Global, line: &str) -> anyhow::Result<String> {
@@ -13,7 +13,7 @@ pub(crate) fn answers(alloc: Global, line: &str) -> anyhow::Result<String> {
     }
     let (head, object) = line.split_once(" = ").context("a case without an object")?;
     let (name, words) = head.split_once(' ').context("a case without a word")?;
-    let given = Value::from_str(alloc, object)?;
+    let given = boxed(alloc, Value::from_str(alloc, object)?)?;
     Ok(answers_to(alloc, name, words, &given)?)
 }
 

@@ -3,14 +3,15 @@
 use anyhow::Context;
 use serde_json::Value;
 use std::alloc::Global;
+use vx_case_lines::boxed;
 use vx_chunk::Chunk;
 use vx_chunk_json::{read_batch, read_type};
 use vx_model::{ArrayContext, DType, EncodingId};
 use vx_segment_reader::decode_segment;
 
-pub(crate) fn dtype_in(alloc: Global, given: &Value) -> anyhow::Result<DType> {
+pub(crate) fn dtype_in(alloc: Global, given: &Value) -> anyhow::Result<Box<DType>> {
     let value = given.get("schema").context("no schema")?;
-    Ok(read_type(alloc, value)?)
+    Ok(boxed(alloc, read_type(alloc, value)?)?)
 }
 
 pub(crate) fn bytes_in(alloc: Global, given: &Value) -> anyhow::Result<Vec<u8>> {

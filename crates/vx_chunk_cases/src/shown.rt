@@ -80,7 +80,7 @@ fn push_integer(out: &mut String, number: i128) -> Result<(), AllocError> {
 }
 
 fn push_quoted(alloc: Global, out: &mut String, text: &str) -> Result<(), AllocError> {
-    let json = Json::String(String::from_str(alloc, text)?);
+    let json = boxed(alloc, Json::String(String::from_str(alloc, text)?))?;
     out.push_str(&json.to_string(alloc)?)
 }
 

@@ -96,8 +96,13 @@ fn read_dict(alloc: Global, dtype: &DType, members: &Map<String, Value>) -> Resu
     ensures { Gives (λ c. c) result (dict_of (codes_in (members_view members.now.entries)) (chunk_at (ty dtype.now) (codes "values") (members_view members.now.entries))) }
 {
     let places = read_codes(alloc, members)?;
-    let values = read_chunk_at(alloc, dtype, members, "values")?;
-    make_dict(alloc, places, values)
+    match read_chunk_at(alloc, dtype, members, "values") {
+        Ok(values) => make_dict(alloc, places, values),
+        Err(error) => {
+            drop(places);
+            Err(error)
+        }
+    }
 }
 
 #[cycle(chunks)]
@@ -195,9 +200,20 @@ fn read_list(alloc: Global, dtype: &DType, members: &Map<String, Value>) -> Resu
         return Err(JsonError::Wrong);
     }
     let elements = read_chunk_at(alloc, items, parts, "elements")?;
-    let offsets = numbers_at(alloc, parts, "offsets")?;
-    let valid = flags_at(alloc, parts, nullable)?;
-    make_list(alloc, dtype, elements, offsets, valid)
+    match (
+        numbers_at(alloc, parts, "offsets"),
+        flags_at(alloc, parts, nullable),
+    ) {
+        (Ok(offsets), Ok(valid)) => make_list(alloc, dtype, elements, offsets, valid),
+        (Err(error), _) => {
+            drop(elements);
+            Err(error)
+        }
+        (Ok(_), Err(error)) => {
+            drop(elements);
+            Err(error)
+        }
+    }
 }
 
 #[cycle(chunks)]

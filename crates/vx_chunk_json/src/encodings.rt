@@ -1,4 +1,5 @@
-//! A chunk of each encoding from its parts, where they meet the encoding's condition.
+//! A chunk of each encoding from its parts, where they meet the encoding's condition. A chunk that is refused is dropped by
+//! a call: written out at each way out of a function, its end makes the proof ten times as long.
 
 ghost use Rattle.std.specs.Prelude.{◌≡◌, Some, codes};
 ghost use Rattle.serde_json.specs.View.{items_view, members_view};
@@ -94,6 +95,8 @@ pub(crate) fn make_dict(alloc: Global, places: Chunk, values: Chunk) -> Result<C
     ensures { Gives (λ c. c) result (dict_of (Some places) (Some values)) }
 {
     if !conditions::makes_dict(&places, &values) {
+        drop(places);
+        drop(values);
         return Err(JsonError::Wrong);
     }
     made(Chunk::dict(alloc, places, values))
@@ -120,9 +123,16 @@ pub(crate) fn make_list(
     ensures { Gives (λ c. c) result (list_of (ty dtype.now) (Some elements) (Some offsets.items) (Some valid.items)) }
 {
     if !conditions::makes_list(dtype, &elements, &offsets, &valid) {
+        drop(elements);
         return Err(JsonError::Wrong);
     }
-    made(Chunk::list(alloc, dtype.clone()?, elements, offsets, valid))
+    match dtype.clone() {
+        Ok(own) => made(Chunk::list(alloc, own, elements, offsets, valid)),
+        Err(_) => {
+            drop(elements);
+            Err(JsonError::OutOfMemory)
+        }
+    }
 }
 
 #[tactic(auto, unfolding(crate::specs::Chunks::struct_of))]
@@ -149,7 +159,14 @@ pub(crate) fn make_extension(
     ensures { Gives (λ c. c) result (extension_of (ty dtype.now) (Some storage)) }
 {
     if !has_storage(dtype, storage.dtype()) {
+        drop(storage);
         return Err(JsonError::Wrong);
     }
-    made(Chunk::extension(alloc, dtype.clone()?, storage))
+    match dtype.clone() {
+        Ok(own) => made(Chunk::extension(alloc, own, storage)),
+        Err(_) => {
+            drop(storage);
+            Err(JsonError::OutOfMemory)
+        }
+    }
 }

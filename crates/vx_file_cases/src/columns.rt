@@ -2,12 +2,12 @@
 
 use crate::given::{dtype, strategy};
 use std::alloc::{AllocError, Global};
-use vx_case_lines::{boxed, parts};
+use vx_case_lines::parts;
 use vx_model::DType;
 use vx_write::column_count;
 
 fn count_at(alloc: Global, by: &str, dtype: &DType) -> anyhow::Result<Option<u64>> {
-    let strategy = boxed(alloc, strategy(alloc, by)?)?;
+    let strategy = strategy(alloc, by)?;
     Ok(column_count(&strategy, dtype))
 }
 

@@ -4,7 +4,7 @@ use crate::given::{INTEGERS, integers};
 use crate::own_objects::{Broken, Counter, Fault, Stack};
 use crate::written::write;
 use std::alloc::{AllocError, Global};
-use vx_case_lines::cut;
+use vx_case_lines::{boxed, cut};
 
 /// A source of the batches 2 and 1, of which the call after so many fails.
 fn source(alloc: Global, calls_before: u64) -> anyhow::Result<Stack> {
@@ -38,6 +38,6 @@ pub(crate) fn told(alloc: Global, given: &str) -> anyhow::Result<String> {
     } else {
         (u64::MAX, call)
     };
-    let mut source = source(alloc, of_source)?;
+    let mut source = boxed(alloc, source(alloc, of_source)?)?;
     Ok(ended(alloc, &mut source, Counter::new(of_sink))?)
 }

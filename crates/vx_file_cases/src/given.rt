@@ -2,6 +2,7 @@
 
 use serde_json::Value;
 use std::alloc::{AllocError, Global};
+use vx_case_lines::boxed;
 use vx_chunk_json::{read_batch, read_type};
 use vx_model::{ArrayContext, DType, EncodingId, Nullability, PType};
 use vx_read::SegmentMap;
@@ -12,13 +13,17 @@ use vx_types::{Blob, Chunk, encode_segment};
 /// The type of 64-bit integers.
 pub(crate) const INTEGERS: DType = DType::Primitive(PType::I64, Nullability::NonNullable);
 
-pub(crate) fn dtype(alloc: Global, json: &str) -> anyhow::Result<DType> {
-    let value = Value::from_str(alloc, json)?;
-    Ok(read_type(alloc, &value)?)
+fn value(alloc: Global, json: &str) -> anyhow::Result<Box<Value>> {
+    Ok(boxed(alloc, Value::from_str(alloc, json)?)?)
+}
+
+pub(crate) fn dtype(alloc: Global, json: &str) -> anyhow::Result<Box<DType>> {
+    let value = value(alloc, json)?;
+    Ok(boxed(alloc, read_type(alloc, &value)?)?)
 }
 
 fn chunk(alloc: Global, dtype: &DType, json: &str) -> anyhow::Result<Chunk> {
-    let value = Value::from_str(alloc, json)?;
+    let value = value(alloc, json)?;
     Ok(read_batch(alloc, dtype, &value)?)
 }
 
@@ -42,9 +47,9 @@ fn push(batches: &mut Vec<Chunk>, batch: Chunk) -> Result<(), AllocError> {
     Ok(())
 }
 
-pub(crate) fn strategy(alloc: Global, json: &str) -> anyhow::Result<Strategy> {
-    let value = Value::from_str(alloc, json)?;
-    Ok(read_strategy(alloc, &value)?)
+pub(crate) fn strategy(alloc: Global, json: &str) -> anyhow::Result<Box<Strategy>> {
+    let value = value(alloc, json)?;
+    Ok(boxed(alloc, read_strategy(alloc, &value)?)?)
 }
 
 /// All encodings, in order.

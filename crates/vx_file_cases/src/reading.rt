@@ -56,7 +56,7 @@ fn segments_in(alloc: Global, word: &str, given: &str) -> anyhow::Result<Segment
 /// So many rows of the type in the segment of this number.
 fn laid(alloc: Global, of: &str, rows: u64, number: u32) -> anyhow::Result<Layout> {
     let ctx = context(alloc)?;
-    let dtype = dtype(alloc, of)?;
+    let dtype = Box::into_inner(dtype(alloc, of)?);
     Ok(Layout::Flat(FlatLayout::new(rows, dtype, SegmentId(number), ctx)))
 }
 
@@ -121,12 +121,12 @@ fn read(
 ) -> anyhow::Result<String> {
     match read_rows(alloc, layout, segments) {
         Ok(rows) => shown(alloc, word, layout, &rows),
-        Err(error) => fault(alloc, &error),
+        Err(error) => fault(alloc, boxed(alloc, error)?),
     }
 }
 
-fn fault(alloc: Global, error: &ReadError) -> anyhow::Result<String> {
-    Ok(format!(in alloc; "{error:?}")?)
+fn fault(alloc: Global, error: Box<ReadError>) -> anyhow::Result<String> {
+    Ok(format!(in alloc; "{:?}", *error)?)
 }
 
 /// What the word asks of the rows that are read, or why there are none.

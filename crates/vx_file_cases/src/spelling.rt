@@ -5,6 +5,7 @@ use crate::written::layout_of;
 use anyhow::ensure;
 use bytes::Bytes;
 use std::alloc::{AllocError, Global};
+use vx_case_lines::boxed;
 use vx_layout_bytes::Limits;
 use vx_layout_codec::{layout_bytes, layout_from_flatbuffer};
 use vx_layout_tree::Layout;
@@ -35,15 +36,16 @@ fn parsed_in(
     session: &Session,
 ) -> anyhow::Result<Layout> {
     let ctx = context(alloc)?;
+    let dtype = boxed(alloc, INTEGERS)?;
     let limits = Limits::default();
-    Ok(layout_from_flatbuffer(alloc, bytes, &INTEGERS, ids, &ctx, session, limits)?)
+    Ok(layout_from_flatbuffer(alloc, bytes, &dtype, ids, &ctx, session, limits)?)
 }
 
 /// The layout that the bytes are.
 pub(crate) fn parsed(alloc: Global, text: &str) -> anyhow::Result<Layout> {
     let bytes = Bytes::from_vec(hex::decode(alloc, text)?)?;
     let ids = ids(alloc)?;
-    let session = session(alloc)?;
+    let session = boxed(alloc, session(alloc)?)?;
     parsed_in(alloc, bytes, &ids, &session)
 }
 

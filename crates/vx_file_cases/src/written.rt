@@ -11,17 +11,20 @@ use vx_sink::{
     SegmentSink,
 };
 use vx_strategy::Strategy;
-use vx_write::{WriteError, write_stream};
+use vx_write::{Refused, WriteError, write_stream};
 
 /// Chunks of flat layouts.
 const CHUNKED: &str = r#"{"chunked": "flat"}"#;
 
-fn name(error: &WriteError) -> &'static str {
-    match error {
+/// The name of the refusal's error.
+fn name(refused: Refused) -> &'static str {
+    let name = match &refused.error {
         WriteError::SourceFault => "SourceFault",
         WriteError::SinkFault => "SinkFault",
         _ => "another",
-    }
+    };
+    drop(refused);
+    name
 }
 
 /// Writes by the strategy; a refusal is told by its name.
@@ -35,7 +38,7 @@ fn write_by<B: BatchSource, S: SegmentSink, C: CompressorPlugin>(
 ) -> anyhow::Result<Box<Layout>> {
     match write_stream(alloc, by, ctx, source, sink, &[], compressor) {
         Ok(written) => Ok(boxed(alloc, written.layout)?),
-        Err(refused) => Err(Error::msg(name(&refused.error))),
+        Err(refused) => Err(Error::msg(name(refused))),
     }
 }
 
@@ -47,16 +50,16 @@ pub(crate) fn write<B: BatchSource, S: SegmentSink, C: CompressorPlugin>(
     compressor: &mut C,
 ) -> anyhow::Result<Box<Layout>> {
     let mut ctx = LayoutWriterContext::new(context(alloc)?);
-    let by = boxed(alloc, strategy(alloc, CHUNKED)?)?;
+    let by = strategy(alloc, CHUNKED)?;
     write_by(alloc, &by, &mut ctx, source, sink, compressor)
 }
 
 /// Writes the batches to the sink.
 fn written(alloc: Global, batches: &str, sink: &mut MemorySink) -> anyhow::Result<Box<Layout>> {
     let batches = integers(alloc, batches)?;
-    let mut source = ListSource::new(INTEGERS, batches, Vec::new(alloc));
+    let mut source = boxed(alloc, ListSource::new(INTEGERS, batches, Vec::new(alloc)))?;
     let mut compressor = PlainCompressor::new(Vec::new(alloc));
-    write(alloc, &mut source, sink, &mut compressor)
+    write(alloc, &mut *source, sink, &mut compressor)
 }
 
 /// The layout that the batches are written as.

@@ -27,7 +27,10 @@ fn insert_pair(partial: &mut Partial, pair: &str) -> Result<(), Unsupported> {
     let (first, second) = cut(pair);
     let dtype = DType::Bool(Nullability::Nullable);
     let values = [value(first), value(second)];
-    BloomFilter.accumulate(partial, &dtype, &values)
+    let inserted = BloomFilter.accumulate(partial, &dtype, &values);
+    drop(values);
+    drop(dtype);
+    inserted
 }
 
 pub(crate) fn accumulated(alloc: Global, given: &str) -> anyhow::Result<String> {
@@ -54,13 +57,22 @@ fn told(alloc: Global, partial: &Partial) -> anyhow::Result<String> {
 }
 
 fn contains(partial: &Partial, word: &str) -> Result<bool, Unsupported> {
-    partial.contains_scalar(&DType::Bool(Nullability::Nullable), &value(word))
+    let dtype = DType::Bool(Nullability::Nullable);
+    let value = value(word);
+    let contains = partial.contains_scalar(&dtype, &value);
+    drop(value);
+    drop(dtype);
+    contains
 }
 
-/// The type of lists of booleans.
-fn list_type(alloc: Global) -> Result<DType, AllocError> {
-    let item = Box::new(alloc, DType::Bool(Nullability::Nullable))?;
-    Ok(DType::List(item, Nullability::NonNullable))
+/// Lists of booleans, or booleans.
+fn dtype_of(alloc: Global, list: bool) -> Result<DType, AllocError> {
+    if list {
+        let item = Box::new(alloc, DType::Bool(Nullability::Nullable))?;
+        Ok(DType::List(item, Nullability::NonNullable))
+    } else {
+        Ok(DType::Bool(Nullability::Nullable))
+    }
 }
 
 /// Inserts null, or the empty list, as a list of booleans.
@@ -72,9 +84,17 @@ fn insert_list(
     let item = Box::new(alloc, DType::Bool(Nullability::Nullable))?;
     let dtype = DType::List(item, Nullability::NonNullable);
     if null {
-        Ok(partial.insert_scalar(&dtype, &Value::Null))
+        let value = Value::Null;
+        let inserted = partial.insert_scalar(&dtype, &value);
+        drop(value);
+        drop(dtype);
+        Ok(inserted)
     } else {
-        Ok(partial.insert_scalar(&dtype, &Value::List(Vec::new(alloc))))
+        let value = Value::List(Vec::new(alloc));
+        let inserted = partial.insert_scalar(&dtype, &value);
+        drop(value);
+        drop(dtype);
+        Ok(inserted)
     }
 }
 
@@ -88,21 +108,24 @@ pub(crate) fn inserted_list(alloc: Global, given: &str) -> anyhow::Result<String
 
 /// The state's type on lists of booleans, or on booleans.
 fn state_of(alloc: Global, list: bool) -> Result<Option<DType>, AllocError> {
-    if list {
-        BloomFilter.state_dtype(&list_type(alloc)?)
-    } else {
-        BloomFilter.state_dtype(&DType::Bool(Nullability::Nullable))
-    }
+    let dtype = dtype_of(alloc, list)?;
+    let state = BloomFilter.state_dtype(&dtype);
+    drop(dtype);
+    state
 }
 
 pub(crate) fn state(alloc: Global, given: &str) -> anyhow::Result<String> {
     let state = state_of(alloc, given == "list")?;
-    Ok(shown(alloc, &state)?)
+    Ok(shown(alloc, state)?)
 }
 
-fn shown(alloc: Global, state: &Option<DType>) -> Result<String, AllocError> {
+fn shown(alloc: Global, state: Option<DType>) -> Result<String, AllocError> {
     match state {
-        Some(dtype) => format!(in alloc; "{dtype}"),
+        Some(dtype) => {
+            let text = format!(in alloc; "{dtype}");
+            drop(dtype);
+            text
+        }
         None => String::from_str(alloc, "none"),
     }
 }

@@ -78,20 +78,21 @@ pub(crate) fn saturated(alloc: Global, given: &str) -> anyhow::Result<String> {
     Ok(format!(in alloc; "{one} {other}")?)
 }
 
-/// Two filters, and a third that both together are to be.
-fn three(alloc: Global, given: &str) -> anyhow::Result<(Partial, Partial, Partial)> {
-    let (first, rest) = parts(given)?;
-    let (second, third) = parts(rest)?;
-    let pair = (filter(alloc, first)?, filter(alloc, second)?);
-    Ok((pair.0, pair.1, filter(alloc, third)?))
-}
-
 /// Of the words `union` and `merge`.
 pub(crate) fn union(alloc: Global, word: &str, given: &str) -> anyhow::Result<String> {
-    let (mut a, b, third) = three(alloc, given)?;
-    let equal = a == b;
-    let answer = unite(word, &mut a, &b);
-    Ok(united(alloc, equal, answer, a == third)?)
+    let (first, rest) = parts(given)?;
+    let mut filter = filter(alloc, first)?;
+    united_with(alloc, word, &mut filter, rest)
+}
+
+/// The filter with a second one, and a third that both together are to be.
+fn united_with(alloc: Global, word: &str, a: &mut Partial, given: &str) -> anyhow::Result<String> {
+    let (second, third) = parts(given)?;
+    let b = filter(alloc, second)?;
+    let equal = *a == b;
+    let answer = unite(word, a, &b);
+    let third = filter(alloc, third)?;
+    Ok(united(alloc, equal, answer, *a == third)?)
 }
 
 fn unite(word: &str, a: &mut Partial, b: &Partial) -> Result<(), BlockCount> {

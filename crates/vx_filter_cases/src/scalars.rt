@@ -28,9 +28,13 @@ fn integer(name: &str, digits: &str) -> Option<(DType, Value)>
     let ptype = PType::from_name(name)?;
     let number: i128 = digits.parse().ok()?;
     let dtype = DType::Primitive(ptype, Nullability::NonNullable);
-    if fits_one(&dtype, &Cell::Int(number)) {
+    let cell = Cell::Int(number);
+    let fits = fits_one(&dtype, &cell);
+    drop(cell);
+    if fits {
         Some((dtype, Value::Int(number)))
     } else {
+        drop(dtype);
         None
     }
 }
@@ -42,7 +46,10 @@ fn scalar(alloc: Global, name: &str, text: &str) -> anyhow::Result<(DType, Value
     let some = Nullability::NonNullable;
     match name {
         "bool" => Ok((DType::Bool(some), Value::Bool(text == "true"))),
-        "utf8" => Ok((DType::Utf8(some), Value::Utf8(Text::from_str(alloc, text)?))),
+        "utf8" => {
+            let text = Text::from_str(alloc, text)?;
+            Ok((DType::Utf8(some), Value::Utf8(text)))
+        }
         "binary" => {
             let bytes = hex::decode(alloc, text)?;
             Ok((DType::Binary(some), Value::Binary(Blob::from(bytes))))
@@ -60,7 +67,10 @@ pub(crate) fn scalar_answer(alloc: Global, given: &str) -> anyhow::Result<String
     let (text, hashed) = cut(rest);
     let bytes = bytes(alloc, hashed)?;
     let (dtype, value) = scalar(alloc, name, text)?;
-    hashed_as(alloc, &dtype, &value, &bytes)
+    let answer = hashed_as(alloc, &dtype, &value, &bytes);
+    drop(value);
+    drop(dtype);
+    answer
 }
 
 /// Whether the value goes into a filter as these bytes.

@@ -9,7 +9,9 @@ use vx_model::Value;
 /// The filter's value, read as a filter of so many blocks.
 fn read_again(alloc: Global, filter: &Partial, blocks: u32) -> Result<Partial, PartialError> {
     let stored = BloomFilter.to_scalar(alloc, filter)?;
-    BloomFilter.partial_from_scalar(alloc, &options(blocks), &stored)
+    let read = BloomFilter.partial_from_scalar(alloc, &options(blocks), &stored);
+    drop(stored);
+    read
 }
 
 pub(crate) fn stored(alloc: Global, given: &str) -> anyhow::Result<String> {
@@ -28,7 +30,10 @@ fn stored_as(alloc: Global, filter: &Partial, blocks: u32) -> Result<String, All
 
 pub(crate) fn stored_null(alloc: Global, given: &str) -> anyhow::Result<String> {
     let blocks = given.parse::<u32>()?;
-    let read = BloomFilter.partial_from_scalar(alloc, &options(blocks), &Value::Null)?;
+    let null = Value::Null;
+    let read = BloomFilter.partial_from_scalar(alloc, &options(blocks), &null);
+    drop(null);
+    let read = read?;
     let empty = filter(alloc, given)?;
     Ok(format!(in alloc; "equal {}", read == empty)?)
 }

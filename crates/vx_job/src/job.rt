@@ -9,12 +9,12 @@ ghost use Rattle.vx_job.specs.JobParts.{keys};
 ghost use Rattle.vx_job.specs.JobText.{job, job_of, job_in, object_of, schema_in, strategy_in, batches_in};
 ghost use Rattle.vx_strategy_json.specs.StrategyText.{strategy_of};
 ghost use Rattle.vx_json.specs.Views as values;
-ghost use Rattle.vx_job.specs.JobView.{Gives, job_view};
+ghost use Rattle.vx_job.specs.JobView.{Gives, job_view, read_view};
 
 use crate::error::{JobError, Key, at};
 use crate::faults::Faults;
 use crate::json::read_json;
-use crate::options::read_options;
+use crate::options::{Options, read_options};
 use serde_json::{Map, Value};
 use std::alloc::Global;
 use vx_chunk::Chunk;
@@ -48,7 +48,10 @@ pub struct Job {
 pub fn read_job(alloc: Global, bytes: &[u8]) -> Result<Job, JobError>
     ensures { Gives job_view result (job bytes.now) }
 {
-    read_value(alloc, &read_json(alloc, bytes)?)
+    let value = read_json(alloc, bytes)?;
+    let job = read_value(alloc, &value);
+    drop(value);
+    job
 }
 
 #[tactic(auto, unfolding(crate::specs::JobText::job_of))]
@@ -92,10 +95,31 @@ fn read_members(alloc: Global, members: &Map<String, Value>) -> Result<Job, JobE
     ensures { Gives job_view result (job_in (members_view members.now.entries)) }
 {
     let schema = schema_in(alloc, members)?;
-    let strategy = strategy_in(alloc, members)?;
-    let batches = batches_in(alloc, &schema, members)?;
-    let options = read_options(alloc, members)?;
-    Ok(Job {
+    match strategy_in(alloc, members) {
+        Ok(strategy) => match batches_in(alloc, &schema, members) {
+            Ok(batches) => match read_options(alloc, members) {
+                Ok(options) => Ok(job_of(schema, strategy, batches, options)),
+                Err(error) => {
+                    drop((schema, strategy, batches));
+                    Err(error)
+                }
+            },
+            Err(error) => {
+                drop((schema, strategy));
+                Err(error)
+            }
+        },
+        Err(error) => {
+            drop(schema);
+            Err(error)
+        }
+    }
+}
+
+fn job_of(schema: DType, strategy: Strategy, batches: Vec<Chunk>, options: Options) -> Job
+    ensures { job_view result ≡ record { schema = ty schema; strategy = strategy_data strategy; batches = batches.items; options = read_view options } }
+{
+    Job {
         schema,
         strategy,
         batches,
@@ -105,7 +129,7 @@ fn read_members(alloc: Global, members: &Map<String, Value>) -> Result<Job, JobE
         marked: options.marked,
         next: options.next,
         faults: options.faults,
-    })
+    }
 }
 
 #[tactic(auto, using(crate::proofs::JobSteps::at_rules), unfolding(crate::specs::JobText::schema_in))]

@@ -37,7 +37,10 @@ pub fn read_tree_job(alloc: Global, bytes: &[u8]) -> Result<TreeJob, JobError>
     ensures job { Gives tree_view result (tree_job bytes.now) }
     ensures shallow { IfOk result (λ j. j.options.limits.depth ≤ 1024) }
 {
-    read_value(alloc, &read_json(alloc, bytes)?)
+    let value = read_json(alloc, bytes)?;
+    let job = read_value(alloc, &value);
+    drop(value);
+    job
 }
 
 #[tactic(auto, unfolding(crate::specs::TreeText::tree_of))]

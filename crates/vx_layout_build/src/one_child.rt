@@ -75,11 +75,9 @@ fn two_nodes(scope: Arc<Scope>, nodes: Vec<RawNode>) -> Result<(OneChild, OneChi
         (λ e. Fails e (children_needed 2 (kids (scope_of scope.value) (nodes_of (map raw nodes.items))))) }
 {
     let has = nodes.len() as u64;
+    let same = scope.clone()?;
     match take_two(nodes) {
-        Some((first, second)) => {
-            let same = scope.clone()?;
-            Ok((OneChild::Node(same, first), OneChild::Node(scope, second)))
-        }
+        Some((first, second)) => Ok((OneChild::Node(same, first), OneChild::Node(scope, second))),
         None => Err(LayoutError::ChildCount { has, needs: 2 }),
     }
 }
@@ -95,16 +93,14 @@ fn three_nodes(
         (λ e. Fails e (children_needed 3 (kids (scope_of scope.value) (nodes_of (map raw nodes.items))))) }
 {
     let has = nodes.len() as u64;
+    let same = scope.clone()?;
+    let again = scope.clone()?;
     match take_three(nodes) {
-        Some((first, second, third)) => {
-            let same = scope.clone()?;
-            let again = scope.clone()?;
-            Ok((
-                OneChild::Node(same, first),
-                OneChild::Node(again, second),
-                OneChild::Node(scope, third),
-            ))
-        }
+        Some((first, second, third)) => Ok((
+            OneChild::Node(same, first),
+            OneChild::Node(again, second),
+            OneChild::Node(scope, third),
+        )),
         None => Err(LayoutError::ChildCount { has, needs: 3 }),
     }
 }

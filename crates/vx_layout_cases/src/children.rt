@@ -4,26 +4,23 @@ use anyhow::Result;
 use std::alloc::{AllocError, Global};
 use vx_case_layouts::{children_in, dtype_in};
 use vx_case_lines::{boxed, cut};
-use vx_layout::{LayoutChild, LayoutChildren, LayoutChildrenWalk};
+use vx_layout::{LayoutChild, LayoutChildren, LayoutChildrenWalk, LayoutError};
 use vx_model::DType;
 
 /// Of the words `children` and `children_copy`.
 pub(crate) fn asked_of(alloc: Global, word: &str, args: &str) -> Result<String> {
     let (dtype, text) = cut(args);
-    let dtype = dtype_in(dtype)?;
-    asked_as(alloc, word, text, &dtype)
-}
-
-fn children_as(alloc: Global, word: &str, text: &str) -> Result<LayoutChildren> {
+    let dtype = boxed(alloc, dtype_in(dtype)?)?;
+    let children = boxed(alloc, children_in(alloc, text)?)?;
     match word {
-        "children_copy" => Ok(children_in(alloc, text)?.to_arc()?),
-        _ => children_in(alloc, text),
+        "children_copy" => asked_of_copy(alloc, &children, &dtype),
+        _ => asked(alloc, &children, &dtype),
     }
 }
 
-fn asked_as(alloc: Global, word: &str, text: &str, dtype: &DType) -> Result<String> {
-    let children = children_as(alloc, word, text)?;
-    asked(alloc, &children, dtype)
+fn asked_of_copy(alloc: Global, children: &LayoutChildren, dtype: &DType) -> Result<String> {
+    let copy = boxed(alloc, children.to_arc()?)?;
+    asked(alloc, &copy, dtype)
 }
 
 fn asked(alloc: Global, children: &LayoutChildren, dtype: &DType) -> Result<String> {
@@ -48,8 +45,13 @@ fn push_child(
 ) -> Result<(), AllocError> {
     match children.child(index, dtype) {
         Ok(child) => push_layout(out, boxed(alloc, child)?),
-        Err(error) => out.push_str(error.name()),
+        Err(error) => push_refusal(alloc, out, error),
     }
+}
+
+fn push_refusal(alloc: Global, out: &mut String, error: LayoutError) -> Result<(), AllocError> {
+    let error = boxed(alloc, error)?;
+    out.push_str(error.name())
 }
 
 fn push_layout(out: &mut String, child: Box<LayoutChild<'_>>) -> Result<(), AllocError> {

@@ -3,7 +3,7 @@
 use anyhow::Result;
 use std::alloc::Global;
 use vx_case_layouts::{build_context, bytes_in, children_in, dtype_in, kind_in};
-use vx_case_lines::cut;
+use vx_case_lines::{boxed, cut};
 use vx_layout::{Layout, LayoutDeserializeArgs, LayoutEncodingExt, LayoutError, LayoutParts};
 
 /// The layout that the kind builds of the metadata and the parts.
@@ -17,10 +17,10 @@ pub(crate) fn built(alloc: Global, args: &str) -> Result<Layout> {
 }
 
 fn given(alloc: Global, text: &str) -> Result<LayoutDeserializeArgs> {
-    let context = build_context(alloc)?;
+    let context = boxed(alloc, build_context(alloc)?)?;
     Ok(LayoutDeserializeArgs {
         parts: parts(alloc, text)?,
-        context,
+        context: Box::into_inner(context),
     })
 }
 
@@ -28,9 +28,9 @@ fn parts(alloc: Global, text: &str) -> Result<LayoutParts> {
     let (dtype, rest) = cut(text);
     let (rows, rest) = cut(rest);
     let rows = rows.parse::<u64>()?;
+    let dtype = boxed(alloc, dtype_in(dtype)?)?;
     let children = children_in(alloc, rest)?;
-    let dtype = dtype_in(dtype)?;
-    Ok(LayoutParts::new(dtype, rows, Vec::new(alloc), children))
+    Ok(LayoutParts::new(Box::into_inner(dtype), rows, Vec::new(alloc), children))
 }
 
 fn built_by<K: LayoutEncodingExt>(

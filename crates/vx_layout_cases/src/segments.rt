@@ -48,6 +48,7 @@ fn chunk(alloc: Global, word: &str) -> Result<Chunk> {
     let cells = cells(alloc, word)?;
     let dtype = dtype_of(word);
     if !fits(&dtype, &cells) {
+        drop(dtype);
         return Err(Error::msg("a cell is of another type"));
     }
     Ok(Chunk::plain(dtype, cells))
@@ -79,7 +80,7 @@ pub(crate) fn rows(alloc: Global, layout: &Layout, args: &str) -> Result<String>
 fn rows_in(alloc: Global, layout: &Layout, segments: &SegmentMap) -> Result<String, AllocError> {
     match read_rows(alloc, layout, segments) {
         Ok(rows) => shown(alloc, &rows),
-        Err(error) => fault(alloc, &error),
+        Err(error) => fault(alloc, boxed(alloc, error)?),
     }
 }
 
@@ -87,8 +88,8 @@ fn shown(alloc: Global, rows: &[Value]) -> Result<String, AllocError> {
     format!(in alloc; "{rows:?}")
 }
 
-fn fault(alloc: Global, error: &ReadError) -> Result<String, AllocError> {
-    match error {
+fn fault(alloc: Global, error: Box<ReadError>) -> Result<String, AllocError> {
+    match &*error {
         ReadError::Foreign(id) => format!(in alloc; "Foreign({})", id.as_str()),
         error => format!(in alloc; "{error:?}"),
     }
@@ -111,6 +112,6 @@ fn lengths_in<L: LayoutDisplay>(
 ) -> Result<String, AllocError> {
     match layout.display_tree_with_segments(alloc, segments) {
         Ok(text) => String::from_str(alloc, text.as_str()),
-        Err(error) => fault(alloc, &error),
+        Err(error) => fault(alloc, boxed(alloc, error)?),
     }
 }

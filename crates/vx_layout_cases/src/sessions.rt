@@ -3,11 +3,12 @@
 use anyhow::Result;
 use std::alloc::{AllocError, Global};
 use vx_case_layouts::{kind_in, scope, session};
-use vx_case_lines::cut;
+use vx_case_lines::{boxed, cut};
 use vx_layout::{LayoutSession, LayoutSessionExt, Scope};
 
 pub(crate) fn known(alloc: Global, id: &str) -> Result<String> {
-    let known = is_known(&session(alloc)?, id);
+    let session = boxed(alloc, session(alloc)?)?;
+    let known = is_known(&*session, id);
     Ok(format!(in alloc; "{known}")?)
 }
 
@@ -17,7 +18,7 @@ fn is_known<S: LayoutSessionExt>(session: &S, id: &str) -> bool {
 
 pub(crate) fn registered(alloc: Global, args: &str) -> Result<String> {
     let (kind, id) = cut(args);
-    let layouts = alone(alloc, kind)?;
+    let layouts = boxed(alloc, alone(alloc, kind)?)?;
     Ok(found(alloc, &layouts, id)?)
 }
 
@@ -37,12 +38,9 @@ fn found(alloc: Global, layouts: &LayoutSession, id: &str) -> Result<String, All
 }
 
 pub(crate) fn copied_scope(alloc: Global, id: &str) -> Result<String> {
-    let copy = scope_copy(alloc)?;
+    let scope = boxed(alloc, scope(alloc)?)?;
+    let copy = boxed(alloc, scope.clone()?)?;
     scope_text(alloc, &copy, id)
-}
-
-fn scope_copy(alloc: Global) -> Result<Scope> {
-    Ok(scope(alloc)?.clone()?)
 }
 
 fn scope_text(alloc: Global, copy: &Scope, id: &str) -> Result<String> {

@@ -41,7 +41,7 @@ fn spelled(alloc: Global, layout: &Layout) -> Result<Vec<u8>> {
 /// What the bytes of a layout of the type are, where each kind is registered.
 fn parsed(alloc: Global, dtype: &DType, bytes: &[u8]) -> Result<Layout> {
     let ids = ids(alloc)?;
-    let session = session(alloc)?;
+    let session = boxed(alloc, session(alloc)?)?;
     parsed_in(alloc, dtype, bytes, &ids, &session)
 }
 
@@ -66,14 +66,14 @@ pub(crate) fn node(alloc: Global, word: &str) -> Result<String> {
 }
 
 fn node_bytes(alloc: Global, word: &str) -> Result<Vec<u8>> {
-    let node = node_in(alloc, word)?;
+    let node = boxed(alloc, node_in(alloc, word)?)?;
     Ok(write_node(alloc, &node)?)
 }
 
 /// What is read from the bytes, in a line of its own.
 fn push_nodes(alloc: Global, out: &mut String, bytes: Vec<u8>) -> Result<()> {
     let bytes = Bytes::from_vec(bytes)?;
-    let node = read_nodes(alloc, bytes, Limits::default())?;
+    let node = boxed(alloc, read_nodes(alloc, bytes, Limits::default())?)?;
     Ok(push_node(out, &node)?)
 }
 

@@ -63,6 +63,7 @@ impl ChunkedLayout {
     {
         let has = total_rows(&children);
         if has != row_count as u128 {
+            drop(children);
             return Err(LayoutError::RowCount {
                 has,
                 needs: row_count as u128,

@@ -62,11 +62,11 @@ impl ZonedLayout {
     fn copy(&self) -> Result<ZonedLayout, AllocError>
         ensures { IfOk result (λ copy. copy ≡ self.now) }
     {
-        let children = copies(&self.children)?;
-        let table = copy_table(&self.table)?;
         let segment_ids = same_segments(&self.segment_ids)?;
-        let dtype = self.dtype.clone()?;
         let aggregates = Vec::from_slice(*self.aggregates.allocator(), &self.aggregates)?;
+        let children = copies(&self.children)?;
+        let dtype = self.dtype.clone()?;
+        let table = copy_table(&self.table)?;
         Ok(ZonedLayout {
             row_count: self.row_count,
             dtype,

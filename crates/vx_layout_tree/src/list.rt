@@ -67,19 +67,23 @@ impl ListLayout {
         ensures { Gives itself result (make_list (ty dtype) (layout_data elements) (layout_data offsets) (option_map layout_data validity)) }
     {
         if !dtype.is_list() {
+            drop((elements, offsets, validity));
             return Err(LayoutError::NotAList);
         }
         let needs = validity_count(&dtype);
         let has = present(&validity);
         if has != needs {
+            drop((elements, offsets, validity));
             return Err(LayoutError::ChildCount {
                 has: 2 + has,
                 needs: 2 + needs,
             });
         }
         if !is_primitive(offsets.dtype()) {
+            let has: Result<DType, AllocError> = offsets.dtype().clone();
+            drop((elements, offsets, validity));
             return Err(LayoutError::ChildType {
-                has: offsets.dtype().clone()?,
+                has: has?,
                 needs: integer_type(),
             });
         }

@@ -73,6 +73,7 @@ impl ChunkedLayout {
         let has = total_rows(&children);
         let needs = self.row_count as u128;
         if has != needs {
+            drop(children);
             return Err(LayoutError::RowCount { has, needs });
         }
         let segment_ids = same_segments(&self.segment_ids)?;

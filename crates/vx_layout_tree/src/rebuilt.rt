@@ -102,8 +102,8 @@ impl LegacyStatsLayout {
         ensures { IfOk result (λ copy. copy ≡ self.now) }
     {
         let segment_ids = same_segments(&self.segment_ids)?;
-        let dtype = self.dtype.clone()?;
         let stats = Vec::from_slice(*self.stats.allocator(), &self.stats)?;
+        let dtype = self.dtype.clone()?;
         Ok(LegacyStatsLayout {
             row_count: self.row_count,
             dtype,
@@ -122,9 +122,9 @@ impl ForeignLayout {
         ensures { IfOk result (λ copy. copy ≡ self.now) }
     {
         let segment_ids = same_segments(&self.segment_ids)?;
-        let dtype = self.dtype.clone()?;
         let id = self.id.clone()?;
         let metadata = self.metadata.clone()?;
+        let dtype = self.dtype.clone()?;
         Ok(ForeignLayout {
             row_count: self.row_count,
             dtype,

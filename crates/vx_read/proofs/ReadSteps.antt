@@ -1,5 +1,5 @@
 -- A node by its kind, and the loop over its children.
-use Rattle.std.proofs.Common.{◌≡◌, ℕ, zero, suc, ◌+◌, ◌*◌, ◌<◌, ◌≤◌, Bool, true, false, List, [], ◌∷◌, ◌++◌, length, take, drop, map, min, Option, Some, None, Result, Ok, Err, refl, sym, ap, ap₂, subst, ◌∙◌, arith}
+use Rattle.std.proofs.Common.{◌≡◌, ℕ, zero, suc, ◌+◌, ◌*◌, ◌<◌, ◌≤◌, Bool, true, false, List, [], ◌∷◌, ◌++◌, length, get_or, take, drop, map, min, Option, Some, None, Result, Ok, Err, refl, sym, ap, ap₂, subst, ◌∙◌, arith}
 use Rattle.std.proofs.lemmas.List.{take_all, drop_all, append-nil, map-append, length-map}
 use Rattle.std.specs.Global.{Vec}
 use Rattle.vx_model.specs.declared.row_value.Value.{Value}
@@ -297,35 +297,49 @@ refusal_tells c look x errors.NotAStruct h = refused_is c look x (no_struct) h
 refusal_tells c look x errors.OutOfMemory h = tt
 
 -- the child at the place, among the first
-pub child_at : (ls : List (LayoutData ℕ)) (i m : ℕ) (l : LayoutData ℕ) → i < m → child_in ls i ≡ Ok l → drop i (take m ls) ≡ l ∷ drop (i + 1) (take m ls)
-child_at ls i zero l lt e = absurd (omega (arith, lt))
-child_at [] i (suc m) l lt e = cc
-child_at (x ∷ ls) zero (suc m) l lt e = ap (λ (y : LayoutData ℕ). y ∷ take m ls) (answered_is x l e)
-child_at (x ∷ ls) (suc i) (suc m) l lt e = let next : suc i + 1 ≡ suc (i + 1) = omega arith in rw next (child_at ls i m l (omega (arith, lt)) e)
+here : (ls : List (LayoutData ℕ)) (i m : ℕ) → i < m → i < length ls → (x : LayoutData ℕ) × ((x ≡ get_or ls i x) × (drop i (take m ls) ≡ x ∷ drop (i + 1) (take m ls)))
+here [] i m more lt = absurd (omega (arith, lt))
+here (x ∷ ls) i zero more lt = absurd (omega (arith, more))
+here (x ∷ ls) zero (suc m) more lt = (x, (refl, refl))
+here (x ∷ ls) (suc i) (suc m) more lt =
+    let (y, (at, is)) = here ls i m (omega (arith, more)) (omega (arith, lt)) in
+    let next : suc i + 1 ≡ suc (i + 1) = omega arith in
+    (y, (at, rw next is))
 
-pub refused_at : (c : Codec) (look : ℕ → Option (List ℕ)) (e : LayoutError) (ls : List (LayoutData ℕ)) (i m : ℕ) → i < length ls → i < m → Fails e (child_in ls i) → IsFault (read_error e) (first_in (map (first_fault c look) (drop i (take m ls))))
-refused_at c look e [] i m lt more h = absurd (omega (arith, lt))
-refused_at c look e (x ∷ ls) i zero lt more h = absurd (omega (arith, more))
-refused_at c look e (x ∷ ls) zero (suc m) lt more h = first_stays (read_error e) (first_fault c look x) (first_in (map (first_fault c look) (take m ls))) (refusal_tells c look x e h)
-refused_at c look e (x ∷ ls) (suc i) (suc m) lt more h = refused_at c look e ls i m (omega (arith, lt)) (omega (arith, more)) h
+child_is : (ls : List (LayoutData ℕ)) (i : ℕ) (x y : LayoutData ℕ) → x ≡ get_or ls i x → child_in ls i ≡ Ok y → x ≡ y
+child_is [] i x y at e = cc
+child_is (l ∷ ls) zero x y at e = at ∙ answered_is l y e
+child_is (l ∷ ls) (suc i) x y at e = child_is ls i x y at e
+
+pub child_reads : (c : Codec) (look : ℕ → Option (List ℕ)) (ls : List (LayoutData ℕ)) (i : ℕ) (x y : LayoutData ℕ) (r : Result (Vec Value) ReadError) → x ≡ get_or ls i x → child_in ls i ≡ Ok y → Reads rows_in r (rows c look y) (first_fault c look y)
+    → Reads rows_in r (rows c look x) (first_fault c look x)
+child_reads c look ls i x y r at e h = let is : x ≡ y = child_is ls i x y at e in rw is h
+
+pub child_refused : (c : Codec) (look : ℕ → Option (List ℕ)) (e : LayoutError) (ls : List (LayoutData ℕ)) (i : ℕ) (x : LayoutData ℕ) → i < length ls → x ≡ get_or ls i x → Fails e (child_in ls i) → IsFault (read_error e) (first_fault c look x)
+child_refused c look e [] i x lt at h = absurd (omega (arith, lt))
+child_refused c look e (l ∷ ls) zero x lt at h = let is : x ≡ l = at in rw is (refusal_tells c look l e h)
+child_refused c look e (l ∷ ls) (suc i) x lt at h = child_refused c look e ls i x (omega (arith, lt)) at h
 
 -- its rows are there
-pub part_more : (c : Codec) (look : ℕ → Option (List ℕ)) (ls : List (LayoutData ℕ)) (i m : ℕ) (l : LayoutData ℕ) (parts : List (Vec Value)) (part : Vec Value) (all : Option (List (List ValueData))) → i < m → child_in ls i ≡ Ok l → rows c look l ≡ Some (rows_in part)
+pub part_more : (c : Codec) (look : ℕ → Option (List ℕ)) (ls : List (LayoutData ℕ)) (i m : ℕ) (parts : List (Vec Value)) (part : Vec Value) (all : Option (List (List ValueData))) → i < m → i < length ls → ((x : LayoutData ℕ) → x ≡ get_or ls i x → rows c look x ≡ Some (rows_in part))
     → before (map rows_in parts) (all_there (map (rows c look) (drop i (take m ls)))) ≡ all → before (map rows_in (parts ++ part ∷ [])) (all_there (map (rows c look) (drop (i + 1) (take m ls)))) ≡ all
-part_more c look ls i m l parts part all lt at there so_far =
+part_more c look ls i m parts part all more lt there so_far =
+    let (x, (at, is)) = here ls i m more lt in
     let rest : Option (List (List ValueData)) = all_there (map (rows c look) (drop (i + 1) (take m ls))) in
-    let step : all_there (map (rows c look) (drop i (take m ls))) ≡ before (rows_in part ∷ []) rest = rw (child_at ls i m l lt at, there) (next_there (rows_in part) rest) in
+    let step : all_there (map (rows c look) (drop i (take m ls))) ≡ before (rows_in part ∷ []) rest = rw (is, there x at) (next_there (rows_in part) rest) in
     rw (map-append rows_in parts (part ∷ [])) (sym (before_both (map rows_in parts) (rows_in part ∷ []) rest) ∙ ap (before (map rows_in parts)) (sym step) ∙ so_far)
 
-pub fault_more : (c : Codec) (look : ℕ → Option (List ℕ)) (ls : List (LayoutData ℕ)) (i m : ℕ) (l : LayoutData ℕ) (vs : List ValueData) → i < m → child_in ls i ≡ Ok l → rows c look l ≡ Some vs
-    → first_in (map (first_fault c look) (drop i (take m ls))) ≡ first_in (map (first_fault c look) (drop (i + 1) (take m ls)))
-fault_more c look ls i m l vs lt at there =
-    let none : first_fault c look l ≡ None = faultless (first_fault c look l) (sym (rows_agree c look l) ∙ ap is_there there) in
-    rw (child_at ls i m l lt at, none) refl
+pub fault_more : (c : Codec) (look : ℕ → Option (List ℕ)) (ls : List (LayoutData ℕ)) (i m : ℕ) (vs : List ValueData) (all : Option ReadFault) → i < m → i < length ls → ((x : LayoutData ℕ) → x ≡ get_or ls i x → rows c look x ≡ Some vs)
+    → first_in (map (first_fault c look) (drop i (take m ls))) ≡ all → first_in (map (first_fault c look) (drop (i + 1) (take m ls))) ≡ all
+fault_more c look ls i m vs all more lt there so_far =
+    let (x, (at, is)) = here ls i m more lt in
+    let none : first_fault c look x ≡ None = faultless (first_fault c look x) (sym (rows_agree c look x) ∙ ap is_there (there x at)) in
+    let step : first_in (map (first_fault c look) (drop i (take m ls))) ≡ first_in (map (first_fault c look) (drop (i + 1) (take m ls))) = rw (is, none) refl in
+    sym step ∙ so_far
 
-pub fault_stops : (c : Codec) (look : ℕ → Option (List ℕ)) (ls : List (LayoutData ℕ)) (i m : ℕ) (l : LayoutData ℕ) (e : ReadError) → i < m → child_in ls i ≡ Ok l → IsFault e (first_fault c look l)
+pub fault_stops : (c : Codec) (look : ℕ → Option (List ℕ)) (e : ReadError) (ls : List (LayoutData ℕ)) (i m : ℕ) → i < m → i < length ls → ((x : LayoutData ℕ) → x ≡ get_or ls i x → IsFault e (first_fault c look x))
     → IsFault e (first_in (map (first_fault c look) (drop i (take m ls))))
-fault_stops c look ls i m l e lt at h = rw (child_at ls i m l lt at) (first_stays e (first_fault c look l) (first_in (map (first_fault c look) (drop (i + 1) (take m ls)))) h)
+fault_stops c look e ls i m more lt h = let (x, (at, is)) = here ls i m more lt in rw is (first_stays e (first_fault c look x) (first_in (map (first_fault c look) (drop (i + 1) (take m ls)))) (h x at))
 
 pub none_left : (ls : List (LayoutData ℕ)) (i m : ℕ) → min (length ls) m ≤ i → drop i (take m ls) ≡ []
 none_left ls i zero le = drop_nothing i
@@ -347,4 +361,6 @@ child_falls (layout k t n names ls) x i e = below ls i e
     below (child y ls) zero e = let same : y ≡ x = answered_is y x e in rw (← same) (omega arith)
     below (child y ls) (suc i) e = omega (arith, below ls i e)
 
-pub ruleset part_rules = (append-nil, part_more, fault_more, fault_stops, refused_at, none_left, child_falls)
+pub ruleset part_rules = (append-nil, part_more, fault_more, none_left)
+
+pub ruleset child_rules = (child_falls)

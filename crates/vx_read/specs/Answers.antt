@@ -1,5 +1,5 @@
 -- What reading answers.
-use Rattle.std.specs.Prelude.{◌≡◌, List, Option, Some, None, Result, Ok, Err}
+use Rattle.std.specs.Prelude.{◌≡◌, ℕ, List, get_or, Option, Some, None, Result, Ok, Err}
 use Rattle.std.specs.Global.{Vec}
 use Rattle.vx_model.specs.declared.row_value.Value.{Value}
 use Rattle.vx_model.specs.ValueData.{ValueData}
@@ -9,7 +9,10 @@ use Rattle.vx_layout_tree.specs.declared.error.LayoutError.TheVariants as errors
 use Rattle.vx_layout_tree.specs.Views.{Fails}
 use Rattle.vx_segment_map.specs.declared.error.ReadError.{ReadError}
 use Rattle.vx_segment_map.specs.declared.error.ReadError.TheVariants.{Foreign, NoSegment, BadSegment, Rows, Layout, OutOfMemory}
-use Rattle.vx_read.specs.Reading.{ReadFault, foreign, no_segment, bad_segment, other_rows, no_layout}
+use Rattle.vx_layout_spec.specs.LayoutTree.{LayoutData, children_of}
+use Rattle.vx_layout_spec.specs.Codec.{Codec}
+use Rattle.vx_layout_spec.specs.Rows.{rows as rows_of}
+use Rattle.vx_read.specs.Reading.{ReadFault, foreign, no_segment, bad_segment, other_rows, no_layout, first_fault}
 use Rattle.vx_read.specs.Parts.{rows_in}
 
 -- why a node can't be built, where this is the fault
@@ -45,3 +48,7 @@ GivesRows (Err e) rows = rows ≡ None
 abbrev pub Reads : {X A : Type 0} → (X → A) → Result X ReadError → Option A → Option ReadFault → Type 0
 Reads view (Ok x) value fault = value ≡ Some (view x)
 Reads view (Err e) value fault = IsFault e fault
+
+-- what reading the child at the place answers
+abbrev pub ReadsChild : Codec → (ℕ → Option (List ℕ)) → LayoutData ℕ → ℕ → Result (Vec Value) ReadError → Type 0
+ReadsChild c look l i r = (x : LayoutData ℕ) → x ≡ get_or (children_of l) i x → Reads rows_in r (rows_of c look x) (first_fault c look x)

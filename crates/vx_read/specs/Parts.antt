@@ -3,7 +3,8 @@ use Rattle.std.specs.Prelude.{ℕ, List, map, take, Option}
 use Rattle.std.specs.Global.{Global, Vec}
 use Rattle.std.specs.declared.collections.VecDeque.{VecDeque}
 use Rattle.vx_model.specs.declared.row_value.Value.{Value}
-use Rattle.vx_model.specs.ValueData.{ValueData}
+use Rattle.vx_model.specs.CellData.{CellData}
+use Rattle.vx_model.specs.ValueData.{ValueData, value}
 use Rattle.vx_model.specs.TreeView.{val}
 use Rattle.vx_layout_spec.specs.LayoutTree.{LayoutData, children_of}
 use Rattle.vx_layout_spec.specs.Codec.{Codec}
@@ -12,6 +13,10 @@ use Rattle.vx_read.specs.Reading.{ReadFault, first_in, first_fault}
 
 abbrev pub rows_in : Vec Value → List ValueData
 rows_in v = map val v.items
+
+-- what a reader sees of cells
+abbrev pub values_of : List CellData → List ValueData
+values_of cs = map value cs
 
 abbrev pub queued : VecDeque Value Global → List ValueData
 queued q = map val q.items

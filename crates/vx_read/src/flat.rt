@@ -2,14 +2,14 @@
 
 ghost use Rattle.std.specs.Prelude.{◌≡◌, IfOk, option_map};
 ghost use Rattle.vx_model.specs.TyView.{ty};
-ghost use Rattle.vx_model.specs.ChunkData.{cells, row_values};
+ghost use Rattle.vx_model.specs.ChunkData.{row_values};
 ghost use Rattle.vx_layout_spec.specs.LayoutTree.{segments_of};
 ghost use Rattle.vx_layout_spec.specs.Rows.{and_then, counted, flat_rows};
 ghost use Rattle.vx_segment_reader.specs.Codec.{segment_codec, cells_read};
 ghost use Rattle.vx_segment_reader.specs.Segment.{decode as segment_of};
 ghost use Rattle.vx_layout_tree.specs.FlatView.{flat_lay, listed_in};
 ghost use Rattle.vx_segment_map.specs.SegmentView.{segment_in};
-ghost use Rattle.vx_read.specs.Parts.{rows_in};
+ghost use Rattle.vx_read.specs.Parts.{rows_in, values_of};
 ghost use Rattle.vx_read.specs.Reading.{flat_fault};
 ghost use Rattle.vx_read.specs.Answers.{Reads};
 
@@ -36,34 +36,33 @@ pub(crate) fn flat_rows(
     let Some(segment) = segments.segment(number) else {
         return Err(ReadError::NoSegment(number));
     };
-    let Some(chunk) = decoded(alloc, flat.array_ctx(), dtype, segment.as_slice())? else {
+    let Some(rows) = decoded(alloc, flat.array_ctx(), dtype, segment.as_slice())? else {
         return Err(ReadError::BadSegment(number));
     };
-    let rows = rows_of(alloc, &chunk)?;
     test_count(&rows, row_count)?;
     Ok(rows)
 }
 
-/// The chunk of a type that a segment is.
+/// The rows of the chunk of a type that a segment is.
 fn decoded(
     alloc: Global,
     ctx: &ArrayContext,
     dtype: &DType,
     bytes: &[u8],
-) -> Result<Option<Chunk>, AllocError>
-    ensures { IfOk result (λ o. option_map (λ c. cells c) o ≡ cells_read (segment_of ctx.now (ty dtype.now) bytes.now)) }
+) -> Result<Option<Vec<Value>>, AllocError>
+    ensures { IfOk result (λ o. option_map rows_in o ≡ option_map values_of (cells_read (segment_of ctx.now (ty dtype.now) bytes.now))) }
 {
     match decode_segment(alloc, ctx, dtype, bytes) {
-        Ok(chunk) => Ok(Some(chunk)),
+        Ok(chunk) => Ok(Some(rows_of(alloc, chunk)?)),
         Err(DecodeError::Grammar(_) | DecodeError::BadType(_)) => Ok(None),
         Err(DecodeError::OutOfMemory) => Err(AllocError),
     }
 }
 
-fn rows_of(alloc: Global, chunk: &Chunk) -> Result<Vec<Value>, AllocError>
-    ensures { IfOk result (λ v. rows_in v ≡ row_values chunk.now) }
+fn rows_of(alloc: Global, chunk: Chunk) -> Result<Vec<Value>, AllocError>
+    ensures { IfOk result (λ v. rows_in v ≡ row_values chunk) }
 {
-    match chunk.rows_of(alloc) {
+    match chunk.into_rows(alloc) {
         Ok(rows) => Ok(rows),
         Err(_) => Err(AllocError),
     }

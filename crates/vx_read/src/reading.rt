@@ -1,6 +1,6 @@
 //! The rows of a layout, an arm a kind.
 
-ghost use Rattle.std.specs.Prelude.{◌≡◌, length, min, IfOk};
+ghost use Rattle.std.specs.Prelude.{◌≡◌, ◌<◌, length, min, IfOk};
 ghost use Rattle.vx_layout_spec.specs.LayoutTree.{children_of};
 ghost use Rattle.vx_layout_spec.specs.Rows.{rows};
 ghost use Rattle.vx_layout_tree.specs.LayoutView.{layout_data};
@@ -8,7 +8,7 @@ ghost use Rattle.vx_segment_reader.specs.Codec.{segment_codec};
 ghost use Rattle.vx_segment_map.specs.SegmentView.{segment_in};
 ghost use Rattle.vx_read.specs.Parts.{rows_in, parts_in, first_parts, first_faults};
 ghost use Rattle.vx_read.specs.Reading.{first_fault};
-ghost use Rattle.vx_read.specs.Answers.{GivesRows, TellsFault, Reads};
+ghost use Rattle.vx_read.specs.Answers.{GivesRows, TellsFault, Reads, ReadsChild};
 
 use crate::flat::flat_rows;
 use crate::nodes::{
@@ -90,9 +90,26 @@ fn parts_of(
 {
     let mut parts = Vec::new(alloc);
     for i in 0..layout.nchildren().min(count) {
-        let child = layout.child(i)?;
-        let rows = rows_of(alloc, child.layout(), segments)?;
+        let rows = part_of(alloc, layout, i, segments)?;
         parts.push(rows)?;
     }
     Ok(parts)
+}
+
+/// The rows of the child at the place.
+#[cycle(reading)]
+#[tactic(auto, using(crate::proofs::ReadSteps::child_rules))]
+fn part_of(
+    alloc: Global,
+    layout: &Layout,
+    i: u64,
+    segments: &SegmentMap,
+) -> Result<Vec<Value>, ReadError>
+    requires { i < length (children_of (layout_data layout.now)) }
+    ensures { ReadsChild segment_codec (segment_in segments.now) (layout_data layout.now) i result }
+{
+    let child = layout.child(i)?;
+    let rows = rows_of(alloc, child.layout(), segments);
+    drop(child);
+    rows
 }

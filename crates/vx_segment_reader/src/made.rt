@@ -1,4 +1,5 @@
-//! Chunks of parts that were read. Each tests what its parts must be together.
+//! Chunks of parts that were read. Each tests what its parts must be together. What is refused is dropped by a call: where a
+//! chunk's end is written out at each way out of a function, its proof takes ten times as long.
 
 ghost use Rattle.std.specs.Prelude.{◌≡◌, ◌-◌, ◌==◌, length, IsTrue};
 ghost use Rattle.vx_model.specs.TyView.{ty};
@@ -37,6 +38,8 @@ pub(crate) fn made_dict<'a>(
     ensures { Gives (λ x. (x.0, left x.1)) result (made_at k (fit_codes rows codes values) (dict_piece codes values) (left rest.entry)) }
 {
     if !fit_rows(rows, &codes, &values) {
+        drop(codes);
+        drop(values);
         return Err(DecodeError::BadType(k));
     }
     match Chunk::dict(alloc, codes, values) {
@@ -60,6 +63,7 @@ pub(crate) fn made_chunked<'a>(
         return Err(DecodeError::BadType(k));
     };
     if chunk.len() != rows {
+        drop(chunk);
         return Err(DecodeError::BadType(k));
     }
     Ok((chunk, rest))
@@ -80,9 +84,14 @@ pub(crate) fn made_list<'a>(
     ensures { Gives (λ x. (x.0, left x.1)) result (made_at k (offsets_fit (length (cells elements)) offsets.items) (list_piece (ty dtype.now) elements offsets.items valid.items) (left rest.entry)) }
 {
     if !are_offsets(&offsets, elements.len()) {
+        drop(elements);
         return Err(DecodeError::BadType(k));
     }
-    match Chunk::list(alloc, dtype.clone()?, elements, offsets, valid) {
+    let Ok(own) = dtype.clone() else {
+        drop(elements);
+        return Err(DecodeError::OutOfMemory);
+    };
+    match Chunk::list(alloc, own, elements, offsets, valid) {
         Ok(chunk) => Ok((chunk, rest)),
         Err(_) => Err(DecodeError::OutOfMemory),
     }
@@ -101,9 +110,14 @@ pub(crate) fn made_extension<'a>(
     ensures { Gives (λ x. (x.0, left x.1)) result (made_at k (length (cells storage) == rows) (extension_piece (ty dtype.now) storage) (left rest.entry)) }
 {
     if storage.len() != rows {
+        drop(storage);
         return Err(DecodeError::BadType(k));
     }
-    match Chunk::extension(alloc, dtype.clone()?, storage) {
+    let Ok(own) = dtype.clone() else {
+        drop(storage);
+        return Err(DecodeError::OutOfMemory);
+    };
+    match Chunk::extension(alloc, own, storage) {
         Ok(chunk) => Ok((chunk, rest)),
         Err(_) => Err(DecodeError::OutOfMemory),
     }

@@ -66,8 +66,13 @@ fn read_dict<'a>(
         return Err(DecodeError::BadType(k));
     };
     let (codes, rest) = read_codes(frame, ptype, rest)?;
-    let (values, rest) = read_simple(frame, dtype, rest)?;
-    made_dict(frame.alloc, k, node.rows, codes, values, rest)
+    match read_simple(frame, dtype, rest) {
+        Ok((values, rest)) => made_dict(frame.alloc, k, node.rows, codes, values, rest),
+        Err(error) => {
+            drop(codes);
+            Err(error)
+        }
+    }
 }
 
 /// Whether the node has no buffers, and nothing more to tell.

@@ -65,9 +65,31 @@ impl ChildStrategy {
         ensures one { IfOk result (λ p. p.0.item ≡ strategy_data one) }
         ensures other { IfOk result (λ p. p.1.item ≡ strategy_data other) }
     {
-        let one = ChildStrategy::held(alloc, one);
-        let other = ChildStrategy::held(alloc, other);
-        Ok((one?, other?))
+        let Ok(one) = ChildStrategy::held(alloc, one) else {
+            drop(other);
+            return Err(AllocError);
+        };
+        let Ok(other) = ChildStrategy::held(alloc, other) else {
+            drop(one);
+            return Err(AllocError);
+        };
+        Ok((one, other))
+    }
+
+    /// A clone of this strategy, and one of another.
+    pub(crate) fn clone_with(
+        &self,
+        other: &ChildStrategy,
+    ) -> Result<(ChildStrategy, ChildStrategy), AllocError>
+        ensures own { IfOk result (λ p. p.0 ≡ self.now) }
+        ensures other { IfOk result (λ p. p.1 ≡ other.now) }
+    {
+        let own = self.clone()?;
+        let Ok(other) = other.clone() else {
+            drop(own);
+            return Err(AllocError);
+        };
+        Ok((own, other))
     }
 
     /// The strategy itself.

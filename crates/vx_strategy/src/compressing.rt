@@ -45,6 +45,7 @@ impl CompressingStrategy {
         ensures refused { IfErr result (ZeroConcurrencyOf concurrency) }
     {
         let Some(concurrency) = NonZeroU64::new(concurrency) else {
+            drop(self);
             return Err(BuildError::ZeroConcurrency);
         };
         Ok(CompressingStrategy {

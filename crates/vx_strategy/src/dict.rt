@@ -50,12 +50,18 @@ impl DictStrategy {
         ensures ok { IfOk result (λ s. dict_way s ≡ coded (dict_options options.constraints probe) (strategy_data codes) (strategy_data values) (strategy_data fallback)) }
         ensures memory { IfErr result (λ e. e ≡ BuildError.OutOfMemory) }
     {
-        let fallback = ChildStrategy::held(alloc, fallback);
-        let (codes, values) = ChildStrategy::both_held(alloc, codes, values)?;
+        let Ok((codes, values)) = ChildStrategy::both_held(alloc, codes, values) else {
+            drop(fallback);
+            return Err(BuildError::OutOfMemory);
+        };
+        let Ok(fallback) = ChildStrategy::held(alloc, fallback) else {
+            drop((codes, values));
+            return Err(BuildError::OutOfMemory);
+        };
         Ok(DictStrategy {
             codes,
             values,
-            fallback: fallback?,
+            fallback,
             constraints: options.constraints,
             probe,
         })
@@ -107,10 +113,15 @@ impl Clone for DictStrategy {
     ghost is_clone = { λ s copy. dict_way copy ≡ dict_way s };
 
     fn clone(&self) -> Result<DictStrategy, AllocError> {
+        let (codes, values) = self.codes.clone_with(&self.values)?;
+        let Ok(fallback) = self.fallback.clone() else {
+            drop((codes, values));
+            return Err(AllocError);
+        };
         Ok(DictStrategy {
-            codes: self.codes.clone()?,
-            values: self.values.clone()?,
-            fallback: self.fallback.clone()?,
+            codes,
+            values,
+            fallback,
             constraints: self.constraints,
             probe: self.probe,
         })

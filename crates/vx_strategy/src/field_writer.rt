@@ -1,7 +1,8 @@
 //! Writers of fields by name.
 
-ghost use Rattle.std.specs.Prelude.{◌≡◌, OnOk, IfOk, IfErr};
+ghost use Rattle.std.specs.Prelude.{◌≡◌, map, OnOk, IfOk, IfErr};
 ghost use Rattle.vx_strategy.specs.FieldWays.{field_ways, place_of, with_writer};
+ghost use Rattle.vx_strategy.specs.PairWays.{named_way, with_writers};
 ghost use Rattle.vx_strategy.specs.StrategyView.{strategy_data};
 
 use crate::child::ChildStrategy;
@@ -16,6 +17,20 @@ use vx_model::FieldName;
 pub struct FieldWriter {
     pub name: FieldName,
     pub writer: ChildStrategy,
+}
+
+impl Clone for FieldWriter {
+    ghost use Rattle.std.specs.Prelude.{◌≡◌};
+
+    ghost is_clone = { λ w copy. copy ≡ w };
+
+    fn clone(&self) -> Result<FieldWriter, AllocError> {
+        let name = self.name.clone()?;
+        Ok(FieldWriter {
+            name,
+            writer: self.writer.clone()?,
+        })
+    }
 }
 
 /// Puts the writer in the place of one of this name, or behind all.
@@ -39,6 +54,21 @@ pub(crate) fn put(
     }
 }
 
+/// Each of these as `put`, in order.
+pub(crate) fn put_all(
+    mut writers: Vec<FieldWriter>,
+    alloc: Global,
+    list: Vec<(FieldName, Strategy)>,
+) -> Result<Vec<FieldWriter>, BuildError>
+    ensures ok { IfOk result (λ v. field_ways v.items ≡ with_writers (field_ways writers.items) (map named_way list.items)) }
+    ensures memory { IfErr result (λ e. e ≡ BuildError.OutOfMemory) }
+{
+    for (name, writer) in list {
+        put(&mut writers, alloc, name, writer)?;
+    }
+    Ok(writers)
+}
+
 /// The place of the writer of this name.
 #[tactic(auto, using(crate::proofs::PlaceSteps::place_rules))]
 pub(crate) fn find(writers: &[FieldWriter], name: &FieldName) -> Option<usize>
@@ -58,10 +88,7 @@ pub(crate) fn copied(alloc: Global, writers: &[FieldWriter]) -> Result<Vec<Field
 {
     let mut copies = Vec::with_capacity(alloc, writers.len())?;
     for writer in writers {
-        copies.push(FieldWriter {
-            name: writer.name.clone()?,
-            writer: writer.writer.clone()?,
-        })?;
+        copies.push(writer.clone()?)?;
     }
     Ok(copies)
 }

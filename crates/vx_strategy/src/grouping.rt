@@ -66,11 +66,16 @@ impl RepartitionStrategy {
         ensures some { IfOk result (λ s. 0 < options.block_len_multiple) }
         ensures refused { IfErr result (ZeroBlockLenOf options) }
     {
-        let rule = BlockRule::new(options)?;
-        Ok(RepartitionStrategy {
-            child: ChildStrategy::held(alloc, child)?,
-            rule,
-        })
+        match BlockRule::new(options) {
+            Ok(rule) => Ok(RepartitionStrategy {
+                child: ChildStrategy::held(alloc, child)?,
+                rule,
+            }),
+            Err(error) => {
+                drop(child);
+                Err(error)
+            }
+        }
     }
 
     pub fn child(&self) -> &ChildStrategy

@@ -1,3 +1,6 @@
+ghost use Rattle.std.specs.Prelude.{◌≡◌, IfOk};
+ghost use Rattle.vx_strategy.specs.FlatViews.{default_flat};
+
 use crate::child::ChildStrategy;
 use crate::error::BuildError;
 use crate::flat::FlatLayoutStrategy;
@@ -26,12 +29,16 @@ impl ListLayoutStrategy {
         ensures ok { IfOk result (λ s. list_way s ≡ listed default_flat default_flat default_flat default_flat) }
         ensures memory { IfErr result (λ e. e ≡ BuildError.OutOfMemory) }
     {
-        let flat = FlatLayoutStrategy::default();
+        let (elements, offsets) = both_flat(alloc)?;
+        let Ok((validity, fallback)) = both_flat(alloc) else {
+            drop((elements, offsets));
+            return Err(BuildError::OutOfMemory);
+        };
         Ok(ListLayoutStrategy {
-            elements: ChildStrategy::held(alloc, flat.into_strategy())?,
-            offsets: ChildStrategy::held(alloc, flat.into_strategy())?,
-            validity: ChildStrategy::held(alloc, flat.into_strategy())?,
-            fallback: ChildStrategy::held(alloc, flat.into_strategy())?,
+            elements,
+            offsets,
+            validity,
+            fallback,
         })
     }
 
@@ -43,8 +50,13 @@ impl ListLayoutStrategy {
         ensures ok { IfOk result (λ s. list_way s ≡ listed (strategy_data elements) self.offsets.item self.validity.item self.fallback.item) }
         ensures memory { IfErr result (λ e. e ≡ BuildError.OutOfMemory) }
     {
+        let Ok(elements) = ChildStrategy::held(alloc, elements) else {
+            drop(self);
+            return Err(BuildError::OutOfMemory);
+        };
+        drop(self.elements);
         Ok(ListLayoutStrategy {
-            elements: ChildStrategy::held(alloc, elements)?,
+            elements,
             offsets: self.offsets,
             validity: self.validity,
             fallback: self.fallback,
@@ -59,9 +71,14 @@ impl ListLayoutStrategy {
         ensures ok { IfOk result (λ s. list_way s ≡ listed self.elements.item (strategy_data offsets) self.validity.item self.fallback.item) }
         ensures memory { IfErr result (λ e. e ≡ BuildError.OutOfMemory) }
     {
+        let Ok(offsets) = ChildStrategy::held(alloc, offsets) else {
+            drop(self);
+            return Err(BuildError::OutOfMemory);
+        };
+        drop(self.offsets);
         Ok(ListLayoutStrategy {
             elements: self.elements,
-            offsets: ChildStrategy::held(alloc, offsets)?,
+            offsets,
             validity: self.validity,
             fallback: self.fallback,
         })
@@ -75,10 +92,15 @@ impl ListLayoutStrategy {
         ensures ok { IfOk result (λ s. list_way s ≡ listed self.elements.item self.offsets.item (strategy_data validity) self.fallback.item) }
         ensures memory { IfErr result (λ e. e ≡ BuildError.OutOfMemory) }
     {
+        let Ok(validity) = ChildStrategy::held(alloc, validity) else {
+            drop(self);
+            return Err(BuildError::OutOfMemory);
+        };
+        drop(self.validity);
         Ok(ListLayoutStrategy {
             elements: self.elements,
             offsets: self.offsets,
-            validity: ChildStrategy::held(alloc, validity)?,
+            validity,
             fallback: self.fallback,
         })
     }
@@ -91,11 +113,16 @@ impl ListLayoutStrategy {
         ensures ok { IfOk result (λ s. list_way s ≡ listed self.elements.item self.offsets.item self.validity.item (strategy_data fallback)) }
         ensures memory { IfErr result (λ e. e ≡ BuildError.OutOfMemory) }
     {
+        let Ok(fallback) = ChildStrategy::held(alloc, fallback) else {
+            drop(self);
+            return Err(BuildError::OutOfMemory);
+        };
+        drop(self.fallback);
         Ok(ListLayoutStrategy {
             elements: self.elements,
             offsets: self.offsets,
             validity: self.validity,
-            fallback: ChildStrategy::held(alloc, fallback)?,
+            fallback,
         })
     }
 
@@ -131,6 +158,15 @@ impl ListLayoutStrategy {
     }
 }
 
+/// Two flat ones.
+fn both_flat(alloc: Global) -> Result<(ChildStrategy, ChildStrategy), AllocError>
+    ensures one { IfOk result (λ p. p.0.item ≡ default_flat) }
+    ensures other { IfOk result (λ p. p.1.item ≡ default_flat) }
+{
+    let flat = FlatLayoutStrategy::default();
+    ChildStrategy::both_held(alloc, flat.into_strategy(), flat.into_strategy())
+}
+
 impl Clone for ListLayoutStrategy {
     ghost use Rattle.std.specs.Prelude.{◌≡◌};
     ghost use Rattle.vx_strategy.specs.NodeViews.{list_way};
@@ -138,11 +174,16 @@ impl Clone for ListLayoutStrategy {
     ghost is_clone = { λ s copy. list_way copy ≡ list_way s };
 
     fn clone(&self) -> Result<ListLayoutStrategy, AllocError> {
+        let (elements, offsets) = self.elements.clone_with(&self.offsets)?;
+        let Ok((validity, fallback)) = self.validity.clone_with(&self.fallback) else {
+            drop((elements, offsets));
+            return Err(AllocError);
+        };
         Ok(ListLayoutStrategy {
-            elements: self.elements.clone()?,
-            offsets: self.offsets.clone()?,
-            validity: self.validity.clone()?,
-            fallback: self.fallback.clone()?,
+            elements,
+            offsets,
+            validity,
+            fallback,
         })
     }
 }

@@ -1,6 +1,6 @@
 //! Writers of a table by paths of field names.
 
-ghost use Rattle.std.specs.Prelude.{◌≡◌, IfOk};
+ghost use Rattle.std.specs.Prelude.{◌≡◌, [], ◌∷◌, ◌++◌, IfOk};
 ghost use Rattle.vx_strategy.specs.Overridden.{overlap_place};
 
 use crate::child::ChildStrategy;
@@ -49,10 +49,11 @@ impl Model for Overrides {
 }
 
 impl Overrides {
-    ghost use Rattle.std.specs.Prelude.{◌≡◌, IfOk, IfErr};
+    ghost use Rattle.std.specs.Prelude.{◌≡◌, map, IfOk, IfErr};
     ghost use Rattle.vx_strategy_spec.specs.StrategyData.{no_ways};
-    ghost use Rattle.vx_strategy.specs.Overridden.{appended, Fits};
-    ghost use Rattle.vx_strategy.specs.Causes.{OverrideRefused};
+    ghost use Rattle.vx_strategy.specs.Overridden.{appended, all_appended, Fits, AllFit};
+    ghost use Rattle.vx_strategy.specs.PairWays.{path_way};
+    ghost use Rattle.vx_strategy.specs.Causes.{OverrideRefused, OverridesRefused};
     ghost use Rattle.vx_strategy.specs.StrategyView.{strategy_data};
 
     /// No overrides.
@@ -79,16 +80,47 @@ impl Overrides {
     {
         let Overrides { mut list } = self;
         if path.is_root() {
+            drop((list, writer));
             return Err(BuildError::RootPath);
         }
         if let Some(place) = find_overlap(&list, &path) {
+            drop(writer);
             let standing = list.swap_remove(place);
+            drop((list, standing.writer));
             return Err(BuildError::OverlappingPath(standing.path, path));
         }
-        let writer = ChildStrategy::held(alloc, writer)?;
-        list.push(PathWriter { path, writer })?;
+        let Ok(writer) = ChildStrategy::held(alloc, writer) else {
+            drop(list);
+            return Err(BuildError::OutOfMemory);
+        };
+        let list = pushed(list, PathWriter { path, writer })?;
         Ok(Overrides { list })
     }
+
+    /// Each of these as `with`, in order.
+    pub(crate) fn with_all(
+        self,
+        alloc: Global,
+        list: Vec<(FieldPath, Strategy)>,
+    ) -> Result<Overrides, BuildError>
+        ensures ok { IfOk result (λ o. o.item ≡ all_appended self.item (map path_way list.items)) }
+        ensures fits { IfOk result (λ o. AllFit self.item (map path_way list.items)) }
+        ensures refused { IfErr result (OverridesRefused self.item (map path_way list.items)) }
+    {
+        let mut overrides = self;
+        for (path, writer) in list {
+            overrides = overrides.with(alloc, path, writer)?;
+        }
+        Ok(overrides)
+    }
+}
+
+/// The list with one more behind.
+fn pushed<T: Drop>(mut list: Vec<T>, item: T) -> Result<Vec<T>, AllocError>
+    ensures { IfOk result (λ v. v.items ≡ list.items ++ item ∷ []) }
+{
+    list.push(item)?;
+    Ok(list)
 }
 
 /// The place of the first path that overlaps this one.
@@ -102,6 +134,20 @@ fn find_overlap(list: &[PathWriter], path: &FieldPath) -> Option<usize>
         }
     }
     None
+}
+
+impl Clone for PathWriter {
+    ghost use Rattle.std.specs.Prelude.{◌≡◌};
+
+    ghost is_clone = { λ w copy. copy ≡ w };
+
+    fn clone(&self) -> Result<PathWriter, AllocError> {
+        let path = self.path.clone()?;
+        Ok(PathWriter {
+            path,
+            writer: self.writer.clone()?,
+        })
+    }
 }
 
 impl Clone for Overrides {
@@ -122,10 +168,7 @@ fn copied(alloc: Global, list: &[PathWriter]) -> Result<Vec<PathWriter>, AllocEr
 {
     let mut copies = Vec::with_capacity(alloc, list.len())?;
     for one in list {
-        copies.push(PathWriter {
-            path: one.path.clone()?,
-            writer: one.writer.clone()?,
-        })?;
+        copies.push(one.clone()?)?;
     }
     Ok(copies)
 }

@@ -1,6 +1,6 @@
 use crate::child::ChildStrategy;
 use crate::error::BuildError;
-use crate::field_writer::{FieldWriter, copied, find, put};
+use crate::field_writer::{FieldWriter, copied, find, put, put_all};
 use crate::strategy::Strategy;
 use std::alloc::{AllocError, Global};
 use vx_model::FieldName;
@@ -55,12 +55,17 @@ impl StructStrategy {
             default,
             mut writers,
         } = self;
-        put(&mut writers, alloc, name, writer)?;
-        Ok(StructStrategy {
-            validity,
-            default,
-            writers,
-        })
+        match put(&mut writers, alloc, name, writer) {
+            Ok(()) => Ok(StructStrategy {
+                validity,
+                default,
+                writers,
+            }),
+            Err(error) => {
+                drop((validity, default, writers));
+                Err(error)
+            }
+        }
     }
 
     /// Each of these as `with_field_writer`, in order.
@@ -75,16 +80,19 @@ impl StructStrategy {
         let StructStrategy {
             validity,
             default,
-            mut writers,
-        } = self;
-        for (name, writer) in list {
-            put(&mut writers, alloc, name, writer)?;
-        }
-        Ok(StructStrategy {
-            validity,
-            default,
             writers,
-        })
+        } = self;
+        match put_all(writers, alloc, list) {
+            Ok(writers) => Ok(StructStrategy {
+                validity,
+                default,
+                writers,
+            }),
+            Err(error) => {
+                drop((validity, default));
+                Err(error)
+            }
+        }
     }
 
     pub fn validity(&self) -> &ChildStrategy
@@ -125,10 +133,15 @@ impl Clone for StructStrategy {
     ghost is_clone = { λ s copy. struct_way copy ≡ struct_way s };
 
     fn clone(&self) -> Result<StructStrategy, AllocError> {
+        let (validity, default) = self.validity.clone_with(&self.default)?;
+        let Ok(writers) = copied(*self.writers.allocator(), &self.writers) else {
+            drop((validity, default));
+            return Err(AllocError);
+        };
         Ok(StructStrategy {
-            validity: self.validity.clone()?,
-            default: self.default.clone()?,
-            writers: copied(*self.writers.allocator(), &self.writers)?,
+            validity,
+            default,
+            writers,
         })
     }
 }

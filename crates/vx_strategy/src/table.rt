@@ -2,7 +2,7 @@ use crate::child::ChildStrategy;
 use crate::error::BuildError;
 use crate::overrides::Overrides;
 use crate::strategy::Strategy;
-use crate::wrapper::{ListWrapper, Wrapper, tested};
+use crate::wrapper::{ListWrapper, Wrapper, shared, tested};
 use std::alloc::{AllocError, Global};
 use std::sync::Arc;
 use vx_field_path::FieldPath;
@@ -43,12 +43,16 @@ impl TableStrategy {
         ensures memory { IfErr result (λ e. e ≡ BuildError.OutOfMemory) }
     {
         let (validity, leaf) = ChildStrategy::both_held(alloc, validity, fallback)?;
+        let Ok(wrappers) = shared(alloc, Vec::new(alloc)) else {
+            drop((validity, leaf));
+            return Err(BuildError::OutOfMemory);
+        };
         Ok(TableStrategy {
             validity,
             leaf,
             overrides: Overrides::none(alloc),
             list_layout: false,
-            wrappers: Arc::new(alloc, Vec::new(alloc))?,
+            wrappers,
         })
     }
 
@@ -64,13 +68,26 @@ impl TableStrategy {
         ensures fits { IfOk result (λ s. Fits self.overrides.item path) }
         ensures refused { IfErr result (OverrideRefused self.overrides.item path) }
     {
-        Ok(TableStrategy {
-            validity: self.validity,
-            leaf: self.leaf,
-            overrides: self.overrides.with(alloc, path, writer)?,
-            list_layout: self.list_layout,
-            wrappers: self.wrappers,
-        })
+        let TableStrategy {
+            validity,
+            leaf,
+            overrides,
+            list_layout,
+            wrappers,
+        } = self;
+        match overrides.with(alloc, path, writer) {
+            Ok(overrides) => Ok(TableStrategy {
+                validity,
+                leaf,
+                overrides,
+                list_layout,
+                wrappers,
+            }),
+            Err(error) => {
+                drop((validity, leaf, wrappers));
+                Err(error)
+            }
+        }
     }
 
     /// Each of these as `with_field_writer`, in order.
@@ -83,17 +100,26 @@ impl TableStrategy {
         ensures fits { IfOk result (λ s. AllFit self.overrides.item (map path_way list.items)) }
         ensures refused { IfErr result (OverridesRefused self.overrides.item (map path_way list.items)) }
     {
-        let mut overrides = self.overrides;
-        for (path, writer) in list {
-            overrides = overrides.with(alloc, path, writer)?;
-        }
-        Ok(TableStrategy {
-            validity: self.validity,
-            leaf: self.leaf,
+        let TableStrategy {
+            validity,
+            leaf,
             overrides,
-            list_layout: self.list_layout,
-            wrappers: self.wrappers,
-        })
+            list_layout,
+            wrappers,
+        } = self;
+        match overrides.with_all(alloc, list) {
+            Ok(overrides) => Ok(TableStrategy {
+                validity,
+                leaf,
+                overrides,
+                list_layout,
+                wrappers,
+            }),
+            Err(error) => {
+                drop((validity, leaf, wrappers));
+                Err(error)
+            }
+        }
     }
 
     /// Another leaf strategy.
@@ -105,9 +131,14 @@ impl TableStrategy {
         ensures ok { IfOk result (λ s. table_way s ≡ tabled self.validity.item (strategy_data leaf) self.overrides.item self.list_layout (wraps self.wrappers.value.items)) }
         ensures memory { IfErr result (λ e. e ≡ BuildError.OutOfMemory) }
     {
+        let Ok(leaf) = ChildStrategy::held(alloc, leaf) else {
+            drop(self);
+            return Err(BuildError::OutOfMemory);
+        };
+        drop(self.leaf);
         Ok(TableStrategy {
             validity: self.validity,
-            leaf: ChildStrategy::held(alloc, leaf)?,
+            leaf,
             overrides: self.overrides,
             list_layout: self.list_layout,
             wrappers: self.wrappers,
@@ -122,8 +153,13 @@ impl TableStrategy {
         ensures ok { IfOk result (λ s. table_way s ≡ tabled (strategy_data validity) self.leaf.item self.overrides.item self.list_layout (wraps self.wrappers.value.items)) }
         ensures memory { IfErr result (λ e. e ≡ BuildError.OutOfMemory) }
     {
+        let Ok(validity) = ChildStrategy::held(alloc, validity) else {
+            drop(self);
+            return Err(BuildError::OutOfMemory);
+        };
+        drop(self.validity);
         Ok(TableStrategy {
-            validity: ChildStrategy::held(alloc, validity)?,
+            validity,
             leaf: self.leaf,
             overrides: self.overrides,
             list_layout: self.list_layout,
@@ -136,13 +172,11 @@ impl TableStrategy {
         ensures ok { IfOk result (λ s. table_way s ≡ tabled self.validity.item self.leaf.item self.overrides.item true no_wraps) }
         ensures memory { IfErr result (λ e. e ≡ BuildError.OutOfMemory) }
     {
-        Ok(TableStrategy {
-            validity: self.validity,
-            leaf: self.leaf,
-            overrides: self.overrides,
-            list_layout: true,
-            wrappers: Arc::new(alloc, Vec::new(alloc))?,
-        })
+        let Ok(wrappers) = shared(alloc, Vec::new(alloc)) else {
+            drop(self);
+            return Err(BuildError::OutOfMemory);
+        };
+        Ok(self.with_lists(wrappers))
     }
 
     /// Lists are laid out as lists in these wrappers, the first outermost. Refuses as the wrapped strategies'
@@ -157,13 +191,33 @@ impl TableStrategy {
         ensures wraps { IfOk result (λ s. AllWrap wrappers.items) }
         ensures refused { IfErr result (FirstRefused wrappers.items) }
     {
-        Ok(TableStrategy {
+        match tested(alloc, wrappers) {
+            Ok(wrappers) => {
+                let Ok(wrappers) = shared(alloc, wrappers) else {
+                    drop(self);
+                    return Err(BuildError::OutOfMemory);
+                };
+                Ok(self.with_lists(wrappers))
+            }
+            Err(error) => {
+                drop(self);
+                Err(error)
+            }
+        }
+    }
+
+    /// Lists are laid out as lists in these wrappers.
+    fn with_lists(self, wrappers: Arc<Vec<Wrapper>>) -> TableStrategy
+        ensures { table_way result ≡ tabled self.validity.item self.leaf.item self.overrides.item true (wraps wrappers.value.items) }
+    {
+        drop(self.wrappers);
+        TableStrategy {
             validity: self.validity,
             leaf: self.leaf,
             overrides: self.overrides,
             list_layout: true,
-            wrappers: Arc::new(alloc, tested(alloc, wrappers)?)?,
-        })
+            wrappers,
+        }
     }
 
     pub fn into_strategy(self) -> Strategy
@@ -180,12 +234,21 @@ impl Clone for TableStrategy {
     ghost is_clone = { λ s copy. table_way copy ≡ table_way s };
 
     fn clone(&self) -> Result<TableStrategy, AllocError> {
+        let (validity, leaf) = self.validity.clone_with(&self.leaf)?;
+        let Ok(overrides) = self.overrides.clone() else {
+            drop((validity, leaf));
+            return Err(AllocError);
+        };
+        let Ok(wrappers) = Arc::try_clone(&self.wrappers) else {
+            drop((validity, leaf, overrides));
+            return Err(AllocError);
+        };
         Ok(TableStrategy {
-            validity: self.validity.clone()?,
-            leaf: self.leaf.clone()?,
-            overrides: self.overrides.clone()?,
+            validity,
+            leaf,
+            overrides,
             list_layout: self.list_layout,
-            wrappers: Arc::try_clone(&self.wrappers)?,
+            wrappers,
         })
     }
 }

@@ -1,6 +1,9 @@
 //! What wraps a list layout in a table.
 
 ghost use Rattle.std.specs.Prelude.{◌≡◌, IfOk, IfErr};
+ghost use Rattle.vx_strategy_spec.specs.StrategyData.{zoned};
+ghost use Rattle.vx_strategy.specs.RuleViews.{zone_rule};
+ghost use Rattle.vx_strategy.specs.StrategyView.{strategy_data};
 ghost use Rattle.vx_strategy.specs.WrapViews.{wraps};
 ghost use Rattle.vx_strategy.specs.Wrapped.{wraps_asked};
 ghost use Rattle.vx_strategy.specs.WrapCauses.{AllWrap, FirstRefused};
@@ -12,6 +15,7 @@ use crate::strategy::Strategy;
 use crate::zone_rule::ZoneRule;
 use crate::zoned::ZonedStrategy;
 use std::alloc::{AllocError, Global};
+use std::sync::Arc;
 use vx_strategy_options::{RepartitionWriterOptions, ZonedLayoutOptions};
 
 /// A strategy around the list layout of a table, without its child.
@@ -49,8 +53,13 @@ impl ListWrapper {
             ListWrapper::Repartition(options) => Ok(Wrapper::Repartition(BlockRule::new(options)?)),
             ListWrapper::Buffered(size) => Ok(Wrapper::Buffered(size)),
             ListWrapper::Zoned(stats, options) => {
-                let rule = ZoneRule::new(alloc, options)?;
-                Ok(Wrapper::Zoned(ChildStrategy::held(alloc, stats)?, rule))
+                match ZoneRule::new(alloc, options) {
+                    Ok(rule) => Ok(Wrapper::Zoned(ChildStrategy::held(alloc, stats)?, rule)),
+                    Err(error) => {
+                        drop(stats);
+                        Err(error)
+                    }
+                }
             }
         }
     }
@@ -77,13 +86,28 @@ impl Wrapper {
                 let buffer_size = *size;
                 Ok(BufferedStrategy { child, buffer_size }.into_strategy())
             }
-            Wrapper::Zoned(stats, rule) => {
-                let stats = stats.clone()?;
-                let rule = rule.clone()?;
-                Ok(ZonedStrategy { child, stats, rule }.into_strategy())
-            }
+            Wrapper::Zoned(stats, rule) => zoned(child, stats, rule),
         }
     }
+}
+
+/// The strategy that records these zones of its child's rows.
+fn zoned(
+    child: ChildStrategy,
+    stats: &ChildStrategy,
+    rule: &ZoneRule,
+) -> Result<Strategy, AllocError>
+    ensures { IfOk result (λ s. strategy_data s ≡ zoned (zone_rule rule.now) child.item stats.now.item) }
+{
+    let Ok(rule) = rule.clone() else {
+        drop(child);
+        return Err(AllocError);
+    };
+    let Ok(stats) = stats.clone() else {
+        drop(child);
+        return Err(AllocError);
+    };
+    Ok(ZonedStrategy { child, stats, rule }.into_strategy())
 }
 
 /// Each wrapper tested, in order; the first that is refused decides.
@@ -98,4 +122,11 @@ pub(crate) fn tested(alloc: Global, list: Vec<ListWrapper>) -> Result<Vec<Wrappe
         wrappers.push(wrapper.tested(alloc)?)?;
     }
     Ok(wrappers)
+}
+
+/// Wrappers that clones share.
+pub(crate) fn shared(alloc: Global, wrappers: Vec<Wrapper>) -> Result<Arc<Vec<Wrapper>>, AllocError>
+    ensures { IfOk result (λ a. a.value ≡ wrappers) }
+{
+    Ok(Arc::new(alloc, wrappers)?)
 }

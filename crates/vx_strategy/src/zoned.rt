@@ -38,10 +38,16 @@ impl ZonedStrategy {
         ensures zones { IfOk result (λ s. AreZones options) }
         ensures refused { IfErr result (NoZonesOf options) }
     {
-        let children = ChildStrategy::both_held(alloc, child, stats);
-        let rule = ZoneRule::new(alloc, options)?;
-        let (child, stats) = children?;
-        Ok(ZonedStrategy { child, stats, rule })
+        match ZoneRule::new(alloc, options) {
+            Ok(rule) => {
+                let (child, stats) = ChildStrategy::both_held(alloc, child, stats)?;
+                Ok(ZonedStrategy { child, stats, rule })
+            }
+            Err(error) => {
+                drop((child, stats));
+                Err(error)
+            }
+        }
     }
 
     pub fn child(&self) -> &ChildStrategy
@@ -96,10 +102,8 @@ impl Clone for ZonedStrategy {
     ghost is_clone = { λ s copy. zoned_way copy ≡ zoned_way s };
 
     fn clone(&self) -> Result<ZonedStrategy, AllocError> {
-        Ok(ZonedStrategy {
-            child: self.child.clone()?,
-            stats: self.stats.clone()?,
-            rule: self.rule.clone()?,
-        })
+        let rule = self.rule.clone()?;
+        let (child, stats) = self.child.clone_with(&self.stats)?;
+        Ok(ZonedStrategy { child, stats, rule })
     }
 }

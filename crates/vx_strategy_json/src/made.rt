@@ -98,8 +98,14 @@ fn with_columns(
 ) -> Result<ListLayoutStrategy, StrategyError>
     ensures { Gives list_way result (Some (listed (strategy_data elements.value) (strategy_data offsets.value) default_flat default_flat)) }
 {
-    let list = ListLayoutStrategy::default(alloc)?;
-    let list = list.with_elements(alloc, Box::into_inner(elements))?;
+    let Ok(list) = ListLayoutStrategy::default(alloc) else {
+        drop((elements, offsets));
+        return Err(StrategyError::OutOfMemory);
+    };
+    let Ok(list) = list.with_elements(alloc, Box::into_inner(elements)) else {
+        drop(offsets);
+        return Err(StrategyError::OutOfMemory);
+    };
     Ok(list.with_offsets(alloc, Box::into_inner(offsets))?)
 }
 
@@ -112,8 +118,14 @@ pub(crate) fn listed(
 ) -> Result<Strategy, StrategyError>
     ensures { Gives strategy_data result (Some (listed (strategy_data elements.value) (strategy_data offsets.value) (strategy_data validity.value) (strategy_data fallback.value))) }
 {
-    let list = with_columns(alloc, elements, offsets)?;
-    let list = list.with_validity(alloc, Box::into_inner(validity))?;
+    let Ok(list) = with_columns(alloc, elements, offsets) else {
+        drop((validity, fallback));
+        return Err(StrategyError::OutOfMemory);
+    };
+    let Ok(list) = list.with_validity(alloc, Box::into_inner(validity)) else {
+        drop(fallback);
+        return Err(StrategyError::OutOfMemory);
+    };
     Ok(
         list.with_fallback(alloc, Box::into_inner(fallback))?
             .into_strategy(),
@@ -129,7 +141,10 @@ pub(crate) fn with_fields(
     ensures { Gives strategy_data result (Some (with_fields (strategy_data validity.value) (strategy_data default.value) (map named_way fields.items))) }
 {
     let validity = Box::into_inner(validity);
-    let strategy = StructStrategy::new(alloc, validity, Box::into_inner(default))?;
+    let Ok(strategy) = StructStrategy::new(alloc, validity, Box::into_inner(default)) else {
+        drop(fields);
+        return Err(StrategyError::OutOfMemory);
+    };
     Ok(strategy.with_field_writers(alloc, fields)?.into_strategy())
 }
 
@@ -144,7 +159,10 @@ fn with_paths(
 {
     let validity = Box::into_inner(validity);
     let leaf = Box::into_inner(leaf);
-    let table = TableStrategy::new(alloc, validity, leaf)?;
+    let Ok(table) = TableStrategy::new(alloc, validity, leaf) else {
+        drop(overrides);
+        return Err(StrategyError::OutOfMemory);
+    };
     Ok(table.with_field_writers(alloc, overrides)?)
 }
 
@@ -175,6 +193,11 @@ pub(crate) fn with_overrides(
 ) -> Result<Strategy, StrategyError>
     ensures { Gives strategy_data result (with_overrides (strategy_data validity.value) (strategy_data leaf.value) (map path_way overrides.items) (list_wraps lists)) }
 {
-    let table = with_paths(alloc, validity, leaf, overrides)?;
-    with_lists(alloc, table, lists)
+    match with_paths(alloc, validity, leaf, overrides) {
+        Ok(table) => with_lists(alloc, table, lists),
+        Err(error) => {
+            drop(lists);
+            Err(error)
+        }
+    }
 }

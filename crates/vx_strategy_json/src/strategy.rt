@@ -122,8 +122,13 @@ fn both_at(
     ensures { Gives (λ p. (strategy_data p.0.value, strategy_data p.1.value)) result (both_in strategy_of first.now second.now (view value.now)) }
 {
     let one = strategy_at(alloc, value, first)?;
-    let other = strategy_at(alloc, value, second)?;
-    Ok((one, other))
+    match strategy_at(alloc, value, second) {
+        Ok(other) => Ok((one, other)),
+        Err(error) => {
+            drop(one);
+            Err(error)
+        }
+    }
 }
 
 #[cycle(strategy)]
@@ -148,8 +153,13 @@ fn read_buffered(alloc: Global, value: &Value) -> Result<Strategy, StrategyError
         return Err(StrategyError::Wrong);
     }
     let child = strategy_at(alloc, value, "child")?;
-    let size = u64_at(value, "size")?;
-    in_bytes(alloc, child, size)
+    match u64_at(value, "size") {
+        Ok(size) => in_bytes(alloc, child, size),
+        Err(error) => {
+            drop(child);
+            Err(StrategyError::from(error))
+        }
+    }
 }
 
 #[cycle(strategy)]
@@ -161,9 +171,17 @@ fn read_compress(alloc: Global, value: &Value) -> Result<Strategy, StrategyError
         return Err(StrategyError::Wrong);
     }
     let child = strategy_at(alloc, value, "child")?;
-    let which = u32_at(value, "which")?;
-    let concurrency = u64_at(value, "concurrency")?;
-    in_images(alloc, child, which, concurrency)
+    match (u32_at(value, "which"), u64_at(value, "concurrency")) {
+        (Ok(which), Ok(concurrency)) => in_images(alloc, child, which, concurrency),
+        (Err(error), _) => {
+            drop(child);
+            Err(StrategyError::from(error))
+        }
+        (Ok(_), Err(error)) => {
+            drop(child);
+            Err(StrategyError::from(error))
+        }
+    }
 }
 
 #[cycle(strategy)]
@@ -189,9 +207,14 @@ fn read_dictionary(alloc: Global, value: &Value) -> Result<Strategy, StrategyErr
     }
     let (constraints, probe) = read_dict(value)?;
     let (codes, values) = both_at(alloc, value, "codes", "values")?;
-    let fallback = strategy_at(alloc, value, "fallback")?;
     let options = DictLayoutOptions { constraints };
-    with_codes(alloc, options, probe, codes, values, fallback)
+    match strategy_at(alloc, value, "fallback") {
+        Ok(fallback) => with_codes(alloc, options, probe, codes, values, fallback),
+        Err(error) => {
+            drop((codes, values));
+            Err(error)
+        }
+    }
 }
 
 #[cycle(strategy)]
@@ -203,8 +226,13 @@ fn read_list(alloc: Global, value: &Value) -> Result<Strategy, StrategyError>
         return Err(StrategyError::Wrong);
     }
     let (elements, offsets) = both_at(alloc, value, "elements", "offsets")?;
-    let (validity, fallback) = both_at(alloc, value, "validity", "fallback")?;
-    listed(alloc, elements, offsets, validity, fallback)
+    match both_at(alloc, value, "validity", "fallback") {
+        Ok((validity, fallback)) => listed(alloc, elements, offsets, validity, fallback),
+        Err(error) => {
+            drop((elements, offsets));
+            Err(error)
+        }
+    }
 }
 
 #[cycle(strategy)]
@@ -216,8 +244,13 @@ fn read_struct(alloc: Global, value: &Value) -> Result<Strategy, StrategyError>
         return Err(StrategyError::Wrong);
     }
     let (validity, default) = both_at(alloc, value, "validity", "default")?;
-    let fields = fields_at(alloc, value)?;
-    with_fields(alloc, validity, default, fields)
+    match fields_at(alloc, value) {
+        Ok(fields) => with_fields(alloc, validity, default, fields),
+        Err(error) => {
+            drop((validity, default));
+            Err(error)
+        }
+    }
 }
 
 #[cycle(strategy)]
@@ -276,9 +309,19 @@ fn read_table(alloc: Global, value: &Value) -> Result<Strategy, StrategyError>
         return Err(StrategyError::Wrong);
     }
     let (validity, leaf) = both_at(alloc, value, "validity", "leaf")?;
-    let overrides = overrides_at(alloc, value)?;
-    let lists = lists_at(alloc, value)?;
-    with_overrides(alloc, validity, leaf, overrides, lists)
+    match overrides_at(alloc, value) {
+        Ok(overrides) => match lists_at(alloc, value) {
+            Ok(lists) => with_overrides(alloc, validity, leaf, overrides, lists),
+            Err(error) => {
+                drop((validity, leaf, overrides));
+                Err(error)
+            }
+        },
+        Err(error) => {
+            drop((validity, leaf));
+            Err(error)
+        }
+    }
 }
 
 #[cycle(strategy)]

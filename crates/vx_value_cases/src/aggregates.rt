@@ -1,6 +1,6 @@
 //! Aggregates by their names.
 
-use serde_json::Value;
+use crate::given::value;
 use std::alloc::{AllocError, Global};
 use vx_aggregate::{AggregateFn, SpecError, default_zoned_aggregate_fns};
 use vx_model::DType;
@@ -16,7 +16,7 @@ fn again(
 }
 
 fn read(alloc: Global, given: &str) -> anyhow::Result<AggregateFn> {
-    let value = Value::from_str(alloc, given)?;
+    let value = value(alloc, given)?;
     Ok(read_aggregate(&value)?)
 }
 

@@ -12,8 +12,9 @@ use vx_model::DType;
 
 /// Of the type, without rows.
 fn no_rows(alloc: Global, dtype: &DType) -> Result<Layout, LayoutError> {
+    let dtype = dtype.clone()?;
     let children = layout_children(Vec::new(alloc));
-    Ok(ChunkedLayout::new(0, dtype.clone()?, children)?.into_layout())
+    Ok(ChunkedLayout::new(0, dtype, children)?.into_layout())
 }
 
 fn columns(alloc: Global, dtype: &DType) -> Result<Vec<Layout>, LayoutError> {
@@ -54,8 +55,11 @@ fn listed(alloc: Global, matches: Vec<(FieldMask, u64)>) -> Result<String, Alloc
     Ok(text)
 }
 
-fn missing(alloc: Global, name: &str) -> Result<String, AllocError> {
-    format!(in alloc; "FieldNotFound({name})")
+fn refusal(alloc: Global, error: Box<LayoutError>) -> Result<String, AllocError> {
+    match &*error {
+        LayoutError::FieldNotFound(name) => format!(in alloc; "FieldNotFound({})", name.as_str()),
+        error => format!(in alloc; "{error}"),
+    }
 }
 
 fn matched<L: LayoutFields>(
@@ -65,8 +69,7 @@ fn matched<L: LayoutFields>(
 ) -> Result<String, AllocError> {
     match layout.matching_fields(alloc, masks) {
         Ok(matches) => listed(alloc, matches),
-        Err(LayoutError::FieldNotFound(name)) => missing(alloc, name.as_str()),
-        Err(error) => format!(in alloc; "{error}"),
+        Err(error) => refusal(alloc, boxed(alloc, error)?),
     }
 }
 

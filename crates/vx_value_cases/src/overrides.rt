@@ -20,21 +20,31 @@ fn path(alloc: Global, name: &str) -> Result<FieldPath, AllocError> {
     FieldPath::from_name(alloc, Text::from_str(alloc, name)?)?.clone()
 }
 
-/// The table with a writer of the path.
-fn with_writer(
+/// The table with writers of both paths.
+fn with_writers(
     alloc: Global,
-    table: TableStrategy,
-    name: &str,
+    standing: FieldPath,
+    new: FieldPath,
 ) -> Result<TableStrategy, BuildError> {
-    let path = path(alloc, name)?;
-    table.with_field_writer(alloc, path, flat())
+    table(alloc)?
+        .with_field_writer(alloc, standing, flat())?
+        .with_field_writer(alloc, new, flat())
 }
 
 pub(crate) fn overridden(alloc: Global, given: &str) -> anyhow::Result<String> {
     let (standing, new) = parts(given)?;
-    let table = with_writer(alloc, table(alloc)?, standing)?;
-    match with_writer(alloc, table, new) {
-        Ok(_) => Ok(String::from_str(alloc, "Ok")?),
+    let standing = path(alloc, standing)?;
+    let new = path(alloc, new)?;
+    told(alloc, with_writers(alloc, standing, new))
+}
+
+/// Whether there is a table, or why not.
+fn told(alloc: Global, table: Result<TableStrategy, BuildError>) -> anyhow::Result<String> {
+    match table {
+        Ok(table) => {
+            drop(table);
+            Ok(String::from_str(alloc, "Ok")?)
+        }
         Err(BuildError::OverlappingPath(standing, new)) => overlap(alloc, &standing, &new),
         Err(error) => Ok(format!(in alloc; "{error:?}")?),
     }

@@ -129,9 +129,9 @@ fn told_of(alloc: Global, word: &str, of: &Strategy, given: &str) -> anyhow::Res
 }
 
 /// The strategy that the word asks about.
-fn asked(alloc: Global, word: &str, text: &str) -> anyhow::Result<Strategy> {
+fn asked(alloc: Global, word: &str, text: &str) -> anyhow::Result<Box<Strategy>> {
     match word {
-        "field" => Ok(by_name(alloc, text)?),
+        "field" => Ok(boxed(alloc, by_name(alloc, text)?)?),
         _ => strategy(alloc, text),
     }
 }
@@ -139,6 +139,6 @@ fn asked(alloc: Global, word: &str, text: &str) -> anyhow::Result<Strategy> {
 /// Of the words `copy`, `field` and `dispatch`.
 pub(crate) fn told(alloc: Global, word: &str, given: &str) -> anyhow::Result<String> {
     let (text, rest) = given.split_once(" / ").unwrap_or((given, given));
-    let strategy = boxed(alloc, asked(alloc, word, text)?)?;
+    let strategy = asked(alloc, word, text)?;
     told_of(alloc, word, &strategy, rest)
 }

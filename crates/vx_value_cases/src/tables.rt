@@ -1,15 +1,15 @@
 //! The tables that aggregates and statistics fill.
 
+use crate::given::value;
 use anyhow::{Context, bail};
-use serde_json::Value;
 use std::alloc::{AllocError, Global};
 use vx_aggregate::{AggregateFn, Stat, aggregate_stats_table_dtype, legacy_stats_table_dtype};
-use vx_case_lines::cut;
+use vx_case_lines::{boxed, cut};
 use vx_model::DType;
 use vx_strategy_json::read_aggregate;
 
 fn aggregates(alloc: Global, json: &str) -> anyhow::Result<Vec<AggregateFn>> {
-    let value = Value::from_str(alloc, json)?;
+    let value = value(alloc, json)?;
     let mut aggregates = Vec::new(alloc);
     for item in value.as_array().context("no list")? {
         aggregates.push(read_aggregate(item)?)?;
@@ -62,7 +62,7 @@ fn table_by(alloc: Global, word: &str, of: &DType, by: &str) -> anyhow::Result<D
 
 /// Of the words `table` and `legacy`.
 pub(crate) fn table(alloc: Global, word: &str, of: &DType, by: &str) -> anyhow::Result<String> {
-    let table = table_by(alloc, word, of, by)?;
+    let table = boxed(alloc, table_by(alloc, word, of, by)?)?;
     Ok(fields_of(alloc, &table)?)
 }
 

@@ -11,10 +11,13 @@ use Rattle.vx_read.proofs.DictSteps.{before}
 use Rattle.vx_read.proofs.reading.+reading.Given as goal
 
 abbrev pub decreases-rows_of : goal.decreases-rows_of
-decreases-rows_of l = 2 * depth (layout_data l.layout.now) + 1
+decreases-rows_of l = 3 * depth (layout_data l.layout.now) + 2
 
 abbrev pub decreases-parts_of : goal.decreases-parts_of
-decreases-parts_of l = 2 * depth (layout_data l.layout.now)
+decreases-parts_of l = 3 * depth (layout_data l.layout.now) + 1
+
+abbrev pub decreases-part_of : goal.decreases-part_of
+decreases-part_of l = 3 * depth (layout_data l.layout.now)
 
 abbrev pub invariant-parts_of-loop-i : goal.invariant-parts_of-loop-i
 invariant-parts_of-loop-i l = record {

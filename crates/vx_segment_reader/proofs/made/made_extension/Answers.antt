@@ -1,4 +1,4 @@
 use Rattle.vx_segment_reader.proofs.made.made_extension.Goals as goal
 
 pub extension-requires : goal.extension-requires
-extension-requires c = rw c.in_ok-clone.ensures.cases c.requires
+extension-requires c = rw c.in-Ok.ensures.cases c.requires

@@ -10,10 +10,10 @@ use Rattle.vx_segment_reader.proofs.pieces.read_dict.Goals as goal
 pub made_dict-requires : goal.made_dict-requires
 made_dict-requires c =
     let codes = simple_typed (frame c.args.frame.now) _ _ _ c.in_ok-codes.ensures in
-    let values = simple_typed (frame c.args.frame.now) (ty c.args.dtype.now) _ _ c.in_ok-values.ensures in
+    let values = simple_typed (frame c.args.frame.now) (ty c.args.dtype.now) _ _ c.in-Ok.ensures in
     let n = head c.args.node.now in
     let shape = and_parts (is_dict_type (ty c.args.dtype.now)) ((length n.lengths == 0) && (n.children == 2)) (sym c.is_dict.ensures ∙ c.if-not-is_dict.false) in
-    let kind : is_dict_type (piece_type c.in_ok-values.values) ≡ true = rw values.typed shape.0 in
+    let kind : is_dict_type (piece_type c.in-Ok.values) ≡ true = rw values.typed shape.0 in
     record {
       codes = codes.simple;
       values = values.simple;

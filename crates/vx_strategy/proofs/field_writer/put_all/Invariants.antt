@@ -2,7 +2,7 @@ use Rattle.std.proofs.Common.{◌≡◌, map, length}
 use Rattle.std.specs.Vec.Iter.{into_iter_items, into_iter_len}
 use Rattle.vx_strategy.specs.FieldWays.{field_ways}
 use Rattle.vx_strategy.specs.PairWays.{named_way, with_writers}
-use Rattle.vx_strategy.proofs.structs.StructStrategy.with_field_writers.Given as goal
+use Rattle.vx_strategy.proofs.field_writer.put_all.Given as goal
 
 abbrev pub invariant-loop-name : goal.invariant-loop-name
 invariant-loop-name l = record {

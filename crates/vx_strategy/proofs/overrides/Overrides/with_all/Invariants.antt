@@ -4,7 +4,7 @@ use Rattle.vx_strategy.specs.Overridden.{all_appended, AllFit}
 use Rattle.vx_strategy.specs.Causes.{OverridesRefused}
 use Rattle.vx_strategy.specs.PairWays.{path_way}
 use Rattle.vx_strategy.specs.declared.error.BuildError.{BuildError}
-use Rattle.vx_strategy.proofs.table.TableStrategy.with_field_writers.Given as goal
+use Rattle.vx_strategy.proofs.overrides.Overrides.with_all.Given as goal
 
 abbrev pub invariant-loop-path : goal.invariant-loop-path
 invariant-loop-path l = record {
