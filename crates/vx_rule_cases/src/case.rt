@@ -1,11 +1,11 @@
 //! A case and its answer.
 
 use crate::given::{Stream, batches_in, dtype_in};
-use crate::{rules, table, tallies};
+use crate::{images, rules, table, tallies, zones};
 use anyhow::Context;
 use serde_json::Value;
 use std::alloc::Global;
-use vx_case_lines::{boxed, cut, is_case};
+use vx_case_lines::{cut, is_case};
 use vx_model::DType;
 
 /// The lines of the answer; none where the line is no case.
@@ -24,25 +24,42 @@ fn answer_to(alloc: Global, name: &str, rest: &str) -> anyhow::Result<String> {
         return tallies::told(alloc, name, given);
     }
     let object = Value::from_str(alloc, object)?;
-    let dtype = boxed(alloc, dtype_in(alloc, &object)?)?;
-    of_batches(alloc, name, word, given, &dtype, batches_in(&object)?)
+    let told = of_object(alloc, name, word, given, &object);
+    drop(object);
+    told
 }
 
-fn of_batches(
+fn of_object(
     alloc: Global,
     name: &str,
     word: &str,
     given: &str,
+    object: &Value,
+) -> anyhow::Result<String> {
+    let dtype = dtype_in(alloc, object)?;
+    let told = of_type(alloc, name, word, given, object, &dtype);
+    drop(dtype);
+    told
+}
+
+fn of_type(
+    alloc: Global,
+    name: &str,
+    word: &str,
+    given: &str,
+    object: &Value,
     dtype: &DType,
-    batches: &[Value],
 ) -> anyhow::Result<String> {
     let stream = Stream {
         name,
         dtype,
-        batches,
+        batches: batches_in(object)?,
     };
     match word {
+        "compress" => images::told(alloc, given, stream),
         "table" => table::told(alloc, stream),
+        "zones" => zones::told(alloc, given, object, stream),
+        "guard" => zones::guarded(alloc, given, object, stream),
         _ => rules::told(alloc, word, given, stream),
     }
 }

@@ -10,11 +10,11 @@ use crate::lines::lines;
 use anyhow::{Error, bail};
 use std::alloc::{AllocError, Global};
 use vx_case_lines::cut;
-use vx_chunk_cells::is_dict_type;
-use vx_regroup::{Buffered, Collect, Regroup, Repartition};
-use vx_runs::RunCutter;
-use vx_split::{ColumnSplit, ListSplit, SplitError};
-use vx_strategy_options::{DictLayoutConstraints, RepartitionWriterOptions};
+use vx_dict_encoder::DictEncoder;
+use vx_nodes::{
+    Buffered, Collect, ColumnSplit, DictLayoutConstraints, ListSplit, NodeError, Regroup,
+    Repartition, RepartitionWriterOptions, RunCutter, dict_layout_supported,
+};
 
 pub(crate) fn told(
     alloc: Global,
@@ -28,13 +28,13 @@ pub(crate) fn told(
         "joined" => joined(alloc, stream),
         "fields" => fields(alloc, stream),
         "lists" => lists(alloc, stream),
-        "runs" => runs(alloc, given, stream),
+        "runs" | "encode" => dictionaries(alloc, word, given, stream),
         _ => bail!("no word {word}"),
     }
 }
 
 /// The text, where both calls give it.
-fn agreed(one: String, other: String) -> anyhow::Result<String> {
+pub(crate) fn agreed(one: String, other: String) -> anyhow::Result<String> {
     if one.as_str() != other.as_str() {
         return Err(Error::msg("the two calls differ"));
     }
@@ -69,15 +69,15 @@ fn regrouped_blocks(
 ) -> Result<String, AllocError>
     requires { 0 < len }
 {
-    let mut rule = Regroup::repartition(alloc, stream.dtype.clone()?, len, minimum);
-    lines(alloc, &mut rule, stream)
+    let rule = Regroup::repartition(alloc, stream.dtype.clone()?, len, minimum);
+    lines(alloc, rule, stream)
 }
 
 fn own_blocks(alloc: Global, len: u64, minimum: u64, stream: Stream) -> Result<String, AllocError>
     requires { 0 < len }
 {
-    let mut rule = Repartition::new(alloc, stream.dtype.clone()?, len, minimum);
-    lines(alloc, &mut rule, stream)
+    let rule = Repartition::new(alloc, stream.dtype.clone()?, len, minimum);
+    lines(alloc, rule, stream)
 }
 
 fn held(alloc: Global, size: u64, stream: Stream) -> anyhow::Result<String> {
@@ -86,13 +86,13 @@ fn held(alloc: Global, size: u64, stream: Stream) -> anyhow::Result<String> {
 }
 
 fn regrouped_held(alloc: Global, size: u64, stream: Stream) -> Result<String, AllocError> {
-    let mut rule = Regroup::buffered(alloc, size);
-    lines(alloc, &mut rule, stream)
+    let rule = Regroup::buffered(alloc, size);
+    lines(alloc, rule, stream)
 }
 
 fn own_held(alloc: Global, size: u64, stream: Stream) -> Result<String, AllocError> {
-    let mut rule = Buffered::new(alloc, size);
-    lines(alloc, &mut rule, stream)
+    let rule = Buffered::new(alloc, size);
+    lines(alloc, rule, stream)
 }
 
 fn joined(alloc: Global, stream: Stream) -> anyhow::Result<String> {
@@ -101,26 +101,26 @@ fn joined(alloc: Global, stream: Stream) -> anyhow::Result<String> {
 }
 
 fn regrouped_all(alloc: Global, stream: Stream) -> Result<String, AllocError> {
-    let mut rule = Regroup::collect(alloc, stream.dtype.clone()?);
-    lines(alloc, &mut rule, stream)
+    let rule = Regroup::collect(alloc, stream.dtype.clone()?);
+    lines(alloc, rule, stream)
 }
 
 fn own_all(alloc: Global, stream: Stream) -> Result<String, AllocError> {
-    let mut rule = Collect::new(alloc, stream.dtype.clone()?);
-    lines(alloc, &mut rule, stream)
+    let rule = Collect::new(alloc, stream.dtype.clone()?);
+    lines(alloc, rule, stream)
 }
 
 fn fields(alloc: Global, stream: Stream) -> anyhow::Result<String> {
     match ColumnSplit::new(alloc, stream.dtype.clone()?) {
-        Ok(mut rule) => Ok(lines(alloc, &mut rule, stream)?),
-        Err(refused) => Ok(refusal(alloc, stream.name, &refused)?),
+        Ok(rule) => Ok(lines(alloc, rule, stream)?),
+        Err(refused) => Ok(refusal(alloc, stream.name, &NodeError::from(refused))?),
     }
 }
 
 /// Why there is no splitter, with the name that is there twice.
-fn refusal(alloc: Global, name: &str, refused: &SplitError) -> Result<String, AllocError> {
+fn refusal(alloc: Global, name: &str, refused: &NodeError) -> Result<String, AllocError> {
     match refused {
-        SplitError::DuplicateField(field) => {
+        NodeError::DuplicateField(field) => {
             format!(in alloc; "{name}: {refused}, {}\n", field.as_str())
         }
         _ => format!(in alloc; "{name}: {refused}\n"),
@@ -137,29 +137,41 @@ fn lists(alloc: Global, stream: Stream) -> anyhow::Result<String> {
 fn list_columns(alloc: Global, stream: Stream) -> Result<String, AllocError>
     requires { IsTrue (is_list (ty stream.dtype.now)) }
 {
-    let mut rule = ListSplit::new(stream.dtype.clone()?);
-    lines(alloc, &mut rule, stream)
+    let rule = ListSplit::new(stream.dtype.clone()?);
+    lines(alloc, rule, stream)
 }
 
-fn runs(alloc: Global, given: &str, stream: Stream) -> anyhow::Result<String> {
+fn dictionaries(alloc: Global, word: &str, given: &str, stream: Stream) -> anyhow::Result<String> {
     let (bytes, len) = cut(given);
     let limits = DictLayoutConstraints {
         max_bytes: bytes.parse::<u64>()?,
         max_len: len.parse::<u16>()?,
     };
-    if !is_dict_type(stream.dtype) {
+    if !dict_layout_supported(stream.dtype) {
         bail!("no type of a dictionary");
     }
-    Ok(run_outputs(alloc, limits, stream)?)
+    if word == "runs" {
+        return Ok(runs(alloc, limits, stream)?);
+    }
+    Ok(fronts(alloc, limits, stream)?)
 }
 
-fn run_outputs(
+fn runs(alloc: Global, limits: DictLayoutConstraints, stream: Stream) -> Result<String, AllocError>
+    requires { IsTrue (is_dict_type (ty stream.dtype.now)) }
+{
+    let rule = RunCutter::new(alloc, limits, stream.dtype.clone()?);
+    lines(alloc, rule, stream)
+}
+
+fn fronts(
     alloc: Global,
     limits: DictLayoutConstraints,
     stream: Stream,
 ) -> Result<String, AllocError>
     requires { IsTrue (is_dict_type (ty stream.dtype.now)) }
 {
-    let mut rule = RunCutter::new(alloc, limits, stream.dtype.clone()?);
-    lines(alloc, &mut rule, stream)
+    let rule = DictEncoder::new(alloc, limits, stream.dtype.clone()?);
+    let codes = rule.codes_ptype();
+    let given = lines(alloc, rule, stream)?;
+    format!(in alloc; "{}: codes of {codes:?}\n{given}", stream.name)
 }

@@ -4,9 +4,8 @@ ghost use Rattle.std.specs.Prelude.{◌≤◌, length};
 ghost use Rattle.vx_model.specs.ChunkData.{cells};
 
 use std::alloc::{AllocError, Global};
-use vx_case_lines::boxed;
 use vx_chunk::Chunk;
-use vx_model::Cell;
+use vx_model::{Cell, Value};
 
 /// The greatest number of rows that are shown one by one.
 const MOST: u64 = 20;
@@ -33,6 +32,27 @@ pub(crate) fn push_cells(out: &mut String, cells: &[Cell]) -> Result<(), AllocEr
     Ok(())
 }
 
+fn push_value(out: &mut String, value: &Value) -> Result<(), AllocError> {
+    match value {
+        Value::Null => out.push_str("null"),
+        Value::Bool(flag) => write!(out, "{flag}"),
+        Value::Int(n) => write!(out, "{n}"),
+        Value::Utf8(text) => write!(out, "{:?}", text.as_str()),
+        Value::Binary(bytes) => write!(out, "{:?}", bytes.as_slice()),
+        Value::List(_) | Value::Struct(_) => write!(out, "{value:?}"),
+    }
+}
+
+pub(crate) fn push_values(out: &mut String, values: &[Value]) -> Result<(), AllocError> {
+    for i in 0..values.len() {
+        if i > 0 {
+            out.push_str(", ")?;
+        }
+        push_value(out, &values[i])?;
+    }
+    Ok(())
+}
+
 /// The encoding, the type and the rows; of many the first, the last and their number.
 pub(crate) fn push_chunk(alloc: Global, out: &mut String, chunk: &Chunk) -> anyhow::Result<()> {
     let dtype = chunk.dtype();
@@ -50,7 +70,9 @@ pub(crate) fn push_chunk(alloc: Global, out: &mut String, chunk: &Chunk) -> anyh
 
 fn push_rows(alloc: Global, out: &mut String, chunk: &Chunk) -> anyhow::Result<()> {
     let cells = chunk.cells(alloc)?;
-    Ok(push_cells(out, &cells)?)
+    let pushed = push_cells(out, &cells);
+    drop(cells);
+    Ok(pushed?)
 }
 
 fn push_slice(
@@ -63,6 +85,8 @@ fn push_slice(
     requires order { from ≤ to }
     requires within { to ≤ length (cells chunk.now) }
 {
-    let slice = boxed(alloc, chunk.slice(alloc, from, to)?)?;
-    push_rows(alloc, out, &slice)
+    let slice = chunk.slice(alloc, from, to)?;
+    let pushed = push_rows(alloc, out, &slice);
+    drop(slice);
+    pushed
 }

@@ -1,11 +1,10 @@
 //! Tables of cells.
 
 use crate::given::Stream;
+use crate::rules::agreed;
 use crate::shown::push_cells;
-use anyhow::Error;
 use serde_json::Value;
 use std::alloc::{AllocError, Global};
-use vx_case_lines::boxed;
 use vx_chunk_json::read_batch;
 use vx_model::{Cell, DType};
 use vx_slots::CellTable;
@@ -13,13 +12,26 @@ use vx_slots::CellTable;
 /// The place of each cell, and the cells that are kept.
 pub(crate) fn told(alloc: Global, stream: Stream) -> anyhow::Result<String> {
     let mut out = format!(in alloc; "{}: places", stream.name)?;
-    let mut table = boxed(alloc, CellTable::new(alloc))?;
-    for batch in stream.batches {
-        push_places(&mut out, &mut table, cells_of(alloc, stream.dtype, batch)?)?;
+    let mut table = CellTable::new(alloc);
+    match push_batches(alloc, &mut out, &mut table, stream) {
+        Ok(()) => with_cells(alloc, out, table),
+        Err(error) => {
+            drop(table);
+            Err(error)
+        }
     }
-    write!(out, ", {} cells [", table.len())?;
-    out.push_str(&cells_text(alloc, Box::into_inner(table))?)?;
-    Ok(out)
+}
+
+fn push_batches(
+    alloc: Global,
+    out: &mut String,
+    table: &mut CellTable,
+    stream: Stream,
+) -> anyhow::Result<()> {
+    for batch in stream.batches {
+        push_places(out, table, cells_of(alloc, stream.dtype, batch)?)?;
+    }
+    Ok(())
 }
 
 fn cells_of(alloc: Global, dtype: &DType, batch: &Value) -> anyhow::Result<Vec<Cell>> {
@@ -32,35 +44,51 @@ fn push_places(
     cells: Vec<Cell>,
 ) -> Result<(), AllocError> {
     for cell in cells {
-        let place = place_of(table, cell)?;
-        write!(out, " {place}")?;
+        push_place(out, table, cell)?;
     }
     Ok(())
 }
 
+fn push_place(out: &mut String, table: &mut CellTable, cell: Cell) -> Result<(), AllocError> {
+    let place = place_of(table, cell)?;
+    write!(out, " {place}")
+}
+
 /// The place of the cell, which is pushed where it is new.
 fn place_of(table: &mut CellTable, cell: Cell) -> Result<u64, AllocError> {
-    if let Some(place) = table.find(&cell) {
-        return Ok(place);
+    match table.find(&cell) {
+        Some(place) => {
+            drop(cell);
+            Ok(place)
+        }
+        None => push_new(table, cell),
     }
+}
+
+fn push_new(table: &mut CellTable, cell: Cell) -> Result<u64, AllocError> {
     let place = table.len();
     table.push(cell)?;
     Ok(place)
 }
 
-/// The cells, where both calls give them.
-fn cells_text(alloc: Global, table: CellTable) -> anyhow::Result<String> {
-    let mut kept = String::new(alloc);
-    push_cells(&mut kept, table.as_slice())?;
-    with_own(alloc, kept, &table.into_cells())
+fn with_cells(alloc: Global, mut out: String, table: CellTable) -> anyhow::Result<String> {
+    let count = table.len();
+    let cells = cells_text(alloc, table)?;
+    write!(out, ", {count} cells [{cells}]\n")?;
+    Ok(out)
 }
 
-fn with_own(alloc: Global, kept: String, cells: &[Cell]) -> anyhow::Result<String> {
-    let mut own = String::new(alloc);
-    push_cells(&mut own, cells)?;
-    if own.as_str() != kept.as_str() {
-        return Err(Error::msg("the two calls differ"));
-    }
-    own.push_str("]\n")?;
-    Ok(own)
+/// The cells, where both calls give them.
+fn cells_text(alloc: Global, table: CellTable) -> anyhow::Result<String> {
+    let kept = text_of(alloc, table.as_slice());
+    let cells = table.into_cells();
+    let own = text_of(alloc, &cells);
+    drop(cells);
+    agreed(kept?, own?)
+}
+
+fn text_of(alloc: Global, cells: &[Cell]) -> Result<String, AllocError> {
+    let mut text = String::new(alloc);
+    push_cells(&mut text, cells)?;
+    Ok(text)
 }

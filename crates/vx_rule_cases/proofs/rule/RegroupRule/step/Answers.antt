@@ -12,4 +12,4 @@ takes_after (Buffered h) c d k = k
 takes_after (Collect h) c d k = k
 
 pub returns : goal.returns
-returns c = λ l d e. subst (λ (r : Regroup). Takes r d) (sym (c.in_ok-react.ensures.holds l)) (takes_after c.args.self.now c.args.chunk d (c.requires.at d e))
+returns c = λ l d e. subst (λ (r : Regroup). Takes r d) (sym (c.in_ok-outputs.ensures.next l)) (takes_after c.args.self.now c.args.chunk d (c.requires.at d e))
