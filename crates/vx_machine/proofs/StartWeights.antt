@@ -3,7 +3,8 @@ use Rattle.std.proofs.Common.{◌≡◌, ℕ, ◌+◌, ◌≤◌, ◌&&◌, byte
 use Rattle.std.proofs.lemmas.Bool.{and_parts}
 use Rattle.vx_strategy_spec.specs.StrategyData.{StrategyData, StrategyList, structured, no_ways, way_at}
 use Rattle.vx_strategy_spec.specs.Dispatch.{override, given_or}
-use Rattle.vx_machine.specs.Built.{is_built, are_built, weight, weights}
+use Rattle.vx_machine_view.specs.Built.{is_built, are_built}
+use Rattle.vx_machine.specs.Weight.{weight, weights}
 
 picked : (b : Bool) (name : List ℕ) (w : StrategyData) (ws : StrategyList) (d : StrategyData) → weight (given_or (override name ws) d) ≤ weight d + weights ws
     → weight (given_or (if b then Some w else override name ws) d) ≤ weight d + (1 + (weight w + weights ws))

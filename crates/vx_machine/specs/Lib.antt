@@ -1,4 +1,4 @@
-pub mod Built
+pub mod Weight
 pub mod Stocks
 pub mod Sizes
 pub mod Ready

@@ -18,7 +18,7 @@ use crate::flat::{append, set_local, take_flat};
 use crate::ids::give_up_pointer;
 use crate::item::{Due, Item, Stored, give_up_item};
 use crate::join::{gather, join, join_columns};
-use crate::kinds::{ColumnsNode, FlatNode};
+use crate::kinds::{ChunkedNode, ColumnsNode, FlatNode};
 use crate::node::{Local, Shape};
 use crate::ready::columns_fit;
 use crate::task::{Head, Task};
@@ -184,8 +184,12 @@ fn end_columns(
     ensures cause { IfErr result MayCome }
 {
     if kids == 0 && columns_fit(&node, 0) {
-        let layout = join_columns(&node, rows, Vec::new(*todo.allocator()))?;
-        return Ok(Local::Made(layout));
+        let layout = join_columns(&node, rows, Vec::new(*todo.allocator()));
+        drop(node);
+        return match layout {
+            Ok(layout) => Ok(Local::Made(layout)),
+            Err(error) => Err(error),
+        };
     }
     todo.push_back_reserved(Due::Close);
     todo.push_back_reserved(Due::Join(Shape::Columns(node, rows)));
@@ -208,14 +212,20 @@ fn ended<O: Order>(
     ensures cause { IfErr result MayCome }
 {
     match local {
-        Local::Empty(node) => end_empty(alloc, &node),
+        Local::Empty(node) => {
+            let after = end_empty(alloc, &node);
+            drop(node);
+            after
+        }
         Local::Full(stored) => {
             todo.push_back_reserved(Due::Append(stored));
             Ok(Local::Over)
         }
         Local::Chunked(node, eof, _) => {
+            let ChunkedNode { dtype, child, .. } = node;
+            drop(child);
             give_up_pointer(order, eof);
-            todo.push_back_reserved(Due::Join(Shape::Chunks(node.dtype)));
+            todo.push_back_reserved(Due::Join(Shape::Chunks(dtype)));
             Ok(Local::Over)
         }
         Local::Columns(node, rows) => end_columns(kids, todo, node, rows),

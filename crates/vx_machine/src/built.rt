@@ -3,7 +3,7 @@
 ghost use Rattle.std.specs.Prelude.{◌≡◌};
 ghost use Rattle.vx_strategy.specs.FieldWays.{field_ways};
 ghost use Rattle.vx_strategy.specs.StrategyView.{strategy_data};
-ghost use Rattle.vx_machine.specs.Built.{is_built, are_built};
+ghost use Rattle.vx_machine_view.specs.Built.{is_built, are_built};
 
 use vx_strategy::{FieldWriter, Strategy};
 

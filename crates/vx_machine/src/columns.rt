@@ -55,10 +55,21 @@ fn split_chunk(
     if !has_type(&chunk, &node.dtype) {
         return Err(WriteError::BatchType(chunk));
     }
-    let rows = add_rows(rows, chunk.len())?;
+    let rows = match add_rows(rows, chunk.len()) {
+        Ok(rows) => rows,
+        Err(error) => {
+            drop(chunk);
+            return Err(error);
+        }
+    };
     let columns = node.split.react(alloc, chunk)?;
-    todo.reserve(columns.len())?;
-    Ok((columns, rows))
+    match todo.reserve(columns.len()) {
+        Ok(()) => Ok((columns, rows)),
+        Err(_) => {
+            drop(columns);
+            Err(WriteError::OutOfMemory)
+        }
+    }
 }
 
 /// The chunk is to be put on the queue of the child whose number is that of the ids before the last one, which it takes.
@@ -89,6 +100,7 @@ fn add_puts(todo: &mut VecDeque<Due>, mut ids: Vec<SequenceId>, mut columns: Vec
         add_put(todo, &mut ids, chunk);
     }
     ids.destroy_empty();
+    drop(columns);
 }
 
 /// Takes a chunk: each of its columns is to be put on the queue of a child, under a child of the chunk's id.
@@ -108,12 +120,17 @@ pub(crate) fn take_columns<O: Order>(
 {
     let Item { id, chunk } = item;
     match split_chunk(alloc, node, *rows, todo, chunk) {
-        Ok((columns, total)) => {
-            let ids = take_children(alloc, order, id, columns.len())?;
-            add_puts(todo, ids, columns);
-            *rows = total;
-            Ok(())
-        }
+        Ok((columns, total)) => match take_children(alloc, order, id, columns.len()) {
+            Ok(ids) => {
+                add_puts(todo, ids, columns);
+                *rows = total;
+                Ok(())
+            }
+            Err(error) => {
+                drop(columns);
+                Err(error.into())
+            }
+        },
         Err(error) => {
             give_up_id(order, id);
             Err(error)

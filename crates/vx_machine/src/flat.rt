@@ -85,7 +85,9 @@ pub(crate) fn take_flat<O: Order>(
     ensures cause { IfErr result MayCome }
 {
     let Item { id, chunk } = item;
-    match first_segment(alloc, ctx, local, &chunk) {
+    let segment = first_segment(alloc, ctx, local, &chunk);
+    drop(chunk);
+    match segment {
         Ok(segment) => {
             set_local(order, local, Local::Full(Stored { id, segment }));
             Ok(())
@@ -129,8 +131,14 @@ fn layout_parts(
     ctx: &LayoutWriterContext,
     dtype: &DType,
 ) -> Result<(DType, ArrayContext), AllocError> {
-    let dtype = dtype.clone()?;
-    Ok((dtype, ctx.array_ctx().clone()?))
+    let encodings = ctx.array_ctx().clone()?;
+    match dtype.clone() {
+        Ok(dtype) => Ok((dtype, encodings)),
+        Err(error) => {
+            drop(encodings);
+            Err(error)
+        }
+    }
 }
 
 /// Appends the segment. All memory is taken before the sink is called.
@@ -149,11 +157,22 @@ pub(crate) fn append<O: Order>(
     let Stored { id, segment } = stored;
     match layout_parts(ctx, &segment.dtype) {
         Ok((dtype, encodings)) => {
-            let number = write(order, id, &segment.bytes)?;
-            let flat = FlatLayout::new(segment.rows, dtype, SegmentId(number), encodings);
-            Ok(Layout::Flat(flat))
+            let written = write(order, id, &segment.bytes);
+            let rows = segment.rows;
+            drop(segment);
+            match written {
+                Ok(number) => {
+                    let flat = FlatLayout::new(rows, dtype, SegmentId(number), encodings);
+                    Ok(Layout::Flat(flat))
+                }
+                Err(error) => {
+                    drop((dtype, encodings));
+                    Err(error)
+                }
+            }
         }
         Err(_) => {
+            drop(segment);
             give_up_id(order, id);
             Err(WriteError::OutOfMemory)
         }

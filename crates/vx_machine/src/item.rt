@@ -48,7 +48,8 @@ pub(crate) fn give_up_item<O: Order>(order: &mut O, item: Item)
     ensures outlet { O.outlet order.new ≡ O.outlet order.old }
     ensures faults { O.faults order.new ≡ O.faults order.old }
 {
-    let Item { id, chunk: _chunk } = item;
+    let Item { id, chunk } = item;
+    drop(chunk);
     give_up_id(order, id);
 }
 
@@ -58,10 +59,8 @@ pub(crate) fn give_up_stored<O: Order>(order: &mut O, stored: Stored)
     ensures outlet { O.outlet order.new ≡ O.outlet order.old }
     ensures faults { O.faults order.new ≡ O.faults order.old }
 {
-    let Stored {
-        id,
-        segment: _segment,
-    } = stored;
+    let Stored { id, segment } = stored;
+    drop(segment);
     give_up_id(order, id);
 }
 
@@ -75,7 +74,7 @@ pub(crate) fn give_up_due<O: Order>(order: &mut O, due: Due)
         Due::Put { child: _, item } => give_up_item(order, item),
         Due::Append(stored) => give_up_stored(order, stored),
         Due::Close => {}
-        Due::Join(_shape) => {}
+        Due::Join(shape) => drop(shape),
     }
 }
 

@@ -25,15 +25,20 @@ pub(crate) fn gather(dtype: &DType, mut layouts: Vec<Layout>) -> Result<Layout, 
 {
     if layouts.len() == 1 {
         if let Some(layout) = layouts.pop() {
+            drop(layouts);
             return Ok(layout);
         }
     }
-    let dtype = dtype.clone()?;
     let children = layout_children(layouts);
     let total = total_rows(&children);
     if total > u128::from(u64::MAX) {
+        drop(children);
         return Err(WriteError::TooLarge(total));
     }
+    let Ok(dtype) = dtype.clone() else {
+        drop(children);
+        return Err(WriteError::OutOfMemory);
+    };
     match ChunkedLayout::new(total as u64, dtype, children) {
         Ok(chunked) => Ok(Layout::Chunked(chunked)),
         // The rows add up.
@@ -50,7 +55,10 @@ pub(crate) fn join_columns(
     requires { IsTrue (columns_fit node.now (vec_len layouts)) }
     ensures { IfErr result MayCome }
 {
-    let dtype = DType::clone(&node.dtype)?;
+    let Ok(dtype) = DType::clone(&node.dtype) else {
+        drop(layouts);
+        return Err(WriteError::OutOfMemory);
+    };
     match StructLayout::new(rows, dtype, layouts) {
         Ok(fields) => Ok(Layout::Struct(fields)),
         // There are as many as columns.
@@ -121,9 +129,22 @@ pub(crate) fn join<O: Order>(
     ensures faults { O.faults order.new ≡ O.faults order.old }
     ensures cause { IfErr result MayCome }
 {
-    let layouts = take_layouts(alloc, order, kids)?;
-    match shape {
-        Shape::Chunks(dtype) => gather(&dtype, layouts),
-        Shape::Columns(node, rows) => join_columns(&node, rows, layouts),
+    match take_layouts(alloc, order, kids) {
+        Ok(layouts) => match shape {
+            Shape::Chunks(dtype) => {
+                let layout = gather(&dtype, layouts);
+                drop(dtype);
+                layout
+            }
+            Shape::Columns(node, rows) => {
+                let layout = join_columns(&node, rows, layouts);
+                drop(node);
+                layout
+            }
+        },
+        Err(error) => {
+            drop(shape);
+            Err(error)
+        }
     }
 }

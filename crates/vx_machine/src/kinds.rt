@@ -4,7 +4,7 @@ ghost use Rattle.std.specs.Prelude.{◌≡◌, IsTrue};
 ghost use Rattle.std.specs.Arc.{arc_value};
 ghost use Rattle.vx_model.specs.Ty.{is_struct};
 ghost use Rattle.vx_model.specs.TyView.{ty};
-ghost use Rattle.vx_machine.specs.Built.{is_built};
+ghost use Rattle.vx_machine_view.specs.Built.{is_built};
 
 use std::sync::Arc;
 use vx_model::DType;

@@ -6,7 +6,7 @@ ghost use Rattle.vx_strategy.specs.StrategyView.{strategy_data};
 ghost use Rattle.vx_machine_ids.specs.Stock.{none, both, end_stock, ok_stock};
 ghost use Rattle.vx_machine_ids.specs.Balance.{Owned, Moved, Exact, IsNone};
 ghost use Rattle.vx_write_answer.specs.Causes.{errs, is_source_fault, is_sink_fault};
-ghost use Rattle.vx_machine.specs.Built.{is_built};
+ghost use Rattle.vx_machine_view.specs.Built.{is_built};
 ghost use Rattle.vx_machine.specs.Causes.{StartMay};
 ghost use Rattle.vx_machine.specs.Pairs.{task_pairs, AllMay};
 ghost use Rattle.vx_machine.specs.Ready.{is_done as is_done_task, counted};

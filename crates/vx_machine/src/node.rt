@@ -44,11 +44,14 @@ pub(crate) fn give_up_local<O: Order>(order: &mut O, local: Local)
     ensures faults { O.faults order.new ≡ O.faults order.old }
 {
     match local {
-        Local::Empty(_node) => {}
+        Local::Empty(node) => drop(node),
         Local::Full(stored) => give_up_stored(order, stored),
-        Local::Chunked(_node, eof, _) => give_up_pointer(order, eof),
-        Local::Columns(_node, _) => {}
+        Local::Chunked(node, eof, _) => {
+            drop(node);
+            give_up_pointer(order, eof);
+        }
+        Local::Columns(node, _) => drop(node),
         Local::Over => {}
-        Local::Made(_layout) => {}
+        Local::Made(layout) => drop(layout),
     }
 }

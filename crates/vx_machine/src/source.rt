@@ -117,7 +117,10 @@ fn read_none<O: Order, B: BatchSource>(
     ensures cause { IfErr result.1 (SourceMay (B.kind source.old)) }
 {
     match next_batch(source) {
-        Ok(Some(_batch)) => (Phase::Reading(pointer), Err(full.into())),
+        Ok(Some(batch)) => {
+            drop(batch);
+            (Phase::Reading(pointer), Err(full.into()))
+        }
         Ok(None) => {
             give_up_pointer(order, pointer);
             (Phase::Closing, Ok(ActionKind::End))

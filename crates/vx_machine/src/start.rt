@@ -6,7 +6,7 @@ ghost use Rattle.vx_strategy.specs.NodeViews.{struct_way};
 ghost use Rattle.vx_strategy.specs.StrategyView.{strategy_data};
 ghost use Rattle.vx_machine_ids.specs.Stock.{none, both, end_stock, ok_stock};
 ghost use Rattle.vx_machine_ids.specs.Balance.{Owned, Moved};
-ghost use Rattle.vx_machine.specs.Built.{is_built};
+ghost use Rattle.vx_machine_view.specs.Built.{is_built};
 ghost use Rattle.vx_machine.specs.Causes.{StartMay};
 ghost use Rattle.vx_machine.specs.Stocks.{local_stock, task_stock, tasks_stock};
 
@@ -51,19 +51,33 @@ fn chunked_node(
     requires { IsTrue (is_built chunked.now.child.item) }
     ensures { IfErr result StartMay }
 {
-    Ok(ChunkedNode {
-        dtype,
-        child: chunked.child().clone()?,
-        marked,
-    })
+    match chunked.child().clone() {
+        Ok(child) => Ok(ChunkedNode {
+            dtype,
+            child,
+            marked,
+        }),
+        Err(_) => {
+            drop(dtype);
+            Err(WriteError::OutOfMemory)
+        }
+    }
 }
 
 fn columns_node(alloc: Global, dtype: Arc<DType>) -> Result<ColumnsNode, WriteError>
     ensures { IfErr result StartMay }
 {
-    let copy = DType::clone(&dtype)?;
-    let split = ColumnSplit::new(alloc, copy)?;
-    Ok(ColumnsNode { dtype, split })
+    let Ok(copy) = DType::clone(&dtype) else {
+        drop(dtype);
+        return Err(WriteError::OutOfMemory);
+    };
+    match ColumnSplit::new(alloc, copy) {
+        Ok(split) => Ok(ColumnsNode { dtype, split }),
+        Err(error) => {
+            drop(dtype);
+            Err(error.into())
+        }
+    }
 }
 
 /// Room for one more child, and its name.
@@ -187,6 +201,7 @@ fn start_columns<O: Order>(
     match started {
         Ok(()) => Ok(waiting(alloc, name, Local::Columns(node, 0), kids)),
         Err(error) => {
+            drop(node);
             refuse_all(kids, order);
             Err(error)
         }
@@ -253,8 +268,7 @@ fn start_validity<O: Order>(
         name,
         eof,
         kids,
-    )?;
-    Ok(())
+    )
 }
 
 /// Starts a field's column, by the writer of its name.
@@ -278,8 +292,7 @@ fn start_field<O: Order>(
 {
     let dtype = Arc::new(alloc, field.dtype.clone()?)?;
     let writer = fields.writer(&field.name);
-    start_column(alloc, order, writer, dtype, marked, name, eof, kids)?;
-    Ok(())
+    start_column(alloc, order, writer, dtype, marked, name, eof, kids)
 }
 
 /// Starts one more child.
@@ -301,7 +314,10 @@ fn start_column<O: Order>(
     ensures faults { O.faults order.new ≡ O.faults order.old }
     ensures cause { IfErr result StartMay }
 {
-    let name = next_name(alloc, name, kids)?;
+    let Ok(name) = next_name(alloc, name, kids) else {
+        drop(dtype);
+        return Err(WriteError::OutOfMemory);
+    };
     let kid = start_under(alloc, order, writer, dtype, marked, name, eof)?;
     kids.push_reserved(kid);
     Ok(())
@@ -325,9 +341,13 @@ pub(crate) fn start_under<O: Order>(
     ensures faults { O.faults order.new ≡ O.faults order.old }
     ensures cause { IfErr result StartMay }
 {
-    let below = split_below(order, eof)?;
-    let kid = start_task(alloc, order, writer.strategy(), dtype, marked, name, below)?;
-    Ok(kid)
+    match split_below(order, eof) {
+        Ok(below) => start_task(alloc, order, writer.strategy(), dtype, marked, name, below),
+        Err(error) => {
+            drop((dtype, name));
+            Err(error)
+        }
+    }
 }
 
 /// As `take_below`, with the error of a start.

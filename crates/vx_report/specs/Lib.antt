@@ -1,3 +1,4 @@
 pub mod RowText
 pub mod ZoneText
+pub mod TraceText
 pub mod Report

@@ -5,6 +5,8 @@ use Rattle.vx_layout_spec.specs.LayoutTree.{LayoutData}
 use Rattle.vx_model.specs.ValueData.{ValueData}
 use Rattle.vx_display.specs.Text.{display_text}
 use Rattle.vx_report.specs.RowText.{row_lines}
+use Rattle.vx_write_answer.specs.declared.step.Step.{Step}
+use Rattle.vx_report.specs.TraceText.{step_lines}
 use Rattle.vx_report.specs.ZoneText.{zone_tables, zone_lines}
 
 -- a segment's number and its bytes as hex text
@@ -16,12 +18,24 @@ abbrev pub segment_lines : ℕ → List (List ℕ) → List ℕ
 segment_lines n [] = []
 segment_lines n (b ∷ bs) = segment_line n b ++ segment_lines (suc n) bs
 
--- the layout's verbose tree, the segments from the first number on, the zone tables with their rows, and the rows; no steps
-abbrev pub report : ℕ → LayoutData ℕ → List (List ℕ) → List (List ValueData) → List ValueData → List ℕ
-report first l segments tables rows =
-    codes "layout\n" ++ (display_text true l ++ (codes "segments\n" ++ (segment_lines first segments ++ (codes "zones\n" ++ (zone_lines 0 (zone_tables l) tables ++ (codes "trace\nrows\n" ++ row_lines rows))))))
+-- the layout's verbose tree, the segments from the first number on, the text of the zone tables, the steps, and the rows
+abbrev pub told_report : ℕ → LayoutData ℕ → List (List ℕ) → List ℕ → List Step → List ValueData → List ℕ
+told_report first l segments zones steps rows =
+    codes "layout\n" ++ (display_text true l ++ (codes "segments\n" ++ (segment_lines first segments ++ (codes "zones\n" ++ (zones ++ (codes "trace\n" ++ (step_lines steps ++ (codes "rows\n" ++ row_lines rows))))))))
 
--- the refusal's name and the segments that were appended
+-- the report of a write that takes no steps, with the rows of its zone tables
+abbrev pub report : ℕ → LayoutData ℕ → List (List ℕ) → List (List ValueData) → List ValueData → List ℕ
+report first l segments tables rows = told_report first l segments (zone_lines 0 (zone_tables l) tables) [] rows
+
+-- the report of a write by tasks; it shows no zone table
+abbrev pub task_report : ℕ → LayoutData ℕ → List (List ℕ) → List Step → List ValueData → List ℕ
+task_report first l segments steps rows = told_report first l segments [] steps rows
+
+-- the refusal's name, the segments that were appended, and the steps before
+abbrev pub task_refusal : List ℕ → ℕ → List (List ℕ) → List Step → List ℕ
+task_refusal name first segments steps =
+    codes "refused " ++ (name ++ (codes "\nsegments\n" ++ (segment_lines first segments ++ (codes "trace\n" ++ step_lines steps))))
+
+-- the same of a write that takes no steps
 abbrev pub refused_report : List ℕ → ℕ → List (List ℕ) → List ℕ
-refused_report name first segments =
-    codes "refused " ++ (name ++ (codes "\nsegments\n" ++ (segment_lines first segments ++ codes "trace\n")))
+refused_report name first segments = task_refusal name first segments []

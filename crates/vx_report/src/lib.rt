@@ -3,5 +3,6 @@
 
 mod report_text;
 mod row_text;
+mod trace_text;
 
-pub use report_text::{refused_report, report};
+pub use report_text::{refused_report, report, task_refusal, task_report};

@@ -7,4 +7,4 @@ mod write;
 
 pub use columns::column_count;
 pub use vx_write_answer::{ActionKind, Step, WriteError};
-pub use write::{Refused, Written, write_stream};
+pub use write::{Refused, Written, is_built, write_stream};

@@ -84,6 +84,7 @@ fn admit(dtype: &DType, batch: Chunk, rows: u64) -> Result<(Chunk, u64), WriteEr
     let total = rows as u128 + batch.len() as u128;
     let too_many = total > 18_446_744_073_709_551_615;
     if too_many {
+        drop(batch);
         return Err(WriteError::TooLarge(total));
     }
     Ok((batch, total as u64))
@@ -116,10 +117,15 @@ fn write_batch<S: SegmentSink>(
     if number > 4_294_967_295 {
         return Err(WriteError::TooLarge(number as u128));
     }
-    let dtype = batch.dtype().clone()?;
     let ctx = ctx.clone()?;
-    let id = sink.append(&bytes)?;
-    Ok(Layout::Flat(FlatLayout::new(batch.len(), dtype, id, ctx)))
+    let dtype = batch.dtype().clone()?;
+    match sink.append(&bytes) {
+        Ok(id) => Ok(Layout::Flat(FlatLayout::new(batch.len(), dtype, id, ctx))),
+        Err(error) => {
+            drop(dtype);
+            Err(WriteError::from(error))
+        }
+    }
 }
 
 /// One layout is given itself, none or several are chunked.
@@ -130,9 +136,15 @@ fn gather(dtype: &DType, rows: u64, mut flats: Vec<Layout>) -> Result<Layout, Wr
     ensures err { IfErr result (λ e. e ≡ OutOfMemory) }
 {
     if flats.len() == 1 {
-        return Ok(flats.pop().unwrap());
+        let only = flats.pop().unwrap();
+        drop(flats);
+        return Ok(only);
     }
-    match ChunkedLayout::new(rows, dtype.clone()?, layout_children(flats)) {
+    let Ok(dtype) = dtype.clone() else {
+        drop(flats);
+        return Err(WriteError::OutOfMemory);
+    };
+    match ChunkedLayout::new(rows, dtype, layout_children(flats)) {
         Ok(chunked) => Ok(Layout::Chunked(chunked)),
         Err(LayoutError::OutOfMemory) => Err(WriteError::OutOfMemory),
         // The rows add up.

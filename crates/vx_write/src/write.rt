@@ -100,7 +100,9 @@ pub fn write_stream<B: BatchSource, S: SegmentSink, C: CompressorPlugin>(
     }
 }
 
-fn is_built(strategy: &Strategy, dtype: &DType) -> bool
+/// Whether `write_stream` writes by the strategy at the type: chunking over flat with its default options, and 64-bit integers
+/// without null.
+pub fn is_built(strategy: &Strategy, dtype: &DType) -> bool
     ensures { result ≡ is_built (strategy_data strategy.now) (ty dtype.now) }
 {
     match strategy {

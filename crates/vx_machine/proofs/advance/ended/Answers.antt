@@ -7,8 +7,8 @@ use Rattle.vx_machine.proofs.advance.ended.Goals as goal
 
 pub returns-in-Empty-clause-moved : goal.returns-in-Empty-clause-moved
 returns-in-Empty-clause-moved g c =
-    ended_none (g.O.Order.active c.args.order.now) (local_stock c.args.local) (ok_stock local_stock c.end_empty.result) (dues_stock c.args.todo.now.items) (dues_stock c.args.todo.now.items)
-    (ap local_stock c.in-Empty.is) (ok_none c.end_empty.result c.end_empty.ensures.local) refl c.requires.owned
+    ended_none (g.O.Order.active c.args.order.now) (local_stock c.args.local) (ok_stock local_stock c.end_empty-after.result) (dues_stock c.args.todo.now.items) (dues_stock c.args.todo.now.items)
+    (ap local_stock c.in-Empty.is) (ok_none c.end_empty-after.result c.end_empty-after.ensures.local) refl c.requires.owned
 
 pub returns-in-Full-clause-moved : goal.returns-in-Full-clause-moved
 returns-in-Full-clause-moved g c =

@@ -9,5 +9,5 @@ react-requires c = c.has_type.ensures.0 c.if-not-has_type.false ∙ ap ty c.dere
 
 pub returns-in_err-columns-clause-cause : goal.returns-in_err-columns-clause-cause
 returns-in_err-columns-clause-cause c =
-    let p = err_from_is_err_and c.from_residual-in_err-columns.result c.from_residual-in_err-columns.ensures.1 in
+    let p = err_from_is_err_and c.from_residual.result c.from_residual.ensures.1 in
     rw (p.1, p.2) (split_may c.in_err-columns.field-0.0 c.in_err-columns.ensures.memory)

@@ -6,4 +6,4 @@ use Rattle.vx_machine.proofs.join.join_columns.Goals as goal
 
 pub unreachable-requires : goal.unreachable-requires
 unreachable-requires c =
-    columns_join (ty c.in_ok-dtype.dtype) (ty (arc_value c.args.node.now.dtype)) c.args.rows c.args.layouts c.in-Err._refusal (c.in_ok-dtype.ensures.cases ∙ ap ty c.deref.ensures) c.args.node.now.structs c.requires c.in-Err.ensures.room c.in-Err.ensures.made
+    columns_join (ty c.in-Ok.dtype) (ty (arc_value c.args.node.now.dtype)) c.args.rows c.args.layouts c.in-Err._refusal (c.in-Ok.ensures.cases ∙ ap ty c.deref.ensures) c.args.node.now.structs c.requires c.in-Err.ensures.room c.in-Err.ensures.made

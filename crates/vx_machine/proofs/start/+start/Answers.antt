@@ -1,6 +1,5 @@
 use Rattle.std.proofs.Common.{rules, ◌≡◌, ◌+◌, ◌*◌, ◌<◌, [], ◌∷◌, ◌++◌, sym, ap, subst, ◌∙◌, arith}
 use Rattle.std.specs.Prelude.{IsTrue}
-use Rattle.std.proofs.lemmas.Result.{err_from_is_err_and}
 use Rattle.vx_strategy.specs.FieldWays.{field_ways}
 use Rattle.vx_strategy.specs.NodeViews.{struct_way}
 use Rattle.vx_strategy.specs.StrategyView.{strategy_data}
@@ -8,7 +7,8 @@ use Rattle.vx_sequence.specs.Universe.{Active}
 use Rattle.vx_machine_ids.specs.Stock.{Stock, none, both, end_stock, ok_stock}
 use Rattle.vx_machine_ids.specs.Balance.{Owned, Moved}
 use Rattle.vx_machine_ids.proofs.MoveLaws.{moved_none, moved_then, owned_left, owned_now}
-use Rattle.vx_machine.specs.Built.{is_built, weight}
+use Rattle.vx_machine_view.specs.Built.{is_built}
+use Rattle.vx_machine.specs.Weight.{weight}
 use Rattle.vx_machine.specs.Stocks.{task_stock, tasks_stock}
 use Rattle.vx_machine.proofs.StartMoves.{alone_moved, none_yet, from_none, pointer_owned, kids_left, left_owned, held_kids, same_kids, pointer_moved, child_moved, off_owned, off_moved}
 use Rattle.vx_machine.proofs.StartWeights.{writer_weight, writer_built, struct_built}
@@ -135,8 +135,8 @@ start_field-start_column-requires g t c κs within =
 
 -- ---- one more child
 
-pub start_column-returns-in_err-name-clause-moved : goal.start_column-returns-in_err-name-clause-moved
-start_column-returns-in_err-name-clause-moved g t c =
+pub start_column-returns-in_default-clause-moved : goal.start_column-returns-in_default-clause-moved
+start_column-returns-in_default-clause-moved g t c =
     let u : Active = g.O.Order.active c.args.order.now in
     let e : Stock = end_stock c.args.eof.now in
     same_kids u u (both e (tasks_stock c.args.kids.now.items)) e c.args.kids.now.items c.next_name.new.kids.items c.next_name.ensures.kids (moved_none u (both e (tasks_stock c.args.kids.now.items)) c.requires.owned)
@@ -166,25 +166,13 @@ start_column-returns-clause-moved g t c =
 pub start_under-start_task-requires : goal.start_under-start_task-requires
 start_under-start_task-requires g t c κs within =
     let v : Active = g.O.Order.active c.split_below.new.order in
-    let o : Owned v (end_stock c.in_ok-below.below) = off_owned (g.O.Order.active c.args.order.now) v (end_stock c.args.eof.now) (end_stock c.split_below.new.eof) (end_stock c.in_ok-below.below) c.requires.owned c.in_ok-below.ensures.moved in
+    let o : Owned v (end_stock c.in-Ok.below) = off_owned (g.O.Order.active c.args.order.now) v (end_stock c.args.eof.now) (end_stock c.split_below.new.eof) (end_stock c.in-Ok.below) c.requires.owned c.in-Ok.ensures.moved in
     let b : IsTrue (is_built (strategy_data c.strategy.result.now)) = subst (λ x. IsTrue (is_built x)) (sym c.strategy.ensures.same) c.requires.built in
     let n : weight (strategy_data c.strategy.result.now) ≡ weight c.args.writer.now.item = ap weight c.strategy.ensures.same in
     let falls : 8 * weight (strategy_data c.strategy.result.now) + 4 < 8 * weight c.args.writer.now.item + 5 = omega (arith, n) in
     search (rules, arith, o, b, falls)
 
-pub start_under-returns-in_err-below-clause-moved : goal.start_under-returns-in_err-below-clause-moved
-start_under-returns-in_err-below-clause-moved g t c =
-    let p = err_from_is_err_and c.from_residual.result c.from_residual.ensures.1 in
-    subst (λ r. Moved (g.O.Order.active c.args.order.now) (g.O.Order.active c.split_below.new.order) (end_stock c.args.eof.now) (both (end_stock c.split_below.new.eof) (ok_stock task_stock r))) (sym p.1) c.in_err-below.ensures.moved
-
-pub start_under-returns-in_err-kid-clause-moved : goal.start_under-returns-in_err-kid-clause-moved
-start_under-returns-in_err-kid-clause-moved g t c =
-    let p = err_from_is_err_and c.from_residual-in_err-kid.result c.from_residual-in_err-kid.ensures.1 in
-    subst (λ r. Moved (g.O.Order.active c.args.order.now) (g.O.Order.active c.start_task.new.order) (end_stock c.args.eof.now) (both (end_stock c.split_below.new.eof) (ok_stock task_stock r))) (sym p.1)
-    (off_moved (g.O.Order.active c.args.order.now) (g.O.Order.active c.split_below.new.order) (end_stock c.args.eof.now) (end_stock c.split_below.new.eof) (end_stock c.in_ok-below.below) c.requires.owned c.in_ok-below.ensures.moved
-    (g.O.Order.active c.start_task.new.order) none c.in_err-kid.ensures.moved)
-
-pub start_under-returns-clause-moved : goal.start_under-returns-clause-moved
-start_under-returns-clause-moved g t c =
-    off_moved (g.O.Order.active c.args.order.now) (g.O.Order.active c.split_below.new.order) (end_stock c.args.eof.now) (end_stock c.split_below.new.eof) (end_stock c.in_ok-below.below) c.requires.owned c.in_ok-below.ensures.moved
-    (g.O.Order.active c.start_task.new.order) (task_stock c.in_ok-kid.kid) c.in_ok-kid.ensures.moved
+pub start_under-returns-in-Ok-clause-moved : goal.start_under-returns-in-Ok-clause-moved
+start_under-returns-in-Ok-clause-moved g t c =
+    off_moved (g.O.Order.active c.args.order.now) (g.O.Order.active c.split_below.new.order) (end_stock c.args.eof.now) (end_stock c.split_below.new.eof) (end_stock c.in-Ok.below) c.requires.owned c.in-Ok.ensures.moved
+    (g.O.Order.active c.start_task.new.order) (ok_stock task_stock c.start_task.result) c.start_task.ensures.moved

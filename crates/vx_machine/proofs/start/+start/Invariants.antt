@@ -3,7 +3,7 @@ use Rattle.vx_strategy.specs.NodeViews.{struct_way}
 use Rattle.vx_strategy.specs.StrategyView.{strategy_data}
 use Rattle.vx_machine_ids.specs.Stock.{both, end_stock}
 use Rattle.vx_machine_ids.specs.Balance.{Owned, Moved}
-use Rattle.vx_machine.specs.Built.{weight}
+use Rattle.vx_machine.specs.Weight.{weight}
 use Rattle.vx_machine.specs.Stocks.{tasks_stock}
 use Rattle.vx_machine.proofs.start.+start.Given as goal
 

@@ -2,7 +2,7 @@ use Rattle.std.proofs.Common.{sym, ◌∙◌}
 use Rattle.vx_machine_ids.specs.Stock.{end_stock}
 use Rattle.vx_machine_ids.proofs.MoveLaws.{owned_left, owned_right, owned_rest, moved_twice, moved_behind}
 use Rattle.vx_strategy.specs.StrategyView.{strategy_data}
-use Rattle.vx_machine.specs.Built.{is_built}
+use Rattle.vx_machine_view.specs.Built.{is_built}
 use Rattle.vx_machine.specs.Stocks.{task_stock}
 use Rattle.vx_machine.proofs.MachineMoves.{first_left, second_first, unbuilt, built_may}
 use Rattle.vx_machine.proofs.machine.Machine.start.Goals as goal
