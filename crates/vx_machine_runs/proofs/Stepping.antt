@@ -1,0 +1,112 @@
+-- A run is a write that is under way.
+use Rattle.std.proofs.Common.{◌≡◌, ◌%◌, ◌<◌, ◌∷◌, ◌++◌, ◌∙◌, ℕ, zero, suc, Bool, true, List, map, length, refl, sym, ap, subst, arith, Some, None, append_assoc, append-nil, []}
+use Rattle.std.proofs.Math.Nat.{mod-eq_of_lt}
+use Rattle.std.proofs.lemmas.Bool.{true≢false}
+use Rattle.vx_model.specs.Ty.{Ty}
+use Rattle.vx_path.specs.Path.{Eof}
+use Rattle.vx_layout_spec.specs.Codec.{Lawful}
+use Rattle.vx_tasks.specs.Run.{Note, nth, first_pick}
+use Rattle.vx_tasks.specs.Runs.{noted}
+use Rattle.vx_plan.specs.PlanData.{Setting}
+use Rattle.vx_machine_steps.specs.Runs.{picks_after}
+use Rattle.vx_machine_promises.specs.Write.{Write, Future, Open, Answer, unasked, came, over, planned, taken_by, heard_by, before}
+use Rattle.vx_machine_promises.specs.Reached.{Reached}
+use Rattle.vx_machine_promises.specs.Promises.{StartIsReached, StepIsReached}
+use Rattle.vx_plan.specs.Number.{number_of}
+use Rattle.vx_machine_view.specs.Machine.{Phase, reading, giving, closing, finished, Machine, may_source, WholeStep, source_step, whole_steps}
+use Rattle.vx_machine_view.specs.Whole.{Asks}
+use Rattle.vx_machine_view.specs.Underway.{Showing, ready_steps}
+use Rattle.vx_machine_view.proofs.Placing.{source_place}
+use Rattle.vx_machine_view.proofs.Underway.{write_steps}
+use Rattle.vx_machine_view.proofs.Wholes.{start_shows}
+use Rattle.vx_machine_runs.specs.Runs.{Stand, outset, Asking, TypedAnswer, BeforeEnd, Chosen, Done, Led, UnderwayAt, StartIsUnderway, StepIsUnderway, RunIsUnderway}
+
+-- ---- what is asked
+
+pub open_before : (heard : Bool) (a : Answer) (f : Future) → BeforeEnd heard a → Open (heard_by heard a) f → Open heard (before a f)
+open_before heard unasked f k o = o
+open_before heard (came b) f k o = λ h. absurd (true≢false (sym h ∙ k))
+open_before heard over f k o = λ h. o refl
+
+some_same : {A : Type 0} (x y : A) → Some x ≡ Some y → x ≡ y
+some_same x y e = cc
+
+-- where it reads and is told nothing, the step is of another type
+misfits : (s : Setting) (all : List (List ℕ)) (number : ℕ) (m : Machine) (e : Eof) (w : WholeStep) → m.phase ≡ reading e → nth (whole_steps s all number unasked m) 0 ≡ Some w → w.misfit ≡ true
+misfits s all number m e w is at =
+    let t : nth (whole_steps s all number unasked m) 0 ≡ Some (source_step unasked m.phase m.root) = source_place s all number unasked m (ap (λ z. may_source z m.root) is) in
+    sym (ap (λ (z : WholeStep). z.misfit) (some_same (source_step unasked m.phase m.root) w (sym t ∙ at))) ∙ ap (λ z. (source_step unasked z m.root).misfit) is
+
+asked : (t : Ty) (f : Future) (p : Phase) (k : ℕ) (a : Answer) → Asking p k a → TypedAnswer t a → ((e : Eof) → p ≡ reading e → k ≡ 0 → a ≡ unasked → ⊥) → Asks t f p k a
+asked t f (reading e) zero unasked h ty never = absurd (never e refl refl refl)
+asked t f (reading e) zero (came b) h ty never = ty
+asked t f (reading e) zero over h ty never = tt
+asked t f (reading e) (suc k) a h ty never = h
+asked t f (giving e i) k a h ty never = h
+asked t f closing k a h ty never = h
+asked t f finished k a h ty never = h
+
+pub asks_so : (g : Write) (first : ℕ) (x : Stand) (told : Answer) (k : ℕ) (w : WholeStep) (f : Future) → Chosen g first x told k w → Asks g.type f x.machine.phase k told
+asks_so g first x told k w f c = asked g.type f x.machine.phase k told c.asks c.typed
+    (λ e is z u. true≢false (sym (misfits g.setting _ _ x.machine e w is (subst (λ a. nth (ready_steps g first x.history a x.machine) 0 ≡ Some w) u (subst (λ j. nth (ready_steps g first x.history told x.machine) j ≡ Some w) z c.place))) ∙ c.fits))
+
+-- ---- the start
+
+pub start_under : StartIsReached → StartIsUnderway
+start_under reached g first b s f o =
+    let r = reached g f in
+    (r.0, subst (λ t. Showing g first [] (outset g).machine f t) (sym r.1) (start_shows g (number_of (planned g [] f).pairs first) f b s))
+
+-- ---- a step
+
+module _ (reached : StepIsReached) (g : Write) (first : ℕ) (seen : List Note) (x : Stand) (n : Note) (law : Lawful g.setting.codec g.setting.encodings)
+    (pick : n.picked ≡ first_pick (picks_after (length seen) g.schedule) % n.ready) where
+  step_to : (told : Answer) (w : WholeStep) → Chosen g first x told n.picked w → w.refusal ≡ None → n ≡ noted (length (ready_steps g first x.history told x.machine)) n.picked w.name w.kind
+      → UnderwayAt g first seen x → UnderwayAt g first (seen ++ (n ∷ [])) (record { machine = w.after; taken = taken_by x.taken told; heard = heard_by x.heard told; history = x.history ++ w.wrote })
+  step_to told w c u note under f o = on (under (before told f) (open_before x.heard told f c.once o))
+    where
+      Then : Note → Type 0
+      Then z = (q : Reached g (taken_by x.taken told) f (seen ++ (z ∷ [])) (x.history ++ w.wrote) g.tracker) × Showing g first (taken_by x.taken told) w.after f q.tree
+
+      on : (r : Reached g x.taken (before told f) seen x.history g.tracker) × Showing g first x.taken x.machine (before told f) r.tree → Then n
+      on (r, shown) =
+          let size : ℕ = length (ready_steps g first x.history told x.machine) in
+          let k : n.picked ≡ first_pick (picks_after (length seen) g.schedule) % size = pick ∙ ap (λ (z : Note). first_pick (picks_after (length seen) g.schedule) % z.ready) note in
+          let st = write_steps g first x.taken x.heard told f seen x.history g.tracker r x.machine n.picked w law o shown c.place k (asks_so g first x told n.picked w f c) u c.fits in
+          let q = reached g x.taken told f seen x.history (x.history ++ w.wrote) g.tracker g.tracker (noted size n.picked w.name w.kind) r st.0 in
+          subst Then (sym note) (q.0, subst (λ t. Showing g first (taken_by x.taken told) w.after f t) (sym q.1) st.1)
+
+pub step_under : StepIsReached → StepIsUnderway
+step_under reached g first seen x y n law pick d u = subst (λ z. UnderwayAt g first (seen ++ (n ∷ [])) z) (sym d.left) (step_to reached g first seen x n law pick d.told d.step d.chosen d.unrefused d.note u)
+
+-- ---- whole runs
+
+abbrev places : List Note → List ℕ
+places ns = map (λ n. n.picked) ns
+
+-- the pick behind so many is that of the next
+picks_of : (seen : List Note) (n : Note) (ns : List Note) → first_pick (picks_after (length seen) (places (seen ++ (n ∷ ns)))) ≡ n.picked
+picks_of [] n ns = refl
+picks_of (m ∷ seen) n ns = picks_of seen n ns
+
+nth_less : {A : Type 0} (xs : List A) (k : ℕ) (x : A) → nth xs k ≡ Some x → k < length xs
+nth_less [] k x e = cc
+nth_less (y ∷ ys) zero x e = omega arith
+nth_less (y ∷ ys) (suc k) x e = let h : k < length ys = nth_less ys k x e in omega (arith, h)
+
+module _ (reached : StepIsReached) (g : Write) (first : ℕ) (law : Lawful g.setting.codec g.setting.encodings) where
+  led_under : (seen ns : List Note) (x y : Stand) → g.schedule ≡ places (seen ++ ns) → Led g first x ns y → UnderwayAt g first seen x → UnderwayAt g first (seen ++ ns) y
+  led_under seen [] x y s l u = subst (λ z. UnderwayAt g first z y) (sym (append-nil seen)) (subst (λ z. UnderwayAt g first seen z) l u)
+  led_under seen (n ∷ ns) x y s l u =
+      let d : Done g first x l.0 n = l.1 in
+      let less : n.picked < n.ready
+      = subst (λ (z : Note). n.picked < z.ready) (sym d.note) (nth_less (ready_steps g first x.history d.told x.machine) n.picked d.step d.chosen.place) in
+      let same : n.picked % n.ready ≡ n.picked = mod-eq_of_lt less in
+      let at : first_pick (picks_after (length seen) g.schedule) ≡ n.picked = ap (λ z. first_pick (picks_after (length seen) z)) s ∙ picks_of seen n ns in
+      let pick : n.picked ≡ first_pick (picks_after (length seen) g.schedule) % n.ready = sym (ap (λ z. z % n.ready) at ∙ same) in
+      let a : (seen ++ (n ∷ [])) ++ ns ≡ seen ++ (n ∷ ns) = append_assoc seen (n ∷ []) ns in
+      subst (λ z. UnderwayAt g first z y) a
+      (led_under (seen ++ (n ∷ [])) ns l.0 y (s ∙ ap places (sym a)) l.2 (step_under reached g first seen x l.0 n law pick d u))
+
+pub run_under : StartIsReached → StepIsReached → RunIsUnderway
+run_under began reached g first ns y law b s p l = led_under reached g first law [] ns (outset g) y p l (start_under began g first b s)
