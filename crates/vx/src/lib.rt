@@ -79,6 +79,7 @@ pub mod sink {
         CompressorPlugin, Fails, Fallible, LayoutWriterContext, ListSource, MemorySink,
         PlainCompressor, SegmentSink, SinkError, SourceError, TooLarge,
     };
+    pub use vx_table_compressor::TableCompressor;
 }
 
 /// Bloom filters, their options, and the hash that they store.
@@ -88,12 +89,15 @@ pub mod bloom {
     pub use vx_hash::{ByteHash, XxHash3_64};
 }
 
-/// Aggregates, statistics and the types of their tables. No call records or prunes yet.
+/// Aggregates, statistics, the records of zones and their tables. No call prunes yet.
 pub mod zones {
     pub use vx_aggregate::{
         AggregateFn, MAX_IS_TRUNCATED, MIN_IS_TRUNCATED, SpecError, Stat,
         aggregate_stats_table_dtype, default_zoned_aggregate_fns, legacy_stats_table_dtype,
     };
+    pub use vx_zone_guard::{GuardError, ZoneGuard};
+    pub use vx_zone_record::{RecordError, cells_record, held_aggregates, zone_record};
+    pub use vx_zone_table::ZoneTableBuilder;
 }
 
 /// Strategies of all kinds, their constructors and options.
@@ -108,6 +112,21 @@ pub mod strategy {
         DictLayoutConstraints, DictLayoutOptions, RepartitionWriterOptions, ZonedLayoutOptions,
     };
     pub use vx_table_dispatch::dispatch;
+}
+
+/// The rules of nodes: what each does with the chunks that it is handed, one at a time.
+pub mod nodes {
+    pub use vx_dict_encoder::DictEncoder;
+    pub use vx_nodes::{
+        Buffered, Collect, ColumnSplit, ListSplit, NodeError, Output, Outputs, Place, Regroup,
+        Repartition, Rule, RunCutter, SplitError,
+    };
+}
+
+/// The step machine, for strategies of flat, chunked and struct nodes.
+pub mod machine {
+    pub use vx_machine::{Machine, run};
+    pub use vx_task_write::write_tasks;
 }
 
 /// Writing a stream of batches by a strategy.
