@@ -10,6 +10,7 @@ pub(crate) fn two_integers(alloc: Global) -> Result<Box<Chunk>, Fail> {
     let dtype = DType::Primitive(PType::I64, Nullability::NonNullable);
     let cells = vec![in alloc; Cell::Int(1), Cell::Int(2)]?;
     if !fits(&dtype, &cells) {
+        drop(dtype);
         return Err("the cells fit".into());
     }
     Ok(Box::new(alloc, Chunk::plain(dtype, cells))?)

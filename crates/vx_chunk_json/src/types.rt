@@ -1,13 +1,13 @@
 //! Types.
 
-ghost use Rattle.std.specs.Prelude.{◌≡◌, map};
+ghost use Rattle.std.specs.Prelude.{◌≡◌, map, option_map, true, false};
 ghost use Rattle.serde_json.specs.Data.{object};
 ghost use Rattle.serde_json.specs.View.{view, members_view, items_view};
 ghost use Rattle.vx_model.specs.Numbers.{is_nullable};
 ghost use Rattle.vx_model.specs.Ty.{extension};
 ghost use Rattle.vx_model.specs.TyView.{ty, field_ty};
 ghost use Rattle.vx_json.specs.Lists.{each};
-ghost use Rattle.vx_chunk_json.specs.Types.{leaf_type, is_kind as of_kind, nullable_in, type_of, type_at, fields_at, fields_of, field_of};
+ghost use Rattle.vx_chunk_json.specs.Types.{leaf_type, leaves, printed_so, is_kind as of_kind, nullable_in, type_of, type_at, fields_at, fields_of, field_of};
 ghost use Rattle.vx_json.specs.Views.{Gives};
 
 use Nullability::{NonNullable, Nullable};
@@ -32,18 +32,37 @@ pub fn read_type(alloc: Global, value: &Value) -> Result<DType, JsonError>
 fn read_leaf(text: &str) -> Result<DType, JsonError>
     ensures { Gives ty result (leaf_type text.now) }
 {
+    match read_required(text) {
+        Some(dtype) => Ok(dtype),
+        None => read_optional(text),
+    }
+}
+
+/// The leaf that isn't nullable.
+fn read_required(text: &str) -> Option<DType>
+    ensures { option_map ty result ≡ printed_so text.now (leaves false) }
+{
     match text {
-        "bool" => Ok(DType::Bool(NonNullable)),
-        "u8" => Ok(DType::Primitive(PType::U8, NonNullable)),
-        "u16" => Ok(DType::Primitive(PType::U16, NonNullable)),
-        "u32" => Ok(DType::Primitive(PType::U32, NonNullable)),
-        "u64" => Ok(DType::Primitive(PType::U64, NonNullable)),
-        "i8" => Ok(DType::Primitive(PType::I8, NonNullable)),
-        "i16" => Ok(DType::Primitive(PType::I16, NonNullable)),
-        "i32" => Ok(DType::Primitive(PType::I32, NonNullable)),
-        "i64" => Ok(DType::Primitive(PType::I64, NonNullable)),
-        "utf8" => Ok(DType::Utf8(NonNullable)),
-        "binary" => Ok(DType::Binary(NonNullable)),
+        "bool" => Some(DType::Bool(NonNullable)),
+        "u8" => Some(DType::Primitive(PType::U8, NonNullable)),
+        "u16" => Some(DType::Primitive(PType::U16, NonNullable)),
+        "u32" => Some(DType::Primitive(PType::U32, NonNullable)),
+        "u64" => Some(DType::Primitive(PType::U64, NonNullable)),
+        "i8" => Some(DType::Primitive(PType::I8, NonNullable)),
+        "i16" => Some(DType::Primitive(PType::I16, NonNullable)),
+        "i32" => Some(DType::Primitive(PType::I32, NonNullable)),
+        "i64" => Some(DType::Primitive(PType::I64, NonNullable)),
+        "utf8" => Some(DType::Utf8(NonNullable)),
+        "binary" => Some(DType::Binary(NonNullable)),
+        _ => None,
+    }
+}
+
+/// The leaf that is nullable.
+fn read_optional(text: &str) -> Result<DType, JsonError>
+    ensures { Gives ty result (printed_so text.now (leaves true)) }
+{
+    match text {
         "bool?" => Ok(DType::Bool(Nullable)),
         "u8?" => Ok(DType::Primitive(PType::U8, Nullable)),
         "u16?" => Ok(DType::Primitive(PType::U16, Nullable)),

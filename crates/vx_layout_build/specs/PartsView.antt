@@ -1,5 +1,5 @@
 -- Parts as contracts see them.
-use Rattle.std.specs.Prelude.{ℕ, map}
+use Rattle.std.specs.Prelude.{◌≡◌, ℕ, map, Result, Ok, Err}
 use Rattle.vx_model.specs.Ty.{Ty}
 use Rattle.vx_model.specs.TyView.{ty}
 use Rattle.vx_layout_bytes.specs.Node.{nodes_of}
@@ -14,6 +14,10 @@ use Rattle.vx_layout_tree.specs.declared.children.LayoutChildren.TheVariants as 
 use Rattle.vx_layout_tree.specs.declared.parts.LayoutParts.{LayoutParts}
 use Rattle.vx_layout_build.specs.declared.one_child.OneChild.{OneChild}
 use Rattle.vx_layout_build.specs.declared.one_child.OneChild.TheVariants as ones
+use Rattle.vx_layout_tree.specs.declared.parts.KindParts.{KindParts}
+use Rattle.vx_layout_tree.specs.declared.error.LayoutError.{LayoutError}
+use Rattle.vx_layout_tree.specs.Views.{Fails}
+use Rattle.vx_layout_tree.specs.KindView.{IsWhole, whole_lay}
 use Rattle.vx_layout_tree.specs.LayoutView.{layout_data, number}
 use Rattle.vx_layout_tree.specs.KidsView.{owned_kid, layout_kids}
 
@@ -37,3 +41,8 @@ one_depth (ones.Node scope n) = depth (raw n)
 abbrev pub children_depth : LayoutChildren → ℕ
 children_depth (children.Owned v) = 0
 children_depth (children.Viewed v) = depths (nodes_of (map raw v.nodes.items))
+
+-- Where nothing is refused, what is made is the layout of the parts.
+abbrev pub Tests : {X : Type 0} → Result X LayoutError → KindParts → Made → Type 0
+Tests (Ok x) parts made = (made ≡ Ok (whole_lay parts)) × IsWhole parts
+Tests (Err e) parts made = Fails e made

@@ -1,10 +1,14 @@
 //! Kinds that are built without their children.
 
+ghost use Rattle.std.specs.Prelude.{◌≡◌, Ok, MatchResult};
+ghost use Rattle.vx_model.specs.TyView.{ty};
+ghost use Rattle.vx_layout_spec.specs.LayoutTree.{flat_layout};
 ghost use Rattle.vx_session.specs.Views.{context as context_of};
 ghost use Rattle.vx_session.specs.Kinds.{build_flat as flat_built, build_chunked as chunked_built, build_struct as struct_built};
 ghost use Rattle.vx_layout_tree.specs.LayoutView.{layout_data};
-ghost use Rattle.vx_layout_build.specs.PartsView.{parts_of};
-ghost use Rattle.vx_layout_tree.specs.Views.{Gives};
+ghost use Rattle.vx_layout_tree.specs.declared.parts.KindParts.TheVariants as kinds;
+ghost use Rattle.vx_layout_build.specs.PartsView.{parts_of, Tests};
+ghost use Rattle.vx_layout_tree.specs.Views.{Gives, Fails};
 
 use crate::checks::{
     all_have_rows, flat_metadata, has_children, has_rows, no_metadata, one_segment,
@@ -13,9 +17,28 @@ use std::alloc::Global;
 use vx_layout_tree::{
     FlatLayout, KindParts, Layout, LayoutError, LayoutParts, struct_children, total_rows,
 };
+use vx_model::{ArrayContext, Blob, SegmentId};
 use vx_session::LayoutBuildContext;
 
+/// The segment of a flat layout of the parts, the encodings that it names, and its array tree.
 #[tactic(auto, unfolding(vx_session::specs::Kinds::build_flat))]
+fn flat_own(
+    alloc: Global,
+    within: &LayoutBuildContext,
+    parts: &LayoutParts,
+    metadata: &[u8],
+) -> Result<(SegmentId, ArrayContext, Option<Blob>), LayoutError>
+    ensures { MatchResult result
+        (λ own. flat_built (context_of within.now) (parts_of parts.now) metadata.now ≡ Ok (flat_layout (ty parts.now.dtype) parts.now.row_count own.1 own.2 own.0.0))
+        (λ e. Fails e (flat_built (context_of within.now) (parts_of parts.now) metadata.now)) }
+{
+    let metadata = flat_metadata(alloc, metadata)?;
+    let segment_id = one_segment(&parts.segment_ids)?;
+    has_children(&parts.children, 0)?;
+    let ctx = within.array_ctx.clone()?;
+    Ok((segment_id, ctx, metadata.array_encoding_tree))
+}
+
 pub(crate) fn build_flat(
     alloc: Global,
     within: &LayoutBuildContext,
@@ -24,21 +47,35 @@ pub(crate) fn build_flat(
 ) -> Result<Layout, LayoutError>
     ensures { Gives layout_data result (flat_built (context_of within.now) (parts_of parts) metadata.now) }
 {
-    let metadata = flat_metadata(alloc, metadata)?;
-    let segment_id = one_segment(&parts.segment_ids)?;
-    has_children(&parts.children, 0)?;
-    let ctx = within.array_ctx.clone()?;
-    let flat = FlatLayout::new_with_metadata(
-        parts.row_count,
-        parts.dtype,
-        segment_id,
-        ctx,
-        metadata.array_encoding_tree,
-    );
-    Ok(flat.into_layout())
+    match flat_own(alloc, within, &parts, metadata) {
+        Ok((segment_id, ctx, tree)) => {
+            let LayoutParts {
+                row_count,
+                dtype,
+                children,
+                ..
+            } = parts;
+            drop(children);
+            let flat = FlatLayout::new_with_metadata(row_count, dtype, segment_id, ctx, tree);
+            Ok(flat.into_layout())
+        }
+        Err(error) => {
+            drop(parts);
+            Err(error)
+        }
+    }
 }
 
+/// Whether a chunked layout is built of the parts.
 #[tactic(auto, using(vx_layout_tree::proofs::KidSteps::chunk_rules), unfolding(vx_session::specs::Kinds::build_chunked))]
+fn test_chunked(alloc: Global, parts: &LayoutParts, metadata: &[u8]) -> Result<(), LayoutError>
+    ensures { Tests result (kinds.Chunked parts.now) (chunked_built (parts_of parts.now) metadata.now) }
+{
+    no_metadata(alloc, metadata)?;
+    has_rows(total_rows(&parts.children), parts.row_count)?;
+    Ok(())
+}
+
 pub(crate) fn build_chunked(
     alloc: Global,
     parts: LayoutParts,
@@ -46,18 +83,19 @@ pub(crate) fn build_chunked(
 ) -> Result<Layout, LayoutError>
     ensures { Gives layout_data result (chunked_built (parts_of parts) metadata.now) }
 {
-    no_metadata(alloc, metadata)?;
-    has_rows(total_rows(&parts.children), parts.row_count)?;
-    Ok(Layout::from_parts(alloc, KindParts::Chunked(parts)))
+    match test_chunked(alloc, &parts, metadata) {
+        Ok(()) => Ok(Layout::from_parts(alloc, KindParts::Chunked(parts))),
+        Err(error) => {
+            drop(parts);
+            Err(error)
+        }
+    }
 }
 
+/// Whether a struct layout is built of the parts.
 #[tactic(auto, using(vx_layout_tree::proofs::KidSteps::field_rules), unfolding(vx_session::specs::Kinds::build_struct))]
-pub(crate) fn build_struct(
-    alloc: Global,
-    parts: LayoutParts,
-    metadata: &[u8],
-) -> Result<Layout, LayoutError>
-    ensures { Gives layout_data result (struct_built (parts_of parts) metadata.now) }
+fn test_struct(alloc: Global, parts: &LayoutParts, metadata: &[u8]) -> Result<(), LayoutError>
+    ensures { Tests result (kinds.Struct parts.now) (struct_built (parts_of parts.now) metadata.now) }
 {
     no_metadata(alloc, metadata)?;
     if !parts.dtype.is_struct() {
@@ -65,5 +103,21 @@ pub(crate) fn build_struct(
     }
     has_children(&parts.children, struct_children(&parts.dtype))?;
     all_have_rows(&parts.children, parts.row_count)?;
-    Ok(Layout::from_parts(alloc, KindParts::Struct(parts)))
+    Ok(())
+}
+
+pub(crate) fn build_struct(
+    alloc: Global,
+    parts: LayoutParts,
+    metadata: &[u8],
+) -> Result<Layout, LayoutError>
+    ensures { Gives layout_data result (struct_built (parts_of parts) metadata.now) }
+{
+    match test_struct(alloc, &parts, metadata) {
+        Ok(()) => Ok(Layout::from_parts(alloc, KindParts::Struct(parts))),
+        Err(error) => {
+            drop(parts);
+            Err(error)
+        }
+    }
 }

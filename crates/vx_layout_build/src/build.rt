@@ -162,8 +162,13 @@ fn build_wanted(alloc: Global, wanted: Wanted) -> Result<Layout, LayoutError>
 {
     let Wanted { child, dtype, rows } = wanted;
     let layout = build_one(alloc, child, &dtype)?;
-    rows.check(layout.row_count())?;
-    Ok(layout)
+    match rows.check(layout.row_count()) {
+        Ok(()) => Ok(layout),
+        Err(error) => {
+            drop(layout);
+            Err(error)
+        }
+    }
 }
 
 #[cycle(build)]
@@ -183,7 +188,10 @@ fn kept_as(layout: Layout, dtype: &DType) -> Result<Layout, LayoutError>
 {
     match check_type(&layout, dtype) {
         Ok(()) => Ok(layout),
-        Err(error) => Err(error),
+        Err(error) => {
+            drop(layout);
+            Err(error)
+        }
     }
 }
 

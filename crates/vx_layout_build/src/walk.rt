@@ -95,8 +95,13 @@ fn opened<'a>(
             Ok(LayoutChild::Kept(layout))
         }
         LayoutChild::Built(layout) => {
-            push_copied(alloc, stack, &layout)?;
-            Ok(LayoutChild::Built(layout))
+            match push_copied(alloc, stack, &layout) {
+                Ok(()) => Ok(LayoutChild::Built(layout)),
+                Err(error) => {
+                    drop(layout);
+                    Err(error)
+                }
+            }
         }
     }
 }

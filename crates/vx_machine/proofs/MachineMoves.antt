@@ -1,5 +1,5 @@
 -- What a machine as a whole moves.
-use Rattle.std.proofs.Common.{◌≡◌, ℕ, ◌+◌, ◌-◌, ◌<◌, ◌≤◌, Bool, true, false, refl, sym, ap, subst, arith}
+use Rattle.std.proofs.Common.{◌≡◌, ℕ, ◌+◌, ◌-◌, ◌<◌, ◌≤◌, Bool, true, false, List, Option, refl, sym, ap, subst, arith}
 use Rattle.std.proofs.lemmas.Bool.{true≢false}
 use Rattle.vx_sequence.specs.Universe.{Active}
 use Rattle.vx_machine_ids.specs.Stock.{Stock, none, both}
@@ -7,7 +7,9 @@ use Rattle.vx_machine_ids.specs.Balance.{Owned, Moved}
 use Rattle.vx_machine_ids.proofs.MoveLaws.{moved_then, moved_drop, owned_now, owned_as, moved_as}
 use Rattle.vx_write_answer.specs.declared.error.WriteError.{WriteError}
 use Rattle.vx_write_answer.specs.declared.error.WriteError.TheVariants.{Unbuilt, OutOfMemory}
+use Rattle.vx_plan.specs.PlanData.{Setting, What}
 use Rattle.vx_machine.specs.Causes.{StartMay}
+use Rattle.vx_machine.specs.Starting.{StartRefused, WholeRefused}
 use Rattle.vx_machine.specs.Whole.{WholeStartMay}
 use Rattle.vx_machine.specs.Ready.{counted}
 
@@ -28,6 +30,15 @@ unbuilt false h = refl
 pub built_may : (b : Bool) (e : WriteError) → b ≡ true → StartMay e → WholeStartMay b e
 built_may true e h m = m
 built_may false e h m = absurd (true≢false (sym h))
+
+-- the same, by what is refused
+pub unbuilt_refused : (b : Bool) (f : Setting → Option What) (is : List ℕ) → b ≡ false → WholeRefused b f is Unbuilt
+unbuilt_refused true f is h = absurd (true≢false h)
+unbuilt_refused false f is h = refl
+
+pub built_refused : (b : Bool) (f : Setting → Option What) (is : List ℕ) (x : WriteError) → b ≡ true → StartRefused f is x → WholeRefused b f is x
+built_refused true f is x h r = r
+built_refused false f is x h r = absurd (true≢false (sym h))
 
 pub memory_start : (e : WriteError) → e ≡ OutOfMemory → StartMay e
 memory_start e h = subst (λ x. StartMay x) (sym h) tt

@@ -13,7 +13,7 @@ use Rattle.vx_machine_ids.specs.Balance.{Owned}
 use Rattle.vx_machine_ids.proofs.MoveLaws.{owned_left, owned_right}
 use Rattle.vx_machine_ids.proofs.Lists.{first_owned}
 use Rattle.vx_machine.specs.Stocks.{local_stock, dues_stock, due_stock, items_stock, head_stock}
-use Rattle.vx_machine.specs.Ready.{Kid, Seen, kid_of, kids_of, seen, seen_step, may_now, may_due, may_take, may_todo, least_at, room_at, all_made, is_made, ready_in, ready_among, counted}
+use Rattle.vx_machine.specs.Ready.{Kid, Seen, kid_of, kids_of, seen, seen_step, may_now, may_due, may_take, may_todo, least_at, room_at, all_made, is_made, ready_in, ready_among, among_before, counted}
 use Rattle.vx_machine.specs.declared.item.Due.{Due}
 use Rattle.vx_machine.specs.declared.task.Head.{Head}
 use Rattle.vx_machine.specs.declared.task.Task.{Task, out-Task}
@@ -45,6 +45,10 @@ counted_more r a b c e = omega (arith, e)
 pub one_true : (b : Bool) (k : ℕ) → k < one b → b ≡ true
 one_true true k h = refl
 one_true false k h = absurd (omega (arith, h))
+
+pub none_before : (b : Bool) (n k : ℕ) → n ≡ one b → k < n → k ≡ 0
+none_before true n k e h = omega (arith, e, h)
+none_before false n k e h = omega (arith, e, h)
 
 -- ---- walks
 
@@ -96,6 +100,21 @@ made_front all xs k is h = front_made xs k (subst (λ z. all_made (kids_of z) �
 pub among_more : (u : Active) (xs : List Task) (i : ℕ) (x : Task) → i < length xs → x ≡ get_or xs i x
     → ready_among u (drop i xs) ≡ ready_in u x + ready_among u (drop (i + 1) xs)
 among_more u xs i x h e = ap (ready_among u) (drop_is xs i x h e)
+
+-- those before one, from one on
+
+pub before_none : (u : Active) (xs : List Task) → among_before u xs 0 ≡ 0
+before_none u [] = refl
+before_none u (y ∷ ys) = refl
+
+before_next : (u : Active) (xs : List Task) (i : ℕ) (x : Task) → i < length xs → x ≡ get_or xs i x → among_before u xs (suc i) ≡ among_before u xs i + ready_in u x
+before_next u [] i x h e = absurd (omega (arith, h))
+before_next u (y ∷ []) zero x h e = let a : ready_in u x ≡ ready_in u y = ap (ready_in u) e in omega (arith, a)
+before_next u (y ∷ z ∷ ys) zero x h e = let a : ready_in u x ≡ ready_in u y = ap (ready_in u) e in omega (arith, a)
+before_next u (y ∷ ys) (suc i) x h e = let a : among_before u ys (suc i) ≡ among_before u ys i + ready_in u x = before_next u ys i x (omega (arith, h)) e in omega (arith, a)
+
+pub before_more : (u : Active) (xs : List Task) (i : ℕ) (x : Task) → i < length xs → x ≡ get_or xs i x → among_before u xs (i + 1) ≡ among_before u xs i + ready_in u x
+before_more u xs i x h e = let n : suc i ≡ i + 1 = omega arith in sym (ap (among_before u xs) n) ∙ before_next u xs i x h e
 
 -- ---- rooms
 

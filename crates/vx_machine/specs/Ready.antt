@@ -113,6 +113,12 @@ ready_in u t = (seen u t).ready
 abbrev pub ready_among : Active → List Task → ℕ
 ready_among u ts = total_by (ready_in u) ts
 
+-- of those before number i
+abbrev pub among_before : Active → List Task → ℕ → ℕ
+among_before u [] i = 0
+among_before u (t ∷ ts) zero = 0
+among_before u (t ∷ ts) (suc i) = ready_in u t + among_before u ts i
+
 -- as far as 64 bits tell
 abbrev pub counted : ℕ → ℕ
 counted n = min n (2 ^ 64 - 1)

@@ -1,15 +1,28 @@
 //! The next act of a task.
 
-ghost use Rattle.std.specs.Prelude.{◌≡◌, ◌≤◌, ◌+◌, IsTrue, length, IfOk, IfErr};
+ghost use Rattle.std.specs.Prelude.{◌≡◌, ◌≤◌, ◌+◌, ◌&&◌, ◌==◌, ℕ, List, [], IsTrue, IsFalse, length, IfOk, IfErr, OnOk, OnErr};
+ghost use Rattle.std.specs.Arc.{arc_value};
 ghost use Rattle.std.specs.VecDeque.{deque_len, deque_capacity};
+ghost use Rattle.vx_model.specs.declared.encoding.EncodingId.{EncodingId};
+ghost use Rattle.vx_model.specs.ChunkData.{ChunkData};
+ghost use Rattle.vx_model.specs.TyView.{ty};
+ghost use Rattle.vx_layout_spec.specs.LayoutTree.{gathered};
+ghost use Rattle.vx_sink.specs.ContextView.{listed};
 ghost use Rattle.vx_fault.specs.Counts.{Counts};
 ghost use Rattle.vx_sequence.specs.Universe.{IsLeast};
 ghost use Rattle.vx_machine_ids.specs.Stock.{none, both, ok_stock};
 ghost use Rattle.vx_machine_ids.specs.Balance.{Owned, Moved};
 ghost use Rattle.vx_write_answer.specs.Causes.{errs, is_sink_fault};
+ghost use Rattle.vx_order.specs.Answers.{IsPast};
+ghost use Rattle.vx_machine_view.specs.State.{append as append_next, join_kids, Mind, made as has_layout, Tasks};
+ghost use Rattle.vx_machine_view.specs.Acts.{count, give, shut_all, layouts_in, joined_rows, column_count, end_columns as columns_end, take_end, do_take, do_act};
+ghost use Rattle.vx_machine.specs.Acting.{AppendRefused, JoinRefused, bare, acted, ActDone, taken, Took, TakeRefused, Ended, TakeDone, Acted};
 ghost use Rattle.vx_machine.specs.Causes.{MayCome, ActMay};
+ghost use Rattle.vx_machine.specs.Context.{setting_of};
+ghost use Rattle.vx_machine.specs.Outcome.{Kept, Refused};
+ghost use Rattle.vx_machine.specs.View.{item_of, items_of, stored_of, fold_of, next_of, todo_of, mind_of, desk_of, row};
 ghost use Rattle.vx_machine.specs.Pairs.{due_pairs, next_pairs, AllMay};
-ghost use Rattle.vx_machine.specs.Ready.{may_due, may_now, room_at, all_made, can_join, kids_of};
+ghost use Rattle.vx_machine.specs.Ready.{is_over, may_due, may_now, room_at, all_made, can_join, kids_of};
 ghost use Rattle.vx_machine.specs.Stocks.{item_stock, stored_stock, due_stock, dues_stock, local_stock, head_stock, tasks_stock};
 
 use crate::chunked::take_chunked;
@@ -40,6 +53,8 @@ fn put<O: Order>(
     requires owned { Owned (O.active order.old) (both (tasks_stock kids.old.items) (item_stock item)) }
     requires room { IsTrue (room_at child (kids_of kids.old.items)) }
     ensures moved { Moved (O.active order.old) (O.active order.new) (both (tasks_stock kids.old.items) (item_stock item)) (tasks_stock kids.new.items) }
+    ensures kind { IfOk result (λ a. a ≡ ActionKind.Put) }
+    ensures kids { OnOk result (row kids.new.items ≡ give child (item_of item) (row kids.old.items)) }
     ensures outlet { O.outlet order.new ≡ O.outlet order.old }
     ensures faults { O.faults order.new ≡ O.faults order.old }
     ensures memory { IfErr result (λ e. e ≡ WriteError.OutOfMemory) }
@@ -54,7 +69,8 @@ fn put<O: Order>(
 }
 
 fn close_all(kids: &mut Vec<Task>)
-    ensures { tasks_stock kids.new.items ≡ tasks_stock kids.old.items }
+    ensures stock { tasks_stock kids.new.items ≡ tasks_stock kids.old.items }
+    ensures kids { row kids.new.items ≡ shut_all (row kids.old.items) }
 {
     'kids: for i in 0..kids.len() {
         kids[i].shut();
@@ -72,6 +88,10 @@ fn append_due<O: Order>(
     requires least { IsLeast (O.active order.old) stored.id }
     requires allowed { O.may_write order.old stored.id stored.segment.bytes.items }
     ensures moved { Moved (O.active order.old) (O.active order.new) (both (local_stock local.old) (stored_stock stored)) (local_stock local.new) }
+    ensures done { IfOk result (λ a. (n : ℕ) × ((mind : Mind) (ks : Tasks)
+        → ActDone (acted (listed ctx.now) n mind ks (append_next (stored_of stored))) (O.outlet order.old) n (O.outlet order.new) (mind_of local.new) ks a)) }
+    ensures refused { IfErr result (AppendRefused (O.outlet order.old)) }
+    ensures kept { OnErr result (Kept (O.outlet order.old) (O.outlet order.new)) }
     ensures faults { Counts (O.faults order.old) (O.faults order.new) (errs is_sink_fault result) }
     ensures cause { IfErr result ActMay }
 {
@@ -96,6 +116,9 @@ fn join_due<O: Order>(
     requires made { IsTrue (all_made (kids_of kids.old.items)) }
     requires fits { IsTrue (can_join shape (length (kids_of kids.old.items))) }
     ensures moved { Moved (O.active order.old) (O.active order.new) (both (local_stock local.old) (tasks_stock kids.old.items)) (both (local_stock local.new) (tasks_stock kids.new.items)) }
+    ensures done { IfOk result (λ a. (ids : List EncodingId) (n : ℕ) (mind : Mind)
+        → ActDone (acted ids n mind (row kids.old.items) (join_kids (fold_of shape))) (O.outlet order.old) n (O.outlet order.new) (mind_of local.new) (row kids.new.items) a) }
+    ensures refused { IfErr result (JoinRefused (joined_rows (fold_of shape) (layouts_in (row kids.old.items)))) }
     ensures outlet { O.outlet order.new ≡ O.outlet order.old }
     ensures faults { O.faults order.new ≡ O.faults order.old }
     ensures cause { IfErr result MayCome }
@@ -122,6 +145,11 @@ fn act<O: Order>(
     requires ready { IsTrue (may_due (O.active order.old) due (kids_of kids.old.items)) }
     requires allowed { AllMay (O.may_write order.old) (due_pairs due) }
     ensures moved { Moved (O.active order.old) (O.active order.new) (both (both (local_stock local.old) (tasks_stock kids.old.items)) (due_stock due)) (both (local_stock local.new) (tasks_stock kids.new.items)) }
+    ensures done { IfOk result (λ a. (n : ℕ) × ActDone (acted (listed ctx.now) n (mind_of local.old) (row kids.old.items) (next_of due)) (O.outlet order.old) n (O.outlet order.new)
+        (mind_of local.new) (row kids.new.items) a) }
+    ensures refused { IfErr result (λ e. (n : ℕ) → let w = acted (listed ctx.now) n (mind_of local.old) (row kids.old.items) (next_of due) in
+        Refused w.refusal w.misfit w.numbers w.indices w.wrote (IsPast (O.outlet order.old)) w.joined e) }
+    ensures kept { OnErr result (Kept (O.outlet order.old) (O.outlet order.new)) }
     ensures faults { Counts (O.faults order.old) (O.faults order.new) (errs is_sink_fault result) }
     ensures cause { IfErr result ActMay }
 {
@@ -149,6 +177,11 @@ fn take<O: Order>(
 ) -> Result<(), WriteError>
     requires { Owned (O.active order.old) (both (both (both (local_stock local.old) (dues_stock todo.old.items)) (tasks_stock kids.old.items)) (item_stock item)) }
     ensures moved { Moved (O.active order.old) (O.active order.new) (both (both (both (local_stock local.old) (dues_stock todo.old.items)) (tasks_stock kids.old.items)) (item_stock item)) (both (both (local_stock local.new) (dues_stock todo.new.items)) (tasks_stock kids.new.items)) }
+    ensures done { IfOk result (λ _. (image : ℕ → ChunkData → ChunkData)
+        → Took (taken (setting_of ctx.now image) name.now (row kids.old.items) (item_of item) (mind_of local.old)) (mind_of local.new) (todo_of todo.new.items) (todo_of todo.old.items)
+        (row kids.new.items)) }
+    ensures refused { IsFalse (is_over local.old) → IfErr result (λ e. (image : ℕ → ChunkData → ChunkData)
+        → TakeRefused (taken (setting_of ctx.now image) name.now (row kids.old.items) (item_of item) (mind_of local.old)) e) }
     ensures outlet { O.outlet order.new ≡ O.outlet order.old }
     ensures faults { O.faults order.new ≡ O.faults order.old }
     ensures cause { IfErr result MayCome }
@@ -165,10 +198,20 @@ fn take<O: Order>(
 /// What a flat node's task has in mind at the end of a stream without chunks: its layout.
 fn end_empty(alloc: Global, node: &FlatNode) -> Result<Local, WriteError>
     ensures local { IfOk result (λ l. local_stock l ≡ none) }
+    ensures layout { IfOk result (λ l. mind_of l ≡ has_layout (gathered (ty (arc_value node.now.dtype)) 0 [])) }
+    ensures memory { IfErr result (λ e. e ≡ WriteError.OutOfMemory) }
     ensures cause { IfErr result MayCome }
 {
     let layout = gather(&node.dtype, Vec::new(alloc))?;
     Ok(Local::Made(layout))
+}
+
+/// Whether there are no children, and the type has no columns.
+fn has_no_columns(node: &ColumnsNode, kids: usize) -> bool
+    ensures { result ≡ ((kids == 0) && (0 == column_count (ty (arc_value node.now.dtype)))) }
+{
+    let fits = columns_fit(node, 0);
+    kids == 0 && fits
 }
 
 /// What a struct's task has in mind at the end of its stream: without columns its layout at once.
@@ -181,9 +224,13 @@ fn end_columns(
     requires { deque_len todo.old + 2 ≤ deque_capacity todo.old }
     ensures todo { dues_stock todo.new.items ≡ dues_stock todo.old.items }
     ensures local { IfOk result (λ l. local_stock l ≡ none) }
+    ensures done { IfOk result (λ l. (c : Mind) (ks : Tasks)
+        → Ended (columns_end ((kids == 0) && (0 == column_count (ty (arc_value node.dtype)))) (ty (arc_value node.dtype)) rows (bare c) ks) (mind_of l) (todo_of todo.new.items)
+        (todo_of todo.old.items)) }
+    ensures memory { IfErr result (λ e. e ≡ WriteError.OutOfMemory) }
     ensures cause { IfErr result MayCome }
 {
-    if kids == 0 && columns_fit(&node, 0) {
+    if has_no_columns(&node, kids) {
         let layout = join_columns(&node, rows, Vec::new(*todo.allocator()));
         drop(node);
         return match layout {
@@ -207,6 +254,8 @@ fn ended<O: Order>(
     requires owned { Owned (O.active order.old) (both (local_stock local) (dues_stock todo.old.items)) }
     requires room { deque_len todo.old + 2 ≤ deque_capacity todo.old }
     ensures moved { Moved (O.active order.old) (O.active order.new) (both (local_stock local) (dues_stock todo.old.items)) (both (ok_stock local_stock result) (dues_stock todo.new.items)) }
+    ensures done { IfOk result (λ l. (ks : Tasks) → count ks ≡ kids → Ended (take_end (bare (mind_of local)) ks (mind_of local)) (mind_of l) (todo_of todo.new.items) (todo_of todo.old.items)) }
+    ensures memory { IfErr result (λ e. e ≡ WriteError.OutOfMemory) }
     ensures outlet { O.outlet order.new ≡ O.outlet order.old }
     ensures faults { O.faults order.new ≡ O.faults order.old }
     ensures cause { IfErr result MayCome }
@@ -244,6 +293,9 @@ fn end<O: Order>(
 ) -> Result<(), WriteError>
     requires { Owned (O.active order.old) (both (local_stock local.old) (dues_stock todo.old.items)) }
     ensures moved { Moved (O.active order.old) (O.active order.new) (both (local_stock local.old) (dues_stock todo.old.items)) (both (local_stock local.new) (dues_stock todo.new.items)) }
+    ensures done { OnOk result ((ks : Tasks) → count ks ≡ kids
+        → Ended (take_end (bare (mind_of local.old)) ks (mind_of local.old)) (mind_of local.new) (todo_of todo.new.items) (todo_of todo.old.items)) }
+    ensures memory { IfErr result (λ e. e ≡ WriteError.OutOfMemory) }
     ensures outlet { O.outlet order.new ≡ O.outlet order.old }
     ensures faults { O.faults order.new ≡ O.faults order.old }
     ensures cause { IfErr result MayCome }
@@ -269,6 +321,10 @@ fn take_next<O: Order>(
 ) -> Result<(), WriteError>
     requires { Owned (O.active order.old) (both (head_stock head.old) (tasks_stock kids.old.items)) }
     ensures moved { Moved (O.active order.old) (O.active order.new) (both (head_stock head.old) (tasks_stock kids.old.items)) (both (head_stock head.new) (tasks_stock kids.new.items)) }
+    ensures done { head.old.todo.items ≡ [] → IfOk result (λ _. (image : ℕ → ChunkData → ChunkData)
+        → TakeDone (do_take (setting_of ctx.now image) (desk_of head.old) (row kids.old.items) (items_of head.old.inbox.items)) head.new kids.new.items) }
+    ensures refused { IsFalse (is_over head.old.local) → IfErr result (λ e. (image : ℕ → ChunkData → ChunkData)
+        → TakeRefused (do_take (setting_of ctx.now image) (desk_of head.old) (row kids.old.items) (items_of head.old.inbox.items)) e) }
     ensures outlet { O.outlet order.new ≡ O.outlet order.old }
     ensures faults { O.faults order.new ≡ O.faults order.old }
     ensures cause { IfErr result MayCome }
@@ -300,6 +356,13 @@ pub(crate) fn advance<O: Order>(
     requires ready { IsTrue (may_now (O.active order.old) head.old (kids_of kids.old.items)) }
     requires allowed { AllMay (O.may_write order.old) (next_pairs head.old.todo.items) }
     ensures moved { Moved (O.active order.old) (O.active order.new) (both (head_stock head.old) (tasks_stock kids.old.items)) (both (head_stock head.new) (tasks_stock kids.new.items)) }
+    ensures done { IfOk result (λ a. (image : ℕ → ChunkData → ChunkData)
+        → (n : ℕ) × Acted (do_act (setting_of ctx.now image) n (desk_of head.old) (row kids.old.items) (todo_of head.old.todo.items)) (O.outlet order.old) n (O.outlet order.new)
+        head.new kids.new.items a) }
+    ensures refused { IfErr result (λ e. (image : ℕ → ChunkData → ChunkData) (n : ℕ)
+        → let w = do_act (setting_of ctx.now image) n (desk_of head.old) (row kids.old.items) (todo_of head.old.todo.items) in
+        Refused w.refusal w.misfit w.numbers w.indices w.wrote (IsPast (O.outlet order.old)) w.joined e) }
+    ensures kept { OnErr result (Kept (O.outlet order.old) (O.outlet order.new)) }
     ensures faults { Counts (O.faults order.old) (O.faults order.new) (errs is_sink_fault result) }
     ensures cause { IfErr result ActMay }
 {

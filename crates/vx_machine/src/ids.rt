@@ -1,7 +1,9 @@
 //! Ids and pointers of an order, taken and given up in balance.
 
-ghost use Rattle.std.specs.Prelude.{◌≡◌, vec_len, IfOk, IfErr, OnErr};
+ghost use Rattle.std.specs.Prelude.{◌≡◌, vec_len, IfOk, IfErr, OnOk, OnErr};
+ghost use Rattle.vx_path.specs.Path.{eof_path, inside, next};
 ghost use Rattle.vx_order.specs.Answers.{FullAt};
+ghost use Rattle.vx_order.specs.Ids.{children};
 ghost use Rattle.vx_machine_ids.specs.Stock.{none, both, id_stock, end_stock, ok_stock};
 ghost use Rattle.vx_machine_ids.specs.Balance.{Owned, Moved};
 ghost use Rattle.vx_machine.specs.Stocks.{all_ids};
@@ -36,6 +38,8 @@ pub(crate) fn take_id<O: Order>(
 ) -> Result<SequenceId, OrderError>
     requires { Owned (O.active order.old) (end_stock pointer.old) }
     ensures moved { Moved (O.active order.old) (O.active order.new) (end_stock pointer.old) (both (end_stock pointer.new) (ok_stock id_stock result)) }
+    ensures id { IfOk result (λ id. id ≡ eof_path pointer.old) }
+    ensures next { OnOk result (pointer.new ≡ next pointer.old) }
     ensures full { IfErr result (FullAt pointer.old.last) }
     ensures same { OnErr result (pointer.new ≡ pointer.old) }
     ensures outlet { O.outlet order.new ≡ O.outlet order.old }
@@ -54,6 +58,8 @@ pub fn take_below<O: Order>(
 ) -> Result<SequencePointer, OrderError>
     requires { Owned (O.active order.old) (end_stock pointer.old) }
     ensures moved { Moved (O.active order.old) (O.active order.new) (end_stock pointer.old) (both (end_stock pointer.new) (ok_stock end_stock result)) }
+    ensures below { IfOk result (λ below. below ≡ inside pointer.old) }
+    ensures next { OnOk result (pointer.new ≡ next pointer.old) }
     ensures full { IfErr result (FullAt pointer.old.last) }
     ensures outlet { O.outlet order.new ≡ O.outlet order.old }
     ensures faults { O.faults order.new ≡ O.faults order.old }
@@ -74,6 +80,7 @@ pub(crate) fn take_children<O: Order>(
     requires { Owned (O.active order.old) (id_stock id) }
     ensures moved { Moved (O.active order.old) (O.active order.new) (id_stock id) (ok_stock all_ids result) }
     ensures count { IfOk result (λ ids. vec_len ids ≡ count) }
+    ensures ids { IfOk result (λ ids. ids.items ≡ children id count) }
     ensures memory { IfErr result (λ e. e ≡ OrderError.OutOfMemory) }
     ensures outlet { O.outlet order.new ≡ O.outlet order.old }
     ensures faults { O.faults order.new ≡ O.faults order.old }

@@ -76,7 +76,7 @@ impl Buffered {
             return Ok(all_of(alloc, kept, chunk)?);
         }
         let (chunks, kept, total) = pushed(alloc, kept, chunk, total, self.size)?;
-        self.kept = kept;
+        drop(mem::replace(&mut self.kept, kept));
         self.total = total;
         Ok(chunks)
     }
@@ -99,13 +99,25 @@ fn pushed(
     ensures fits { OnOk result (first_past (weights size (chunks_in kept.items) chunk) ≡ None) }
     ensures refused { IfErr result (Refuses (first_past (weights size (chunks_in kept.items) chunk))) }
 {
-    let bytes = chunk.nbytes()?;
-    let total = total_with(total, bytes)?;
-    kept.push_back(Kept { chunk, bytes })?;
-    if total < size.saturating_mul(2) {
-        return Ok((Vec::new(alloc), kept, total));
+    match chunk.nbytes() {
+        Ok(bytes) => match total_with(total, bytes) {
+            Ok(total) => {
+                kept.push_back(Kept { chunk, bytes })?;
+                if total < size.saturating_mul(2) {
+                    return Ok((Vec::new(alloc), kept, total));
+                }
+                Ok(flush(alloc, kept, total, size)?)
+            }
+            Err(error) => {
+                drop((kept, chunk));
+                Err(error)
+            }
+        },
+        Err(error) => {
+            drop((kept, chunk));
+            Err(error)
+        }
     }
-    Ok(flush(alloc, kept, total, size)?)
 }
 
 /// The sum, where it fits 64 bits.
@@ -147,15 +159,33 @@ fn flush(
 }
 
 /// The chunks that are held, and the last.
-#[tactic(auto, using(crate::proofs::FlushSteps::all_rules))]
 fn all_of(alloc: Global, kept: VecDeque<Kept>, last: Chunk) -> Result<Vec<Chunk>, AllocError>
     ensures { IfOk result (λ v. v.items ≡ chunks_in kept.items ++ last ∷ []) }
 {
+    match chunks_of(alloc, kept) {
+        Ok(mut chunks) => {
+            chunks.push(last)?;
+            Ok(chunks)
+        }
+        Err(error) => {
+            drop(last);
+            Err(error)
+        }
+    }
+}
+
+/// The chunks that are held.
+#[tactic(auto, using(crate::proofs::FlushSteps::all_rules))]
+fn chunks_of(alloc: Global, kept: VecDeque<Kept>) -> Result<Vec<Chunk>, AllocError>
+    ensures { IfOk result (λ v. v.items ≡ chunks_in kept.items) }
+{
     let kept = Vec::from(kept);
-    let mut chunks = Vec::with_capacity(alloc, kept.len())?;
+    let Ok(mut chunks) = Vec::with_capacity(alloc, kept.len()) else {
+        drop(kept);
+        return Err(AllocError);
+    };
     for one in kept {
         chunks.push(one.chunk)?;
     }
-    chunks.push(last)?;
     Ok(chunks)
 }

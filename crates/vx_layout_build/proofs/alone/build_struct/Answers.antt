@@ -1,18 +1,8 @@
 use Rattle.std.proofs.Common.{Ok, sym, ◌∙◌, ap}
-use Rattle.vx_model.specs.TyView.{ty}
-use Rattle.vx_layout_tree.specs.KidsView.{layout_kids}
-use Rattle.vx_layout_tree.proofs.KidSteps.{struct_count}
-use Rattle.vx_layout_build.proofs.PartSteps.{count_is}
-use Rattle.vx_layout_build.proofs.BuildSteps.{struct_made}
 use Rattle.vx_layout_build.proofs.alone.build_struct.Goals as goal
 
 pub from_parts-requires : goal.from_parts-requires
-from_parts-requires c =
-    let needed = c.struct_children.ensures ∙ sym (struct_count (ty c.args.parts.dtype)) in
-    count_is (layout_kids c.args.parts.children) c.struct_children.result c.in_ok-has_children.ensures ∙ needed
+from_parts-requires c = c.in-Ok.ensures.1
 
-pub returns : goal.returns
-returns c =
-    let needed = c.struct_children.ensures ∙ sym (struct_count (ty c.args.parts.dtype)) in
-    struct_made c.args.parts c.args.metadata.now c.struct_children.result c.in_ok-no_metadata.ensures (sym c.is_struct.ensures ∙ c.if-not-is_struct.false) needed c.in_ok-has_children.ensures c.in_ok-all_have_rows.ensures
-    (count_is (layout_kids c.args.parts.children) c.struct_children.result c.in_ok-has_children.ensures ∙ needed) ∙ ap Ok (sym c.from_parts.ensures)
+pub returns-in-Ok : goal.returns-in-Ok
+returns-in-Ok c = c.in-Ok.ensures.0 ∙ ap Ok (sym c.from_parts.ensures)

@@ -194,10 +194,8 @@ build_wanted-returns-in_err-layout t c =
     let p = err_from_is_err_and c.from_residual.result c.from_residual.ensures.1 in
     rw (p.1, p.2) (wanted_fails _ c.args.wanted c.in_err-layout.ensures)
 
-pub build_wanted-returns-in_err-check : goal.build_wanted-returns-in_err-check
-build_wanted-returns-in_err-check t c =
-    let p = err_from_is_err_and c.from_residual-in_err-check.result c.from_residual-in_err-check.ensures.1 in
-    rw (p.1, p.2) (wanted_rows_fail _ c.args.wanted (layout_data c.in_ok-layout.layout) c.in_ok-layout.ensures (rw (← c.row_count.ensures) c.in_err-check.ensures))
+pub build_wanted-returns-in-Err : goal.build_wanted-returns-in-Err
+build_wanted-returns-in-Err t c = wanted_rows_fail _ c.args.wanted (layout_data c.in_ok-layout.layout) c.in_ok-layout.ensures (rw (← c.row_count.ensures) c.in-Err.ensures)
 
-pub build_wanted-returns : goal.build_wanted-returns
-build_wanted-returns t c = wanted_is c.args.wanted (layout_data c.in_ok-layout.layout) c.in_ok-layout.ensures (rw (← c.row_count.ensures) c.in_ok-check.ensures)
+pub build_wanted-returns-in-Ok : goal.build_wanted-returns-in-Ok
+build_wanted-returns-in-Ok t c = wanted_is c.args.wanted (layout_data c.in_ok-layout.layout) c.in_ok-layout.ensures (rw (← c.row_count.ensures) c.in-Ok.ensures)

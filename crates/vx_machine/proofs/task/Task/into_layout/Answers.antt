@@ -11,8 +11,8 @@ destroy_empty-requires-2 c = (done_parts c.args.self c.requires).idle
 pub destroy_empty-requires-3 : goal.destroy_empty-requires-3
 destroy_empty-requires-3 c = (done_parts c.args.self c.requires).empty
 
-pub returns : goal.returns
-returns c = done_none c.args.self c.requires
+pub returns-clause-free : goal.returns-clause-free
+returns-clause-free c = done_none c.args.self c.requires
 
 pub unreachable-requires : goal.unreachable-requires
 unreachable-requires c = let m = made_is (out-Task c.args.self).head.local (done_parts c.args.self c.requires).made in c.in_default.not-Made m.0 m.1
