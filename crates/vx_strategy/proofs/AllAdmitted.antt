@@ -4,12 +4,12 @@ use Rattle.std.proofs.lemmas.Bool.{and_from, and_parts}
 use Rattle.vx_strategy_spec.specs.StrategyData.{by_blocks}
 use Rattle.vx_strategy_spec.specs.Admitted.{is_admitted, are_admitted, are_apart, wraps_admitted, is_admitted_grouping, is_admitted_zoned}
 use Rattle.vx_strategy.specs.AdmittedStrategy.{item_admitted}
-use Rattle.vx_strategy.specs.RuleViews.{block_rule, zone_rule}
+use Rattle.vx_strategy_options.specs.RuleViews.{block_rule, zone_rule}
 use Rattle.vx_strategy.specs.FieldWays.{field_ways}
 use Rattle.vx_strategy.specs.WrapViews.{wraps}
 use Rattle.vx_strategy.specs.StrategyView.{strategy_data}
-use Rattle.vx_strategy.specs.declared.grouping.BlockRule.{BlockRule}
-use Rattle.vx_strategy.specs.declared.zone_rule.ZoneRule.{ZoneRule}
+use Rattle.vx_strategy_options.specs.declared.block_rule.BlockRule.{BlockRule}
+use Rattle.vx_strategy_options.specs.declared.zone_rule.ZoneRule.{ZoneRule}
 use Rattle.vx_strategy.specs.declared.field_writer.FieldWriter.{FieldWriter}
 use Rattle.vx_strategy.specs.declared.strategy.Strategy.{Strategy}
 use Rattle.vx_strategy.specs.declared.strategy.Strategy.TheVariants.{Flat, Chunked, Struct, List as ListStrategy, Dict, Zoned, Repartition, Buffered, Collect, Compressing, Table}

@@ -4,7 +4,7 @@ use Rattle.vx_strategy_spec.specs.StrategyData.{Wraps, no_wraps}
 use Rattle.vx_strategy.specs.WrapViews.{wrap, wraps}
 use Rattle.vx_strategy.specs.Wrapped.{wraps_asked}
 use Rattle.vx_strategy.specs.WrapCauses.{FirstRefused}
-use Rattle.vx_strategy.specs.declared.error.BuildError.TheVariants.{OutOfMemory}
+use Rattle.vx_strategy_options.specs.declared.error.BuildError.TheVariants.{OutOfMemory}
 use Rattle.vx_strategy.specs.declared.wrapper.ListWrapper.{ListWrapper}
 use Rattle.vx_strategy.specs.declared.wrapper.ListWrapper.TheVariants as asked
 use Rattle.vx_strategy.specs.declared.wrapper.Wrapper.{Wrapper}

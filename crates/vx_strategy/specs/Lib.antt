@@ -4,7 +4,6 @@ pub mod AdmittedStrategy
 pub mod WayDepth
 pub mod FlatViews
 pub mod Places
-pub mod RuleViews
 pub mod FieldWays
 pub mod PathWays
 pub mod PathFalls

@@ -2,7 +2,7 @@
 use Rattle.std.specs.Int.NonZero.{non_zero_u64_get}
 use Rattle.vx_strategy_spec.specs.StrategyData.{StrategyData, chunked, grouped, by_blocks, by_bytes, into_one, compressed, coded, zoned, structured, listed, tabled}
 use Rattle.vx_strategy_options.specs.OptionViews.{dict_options}
-use Rattle.vx_strategy.specs.RuleViews.{block_rule, zone_rule}
+use Rattle.vx_strategy_options.specs.RuleViews.{block_rule, zone_rule}
 use Rattle.vx_strategy.specs.FieldWays.{field_ways}
 use Rattle.vx_strategy.specs.WrapViews.{wraps}
 use Rattle.vx_strategy.specs.declared.chunked.ChunkedLayoutStrategy.{ChunkedLayoutStrategy}

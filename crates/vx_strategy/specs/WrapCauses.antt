@@ -1,8 +1,8 @@
 -- Why wrappers are refused.
 use Rattle.std.specs.Prelude.{◌≡◌, ◌<◌, ◌⊎◌, List, [], ◌∷◌}
-use Rattle.vx_strategy.specs.Causes.{ZeroBlockLenOf, AreZones, NoZonesOf}
-use Rattle.vx_strategy.specs.declared.error.BuildError.{BuildError}
-use Rattle.vx_strategy.specs.declared.error.BuildError.TheVariants.{OutOfMemory}
+use Rattle.vx_strategy_options.specs.Causes.{ZeroBlockLenOf, AreZones, NoZonesOf}
+use Rattle.vx_strategy_options.specs.declared.error.BuildError.{BuildError}
+use Rattle.vx_strategy_options.specs.declared.error.BuildError.TheVariants.{OutOfMemory}
 use Rattle.vx_strategy.specs.declared.wrapper.ListWrapper.{ListWrapper}
 use Rattle.vx_strategy.specs.declared.wrapper.ListWrapper.TheVariants.{Repartition, Buffered, Zoned}
 

@@ -1,7 +1,7 @@
 -- Tested wrappers, as contracts see them.
 use Rattle.std.specs.Prelude.{List, [], ◌∷◌}
 use Rattle.vx_strategy_spec.specs.StrategyData.{Wraps, no_wraps, wrap_grouped, wrap_zoned, by_blocks, by_bytes}
-use Rattle.vx_strategy.specs.RuleViews.{block_rule, zone_rule}
+use Rattle.vx_strategy_options.specs.RuleViews.{block_rule, zone_rule}
 use Rattle.vx_strategy.specs.declared.wrapper.Wrapper.{Wrapper}
 use Rattle.vx_strategy.specs.declared.wrapper.Wrapper.TheVariants as tested
 

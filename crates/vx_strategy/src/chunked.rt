@@ -1,7 +1,7 @@
 use crate::child::ChildStrategy;
-use crate::error::BuildError;
 use crate::strategy::Strategy;
 use std::alloc::{AllocError, Global};
+use vx_strategy_options::BuildError;
 
 /// Hands each chunk alone to a child of its own.
 #[derive(Debug, Drop)]

@@ -1,8 +1,8 @@
 use crate::child::ChildStrategy;
-use crate::error::BuildError;
 use crate::strategy::Strategy;
 use std::alloc::{AllocError, Global};
 use std::num::NonZeroU64;
+use vx_strategy_options::BuildError;
 
 /// Hands each chunk's image under the compressor on.
 #[derive(Debug, Drop)]
@@ -19,7 +19,7 @@ impl CompressingStrategy {
     ghost use Rattle.std.specs.Prelude.{◌≡◌, ◌<◌, IfOk, IfErr};
     ghost use Rattle.vx_strategy_spec.specs.StrategyData.{compressed};
     ghost use Rattle.vx_strategy.specs.NodeViews.{compressed_way};
-    ghost use Rattle.vx_strategy.specs.Causes.{ZeroConcurrencyOf};
+    ghost use Rattle.vx_strategy_options.specs.Causes.{ZeroConcurrencyOf};
     ghost use Rattle.vx_strategy.specs.StrategyView.{strategy_data};
 
     /// With a concurrency of 1.

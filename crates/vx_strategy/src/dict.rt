@@ -1,23 +1,7 @@
-ghost use Rattle.std.specs.Prelude.{◌≡◌};
-ghost use Rattle.vx_model.specs.ChunkData.{is_dict_type};
-ghost use Rattle.vx_model.specs.TyView.{ty};
-
 use crate::child::ChildStrategy;
-use crate::error::BuildError;
 use crate::strategy::Strategy;
 use std::alloc::{AllocError, Global};
-use vx_model::DType;
-use vx_strategy_options::{DictLayoutConstraints, DictLayoutOptions};
-
-/// Whether a dictionary can hold the type: integers, texts and bytes.
-pub fn dict_layout_supported(dtype: &DType) -> bool
-    ensures { result ≡ is_dict_type (ty dtype.now) }
-{
-    match dtype {
-        DType::Primitive(..) | DType::Utf8(_) | DType::Binary(_) => true,
-        DType::Bool(_) | DType::List(..) | DType::Struct(..) | DType::Extension(_) => false,
-    }
-}
+use vx_strategy_options::{BuildError, DictLayoutConstraints, DictLayoutOptions};
 
 /// Writes runs of codes and values, where the first chunk's image under the probe is a dictionary.
 #[derive(Debug, Drop)]

@@ -6,10 +6,10 @@ ghost use Rattle.vx_strategy.specs.PairWays.{named_way, with_writers};
 ghost use Rattle.vx_strategy.specs.StrategyView.{strategy_data};
 
 use crate::child::ChildStrategy;
-use crate::error::BuildError;
 use crate::strategy::Strategy;
 use std::alloc::{AllocError, Global};
 use vx_model::FieldName;
+use vx_strategy_options::BuildError;
 
 /// The writer of the fields of one name.
 #[derive(Debug, Drop)]

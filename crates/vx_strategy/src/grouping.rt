@@ -1,43 +1,9 @@
 //! Strategies that regroup a stream: into blocks, up to a number of bytes, into one chunk.
 
 use crate::child::ChildStrategy;
-use crate::error::BuildError;
 use crate::strategy::Strategy;
 use std::alloc::{AllocError, Global};
-use std::num::NonZeroU64;
-use vx_strategy_options::RepartitionWriterOptions;
-
-/// Options of which the block length isn't 0.
-#[derive(Clone, Copy, Debug)]
-pub struct BlockRule {
-    pub minimum: u64,
-    pub multiple: NonZeroU64,
-    pub target: Option<u64>,
-    pub canonicalize: bool,
-}
-
-impl BlockRule {
-    ghost use Rattle.std.specs.Prelude.{◌≡◌, ◌<◌, IfOk, IfErr};
-    ghost use Rattle.vx_strategy_options.specs.OptionViews.{block_options};
-    ghost use Rattle.vx_strategy.specs.RuleViews.{block_rule};
-    ghost use Rattle.vx_strategy.specs.Causes.{ZeroBlockLenOf};
-
-    pub fn new(options: RepartitionWriterOptions) -> Result<BlockRule, BuildError>
-        ensures ok { IfOk result (λ r. block_rule r ≡ block_options options) }
-        ensures some { IfOk result (λ r. 0 < options.block_len_multiple) }
-        ensures refused { IfErr result (ZeroBlockLenOf options) }
-    {
-        let Some(multiple) = NonZeroU64::new(options.block_len_multiple) else {
-            return Err(BuildError::ZeroBlockLen);
-        };
-        Ok(BlockRule {
-            minimum: options.block_size_minimum,
-            multiple,
-            target: options.block_size_target,
-            canonicalize: options.canonicalize,
-        })
-    }
-}
+use vx_strategy_options::{BlockRule, BuildError, RepartitionWriterOptions};
 
 /// Cuts the rows into blocks of a multiple of the block length.
 #[derive(Debug, Drop)]
@@ -52,8 +18,8 @@ impl RepartitionStrategy {
     ghost use Rattle.vx_strategy_spec.specs.StrategyData.{grouped, by_blocks};
     ghost use Rattle.vx_strategy_options.specs.OptionViews.{block_options};
     ghost use Rattle.vx_strategy.specs.NodeViews.{repartition_way};
-    ghost use Rattle.vx_strategy.specs.RuleViews.{block_rule};
-    ghost use Rattle.vx_strategy.specs.Causes.{ZeroBlockLenOf};
+    ghost use Rattle.vx_strategy_options.specs.RuleViews.{block_rule};
+    ghost use Rattle.vx_strategy_options.specs.Causes.{ZeroBlockLenOf};
     ghost use Rattle.vx_strategy.specs.StrategyView.{strategy_data};
 
     /// Refuses `ZeroBlockLen` exactly where the block length is 0.

@@ -5,7 +5,6 @@ mod child;
 mod chunked;
 mod compressing;
 mod dict;
-mod error;
 mod field_writer;
 mod flat;
 mod grouping;
@@ -15,14 +14,12 @@ mod strategy;
 mod structs;
 mod table;
 mod wrapper;
-mod zone_rule;
 mod zoned;
 
 pub use child::ChildStrategy;
 pub use chunked::ChunkedLayoutStrategy;
 pub use compressing::CompressingStrategy;
-pub use dict::{DictStrategy, dict_layout_supported};
-pub use error::BuildError;
+pub use dict::DictStrategy;
 pub use field_writer::FieldWriter;
 pub use flat::FlatLayoutStrategy;
 pub use grouping::{BufferedStrategy, CollectStrategy, RepartitionStrategy};
@@ -32,7 +29,8 @@ pub use strategy::Strategy;
 pub use structs::StructStrategy;
 pub use table::TableStrategy;
 pub use vx_strategy_options::{
-    DictLayoutConstraints, DictLayoutOptions, RepartitionWriterOptions, ZonedLayoutOptions,
+    BuildError, DictLayoutConstraints, DictLayoutOptions, RepartitionWriterOptions,
+    ZonedLayoutOptions, dict_layout_supported,
 };
 pub use wrapper::{ListWrapper, Wrapper};
 pub use zoned::ZonedStrategy;

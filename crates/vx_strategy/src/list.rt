@@ -2,10 +2,10 @@ ghost use Rattle.std.specs.Prelude.{◌≡◌, IfOk};
 ghost use Rattle.vx_strategy.specs.FlatViews.{default_flat};
 
 use crate::child::ChildStrategy;
-use crate::error::BuildError;
 use crate::flat::FlatLayoutStrategy;
 use crate::strategy::Strategy;
 use std::alloc::{AllocError, Global};
+use vx_strategy_options::BuildError;
 
 /// Writes the elements, offsets and validity of lists; a type that isn't a list goes to the fallback.
 #[derive(Debug, Drop)]

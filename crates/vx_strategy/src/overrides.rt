@@ -4,11 +4,11 @@ ghost use Rattle.std.specs.Prelude.{◌≡◌, [], ◌∷◌, ◌++◌, IfOk};
 ghost use Rattle.vx_strategy.specs.Overridden.{overlap_place};
 
 use crate::child::ChildStrategy;
-use crate::error::BuildError;
 use crate::strategy::Strategy;
 use std::alloc::{AllocError, Global};
 use std::marker::Model;
 use vx_field_path::FieldPath;
+use vx_strategy_options::BuildError;
 
 /// The writer of the field at a path.
 #[derive(Debug, Drop)]

@@ -1,9 +1,9 @@
 use crate::child::ChildStrategy;
-use crate::error::BuildError;
 use crate::field_writer::{FieldWriter, copied, find, put, put_all};
 use crate::strategy::Strategy;
 use std::alloc::{AllocError, Global};
 use vx_model::FieldName;
+use vx_strategy_options::BuildError;
 
 /// Writes validity and each field by a writer of its own.
 #[derive(Debug, Drop)]

@@ -1,11 +1,11 @@
 use crate::child::ChildStrategy;
-use crate::error::BuildError;
 use crate::overrides::Overrides;
 use crate::strategy::Strategy;
 use crate::wrapper::{ListWrapper, Wrapper, shared, tested};
 use std::alloc::{AllocError, Global};
 use std::sync::Arc;
 use vx_field_path::FieldPath;
+use vx_strategy_options::BuildError;
 
 /// Writes structs field by field, lists where asked for, and every other type by the leaf strategy; a field at the
 /// path of an override goes to its writer.

@@ -2,21 +2,21 @@
 
 ghost use Rattle.std.specs.Prelude.{◌≡◌, IfOk, IfErr};
 ghost use Rattle.vx_strategy_spec.specs.StrategyData.{zoned};
-ghost use Rattle.vx_strategy.specs.RuleViews.{zone_rule};
+ghost use Rattle.vx_strategy_options.specs.RuleViews.{zone_rule};
 ghost use Rattle.vx_strategy.specs.StrategyView.{strategy_data};
 ghost use Rattle.vx_strategy.specs.WrapViews.{wraps};
 ghost use Rattle.vx_strategy.specs.Wrapped.{wraps_asked};
 ghost use Rattle.vx_strategy.specs.WrapCauses.{AllWrap, FirstRefused};
 
 use crate::child::ChildStrategy;
-use crate::error::BuildError;
-use crate::grouping::{BlockRule, BufferedStrategy, RepartitionStrategy};
+use crate::grouping::{BufferedStrategy, RepartitionStrategy};
 use crate::strategy::Strategy;
-use crate::zone_rule::ZoneRule;
 use crate::zoned::ZonedStrategy;
 use std::alloc::{AllocError, Global};
 use std::sync::Arc;
-use vx_strategy_options::{RepartitionWriterOptions, ZonedLayoutOptions};
+use vx_strategy_options::{
+    BlockRule, BuildError, RepartitionWriterOptions, ZoneRule, ZonedLayoutOptions,
+};
 
 /// A strategy around the list layout of a table, without its child.
 #[derive(Debug, Drop)]

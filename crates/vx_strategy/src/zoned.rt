@@ -1,11 +1,9 @@
 use crate::child::ChildStrategy;
-use crate::error::BuildError;
 use crate::strategy::Strategy;
-use crate::zone_rule::ZoneRule;
 use std::alloc::{AllocError, Global};
 use std::num::{NonZeroU32, NonZeroU64};
 use vx_aggregate::AggregateFn;
-use vx_strategy_options::ZonedLayoutOptions;
+use vx_strategy_options::{BuildError, ZoneRule, ZonedLayoutOptions};
 
 /// Records each zone's rows, and hands them on.
 #[derive(Debug, Drop)]
@@ -20,11 +18,11 @@ impl ZonedStrategy {
     ghost use Rattle.std.specs.Prelude.{◌≡◌, map, option_map, IsTrue, IfOk, IfErr};
     ghost use Rattle.std.specs.Int.NonZero.{non_zero_u32_get, non_zero_u64_get};
     ghost use Rattle.vx_aggregate.specs.AggregateView.{aggregate};
-    ghost use Rattle.vx_strategy.specs.RuleViews.{zone_rule};
+    ghost use Rattle.vx_strategy_options.specs.RuleViews.{zone_rule};
     ghost use Rattle.vx_strategy_spec.specs.StrategyData.{zoned};
     ghost use Rattle.vx_strategy_options.specs.OptionViews.{are_few, zoned_options};
     ghost use Rattle.vx_strategy.specs.NodeViews.{zoned_way};
-    ghost use Rattle.vx_strategy.specs.Causes.{AreZones, NoZonesOf};
+    ghost use Rattle.vx_strategy_options.specs.Causes.{AreZones, NoZonesOf};
     ghost use Rattle.vx_strategy.specs.StrategyView.{strategy_data};
 
     /// Refuses `ZoneLength` exactly where a zone's rows are none or pass u32, then `ZeroConcurrency` exactly at 0.

@@ -6,8 +6,8 @@ use Rattle.vx_strategy_spec.specs.StrategyData.{StrategyData, StrategyList, no_w
 use Rattle.vx_strategy_spec.specs.Admitted.{is_root, overlaps, overlaps_none, are_apart}
 use Rattle.vx_strategy.specs.Overridden.{Names, PathWay, appended, all_appended, first_overlap, AllFit}
 use Rattle.vx_strategy.specs.Causes.{OverrideRefused, OverridesRefused}
-use Rattle.vx_strategy.specs.declared.error.BuildError.{BuildError}
-use Rattle.vx_strategy.specs.declared.error.BuildError.TheVariants as causes
+use Rattle.vx_strategy_options.specs.declared.error.BuildError.{BuildError}
+use Rattle.vx_strategy_options.specs.declared.error.BuildError.TheVariants as causes
 use Rattle.vx_strategy.proofs.Apart.{overlaps_sym, apart_more}
 use Rattle.vx_strategy_json.specs.Forms.{overrides_of}
 use Rattle.vx_strategy_json.proofs.Refused.{Tells, memory_told}

@@ -2,7 +2,7 @@
 use Rattle.std.proofs.Common.{◌≡◌, ℕ, ◌<◌, ◌≤◌, ◌^◌, ◌&&◌, Bool, true, false, List, [], ◌∷◌, ◌⊎◌, inl, inr, map, refl, arith, Option, Err}
 use Rattle.std.proofs.lemmas.Bool.{lt-ltb, le-ltb, and_from, and_left, and_right}
 use Rattle.std.specs.Prelude.{nat_lt}
-use Rattle.vx_strategy.specs.Causes.{ZeroBlockLenOf, ZeroConcurrencyOf, NoZonesOf, AreZones}
+use Rattle.vx_strategy_options.specs.Causes.{ZeroBlockLenOf, ZeroConcurrencyOf, NoZonesOf, AreZones}
 use Rattle.vx_strategy.specs.WrapCauses.{Wraps as CanWrap, AllWrap, WrapRefused, FirstRefused}
 use Rattle.vx_strategy.specs.Wrapped.{wraps_asked}
 use Rattle.vx_strategy_options.specs.OptionViews.{zoned_options}
@@ -10,8 +10,8 @@ use Rattle.vx_strategy_options.specs.declared.options.RepartitionWriterOptions.{
 use Rattle.vx_strategy_options.specs.declared.options.ZonedLayoutOptions.{ZonedLayoutOptions}
 use Rattle.vx_strategy.specs.declared.wrapper.ListWrapper.{ListWrapper}
 use Rattle.vx_strategy.specs.declared.wrapper.ListWrapper.TheVariants as asked
-use Rattle.vx_strategy.specs.declared.error.BuildError.{BuildError}
-use Rattle.vx_strategy.specs.declared.error.BuildError.TheVariants as causes
+use Rattle.vx_strategy_options.specs.declared.error.BuildError.{BuildError}
+use Rattle.vx_strategy_options.specs.declared.error.BuildError.TheVariants as causes
 use Rattle.vx_json.specs.Steps.{when}
 use Rattle.vx_strategy_json.specs.Options.{are_zones}
 use Rattle.vx_strategy_json.specs.Forms.{can_wrap, all_can_wrap, wraps_of}

@@ -1,6 +1,6 @@
 -- A constructor's refusal, and that of a part, as the reader's.
-use Rattle.vx_strategy.specs.declared.error.BuildError.{BuildError}
-use Rattle.vx_strategy.specs.declared.error.BuildError.TheVariants as causes
+use Rattle.vx_strategy_options.specs.declared.error.BuildError.{BuildError}
+use Rattle.vx_strategy_options.specs.declared.error.BuildError.TheVariants as causes
 use Rattle.vx_json.specs.declared.error.JsonError.{JsonError}
 use Rattle.vx_json.specs.declared.error.JsonError.TheVariants as parts
 use Rattle.vx_strategy_json.specs.declared.error.StrategyError.{StrategyError}

@@ -1,1 +1,3 @@
 pub mod OptionViews
+pub mod RuleViews
+pub mod Causes

@@ -2,7 +2,7 @@ use Rattle.std.proofs.Common.{◌≡◌, length}
 use Rattle.std.specs.Vec.Iter.{into_iter_items, into_iter_len}
 use Rattle.vx_strategy.specs.Wrapped.{wraps_asked}
 use Rattle.vx_strategy.specs.WrapCauses.{AllWrap, FirstRefused}
-use Rattle.vx_strategy.specs.declared.error.BuildError.{BuildError}
+use Rattle.vx_strategy_options.specs.declared.error.BuildError.{BuildError}
 use Rattle.vx_strategy.proofs.Wrappers.{wraps_before}
 use Rattle.vx_strategy.proofs.wrapper.tested.Given as goal
 

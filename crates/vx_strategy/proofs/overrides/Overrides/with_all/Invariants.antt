@@ -3,7 +3,7 @@ use Rattle.std.specs.Vec.Iter.{into_iter_items, into_iter_len}
 use Rattle.vx_strategy.specs.Overridden.{all_appended, AllFit}
 use Rattle.vx_strategy.specs.Causes.{OverridesRefused}
 use Rattle.vx_strategy.specs.PairWays.{path_way}
-use Rattle.vx_strategy.specs.declared.error.BuildError.{BuildError}
+use Rattle.vx_strategy_options.specs.declared.error.BuildError.{BuildError}
 use Rattle.vx_strategy.proofs.overrides.Overrides.with_all.Given as goal
 
 abbrev pub invariant-loop-path : goal.invariant-loop-path

@@ -23,7 +23,7 @@ pub enum BuildError {
 
 impl From<AllocError> for BuildError {
     ghost use Rattle.std.specs.Prelude.{◌≡◌};
-    ghost use Rattle.vx_strategy.specs.declared.error.BuildError.TheVariants.{OutOfMemory};
+    ghost use Rattle.vx_strategy_options.specs.declared.error.BuildError.TheVariants.{OutOfMemory};
 
     ghost from_gives = { λ _ e. e ≡ OutOfMemory };
 
@@ -34,7 +34,7 @@ impl From<AllocError> for BuildError {
 
 impl<T: Drop> From<AllocFailed<T>> for BuildError {
     ghost use Rattle.std.specs.Prelude.{◌≡◌};
-    ghost use Rattle.vx_strategy.specs.declared.error.BuildError.TheVariants.{OutOfMemory};
+    ghost use Rattle.vx_strategy_options.specs.declared.error.BuildError.TheVariants.{OutOfMemory};
 
     ghost from_gives = { λ _ e. e ≡ OutOfMemory };
 

@@ -6,11 +6,12 @@ ghost use Rattle.vx_strategy_spec.specs.Admitted.{are_admitted_aggregates};
 ghost use Rattle.vx_strategy_options.specs.OptionViews.{asked, are_few};
 
 use crate::error::BuildError;
+use crate::options::ZonedLayoutOptions;
+use crate::zones::{are_few, zone_length};
 use std::alloc::{AllocError, Global};
 use std::num::{NonZeroU32, NonZeroU64};
 use std::sync::Arc;
 use vx_aggregate::AggregateFn;
-use vx_strategy_options::{ZonedLayoutOptions, are_few, zone_length};
 
 /// Options of which the zone's rows are from 1 to 2^32 - 1, the concurrency isn't 0 and the aggregates are fewer than
 /// 2^32. Clones share the aggregates.
@@ -27,9 +28,10 @@ pub struct ZoneRule {
 impl ZoneRule {
     ghost use Rattle.std.specs.Prelude.{◌≡◌, IfOk, IfErr};
     ghost use Rattle.vx_strategy_options.specs.OptionViews.{zoned_options};
-    ghost use Rattle.vx_strategy.specs.RuleViews.{zone_rule};
-    ghost use Rattle.vx_strategy.specs.Causes.{AreZones, NoZonesOf};
+    ghost use Rattle.vx_strategy_options.specs.RuleViews.{zone_rule};
+    ghost use Rattle.vx_strategy_options.specs.Causes.{AreZones, NoZonesOf};
 
+    /// Refuses `ZoneLength` exactly where a zone's rows are none or pass u32, then `ZeroConcurrency` exactly at 0.
     pub fn new(alloc: Global, options: ZonedLayoutOptions) -> Result<ZoneRule, BuildError>
         ensures ok { IfOk result (λ r. zone_rule r ≡ zoned_options options) }
         ensures zones { IfOk result (λ r. AreZones options) }
@@ -54,7 +56,7 @@ impl ZoneRule {
 
 impl Clone for ZoneRule {
     ghost use Rattle.std.specs.Prelude.{◌≡◌};
-    ghost use Rattle.vx_strategy.specs.RuleViews.{zone_rule};
+    ghost use Rattle.vx_strategy_options.specs.RuleViews.{zone_rule};
 
     ghost is_clone = { λ r copy. zone_rule copy ≡ zone_rule r };
 
