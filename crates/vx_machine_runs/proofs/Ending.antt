@@ -23,16 +23,16 @@ use Rattle.vx_machine_runs.specs.Ends.{plan_of, StaysReady, Whole, EndsWhole, Ca
 use Rattle.vx_machine_runs.proofs.Stepping.{open_before, asks_so}
 
 -- the future in which no more comes
-abbrev none_later : Bool → Future
+abbrev pub none_later : Bool → Future
 none_later heard = record { later = []; fits = heard }
 
-open_none : (heard : Bool) → Open heard (none_later heard)
+pub open_none : (heard : Bool) → Open heard (none_later heard)
 open_none heard = λ h. (refl, h)
 
-none_planned : (g : Write) (taken : List ChunkData) (heard : Bool) → planned g taken (none_later heard) ≡ plan_of g taken heard
+pub none_planned : (g : Write) (taken : List ChunkData) (heard : Bool) → planned g taken (none_later heard) ≡ plan_of g taken heard
 none_planned g taken heard = ap (λ z. source_plan g.setting g.way g.type g.mark z heard) (append-nil taken)
 
-same_plan : (g : Write) (taken : List ChunkData) (a : Answer) (f : Future) → planned g taken (before a f) ≡ planned g (taken_by taken a) f
+pub same_plan : (g : Write) (taken : List ChunkData) (a : Answer) (f : Future) → planned g taken (before a f) ≡ planned g (taken_by taken a) f
 same_plan g taken unasked f = refl
 same_plan g taken (came b) f = ap (λ z. source_plan g.setting g.way g.type g.mark z f.fits) (sym (append_assoc taken (b ∷ []) f.later))
 same_plan g taken over f = refl
@@ -58,13 +58,11 @@ ends_whole planned_end g first seen x u s fin = from (u (none_later x.heard) (op
         }
 
 module _ (refusals : RefusalsHaveCause) (counts : MovesAreCounted) (g : Write) (first : ℕ) (seen : List Note) (x : Stand) (told : Answer) (k : ℕ) (w : WholeStep) (law : Lawful g.setting.codec g.setting.encodings)
-    (c : Chosen g first x told k w) where
-  caused : (r : Reached g x.taken (before told (none_later (heard_by x.heard told))) seen x.history g.tracker)
-      → Showing g first x.taken x.machine (before told (none_later (heard_by x.heard told))) r.tree → Caused (plan_of g (taken_by x.taken told) (heard_by x.heard told)) w
+    (c : Chosen g first x told k w) (f : Future) (o : Open (heard_by x.heard told) f) where
+  pub caused : (r : Reached g x.taken (before told f) seen x.history g.tracker) → Showing g first x.taken x.machine (before told f) r.tree → Caused (planned g (taken_by x.taken told) f) w
   caused r shown =
-      let f : Future = none_later (heard_by x.heard told) in
-      let p : planned g x.taken (before told f) ≡ plan_of g (taken_by x.taken told) (heard_by x.heard told) = same_plan g x.taken told f ∙ none_planned g (taken_by x.taken told) (heard_by x.heard told) in
-      let m = write_moves g first x.taken x.heard told f seen x.history g.tracker r x.machine k w law (open_none (heard_by x.heard told)) shown c.place (asks_so g first x told k w f c) in
+      let p : planned g x.taken (before told f) ≡ planned g (taken_by x.taken told) f = same_plan g x.taken told f in
+      let m = write_moves g first x.taken x.heard told f seen x.history g.tracker r x.machine k w law o shown c.place (asks_so g first x told k w f c) in
       let n : Counted g x.taken (before told f) g.tracker m.0 = counts g x.taken (before told f) seen x.history g.tracker r m.0 m.1 in
       record {
         refusal = λ v e. subst (λ (z : Plan). Has v z.faults) p (refusals g x.taken (before told f) seen x.history g.tracker r m.0 v m.1 (sym m.2.refusal ∙ e));
@@ -76,5 +74,6 @@ module _ (refusals : RefusalsHaveCause) (counts : MovesAreCounted) (g : Write) (
 pub steps_have_cause : RefusalsHaveCause → MovesAreCounted → StepsHaveCause
 steps_have_cause refusals counts g first seen x told k w law u c =
     let f : Future = none_later (heard_by x.heard told) in
-    let p = u (before told f) (open_before x.heard told f c.once (open_none (heard_by x.heard told))) in
-    caused refusals counts g first seen x told k w law c p.0 p.1
+    let o : Open (heard_by x.heard told) f = open_none (heard_by x.heard told) in
+    let p = u (before told f) (open_before x.heard told f c.once o) in
+    subst (λ z. Caused z w) (none_planned g (taken_by x.taken told) (heard_by x.heard told)) (caused refusals counts g first seen x told k w law c f o p.0 p.1)

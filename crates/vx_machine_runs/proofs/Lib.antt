@@ -1,3 +1,15 @@
 pub mod Stepping
 pub mod Ending
 pub mod Freed
+pub mod Reaching
+pub mod Counting
+pub mod Misfits
+pub mod Asking
+pub mod Sounding
+pub mod Tracing
+pub mod Picking
+pub mod Reserving
+pub mod Covering
+pub mod Doing
+pub mod Bounding
+mod Examples

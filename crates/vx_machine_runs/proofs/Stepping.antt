@@ -5,7 +5,7 @@ use Rattle.std.proofs.lemmas.Bool.{true≢false}
 use Rattle.vx_model.specs.Ty.{Ty}
 use Rattle.vx_path.specs.Path.{Eof}
 use Rattle.vx_layout_spec.specs.Codec.{Lawful}
-use Rattle.vx_tasks.specs.Run.{Note, nth, first_pick}
+use Rattle.vx_tasks.specs.Run.{Note, nth, first_pick, later_picks}
 use Rattle.vx_tasks.specs.Runs.{noted}
 use Rattle.vx_plan.specs.PlanData.{Setting}
 use Rattle.vx_machine_steps.specs.Runs.{picks_after}
@@ -19,7 +19,7 @@ use Rattle.vx_machine_view.specs.Underway.{Showing, ready_steps}
 use Rattle.vx_machine_view.proofs.Placing.{source_place}
 use Rattle.vx_machine_view.proofs.Underway.{write_steps}
 use Rattle.vx_machine_view.proofs.Wholes.{start_shows}
-use Rattle.vx_machine_runs.specs.Runs.{Stand, outset, Asking, TypedAnswer, BeforeEnd, Chosen, Done, Led, UnderwayAt, StartIsUnderway, StepIsUnderway, RunIsUnderway}
+use Rattle.vx_machine_runs.specs.Runs.{Stand, outset, Asking, TypedAnswer, BeforeEnd, Chosen, Done, Led, PickedBy, scheduled, UnderwayAt, StartIsUnderway, StepIsUnderway, RunByIsUnderway, PlacesArePicks, RunIsUnderway, ScheduleIsFree}
 
 -- ---- what is asked
 
@@ -28,7 +28,7 @@ open_before heard unasked f k o = o
 open_before heard (came b) f k o = λ h. absurd (true≢false (sym h ∙ k))
 open_before heard over f k o = λ h. o refl
 
-some_same : {A : Type 0} (x y : A) → Some x ≡ Some y → x ≡ y
+pub some_same : {A : Type 0} (x y : A) → Some x ≡ Some y → x ≡ y
 some_same x y e = cc
 
 -- where it reads and is told nothing, the step is of another type
@@ -81,32 +81,52 @@ step_under reached g first seen x y n law pick d u = subst (λ z. UnderwayAt g f
 
 -- ---- whole runs
 
-abbrev places : List Note → List ℕ
-places ns = map (λ n. n.picked) ns
-
--- the pick behind so many is that of the next
-picks_of : (seen : List Note) (n : Note) (ns : List Note) → first_pick (picks_after (length seen) (places (seen ++ (n ∷ ns)))) ≡ n.picked
-picks_of [] n ns = refl
-picks_of (m ∷ seen) n ns = picks_of seen n ns
-
 nth_less : {A : Type 0} (xs : List A) (k : ℕ) (x : A) → nth xs k ≡ Some x → k < length xs
 nth_less [] k x e = cc
 nth_less (y ∷ ys) zero x e = omega arith
 nth_less (y ∷ ys) (suc k) x e = let h : k < length ys = nth_less ys k x e in omega (arith, h)
 
+-- the picks left after one more
+pub picks_more : (seen : List Note) (n : Note) (picks : List ℕ) → picks_after (length (seen ++ (n ∷ []))) picks ≡ later_picks (picks_after (length seen) picks)
+picks_more [] n picks = refl
+picks_more (m ∷ seen) n picks = picks_more seen n (later_picks picks)
+
 module _ (reached : StepIsReached) (g : Write) (first : ℕ) (law : Lawful g.setting.codec g.setting.encodings) where
-  led_under : (seen ns : List Note) (x y : Stand) → g.schedule ≡ places (seen ++ ns) → Led g first x ns y → UnderwayAt g first seen x → UnderwayAt g first (seen ++ ns) y
-  led_under seen [] x y s l u = subst (λ z. UnderwayAt g first z y) (sym (append-nil seen)) (subst (λ z. UnderwayAt g first seen z) l u)
-  led_under seen (n ∷ ns) x y s l u =
-      let d : Done g first x l.0 n = l.1 in
-      let less : n.picked < n.ready
-      = subst (λ (z : Note). n.picked < z.ready) (sym d.note) (nth_less (ready_steps g first x.history d.told x.machine) n.picked d.step d.chosen.place) in
-      let same : n.picked % n.ready ≡ n.picked = mod-eq_of_lt less in
-      let at : first_pick (picks_after (length seen) g.schedule) ≡ n.picked = ap (λ z. first_pick (picks_after (length seen) z)) s ∙ picks_of seen n ns in
-      let pick : n.picked ≡ first_pick (picks_after (length seen) g.schedule) % n.ready = sym (ap (λ z. z % n.ready) at ∙ same) in
-      let a : (seen ++ (n ∷ [])) ++ ns ≡ seen ++ (n ∷ ns) = append_assoc seen (n ∷ []) ns in
-      subst (λ z. UnderwayAt g first z y) a
-      (led_under (seen ++ (n ∷ [])) ns l.0 y (s ∙ ap places (sym a)) l.2 (step_under reached g first seen x l.0 n law pick d u))
+  led_under : (seen ns : List Note) (x y : Stand) → PickedBy (picks_after (length seen) g.schedule) ns → Led g first x ns y → UnderwayAt g first seen x → UnderwayAt g first (seen ++ ns) y
+  led_under seen [] x y p l u = subst (λ z. UnderwayAt g first z y) (sym (append-nil seen)) (subst (λ z. UnderwayAt g first seen z) l u)
+  led_under seen (n ∷ ns) x y p l u = subst (λ z. UnderwayAt g first z y) (append_assoc seen (n ∷ []) ns)
+      (led_under (seen ++ (n ∷ [])) ns l.0 y (subst (λ z. PickedBy z ns) (sym (picks_more seen n g.schedule)) p.1) l.2 (step_under reached g first seen x l.0 n law p.0 l.1 u))
+
+pub run_by_under : StartIsReached → StepIsReached → RunByIsUnderway
+run_by_under began reached g first ns y law b s p l = led_under reached g first law [] ns (outset g) y p l (start_under began g first b s)
+
+pub places_are_picks : PlacesArePicks
+places_are_picks g first x y [] l = tt
+places_are_picks g first x y (n ∷ ns) l =
+    let d : Done g first x l.0 n = l.1 in
+    let less : n.picked < n.ready
+    = subst (λ (z : Note). n.picked < z.ready) (sym d.note) (nth_less (ready_steps g first x.history d.told x.machine) n.picked d.step d.chosen.place) in
+    (sym (mod-eq_of_lt less), places_are_picks g first l.0 y ns l.2)
 
 pub run_under : StartIsReached → StepIsReached → RunIsUnderway
-run_under began reached g first ns y law b s p l = led_under reached g first law [] ns (outset g) y p l (start_under began g first b s)
+run_under began reached g first ns y law b s p l =
+    run_by_under began reached g first ns y law b s (subst (λ z. PickedBy z ns) (sym p) (places_are_picks g first (outset g) y ns l)) l
+
+-- ---- any schedule
+
+abbrev pub places : List Note → List ℕ
+places ns = map (λ n. n.picked) ns
+
+module _ (g : Write) (first : ℕ) (picks : List ℕ) where
+  pub chosen_so : (x : Stand) (told : Answer) (k : ℕ) (w : WholeStep) → Chosen g first x told k w → Chosen (scheduled g picks) first x told k w
+  chosen_so x told k w c = record { place = c.place; asks = c.asks; typed = c.typed; once = c.once; fits = c.fits }
+
+  abbrev pub done_so : (x y : Stand) (n : Note) → Done g first x y n → Done (scheduled g picks) first x y n
+  done_so x y n d = record { told = d.told; step = d.step; chosen = chosen_so x d.told n.picked d.step d.chosen; unrefused = d.unrefused; note = d.note; left = d.left }
+
+  abbrev pub led_so : (x y : Stand) (ns : List Note) → Led g first x ns y → Led (scheduled g picks) first x ns y
+  led_so x y [] l = l
+  led_so x y (n ∷ ns) l = (l.0, done_so x l.0 n l.1, led_so l.0 y ns l.2)
+
+pub schedule_is_free : ScheduleIsFree
+schedule_is_free g first picks x y ns l = led_so g first picks x y ns l

@@ -3,7 +3,7 @@ use Rattle.std.specs.Prelude.{◌≡◌, ◌%◌, ℕ, zero, suc, Bool, false, L
 use Rattle.vx_model.specs.Ty.{Ty}
 use Rattle.vx_model.specs.ChunkData.{ChunkData}
 use Rattle.vx_layout_spec.specs.Codec.{Lawful}
-use Rattle.vx_tasks.specs.Run.{Note, nth, first_pick}
+use Rattle.vx_tasks.specs.Run.{Note, nth, first_pick, later_picks}
 use Rattle.vx_tasks.specs.Runs.{noted}
 use Rattle.vx_plan.specs.PlanData.{Setting, Pair}
 use Rattle.vx_plan.specs.SourcePlan.{start_fault}
@@ -69,6 +69,15 @@ abbrev pub Led : Write → ℕ → Stand → List Note → Stand → Type 0
 Led g first x [] y = x ≡ y
 Led g first x (n ∷ ns) y = (z : Stand) × Done g first x z n × Led g first z ns y
 
+-- the places that they note are those that these picks take
+abbrev pub PickedBy : List ℕ → List Note → Type 0
+PickedBy picks [] = Unit {0}
+PickedBy picks (n ∷ ns) = (n.picked ≡ first_pick picks % n.ready) × PickedBy (later_picks picks) ns
+
+-- the same write under another schedule
+abbrev pub scheduled : Write → List ℕ → Write
+scheduled g picks = record { setting = g.setting; way = g.way; type = g.type; mark = g.mark; tracker = g.tracker; schedule = picks }
+
 -- the write is under way there, by these notes
 abbrev pub UnderwayAt : Write → ℕ → List Note → Stand → Type 0
 UnderwayAt g first seen x = Underway (Showing g first x.taken x.machine) g x.taken x.heard seen x.history g.tracker
@@ -84,10 +93,22 @@ abbrev pub StepIsUnderway : Type 0
 StepIsUnderway = (g : Write) (first : ℕ) (seen : List Note) (x y : Stand) (n : Note) → Lawful g.setting.codec g.setting.encodings
     → n.picked ≡ first_pick (picks_after (length seen) g.schedule) % n.ready → Done g first x y n → UnderwayAt g first seen x → UnderwayAt g first (seen ++ (n ∷ [])) y
 
--- whole runs, where the schedule tells the places that were picked
+-- whole runs, where the schedule picks these places
+abbrev pub RunByIsUnderway : Type 0
+RunByIsUnderway = (g : Write) (first : ℕ) (ns : List Note) (y : Stand) → Lawful g.setting.codec g.setting.encodings → IsTrue (is_built g.way)
+    → start_fault g.setting g.way g.type g.mark ≡ None → PickedBy g.schedule ns → Led g first (outset g) ns y → UnderwayAt g first ns y
+
+-- as each schedule does that tells them
+abbrev pub PlacesArePicks : Type 0
+PlacesArePicks = (g : Write) (first : ℕ) (x y : Stand) (ns : List Note) → Led g first x ns y → PickedBy (map (λ n. n.picked) ns) ns
+
 abbrev pub RunIsUnderway : Type 0
 RunIsUnderway = (g : Write) (first : ℕ) (ns : List Note) (y : Stand) → Lawful g.setting.codec g.setting.encodings → IsTrue (is_built g.way)
     → start_fault g.setting g.way g.type g.mark ≡ None → g.schedule ≡ map (λ n. n.picked) ns → Led g first (outset g) ns y → UnderwayAt g first ns y
+
+-- which steps lead where depends on no schedule
+abbrev pub ScheduleIsFree : Type 0
+ScheduleIsFree = (g : Write) (first : ℕ) (picks : List ℕ) (x y : Stand) (ns : List Note) → Led g first x ns y → Led (scheduled g picks) first x ns y
 
 -- a step that appends nothing is the same whatever number the next segment has
 abbrev pub NumberIsFree : Type 0

@@ -2,14 +2,22 @@
 //! of one. Each function here is a law; its body calls the laws that it stands on.
 #![tactic(auto)]
 
-ghost use Rattle.vx_machine_runs.specs.Runs.{StartIsUnderway, StepIsUnderway, RunIsUnderway, NumberIsFree};
+ghost use Rattle.vx_machine_runs.specs.Runs.{StartIsUnderway, StepIsUnderway, RunByIsUnderway, PlacesArePicks, RunIsUnderway, ScheduleIsFree, NumberIsFree};
 ghost use Rattle.vx_machine_runs.specs.Ends.{StaysReady, EndsWhole, StepsHaveCause};
+ghost use Rattle.vx_machine_runs.specs.Steps.{IdleIsFinished, MisfitIsRead, HistoryIsFront, AppendIsOneMore, PastIsCaused, StartIsCaused, ValidIsSound, ValidStarts};
+ghost use Rattle.vx_machine_runs.specs.Answers.{AskedBeforeEnd, AnswersAreNoted, TakenArePlanned, TakenAreWhole};
+ghost use Rattle.vx_machine_runs.specs.Traces.{ReadyIsWithinLeft, ReadyIsWithinWork, NotesAreWithinWork, NotesAreFirst, NotesAreFewer, NotesAreWhole, RefusalIsLast, MisfitIsLast, AppendsAreNoted};
+ghost use Rattle.vx_machine_runs.specs.Picks.{PicksAreExact, ReadyIsWithinSteps, ReadyIsWithinAll};
+ghost use Rattle.vx_machine_runs.specs.Numbers.{NumbersAreCounted, NumbersFit, NothingReserved};
 
 /// From the start on, step by step.
 pub fn runs()
     ensures start { StartIsUnderway }
     ensures step { StepIsUnderway }
+    ensures by { RunByIsUnderway }
+    ensures picks { PlacesArePicks }
     ensures run { RunIsUnderway }
+    ensures free { ScheduleIsFree }
 {
     vx_machine_promises::steps();
 }
@@ -27,4 +35,66 @@ pub fn ends()
 {
     vx_machine_promises::ends();
     vx_machine_promises::causes();
+}
+
+/// What was appended, wherever a run stands, and what holds of the next step.
+pub fn stands()
+    ensures idle { IdleIsFinished }
+    ensures misfits { MisfitIsRead }
+    ensures front { HistoryIsFront }
+    ensures append { AppendIsOneMore }
+    ensures past { PastIsCaused }
+    ensures start { StartIsCaused }
+    ensures valid { ValidIsSound }
+    ensures begins { ValidStarts }
+{
+    vx_machine_promises::fronts();
+    vx_machine_promises::causes();
+    vx_machine_promises::valid();
+}
+
+/// What the source told, and what is planned of that.
+pub fn answers()
+    ensures asked { AskedBeforeEnd }
+    ensures noted { AnswersAreNoted }
+    ensures planned { TakenArePlanned }
+    ensures whole { TakenAreWhole }
+{}
+
+/// How many are ready, and what is noted, against the work of the tree of scripts.
+pub fn traces()
+    ensures left { ReadyIsWithinLeft }
+    ensures work { ReadyIsWithinWork }
+    ensures within { NotesAreWithinWork }
+    ensures first { NotesAreFirst }
+    ensures fewer { NotesAreFewer }
+    ensures whole { NotesAreWhole }
+    ensures refused { RefusalIsLast }
+    ensures misfit { MisfitIsLast }
+    ensures appends { AppendsAreNoted }
+{
+    vx_machine_promises::progress();
+    vx_machine_promises::traces();
+    vx_machine_promises::ends();
+}
+
+/// Places that are picked by a count that stops at a greatest number.
+pub fn picks()
+    ensures exact { PicksAreExact }
+    ensures steps { ReadyIsWithinSteps }
+    ensures all { ReadyIsWithinAll }
+{
+    vx_machine_promises::steps();
+    vx_machine_promises::traces();
+    vx_machine_promises::ends();
+}
+
+/// What a finished run has counted, against the plan's numbers.
+pub fn counts()
+    ensures counted { NumbersAreCounted }
+    ensures fit { NumbersFit }
+    ensures reserved { NothingReserved }
+{
+    vx_machine_promises::steps();
+    vx_machine_promises::ends();
 }

@@ -1,0 +1,338 @@
+-- Each number of a built strategy's plan is at most one that its tasks count.
+use Rattle.std.proofs.Common.{◌≡◌, ◌+◌, ◌≤◌, ◌∷◌, ◌++◌, ◌∙◌, ℕ, suc, inl, inr, ⊎_elim, Bool, true, false, List, length, refl, sym, ap, subst, arith, append_assoc, Option, Some, None, ◌||◌, []}
+use Rattle.std.proofs.lemmas.Bool.{true≢false}
+use Rattle.vx_model.specs.Ty.{Ty, Tys, no_fields, field}
+use Rattle.vx_model.specs.ChunkData.{ChunkData, cells}
+use Rattle.vx_path.specs.Lists.{In}
+use Rattle.vx_path.specs.Path.{Eof, under, inside, next, root_eof}
+use Rattle.vx_path.proofs.Lists.{in_left, in_right, in_cases}
+use Rattle.vx_rules.specs.Columns.{Split, column, other_columns, struct_splits, struct_columns}
+use Rattle.vx_strategy_spec.specs.StrategyData.{StrategyData, FlatOptions}
+use Rattle.vx_strategy_spec.specs.Walk.{walk}
+use Rattle.vx_tasks.specs.Runs.{first_batch}
+use Rattle.vx_plan.specs.PlanData.{Setting, Item, Node, Plan, rows_in, totals, row_totals}
+use Rattle.vx_plan.specs.FlatNode.{flat_node, segment, length_of}
+use Rattle.vx_plan.specs.ChunkedNode.{all_numbers, chunked_node, chunk_plans, chunked_numbers}
+use Rattle.vx_plan.specs.ColumnNodes.{Column, marked, column_plans, column_numbers, struct_writers, struct_plans, struct_node}
+use Rattle.vx_plan.specs.SourcePlan.{plan_nodes, plan, batch_items, source_plan}
+use Rattle.vx_plan.proofs.Relate.{Agree, relate, Both}
+use Rattle.vx_machine_turns.specs.Forms.{Form, flat_form, chunked_form, struct_form, forms_of, form_nodes, form_type, Writer}
+use Rattle.vx_machine_turns.specs.Acts.{Seed, Act, births, gifts, shut, numbers_in, indices_in}
+use Rattle.vx_machine_turns.specs.Locals.{ChunkedNode, StructNode, chunked_local, struct_local}
+use Rattle.vx_machine_turns.specs.Turns.{firsts, start_indices}
+use Rattle.vx_machine_turns.specs.Scripts.{script}
+use Rattle.vx_machine_turns.specs.Starts.{struct_columns_of, marked_forms}
+use Rattle.vx_machine_turns.specs.Source.{source_acts, source_seed}
+use Rattle.vx_machine_turns.specs.Fuels.{Fuel, spent, fuel, fuel_of, Enough, AllEnough}
+use Rattle.vx_machine_turns.specs.Readings.{Reading}
+use Rattle.vx_machine_turns.specs.Duties.{Duty, duty_of, seeds, duty_script, below, Given, grown}
+use Rattle.vx_machine_turns.specs.Planned.{AtMost}
+use Rattle.vx_machine_turns.proofs.DutyLaws.{row_is, below_is}
+use Rattle.vx_machine_turns.proofs.ChunkedLaws.{chunk_duties, all_seeds, all_given}
+use Rattle.vx_machine_turns.proofs.ColumnLaws.{column_duties, puts_add, ends_last}
+use Rattle.vx_machine_turns.proofs.StructLaws.{struct_streams}
+use Rattle.vx_machine_turns.proofs.Fueled.{fuel_is_enough}
+use Rattle.vx_machine_steps.specs.Tree.{read}
+use Rattle.vx_machine_steps.specs.StartPlanned.{started}
+use Rattle.vx_machine_steps.proofs.Start.{start_reads}
+use Rattle.vx_machine_promises.specs.Write.{Write, depth}
+use Rattle.vx_machine_view.specs.Built.{is_built, Built, AllBuilt}
+use Rattle.vx_machine_view.specs.Whole.{form_of}
+use Rattle.vx_machine_view.proofs.Building.{built_is_built}
+
+-- what a task counts: in its acts, and where it is started
+abbrev pub counted_by : Seed → List Act → List ℕ
+counted_by q acts = (numbers_in acts ++ indices_in acts) ++ start_indices q.local
+
+abbrev pub count_reading : Reading (List ℕ)
+count_reading = record { none = []; make = λ q acts kids rest. counted_by q acts ++ (kids ++ rest) }
+
+-- the task of a duty and all below it
+abbrev all_counted : Setting → Fuel → Duty → List ℕ
+all_counted s d c = counted_by c.seed (duty_script s c) ++ below s count_reading d c
+
+-- each number of a node's plan is at most one of these, or the last index of the eof path that it is given
+record Covers (s : Setting) (k : Node) (f : Form) : Type 0 where
+  covers : (m : Bool) (name : List ℕ) (items : List Item) (ended : Bool) (e : Eof) (d : Fuel) → Enough d f → (n : ℕ) → In n (k m items ended e).numbers
+      → AtMost n (e.last ∷ all_counted s d (duty_of s f m name items ended e))
+
+most_over : (n a b : ℕ) (xs ys : List ℕ) → a ≤ b → ((k : ℕ) → In k xs → In k ys) → AtMost n (a ∷ xs) → AtMost n (b ∷ ys)
+most_over n a b xs ys l h (m, inl e, k) = (b, inl refl, omega (arith, l, e, k))
+most_over n a b xs ys l h (m, inr i, k) = (m, inr (h m i), k)
+
+most_in : (n a : ℕ) (xs : List ℕ) → In n xs → AtMost n (a ∷ xs)
+most_in n a xs i = (n, inr i, omega arith)
+
+-- ---- several duties
+
+abbrev AllCovered : Setting → (Ty → Fuel) → List Duty → List Plan → Type 0
+AllCovered s g [] [] = Unit {0}
+AllCovered s g [] (p ∷ ps) = ⊥
+AllCovered s g (c ∷ cs) [] = ⊥
+AllCovered s g (c ∷ cs) (p ∷ ps) = ((n : ℕ) → In n p.numbers → AtMost n (0 ∷ all_counted s (g c.seed.type) c)) × AllCovered s g cs ps
+
+covered_all : (s : Setting) (g : Ty → Fuel) (cs : List Duty) (ps : List Plan) → AllCovered s g cs ps → (n : ℕ) → In n (all_numbers ps) → AtMost n (0 ∷ grown s count_reading g cs)
+covered_all s g [] [] h n i = absurd i
+covered_all s g [] (p ∷ ps) h n i = absurd h
+covered_all s g (c ∷ cs) [] h n i = absurd h
+covered_all s g (c ∷ cs) (p ∷ ps) (h, hs) n i =
+    let own : List ℕ = counted_by c.seed (duty_script s c) in
+    let kids : List ℕ = below s count_reading (g c.seed.type) c in
+    let rest : List ℕ = grown s count_reading g cs in
+    ⊎_elim (λ a. most_over n 0 0 (own ++ kids) (own ++ (kids ++ rest)) (omega arith) (λ k z. subst (λ y. In k y) (append_assoc own kids rest) (in_left k (own ++ kids) rest z)) (h n a))
+    (λ a. most_over n 0 0 rest (own ++ (kids ++ rest)) (omega arith) (λ k z. in_right k own (kids ++ rest) (in_right k kids rest z)) (covered_all s g cs ps hs n a))
+    (in_cases n p.numbers (all_numbers ps) i)
+
+-- a node whose plan is of its duties' plans, with its own numbers
+parent_covers : (s : Setting) (g : Ty → Fuel) (c : Duty) (cs : List Duty) (p : Plan) (ps : List Plan) (own : List ℕ) (last : ℕ) → firsts c.seed ++ births (duty_script s c) ≡ seeds cs
+    → Given (duty_script s c) 0 cs → p.numbers ≡ own ++ all_numbers ps → ((n : ℕ) → In n own → AtMost n (last ∷ counted_by c.seed (duty_script s c))) → AllCovered s g cs ps
+    → (n : ℕ) → In n p.numbers → AtMost n (last ∷ all_counted s (fuel g) c)
+parent_covers s g c cs p ps own last e q is h all n i =
+    let mine : List ℕ = counted_by c.seed (duty_script s c) in
+    let kids : List ℕ = below s count_reading (fuel g) c in
+    ⊎_elim (λ a. most_over n last last mine (mine ++ kids) (omega arith) (λ k z. in_left k mine kids z) (h n a))
+    (λ a. most_over n 0 last (grown s count_reading g cs) (mine ++ kids) (omega arith)
+    (λ k z. in_right k mine kids (subst (λ y. In k y) (sym (below_is s count_reading g c cs e q)) z)) (covered_all s g cs ps all n a))
+    (in_cases n own (all_numbers ps) (subst (λ y. In n y) is i))
+
+-- ---- flat
+
+flat_covers : (s : Setting) (o : FlatOptions) (t : Ty) → Covers s (flat_node s o t) (flat_form o t)
+flat_covers s o t = record { covers = λ m name items ended e d enough n i. go m name items ended e d n i }
+  where
+    one : (m : Bool) (name : List ℕ) (x : Item) (xs : List Item) (ended : Bool) (e : Eof) (d : Fuel) (n : ℕ) → In n (length (cells x.1) ∷ length_of (segment s o x))
+        → AtMost n (e.last ∷ all_counted s d (duty_of s (flat_form o t) m name (x ∷ xs) ended e))
+    one m name x xs ended e d n i =
+        let c : Duty = duty_of s (flat_form o t) m name (x ∷ xs) ended e in
+        most_in n e.last (all_counted s d c)
+        (in_left n (counted_by c.seed (duty_script s c)) (below s count_reading d c)
+        (in_left n (numbers_in (duty_script s c) ++ indices_in (duty_script s c)) []
+        (in_left n (numbers_in (duty_script s c)) (indices_in (duty_script s c)) (by xs ended i))))
+      where
+        by : (xs : List Item) (ended : Bool) → In n (length (cells x.1) ∷ length_of (segment s o x)) → In n (numbers_in (duty_script s (duty_of s (flat_form o t) m name (x ∷ xs) ended e)))
+        by [] true i = in_left n (length (cells x.1) ∷ length_of (segment s o x)) _ i
+        by [] false i = in_left n (length (cells x.1) ∷ length_of (segment s o x)) _ i
+        by (y ∷ ys) ended i = in_left n (length (cells x.1) ∷ length_of (segment s o x)) _ i
+
+    go : (m : Bool) (name : List ℕ) (items : List Item) (ended : Bool) (e : Eof) (d : Fuel) (n : ℕ) → In n (flat_node s o t m items ended e).numbers
+        → AtMost n (e.last ∷ all_counted s d (duty_of s (flat_form o t) m name items ended e))
+    go m name [] ended e d n i = absurd i
+    go m name (x ∷ []) ended e d n i = one m name x [] ended e d n i
+    go m name (x ∷ y ∷ xs) ended e d n i = one m name x (y ∷ xs) ended e d n i
+
+-- ---- chunked
+
+module _ (s : Setting) (n : ChunkedNode) where
+  chunk_rows : (j : ℕ) (e : Eof) (rows : ℕ) (items : List Item) (ended : Bool) → numbers_in (script s (chunked_local n j e rows) items ended) ≡ totals rows_in rows items
+  chunk_rows j e rows [] true = refl
+  chunk_rows j e rows [] false = refl
+  chunk_rows j e rows (i ∷ is) ended = ap (λ z. (rows + rows_in i.1) ∷ z) (chunk_rows (suc j) (next e) (rows + rows_in i.1) is ended)
+
+  -- the pointer comes as far as the last chunk's
+  chunk_moves : (j : ℕ) (e : Eof) (rows : ℕ) (items : List Item) (ended : Bool) → AtMost (e.last + length items) (e.last ∷ indices_in (script s (chunked_local n j e rows) items ended))
+  chunk_moves j e rows [] ended = (e.last, inl refl, omega arith)
+  chunk_moves j e rows (i ∷ is) ended =
+      let h = chunk_moves (suc j) (next e) (rows + rows_in i.1) is ended in
+      let l : (e.last + 1) + length is ≤ h.0 = h.2 in
+      (h.0, inr h.1, omega (arith, l))
+
+  chunks_covered : (k : Node) → Covers s k n.child → (g : Ty → Fuel) → Enough (g (form_type n.child)) n.child → (j : ℕ) (items : List Item) (e : Eof)
+      → AllCovered s g (chunk_duties s n j items e) (chunk_plans k n.mark items e)
+  chunks_covered k h g enough j [] e = tt
+  chunks_covered k h g enough j (i ∷ is) e =
+      ((λ x y. h.covers n.mark (under n.name j) (i ∷ []) true (inside e) (g (form_type n.child)) enough x y), chunks_covered k h g enough (suc j) is (next e))
+
+chunked_covers : (s : Setting) (t : Ty) (k : Node) (f : Form) → Covers s k f → Covers s (chunked_node t k) (chunked_form t f)
+chunked_covers s t k f h = record { covers = go }
+  where
+    own : (n : ChunkedNode) (items : List Item) (ended : Bool) (e : Eof) (x : ℕ) → In x (chunked_numbers items e)
+        → AtMost x (e.last ∷ ((numbers_in (script s (chunked_local n 0 e 0) items ended) ++ indices_in (script s (chunked_local n 0 e 0) items ended)) ++ []))
+    own n items ended e x i =
+        ⊎_elim (λ a. most_in x e.last (all ++ []) (in_left x all [] (in_left x rows moves (subst (λ z. In x z) (sym (chunk_rows s n 0 e 0 items ended)) a)))) by
+        (in_cases x (row_totals items) ((e.last + length items) ∷ []) i)
+      where
+        rows : List ℕ
+        rows = numbers_in (script s (chunked_local n 0 e 0) items ended)
+
+        moves : List ℕ
+        moves = indices_in (script s (chunked_local n 0 e 0) items ended)
+
+        all : List ℕ
+        all = rows ++ moves
+
+        by : In x ((e.last + length items) ∷ []) → AtMost x (e.last ∷ (all ++ []))
+        by (inl q) = subst (λ z. AtMost z (e.last ∷ (all ++ []))) (sym q)
+            (most_over (e.last + length items) e.last e.last moves (all ++ []) (omega arith) (λ y z. in_left y all [] (in_right y rows moves z)) (chunk_moves s n 0 e 0 items ended))
+        by (inr q) = absurd q
+
+    go : (m : Bool) (name : List ℕ) (items : List Item) (ended : Bool) (e : Eof) (d : Fuel) → Enough d (chunked_form t f) → (n : ℕ) → In n (chunked_node t k m items ended e).numbers
+        → AtMost n (e.last ∷ all_counted s d (duty_of s (chunked_form t f) m name items ended e))
+    go m name items ended e spent enough n i = absurd enough
+    go m name items ended e (fuel g) enough n i =
+        let node : ChunkedNode = record { name = name; mark = m; type = t; child = f } in
+        parent_covers s g (duty_of s (chunked_form t f) m name items ended e) (chunk_duties s node 0 items e) (chunked_node t k m items ended e) (chunk_plans k m items e) (chunked_numbers items e) e.last
+        (all_seeds s node 0 e 0 items ended) (all_given s node 0 e 0 items ended) refl (own node items ended e) (chunks_covered s node k h g enough 0 items e) n i
+
+-- ---- structs
+
+struct_rows : (s : Setting) (n : StructNode) (rows : ℕ) (items : List Item) (ended : Bool) → numbers_in (script s (struct_local n rows) items ended) ≡ totals rows_in rows items
+struct_rows s n rows [] true = (ends_last n.writers).numbers
+struct_rows s n rows [] false = refl
+struct_rows s n rows (i ∷ is) ended = ap (λ z. (rows + rows_in i.1) ∷ z)
+    ((puts_add [] 0 i.0 (struct_columns n.fields n.nullable i.1) n.writers (script s (struct_local n (rows + rows_in i.1)) is ended)).numbers ∙ struct_rows s n (rows + rows_in i.1) is ended)
+
+abbrev ColumnsCovered : Setting → (Ty → Fuel) → List Column → List Writer → Type 0
+ColumnsCovered s g [] [] = Unit {0}
+ColumnsCovered s g [] (w ∷ ws) = ⊥
+ColumnsCovered s g (k ∷ ks) [] = ⊥
+ColumnsCovered s g (k ∷ ks) (w ∷ ws) =
+    ((name : List ℕ) (items : List Item) (ended : Bool) (e : Eof) (n : ℕ) → In n (k items ended e).numbers → AtMost n (e.last ∷ all_counted s (g (form_type w.1)) (duty_of s w.1 w.0 name items ended e)))
+    × ColumnsCovered s g ks ws
+
+same_length : (s : Setting) (g : Ty → Fuel) (ks : List Column) (ws : List Writer) → ColumnsCovered s g ks ws → length ws ≡ length ks
+same_length s g [] [] h = refl
+same_length s g [] (w ∷ ws) h = absurd h
+same_length s g (k ∷ ks) [] h = absurd h
+same_length s g (k ∷ ks) (w ∷ ws) (h, hs) = ap suc (same_length s g ks ws hs)
+
+fields_covered : (s : Setting) (g : Ty → Fuel) (fs : Tys) (ks : List Node) (ls : List Form) → Both (λ t k f. Built f → Covers s k f) fs ks ls → AllEnough g (forms_of ls) → AllBuilt fs (forms_of ls) → (m : Bool)
+    → ColumnsCovered s g (marked m ks) (marked_forms m (forms_of ls))
+fields_covered s g no_fields [] [] h enough b m = tt
+fields_covered s g no_fields [] (l ∷ ls) h enough b m = absurd h
+fields_covered s g no_fields (k ∷ ks) ls h enough b m = absurd h
+fields_covered s g (field a t fs) [] ls h enough b m = absurd h
+fields_covered s g (field a t fs) (k ∷ ks) [] h enough b m = absurd h
+fields_covered s g (field a t fs) (k ∷ ks) (l ∷ ls) h enough b m =
+    ((λ name items ended e n i. (h.0 b.1).covers m name items ended e (g (form_type l)) enough.0 n i), fields_covered s g fs ks ls h.1 enough.1 b.2 m)
+
+writers_covered : (s : Setting) (g : Ty → Fuel) (fs : Tys) (n m : Bool) (v : Node) (f : Form) (ks : List Node) (ls : List Form) → Covers s v f → Enough (g (form_type f)) f
+    → Both (λ t k f. Built f → Covers s k f) fs ks ls → AllEnough g (forms_of ls) → AllBuilt fs (forms_of ls) → ColumnsCovered s g (struct_writers n m v ks) (struct_columns_of n m f (forms_of ls))
+writers_covered s g fs true m v f ks ls a b c d q = ((λ name items ended e x i. a.covers m name items ended e (g (form_type f)) b x i), fields_covered s g fs ks ls c d q (m || true))
+writers_covered s g fs false m v f ks ls a b c d q = fields_covered s g fs ks ls c d q (m || false)
+
+columns_covered : (s : Setting) (g : Ty → Fuel) (ks : List Column) (ws : List Writer) → ColumnsCovered s g ks ws → (name : List ℕ) (c : ℕ) (xs : List Split) (ended : Bool) (e : Eof)
+    → AllCovered s g (column_duties s ws name c xs ended e) (column_plans ks c xs ended e)
+columns_covered s g [] [] h name c xs ended e = tt
+columns_covered s g [] (w ∷ ws) h name c xs ended e = absurd h
+columns_covered s g (k ∷ ks) [] h name c xs ended e = absurd h
+columns_covered s g (k ∷ ks) (w ∷ ws) (h, hs) name c xs ended e =
+    ((λ n i. h (under name c) (column c xs) ended (inside e) n i), columns_covered s g ks ws hs name (suc c) (other_columns xs) ended (next e))
+
+struct_covers : (s : Setting) (fs : Tys) (n : Bool) (dup : Option (List ℕ)) (v : Node) (f : Form) (ks : List Node) (ls : List Form) → Covers s v f → Both (λ t k f. Built f → Covers s k f) fs ks ls
+    → AllBuilt fs (forms_of ls) → Covers s (struct_node fs n dup v ks) (struct_form fs n dup f (forms_of ls))
+struct_covers s fs n (Some a) v f ks ls hv hs b = record { covers = λ m name items ended e d enough x i. absurd i }
+struct_covers s fs n None v f ks ls hv hs b = record { covers = go }
+  where
+    go : (m : Bool) (name : List ℕ) (items : List Item) (ended : Bool) (e : Eof) (d : Fuel) → Enough d (struct_form fs n None f (forms_of ls)) → (x : ℕ) → In x (struct_node fs n None v ks m items ended e).numbers
+        → AtMost x (e.last ∷ all_counted s d (duty_of s (struct_form fs n None f (forms_of ls)) m name items ended e))
+    go m name items ended e spent enough x i = absurd enough
+    go m name items ended e (fuel g) enough x i =
+        parent_covers s g (duty_of s (struct_form fs n None f (forms_of ls)) m name items ended e) (column_duties s ws name 0 (struct_splits fs n items) ended e) (struct_node fs n None v ks m items ended e)
+        (struct_plans fs n v ks m items ended e) (column_numbers items (struct_writers n m v ks) e) e.last (struct_streams s fs n m f (forms_of ls) name items ended e).0
+        (struct_streams s fs n m f (forms_of ls) name items ended e).1 refl own (columns_covered s g (struct_writers n m v ks) ws all name 0 (struct_splits fs n items) ended e) x i
+      where
+        ws : List Writer
+        ws = struct_columns_of n m f (forms_of ls)
+
+        all : ColumnsCovered s g (struct_writers n m v ks) ws
+        all = writers_covered s g fs n m v f ks ls hv enough.0 hs enough.1 b
+
+        same : length ws ≡ length (struct_writers n m v ks)
+        same = same_length s g (struct_writers n m v ks) ws all
+
+        node : StructNode
+        node = record { name = name; fields = fs; nullable = n; writers = ws; eof = e }
+
+        rows : List ℕ
+        rows = numbers_in (script s (struct_local node 0) items ended)
+
+        moves : List ℕ
+        moves = indices_in (script s (struct_local node 0) items ended)
+
+        by : (y : ℕ) → In y (length (struct_writers n m v ks) ∷ (e.last + length (struct_writers n m v ks)) ∷ []) → AtMost y (e.last ∷ ((rows ++ moves) ++ ((e.last + length ws) ∷ [])))
+        by y (inl q) = (e.last + length ws, inr (in_right (e.last + length ws) (rows ++ moves) ((e.last + length ws) ∷ []) (inl refl)), omega (arith, q, same))
+        by y (inr (inl q)) = (e.last + length ws, inr (in_right (e.last + length ws) (rows ++ moves) ((e.last + length ws) ∷ []) (inl refl)), omega (arith, q, same))
+        by y (inr (inr q)) = absurd q
+
+        own : (y : ℕ) → In y (column_numbers items (struct_writers n m v ks) e) → AtMost y (e.last ∷ ((rows ++ moves) ++ ((e.last + length ws) ∷ [])))
+        own y j = ⊎_elim (λ a. most_in y e.last ((rows ++ moves) ++ ((e.last + length ws) ∷ []))
+            (in_left y (rows ++ moves) ((e.last + length ws) ∷ []) (in_left y rows moves (subst (λ z. In y z) (sym (struct_rows s node 0 items ended)) a)))) (by y)
+            (in_cases y (row_totals items) (length (struct_writers n m v ks) ∷ (e.last + length (struct_writers n m v ks)) ∷ []) j)
+
+-- ---- the whole strategy
+
+all_covers : (s : Setting) → Agree Node Form (plan_nodes s) form_nodes false (λ t k f. Built f → Covers s k f)
+all_covers s = record {
+  at_flat = λ o t b. flat_covers s o t;
+  at_chunked = λ t k l h b. chunked_covers s t k l (h b.1);
+  at_grouped = λ g r t k l h b. absurd b;
+  at_compressed = λ which room r t k l h b. absurd b;
+  at_dict = λ o t is c v f d w g h i j b. absurd b;
+  at_zoned = λ o r t k l f g h i b. absurd b;
+  at_not_struct = λ t b. record { covers = λ m name items ended e d enough n i. absurd i };
+  at_struct = λ fs n dup v w ks ls h r b. struct_covers s fs n dup v w ks ls (h b.1) r b.2;
+  at_list = λ t n e o v f p w h i j b. absurd b;
+}
+
+plan_covered : (s : Setting) (w : StrategyData) (t : Ty) → is_built w ≡ true → Covers s (plan s w t) (walk form_nodes w t)
+plan_covered s w t b = relate Node Form (plan_nodes s) form_nodes false (λ t k f. Built f → Covers s k f) (all_covers s) w (λ e. absurd (true≢false (sym e))) t (built_is_built w t b)
+
+-- ---- the source
+
+gives_batches : (i : ℕ) (bs : List ChunkData) (fits : Bool) → gifts 0 (source_acts (record { stem = 0 ∷ []; last = i }) bs fits) ≡ batch_items i bs
+gives_batches i [] true = refl
+gives_batches i [] false = refl
+gives_batches i (b ∷ bs) fits =
+    let e : suc i ≡ i + 1 = omega arith in
+    ap (λ (z : List Item). (0 ∷ i ∷ [], b) ∷ z) (subst (λ n. gifts 0 (source_acts (record { stem = 0 ∷ []; last = n }) bs fits) ≡ batch_items (suc i) bs) e (gives_batches (suc i) bs fits))
+
+closes_root : (here : Eof) (bs : List ChunkData) (fits : Bool) → shut 0 (source_acts here bs fits) ≡ fits
+closes_root here [] true = refl
+closes_root here [] false = refl
+closes_root here (b ∷ bs) fits = closes_root (next here) bs fits
+
+source_moves : (here : Eof) (bs : List ChunkData) (fits : Bool) → AtMost (here.last + length bs) (here.last ∷ indices_in (source_acts here bs fits))
+source_moves here [] fits = (here.last, inl refl, omega arith)
+source_moves here (b ∷ bs) fits =
+    let h = source_moves (next here) bs fits in
+    let l : (here.last + 1) + length bs ≤ h.0 = h.2 in
+    (h.0, inr h.1, omega (arith, l))
+
+-- the numbers of a plan of batches, against what is read off the start of their machine
+pub start_covered : (g : Write) (bs : List ChunkData) (fits : Bool) → is_built g.way ≡ true → (n : ℕ) → In n (source_plan g.setting g.way g.type g.mark bs fits).numbers
+    → AtMost n (1 ∷ read g.setting count_reading (depth g) 0 [] (started g.way g.type g.mark bs fits))
+start_covered g bs fits b n i = subst (λ z. AtMost n (1 ∷ z)) (sym is) (by i)
+  where
+    acts : List Act
+    acts = source_acts first_batch bs fits
+
+    c : Duty
+    c = duty_of g.setting (form_of g) g.mark (1 ∷ []) (batch_items 0 bs) fits root_eof
+
+    mine : List ℕ
+    mine = counted_by (source_seed (form_of g) g.mark) acts
+
+    own : List ℕ
+    own = counted_by c.seed (duty_script g.setting c)
+
+    kids : List ℕ
+    kids = below g.setting count_reading (fuel_of (form_of g)) c
+
+    is : read g.setting count_reading (depth g) 0 [] (started g.way g.type g.mark bs fits) ≡ mine ++ ((own ++ (kids ++ [])) ++ [])
+    is = start_reads count_reading g.setting (depth g) (form_of g) g.mark bs fits
+        ∙ ap (λ z. mine ++ (z ++ [])) (row_is g.setting count_reading (λ u. fuel_of (form_of g)) 0 acts (c ∷ []) (gives_batches 0 bs fits, closes_root first_batch bs fits, tt))
+
+    from_root : (k : ℕ) → In k (own ++ kids) → In k (mine ++ ((own ++ (kids ++ [])) ++ []))
+    from_root k z = in_right k mine ((own ++ (kids ++ [])) ++ [])
+        (in_left k (own ++ (kids ++ [])) [] (subst (λ y. In k y) (append_assoc own kids []) (in_left k (own ++ kids) [] z)))
+
+    from_source : (k : ℕ) → In k (indices_in acts) → In k (mine ++ ((own ++ (kids ++ [])) ++ []))
+    from_source k z = in_left k mine ((own ++ (kids ++ [])) ++ []) (in_left k (numbers_in acts ++ indices_in acts) [] (in_right k (numbers_in acts) (indices_in acts) z))
+
+    by : In n (source_plan g.setting g.way g.type g.mark bs fits).numbers → AtMost n (1 ∷ (mine ++ ((own ++ (kids ++ [])) ++ [])))
+    by (inl e) =
+        let h = source_moves first_batch bs fits in
+        let l : 0 + length bs ≤ h.0 = h.2 in
+        most_over n 0 1 (indices_in acts) (mine ++ ((own ++ (kids ++ [])) ++ [])) (omega arith) from_source (h.0, h.1, omega (arith, l, e))
+    by (inr j) = most_over n 1 1 (own ++ kids) (mine ++ ((own ++ (kids ++ [])) ++ [])) (omega arith) from_root
+        ((plan_covered g.setting g.way g.type b).covers g.mark (1 ∷ []) (batch_items 0 bs) fits root_eof (fuel_of (form_of g)) (fuel_is_enough g.way g.type).1 n j)

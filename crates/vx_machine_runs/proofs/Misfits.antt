@@ -1,0 +1,166 @@
+-- A chunk of another type comes of the source alone.
+use Rattle.std.proofs.Common.{◌≡◌, ◌+◌, ◌&&◌, ◌==◌, ◌⊎◌, ◌∷◌, ◌++◌, ◌∙◌, ℕ, zero, suc, Bool, true, false, not, cond, List, map, length, refl, sym, ap, subst, inl, inr, Some, []}
+use Rattle.std.proofs.lemmas.Bool.{true≢false}
+use Rattle.vx_model.specs.Ty.{Ty, struct}
+use Rattle.vx_model.specs.ChunkData.{ChunkData}
+use Rattle.vx_path.specs.Lists.{In}
+use Rattle.vx_path.specs.Path.{Eof}
+use Rattle.vx_path.proofs.Lists.{in_cases, from_map}
+use Rattle.vx_tasks.specs.Run.{nth}
+use Rattle.vx_plan.specs.PlanData.{Setting, Item, rows_in}
+use Rattle.vx_plan.specs.Number.{number_of}
+use Rattle.vx_machine_turns.specs.Acts.{Seed, Act}
+use Rattle.vx_machine_turns.specs.Locals.{Local}
+use Rattle.vx_machine_turns.specs.Fuels.{Fuel, less}
+use Rattle.vx_machine_turns.specs.Source.{source_seed}
+use Rattle.vx_machine_steps.specs.Tree.{Tree, Leaf, Work}
+use Rattle.vx_machine_promises.specs.Write.{Answer, unasked, came, over, planned}
+use Rattle.vx_machine_promises.specs.Reached.{Reached}
+use Rattle.vx_machine_view.specs.State.{Mind, no_chunk, one_chunk, by_chunk, by_column, ending, made, Desk, Tasks, no_tasks, task_then}
+use Rattle.vx_machine_view.specs.Acts.{count, column_count, take_chunk, end_columns, take_end, do_take, do_act, puts}
+use Rattle.vx_machine_view.specs.Moves.{Step, may_act, own_step, in_kids, in_rest, steps}
+use Rattle.vx_machine_view.specs.Typed.{AllTyped}
+use Rattle.vx_machine_view.specs.Shows.{Stage, waits_first, waits_end, appends, splits, gathers_all, hands, shuts, joins_columns, Done, Shows}
+use Rattle.vx_machine_view.specs.Machine.{Phase, reading, giving, closing, finished, may_source, WholeStep, source_step, in_root, machine_ids}
+use Rattle.vx_machine_view.specs.Whole.{form_of, root_depth}
+use Rattle.vx_machine_view.specs.Underway.{Showing}
+use Rattle.vx_machine_view.proofs.Words.{type_fits}
+use Rattle.vx_machine_runs.specs.Steps.{MisfitIsRead}
+use Rattle.vx_machine_runs.proofs.Counting.{nth_in}
+use Rattle.vx_machine_runs.proofs.Ending.{none_later, open_none}
+
+-- ---- a task's own act
+
+columns_end : (b : Bool) (t : Ty) (rows : ℕ) (c : Desk) (ks : Tasks) → (end_columns b t rows c ks).misfit ≡ false
+columns_end true t rows c ks = refl
+columns_end false t rows c ks = refl
+
+ends_fit : (c : Desk) (ks : Tasks) (mind : Mind) → (take_end c ks mind).misfit ≡ false
+ends_fit c ks (no_chunk o t) = refl
+ends_fit c ks (one_chunk x) = refl
+ends_fit c ks (by_chunk m t f e rows) = refl
+ends_fit c ks (by_column t rows) = columns_end ((count ks == 0) && (0 == column_count t)) t rows c ks
+ends_fit c ks ending = refl
+ends_fit c ks (made l) = refl
+
+module _ (s : Setting) (number : List ℕ → ℕ) (next : ℕ) (all : List (List ℕ)) where
+  -- each chunk in these queues is one that the mind takes
+  abbrev Takes : Desk → Tasks → List Item → Mind → Type 0
+  Takes c ks [] mind = Unit {0}
+  Takes c ks (i ∷ xs) mind = (take_chunk s c ks i xs mind).misfit ≡ false
+
+  take_fits : (c : Desk) (ks : Tasks) (xs : List Item) → Takes c ks xs c.mind → (do_take s c ks xs).misfit ≡ false
+  take_fits c ks [] t = ends_fit c ks c.mind
+  take_fits c ks (i ∷ xs) t = t
+
+  idle_fits : (c : Desk) (ks : Tasks) → c.todo ≡ [] → Takes c ks c.inbox c.mind → (do_act s next c ks c.todo).misfit ≡ false
+  idle_fits c ks e t = ap (λ z. (do_act s next c ks z).misfit) e ∙ take_fits c ks c.inbox t
+
+  -- in mind there is anything but columns
+  takes_first : (c : Desk) (ks : Tasks) (xs : List Item) (mind : Mind) → ((i : Item) (xs : List Item) → (take_chunk s c ks i xs mind).misfit ≡ false) → c.mind ≡ mind → Takes c ks xs c.mind
+  takes_first c ks [] mind h e = tt
+  takes_first c ks (i ∷ xs) mind h e = ap (λ z. (take_chunk s c ks i xs z).misfit) e ∙ h i xs
+
+  takes_columns : (c : Desk) (ks : Tasks) (xs : List Item) (t : Ty) (rows : ℕ) → c.mind ≡ by_column t rows → AllTyped t xs → Takes c ks xs c.mind
+  takes_columns c ks [] t rows e ty = tt
+  takes_columns c ks (i ∷ xs) t rows e ty = ap (λ z. (take_chunk s c ks i xs z).misfit) e ∙ ap not (type_fits t i.1 ty.0)
+
+  puts_fit : (c : Desk) (ks : Tasks) (j : ℕ) (p : List ℕ) (xs : List ChunkData) → Takes c ks c.inbox c.mind → (do_act s next c ks (puts j p xs)).misfit ≡ false
+  puts_fit c ks j p [] t = take_fits c ks c.inbox t
+  puts_fit c ks j p (x ∷ xs) t = refl
+
+  own_fits : (d : Fuel) (c : Desk) (ks : Tasks) (q : Seed) (past todo : List Act) (l : Local) (off : Bool) (hs : Tree) → AllTyped q.type c.inbox → Stage s d c.mind c.todo ks q past todo l off hs
+      → (do_act s next c ks c.todo).misfit ≡ false
+  own_fits d c ks q past todo l off hs ty (waits_first o t i k w) = idle_fits c ks w.idle (takes_first c ks c.inbox (no_chunk o t) (λ i xs. refl) w.mind_is)
+  own_fits d c ks q past todo l off hs ty (waits_end o t x b i k w) =
+      idle_fits c ks w.idle (takes_first c ks c.inbox (one_chunk (record { id = x.0; bytes = b; rows = rows_in x.1; type = t })) (λ i xs. refl) w.mind_is)
+  own_fits d c ks q past todo l off hs ty (appends x k w) = ap (λ z. (do_act s next c ks z).misfit) w.left_is
+  own_fits d c ks q past todo l off hs ty (splits n e nm t sp b en u w) = idle_fits c ks w.idle (takes_first c ks c.inbox c.mind (λ i xs. ap (λ z. (take_chunk s c ks i xs z).misfit) w.mind_is) refl)
+  own_fits d c ks q past todo l off hs ty (gathers_all t u w) = ap (λ z. (do_act s next c ks z).misfit) w.left_is
+  own_fits d c ks q past todo l off hs ty (hands n rows j p xs ws w) =
+      ap (λ z. (do_act s next c ks z).misfit) w.left_is
+      ∙ puts_fit c ks j p xs (takes_columns c ks c.inbox (struct n.fields n.nullable) rows w.mind_is (subst (λ z. AllTyped z c.inbox) w.type_is ty))
+  own_fits d c ks q past todo l off hs ty (shuts t rows k w) = ap (λ z. (do_act s next c ks z).misfit) w.left_is
+  own_fits d c ks q past todo l off hs ty (joins_columns t rows k w) = ap (λ z. (do_act s next c ks z).misfit) w.left_is
+
+  -- ---- of all tasks
+
+  steps_fit : (d : Fuel) (q : Seed) (j : ℕ) (cs : Tasks) (t : Tree) → Shows s number d q j cs t → (w : Step) → In w (steps s all next cs) → w.misfit ≡ false
+  steps_fit d q j no_tasks t sh w i = absurd i
+  steps_fit d q j (task_then c ks more) Leaf sh w i = absurd sh
+  steps_fit d q j (task_then c ks more) (Work h hs r) sh w i =
+      all_of (in_cases w (cond (may_act all c ks c.todo) (own_step c more (do_act s next c ks c.todo) ∷ []) [] ++ map (in_kids c more) (steps s all next ks)) (map (in_rest c ks) (steps s all next more)) i)
+      (λ v x y. steps_fit (less d h.seed.type) h.seed 0 ks hs v x y)
+      (λ x y. steps_fit d q (suc j) more r sh.2 x y)
+    where
+      typed : AllTyped h.seed.type c.inbox
+      typed = subst (AllTyped h.seed.type) (sym sh.0.inbox) sh.0.typed
+
+      of_own : (b : Bool) → In w (cond b (own_step c more (do_act s next c ks c.todo) ∷ []) [])
+          → (Stage s (less d h.seed.type) c.mind c.todo ks h.seed h.past h.todo h.local h.over hs × Shows s number (less d h.seed.type) h.seed 0 ks hs)
+          ⊎ Done number c.mind c.todo ks h.past h.todo h.over hs → w.misfit ≡ false
+      of_own true (inl e) (inl (st, v)) = ap (λ (z : Step). z.misfit) e ∙ own_fits (less d h.seed.type) c ks h.seed h.past h.todo h.local h.over hs typed st
+      of_own true (inl e) (inr f) = ap (λ (z : Step). z.misfit) e ∙ idle_fits c ks f.idle (takes_first c ks c.inbox (made f.layout) (λ i xs. refl) f.mind_is)
+      of_own true (inr x) v = absurd x
+      of_own false x v = absurd x
+
+      of_kid : (x : Step) × In x (steps s all next ks) × (w ≡ in_kids c more x)
+          → (Stage s (less d h.seed.type) c.mind c.todo ks h.seed h.past h.todo h.local h.over hs × Shows s number (less d h.seed.type) h.seed 0 ks hs)
+          ⊎ Done number c.mind c.todo ks h.past h.todo h.over hs
+          → (Shows s number (less d h.seed.type) h.seed 0 ks hs → (v : Step) → In v (steps s all next ks) → v.misfit ≡ false) → w.misfit ≡ false
+      of_kid (x, y, e) (inl (st, v)) deeper = ap (λ (z : Step). z.misfit) e ∙ deeper v x y
+      of_kid (x, y, e) (inr f) deeper = absurd (subst (λ z. In x (steps s all next z)) f.no_kids y)
+
+      of_rest : (x : Step) × In x (steps s all next more) × (w ≡ in_rest c ks x) → ((v : Step) → In v (steps s all next more) → v.misfit ≡ false) → w.misfit ≡ false
+      of_rest (x, y, e) others = ap (λ (z : Step). z.misfit) e ∙ others x y
+
+      of_front : In w (cond (may_act all c ks c.todo) (own_step c more (do_act s next c ks c.todo) ∷ []) []) ⊎ In w (map (in_kids c more) (steps s all next ks))
+          → (Shows s number (less d h.seed.type) h.seed 0 ks hs → (v : Step) → In v (steps s all next ks) → v.misfit ≡ false) → w.misfit ≡ false
+      of_front (inl a) deeper = of_own (may_act all c ks c.todo) a sh.1
+      of_front (inr b) deeper = of_kid (from_map (in_kids c more) w (steps s all next ks) b) sh.1 deeper
+
+      all_of : In w (cond (may_act all c ks c.todo) (own_step c more (do_act s next c ks c.todo) ∷ []) [] ++ map (in_kids c more) (steps s all next ks)) ⊎ In w (map (in_rest c ks) (steps s all next more))
+          → (Shows s number (less d h.seed.type) h.seed 0 ks hs → (v : Step) → In v (steps s all next ks) → v.misfit ≡ false)
+          → ((v : Step) → In v (steps s all next more) → v.misfit ≡ false) → w.misfit ≡ false
+      all_of (inl a) deeper others =
+          of_front (in_cases w (cond (may_act all c ks c.todo) (own_step c more (do_act s next c ks c.todo) ∷ []) []) (map (in_kids c more) (steps s all next ks)) a) deeper
+      all_of (inr b) deeper others = of_rest (from_map (in_rest c ks) w (steps s all next more) b) others
+
+-- ---- the whole machine
+
+source_misfit : (a : Answer) (p : Phase) (root : Tasks) → (source_step a p root).misfit ≡ true → (e : Eof) × (p ≡ reading e) × (a ≡ unasked)
+source_misfit unasked (reading e) root h = (e, refl, refl)
+source_misfit (came b) (reading e) root h = absurd (true≢false (sym h))
+source_misfit over (reading e) root h = absurd (true≢false (sym h))
+source_misfit a (giving e i) root h = absurd (true≢false (sym h))
+source_misfit a closing root h = absurd (true≢false (sym h))
+source_misfit a finished root h = absurd (true≢false (sym h))
+
+-- the step is the source's, in the first place, or one of the others
+pub at_place : (b : Bool) (own : WholeStep) (rest : List WholeStep) (k : ℕ) (w : WholeStep) → nth (cond b (own ∷ []) [] ++ rest) k ≡ Some w → ((k ≡ 0) × (own ≡ w)) ⊎ In w rest
+at_place true own rest zero w e = let h : own ≡ w = cc in inl (refl, h)
+at_place true own rest (suc k) w e = inr (nth_in rest k w e)
+at_place false own rest k w e = inr (nth_in rest k w e)
+
+pub misfit_is_read : MisfitIsRead
+misfit_is_read g first seen x a k w u at mis = on (u (none_later x.heard) (open_none x.heard))
+  where
+    Read : Type 0
+    Read = (e : Eof) × (x.machine.phase ≡ reading e) × (k ≡ 0) × (a ≡ unasked)
+
+    on : (r : Reached g x.taken (none_later x.heard) seen x.history g.tracker) × Showing g first x.taken x.machine (none_later x.heard) r.tree → Read
+    on (r, shown) = by (at_place (may_source x.machine.phase x.machine.root) (source_step a x.machine.phase x.machine.root)
+        (map (in_root x.machine.phase) (steps g.setting (machine_ids x.machine) (first + length x.history) x.machine.root)) k w at)
+      where
+        of_source : (e : Eof) × (x.machine.phase ≡ reading e) × (a ≡ unasked) → k ≡ 0 → Read
+        of_source (e, p, q) z = (e, p, z, q)
+
+        of_root : (y : Step) × In y (steps g.setting (machine_ids x.machine) (first + length x.history) x.machine.root) × (w ≡ in_root x.machine.phase y) → Read
+        of_root (y, i, e) = absurd (true≢false (sym mis ∙ ap (λ (z : WholeStep). z.misfit) e
+            ∙ steps_fit g.setting (number_of (planned g x.taken (none_later x.heard)).pairs first) (first + length x.history) (machine_ids x.machine) (root_depth g) (source_seed (form_of g) g.mark) 0
+            x.machine.root shown.kids shown.root y i))
+
+        by : ((k ≡ 0) × (source_step a x.machine.phase x.machine.root ≡ w))
+            ⊎ In w (map (in_root x.machine.phase) (steps g.setting (machine_ids x.machine) (first + length x.history) x.machine.root)) → Read
+        by (inl (z, e)) = of_source (source_misfit a x.machine.phase x.machine.root (ap (λ (v : WholeStep). v.misfit) e ∙ mis)) z
+        by (inr i) = of_root (from_map (in_root x.machine.phase) w (steps g.setting (machine_ids x.machine) (first + length x.history) x.machine.root) i)
