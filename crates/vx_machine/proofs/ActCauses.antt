@@ -3,7 +3,9 @@ use Rattle.std.proofs.Common.{◌≡◌, ℕ, false, Result, Ok, Err, IfErr, ref
 use Rattle.std.proofs.lemmas.Result.{IfErr-weaker}
 use Rattle.vx_model.specs.Ty.{Ty}
 use Rattle.vx_fault.specs.Counts.{Counts}
-use Rattle.vx_write_answer.specs.Causes.{errs, is_source_fault, is_sink_fault}
+use Rattle.vx_order_answer.specs.declared.errors.OrderError.{OrderError}
+use Rattle.vx_order_answer.specs.declared.errors.OrderError.TheVariants as order
+use Rattle.vx_write_answer.specs.Causes.{of_order, errs, is_source_fault, is_sink_fault}
 use Rattle.vx_write_answer.specs.declared.error.WriteError.{WriteError}
 use Rattle.vx_write_answer.specs.declared.error.WriteError.TheVariants.{SourceFault, SinkFault, CompressFault, BatchType, NotStruct, DuplicateField, ManyChunks, EmptyList, ZoneCut, ForbiddenAggregate, ForbiddenEncoding, TooLarge, OutOfMemory, Unbuilt, Stopped}
 use Rattle.vx_machine.specs.Causes.{MayCome, ActMay}
@@ -114,6 +116,10 @@ source_step t (TooLarge n) h = omega (arith, h)
 source_step t OutOfMemory h = tt
 source_step t Unbuilt h = h
 source_step t (Stopped by name) h = tt
+
+-- an order has no memory
+pub order_memory : (P : WriteError → Type 0) (e : OrderError) → P OutOfMemory → e ≡ order.OutOfMemory → P (of_order e)
+order_memory P e p is = subst (λ x. P (of_order x)) (sym is) p
 
 -- ---- of answers
 

@@ -1,6 +1,6 @@
 -- Refusals of other crates' calls, as errors of a write.
-use Rattle.std.proofs.Common.{◌≡◌, ℕ, ◌^◌, ◌≤◌, Option, Err, List, sym, subst, ⊎_elim, arith}
-use Rattle.vx_model.specs.Ty.{Ty}
+use Rattle.std.proofs.Common.{◌≡◌, ℕ, ◌+◌, ◌^◌, ◌≤◌, Option, Err, List, refl, sym, ap, subst, ◌∙◌, inl, ⊎_elim, arith}
+use Rattle.vx_model.specs.Ty.{Ty, is_struct}
 use Rattle.vx_model.specs.ChunkData.{ChunkData}
 use Rattle.vx_fault.specs.Counts.{Counts}
 use Rattle.vx_fault.specs.Faults.{Called}
@@ -12,6 +12,8 @@ use Rattle.vx_segment_writer.specs.declared.error.EncodeError.{EncodeError}
 use Rattle.vx_segment_writer.specs.declared.error.EncodeError.TheVariants as encoding
 use Rattle.vx_order_answer.specs.declared.errors.OrderError.{OrderError}
 use Rattle.vx_order_answer.specs.declared.errors.OrderError.TheVariants as order
+use Rattle.vx_chunk_cells.specs.Parts.{struct_fields}
+use Rattle.vx_strategy_spec.specs.Walk.{duplicate}
 use Rattle.vx_split.specs.declared.error.SplitError.{SplitError}
 use Rattle.vx_split.specs.declared.error.SplitError.TheVariants as split
 use Rattle.vx_split.specs.Causes.{IsRefused}
@@ -22,6 +24,7 @@ use Rattle.vx_write_answer.specs.declared.error.WriteError.TheVariants as errors
 use Rattle.vx_write_answer.specs.Causes.{of_source, of_encode, of_order, of_split, is_sink_fault, is_source_fault}
 use Rattle.vx_machine.specs.Causes.{MayCome, ActMay, StartMay}
 use Rattle.vx_machine.specs.Source.{SourceMay, ReadsNone}
+use Rattle.vx_machine.specs.Starting.{PointerRefused, NodeRefused}
 
 -- ---- of an order
 
@@ -30,6 +33,12 @@ full_starts last (order.TooLarge n) h = h.0
 full_starts last order.SinkFault h = absurd h
 full_starts last order.OutOfMemory h = tt
 full_starts last (order.Stopped by name) h = absurd h
+
+pub full_refused : (last : ℕ) (e : OrderError) → FullAt last e → PointerRefused last (of_order e)
+full_refused last (order.TooLarge n) h = (h.0, (last + 1, inl refl, omega (arith, h.1)))
+full_refused last order.SinkFault h = absurd h
+full_refused last order.OutOfMemory h = tt
+full_refused last (order.Stopped by name) h = absurd h
 
 past_large : (o : Outlet) (n : ℕ) → IsPast o n → 2 ^ 32 ≤ n
 past_large (own s) n h = omega (arith, h.0, h.1)
@@ -54,6 +63,12 @@ split_starts t split.NotStruct h = tt
 split_starts t (split.DuplicateField name) h = tt
 split_starts t (split.TooLarge n) h = absurd h
 split_starts t split.OutOfMemory h = tt
+
+pub split_refused : (t u : Ty) (e : SplitError) → t ≡ u → IsRefused t e → NodeRefused u (of_split e)
+split_refused t u split.NotStruct is h = ap is_struct (sym is) ∙ h
+split_refused t u (split.DuplicateField name) is h = (ap is_struct (sym is) ∙ h.0, ap (λ z. duplicate (struct_fields z)) (sym is) ∙ h.1)
+split_refused t u (split.TooLarge n) is h = absurd h
+split_refused t u split.OutOfMemory is h = tt
 
 pub split_may : (e : SplitError) → e ≡ split.OutOfMemory → MayCome (of_split e)
 split_may e is = subst (λ x. MayCome (of_split x)) (sym is) tt

@@ -1,4 +1,3 @@
-pub mod IdMoves
 pub mod TaskParts
 pub mod Readiness
 pub mod StartWeights
@@ -13,3 +12,20 @@ pub mod WriteSteps
 pub mod ActCauses
 pub mod ActMoves
 pub mod MachineMoves
+pub mod ViewParts
+pub mod ReadyViews
+pub mod Fitting
+pub mod StartShows
+pub mod RefusalSteps
+pub mod RowSteps
+pub mod SourceSteps
+pub mod SplitSteps
+pub mod PutSteps
+pub mod ActShows
+pub mod TakeShows
+pub mod NextShows
+pub mod HeldViews
+pub mod StepViews
+pub mod StepShows
+pub mod StepLifts
+pub mod RunSteps

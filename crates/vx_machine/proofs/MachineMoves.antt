@@ -7,7 +7,10 @@ use Rattle.vx_machine_ids.specs.Balance.{Owned, Moved}
 use Rattle.vx_machine_ids.proofs.MoveLaws.{moved_then, moved_drop, owned_now, owned_as, moved_as}
 use Rattle.vx_write_answer.specs.declared.error.WriteError.{WriteError}
 use Rattle.vx_write_answer.specs.declared.error.WriteError.TheVariants.{Unbuilt, OutOfMemory}
+use Rattle.vx_path.specs.Path.{Eof}
+use Rattle.vx_machine_turns.specs.Forms.{Form}
 use Rattle.vx_machine.specs.Causes.{StartMay}
+use Rattle.vx_machine.specs.Starting.{FormRefused, WholeRefused}
 use Rattle.vx_machine.specs.Whole.{WholeStartMay}
 use Rattle.vx_machine.specs.Ready.{counted}
 
@@ -28,6 +31,15 @@ unbuilt false h = refl
 pub built_may : (b : Bool) (e : WriteError) → b ≡ true → StartMay e → WholeStartMay b e
 built_may true e h m = m
 built_may false e h m = absurd (true≢false (sym h))
+
+-- the same, by what is refused
+pub unbuilt_refused : (b : Bool) (f : Form) (m : Bool) (e : Eof) → b ≡ false → WholeRefused b f m e Unbuilt
+unbuilt_refused true f m e h = absurd (true≢false h)
+unbuilt_refused false f m e h = refl
+
+pub built_refused : (b : Bool) (f : Form) (m : Bool) (e : Eof) (x : WriteError) → b ≡ true → FormRefused f m e x → WholeRefused b f m e x
+built_refused true f m e x h r = r
+built_refused false f m e x h r = absurd (true≢false (sym h))
 
 pub memory_start : (e : WriteError) → e ≡ OutOfMemory → StartMay e
 memory_start e h = subst (λ x. StartMay x) (sym h) tt

@@ -1,5 +1,5 @@
 -- Counts of what is ready, and walks over children.
-use Rattle.std.proofs.Common.{◌≡◌, ◌↔◌, ℕ, zero, suc, ◌+◌, ◌-◌, ◌^◌, ◌<◌, ◌≤◌, ◌&&◌, ◌||◌, min, Bool, true, false, List, [], ◌∷◌, ◌++◌, map, length, drop, get_or, refl, sym, ap, subst, ◌∙◌, arith, ⊎_elim}
+use Rattle.std.proofs.Common.{◌≡◌, ◌↔◌, ℕ, zero, suc, ◌+◌, ◌-◌, ◌^◌, ◌<◌, ◌≤◌, ◌&&◌, ◌||◌, min, Bool, true, false, List, [], ◌∷◌, ◌++◌, map, length, take, drop, get_or, refl, sym, ap, subst, ◌∙◌, arith, ⊎_elim}
 use Rattle.std.proofs.lemmas.Bool.{cases_Bool, and_parts, true≢false}
 use Rattle.std.specs.FinMap as fin
 use Rattle.std.specs.List.{list_any}
@@ -96,6 +96,15 @@ made_front all xs k is h = front_made xs k (subst (λ z. all_made (kids_of z) �
 pub among_more : (u : Active) (xs : List Task) (i : ℕ) (x : Task) → i < length xs → x ≡ get_or xs i x
     → ready_among u (drop i xs) ≡ ready_in u x + ready_among u (drop (i + 1) xs)
 among_more u xs i x h e = ap (ready_among u) (drop_is xs i x h e)
+
+-- those up to one
+among_upto : (u : Active) (xs : List Task) (i : ℕ) (x : Task) → i < length xs → x ≡ get_or xs i x → ready_among u (take (suc i) xs) ≡ ready_among u (take i xs) + ready_in u x
+among_upto u [] i x h e = absurd (omega (arith, h))
+among_upto u (y ∷ ys) zero x h e = let a : ready_in u x ≡ ready_in u y = ap (ready_in u) e in omega (arith, a)
+among_upto u (y ∷ ys) (suc i) x h e = let a : ready_among u (take (suc i) ys) ≡ ready_among u (take i ys) + ready_in u x = among_upto u ys i x (omega (arith, h)) e in omega (arith, a)
+
+pub among_next : (u : Active) (xs : List Task) (i : ℕ) (x : Task) → i < length xs → x ≡ get_or xs i x → ready_among u (take (i + 1) xs) ≡ ready_among u (take i xs) + ready_in u x
+among_next u xs i x h e = let n : suc i ≡ i + 1 = omega arith in sym (ap (λ k. ready_among u (take k xs)) n) ∙ among_upto u xs i x h e
 
 -- ---- rooms
 

@@ -19,6 +19,9 @@ use Rattle.vx_machine.specs.declared.task.Task.TheFolds.{fold_out-Task}
 pub out_roll : (x : Task-F Task) → out-Task (roll-Task x) ≡ x
 out_roll x = simp the_lemmas refl
 
+pub roll_out : (t : Task) → roll-Task (out-Task t) ≡ t
+roll_out t = simp the_lemmas refl
+
 pub task_stock_out : (t : Task) → task_stock t ≡ both (head_stock (out-Task t).head) (tasks_stock (out-Task t).kids.items)
 task_stock_out = fold_out-Task Stock step_stock
 

@@ -6,3 +6,11 @@ pub mod Pairs
 pub mod Causes
 pub mod Source
 pub mod Whole
+pub mod View
+pub mod Context
+pub mod Outcome
+pub mod Acting
+pub mod SourceActs
+pub mod Steps
+pub mod Run
+pub mod Starting

@@ -2,6 +2,7 @@
 use Rattle.std.specs.Prelude.{◌≡◌, ◌^◌, List, ◌∷◌, Option, Some, None, option_map, Result, Ok, Err}
 use Rattle.vx_model.specs.Ty.{Ty}
 use Rattle.vx_model.specs.ChunkData.{ChunkData, piece_type}
+use Rattle.vx_layout_spec.specs.Real.{Whole}
 use Rattle.vx_fault.specs.Told.{NoneTold}
 use Rattle.vx_machine_ids.specs.Stock.{Stock, none, both, end_stock}
 use Rattle.vx_write_answer.specs.declared.error.WriteError.{WriteError}
@@ -20,6 +21,11 @@ phase_stock Finished = none
 abbrev pub IsTyped : Ty → Option ChunkData → Type 0
 IsTyped t None = Unit {0}
 IsTyped t (Some c) = piece_type c ≡ t
+
+-- and whole
+abbrev pub IsWhole : Option ChunkData → Type 0
+IsWhole None = Unit {0}
+IsWhole (Some c) = Whole c
 
 -- a batch is the first of those told, also where it is of another type; at the end none is left; another error changes nothing
 abbrev pub ReadsNone : Option (List ChunkData) → Option (List ChunkData) → WriteError → Type 0
@@ -48,3 +54,8 @@ SourceMay t (ForbiddenAggregate id) = ⊥
 SourceMay t (ForbiddenEncoding id) = ⊥
 SourceMay t Unbuilt = ⊥
 SourceMay t (Stopped by name) = ⊥
+
+-- what a source answers where it gives no batch is no number that is too large
+abbrev pub NoNumber : WriteError → Type 0
+NoNumber (TooLarge n) = ⊥
+NoNumber e = Unit {0}

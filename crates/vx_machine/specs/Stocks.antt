@@ -1,6 +1,5 @@
 -- What the parts of a machine hold.
-use Rattle.std.specs.Prelude.{ℕ, List}
-use Rattle.std.specs.Global.{Vec}
+use Rattle.std.specs.Prelude.{List}
 use Rattle.vx_machine_ids.specs.Stock.{Stock, none, both, joined, id_stock, end_stock, all_stock}
 use Rattle.vx_machine.specs.declared.item.Item.{Item}
 use Rattle.vx_machine.specs.declared.item.Stored.{Stored}
@@ -12,9 +11,6 @@ use Rattle.vx_machine.specs.declared.task.Head.{Head}
 use Rattle.vx_machine.specs.declared.task.Task.{Task}
 use Rattle.vx_machine.specs.declared.task.Task.TheOpen.{Task-F}
 use Rattle.vx_machine.specs.declared.task.Task.TheFolds.{fold-Task}
-
-abbrev pub all_ids : Vec (List ℕ) → Stock
-all_ids v = all_stock id_stock v.items
 
 abbrev pub item_stock : Item → Stock
 item_stock i = id_stock i.id

@@ -1,21 +1,30 @@
 //! The next act of a task.
 
-ghost use Rattle.std.specs.Prelude.{◌≡◌, ◌≤◌, ◌+◌, IsTrue, length, IfOk, IfErr};
+ghost use Rattle.std.specs.Prelude.{◌≡◌, ◌≤◌, ◌+◌, ◌&&◌, ◌==◌, ℕ, List, [], IsTrue, IsFalse, length, IfOk, IfErr, OnOk, OnErr};
+ghost use Rattle.std.specs.Arc.{arc_value};
 ghost use Rattle.std.specs.VecDeque.{deque_len, deque_capacity};
+ghost use Rattle.vx_model.specs.declared.encoding.EncodingId.{EncodingId};
+ghost use Rattle.vx_model.specs.TyView.{ty};
 ghost use Rattle.vx_fault.specs.Counts.{Counts};
+ghost use Rattle.vx_layout_spec.specs.LayoutTree.{gathered};
 ghost use Rattle.vx_sequence.specs.Universe.{IsLeast};
 ghost use Rattle.vx_machine_ids.specs.Stock.{none, both, ok_stock};
 ghost use Rattle.vx_machine_ids.specs.Balance.{Owned, Moved};
+ghost use Rattle.vx_sink.specs.ContextView.{listed};
 ghost use Rattle.vx_write_answer.specs.Causes.{errs, is_sink_fault};
+ghost use Rattle.vx_machine_view.specs.State.{append as append_next, join_kids, Mind, made as has_layout, Tasks};
+ghost use Rattle.vx_machine_view.specs.Acts.{give, shut_all, layouts_in, joined_rows, column_count};
+ghost use Rattle.vx_machine.specs.Acting.{AppendRefused, JoinRefused, acted, ActDone, DueDone, DueRefused, ChunkTaken, ChunkRefused, EndTaken, NextTaken, NextUntaken, NextDone, NextRefused};
 ghost use Rattle.vx_machine.specs.Causes.{MayCome, ActMay};
+ghost use Rattle.vx_machine.specs.Outcome.{Kept};
 ghost use Rattle.vx_machine.specs.Pairs.{due_pairs, next_pairs, AllMay};
-ghost use Rattle.vx_machine.specs.Ready.{may_due, may_now, room_at, all_made, can_join, kids_of};
+ghost use Rattle.vx_machine.specs.Ready.{is_over, may_due, may_now, room_at, all_made, can_join, kids_of};
 ghost use Rattle.vx_machine.specs.Stocks.{item_stock, stored_stock, due_stock, dues_stock, local_stock, head_stock, tasks_stock};
+ghost use Rattle.vx_machine.specs.View.{item_of, stored_of, fold_of, todo_of, mind_of, row};
 
 use crate::chunked::take_chunked;
 use crate::columns::take_columns;
 use crate::flat::{append, set_local, take_flat};
-use crate::ids::give_up_pointer;
 use crate::item::{Due, Item, Stored, give_up_item};
 use crate::join::{gather, join, join_columns};
 use crate::kinds::{ChunkedNode, ColumnsNode, FlatNode};
@@ -25,6 +34,7 @@ use crate::task::{Head, Task};
 use std::alloc::Global;
 use std::collections::VecDeque;
 use std::mem;
+use vx_machine_ids::give_up_pointer;
 use vx_order::Order;
 use vx_path::owned::Path;
 use vx_sink::LayoutWriterContext;
@@ -40,6 +50,8 @@ fn put<O: Order>(
     requires owned { Owned (O.active order.old) (both (tasks_stock kids.old.items) (item_stock item)) }
     requires room { IsTrue (room_at child (kids_of kids.old.items)) }
     ensures moved { Moved (O.active order.old) (O.active order.new) (both (tasks_stock kids.old.items) (item_stock item)) (tasks_stock kids.new.items) }
+    ensures kind { IfOk result (λ a. a ≡ ActionKind.Put) }
+    ensures kids { OnOk result (row kids.new.items ≡ give child (item_of item) (row kids.old.items)) }
     ensures outlet { O.outlet order.new ≡ O.outlet order.old }
     ensures faults { O.faults order.new ≡ O.faults order.old }
     ensures memory { IfErr result (λ e. e ≡ WriteError.OutOfMemory) }
@@ -54,7 +66,8 @@ fn put<O: Order>(
 }
 
 fn close_all(kids: &mut Vec<Task>)
-    ensures { tasks_stock kids.new.items ≡ tasks_stock kids.old.items }
+    ensures stock { tasks_stock kids.new.items ≡ tasks_stock kids.old.items }
+    ensures kids { row kids.new.items ≡ shut_all (row kids.old.items) }
 {
     'kids: for i in 0..kids.len() {
         kids[i].shut();
@@ -72,6 +85,10 @@ fn append_due<O: Order>(
     requires least { IsLeast (O.active order.old) stored.id }
     requires allowed { O.may_write order.old stored.id stored.segment.bytes.items }
     ensures moved { Moved (O.active order.old) (O.active order.new) (both (local_stock local.old) (stored_stock stored)) (local_stock local.new) }
+    ensures done { IfOk result (λ a. (n : ℕ) × ((mind : Mind) (ks : Tasks)
+        → ActDone (acted (listed ctx.now) n mind ks (append_next (stored_of stored))) (O.outlet order.old) n (O.outlet order.new) (mind_of local.new) ks a)) }
+    ensures refused { IfErr result (AppendRefused (O.outlet order.old) (stored.id, stored.segment.bytes.items)) }
+    ensures kept { OnErr result (Kept (O.outlet order.old) (O.outlet order.new)) }
     ensures faults { Counts (O.faults order.old) (O.faults order.new) (errs is_sink_fault result) }
     ensures cause { IfErr result ActMay }
 {
@@ -96,6 +113,9 @@ fn join_due<O: Order>(
     requires made { IsTrue (all_made (kids_of kids.old.items)) }
     requires fits { IsTrue (can_join shape (length (kids_of kids.old.items))) }
     ensures moved { Moved (O.active order.old) (O.active order.new) (both (local_stock local.old) (tasks_stock kids.old.items)) (both (local_stock local.new) (tasks_stock kids.new.items)) }
+    ensures done { IfOk result (λ a. (ids : List EncodingId) (n : ℕ) (mind : Mind)
+        → ActDone (acted ids n mind (row kids.old.items) (join_kids (fold_of shape))) (O.outlet order.old) n (O.outlet order.new) (mind_of local.new) (row kids.new.items) a) }
+    ensures refused { IfErr result (JoinRefused (joined_rows (fold_of shape) (layouts_in (row kids.old.items)))) }
     ensures outlet { O.outlet order.new ≡ O.outlet order.old }
     ensures faults { O.faults order.new ≡ O.faults order.old }
     ensures cause { IfErr result MayCome }
@@ -122,6 +142,9 @@ fn act<O: Order>(
     requires ready { IsTrue (may_due (O.active order.old) due (kids_of kids.old.items)) }
     requires allowed { AllMay (O.may_write order.old) (due_pairs due) }
     ensures moved { Moved (O.active order.old) (O.active order.new) (both (both (local_stock local.old) (tasks_stock kids.old.items)) (due_stock due)) (both (local_stock local.new) (tasks_stock kids.new.items)) }
+    ensures done { IfOk result (DueDone (listed ctx.now) local.old kids.old.items due (O.outlet order.old) (O.outlet order.new) local.new kids.new.items) }
+    ensures refused { IfErr result (DueRefused (listed ctx.now) local.old kids.old.items due (O.outlet order.old)) }
+    ensures kept { OnErr result (Kept (O.outlet order.old) (O.outlet order.new)) }
     ensures faults { Counts (O.faults order.old) (O.faults order.new) (errs is_sink_fault result) }
     ensures cause { IfErr result ActMay }
 {
@@ -149,6 +172,8 @@ fn take<O: Order>(
 ) -> Result<(), WriteError>
     requires { Owned (O.active order.old) (both (both (both (local_stock local.old) (dues_stock todo.old.items)) (tasks_stock kids.old.items)) (item_stock item)) }
     ensures moved { Moved (O.active order.old) (O.active order.new) (both (both (both (local_stock local.old) (dues_stock todo.old.items)) (tasks_stock kids.old.items)) (item_stock item)) (both (both (local_stock local.new) (dues_stock todo.new.items)) (tasks_stock kids.new.items)) }
+    ensures done { OnOk result (ChunkTaken ctx.now name.now (row kids.old.items) item local.old local.new (todo_of todo.new.items) (todo_of todo.old.items) (row kids.new.items)) }
+    ensures refused { IsFalse (is_over local.old) → IfErr result (ChunkRefused ctx.now name.now (row kids.old.items) item local.old) }
     ensures outlet { O.outlet order.new ≡ O.outlet order.old }
     ensures faults { O.faults order.new ≡ O.faults order.old }
     ensures cause { IfErr result MayCome }
@@ -165,10 +190,20 @@ fn take<O: Order>(
 /// What a flat node's task has in mind at the end of a stream without chunks: its layout.
 fn end_empty(alloc: Global, node: &FlatNode) -> Result<Local, WriteError>
     ensures local { IfOk result (λ l. local_stock l ≡ none) }
+    ensures layout { IfOk result (λ l. mind_of l ≡ has_layout (gathered (ty (arc_value node.now.dtype)) 0 [])) }
+    ensures memory { IfErr result (λ e. e ≡ WriteError.OutOfMemory) }
     ensures cause { IfErr result MayCome }
 {
     let layout = gather(&node.dtype, Vec::new(alloc))?;
     Ok(Local::Made(layout))
+}
+
+/// Whether there are no children, and the type has no columns.
+fn has_no_columns(node: &ColumnsNode, kids: usize) -> bool
+    ensures { result ≡ ((kids == 0) && (0 == column_count (ty (arc_value node.now.dtype)))) }
+{
+    let fits = columns_fit(node, 0);
+    kids == 0 && fits
 }
 
 /// What a struct's task has in mind at the end of its stream: without columns its layout at once.
@@ -181,9 +216,11 @@ fn end_columns(
     requires { deque_len todo.old + 2 ≤ deque_capacity todo.old }
     ensures todo { dues_stock todo.new.items ≡ dues_stock todo.old.items }
     ensures local { IfOk result (λ l. local_stock l ≡ none) }
+    ensures done { IfOk result (λ l. EndTaken (Local.Columns node rows) kids l (todo_of todo.new.items) (todo_of todo.old.items)) }
+    ensures memory { IfErr result (λ e. e ≡ WriteError.OutOfMemory) }
     ensures cause { IfErr result MayCome }
 {
-    if kids == 0 && columns_fit(&node, 0) {
+    if has_no_columns(&node, kids) {
         let layout = join_columns(&node, rows, Vec::new(*todo.allocator()));
         drop(node);
         return match layout {
@@ -207,6 +244,8 @@ fn ended<O: Order>(
     requires owned { Owned (O.active order.old) (both (local_stock local) (dues_stock todo.old.items)) }
     requires room { deque_len todo.old + 2 ≤ deque_capacity todo.old }
     ensures moved { Moved (O.active order.old) (O.active order.new) (both (local_stock local) (dues_stock todo.old.items)) (both (ok_stock local_stock result) (dues_stock todo.new.items)) }
+    ensures done { IfOk result (λ l. EndTaken local kids l (todo_of todo.new.items) (todo_of todo.old.items)) }
+    ensures memory { IfErr result (λ e. e ≡ WriteError.OutOfMemory) }
     ensures outlet { O.outlet order.new ≡ O.outlet order.old }
     ensures faults { O.faults order.new ≡ O.faults order.old }
     ensures cause { IfErr result MayCome }
@@ -244,6 +283,8 @@ fn end<O: Order>(
 ) -> Result<(), WriteError>
     requires { Owned (O.active order.old) (both (local_stock local.old) (dues_stock todo.old.items)) }
     ensures moved { Moved (O.active order.old) (O.active order.new) (both (local_stock local.old) (dues_stock todo.old.items)) (both (local_stock local.new) (dues_stock todo.new.items)) }
+    ensures done { OnOk result (EndTaken local.old kids local.new (todo_of todo.new.items) (todo_of todo.old.items)) }
+    ensures memory { IfErr result (λ e. e ≡ WriteError.OutOfMemory) }
     ensures outlet { O.outlet order.new ≡ O.outlet order.old }
     ensures faults { O.faults order.new ≡ O.faults order.old }
     ensures cause { IfErr result MayCome }
@@ -269,6 +310,8 @@ fn take_next<O: Order>(
 ) -> Result<(), WriteError>
     requires { Owned (O.active order.old) (both (head_stock head.old) (tasks_stock kids.old.items)) }
     ensures moved { Moved (O.active order.old) (O.active order.new) (both (head_stock head.old) (tasks_stock kids.old.items)) (both (head_stock head.new) (tasks_stock kids.new.items)) }
+    ensures done { head.old.todo.items ≡ [] → OnOk result (NextTaken ctx.now head.old kids.old.items head.new kids.new.items) }
+    ensures refused { IsFalse (is_over head.old.local) → IfErr result (NextUntaken ctx.now head.old kids.old.items) }
     ensures outlet { O.outlet order.new ≡ O.outlet order.old }
     ensures faults { O.faults order.new ≡ O.faults order.old }
     ensures cause { IfErr result MayCome }
@@ -300,6 +343,9 @@ pub(crate) fn advance<O: Order>(
     requires ready { IsTrue (may_now (O.active order.old) head.old (kids_of kids.old.items)) }
     requires allowed { AllMay (O.may_write order.old) (next_pairs head.old.todo.items) }
     ensures moved { Moved (O.active order.old) (O.active order.new) (both (head_stock head.old) (tasks_stock kids.old.items)) (both (head_stock head.new) (tasks_stock kids.new.items)) }
+    ensures done { IfOk result (NextDone ctx.now head.old kids.old.items (O.outlet order.old) (O.outlet order.new) head.new kids.new.items) }
+    ensures refused { IfErr result (NextRefused ctx.now head.old kids.old.items (O.outlet order.old)) }
+    ensures kept { OnErr result (Kept (O.outlet order.old) (O.outlet order.new)) }
     ensures faults { Counts (O.faults order.old) (O.faults order.new) (errs is_sink_fault result) }
     ensures cause { IfErr result ActMay }
 {

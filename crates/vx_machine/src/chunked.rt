@@ -1,10 +1,21 @@
 //! A chunked node hands each chunk to a child of its own.
 
-ghost use Rattle.std.specs.Prelude.{◌≡◌, ◌+◌, ◌≤◌, vec_len, vec_capacity, IfErr, OnOk};
+ghost use Rattle.std.specs.Prelude.{◌≡◌, ◌+◌, ◌<◌, ◌≤◌, ◌^◌, List, [], ◌∷◌, true, length, vec_len, vec_capacity, IfOk, IfErr, OnOk};
+ghost use Rattle.vx_path.specs.Path.{under, inside, next};
 ghost use Rattle.vx_machine_ids.specs.Stock.{none, both, end_stock, ok_stock};
 ghost use Rattle.vx_machine_ids.specs.Balance.{Owned, Moved};
+ghost use Rattle.vx_plan.specs.PlanData.{Setting};
+ghost use Rattle.vx_machine_view.specs.State.{Next, Tasks, task_then};
+ghost use Rattle.vx_machine_view.specs.Start.{first_indices, started_task};
+ghost use Rattle.vx_machine_view.specs.Acts.{add, count, with_item, shut_desk};
+ghost use Rattle.vx_machine.specs.Acting.{taken, Took, TakeRefused, ChildRefused};
 ghost use Rattle.vx_machine.specs.Causes.{MayCome};
+ghost use Rattle.vx_machine.specs.Outcome.{AllFit};
+ghost use Rattle.vx_machine.specs.Starting.{IsAllowed, Started};
 ghost use Rattle.vx_machine.specs.Stocks.{item_stock, task_stock, tasks_stock};
+ghost use Rattle.vx_machine.specs.View.{item_of, child_form, mind_of, desk_of, task_row, row};
+ghost use Rattle.vx_machine.specs.declared.node.Local.TheVariants.{Chunked};
+ghost use Rattle.vx_machine.specs.declared.task.Task.{out-Task};
 
 use crate::columns::add_rows;
 use crate::item::{Item, give_up_item};
@@ -22,6 +33,7 @@ use vx_write_answer::WriteError;
 fn fed<O: Order>(order: &mut O, mut kid: Task, item: Item) -> Result<Task, WriteError>
     requires { Owned (O.active order.old) (both (task_stock kid) (item_stock item)) }
     ensures moved { Moved (O.active order.old) (O.active order.new) (both (task_stock kid) (item_stock item)) (ok_stock task_stock result) }
+    ensures fed { IfOk result (λ t. (r : Tasks) → task_row t r ≡ task_then (shut_desk (with_item (desk_of (out-Task kid).head) (item_of item))) (row (out-Task kid).kids.items) r) }
     ensures outlet { O.outlet order.new ≡ O.outlet order.old }
     ensures faults { O.faults order.new ≡ O.faults order.old }
     ensures memory { IfErr result (λ e. e ≡ WriteError.OutOfMemory) }
@@ -52,6 +64,10 @@ fn next_child<O: Order>(
     ensures moved { Moved (O.active order.old) (O.active order.new) (end_stock eof.old) (both (end_stock eof.new) (ok_stock task_stock result)) }
     ensures kids { kids.new.items ≡ kids.old.items }
     ensures room { OnOk result (vec_len kids.new + 1 ≤ vec_capacity kids.new) }
+    ensures started { IfOk result (Started (child_form node.now) node.now.marked (under name.now (length kids.old.items)) (inside eof.old)) }
+    ensures pointer { OnOk result (eof.new ≡ next eof.old) }
+    ensures fits { OnOk result (eof.old.last + 1 < 2 ^ 64) }
+    ensures refused { IfErr result (ChildRefused node.now eof.old) }
     ensures outlet { O.outlet order.new ≡ O.outlet order.old }
     ensures faults { O.faults order.new ≡ O.faults order.old }
     ensures cause { IfErr result MayCome }
@@ -74,6 +90,12 @@ pub(crate) fn take_chunk<O: Order>(
 ) -> Result<(), WriteError>
     requires { Owned (O.active order.old) (both (both (end_stock eof.old) (tasks_stock kids.old.items)) (item_stock item)) }
     ensures moved { Moved (O.active order.old) (O.active order.new) (both (both (end_stock eof.old) (tasks_stock kids.old.items)) (item_stock item)) (both (end_stock eof.new) (tasks_stock kids.new.items)) }
+    ensures allowed { OnOk result (IsAllowed (child_form node.now) node.now.marked) }
+    ensures kids { OnOk result (row kids.new.items ≡ add (row kids.old.items) (started_task (child_form node.now) node.now.marked (under name.now (count (row kids.old.items)))
+        (inside eof.old) (item_of item ∷ []) true)) }
+    ensures pointer { OnOk result (eof.new ≡ next eof.old) }
+    ensures counted { OnOk result (AllFit ((eof.old.last + 1) ∷ first_indices (child_form node.now) (inside eof.old))) }
+    ensures refused { IfErr result (ChildRefused node.now eof.old) }
     ensures outlet { O.outlet order.new ≡ O.outlet order.old }
     ensures faults { O.faults order.new ≡ O.faults order.old }
     ensures cause { IfErr result MayCome }
@@ -104,6 +126,9 @@ pub(crate) fn take_chunked<O: Order>(
 ) -> Result<(), WriteError>
     requires { Owned (O.active order.old) (both (both (end_stock eof.old) (tasks_stock kids.old.items)) (item_stock item)) }
     ensures moved { Moved (O.active order.old) (O.active order.new) (both (both (end_stock eof.old) (tasks_stock kids.old.items)) (item_stock item)) (both (end_stock eof.new) (tasks_stock kids.new.items)) }
+    ensures done { OnOk result ((s : Setting) (todo : List Next) → Took (taken s name.now (row kids.old.items) (item_of item) (mind_of (Chunked node.now eof.old rows.old)))
+        (mind_of (Chunked node.now eof.new rows.new)) todo todo (row kids.new.items)) }
+    ensures refused { IfErr result (λ e. (s : Setting) → TakeRefused (taken s name.now (row kids.old.items) (item_of item) (mind_of (Chunked node.now eof.old rows.old))) e) }
     ensures outlet { O.outlet order.new ≡ O.outlet order.old }
     ensures faults { O.faults order.new ≡ O.faults order.old }
     ensures cause { IfErr result MayCome }

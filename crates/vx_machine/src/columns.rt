@@ -1,20 +1,29 @@
 //! A struct node hands its columns the parts of each chunk.
 
-ghost use Rattle.std.specs.Prelude.{◌≡◌, ◌↔◌, ◌+◌, ◌<◌, ◌≤◌, ◌^◌, vec_len, IsTrue, IfOk, IfErr, OnOk};
+ghost use Rattle.std.specs.Prelude.{◌≡◌, ◌↔◌, ◌+◌, ◌++◌, ◌<◌, ◌≤◌, ◌^◌, ℕ, List, ◌∷◌, false, not, length, vec_len, IsTrue, IfOk, IfErr, OnOk};
+ghost use Rattle.std.specs.Arc.{arc_value};
 ghost use Rattle.std.specs.VecDeque.{deque_len, deque_capacity};
-ghost use Rattle.vx_model.specs.ChunkData.{piece_type};
+ghost use Rattle.vx_path.specs.Path.{under};
+ghost use Rattle.vx_model.specs.Ty.{ty_eq};
+ghost use Rattle.vx_model.specs.ChunkData.{piece_type, cells};
 ghost use Rattle.vx_model.specs.TyView.{ty};
-ghost use Rattle.vx_machine_ids.specs.Stock.{none, both, id_stock};
+ghost use Rattle.vx_order.specs.Ids.{children};
+ghost use Rattle.vx_machine_ids.specs.Stock.{none, both, id_stock, all_ids};
 ghost use Rattle.vx_machine_ids.specs.Balance.{Owned, Moved};
-ghost use Rattle.vx_machine.specs.Stocks.{all_ids, item_stock, dues_stock};
+ghost use Rattle.vx_plan.specs.PlanData.{Setting};
+ghost use Rattle.vx_machine_view.specs.State.{Tasks, by_column, put};
+ghost use Rattle.vx_machine_view.specs.Acts.{columns_in, column_count, puts};
+ghost use Rattle.vx_machine.specs.Acting.{SplitRefused, taken, Took, TakeRefused};
 ghost use Rattle.vx_machine.specs.Causes.{MayCome};
+ghost use Rattle.vx_machine.specs.Stocks.{item_stock, dues_stock};
+ghost use Rattle.vx_machine.specs.View.{item_of, todo_of};
 
-use crate::ids::{give_up_id, take_children};
 use crate::item::{Due, Item};
 use crate::kinds::ColumnsNode;
 use std::alloc::Global;
 use std::collections::VecDeque;
 use vx_chunk::Chunk;
+use vx_machine_ids::{give_up_id, take_children};
 use vx_model::DType;
 use vx_order::Order;
 use vx_sequence::SequenceId;
@@ -24,6 +33,7 @@ use vx_write_answer::WriteError;
 pub(crate) fn add_rows(rows: u64, more: u64) -> Result<u64, WriteError>
     ensures ok { IfOk result (λ n. n ≡ rows + more) }
     ensures fits { OnOk result (rows + more < 2 ^ 64) }
+    ensures refused { IfErr result (SplitRefused false (rows + more)) }
     ensures cause { IfErr result MayCome }
 {
     let total = u128::from(rows) + u128::from(more);
@@ -50,6 +60,12 @@ fn split_chunk(
 ) -> Result<(Vec<Chunk>, u64), WriteError>
     ensures todo { todo.new.items ≡ todo.old.items }
     ensures room { IfOk result (λ r. deque_len todo.new + vec_len r.0 ≤ deque_capacity todo.new) }
+    ensures typed { OnOk result (IsTrue (ty_eq (piece_type chunk) (ty (arc_value node.now.dtype)))) }
+    ensures columns { IfOk result (λ r. r.0.items ≡ columns_in (ty (arc_value node.now.dtype)) chunk) }
+    ensures count { OnOk result (column_count (ty (arc_value node.now.dtype)) < 2 ^ 64) }
+    ensures rows { IfOk result (λ r. r.1 ≡ rows + length (cells chunk)) }
+    ensures fits { OnOk result (rows + length (cells chunk) < 2 ^ 64) }
+    ensures refused { IfErr result (SplitRefused (not (ty_eq (piece_type chunk) (ty (arc_value node.now.dtype)))) (rows + length (cells chunk))) }
     ensures cause { IfErr result MayCome }
 {
     if !has_type(&chunk, &node.dtype) {
@@ -77,6 +93,8 @@ fn add_put(todo: &mut VecDeque<Due>, ids: &mut Vec<SequenceId>, chunk: Chunk)
     requires some { 0 < vec_len ids.old }
     requires room { deque_len todo.old < deque_capacity todo.old }
     ensures stock { both (all_ids ids.new) (dues_stock todo.new.items) ≡ both (all_ids ids.old) (dues_stock todo.old.items) }
+    ensures next { (p : List ℕ) → ids.old.items ≡ children p (vec_len ids.old) → (ids.new.items ≡ children p (vec_len ids.new))
+        × (todo_of todo.new.items ≡ put (vec_len ids.new) (under p (vec_len ids.new), chunk) ∷ todo_of todo.old.items) }
     ensures ids { vec_len ids.new + 1 ≡ vec_len ids.old }
     ensures todo { deque_len todo.new ≡ deque_len todo.old + 1 }
     ensures capacity { deque_capacity todo.new ≡ deque_capacity todo.old }
@@ -94,7 +112,8 @@ fn add_put(todo: &mut VecDeque<Due>, ids: &mut Vec<SequenceId>, chunk: Chunk)
 fn add_puts(todo: &mut VecDeque<Due>, mut ids: Vec<SequenceId>, mut columns: Vec<Chunk>)
     requires same { vec_len ids ≡ vec_len columns }
     requires room { deque_len todo.old + vec_len columns ≤ deque_capacity todo.old }
-    ensures { dues_stock todo.new.items ≡ both (all_ids ids) (dues_stock todo.old.items) }
+    ensures stock { dues_stock todo.new.items ≡ both (all_ids ids) (dues_stock todo.old.items) }
+    ensures all { (p : List ℕ) → ids.items ≡ children p (vec_len ids) → todo_of todo.new.items ≡ puts 0 p columns.items ++ todo_of todo.old.items }
 {
     'puts: while let Some(chunk) = columns.pop() {
         add_put(todo, &mut ids, chunk);
@@ -114,6 +133,11 @@ pub(crate) fn take_columns<O: Order>(
 ) -> Result<(), WriteError>
     requires { Owned (O.active order.old) (both (dues_stock todo.old.items) (item_stock item)) }
     ensures moved { Moved (O.active order.old) (O.active order.new) (both (dues_stock todo.old.items) (item_stock item)) (dues_stock todo.new.items) }
+    ensures done { OnOk result ((s : Setting) (name : List ℕ) (ks : Tasks)
+        → Took (taken s name ks (item_of item) (by_column (ty (arc_value node.now.dtype)) rows.old)) (by_column (ty (arc_value node.now.dtype)) rows.new)
+        (todo_of todo.new.items) (todo_of todo.old.items) ks) }
+    ensures refused { IfErr result (λ e. (s : Setting) (name : List ℕ) (ks : Tasks)
+        → TakeRefused (taken s name ks (item_of item) (by_column (ty (arc_value node.now.dtype)) rows.old)) e) }
     ensures outlet { O.outlet order.new ≡ O.outlet order.old }
     ensures faults { O.faults order.new ≡ O.faults order.old }
     ensures cause { IfErr result MayCome }

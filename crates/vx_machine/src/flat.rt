@@ -1,15 +1,24 @@
 //! A flat node stores its one chunk as one segment.
 
-ghost use Rattle.std.specs.Prelude.{◌≡◌, IfErr};
+ghost use Rattle.std.specs.Prelude.{◌≡◌, ℕ, List, None, IsTrue, IfOk, IfErr, OnOk, OnErr};
+ghost use Rattle.std.specs.Arc.{arc_value};
+ghost use Rattle.vx_model.specs.TyView.{ty};
 ghost use Rattle.vx_fault.specs.Counts.{Counts};
+ghost use Rattle.vx_layout_spec.specs.LayoutTree.{flat_layout};
+ghost use Rattle.vx_layout_tree.specs.LayoutView.{layout_data};
+ghost use Rattle.vx_segment_writer.specs.Segment.{refused as refused_first};
+ghost use Rattle.vx_sink.specs.ContextView.{listed};
 ghost use Rattle.vx_sequence.specs.Universe.{IsLeast};
 ghost use Rattle.vx_machine_ids.specs.Stock.{none, both, id_stock};
 ghost use Rattle.vx_machine_ids.specs.Balance.{Owned, Moved};
 ghost use Rattle.vx_write_answer.specs.Causes.{errs, is_sink_fault};
-ghost use Rattle.vx_machine.specs.Stocks.{item_stock, local_stock, stored_stock};
+ghost use Rattle.vx_machine_turns.specs.Flat.{forbidden};
+ghost use Rattle.vx_machine_view.specs.State.{Next, Tasks};
+ghost use Rattle.vx_machine.specs.Acting.{IsAppended, AppendRefused, IsStored, WordRefused, first_word, is_flat, ChunkTaken, ChunkRefused};
 ghost use Rattle.vx_machine.specs.Causes.{MayCome, ActMay};
+ghost use Rattle.vx_machine.specs.Outcome.{Kept};
+ghost use Rattle.vx_machine.specs.Stocks.{item_stock, local_stock, stored_stock};
 
-use crate::ids::give_up_id;
 use crate::item::{Item, Segment, Stored};
 use crate::kinds::FlatNode;
 use crate::node::{Local, give_up_local};
@@ -18,6 +27,7 @@ use std::mem;
 use std::sync::Arc;
 use vx_chunk::Chunk;
 use vx_layout_tree::{FlatLayout, Layout};
+use vx_machine_ids::give_up_id;
 use vx_model::{ArrayContext, DType, SegmentId};
 use vx_order::{Attempt, Order};
 use vx_segment_writer::encode_segment;
@@ -44,7 +54,9 @@ fn store(
     node: &FlatNode,
     chunk: &Chunk,
 ) -> Result<Segment, WriteError>
-    ensures { IfErr result MayCome }
+    ensures stored { IfOk result (IsStored (listed ctx.now) node.now chunk.now) }
+    ensures refused { IfErr result (WordRefused (forbidden (refused_first (listed ctx.now) chunk.now))) }
+    ensures cause { IfErr result MayCome }
 {
     let bytes = encode_segment(alloc, ctx.array_ctx(), chunk, node.options.include_padding)?;
     let dtype = Arc::try_clone(&node.dtype)?;
@@ -62,7 +74,9 @@ fn first_segment(
     local: &Local,
     chunk: &Chunk,
 ) -> Result<Segment, WriteError>
-    ensures { IfErr result MayCome }
+    ensures stored { IfOk result (λ x. (n : FlatNode) × (local.now ≡ Local.Empty n) × IsStored (listed ctx.now) n chunk.now x) }
+    ensures refused { IfErr result (WordRefused (first_word (refused_first (listed ctx.now) chunk.now) local.now)) }
+    ensures cause { IfErr result MayCome }
 {
     match local {
         Local::Empty(node) => store(alloc, ctx, node, chunk),
@@ -80,6 +94,8 @@ pub(crate) fn take_flat<O: Order>(
 ) -> Result<(), WriteError>
     requires { Owned (O.active order.old) (both (local_stock local.old) (item_stock item)) }
     ensures moved { Moved (O.active order.old) (O.active order.new) (both (local_stock local.old) (item_stock item)) (local_stock local.new) }
+    ensures done { OnOk result ((name : List ℕ) (ks : Tasks) (todo : List Next) → ChunkTaken ctx.now name ks item local.old local.new todo todo ks) }
+    ensures refused { IsTrue (is_flat local.old) → IfErr result (λ e. (name : List ℕ) (ks : Tasks) → ChunkRefused ctx.now name ks item local.old e) }
     ensures outlet { O.outlet order.new ≡ O.outlet order.old }
     ensures faults { O.faults order.new ≡ O.faults order.old }
     ensures cause { IfErr result MayCome }
@@ -105,6 +121,9 @@ fn write<O: Order>(order: &mut O, id: SequenceId, bytes: &[u8]) -> Result<u32, W
     requires least { IsLeast (O.active order.old) id }
     requires allowed { O.may_write order.old id bytes.now }
     ensures moved { Moved (O.active order.old) (O.active order.new) (id_stock id) none }
+    ensures appended { IfOk result (λ n. IsAppended (O.outlet order.old) n (id, bytes.now) (O.outlet order.new)) }
+    ensures refused { IfErr result (AppendRefused (O.outlet order.old) (id, bytes.now)) }
+    ensures kept { OnErr result (Kept (O.outlet order.old) (O.outlet order.new)) }
     ensures faults { Counts (O.faults order.old) (O.faults order.new) (errs is_sink_fault result) }
     ensures cause { IfErr result ActMay }
 {
@@ -130,7 +149,10 @@ fn write<O: Order>(order: &mut O, id: SequenceId, bytes: &[u8]) -> Result<u32, W
 fn layout_parts(
     ctx: &LayoutWriterContext,
     dtype: &DType,
-) -> Result<(DType, ArrayContext), AllocError> {
+) -> Result<(DType, ArrayContext), AllocError>
+    ensures dtype { IfOk result (λ p. ty p.0 ≡ ty dtype.now) }
+    ensures encodings { IfOk result (λ p. p.1 ≡ listed ctx.now) }
+{
     let encodings = ctx.array_ctx().clone()?;
     match dtype.clone() {
         Ok(dtype) => Ok((dtype, encodings)),
@@ -151,6 +173,10 @@ pub(crate) fn append<O: Order>(
     requires least { IsLeast (O.active order.old) stored.id }
     requires allowed { O.may_write order.old stored.id stored.segment.bytes.items }
     ensures moved { Moved (O.active order.old) (O.active order.new) (stored_stock stored) none }
+    ensures appended { IfOk result (λ l. (n : ℕ) × IsAppended (O.outlet order.old) n (stored.id, stored.segment.bytes.items) (O.outlet order.new)
+        × (layout_data l ≡ flat_layout (ty (arc_value stored.segment.dtype)) stored.segment.rows (listed ctx.now) None n)) }
+    ensures refused { IfErr result (AppendRefused (O.outlet order.old) (stored.id, stored.segment.bytes.items)) }
+    ensures kept { OnErr result (Kept (O.outlet order.old) (O.outlet order.new)) }
     ensures faults { Counts (O.faults order.old) (O.faults order.new) (errs is_sink_fault result) }
     ensures cause { IfErr result ActMay }
 {

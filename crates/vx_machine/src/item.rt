@@ -5,11 +5,11 @@ ghost use Rattle.vx_machine_ids.specs.Stock.{none};
 ghost use Rattle.vx_machine_ids.specs.Balance.{Owned, Moved};
 ghost use Rattle.vx_machine.specs.Stocks.{item_stock, items_stock, stored_stock, due_stock, dues_stock};
 
-use crate::ids::give_up_id;
 use crate::node::Shape;
 use std::collections::VecDeque;
 use std::sync::Arc;
 use vx_chunk::Chunk;
+use vx_machine_ids::give_up_id;
 use vx_model::DType;
 use vx_order::Order;
 use vx_sequence::SequenceId;

@@ -8,7 +8,6 @@ mod built;
 mod chunked;
 mod columns;
 mod flat;
-mod ids;
 mod item;
 mod join;
 mod kinds;
@@ -21,6 +20,6 @@ mod start;
 mod step;
 mod task;
 
-pub use ids::{give_up_pointer, take_below};
 pub use machine::Machine;
 pub use running::run;
+pub use vx_machine_ids::{give_up_pointer, take_below};

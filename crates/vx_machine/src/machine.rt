@@ -1,31 +1,45 @@
 //! The machine.
 
-ghost use Rattle.std.specs.Prelude.{◌≡◌, ◌<◌, ◌%◌, IsTrue, IfOk, IfErr, OnOk};
+ghost use Rattle.std.specs.Prelude.{◌≡◌, ◌<◌, ◌%◌, [], ◌∷◌, IsTrue, IfOk, IfErr, OnOk, OnErr};
+ghost use Rattle.std.specs.FinMap as fin;
+ghost use Rattle.std.specs.Arc.{arc_value};
+ghost use Rattle.vx_model.specs.TyView.{ty};
 ghost use Rattle.vx_fault.specs.Counts.{Counts};
+ghost use Rattle.vx_layout_tree.specs.LayoutView.{layout_data};
 ghost use Rattle.vx_strategy.specs.StrategyView.{strategy_data};
 ghost use Rattle.vx_machine_ids.specs.Stock.{none, both, end_stock, ok_stock};
 ghost use Rattle.vx_machine_ids.specs.Balance.{Owned, Moved, Exact, IsNone};
 ghost use Rattle.vx_write_answer.specs.Causes.{errs, is_source_fault, is_sink_fault};
+ghost use Rattle.vx_machine_view.specs.State.{no_tasks};
+ghost use Rattle.vx_machine_view.specs.Start.{first_indices};
+ghost use Rattle.vx_machine_view.specs.Acts.{layouts_in};
+ghost use Rattle.vx_machine_view.specs.Machine.{is_finished as has_finished};
+ghost use Rattle.vx_machine_view.specs.Places.{whole_ready};
+ghost use Rattle.vx_sink.specs.ContextView.{is_marked};
 ghost use Rattle.vx_machine_view.specs.Built.{is_built};
 ghost use Rattle.vx_machine.specs.Causes.{StartMay};
+ghost use Rattle.vx_machine.specs.Outcome.{Kept};
 ghost use Rattle.vx_machine.specs.Pairs.{task_pairs, AllMay};
 ghost use Rattle.vx_machine.specs.Ready.{is_done as is_done_task, counted};
 ghost use Rattle.vx_machine.specs.Source.{SourceMay};
+ghost use Rattle.vx_machine.specs.SourceActs.{SourceActed, SourceRefused};
+ghost use Rattle.vx_machine.specs.Starting.{IsAllowed, Counted, Started, FormRefused, WholeRefused, machine_at};
+ghost use Rattle.vx_machine.specs.Steps.{StepDone, StepFails};
 ghost use Rattle.vx_machine.specs.Stocks.{task_stock};
+ghost use Rattle.vx_machine.specs.View.{form_of, task_row, phase_of, machine_of};
 ghost use Rattle.vx_machine.specs.Whole.{machine_stock, machine_ready, may_source as may_act, has_closed as is_closed, is_finished, StepMay, WholeStartMay};
 
 use crate::built::is_built;
-use crate::ids::give_up_pointer;
 use crate::node::Local;
 use crate::ready::{is_made, one};
 use crate::source::{Phase, act_source, give_up_phase};
 use crate::start::start_task;
-use crate::step::Did;
 use crate::task::{Head, Task};
 use std::alloc::Global;
 use std::mem;
 use std::sync::Arc;
 use vx_layout_tree::Layout;
+use vx_machine_ids::give_up_pointer;
 use vx_model::DType;
 use vx_order::Order;
 use vx_path::owned::Path;
@@ -45,7 +59,8 @@ pub struct Machine {
 
 /// What the root starts with.
 fn root_parts(alloc: Global, dtype: &DType) -> Result<(Path, Arc<DType>), WriteError>
-    ensures { IfErr result (λ e. e ≡ WriteError.OutOfMemory) }
+    ensures parts { IfOk result (λ r. (r.0 ≡ 1 ∷ []) × (ty (arc_value r.1) ≡ ty dtype.now)) }
+    ensures memory { IfErr result (λ e. e ≡ WriteError.OutOfMemory) }
 {
     let name = Path::child(alloc, &[], 1)?;
     let dtype = Arc::new(alloc, dtype.clone()?)?;
@@ -67,6 +82,8 @@ fn start_root<O: Order>(
     ensures outlet { O.outlet order.new ≡ O.outlet order.old }
     ensures faults { O.faults order.new ≡ O.faults order.old }
     ensures cause { IfErr result StartMay }
+    ensures shows { IfOk result (Started (form_of strategy.now dtype.now) marked (1 ∷ []) eof) }
+    ensures refused { IfErr result (FormRefused (form_of strategy.now dtype.now) marked eof) }
 {
     match root_parts(alloc, dtype) {
         Ok((name, dtype)) => start_task(alloc, order, strategy, dtype, marked, name, eof),
@@ -101,7 +118,8 @@ impl Task {
     /// The layout of a task that has done all.
     fn into_layout(self) -> Layout
         requires { IsTrue (is_done_task self) }
-        ensures { task_stock self ≡ none }
+        ensures free { task_stock self ≡ none }
+        ensures layout { layouts_in (task_row self no_tasks) ≡ layout_data result ∷ [] }
     {
         let Task { head, kids } = self;
         kids.destroy_empty();
@@ -153,6 +171,10 @@ impl Machine {
         ensures outlet { O.outlet order.new ≡ O.outlet order.old }
         ensures faults { O.faults order.new ≡ O.faults order.old }
         ensures cause { IfErr result (WholeStartMay (is_built (strategy_data strategy.now))) }
+        ensures allowed { OnOk result (IsAllowed (form_of strategy.now dtype.now) (is_marked ctx.now)) }
+        ensures counted { OnOk result (Counted eof (first_indices (form_of strategy.now dtype.now) eof)) }
+        ensures shows { IfOk result (λ m. machine_of m ≡ machine_at stream (form_of strategy.now dtype.now) (is_marked ctx.now) eof) }
+        ensures refused { IfErr result (WholeRefused (is_built (strategy_data strategy.now)) (form_of strategy.now dtype.now) (is_marked ctx.now) eof) }
     {
         if !is_built(strategy) {
             give_up_pointer(order, stream);
@@ -192,7 +214,8 @@ impl Machine {
     /// How many tasks are ready, as far as 64 bits tell. It counts them anew.
     pub fn ready<O: Order>(&self, order: &O) -> u64
         requires { Owned (O.active order.now) (machine_stock self.now) }
-        ensures { result ≡ counted (machine_ready (O.active order.now) self.now) }
+        ensures told { result ≡ counted (machine_ready (O.active order.now) self.now) }
+        ensures view { result ≡ counted (whole_ready (fin.keys (O.active order.now)) (machine_of self.now)) }
     {
         let own = one(self.source_may());
         own.saturating_add(self.root.ready(order))
@@ -211,6 +234,9 @@ impl Machine {
         ensures kind { B.kind source.new ≡ B.kind source.old }
         ensures counted { Counts (B.faults source.old) (B.faults source.new) (errs is_source_fault result) }
         ensures cause { IfErr result (SourceMay (B.kind source.old)) }
+        ensures done { IfOk result (SourceActed (B.kind source.old) (B.to_come source.old) (B.to_come source.new) (phase_of self.old.phase) (phase_of self.new.phase)
+            (task_row self.old.root no_tasks) (task_row self.new.root no_tasks)) }
+        ensures refused { IfErr result (SourceRefused (B.kind source.old) (B.to_come source.old) (B.to_come source.new) (phase_of self.old.phase) (task_row self.old.root no_tasks)) }
     {
         let phase = mem::replace(&mut self.phase, Phase::Finished);
         let (phase, result) = act_source(order, source, phase, &mut self.root);
@@ -239,6 +265,12 @@ impl Machine {
         ensures source_count { Counts (B.faults source.old) (B.faults source.new) (errs is_source_fault result) }
         ensures sink_count { Counts (O.faults order.old) (O.faults order.new) (errs is_sink_fault result) }
         ensures cause { IfErr result StepMay }
+        ensures done { IfOk result (λ s. StepDone ctx.old (fin.keys (O.active order.old)) s.picked (B.kind source.old) (B.to_come source.old) (B.to_come source.new)
+            (O.outlet order.old) (O.outlet order.new) (machine_of self.old) (machine_of self.new) s.task s.action) }
+        ensures refused { IfErr result (StepFails ctx.old (fin.keys (O.active order.old)) (pick % counted (machine_ready (O.active order.old) self.old)) (B.kind source.old) (B.to_come source.old) (B.to_come source.new)
+            (O.outlet order.old) (machine_of self.old)) }
+        ensures kept { OnErr result (Kept (O.outlet order.old) (O.outlet order.new)) }
+        ensures context { ctx.new ≡ ctx.old }
     {
         let ready = self.ready(order);
         let picked = pick % ready;
@@ -256,11 +288,11 @@ impl Machine {
             };
         }
         match self.root.step(self.alloc, ctx, order, picked - own) {
-            Ok(Did { task, action }) => Ok(Step {
+            Ok(did) => Ok(Step {
                 ready,
                 picked,
-                task,
-                action,
+                task: did.task,
+                action: did.action,
             }),
             Err(error) => Err(error),
         }
@@ -268,7 +300,8 @@ impl Machine {
 
     /// Whether the root's layout is there, and nothing is left to do.
     pub fn finished(&self) -> bool
-        ensures { result ≡ is_finished self.now }
+        ensures told { result ≡ is_finished self.now }
+        ensures view { result ≡ has_finished (machine_of self.now) }
     {
         let closed = has_closed(&self.phase);
         closed && self.root.is_done()
@@ -277,7 +310,8 @@ impl Machine {
     /// The root's layout. No id is held by then.
     pub fn finish(self) -> Layout
         requires { IsTrue (is_finished self) }
-        ensures { machine_stock self ≡ none }
+        ensures free { machine_stock self ≡ none }
+        ensures layout { layouts_in (machine_of self).root ≡ layout_data result ∷ [] }
     {
         let Machine {
             alloc: _,

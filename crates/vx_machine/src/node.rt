@@ -5,11 +5,11 @@ ghost use Rattle.vx_machine_ids.specs.Stock.{none};
 ghost use Rattle.vx_machine_ids.specs.Balance.{Owned, Moved};
 ghost use Rattle.vx_machine.specs.Stocks.{local_stock};
 
-use crate::ids::give_up_pointer;
 use crate::item::{Stored, give_up_stored};
 use crate::kinds::{ChunkedNode, ColumnsNode, FlatNode};
 use std::sync::Arc;
 use vx_layout_tree::Layout;
+use vx_machine_ids::give_up_pointer;
 use vx_model::DType;
 use vx_order::Order;
 use vx_sequence::SequencePointer;

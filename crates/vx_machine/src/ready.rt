@@ -1,9 +1,14 @@
 //! Which tasks are ready.
 
-ghost use Rattle.std.specs.Prelude.{◌≡◌, ◌<◌, ◌&&◌, length, slice_index_or};
+ghost use Rattle.std.specs.Prelude.{◌≡◌, ◌<◌, ◌+◌, ◌&&◌, length, take, slice_index_or};
+ghost use Rattle.std.specs.FinMap as fin;
 ghost use Rattle.vx_machine_ids.specs.Stock.{one as one_if};
 ghost use Rattle.vx_machine_ids.specs.Balance.{Owned};
+ghost use Rattle.vx_machine_view.specs.State.{no_tasks};
+ghost use Rattle.vx_machine_view.specs.Moves.{may_act};
+ghost use Rattle.vx_machine_view.specs.Places.{ready_in as ready_steps};
 ghost use Rattle.vx_machine.specs.Stocks.{due_stock, head_stock, task_stock, tasks_stock};
+ghost use Rattle.vx_machine.specs.View.{todo_of, desk_of, task_row, row};
 ghost use Rattle.vx_machine.specs.Ready.{is_made as has_layout, is_over as takes_no_more, kids_of, all_made as have_layouts, room_at, can_join as joins, columns_fit as are_columns, may_due as may_do, may_take as may_begin, may_now, ready_in, ready_among, counted};
 
 use crate::item::Due;
@@ -95,7 +100,8 @@ fn may_take(head: &Head) -> bool
 /// Whether the task itself may do its next act.
 pub(crate) fn may<O: Order>(order: &O, head: &Head, kids: &[Task]) -> bool
     requires { Owned (O.active order.now) (head_stock head.now) }
-    ensures { result ≡ may_now (O.active order.now) head.now (kids_of kids.now) }
+    ensures told { result ≡ may_now (O.active order.now) head.now (kids_of kids.now) }
+    ensures view { result ≡ may_act (fin.keys (O.active order.now)) (desk_of head.now) (row kids.now) (todo_of head.now.todo.items) }
 {
     match head.todo.front() {
         Some(due) => may_due(order, due, kids),
@@ -114,7 +120,8 @@ impl Task {
     #[cycle(ready)]
     pub(crate) fn ready<O: Order>(&self, order: &O) -> u64
         requires { Owned (O.active order.now) (task_stock self.now) }
-        ensures { result ≡ counted (ready_in (O.active order.now) self.now) }
+        ensures told { result ≡ counted (ready_in (O.active order.now) self.now) }
+        ensures view { result ≡ counted (ready_steps (fin.keys (O.active order.now)) (task_row self.now no_tasks)) }
     {
         let own = one(may(order, &self.head, &self.kids));
         own.saturating_add(ready_of(&self.kids, order))
@@ -125,7 +132,8 @@ impl Task {
 #[cycle(ready)]
 fn ready_of<O: Order>(kids: &[Task], order: &O) -> u64
     requires { Owned (O.active order.now) (tasks_stock kids.now) }
-    ensures { result ≡ counted (ready_among (O.active order.now) kids.now) }
+    ensures told { result ≡ counted (ready_among (O.active order.now) kids.now) }
+    ensures view { result ≡ counted (ready_steps (fin.keys (O.active order.now)) (row kids.now)) }
 {
     let mut ready = 0u64;
     for kid in kids {
@@ -139,6 +147,7 @@ pub(crate) fn find_ready<O: Order>(order: &O, kids: &[Task], k: u64) -> (usize, 
     requires owned { Owned (O.active order.now) (tasks_stock kids.now) }
     requires there { k < counted (ready_among (O.active order.now) kids.now) }
     ensures place { result.0 < length kids.now }
+    ensures passed { k ≡ ready_among (O.active order.now) (take result.0 kids.now) + result.1 }
     ensures within { (d : Task) → result.1 < counted (ready_in (O.active order.now) (slice_index_or kids.now result.0 d)) }
 {
     let mut left = k;

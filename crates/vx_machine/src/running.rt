@@ -1,10 +1,12 @@
 //! A machine from its start to its end.
 
-ghost use Rattle.std.specs.Prelude.{◌≡◌, List, ℕ, slice_index, IfErr};
+ghost use Rattle.std.specs.Prelude.{◌≡◌, List, ℕ, [], slice_index, IfErr, MatchResult};
 ghost use Rattle.vx_fault.specs.Counts.{Counts};
 ghost use Rattle.vx_machine_ids.specs.Stock.{none, both};
-ghost use Rattle.vx_machine_ids.specs.Balance.{Owned, Moved};
+ghost use Rattle.vx_machine_ids.specs.Balance.{Owned, Moved, Exact};
 ghost use Rattle.vx_write_answer.specs.Causes.{errs, is_source_fault, is_sink_fault};
+ghost use Rattle.vx_machine.specs.Run.{at, RunDone, RunStopped};
+ghost use Rattle.vx_machine.specs.View.{machine_of};
 ghost use Rattle.vx_machine.specs.Whole.{machine_stock, StepMay};
 
 use crate::machine::Machine;
@@ -26,7 +28,9 @@ fn pick_at(schedule: &[u64], place: usize) -> u64
 /// Steps by the schedule until the machine has finished or a step is refused. The steps that are done are put behind the
 /// trace, which was empty; a step's place in it is the place of its pick.
 ///
-/// `None` comes where no task is ready, which the laws of tasks rule out for a machine that was started and stepped.
+/// Where all that is active is held by the machine, the steps of the trace lead from its start to its end, one after the
+/// other, each as the machine in plain data says. `None` comes where no task is ready, which the laws of tasks rule out for a
+/// machine that was started and stepped.
 pub fn run<B: BatchSource, O: Order, C: CompressorPlugin>(
     mut machine: Machine,
     ctx: &mut LayoutWriterContext,
@@ -43,6 +47,10 @@ pub fn run<B: BatchSource, O: Order, C: CompressorPlugin>(
     ensures source_count { Counts (B.faults source.old) (B.faults source.new) (errs is_source_fault result) }
     ensures sink_count { Counts (O.faults order.old) (O.faults order.new) (errs is_sink_fault result) }
     ensures cause { IfErr result StepMay }
+    ensures ran { trace.old.items ≡ [] → Exact (O.active order.old) (machine_stock machine)
+        → MatchResult result
+        (RunDone ctx.old (B.kind source.old) schedule.now (at (machine_of machine) (B.to_come source.old) (O.outlet order.old)) trace.new.items (B.to_come source.new) (O.outlet order.new))
+        (RunStopped ctx.old (B.kind source.old) schedule.now (at (machine_of machine) (B.to_come source.old) (O.outlet order.old)) trace.new.items (B.to_come source.new) (O.outlet order.new)) }
 {
     'steps: loop {
         if machine.finished() {

@@ -1,20 +1,24 @@
 //! The source's task: it reads batches and puts them on the root's queue.
 
-ghost use Rattle.std.specs.Prelude.{◌≡◌, IfOk, IfErr};
+ghost use Rattle.std.specs.Prelude.{◌≡◌, ◌+◌, ◌<◌, ◌^◌, IfOk, IfErr};
+ghost use Rattle.vx_path.specs.Path.{Eof, eof_path, next};
 ghost use Rattle.vx_model.specs.ChunkData.{piece_type};
 ghost use Rattle.vx_fault.specs.Counts.{Counts};
 ghost use Rattle.vx_order.specs.Answers.{FullAt};
 ghost use Rattle.vx_machine_ids.specs.Stock.{none, both, id_stock, end_stock};
 ghost use Rattle.vx_machine_ids.specs.Balance.{Owned, Moved};
 ghost use Rattle.vx_write_answer.specs.Causes.{errs, is_source_fault};
-ghost use Rattle.vx_machine.specs.Source.{phase_stock, Reads, IsTyped, SourceMay};
+ghost use Rattle.vx_machine_view.specs.State.{no_tasks};
+ghost use Rattle.vx_machine.specs.Source.{phase_stock, Reads, IsTyped, IsWhole, SourceMay, NoNumber};
+ghost use Rattle.vx_machine.specs.SourceActs.{SourceActed, SourceRefused, ReadActed, ReadRefused};
 ghost use Rattle.vx_machine.specs.Stocks.{task_stock};
+ghost use Rattle.vx_machine.specs.View.{task_row, phase_of};
 
 use crate::columns::has_type;
-use crate::ids::{give_up_id, give_up_pointer, take_id};
 use crate::item::{Item, give_up_item};
 use crate::task::Task;
 use vx_chunk::Chunk;
+use vx_machine_ids::{give_up_id, give_up_pointer, take_id};
 use vx_order::{Order, OrderError};
 use vx_sequence::{SequenceId, SequencePointer};
 use vx_sink::BatchSource;
@@ -48,19 +52,22 @@ pub(crate) fn give_up_phase<O: Order>(order: &mut O, phase: Phase)
     }
 }
 
-/// The next batch, which is of the source's type.
+/// The next batch, which is of the source's type. It looks at each cell once, so that the batch is known to be whole.
 fn next_batch<B: BatchSource>(source: &mut B) -> Result<Option<Chunk>, WriteError>
     ensures kind { B.kind source.new ≡ B.kind source.old }
     ensures typed { IfOk result (IsTyped (B.kind source.old)) }
+    ensures whole { IfOk result IsWhole }
     ensures reads { Reads (B.to_come source.old) (B.to_come source.new) result }
     ensures counted { Counts (B.faults source.old) (B.faults source.new) (errs is_source_fault result) }
     ensures cause { IfErr result (SourceMay (B.kind source.old)) }
+    ensures number { IfErr result NoNumber }
 {
     match source.next() {
         Ok(Some(batch)) => {
             if !has_type(&batch, source.dtype()) {
                 return Err(WriteError::BatchType(batch));
             }
+            batch.whole();
             Ok(Some(batch))
         }
         Ok(None) => Ok(None),
@@ -82,6 +89,9 @@ fn read_at<O: Order, B: BatchSource>(
     ensures kind { B.kind source.new ≡ B.kind source.old }
     ensures counted { Counts (B.faults source.old) (B.faults source.new) (errs is_source_fault result.1) }
     ensures cause { IfErr result.1 (SourceMay (B.kind source.old)) }
+    ensures done { (e : Eof) → id ≡ eof_path e → pointer ≡ next e → e.last + 1 < 2 ^ 64
+        → IfOk result.1 (ReadActed (B.kind source.old) (B.to_come source.old) (B.to_come source.new) e (phase_of result.0)) }
+    ensures refused { (e : Eof) → IfErr result.1 (ReadRefused (B.kind source.old) (B.to_come source.old) (B.to_come source.new) e) }
 {
     match next_batch(source) {
         Ok(Some(chunk)) => (
@@ -115,6 +125,8 @@ fn read_none<O: Order, B: BatchSource>(
     ensures kind { B.kind source.new ≡ B.kind source.old }
     ensures counted { Counts (B.faults source.old) (B.faults source.new) (errs is_source_fault result.1) }
     ensures cause { IfErr result.1 (SourceMay (B.kind source.old)) }
+    ensures done { IfOk result.1 (ReadActed (B.kind source.old) (B.to_come source.old) (B.to_come source.new) pointer (phase_of result.0)) }
+    ensures refused { IfErr result.1 (ReadRefused (B.kind source.old) (B.to_come source.old) (B.to_come source.new) pointer) }
 {
     match next_batch(source) {
         Ok(Some(batch)) => {
@@ -141,6 +153,8 @@ fn read<O: Order, B: BatchSource>(
     ensures kind { B.kind source.new ≡ B.kind source.old }
     ensures counted { Counts (B.faults source.old) (B.faults source.new) (errs is_source_fault result.1) }
     ensures cause { IfErr result.1 (SourceMay (B.kind source.old)) }
+    ensures done { IfOk result.1 (ReadActed (B.kind source.old) (B.to_come source.old) (B.to_come source.new) pointer (phase_of result.0)) }
+    ensures refused { IfErr result.1 (ReadRefused (B.kind source.old) (B.to_come source.old) (B.to_come source.new) pointer) }
 {
     match take_id(order, &mut pointer) {
         Ok(id) => read_at(order, source, pointer, id),
@@ -162,6 +176,9 @@ pub(crate) fn act_source<O: Order, B: BatchSource>(
     ensures kind { B.kind source.new ≡ B.kind source.old }
     ensures counted { Counts (B.faults source.old) (B.faults source.new) (errs is_source_fault result.1) }
     ensures cause { IfErr result.1 (SourceMay (B.kind source.old)) }
+    ensures done { IfOk result.1 (SourceActed (B.kind source.old) (B.to_come source.old) (B.to_come source.new) (phase_of phase) (phase_of result.0)
+        (task_row root.old no_tasks) (task_row root.new no_tasks)) }
+    ensures refused { IfErr result.1 (SourceRefused (B.kind source.old) (B.to_come source.old) (B.to_come source.new) (phase_of phase) (task_row root.old no_tasks)) }
 {
     match phase {
         Phase::Reading(pointer) => read(order, source, pointer),

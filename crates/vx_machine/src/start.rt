@@ -1,16 +1,23 @@
 //! How tasks start.
 
-ghost use Rattle.std.specs.Prelude.{◌≡◌, ◌+◌, ◌≤◌, IsTrue, vec_len, vec_capacity, IfErr, OnOk};
-ghost use Rattle.vx_model.specs.TyView.{ty};
-ghost use Rattle.vx_strategy.specs.NodeViews.{struct_way};
+ghost use Rattle.std.specs.Prelude.{◌≡◌, ◌+◌, ◌<◌, ◌≤◌, ◌^◌, false, [], None, IsTrue, vec_len, vec_capacity, IfOk, IfErr, OnOk};
+ghost use Rattle.std.specs.Arc.{arc_value};
+ghost use Rattle.vx_path.specs.Path.{under, inside, next};
+ghost use Rattle.vx_model.specs.TyView.{ty, field_ty};
+ghost use Rattle.vx_chunk_cells.specs.Parts.{struct_fields};
+ghost use Rattle.vx_strategy_spec.specs.Walk.{duplicate};
+ghost use Rattle.vx_strategy.specs.NodeViews.{chunked_way, struct_way};
 ghost use Rattle.vx_strategy.specs.StrategyView.{strategy_data};
 ghost use Rattle.vx_machine_ids.specs.Stock.{none, both, end_stock, ok_stock};
 ghost use Rattle.vx_machine_ids.specs.Balance.{Owned, Moved};
+ghost use Rattle.vx_machine_view.specs.State.{Tasks, task_then};
+ghost use Rattle.vx_machine_view.specs.Start.{waiting};
 ghost use Rattle.vx_machine_view.specs.Built.{is_built};
 ghost use Rattle.vx_machine.specs.Causes.{StartMay};
+ghost use Rattle.vx_machine.specs.Starting.{validity_forms, field_form, columns_form, Started, ManyStarted, OneStarted, AllStarted, FormRefused, ManyRefused, OneRefused, PointerRefused, NodeRefused};
 ghost use Rattle.vx_machine.specs.Stocks.{local_stock, task_stock, tasks_stock};
+ghost use Rattle.vx_machine.specs.View.{form_at, form_of, mind_of, task_row, row};
 
-use crate::ids::{give_up_pointer, take_below};
 use crate::kinds::{ChunkedNode, ColumnsNode, FlatNode};
 use crate::node::Local;
 use crate::task::{Head, Task, refuse_all};
@@ -18,6 +25,7 @@ use std::alloc::{AllocError, Global};
 use std::collections::VecDeque;
 use std::sync::Arc;
 use vx_layout_tree::fields_in;
+use vx_machine_ids::{give_up_pointer, take_below};
 use vx_model::{DType, Nullability, StructField};
 use vx_order::Order;
 use vx_path::owned::Path;
@@ -28,7 +36,8 @@ use vx_write_answer::WriteError;
 
 /// A task that waits for its first chunk, with the children that are started with it.
 pub(crate) fn waiting(alloc: Global, name: Path, local: Local, kids: Vec<Task>) -> Task
-    ensures { task_stock result ≡ both (local_stock local) (tasks_stock kids.items) }
+    ensures held { task_stock result ≡ both (local_stock local) (tasks_stock kids.items) }
+    ensures shows { (r : Tasks) → task_row result r ≡ task_then (waiting name (mind_of local) [] false) (row kids.items) r }
 {
     Task {
         head: Head {
@@ -49,7 +58,8 @@ fn chunked_node(
     marked: bool,
 ) -> Result<ChunkedNode, WriteError>
     requires { IsTrue (is_built chunked.now.child.item) }
-    ensures { IfErr result StartMay }
+    ensures node { IfOk result (λ n. (n.dtype ≡ dtype) × (n.child ≡ chunked.now.child) × (n.marked ≡ marked)) }
+    ensures memory { IfErr result (λ e. e ≡ WriteError.OutOfMemory) }
 {
     match chunked.child().clone() {
         Ok(child) => Ok(ChunkedNode {
@@ -65,7 +75,10 @@ fn chunked_node(
 }
 
 fn columns_node(alloc: Global, dtype: Arc<DType>) -> Result<ColumnsNode, WriteError>
-    ensures { IfErr result StartMay }
+    ensures node { IfOk result (λ n. n.dtype ≡ dtype) }
+    ensures distinct { OnOk result (duplicate (struct_fields (ty (arc_value dtype))) ≡ None) }
+    ensures cause { IfErr result StartMay }
+    ensures refused { IfErr result (NodeRefused (ty (arc_value dtype))) }
 {
     let Ok(copy) = DType::clone(&dtype) else {
         drop(dtype);
@@ -86,6 +99,7 @@ pub(crate) fn next_name(
     name: &Path,
     kids: &mut Vec<Task>,
 ) -> Result<Path, AllocError>
+    ensures name { IfOk result (λ p. p ≡ under name.now (vec_len kids.old)) }
     ensures kids { kids.new.items ≡ kids.old.items }
     ensures room { OnOk result (vec_len kids.new + 1 ≤ vec_capacity kids.new) }
 {
@@ -113,6 +127,8 @@ pub(crate) fn start_task<O: Order>(
     ensures outlet { O.outlet order.new ≡ O.outlet order.old }
     ensures faults { O.faults order.new ≡ O.faults order.old }
     ensures cause { IfErr result StartMay }
+    ensures shows { IfOk result (Started (form_of strategy.now (arc_value dtype)) marked name eof) }
+    ensures refused { IfErr result (FormRefused (form_of strategy.now (arc_value dtype)) marked eof) }
 {
     match strategy {
         Strategy::Flat(options) => {
@@ -155,6 +171,8 @@ fn start_chunked<O: Order>(
     ensures outlet { O.outlet order.new ≡ O.outlet order.old }
     ensures faults { O.faults order.new ≡ O.faults order.old }
     ensures cause { IfErr result StartMay }
+    ensures shows { IfOk result (Started (form_at (chunked_way chunked.now) (ty (arc_value dtype))) marked name eof) }
+    ensures memory { IfErr result (λ e. e ≡ WriteError.OutOfMemory) }
 {
     match chunked_node(chunked, dtype, marked) {
         Ok(node) => {
@@ -185,6 +203,8 @@ fn start_columns<O: Order>(
     ensures outlet { O.outlet order.new ≡ O.outlet order.old }
     ensures faults { O.faults order.new ≡ O.faults order.old }
     ensures cause { IfErr result StartMay }
+    ensures shows { IfOk result (Started (columns_form fields.now (ty (arc_value node.dtype))) marked name eof) }
+    ensures refused { IfErr result (FormRefused (columns_form fields.now (ty (arc_value node.dtype))) marked eof) }
 {
     let mut kids = Vec::new(alloc);
     let started = start_each(
@@ -226,12 +246,15 @@ fn start_each<O: Order>(
     ensures outlet { O.outlet order.new ≡ O.outlet order.old }
     ensures faults { O.faults order.new ≡ O.faults order.old }
     ensures cause { IfErr result StartMay }
+    ensures shows { OnOk result (kids.old.items ≡ [] → AllStarted (columns_form fields.now (ty dtype.now)) marked name.now eof.old kids.new.items) }
+    ensures refused { IfErr result (FormRefused (columns_form fields.now (ty dtype.now)) marked eof.old) }
 {
     let nullable = dtype.is_nullable();
     start_validity(alloc, order, fields, nullable, marked, name, eof, kids)?;
-    let marked = marked || nullable;
-    'fields: for field in fields_in(dtype) {
-        start_field(alloc, order, fields, field, marked, name, eof, kids)?;
+    let below = marked || nullable;
+    let columns = fields_in(dtype);
+    'fields: for field in columns {
+        start_field(alloc, order, fields, field, below, name, eof, kids)?;
     }
     Ok(())
 }
@@ -254,6 +277,8 @@ fn start_validity<O: Order>(
     ensures outlet { O.outlet order.new ≡ O.outlet order.old }
     ensures faults { O.faults order.new ≡ O.faults order.old }
     ensures cause { IfErr result StartMay }
+    ensures shows { OnOk result (ManyStarted (validity_forms fields.now nullable) marked name.now eof.old kids.old.items eof.new kids.new.items) }
+    ensures refused { IfErr result (ManyRefused (validity_forms fields.now nullable) marked eof.old) }
 {
     if !nullable {
         return Ok(());
@@ -289,6 +314,8 @@ fn start_field<O: Order>(
     ensures outlet { O.outlet order.new ≡ O.outlet order.old }
     ensures faults { O.faults order.new ≡ O.faults order.old }
     ensures cause { IfErr result StartMay }
+    ensures shows { OnOk result (OneStarted (field_form fields.now (field_ty field.now)) marked name.now eof.old kids.old.items eof.new kids.new.items) }
+    ensures refused { IfErr result (OneRefused (field_form fields.now (field_ty field.now)) marked eof.old) }
 {
     let dtype = Arc::new(alloc, field.dtype.clone()?)?;
     let writer = fields.writer(&field.name);
@@ -313,6 +340,8 @@ fn start_column<O: Order>(
     ensures outlet { O.outlet order.new ≡ O.outlet order.old }
     ensures faults { O.faults order.new ≡ O.faults order.old }
     ensures cause { IfErr result StartMay }
+    ensures shows { OnOk result (OneStarted (form_at writer.now.item (ty (arc_value dtype))) marked name.now eof.old kids.old.items eof.new kids.new.items) }
+    ensures refused { IfErr result (OneRefused (form_at writer.now.item (ty (arc_value dtype))) marked eof.old) }
 {
     let Ok(name) = next_name(alloc, name, kids) else {
         drop(dtype);
@@ -340,6 +369,10 @@ pub(crate) fn start_under<O: Order>(
     ensures outlet { O.outlet order.new ≡ O.outlet order.old }
     ensures faults { O.faults order.new ≡ O.faults order.old }
     ensures cause { IfErr result StartMay }
+    ensures shows { IfOk result (Started (form_at writer.now.item (ty (arc_value dtype))) marked name (inside eof.old)) }
+    ensures next { OnOk result (eof.new ≡ next eof.old) }
+    ensures fits { OnOk result (eof.old.last + 1 < 2 ^ 64) }
+    ensures refused { IfErr result (OneRefused (form_at writer.now.item (ty (arc_value dtype))) marked eof.old) }
 {
     match split_below(order, eof) {
         Ok(below) => start_task(alloc, order, writer.strategy(), dtype, marked, name, below),
@@ -360,6 +393,10 @@ fn split_below<O: Order>(
     ensures outlet { O.outlet order.new ≡ O.outlet order.old }
     ensures faults { O.faults order.new ≡ O.faults order.old }
     ensures cause { IfErr result StartMay }
+    ensures below { IfOk result (λ below. below ≡ inside eof.old) }
+    ensures next { OnOk result (eof.new ≡ next eof.old) }
+    ensures fits { OnOk result (eof.old.last + 1 < 2 ^ 64) }
+    ensures refused { IfErr result (PointerRefused eof.old.last) }
 {
     match take_below(order, eof) {
         Ok(below) => Ok(below),

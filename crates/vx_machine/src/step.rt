@@ -1,13 +1,18 @@
 //! A step of the k-th ready task.
 
-ghost use Rattle.std.specs.Prelude.{◌<◌, IsTrue, IfErr};
+ghost use Rattle.std.specs.Prelude.{◌<◌, IsTrue, IfOk, IfErr, OnErr};
+ghost use Rattle.std.specs.FinMap as fin;
 ghost use Rattle.vx_fault.specs.Counts.{Counts};
 ghost use Rattle.vx_machine_ids.specs.Balance.{Owned, Moved};
 ghost use Rattle.vx_write_answer.specs.Causes.{errs, is_sink_fault};
+ghost use Rattle.vx_machine_view.specs.State.{no_tasks};
 ghost use Rattle.vx_machine.specs.Causes.{ActMay};
+ghost use Rattle.vx_machine.specs.Outcome.{Kept};
 ghost use Rattle.vx_machine.specs.Pairs.{next_pairs, task_pairs, tasks_pairs, AllMay};
 ghost use Rattle.vx_machine.specs.Ready.{kids_of, may_now, ready_in, ready_among, counted};
+ghost use Rattle.vx_machine.specs.Steps.{TaskDone, TaskFails};
 ghost use Rattle.vx_machine.specs.Stocks.{task_stock, tasks_stock};
+ghost use Rattle.vx_machine.specs.View.{task_row, row};
 ghost use Rattle.vx_machine.specs.declared.task.Task.{out-Task};
 
 use crate::advance::advance;
@@ -40,6 +45,9 @@ impl Task {
         ensures moved { Moved (O.active order.old) (O.active order.new) (task_stock self.old) (task_stock self.new) }
         ensures faults { Counts (O.faults order.old) (O.faults order.new) (errs is_sink_fault result) }
         ensures cause { IfErr result ActMay }
+        ensures done { IfOk result (λ did. TaskDone ctx.now (fin.keys (O.active order.old)) 0 (O.outlet order.old) (O.outlet order.new) (task_row self.old no_tasks) (task_row self.new no_tasks) did.task did.action) }
+        ensures refused { IfErr result (TaskFails ctx.now (fin.keys (O.active order.old)) 0 (O.outlet order.old) (task_row self.old no_tasks)) }
+        ensures kept { OnErr result (Kept (O.outlet order.old) (O.outlet order.new)) }
     {
         let task = self.head.name.clone()?;
         match advance(alloc, ctx, order, &mut self.head, &mut self.kids) {
@@ -63,6 +71,9 @@ impl Task {
         ensures moved { Moved (O.active order.old) (O.active order.new) (task_stock self.old) (task_stock self.new) }
         ensures faults { Counts (O.faults order.old) (O.faults order.new) (errs is_sink_fault result) }
         ensures cause { IfErr result ActMay }
+        ensures done { IfOk result (λ did. TaskDone ctx.now (fin.keys (O.active order.old)) k (O.outlet order.old) (O.outlet order.new) (task_row self.old no_tasks) (task_row self.new no_tasks) did.task did.action) }
+        ensures refused { IfErr result (TaskFails ctx.now (fin.keys (O.active order.old)) k (O.outlet order.old) (task_row self.old no_tasks)) }
+        ensures kept { OnErr result (Kept (O.outlet order.old) (O.outlet order.new)) }
     {
         let ready = may(order, &self.head, &self.kids);
         let own = one(ready);
@@ -87,6 +98,9 @@ fn step_kids<O: Order>(
     ensures moved { Moved (O.active order.old) (O.active order.new) (tasks_stock kids.old) (tasks_stock kids.new) }
     ensures faults { Counts (O.faults order.old) (O.faults order.new) (errs is_sink_fault result) }
     ensures cause { IfErr result ActMay }
+    ensures done { IfOk result (λ did. TaskDone ctx.now (fin.keys (O.active order.old)) k (O.outlet order.old) (O.outlet order.new) (row kids.old) (row kids.new) did.task did.action) }
+    ensures refused { IfErr result (TaskFails ctx.now (fin.keys (O.active order.old)) k (O.outlet order.old) (row kids.old)) }
+    ensures kept { OnErr result (Kept (O.outlet order.old) (O.outlet order.new)) }
 {
     let (place, left) = find_ready(order, kids, k);
     kids[place].step(alloc, ctx, order, left)

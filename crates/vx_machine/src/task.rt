@@ -3,7 +3,11 @@
 ghost use Rattle.std.specs.Prelude.{◌≡◌, IfErr, OnOk};
 ghost use Rattle.vx_machine_ids.specs.Stock.{none, both};
 ghost use Rattle.vx_machine_ids.specs.Balance.{Owned, Moved};
+ghost use Rattle.vx_machine_view.specs.State.{Tasks, task_then};
+ghost use Rattle.vx_machine_view.specs.Acts.{with_item, shut_desk};
 ghost use Rattle.vx_machine.specs.Stocks.{head_stock, item_stock, task_stock, tasks_stock};
+ghost use Rattle.vx_machine.specs.View.{item_of, desk_of, task_row, row};
+ghost use Rattle.vx_machine.specs.declared.task.Task.{out-Task};
 
 use crate::item::{Due, Item, give_up_dues, give_up_items};
 use crate::node::{Local, give_up_local};
@@ -52,6 +56,7 @@ impl Head {
     /// Puts an item on the queue. One for which there is no memory is handed back.
     fn enqueue(&mut self, item: Item) -> Result<(), Item>
         ensures given { OnOk result (head_stock self.new ≡ both (head_stock self.old) (item_stock item)) }
+        ensures shows { OnOk result (desk_of self.new ≡ with_item (desk_of self.old) (item_of item)) }
         ensures unchanged { IfErr result (λ i. (i ≡ item) × (head_stock self.new ≡ head_stock self.old)) }
     {
         match self.inbox.push_back(item) {
@@ -77,7 +82,8 @@ impl Task {
 
     /// Closes the queue.
     pub(crate) fn shut(&mut self)
-        ensures { task_stock self.new ≡ task_stock self.old }
+        ensures held { task_stock self.new ≡ task_stock self.old }
+        ensures shows { (r : Tasks) → task_row self.new r ≡ task_then (shut_desk (desk_of (out-Task self.old).head)) (row (out-Task self.old).kids.items) r }
     {
         self.head.closed = true;
     }
@@ -85,6 +91,7 @@ impl Task {
     /// Puts an item on the queue. One for which there is no memory is handed back.
     pub(crate) fn give(&mut self, item: Item) -> Result<(), Item>
         ensures given { OnOk result (task_stock self.new ≡ both (task_stock self.old) (item_stock item)) }
+        ensures shows { OnOk result ((r : Tasks) → task_row self.new r ≡ task_then (with_item (desk_of (out-Task self.old).head) (item_of item)) (row (out-Task self.old).kids.items) r) }
         ensures unchanged { IfErr result (λ i. (i ≡ item) × (task_stock self.new ≡ task_stock self.old)) }
     {
         match self.head.enqueue(item) {

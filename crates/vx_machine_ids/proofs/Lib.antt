@@ -1,4 +1,5 @@
 pub mod Stocks
 pub mod MoveLaws
 pub mod CallLaws
+pub mod IdMoves
 pub mod Lists

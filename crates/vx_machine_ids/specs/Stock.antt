@@ -1,5 +1,6 @@
 -- How often a value holds each path: by an id, and by a pointer.
 use Rattle.std.specs.Prelude.{ℕ, ◌+◌, Bool, true, false, List, [], ◌∷◌, map, Option, Some, None, Result, Ok, Err}
+use Rattle.std.specs.Global.{Vec}
 use Rattle.std.specs.Ordering.{eq_by_cmp}
 use Rattle.vx_path.specs.Path.{Eof, eof_path}
 use Rattle.vx_sequence.specs.Universe.{path_cmp}
@@ -42,6 +43,9 @@ all_stock f xs = joined (map f xs)
 
 abbrev pub ids_stock : List (List ℕ) → Stock
 ids_stock ps = all_stock id_stock ps
+
+abbrev pub all_ids : Vec (List ℕ) → Stock
+all_ids v = ids_stock v.items
 
 -- of an answer: nothing where there is none
 abbrev pub ok_stock : {A E : Type 0} → (A → Stock) → Result A E → Stock

@@ -1,8 +1,12 @@
-//! Ids in balance: how often a value holds each path, against the paths that are active.
-//! Each function here has an empty body; its contract is a law.
+//! Ids in balance: how often a value holds each path, against the paths that are active, and calls that keep the balance.
+//! Each function of this file has an empty body; its contract is a law.
 #![tactic(auto)]
 
 ghost use Rattle.vx_machine_ids.specs.Laws.{AdvanceMoves, DescendMoves, SplitMoves, ReleaseMoves, MovesNothing, MovesOn, MovesBeside, OwnsOn, LeavesNone};
+
+mod ids;
+
+pub use ids::{give_up_id, give_up_pointer, take_below, take_children, take_id};
 
 /// What each call on ids and pointers moves.
 pub fn calls()

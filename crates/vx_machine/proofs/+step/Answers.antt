@@ -10,7 +10,11 @@ use Rattle.vx_machine.specs.Stocks.{task_stock, tasks_stock}
 use Rattle.vx_machine.specs.declared.task.Task.{Task, out-Task}
 use Rattle.vx_machine.specs.declared.task.Task.TheOpen.{Task-F}
 use Rattle.vx_machine.specs.declared.task.Task.TheViews.{roll-Task, the_lemmas}
-use Rattle.vx_machine.proofs.TaskParts.{out_roll, task_count_out, head_owned, kids_owned, slice_moved, kids_of_roll, count_at}
+use Rattle.vx_machine_view.specs.State.{no_tasks}
+use Rattle.vx_machine.specs.View.{task_row}
+use Rattle.vx_machine.proofs.ReadyViews.{none_before, behind_own}
+use Rattle.vx_machine.proofs.StepLifts.{own_done, own_fails, below_done, below_fails, kid_done, kid_fails}
+use Rattle.vx_machine.proofs.TaskParts.{out_roll, roll_out, task_count_out, head_owned, kids_owned, slice_moved, kids_of_roll, count_at}
 use Rattle.vx_machine.proofs.PairSteps.{head_may, kids_may, kid_may}
 use Rattle.vx_machine.proofs.Readiness.{ready_in_out, one_true}
 use Rattle.vx_machine.proofs.+step.Goals as goal
@@ -21,7 +25,7 @@ task::Task::step-may-ready-requires g t c = head_owned (g.O.Order.active c.args.
 pub task::Task::step-act-requires-clause-ready : goal.task::Task::step-act-requires-clause-ready
 task::Task::step-act-requires-clause-ready g t c =
     let u : Active = g.O.Order.active c.args.order.now in
-    let a : c.may-ready.result ≡ may_now u (out-Task c.args.self.now).head (kids_of (out-Task c.args.self.now).kids.items) = c.may-ready.ensures ∙ ap (λ z. may_now u (out-Task c.args.self.now).head (kids_of z)) c.deref.ensures.value in
+    let a : c.may-ready.result ≡ may_now u (out-Task c.args.self.now).head (kids_of (out-Task c.args.self.now).kids.items) = c.may-ready.ensures.told ∙ ap (λ z. may_now u (out-Task c.args.self.now).head (kids_of z)) c.deref.ensures.value in
     let now : may_now u (out-Task c.args.self.now).head (kids_of (out-Task c.args.self.now).kids.items) ≡ true = sym a ∙ one_true c.may-ready.result c.args.k (subst (λ n. c.args.k < n) c.one-own.ensures c.if-k-own.true) in
     subst (λ (z : Task-F Task). may_now u z.head (kids_of z.kids.items) ≡ true) (sym (out_roll (out-Task c.args.self.now))) now
 
@@ -39,7 +43,7 @@ task::Task::step-step_kids-requires g t c κs within =
     let n : count_of_all c.deref_mut.result.now ≡ count_of_all (out-Task c.args.self.now).kids.items = ap count_of_all kv in
     let m : task_count c.args.self.now ≡ 1 + count_of_all (out-Task c.args.self.now).kids.items = task_count_out c.args.self.now in
     let falls : 2 * count_of_all c.deref_mut.result.now + 1 < 2 * task_count c.args.self.now = omega (arith, n, m) in
-    let a : c.may-ready.result ≡ may_now u (out-Task c.args.self.now).head (kids_of (out-Task c.args.self.now).kids.items) = c.may-ready.ensures ∙ ap (λ z. may_now u (out-Task c.args.self.now).head (kids_of z)) c.deref.ensures.value in
+    let a : c.may-ready.result ≡ may_now u (out-Task c.args.self.now).head (kids_of (out-Task c.args.self.now).kids.items) = c.may-ready.ensures.told ∙ ap (λ z. may_now u (out-Task c.args.self.now).head (kids_of z)) c.deref.ensures.value in
     let x : c.one-own.result ≡ one (may_now u (out-Task c.args.self.now).head (kids_of (out-Task c.args.self.now).kids.items)) = c.one-own.ensures ∙ ap one a in
     let e : ready_in u c.args.self.now ≡ one (may_now u (out-Task c.args.self.now).head (kids_of (out-Task c.args.self.now).kids.items)) + ready_among u (out-Task c.args.self.now).kids.items = ready_in_out u c.args.self.now in
     let y : ready_among u c.deref_mut.result.now ≡ ready_among u (out-Task c.args.self.now).kids.items = ap (ready_among u) kv in
@@ -54,6 +58,42 @@ task::Task::step-returns-clause-moved g t c =
     let kv : c.deref_mut.result.now ≡ (out-Task c.args.self.now).kids.items = c.deref_mut.ensures.value ∙ ap (λ (z : Task-F Task). z.kids.items) v in
     slice_moved (g.O.Order.active c.args.order.now) (g.O.Order.active c.step_kids.new.order) c.args.self.now _ c.requires.owned c.deref_mut.result.now c.step_kids.new.kids kv
     (simp the_lemmas refl) (kids_of_roll _ _ c.step_kids.new.kids (omega (arith, c.deref_mut.ensures.len))) c.step_kids.ensures.moved
+
+-- of the act that is the task's own, and of the children's
+pub task::Task::step-returns-then-k-own-clause-done : goal.task::Task::step-returns-then-k-own-clause-done
+task::Task::step-returns-then-k-own-clause-done g t c =
+    own_done c.args.ctx.now (g.O.Order.active c.args.order.now) (g.O.Order.outlet c.args.order.now) (g.O.Order.outlet c.act.new.order) c.act.result c.args.self.now (roll-Task (out-Task c.args.self.now)) c.args.k
+    (roll_out c.args.self.now) (none_before c.may-ready.result c.one-own.result c.args.k c.one-own.ensures c.if-k-own.true) (task_row c.act.new.self no_tasks) c.act.ensures.done
+
+pub task::Task::step-returns-then-k-own-clause-refused : goal.task::Task::step-returns-then-k-own-clause-refused
+task::Task::step-returns-then-k-own-clause-refused g t c =
+    own_fails c.args.ctx.now (g.O.Order.active c.args.order.now) (g.O.Order.outlet c.args.order.now) (g.O.Order.outlet c.act.new.order) c.act.result c.args.self.now (roll-Task (out-Task c.args.self.now)) c.args.k
+    (roll_out c.args.self.now) (none_before c.may-ready.result c.one-own.result c.args.k c.one-own.ensures c.if-k-own.true) c.act.ensures.refused
+
+pub task::Task::step-returns-clause-done : goal.task::Task::step-returns-clause-done
+task::Task::step-returns-clause-done g t c =
+    let u : Active = g.O.Order.active c.args.order.now in
+    let h = (out-Task c.args.self.now).head in
+    let ks = (out-Task c.args.self.now).kids.items in
+    let v : out-Task (roll-Task (out-Task c.args.self.now)) ≡ out-Task c.args.self.now = out_roll (out-Task c.args.self.now) in
+    let kv : c.deref_mut.result.now ≡ ks = c.deref_mut.ensures.value ∙ ap (λ (z : Task-F Task). z.kids.items) v in
+    let a : c.may-ready.result ≡ may_now u h (kids_of ks) = c.may-ready.ensures.told ∙ ap (λ z. may_now u h (kids_of z)) c.deref.ensures.value in
+    let x : c.one-own.result ≡ one (may_now u h (kids_of ks)) = c.one-own.ensures ∙ ap one a in
+    let p = behind_own u c.args.self.now c.args.k c.one-own.result x c.if-k-own.false c.requires.there in
+    below_done c.args.ctx.now u (g.O.Order.outlet c.args.order.now) (g.O.Order.outlet c.step_kids.new.order) c.step_kids.result c.args.self.now c.deref_mut.result.now c.args.k (c.args.k - c.one-own.result) kv p.0 p.1
+    _ c.step_kids.new.kids (simp the_lemmas refl) (kids_of_roll _ _ c.step_kids.new.kids (omega (arith, c.deref_mut.ensures.len))) c.step_kids.ensures.done
+
+pub task::Task::step-returns-clause-refused : goal.task::Task::step-returns-clause-refused
+task::Task::step-returns-clause-refused g t c =
+    let u : Active = g.O.Order.active c.args.order.now in
+    let h = (out-Task c.args.self.now).head in
+    let ks = (out-Task c.args.self.now).kids.items in
+    let v : out-Task (roll-Task (out-Task c.args.self.now)) ≡ out-Task c.args.self.now = out_roll (out-Task c.args.self.now) in
+    let kv : c.deref_mut.result.now ≡ ks = c.deref_mut.ensures.value ∙ ap (λ (z : Task-F Task). z.kids.items) v in
+    let a : c.may-ready.result ≡ may_now u h (kids_of ks) = c.may-ready.ensures.told ∙ ap (λ z. may_now u h (kids_of z)) c.deref.ensures.value in
+    let x : c.one-own.result ≡ one (may_now u h (kids_of ks)) = c.one-own.ensures ∙ ap one a in
+    let p = behind_own u c.args.self.now c.args.k c.one-own.result x c.if-k-own.false c.requires.there in
+    below_fails c.args.ctx.now u (g.O.Order.outlet c.args.order.now) (g.O.Order.outlet c.step_kids.new.order) c.step_kids.result c.args.self.now c.deref_mut.result.now c.args.k (c.args.k - c.one-own.result) kv p.0 p.1 c.step_kids.ensures.refused
 
 pub step::step_kids-step-requires : goal.step::step_kids-step-requires
 step::step_kids-step-requires g t c κs within =
@@ -77,3 +117,21 @@ step::step_kids-returns-clause-moved g t c =
     let x : Task = get_or c.args.kids.now i c.index-kids-place.result in
     let is : get_or c.args.kids.now i x ≡ x = ap (λ z. get_or c.args.kids.now i z) (sym c.index-kids-place.is) in
     at_moved task_stock u v c.args.kids.now i x c.step.new.self c.find_ready-place.ensures.place is c.requires.owned c.step.ensures.moved
+
+pub step::step_kids-returns-clause-done : goal.step::step_kids-returns-clause-done
+step::step_kids-returns-clause-done g t c =
+    let u : Active = g.O.Order.active c.args.order.now in
+    let i = c.find_ready-place.result.0 in
+    let x : Task = get_or c.args.kids.now i c.index-kids-place.result in
+    let is : get_or c.args.kids.now i x ≡ x = ap (λ z. get_or c.args.kids.now i z) (sym c.index-kids-place.is) in
+    kid_done c.args.ctx.now u (g.O.Order.outlet c.args.order.now) (g.O.Order.outlet c.step.new.order) c.step.result c.args.kids.now i x c.args.k c.find_ready-place.result.1 c.find_ready-place.ensures.passed
+    c.find_ready-place.ensures.place is c.step.new.self c.step.ensures.done
+
+pub step::step_kids-returns-clause-refused : goal.step::step_kids-returns-clause-refused
+step::step_kids-returns-clause-refused g t c =
+    let u : Active = g.O.Order.active c.args.order.now in
+    let i = c.find_ready-place.result.0 in
+    let x : Task = get_or c.args.kids.now i c.index-kids-place.result in
+    let is : get_or c.args.kids.now i x ≡ x = ap (λ z. get_or c.args.kids.now i z) (sym c.index-kids-place.is) in
+    kid_fails c.args.ctx.now u (g.O.Order.outlet c.args.order.now) (g.O.Order.outlet c.step.new.order) c.step.result c.args.kids.now i x c.args.k c.find_ready-place.result.1 c.find_ready-place.ensures.passed
+    c.find_ready-place.ensures.place is c.step.ensures.refused

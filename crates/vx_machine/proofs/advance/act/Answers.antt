@@ -1,4 +1,4 @@
-use Rattle.std.proofs.Common.{◌≡◌, List, length, true, sym, ap, subst, ◌∙◌}
+use Rattle.std.proofs.Common.{◌≡◌, List, length, true, sym, ap, subst, ◌∙◌, refl}
 use Rattle.std.proofs.lemmas.Bool.{and_parts}
 use Rattle.vx_sequence.specs.Universe.{Active}
 use Rattle.vx_machine_ids.specs.Stock.{both}
@@ -11,6 +11,8 @@ use Rattle.vx_machine.specs.declared.node.Shape.{Shape}
 use Rattle.vx_machine.proofs.ActMoves.{put_owned, put_moved, append_owned, append_moved, join_owned, join_moved, close_moved}
 use Rattle.vx_machine.proofs.ActCauses.{memory_may, all_wider, calm_counts}
 use Rattle.vx_machine.proofs.Readiness.{least_means}
+use Rattle.vx_sink.specs.ContextView.{listed}
+use Rattle.vx_machine.proofs.ActShows.{err_kept, put_does, put_says, append_does, append_says, close_does, join_does, join_says}
 use Rattle.vx_machine.proofs.advance.act.Goals as goal
 
 by_case : (u : Active) (ks : List Kid) (d e : Due) → d ≡ e → may_due u d ks ≡ true → may_due u e ks ≡ true
@@ -55,7 +57,7 @@ returns-in-Append-clause-moved g c =
 pub returns-in-Close-clause-moved : goal.returns-in-Close-clause-moved
 returns-in-Close-clause-moved g c =
     close_moved (g.O.Order.active c.args.order.now) (local_stock c.args.local.now) (tasks_stock c.args.kids.now.items) (due_stock c.args.due) (ap due_stock c.in-Close.is) c.requires.owned
-    (tasks_stock c.close_all.new.kids.items) c.close_all.ensures
+    (tasks_stock c.close_all.new.kids.items) c.close_all.ensures.stock
 
 pub join_due-requires-clause-owned : goal.join_due-requires-clause-owned
 join_due-requires-clause-owned g c =
@@ -81,3 +83,41 @@ returns-in-Join-clause-faults g c =
 
 pub returns-in-Join-clause-cause : goal.returns-in-Join-clause-cause
 returns-in-Join-clause-cause g c = all_wider c.join_due.result c.join_due.ensures.cause
+
+pub returns-in-Put-clause-done : goal.returns-in-Put-clause-done
+returns-in-Put-clause-done g c =
+    put_does (listed c.args.ctx.now) c.args.local.now c.args.kids.now.items c.args.due (g.O.Order.outlet c.args.order.now) (g.O.Order.outlet c.put.new.order) c.in-Put.child c.in-Put.item c.put.new.kids.items c.put.result
+    c.in-Put.is c.put.ensures.kind c.put.ensures.kids c.put.ensures.outlet
+
+pub returns-in-Put-clause-refused : goal.returns-in-Put-clause-refused
+returns-in-Put-clause-refused g c =
+    put_says (listed c.args.ctx.now) c.args.local.now c.args.kids.now.items c.args.due (g.O.Order.outlet c.args.order.now) (g.O.Order.outlet c.put.new.order) c.in-Put.child c.in-Put.item c.put.result c.in-Put.is c.put.ensures.memory
+
+pub returns-in-Put-clause-kept : goal.returns-in-Put-clause-kept
+returns-in-Put-clause-kept g c = err_kept c.put.result (g.O.Order.outlet c.args.order.now) (g.O.Order.outlet c.put.new.order) c.put.ensures.outlet
+
+pub returns-in-Append-clause-done : goal.returns-in-Append-clause-done
+returns-in-Append-clause-done g c =
+    append_does (listed c.args.ctx.now) c.args.local.now c.args.kids.now.items c.args.due (g.O.Order.outlet c.args.order.now) (g.O.Order.outlet c.append_due.new.order) c.in-Append.stored c.append_due.new.local c.append_due.result
+    c.in-Append.is c.append_due.ensures.done
+
+pub returns-in-Append-clause-refused : goal.returns-in-Append-clause-refused
+returns-in-Append-clause-refused g c =
+    append_says (listed c.args.ctx.now) c.args.local.now c.args.kids.now.items c.args.due (g.O.Order.outlet c.args.order.now) (g.O.Order.outlet c.append_due.new.order) c.in-Append.stored c.append_due.result c.in-Append.is c.append_due.ensures.refused
+
+pub returns-in-Close-clause-done : goal.returns-in-Close-clause-done
+returns-in-Close-clause-done g c =
+    close_does (listed c.args.ctx.now) c.args.local.now c.args.kids.now.items c.args.due (g.O.Order.outlet c.args.order.now) (g.O.Order.outlet c.args.order.now) c.close_all.new.kids.items
+    c.in-Close.is c.close_all.ensures.kids refl
+
+pub returns-in-Join-clause-done : goal.returns-in-Join-clause-done
+returns-in-Join-clause-done g c =
+    join_does (listed c.args.ctx.now) c.args.local.now c.args.kids.now.items c.args.due (g.O.Order.outlet c.args.order.now) (g.O.Order.outlet c.join_due.new.order) c.in-Join.shape c.join_due.new.local c.join_due.new.kids.items c.join_due.result
+    c.in-Join.is c.join_due.ensures.done
+
+pub returns-in-Join-clause-refused : goal.returns-in-Join-clause-refused
+returns-in-Join-clause-refused g c =
+    join_says (listed c.args.ctx.now) c.args.local.now c.args.kids.now.items c.args.due (g.O.Order.outlet c.args.order.now) (g.O.Order.outlet c.join_due.new.order) c.in-Join.shape c.join_due.result c.in-Join.is c.join_due.ensures.refused
+
+pub returns-in-Join-clause-kept : goal.returns-in-Join-clause-kept
+returns-in-Join-clause-kept g c = err_kept c.join_due.result (g.O.Order.outlet c.args.order.now) (g.O.Order.outlet c.join_due.new.order) c.join_due.ensures.outlet

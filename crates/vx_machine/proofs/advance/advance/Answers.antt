@@ -1,4 +1,4 @@
-use Rattle.std.proofs.Common.{sym, ap, subst, ◌∙◌}
+use Rattle.std.proofs.Common.{sym, ap, subst, ◌∙◌, ◌≡◌, [], refl}
 use Rattle.vx_fault.specs.Counts.{Counts}
 use Rattle.vx_machine_ids.specs.Stock.{both}
 use Rattle.vx_machine.specs.Pairs.{next_pairs, AllMay}
@@ -6,6 +6,10 @@ use Rattle.vx_machine.specs.Ready.{may_todo, kids_of}
 use Rattle.vx_machine.specs.Stocks.{items_stock, head_stock, local_stock, tasks_stock}
 use Rattle.vx_machine.proofs.ActMoves.{act_owned, act_moved, idle_owned, idle_moved}
 use Rattle.vx_machine.proofs.ActCauses.{wider, calm}
+use Rattle.vx_machine.specs.declared.task.Head.{Head}
+use Rattle.vx_machine.proofs.ActShows.{kept_same}
+use Rattle.vx_machine.proofs.NextShows.{due_done, due_refused, take_acted, take_refused, take_open}
+use Rattle.vx_machine.proofs.Readiness.{none_is}
 use Rattle.vx_machine.proofs.advance.advance.Goals as goal
 
 pub act-requires-clause-owned : goal.act-requires-clause-owned
@@ -50,3 +54,28 @@ returns-in-Err-clause-faults g c =
 
 pub returns-in-Err-clause-cause : goal.returns-in-Err-clause-cause
 returns-in-Err-clause-cause g c = wider c.in-Err.error c.in-Err.ensures.cause
+
+pub returns-in-Some-clause-done : goal.returns-in-Some-clause-done
+returns-in-Some-clause-done g c =
+    let e : Head = record { name = c.args.head.now.name; local = c.act.new.local; todo = c.pop_front.new.self; inbox = c.args.head.now.inbox; places = c.args.head.now.places; closed = c.args.head.now.closed } in
+    due_done c.args.ctx.now c.args.head.now c.args.kids.now.items c.in-Some.due c.pop_front.new.self.items c.in-Some.ensures.items
+    e c.act.new.kids.items (g.O.Order.outlet c.args.order.now) (g.O.Order.outlet c.act.new.order) c.act.new.local c.act.result refl c.act.ensures.done
+
+pub returns-in-Some-clause-refused : goal.returns-in-Some-clause-refused
+returns-in-Some-clause-refused g c =
+    due_refused c.args.ctx.now c.args.head.now c.args.kids.now.items c.in-Some.due c.pop_front.new.self.items c.in-Some.ensures.items (g.O.Order.outlet c.args.order.now) c.act.result c.act.ensures.refused
+
+pub returns-in-Ok-clause-done : goal.returns-in-Ok-clause-done
+returns-in-Ok-clause-done g c = λ image.
+    let none : c.pop_front.new.self.items ≡ [] = none_is c.pop_front.new.self.items (sym c.pop_front.new.self.ok.0 ∙ c.in-None.ensures.cases.1) in
+    take_acted c.args.ctx.now c.args.head.now c.args.kids.now.items c.pop_front.new.self.items c.in-None.ensures.items none image c.take_next.new.head c.take_next.new.kids.items
+    (g.O.Order.outlet c.args.order.now) (g.O.Order.outlet c.take_next.new.order) c.take_next.ensures.outlet (c.in-Ok.ensures.done none image)
+
+pub returns-in-Err-clause-refused : goal.returns-in-Err-clause-refused
+returns-in-Err-clause-refused g c = λ image n.
+    let none : c.pop_front.new.self.items ≡ [] = none_is c.pop_front.new.self.items (sym c.pop_front.new.self.ok.0 ∙ c.in-None.ensures.cases.1) in
+    take_refused c.args.ctx.now c.args.head.now c.args.kids.now.items c.pop_front.new.self.items c.in-None.ensures.items none image n (g.O.Order.outlet c.args.order.now) c.in-Err.error
+    (c.in-Err.ensures.refused (take_open (g.O.Order.active c.args.order.now) c.args.head.now (kids_of c.args.kids.now.items) (c.in-None.ensures.items ∙ none) c.requires.ready) image)
+
+pub returns-in-Err-clause-kept : goal.returns-in-Err-clause-kept
+returns-in-Err-clause-kept g c = kept_same (g.O.Order.outlet c.args.order.now) (g.O.Order.outlet c.take_next.new.order) c.take_next.ensures.outlet

@@ -1,6 +1,10 @@
 use Rattle.vx_machine_ids.proofs.MoveLaws.{owned_right}
 use Rattle.vx_machine.specs.Stocks.{local_stock, stored_stock}
 use Rattle.vx_machine.proofs.ActMoves.{spent, spent_owned, spent_then}
+use Rattle.std.proofs.Common.{sym, subst}
+use Rattle.vx_sink.specs.ContextView.{listed}
+use Rattle.vx_machine.specs.Acting.{IsAppended}
+use Rattle.vx_machine.proofs.WriteSteps.{appended_done}
 use Rattle.vx_machine.proofs.advance.append_due.Goals as goal
 
 pub append-requires-clause-owned : goal.append-requires-clause-owned
@@ -17,3 +21,11 @@ returns-in-Ok-clause-moved g c =
 pub returns-in-Err-clause-moved : goal.returns-in-Err-clause-moved
 returns-in-Err-clause-moved g c =
     spent (g.O.Order.active c.args.order.now) (g.O.Order.active c.append.new.order) (local_stock c.args.local.now) (stored_stock c.args.stored) c.requires.owned c.append.ensures.moved
+
+pub returns-in-Ok-clause-done : goal.returns-in-Ok-clause-done
+returns-in-Ok-clause-done g c = (
+  c.in-Ok.ensures.appended.0,
+  appended_done (listed c.args.ctx.now) c.in-Ok.ensures.appended.0 c.args.stored c.in-Ok.layout c.set_local.new.local (g.O.Order.outlet c.args.order.now) (g.O.Order.outlet c.set_local.new.order)
+      (subst (λ u. IsAppended (g.O.Order.outlet c.args.order.now) c.in-Ok.ensures.appended.0 (c.args.stored.id, c.args.stored.segment.bytes.items) u) (sym c.set_local.ensures.outlet) c.in-Ok.ensures.appended.1)
+      c.in-Ok.ensures.appended.2 c.set_local.ensures.local,
+)

@@ -3,6 +3,8 @@ use Rattle.vx_machine_ids.specs.Stock.{none, both}
 use Rattle.vx_machine_ids.specs.Balance.{Moved}
 use Rattle.vx_machine.specs.Stocks.{dues_stock, local_stock}
 use Rattle.vx_machine.proofs.ActMoves.{stays_as, end_owned, end_moved, end_local, end_then}
+use Rattle.vx_machine.specs.View.{todo_of}
+use Rattle.vx_machine.proofs.TakeShows.{ended_by}
 use Rattle.vx_machine.proofs.advance.end.Goals as goal
 
 pub returns-in_err-reserve-clause-moved : goal.returns-in_err-reserve-clause-moved
@@ -36,3 +38,8 @@ returns-in-Err-clause-moved g c =
     (ap local_stock c.replace-before.ensures.value) (ap dues_stock c.reserve.ensures.items) c.requires
     (subst (λ z. Moved (g.O.Order.active c.args.order.now) (g.O.Order.active c.ended.new.order) (both (local_stock c.replace-before.result) (dues_stock c.reserve.new.self.items)) (both z (dues_stock c.ended.new.todo.items)))
     (sym (ap local_stock c.replace-before.ensures.after)) c.in-Err.ensures.moved)
+
+pub returns-in-Ok-clause-done : goal.returns-in-Ok-clause-done
+returns-in-Ok-clause-done g c =
+    ended_by c.args.local.now c.replace-before.result c.in-Ok.after c.set_local.new.local c.args.kids (todo_of c.ended.new.todo.items) c.reserve.new.self.items c.args.todo.now.items
+    c.replace-before.ensures.value c.set_local.ensures.local c.reserve.ensures.items c.in-Ok.ensures.done

@@ -6,6 +6,8 @@ use Rattle.vx_machine_ids.proofs.MoveLaws.{owned_right}
 use Rattle.vx_machine.specs.Stocks.{item_stock, tasks_stock}
 use Rattle.vx_machine.proofs.ActMoves.{given_moved, back_moved}
 use Rattle.vx_machine.proofs.Readiness.{room_within}
+use Rattle.vx_machine.specs.View.{item_of}
+use Rattle.vx_machine.proofs.RowSteps.{put_row}
 use Rattle.vx_machine.proofs.advance.put.Goals as goal
 
 pub index_mut-requires : goal.index_mut-requires
@@ -30,3 +32,8 @@ returns-in-Err-clause-moved g c =
     back_moved u v c.args.kids.now.items c.args.child c.index_mut.result.now c.give.new.self c.args.item
     (room_within c.args.kids.now.items c.args.child c.requires.room) (sym c.index_mut.ensures.value) c.in-Err.ensures.unchanged.1 c.requires.owned
     (subst (λ i. Moved u v (item_stock i) none) c.in-Err.ensures.unchanged.0 c.give_up_item.ensures.moved)
+
+pub returns-in-Ok-clause-kids : goal.returns-in-Ok-clause-kids
+returns-in-Ok-clause-kids g c =
+    put_row c.args.kids.now.items c.args.child c.index_mut.result.now c.give.new.self (item_of c.args.item)
+    (room_within c.args.kids.now.items c.args.child c.requires.room) (sym c.index_mut.ensures.value) c.in-Ok.ensures.shows

@@ -1,4 +1,4 @@
-use Rattle.std.proofs.Common.{sym, subst}
+use Rattle.std.proofs.Common.{sym, subst, length, ap, ◌∙◌}
 use Rattle.std.proofs.lemmas.Result.{err_from_is_err_and}
 use Rattle.vx_sequence.specs.Universe.{Active}
 use Rattle.vx_machine_ids.specs.Stock.{Stock, both, end_stock, ok_stock}
@@ -7,6 +7,10 @@ use Rattle.vx_machine_ids.proofs.Stocks.{both_none}
 use Rattle.vx_machine_ids.proofs.MoveLaws.{moved_none}
 use Rattle.vx_machine.specs.Stocks.{task_stock}
 use Rattle.vx_machine.proofs.CauseSteps.{start_may}
+use Rattle.std.specs.Arc.{arc_value}
+use Rattle.vx_path.specs.Path.{under, inside}
+use Rattle.vx_model.specs.TyView.{ty}
+use Rattle.vx_machine.proofs.RowSteps.{started_as, one_refused_as}
 use Rattle.vx_machine.proofs.chunked.next_child.Goals as goal
 
 pub returns-in_err-name-clause-moved : goal.returns-in_err-name-clause-moved
@@ -32,3 +36,14 @@ pub returns-in_err-kid-clause-cause : goal.returns-in_err-kid-clause-cause
 returns-in_err-kid-clause-cause g c =
     let p = err_from_is_err_and c.from_residual-in_err-kid.result c.from_residual-in_err-kid.ensures.1 in
     rw (p.1, p.2) (start_may c.in_err-kid.field-0.0 c.in_err-kid.ensures.cause)
+
+pub returns-clause-started : goal.returns-clause-started
+returns-clause-started g c =
+    started_as c.args.node.now.child.item (ty (arc_value c.in_ok-dtype.dtype)) (ty (arc_value c.args.node.now.dtype)) c.args.node.now.marked c.in_ok-name.name (under c.args.name.now (length c.args.kids.now.items)) (inside c.args.eof.now) c.in_ok-kid.kid
+    (ap ty c.in_ok-dtype.ensures) (c.in_ok-name.ensures.name ∙ ap (under c.args.name.now) c.args.kids.now.ok.0) c.in_ok-kid.ensures.shows
+
+pub returns-in_err-kid-clause-refused : goal.returns-in_err-kid-clause-refused
+returns-in_err-kid-clause-refused g c =
+    let p = err_from_is_err_and c.from_residual-in_err-kid.result c.from_residual-in_err-kid.ensures.1 in
+    rw (p.1, p.2) (one_refused_as c.args.node.now.child.item (ty (arc_value c.in_ok-dtype.dtype)) (ty (arc_value c.args.node.now.dtype)) c.args.node.now.marked c.args.eof.now c.in_err-kid.field-0.0
+    (ap ty c.in_ok-dtype.ensures) c.in_err-kid.ensures.refused)

@@ -1,8 +1,28 @@
 use Rattle.std.proofs.lemmas.Result.{err_from_is_err_and}
 use Rattle.vx_machine.proofs.CauseSteps.{encode_may}
+use Rattle.std.proofs.Common.{[], ◌∷◌, length, ap, sym, ◌∙◌, arith}
+use Rattle.vx_model.specs.ChunkData.{cells}
+use Rattle.vx_model.specs.TyView.{ty}
+use Rattle.vx_segment_writer.specs.Segment.{encode}
+use Rattle.vx_sink.specs.ContextView.{listed}
+use Rattle.vx_machine.proofs.Fitting.{then_fit, one_fits}
+use Rattle.vx_machine.proofs.TakeShows.{store_refused}
 use Rattle.vx_machine.proofs.flat.store.Goals as goal
 
-pub returns-in_err-bytes : goal.returns-in_err-bytes
-returns-in_err-bytes c =
+pub returns-in_err-bytes-clause-cause : goal.returns-in_err-bytes-clause-cause
+returns-in_err-bytes-clause-cause c =
     let p = err_from_is_err_and c.from_residual.result c.from_residual.ensures.1 in
     rw (p.1, p.2) (encode_may c.in_err-bytes.field-0.0)
+
+pub returns-clause-stored : goal.returns-clause-stored
+returns-clause-stored c = record {
+  bytes = ap (λ ids. encode ids c.args.node.now.options.include_padding c.args.chunk.now) (sym c.array_ctx.ensures) ∙ c.in_ok-bytes.ensures.ok;
+  rows = c.len.ensures.rows;
+  type = ap ty c.in_ok-dtype.ensures;
+  counted = then_fit (length (cells c.args.chunk.now)) (length c.in_ok-bytes.bytes.items ∷ []) (omega (arith, c.len.ensures.rows)) (one_fits (length c.in_ok-bytes.bytes.items) c.in_ok-bytes.ensures.short);
+}
+
+pub returns-in_err-bytes-clause-refused : goal.returns-in_err-bytes-clause-refused
+returns-in_err-bytes-clause-refused c =
+    let p = err_from_is_err_and c.from_residual.result c.from_residual.ensures.1 in
+    rw (p.1, p.2) (store_refused c.array_ctx.result.now (listed c.args.ctx.now) c.args.chunk.now c.in_err-bytes.field-0.0 c.array_ctx.ensures c.in_err-bytes.ensures.refused)

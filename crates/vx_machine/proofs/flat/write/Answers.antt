@@ -8,7 +8,8 @@ use Rattle.vx_machine_ids.proofs.CallLaws.{owned_active, released_moved}
 use Rattle.vx_write_answer.specs.Causes.{is_sink_fault}
 use Rattle.vx_machine.specs.Causes.{ActMay}
 use Rattle.vx_machine.proofs.CauseSteps.{refused_may, refused_counts}
-use Rattle.vx_machine.proofs.WriteSteps.{written_counts}
+use Rattle.vx_machine.proofs.WriteSteps.{written_counts, written_told, then_kept, refused_why}
+use Rattle.vx_machine.specs.Acting.{AppendRefused}
 use Rattle.vx_machine.proofs.flat.write.Goals as goal
 
 pub try_write-requires-clause-is_active : goal.try_write-requires-clause-is_active
@@ -48,3 +49,18 @@ returns-in-Err-clause-faults g c =
 pub returns-in-Err-clause-cause : goal.returns-in-Err-clause-cause
 returns-in-Err-clause-cause g c =
     subst (λ e. ActMay e) (sym c.into.ensures) (refused_may (g.O.Order.active c.args.order.now) (g.O.Order.outlet c.args.order.now) c.args.id c.in-Err.error c.in-Err.ensures.answer.1)
+
+pub returns-in-Ok-Written-clause-appended : goal.returns-in-Ok-Written-clause-appended
+returns-in-Ok-Written-clause-appended g c =
+    written_told (g.O.Order.active c.args.order.now) (g.O.Order.outlet c.args.order.now) (g.O.Order.outlet c.try_write.new.self) c.args.id c.args.bytes.now c.try_write.result c.in-Ok-Written.receipt
+    (c.in-Ok-Written.is ∙ ap (λ x. Ok x) c.in-Ok-Written.field-0-is) c.try_write.ensures.answer c.try_write.ensures.outlet
+
+pub returns-in-Err-clause-refused : goal.returns-in-Err-clause-refused
+returns-in-Err-clause-refused g c =
+    subst (λ e. AppendRefused (g.O.Order.outlet c.args.order.now) (c.args.id, c.args.bytes.now) e) (sym c.into.ensures)
+    (refused_why (g.O.Order.active c.args.order.now) (g.O.Order.outlet c.args.order.now) c.args.id c.args.bytes.now c.in-Err.error c.in-Err.ensures.answer.1)
+
+pub returns-in-Err-clause-kept : goal.returns-in-Err-clause-kept
+returns-in-Err-clause-kept g c =
+    then_kept (g.O.Order.outlet c.args.order.now) (g.O.Order.outlet c.try_write.new.self) (g.O.Order.outlet c.release-in-Err.new.self) c.args.bytes.now (c.in-Err.id, c.in-Err.error)
+    c.in-Err.ensures.outlet c.release-in-Err.ensures.outlet

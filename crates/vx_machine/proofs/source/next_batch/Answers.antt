@@ -1,8 +1,9 @@
 use Rattle.std.proofs.Common.{ℕ, sym, subst}
 use Rattle.vx_fault.specs.Counts.{Counts}
 use Rattle.vx_write_answer.specs.Causes.{is_source_fault}
-use Rattle.vx_machine.specs.Source.{SourceMay, ReadsNone}
+use Rattle.vx_machine.specs.Source.{SourceMay, ReadsNone, NoNumber}
 use Rattle.vx_machine.proofs.CauseSteps.{source_may, source_counts, source_reads}
+use Rattle.vx_machine.proofs.SourceSteps.{no_number}
 use Rattle.vx_machine.proofs.source.next_batch.Goals as goal
 
 pub returns-in-Err-clause-reads : goal.returns-in-Err-clause-reads
@@ -19,3 +20,6 @@ returns-in-Err-clause-counted g c =
 
 pub returns-in-Err-clause-cause : goal.returns-in-Err-clause-cause
 returns-in-Err-clause-cause g c = subst (λ e. SourceMay (g.B.BatchSource.kind c.args.source.now) e) (sym c.into.ensures) (source_may (g.B.BatchSource.kind c.args.source.now) c.in-Err.error)
+
+pub returns-in-Err-clause-number : goal.returns-in-Err-clause-number
+returns-in-Err-clause-number g c = subst (λ e. NoNumber e) (sym c.into.ensures) (no_number c.in-Err.error)

@@ -1,10 +1,13 @@
-use Rattle.std.proofs.Common.{◌≡◌, ◌+◌, ◌*◌}
+use Rattle.std.proofs.Common.{◌≡◌, ◌+◌, ◌*◌, drop, map}
+use Rattle.vx_model.specs.TyView.{ty, field_ty}
 use Rattle.vx_strategy.specs.NodeViews.{struct_way}
 use Rattle.vx_strategy.specs.StrategyView.{strategy_data}
 use Rattle.vx_machine_ids.specs.Stock.{both, end_stock}
 use Rattle.vx_machine_ids.specs.Balance.{Owned, Moved}
 use Rattle.vx_machine.specs.Weight.{weight}
+use Rattle.vx_machine.specs.Starting.{field_forms, columns_form}
 use Rattle.vx_machine.specs.Stocks.{tasks_stock}
+use Rattle.vx_machine.proofs.StartShows.{Left}
 use Rattle.vx_machine.proofs.start.+start.Given as goal
 
 abbrev pub decreases-start_task : goal.decreases-start_task
@@ -34,4 +37,5 @@ invariant-start_each-fields g l = record {
   moved : Moved (g.O.Order.active l.fn.order) (g.O.Order.active l.order) (both (end_stock l.fn.eof) (tasks_stock l.fn.kids.items)) (both (end_stock l.eof) (tasks_stock l.kids.items));
   outlet : g.O.Order.outlet l.order ≡ g.O.Order.outlet l.fn.order;
   faults : g.O.Fallible.faults l.order ≡ g.O.Fallible.faults l.fn.order;
+  left : Left (columns_form l.fields (ty l.dtype)) l.fn.marked l.name l.fn.eof l.fn.kids.items (field_forms l.fields (map field_ty (drop l.field-index l.columns))) l.below l.kids.items l.eof;
 }

@@ -7,5 +7,5 @@ into_layout-layout-requires c = (finished_parts c.args.self c.requires).1
 pub unreachable-requires : goal.unreachable-requires
 unreachable-requires c = c.in_default.not-Finished (closed_is c.args.self.phase (finished_parts c.args.self c.requires).0)
 
-pub returns : goal.returns
-returns c = finished_none c.args.self c.requires
+pub returns-clause-free : goal.returns-clause-free
+returns-clause-free c = finished_none c.args.self c.requires

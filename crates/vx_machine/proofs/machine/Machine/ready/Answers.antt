@@ -1,18 +1,22 @@
-use Rattle.std.proofs.Common.{◌≡◌, ◌+◌, ◌-◌, ◌^◌, min, ap, ◌∙◌, arith}
+use Rattle.std.proofs.Common.{◌≡◌, ◌+◌, ◌-◌, ◌^◌, min, sym, ap, ◌∙◌, arith}
 use Rattle.vx_machine_ids.specs.Stock.{one}
 use Rattle.vx_machine_ids.proofs.MoveLaws.{owned_right}
 use Rattle.vx_machine.specs.Ready.{ready_in, counted}
 use Rattle.vx_machine.specs.Stocks.{task_stock}
 use Rattle.vx_machine.specs.Source.{phase_stock}
 use Rattle.vx_machine.specs.Whole.{may_source}
+use Rattle.vx_machine.proofs.ReadyViews.{machine_view}
 use Rattle.vx_machine.proofs.machine.Machine.ready.Goals as goal
 
 pub ready-requires : goal.ready-requires
 ready-requires g c = owned_right (g.O.Order.active c.args.order.now) (phase_stock c.args.self.now.phase) (task_stock c.args.self.now.root) c.requires
 
-pub returns : goal.returns
-returns g c =
+pub returns-clause-told : goal.returns-clause-told
+returns-clause-told g c =
     let x : c.one-own.result ≡ one (may_source c.args.self.now.phase c.args.self.now.root) = c.one-own.ensures ∙ ap one c.source_may.ensures in
-    let y : c.ready.result ≡ counted (ready_in (g.O.Order.active c.args.order.now) c.args.self.now.root) = c.ready.ensures in
+    let y : c.ready.result ≡ counted (ready_in (g.O.Order.active c.args.order.now) c.args.self.now.root) = c.ready.ensures.told in
     let z : c.saturating_add.result ≡ min (c.one-own.result + c.ready.result) (2 ^ 64 - 1) = c.saturating_add.ensures in
     omega (arith, x, y, z)
+
+pub returns-clause-view : goal.returns-clause-view
+returns-clause-view g c = returns-clause-told g c ∙ ap counted (sym (machine_view (g.O.Order.active c.args.order.now) c.args.self.now))

@@ -1,10 +1,16 @@
-use Rattle.std.proofs.Common.{sym, ◌∙◌}
+use Rattle.std.proofs.Common.{sym, ap, subst, ◌∙◌}
+use Rattle.vx_sink.specs.ContextView.{is_marked}
 use Rattle.vx_machine_ids.specs.Stock.{end_stock}
 use Rattle.vx_machine_ids.proofs.MoveLaws.{owned_left, owned_right, owned_rest, moved_twice, moved_behind}
 use Rattle.vx_strategy.specs.StrategyView.{strategy_data}
+use Rattle.vx_machine_turns.specs.Forms.{Form}
 use Rattle.vx_machine_view.specs.Built.{is_built}
+use Rattle.vx_machine_view.specs.State.{no_tasks}
+use Rattle.vx_machine_view.specs.Machine.{reading}
+use Rattle.vx_machine.specs.Starting.{IsAllowed, FormRefused, machine_at}
+use Rattle.vx_machine.specs.View.{form_of}
 use Rattle.vx_machine.specs.Stocks.{task_stock}
-use Rattle.vx_machine.proofs.MachineMoves.{first_left, second_first, unbuilt, built_may}
+use Rattle.vx_machine.proofs.MachineMoves.{first_left, second_first, unbuilt, built_may, unbuilt_refused, built_refused}
 use Rattle.vx_machine.proofs.machine.Machine.start.Goals as goal
 
 pub give_up_pointer-requires : goal.give_up_pointer-requires
@@ -20,6 +26,27 @@ returns-then-not-is_built-clause-moved g c =
 
 pub returns-then-not-is_built-clause-cause : goal.returns-then-not-is_built-clause-cause
 returns-then-not-is_built-clause-cause g c = unbuilt (is_built (strategy_data c.args.strategy.now)) (sym c.is_built.ensures ∙ c.if-not-is_built.true)
+
+pub returns-then-not-is_built-clause-refused : goal.returns-then-not-is_built-clause-refused
+returns-then-not-is_built-clause-refused g c =
+    unbuilt_refused (is_built (strategy_data c.args.strategy.now)) (form_of c.args.strategy.now c.args.dtype.now) (is_marked c.args.ctx.now) c.args.eof (sym c.is_built.ensures ∙ c.if-not-is_built.true)
+
+pub returns-in-Ok-clause-allowed : goal.returns-in-Ok-clause-allowed
+returns-in-Ok-clause-allowed g c = subst (λ z. IsAllowed (form_of c.args.strategy.now c.args.dtype.now) z) c.has_nullable_ancestor.ensures c.in-Ok.ensures.shows.allowed
+
+pub returns-in-Ok-clause-counted : goal.returns-in-Ok-clause-counted
+returns-in-Ok-clause-counted g c = c.in-Ok.ensures.shows.counted
+
+pub returns-in-Ok-clause-shows : goal.returns-in-Ok-clause-shows
+returns-in-Ok-clause-shows g c =
+    ap (λ z. record { phase = reading c.args.stream; root = z }) (c.in-Ok.ensures.shows.tasks no_tasks)
+    ∙ ap (λ z. machine_at c.args.stream (form_of c.args.strategy.now c.args.dtype.now) z c.args.eof) c.has_nullable_ancestor.ensures
+
+pub returns-in-Err-clause-refused : goal.returns-in-Err-clause-refused
+returns-in-Err-clause-refused g c =
+    let f : Form = form_of c.args.strategy.now c.args.dtype.now in
+    built_refused (is_built (strategy_data c.args.strategy.now)) f (is_marked c.args.ctx.now) c.args.eof c.in-Err.error (sym c.is_built.ensures ∙ c.if-not-is_built.false)
+    (subst (λ z. FormRefused f z c.args.eof c.in-Err.error) c.has_nullable_ancestor.ensures c.in-Err.ensures.refused)
 
 pub start_root-requires-clause-owned : goal.start_root-requires-clause-owned
 start_root-requires-clause-owned g c = owned_right (g.O.Order.active c.args.order.now) (end_stock c.args.stream) (end_stock c.args.eof) c.requires

@@ -1,9 +1,13 @@
+use Rattle.std.proofs.lemmas.Result.{err_from_is_err_and}
 use Rattle.vx_sequence.specs.Universe.{Active}
+use Rattle.vx_write_answer.specs.declared.error.WriteError.TheVariants.{OutOfMemory}
 use Rattle.vx_machine_ids.specs.Stock.{Stock, both}
 use Rattle.vx_machine.specs.Stocks.{head_stock, tasks_stock}
 use Rattle.vx_machine.specs.declared.task.Task.{out-Task}
 use Rattle.vx_machine.specs.declared.task.Task.TheViews.{roll-Task}
 use Rattle.vx_machine.proofs.TaskParts.{parts_owned, parts_moved, rolled}
+use Rattle.vx_machine.specs.Context.{setting_of}
+use Rattle.vx_machine.proofs.StepShows.{own_stepped, own_refused}
 use Rattle.vx_machine.proofs.task.Task.act.Goals as goal
 
 pub advance-requires-clause-owned : goal.advance-requires-clause-owned
@@ -30,3 +34,18 @@ returns-in-Err-clause-moved g c =
     let s : Stock = both (head_stock (out-Task c.args.self.now).head) (tasks_stock (out-Task c.args.self.now).kids.items) in
     parts_moved u c.args.self.now c.requires.owned v (roll-Task (record { head = c.advance.new.head; kids = c.advance.new.kids }))
     (rolled u v s (record { head = c.advance.new.head; kids = c.advance.new.kids }) c.advance.ensures.moved)
+
+pub returns-in-Ok-clause-done : goal.returns-in-Ok-clause-done
+returns-in-Ok-clause-done g c = λ image.
+    let u : Active = g.O.Order.active c.args.order.now in
+    let w = c.in-Ok.ensures.done image in
+    (w.0, own_stepped (setting_of c.args.ctx.now image) u w.0 (g.O.Order.outlet c.args.order.now) c.args.self.now c.requires.ready (g.O.Order.outlet c.advance.new.order) (record { head = c.advance.new.head; kids = c.advance.new.kids }) c.in_ok-task.task c.in-Ok.action c.in_ok-task.ensures.cases w.1)
+
+pub returns-in-Err-clause-refused : goal.returns-in-Err-clause-refused
+returns-in-Err-clause-refused g c = λ image number.
+    own_refused (setting_of c.args.ctx.now image) (g.O.Order.active c.args.order.now) number (g.O.Order.outlet c.args.order.now) c.args.self.now c.requires.ready c.in-Err.error (c.in-Err.ensures.refused image number)
+
+pub returns-in_err-task-clause-refused : goal.returns-in_err-task-clause-refused
+returns-in_err-task-clause-refused g c =
+    let p = err_from_is_err_and c.from_residual.result c.from_residual.ensures.1 in
+    rw (p.1, p.2) (λ image number. own_refused (setting_of c.args.ctx.now image) (g.O.Order.active c.args.order.now) number (g.O.Order.outlet c.args.order.now) c.args.self.now c.requires.ready OutOfMemory tt)

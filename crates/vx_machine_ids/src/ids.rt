@@ -1,16 +1,18 @@
 //! Ids and pointers of an order, taken and given up in balance.
 
-ghost use Rattle.std.specs.Prelude.{◌≡◌, vec_len, IfOk, IfErr, OnErr};
+ghost use Rattle.std.specs.Prelude.{◌≡◌, ◌+◌, ◌<◌, ◌^◌, vec_len, IfOk, IfErr, OnOk, OnErr};
+ghost use Rattle.vx_path.specs.Path.{eof_path, inside, next};
 ghost use Rattle.vx_order.specs.Answers.{FullAt};
-ghost use Rattle.vx_machine_ids.specs.Stock.{none, both, id_stock, end_stock, ok_stock};
+ghost use Rattle.vx_order.specs.Ids.{children};
+ghost use Rattle.vx_machine_ids.specs.Stock.{none, both, id_stock, end_stock, all_ids, ok_stock};
 ghost use Rattle.vx_machine_ids.specs.Balance.{Owned, Moved};
-ghost use Rattle.vx_machine.specs.Stocks.{all_ids};
 
 use std::alloc::Global;
 use vx_order::{Order, OrderError, make_ids, split_off};
 use vx_sequence::{SequenceId, SequencePointer};
 
-pub(crate) fn give_up_id<O: Order>(order: &mut O, id: SequenceId)
+/// Gives the id up.
+pub fn give_up_id<O: Order>(order: &mut O, id: SequenceId)
     requires { Owned (O.active order.old) (id_stock id) }
     ensures moved { Moved (O.active order.old) (O.active order.new) (id_stock id) none }
     ensures outlet { O.outlet order.new ≡ O.outlet order.old }
@@ -30,12 +32,15 @@ pub fn give_up_pointer<O: Order>(order: &mut O, pointer: SequencePointer)
 }
 
 /// The id of the pointer's path; the pointer goes on.
-pub(crate) fn take_id<O: Order>(
+pub fn take_id<O: Order>(
     order: &mut O,
     pointer: &mut SequencePointer,
 ) -> Result<SequenceId, OrderError>
     requires { Owned (O.active order.old) (end_stock pointer.old) }
     ensures moved { Moved (O.active order.old) (O.active order.new) (end_stock pointer.old) (both (end_stock pointer.new) (ok_stock id_stock result)) }
+    ensures id { IfOk result (λ id. id ≡ eof_path pointer.old) }
+    ensures next { OnOk result (pointer.new ≡ next pointer.old) }
+    ensures fits { OnOk result (pointer.old.last + 1 < 2 ^ 64) }
     ensures full { IfErr result (FullAt pointer.old.last) }
     ensures same { OnErr result (pointer.new ≡ pointer.old) }
     ensures outlet { O.outlet order.new ≡ O.outlet order.old }
@@ -54,6 +59,9 @@ pub fn take_below<O: Order>(
 ) -> Result<SequencePointer, OrderError>
     requires { Owned (O.active order.old) (end_stock pointer.old) }
     ensures moved { Moved (O.active order.old) (O.active order.new) (end_stock pointer.old) (both (end_stock pointer.new) (ok_stock end_stock result)) }
+    ensures below { IfOk result (λ below. below ≡ inside pointer.old) }
+    ensures next { OnOk result (pointer.new ≡ next pointer.old) }
+    ensures fits { OnOk result (pointer.old.last + 1 < 2 ^ 64) }
     ensures full { IfErr result (FullAt pointer.old.last) }
     ensures outlet { O.outlet order.new ≡ O.outlet order.old }
     ensures faults { O.faults order.new ≡ O.faults order.old }
@@ -65,7 +73,7 @@ pub fn take_below<O: Order>(
 }
 
 /// The first `count` children of the id, which is given up.
-pub(crate) fn take_children<O: Order>(
+pub fn take_children<O: Order>(
     alloc: Global,
     order: &mut O,
     id: SequenceId,
@@ -74,6 +82,7 @@ pub(crate) fn take_children<O: Order>(
     requires { Owned (O.active order.old) (id_stock id) }
     ensures moved { Moved (O.active order.old) (O.active order.new) (id_stock id) (ok_stock all_ids result) }
     ensures count { IfOk result (λ ids. vec_len ids ≡ count) }
+    ensures ids { IfOk result (λ ids. ids.items ≡ children id count) }
     ensures memory { IfErr result (λ e. e ≡ OrderError.OutOfMemory) }
     ensures outlet { O.outlet order.new ≡ O.outlet order.old }
     ensures faults { O.faults order.new ≡ O.faults order.old }

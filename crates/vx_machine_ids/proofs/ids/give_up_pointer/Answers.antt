@@ -3,7 +3,7 @@ use Rattle.vx_sequence.specs.Universe.{Active, IsActive, released}
 use Rattle.vx_machine_ids.specs.Stock.{none, end_stock}
 use Rattle.vx_machine_ids.specs.Balance.{Moved}
 use Rattle.vx_machine_ids.proofs.CallLaws.{end_active, downgraded_moved}
-use Rattle.vx_machine.proofs.ids.give_up_pointer.Goals as goal
+use Rattle.vx_machine_ids.proofs.ids.give_up_pointer.Goals as goal
 
 pub release-requires : goal.release-requires
 release-requires g c =

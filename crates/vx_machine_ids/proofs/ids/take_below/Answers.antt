@@ -1,6 +1,6 @@
 use Rattle.vx_machine_ids.proofs.CallLaws.{owned_open}
-use Rattle.vx_machine.proofs.IdMoves.{split_took, split_not}
-use Rattle.vx_machine.proofs.ids.take_below.Goals as goal
+use Rattle.vx_machine_ids.proofs.IdMoves.{split_took, split_not}
+use Rattle.vx_machine_ids.proofs.ids.take_below.Goals as goal
 
 pub split_off-requires : goal.split_off-requires
 split_off-requires g c = owned_open (g.O.Order.active c.args.order.now) c.args.pointer.now c.requires

@@ -1,6 +1,6 @@
-use Rattle.vx_machine.proofs.IdMoves.{id_lost}
+use Rattle.vx_machine_ids.proofs.IdMoves.{id_lost}
 use Rattle.vx_machine_ids.proofs.CallLaws.{owned_active}
-use Rattle.vx_machine.proofs.ids.give_up_id.Goals as goal
+use Rattle.vx_machine_ids.proofs.ids.give_up_id.Goals as goal
 
 pub release-requires : goal.release-requires
 release-requires g c = owned_active (g.O.Order.active c.args.order.now) c.args.id c.requires

@@ -1,7 +1,7 @@
 use Rattle.std.proofs.Common.{length, ap, ◌∙◌}
 use Rattle.vx_machine_ids.proofs.CallLaws.{owned_active}
-use Rattle.vx_machine.proofs.IdMoves.{children_moved, children_count, id_lost}
-use Rattle.vx_machine.proofs.ids.take_children.Goals as goal
+use Rattle.vx_machine_ids.proofs.IdMoves.{children_moved, children_count, id_lost}
+use Rattle.vx_machine_ids.proofs.ids.take_children.Goals as goal
 
 pub make_ids-requires : goal.make_ids-requires
 make_ids-requires g c = owned_active (g.O.Order.active c.args.order.now) c.args.id c.requires

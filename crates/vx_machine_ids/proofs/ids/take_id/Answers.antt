@@ -1,6 +1,6 @@
 use Rattle.vx_machine_ids.proofs.CallLaws.{owned_open}
-use Rattle.vx_machine.proofs.IdMoves.{took, not_took}
-use Rattle.vx_machine.proofs.ids.take_id.Goals as goal
+use Rattle.vx_machine_ids.proofs.IdMoves.{took, not_took}
+use Rattle.vx_machine_ids.proofs.ids.take_id.Goals as goal
 
 pub advance-requires : goal.advance-requires
 advance-requires g c = owned_open (g.O.Order.active c.args.order.now) c.args.pointer.now c.requires

@@ -1,0 +1,120 @@
+-- A run grows step by step.
+use Rattle.std.proofs.Common.{◌≡◌, ℕ, suc, ◌+◌, ◌%◌, ◌<◌, List, [], ◌∷◌, ◌++◌, length, Option, inr, refl, sym, ap, subst, ◌∙◌, arith}
+use Rattle.std.specs.FinMap as fin
+use Rattle.std.specs.Prelude.{slice_index}
+use Rattle.vx_model.specs.Ty.{Ty}
+use Rattle.vx_model.specs.ChunkData.{ChunkData}
+use Rattle.vx_sequence.specs.Universe.{Active}
+use Rattle.vx_tasks.specs.Run.{nth}
+use Rattle.vx_order.specs.Outlet.{Outlet}
+use Rattle.vx_plan.specs.PlanData.{Setting}
+use Rattle.vx_sink.specs.declared.context.LayoutWriterContext.{LayoutWriterContext}
+use Rattle.vx_write_answer.specs.declared.step.Step.{Step}
+use Rattle.vx_write_answer.specs.declared.step.ActionKind.{ActionKind}
+use Rattle.vx_write_answer.specs.declared.error.WriteError.{WriteError}
+use Rattle.vx_machine_ids.specs.Balance.{Exact}
+use Rattle.vx_machine_promises.specs.Write.{unasked}
+use Rattle.vx_machine_view.specs.Machine as whole
+use Rattle.vx_machine_view.proofs.Placing.{whole_is_ready}
+use Rattle.vx_machine.specs.declared.machine.Machine.{Machine}
+use Rattle.vx_machine.specs.Context.{setting_of}
+use Rattle.vx_machine.specs.Ready.{counted}
+use Rattle.vx_machine.specs.Steps.{WholeStepped, StepRefused, StepDone, StepFails}
+use Rattle.vx_machine.specs.Run.{At, at, ready_at, RunStep, Ran, Stops}
+use Rattle.vx_machine.specs.View.{machine_of}
+use Rattle.vx_machine.specs.Whole.{machine_stock, machine_ready}
+use Rattle.vx_machine.proofs.ReadyViews.{machine_view}
+use Rattle.vx_machine.proofs.HeldViews.{held_steps}
+
+-- one step more
+pub ran_more : (ctx : LayoutWriterContext) (t : Ty) (schedule : List ℕ) (place : ℕ) (x y z : At) (ss : List Step) (s : Step) → Ran ctx t schedule place x ss y → RunStep ctx t schedule (place + length ss) y z s
+    → Ran ctx t schedule place x (ss ++ (s ∷ [])) z
+ran_more ctx t schedule place x y z [] s r n =
+    let e : place + 0 ≡ place = omega arith in
+    (z, subst (λ w. RunStep ctx t schedule place w z s) (sym r) (subst (λ p. RunStep ctx t schedule p y z s) e n), refl)
+ran_more ctx t schedule place x y z (q ∷ qs) s r n =
+    let e : place + suc (length qs) ≡ suc place + length qs = omega arith in
+    (r.0, r.1, ran_more ctx t schedule (suc place) r.0 y z qs s r.2 (subst (λ p. RunStep ctx t schedule p y z s) e n))
+
+-- where all that is active is held, the steps are those of the paths that are held
+module _ (u : Active) (m : Machine) (exact : Exact u (machine_stock m)) where
+  pub ready_held : (s : Setting) → ready_at (machine_of m) ≡ machine_ready u m
+  ready_held s =
+      sym (whole_is_ready s (whole.machine_ids (machine_of m)) 0 unasked (machine_of m))
+      ∙ ap length (sym (held_steps u m exact s 0 unasked))
+      ∙ whole_is_ready s (fin.keys u) 0 unasked (machine_of m)
+      ∙ machine_view u m
+
+  module _ (ctx : LayoutWriterContext) (picked : ℕ) (t : Ty) (before now : Option (List ChunkData)) (o : Outlet) where
+    pub done_held : (v : Outlet) (new : whole.Machine) (name : List ℕ) (a : ActionKind) → StepDone ctx (fin.keys u) picked t before now o v (machine_of m) new name a
+        → StepDone ctx (whole.machine_ids (machine_of m)) picked t before now o v (machine_of m) new name a
+    done_held v new name a d = λ image.
+        let n : ℕ = (d image).0 in
+        let w : WholeStepped (setting_of ctx image) (fin.keys u) picked t before now o n v (machine_of m) new name a = (d image).1 in (
+          n,
+          record {
+            told = w.told;
+            step = w.step;
+            place = ap (λ z. nth z picked) (sym (held_steps u m exact (setting_of ctx image) n w.told)) ∙ w.place;
+            asks = w.asks;
+            tells = w.tells;
+            name_is = w.name_is;
+            kind = w.kind;
+            unrefused = w.unrefused;
+            fits = w.fits;
+            counted = w.counted;
+            left = w.left;
+            outlet = w.outlet;
+          },
+        )
+
+    pub fails_held : (e : WriteError) → StepFails ctx (fin.keys u) picked t before now o (machine_of m) e → StepFails ctx (whole.machine_ids (machine_of m)) picked t before now o (machine_of m) e
+    fails_held e d = λ image n.
+        let w : StepRefused (setting_of ctx image) (fin.keys u) picked t before now o n (machine_of m) e = d image n in
+        record {
+          told = w.told;
+          step = w.step;
+          place = ap (λ z. nth z picked) (sym (held_steps u m exact (setting_of ctx image) n w.told)) ∙ w.place;
+          asks = w.asks;
+          tells = w.tells;
+          cause = w.cause;
+        }
+
+-- a step more in the trace
+pub run_grows : (ctx : LayoutWriterContext) (t : Ty) (schedule : List ℕ) (x y z : At) (ss ts : List Step) (s : Step) → ts ≡ ss ++ (s ∷ []) → Ran ctx t schedule 0 x ss y → RunStep ctx t schedule (length ss) y z s
+    → Ran ctx t schedule 0 x ts z
+run_grows ctx t schedule x y z ss ts s is r n =
+    let e : length ss ≡ 0 + length ss = omega arith in
+    subst (λ us. Ran ctx t schedule 0 x us z) (sym is) (ran_more ctx t schedule 0 x y z ss s r (subst (λ k. RunStep ctx t schedule k y z s) e n))
+
+-- a step by the pick of its place, of the context and the source as they were
+module _ (ctx now : LayoutWriterContext) (same : now ≡ ctx) (t kind : Ty) (typed : kind ≡ t) (schedule : List ℕ) (u : Active) (m : Machine) (exact : Exact u (machine_stock m))
+    (some : 0 < machine_ready u m) (place pick : ℕ) (is : pick ≡ slice_index schedule place) where
+  ready_counted : ready_at (machine_of m) ≡ machine_ready u m
+  ready_counted = ready_held u m exact (setting_of ctx (λ w p. p))
+
+  some_ready : 0 < ready_at (machine_of m)
+  some_ready = subst (λ n. 0 < n) (sym ready_counted) some
+
+  -- done
+  pub run_step : (x y : Option (List ChunkData)) (o v : Outlet) (new : whole.Machine) (s : Step) → (s.ready ≡ counted (machine_ready u m)) × (s.picked ≡ pick % s.ready)
+      → StepDone now (fin.keys u) s.picked kind x y o v (machine_of m) new s.task s.action → RunStep ctx t schedule place (at (machine_of m) x o) (at new y v) s
+  run_step x y o v new s told d =
+      let b : StepDone ctx (fin.keys u) s.picked kind x y o v (machine_of m) new s.task s.action = subst (λ z. StepDone z (fin.keys u) s.picked kind x y o v (machine_of m) new s.task s.action) same d in
+      let e : StepDone ctx (fin.keys u) s.picked t x y o v (machine_of m) new s.task s.action = subst (λ z. StepDone ctx (fin.keys u) s.picked z x y o v (machine_of m) new s.task s.action) typed b in
+      record {
+        some = some_ready;
+        ready = told.0 ∙ ap counted (sym ready_counted);
+        picked = told.1 ∙ ap (λ n. n % s.ready) is;
+        done = done_held u m exact ctx s.picked t x y o v new s.task s.action e;
+      }
+
+  -- refused
+  pub run_refused : (x y : Option (List ChunkData)) (o : Outlet) (e : WriteError) → StepFails now (fin.keys u) (pick % counted (machine_ready u m)) kind x y o (machine_of m) e
+      → Stops ctx t schedule place (at (machine_of m) x o) y e
+  run_refused x y o e d =
+      let k : ℕ = pick % counted (machine_ready u m) in
+      let b : StepFails ctx (fin.keys u) k kind x y o (machine_of m) e = subst (λ z. StepFails z (fin.keys u) k kind x y o (machine_of m) e) same d in
+      let f : StepFails ctx (fin.keys u) k t x y o (machine_of m) e = subst (λ z. StepFails ctx (fin.keys u) k z x y o (machine_of m) e) typed b in
+      let p : k ≡ slice_index schedule place % counted (ready_at (machine_of m)) = λ j. is j % counted (sym ready_counted j) in
+      inr (some_ready, subst (λ z. StepFails ctx (whole.machine_ids (machine_of m)) z t x y o (machine_of m) e) p (fails_held u m exact ctx k t x y o e f))

@@ -1,0 +1,127 @@
+-- What the source's act is, against its step in plain data.
+use Rattle.std.proofs.Common.{◌≡◌, ℕ, ◌+◌, ◌<◌, ◌^◌, false, true, List, [], ◌∷◌, Option, None, option_map, Result, IfOk, IfErr, inl, inr, refl, sym, ap, subst, ◌∙◌, arith}
+use Rattle.std.proofs.lemmas.Result.{IfOk-weaker, IfErr-weaker}
+use Rattle.vx_model.specs.Ty.{Ty}
+use Rattle.vx_model.specs.ChunkData.{ChunkData, piece_type}
+use Rattle.vx_path.specs.Path.{Eof, eof_path, next}
+use Rattle.vx_layout_spec.specs.Real.{Whole}
+use Rattle.vx_fault.specs.Told.{NoneTold}
+use Rattle.vx_order_answer.specs.declared.errors.OrderError.{OrderError}
+use Rattle.vx_order_answer.specs.declared.errors.OrderError.TheVariants as order
+use Rattle.vx_order.specs.Answers.{FullAt}
+use Rattle.vx_sink.specs.declared.source.SourceError.{SourceError}
+use Rattle.vx_sink.specs.declared.source.SourceError.TheVariants as source
+use Rattle.vx_write_answer.specs.declared.step.ActionKind.{ActionKind}
+use Rattle.vx_write_answer.specs.declared.step.ActionKind.TheVariants.{Batch, End, Put, Close}
+use Rattle.vx_write_answer.specs.declared.error.WriteError.{WriteError}
+use Rattle.vx_write_answer.specs.declared.error.WriteError.TheVariants.{SourceFault, SinkFault, CompressFault, BatchType, NotStruct, DuplicateField, ManyChunks, EmptyList, ZoneCut, ForbiddenAggregate, ForbiddenEncoding, TooLarge, OutOfMemory, Unbuilt, Stopped}
+use Rattle.vx_write_answer.specs.Causes.{of_source, of_order}
+use Rattle.vx_plan.specs.PlanData.{Item as Piece}
+use Rattle.vx_machine_promises.specs.Write.{unasked, came, over}
+use Rattle.vx_machine_view.specs.State.{Tasks, no_tasks, task_then}
+use Rattle.vx_machine_view.specs.Acts.{with_item, shut_desk, give, shut_all}
+use Rattle.vx_machine_view.specs.Machine.{Phase, reading, giving, closing, finished}
+use Rattle.vx_machine.specs.declared.source.Phase as held
+use Rattle.vx_machine.specs.declared.task.Task.{Task, out-Task}
+use Rattle.vx_machine.specs.Outcome.{Refused, none_past}
+use Rattle.vx_machine.specs.Source.{SourceMay, ReadsNone, NoNumber}
+use Rattle.vx_machine.specs.SourceActs.{whole_at, SourceActed, SourceRefused, ReadActed, ReadRefused}
+use Rattle.vx_machine.specs.View.{desk_of, task_row, row, phase_of}
+use Rattle.vx_machine.proofs.Fitting.{none_fit, one_fits}
+use Rattle.vx_machine.proofs.ViewParts.{row_out}
+
+pub no_number : (e : SourceError) → NoNumber (of_source e)
+no_number source.Failed = tt
+no_number source.OutOfMemory = tt
+
+-- nothing that is told refuses a read, and else another type does
+read_cause : (t : Ty) (e : WriteError) → SourceMay t e → NoNumber e → Refused None true [] [] [] none_past [] e
+read_cause t SourceFault h k = tt
+read_cause t SinkFault h k = absurd h
+read_cause t CompressFault h k = absurd h
+read_cause t (BatchType c) h k = refl
+read_cause t NotStruct h k = absurd h
+read_cause t (DuplicateField name) h k = absurd h
+read_cause t ManyChunks h k = absurd h
+read_cause t EmptyList h k = absurd h
+read_cause t (ZoneCut n) h k = absurd h
+read_cause t (ForbiddenAggregate id) h k = absurd h
+read_cause t (ForbiddenEncoding id) h k = absurd h
+read_cause t (TooLarge n) h k = absurd k
+read_cause t OutOfMemory h k = tt
+read_cause t Unbuilt h k = absurd h
+read_cause t (Stopped by name) h k = absurd h
+
+full_cause : (last : ℕ) (x : OrderError) → FullAt last x → Refused None false [] ((last + 1) ∷ []) [] none_past [] (of_order x)
+full_cause last (order.TooLarge n) h = inl (inr (last + 1, inl refl, omega (arith, h.1), h.0))
+full_cause last order.SinkFault h = absurd h
+full_cause last order.OutOfMemory h = tt
+full_cause last (order.Stopped by name) h = absurd h
+
+module _ (t : Ty) (before now : Option (List ChunkData)) where
+  -- ---- a read
+
+  pub gives : (e d : Eof) (id : List ℕ) (b : ChunkData) → before ≡ option_map (λ cs. b ∷ cs) now → piece_type b ≡ t → Whole b → id ≡ eof_path e → d ≡ next e → e.last + 1 < 2 ^ 64 → ReadActed t before now e (giving d (id, b)) Batch
+  gives e d id b r y h i n f = λ root. record {
+    told = came b;
+    asks = tt;
+    tells = (r, record { typed = y; whole = h });
+    kind = refl;
+    fits = refl;
+    counted = one_fits (e.last + 1) f;
+    left = λ j. whole_at (giving (n j) (i j, b)) root;
+  }
+
+  pub ends : (e : Eof) → (now ≡ before) × NoneTold now → ReadActed t before now e closing End
+  ends e h = λ root. record { told = over; asks = tt; tells = h; kind = refl; fits = refl; counted = none_fit; left = refl }
+
+  pub refuses : (e : Eof) (error : WriteError) → ReadsNone before now error → SourceMay t error → NoNumber error → ReadRefused t before now e error
+  refuses e error r m k = λ root. record { told = unasked; asks = tt; tells = (r, m); cause = read_cause t error m k }
+
+  pub full : (e : Eof) (b : ChunkData) (x : OrderError) → before ≡ option_map (λ cs. b ∷ cs) now → piece_type b ≡ t → Whole b → FullAt e.last x → ReadRefused t before now e (of_order x)
+  full e b x r y h f = λ root. record { told = came b; asks = tt; tells = (r, record { typed = y; whole = h }); cause = full_cause e.last x f }
+
+  -- ---- the next act
+
+  pub read_done : (e : Eof) (phase later : Phase) (root : Tasks) (r : Result ActionKind WriteError) → phase ≡ reading e → IfOk r (ReadActed t before now e later) → IfOk r (SourceActed t before now phase later root root)
+  read_done e phase later root r is h =
+      subst (λ p. IfOk r (SourceActed t before now p later root root)) (sym is)
+      (IfOk-weaker r (ReadActed t before now e later) (SourceActed t before now (reading e) later root root) (λ a k. k root) h)
+
+  pub read_refused : (e : Eof) (phase : Phase) (root : Tasks) (r : Result ActionKind WriteError) → phase ≡ reading e → IfErr r (ReadRefused t before now e) → IfErr r (SourceRefused t before now phase root)
+  read_refused e phase root r is h =
+      subst (λ p. IfErr r (SourceRefused t before now p root)) (sym is)
+      (IfErr-weaker r (ReadRefused t before now e) (SourceRefused t before now (reading e) root) (λ a k. k root) h)
+
+module _ (t : Ty) (told : Option (List ChunkData)) where
+  pub put_done : (e : Eof) (i : Piece) (phase : Phase) (x : Task) (new : Tasks) → phase ≡ giving e i → new ≡ task_then (with_item (desk_of (out-Task x).head) i) (row (out-Task x).kids.items) no_tasks
+      → SourceActed t told told phase (reading e) (task_row x no_tasks) new Put
+  put_done e i phase x new is h =
+      let l : new ≡ give 0 i (task_row x no_tasks) = h ∙ sym (ap (give 0 i) (row_out x no_tasks)) in
+      subst (λ p. SourceActed t told told p (reading e) (task_row x no_tasks) new Put) (sym is)
+      (record { told = unasked; asks = refl; tells = refl; kind = refl; fits = refl; counted = none_fit; left = λ j. whole_at (reading e) (l j) })
+
+  pub put_refused : (e : Eof) (i : Piece) (phase : Phase) (root : Tasks) → phase ≡ giving e i → SourceRefused t told told phase root OutOfMemory
+  put_refused e i phase root is = subst (λ p. SourceRefused t told told p root OutOfMemory) (sym is) (record { told = unasked; asks = refl; tells = refl; cause = tt })
+
+  pub close_done : (phase : Phase) (x : Task) (new : Tasks) → phase ≡ closing → new ≡ task_then (shut_desk (desk_of (out-Task x).head)) (row (out-Task x).kids.items) no_tasks
+      → SourceActed t told told phase finished (task_row x no_tasks) new Close
+  close_done phase x new is h =
+      let l : new ≡ shut_all (task_row x no_tasks) = h ∙ sym (ap shut_all (row_out x no_tasks)) in
+      subst (λ p. SourceActed t told told p finished (task_row x no_tasks) new Close) (sym is)
+      (record { told = unasked; asks = refl; tells = refl; kind = refl; fits = refl; counted = none_fit; left = λ j. whole_at finished (l j) })
+
+  pub rest_done : (phase : Phase) (root : Tasks) → phase ≡ finished → SourceActed t told told phase finished root root Close
+  rest_done phase root is =
+      subst (λ p. SourceActed t told told p finished root root Close) (sym is)
+      (record { told = unasked; asks = refl; tells = refl; kind = refl; fits = refl; counted = none_fit; left = refl })
+
+-- what was in its place is what acted, and what it gave is put back
+module _ (t : Ty) (before now : Option (List ChunkData)) (p q : held.Phase) where
+  pub source_done : (r n : held.Phase) (root new : Tasks) (x : Result ActionKind WriteError) → q ≡ p → n ≡ r → IfOk x (SourceActed t before now (phase_of q) (phase_of r) root new)
+      → IfOk x (SourceActed t before now (phase_of p) (phase_of n) root new)
+  source_done r n root new x e f h =
+      subst (λ z. IfOk x (SourceActed t before now (phase_of z) (phase_of n) root new)) e (subst (λ z. IfOk x (SourceActed t before now (phase_of q) (phase_of z) root new)) (sym f) h)
+
+  pub source_fails : (root : Tasks) (x : Result ActionKind WriteError) → q ≡ p → IfErr x (SourceRefused t before now (phase_of q) root) → IfErr x (SourceRefused t before now (phase_of p) root)
+  source_fails root x e h = subst (λ z. IfErr x (SourceRefused t before now (phase_of z) root)) e h

@@ -1,0 +1,65 @@
+-- A run of the machine: its steps, one after the other.
+use Rattle.std.specs.Prelude.{◌≡◌, ◌⊎◌, ◌%◌, ◌<◌, ℕ, suc, true, false, List, [], ◌∷◌, length, Option, Some, None, slice_index}
+use Rattle.vx_model.specs.Ty.{Ty}
+use Rattle.vx_model.specs.ChunkData.{ChunkData}
+use Rattle.vx_layout_tree.specs.declared.layout.Layout.{Layout}
+use Rattle.vx_layout_tree.specs.LayoutView.{layout_data}
+use Rattle.vx_order.specs.Outlet.{Outlet}
+use Rattle.vx_sink.specs.declared.context.LayoutWriterContext.{LayoutWriterContext}
+use Rattle.vx_write_answer.specs.declared.step.Step.{Step}
+use Rattle.vx_write_answer.specs.declared.error.WriteError.{WriteError}
+use Rattle.vx_write_answer.specs.declared.error.WriteError.TheVariants.{OutOfMemory}
+use Rattle.vx_machine_view.specs.Acts.{layouts_in}
+use Rattle.vx_machine_view.specs.Machine.{Machine, is_finished, machine_ids}
+use Rattle.vx_machine_view.specs.Places.{whole_ready}
+use Rattle.vx_machine.specs.Ready.{counted}
+use Rattle.vx_machine.specs.Outcome.{Kept}
+use Rattle.vx_machine.specs.Steps.{StepDone, StepFails}
+
+-- where it stands: the machine, what the source still tells, and what the order tells of its sink
+pub record At : Type 0 where
+  pub machine : Machine
+  pub to_come : Option (List ChunkData)
+  pub outlet : Outlet
+
+abbrev pub at : Machine → Option (List ChunkData) → Outlet → At
+at m c o = record { machine = m; to_come = c; outlet = o }
+
+-- how many steps are ready
+abbrev pub ready_at : Machine → ℕ
+ready_at m = whole_ready (machine_ids m) m
+
+-- the step of this place, by the schedule's pick
+pub record RunStep (ctx : LayoutWriterContext) (t : Ty) (schedule : List ℕ) (place : ℕ) (x y : At) (s : Step) : Type 0 where
+  pub some : 0 < ready_at x.machine
+  pub ready : s.ready ≡ counted (ready_at x.machine)
+  pub picked : s.picked ≡ slice_index schedule place % s.ready
+  pub done : StepDone ctx (machine_ids x.machine) s.picked t x.to_come y.to_come x.outlet y.outlet x.machine y.machine s.task s.action
+
+-- the steps lead from one stand to another
+abbrev pub Ran : LayoutWriterContext → Ty → List ℕ → ℕ → At → List Step → At → Type 0
+Ran ctx t schedule place x [] y = x ≡ y
+Ran ctx t schedule place x (s ∷ ss) y = (z : At) × RunStep ctx t schedule place x z s × Ran ctx t schedule (suc place) z ss y
+
+-- how it ends: with a layout, or where nothing is ready
+abbrev pub Ends : Machine → Option Layout → Type 0
+Ends m (Some l) = (is_finished m ≡ true) × (layouts_in m.root ≡ layout_data l ∷ [])
+Ends m None = (is_finished m ≡ false) × (ready_at m ≡ 0)
+
+pub record RunDone (ctx : LayoutWriterContext) (t : Ty) (schedule : List ℕ) (x : At) (trace : List Step) (to_come : Option (List ChunkData)) (outlet : Outlet) (l : Option Layout) : Type 0 where
+  pub end : At
+  pub ran : Ran ctx t schedule 0 x trace end
+  pub told : to_come ≡ end.to_come
+  pub sink : outlet ≡ end.outlet
+  pub left : Ends end.machine l
+
+-- memory ran out before a step, or one was refused
+abbrev pub Stops : LayoutWriterContext → Ty → List ℕ → ℕ → At → Option (List ChunkData) → WriteError → Type 0
+Stops ctx t schedule place x to_come e = ((e ≡ OutOfMemory) × (to_come ≡ x.to_come))
+    ⊎ ((0 < ready_at x.machine) × StepFails ctx (machine_ids x.machine) (slice_index schedule place % counted (ready_at x.machine)) t x.to_come to_come x.outlet x.machine e)
+
+pub record RunStopped (ctx : LayoutWriterContext) (t : Ty) (schedule : List ℕ) (x : At) (trace : List Step) (to_come : Option (List ChunkData)) (outlet : Outlet) (e : WriteError) : Type 0 where
+  pub end : At
+  pub ran : Ran ctx t schedule 0 x trace end
+  pub kept : Kept end.outlet outlet
+  pub stops : Stops ctx t schedule (length trace) end to_come e

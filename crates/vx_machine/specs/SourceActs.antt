@@ -1,0 +1,70 @@
+-- What the source's act did, against its step in plain data.
+use Rattle.std.specs.Prelude.{◌≡◌, ℕ, zero, suc, false, List, ◌∷◌, ◌++◌, Option, option_map}
+use Rattle.vx_model.specs.Ty.{Ty}
+use Rattle.vx_model.specs.ChunkData.{ChunkData}
+use Rattle.vx_path.specs.Path.{Eof}
+use Rattle.vx_layout_spec.specs.Real.{Of}
+use Rattle.vx_fault.specs.Told.{NoneTold}
+use Rattle.vx_write_answer.specs.declared.step.ActionKind.{ActionKind}
+use Rattle.vx_write_answer.specs.declared.error.WriteError.{WriteError}
+use Rattle.vx_machine_promises.specs.Write.{Answer, unasked, came, over}
+use Rattle.vx_machine_view.specs.State.{Tasks}
+use Rattle.vx_machine_view.specs.Machine.{Phase, reading, giving, closing, finished, Machine, source_step}
+use Rattle.vx_machine.specs.Outcome.{action_of, AllFit, Refused, none_past}
+use Rattle.vx_machine.specs.Source.{ReadsNone, SourceMay}
+
+-- what it tells, where it is asked: a whole batch of the type, or the end
+abbrev pub Tells : Ty → Option (List ChunkData) → Option (List ChunkData) → Answer → Type 0
+Tells t before now unasked = now ≡ before
+Tells t before now (came b) = (before ≡ option_map (λ cs. b ∷ cs) now) × Of t b
+Tells t before now over = (now ≡ before) × NoneTold now
+
+-- The same where the step is refused. Where it is asked, it may also have told a batch of another type, or failed.
+
+abbrev pub TellsNothing : Phase → ℕ → Ty → Option (List ChunkData) → Option (List ChunkData) → WriteError → Type 0
+TellsNothing (reading e) zero t before now error = ReadsNone before now error × SourceMay t error
+TellsNothing (reading e) (suc k) t before now error = now ≡ before
+TellsNothing (giving e i) k t before now error = now ≡ before
+TellsNothing closing k t before now error = now ≡ before
+TellsNothing finished k t before now error = now ≡ before
+
+abbrev pub TellsRefused : Phase → ℕ → Ty → Option (List ChunkData) → Option (List ChunkData) → WriteError → Answer → Type 0
+TellsRefused p k t before now e unasked = TellsNothing p k t before now e
+TellsRefused p k t before now e (came b) = (before ≡ option_map (λ cs. b ∷ cs) now) × Of t b
+TellsRefused p k t before now e over = (now ≡ before) × NoneTold now
+
+-- it is asked only where it reads, in the first place
+abbrev pub AsksAt : Phase → ℕ → Answer → Type 0
+AsksAt (reading e) zero a = Unit {0}
+AsksAt (reading e) (suc k) a = a ≡ unasked
+AsksAt (giving e i) k a = a ≡ unasked
+AsksAt closing k a = a ≡ unasked
+AsksAt finished k a = a ≡ unasked
+
+abbrev pub whole_at : Phase → Tasks → Machine
+whole_at phase root = record { phase = phase; root = root }
+
+-- its act was done
+pub record SourceActed (t : Ty) (before now : Option (List ChunkData)) (phase later : Phase) (root new : Tasks) (a : ActionKind) : Type 0 where
+  pub told : Answer
+  pub asks : AsksAt phase 0 told
+  pub tells : Tells t before now told
+  pub kind : a ≡ action_of (source_step told phase root).kind
+  pub fits : (source_step told phase root).misfit ≡ false
+  pub counted : AllFit ((source_step told phase root).numbers ++ (source_step told phase root).indices)
+  pub left : whole_at later new ≡ (source_step told phase root).after
+
+-- of one that reads the batch of a path: whatever the root is
+abbrev pub ReadActed : Ty → Option (List ChunkData) → Option (List ChunkData) → Eof → Phase → ActionKind → Type 0
+ReadActed t before now e later a = (root : Tasks) → SourceActed t before now (reading e) later root root a
+
+-- it was refused
+pub record SourceRefused (t : Ty) (before now : Option (List ChunkData)) (phase : Phase) (root : Tasks) (e : WriteError) : Type 0 where
+  pub told : Answer
+  pub asks : AsksAt phase 0 told
+  pub tells : TellsRefused phase 0 t before now e told
+  pub cause : Refused (source_step told phase root).refusal (source_step told phase root).misfit (source_step told phase root).numbers (source_step told phase root).indices (source_step told phase root).wrote none_past
+      (source_step told phase root).joined e
+
+abbrev pub ReadRefused : Ty → Option (List ChunkData) → Option (List ChunkData) → Eof → WriteError → Type 0
+ReadRefused t before now e error = (root : Tasks) → SourceRefused t before now (reading e) root error
