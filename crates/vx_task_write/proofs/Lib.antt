@@ -1,1 +1,2 @@
 mod WriteSteps
+mod RanSteps

@@ -1,9 +1,9 @@
 -- A write by tasks: what its pointer holds at the start, and why it is refused.
-use Rattle.std.proofs.Common.{◌≡◌, ◌≢◌, ℕ, Bool, true, false, List, is_some, refl, sym, ap, subst, inl, inr, ◌∙◌, ⊎_elim, arith}
+use Rattle.std.proofs.Common.{◌≡◌, ◌≢◌, ◌≤◌, ℕ, Bool, true, false, List, is_some, refl, sym, ap, subst, inl, inr, ◌∙◌, ⊎_elim, arith}
 use Rattle.std.specs.FinMap as map
 use Rattle.vx_path.specs.Path.{Eof, eof_path}
-use Rattle.vx_sequence.specs.Universe.{Active, root, only}
-use Rattle.vx_sequence.proofs.Sets.{one_path, same_refl, same_false, get-inserted}
+use Rattle.vx_sequence.specs.Universe.{Active, path_cmp, root, only}
+use Rattle.vx_sequence.proofs.Sets.{one_path, same_refl, same_false, get-inserted, get-insert_other}
 use Rattle.vx_order_answer.specs.declared.errors.OrderError.{OrderError}
 use Rattle.vx_order_answer.specs.declared.errors.OrderError.TheVariants as order
 use Rattle.vx_order.specs.Answers.{FullAt}
@@ -11,7 +11,7 @@ use Rattle.vx_write_answer.specs.declared.error.WriteError.{WriteError}
 use Rattle.vx_write_answer.specs.declared.error.WriteError.TheVariants as errors
 use Rattle.vx_write_answer.specs.Causes.{of_order}
 use Rattle.vx_machine_ids.specs.Stock.{same, one, end_stock}
-use Rattle.vx_machine_ids.specs.Balance.{active_at, Owned}
+use Rattle.vx_machine_ids.specs.Balance.{active_at, Owned, Exact}
 use Rattle.vx_machine.specs.Causes.{StartMay}
 use Rattle.vx_machine.specs.Whole.{StepMay, WholeStartMay}
 use Rattle.vx_task_write.specs.Whole.{MayRefuse}
@@ -37,6 +37,20 @@ only_owned e = record {
     here : (q : List ℕ) → q ≡ eof_path e → active_at (only e) q ≡ 1
     here q i = ap (λ o. one (is_some o)) (ap (map.get (only e)) i ∙ get-inserted map.empty (eof_path e) true)
 
+-- and nothing else is active
+pub only_held : (e : Eof) → Exact (only e) (end_stock e)
+only_held e q = ⊎_elim
+    (λ i. omega (arith, one_same q (eof_path e) i, (only_owned e).within q, at_most (map.contains_key (only e) q)))
+    (λ n. omega (arith, one_other q (eof_path e) n, elsewhere n))
+    (one_path q (eof_path e))
+  where
+    at_most : (b : Bool) → one b ≤ 1
+    at_most true = omega arith
+    at_most false = omega arith
+
+    elsewhere : q ≢ eof_path e → active_at (only e) q ≡ 0
+    elsewhere n = ap (λ o. one (is_some o)) (get-insert_other map.empty (eof_path e) true q n ∙ map.get-empty path_cmp q)
+
 pub start_owned : (u v : Active) (e : Eof) → v ≡ u → u ≡ only root → e ≡ root → Owned v (end_stock e)
 start_owned u v e i j k = subst (λ (x : Eof). Owned v (end_stock x)) (sym k) (subst (λ (x : Active). Owned x (end_stock root)) (sym (i ∙ j)) (only_owned root))
 
@@ -47,7 +61,7 @@ pub memory_refused : (b : Bool) (e : WriteError) → e ≡ errors.OutOfMemory �
 memory_refused false e is = inr is
 memory_refused true e is = subst StepMay (sym is) tt
 
-full_memory : (n : ℕ) (x : OrderError) → n ≡ 0 → FullAt n x → of_order x ≡ errors.OutOfMemory
+pub full_memory : (n : ℕ) (x : OrderError) → n ≡ 0 → FullAt n x → of_order x ≡ errors.OutOfMemory
 full_memory n (order.TooLarge k) z h = absurd (omega (arith, z, h.1))
 full_memory n order.SinkFault z h = absurd h
 full_memory n order.OutOfMemory z h = refl

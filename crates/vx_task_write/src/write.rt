@@ -1,12 +1,17 @@
 //! Writing by tasks.
 
-ghost use Rattle.std.specs.Prelude.{◌≡◌, List, ℕ, IfErr, OnOk, IsTrue};
+ghost use Rattle.std.specs.Prelude.{◌≡◌, List, ℕ, [], IfOk, IfErr, OnOk, IsTrue};
 ghost use Rattle.vx_fault.specs.Counts.{Counts};
+ghost use Rattle.vx_sink.specs.ContextView.{is_marked};
+ghost use Rattle.vx_sequence.specs.Universe.{root};
 ghost use Rattle.vx_strategy.specs.StrategyView.{strategy_data};
 ghost use Rattle.vx_machine_ids.specs.Stock.{none, end_stock};
-ghost use Rattle.vx_machine_ids.specs.Balance.{Owned, Moved};
+ghost use Rattle.vx_machine_ids.specs.Balance.{Owned, Moved, Exact};
 ghost use Rattle.vx_write_answer.specs.Causes.{errs, is_source_fault, is_sink_fault};
 ghost use Rattle.vx_machine_view.specs.Built.{is_built};
+ghost use Rattle.vx_machine.specs.Context.{setting_of};
+ghost use Rattle.vx_machine_ran.specs.Written.{Halted};
+ghost use Rattle.vx_machine_ran.specs.Answered.{WroteAll, Answered};
 ghost use Rattle.vx_task_write.specs.Whole.{MayRefuse};
 
 use std::alloc::Global;
@@ -21,8 +26,9 @@ use vx_write_answer::{Step, WriteError};
 /// Writes the source's batches by the strategy into the sink, which is handed back: starts a machine over ids and an order
 /// of its own, and runs it by the schedule. The steps are put behind the trace, which was empty.
 ///
-/// Refused, earlier segments stand. `None` comes where no task is ready, as `vx_machine::run` says. Each step counts the
-/// tasks anew, so the time grows with the steps times the tasks.
+/// Refused, earlier segments stand: the first of the plan of the batches taken. A layout comes with each Ok, though
+/// `vx_machine::run` by itself also gives `None`. Each step counts the tasks anew, so the time grows with the steps times
+/// the tasks.
 #[tactic(auto, using(crate::proofs::WriteSteps::write_rules))]
 pub fn write_tasks<B: BatchSource, S: SegmentSink, C: CompressorPlugin>(
     alloc: Global,
@@ -39,7 +45,17 @@ pub fn write_tasks<B: BatchSource, S: SegmentSink, C: CompressorPlugin>(
     ensures sink_count { Counts (S.faults sink) (S.faults result.1) (errs is_sink_fault result.0) }
     ensures built { OnOk result.0 (IsTrue (is_built (strategy_data strategy.now))) }
     ensures cause { IfErr result.0 (MayRefuse (is_built (strategy_data strategy.now))) }
+    // Ok gives the plan of all batches, from which their rows are read back, and comes of valid input alone.
+    ensures wrote { trace.old.items ≡ [] → IfOk result.0 (WroteAll (setting_of ctx.old (C.image (C.kind compressor.old))) (strategy_data strategy.now) (B.kind source.old)
+        (is_marked ctx.old) (S.next sink) (S.next result.1) (B.to_come source.old) (B.to_come source.new) (S.segments sink) (S.segments result.1)) }
+    // After a refusal the segments appended are the first of the plan of the batches taken, and the error has its cause there.
+    ensures halted { trace.old.items ≡ [] → IfErr result.0 (Halted (setting_of ctx.old (C.image (C.kind compressor.old))) (strategy_data strategy.now) (B.kind source.old)
+        (is_marked ctx.old) (S.next sink) (S.next result.1) (B.to_come source.old) (B.to_come source.new) (S.segments sink) (S.segments result.1)) }
 {
+    vx_machine_ran::answers();
+    vx_setting::real_settings_keep();
+    // No encoding is listed twice.
+    ctx.array_ctx().ids();
     let Ok((universe, eof)) = SequenceId::root(alloc) else {
         return (Err(WriteError::OutOfMemory), sink);
     };
@@ -72,6 +88,9 @@ fn write_in<B: BatchSource, O: Order, C: CompressorPlugin>(
     ensures sink_count { Counts (O.faults order.old) (O.faults order.new) (errs is_sink_fault result) }
     ensures built { OnOk result (IsTrue (is_built (strategy_data strategy.now))) }
     ensures cause { IfErr result (MayRefuse (is_built (strategy_data strategy.now))) }
+    ensures ran { trace.old.items ≡ [] → eof ≡ root → Exact (O.active order.old) (end_stock eof)
+        → Answered ctx.old (strategy_data strategy.now) (B.kind source.old) schedule.now (B.to_come source.old) (O.outlet order.old) trace.new.items (B.to_come source.new)
+        (O.outlet order.new) result }
 {
     let stream = match take_below(order, &mut eof) {
         Ok(stream) => stream,

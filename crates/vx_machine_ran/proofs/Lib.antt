@@ -1,0 +1,5 @@
+mod Fewness
+mod Leading
+mod Writing
+mod Stopping
+mod Answering

@@ -1,0 +1,144 @@
+-- A run that is done has written the plan of all batches.
+use Rattle.std.proofs.Common.{◌≡◌, ◌+◌, ◌^◌, ◌≤◌, ◌⊎◌, ◌∷◌, ◌++◌, ◌∙◌, ℕ, suc, max, true, false, List, length, refl, sym, ap, subst, inl, inr, arith, Option, Some, None, append-nil, []}
+use Rattle.std.specs.Prelude.{IsTrue}
+use Rattle.std.proofs.lemmas.Bool.{true≢false}
+use Rattle.vx_model.specs.Ty.{Ty}
+use Rattle.vx_model.specs.ChunkData.{ChunkData}
+use Rattle.vx_fault.specs.Told.{before_told, then_told, NoneTold}
+use Rattle.vx_path.specs.Path.{root_eof}
+use Rattle.vx_path.proofs.Sort.{length-sort_by}
+use Rattle.vx_layout_spec.specs.Codec.{Lawful}
+use Rattle.vx_layout_spec.specs.LayoutTree.{LayoutData}
+use Rattle.vx_layout_spec.specs.Rows.{rows}
+use Rattle.vx_layout_tree.specs.declared.layout.Layout.{Layout}
+use Rattle.vx_layout_tree.specs.LayoutView.{layout_data}
+use Rattle.vx_strategy_spec.specs.StrategyData.{StrategyData}
+use Rattle.vx_plan.specs.PlanData.{Pair, Plan, stored}
+use Rattle.vx_plan.specs.Number.{path_of, segments, numbered, segment_at}
+use Rattle.vx_plan.specs.SourcePlan.{start_fault, source_plan}
+use Rattle.vx_plan.specs.Statements.{RowsComeBack}
+use Rattle.vx_plan.specs.Valid.{Fit, AllOf, Keeps}
+use Rattle.vx_order.specs.Outlet.{Outlet, own, shared}
+use Rattle.vx_sink.specs.declared.context.LayoutWriterContext.{LayoutWriterContext}
+use Rattle.vx_sink.specs.ContextView.{is_marked}
+use Rattle.vx_machine_promises.specs.Write.{Write}
+use Rattle.vx_machine_view.specs.Acts.{layouts_in}
+use Rattle.vx_machine_view.specs.Built.{is_built}
+use Rattle.vx_machine_view.specs.Start.{first_indices}
+use Rattle.vx_machine_view.specs.Machine.{Machine, is_finished}
+use Rattle.vx_machine_view.specs.Whole.{form_of}
+use Rattle.vx_machine_runs.specs.Runs.{outset, scheduled, UnderwayAt, RunIsUnderway}
+use Rattle.vx_machine_runs.specs.Ends.{plan_of, Whole, EndsWhole}
+use Rattle.vx_machine_runs.specs.Numbers.{AllBelow, NumbersFit}
+use Rattle.vx_machine_runs.proofs.Asking.{taken_are_whole}
+use Rattle.vx_machine_runs.proofs.Reserving.{nothing_reserved}
+use Rattle.vx_machine_runs.proofs.Sounding.{idle_is_finished}
+use Rattle.vx_machine_runs.proofs.Stepping.{places, schedule_is_free}
+use Rattle.vx_machine.specs.Context.{setting_of}
+use Rattle.vx_machine.specs.Run.{At, Ends, ready_at}
+use Rattle.vx_machine_ran.specs.Ran.{write_by, OwnSink, Onward}
+use Rattle.vx_machine_ran.specs.Written.{Planned, Wrote, DoneIsWritten}
+use Rattle.vx_machine_ran.proofs.Leading.{runs_are_led}
+
+-- ---- lists and sinks
+
+pub stored_length : (ps : List Pair) → length (stored ps) ≡ length ps
+stored_length [] = refl
+stored_length (p ∷ ps) = ap suc (stored_length ps)
+
+pub own_more : (o : Outlet) (P Q : ℕ → Option (List (List ℕ)) → Type 0) → OwnSink o P → ((n : ℕ) (told : Option (List (List ℕ))) → P n told → Q n told) → OwnSink o Q
+own_more (own s) P Q h f = f s.next s.segments h
+own_more (shared s) P Q h f = h
+
+-- where nothing is left, all was taken
+all_taken : (taken xs : List ChunkData) (now : Option (List ChunkData)) → Some xs ≡ before_told taken now → NoneTold now → taken ≡ xs
+all_taken taken xs None e n = absurd (let f : Some xs ≡ None = e in cc)
+all_taken taken xs (Some ys) e n = sym (append-nil taken) ∙ ap (λ z. taken ++ z) (sym n) ∙ sym (same e)
+  where
+    same : Some xs ≡ Some (taken ++ ys) → xs ≡ taken ++ ys
+    same f = cc
+
+at_most : (first n : ℕ) → (n ≡ 0) ⊎ (first + n ≤ 2 ^ 32) → first + n ≤ max first (2 ^ 32)
+at_most first n (inl e) = omega (arith, e)
+at_most first n (inr l) = omega (arith, l)
+
+module _ (ctx : LayoutWriterContext) (image : ℕ → ChunkData → ChunkData) (w : StrategyData) (t : Ty) (to_come : Option (List ChunkData)) (first : ℕ) (before : Option (List (List ℕ))) where
+  abbrev g : Write
+  g = write_by ctx image w t
+
+  module _ (law : Lawful (setting_of ctx image).codec (setting_of ctx image).encodings) (built : IsTrue (is_built w)) (clean : start_fault (setting_of ctx image) w t (is_marked ctx) ≡ None)
+      (y : At) (o : Onward g to_come first before (outset g) y) where
+    -- the write is under way there, by the places that were picked
+    pub under : RunIsUnderway → UnderwayAt (scheduled g (places o.notes)) first o.notes o.stand
+    under run = run (scheduled g (places o.notes)) first o.notes o.stand law built clean refl (schedule_is_free g first (places o.notes) (outset g) o.stand o.notes o.led)
+
+    abbrev End : Layout → Type 0
+    End layout = Whole (scheduled g (places o.notes)) first o.stand × (is_finished o.stand.machine ≡ true) × (layout_data layout ≡ numbered (plan_of g o.stand.taken true) first)
+
+    -- it ends with the layout of the plan
+    end_is : RunIsUnderway → EndsWhole → (l : Option Layout) → Ends y.machine l → (layout : Layout) × (l ≡ Some layout) × End layout
+    end_is run ends None e =
+        let q : ready_at o.stand.machine ≡ 0 = subst (λ m. ready_at m ≡ 0) o.same.machine_is e.1 in
+        let f : is_finished o.stand.machine ≡ true = idle_is_finished (scheduled g (places o.notes)) first o.notes o.stand law (under run) q in
+        absurd (true≢false (sym f ∙ subst (λ m. is_finished m ≡ false) o.same.machine_is e.0))
+    end_is run ends (Some layout) e =
+        let f : is_finished o.stand.machine ≡ true = subst (λ m. is_finished m ≡ true) o.same.machine_is e.0 in
+        let h : Whole (scheduled g (places o.notes)) first o.stand = ends (scheduled g (places o.notes)) first o.notes o.stand (under run) clean f in
+        let l : layouts_in o.stand.machine.root ≡ layout_data layout ∷ [] = subst (λ (m : Machine). layouts_in m.root ≡ layout_data layout ∷ []) o.same.machine_is e.1 in
+        (layout, refl, (h, f, one (layout_data layout) (numbered (plan_of g o.stand.taken true) first) (sym l ∙ h.layout)))
+      where
+        one : (a b : LayoutData ℕ) → a ∷ [] ≡ b ∷ [] → a ≡ b
+        one a b e = cc
+
+    -- by the plan of the batches that were taken
+    wrote_taken : NumbersFit → RowsComeBack → Keeps (setting_of ctx image) → AllBelow (2 ^ 64) (first_indices (form_of g) root_eof) → (layout : Layout) → End layout
+        → (next : ℕ) (now : Option (List (List ℕ))) → (next ≡ first + length o.stand.history) × (now ≡ then_told before (stored o.stand.history))
+        → Wrote t first next before now (layout_data layout) o.stand.taken (plan_of g o.stand.taken true)
+    wrote_taken fit back keeps starts layout (h, fin, laid) next now s =
+        let p : Plan = plan_of g o.stand.taken true in
+        let all : AllOf t o.stand.taken = taken_are_whole g first o.notes o.stand o.led o.whole in
+        let numbers : Fit p.numbers = fit g first o.notes o.stand law built clean o.led fin starts o.counts in
+        let some : length o.stand.history ≡ length p.pairs = ap length h.appended ∙ length-sort_by path_of p.pairs in
+        record {
+          laid = laid;
+          appended = s.1 ∙ ap (λ z. then_told before (stored z)) h.appended;
+          counted = s.0 ∙ ap (λ z. first + z) (sym (stored_length o.stand.history)) ∙ ap (λ z. first + length (stored z)) h.appended;
+          read_back = ap (rows (setting_of ctx image).codec (segment_at first (segments p))) laid ∙ back (setting_of ctx image) w t (is_marked ctx) o.stand.taken first keeps all h.faultless numbers;
+          valid = record {
+            faultless = h.faultless;
+            whole = all;
+            numbered = subst (λ z. first + z ≤ max first (2 ^ 32)) some (at_most first (length o.stand.history) o.same.numbered);
+            fit = numbers;
+            reserved = nothing_reserved g o.stand.taken true built;
+          };
+        }
+
+pub done_is_written : RunIsUnderway → EndsWhole → NumbersFit → RowsComeBack → DoneIsWritten
+done_is_written run ends fit back ctx image w t schedule to_come to_come_now first before trace outlet l keeps built clean starts r = ended (end_is ctx image w t to_come first before keeps.codec built clean r.end o run ends l r.left)
+  where
+    o : Onward (write_by ctx image w t) to_come first before (outset (write_by ctx image w t)) r.end
+    o = runs_are_led ctx image w t schedule to_come first before trace r.end r.ran
+
+    ended : (layout : Layout) × (l ≡ Some layout) × End ctx image w t to_come first before keeps.codec built clean r.end o layout
+        → (layout : Layout) × (l ≡ Some layout) × NoneTold to_come_now
+        × OwnSink outlet (λ next now. Planned (setting_of ctx image) w t (is_marked ctx) to_come (Wrote t first next before now (layout_data layout)))
+    ended (layout, is, e) = (
+      layout,
+      is,
+      none,
+      subst (λ z. OwnSink z (λ next now. Planned (setting_of ctx image) w t (is_marked ctx) to_come (Wrote t first next before now (layout_data layout)))) (sym r.sink)
+          (own_more r.end.outlet (λ next now. (next ≡ first + length o.stand.history) × (now ≡ then_told before (stored o.stand.history)))
+          (λ next now. Planned (setting_of ctx image) w t (is_marked ctx) to_come (Wrote t first next before now (layout_data layout))) o.same.sink all),
+    )
+      where
+        nothing : NoneTold r.end.to_come
+        nothing = o.same.ended e.0.heard
+
+        none : NoneTold to_come_now
+        none = subst (λ z. NoneTold z) (sym r.told) nothing
+
+        all : (next : ℕ) (now : Option (List (List ℕ))) → (next ≡ first + length o.stand.history) × (now ≡ then_told before (stored o.stand.history))
+            → Planned (setting_of ctx image) w t (is_marked ctx) to_come (Wrote t first next before now (layout_data layout))
+        all next now s xs told =
+            subst (λ z. Wrote t first next before now (layout_data layout) z (source_plan (setting_of ctx image) w t (is_marked ctx) z true)) (all_taken o.stand.taken xs r.end.to_come (sym told ∙ o.same.came) nothing)
+            (wrote_taken ctx image w t to_come first before keeps.codec built clean r.end o fit back keeps starts layout e next now s)

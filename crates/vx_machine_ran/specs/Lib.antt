@@ -1,0 +1,3 @@
+pub mod Ran
+pub mod Written
+pub mod Answered
