@@ -13,8 +13,12 @@ pub(crate) fn key_advice(line: &str) -> &'static str {
 /// About a write or a layout that is refused.
 pub(crate) fn refusal_advice(line: &str) -> &'static str {
     match line {
-        "refused Unbuilt" => "this form isn't built yet; docs/JOB.md says which one is",
+        "refused Unbuilt" => "this strategy isn't built yet; docs/JOB.md says which are",
         "refused BatchType" => "a batch is of another type than `schema`",
+        "refused NotStruct" => "a struct node of `strategy` stands where the type is no struct",
+        "refused DuplicateField" => "a struct of `schema` that is split has a field name twice",
+        "refused ManyChunks" =>
+            "a flat node of `strategy` takes one batch; put `chunked` around it",
         "refused ForbiddenEncoding" => "a batch has an encoding that `encodings` doesn't list",
         "refused TooLarge" => "there are more segments than 32 bits count, or more rows than 64 do",
         "refused SourceFault" | "refused SinkFault" | "refused CompressFault" =>

@@ -33,7 +33,8 @@ use Rattle.vx_report.specs.Report.{report, refused_report}
 use Rattle.vx_report.specs.ZoneText.{ZoneTable, zone_tables, tables_below}
 use Rattle.vx_run.specs.declared.status.Status.{Status}
 use Rattle.vx_run.specs.declared.status.Status.TheVariants.{Done, Refused}
-use Rattle.vx_run.specs.Answers.{job_setting, job_plan, IsValid, table_rows, NoneFails, IsWritten, IsReport, refusal_name, is_memory, IsLast, NumberPasses, RowsPass, RefusedFor, batches_given, Begins, IsRefused, Halts, JobAnswer, IsText}
+use Rattle.vx_run.specs.RefusalNames.{refusal_name, is_memory}
+use Rattle.vx_run.specs.Answers.{job_setting, job_plan, IsValid, table_rows, NoneFails, IsWritten, IsReport, IsLast, NumberPasses, RowsPass, RefusedFor, batches_given, Begins, IsRefused, Halts, JobAnswer, IsText}
 
 -- ---- what a built form writes has no zone tables
 
@@ -175,11 +176,11 @@ pub report_answers : (j : JobData) {l : LayoutData ℕ} {stored : List (List ℕ
 report_answers j {l} {stored} {status} {text} w h =
     let printed : Some text ≡ Some (report j.options.next l stored [] (source_values j.batches)) = h.1 ∙ ap (option_map (report j.options.next l stored [])) w.read in
     let text_is : text ≡ report j.options.next l stored [] (source_values j.batches) = cc in
-    subst (λ (st : Status). JobAnswer j st text) (sym h.0) (record {
+    subst (λ (st : Status). JobAnswer j st text) (sym h.0) (inl (record {
       form = w.form;
       calls = subst (λ (bs : List (List ℕ)). NoneFails j (length j.batches + 1) (length bs)) w.appended w.calls;
       told = report_so j w text_is;
-    })
+    }))
 
 -- ---- a job that was refused
 
@@ -359,7 +360,7 @@ write_halts j e s t m {first} {now} {tracker} {a} {c} {old} {new} {stood} source
     }
 
 -- the refused report is the job's answer
-pub refusal_answers : (j : JobData) (e : WriteError) {stood : List (List ℕ)} {status : Status} {text : List ℕ} → Halts j e stood
+pub refusal_answers : (j : JobData) (e : WriteError) {stood : List (List ℕ)} {status : Status} {text : List ℕ} → is_built j.strategy j.schema ≡ true → Halts j e stood
     → (is_memory e ≡ false) × IsText Refused (refused_report (refusal_name e) j.options.next stood) status text → JobAnswer j status text
-refusal_answers j e {stood} {status} {text} halts h =
-    subst (λ (st : Status). JobAnswer j st text) (sym h.1.0) (record { error = e; stand = stood; refused = halts.refused h.0; shown = h.1.1 })
+refusal_answers j e {stood} {status} {text} form halts h =
+    subst (λ (st : Status). JobAnswer j st text) (sym h.1.0) (inl (record { form = form; error = e; stand = stood; refused = halts.refused h.0; shown = h.1.1 }))

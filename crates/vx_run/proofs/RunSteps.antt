@@ -157,7 +157,8 @@ no_fault before now rose calm = absurd (omega (arith, rose.0, rose.1, calm.0, ca
 -- which text belongs to a valid job: that of what is done
 valid_done : (j : JobData) (status : Status) (text : List ℕ) → is_built j.strategy j.schema ≡ true → SetsNoFaults j → IsValid j → JobAnswer j status text → status ≡ Done
 valid_done j Done text form no_faults valid answers = refl
-valid_done j Refused text form no_faults valid answers = absurd (answers.refused.not_valid form no_faults valid)
+valid_done j Refused text form no_faults valid (inl answers) = absurd (answers.refused.not_valid form no_faults valid)
+valid_done j Refused text form no_faults valid (inr answers) = absurd (let f : true ≡ false = sym form ∙ answers.form in cc)
 valid_done j Usage text form no_faults valid answers = absurd answers
 valid_done j BadJob text form no_faults valid answers = absurd answers
 valid_done j InputFault text form no_faults valid answers = absurd answers

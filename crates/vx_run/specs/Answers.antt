@@ -26,6 +26,8 @@ use Rattle.vx_job.specs.JobText.{JobData}
 use Rattle.vx_job.specs.KeyNames.{key_name}
 use Rattle.vx_report.specs.Report.{report, refused_report}
 use Rattle.vx_report.specs.ZoneText.{ZoneTable, zone_tables}
+use Rattle.vx_run.specs.RefusalNames.{refusal_name, is_memory}
+use Rattle.vx_run.specs.Tasks.{IsTaskReport, IsTaskRefusal}
 use Rattle.vx_run.specs.declared.status.Status.{Status}
 use Rattle.vx_run.specs.declared.status.Status.TheVariants.{Done, Usage, BadJob, Refused, InputFault, OutputFault, OutOfMemory}
 
@@ -76,28 +78,6 @@ pub record IsDone (j : JobData) (text : List ℕ) : Type 0 where
   pub told : IsReport j text
 
 -- ---- a job whose write is refused
-
--- how a refusal is named
-abbrev pub refusal_name : WriteError → List ℕ
-refusal_name errors.SourceFault = codes "SourceFault"
-refusal_name errors.SinkFault = codes "SinkFault"
-refusal_name errors.CompressFault = codes "CompressFault"
-refusal_name (errors.BatchType c) = codes "BatchType"
-refusal_name errors.NotStruct = codes "NotStruct"
-refusal_name (errors.DuplicateField name) = codes "DuplicateField"
-refusal_name errors.ManyChunks = codes "ManyChunks"
-refusal_name errors.EmptyList = codes "EmptyList"
-refusal_name (errors.ZoneCut n) = codes "ZoneCut"
-refusal_name (errors.ForbiddenAggregate id) = codes "ForbiddenAggregate"
-refusal_name (errors.ForbiddenEncoding id) = codes "ForbiddenEncoding"
-refusal_name (errors.TooLarge n) = codes "TooLarge"
-refusal_name errors.OutOfMemory = codes "OutOfMemory"
-refusal_name errors.Unbuilt = codes "Unbuilt"
-refusal_name (errors.Stopped column name) = codes "Stopped"
-
-abbrev pub is_memory : WriteError → Bool
-is_memory errors.OutOfMemory = true
-is_memory e = false
 
 -- This is the last of the batches taken. Those before it are of the schema and can be encoded.
 pub record IsLast (j : JobData) (taken : List ChunkData) (b : ChunkData) : Type 0 where
@@ -189,19 +169,27 @@ pub record Halts (j : JobData) (error : WriteError) (stand : List (List ℕ)) : 
   pub numbers : j.options.next + length stand ≤ max j.options.next (2 ^ 32)
   pub refused : is_memory error ≡ false → IsRefused j error stand
 
--- A refused report of a job: the refusal's name, and the segments that stand.
+-- A refused report of a job whose form is built: the refusal's name, and the segments that stand.
 pub record IsRefusal (j : JobData) (text : List ℕ) : Type 0 where
+  pub form : is_built j.strategy j.schema ≡ true
   pub error : WriteError
   pub stand : List (List ℕ)
   pub refused : IsRefused j error stand
   pub shown : text ≡ refused_report (refusal_name error) j.options.next stand
 
+-- ---- a job of another form, which is written by tasks
+
+-- a report of such a job
+pub record ByTasks (j : JobData) (Told : JobData → List ℕ → Type 0) (text : List ℕ) : Type 0 where
+  pub form : is_built j.strategy j.schema ≡ false
+  pub told : Told j text
+
 -- ---- what is printed
 
 -- what is printed of a job
 abbrev pub JobAnswer : JobData → Status → List ℕ → Type 0
-JobAnswer j Done text = IsDone j text
-JobAnswer j Refused text = IsRefusal j text
+JobAnswer j Done text = IsDone j text ⊎ ByTasks j IsTaskReport text
+JobAnswer j Refused text = IsRefusal j text ⊎ ByTasks j IsTaskRefusal text
 JobAnswer j Usage text = ⊥
 JobAnswer j BadJob text = ⊥
 JobAnswer j InputFault text = ⊥

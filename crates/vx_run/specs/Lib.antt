@@ -1,4 +1,6 @@
 pub mod Failures
+pub mod RefusalNames
+pub mod Tasks
 pub mod Answers
 pub mod TreeAnswers
 pub mod Commands

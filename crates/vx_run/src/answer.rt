@@ -1,6 +1,6 @@
 //! What the command `write` answers to a job.
 
-ghost use Rattle.std.specs.Prelude.{◌≡◌, ◌+◌, ◌^◌, ◌≤◌, max, false, [], string_bytes, map, length, Some, IsSome, IfOk, IfErr, option_map};
+ghost use Rattle.std.specs.Prelude.{◌≡◌, ◌+◌, ◌^◌, ◌≤◌, max, true, false, [], string_bytes, map, length, Some, IsSome, IfOk, IfErr, option_map};
 ghost use Rattle.vx_model.specs.TreeView.{val};
 ghost use Rattle.vx_layout_spec.specs.Rows.{rows};
 ghost use Rattle.vx_segment_reader.specs.Codec.{segment_codec};
@@ -12,10 +12,13 @@ ghost use Rattle.vx_job.specs.JobView.{ids_view, job_view};
 ghost use Rattle.vx_sink.specs.ContextView.{listed, allowed_in, is_marked, counted};
 ghost use Rattle.vx_report.specs.Report.{report, refused_report};
 ghost use Rattle.vx_report.specs.ZoneText.{zone_tables};
+ghost use Rattle.vx_write.specs.Stream.{is_built};
 ghost use Rattle.vx_run.specs.declared.status.Status.TheVariants as statuses;
-ghost use Rattle.vx_run.specs.Answers.{IsText, IsAnswer, JobAnswer, IsWritten, Halts, bad_job, refusal_name, is_memory};
+ghost use Rattle.vx_run.specs.RefusalNames.{refusal_name, is_memory};
+ghost use Rattle.vx_run.specs.Answers.{IsText, IsAnswer, JobAnswer, IsWritten, Halts, bad_job};
 
 use crate::status::Status;
+use crate::tasks::write_by_tasks;
 use std::alloc::{AllocError, Global};
 use vx_job::{Job, JobError, Key, read_job};
 use vx_layout_tree::Layout;
@@ -23,7 +26,7 @@ use vx_model::{ArrayContext, Blob, Text, Value};
 use vx_read::{ReadError, SegmentMap, read_rows};
 use vx_report::{refused_report, report};
 use vx_sink::{LayoutWriterContext, ListSource, MemorySink, PlainCompressor};
-use vx_write::{WriteError, write_stream};
+use vx_write::{WriteError, is_built, write_stream};
 
 /// A status, and the text that is printed before it.
 #[derive(Debug, Drop)]
@@ -56,14 +59,33 @@ pub(crate) fn bad_job(alloc: Global, key: Key) -> Result<Answer, AllocError>
     })
 }
 
-/// Writes the job's batches, and reports.
+/// Writes the job's batches, in the order that they come where that is built and else by tasks, and reports.
 fn write_job(alloc: Global, job: Job) -> Result<Answer, AllocError>
+    ensures { IfOk result (λ a. JobAnswer (job_view job) a.status (string_bytes a.text)) }
+{
+    if is_built(&job.strategy, &job.schema) {
+        write_in_order(alloc, job)
+    } else {
+        write_by_tasks(alloc, job)
+    }
+}
+
+fn write_in_order(alloc: Global, job: Job) -> Result<Answer, AllocError>
+    requires { is_built (job_view job).strategy (job_view job).schema ≡ true }
     ensures { IfOk result (λ a. JobAnswer (job_view job) a.status (string_bytes a.text)) }
 {
     let first = job.next;
     match write_batches(alloc, job) {
-        Ok((layout, segments)) => written(alloc, first, &layout, segments),
-        Err((error, segments)) => refusal(alloc, first, &error, &segments),
+        Ok((layout, segments)) => {
+            let answer = written(alloc, first, &layout, segments);
+            drop(layout);
+            answer
+        }
+        Err((error, segments)) => {
+            let answer = refusal(alloc, first, &error, &segments);
+            drop(error);
+            answer
+        }
     }
 }
 
@@ -93,7 +115,7 @@ fn write_batches(alloc: Global, job: Job) -> Result<(Layout, Vec<Blob>), (WriteE
 }
 
 /// What a job's write may use.
-fn context(
+pub(crate) fn context(
     encodings: ArrayContext,
     aggregates: Option<Vec<Text>>,
     marked: bool,
@@ -137,7 +159,7 @@ fn refusal(
 }
 
 /// The name of the error's variant.
-fn refusal_name(error: &WriteError) -> &'static str
+pub(crate) fn refusal_name(error: &WriteError) -> &'static str
     ensures { result.now ≡ refusal_name error.now }
 {
     match error {
@@ -183,7 +205,7 @@ fn written(
 
 /// The segments, numbered from the first.
 #[tactic(auto, using(crate::proofs::BackSteps::in_map))]
-fn numbered(first: u64, list: Vec<Blob>) -> SegmentMap
+pub(crate) fn numbered(first: u64, list: Vec<Blob>) -> SegmentMap
     requires { first + length list.items ≤ max first (2 ^ 32) }
     ensures list { result.list.items ≡ list.items }
     ensures segments { segment_in result ≡ segment_at first list.items }

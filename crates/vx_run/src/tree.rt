@@ -42,9 +42,17 @@ fn show(alloc: Global, job: TreeJob) -> Result<Answer, AllocError>
     ensures { IfOk result (λ a. IsShown (job_layout (tree_view job)) a.status (string_bytes a.text)) }
 {
     match read_layout(alloc, job) {
-        Ok(layout) => shown(alloc, &layout),
+        Ok(layout) => {
+            let answer = shown(alloc, &layout);
+            drop(layout);
+            answer
+        }
         Err(LayoutError::OutOfMemory) => Err(AllocError),
-        Err(error) => refused(alloc, &error),
+        Err(error) => {
+            let answer = refused(alloc, &error);
+            drop(error);
+            answer
+        }
     }
 }
 
@@ -54,9 +62,15 @@ fn read_layout(alloc: Global, job: TreeJob) -> Result<Layout, LayoutError>
     ensures { Gives layout_data result (job_layout (tree_view job)) }
 {
     let options = job.options;
-    let session = session(alloc, options.registered, options.allow_unknown)?;
-    let flatbuffer = Bytes::from_vec(job.bytes)?;
-    layout_from_flatbuffer_with_options(
+    let Ok(session) = session(alloc, options.registered, options.allow_unknown) else {
+        drop(job.dtype);
+        return Err(LayoutError::OutOfMemory);
+    };
+    let Ok(flatbuffer) = Bytes::from_vec(job.bytes) else {
+        drop(job.dtype);
+        return Err(LayoutError::OutOfMemory);
+    };
+    let layout = layout_from_flatbuffer_with_options(
         alloc,
         flatbuffer,
         &job.dtype,
@@ -65,7 +79,9 @@ fn read_layout(alloc: Global, job: TreeJob) -> Result<Layout, LayoutError>
         &session,
         options.limits,
         options.allow_unknown,
-    )
+    );
+    drop(job.dtype);
+    layout
 }
 
 /// A session of these kinds and all aggregates.
