@@ -16,7 +16,7 @@ pub fn give_up_id<O: Order>(order: &mut O, id: SequenceId)
     requires { Owned (O.active order.old) (id_stock id) }
     ensures moved { Moved (O.active order.old) (O.active order.new) (id_stock id) none }
     ensures outlet { O.outlet order.new ≡ O.outlet order.old }
-    ensures faults { O.faults order.new ≡ O.faults order.old }
+    ensures sink { O.sink order.new ≡ O.sink order.old }
 {
     order.release(id);
 }
@@ -26,7 +26,7 @@ pub fn give_up_pointer<O: Order>(order: &mut O, pointer: SequencePointer)
     requires { Owned (O.active order.old) (end_stock pointer) }
     ensures moved { Moved (O.active order.old) (O.active order.new) (end_stock pointer) none }
     ensures outlet { O.outlet order.new ≡ O.outlet order.old }
-    ensures faults { O.faults order.new ≡ O.faults order.old }
+    ensures sink { O.sink order.new ≡ O.sink order.old }
 {
     order.release(pointer.downgrade());
 }
@@ -44,7 +44,7 @@ pub fn take_id<O: Order>(
     ensures full { IfErr result (FullAt pointer.old.last) }
     ensures same { OnErr result (pointer.new ≡ pointer.old) }
     ensures outlet { O.outlet order.new ≡ O.outlet order.old }
-    ensures faults { O.faults order.new ≡ O.faults order.old }
+    ensures sink { O.sink order.new ≡ O.sink order.old }
 {
     match order.advance(pointer) {
         Ok(id) => Ok(id),
@@ -64,7 +64,7 @@ pub fn take_below<O: Order>(
     ensures fits { OnOk result (pointer.old.last + 1 < 2 ^ 64) }
     ensures full { IfErr result (FullAt pointer.old.last) }
     ensures outlet { O.outlet order.new ≡ O.outlet order.old }
-    ensures faults { O.faults order.new ≡ O.faults order.old }
+    ensures sink { O.sink order.new ≡ O.sink order.old }
 {
     match split_off(order, pointer) {
         Ok(below) => Ok(below),
@@ -85,7 +85,7 @@ pub fn take_children<O: Order>(
     ensures ids { IfOk result (λ ids. ids.items ≡ children id count) }
     ensures memory { IfErr result (λ e. e ≡ OrderError.OutOfMemory) }
     ensures outlet { O.outlet order.new ≡ O.outlet order.old }
-    ensures faults { O.faults order.new ≡ O.faults order.old }
+    ensures sink { O.sink order.new ≡ O.sink order.old }
 {
     match make_ids(alloc, order, id, count) {
         Ok(ids) => Ok(ids),

@@ -1,4 +1,3 @@
 mod Children
 mod Smaller
 mod Splits
-mod Told

@@ -114,14 +114,14 @@ segments_after told bytes (Err r) = told
 
 -- what a try leaves of what the order tells of its sink
 abbrev pub After : Outlet → List ℕ → Tried → Outlet → Type 0
-After (own s) bytes result (own t) = (t.next ≡ one_more s.next result) × (t.segments ≡ segments_after s.segments bytes result)
+After (own s) bytes result (own t) = (t.next ≡ one_more s.next result) × (t.segments ≡ segments_after s.segments bytes result) × (t.borrow ≡ s.borrow)
 After (shared s) bytes result (shared t) =
     (t.sink ≡ s.sink) × (t.column ≡ s.column) × (t.first ≡ s.first) × (t.pairs ≡ s.pairs) × (t.writes ≡ one_more s.writes result)
     × (t.faults ≡ once s.faults (is_sink_fault result)) × (t.seen ≡ once s.seen (is_stopped result))
 After (own s) bytes result (shared t) = ⊥
 After (shared s) bytes result (own t) = ⊥
 
--- What a call tells of faults that doesn't ask the sink: appends may and must fail as before.
+-- What a try tells of faults that doesn't ask the sink: appends may and must fail as before.
 pub record Unasked (before now : ℕ) (may may_then must must_then : ℕ → Type 0) : Type 0 where
   pub counted : now ≡ before
   pub may_later : (k : ℕ) → may_then k → may k

@@ -7,6 +7,8 @@ pub record Store : Type 0 where
   pub next : ℕ
   -- the segments, where the sink tells them
   pub segments : Option (List (List ℕ))
+  -- of a borrowed sink the name of the borrow
+  pub borrow : ℕ
 
 -- a sink that others use too: the order's own counts, and which numbers there may be
 pub record Share : Type 0 where
@@ -25,3 +27,8 @@ pub record Share : Type 0 where
 pub data Outlet : Type 0 where
   own : Store → Outlet
   shared : Share → Outlet
+
+-- the borrow's name, of a sink of its own
+abbrev pub borrow_of : Outlet → ℕ
+borrow_of (own s) = s.borrow
+borrow_of (shared s) = 0

@@ -4,7 +4,7 @@ ghost use Rattle.std.specs.FinMap as map;
 ghost use Rattle.vx_path.specs.Path.{eof_path, inside, next};
 ghost use Rattle.vx_sequence.specs.Part.{CanPart, left_of};
 ghost use Rattle.vx_sequence.specs.Universe.{Active, IsActive, IsOpen, IsUniverse, released, split_from};
-ghost use Rattle.vx_order.specs.Answers.{FullAt, Unasked};
+ghost use Rattle.vx_order.specs.Answers.{FullAt};
 ghost use Rattle.vx_order.specs.Ids.{children, with_children, SplitRefused};
 
 use crate::ordered::Order;
@@ -30,8 +30,7 @@ pub fn split_off<O: Order>(
     ensures refused { OnErr result (SplitRefused (O.active order.old) p.old (O.active order.new) p.new) }
 
     ensures outlet { O.outlet order.new ≡ O.outlet order.old }
-    ensures told { Unasked (O.faults order.old) (O.faults order.new) (O.may_fail order.old) (O.may_fail order.new)
-        (O.must_fail order.old) (O.must_fail order.new) }
+    ensures sink { O.sink order.new ≡ O.sink order.old }
     ensures may_write { (p b : List ℕ) → O.may_write order.old p b → O.may_write order.new p b }
     ensures rules { IsUniverse (O.active order.old) }
     ensures borrow { O.borrow order.new ≡ O.borrow order.old }
@@ -62,8 +61,7 @@ pub fn make_ids<O: Order>(
     ensures refused { OnErr result (O.active order.new ≡ released (O.active order.old) id) }
 
     ensures outlet { O.outlet order.new ≡ O.outlet order.old }
-    ensures told { Unasked (O.faults order.old) (O.faults order.new) (O.may_fail order.old) (O.may_fail order.new)
-        (O.must_fail order.old) (O.must_fail order.new) }
+    ensures sink { O.sink order.new ≡ O.sink order.old }
     ensures may_write { (p b : List ℕ) → O.may_write order.old p b → O.may_write order.new p b }
     ensures rules { IsUniverse (O.active order.old) }
     ensures borrow { O.borrow order.new ≡ O.borrow order.old }
@@ -111,8 +109,7 @@ fn advance_times<O: Order>(
     ensures memory { IfErr result (λ e. e ≡ OrderError.OutOfMemory) }
 
     ensures outlet { O.outlet order.new ≡ O.outlet order.old }
-    ensures told { Unasked (O.faults order.old) (O.faults order.new) (O.may_fail order.old) (O.may_fail order.new)
-        (O.must_fail order.old) (O.must_fail order.new) }
+    ensures sink { O.sink order.new ≡ O.sink order.old }
     ensures may_write { (p b : List ℕ) → O.may_write order.old p b → O.may_write order.new p b }
     ensures borrow { O.borrow order.new ≡ O.borrow order.old }
 {
@@ -128,8 +125,7 @@ fn release_all<O: Order>(order: &mut O, mut ids: Vec<SequenceId>)
     requires { CanPart (O.active order.old) (reverse ids.items) }
     ensures active { O.active order.new ≡ left_of (O.active order.old) (reverse ids.items) }
     ensures outlet { O.outlet order.new ≡ O.outlet order.old }
-    ensures told { Unasked (O.faults order.old) (O.faults order.new) (O.may_fail order.old) (O.may_fail order.new)
-        (O.must_fail order.old) (O.must_fail order.new) }
+    ensures sink { O.sink order.new ≡ O.sink order.old }
     ensures may_write { (p b : List ℕ) → O.may_write order.old p b → O.may_write order.new p b }
     ensures borrow { O.borrow order.new ≡ O.borrow order.old }
 {

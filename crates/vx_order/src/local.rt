@@ -5,7 +5,6 @@ ghost use Rattle.vx_sequence.specs.Universe.{IsActive, IsLeast, IsUniverse};
 
 use crate::attempt::Attempt;
 use crate::ordered::Order;
-use vx_fault::Fallible;
 use vx_order_answer::{OrderError, Receipt};
 use vx_sequence::{SequenceError, SequenceId, SequencePointer, Universe};
 use vx_sink::{SegmentSink, SinkError};
@@ -40,20 +39,16 @@ impl<S: SegmentSink> LocalOrder<S> {
     }
 }
 
-impl<S: SegmentSink> Fallible for LocalOrder<S> {
-    ghost faults = { λ o. S.faults o.sink };
-
-    ghost may_fail = { λ o. S.may_fail o.sink };
-
-    ghost must_fail = { λ o. S.must_fail o.sink };
-}
-
 impl<S: SegmentSink> Order for LocalOrder<S> {
     ghost use Rattle.vx_order.specs.Outlet.{own};
 
+    type Sink = S;
+
     ghost active = { λ o. o.universe };
 
-    ghost outlet = { λ o. own (record { next = S.next o.sink; segments = S.segments o.sink }) };
+    ghost sink = { λ o. o.sink };
+
+    ghost outlet = { λ o. own (record { next = S.next o.sink; segments = S.segments o.sink; borrow = S.borrow o.sink }) };
 
     ghost may_write = { λ _ _ _. Unit {0} };
 

@@ -9,15 +9,20 @@ use vx_fault::Fallible;
 use vx_order_answer::OrderError;
 use vx_sequence::{SequenceId, SequencePointer};
 
-/// A universe of paths, and a sink to which segments are appended in the order of their paths. The faults are the sink's.
-///
-/// Where the sink is shared, the count of faults is 0 until it failed this order, and then the greatest u64.
-pub trait Order: Fallible {
+/// A universe of paths, and a sink to which segments are appended in the order of their paths.
+pub trait Order {
     ghost use Rattle.vx_order.specs.Outlet.{Outlet};
-    ghost use Rattle.vx_order.specs.Answers.{FullAt, HasRoom, IsFull, Answers, After, Unasked, Tells, IsWaiting, IsTooLarge, IsWritten, active_after};
+    ghost use Rattle.vx_order.specs.Answers.{FullAt, HasRoom, IsFull, Answers, After, Tells, IsWaiting, IsTooLarge, IsWritten, active_after};
+
+    /// What tells of the sink's faults. Where others use the sink too, the count of faults is 0 until it failed this order, and
+    /// then the greatest u64.
+    type Sink: Fallible;
 
     /// The active paths.
     ghost active: { Self → Active };
+
+    /// The sink, which only a try to write asks.
+    ghost sink: { Self → Self.Sink };
 
     /// What the order tells of its sink, its own or one that it shares.
     ghost outlet: { Self → Outlet };
@@ -40,8 +45,7 @@ pub trait Order: Fallible {
         ensures unchanged { OnErr result ((p.new ≡ p.old) × (active self.new ≡ active self.old)) }
 
         ensures outlet { outlet self.new ≡ outlet self.old }
-        ensures told { Unasked (Self.faults self.old) (Self.faults self.new) (Self.may_fail self.old) (Self.may_fail self.new)
-            (Self.must_fail self.old) (Self.must_fail self.new) }
+        ensures sink { sink self.new ≡ sink self.old }
         ensures may_write { (p b : List ℕ) → may_write self.old p b → may_write self.new p b }
         ensures rules { IsUniverse (active self.old) }
         ensures borrow { borrow self.new ≡ borrow self.old };
@@ -55,8 +59,7 @@ pub trait Order: Fallible {
         ensures unchanged { OnErr result (active self.new ≡ active self.old) }
 
         ensures outlet { outlet self.new ≡ outlet self.old }
-        ensures told { Unasked (Self.faults self.old) (Self.faults self.new) (Self.may_fail self.old) (Self.may_fail self.new)
-            (Self.must_fail self.old) (Self.must_fail self.new) }
+        ensures sink { sink self.new ≡ sink self.old }
         ensures may_write { (p b : List ℕ) → may_write self.old p b → may_write self.new p b }
         ensures rules { IsUniverse (active self.old) }
         ensures borrow { borrow self.new ≡ borrow self.old };
@@ -66,8 +69,7 @@ pub trait Order: Fallible {
         requires { IsActive (active self.old) id }
         ensures active { active self.new ≡ released (active self.old) id }
         ensures outlet { outlet self.new ≡ outlet self.old }
-        ensures told { Unasked (Self.faults self.old) (Self.faults self.new) (Self.may_fail self.old) (Self.may_fail self.new)
-            (Self.must_fail self.old) (Self.must_fail self.new) }
+        ensures sink { sink self.new ≡ sink self.old }
         ensures may_write { (p b : List ℕ) → may_write self.old p b → may_write self.new p b }
         ensures rules { IsUniverse (active self.old) }
         ensures borrow { borrow self.new ≡ borrow self.old };
@@ -90,12 +92,12 @@ pub trait Order: Fallible {
         ensures waits { (q : List ℕ) → IsActive (active self.old) q → IsTrue (path_lt q id) → IsWaiting result }
         ensures large { IsLeast (active self.old) id → IsFull (outlet self.old) → IsTooLarge result }
         ensures complete { IsLeast (active self.old) id → HasRoom (outlet self.old)
-            → IsCalm (Self.faults self.old) (Self.faults self.new) → IsWritten result }
+            → IsCalm (Self.Sink.faults (sink self.old)) (Self.Sink.faults (sink self.new)) → IsWritten result }
 
         ensures active { active self.new ≡ active_after (active self.old) id result }
         ensures outlet { After (outlet self.old) bytes.now result (outlet self.new) }
-        ensures told { Tells (Self.faults self.old) (Self.faults self.new) (Self.may_fail self.old) (Self.may_fail self.new)
-            (Self.must_fail self.old) (Self.must_fail self.new) result }
+        ensures told { Tells (Self.Sink.faults (sink self.old)) (Self.Sink.faults (sink self.new)) (Self.Sink.may_fail (sink self.old)) (Self.Sink.may_fail (sink self.new))
+            (Self.Sink.must_fail (sink self.old)) (Self.Sink.must_fail (sink self.new)) result }
         ensures may_write { (p b : List ℕ) → may_write self.old p b → may_write self.new p b }
         ensures rules { IsUniverse (active self.old) }
         ensures borrow { borrow self.new ≡ borrow self.old };

@@ -7,6 +7,3 @@ release-requires g c = owned_active (g.O.Order.active c.args.order.now) c.args.i
 
 pub returns-clause-moved : goal.returns-clause-moved
 returns-clause-moved g c = id_lost (g.O.Order.active c.args.order.now) (g.O.Order.active c.release.new.self) c.args.id c.release.ensures.active c.requires
-
-pub returns-clause-faults : goal.returns-clause-faults
-returns-clause-faults g c = c.release.ensures.told.counted

@@ -15,6 +15,3 @@ returns-clause-moved g c =
     let u : Active = g.O.Order.active c.args.order.now in
     subst (λ v. Moved u v (end_stock c.args.pointer) none) (sym (c.release.ensures.active ∙ ap (released u) c.downgrade.ensures))
     (downgraded_moved u c.args.pointer (end_active u c.args.pointer c.requires))
-
-pub returns-clause-faults : goal.returns-clause-faults
-returns-clause-faults g c = c.release.ensures.told.counted

@@ -9,12 +9,6 @@ pub returns-in-Ok-clause-moved : goal.returns-in-Ok-clause-moved
 returns-in-Ok-clause-moved g c = split_took (g.O.Order.active c.args.order.now) (g.O.Order.active c.split_off.new.order) c.args.pointer.now c.split_off.new.p c.in-Ok.below
     c.in-Ok.ensures.rules c.in-Ok.ensures.active c.in-Ok.ensures.pointer c.in-Ok.ensures.off c.requires
 
-pub returns-in-Ok-clause-faults : goal.returns-in-Ok-clause-faults
-returns-in-Ok-clause-faults g c = c.split_off.ensures.told.counted
-
 pub returns-in-Err-clause-moved : goal.returns-in-Err-clause-moved
 returns-in-Err-clause-moved g c = split_not (g.O.Order.active c.args.order.now) (g.O.Order.active c.split_off.new.order) c.args.pointer.now c.split_off.new.p
     c.in-Err.ensures.rules c.in-Err.ensures.refused c.requires
-
-pub returns-in-Err-clause-faults : goal.returns-in-Err-clause-faults
-returns-in-Err-clause-faults g c = c.split_off.ensures.told.counted

@@ -13,11 +13,5 @@ returns-in-Ok-clause-moved g c = children_moved (g.O.Order.active c.args.order.n
 pub returns-in-Ok-clause-count : goal.returns-in-Ok-clause-count
 returns-in-Ok-clause-count g c = c.in-Ok.ids.ok.0 ∙ ap length c.in-Ok.ensures.ids ∙ children_count c.args.id c.args.count
 
-pub returns-in-Ok-clause-faults : goal.returns-in-Ok-clause-faults
-returns-in-Ok-clause-faults g c = c.make_ids.ensures.told.counted
-
 pub returns-in-Err-clause-moved : goal.returns-in-Err-clause-moved
 returns-in-Err-clause-moved g c = id_lost (g.O.Order.active c.args.order.now) (g.O.Order.active c.make_ids.new.order) c.args.id c.in-Err.ensures.refused c.requires
-
-pub returns-in-Err-clause-faults : goal.returns-in-Err-clause-faults
-returns-in-Err-clause-faults g c = c.make_ids.ensures.told.counted

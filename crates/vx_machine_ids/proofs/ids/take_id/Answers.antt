@@ -9,12 +9,6 @@ pub returns-in-Ok-clause-moved : goal.returns-in-Ok-clause-moved
 returns-in-Ok-clause-moved g c = took (g.O.Order.active c.args.order.now) (g.O.Order.active c.advance.new.self) c.args.pointer.now c.advance.new.p c.in-Ok.id
     c.in-Ok.ensures.rules c.in-Ok.ensures.active c.in-Ok.ensures.pointer c.in-Ok.ensures.id c.requires
 
-pub returns-in-Ok-clause-faults : goal.returns-in-Ok-clause-faults
-returns-in-Ok-clause-faults g c = c.advance.ensures.told.counted
-
 pub returns-in-Err-clause-moved : goal.returns-in-Err-clause-moved
 returns-in-Err-clause-moved g c = not_took (g.O.Order.active c.args.order.now) (g.O.Order.active c.advance.new.self) c.args.pointer.now c.advance.new.p
     c.in-Err.ensures.unchanged.1 c.in-Err.ensures.unchanged.0 c.requires
-
-pub returns-in-Err-clause-faults : goal.returns-in-Err-clause-faults
-returns-in-Err-clause-faults g c = c.advance.ensures.told.counted

@@ -5,7 +5,6 @@ use Rattle.vx_sequence.specs.Universe.{IsOpen, advanced}
 use Rattle.vx_sequence.proofs.Uses.{advanced_next}
 use Rattle.vx_order.specs.Ids.{with_children}
 use Rattle.vx_order.proofs.Children.{children_more, one_more_child}
-use Rattle.vx_order.proofs.Told.{unasked_both}
 use Rattle.vx_order.proofs.ids.advance_times.Goals as goal
 
 pub loop-i-preserved : goal.loop-i-preserved
@@ -26,7 +25,7 @@ loop-i-preserved g c =
           ∙ one_more_child u c.args.pointer.now.stem c.loop-i._i c.loop-i.pointer inv.stem inv.last
           ∙ ap (λ (e : Eof). map.insert (with_children u c.args.pointer.now.stem (c.loop-i._i + 1)) (eof_path e) true) (sym made.pointer);
       outlet = c.advance.ensures.outlet ∙ inv.outlet;
-      told = unasked_both inv.told c.advance.ensures.told;
+      sink = c.advance.ensures.sink ∙ inv.sink;
       may_write = λ p b h. c.advance.ensures.may_write p b (inv.may_write p b h);
       borrow = c.advance.ensures.borrow ∙ inv.borrow;
     }

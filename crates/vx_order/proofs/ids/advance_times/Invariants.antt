@@ -2,7 +2,6 @@ use Rattle.std.proofs.Common.{◌≡◌, ℕ, List, true, vec_len, vec_capacity,
 use Rattle.std.specs.FinMap as map
 use Rattle.vx_path.specs.Path.{eof_path}
 use Rattle.vx_sequence.specs.Universe.{Active, IsOpen}
-use Rattle.vx_order.specs.Answers.{Unasked}
 use Rattle.vx_order.specs.Ids.{children, with_children}
 use Rattle.vx_order.proofs.ids.advance_times.Given as goal
 
@@ -18,8 +17,7 @@ invariant-loop-i g l = record {
   active : (u : Active) → g.O.Order.active l.initial.order ≡ map.insert u (eof_path l.initial.pointer) true
       → g.O.Order.active l.order ≡ map.insert (with_children u l.initial.pointer.stem l._i) (eof_path l.pointer) true;
   outlet : g.O.Order.outlet l.order ≡ g.O.Order.outlet l.initial.order;
-  told : Unasked (g.O.Fallible.faults l.initial.order) (g.O.Fallible.faults l.order) (g.O.Fallible.may_fail l.initial.order) (g.O.Fallible.may_fail l.order)
-      (g.O.Fallible.must_fail l.initial.order) (g.O.Fallible.must_fail l.order);
+  sink : g.O.Order.sink l.order ≡ g.O.Order.sink l.initial.order;
   may_write : (p b : List ℕ) → g.O.Order.may_write l.initial.order p b → g.O.Order.may_write l.order p b;
   borrow : g.O.Order.borrow l.order ≡ g.O.Order.borrow l.initial.order;
 }

@@ -1,7 +1,6 @@
 use Rattle.std.proofs.Common.{ap, ◌∙◌, reverse}
 use Rattle.vx_sequence.specs.Part.{left_of}
 use Rattle.vx_order.proofs.Children.{last_can, last_left}
-use Rattle.vx_order.proofs.Told.{unasked_both}
 use Rattle.vx_order.proofs.ids.release_all.Goals as goal
 
 pub release-requires : goal.release-requires
@@ -15,7 +14,7 @@ loop-id-preserved g c =
       active = ap (λ v. left_of v (reverse c.pop.new.self.items)) c.release.ensures.active
           ∙ last_left (g.O.Order.active c.loop-id.order) c.loop-id.ids.items c.pop.new.self.items c.in-Some.id c.in-Some.ensures.items ∙ inv.active;
       outlet = c.release.ensures.outlet ∙ inv.outlet;
-      told = unasked_both inv.told c.release.ensures.told;
+      sink = c.release.ensures.sink ∙ inv.sink;
       may_write = λ p b h. c.release.ensures.may_write p b (inv.may_write p b h);
       borrow = c.release.ensures.borrow ∙ inv.borrow;
     }

@@ -1,7 +1,6 @@
 use Rattle.std.proofs.Common.{inl}
 use Rattle.std.proofs.lemmas.Result.{err_from_is_err_and}
 use Rattle.vx_order.proofs.Splits.{off_is, id_is_active, split_is_made, id_is_lost}
-use Rattle.vx_order.proofs.Told.{unasked_both}
 use Rattle.vx_order.proofs.ids.split_off.Goals as goal
 
 pub descend-requires : goal.descend-requires
@@ -25,13 +24,7 @@ pub returns-in-Ok-clause-active : goal.returns-in-Ok-clause-active
 returns-in-Ok-clause-active g c = split_is_made (g.O.Order.active c.args.order.now) (g.O.Order.active c.advance.new.self)
     (g.O.Order.active c.descend.new.self) c.args.p.now c.in_ok-id.id c.in_ok-id.ensures.active c.in_ok-id.ensures.id c.in-Ok.ensures.active
 
-pub returns-in-Ok-clause-told : goal.returns-in-Ok-clause-told
-returns-in-Ok-clause-told g c = unasked_both c.advance.ensures.told c.descend.ensures.told
-
 pub returns-in-Err-clause-refused : goal.returns-in-Err-clause-refused
 returns-in-Err-clause-refused g c = id_is_lost (g.O.Order.active c.args.order.now) (g.O.Order.active c.advance.new.self)
     (g.O.Order.active c.descend.new.self) (g.O.Order.active c.release.new.self) c.args.p.now c.advance.new.p c.in_ok-id.id c.in-Err.id
     c.in_ok-id.ensures.active c.in_ok-id.ensures.id c.in-Err.ensures.unchanged c.in-Err.ensures.refused.0 c.release.ensures.active c.in_ok-id.ensures.pointer
-
-pub returns-in-Err-clause-told : goal.returns-in-Err-clause-told
-returns-in-Err-clause-told g c = unasked_both c.advance.ensures.told (unasked_both c.descend.ensures.told c.release.ensures.told)
