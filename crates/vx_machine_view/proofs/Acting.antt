@@ -1,5 +1,5 @@
 -- What a task itself can do is what the abstract one can.
-use Rattle.std.proofs.Common.{◌≡◌, ◌+◌, ◌<◌, ◌&&◌, ◌==◌, ◌∷◌, ◌++◌, ◌∙◌, ℕ, suc, Bool, true, false, not, cond, if◌then◌else◌, List, map, length, refl, sym, ap, subst, inl, inr, arith, get_or, append_assoc, append-nil, length-append, Option, Some, None, is_some, []}
+use Rattle.std.proofs.Common.{◌≡◌, ◌+◌, ◌<◌, ◌&&◌, ◌==◌, ◌∷◌, ◌++◌, ◌∙◌, ℕ, suc, Bool, true, false, not, cond, List, map, length, refl, sym, ap, subst, inl, inr, arith, get_or, append_assoc, append-nil, length-append, Option, Some, None, is_some, []}
 use Rattle.std.proofs.lemmas.Bool.Decides.{nat_tests}
 use Rattle.vx_model.specs.declared.encoding.EncodingId.{EncodingId}
 use Rattle.vx_model.specs.Ty.{Ty, Tys, struct, no_fields, field, fields_in}
@@ -14,7 +14,7 @@ use Rattle.vx_tasks.specs.Task.{Join, TakeEnd}
 use Rattle.vx_tasks.specs.Nodes.{numbers}
 use Rattle.vx_strategy_spec.specs.StrategyData.{FlatOptions}
 use Rattle.vx_plan.specs.PlanData.{Setting, Item, row_total, rows_in}
-use Rattle.vx_plan.specs.FlatNode.{segment}
+use Rattle.vx_plan.specs.FlatNode.{segment, inlined}
 use Rattle.vx_machine_turns.specs.Forms.{Writer, chunked_form, form_type}
 use Rattle.vx_machine_turns.specs.Locals.{ChunkedNode, StructNode, Local, flat_empty, flat_full, chunked_local, struct_local}
 use Rattle.vx_machine_turns.specs.Acts.{Seed, Act, alone, gathers, struct_of, does, put_item, close_queues, born, shape_in, numbers_in}
@@ -154,27 +154,27 @@ module _ (s : Setting) (number : List ℕ → ℕ) (segment_number : ℕ) (all :
     pub bare : (a : Act) → Leaves a 0 → ks ≡ no_tasks → feed (less d q.type) a 0 hs ≡ Leaf
     bare a l n = feed_none (less d q.type) a 0 hs l ∙ no_tree s number (less d q.type) q 0 ks hs n kids
 
-    first_taken : (o : FlatOptions) (t : Ty) (x : Item) (xs : List Item) (closed : Bool) → o.inline ≡ false → ks ≡ no_tasks → shape_in past ≡ None → AllTyped q.type xs
+    first_taken : (o : FlatOptions) (t : Ty) (x : Item) (xs : List Item) (closed : Bool) → ks ≡ no_tasks → shape_in past ≡ None → AllTyped q.type xs
         → is_some (forbidden (s.codec.refused s.encodings x.1)) ≡ false
-        → Then (stored t x (segment s o x)) [] ks (take_first s (flat_empty o t) x) [] (flat_full o t x (segment s o x)) false xs closed
-        × Stays (desk (no_chunk o t) [] (x ∷ xs) closed) (stored t x (segment s o x)) [] ks (head past [] (flat_empty o t) false (x ∷ xs) closed) (take_first s (flat_empty o t) x) [] (flat_full o t x (segment s o x)) false xs closed
-    first_taken o t x xs closed il nk un ty f = by (law.encodes o.padding x.1 (no_forbidden (s.codec.refused s.encodings x.1) f))
+        → Then (stored t x (inlined s o x) (segment s o x)) [] ks (take_first s (flat_empty o t) x) [] (flat_full o t x (segment s o x)) false xs closed
+        × Stays (desk (no_chunk o t) [] (x ∷ xs) closed) (stored t x (inlined s o x) (segment s o x)) [] ks (head past [] (flat_empty o t) false (x ∷ xs) closed) (take_first s (flat_empty o t) x) [] (flat_full o t x (segment s o x)) false xs closed
+    first_taken o t x xs closed nk un ty f = by (law.encodes o.padding x.1 (no_forbidden (s.codec.refused s.encodings x.1) f))
       where
         by : (bytes : List ℕ) × (s.codec.encode s.encodings o.padding x.1 ≡ Some bytes)
-            → Then (stored t x (segment s o x)) [] ks (take_first s (flat_empty o t) x) [] (flat_full o t x (segment s o x)) false xs closed
-            × Stays (desk (no_chunk o t) [] (x ∷ xs) closed) (stored t x (segment s o x)) [] ks (head past [] (flat_empty o t) false (x ∷ xs) closed) (take_first s (flat_empty o t) x) [] (flat_full o t x (segment s o x)) false xs closed
+            → Then (stored t x (inlined s o x) (segment s o x)) [] ks (take_first s (flat_empty o t) x) [] (flat_full o t x (segment s o x)) false xs closed
+            × Stays (desk (no_chunk o t) [] (x ∷ xs) closed) (stored t x (inlined s o x) (segment s o x)) [] ks (head past [] (flat_empty o t) false (x ∷ xs) closed) (take_first s (flat_empty o t) x) [] (flat_full o t x (segment s o x)) false xs closed
         by (bytes, e) = (
-          then_open (stored t x (segment s o x)) [] ks (take_first s (flat_empty o t) x) [] (flat_full o t x (segment s o x)) false xs closed pl sm ty
-              (waits_end o t x bytes il nk (record { mind_is = ap (stored t x) e; local_is = ap (flat_full o t x) e; idle = refl; rest = refl; on = refl; unshaped = shape_last past (take_first s (flat_empty o t) x) un }))
+          then_open (stored t x (inlined s o x) (segment s o x)) [] ks (take_first s (flat_empty o t) x) [] (flat_full o t x (segment s o x)) false xs closed pl sm ty
+              (waits_end o t x bytes nk (record { mind_is = ap (stored t x (inlined s o x)) e; local_is = ap (flat_full o t x) e; idle = refl; rest = refl; on = refl; unshaped = shape_last past (take_first s (flat_empty o t) x) un }))
               (still (take_first s (flat_empty o t) x) (record { gives = λ i l. refl; shuts = λ i l. refl; starts = refl })),
-          then_steady (desk (no_chunk o t) [] (x ∷ xs) closed) (stored t x (segment s o x)) [] ks (head past [] (flat_empty o t) false (x ∷ xs) closed) (take_first s (flat_empty o t) x) [] (flat_full o t x (segment s o x)) false xs closed
+          then_steady (desk (no_chunk o t) [] (x ∷ xs) closed) (stored t x (inlined s o x) (segment s o x)) [] ks (head past [] (flat_empty o t) false (x ∷ xs) closed) (take_first s (flat_empty o t) x) [] (flat_full o t x (segment s o x)) false xs closed
               (let h : rows_in x.1 + row_total xs ≡ 0 + (rows_in x.1 + row_total xs) = omega arith in h) refl,
         )
 
-    pub first_own : (o : FlatOptions) (t : Ty) → o.inline ≡ false → ks ≡ no_tasks → shape_in past ≡ None → (xs : List Item) (closed : Bool) → AllTyped q.type xs
+    pub first_own : (o : FlatOptions) (t : Ty) → ks ≡ no_tasks → shape_in past ≡ None → (xs : List Item) (closed : Bool) → AllTyped q.type xs
         → Own (no_chunk o t) [] [] (flat_empty o t) false xs closed
-    first_own o t il nk un [] false ty = tt
-    first_own o t il nk un [] true ty = (
+    first_own o t nk un [] false ty = tt
+    first_own o t nk un [] true ty = (
       record {
         name = refl;
         kind = refl;
@@ -203,7 +203,7 @@ module _ (s : Setting) (number : List ℕ → ℕ) (segment_number : ℕ) (all :
       },
       tt,
     )
-    first_own o t il nk un (x ∷ xs) closed ty = (
+    first_own o t nk un (x ∷ xs) closed ty = (
       record {
         name = refl;
         kind = refl;
@@ -213,15 +213,15 @@ module _ (s : Setting) (number : List ℕ → ℕ) (segment_number : ℕ) (all :
         indices = sym (opened_none (less d q.type));
         wrote = refl;
         untracked = (refl, refl);
-        after = λ f n. first_taken o t x xs closed il nk un ty.1 f;
+        after = λ f n. first_taken o t x xs closed nk un ty.1 f;
       },
       tt,
     )
 
-    pub one_own : (o : FlatOptions) (t : Ty) (i : Item) (bytes : List ℕ) → o.inline ≡ false → ks ≡ no_tasks → shape_in past ≡ None → (xs : List Item) (closed : Bool) → AllTyped q.type xs
-        → Own (one_chunk (record { id = i.0; bytes = bytes; rows = rows_in i.1; type = t })) [] [] (flat_full o t i (Some bytes)) false xs closed
-    one_own o t i bytes il nk un [] false ty = tt
-    one_own o t i bytes il nk un (x ∷ xs) closed ty = (
+    pub one_own : (o : FlatOptions) (t : Ty) (i : Item) (bytes : List ℕ) → ks ≡ no_tasks → shape_in past ≡ None → (xs : List Item) (closed : Bool) → AllTyped q.type xs
+        → Own (one_chunk (record { id = i.0; bytes = bytes; tree = inlined s o i; rows = rows_in i.1; type = t })) [] [] (flat_full o t i (Some bytes)) false xs closed
+    one_own o t i bytes nk un [] false ty = tt
+    one_own o t i bytes nk un (x ∷ xs) closed ty = (
       record {
         name = refl;
         kind = refl;
@@ -235,11 +235,10 @@ module _ (s : Setting) (number : List ℕ → ℕ) (segment_number : ℕ) (all :
       },
       tt,
     )
-    one_own o t i bytes il nk un [] true ty =
-        let x : Stored = record { id = i.0; bytes = bytes; rows = rows_in i.1; type = t } in
+    one_own o t i bytes nk un [] true ty =
+        let x : Stored = record { id = i.0; bytes = bytes; tree = inlined s o i; rows = rows_in i.1; type = t } in
         let l : Local = flat_full o t i (Some bytes) in
-        let sh : shape_in (past ++ (end_first s l ∷ [])) ≡ Some (alone (flat_layout t (rows_in i.1) s.encodings None i.0)) =
-        shape_last past (end_first s l) un ∙ ap (λ z. Some (alone (flat_layout t (rows_in i.1) s.encodings (if z then Some (s.codec.tree_part s.encodings o.padding i.1) else None) i.0))) il in (
+        let sh : shape_in (past ++ (end_first s l ∷ [])) ≡ Some (alone (flat_layout t (rows_in i.1) s.encodings (inlined s o i) i.0)) = shape_last past (end_first s l) un in (
           record {
             name = refl;
             kind = refl;

@@ -58,7 +58,7 @@ module _ (s : Setting) (number : List ℕ → ℕ) where
         → (Stage s d (first_mind f m e) [] (first_kids f m name e) (seed_of f m name e) [] [] (local_of f m name e) false (sprout d quiet 0 (firsts (seed_of f m name e)))
         × Shows s number d (seed_of f m name e) 0 (first_kids f m name e) (sprout d quiet 0 (firsts (seed_of f m name e))))
     begun (flat_form o t) m name e d b f n = (
-      waits_first o t b refl (record { mind_is = refl; local_is = refl; idle = refl; rest = refl; on = refl; unshaped = refl }),
+      waits_first o t refl (record { mind_is = refl; local_is = refl; idle = refl; rest = refl; on = refl; unshaped = refl }),
       none_begun d (seed_of (flat_form o t) m name e),
     )
     begun (chunked_form t k) m name e spent b f n = absurd n

@@ -1,5 +1,5 @@
 -- A strategy that is built gives a form that is built.
-use Rattle.std.proofs.Common.{◌≡◌, ◌&&◌, ◌∷◌, not, if◌then◌else◌, Bool, true, false, ℕ, List, refl, Some, []}
+use Rattle.std.proofs.Common.{◌≡◌, ◌&&◌, ◌∷◌, if◌then◌else◌, Bool, true, false, ℕ, List, Some, []}
 use Rattle.vx_model.specs.Ty.{Ty, Tys, boolean, primitive, utf8, binary, list, struct, extension, no_fields, field}
 use Rattle.vx_strategy_spec.specs.StrategyData.{StrategyData, StrategyList, flat, chunked, grouped, compressed, coded, zoned, structured, listed, tabled, no_ways, way_at}
 use Rattle.vx_strategy_spec.specs.Walk.{Named, same_names, find, chosen, field_nodes, walk, walk_named}
@@ -11,10 +11,6 @@ use Rattle.vx_machine_view.proofs.Words.{and_left, and_right}
 
 no_true : false ≡ true → ⊥
 no_true e = cc
-
-not_true : (b : Bool) → not b ≡ true → b ≡ false
-not_true false e = refl
-not_true true e = absurd (no_true e)
 
 -- of the type that it is walked at
 abbrev Fits : (Ty → Form) → Type 0
@@ -41,7 +37,7 @@ fields_fit d ws h all (field name t fs) =
 
 mutual
   built : (w : StrategyData) → is_built w ≡ true → (t : Ty) → Built (walk form_nodes w t)
-  built (flat o) b t = not_true o.inline b
+  built (flat o) b t = tt
   built (chunked w) b t = ((fuel_is_enough w t).0, built w b t)
   built (structured v d ws) b (struct fs n) = (
     (fuel_is_enough v (boolean false)).0,

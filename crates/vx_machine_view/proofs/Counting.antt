@@ -62,8 +62,8 @@ module _ (s : Setting) (number : List ℕ → ℕ) (next : ℕ) (all : List (Lis
 
   own_joins : (d : Fuel) (c : Desk) (ks : Tasks) (q : Seed) (past todo : List Act) (l : Local) (off : Bool) (hs : Tree) → Stage s d c.mind c.todo ks q past todo l off hs → Shows s number d q 0 ks hs
       → may_act all c ks c.todo ≡ true → (n : ℕ) → In n (do_act s next c ks c.todo).joined → Counted past n
-  own_joins d c ks q past todo l off hs (waits_first o t i k w) sh m = nothing past (do_act s next c ks c.todo).joined (idle_joins c ks w.idle)
-  own_joins d c ks q past todo l off hs (waits_end o t x b i k w) sh m = nothing past (do_act s next c ks c.todo).joined (idle_joins c ks w.idle)
+  own_joins d c ks q past todo l off hs (waits_first o t k w) sh m = nothing past (do_act s next c ks c.todo).joined (idle_joins c ks w.idle)
+  own_joins d c ks q past todo l off hs (waits_end o t x b k w) sh m = nothing past (do_act s next c ks c.todo).joined (idle_joins c ks w.idle)
   own_joins d c ks q past todo l off hs (appends x k w) sh m = nothing past (do_act s next c ks c.todo).joined (ap (λ z. (do_act s next c ks z).joined) w.left_is)
   own_joins d c ks q past todo l off hs (splits n e nm t sp b en u w) sh m = nothing past (do_act s next c ks c.todo).joined (idle_joins c ks w.idle)
   own_joins d c ks q past todo l off hs (gathers_all t u w) sh m = λ n i. by n (subst (In n) (ap (λ z. (do_act s next c ks z).joined) w.left_is) i)

@@ -1,5 +1,5 @@
 -- What a task can do behind the end of its stream is what the abstract one can.
-use Rattle.std.proofs.Common.{◌≡◌, ◌+◌, ◌&&◌, ◌==◌, ◌∷◌, ◌++◌, ◌∙◌, ℕ, suc, Bool, true, false, List, map, refl, sym, ap, arith, get_or, eq-eqb, Some, None, []}
+use Rattle.std.proofs.Common.{◌≡◌, ◌+◌, ◌&&◌, ◌==◌, ◌∷◌, ◌++◌, ◌∙◌, ℕ, suc, Bool, true, false, List, map, refl, sym, ap, arith, get_or, eq-eqb, Some, []}
 use Rattle.vx_model.specs.Words.{total_by}
 use Rattle.vx_model.specs.Ty.{Ty}
 use Rattle.vx_path.specs.Path.{is_least}
@@ -38,13 +38,13 @@ and_yes false = refl
 
 module _ (s : Setting) (number : List ℕ → ℕ) (segment_number : ℕ) (all : List (List ℕ)) (d : Fuel) (q0 : Seed) (j0 : ℕ) (q : Seed) (places : ℕ) (ks more : Tasks) (hs r : Tree) (past : List Act)
     (law : Lawful s.codec s.encodings) (pl : places ≡ 1 + get_or q0.spare j0 0) (sm : Shows s number d q0 (suc j0) more r) (kids : Shows s number (less d q.type) q 0 ks hs) where
-  pub append_own : (x : Stored) (l : Local) → ks ≡ no_tasks → shape_in past ≡ Some (alone (flat_layout x.type x.rows s.encodings None x.id)) → (xs : List Item) (closed : Bool) → AllTyped q.type xs
+  pub append_own : (x : Stored) (l : Local) → ks ≡ no_tasks → shape_in past ≡ Some (alone (flat_layout x.type x.rows s.encodings x.tree x.id)) → (xs : List Item) (closed : Bool) → AllTyped q.type xs
       → Own s number segment_number all d q0 j0 q places ks more hs r past ending (append x ∷ []) (append_of x ∷ []) l true xs closed
   append_own x l nk sh xs closed ty =
       let a : Act = append_of x in
-      let m : Mind = made (flat_layout x.type x.rows s.encodings None segment_number) in
+      let m : Mind = made (flat_layout x.type x.rows s.encodings x.tree segment_number) in
       let none : Leaves a 0 = record { gives = λ i k. refl; shuts = λ i k. refl; starts = refl } in
-      let kept : shape_in (past ++ (a ∷ [])) ≡ Some (alone (flat_layout x.type x.rows s.encodings None x.id)) = shape_kept past a (alone (flat_layout x.type x.rows s.encodings None x.id)) sh in
+      let kept : shape_in (past ++ (a ∷ [])) ≡ Some (alone (flat_layout x.type x.rows s.encodings x.tree x.id)) = shape_kept past a (alone (flat_layout x.type x.rows s.encodings x.tree x.id)) sh in
       one_pair (SameStep s number segment_number d q0 j0 (task_then (desk s number segment_number all d q0 j0 q places ks more hs r past ending (append x ∷ []) xs closed) ks more) (Work (head s number segment_number all d q0 j0 q places ks more hs r past past (a ∷ []) l true xs closed) hs r))
       (own_step (desk s number segment_number all d q0 j0 q places ks more hs r past ending (append x ∷ []) xs closed) more (do_act s segment_number (desk s number segment_number all d q0 j0 q places ks more hs r past ending (append x ∷ []) xs closed) ks (append x ∷ []))) _
       (is_least x.id all) (is_least x.id all) refl
@@ -59,7 +59,7 @@ module _ (s : Setting) (number : List ℕ → ℕ) (segment_number : ℕ) (all :
         untracked = (refl, refl);
         after = λ f num. (
           then_done s number segment_number all d q0 j0 q places ks more hs r past m [] ks a [] l true xs closed pl sm ty (record {
-            layout = flat_layout x.type x.rows s.encodings None segment_number;
+            layout = flat_layout x.type x.rows s.encodings x.tree segment_number;
             mind_is = refl;
             idle = refl;
             no_kids = nk;
@@ -67,7 +67,7 @@ module _ (s : Setting) (number : List ℕ → ℕ) (segment_number : ℕ) (all :
             off = refl;
             below = ap all_over (bare s number segment_number all d q0 j0 q places ks more hs r past law pl sm kids a none nk);
             free = ap all_paths (bare s number segment_number all d q0 j0 q places ks more hs r past law pl sm kids a none nk);
-            laid_is = ap (λ z. map (renamed number) (shaped z (laid (feed (less d q.type) a 0 hs)))) kept ∙ ap (λ z. flat_layout x.type x.rows s.encodings None z ∷ []) (sym (num x.id refl));
+            laid_is = ap (λ z. map (renamed number) (shaped z (laid (feed (less d q.type) a 0 hs)))) kept ∙ ap (λ z. flat_layout x.type x.rows s.encodings x.tree z ∷ []) (sym (num x.id refl));
             rows_are = sym (ap shape_rows kept);
           }),
           then_steady s number segment_number all d q0 j0 q places ks more hs r past (desk s number segment_number all d q0 j0 q places ks more hs r past ending (append x ∷ []) xs closed) m [] ks (head s number segment_number all d q0 j0 q places ks more hs r past past (a ∷ []) l true xs closed) a [] l true xs closed (ap shape_rows (kept ∙ sym sh)) refl,

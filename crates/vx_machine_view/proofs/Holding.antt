@@ -26,8 +26,8 @@ puts_ids j p (x ∷ xs) (w ∷ ws) e = ap (λ z. under p j ∷ z) (puts_ids (suc
 
 stage_holds : (s : Setting) (d : Fuel) (mind : Mind) (left : List Next) (ks : Tasks) (q : Seed) (past todo : List Act) (l : Local) (over : Bool) (hs : Tree)
     → Stage s d mind left ks q past todo l over hs → next_ids left ++ mind_ids mind ≡ all_uses todo ++ kept_now over l
-stage_holds s d mind left ks q past todo l over hs (waits_first o t i k w) = carried (λ m f a l o. next_ids f ++ mind_ids m ≡ all_uses a ++ kept_now o l) w.mind_is w.idle w.rest w.local_is w.on refl
-stage_holds s d mind left ks q past todo l over hs (waits_end o t x b i k w) = carried (λ m f a l o. next_ids f ++ mind_ids m ≡ all_uses a ++ kept_now o l) w.mind_is w.idle w.rest w.local_is w.on refl
+stage_holds s d mind left ks q past todo l over hs (waits_first o t k w) = carried (λ m f a l o. next_ids f ++ mind_ids m ≡ all_uses a ++ kept_now o l) w.mind_is w.idle w.rest w.local_is w.on refl
+stage_holds s d mind left ks q past todo l over hs (waits_end o t x b k w) = carried (λ m f a l o. next_ids f ++ mind_ids m ≡ all_uses a ++ kept_now o l) w.mind_is w.idle w.rest w.local_is w.on refl
 stage_holds s d mind left ks q past todo l over hs (appends x k w) = carried (λ m f a z o. next_ids f ++ mind_ids m ≡ all_uses a ++ kept_now o z) w.mind_is w.left_is w.rest refl w.off refl
 stage_holds s d mind left ks q past todo l over hs (splits n e nm t sp b en u w) = carried (λ m f a l o. next_ids f ++ mind_ids m ≡ all_uses a ++ kept_now o l) w.mind_is w.idle w.rest w.local_is w.on refl
 stage_holds s d mind left ks q past todo l over hs (gathers_all t u w) = carried (λ m f a z o. next_ids f ++ mind_ids m ≡ all_uses a ++ kept_now o z) w.mind_is w.left_is w.rest refl w.off refl

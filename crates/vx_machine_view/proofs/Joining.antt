@@ -24,8 +24,8 @@ off_false false x = refl
 
 pub stage_open : (s : Setting) (d : Fuel) (mind : Mind) (left : List Next) (ks : Tasks) (q : Seed) (past todo : List Act) (l : Local) (over : Bool) (hs : Tree)
     → Stage s d mind left ks q past todo l over hs → is_made mind ≡ false
-stage_open s d mind left ks q past todo l over hs (waits_first o t i k r) = ap is_made r.mind_is
-stage_open s d mind left ks q past todo l over hs (waits_end o t x b i k r) = ap is_made r.mind_is
+stage_open s d mind left ks q past todo l over hs (waits_first o t k r) = ap is_made r.mind_is
+stage_open s d mind left ks q past todo l over hs (waits_end o t x b k r) = ap is_made r.mind_is
 stage_open s d mind left ks q past todo l over hs (appends x k r) = ap is_made r.mind_is
 stage_open s d mind left ks q past todo l over hs (splits n e a b c f g u r) = ap is_made r.mind_is
 stage_open s d mind left ks q past todo l over hs (gathers_all t u r) = ap is_made r.mind_is
@@ -41,8 +41,8 @@ ends_busy over todo x a acts e = ap (λ z. is_nil z && over && x) e
 
 pub stage_busy : (s : Setting) (d : Fuel) (mind : Mind) (left : List Next) (ks : Tasks) (q : Seed) (past todo : List Act) (l : Local) (over : Bool) (hs : Tree) (x : Bool)
     → Stage s d mind left ks q past todo l over hs → (is_nil todo && over && x) ≡ false
-stage_busy s d mind left ks q past todo l over hs x (waits_first o t i k r) = on_busy over todo x r.on
-stage_busy s d mind left ks q past todo l over hs x (waits_end o t y b i k r) = on_busy over todo x r.on
+stage_busy s d mind left ks q past todo l over hs x (waits_first o t k r) = on_busy over todo x r.on
+stage_busy s d mind left ks q past todo l over hs x (waits_end o t y b k r) = on_busy over todo x r.on
 stage_busy s d mind left ks q past todo l over hs x (appends y k r) = ends_busy over todo x _ _ r.rest
 stage_busy s d mind left ks q past todo l over hs x (splits n e a b c f g u r) = on_busy over todo x r.on
 stage_busy s d mind left ks q past todo l over hs x (gathers_all t u r) = ends_busy over todo x _ _ r.rest

@@ -59,10 +59,10 @@ own_moves s number next all d q0 j0 q places ks more hs r past law pl sm kids mi
             (let z : length ws ≡ length ps = omega (arith, same) in z) w.unshaped xs closed ty
 
     by : Stage s (less d q.type) mind left ks q past todo l over hs → Own s number next all d q0 j0 q places ks more hs r past mind left todo l over xs closed
-    by (waits_first o t il nk w) = carried (λ m f a l o. Own s number next all d q0 j0 q places ks more hs r past m f a l o xs closed) w.mind_is w.idle w.rest w.local_is w.on
-        (first_own s number next all d q0 j0 q places ks more hs r past law pl sm kids o t il nk w.unshaped xs closed ty)
-    by (waits_end o t i bytes il nk w) = carried (λ m f a l o. Own s number next all d q0 j0 q places ks more hs r past m f a l o xs closed) w.mind_is w.idle w.rest w.local_is w.on
-        (one_own s number next all d q0 j0 q places ks more hs r past law pl sm kids o t i bytes il nk w.unshaped xs closed ty)
+    by (waits_first o t nk w) = carried (λ m f a l o. Own s number next all d q0 j0 q places ks more hs r past m f a l o xs closed) w.mind_is w.idle w.rest w.local_is w.on
+        (first_own s number next all d q0 j0 q places ks more hs r past law pl sm kids o t nk w.unshaped xs closed ty)
+    by (waits_end o t i bytes nk w) = carried (λ m f a l o. Own s number next all d q0 j0 q places ks more hs r past m f a l o xs closed) w.mind_is w.idle w.rest w.local_is w.on
+        (one_own s number next all d q0 j0 q places ks more hs r past law pl sm kids o t i bytes nk w.unshaped xs closed ty)
     by (appends x nk w) = carried (λ m f a z o. Own s number next all d q0 j0 q places ks more hs r past m f a z o xs closed) w.mind_is w.left_is w.rest refl w.off
         (append_own s number next all d q0 j0 q places ks more hs r past law pl sm kids x l nk w.shape_is xs closed ty)
     by (splits n e nm t sp b en u w) = carried (λ m f a l o. Own s number next all d q0 j0 q places ks more hs r past m f a l o xs closed) w.mind_is w.idle w.rest w.local_is w.on
@@ -79,8 +79,8 @@ own_moves s number next all d q0 j0 q places ks more hs r past law pl sm kids mi
 
 stage_on : (s : Setting) (d : Fuel) (mind : Mind) (left : List Next) (ks kids : Tasks) (q : Seed) (past todo : List Act) (l : Local) (over : Bool) (hs ts : Tree)
     → Steady ks kids hs ts → Stage s d mind left ks q past todo l over hs → Stage s d mind left kids q past todo l over ts
-stage_on s d mind left ks kids q past todo l over hs ts st (waits_first o t i k w) = waits_first o t i (none_counted kids (st.count_is ∙ ap count k)) w
-stage_on s d mind left ks kids q past todo l over hs ts st (waits_end o t x b i k w) = waits_end o t x b i (none_counted kids (st.count_is ∙ ap count k)) w
+stage_on s d mind left ks kids q past todo l over hs ts st (waits_first o t k w) = waits_first o t (none_counted kids (st.count_is ∙ ap count k)) w
+stage_on s d mind left ks kids q past todo l over hs ts st (waits_end o t x b k w) = waits_end o t x b (none_counted kids (st.count_is ∙ ap count k)) w
 stage_on s d mind left ks kids q past todo l over hs ts st (appends x k w) = appends x (none_counted kids (st.count_is ∙ ap count k)) w
 stage_on s d mind left ks kids q past todo l over hs ts st (splits n e nm t sp b en u w) = splits n e nm t sp b en (subst (Counted past) (sym st.rows_are) u) (record {
   mind_is = w.mind_is ∙ ap (by_chunk n.mark n.type n.child e) (sym st.rows_are);

@@ -11,7 +11,7 @@ use Rattle.vx_tasks.specs.Task.{Kind}
 use Rattle.vx_tasks.specs.Task.Prompt.{Close}
 use Rattle.vx_tasks.specs.Task.Kind.{Free, Take, TakeEnd, Put, Append, Join}
 use Rattle.vx_plan.specs.PlanData.{Setting, Item, Pair, What, many_chunks, rows_in}
-use Rattle.vx_plan.specs.FlatNode.{segment, length_of}
+use Rattle.vx_plan.specs.FlatNode.{segment, inlined, length_of}
 use Rattle.vx_machine_turns.specs.Starts.{start_fault}
 use Rattle.vx_machine_turns.specs.Flat.{forbidden}
 use Rattle.vx_machine_view.specs.State.{Fold, fold_chunks, fold_columns, Next, put, append, shut_kids, join_kids, Mind, no_chunk, one_chunk, by_chunk, by_column, ending, made, Desk, Tasks, no_tasks, task_then}
@@ -93,14 +93,14 @@ joined_rows (fold_columns t rows) ls = []
 -- Of what is left of its block: the layouts name these encodings, and an append gets this number. Joined children are given up.
 abbrev pub do_next : List EncodingId → ℕ → Desk → Tasks → Next → List Next → Did
 do_next ids number c ks (put j i) todo = done_as (Put j) (now c c.mind todo c.inbox) (give j i ks)
-do_next ids number c ks (append x) todo = record (done_as (Append x.id) (now c (made (flat_layout x.type x.rows ids None number)) todo c.inbox) ks) { wrote = (x.id, x.bytes) ∷ [] }
+do_next ids number c ks (append x) todo = record (done_as (Append x.id) (now c (made (flat_layout x.type x.rows ids x.tree number)) todo c.inbox) ks) { wrote = (x.id, x.bytes) ∷ [] }
 do_next ids number c ks shut_kids todo = done_as (Free Close) (now c c.mind todo c.inbox) (shut_all ks)
 do_next ids number c ks (join_kids f) todo = record (done_as Join (now c (made (folded f (layouts_in ks))) todo c.inbox) no_tasks) { joined = joined_rows f (layouts_in ks) }
 
--- a chunk's segment, where it can be encoded
-abbrev pub stored : Ty → Item → Option (List ℕ) → Mind
-stored t i None = ending
-stored t i (Some bytes) = one_chunk (record { id = i.0; bytes = bytes; rows = rows_in i.1; type = t })
+-- a chunk's segment, where it can be encoded, with the tree that its layout keeps
+abbrev pub stored : Ty → Item → Option (List ℕ) → Option (List ℕ) → Mind
+stored t i tree None = ending
+stored t i tree (Some bytes) = one_chunk (record { id = i.0; bytes = bytes; tree = tree; rows = rows_in i.1; type = t })
 
 abbrev pub columns_in : Ty → ChunkData → List ChunkData
 columns_in (struct fs n) p = struct_columns fs n p
@@ -126,7 +126,7 @@ take_chunk s c ks i xs (no_chunk o t) = record {
   indices = [];
   wrote = [];
   joined = [];
-  desk = now c (stored t i (segment s o i)) [] xs;
+  desk = now c (stored t i (inlined s o i) (segment s o i)) [] xs;
   kids = ks;
 }
 take_chunk s c ks i xs (one_chunk x) = record { kind = Take; refusal = Some many_chunks; misfit = false; numbers = []; indices = []; wrote = []; joined = []; desk = now c (one_chunk x) [] xs; kids = ks }

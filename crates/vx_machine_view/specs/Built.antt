@@ -1,13 +1,12 @@
 -- Which strategies and forms are built: those of flat, chunked and struct nodes.
-use Rattle.std.specs.Prelude.{◌≡◌, ◌&&◌, not, Bool, true, false, List, [], ◌∷◌, IsFalse}
+use Rattle.std.specs.Prelude.{◌≡◌, ◌&&◌, Bool, true, false, List, [], ◌∷◌}
 use Rattle.vx_model.specs.Ty.{Ty, Tys, boolean, no_fields, field}
 use Rattle.vx_strategy_spec.specs.StrategyData.{StrategyData, StrategyList, flat, chunked, grouped, compressed, coded, zoned, structured, listed, tabled, no_ways, way_at}
 use Rattle.vx_machine_turns.specs.Forms.{Form, Forms, flat_form, chunked_form, grouped_form, compressed_form, dict_form, zoned_form, no_struct_form, struct_form, list_form, no_forms, form_then, form_type}
 
 abbrev mutual
-  -- a flat layout doesn't keep its array tree yet
   pub is_built : StrategyData → Bool
-  is_built (flat o) = not o.inline
+  is_built (flat o) = true
   is_built (chunked w) = is_built w
   is_built (grouped g w) = false
   is_built (compressed which room w) = false
@@ -34,7 +33,7 @@ column_types fs false = field_types fs
 -- a form of these kinds, where each child has the type of what it is handed
 abbrev mutual
   pub Built : Form → Type 0
-  Built (flat_form o t) = IsFalse o.inline
+  Built (flat_form o t) = Unit {0}
   Built (chunked_form t k) = (form_type k ≡ t) × Built k
   Built (struct_form fs n name v ks) = (form_type v ≡ boolean false) × Built v × AllBuilt fs ks
   -- its start refuses

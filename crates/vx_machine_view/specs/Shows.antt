@@ -1,5 +1,5 @@
 -- The program's tasks against the abstract machine's.
-use Rattle.std.specs.Prelude.{◌≡◌, ◌+◌, ◌⊎◌, ℕ, suc, Bool, true, false, List, [], ◌∷◌, ◌++◌, map, length, get_or, Option, Some, None, IsTrue, IsFalse}
+use Rattle.std.specs.Prelude.{◌≡◌, ◌+◌, ◌⊎◌, ℕ, suc, Bool, true, false, List, [], ◌∷◌, ◌++◌, map, length, get_or, Option, Some, None, IsTrue}
 use Rattle.vx_model.specs.Ty.{Ty, struct}
 use Rattle.vx_model.specs.ChunkData.{ChunkData}
 use Rattle.vx_path.specs.Lists.{In}
@@ -9,6 +9,7 @@ use Rattle.vx_tasks.specs.Task.Kind.{Append, Join}
 use Rattle.vx_tasks.specs.Nodes.{numbers}
 use Rattle.vx_strategy_spec.specs.StrategyData.{FlatOptions}
 use Rattle.vx_plan.specs.PlanData.{Setting, Item, row_total, rows_in}
+use Rattle.vx_plan.specs.FlatNode.{inlined}
 use Rattle.vx_machine_turns.specs.Forms.{Writer, chunked_form}
 use Rattle.vx_machine_turns.specs.Locals.{ChunkedNode, StructNode, Local, flat_empty, flat_full, flat_many, chunked_local, struct_local, list_local, blocks_local, bytes_local, collect_local, compressed_local, outlet_local, dict_local, fallback_local, runs_local, zoned_local, idle_local, source_local, outside_local}
 use Rattle.vx_machine_turns.specs.Acts.{Seed, Act, Shape, alone, gathers, struct_of, list_of, runs_of, zones_of, passes, does, close_queues, shape_in, numbers_in}
@@ -132,12 +133,12 @@ Counted past n = (n ≡ 0) ⊎ In n (numbers_in past)
 -- A task that hasn't done all: what the program's has in mind and left to do, with its children, against the abstract one's past,
 -- what that has left and its local, with its children, which may go as deep as d.
 pub data Stage (s : Setting) (d : Fuel) (mind : Mind) (left : List Next) (ks : Tasks) (q : Seed) (past todo : List Act) (l : Local) (over : Bool) (hs : Tree) : Type 0 where
-  waits_first : (o : FlatOptions) (t : Ty) → IsFalse o.inline → ks ≡ no_tasks → Rests mind left past todo l over (no_chunk o t) (flat_empty o t)
+  waits_first : (o : FlatOptions) (t : Ty) → ks ≡ no_tasks → Rests mind left past todo l over (no_chunk o t) (flat_empty o t)
       → Stage s d mind left ks q past todo l over hs
-  waits_end : (o : FlatOptions) (t : Ty) (i : Item) (bytes : List ℕ) → IsFalse o.inline → ks ≡ no_tasks
-      → Rests mind left past todo l over (one_chunk (record { id = i.0; bytes = bytes; rows = rows_in i.1; type = t })) (flat_full o t i (Some bytes))
+  waits_end : (o : FlatOptions) (t : Ty) (i : Item) (bytes : List ℕ) → ks ≡ no_tasks
+      → Rests mind left past todo l over (one_chunk (record { id = i.0; bytes = bytes; tree = inlined s o i; rows = rows_in i.1; type = t })) (flat_full o t i (Some bytes))
       → Stage s d mind left ks q past todo l over hs
-  appends : (x : Stored) → ks ≡ no_tasks → Ends mind left past todo over (append x ∷ []) (append_of x ∷ []) (alone (flat_layout x.type x.rows s.encodings None x.id))
+  appends : (x : Stored) → ks ≡ no_tasks → Ends mind left past todo over (append x ∷ []) (append_of x ∷ []) (alone (flat_layout x.type x.rows s.encodings x.tree x.id))
       → Stage s d mind left ks q past todo l over hs
   -- the children have all rows so far
   splits : (n : ChunkedNode) (e : Eof) → n.name ≡ q.name → q.type ≡ n.type → q.spare ≡ [] → Built (chunked_form n.type n.child) → Enough d (chunked_form n.type n.child)

@@ -1,5 +1,5 @@
 -- The step machine as the program keeps it, in plain data: ids and pointers by their paths, chunks and layouts by their data.
-use Rattle.std.specs.Prelude.{ℕ, Bool, List}
+use Rattle.std.specs.Prelude.{ℕ, Bool, List, Option}
 use Rattle.vx_model.specs.Ty.{Ty}
 use Rattle.vx_path.specs.Path.{Eof}
 use Rattle.vx_layout_spec.specs.LayoutTree.{LayoutData}
@@ -11,6 +11,8 @@ use Rattle.vx_machine_turns.specs.Forms.{Form}
 pub record Stored : Type 0 where
   pub id : List ℕ
   pub bytes : List ℕ
+  -- its tree of encodings, where the layout keeps it
+  pub tree : Option (List ℕ)
   pub rows : ℕ
   pub type : Ty
 

@@ -1,17 +1,17 @@
 -- Plans of small streams with the bytes of their segments.
-use Rattle.std.proofs.Common.{◌≡◌, ℕ, Bool, true, false, List, [], ◌∷◌, ◌++◌, length, map, Option, Some, None, refl}
-use Rattle.std.specs.Prelude.{pos, codes, replicate}
-use Rattle.vx_model.specs.declared.ptype.PType.TheVariants.{U64, I32, I64}
+use Rattle.std.proofs.Common.{◌≡◌, ℕ, true, false, List, [], ◌∷◌, ◌++◌, length, map, Option, Some, None, refl}
+use Rattle.std.specs.Prelude.{pos, replicate}
+use Rattle.vx_model.specs.declared.ptype.PType.TheVariants.{I32, I64}
 use Rattle.vx_model.specs.declared.encoding.EncodingId.{EncodingId}
 use Rattle.vx_model.specs.declared.encoding.EncodingId.TheVariants as encodings
-use Rattle.vx_model.specs.Ty.{Ty, primitive, list, struct, field, no_fields}
-use Rattle.vx_model.specs.CellData.{CellData, int_cell}
-use Rattle.vx_model.specs.ChunkData.{ChunkData, plain_piece, chunked_piece, pieces_of, list_piece}
+use Rattle.vx_model.specs.Ty.{primitive}
+use Rattle.vx_model.specs.CellData.{int_cell}
+use Rattle.vx_model.specs.ChunkData.{ChunkData, plain_piece, chunked_piece, pieces_of}
 use Rattle.vx_layout_spec.specs.LayoutTree.{flat_layout}
 use Rattle.vx_segment_writer.specs.Segment.{encode, tree_bytes, refused}
 use Rattle.vx_plan.specs.PlanData.{Setting, Item, paths}
 use Rattle.vx_plan.specs.GroupNode.{grouped_stream}
-use Rattle.vx_strategy_spec.specs.StrategyData.{StrategyData, ZonedOptions, flat, chunked, grouped, into_one, zoned, listed}
+use Rattle.vx_strategy_spec.specs.StrategyData.{StrategyData, ZonedOptions, flat, chunked, grouped, into_one, zoned}
 use Rattle.vx_plan.specs.SourcePlan.{source_plan, batch_items}
 use Rattle.vx_plan.specs.Number.{segments, numbered}
 
@@ -50,6 +50,18 @@ one_segment = refl
 -- a plain node of one row: its place, rows, extra byte, one buffer of eight bytes, no children
 one_node : List ℕ
 one_node = (0 ∷ 0 ∷ []) ++ ((1 ∷ replicate 7 0) ++ ((0 ∷ 1 ∷ []) ++ ((8 ∷ replicate 7 0) ++ replicate 8 0)))
+
+-- ---- kept in the layout: the flag, which tells whether the buffers are padded, and the node; not the tree's length
+
+kept_tree : numbered (source_plan setting (flat (record { padding = true; inline = true })) (primitive I64 false) false (i64s (7 ∷ []) ∷ []) true) 0
+    ≡ flat_layout (primitive I64 false) 1 every_encoding (Some (1 ∷ one_node)) 0
+unfolding setting i64s every_encoding one_node
+kept_tree = refl
+
+kept_dense : numbered (source_plan setting (flat (record { padding = false; inline = true })) (primitive I64 false) false (i64s (7 ∷ []) ∷ []) true) 0
+    ≡ flat_layout (primitive I64 false) 1 every_encoding (Some (0 ∷ one_node)) 0
+unfolding setting i64s every_encoding one_node
+kept_dense = refl
 
 -- ---- collected: one chunk at the last one's path, in the chunked encoding, a segment of 101 bytes
 
