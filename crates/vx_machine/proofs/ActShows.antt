@@ -5,8 +5,8 @@ use Rattle.vx_model.specs.declared.encoding.EncodingId.{EncodingId}
 use Rattle.vx_layout_tree.specs.declared.layout.Layout.{Layout}
 use Rattle.vx_layout_tree.specs.LayoutView.{layout_data}
 use Rattle.vx_order.specs.Outlet.{Outlet, own, shared}
-use Rattle.vx_order.specs.Answers.{IsPast}
-use Rattle.vx_machine_view.specs.State.{Next, put, append, shut_kids, join_kids, Mind, made, Desk, Tasks}
+use Rattle.vx_order.specs.Answers.{IsPast, IsShared}
+use Rattle.vx_machine_view.specs.State.{Next, put, append, shut_kids, join_kids, Mind, ending, made, Desk, Tasks}
 use Rattle.vx_machine_view.specs.Acts.{give, shut_all, layouts_in, folded, joined_rows, now, do_next}
 use Rattle.vx_write_answer.specs.declared.step.ActionKind.{ActionKind}
 use Rattle.vx_write_answer.specs.declared.step.ActionKind.TheVariants as actions
@@ -30,7 +30,7 @@ use Rattle.vx_machine.proofs.RefusalSteps.{any_past, memory_only}
 -- ---- what the sink is told
 
 kept_self : (o : Outlet) → Kept o o
-kept_self (own s) = (refl, refl)
+kept_self (own s) = (refl, refl, refl)
 kept_self (shared s) = (refl, refl, refl, refl, refl)
 
 pub kept_same : (o u : Outlet) → u ≡ o → Kept o u
@@ -84,7 +84,13 @@ module _ (ids : List EncodingId) (l : Local) (ks : List Task) (d : Due) (o u : O
 
   pub join_says : (h : Shape) (r : Result ActionKind WriteError) → d ≡ dues.Join h → IfErr r (JoinRefused (joined_rows (fold_of h) (layouts_in (row ks)))) → IfErr r (DueRefused ids l ks d o)
   join_says h r is f = why_due (dues.Join h) r is
-      (IfErr-weaker r (JoinRefused (joined_rows (fold_of h) (layouts_in (row ks)))) (DueRefused ids l ks (dues.Join h) o) (λ e k n. any_past None false [] [] [] (IsPast o) (joined_rows (fold_of h) (layouts_in (row ks))) e k) f)
+      (IfErr-weaker r (JoinRefused (joined_rows (fold_of h) (layouts_in (row ks)))) (DueRefused ids l ks (dues.Join h) o) (λ e k n. any_past None false [] [] [] (IsPast o) (IsShared o) (joined_rows (fold_of h) (layouts_in (row ks))) e k) f)
+
+-- and is a join
+pub join_kind : (h : Shape) (ks : List Task) (o u : Outlet) (m : Local) (more : List Task) (r : Result ActionKind WriteError)
+    → IfOk r (λ a. (es : List EncodingId) (n : ℕ) (mind : Mind) → ActDone (acted es n mind (row ks) (join_kids (fold_of h))) o n u (mind_of m) (row more) a) → IfOk r (λ a. a ≡ actions.Join)
+join_kind h ks o u m more (Ok a) f = (f [] 0 ending).kind
+join_kind h ks o u m more (Err e) f = tt
 
 -- the children are given up, and their layout is in mind
 pub joined_done : (ids : List EncodingId) (n : ℕ) (mind : Mind) (h : Shape) (ks : Tasks) (x : Layout) (m : Local) (more : List Task) (o u : Outlet)

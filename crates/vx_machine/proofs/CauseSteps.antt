@@ -1,11 +1,8 @@
 -- Refusals of other crates' calls, as errors of a write.
-use Rattle.std.proofs.Common.{◌≡◌, ℕ, ◌+◌, ◌^◌, ◌≤◌, Option, Err, List, refl, sym, ap, subst, ◌∙◌, inl, ⊎_elim, arith}
+use Rattle.std.proofs.Common.{◌≡◌, ℕ, ◌+◌, ◌^◌, ◌≤◌, Option, List, refl, sym, ap, subst, ◌∙◌, inl, arith}
 use Rattle.vx_model.specs.Ty.{Ty, is_struct}
 use Rattle.vx_model.specs.ChunkData.{ChunkData}
-use Rattle.vx_fault.specs.Counts.{Counts}
-use Rattle.vx_fault.specs.Faults.{Called}
 use Rattle.vx_sequence.specs.Universe.{Active}
-use Rattle.vx_sink.specs.Source.{source_failed}
 use Rattle.vx_sink.specs.declared.source.SourceError.{SourceError}
 use Rattle.vx_sink.specs.declared.source.SourceError.TheVariants as source
 use Rattle.vx_segment_writer.specs.declared.error.EncodeError.{EncodeError}
@@ -18,10 +15,10 @@ use Rattle.vx_split.specs.declared.error.SplitError.{SplitError}
 use Rattle.vx_split.specs.declared.error.SplitError.TheVariants as split
 use Rattle.vx_split.specs.Causes.{IsRefused}
 use Rattle.vx_order.specs.Outlet.{Outlet, own, shared}
-use Rattle.vx_order.specs.Answers.{FullAt, IsPast, Refuses, TellsRefused}
+use Rattle.vx_order.specs.Answers.{FullAt, IsPast, Refuses}
 use Rattle.vx_write_answer.specs.declared.error.WriteError.{WriteError}
 use Rattle.vx_write_answer.specs.declared.error.WriteError.TheVariants as errors
-use Rattle.vx_write_answer.specs.Causes.{of_source, of_encode, of_order, of_split, is_sink_fault, is_source_fault}
+use Rattle.vx_write_answer.specs.Causes.{of_source, of_encode, of_order, of_split}
 use Rattle.vx_machine.specs.Causes.{MayCome, ActMay, StartMay}
 use Rattle.vx_machine.specs.Source.{SourceMay, ReadsNone}
 use Rattle.vx_machine.specs.Starting.{PointerRefused, NodeRefused}
@@ -50,12 +47,6 @@ refused_may u o id order.SinkFault h = tt
 refused_may u o id order.OutOfMemory h = tt
 refused_may u o id (order.Stopped by name) h = tt
 
-pub refused_counts : (b n : ℕ) (may may_then must must_then : ℕ → Type 0) (e : OrderError) → TellsRefused b n may may_then must must_then e → Counts b n (is_sink_fault (of_order e))
-refused_counts b n may may_then must must_then (order.TooLarge k) h = h.counted
-refused_counts b n may may_then must must_then order.SinkFault h = h.counted
-refused_counts b n may may_then must must_then order.OutOfMemory h = ⊎_elim (λ x. x.counted) (λ x. x.counted) h
-refused_counts b n may may_then must must_then (order.Stopped by name) h = h.counted
-
 -- ---- of a splitter, and of the encoder
 
 pub split_starts : (t : Ty) (e : SplitError) → IsRefused t e → StartMay (of_split e)
@@ -82,10 +73,6 @@ encode_may encoding.OutOfMemory = tt
 pub source_may : (t : Ty) (e : SourceError) → SourceMay t (of_source e)
 source_may t source.Failed = tt
 source_may t source.OutOfMemory = tt
-
-pub source_counts : (b n : ℕ) (may may_then must must_then : ℕ → Type 0) (e : SourceError) → Called b n may may_then must must_then (source_failed (Err e)) → Counts b n (is_source_fault (of_source e))
-source_counts b n may may_then must must_then source.Failed h = h.counted
-source_counts b n may may_then must must_then source.OutOfMemory h = h.counted
 
 pub source_reads : (before now : Option (List ChunkData)) (e : SourceError) → now ≡ before → ReadsNone before now (of_source e)
 source_reads before now source.Failed h = h

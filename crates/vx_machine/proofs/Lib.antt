@@ -6,6 +6,7 @@ pub mod TypeSteps
 pub mod DueSteps
 pub mod PairSteps
 pub mod CauseSteps
+pub mod CallSteps
 pub mod StartMoves
 pub mod JoinSteps
 pub mod WriteSteps
@@ -13,6 +14,8 @@ pub mod ActCauses
 pub mod ActMoves
 pub mod MachineMoves
 pub mod ViewParts
+pub mod Counting
+pub mod Remembering
 pub mod ReadyViews
 pub mod Fitting
 pub mod StartShows
@@ -28,4 +31,5 @@ pub mod HeldViews
 pub mod StepViews
 pub mod StepShows
 pub mod StepLifts
+pub mod RunCalls
 pub mod RunSteps

@@ -5,7 +5,7 @@ use Rattle.std.specs.VecDeque.{deque_len}
 use Rattle.vx_model.specs.ChunkData.{ChunkData}
 use Rattle.vx_sequence.specs.Universe.{Active}
 use Rattle.vx_order.specs.Outlet.{Outlet}
-use Rattle.vx_order.specs.Answers.{IsPast}
+use Rattle.vx_order.specs.Answers.{IsPast, IsShared}
 use Rattle.vx_sink.specs.declared.context.LayoutWriterContext.{LayoutWriterContext}
 use Rattle.vx_sink.specs.ContextView.{listed}
 use Rattle.vx_machine_view.specs.State.{Next, Desk}
@@ -84,7 +84,7 @@ module _ (ctx : LayoutWriterContext) (h : Head) (ks : List Task) (d : Due) (es :
 -- ---- where nothing is left of a block
 
 did_why : (w : Did) (o : Outlet) (e : WriteError) → TakeRefused w e → ActRefused w o e
-did_why w o e h = any_past w.refusal w.misfit w.numbers w.indices w.wrote (IsPast o) w.joined e h
+did_why w o e h = any_past w.refusal w.misfit w.numbers w.indices w.wrote (IsPast o) (IsShared o) w.joined e h
 
 module _ (ctx : LayoutWriterContext) (h : Head) (ks : List Task) (es : List Due) (is : h.todo.items ≡ es) (idle : es ≡ []) where
   -- its desk, where that list stands for what is left

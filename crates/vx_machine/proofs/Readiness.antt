@@ -74,14 +74,28 @@ pub none_is : {A : Type 0} (xs : List A) → length xs ≡ 0 → xs ≡ []
 none_is [] h = refl
 none_is (y ∷ ys) h = absurd (omega (arith, h))
 
--- all have their layouts, from one on
-pub made_more : (xs : List Task) (i : ℕ) (x : Task) → i < length xs → x ≡ get_or xs i x → is_made (out-Task x).head.local ≡ true
-    → all_made (kids_of (drop i xs)) ≡ all_made (kids_of (drop (i + 1) xs))
-made_more xs i x h e m = ap (λ v. all_made (kids_of v)) (drop_is xs i x h e) ∙ ap (λ b. b && all_made (kids_of (drop (i + 1) xs))) m
+and_false : (b : Bool) → (b && false) ≡ false
+and_false true = refl
+and_false false = refl
 
-pub made_not : (xs : List Task) (i : ℕ) (x : Task) → i < length xs → x ≡ get_or xs i x → is_made (out-Task x).head.local ≡ false
-    → all_made (kids_of (drop i xs)) ≡ false
-made_not xs i x h e m = ap (λ v. all_made (kids_of v)) (drop_is xs i x h e) ∙ ap (λ b. b && all_made (kids_of (drop (i + 1) xs))) m
+made_last : (xs : List Task) (i : ℕ) (x : Task) → i < length xs → x ≡ get_or xs i x → is_made (out-Task x).head.local ≡ true → all_made (kids_of (take (suc i) xs)) ≡ all_made (kids_of (take i xs))
+made_last [] i x h e m = absurd (omega (arith, h))
+made_last (y ∷ ys) zero x h e m = ap (λ b. b && true) (ap (λ z. is_made (out-Task z).head.local) (sym e) ∙ m)
+made_last (y ∷ ys) (suc i) x h e m = ap (λ b. (kid_of y).made && b) (made_last ys i x (omega (arith, h)) e m)
+
+last_not : (xs : List Task) (i : ℕ) (x : Task) → i < length xs → x ≡ get_or xs i x → is_made (out-Task x).head.local ≡ false → all_made (kids_of (take (suc i) xs)) ≡ false
+last_not [] i x h e m = absurd (omega (arith, h))
+last_not (y ∷ ys) zero x h e m = ap (λ b. b && true) (ap (λ z. is_made (out-Task z).head.local) (sym e) ∙ m)
+last_not (y ∷ ys) (suc i) x h e m = ap (λ b. (kid_of y).made && b) (last_not ys i x (omega (arith, h)) e m) ∙ and_false (kid_of y).made
+
+-- all of the first have their layouts, but for the last of them
+pub made_down : (xs : List Task) (n : ℕ) (x : Task) → 0 < n → n ≤ length xs → x ≡ get_or xs (n - 1) x → is_made (out-Task x).head.local ≡ true
+    → all_made (kids_of (take (n - 1) xs)) ≡ all_made (kids_of (take n xs))
+made_down xs n x o l e m = let k : suc (n - 1) ≡ n = omega (arith, o) in sym (made_last xs (n - 1) x (omega (arith, o, l)) e m) ∙ ap (λ j. all_made (kids_of (take j xs))) k
+
+pub made_down_not : (xs : List Task) (n : ℕ) (x : Task) → 0 < n → n ≤ length xs → x ≡ get_or xs (n - 1) x → is_made (out-Task x).head.local ≡ false
+    → all_made (kids_of (take n xs)) ≡ false
+made_down_not xs n x o l e m = let k : suc (n - 1) ≡ n = omega (arith, o) in ap (λ j. all_made (kids_of (take j xs))) (sym k) ∙ last_not xs (n - 1) x (omega (arith, o, l)) e m
 
 front_made : (xs : List Task) (k : Task) → all_made (kids_of (xs ++ (k ∷ []))) ≡ true → all_made (kids_of xs) ≡ true
 front_made [] k h = refl

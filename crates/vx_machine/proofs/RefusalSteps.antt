@@ -11,13 +11,13 @@ use Rattle.vx_machine.specs.Causes.{MayCome}
 use Rattle.vx_machine.specs.Outcome.{Past, Refused, none_past}
 
 -- where this is appended, and so many rows are joined
-module _ (w : List Pair) (hs : List ℕ) (r q : Option What) (b c : Bool) (ns ms is js : List ℕ) (past late : ℕ → Type 0)
+module _ (w : List Pair) (hs : List ℕ) (r q : Option What) (b c : Bool) (ns ms is js : List ℕ) (past late : ℕ → Type 0) (stopped halted : Type 0)
     (word : (x : What) → r ≡ Some x → q ≡ Some x) (misfit : b ≡ true → c ≡ true) (numbers : (n : ℕ) → In n ns → In n ms) (indices : (n : ℕ) → In n is → In n js)
-    (later : (n : ℕ) → past n → late n) where
+    (later : (n : ℕ) → past n → late n) (halts : stopped → halted) where
   past_wider : (n : ℕ) → Past ns is n → Past ms js n
   past_wider n h = ⊎_elim (λ x. inl (numbers n x.0, x.1)) (λ x. inr (x.0, indices x.0 x.1, x.2, x.3)) h
 
-  pub wider : (e : WriteError) → Refused r b ns is w past hs e → Refused q c ms js w late hs e
+  pub wider : (e : WriteError) → Refused r b ns is w past stopped hs e → Refused q c ms js w late halted hs e
   wider SourceFault h = h
   wider SinkFault h = h
   wider CompressFault h = h
@@ -32,7 +32,7 @@ module _ (w : List Pair) (hs : List ℕ) (r q : Option What) (b c : Bool) (ns ms
   wider (TooLarge n) h = ⊎_elim (λ x. inl (past_wider n x)) (λ x. inr (⊎_elim (λ y. inl (y.0, later n y.1)) (λ y. inr y) x)) h
   wider OutOfMemory h = h
   wider Unbuilt h = h
-  wider (Stopped by name) h = h
+  wider (Stopped by name) h = (h.0, halts h.1)
 
 no_word : (q : Option What) (x : What) → None ≡ Some x → q ≡ Some x
 no_word q x h = cc
@@ -41,20 +41,20 @@ not_in : (ms : List ℕ) (n : ℕ) → In n [] → In n ms
 not_in ms n h = absurd h
 
 -- whatever numbers of segments don't fit
-pub any_past : (r : Option What) (b : Bool) (ns is : List ℕ) (w : List Pair) (past : ℕ → Type 0) (hs : List ℕ) (e : WriteError) → Refused r b ns is w none_past hs e → Refused r b ns is w past hs e
-any_past r b ns is w past hs = wider w hs r r b b ns ns is is none_past past (λ x h. h) (λ h. h) (λ n h. h) (λ n h. h) (λ n h. absurd h)
+pub any_past : (r : Option What) (b : Bool) (ns is : List ℕ) (w : List Pair) (past : ℕ → Type 0) (stopped : Type 0) (hs : List ℕ) (e : WriteError) → Refused r b ns is w none_past ⊥ hs e → Refused r b ns is w past stopped hs e
+any_past r b ns is w past stopped hs = wider w hs r r b b ns ns is is none_past past ⊥ stopped (λ x h. h) (λ h. h) (λ n h. h) (λ n h. h) (λ n h. absurd h) (λ h. absurd h)
 
 -- by a word, whatever is counted
-pub by_word : (r : Option What) (ns is : List ℕ) (e : WriteError) → Refused r false [] [] [] none_past [] e → Refused r false ns is [] none_past [] e
-by_word r ns is = wider [] [] r r false false [] ns [] is none_past none_past (λ x h. h) (λ h. h) (not_in ns) (not_in is) (λ n h. h)
+pub by_word : (r : Option What) (ns is : List ℕ) (e : WriteError) → Refused r false [] [] [] none_past ⊥ [] e → Refused r false ns is [] none_past ⊥ [] e
+by_word r ns is = wider [] [] r r false false [] ns [] is none_past none_past ⊥ ⊥ (λ x h. h) (λ h. h) (not_in ns) (not_in is) (λ n h. h) (λ h. h)
 
 -- by a split, whatever else there is
-pub by_split : (b : Bool) (rows : ℕ) (is : List ℕ) (e : WriteError) → SplitRefused b rows e → Refused None b (rows ∷ []) is [] none_past [] e
-by_split b rows is = wider [] [] None None b b (rows ∷ []) (rows ∷ []) [] is none_past none_past (λ x h. h) (λ h. h) (λ n h. h) (not_in is) (λ n h. h)
+pub by_split : (b : Bool) (rows : ℕ) (is : List ℕ) (e : WriteError) → SplitRefused b rows e → Refused None b (rows ∷ []) is [] none_past ⊥ [] e
+by_split b rows is = wider [] [] None None b b (rows ∷ []) (rows ∷ []) [] is none_past none_past ⊥ ⊥ (λ x h. h) (λ h. h) (λ n h. h) (not_in is) (λ n h. h) (λ h. h)
 
 -- by its rows alone
-pub by_rows : (q : Option What) (c : Bool) (rows : ℕ) (is : List ℕ) (e : WriteError) → SplitRefused false rows e → Refused q c (rows ∷ []) is [] none_past [] e
-by_rows q c rows is = wider [] [] None q false c (rows ∷ []) (rows ∷ []) [] is none_past none_past (no_word q) (λ h. absurd (true≢false (sym h))) (λ n h. h) (not_in is) (λ n h. h)
+pub by_rows : (q : Option What) (c : Bool) (rows : ℕ) (is : List ℕ) (e : WriteError) → SplitRefused false rows e → Refused q c (rows ∷ []) is [] none_past ⊥ [] e
+by_rows q c rows is = wider [] [] None q false c (rows ∷ []) (rows ∷ []) [] is none_past none_past ⊥ ⊥ (no_word q) (λ h. absurd (true≢false (sym h))) (λ n h. h) (not_in is) (λ n h. h) (λ h. h)
 
 pub rows_large : (b : Bool) (rows n : ℕ) → n ≡ rows → 2 ^ 64 ≤ n → SplitRefused b rows (TooLarge n)
 rows_large b rows n e h = inl (inl (inl e, h))

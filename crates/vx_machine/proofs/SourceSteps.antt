@@ -25,7 +25,7 @@ use Rattle.vx_machine.specs.declared.source.Phase as held
 use Rattle.vx_machine.specs.declared.task.Task.{Task, out-Task}
 use Rattle.vx_machine.specs.Outcome.{Refused, none_past}
 use Rattle.vx_machine.specs.Source.{SourceMay, ReadsNone, NoNumber}
-use Rattle.vx_machine.specs.SourceActs.{whole_at, SourceActed, SourceRefused, ReadActed, ReadRefused}
+use Rattle.vx_machine.specs.SourceActs.{IsLate, whole_at, SourceActed, SourceRefused, ReadActed, ReadRefused}
 use Rattle.vx_machine.specs.View.{desk_of, task_row, row, phase_of}
 use Rattle.vx_machine.proofs.Fitting.{none_fit, one_fits}
 use Rattle.vx_machine.proofs.ViewParts.{row_out}
@@ -35,7 +35,7 @@ no_number source.Failed = tt
 no_number source.OutOfMemory = tt
 
 -- nothing that is told refuses a read, and else another type does
-read_cause : (t : Ty) (e : WriteError) → SourceMay t e → NoNumber e → Refused None true [] [] [] none_past [] e
+read_cause : (t : Ty) (e : WriteError) → SourceMay t e → NoNumber e → Refused None true [] [] [] none_past ⊥ [] e
 read_cause t SourceFault h k = tt
 read_cause t SinkFault h k = absurd h
 read_cause t CompressFault h k = absurd h
@@ -52,7 +52,7 @@ read_cause t OutOfMemory h k = tt
 read_cause t Unbuilt h k = absurd h
 read_cause t (Stopped by name) h k = absurd h
 
-full_cause : (last : ℕ) (x : OrderError) → FullAt last x → Refused None false [] ((last + 1) ∷ []) [] none_past [] (of_order x)
+full_cause : (last : ℕ) (x : OrderError) → FullAt last x → Refused None false [] ((last + 1) ∷ []) [] none_past ⊥ [] (of_order x)
 full_cause last (order.TooLarge n) h = inl (inr (last + 1, inl refl, omega (arith, h.1), h.0))
 full_cause last order.SinkFault h = absurd h
 full_cause last order.OutOfMemory h = tt
@@ -78,8 +78,8 @@ module _ (t : Ty) (before now : Option (List ChunkData)) where
   pub refuses : (e : Eof) (error : WriteError) → ReadsNone before now error → SourceMay t error → NoNumber error → ReadRefused t before now e error
   refuses e error r m k = λ root. record { told = unasked; asks = tt; tells = (r, m); cause = read_cause t error m k }
 
-  pub full : (e : Eof) (b : ChunkData) (x : OrderError) → before ≡ option_map (λ cs. b ∷ cs) now → piece_type b ≡ t → Whole b → FullAt e.last x → ReadRefused t before now e (of_order x)
-  full e b x r y h f = λ root. record { told = came b; asks = tt; tells = (r, record { typed = y; whole = h }); cause = full_cause e.last x f }
+  pub full : (e : Eof) (b : ChunkData) (x : OrderError) → before ≡ option_map (λ cs. b ∷ cs) now → piece_type b ≡ t → Whole b → FullAt e.last x → IsLate (of_order x) → ReadRefused t before now e (of_order x)
+  full e b x r y h f l = λ root. record { told = came b; asks = tt; tells = (l, r, record { typed = y; whole = h }); cause = full_cause e.last x f }
 
   -- ---- the next act
 

@@ -6,7 +6,7 @@ use Rattle.vx_model.specs.ChunkData.{ChunkData}
 use Rattle.vx_tasks.specs.Run.{nth}
 use Rattle.vx_sequence.specs.Universe.{Active}
 use Rattle.vx_order.specs.Outlet.{Outlet}
-use Rattle.vx_order.specs.Answers.{IsPast}
+use Rattle.vx_order.specs.Answers.{IsPast, IsShared}
 use Rattle.vx_plan.specs.PlanData.{Setting}
 use Rattle.vx_write_answer.specs.declared.step.ActionKind.{ActionKind}
 use Rattle.vx_write_answer.specs.declared.error.WriteError.{WriteError}
@@ -62,7 +62,7 @@ module _ (s : Setting) (u : Active) (number : ℕ) (before : Outlet) (t : Task) 
     outlet = w.outlet;
   }
 
-  pub own_refused : (e : WriteError) → Refused did.refusal did.misfit did.numbers did.indices did.wrote (IsPast before) did.joined e → TaskRefused s (fin.keys u) 0 before number (task_row t no_tasks) e
+  pub own_refused : (e : WriteError) → Refused did.refusal did.misfit did.numbers did.indices did.wrote (IsPast before) (IsShared before) did.joined e → TaskRefused s (fin.keys u) 0 before number (task_row t no_tasks) e
   own_refused e h = record { step = own_step desk no_tasks did; place = own_first; cause = h }
 
 -- ---- a step of the children, behind the task's own
@@ -131,7 +131,7 @@ tells_none (whole.giving d i) root k j t before now e is h = h
 tells_none whole.closing root k j t before now e is h = h
 tells_none whole.finished root k j t before now e is h = h
 
-tells_memory : (p : whole.Phase) (k : ℕ) (t : Ty) (before now : Option (List ChunkData)) → now ≡ before → TellsNothing p k t before now OutOfMemory
+pub tells_memory : (p : whole.Phase) (k : ℕ) (t : Ty) (before now : Option (List ChunkData)) → now ≡ before → TellsNothing p k t before now OutOfMemory
 tells_memory (whole.reading d) zero t before now h = (h, tt)
 tells_memory (whole.reading d) (suc k) t before now h = h
 tells_memory (whole.giving d i) k t before now h = h
@@ -186,7 +186,7 @@ module _ (s : Setting) (all : List (List ℕ)) (number : ℕ) (t : Ty) (before :
           place = source_at w.told;
           asks = subst (λ k. AsksAt phase k w.told) (sym first) w.asks;
           tells = subst (λ k. TellsRefused phase k t to_come to_come_then e w.told) (sym first) w.tells;
-          cause = any_past q.refusal q.misfit q.numbers q.indices q.wrote (IsPast before) q.joined e w.cause;
+          cause = any_past q.refusal q.misfit q.numbers q.indices q.wrote (IsPast before) (IsShared before) q.joined e w.cause;
         }
 
     -- memory ran out before it

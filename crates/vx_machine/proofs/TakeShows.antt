@@ -1,5 +1,5 @@
 -- What the take of a chunk or of the end does, against the same in plain data.
-use Rattle.std.proofs.Common.{◌≡◌, ◌+◌, ◌^◌, ◌<◌, ◌&&◌, ◌==◌, not, ℕ, Bool, true, false, List, [], ◌∷◌, ◌++◌, length, Option, Some, None, Result, Ok, Err, IfOk, IfErr, OnOk, refl, sym, ap, subst, ◌∙◌, inl, inr, append_assoc, append-nil}
+use Rattle.std.proofs.Common.{◌≡◌, ◌+◌, ◌^◌, ◌<◌, ◌&&◌, ◌==◌, not, if◌then◌else◌, ℕ, Bool, true, false, List, [], ◌∷◌, ◌++◌, length, Option, Some, None, Result, Ok, Err, IfOk, IfErr, OnOk, refl, sym, ap, subst, ◌∙◌, inl, inr, append_assoc, append-nil}
 use Rattle.std.proofs.lemmas.Bool.{true≢false}
 use Rattle.std.proofs.lemmas.List.{map_push}
 use Rattle.std.specs.Arc.{arc_value}
@@ -10,7 +10,7 @@ use Rattle.vx_model.specs.TyView.{ty}
 use Rattle.vx_model.specs.ChunkData.{ChunkData, piece_type, cells}
 use Rattle.vx_layout_spec.specs.LayoutTree.{gathered, struct_layout}
 use Rattle.vx_layout_tree.specs.Made.{struct_children}
-use Rattle.vx_segment_writer.specs.Segment.{encode, refused, bytes_unless, segment_bytes}
+use Rattle.vx_segment_writer.specs.Segment.{encode, refused, bytes_unless, tree_bytes, segment_bytes}
 use Rattle.vx_segment_writer.specs.Encoding.{HasEncodeCause}
 use Rattle.vx_segment_writer.specs.declared.error.EncodeError.{EncodeError}
 use Rattle.vx_segment_writer.specs.declared.error.EncodeError.TheVariants as encoding
@@ -18,7 +18,7 @@ use Rattle.vx_sink.specs.declared.context.LayoutWriterContext.{LayoutWriterConte
 use Rattle.vx_sink.specs.ContextView.{listed}
 use Rattle.vx_order.specs.Outlet.{Outlet}
 use Rattle.vx_plan.specs.PlanData.{Setting, Item as Piece}
-use Rattle.vx_plan.specs.FlatNode.{segment, length_of}
+use Rattle.vx_plan.specs.FlatNode.{segment, inlined, length_of}
 use Rattle.vx_strategy.specs.FlatViews.{flat_options}
 use Rattle.vx_machine_turns.specs.Forms.{Form}
 use Rattle.vx_machine_turns.specs.Flat.{forbidden}
@@ -40,7 +40,7 @@ use Rattle.vx_machine.specs.declared.node.Local.{Local}
 use Rattle.vx_machine.specs.declared.node.Local.TheVariants.{Empty, Full, Chunked, Columns, Over, Made}
 use Rattle.vx_machine.specs.declared.task.Head.{Head}
 use Rattle.vx_machine.specs.declared.task.Task.{Task}
-use Rattle.vx_machine.specs.Acting.{Behind, bare, taken, Took, TakeRefused, ChunkTaken, ChunkRefused, IsStored, WordRefused, first_word, SplitRefused, is_flat, Ended, EndTaken, TakeDone, Acted}
+use Rattle.vx_machine.specs.Acting.{Behind, bare, taken, Took, TakeRefused, ChunkTaken, ChunkRefused, tree_kept, IsStored, WordRefused, first_word, SplitRefused, is_flat, Ended, EndTaken, TakeDone, Acted}
 use Rattle.vx_machine.specs.Context.{setting_of}
 use Rattle.vx_machine.specs.Outcome.{action_of, AllFit}
 use Rattle.vx_machine.specs.Ready.{is_over}
@@ -65,8 +65,8 @@ module _ (ctx : LayoutWriterContext) (image : ℕ → ChunkData → ChunkData) (
   flat_from n x s = record {
     unrefused = listed_all (listed ctx) n.options.include_padding i.chunk x.bytes.items s.bytes;
     fits = refl;
-    mind_is = (λ j. one_chunk (record { id = i.id; bytes = x.bytes.items; rows = s.rows j; type = s.type j }))
-        ∙ ap (stored (ty (arc_value n.dtype)) (item_of i)) (sym s.bytes);
+    mind_is = (λ j. one_chunk (record { id = i.id; bytes = x.bytes.items; tree = s.tree j; rows = s.rows j; type = s.type j }))
+        ∙ ap (stored (ty (arc_value n.dtype)) (item_of i) (inlined (setting_of ctx image) (flat_options n.options) (item_of i))) (sym s.bytes);
     todo_is = refl;
     kids_are = refl;
     counted = subst (λ z. AllFit ((length (cells i.chunk) ∷ length_of z) ++ [])) (sym s.bytes) s.counted;
@@ -96,6 +96,14 @@ encode_why first encoding.OutOfMemory h = tt
 -- under the listed encodings
 pub store_refused : (ids all : List EncodingId) (p : ChunkData) (e : EncodeError) → ids ≡ all → HasEncodeCause (refused ids p) e → WordRefused (forbidden (refused all p)) (of_encode e)
 store_refused ids all p e is h = encode_why (refused all p) e (subst (λ z. HasEncodeCause (refused z p) e) is h)
+
+-- the tree that is kept of its segment
+
+pub none_kept : (ids : List EncodingId) (n : FlatNode) (p : ChunkData) → n.options.inline_array_node ≡ false → None ≡ tree_kept ids n p
+none_kept ids n p e = ap (λ b. if b then Some (tree_bytes ids n.options.include_padding p) else None) (sym e)
+
+pub tree_is_kept : (ids : List EncodingId) (n : FlatNode) (p : ChunkData) (tree : List ℕ) → n.options.inline_array_node ≡ true → tree ≡ tree_bytes ids n.options.include_padding p → Some tree ≡ tree_kept ids n p
+tree_is_kept ids n p tree e is = ap (λ t. Some t) is ∙ ap (λ b. if b then Some (tree_bytes ids n.options.include_padding p) else None) (sym e)
 
 -- of the first chunk, and of a further one
 

@@ -1,5 +1,5 @@
--- What a try to write tells of faults, and of the sink.
-use Rattle.std.proofs.Common.{◌≡◌, ℕ, List, None, Ok, Err, refl, sym, ap, subst, ◌∙◌, inl, inr}
+-- What a try to write tells of the sink.
+use Rattle.std.proofs.Common.{◌≡◌, ℕ, List, Option, Ok, Err, refl, sym, ap, subst, ◌∙◌, inl, inr}
 use Rattle.vx_model.specs.declared.encoding.EncodingId.{EncodingId}
 use Rattle.vx_model.specs.Ty.{Ty}
 use Rattle.vx_layout_spec.specs.LayoutTree.{flat_layout}
@@ -12,7 +12,7 @@ use Rattle.vx_order_answer.specs.declared.receipt.Receipt.{Receipt}
 use Rattle.vx_order_answer.specs.declared.errors.OrderError.{OrderError}
 use Rattle.vx_order_answer.specs.declared.errors.OrderError.TheVariants as order
 use Rattle.vx_order.specs.Outlet.{Outlet, own, shared}
-use Rattle.vx_order.specs.Answers.{Tried, Tells, Answers, After, Refuses}
+use Rattle.vx_order.specs.Answers.{Tried, Answers, After, Refuses}
 use Rattle.vx_order.specs.declared.attempt.Attempt.TheVariants.{Written}
 use Rattle.vx_sequence.specs.Universe.{Active}
 use Rattle.vx_sequence.specs.declared.ids.SequenceId.{SequenceId}
@@ -26,10 +26,6 @@ use Rattle.vx_machine_view.specs.State as view
 use Rattle.vx_machine.specs.Acting.{IsAppended, AppendRefused, acted, ActDone}
 use Rattle.vx_machine.specs.Outcome.{Kept}
 use Rattle.vx_machine.specs.View.{stored_of, mind_of}
-
--- the count of faults is as before
-pub written_counts : (b n : ℕ) (may may_then must must_then : ℕ → Type 0) (r : Tried) (x : Receipt) → r ≡ Ok (Written x) → Tells b n may may_then must must_then r → n ≡ b
-written_counts b n may may_then must must_then r x is h = (subst (λ z. Tells b n may may_then must must_then z) is h).counted
 
 -- ---- the sink
 
@@ -52,18 +48,18 @@ pub refused_why : (u : Active) (o : Outlet) (id bytes : List ℕ) (e : OrderErro
 refused_why u o id bytes (order.TooLarge n) h = inr (inl (((id, bytes), inl refl), h.1))
 refused_why u o id bytes order.SinkFault h = ((id, bytes), inl refl)
 refused_why u o id bytes order.OutOfMemory h = tt
-refused_why u o id bytes (order.Stopped by name) h = ((id, bytes), inl refl)
+refused_why u o id bytes (order.Stopped by name) h = (((id, bytes), inl refl), h.1)
 
 -- ---- the layout
 
-pub flat_made : (f : FlatLayout) (t u : Ty) (rows : ℕ) (ids listed : List EncodingId) (number n : ℕ) → flat_lay f ≡ flat_layout t rows ids None number → t ≡ u → ids ≡ listed → number ≡ n
-    → layout_data (layouts.Flat f) ≡ flat_layout u rows listed None n
+pub flat_made : (f : FlatLayout) (t u : Ty) (rows : ℕ) (ids listed : List EncodingId) (tree : Option (List ℕ)) (number n : ℕ) → flat_lay f ≡ flat_layout t rows ids tree number → t ≡ u → ids ≡ listed
+    → number ≡ n → layout_data (layouts.Flat f) ≡ flat_layout u rows listed tree n
 unfolding layout_data
-flat_made f t u rows ids listed number n h a b c = h ∙ (λ j. flat_layout (a j) rows (b j) None (c j))
+flat_made f t u rows ids listed tree number n h a b c = h ∙ (λ j. flat_layout (a j) rows (b j) tree (c j))
 
 -- then it is in mind
 pub appended_done : (ids : List EncodingId) (n : ℕ) (x : Stored) (l : Layout) (m : Local) (o v : Outlet) → IsAppended o n (x.id, x.segment.bytes.items) v
-    → layout_data l ≡ flat_layout (stored_of x).type x.segment.rows ids None n → m ≡ Made l → (mind : Mind) (ks : Tasks)
+    → layout_data l ≡ flat_layout (stored_of x).type x.segment.rows ids x.segment.tree n → m ≡ Made l → (mind : Mind) (ks : Tasks)
     → ActDone (acted ids n mind ks (append (stored_of x))) o n v (mind_of m) ks actions.Append
 appended_done ids n x l m o v w g is mind ks =
     record { unrefused = refl; fits = refl; mind_is = ap mind_of is ∙ ap view.made g; kids_are = refl; kind = refl; outlet = w }

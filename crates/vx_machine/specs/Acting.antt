@@ -1,14 +1,14 @@
 -- Acts of a task against those in plain data, part by part.
-use Rattle.std.specs.Prelude.{◌≡◌, ℕ, ◌+◌, Bool, true, false, List, [], ◌∷◌, ◌++◌, length, Option, Some, None, Ok}
+use Rattle.std.specs.Prelude.{◌≡◌, ℕ, ◌+◌, if◌then◌else◌, Bool, true, false, List, [], ◌∷◌, ◌++◌, length, Option, Some, None, Ok}
 use Rattle.std.specs.Arc.{arc_value}
 use Rattle.vx_path.specs.Path.{Eof, inside}
 use Rattle.vx_model.specs.declared.encoding.EncodingId.{EncodingId}
 use Rattle.vx_model.specs.ChunkData.{ChunkData, cells}
 use Rattle.vx_model.specs.TyView.{ty}
-use Rattle.vx_segment_writer.specs.Segment.{encode}
+use Rattle.vx_segment_writer.specs.Segment.{encode, tree_bytes}
 use Rattle.vx_order_answer.specs.declared.receipt.Receipt.{Receipt}
 use Rattle.vx_order.specs.Outlet.{Outlet}
-use Rattle.vx_order.specs.Answers.{IsNumber, IsPast, After}
+use Rattle.vx_order.specs.Answers.{IsNumber, IsPast, IsShared, After}
 use Rattle.vx_order.specs.declared.attempt.Attempt.TheVariants.{Written}
 use Rattle.vx_plan.specs.PlanData.{Setting, Pair, What, many_chunks, Item as Piece}
 use Rattle.vx_machine_turns.specs.Flat.{forbidden}
@@ -50,11 +50,11 @@ Behind o n (x ∷ xs) u = IsAppended o n x u
 
 -- why an act is refused that may append
 abbrev pub ActRefused : Did → Outlet → WriteError → Type 0
-ActRefused w o e = Refused w.refusal w.misfit w.numbers w.indices w.wrote (IsPast o) w.joined e
+ActRefused w o e = Refused w.refusal w.misfit w.numbers w.indices w.wrote (IsPast o) (IsShared o) w.joined e
 
 -- why an append is
 abbrev pub AppendRefused : Outlet → Pair → WriteError → Type 0
-AppendRefused o x e = Refused None false [] [] (x ∷ []) (IsPast o) [] e
+AppendRefused o x e = Refused None false [] [] (x ∷ []) (IsPast o) (IsShared o) [] e
 
 -- ---- acts of a block
 
@@ -84,7 +84,7 @@ DueRefused ids l ks d o e = (n : ℕ) → ActRefused (acted ids n (mind_of l) (r
 
 -- layouts of so many rows aren't joined
 abbrev pub JoinRefused : List ℕ → WriteError → Type 0
-JoinRefused ns e = Refused None false [] [] [] none_past ns e
+JoinRefused ns e = Refused None false [] [] [] none_past ⊥ ns e
 
 -- ---- takes of chunks
 
@@ -105,7 +105,7 @@ pub record Took (w : Did) (mind : Mind) (todo before : List Next) (kids : Tasks)
   pub kids_are : kids ≡ w.kids
 
 abbrev pub TakeRefused : Did → WriteError → Type 0
-TakeRefused w e = Refused w.refusal w.misfit w.numbers w.indices w.wrote none_past w.joined e
+TakeRefused w e = Refused w.refusal w.misfit w.numbers w.indices w.wrote none_past ⊥ w.joined e
 
 -- the same whatever images there are, of which no act here asks
 
@@ -115,16 +115,21 @@ ChunkTaken ctx name ks i l m todo before kids = (image : ℕ → ChunkData → C
 abbrev pub ChunkRefused : LayoutWriterContext → List ℕ → Tasks → Item → Local → WriteError → Type 0
 ChunkRefused ctx name ks i l e = (image : ℕ → ChunkData → ChunkData) → TakeRefused (taken (setting_of ctx image) name ks (item_of i) (mind_of l)) e
 
+-- what a flat node's layout keeps of a chunk's segment: its tree, where the node inlines
+abbrev pub tree_kept : List EncodingId → FlatNode → ChunkData → Option (List ℕ)
+tree_kept ids n p = if n.options.inline_array_node then Some (tree_bytes ids n.options.include_padding p) else None
+
 -- the segment of a chunk, at a flat node
 pub record IsStored (ids : List EncodingId) (n : FlatNode) (p : ChunkData) (x : Segment) : Type 0 where
   pub bytes : encode ids n.options.include_padding p ≡ Some x.bytes.items
+  pub tree : x.tree ≡ tree_kept ids n p
   pub rows : x.rows ≡ length (cells p)
   pub type : ty (arc_value x.dtype) ≡ ty (arc_value n.dtype)
   pub counted : AllFit (length (cells p) ∷ length x.bytes.items ∷ [])
 
 -- it is refused by this word of the plan alone
 abbrev pub WordRefused : Option What → WriteError → Type 0
-WordRefused word e = Refused word false [] [] [] none_past [] e
+WordRefused word e = Refused word false [] [] [] none_past ⊥ [] e
 
 -- the word for a chunk whose first encoding that isn't listed is this one: a further chunk is refused in any case
 abbrev pub first_word : Option EncodingId → Local → Option What
@@ -146,7 +151,7 @@ is_flat (Made l) = false
 
 -- why a chunk isn't split: it is of another type, or the rows with it are too many
 abbrev pub SplitRefused : Bool → ℕ → WriteError → Type 0
-SplitRefused misfit rows e = Refused None misfit (rows ∷ []) [] [] none_past [] e
+SplitRefused misfit rows e = Refused None misfit (rows ∷ []) [] [] none_past ⊥ [] e
 
 -- the next child of a chunked node, whose pointer is this one, isn't started
 abbrev pub ChildRefused : ChunkedNode → Eof → WriteError → Type 0

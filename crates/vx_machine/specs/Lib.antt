@@ -4,10 +4,12 @@ pub mod Sizes
 pub mod Ready
 pub mod Pairs
 pub mod Causes
+pub mod Calls
 pub mod Source
 pub mod Whole
 pub mod View
 pub mod Context
+pub mod Counting
 pub mod Outcome
 pub mod Acting
 pub mod SourceActs

@@ -27,7 +27,7 @@ AllFit ns = Each (λ n. n < 2 ^ 64) ns
 
 -- nothing was appended
 abbrev pub Kept : Outlet → Outlet → Type 0
-Kept (own s) (own t) = (t.next ≡ s.next) × (t.segments ≡ s.segments)
+Kept (own s) (own t) = (t.next ≡ s.next) × (t.segments ≡ s.segments) × (t.borrow ≡ s.borrow)
 Kept (shared s) (shared t) = (t.sink ≡ s.sink) × (t.column ≡ s.column) × (t.first ≡ s.first) × (t.pairs ≡ s.pairs) × (t.writes ≡ s.writes)
 Kept (own s) (shared t) = ⊥
 Kept (shared s) (own t) = ⊥
@@ -41,23 +41,24 @@ abbrev pub Appending : List Pair → Type 0
 Appending wrote = (x : Pair) × In x wrote
 
 -- Why an act is refused that says this of refusals, of another type, of what it counts, how far pointers come, what it appends
--- and what it joins; `past` are numbers of segments that may come and don't fit. A line an error. Memory may run out.
-abbrev pub Refused : Option What → Bool → List ℕ → List ℕ → List Pair → (ℕ → Type 0) → List ℕ → WriteError → Type 0
-Refused refusal misfit numbers indices wrote past joined SourceFault = Unit {0}
-Refused refusal misfit numbers indices wrote past joined SinkFault = Appending wrote
-Refused refusal misfit numbers indices wrote past joined CompressFault = ⊥
-Refused refusal misfit numbers indices wrote past joined (BatchType c) = misfit ≡ true
-Refused refusal misfit numbers indices wrote past joined NotStruct = refusal ≡ Some not_struct
-Refused refusal misfit numbers indices wrote past joined (DuplicateField name) = refusal ≡ Some (duplicate_field name)
-Refused refusal misfit numbers indices wrote past joined ManyChunks = refusal ≡ Some many_chunks
-Refused refusal misfit numbers indices wrote past joined EmptyList = ⊥
-Refused refusal misfit numbers indices wrote past joined (ZoneCut n) = ⊥
-Refused refusal misfit numbers indices wrote past joined (ForbiddenAggregate id) = ⊥
-Refused refusal misfit numbers indices wrote past joined (ForbiddenEncoding id) = refusal ≡ Some (forbidden_encoding id)
-Refused refusal misfit numbers indices wrote past joined (TooLarge n) = Past numbers indices n ⊎ (Appending wrote × past n) ⊎ (In n joined × (2 ^ 64 ≤ n))
-Refused refusal misfit numbers indices wrote past joined OutOfMemory = Unit {0}
-Refused refusal misfit numbers indices wrote past joined Unbuilt = ⊥
-Refused refusal misfit numbers indices wrote past joined (Stopped by name) = Appending wrote
+-- and what it joins; `past` are numbers of segments that may come and don't fit, and `stopped` says where another's refusal may end
+-- the write. A line an error. Memory may run out.
+abbrev pub Refused : Option What → Bool → List ℕ → List ℕ → List Pair → (ℕ → Type 0) → Type 0 → List ℕ → WriteError → Type 0
+Refused refusal misfit numbers indices wrote past stopped joined SourceFault = Unit {0}
+Refused refusal misfit numbers indices wrote past stopped joined SinkFault = Appending wrote
+Refused refusal misfit numbers indices wrote past stopped joined CompressFault = ⊥
+Refused refusal misfit numbers indices wrote past stopped joined (BatchType c) = misfit ≡ true
+Refused refusal misfit numbers indices wrote past stopped joined NotStruct = refusal ≡ Some not_struct
+Refused refusal misfit numbers indices wrote past stopped joined (DuplicateField name) = refusal ≡ Some (duplicate_field name)
+Refused refusal misfit numbers indices wrote past stopped joined ManyChunks = refusal ≡ Some many_chunks
+Refused refusal misfit numbers indices wrote past stopped joined EmptyList = ⊥
+Refused refusal misfit numbers indices wrote past stopped joined (ZoneCut n) = ⊥
+Refused refusal misfit numbers indices wrote past stopped joined (ForbiddenAggregate id) = ⊥
+Refused refusal misfit numbers indices wrote past stopped joined (ForbiddenEncoding id) = refusal ≡ Some (forbidden_encoding id)
+Refused refusal misfit numbers indices wrote past stopped joined (TooLarge n) = Past numbers indices n ⊎ (Appending wrote × past n) ⊎ (In n joined × (2 ^ 64 ≤ n))
+Refused refusal misfit numbers indices wrote past stopped joined OutOfMemory = Unit {0}
+Refused refusal misfit numbers indices wrote past stopped joined Unbuilt = ⊥
+Refused refusal misfit numbers indices wrote past stopped joined (Stopped by name) = Appending wrote × stopped
 
 -- of what appends nothing
 abbrev pub none_past : ℕ → Type 0

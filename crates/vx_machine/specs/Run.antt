@@ -1,5 +1,5 @@
 -- A run of the machine: its steps, one after the other.
-use Rattle.std.specs.Prelude.{◌≡◌, ◌⊎◌, ◌%◌, ◌<◌, ℕ, suc, true, false, List, [], ◌∷◌, length, Option, Some, None, slice_index}
+use Rattle.std.specs.Prelude.{◌≡◌, ◌⊎◌, ◌%◌, ◌<◌, ℕ, suc, Bool, true, false, List, [], ◌∷◌, length, Option, Some, None, slice_index}
 use Rattle.vx_model.specs.Ty.{Ty}
 use Rattle.vx_model.specs.ChunkData.{ChunkData}
 use Rattle.vx_layout_tree.specs.declared.layout.Layout.{Layout}
@@ -8,10 +8,11 @@ use Rattle.vx_order.specs.Outlet.{Outlet}
 use Rattle.vx_sink.specs.declared.context.LayoutWriterContext.{LayoutWriterContext}
 use Rattle.vx_write_answer.specs.declared.step.Step.{Step}
 use Rattle.vx_write_answer.specs.declared.error.WriteError.{WriteError}
-use Rattle.vx_write_answer.specs.declared.error.WriteError.TheVariants.{OutOfMemory}
+use Rattle.vx_write_answer.specs.declared.error.WriteError.TheVariants.{SourceFault, BatchType, OutOfMemory}
 use Rattle.vx_machine_view.specs.Acts.{layouts_in}
 use Rattle.vx_machine_view.specs.Machine.{Machine, is_finished, machine_ids}
 use Rattle.vx_machine_view.specs.Places.{whole_ready}
+use Rattle.vx_machine.specs.Calls.{reads_in, reads_at}
 use Rattle.vx_machine.specs.Ready.{counted}
 use Rattle.vx_machine.specs.Outcome.{Kept}
 use Rattle.vx_machine.specs.Steps.{StepDone, StepFails}
@@ -63,3 +64,18 @@ pub record RunStopped (ctx : LayoutWriterContext) (t : Ty) (schedule : List ℕ)
   pub ran : Ran ctx t schedule 0 x trace end
   pub kept : Kept end.outlet outlet
   pub stops : Stops ctx t schedule (length trace) end to_come e
+
+-- The same, and of the source's error whether the step that was refused is a read: where the source failed it is. Where a read gave a
+-- batch of another type, the call of the source behind those that the trace has isn't one that must fail.
+abbrev pub ReadStopped : Bool → Type 0 → WriteError → Type 0
+ReadStopped reads must SourceFault = reads ≡ true
+ReadStopped reads must (BatchType c) = reads ≡ true → ¬ must
+ReadStopped reads must e = Unit {0}
+
+-- where the step at the end is the source's, and it reads
+abbrev pub stops_reading : List ℕ → ℕ → Machine → Bool
+stops_reading schedule place m = reads_at m.phase (slice_index schedule place % counted (ready_at m))
+
+pub record StopTold (ctx : LayoutWriterContext) (t : Ty) (schedule : List ℕ) (x : At) (trace : List Step) (to_come : Option (List ChunkData)) (outlet : Outlet) (must : ℕ → Type 0) (e : WriteError) : Type 0 where
+  pub stop : RunStopped ctx t schedule x trace to_come outlet e
+  pub passed : ReadStopped (stops_reading schedule (length trace) stop.end.machine) (must (reads_in trace)) e

@@ -7,6 +7,7 @@ use Rattle.vx_layout_spec.specs.Real.{Of}
 use Rattle.vx_fault.specs.Told.{NoneTold}
 use Rattle.vx_write_answer.specs.declared.step.ActionKind.{ActionKind}
 use Rattle.vx_write_answer.specs.declared.error.WriteError.{WriteError}
+use Rattle.vx_write_answer.specs.declared.error.WriteError.TheVariants.{TooLarge}
 use Rattle.vx_machine_promises.specs.Write.{Answer, unasked, came, over}
 use Rattle.vx_machine_view.specs.State.{Tasks}
 use Rattle.vx_machine_view.specs.Machine.{Phase, reading, giving, closing, finished, Machine, source_step}
@@ -19,7 +20,13 @@ Tells t before now unasked = now ≡ before
 Tells t before now (came b) = (before ≡ option_map (λ cs. b ∷ cs) now) × Of t b
 Tells t before now over = (now ≡ before) × NoneTold now
 
--- The same where the step is refused. Where it is asked, it may also have told a batch of another type, or failed.
+-- an error that comes behind a batch of the type: the batch can have no path, as its number is too large
+abbrev pub IsLate : WriteError → Type 0
+IsLate (TooLarge n) = Unit {0}
+IsLate e = ⊥
+
+-- The same where the step is refused. Where it is asked, it may also have told a batch of another type, or failed. Behind its end
+-- nothing is refused.
 
 abbrev pub TellsNothing : Phase → ℕ → Ty → Option (List ChunkData) → Option (List ChunkData) → WriteError → Type 0
 TellsNothing (reading e) zero t before now error = ReadsNone before now error × SourceMay t error
@@ -30,8 +37,8 @@ TellsNothing finished k t before now error = now ≡ before
 
 abbrev pub TellsRefused : Phase → ℕ → Ty → Option (List ChunkData) → Option (List ChunkData) → WriteError → Answer → Type 0
 TellsRefused p k t before now e unasked = TellsNothing p k t before now e
-TellsRefused p k t before now e (came b) = (before ≡ option_map (λ cs. b ∷ cs) now) × Of t b
-TellsRefused p k t before now e over = (now ≡ before) × NoneTold now
+TellsRefused p k t before now e (came b) = IsLate e × (before ≡ option_map (λ cs. b ∷ cs) now) × Of t b
+TellsRefused p k t before now e over = ⊥
 
 -- it is asked only where it reads, in the first place
 abbrev pub AsksAt : Phase → ℕ → Answer → Type 0
@@ -63,7 +70,7 @@ pub record SourceRefused (t : Ty) (before now : Option (List ChunkData)) (phase 
   pub told : Answer
   pub asks : AsksAt phase 0 told
   pub tells : TellsRefused phase 0 t before now e told
-  pub cause : Refused (source_step told phase root).refusal (source_step told phase root).misfit (source_step told phase root).numbers (source_step told phase root).indices (source_step told phase root).wrote none_past
+  pub cause : Refused (source_step told phase root).refusal (source_step told phase root).misfit (source_step told phase root).numbers (source_step told phase root).indices (source_step told phase root).wrote none_past ⊥
       (source_step told phase root).joined e
 
 abbrev pub ReadRefused : Ty → Option (List ChunkData) → Option (List ChunkData) → Eof → WriteError → Type 0

@@ -4,7 +4,7 @@ use Rattle.vx_model.specs.Ty.{Ty}
 use Rattle.vx_model.specs.ChunkData.{ChunkData}
 use Rattle.vx_tasks.specs.Run.{nth}
 use Rattle.vx_order.specs.Outlet.{Outlet}
-use Rattle.vx_order.specs.Answers.{IsPast}
+use Rattle.vx_order.specs.Answers.{IsPast, IsShared}
 use Rattle.vx_plan.specs.PlanData.{Setting}
 use Rattle.vx_write_answer.specs.declared.step.ActionKind.{ActionKind}
 use Rattle.vx_write_answer.specs.declared.error.WriteError.{WriteError}
@@ -36,7 +36,7 @@ pub record TaskStepped (s : Setting) (all : List (List ℕ)) (k : ℕ) (before :
 pub record TaskRefused (s : Setting) (all : List (List ℕ)) (k : ℕ) (before : Outlet) (number : ℕ) (cs : Tasks) (e : WriteError) : Type 0 where
   pub step : TaskStep
   pub place : nth (steps s all number cs) k ≡ Some step
-  pub cause : Refused step.refusal step.misfit step.numbers step.indices step.wrote (IsPast before) step.joined e
+  pub cause : Refused step.refusal step.misfit step.numbers step.indices step.wrote (IsPast before) (IsShared before) step.joined e
 
 -- whatever images there are, of which no act here asks: it was done where the next segment got some number, and is refused whatever
 -- that would be
@@ -71,7 +71,7 @@ pub record StepRefused (s : Setting) (all : List (List ℕ)) (picked : ℕ) (t :
   pub place : nth (whole_steps s all number told m) picked ≡ Some step
   pub asks : AsksAt m.phase picked told
   pub tells : TellsRefused m.phase picked t to_come to_come_then e told
-  pub cause : Refused step.refusal step.misfit step.numbers step.indices step.wrote (IsPast before) step.joined e
+  pub cause : Refused step.refusal step.misfit step.numbers step.indices step.wrote (IsPast before) (IsShared before) step.joined e
 
 abbrev pub StepDone : LayoutWriterContext → List (List ℕ) → ℕ → Ty → Option (List ChunkData) → Option (List ChunkData) → Outlet → Outlet → Machine → Machine → List ℕ → ActionKind → Type 0
 StepDone ctx all picked t to_come to_come_then before after m new name a =

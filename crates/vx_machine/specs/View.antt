@@ -47,7 +47,7 @@ abbrev pub items_of : List Item → List Piece
 items_of is = map item_of is
 
 abbrev pub stored_of : Stored → view.Stored
-stored_of x = record { id = x.id; bytes = x.segment.bytes.items; rows = x.segment.rows; type = ty (arc_value x.segment.dtype) }
+stored_of x = record { id = x.id; bytes = x.segment.bytes.items; tree = x.segment.tree; rows = x.segment.rows; type = ty (arc_value x.segment.dtype) }
 
 abbrev pub fold_of : Shape → view.Fold
 fold_of (shapes.Chunks t) = view.fold_chunks (ty (arc_value t))

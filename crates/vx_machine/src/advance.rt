@@ -5,16 +5,15 @@ ghost use Rattle.std.specs.Arc.{arc_value};
 ghost use Rattle.std.specs.VecDeque.{deque_len, deque_capacity};
 ghost use Rattle.vx_model.specs.declared.encoding.EncodingId.{EncodingId};
 ghost use Rattle.vx_model.specs.TyView.{ty};
-ghost use Rattle.vx_fault.specs.Counts.{Counts};
 ghost use Rattle.vx_layout_spec.specs.LayoutTree.{gathered};
 ghost use Rattle.vx_sequence.specs.Universe.{IsLeast};
 ghost use Rattle.vx_machine_ids.specs.Stock.{none, both, ok_stock};
 ghost use Rattle.vx_machine_ids.specs.Balance.{Owned, Moved};
 ghost use Rattle.vx_sink.specs.ContextView.{listed};
-ghost use Rattle.vx_write_answer.specs.Causes.{errs, is_sink_fault};
 ghost use Rattle.vx_machine_view.specs.State.{append as append_next, join_kids, Mind, made as has_layout, Tasks};
 ghost use Rattle.vx_machine_view.specs.Acts.{give, shut_all, layouts_in, joined_rows, column_count};
 ghost use Rattle.vx_machine.specs.Acting.{AppendRefused, JoinRefused, acted, ActDone, DueDone, DueRefused, ChunkTaken, ChunkRefused, EndTaken, NextTaken, NextUntaken, NextDone, NextRefused};
+ghost use Rattle.vx_machine.specs.Calls.{TaskTold};
 ghost use Rattle.vx_machine.specs.Causes.{MayCome, ActMay};
 ghost use Rattle.vx_machine.specs.Outcome.{Kept};
 ghost use Rattle.vx_machine.specs.Pairs.{due_pairs, next_pairs, AllMay};
@@ -53,7 +52,7 @@ fn put<O: Order>(
     ensures kind { IfOk result (λ a. a ≡ ActionKind.Put) }
     ensures kids { OnOk result (row kids.new.items ≡ give child (item_of item) (row kids.old.items)) }
     ensures outlet { O.outlet order.new ≡ O.outlet order.old }
-    ensures faults { O.faults order.new ≡ O.faults order.old }
+    ensures sink { O.sink order.new ≡ O.sink order.old }
     ensures memory { IfErr result (λ e. e ≡ WriteError.OutOfMemory) }
 {
     match kids[child].give(item) {
@@ -89,7 +88,8 @@ fn append_due<O: Order>(
         → ActDone (acted (listed ctx.now) n mind ks (append_next (stored_of stored))) (O.outlet order.old) n (O.outlet order.new) (mind_of local.new) ks a)) }
     ensures refused { IfErr result (AppendRefused (O.outlet order.old) (stored.id, stored.segment.bytes.items)) }
     ensures kept { OnErr result (Kept (O.outlet order.old) (O.outlet order.new)) }
-    ensures faults { Counts (O.faults order.old) (O.faults order.new) (errs is_sink_fault result) }
+    ensures told { TaskTold (O.Sink.faults (O.sink order.old)) (O.Sink.faults (O.sink order.new)) (O.Sink.may_fail (O.sink order.old)) (O.Sink.may_fail (O.sink order.new))
+        (O.Sink.must_fail (O.sink order.old)) (O.Sink.must_fail (O.sink order.new)) result (λ a. a) }
     ensures cause { IfErr result ActMay }
 {
     match append(ctx, order, stored) {
@@ -117,7 +117,7 @@ fn join_due<O: Order>(
         → ActDone (acted ids n mind (row kids.old.items) (join_kids (fold_of shape))) (O.outlet order.old) n (O.outlet order.new) (mind_of local.new) (row kids.new.items) a) }
     ensures refused { IfErr result (JoinRefused (joined_rows (fold_of shape) (layouts_in (row kids.old.items)))) }
     ensures outlet { O.outlet order.new ≡ O.outlet order.old }
-    ensures faults { O.faults order.new ≡ O.faults order.old }
+    ensures sink { O.sink order.new ≡ O.sink order.old }
     ensures cause { IfErr result MayCome }
 {
     match join(alloc, order, kids, shape) {
@@ -145,7 +145,8 @@ fn act<O: Order>(
     ensures done { IfOk result (DueDone (listed ctx.now) local.old kids.old.items due (O.outlet order.old) (O.outlet order.new) local.new kids.new.items) }
     ensures refused { IfErr result (DueRefused (listed ctx.now) local.old kids.old.items due (O.outlet order.old)) }
     ensures kept { OnErr result (Kept (O.outlet order.old) (O.outlet order.new)) }
-    ensures faults { Counts (O.faults order.old) (O.faults order.new) (errs is_sink_fault result) }
+    ensures told { TaskTold (O.Sink.faults (O.sink order.old)) (O.Sink.faults (O.sink order.new)) (O.Sink.may_fail (O.sink order.old)) (O.Sink.may_fail (O.sink order.new))
+        (O.Sink.must_fail (O.sink order.old)) (O.Sink.must_fail (O.sink order.new)) result (λ a. a) }
     ensures cause { IfErr result ActMay }
 {
     match due {
@@ -175,7 +176,7 @@ fn take<O: Order>(
     ensures done { OnOk result (ChunkTaken ctx.now name.now (row kids.old.items) item local.old local.new (todo_of todo.new.items) (todo_of todo.old.items) (row kids.new.items)) }
     ensures refused { IsFalse (is_over local.old) → IfErr result (ChunkRefused ctx.now name.now (row kids.old.items) item local.old) }
     ensures outlet { O.outlet order.new ≡ O.outlet order.old }
-    ensures faults { O.faults order.new ≡ O.faults order.old }
+    ensures sink { O.sink order.new ≡ O.sink order.old }
     ensures cause { IfErr result MayCome }
 {
     match local {
@@ -247,7 +248,7 @@ fn ended<O: Order>(
     ensures done { IfOk result (λ l. EndTaken local kids l (todo_of todo.new.items) (todo_of todo.old.items)) }
     ensures memory { IfErr result (λ e. e ≡ WriteError.OutOfMemory) }
     ensures outlet { O.outlet order.new ≡ O.outlet order.old }
-    ensures faults { O.faults order.new ≡ O.faults order.old }
+    ensures sink { O.sink order.new ≡ O.sink order.old }
     ensures cause { IfErr result MayCome }
 {
     match local {
@@ -286,7 +287,7 @@ fn end<O: Order>(
     ensures done { OnOk result (EndTaken local.old kids local.new (todo_of todo.new.items) (todo_of todo.old.items)) }
     ensures memory { IfErr result (λ e. e ≡ WriteError.OutOfMemory) }
     ensures outlet { O.outlet order.new ≡ O.outlet order.old }
-    ensures faults { O.faults order.new ≡ O.faults order.old }
+    ensures sink { O.sink order.new ≡ O.sink order.old }
     ensures cause { IfErr result MayCome }
 {
     todo.reserve(2)?;
@@ -313,7 +314,7 @@ fn take_next<O: Order>(
     ensures done { head.old.todo.items ≡ [] → OnOk result (NextTaken ctx.now head.old kids.old.items head.new kids.new.items) }
     ensures refused { IsFalse (is_over head.old.local) → IfErr result (NextUntaken ctx.now head.old kids.old.items) }
     ensures outlet { O.outlet order.new ≡ O.outlet order.old }
-    ensures faults { O.faults order.new ≡ O.faults order.old }
+    ensures sink { O.sink order.new ≡ O.sink order.old }
     ensures cause { IfErr result MayCome }
 {
     match head.inbox.pop_front() {
@@ -346,7 +347,8 @@ pub(crate) fn advance<O: Order>(
     ensures done { IfOk result (NextDone ctx.now head.old kids.old.items (O.outlet order.old) (O.outlet order.new) head.new kids.new.items) }
     ensures refused { IfErr result (NextRefused ctx.now head.old kids.old.items (O.outlet order.old)) }
     ensures kept { OnErr result (Kept (O.outlet order.old) (O.outlet order.new)) }
-    ensures faults { Counts (O.faults order.old) (O.faults order.new) (errs is_sink_fault result) }
+    ensures told { TaskTold (O.Sink.faults (O.sink order.old)) (O.Sink.faults (O.sink order.new)) (O.Sink.may_fail (O.sink order.old)) (O.Sink.may_fail (O.sink order.new))
+        (O.Sink.must_fail (O.sink order.old)) (O.Sink.must_fail (O.sink order.new)) result (λ a. a) }
     ensures cause { IfErr result ActMay }
 {
     match head.todo.pop_front() {

@@ -9,11 +9,11 @@ use vx_strategy::{FieldWriter, Strategy};
 
 /// Whether the strategy names only nodes that are built.
 #[cycle(built)]
-pub(crate) fn is_built(strategy: &Strategy) -> bool
+pub fn is_built(strategy: &Strategy) -> bool
     ensures { result ≡ is_built (strategy_data strategy.now) }
 {
     match strategy {
-        Strategy::Flat(flat) => !flat.inline_array_node,
+        Strategy::Flat(_) => true,
         Strategy::Chunked(chunked) => is_built(chunked.child().strategy()),
         Strategy::Struct(fields) => {
             let validity = is_built(fields.validity().strategy());

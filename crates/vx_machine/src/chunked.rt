@@ -35,7 +35,7 @@ fn fed<O: Order>(order: &mut O, mut kid: Task, item: Item) -> Result<Task, Write
     ensures moved { Moved (O.active order.old) (O.active order.new) (both (task_stock kid) (item_stock item)) (ok_stock task_stock result) }
     ensures fed { IfOk result (λ t. (r : Tasks) → task_row t r ≡ task_then (shut_desk (with_item (desk_of (out-Task kid).head) (item_of item))) (row (out-Task kid).kids.items) r) }
     ensures outlet { O.outlet order.new ≡ O.outlet order.old }
-    ensures faults { O.faults order.new ≡ O.faults order.old }
+    ensures sink { O.sink order.new ≡ O.sink order.old }
     ensures memory { IfErr result (λ e. e ≡ WriteError.OutOfMemory) }
 {
     match kid.give(item) {
@@ -69,7 +69,7 @@ fn next_child<O: Order>(
     ensures fits { OnOk result (eof.old.last + 1 < 2 ^ 64) }
     ensures refused { IfErr result (ChildRefused node.now eof.old) }
     ensures outlet { O.outlet order.new ≡ O.outlet order.old }
-    ensures faults { O.faults order.new ≡ O.faults order.old }
+    ensures sink { O.sink order.new ≡ O.sink order.old }
     ensures cause { IfErr result MayCome }
 {
     let name = next_name(alloc, name, kids)?;
@@ -97,7 +97,7 @@ pub(crate) fn take_chunk<O: Order>(
     ensures counted { OnOk result (AllFit ((eof.old.last + 1) ∷ first_indices (child_form node.now) (inside eof.old))) }
     ensures refused { IfErr result (ChildRefused node.now eof.old) }
     ensures outlet { O.outlet order.new ≡ O.outlet order.old }
-    ensures faults { O.faults order.new ≡ O.faults order.old }
+    ensures sink { O.sink order.new ≡ O.sink order.old }
     ensures cause { IfErr result MayCome }
 {
     match next_child(alloc, order, node, eof, name, kids) {
@@ -130,7 +130,7 @@ pub(crate) fn take_chunked<O: Order>(
         (mind_of (Chunked node.now eof.new rows.new)) todo todo (row kids.new.items)) }
     ensures refused { IfErr result (λ e. (s : Setting) → TakeRefused (taken s name.now (row kids.old.items) (item_of item) (mind_of (Chunked node.now eof.old rows.old))) e) }
     ensures outlet { O.outlet order.new ≡ O.outlet order.old }
-    ensures faults { O.faults order.new ≡ O.faults order.old }
+    ensures sink { O.sink order.new ≡ O.sink order.old }
     ensures cause { IfErr result MayCome }
 {
     match add_rows(*rows, item.chunk.len()) {

@@ -139,7 +139,7 @@ pub(crate) fn take_columns<O: Order>(
     ensures refused { IfErr result (λ e. (s : Setting) (name : List ℕ) (ks : Tasks)
         → TakeRefused (taken s name ks (item_of item) (by_column (ty (arc_value node.now.dtype)) rows.old)) e) }
     ensures outlet { O.outlet order.new ≡ O.outlet order.old }
-    ensures faults { O.faults order.new ≡ O.faults order.old }
+    ensures sink { O.sink order.new ≡ O.sink order.old }
     ensures cause { IfErr result MayCome }
 {
     let Item { id, chunk } = item;

@@ -1,20 +1,22 @@
 //! A flat node stores its one chunk as one segment.
 
-ghost use Rattle.std.specs.Prelude.{◌≡◌, ℕ, List, None, IsTrue, IfOk, IfErr, OnOk, OnErr};
+ghost use Rattle.std.specs.Prelude.{◌≡◌, ℕ, List, Some, IsTrue, IfOk, IfErr, OnOk, OnErr};
 ghost use Rattle.std.specs.Arc.{arc_value};
+ghost use Rattle.vx_model.specs.declared.encoding.EncodingId.{EncodingId};
+ghost use Rattle.vx_model.specs.ChunkData.{ChunkData};
 ghost use Rattle.vx_model.specs.TyView.{ty};
-ghost use Rattle.vx_fault.specs.Counts.{Counts};
 ghost use Rattle.vx_layout_spec.specs.LayoutTree.{flat_layout};
 ghost use Rattle.vx_layout_tree.specs.LayoutView.{layout_data};
-ghost use Rattle.vx_segment_writer.specs.Segment.{refused as refused_first};
+ghost use Rattle.vx_segment_writer.specs.Segment.{encode, refused as refused_first};
+ghost use Rattle.vx_array_tree.specs.Written.{IsEncoded};
 ghost use Rattle.vx_sink.specs.ContextView.{listed};
 ghost use Rattle.vx_sequence.specs.Universe.{IsLeast};
 ghost use Rattle.vx_machine_ids.specs.Stock.{none, both, id_stock};
 ghost use Rattle.vx_machine_ids.specs.Balance.{Owned, Moved};
-ghost use Rattle.vx_write_answer.specs.Causes.{errs, is_sink_fault};
 ghost use Rattle.vx_machine_turns.specs.Flat.{forbidden};
 ghost use Rattle.vx_machine_view.specs.State.{Next, Tasks};
-ghost use Rattle.vx_machine.specs.Acting.{IsAppended, AppendRefused, IsStored, WordRefused, first_word, is_flat, ChunkTaken, ChunkRefused};
+ghost use Rattle.vx_machine.specs.Acting.{IsAppended, AppendRefused, tree_kept, IsStored, WordRefused, first_word, is_flat, ChunkTaken, ChunkRefused};
+ghost use Rattle.vx_machine.specs.Calls.{AppendTold};
 ghost use Rattle.vx_machine.specs.Causes.{MayCome, ActMay};
 ghost use Rattle.vx_machine.specs.Outcome.{Kept};
 ghost use Rattle.vx_machine.specs.Stocks.{item_stock, local_stock, stored_stock};
@@ -25,10 +27,11 @@ use crate::node::{Local, give_up_local};
 use std::alloc::{AllocError, Global};
 use std::mem;
 use std::sync::Arc;
+use vx_array_tree::array_tree;
 use vx_chunk::Chunk;
 use vx_layout_tree::{FlatLayout, Layout};
 use vx_machine_ids::give_up_id;
-use vx_model::{ArrayContext, DType, SegmentId};
+use vx_model::{ArrayContext, Blob, DType, SegmentId};
 use vx_order::{Attempt, Order};
 use vx_segment_writer::encode_segment;
 use vx_sequence::SequenceId;
@@ -41,10 +44,21 @@ pub(crate) fn set_local<O: Order>(order: &mut O, local: &mut Local, new: Local)
     ensures moved { Moved (O.active order.old) (O.active order.new) (both (local_stock local.old) (local_stock new)) (local_stock local.new) }
     ensures local { local.new ≡ new }
     ensures outlet { O.outlet order.new ≡ O.outlet order.old }
-    ensures faults { O.faults order.new ≡ O.faults order.old }
+    ensures sink { O.sink order.new ≡ O.sink order.old }
 {
     let old = mem::replace(local, new);
     give_up_local(order, old);
+}
+
+/// The segment's tree, where the node's layout keeps it.
+fn kept_tree(alloc: Global, node: &FlatNode, segment: &[u8]) -> Result<Option<Blob>, AllocError>
+    requires { IsEncoded segment.now }
+    ensures { IfOk result (λ tree. (ids : List EncodingId) (p : ChunkData) → encode ids node.now.options.include_padding p ≡ Some segment.now → tree ≡ tree_kept ids node.now p) }
+{
+    if !node.options.inline_array_node {
+        return Ok(None);
+    }
+    Ok(Some(Blob::from_slice(alloc, array_tree(segment))?))
 }
 
 /// The chunk's segment.
@@ -59,9 +73,11 @@ fn store(
     ensures cause { IfErr result MayCome }
 {
     let bytes = encode_segment(alloc, ctx.array_ctx(), chunk, node.options.include_padding)?;
+    let tree = kept_tree(alloc, node, &bytes)?;
     let dtype = Arc::try_clone(&node.dtype)?;
     Ok(Segment {
         bytes,
+        tree,
         rows: chunk.len(),
         dtype,
     })
@@ -97,7 +113,7 @@ pub(crate) fn take_flat<O: Order>(
     ensures done { OnOk result ((name : List ℕ) (ks : Tasks) (todo : List Next) → ChunkTaken ctx.now name ks item local.old local.new todo todo ks) }
     ensures refused { IsTrue (is_flat local.old) → IfErr result (λ e. (name : List ℕ) (ks : Tasks) → ChunkRefused ctx.now name ks item local.old e) }
     ensures outlet { O.outlet order.new ≡ O.outlet order.old }
-    ensures faults { O.faults order.new ≡ O.faults order.old }
+    ensures sink { O.sink order.new ≡ O.sink order.old }
     ensures cause { IfErr result MayCome }
 {
     let Item { id, chunk } = item;
@@ -124,7 +140,8 @@ fn write<O: Order>(order: &mut O, id: SequenceId, bytes: &[u8]) -> Result<u32, W
     ensures appended { IfOk result (λ n. IsAppended (O.outlet order.old) n (id, bytes.now) (O.outlet order.new)) }
     ensures refused { IfErr result (AppendRefused (O.outlet order.old) (id, bytes.now)) }
     ensures kept { OnErr result (Kept (O.outlet order.old) (O.outlet order.new)) }
-    ensures faults { Counts (O.faults order.old) (O.faults order.new) (errs is_sink_fault result) }
+    ensures told { AppendTold (O.Sink.faults (O.sink order.old)) (O.Sink.faults (O.sink order.new)) (O.Sink.may_fail (O.sink order.old)) (O.Sink.may_fail (O.sink order.new))
+        (O.Sink.must_fail (O.sink order.old)) (O.Sink.must_fail (O.sink order.new)) result }
     ensures cause { IfErr result ActMay }
 {
     match order.try_write(id, bytes) {
@@ -174,25 +191,32 @@ pub(crate) fn append<O: Order>(
     requires allowed { O.may_write order.old stored.id stored.segment.bytes.items }
     ensures moved { Moved (O.active order.old) (O.active order.new) (stored_stock stored) none }
     ensures appended { IfOk result (λ l. (n : ℕ) × IsAppended (O.outlet order.old) n (stored.id, stored.segment.bytes.items) (O.outlet order.new)
-        × (layout_data l ≡ flat_layout (ty (arc_value stored.segment.dtype)) stored.segment.rows (listed ctx.now) None n)) }
+        × (layout_data l ≡ flat_layout (ty (arc_value stored.segment.dtype)) stored.segment.rows (listed ctx.now) stored.segment.tree n)) }
     ensures refused { IfErr result (AppendRefused (O.outlet order.old) (stored.id, stored.segment.bytes.items)) }
     ensures kept { OnErr result (Kept (O.outlet order.old) (O.outlet order.new)) }
-    ensures faults { Counts (O.faults order.old) (O.faults order.new) (errs is_sink_fault result) }
+    ensures told { AppendTold (O.Sink.faults (O.sink order.old)) (O.Sink.faults (O.sink order.new)) (O.Sink.may_fail (O.sink order.old)) (O.Sink.may_fail (O.sink order.new))
+        (O.Sink.must_fail (O.sink order.old)) (O.Sink.must_fail (O.sink order.new)) result }
     ensures cause { IfErr result ActMay }
 {
     let Stored { id, segment } = stored;
     match layout_parts(ctx, &segment.dtype) {
         Ok((dtype, encodings)) => {
             let written = write(order, id, &segment.bytes);
-            let rows = segment.rows;
-            drop(segment);
+            let Segment {
+                bytes,
+                tree,
+                rows,
+                dtype: held,
+            } = segment;
+            drop((bytes, held));
             match written {
                 Ok(number) => {
-                    let flat = FlatLayout::new(rows, dtype, SegmentId(number), encodings);
+                    let id = SegmentId(number);
+                    let flat = FlatLayout::new_with_metadata(rows, dtype, id, encodings, tree);
                     Ok(Layout::Flat(flat))
                 }
                 Err(error) => {
-                    drop((dtype, encodings));
+                    drop((dtype, encodings, tree));
                     Err(error)
                 }
             }

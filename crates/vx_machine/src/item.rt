@@ -10,7 +10,7 @@ use std::collections::VecDeque;
 use std::sync::Arc;
 use vx_chunk::Chunk;
 use vx_machine_ids::give_up_id;
-use vx_model::DType;
+use vx_model::{Blob, DType};
 use vx_order::Order;
 use vx_sequence::SequenceId;
 
@@ -29,6 +29,8 @@ pub(crate) struct Stored {
 #[derive(Drop)]
 pub(crate) struct Segment {
     pub bytes: Vec<u8>,
+    /// Its tree of encodings, where the layout keeps it.
+    pub tree: Option<Blob>,
     pub rows: u64,
     pub dtype: Arc<DType>,
 }
@@ -46,7 +48,7 @@ pub(crate) fn give_up_item<O: Order>(order: &mut O, item: Item)
     requires { Owned (O.active order.old) (item_stock item) }
     ensures moved { Moved (O.active order.old) (O.active order.new) (item_stock item) none }
     ensures outlet { O.outlet order.new ≡ O.outlet order.old }
-    ensures faults { O.faults order.new ≡ O.faults order.old }
+    ensures sink { O.sink order.new ≡ O.sink order.old }
 {
     let Item { id, chunk } = item;
     drop(chunk);
@@ -57,7 +59,7 @@ pub(crate) fn give_up_stored<O: Order>(order: &mut O, stored: Stored)
     requires { Owned (O.active order.old) (stored_stock stored) }
     ensures moved { Moved (O.active order.old) (O.active order.new) (stored_stock stored) none }
     ensures outlet { O.outlet order.new ≡ O.outlet order.old }
-    ensures faults { O.faults order.new ≡ O.faults order.old }
+    ensures sink { O.sink order.new ≡ O.sink order.old }
 {
     let Stored { id, segment } = stored;
     drop(segment);
@@ -68,7 +70,7 @@ pub(crate) fn give_up_due<O: Order>(order: &mut O, due: Due)
     requires { Owned (O.active order.old) (due_stock due) }
     ensures moved { Moved (O.active order.old) (O.active order.new) (due_stock due) none }
     ensures outlet { O.outlet order.new ≡ O.outlet order.old }
-    ensures faults { O.faults order.new ≡ O.faults order.old }
+    ensures sink { O.sink order.new ≡ O.sink order.old }
 {
     match due {
         Due::Put { child: _, item } => give_up_item(order, item),
@@ -82,7 +84,7 @@ pub(crate) fn give_up_items<O: Order>(order: &mut O, mut items: VecDeque<Item>)
     requires { Owned (O.active order.old) (items_stock items.items) }
     ensures moved { Moved (O.active order.old) (O.active order.new) (items_stock items.items) none }
     ensures outlet { O.outlet order.new ≡ O.outlet order.old }
-    ensures faults { O.faults order.new ≡ O.faults order.old }
+    ensures sink { O.sink order.new ≡ O.sink order.old }
 {
     'items: while let Some(item) = items.pop_back() {
         give_up_item(order, item);
@@ -94,7 +96,7 @@ pub(crate) fn give_up_dues<O: Order>(order: &mut O, mut dues: VecDeque<Due>)
     requires { Owned (O.active order.old) (dues_stock dues.items) }
     ensures moved { Moved (O.active order.old) (O.active order.new) (dues_stock dues.items) none }
     ensures outlet { O.outlet order.new ≡ O.outlet order.old }
-    ensures faults { O.faults order.new ≡ O.faults order.old }
+    ensures sink { O.sink order.new ≡ O.sink order.old }
 {
     'dues: while let Some(due) = dues.pop_back() {
         give_up_due(order, due);

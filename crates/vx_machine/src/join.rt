@@ -97,7 +97,7 @@ fn made<O: Order>(order: &mut O, kid: Task) -> Layout
     ensures layout { layout_in (mind_of (out-Task kid).head.local) ≡ layout_data result ∷ [] }
     ensures moved { Moved (O.active order.old) (O.active order.new) (task_stock kid) none }
     ensures outlet { O.outlet order.new ≡ O.outlet order.old }
-    ensures faults { O.faults order.new ≡ O.faults order.old }
+    ensures sink { O.sink order.new ≡ O.sink order.old }
 {
     let Task { head, kids } = kid;
     let Head {
@@ -140,7 +140,7 @@ fn take_layouts<O: Order>(
     ensures no_kids { OnOk result (kids.new.items ≡ []) }
     ensures count { IfOk result (λ v. vec_len v ≡ length kids.old.items) }
     ensures outlet { O.outlet order.new ≡ O.outlet order.old }
-    ensures faults { O.faults order.new ≡ O.faults order.old }
+    ensures sink { O.sink order.new ≡ O.sink order.old }
     ensures memory { IfErr result (λ e. e ≡ WriteError.OutOfMemory) }
 {
     let mut layouts = Vec::with_capacity(alloc, kids.len())?;
@@ -165,7 +165,7 @@ pub(crate) fn join<O: Order>(
     ensures refused { IfErr result (JoinRefused (joined_rows (fold_of shape) (layouts_in (row kids.old.items)))) }
     ensures moved { Moved (O.active order.old) (O.active order.new) (tasks_stock kids.old.items) (tasks_stock kids.new.items) }
     ensures outlet { O.outlet order.new ≡ O.outlet order.old }
-    ensures faults { O.faults order.new ≡ O.faults order.old }
+    ensures sink { O.sink order.new ≡ O.sink order.old }
     ensures cause { IfErr result MayCome }
 {
     match take_layouts(alloc, order, kids) {

@@ -7,6 +7,7 @@ mod advance;
 mod built;
 mod chunked;
 mod columns;
+mod counts;
 mod flat;
 mod item;
 mod join;
@@ -20,6 +21,7 @@ mod start;
 mod step;
 mod task;
 
+pub use built::is_built;
 pub use machine::Machine;
 pub use running::run;
 pub use vx_machine_ids::{give_up_pointer, take_below};

@@ -4,12 +4,11 @@ ghost use Rattle.std.specs.Prelude.{◌≡◌, ◌<◌, ◌%◌, [], ◌∷◌, 
 ghost use Rattle.std.specs.FinMap as fin;
 ghost use Rattle.std.specs.Arc.{arc_value};
 ghost use Rattle.vx_model.specs.TyView.{ty};
-ghost use Rattle.vx_fault.specs.Counts.{Counts};
+ghost use Rattle.vx_kept.specs.Kept.{Fresh, Knows};
 ghost use Rattle.vx_layout_tree.specs.LayoutView.{layout_data};
 ghost use Rattle.vx_strategy.specs.StrategyView.{strategy_data};
 ghost use Rattle.vx_machine_ids.specs.Stock.{none, both, end_stock, ok_stock};
 ghost use Rattle.vx_machine_ids.specs.Balance.{Owned, Moved, Exact, IsNone};
-ghost use Rattle.vx_write_answer.specs.Causes.{errs, is_source_fault, is_sink_fault};
 ghost use Rattle.vx_machine_view.specs.State.{no_tasks};
 ghost use Rattle.vx_machine_view.specs.Start.{first_indices};
 ghost use Rattle.vx_machine_view.specs.Acts.{layouts_in};
@@ -17,6 +16,7 @@ ghost use Rattle.vx_machine_view.specs.Machine.{is_finished as has_finished};
 ghost use Rattle.vx_machine_view.specs.Places.{whole_ready};
 ghost use Rattle.vx_sink.specs.ContextView.{is_marked};
 ghost use Rattle.vx_machine_view.specs.Built.{is_built};
+ghost use Rattle.vx_machine.specs.Calls.{SourceTold, SinkTold, reads_at};
 ghost use Rattle.vx_machine.specs.Causes.{StartMay};
 ghost use Rattle.vx_machine.specs.Outcome.{Kept};
 ghost use Rattle.vx_machine.specs.Pairs.{task_pairs, AllMay};
@@ -26,7 +26,8 @@ ghost use Rattle.vx_machine.specs.SourceActs.{SourceActed, SourceRefused};
 ghost use Rattle.vx_machine.specs.Starting.{IsAllowed, Counted, Started, FormRefused, WholeRefused, machine_at};
 ghost use Rattle.vx_machine.specs.Steps.{StepDone, StepFails};
 ghost use Rattle.vx_machine.specs.Stocks.{task_stock};
-ghost use Rattle.vx_machine.specs.View.{form_of, task_row, phase_of, machine_of};
+ghost use Rattle.vx_machine.specs.View.{form_of, task_row, row, phase_of, machine_of};
+ghost use Rattle.vx_machine.specs.declared.task.Task.{out-Task};
 ghost use Rattle.vx_machine.specs.Whole.{machine_stock, machine_ready, may_source as may_act, has_closed as is_closed, is_finished, StepMay, WholeStartMay};
 
 use crate::built::is_built;
@@ -35,9 +36,10 @@ use crate::ready::{is_made, one};
 use crate::source::{Phase, act_source, give_up_phase};
 use crate::start::start_task;
 use crate::task::{Head, Task};
-use std::alloc::Global;
+use std::alloc::{AllocError, Global};
 use std::mem;
 use std::sync::Arc;
+use vx_kept::Counts;
 use vx_layout_tree::Layout;
 use vx_machine_ids::give_up_pointer;
 use vx_model::DType;
@@ -52,7 +54,7 @@ use vx_write_answer::{ActionKind, Step, WriteError};
 ///
 /// A machine must be spent, by `finish` or `refuse`.
 pub struct Machine {
-    alloc: Global,
+    pub(crate) alloc: Global,
     phase: Phase,
     root: Task,
 }
@@ -80,7 +82,7 @@ fn start_root<O: Order>(
     requires built { IsTrue (is_built (strategy_data strategy.now)) }
     ensures moved { Moved (O.active order.old) (O.active order.new) (end_stock eof) (ok_stock task_stock result) }
     ensures outlet { O.outlet order.new ≡ O.outlet order.old }
-    ensures faults { O.faults order.new ≡ O.faults order.old }
+    ensures sink { O.sink order.new ≡ O.sink order.old }
     ensures cause { IfErr result StartMay }
     ensures shows { IfOk result (Started (form_of strategy.now dtype.now) marked (1 ∷ []) eof) }
     ensures refused { IfErr result (FormRefused (form_of strategy.now dtype.now) marked eof) }
@@ -169,7 +171,7 @@ impl Machine {
         ensures moved { Moved (O.active order.old) (O.active order.new) (both (end_stock stream) (end_stock eof)) (ok_stock machine_stock result) }
         ensures built { OnOk result (IsTrue (is_built (strategy_data strategy.now))) }
         ensures outlet { O.outlet order.new ≡ O.outlet order.old }
-        ensures faults { O.faults order.new ≡ O.faults order.old }
+        ensures sink { O.sink order.new ≡ O.sink order.old }
         ensures cause { IfErr result (WholeStartMay (is_built (strategy_data strategy.now))) }
         ensures allowed { OnOk result (IsAllowed (form_of strategy.now dtype.now) (is_marked ctx.now)) }
         ensures counted { OnOk result (Counted eof (first_indices (form_of strategy.now dtype.now) eof)) }
@@ -221,6 +223,22 @@ impl Machine {
         own.saturating_add(self.root.ready(order))
     }
 
+    /// The same, where counts are kept of the root's children. It counts anew what they ask for.
+    pub(crate) fn count_ready<O: Order>(
+        &self,
+        order: &O,
+        counts: &mut Counts,
+    ) -> Result<u64, AllocError>
+        requires owned { Owned (O.active order.now) (machine_stock self.now) }
+        requires known { Knows counts.old (row (out-Task self.now.root).kids.items) }
+        ensures told { IfOk result (λ n. n ≡ counted (machine_ready (O.active order.now) self.now)) }
+        ensures fresh { OnOk result (Fresh (fin.keys (O.active order.now)) counts.new (row (out-Task self.now.root).kids.items)) }
+    {
+        let own = one(self.source_may());
+        let below = self.root.count_ready(self.alloc, order, counts)?;
+        Ok(own.saturating_add(below))
+    }
+
     /// The source's next act.
     fn step_source<O: Order, B: BatchSource>(
         &mut self,
@@ -230,9 +248,10 @@ impl Machine {
         requires { Owned (O.active order.old) (machine_stock self.old) }
         ensures moved { Moved (O.active order.old) (O.active order.new) (machine_stock self.old) (machine_stock self.new) }
         ensures outlet { O.outlet order.new ≡ O.outlet order.old }
-        ensures faults { O.faults order.new ≡ O.faults order.old }
+        ensures sink { O.sink order.new ≡ O.sink order.old }
         ensures kind { B.kind source.new ≡ B.kind source.old }
-        ensures counted { Counts (B.faults source.old) (B.faults source.new) (errs is_source_fault result) }
+        ensures told { SourceTold (B.faults source.old) (B.faults source.new) (B.may_fail source.old) (B.may_fail source.new)
+            (B.must_fail source.old) (B.must_fail source.new) (reads_at (phase_of self.old.phase) 0) result (λ a. a) }
         ensures cause { IfErr result (SourceMay (B.kind source.old)) }
         ensures done { IfOk result (SourceActed (B.kind source.old) (B.to_come source.old) (B.to_come source.new) (phase_of self.old.phase) (phase_of self.new.phase)
             (task_row self.old.root no_tasks) (task_row self.new.root no_tasks)) }
@@ -244,26 +263,30 @@ impl Machine {
         result
     }
 
-    /// The ready task at the place `pick` modulo their number does its next act; tasks are in the order of their names.
-    ///
-    /// After an error `refuse` alone is left to call. `SourceFault` and `SinkFault` come where that object's count of faults
-    /// says so.
-    pub fn step<B: BatchSource, O: Order, C: CompressorPlugin>(
+    /// A step where so many are ready, by counts that are kept.
+    pub(crate) fn step_counted<B: BatchSource, O: Order, C: CompressorPlugin>(
         &mut self,
+        ready: u64,
         pick: u64,
         ctx: &mut LayoutWriterContext,
         source: &mut B,
         order: &mut O,
         _compressor: &mut C,
+        counts: &mut Counts,
     ) -> Result<Step, WriteError>
         requires owned { Owned (O.active order.old) (machine_stock self.old) }
         requires ready { 0 < machine_ready (O.active order.old) self.old }
+        requires count { ready ≡ counted (machine_ready (O.active order.old) self.old) }
+        requires fresh { Fresh (fin.keys (O.active order.old)) counts.old (row (out-Task self.old.root).kids.items) }
         requires allowed { AllMay (O.may_write order.old) (task_pairs self.old.root) }
         ensures moved { Moved (O.active order.old) (O.active order.new) (machine_stock self.old) (machine_stock self.new) }
         ensures told { IfOk result (λ s. (s.ready ≡ counted (machine_ready (O.active order.old) self.old)) × (s.picked ≡ pick % s.ready)) }
         ensures kind { B.kind source.new ≡ B.kind source.old }
-        ensures source_count { Counts (B.faults source.old) (B.faults source.new) (errs is_source_fault result) }
-        ensures sink_count { Counts (O.faults order.old) (O.faults order.new) (errs is_sink_fault result) }
+        ensures source_told { SourceTold (B.faults source.old) (B.faults source.new) (B.may_fail source.old) (B.may_fail source.new)
+            (B.must_fail source.old) (B.must_fail source.new)
+            (reads_at (phase_of self.old.phase) (pick % counted (machine_ready (O.active order.old) self.old))) result (λ s. s.action) }
+        ensures sink_told { SinkTold (O.Sink.faults (O.sink order.old)) (O.Sink.faults (O.sink order.new)) (O.Sink.may_fail (O.sink order.old)) (O.Sink.may_fail (O.sink order.new))
+            (O.Sink.must_fail (O.sink order.old)) (O.Sink.must_fail (O.sink order.new)) result (λ s. s.action) }
         ensures cause { IfErr result StepMay }
         ensures done { IfOk result (λ s. StepDone ctx.old (fin.keys (O.active order.old)) s.picked (B.kind source.old) (B.to_come source.old) (B.to_come source.new)
             (O.outlet order.old) (O.outlet order.new) (machine_of self.old) (machine_of self.new) s.task s.action) }
@@ -271,8 +294,9 @@ impl Machine {
             (O.outlet order.old) (machine_of self.old)) }
         ensures kept { OnErr result (Kept (O.outlet order.old) (O.outlet order.new)) }
         ensures context { ctx.new ≡ ctx.old }
+        ensures compressor { _compressor.new ≡ _compressor.old }
+        ensures known { OnOk result (Knows counts.new (row (out-Task self.new.root).kids.items)) }
     {
-        let ready = self.ready(order);
         let picked = pick % ready;
         let own = one(self.source_may());
         if picked < own {
@@ -287,7 +311,7 @@ impl Machine {
                 Err(error) => Err(error),
             };
         }
-        match self.root.step(self.alloc, ctx, order, picked - own) {
+        match self.root.step(self.alloc, ctx, order, picked - own, counts) {
             Ok(did) => Ok(Step {
                 ready,
                 picked,
@@ -296,6 +320,45 @@ impl Machine {
             }),
             Err(error) => Err(error),
         }
+    }
+
+    /// The ready task at the place `pick` modulo their number does its next act; tasks are in the order of their names.
+    ///
+    /// After an error `refuse` alone is left to call. `SourceFault` and `SinkFault` come where that object's count of faults
+    /// says so. The source is called where it reads, and the sink where a segment is appended.
+    pub fn step<B: BatchSource, O: Order, C: CompressorPlugin>(
+        &mut self,
+        pick: u64,
+        ctx: &mut LayoutWriterContext,
+        source: &mut B,
+        order: &mut O,
+        compressor: &mut C,
+    ) -> Result<Step, WriteError>
+        requires owned { Owned (O.active order.old) (machine_stock self.old) }
+        requires ready { 0 < machine_ready (O.active order.old) self.old }
+        requires allowed { AllMay (O.may_write order.old) (task_pairs self.old.root) }
+        ensures moved { Moved (O.active order.old) (O.active order.new) (machine_stock self.old) (machine_stock self.new) }
+        ensures told { IfOk result (λ s. (s.ready ≡ counted (machine_ready (O.active order.old) self.old)) × (s.picked ≡ pick % s.ready)) }
+        ensures kind { B.kind source.new ≡ B.kind source.old }
+        ensures source_told { SourceTold (B.faults source.old) (B.faults source.new) (B.may_fail source.old) (B.may_fail source.new)
+            (B.must_fail source.old) (B.must_fail source.new)
+            (reads_at (phase_of self.old.phase) (pick % counted (machine_ready (O.active order.old) self.old))) result (λ s. s.action) }
+        ensures sink_told { SinkTold (O.Sink.faults (O.sink order.old)) (O.Sink.faults (O.sink order.new)) (O.Sink.may_fail (O.sink order.old)) (O.Sink.may_fail (O.sink order.new))
+            (O.Sink.must_fail (O.sink order.old)) (O.Sink.must_fail (O.sink order.new)) result (λ s. s.action) }
+        ensures cause { IfErr result StepMay }
+        ensures done { IfOk result (λ s. StepDone ctx.old (fin.keys (O.active order.old)) s.picked (B.kind source.old) (B.to_come source.old) (B.to_come source.new)
+            (O.outlet order.old) (O.outlet order.new) (machine_of self.old) (machine_of self.new) s.task s.action) }
+        ensures refused { IfErr result (StepFails ctx.old (fin.keys (O.active order.old)) (pick % counted (machine_ready (O.active order.old) self.old)) (B.kind source.old) (B.to_come source.old) (B.to_come source.new)
+            (O.outlet order.old) (machine_of self.old)) }
+        ensures kept { OnErr result (Kept (O.outlet order.old) (O.outlet order.new)) }
+        ensures context { ctx.new ≡ ctx.old }
+        ensures compressor { compressor.new ≡ compressor.old }
+    {
+        let mut counts = Counts::new(self.alloc);
+        let Ok(ready) = self.count_ready(order, &mut counts) else {
+            return Err(WriteError::OutOfMemory);
+        };
+        self.step_counted(ready, pick, ctx, source, order, compressor, &mut counts)
     }
 
     /// Whether the root's layout is there, and nothing is left to do.
@@ -331,7 +394,8 @@ impl Machine {
         ensures moved { Moved (O.active order.old) (O.active order.new) (machine_stock self) none }
         ensures empty { Exact (O.active order.old) (machine_stock self) → IsNone (O.active order.new) }
         ensures outlet { O.outlet order.new ≡ O.outlet order.old }
-        ensures faults { O.faults order.new ≡ O.faults order.old }
+        ensures sink { O.sink order.new ≡ O.sink order.old }
+        ensures context { _ctx.new ≡ _ctx.old }
     {
         let Machine {
             alloc: _,

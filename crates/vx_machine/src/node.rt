@@ -41,7 +41,7 @@ pub(crate) fn give_up_local<O: Order>(order: &mut O, local: Local)
     requires { Owned (O.active order.old) (local_stock local) }
     ensures moved { Moved (O.active order.old) (O.active order.new) (local_stock local) none }
     ensures outlet { O.outlet order.new ≡ O.outlet order.old }
-    ensures faults { O.faults order.new ≡ O.faults order.old }
+    ensures sink { O.sink order.new ≡ O.sink order.old }
 {
     match local {
         Local::Empty(node) => drop(node),

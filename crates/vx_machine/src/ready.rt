@@ -1,6 +1,6 @@
 //! Which tasks are ready.
 
-ghost use Rattle.std.specs.Prelude.{◌≡◌, ◌<◌, ◌+◌, ◌&&◌, length, take, slice_index_or};
+ghost use Rattle.std.specs.Prelude.{◌≡◌};
 ghost use Rattle.std.specs.FinMap as fin;
 ghost use Rattle.vx_machine_ids.specs.Stock.{one as one_if};
 ghost use Rattle.vx_machine_ids.specs.Balance.{Owned};
@@ -48,11 +48,14 @@ pub(crate) fn has_room(kids: &[Task], child: usize) -> bool
     }
 }
 
+/// From the last one on, which mostly comes last.
 fn all_made(kids: &[Task]) -> bool
     ensures { result ≡ have_layouts (kids_of kids.now) }
 {
-    for kid in kids {
-        if !is_made(&kid.head.local) {
+    let mut i = kids.len();
+    'kids: while i > 0 {
+        i -= 1;
+        if !is_made(&kids[i].head.local) {
             return false;
         }
     }
@@ -140,23 +143,4 @@ fn ready_of<O: Order>(kids: &[Task], order: &O) -> u64
         ready = ready.saturating_add(kid.ready(order));
     }
     ready
-}
-
-/// The task in which the k-th ready one is, and its place among those that are ready there.
-pub(crate) fn find_ready<O: Order>(order: &O, kids: &[Task], k: u64) -> (usize, u64)
-    requires owned { Owned (O.active order.now) (tasks_stock kids.now) }
-    requires there { k < counted (ready_among (O.active order.now) kids.now) }
-    ensures place { result.0 < length kids.now }
-    ensures passed { k ≡ ready_among (O.active order.now) (take result.0 kids.now) + result.1 }
-    ensures within { (d : Task) → result.1 < counted (ready_in (O.active order.now) (slice_index_or kids.now result.0 d)) }
-{
-    let mut left = k;
-    for (i, kid) in kids.iter().enumerate() {
-        let here = kid.ready(order);
-        if left < here {
-            return (i, left);
-        }
-        left -= here;
-    }
-    unreachable!()
 }

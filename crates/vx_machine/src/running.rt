@@ -1,15 +1,17 @@
 //! A machine from its start to its end.
 
 ghost use Rattle.std.specs.Prelude.{◌≡◌, List, ℕ, [], slice_index, IfErr, MatchResult};
-ghost use Rattle.vx_fault.specs.Counts.{Counts};
+ghost use Rattle.vx_fault.specs.Faults.{FaultsTold};
 ghost use Rattle.vx_machine_ids.specs.Stock.{none, both};
 ghost use Rattle.vx_machine_ids.specs.Balance.{Owned, Moved, Exact};
 ghost use Rattle.vx_write_answer.specs.Causes.{errs, is_source_fault, is_sink_fault};
-ghost use Rattle.vx_machine.specs.Run.{at, RunDone, RunStopped};
+ghost use Rattle.vx_machine.specs.Calls.{reads_in, appends_in};
+ghost use Rattle.vx_machine.specs.Run.{at, RunDone, RunStopped, StopTold};
 ghost use Rattle.vx_machine.specs.View.{machine_of};
 ghost use Rattle.vx_machine.specs.Whole.{machine_stock, StepMay};
 
 use crate::machine::Machine;
+use vx_kept::Counts;
 use vx_layout_tree::Layout;
 use vx_order::Order;
 use vx_sink::{BatchSource, CompressorPlugin, LayoutWriterContext};
@@ -44,19 +46,33 @@ pub fn run<B: BatchSource, O: Order, C: CompressorPlugin>(
     requires allowed { (o : O) (p b : List ℕ) → O.may_write o p b }
     ensures moved { Moved (O.active order.old) (O.active order.new) (machine_stock machine) none }
     ensures kind { B.kind source.new ≡ B.kind source.old }
-    ensures source_count { Counts (B.faults source.old) (B.faults source.new) (errs is_source_fault result) }
-    ensures sink_count { Counts (O.faults order.old) (O.faults order.new) (errs is_sink_fault result) }
+    ensures source { trace.old.items ≡ [] → FaultsTold (B.faults source.old) (B.faults source.new) (B.may_fail source.old) (B.must_fail source.old)
+        (reads_in trace.new.items) (errs is_source_fault result) }
+    ensures sink { trace.old.items ≡ [] → FaultsTold (O.Sink.faults (O.sink order.old)) (O.Sink.faults (O.sink order.new)) (O.Sink.may_fail (O.sink order.old)) (O.Sink.must_fail (O.sink order.old))
+        (appends_in trace.new.items) (errs is_sink_fault result) }
     ensures cause { IfErr result StepMay }
     ensures ran { trace.old.items ≡ [] → Exact (O.active order.old) (machine_stock machine)
         → MatchResult result
         (RunDone ctx.old (B.kind source.old) schedule.now (at (machine_of machine) (B.to_come source.old) (O.outlet order.old)) trace.new.items (B.to_come source.new) (O.outlet order.new))
         (RunStopped ctx.old (B.kind source.old) schedule.now (at (machine_of machine) (B.to_come source.old) (O.outlet order.old)) trace.new.items (B.to_come source.new) (O.outlet order.new)) }
+    // Where the source failed, the step that was refused reads; where it gave a batch of another type, this call of it wasn't one that must
+    // fail.
+    ensures misfit { trace.old.items ≡ [] → Exact (O.active order.old) (machine_stock machine)
+        → IfErr result (StopTold ctx.old (B.kind source.old) schedule.now (at (machine_of machine) (B.to_come source.old) (O.outlet order.old)) trace.new.items (B.to_come source.new) (O.outlet order.new)
+        (B.must_fail source.old)) }
+    ensures context { ctx.new ≡ ctx.old }
+    ensures compressor { compressor.new ≡ compressor.old }
 {
+    let mut counts = Counts::new(machine.alloc);
     'steps: loop {
         if machine.finished() {
             return Ok(Some(machine.finish()));
         }
-        if machine.ready(order) == 0 {
+        let Ok(ready) = machine.count_ready(order, &mut counts) else {
+            machine.refuse(ctx, order);
+            return Err(WriteError::OutOfMemory);
+        };
+        if ready == 0 {
             machine.refuse(ctx, order);
             return Ok(None);
         }
@@ -65,7 +81,7 @@ pub fn run<B: BatchSource, O: Order, C: CompressorPlugin>(
             return Err(WriteError::OutOfMemory);
         }
         let pick = pick_at(schedule, trace.len());
-        match machine.step(pick, ctx, source, order, compressor) {
+        match machine.step_counted(ready, pick, ctx, source, order, compressor, &mut counts) {
             Ok(step) => trace.push_reserved(step),
             Err(error) => {
                 machine.refuse(ctx, order);

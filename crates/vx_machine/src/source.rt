@@ -1,16 +1,16 @@
 //! The source's task: it reads batches and puts them on the root's queue.
 
-ghost use Rattle.std.specs.Prelude.{◌≡◌, ◌+◌, ◌<◌, ◌^◌, IfOk, IfErr};
+ghost use Rattle.std.specs.Prelude.{◌≡◌, ◌+◌, ◌<◌, ◌^◌, true, IfOk, IfErr};
 ghost use Rattle.vx_path.specs.Path.{Eof, eof_path, next};
 ghost use Rattle.vx_model.specs.ChunkData.{piece_type};
-ghost use Rattle.vx_fault.specs.Counts.{Counts};
 ghost use Rattle.vx_order.specs.Answers.{FullAt};
 ghost use Rattle.vx_machine_ids.specs.Stock.{none, both, id_stock, end_stock};
 ghost use Rattle.vx_machine_ids.specs.Balance.{Owned, Moved};
-ghost use Rattle.vx_write_answer.specs.Causes.{errs, is_source_fault};
 ghost use Rattle.vx_machine_view.specs.State.{no_tasks};
+ghost use Rattle.vx_write_answer.specs.Causes.{of_order};
+ghost use Rattle.vx_machine.specs.Calls.{ReadTold, SourceTold, reads_at};
 ghost use Rattle.vx_machine.specs.Source.{phase_stock, Reads, IsTyped, IsWhole, SourceMay, NoNumber};
-ghost use Rattle.vx_machine.specs.SourceActs.{SourceActed, SourceRefused, ReadActed, ReadRefused};
+ghost use Rattle.vx_machine.specs.SourceActs.{IsLate, SourceActed, SourceRefused, ReadActed, ReadRefused};
 ghost use Rattle.vx_machine.specs.Stocks.{task_stock};
 ghost use Rattle.vx_machine.specs.View.{task_row, phase_of};
 
@@ -39,7 +39,7 @@ pub(crate) fn give_up_phase<O: Order>(order: &mut O, phase: Phase)
     requires { Owned (O.active order.old) (phase_stock phase) }
     ensures moved { Moved (O.active order.old) (O.active order.new) (phase_stock phase) none }
     ensures outlet { O.outlet order.new ≡ O.outlet order.old }
-    ensures faults { O.faults order.new ≡ O.faults order.old }
+    ensures sink { O.sink order.new ≡ O.sink order.old }
 {
     match phase {
         Phase::Reading(pointer) => give_up_pointer(order, pointer),
@@ -58,7 +58,8 @@ fn next_batch<B: BatchSource>(source: &mut B) -> Result<Option<Chunk>, WriteErro
     ensures typed { IfOk result (IsTyped (B.kind source.old)) }
     ensures whole { IfOk result IsWhole }
     ensures reads { Reads (B.to_come source.old) (B.to_come source.new) result }
-    ensures counted { Counts (B.faults source.old) (B.faults source.new) (errs is_source_fault result) }
+    ensures told { ReadTold (B.faults source.old) (B.faults source.new) (B.may_fail source.old) (B.may_fail source.new)
+        (B.must_fail source.old) (B.must_fail source.new) result }
     ensures cause { IfErr result (SourceMay (B.kind source.old)) }
     ensures number { IfErr result NoNumber }
 {
@@ -85,9 +86,10 @@ fn read_at<O: Order, B: BatchSource>(
     requires { Owned (O.active order.old) (both (end_stock pointer) (id_stock id)) }
     ensures moved { Moved (O.active order.old) (O.active order.new) (both (end_stock pointer) (id_stock id)) (phase_stock result.0) }
     ensures outlet { O.outlet order.new ≡ O.outlet order.old }
-    ensures faults { O.faults order.new ≡ O.faults order.old }
+    ensures sink { O.sink order.new ≡ O.sink order.old }
     ensures kind { B.kind source.new ≡ B.kind source.old }
-    ensures counted { Counts (B.faults source.old) (B.faults source.new) (errs is_source_fault result.1) }
+    ensures told { SourceTold (B.faults source.old) (B.faults source.new) (B.may_fail source.old) (B.may_fail source.new)
+        (B.must_fail source.old) (B.must_fail source.new) true result.1 (λ a. a) }
     ensures cause { IfErr result.1 (SourceMay (B.kind source.old)) }
     ensures done { (e : Eof) → id ≡ eof_path e → pointer ≡ next e → e.last + 1 < 2 ^ 64
         → IfOk result.1 (ReadActed (B.kind source.old) (B.to_come source.old) (B.to_come source.new) e (phase_of result.0)) }
@@ -110,7 +112,7 @@ fn read_at<O: Order, B: BatchSource>(
     }
 }
 
-/// The source's answer where its batch can have no path: only a batch is refused for it.
+/// The source's answer where its batch can have no path, as its number is too large: only a batch is refused for it.
 fn read_none<O: Order, B: BatchSource>(
     order: &mut O,
     source: &mut B,
@@ -119,11 +121,13 @@ fn read_none<O: Order, B: BatchSource>(
 ) -> (Phase, Result<ActionKind, WriteError>)
     requires owned { Owned (O.active order.old) (end_stock pointer) }
     requires full { FullAt pointer.last full }
+    requires late { IsLate (of_order full) }
     ensures moved { Moved (O.active order.old) (O.active order.new) (end_stock pointer) (phase_stock result.0) }
     ensures outlet { O.outlet order.new ≡ O.outlet order.old }
-    ensures faults { O.faults order.new ≡ O.faults order.old }
+    ensures sink { O.sink order.new ≡ O.sink order.old }
     ensures kind { B.kind source.new ≡ B.kind source.old }
-    ensures counted { Counts (B.faults source.old) (B.faults source.new) (errs is_source_fault result.1) }
+    ensures told { SourceTold (B.faults source.old) (B.faults source.new) (B.may_fail source.old) (B.may_fail source.new)
+        (B.must_fail source.old) (B.must_fail source.new) true result.1 (λ a. a) }
     ensures cause { IfErr result.1 (SourceMay (B.kind source.old)) }
     ensures done { IfOk result.1 (ReadActed (B.kind source.old) (B.to_come source.old) (B.to_come source.new) pointer (phase_of result.0)) }
     ensures refused { IfErr result.1 (ReadRefused (B.kind source.old) (B.to_come source.old) (B.to_come source.new) pointer) }
@@ -141,6 +145,7 @@ fn read_none<O: Order, B: BatchSource>(
     }
 }
 
+/// It asks the source where there is memory for a batch's path.
 fn read<O: Order, B: BatchSource>(
     order: &mut O,
     source: &mut B,
@@ -149,15 +154,17 @@ fn read<O: Order, B: BatchSource>(
     requires { Owned (O.active order.old) (end_stock pointer) }
     ensures moved { Moved (O.active order.old) (O.active order.new) (end_stock pointer) (phase_stock result.0) }
     ensures outlet { O.outlet order.new ≡ O.outlet order.old }
-    ensures faults { O.faults order.new ≡ O.faults order.old }
+    ensures sink { O.sink order.new ≡ O.sink order.old }
     ensures kind { B.kind source.new ≡ B.kind source.old }
-    ensures counted { Counts (B.faults source.old) (B.faults source.new) (errs is_source_fault result.1) }
+    ensures told { SourceTold (B.faults source.old) (B.faults source.new) (B.may_fail source.old) (B.may_fail source.new)
+        (B.must_fail source.old) (B.must_fail source.new) true result.1 (λ a. a) }
     ensures cause { IfErr result.1 (SourceMay (B.kind source.old)) }
     ensures done { IfOk result.1 (ReadActed (B.kind source.old) (B.to_come source.old) (B.to_come source.new) pointer (phase_of result.0)) }
     ensures refused { IfErr result.1 (ReadRefused (B.kind source.old) (B.to_come source.old) (B.to_come source.new) pointer) }
 {
     match take_id(order, &mut pointer) {
         Ok(id) => read_at(order, source, pointer, id),
+        Err(OrderError::OutOfMemory) => (Phase::Reading(pointer), Err(WriteError::OutOfMemory)),
         Err(full) => read_none(order, source, pointer, full),
     }
 }
@@ -172,9 +179,10 @@ pub(crate) fn act_source<O: Order, B: BatchSource>(
     requires { Owned (O.active order.old) (both (phase_stock phase) (task_stock root.old)) }
     ensures moved { Moved (O.active order.old) (O.active order.new) (both (phase_stock phase) (task_stock root.old)) (both (phase_stock result.0) (task_stock root.new)) }
     ensures outlet { O.outlet order.new ≡ O.outlet order.old }
-    ensures faults { O.faults order.new ≡ O.faults order.old }
+    ensures sink { O.sink order.new ≡ O.sink order.old }
     ensures kind { B.kind source.new ≡ B.kind source.old }
-    ensures counted { Counts (B.faults source.old) (B.faults source.new) (errs is_source_fault result.1) }
+    ensures told { SourceTold (B.faults source.old) (B.faults source.new) (B.may_fail source.old) (B.may_fail source.new)
+        (B.must_fail source.old) (B.must_fail source.new) (reads_at (phase_of phase) 0) result.1 (λ a. a) }
     ensures cause { IfErr result.1 (SourceMay (B.kind source.old)) }
     ensures done { IfOk result.1 (SourceActed (B.kind source.old) (B.to_come source.old) (B.to_come source.new) (phase_of phase) (phase_of result.0)
         (task_row root.old no_tasks) (task_row root.new no_tasks)) }

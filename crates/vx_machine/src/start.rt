@@ -125,7 +125,7 @@ pub(crate) fn start_task<O: Order>(
     requires built { IsTrue (is_built (strategy_data strategy.now)) }
     ensures moved { Moved (O.active order.old) (O.active order.new) (end_stock eof) (ok_stock task_stock result) }
     ensures outlet { O.outlet order.new ≡ O.outlet order.old }
-    ensures faults { O.faults order.new ≡ O.faults order.old }
+    ensures sink { O.sink order.new ≡ O.sink order.old }
     ensures cause { IfErr result StartMay }
     ensures shows { IfOk result (Started (form_of strategy.now (arc_value dtype)) marked name eof) }
     ensures refused { IfErr result (FormRefused (form_of strategy.now (arc_value dtype)) marked eof) }
@@ -169,7 +169,7 @@ fn start_chunked<O: Order>(
     requires built { IsTrue (is_built chunked.now.child.item) }
     ensures moved { Moved (O.active order.old) (O.active order.new) (end_stock eof) (ok_stock task_stock result) }
     ensures outlet { O.outlet order.new ≡ O.outlet order.old }
-    ensures faults { O.faults order.new ≡ O.faults order.old }
+    ensures sink { O.sink order.new ≡ O.sink order.old }
     ensures cause { IfErr result StartMay }
     ensures shows { IfOk result (Started (form_at (chunked_way chunked.now) (ty (arc_value dtype))) marked name eof) }
     ensures memory { IfErr result (λ e. e ≡ WriteError.OutOfMemory) }
@@ -201,7 +201,7 @@ fn start_columns<O: Order>(
     requires built { IsTrue (is_built (struct_way fields.now)) }
     ensures moved { Moved (O.active order.old) (O.active order.new) (end_stock eof) (ok_stock task_stock result) }
     ensures outlet { O.outlet order.new ≡ O.outlet order.old }
-    ensures faults { O.faults order.new ≡ O.faults order.old }
+    ensures sink { O.sink order.new ≡ O.sink order.old }
     ensures cause { IfErr result StartMay }
     ensures shows { IfOk result (Started (columns_form fields.now (ty (arc_value node.dtype))) marked name eof) }
     ensures refused { IfErr result (FormRefused (columns_form fields.now (ty (arc_value node.dtype))) marked eof) }
@@ -244,7 +244,7 @@ fn start_each<O: Order>(
     requires built { IsTrue (is_built (struct_way fields.now)) }
     ensures moved { Moved (O.active order.old) (O.active order.new) (both (end_stock eof.old) (tasks_stock kids.old.items)) (both (end_stock eof.new) (tasks_stock kids.new.items)) }
     ensures outlet { O.outlet order.new ≡ O.outlet order.old }
-    ensures faults { O.faults order.new ≡ O.faults order.old }
+    ensures sink { O.sink order.new ≡ O.sink order.old }
     ensures cause { IfErr result StartMay }
     ensures shows { OnOk result (kids.old.items ≡ [] → AllStarted (columns_form fields.now (ty dtype.now)) marked name.now eof.old kids.new.items) }
     ensures refused { IfErr result (FormRefused (columns_form fields.now (ty dtype.now)) marked eof.old) }
@@ -275,7 +275,7 @@ fn start_validity<O: Order>(
     requires built { IsTrue (is_built (struct_way fields.now)) }
     ensures moved { Moved (O.active order.old) (O.active order.new) (both (end_stock eof.old) (tasks_stock kids.old.items)) (both (end_stock eof.new) (tasks_stock kids.new.items)) }
     ensures outlet { O.outlet order.new ≡ O.outlet order.old }
-    ensures faults { O.faults order.new ≡ O.faults order.old }
+    ensures sink { O.sink order.new ≡ O.sink order.old }
     ensures cause { IfErr result StartMay }
     ensures shows { OnOk result (ManyStarted (validity_forms fields.now nullable) marked name.now eof.old kids.old.items eof.new kids.new.items) }
     ensures refused { IfErr result (ManyRefused (validity_forms fields.now nullable) marked eof.old) }
@@ -312,7 +312,7 @@ fn start_field<O: Order>(
     requires built { IsTrue (is_built (struct_way fields.now)) }
     ensures moved { Moved (O.active order.old) (O.active order.new) (both (end_stock eof.old) (tasks_stock kids.old.items)) (both (end_stock eof.new) (tasks_stock kids.new.items)) }
     ensures outlet { O.outlet order.new ≡ O.outlet order.old }
-    ensures faults { O.faults order.new ≡ O.faults order.old }
+    ensures sink { O.sink order.new ≡ O.sink order.old }
     ensures cause { IfErr result StartMay }
     ensures shows { OnOk result (OneStarted (field_form fields.now (field_ty field.now)) marked name.now eof.old kids.old.items eof.new kids.new.items) }
     ensures refused { IfErr result (OneRefused (field_form fields.now (field_ty field.now)) marked eof.old) }
@@ -338,7 +338,7 @@ fn start_column<O: Order>(
     requires built { IsTrue (is_built writer.now.item) }
     ensures moved { Moved (O.active order.old) (O.active order.new) (both (end_stock eof.old) (tasks_stock kids.old.items)) (both (end_stock eof.new) (tasks_stock kids.new.items)) }
     ensures outlet { O.outlet order.new ≡ O.outlet order.old }
-    ensures faults { O.faults order.new ≡ O.faults order.old }
+    ensures sink { O.sink order.new ≡ O.sink order.old }
     ensures cause { IfErr result StartMay }
     ensures shows { OnOk result (OneStarted (form_at writer.now.item (ty (arc_value dtype))) marked name.now eof.old kids.old.items eof.new kids.new.items) }
     ensures refused { IfErr result (OneRefused (form_at writer.now.item (ty (arc_value dtype))) marked eof.old) }
@@ -367,7 +367,7 @@ pub(crate) fn start_under<O: Order>(
     requires built { IsTrue (is_built writer.now.item) }
     ensures moved { Moved (O.active order.old) (O.active order.new) (end_stock eof.old) (both (end_stock eof.new) (ok_stock task_stock result)) }
     ensures outlet { O.outlet order.new ≡ O.outlet order.old }
-    ensures faults { O.faults order.new ≡ O.faults order.old }
+    ensures sink { O.sink order.new ≡ O.sink order.old }
     ensures cause { IfErr result StartMay }
     ensures shows { IfOk result (Started (form_at writer.now.item (ty (arc_value dtype))) marked name (inside eof.old)) }
     ensures next { OnOk result (eof.new ≡ next eof.old) }
@@ -391,7 +391,7 @@ fn split_below<O: Order>(
     requires { Owned (O.active order.old) (end_stock eof.old) }
     ensures moved { Moved (O.active order.old) (O.active order.new) (end_stock eof.old) (both (end_stock eof.new) (ok_stock end_stock result)) }
     ensures outlet { O.outlet order.new ≡ O.outlet order.old }
-    ensures faults { O.faults order.new ≡ O.faults order.old }
+    ensures sink { O.sink order.new ≡ O.sink order.old }
     ensures cause { IfErr result StartMay }
     ensures below { IfOk result (λ below. below ≡ inside eof.old) }
     ensures next { OnOk result (eof.new ≡ next eof.old) }

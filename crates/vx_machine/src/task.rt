@@ -37,7 +37,7 @@ fn give_up_head<O: Order>(order: &mut O, head: Head)
     requires { Owned (O.active order.old) (head_stock head) }
     ensures moved { Moved (O.active order.old) (O.active order.new) (head_stock head) none }
     ensures outlet { O.outlet order.new ≡ O.outlet order.old }
-    ensures faults { O.faults order.new ≡ O.faults order.old }
+    ensures sink { O.sink order.new ≡ O.sink order.old }
 {
     let Head {
         name: _name,
@@ -73,7 +73,7 @@ impl Task {
         requires { Owned (O.active order.old) (task_stock self) }
         ensures moved { Moved (O.active order.old) (O.active order.new) (task_stock self) none }
         ensures outlet { O.outlet order.new ≡ O.outlet order.old }
-        ensures faults { O.faults order.new ≡ O.faults order.old }
+        ensures sink { O.sink order.new ≡ O.sink order.old }
     {
         let Task { head, kids } = self;
         give_up_head(order, head);
@@ -107,7 +107,7 @@ pub(crate) fn refuse_all<O: Order>(mut kids: Vec<Task>, order: &mut O)
     requires { Owned (O.active order.old) (tasks_stock kids.items) }
     ensures moved { Moved (O.active order.old) (O.active order.new) (tasks_stock kids.items) none }
     ensures outlet { O.outlet order.new ≡ O.outlet order.old }
-    ensures faults { O.faults order.new ≡ O.faults order.old }
+    ensures sink { O.sink order.new ≡ O.sink order.old }
 {
     'kids: while let Some(kid) = kids.pop() {
         kid.refuse(order);

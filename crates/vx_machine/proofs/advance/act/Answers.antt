@@ -2,6 +2,7 @@ use Rattle.std.proofs.Common.{◌≡◌, List, length, true, sym, ap, subst, ◌
 use Rattle.std.proofs.lemmas.Bool.{and_parts}
 use Rattle.vx_sequence.specs.Universe.{Active}
 use Rattle.vx_machine_ids.specs.Stock.{both}
+use Rattle.vx_write_answer.specs.declared.step.ActionKind.TheVariants as actions
 use Rattle.vx_machine.specs.Pairs.{due_pairs, AllMay}
 use Rattle.vx_machine.specs.Ready.{Kid, may_due, kids_of, all_made, can_join}
 use Rattle.vx_machine.specs.Stocks.{item_stock, stored_stock, due_stock, local_stock, tasks_stock}
@@ -9,10 +10,11 @@ use Rattle.vx_machine.specs.declared.item.Due.{Due}
 use Rattle.vx_machine.specs.declared.item.Due.TheVariants.{Put, Append, Join}
 use Rattle.vx_machine.specs.declared.node.Shape.{Shape}
 use Rattle.vx_machine.proofs.ActMoves.{put_owned, put_moved, append_owned, append_moved, join_owned, join_moved, close_moved}
-use Rattle.vx_machine.proofs.ActCauses.{memory_may, all_wider, calm_counts}
+use Rattle.vx_machine.proofs.ActCauses.{memory_may, all_wider}
+use Rattle.vx_machine.proofs.CallSteps.{unasked_self, quiet_told}
 use Rattle.vx_machine.proofs.Readiness.{least_means}
 use Rattle.vx_sink.specs.ContextView.{listed}
-use Rattle.vx_machine.proofs.ActShows.{err_kept, put_does, put_says, append_does, append_says, close_does, join_does, join_says}
+use Rattle.vx_machine.proofs.ActShows.{err_kept, put_does, put_says, append_does, append_says, close_does, join_does, join_says, join_kind}
 use Rattle.vx_machine.proofs.advance.act.Goals as goal
 
 by_case : (u : Active) (ks : List Kid) (d e : Due) → d ≡ e → may_due u d ks ≡ true → may_due u e ks ≡ true
@@ -30,9 +32,9 @@ returns-in-Put-clause-moved g c =
     put_moved (g.O.Order.active c.args.order.now) (local_stock c.args.local.now) (tasks_stock c.args.kids.now.items) (due_stock c.args.due) (item_stock c.in-Put.item) (ap due_stock c.in-Put.is) c.requires.owned
     (g.O.Order.active c.put.new.order) (tasks_stock c.put.new.kids.items) c.put.ensures.moved
 
-pub returns-in-Put-clause-faults : goal.returns-in-Put-clause-faults
-returns-in-Put-clause-faults g c =
-    calm_counts (g.O.Fallible.faults c.args.order.now) (g.O.Fallible.faults c.put.new.order) c.put.result (memory_may c.put.result c.put.ensures.memory) c.put.ensures.faults
+pub returns-in-Put-clause-told : goal.returns-in-Put-clause-told
+returns-in-Put-clause-told g c =
+    quiet_told g.O.Sink.Fallible.faults g.O.Sink.Fallible.may_fail g.O.Sink.Fallible.must_fail (g.O.Order.sink c.args.order.now) (g.O.Order.sink c.put.new.order) c.put.ensures.sink actions.Put refl refl c.put.result c.put.ensures.kind (memory_may c.put.result c.put.ensures.memory)
 
 pub returns-in-Put-clause-cause : goal.returns-in-Put-clause-cause
 returns-in-Put-clause-cause g c = all_wider c.put.result (memory_may c.put.result c.put.ensures.memory)
@@ -77,9 +79,14 @@ returns-in-Join-clause-moved g c =
     join_moved (g.O.Order.active c.args.order.now) (local_stock c.args.local.now) (tasks_stock c.args.kids.now.items) (due_stock c.args.due) (ap due_stock c.in-Join.is) c.requires.owned
     (g.O.Order.active c.join_due.new.order) (both (local_stock c.join_due.new.local) (tasks_stock c.join_due.new.kids.items)) c.join_due.ensures.moved
 
-pub returns-in-Join-clause-faults : goal.returns-in-Join-clause-faults
-returns-in-Join-clause-faults g c =
-    calm_counts (g.O.Fallible.faults c.args.order.now) (g.O.Fallible.faults c.join_due.new.order) c.join_due.result c.join_due.ensures.cause c.join_due.ensures.faults
+pub returns-in-Close-clause-told : goal.returns-in-Close-clause-told
+returns-in-Close-clause-told g c = (refl, unasked_self (g.O.Sink.Fallible.faults (g.O.Order.sink c.args.order.now)) (g.O.Sink.Fallible.may_fail (g.O.Order.sink c.args.order.now)) (g.O.Sink.Fallible.must_fail (g.O.Order.sink c.args.order.now)))
+
+pub returns-in-Join-clause-told : goal.returns-in-Join-clause-told
+returns-in-Join-clause-told g c =
+    quiet_told g.O.Sink.Fallible.faults g.O.Sink.Fallible.may_fail g.O.Sink.Fallible.must_fail (g.O.Order.sink c.args.order.now) (g.O.Order.sink c.join_due.new.order) c.join_due.ensures.sink actions.Join refl refl c.join_due.result
+    (join_kind c.in-Join.shape c.args.kids.now.items (g.O.Order.outlet c.args.order.now) (g.O.Order.outlet c.join_due.new.order) c.join_due.new.local c.join_due.new.kids.items c.join_due.result c.join_due.ensures.done)
+    c.join_due.ensures.cause
 
 pub returns-in-Join-clause-cause : goal.returns-in-Join-clause-cause
 returns-in-Join-clause-cause g c = all_wider c.join_due.result c.join_due.ensures.cause

@@ -1,11 +1,11 @@
 use Rattle.std.proofs.Common.{sym, ap, subst, ◌∙◌, ◌≡◌, [], refl}
-use Rattle.vx_fault.specs.Counts.{Counts}
 use Rattle.vx_machine_ids.specs.Stock.{both}
 use Rattle.vx_machine.specs.Pairs.{next_pairs, AllMay}
 use Rattle.vx_machine.specs.Ready.{may_todo, kids_of}
 use Rattle.vx_machine.specs.Stocks.{items_stock, head_stock, local_stock, tasks_stock}
 use Rattle.vx_machine.proofs.ActMoves.{act_owned, act_moved, idle_owned, idle_moved}
-use Rattle.vx_machine.proofs.ActCauses.{wider, calm}
+use Rattle.vx_machine.proofs.ActCauses.{wider}
+use Rattle.vx_machine.proofs.CallSteps.{unasked_by, quiet_stops}
 use Rattle.vx_machine.specs.declared.task.Head.{Head}
 use Rattle.vx_machine.proofs.ActShows.{kept_same}
 use Rattle.vx_machine.proofs.NextShows.{due_done, due_refused, take_acted, take_refused, take_open}
@@ -48,9 +48,11 @@ returns-in-Err-clause-moved g c =
     c.args.head.now.todo.items c.pop_front.new.self.items c.in-None.ensures.items c.requires.owned
     (g.O.Order.active c.take_next.new.order) (both (head_stock c.take_next.new.head) (tasks_stock c.take_next.new.kids.items)) c.take_next.ensures.moved
 
-pub returns-in-Err-clause-faults : goal.returns-in-Err-clause-faults
-returns-in-Err-clause-faults g c =
-    subst (λ b. Counts (g.O.Fallible.faults c.args.order.now) (g.O.Fallible.faults c.take_next.new.order) b) (sym (calm c.in-Err.error c.in-Err.ensures.cause)) c.take_next.ensures.faults
+pub returns-in-Ok-clause-told : goal.returns-in-Ok-clause-told
+returns-in-Ok-clause-told g c = (refl, unasked_by g.O.Sink.Fallible.faults g.O.Sink.Fallible.may_fail g.O.Sink.Fallible.must_fail (g.O.Order.sink c.args.order.now) (g.O.Order.sink c.take_next.new.order) c.take_next.ensures.sink)
+
+pub returns-in-Err-clause-told : goal.returns-in-Err-clause-told
+returns-in-Err-clause-told g c = quiet_stops g.O.Sink.Fallible.faults g.O.Sink.Fallible.may_fail g.O.Sink.Fallible.must_fail (g.O.Order.sink c.args.order.now) (g.O.Order.sink c.take_next.new.order) c.take_next.ensures.sink c.in-Err.error c.in-Err.ensures.cause
 
 pub returns-in-Err-clause-cause : goal.returns-in-Err-clause-cause
 returns-in-Err-clause-cause g c = wider c.in-Err.error c.in-Err.ensures.cause

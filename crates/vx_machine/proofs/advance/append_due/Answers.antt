@@ -1,9 +1,10 @@
 use Rattle.vx_machine_ids.proofs.MoveLaws.{owned_right}
 use Rattle.vx_machine.specs.Stocks.{local_stock, stored_stock}
 use Rattle.vx_machine.proofs.ActMoves.{spent, spent_owned, spent_then}
-use Rattle.std.proofs.Common.{sym, subst}
+use Rattle.std.proofs.Common.{refl, sym, subst}
 use Rattle.vx_sink.specs.ContextView.{listed}
 use Rattle.vx_machine.specs.Acting.{IsAppended}
+use Rattle.vx_machine.proofs.CallSteps.{then_called}
 use Rattle.vx_machine.proofs.WriteSteps.{appended_done}
 use Rattle.vx_machine.proofs.advance.append_due.Goals as goal
 
@@ -29,3 +30,7 @@ returns-in-Ok-clause-done g c = (
       (subst (λ u. IsAppended (g.O.Order.outlet c.args.order.now) c.in-Ok.ensures.appended.0 (c.args.stored.id, c.args.stored.segment.bytes.items) u) (sym c.set_local.ensures.outlet) c.in-Ok.ensures.appended.1)
       c.in-Ok.ensures.appended.2 c.set_local.ensures.local,
 )
+
+pub returns-in-Ok-clause-told : goal.returns-in-Ok-clause-told
+returns-in-Ok-clause-told g c =
+    (refl, then_called g.O.Sink.Fallible.faults g.O.Sink.Fallible.may_fail g.O.Sink.Fallible.must_fail (g.O.Order.sink c.args.order.now) (g.O.Order.sink c.append.new.order) (g.O.Order.sink c.set_local.new.order) c.set_local.ensures.sink c.in-Ok.ensures.told)

@@ -1,14 +1,13 @@
-use Rattle.std.proofs.Common.{ℕ, ap, sym, subst, ◌∙◌, Ok}
-use Rattle.vx_fault.specs.Counts.{Counts}
+use Rattle.std.proofs.Common.{ap, sym, subst, ◌∙◌, Ok}
 use Rattle.vx_sequence.specs.Universe.{Active, IsActive, released}
 use Rattle.vx_order.specs.Answers.{active_after}
 use Rattle.vx_machine_ids.specs.Stock.{none, id_stock}
 use Rattle.vx_machine_ids.specs.Balance.{Moved}
 use Rattle.vx_machine_ids.proofs.CallLaws.{owned_active, released_moved}
-use Rattle.vx_write_answer.specs.Causes.{is_sink_fault}
 use Rattle.vx_machine.specs.Causes.{ActMay}
-use Rattle.vx_machine.proofs.CauseSteps.{refused_may, refused_counts}
-use Rattle.vx_machine.proofs.WriteSteps.{written_counts, written_told, then_kept, refused_why}
+use Rattle.vx_machine.proofs.CallSteps.{written_called, refused_stops}
+use Rattle.vx_machine.proofs.CauseSteps.{refused_may}
+use Rattle.vx_machine.proofs.WriteSteps.{written_told, then_kept, refused_why}
 use Rattle.vx_machine.specs.Acting.{AppendRefused}
 use Rattle.vx_machine.proofs.flat.write.Goals as goal
 
@@ -26,10 +25,9 @@ returns-in-Ok-Written-clause-moved g c =
     subst (λ v. Moved u v (id_stock c.args.id) none) (sym (c.try_write.ensures.active ∙ ap (active_after u c.args.id) (c.in-Ok-Written.is ∙ ap (λ x. Ok x) c.in-Ok-Written.field-0-is)))
     (released_moved u c.args.id (owned_active u c.args.id c.requires.owned))
 
-pub returns-in-Ok-Written-clause-faults : goal.returns-in-Ok-Written-clause-faults
-returns-in-Ok-Written-clause-faults g c =
-    written_counts (g.O.Fallible.faults c.args.order.now) (g.O.Fallible.faults c.try_write.new.self)
-    (g.O.Fallible.may_fail c.args.order.now) (g.O.Fallible.may_fail c.try_write.new.self) (g.O.Fallible.must_fail c.args.order.now) (g.O.Fallible.must_fail c.try_write.new.self)
+pub returns-in-Ok-Written-clause-told : goal.returns-in-Ok-Written-clause-told
+returns-in-Ok-Written-clause-told g c =
+    written_called g.O.Sink.Fallible.faults g.O.Sink.Fallible.may_fail g.O.Sink.Fallible.must_fail (g.O.Order.sink c.args.order.now) (g.O.Order.sink c.try_write.new.self)
     c.try_write.result c.in-Ok-Written.receipt (c.in-Ok-Written.is ∙ ap (λ x. Ok x) c.in-Ok-Written.field-0-is) c.try_write.ensures.told
 
 pub returns-in-Err-clause-moved : goal.returns-in-Err-clause-moved
@@ -38,13 +36,10 @@ returns-in-Err-clause-moved g c =
     subst (λ v. Moved u v (id_stock c.args.id) none) (sym (c.release-in-Err.ensures.active ∙ (λ j. released (c.in-Err.ensures.active j) (c.in-Err.ensures.answer.0 j))))
     (released_moved u c.args.id (owned_active u c.args.id c.requires.owned))
 
-pub returns-in-Err-clause-faults : goal.returns-in-Err-clause-faults
-returns-in-Err-clause-faults g c =
-    let b : ℕ = g.O.Fallible.faults c.args.order.now in
-    let n : ℕ = g.O.Fallible.faults c.try_write.new.self in
-    let h : Counts b n (is_sink_fault c.into.result) = subst (λ e. Counts b n (is_sink_fault e)) (sym c.into.ensures)
-    (refused_counts b n (g.O.Fallible.may_fail c.args.order.now) (g.O.Fallible.may_fail c.try_write.new.self) (g.O.Fallible.must_fail c.args.order.now) (g.O.Fallible.must_fail c.try_write.new.self) c.in-Err.error c.in-Err.ensures.told) in
-    subst (λ m. Counts b m (is_sink_fault c.into.result)) (sym c.release-in-Err.ensures.told.counted) h
+pub returns-in-Err-clause-told : goal.returns-in-Err-clause-told
+returns-in-Err-clause-told g c =
+    refused_stops g.O.Sink.Fallible.faults g.O.Sink.Fallible.may_fail g.O.Sink.Fallible.must_fail (g.O.Order.sink c.args.order.now) (g.O.Order.sink c.try_write.new.self) (g.O.Order.sink c.release-in-Err.new.self) c.release-in-Err.ensures.sink
+    c.in-Err.error c.into.result c.into.ensures c.in-Err.ensures.told
 
 pub returns-in-Err-clause-cause : goal.returns-in-Err-clause-cause
 returns-in-Err-clause-cause g c =

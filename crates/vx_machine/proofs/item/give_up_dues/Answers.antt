@@ -10,7 +10,7 @@ dues-init g c = record {
   owned = c.requires;
   moved = moved_none (g.O.Order.active c.args.order.now) (dues_stock c.args.dues.items) c.requires;
   outlet = refl;
-  faults = refl;
+  sink = refl;
 }
 
 pub give_up_due-requires : goal.give_up_due-requires
@@ -25,5 +25,5 @@ dues-preserved g c =
       moved = moved_then (g.O.Order.active c.args.order.now) u v (dues_stock c.args.dues.items) (dues_stock c.dues.dues.items) (dues_stock c.pop_back.new.self.items) c.dues.invariant.moved
           (pop_moved due_stock u c.dues.dues.items c.pop_back.new.self.items c.in-Some.due c.in-Some.ensures.items c.dues.invariant.owned v c.give_up_due.ensures.moved);
       outlet = c.give_up_due.ensures.outlet ∙ c.dues.invariant.outlet;
-      faults = c.give_up_due.ensures.faults ∙ c.dues.invariant.faults;
+      sink = c.give_up_due.ensures.sink ∙ c.dues.invariant.sink;
     }

@@ -10,7 +10,7 @@ items-init g c = record {
   owned = c.requires;
   moved = moved_none (g.O.Order.active c.args.order.now) (items_stock c.args.items.items) c.requires;
   outlet = refl;
-  faults = refl;
+  sink = refl;
 }
 
 pub give_up_item-requires : goal.give_up_item-requires
@@ -25,5 +25,5 @@ items-preserved g c =
       moved = moved_then (g.O.Order.active c.args.order.now) u v (items_stock c.args.items.items) (items_stock c.items.items.items) (items_stock c.pop_back.new.self.items) c.items.invariant.moved
           (pop_moved item_stock u c.items.items.items c.pop_back.new.self.items c.in-Some.item c.in-Some.ensures.items c.items.invariant.owned v c.give_up_item.ensures.moved);
       outlet = c.give_up_item.ensures.outlet ∙ c.items.invariant.outlet;
-      faults = c.give_up_item.ensures.faults ∙ c.items.invariant.faults;
+      sink = c.give_up_item.ensures.sink ∙ c.items.invariant.sink;
     }

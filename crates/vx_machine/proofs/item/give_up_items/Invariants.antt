@@ -9,7 +9,7 @@ invariant-items g l = record {
   owned : Owned (g.O.Order.active l.order) (items_stock l.items.items);
   moved : Moved (g.O.Order.active l.initial.order) (g.O.Order.active l.order) (items_stock l.initial.items.items) (items_stock l.items.items);
   outlet : g.O.Order.outlet l.order ≡ g.O.Order.outlet l.initial.order;
-  faults : g.O.Fallible.faults l.order ≡ g.O.Fallible.faults l.initial.order;
+  sink : g.O.Order.sink l.order ≡ g.O.Order.sink l.initial.order;
 }
 
 abbrev pub decreases-items : goal.decreases-items

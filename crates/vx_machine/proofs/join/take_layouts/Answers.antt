@@ -26,7 +26,7 @@ kids-preserved g c =
       count = omega (arith, c.push_reserved.ensures.len, c.in-Some.ensures.cases, c.kids.invariant.count);
       room = omega (arith, c.push_reserved.ensures.len, c.push_reserved.ensures.capacity, c.in-Some.ensures.cases, c.kids.invariant.room);
       outlet = c.made.ensures.outlet ∙ c.kids.invariant.outlet;
-      faults = c.made.ensures.faults ∙ c.kids.invariant.faults;
+      sink = c.made.ensures.sink ∙ c.kids.invariant.sink;
     }
 
 pub kids-init : goal.kids-init
@@ -38,7 +38,7 @@ kids-init g c = record {
   count = omega (arith, c.in_ok-layouts.ensures.len, c.args.kids.now.ok.0);
   room = omega (arith, c.in_ok-layouts.ensures.len, c.in_ok-layouts.ensures.exact, c.len.ensures);
   outlet = refl;
-  faults = refl;
+  sink = refl;
 }
 
 pub returns-clause-layouts : goal.returns-clause-layouts

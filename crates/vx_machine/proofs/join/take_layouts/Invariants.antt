@@ -16,7 +16,7 @@ invariant-kids g l = record {
   count : vec_len l.layouts + vec_len l.kids ≡ length l.initial.kids.items;
   room : vec_len l.layouts + vec_len l.kids ≤ vec_capacity l.layouts;
   outlet : g.O.Order.outlet l.order ≡ g.O.Order.outlet l.initial.order;
-  faults : g.O.Fallible.faults l.order ≡ g.O.Fallible.faults l.initial.order;
+  sink : g.O.Order.sink l.order ≡ g.O.Order.sink l.initial.order;
 }
 
 abbrev pub decreases-kids : goal.decreases-kids

@@ -1,6 +1,12 @@
-use Rattle.std.proofs.Common.{◌≡◌, drop}
+use Rattle.std.proofs.Common.{◌≡◌, ◌≤◌, length, take}
 use Rattle.vx_machine.specs.Ready.{all_made, kids_of}
 use Rattle.vx_machine.proofs.ready.all_made.Given as goal
 
-abbrev pub invariant-loop-kid : goal.invariant-loop-kid
-invariant-loop-kid l = all_made (kids_of (drop l.kid-index l.kids)) ≡ all_made (kids_of l.kids)
+abbrev pub invariant-kids : goal.invariant-kids
+invariant-kids l = record {
+  within : l.i ≤ length l.kids;
+  same : all_made (kids_of (take l.i l.kids)) ≡ all_made (kids_of l.kids);
+}
+
+abbrev pub decreases-kids : goal.decreases-kids
+decreases-kids l = l.i

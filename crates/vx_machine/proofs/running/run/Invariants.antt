@@ -1,8 +1,12 @@
 use Rattle.std.proofs.Common.{◌≡◌, vec_len, ◌-◌, ◌^◌, []}
 use Rattle.vx_machine_ids.specs.Balance.{Owned, Moved, Exact}
+use Rattle.vx_machine.specs.Calls.{reads_in, appends_in}
 use Rattle.vx_machine.specs.Run.{at, Ran}
-use Rattle.vx_machine.specs.View.{machine_of}
+use Rattle.vx_kept.specs.Kept.{Knows}
+use Rattle.vx_machine.specs.declared.task.Task.{out-Task}
+use Rattle.vx_machine.specs.View.{row, machine_of}
 use Rattle.vx_machine.specs.Whole.{machine_stock}
+use Rattle.vx_machine.proofs.RunCalls.{Answered}
 use Rattle.vx_machine.proofs.running.run.Given as goal
 
 abbrev pub invariant-steps : goal.invariant-steps
@@ -10,9 +14,11 @@ invariant-steps g l = record {
   owned : Owned (g.O.Order.active l.order) (machine_stock l.machine);
   moved : Moved (g.O.Order.active l.initial.order) (g.O.Order.active l.order) (machine_stock l.initial.machine) (machine_stock l.machine);
   kind : g.B.BatchSource.kind l.source ≡ g.B.BatchSource.kind l.initial.source;
-  source_faults : g.B.Fallible.faults l.source ≡ g.B.Fallible.faults l.initial.source;
-  sink_faults : g.O.Fallible.faults l.order ≡ g.O.Fallible.faults l.initial.order;
+  sources : l.initial.trace.items ≡ [] → Answered g.B.Fallible.faults g.B.Fallible.may_fail g.B.Fallible.must_fail l.initial.source l.source (reads_in l.trace.items);
+  sinks : l.initial.trace.items ≡ [] → Answered g.O.Sink.Fallible.faults g.O.Sink.Fallible.may_fail g.O.Sink.Fallible.must_fail (g.O.Order.sink l.initial.order) (g.O.Order.sink l.order) (appends_in l.trace.items);
   context : l.ctx ≡ l.initial.ctx;
+  known : Knows l.counts (row (out-Task l.machine.root).kids.items);
+  compressor : l.compressor ≡ l.initial.compressor;
   ran : l.initial.trace.items ≡ [] → Exact (g.O.Order.active l.initial.order) (machine_stock l.initial.machine)
       → Ran l.initial.ctx (g.B.BatchSource.kind l.initial.source) l.schedule 0 (at (machine_of l.initial.machine) (g.B.BatchSource.to_come l.initial.source) (g.O.Order.outlet l.initial.order)) l.trace.items
       (at (machine_of l.machine) (g.B.BatchSource.to_come l.source) (g.O.Order.outlet l.order));

@@ -1,6 +1,8 @@
-use Rattle.std.proofs.Common.{ap}
+use Rattle.std.proofs.Common.{ap, inl, true}
 use Rattle.vx_machine_view.specs.State.{no_tasks}
+use Rattle.vx_machine.specs.Calls.{reads_at}
 use Rattle.vx_machine.specs.View.{item_of, task_row, phase_of}
+use Rattle.vx_machine.proofs.CallSteps.{unasked_self, told_as}
 use Rattle.vx_machine.proofs.SourceSteps.{read_done, read_refused, put_done, put_refused, close_done, rest_done}
 use Rattle.vx_machine.proofs.source.act_source.Goals as goal
 
@@ -30,3 +32,21 @@ returns-in-Closing-clause-done g c =
 pub returns-in-Finished-clause-done : goal.returns-in-Finished-clause-done
 returns-in-Finished-clause-done g c =
     rest_done (g.B.BatchSource.kind c.args.source.now) (g.B.BatchSource.to_come c.args.source.now) (phase_of c.args.phase) (task_row c.args.root.now no_tasks) (ap phase_of c.in-Finished.is)
+
+-- calls of the source
+pub returns-in-Reading-clause-told : goal.returns-in-Reading-clause-told
+returns-in-Reading-clause-told g c =
+    told_as g.B.Fallible.faults g.B.Fallible.may_fail g.B.Fallible.must_fail c.args.source.now c.read.new.source true (reads_at (phase_of c.args.phase) 0) c.read.result.1
+    (ap (λ p. reads_at (phase_of p) 0) c.in-Reading.is) c.read.ensures.told
+
+pub returns-in-Ok-clause-told : goal.returns-in-Ok-clause-told
+returns-in-Ok-clause-told g c = unasked_self (g.B.Fallible.faults c.args.source.now) (g.B.Fallible.may_fail c.args.source.now) (g.B.Fallible.must_fail c.args.source.now)
+
+pub returns-in-Err-clause-told : goal.returns-in-Err-clause-told
+returns-in-Err-clause-told g c = inl (unasked_self (g.B.Fallible.faults c.args.source.now) (g.B.Fallible.may_fail c.args.source.now) (g.B.Fallible.must_fail c.args.source.now))
+
+pub returns-in-Closing-clause-told : goal.returns-in-Closing-clause-told
+returns-in-Closing-clause-told g c = unasked_self (g.B.Fallible.faults c.args.source.now) (g.B.Fallible.may_fail c.args.source.now) (g.B.Fallible.must_fail c.args.source.now)
+
+pub returns-in-Finished-clause-told : goal.returns-in-Finished-clause-told
+returns-in-Finished-clause-told g c = unasked_self (g.B.Fallible.faults c.args.source.now) (g.B.Fallible.may_fail c.args.source.now) (g.B.Fallible.must_fail c.args.source.now)

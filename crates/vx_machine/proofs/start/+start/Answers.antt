@@ -158,7 +158,7 @@ start_each-fields-init g t c = record {
   owned = owned_now (g.O.Order.active c.args.order.now) (g.O.Order.active c.start_validity.new.order) (both (end_stock c.args.eof.now) (tasks_stock c.args.kids.now.items)) (both (end_stock c.start_validity.new.eof) (tasks_stock c.start_validity.new.kids.items)) c.requires.owned c.start_validity.ensures.moved;
   moved = c.start_validity.ensures.moved;
   outlet = c.start_validity.ensures.outlet;
-  faults = c.start_validity.ensures.faults;
+  sink = c.start_validity.ensures.sink;
   left =
       let b : c.if-marked.below ≡ (c.args.marked || c.is_nullable-nullable.result) = search (rules, tests) in
       rw (b, c.fields_in-columns.ensures) (left_first c.args.fields.now (ty c.args.dtype.now) c.is_nullable-nullable.result c.args.marked c.args.name.now c.args.eof.now c.start_validity.new.eof c.args.kids.now.items c.start_validity.new.kids.items
@@ -209,7 +209,7 @@ start_each-fields-preserved g t c = record {
       (both (end_stock c.args.eof.now) (tasks_stock c.args.kids.now.items)) (both (end_stock c.fields.eof) (tasks_stock c.fields.kids.items)) (both (end_stock c.start_field.new.eof) (tasks_stock c.start_field.new.kids.items))
       c.fields.invariant.moved c.start_field.ensures.moved;
   outlet = c.start_field.ensures.outlet ∙ c.fields.invariant.outlet;
-  faults = c.start_field.ensures.faults ∙ c.fields.invariant.faults;
+  sink = c.start_field.ensures.sink ∙ c.fields.invariant.sink;
   left =
       let f : Form = columns_form c.args.fields.now (ty c.args.dtype.now) in
       let b : Bool = c.if-marked.below in

@@ -36,6 +36,6 @@ invariant-start_each-fields g l = record {
   owned : Owned (g.O.Order.active l.order) (both (end_stock l.eof) (tasks_stock l.kids.items));
   moved : Moved (g.O.Order.active l.fn.order) (g.O.Order.active l.order) (both (end_stock l.fn.eof) (tasks_stock l.fn.kids.items)) (both (end_stock l.eof) (tasks_stock l.kids.items));
   outlet : g.O.Order.outlet l.order ≡ g.O.Order.outlet l.fn.order;
-  faults : g.O.Fallible.faults l.order ≡ g.O.Fallible.faults l.fn.order;
+  sink : g.O.Order.sink l.order ≡ g.O.Order.sink l.fn.order;
   left : Left (columns_form l.fields (ty l.dtype)) l.fn.marked l.name l.fn.eof l.fn.kids.items (field_forms l.fields (map field_ty (drop l.field-index l.columns))) l.below l.kids.items l.eof;
 }

@@ -38,7 +38,7 @@ refuse_all-kids-init g t c = record {
   moved = moved_none (g.O.Order.active c.args.order.now) (tasks_stock c.args.kids.items) c.requires;
   fewer = omega arith;
   outlet = refl;
-  faults = refl;
+  sink = refl;
 }
 
 pub refuse_all-refuse-requires : goal.refuse_all-refuse-requires
@@ -62,5 +62,5 @@ refuse_all-kids-preserved g t c =
           (pop_moved task_stock u c.kids.kids.items c.pop.new.self.items c.in-Some.kid c.in-Some.ensures.items c.kids.invariant.owned v c.refuse.ensures.moved);
       fewer = omega (arith, n, f);
       outlet = c.refuse.ensures.outlet ∙ c.kids.invariant.outlet;
-      faults = c.refuse.ensures.faults ∙ c.kids.invariant.faults;
+      sink = c.refuse.ensures.sink ∙ c.kids.invariant.sink;
     }

@@ -16,7 +16,7 @@ invariant-refuse_all-kids g l = record {
   moved : Moved (g.O.Order.active l.initial.order) (g.O.Order.active l.order) (tasks_stock l.initial.kids.items) (tasks_stock l.kids.items);
   fewer : count_of_all l.kids.items ≤ count_of_all l.initial.kids.items;
   outlet : g.O.Order.outlet l.order ≡ g.O.Order.outlet l.initial.order;
-  faults : g.O.Fallible.faults l.order ≡ g.O.Fallible.faults l.initial.order;
+  sink : g.O.Order.sink l.order ≡ g.O.Order.sink l.initial.order;
 }
 
 abbrev pub decreases-refuse_all-kids : goal.decreases-refuse_all-kids

@@ -1,123 +1,31 @@
-use Rattle.std.proofs.Common.{◌≡◌, ℕ, ◌+◌, ◌-◌, ◌%◌, refl, sym, ap, subst, ◌∙◌, arith}
-use Rattle.vx_sequence.specs.Universe.{Active}
-use Rattle.vx_fault.specs.Counts.{Counts}
-use Rattle.vx_machine_ids.specs.Stock.{one}
-use Rattle.vx_machine_ids.proofs.MoveLaws.{owned_right, moved_behind}
-use Rattle.vx_machine.specs.Ready.{counted}
-use Rattle.vx_machine.specs.Stocks.{task_stock}
-use Rattle.vx_machine.specs.Source.{phase_stock}
-use Rattle.vx_machine.specs.Whole.{may_source, machine_ready}
-use Rattle.std.specs.FinMap as fin
-use Rattle.std.proofs.lemmas.Result.{err_from_is_err_and}
-use Rattle.vx_machine_view.specs.State.{no_tasks}
-use Rattle.vx_machine_view.specs.Machine as whole
-use Rattle.vx_machine_view.specs.Places.{one_if}
+use Rattle.std.proofs.Common.{inl, refl}
+use Rattle.vx_machine_ids.proofs.MoveLaws.{moved_none}
 use Rattle.vx_machine.specs.Context.{setting_of}
-use Rattle.vx_machine.specs.View.{phase_of, task_row}
-use Rattle.vx_machine.proofs.ReadyViews.{own_source, behind_source}
-use Rattle.vx_machine.proofs.StepShows.{source_stepped, source_refused, source_memory, root_stepped, root_refused}
+use Rattle.vx_machine.specs.View.{row}
+use Rattle.vx_machine.specs.Whole.{machine_stock}
+use Rattle.vx_machine.specs.declared.task.Task.{out-Task}
 use Rattle.vx_machine.proofs.ActShows.{kept_same}
-use Rattle.vx_machine.proofs.ActCauses.{sinkless, sourceless, act_step, source_step}
+use Rattle.vx_machine.proofs.CallSteps.{unasked_self}
+use Rattle.vx_machine.proofs.Remembering.{memory_first}
 use Rattle.vx_machine.proofs.machine.Machine.step.Goals as goal
 
-pub nonzero_rem-picked : goal.nonzero_rem-picked
-nonzero_rem-picked g c = omega (arith, c.ready-ready.ensures.told, c.requires.ready)
+pub count_ready-requires-clause-known : goal.count_ready-requires-clause-known
+count_ready-requires-clause-known g c = c.new-counts.ensures (row (out-Task c.args.self.now.root).kids.items)
 
-pub returns-in-Err-clause-sink_count : goal.returns-in-Err-clause-sink_count
-returns-in-Err-clause-sink_count g c =
-    subst (λ b. Counts (g.O.Fallible.faults c.args.order.now) (g.O.Fallible.faults c.step_source.new.order) b) (sym (sinkless (g.B.BatchSource.kind c.args.source.now) c.in-Err.error c.in-Err.ensures.cause)) c.step_source.ensures.faults
+pub returns-in_default-clause-moved : goal.returns-in_default-clause-moved
+returns-in_default-clause-moved g c = moved_none (g.O.Order.active c.args.order.now) (machine_stock c.args.self.now) c.requires.owned
 
-pub returns-in-Err-clause-cause : goal.returns-in-Err-clause-cause
-returns-in-Err-clause-cause g c = source_step (g.B.BatchSource.kind c.args.source.now) c.in-Err.error c.in-Err.ensures.cause
+pub returns-in_default-clause-source_told : goal.returns-in_default-clause-source_told
+returns-in_default-clause-source_told g c = inl (unasked_self (g.B.Fallible.faults c.args.source.now) (g.B.Fallible.may_fail c.args.source.now) (g.B.Fallible.must_fail c.args.source.now))
 
-pub step-requires-clause-owned : goal.step-requires-clause-owned
-step-requires-clause-owned g c = owned_right (g.O.Order.active c.args.order.now) (phase_stock c.args.self.now.phase) (task_stock c.args.self.now.root) c.requires.owned
+pub returns-in_default-clause-sink_told : goal.returns-in_default-clause-sink_told
+returns-in_default-clause-sink_told g c =
+    inl (unasked_self (g.O.Sink.Fallible.faults (g.O.Order.sink c.args.order.now)) (g.O.Sink.Fallible.may_fail (g.O.Order.sink c.args.order.now)) (g.O.Sink.Fallible.must_fail (g.O.Order.sink c.args.order.now)))
 
-pub step-requires-clause-there : goal.step-requires-clause-there
-step-requires-clause-there g c =
-    let u : Active = g.O.Order.active c.args.order.now in
-    let x : c.one-own.result ≡ one (may_source c.args.self.now.phase c.args.self.now.root) = c.one-own.ensures ∙ ap one c.source_may.ensures in
-    let r : c.ready-ready.result ≡ counted (machine_ready u c.args.self.now) = c.ready-ready.ensures.told in
-    omega (arith, x, r, c.requires.ready, c.if-picked-own.false)
+pub returns-in_default-clause-refused : goal.returns-in_default-clause-refused
+returns-in_default-clause-refused g c = λ image number.
+    memory_first (setting_of c.args.ctx.now image) (g.O.Order.active c.args.order.now) number (g.B.BatchSource.kind c.args.source.now) (g.O.Order.outlet c.args.order.now) c.args.self.now c.args.pick
+    (g.B.BatchSource.to_come c.args.source.now) c.requires.ready
 
-pub returns-in-Ok-step-clause-moved : goal.returns-in-Ok-step-clause-moved
-returns-in-Ok-step-clause-moved g c =
-    moved_behind (g.O.Order.active c.args.order.now) (g.O.Order.active c.step.new.order) (phase_stock c.args.self.now.phase) (task_stock c.args.self.now.root) (task_stock c.step.new.self) c.requires.owned c.step.ensures.moved
-
-pub returns-in-Err-step-clause-moved : goal.returns-in-Err-step-clause-moved
-returns-in-Err-step-clause-moved g c =
-    moved_behind (g.O.Order.active c.args.order.now) (g.O.Order.active c.step.new.order) (phase_stock c.args.self.now.phase) (task_stock c.args.self.now.root) (task_stock c.step.new.self) c.requires.owned c.step.ensures.moved
-
-pub returns-in-Err-step-clause-source_count : goal.returns-in-Err-step-clause-source_count
-returns-in-Err-step-clause-source_count g c =
-    subst (λ b. Counts (g.B.Fallible.faults c.args.source.now) (g.B.Fallible.faults c.args.source.now) b) (sym (sourceless c.in-Err-step.error c.in-Err-step.ensures.cause)) refl
-
-pub returns-in-Err-step-clause-cause : goal.returns-in-Err-step-clause-cause
-returns-in-Err-step-clause-cause g c = act_step c.in-Err-step.error c.in-Err-step.ensures.cause
-
--- ---- against the steps in plain data
-
-pub returns-in_err-task-clause-refused : goal.returns-in_err-task-clause-refused
-returns-in_err-task-clause-refused g c =
-    let u : Active = g.O.Order.active c.args.order.now in
-    let m = c.args.self.now in
-    let x : c.one-own.result ≡ one (may_source m.phase m.root) = c.one-own.ensures ∙ ap one c.source_may.ensures in
-    let h = own_source m.phase m.root (c.args.pick % c.ready-ready.result) c.one-own.result x c.if-picked-own.true in
-    let k : c.args.pick % counted (machine_ready u m) ≡ 0 = ap (λ n. c.args.pick % n) (sym c.ready-ready.ensures.told) ∙ h.0 in
-    let p = err_from_is_err_and c.from_residual.result c.from_residual.ensures.1 in
-    rw (p.1, p.2) (λ image number.
-    source_memory (setting_of c.args.ctx.now image) (fin.keys u) number (g.B.BatchSource.kind c.args.source.now) (g.O.Order.outlet c.args.order.now) (phase_of m.phase) (task_row m.root no_tasks) (c.args.pick % counted (machine_ready u m)) k h.1
-    (g.B.BatchSource.to_come c.args.source.now) (g.B.BatchSource.to_come c.args.source.now) refl)
-
-pub returns-in_err-task-clause-kept : goal.returns-in_err-task-clause-kept
-returns-in_err-task-clause-kept g c =
-    let p = err_from_is_err_and c.from_residual.result c.from_residual.ensures.1 in
-    rw p.1 (kept_same (g.O.Order.outlet c.args.order.now) (g.O.Order.outlet c.args.order.now) refl)
-
-pub returns-in-Ok-clause-done : goal.returns-in-Ok-clause-done
-returns-in-Ok-clause-done g c = λ image.
-    let m = c.args.self.now in
-    let n = c.step_source.new.self in
-    let x : c.one-own.result ≡ one (may_source m.phase m.root) = c.one-own.ensures ∙ ap one c.source_may.ensures in
-    let h = own_source m.phase m.root (c.args.pick % c.ready-ready.result) c.one-own.result x c.if-picked-own.true in (
-      0,
-      source_stepped (setting_of c.args.ctx.now image) (fin.keys (g.O.Order.active c.args.order.now)) 0 (g.B.BatchSource.kind c.args.source.now) (g.O.Order.outlet c.args.order.now) (phase_of m.phase) (task_row m.root no_tasks)
-          (c.args.pick % c.ready-ready.result) h.0 h.1 (g.B.BatchSource.to_come c.args.source.now) (g.B.BatchSource.to_come c.step_source.new.source) (g.O.Order.outlet c.step_source.new.order)
-          (phase_of n.phase) (task_row n.root no_tasks) c.in_ok-task.task c.in-Ok.action c.in_ok-task.ensures c.step_source.ensures.outlet c.in-Ok.ensures.done,
-    )
-
-pub returns-in-Err-clause-refused : goal.returns-in-Err-clause-refused
-returns-in-Err-clause-refused g c = λ image number.
-    let u : Active = g.O.Order.active c.args.order.now in
-    let m = c.args.self.now in
-    let x : c.one-own.result ≡ one (may_source m.phase m.root) = c.one-own.ensures ∙ ap one c.source_may.ensures in
-    let h = own_source m.phase m.root (c.args.pick % c.ready-ready.result) c.one-own.result x c.if-picked-own.true in
-    let k : c.args.pick % counted (machine_ready u m) ≡ 0 = ap (λ n. c.args.pick % n) (sym c.ready-ready.ensures.told) ∙ h.0 in
-    source_refused (setting_of c.args.ctx.now image) (fin.keys u) number (g.B.BatchSource.kind c.args.source.now) (g.O.Order.outlet c.args.order.now) (phase_of m.phase) (task_row m.root no_tasks) (c.args.pick % counted (machine_ready u m)) k h.1
-    (g.B.BatchSource.to_come c.args.source.now) (g.B.BatchSource.to_come c.step_source.new.source) c.in-Err.error c.in-Err.ensures.refused
-
-pub returns-in-Err-clause-kept : goal.returns-in-Err-clause-kept
-returns-in-Err-clause-kept g c = kept_same (g.O.Order.outlet c.args.order.now) (g.O.Order.outlet c.step_source.new.order) c.step_source.ensures.outlet
-
-pub returns-in-Ok-step-clause-done : goal.returns-in-Ok-step-clause-done
-returns-in-Ok-step-clause-done g c = λ image.
-    let m = c.args.self.now in
-    let k : ℕ = c.args.pick % c.ready-ready.result in
-    let x : c.one-own.result ≡ one (may_source m.phase m.root) = c.one-own.ensures ∙ ap one c.source_may.ensures in
-    let w = c.in-Ok-step.ensures.done image in (
-      w.0,
-      root_stepped (setting_of c.args.ctx.now image) (fin.keys (g.O.Order.active c.args.order.now)) w.0 (g.B.BatchSource.kind c.args.source.now) (g.O.Order.outlet c.args.order.now) (phase_of m.phase) (task_row m.root no_tasks)
-          k (k - c.one-own.result) (behind_source m.phase m.root k c.one-own.result x c.if-picked-own.false) (g.B.BatchSource.to_come c.args.source.now) (g.B.BatchSource.to_come c.args.source.now) refl
-          (g.O.Order.outlet c.step.new.order) (task_row c.step.new.self no_tasks) c.in-Ok-step.did.task c.in-Ok-step.did.action w.1,
-    )
-
-pub returns-in-Err-step-clause-refused : goal.returns-in-Err-step-clause-refused
-returns-in-Err-step-clause-refused g c = λ image number.
-    let u : Active = g.O.Order.active c.args.order.now in
-    let m = c.args.self.now in
-    let k : ℕ = c.args.pick % c.ready-ready.result in
-    let x : c.one-own.result ≡ one (may_source m.phase m.root) = c.one-own.ensures ∙ ap one c.source_may.ensures in
-    let is : c.args.pick % counted (machine_ready u m) ≡ one_if (whole.may_source (phase_of m.phase) (task_row m.root no_tasks)) + (k - c.one-own.result)
-    = ap (λ n. c.args.pick % n) (sym c.ready-ready.ensures.told) ∙ behind_source m.phase m.root k c.one-own.result x c.if-picked-own.false in
-    root_refused (setting_of c.args.ctx.now image) (fin.keys u) number (g.B.BatchSource.kind c.args.source.now) (g.O.Order.outlet c.args.order.now) (phase_of m.phase) (task_row m.root no_tasks)
-    (c.args.pick % counted (machine_ready u m)) (k - c.one-own.result) is (g.B.BatchSource.to_come c.args.source.now) (g.B.BatchSource.to_come c.args.source.now) refl c.in-Err-step.error (c.in-Err-step.ensures.refused image number)
+pub returns-in_default-clause-kept : goal.returns-in_default-clause-kept
+returns-in_default-clause-kept g c = kept_same (g.O.Order.outlet c.args.order.now) (g.O.Order.outlet c.args.order.now) refl

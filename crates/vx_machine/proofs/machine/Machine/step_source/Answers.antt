@@ -1,9 +1,11 @@
-use Rattle.std.proofs.Common.{ap}
+use Rattle.std.proofs.Common.{ap, sym}
 use Rattle.vx_machine.specs.Stocks.{task_stock}
 use Rattle.vx_machine.specs.Source.{phase_stock}
+use Rattle.vx_machine.proofs.CallSteps.{told_as}
 use Rattle.vx_machine.proofs.MachineMoves.{source_owned, source_moved}
 use Rattle.vx_machine_view.specs.State.{no_tasks}
-use Rattle.vx_machine.specs.View.{task_row}
+use Rattle.vx_machine.specs.Calls.{reads_at}
+use Rattle.vx_machine.specs.View.{phase_of, task_row}
 use Rattle.vx_machine.proofs.SourceSteps.{source_done, source_fails}
 use Rattle.vx_machine.proofs.machine.Machine.step_source.Goals as goal
 
@@ -26,3 +28,8 @@ pub returns-clause-refused : goal.returns-clause-refused
 returns-clause-refused g c =
     source_fails (g.B.BatchSource.kind c.args.source.now) (g.B.BatchSource.to_come c.args.source.now) (g.B.BatchSource.to_come c.act_source-phase.new.source) c.args.self.now.phase c.replace-phase.result
     (task_row c.args.self.now.root no_tasks) c.act_source-phase.result.1 c.replace-phase.ensures.value c.act_source-phase.ensures.refused
+
+pub returns-clause-told : goal.returns-clause-told
+returns-clause-told g c =
+    told_as g.B.Fallible.faults g.B.Fallible.may_fail g.B.Fallible.must_fail c.args.source.now c.act_source-phase.new.source (reads_at (phase_of c.replace-phase.result) 0) (reads_at (phase_of c.args.self.now.phase) 0) c.act_source-phase.result.1
+    (ap (λ p. reads_at (phase_of p) 0) (sym c.replace-phase.ensures.value)) c.act_source-phase.ensures.told

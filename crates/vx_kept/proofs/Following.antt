@@ -1,0 +1,64 @@
+-- What a task's own act changes below it.
+use Rattle.std.proofs.Common.{◌≡◌, ℕ, ◌==◌, ◌&&◌, ◌+◌, Bool, true, false, List, [], ◌∷◌, refl, sym, ap, subst, arith}
+use Rattle.vx_plan.specs.PlanData.{Setting, Item}
+use Rattle.vx_path.specs.Path.{under, inside}
+use Rattle.vx_machine_view.specs.State.{Next, put, append, shut_kids, join_kids, Mind, no_chunk, one_chunk, by_chunk, by_column, ending, made, Desk, Tasks, no_tasks, task_then}
+use Rattle.vx_machine_view.specs.Start.{started_task}
+use Rattle.vx_machine_view.specs.Acts.{count, give, add, column_count, take_chunk, end_columns, take_end, do_take, do_act}
+use Rattle.vx_kept.specs.Kept.{KnowsFrom, Knows, asked_of, ready_of, kids_of}
+use Rattle.vx_kept.specs.Follow.{touched_by, Follows}
+use Rattle.vx_kept.specs.declared.counts.Counts.{Counts}
+use Rattle.vx_kept.specs.declared.counts.Touched.TheVariants.{Child, Nothing}
+use Rattle.vx_kept.proofs.Keeping.{add_leaves, give_leaves}
+
+-- none, or one more
+abbrev Grown : Tasks → Tasks → Type 0
+Grown ks js = (new : Tasks) × (js ≡ add ks new)
+
+add_none : (ks : Tasks) → ks ≡ add ks no_tasks
+add_none no_tasks = refl
+add_none (task_then c ks r) = ap (task_then c ks) (add_none r)
+
+same : (ks : Tasks) → Grown ks ks
+same ks = (no_tasks, add_none ks)
+
+end_grown : (c : Desk) (ks : Tasks) (m : Mind) → Grown ks (take_end c ks m).kids
+end_grown c ks (no_chunk o t) = same ks
+end_grown c ks (one_chunk x) = same ks
+end_grown c ks (by_chunk m t f e rows) = same ks
+end_grown c ks (by_column t rows) = by ((count ks == 0) && (0 == column_count t))
+  where
+    by : (z : Bool) → Grown ks (end_columns z t rows c ks).kids
+    by true = same ks
+    by false = same ks
+end_grown c ks ending = same ks
+end_grown c ks (made l) = same ks
+
+chunk_grown : (s : Setting) (c : Desk) (ks : Tasks) (i : Item) (xs : List Item) (m : Mind) → Grown ks (take_chunk s c ks i xs m).kids
+chunk_grown s c ks i xs (no_chunk o t) = same ks
+chunk_grown s c ks i xs (one_chunk x) = same ks
+chunk_grown s c ks i xs (by_chunk m t f e rows) = (started_task f m (under c.name (count ks)) (inside e) (i ∷ []) true, refl)
+chunk_grown s c ks i xs (by_column t rows) = same ks
+chunk_grown s c ks i xs ending = same ks
+chunk_grown s c ks i xs (made l) = same ks
+
+take_grown : (s : Setting) (c : Desk) (ks : Tasks) (inbox : List Item) → Grown ks (do_take s c ks inbox).kids
+take_grown s c ks [] = end_grown c ks c.mind
+take_grown s c ks (i ∷ xs) = chunk_grown s c ks i xs c.mind
+
+pub act_follows : (s : Setting) (number : ℕ) (c : Desk) (ks : Tasks) (todo : List Next) → Follows (touched_by todo) ks (do_act s number c ks todo).kids
+act_follows s number c ks [] = take_grown s c ks c.inbox
+act_follows s number c ks (put j i ∷ todo) = (i, refl)
+act_follows s number c ks (append x ∷ todo) = same ks
+act_follows s number c ks (shut_kids ∷ todo) = tt
+act_follows s number c ks (join_kids f ∷ todo) = tt
+
+-- so it is known
+pub child_known : (x : Counts) (j : ℕ) (ks js : Tasks) → Follows (Child j) ks js → Knows x ks → KnowsFrom (j ∷ asked_of x) 0 (ready_of x) (kids_of x) js
+child_known x j ks js f k =
+    let e : 0 + j ≡ j = omega arith in
+    subst (λ z. KnowsFrom (j ∷ asked_of x) 0 (ready_of x) (kids_of x) z) (sym f.1)
+    (subst (λ z. KnowsFrom (z ∷ asked_of x) 0 (ready_of x) (kids_of x) (give j f.0 ks)) e (give_leaves j f.0 (asked_of x) 0 (ready_of x) (kids_of x) ks k))
+
+pub nothing_known : (x : Counts) (ks js : Tasks) → Follows Nothing ks js → Knows x ks → Knows x js
+nothing_known x ks js f k = subst (λ z. Knows x z) (sym f.1) (add_leaves f.0 (asked_of x) 0 (ready_of x) (kids_of x) ks k)

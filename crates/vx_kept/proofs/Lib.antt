@@ -1,0 +1,4 @@
+pub mod Parts
+pub mod Keeping
+pub mod Following
+pub mod Asking

@@ -1,0 +1,178 @@
+-- What is told of calls, step by step.
+use Rattle.std.proofs.Common.{◌≡◌, ℕ, suc, ◌+◌, Bool, true, false, List, Option, Result, Ok, Err, IfOk, IfErr, inl, inr, refl, sym, subst, arith}
+use Rattle.vx_model.specs.Ty.{Ty}
+use Rattle.vx_model.specs.ChunkData.{ChunkData}
+use Rattle.vx_fault.specs.Faults.{Called}
+use Rattle.vx_order_answer.specs.declared.receipt.Receipt.{Receipt}
+use Rattle.vx_order_answer.specs.declared.errors.OrderError.{OrderError}
+use Rattle.vx_order_answer.specs.declared.errors.OrderError.TheVariants as order
+use Rattle.vx_order.specs.Answers.{FullAt, Tried, Tells, TellsRefused, Unasked}
+use Rattle.vx_order.specs.declared.attempt.Attempt.TheVariants.{Written}
+use Rattle.vx_sink.specs.Source.{source_failed}
+use Rattle.vx_sink.specs.declared.source.SourceError.{SourceError}
+use Rattle.vx_sink.specs.declared.source.SourceError.TheVariants as source
+use Rattle.vx_machine_promises.specs.Write.{Answer, unasked, came, over}
+use Rattle.vx_machine_view.specs.State.{Tasks}
+use Rattle.vx_machine_view.specs.Machine.{Phase, reading, giving, closing, finished, may_source, source_step}
+use Rattle.vx_machine_view.specs.Places.{one_if}
+use Rattle.vx_write_answer.specs.Causes.{of_source, of_order}
+use Rattle.vx_write_answer.specs.declared.step.ActionKind.{ActionKind}
+use Rattle.vx_write_answer.specs.declared.error.WriteError.{WriteError}
+use Rattle.vx_write_answer.specs.declared.error.WriteError.TheVariants.{SourceFault, SinkFault, CompressFault, BatchType, NotStruct, DuplicateField, ManyChunks, EmptyList, ZoneCut, ForbiddenAggregate, ForbiddenEncoding, TooLarge, OutOfMemory, Unbuilt, Stopped}
+use Rattle.vx_machine.specs.Calls.{reads_action, append_action, reads_at, CalledTimes, SourceStops, SinkStops, SourceTold, TaskTold}
+use Rattle.vx_machine.specs.Causes.{MayCome, ActMay}
+use Rattle.vx_machine.specs.Outcome.{action_of}
+use Rattle.vx_machine.specs.Source.{SourceMay}
+use Rattle.vx_machine.specs.SourceActs.{SourceActed}
+
+-- ---- of the sink
+
+pub unasked_self : (n : ℕ) (may must : ℕ → Type 0) → Unasked n n may may must must
+unasked_self n may must = record { counted = refl; may_later = λ k h. h; must_later = λ k h. h }
+
+-- what tells of faults is as before
+module _ {S : Type 0} (faults : S → ℕ) (may must : S → ℕ → Type 0) (a b : S) (same : b ≡ a) where
+  pub unasked_by : Unasked (faults a) (faults b) (may a) (may b) (must a) (must b)
+  unasked_by = subst (λ z. Unasked (faults a) (faults z) (may a) (may z) (must a) (must z)) (sym same) (unasked_self (faults a) (may a) (must a))
+
+  -- of an act that asks no sink
+  pub quiet_stops : (e : WriteError) → MayCome e → SinkStops (faults a) (faults b) (may a) (may b) (must a) (must b) e
+  quiet_stops SourceFault h = inl unasked_by
+  quiet_stops SinkFault h = absurd h
+  quiet_stops CompressFault h = inl unasked_by
+  quiet_stops (BatchType c) h = inl unasked_by
+  quiet_stops NotStruct h = inl unasked_by
+  quiet_stops (DuplicateField name) h = inl unasked_by
+  quiet_stops ManyChunks h = inl unasked_by
+  quiet_stops EmptyList h = inl unasked_by
+  quiet_stops (ZoneCut n) h = inl unasked_by
+  quiet_stops (ForbiddenAggregate id) h = inl unasked_by
+  quiet_stops (ForbiddenEncoding id) h = inl unasked_by
+  quiet_stops (TooLarge n) h = inl unasked_by
+  quiet_stops OutOfMemory h = inl unasked_by
+  quiet_stops Unbuilt h = inl unasked_by
+  quiet_stops (Stopped by name) h = inl unasked_by
+
+  pub quiet_told : (k : ActionKind) → reads_action k ≡ 0 → append_action k ≡ 0 → (r : Result ActionKind WriteError) → IfOk r (λ x. x ≡ k) → IfErr r MayCome
+      → TaskTold (faults a) (faults b) (may a) (may b) (must a) (must b) r (λ x. x)
+  quiet_told k m n (Ok x) is h = subst (λ z. TaskTold (faults a) (faults b) (may a) (may b) (must a) (must b) (Ok z) (λ x. x)) (sym is)
+      (m, subst (λ z. CalledTimes (faults a) (faults b) (may a) (may b) (must a) (must b) z) (sym n) unasked_by)
+  quiet_told k m n (Err e) is h = quiet_stops e h
+
+  -- of the source's act
+  pub source_quiet : (t : Ty) (e : WriteError) → SourceMay t e → SinkStops (faults a) (faults b) (may a) (may b) (must a) (must b) e
+  source_quiet t SourceFault h = inl unasked_by
+  source_quiet t SinkFault h = absurd h
+  source_quiet t CompressFault h = inl unasked_by
+  source_quiet t (BatchType c) h = inl unasked_by
+  source_quiet t NotStruct h = inl unasked_by
+  source_quiet t (DuplicateField name) h = inl unasked_by
+  source_quiet t ManyChunks h = inl unasked_by
+  source_quiet t EmptyList h = inl unasked_by
+  source_quiet t (ZoneCut n) h = inl unasked_by
+  source_quiet t (ForbiddenAggregate id) h = inl unasked_by
+  source_quiet t (ForbiddenEncoding id) h = inl unasked_by
+  source_quiet t (TooLarge n) h = inl unasked_by
+  source_quiet t OutOfMemory h = inl unasked_by
+  source_quiet t Unbuilt h = inl unasked_by
+  source_quiet t (Stopped by name) h = inl unasked_by
+
+  pub source_act : (x : ActionKind) → append_action x ≡ 0 → CalledTimes (faults a) (faults b) (may a) (may b) (must a) (must b) (append_action x)
+  source_act x n = subst (λ z. CalledTimes (faults a) (faults b) (may a) (may b) (must a) (must b) z) (sym n) unasked_by
+
+-- and so behind a call
+module _ {S : Type 0} (faults : S → ℕ) (may must : S → ℕ → Type 0) (a b c : S) (same : c ≡ b) where
+  pub then_called : Called (faults a) (faults b) (may a) (may b) (must a) (must b) false → Called (faults a) (faults c) (may a) (may c) (must a) (must c) false
+  then_called = subst (λ z. Called (faults a) (faults z) (may a) (may z) (must a) (must z) false) (sym same)
+
+  refused_told : (e : OrderError) → TellsRefused (faults a) (faults b) (may a) (may b) (must a) (must b) e → SinkStops (faults a) (faults b) (may a) (may b) (must a) (must b) (of_order e)
+  refused_told (order.TooLarge k) h = inl h
+  refused_told order.SinkFault h = h
+  refused_told order.OutOfMemory h = h
+  refused_told (order.Stopped by name) h = inl h
+
+  pub refused_stops : (e : OrderError) (x : WriteError) → x ≡ of_order e → TellsRefused (faults a) (faults b) (may a) (may b) (must a) (must b) e
+      → SinkStops (faults a) (faults c) (may a) (may c) (must a) (must c) x
+  refused_stops e x is h =
+      subst (λ z. SinkStops (faults a) (faults z) (may a) (may z) (must a) (must z) x) (sym same)
+      (subst (λ z. SinkStops (faults a) (faults b) (may a) (may b) (must a) (must b) z) (sym is) (refused_told e h))
+
+-- ---- of a call
+
+module _ {S : Type 0} (faults : S → ℕ) (may must : S → ℕ → Type 0) (a b : S) where
+  pub written_called : (r : Tried) (x : Receipt) → r ≡ Ok (Written x) → Tells (faults a) (faults b) (may a) (may b) (must a) (must b) r → Called (faults a) (faults b) (may a) (may b) (must a) (must b) false
+  written_called r x is h = subst (λ z. Tells (faults a) (faults b) (may a) (may b) (must a) (must b) z) is h
+
+  failed_told : (e : SourceError) → Called (faults a) (faults b) (may a) (may b) (must a) (must b) (source_failed (Err e)) → SourceStops (faults a) (faults b) (may a) (may b) (must a) (must b) true (of_source e)
+  failed_told source.Failed h = (refl, h)
+  failed_told source.OutOfMemory h = inr h
+
+  pub failed_stops : (e : SourceError) (x : WriteError) → x ≡ of_source e → Called (faults a) (faults b) (may a) (may b) (must a) (must b) (source_failed (Err e))
+      → SourceStops (faults a) (faults b) (may a) (may b) (must a) (must b) true x
+  failed_stops e x is h = subst (λ z. SourceStops (faults a) (faults b) (may a) (may b) (must a) (must b) true z) (sym is) (failed_told e h)
+
+  -- a batch came, and it can have no path
+  full_told : (last : ℕ) (e : OrderError) → FullAt last e → Called (faults a) (faults b) (may a) (may b) (must a) (must b) false → SourceStops (faults a) (faults b) (may a) (may b) (must a) (must b) true (of_order e)
+  full_told last (order.TooLarge k) f h = inr h
+  full_told last order.SinkFault f h = absurd f
+  full_told last order.OutOfMemory f h = inr h
+  full_told last (order.Stopped by name) f h = absurd f
+
+  pub full_stops : (last : ℕ) (e : OrderError) (x : WriteError) → x ≡ of_order e → FullAt last e → Called (faults a) (faults b) (may a) (may b) (must a) (must b) false
+      → SourceStops (faults a) (faults b) (may a) (may b) (must a) (must b) true x
+  full_stops last e x is f h = subst (λ z. SourceStops (faults a) (faults b) (may a) (may b) (must a) (must b) true z) (sym is) (full_told last e f h)
+
+  -- whether the source reads, said otherwise
+  pub told_as : (x y : Bool) (r : Result ActionKind WriteError) → y ≡ x → SourceTold (faults a) (faults b) (may a) (may b) (must a) (must b) x r (λ k. k)
+      → SourceTold (faults a) (faults b) (may a) (may b) (must a) (must b) y r (λ k. k)
+  told_as x y r is = subst (λ z. SourceTold (faults a) (faults b) (may a) (may b) (must a) (must b) z r (λ k. k)) (sym is)
+
+  pub stops_as : (x y : Bool) (e : WriteError) → y ≡ x → SourceStops (faults a) (faults b) (may a) (may b) (must a) (must b) x e → SourceStops (faults a) (faults b) (may a) (may b) (must a) (must b) y e
+  stops_as x y e is = subst (λ z. SourceStops (faults a) (faults b) (may a) (may b) (must a) (must b) z e) (sym is)
+
+-- ---- of the source, by a task's act
+
+module _ (n : ℕ) (may must : ℕ → Type 0) where
+  by_task : (e : WriteError) → ActMay e → SourceStops n n may may must must false e
+  by_task SourceFault h = absurd h
+  by_task SinkFault h = inl (unasked_self n may must)
+  by_task CompressFault h = inl (unasked_self n may must)
+  by_task (BatchType c) h = inl (unasked_self n may must)
+  by_task NotStruct h = inl (unasked_self n may must)
+  by_task (DuplicateField name) h = inl (unasked_self n may must)
+  by_task ManyChunks h = inl (unasked_self n may must)
+  by_task EmptyList h = inl (unasked_self n may must)
+  by_task (ZoneCut k) h = inl (unasked_self n may must)
+  by_task (ForbiddenAggregate id) h = inl (unasked_self n may must)
+  by_task (ForbiddenEncoding id) h = inl (unasked_self n may must)
+  by_task (TooLarge k) h = inl (unasked_self n may must)
+  by_task OutOfMemory h = inl (unasked_self n may must)
+  by_task Unbuilt h = inl (unasked_self n may must)
+  by_task (Stopped by name) h = inl (unasked_self n may must)
+
+  pub task_stops : (reads : Bool) → reads ≡ false → (e : WriteError) → ActMay e → SourceStops n n may may must must reads e
+  task_stops reads is e h = subst (λ z. SourceStops n n may may must must z e) (sym is) (by_task e h)
+
+  pub task_reads : (x : ActionKind) → reads_action x ≡ 0 → CalledTimes n n may may must must (reads_action x)
+  task_reads x is = subst (λ z. CalledTimes n n may may must must z) (sym is) (unasked_self n may must)
+
+-- behind the source's own place
+pub reads_behind : (p : Phase) (root : Tasks) (k j : ℕ) → k ≡ one_if (may_source p root) + j → reads_at p k ≡ false
+reads_behind (reading e) root k j is =
+    let next : k ≡ suc j = omega (arith, is) in
+    subst (λ z. reads_at (reading e) z ≡ false) (sym next) refl
+reads_behind (giving e i) root k j is = refl
+reads_behind closing root k j is = refl
+reads_behind finished root k j is = refl
+
+-- no act of the source appends
+step_appends : (a : Answer) (p : Phase) (root : Tasks) → append_action (action_of (source_step a p root).kind) ≡ 0
+step_appends (came b) (reading e) root = refl
+step_appends over (reading e) root = refl
+step_appends unasked (reading e) root = refl
+step_appends a (giving e i) root = refl
+step_appends a closing root = refl
+step_appends a finished root = refl
+
+pub source_appends : (t : Ty) (before now : Option (List ChunkData)) (p q : Phase) (root new : Tasks) (x : ActionKind) → SourceActed t before now p q root new x → append_action x ≡ 0
+source_appends t before now p q root new x d = subst (λ z. append_action z ≡ 0) (sym d.kind) (step_appends d.told p root)

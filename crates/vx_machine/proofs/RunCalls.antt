@@ -1,0 +1,180 @@
+-- Calls of a run, one after the other.
+use Rattle.std.proofs.Common.{◌≡◌, ◌⊎◌, ℕ, ◌+◌, ◌<◌, Bool, true, false, List, [], ◌∷◌, ◌++◌, IsTrue, below_more, inl, inr, ⊎_elim, refl, sym, subst, ◌∙◌, arith}
+use Rattle.std.proofs.lemmas.Bool.{true≢false}
+use Rattle.vx_fault.specs.Counts.{Counts}
+use Rattle.vx_fault.specs.Faults.{Called, FaultsTold}
+use Rattle.vx_order.specs.Answers.{Unasked}
+use Rattle.vx_write_answer.specs.Causes.{is_source_fault, is_sink_fault}
+use Rattle.vx_write_answer.specs.declared.step.Step.{Step}
+use Rattle.vx_write_answer.specs.declared.step.ActionKind.{ActionKind}
+use Rattle.vx_write_answer.specs.declared.step.ActionKind.TheVariants as actions
+use Rattle.vx_write_answer.specs.declared.error.WriteError.{WriteError}
+use Rattle.vx_write_answer.specs.declared.error.WriteError.TheVariants.{SourceFault, SinkFault, CompressFault, BatchType, NotStruct, DuplicateField, ManyChunks, EmptyList, ZoneCut, ForbiddenAggregate, ForbiddenEncoding, TooLarge, OutOfMemory, Unbuilt, Stopped}
+use Rattle.vx_machine.specs.Calls.{reads_action, append_action, reads_in, appends_in, CalledTimes, MaybeCalled, MisfitTold, SourceStops, SinkStops}
+use Rattle.vx_machine.specs.Run.{ReadStopped}
+
+-- ---- how often
+
+pub reads_once : (x : ActionKind) → (reads_action x ≡ 0) ⊎ (reads_action x ≡ 1)
+reads_once actions.Batch = inr refl
+reads_once actions.End = inr refl
+reads_once actions.Take = inl refl
+reads_once actions.Put = inl refl
+reads_once actions.Close = inl refl
+reads_once actions.Call = inl refl
+reads_once actions.Append = inl refl
+reads_once actions.Join = inl refl
+
+pub appends_once : (x : ActionKind) → (append_action x ≡ 0) ⊎ (append_action x ≡ 1)
+appends_once actions.Append = inr refl
+appends_once actions.Batch = inl refl
+appends_once actions.End = inl refl
+appends_once actions.Take = inl refl
+appends_once actions.Put = inl refl
+appends_once actions.Close = inl refl
+appends_once actions.Call = inl refl
+appends_once actions.Join = inl refl
+
+pub reads_more : (ss : List Step) (s : Step) → reads_in (ss ++ (s ∷ [])) ≡ reads_in ss + reads_action s.action
+reads_more [] s = omega arith
+reads_more (q ∷ qs) s = let h = reads_more qs s in omega (arith, h)
+
+pub appends_more : (ss : List Step) (s : Step) → appends_in (ss ++ (s ∷ [])) ≡ appends_in ss + append_action s.action
+appends_more [] s = omega arith
+appends_more (q ∷ qs) s = let h = appends_more qs s in omega (arith, h)
+
+-- ---- what is told of so many calls, none of which failed
+
+pub record Answered {S : Type 0} (faults : S → ℕ) (may must : S → ℕ → Type 0) (a b : S) (n : ℕ) : Type 0 where
+  pub counted : faults b ≡ faults a
+  pub fewer : (k : ℕ) → may b k → may a (n + k)
+  pub more : (k : ℕ) → must a (n + k) → must b k
+  pub passed : (k : ℕ) → k < n → ¬ must a k
+
+not_yet : IsTrue false → ⊥
+not_yet h = true≢false (sym h)
+
+module _ {S : Type 0} (faults : S → ℕ) (may must : S → ℕ → Type 0) where
+  pub none_called : (a : S) → Answered faults may must a a 0
+  none_called a = record {
+    counted = refl;
+    fewer = λ k h. let e : k ≡ 0 + k = omega arith in subst (may a) e h;
+    more = λ k h. let e : 0 + k ≡ k = omega arith in subst (must a) e h;
+    passed = λ k l. absurd (omega (arith, l));
+  }
+
+  module _ (a b c : S) (n : ℕ) (t : Answered faults may must a b n) where
+    then_unasked : Unasked (faults b) (faults c) (may b) (may c) (must b) (must c) → Answered faults may must a c n
+    then_unasked u = record {
+      counted = u.counted ∙ t.counted;
+      fewer = λ k h. t.fewer k (u.may_later k h);
+      more = λ k h. u.must_later k (t.more k h);
+      passed = t.passed;
+    }
+
+    -- the last call wasn't one that must fail
+    unforced : Called (faults b) (faults c) (may b) (may c) (must b) (must c) false → ¬ must a n
+    unforced x h = let e : n ≡ n + 0 = omega arith in not_yet (x.forced (t.more 0 (subst (must a) e h)))
+
+    then_called : Called (faults b) (faults c) (may b) (may c) (must b) (must c) false → Answered faults may must a c (n + 1)
+    then_called x = record {
+      counted = x.counted ∙ t.counted;
+      fewer = λ k h. let e : n + (k + 1) ≡ (n + 1) + k = omega arith in subst (may a) e (t.fewer (k + 1) (x.fewer k h));
+      more = λ k h. let e : (n + 1) + k ≡ n + (k + 1) = omega arith in x.more k (t.more (k + 1) (subst (must a) e h));
+      passed = below_more (λ (k : ℕ). ¬ must a k) n t.passed (unforced x);
+    }
+
+    pub then_answered : (m p : ℕ) → p ≡ n + m → (m ≡ 0) ⊎ (m ≡ 1) → CalledTimes (faults b) (faults c) (may b) (may c) (must b) (must c) m → Answered faults may must a c p
+    then_answered m p is (inl e) h =
+        let same : n ≡ p = omega (arith, is, e) in
+        subst (λ z. Answered faults may must a c z) same (then_unasked (subst (λ z. CalledTimes (faults b) (faults c) (may b) (may c) (must b) (must c) z) e h))
+    then_answered m p is (inr e) h =
+        let same : n + 1 ≡ p = omega (arith, is, e) in
+        subst (λ z. Answered faults may must a c z) same (then_called (subst (λ z. CalledTimes (faults b) (faults c) (may b) (may c) (must b) (must c) z) e h))
+
+    -- ---- the end of a run
+
+    quietly : MaybeCalled (faults b) (faults c) (may b) (may c) (must b) (must c) → FaultsTold (faults a) (faults c) (may a) (must a) n false
+    quietly h = record {
+      counted = ⊎_elim (λ u. u.counted ∙ t.counted) (λ x. x.counted ∙ t.counted) h;
+      allowed = λ f. absurd (not_yet f);
+      passed = t.passed;
+    }
+
+    failing : Called (faults b) (faults c) (may b) (may c) (must b) (must c) true → FaultsTold (faults a) (faults c) (may a) (must a) n true
+    failing x = record {
+      counted = subst (λ z. Counts z (faults c) true) t.counted x.counted;
+      allowed = λ f. let e : n + 0 ≡ n = omega arith in subst (may a) e (t.fewer 0 (x.allowed refl));
+      passed = t.passed;
+    }
+
+    pub sink_ends : (e : WriteError) → SinkStops (faults b) (faults c) (may b) (may c) (must b) (must c) e → FaultsTold (faults a) (faults c) (may a) (must a) n (is_sink_fault e)
+    sink_ends SourceFault h = quietly h
+    sink_ends SinkFault h = failing h
+    sink_ends CompressFault h = quietly h
+    sink_ends (BatchType x) h = quietly h
+    sink_ends NotStruct h = quietly h
+    sink_ends (DuplicateField name) h = quietly h
+    sink_ends ManyChunks h = quietly h
+    sink_ends EmptyList h = quietly h
+    sink_ends (ZoneCut k) h = quietly h
+    sink_ends (ForbiddenAggregate id) h = quietly h
+    sink_ends (ForbiddenEncoding id) h = quietly h
+    sink_ends (TooLarge k) h = quietly h
+    sink_ends OutOfMemory h = quietly h
+    sink_ends Unbuilt h = quietly h
+    sink_ends (Stopped by name) h = quietly h
+
+    misfit_ends : (reads : Bool) → MisfitTold (faults b) (faults c) (may b) (may c) (must b) (must c) reads → FaultsTold (faults a) (faults c) (may a) (must a) n false
+    misfit_ends true h = quietly (inr h)
+    misfit_ends false h = quietly h
+
+    pub source_ends : (reads : Bool) (e : WriteError) → SourceStops (faults b) (faults c) (may b) (may c) (must b) (must c) reads e → FaultsTold (faults a) (faults c) (may a) (must a) n (is_source_fault e)
+    source_ends reads SourceFault h = failing h.1
+    source_ends reads SinkFault h = quietly h
+    source_ends reads CompressFault h = quietly h
+    source_ends reads (BatchType x) h = misfit_ends reads h
+    source_ends reads NotStruct h = quietly h
+    source_ends reads (DuplicateField name) h = quietly h
+    source_ends reads ManyChunks h = quietly h
+    source_ends reads EmptyList h = quietly h
+    source_ends reads (ZoneCut k) h = quietly h
+    source_ends reads (ForbiddenAggregate id) h = quietly h
+    source_ends reads (ForbiddenEncoding id) h = quietly h
+    source_ends reads (TooLarge k) h = quietly h
+    source_ends reads OutOfMemory h = quietly h
+    source_ends reads Unbuilt h = quietly h
+    source_ends reads (Stopped by name) h = quietly h
+
+    -- a read that gave a batch of another type
+    read_passed : (reads : Bool) → MisfitTold (faults b) (faults c) (may b) (may c) (must b) (must c) reads → reads ≡ true → ¬ must a n
+    read_passed true h is = unforced h
+    read_passed false h is = absurd (true≢false (sym is))
+
+    -- of the source's errors, whether the step reads
+    pub read_stopped : (x y : Bool) (e : WriteError) → y ≡ x → SourceStops (faults b) (faults c) (may b) (may c) (must b) (must c) x e → ReadStopped y (must a n) e
+    read_stopped x y SourceFault is h = is ∙ h.0
+    read_stopped x y SinkFault is h = tt
+    read_stopped x y CompressFault is h = tt
+    read_stopped x y (BatchType p) is h = λ r. read_passed x h (sym is ∙ r)
+    read_stopped x y NotStruct is h = tt
+    read_stopped x y (DuplicateField name) is h = tt
+    read_stopped x y ManyChunks is h = tt
+    read_stopped x y EmptyList is h = tt
+    read_stopped x y (ZoneCut k) is h = tt
+    read_stopped x y (ForbiddenAggregate id) is h = tt
+    read_stopped x y (ForbiddenEncoding id) is h = tt
+    read_stopped x y (TooLarge k) is h = tt
+    read_stopped x y OutOfMemory is h = tt
+    read_stopped x y Unbuilt is h = tt
+    read_stopped x y (Stopped by name) is h = tt
+
+  -- where nothing is asked any more
+  pub ended : (a b c : S) (n p : ℕ) → p ≡ n → c ≡ b → Answered faults may must a b n → FaultsTold (faults a) (faults c) (may a) (must a) p false
+  ended a b c n p is same t =
+      subst (λ z. FaultsTold (faults a) (faults c) (may a) (must a) z false) (sym is)
+      (record { counted = subst (λ z. faults z ≡ faults a) (sym same) t.counted; allowed = λ f. absurd (not_yet f); passed = t.passed })
+
+-- one answer more
+pub answer_more : (b c : ℕ) (may must : ℕ → Type 0) (n : ℕ) → FaultsTold b c may must n false → ¬ must n → FaultsTold b c may must (n + 1) false
+answer_more b c may must n t h = record { counted = t.counted; allowed = λ f. absurd (not_yet f); passed = below_more (λ (k : ℕ). ¬ must k) n t.passed h }

@@ -1,0 +1,186 @@
+use Rattle.std.proofs.Common.{◌≡◌, ℕ, ◌+◌, ◌-◌, ◌%◌, inl, refl, sym, ap, subst, ◌∙◌, arith}
+use Rattle.vx_sequence.specs.Universe.{Active}
+use Rattle.vx_machine_ids.specs.Stock.{one}
+use Rattle.vx_machine_ids.proofs.MoveLaws.{owned_right, moved_behind}
+use Rattle.vx_machine.specs.Ready.{counted}
+use Rattle.vx_machine.specs.Stocks.{task_stock}
+use Rattle.vx_machine.specs.Source.{phase_stock}
+use Rattle.vx_machine.specs.Whole.{may_source, machine_ready}
+use Rattle.std.specs.FinMap as fin
+use Rattle.std.proofs.lemmas.Result.{err_from_is_err_and}
+use Rattle.vx_machine_view.specs.State.{no_tasks}
+use Rattle.vx_machine_view.specs.Machine as whole
+use Rattle.vx_machine_view.specs.Places.{one_if}
+use Rattle.vx_machine.specs.Calls.{reads_at}
+use Rattle.vx_machine.specs.Context.{setting_of}
+use Rattle.vx_machine.specs.View.{phase_of, task_row, row}
+use Rattle.vx_machine.proofs.ReadyViews.{own_source, behind_source}
+use Rattle.vx_machine.proofs.StepShows.{source_stepped, source_refused, source_memory, root_stepped, root_refused}
+use Rattle.vx_machine.proofs.ActShows.{kept_same}
+use Rattle.vx_machine.proofs.ActCauses.{act_step, source_step}
+use Rattle.vx_machine.proofs.CallSteps.{unasked_self, stops_as, source_quiet, source_act, source_appends, task_reads, task_stops, reads_behind}
+use Rattle.vx_kept.specs.Kept.{Knows, asked_of, ready_of, kids_of}
+use Rattle.vx_kept.proofs.Asking.{fresh_knows}
+use Rattle.vx_machine.specs.declared.task.Task.{out-Task}
+use Rattle.vx_machine.proofs.Counting.{source_keeps}
+use Rattle.vx_machine.proofs.machine.Machine.step_counted.Goals as goal
+
+pub nonzero_rem-picked : goal.nonzero_rem-picked
+nonzero_rem-picked g c = omega (arith, c.requires.count, c.requires.ready)
+
+pub returns-in-Err-clause-cause : goal.returns-in-Err-clause-cause
+returns-in-Err-clause-cause g c = source_step (g.B.BatchSource.kind c.args.source.now) c.in-Err.error c.in-Err.ensures.cause
+
+pub step-requires-clause-owned : goal.step-requires-clause-owned
+step-requires-clause-owned g c = owned_right (g.O.Order.active c.args.order.now) (phase_stock c.args.self.now.phase) (task_stock c.args.self.now.root) c.requires.owned
+
+pub step-requires-clause-there : goal.step-requires-clause-there
+step-requires-clause-there g c =
+    let u : Active = g.O.Order.active c.args.order.now in
+    let x : c.one-own.result ≡ one (may_source c.args.self.now.phase c.args.self.now.root) = c.one-own.ensures ∙ ap one c.source_may.ensures in
+    let r : c.args.ready ≡ counted (machine_ready u c.args.self.now) = c.requires.count in
+    omega (arith, x, r, c.requires.ready, c.if-picked-own.false)
+
+pub returns-in-Ok-step-clause-moved : goal.returns-in-Ok-step-clause-moved
+returns-in-Ok-step-clause-moved g c =
+    moved_behind (g.O.Order.active c.args.order.now) (g.O.Order.active c.step.new.order) (phase_stock c.args.self.now.phase) (task_stock c.args.self.now.root) (task_stock c.step.new.self) c.requires.owned c.step.ensures.moved
+
+pub returns-in-Err-step-clause-moved : goal.returns-in-Err-step-clause-moved
+returns-in-Err-step-clause-moved g c =
+    moved_behind (g.O.Order.active c.args.order.now) (g.O.Order.active c.step.new.order) (phase_stock c.args.self.now.phase) (task_stock c.args.self.now.root) (task_stock c.step.new.self) c.requires.owned c.step.ensures.moved
+
+pub returns-in-Err-step-clause-cause : goal.returns-in-Err-step-clause-cause
+returns-in-Err-step-clause-cause g c = act_step c.in-Err-step.error c.in-Err-step.ensures.cause
+
+-- ---- against the steps in plain data
+
+pub returns-in_err-task-clause-refused : goal.returns-in_err-task-clause-refused
+returns-in_err-task-clause-refused g c =
+    let u : Active = g.O.Order.active c.args.order.now in
+    let m = c.args.self.now in
+    let x : c.one-own.result ≡ one (may_source m.phase m.root) = c.one-own.ensures ∙ ap one c.source_may.ensures in
+    let h = own_source m.phase m.root (c.args.pick % c.args.ready) c.one-own.result x c.if-picked-own.true in
+    let k : c.args.pick % counted (machine_ready u m) ≡ 0 = ap (λ n. c.args.pick % n) (sym c.requires.count) ∙ h.0 in
+    let p = err_from_is_err_and c.from_residual.result c.from_residual.ensures.1 in
+    rw (p.1, p.2) (λ image number.
+    source_memory (setting_of c.args.ctx.now image) (fin.keys u) number (g.B.BatchSource.kind c.args.source.now) (g.O.Order.outlet c.args.order.now) (phase_of m.phase) (task_row m.root no_tasks) (c.args.pick % counted (machine_ready u m)) k h.1
+    (g.B.BatchSource.to_come c.args.source.now) (g.B.BatchSource.to_come c.args.source.now) refl)
+
+pub returns-in_err-task-clause-kept : goal.returns-in_err-task-clause-kept
+returns-in_err-task-clause-kept g c =
+    let p = err_from_is_err_and c.from_residual.result c.from_residual.ensures.1 in
+    rw p.1 (kept_same (g.O.Order.outlet c.args.order.now) (g.O.Order.outlet c.args.order.now) refl)
+
+pub returns-in-Ok-clause-done : goal.returns-in-Ok-clause-done
+returns-in-Ok-clause-done g c = λ image.
+    let m = c.args.self.now in
+    let n = c.step_source.new.self in
+    let x : c.one-own.result ≡ one (may_source m.phase m.root) = c.one-own.ensures ∙ ap one c.source_may.ensures in
+    let h = own_source m.phase m.root (c.args.pick % c.args.ready) c.one-own.result x c.if-picked-own.true in (
+      0,
+      source_stepped (setting_of c.args.ctx.now image) (fin.keys (g.O.Order.active c.args.order.now)) 0 (g.B.BatchSource.kind c.args.source.now) (g.O.Order.outlet c.args.order.now) (phase_of m.phase) (task_row m.root no_tasks)
+          (c.args.pick % c.args.ready) h.0 h.1 (g.B.BatchSource.to_come c.args.source.now) (g.B.BatchSource.to_come c.step_source.new.source) (g.O.Order.outlet c.step_source.new.order)
+          (phase_of n.phase) (task_row n.root no_tasks) c.in_ok-task.task c.in-Ok.action c.in_ok-task.ensures c.step_source.ensures.outlet c.in-Ok.ensures.done,
+    )
+
+pub returns-in-Err-clause-refused : goal.returns-in-Err-clause-refused
+returns-in-Err-clause-refused g c = λ image number.
+    let u : Active = g.O.Order.active c.args.order.now in
+    let m = c.args.self.now in
+    let x : c.one-own.result ≡ one (may_source m.phase m.root) = c.one-own.ensures ∙ ap one c.source_may.ensures in
+    let h = own_source m.phase m.root (c.args.pick % c.args.ready) c.one-own.result x c.if-picked-own.true in
+    let k : c.args.pick % counted (machine_ready u m) ≡ 0 = ap (λ n. c.args.pick % n) (sym c.requires.count) ∙ h.0 in
+    source_refused (setting_of c.args.ctx.now image) (fin.keys u) number (g.B.BatchSource.kind c.args.source.now) (g.O.Order.outlet c.args.order.now) (phase_of m.phase) (task_row m.root no_tasks) (c.args.pick % counted (machine_ready u m)) k h.1
+    (g.B.BatchSource.to_come c.args.source.now) (g.B.BatchSource.to_come c.step_source.new.source) c.in-Err.error c.in-Err.ensures.refused
+
+pub returns-in-Err-clause-kept : goal.returns-in-Err-clause-kept
+returns-in-Err-clause-kept g c = kept_same (g.O.Order.outlet c.args.order.now) (g.O.Order.outlet c.step_source.new.order) c.step_source.ensures.outlet
+
+pub returns-in-Ok-step-clause-done : goal.returns-in-Ok-step-clause-done
+returns-in-Ok-step-clause-done g c = λ image.
+    let m = c.args.self.now in
+    let k : ℕ = c.args.pick % c.args.ready in
+    let x : c.one-own.result ≡ one (may_source m.phase m.root) = c.one-own.ensures ∙ ap one c.source_may.ensures in
+    let w = c.in-Ok-step.ensures.done image in (
+      w.0,
+      root_stepped (setting_of c.args.ctx.now image) (fin.keys (g.O.Order.active c.args.order.now)) w.0 (g.B.BatchSource.kind c.args.source.now) (g.O.Order.outlet c.args.order.now) (phase_of m.phase) (task_row m.root no_tasks)
+          k (k - c.one-own.result) (behind_source m.phase m.root k c.one-own.result x c.if-picked-own.false) (g.B.BatchSource.to_come c.args.source.now) (g.B.BatchSource.to_come c.args.source.now) refl
+          (g.O.Order.outlet c.step.new.order) (task_row c.step.new.self no_tasks) c.in-Ok-step.did.task c.in-Ok-step.did.action w.1,
+    )
+
+pub returns-in-Err-step-clause-refused : goal.returns-in-Err-step-clause-refused
+returns-in-Err-step-clause-refused g c = λ image number.
+    let u : Active = g.O.Order.active c.args.order.now in
+    let m = c.args.self.now in
+    let k : ℕ = c.args.pick % c.args.ready in
+    let x : c.one-own.result ≡ one (may_source m.phase m.root) = c.one-own.ensures ∙ ap one c.source_may.ensures in
+    let is : c.args.pick % counted (machine_ready u m) ≡ one_if (whole.may_source (phase_of m.phase) (task_row m.root no_tasks)) + (k - c.one-own.result)
+    = ap (λ n. c.args.pick % n) (sym c.requires.count) ∙ behind_source m.phase m.root k c.one-own.result x c.if-picked-own.false in
+    root_refused (setting_of c.args.ctx.now image) (fin.keys u) number (g.B.BatchSource.kind c.args.source.now) (g.O.Order.outlet c.args.order.now) (phase_of m.phase) (task_row m.root no_tasks)
+    (c.args.pick % counted (machine_ready u m)) (k - c.one-own.result) is (g.B.BatchSource.to_come c.args.source.now) (g.B.BatchSource.to_come c.args.source.now) refl c.in-Err-step.error (c.in-Err-step.ensures.refused image number)
+
+-- ---- calls of the source and of the sink
+
+pub returns-in_err-task-clause-source_told : goal.returns-in_err-task-clause-source_told
+returns-in_err-task-clause-source_told g c =
+    let p = err_from_is_err_and c.from_residual.result c.from_residual.ensures.1 in
+    rw (p.1, p.2) (inl (unasked_self (g.B.Fallible.faults c.args.source.now) (g.B.Fallible.may_fail c.args.source.now) (g.B.Fallible.must_fail c.args.source.now)))
+
+pub returns-in_err-task-clause-sink_told : goal.returns-in_err-task-clause-sink_told
+returns-in_err-task-clause-sink_told g c =
+    let p = err_from_is_err_and c.from_residual.result c.from_residual.ensures.1 in
+    rw (p.1, p.2) (inl (unasked_self (g.O.Sink.Fallible.faults (g.O.Order.sink c.args.order.now)) (g.O.Sink.Fallible.may_fail (g.O.Order.sink c.args.order.now)) (g.O.Sink.Fallible.must_fail (g.O.Order.sink c.args.order.now))))
+
+pub returns-in-Ok-clause-source_told : goal.returns-in-Ok-clause-source_told
+returns-in-Ok-clause-source_told g c = c.in-Ok.ensures.told
+
+pub returns-in-Ok-clause-sink_told : goal.returns-in-Ok-clause-sink_told
+returns-in-Ok-clause-sink_told g c =
+    let m = c.args.self.now in
+    let n = c.step_source.new.self in
+    source_act g.O.Sink.Fallible.faults g.O.Sink.Fallible.may_fail g.O.Sink.Fallible.must_fail (g.O.Order.sink c.args.order.now) (g.O.Order.sink c.step_source.new.order) c.step_source.ensures.sink c.in-Ok.action
+    (source_appends (g.B.BatchSource.kind c.args.source.now) (g.B.BatchSource.to_come c.args.source.now) (g.B.BatchSource.to_come c.step_source.new.source) (phase_of m.phase) (phase_of n.phase)
+    (task_row m.root no_tasks) (task_row n.root no_tasks) c.in-Ok.action c.in-Ok.ensures.done)
+
+pub returns-in-Err-clause-source_told : goal.returns-in-Err-clause-source_told
+returns-in-Err-clause-source_told g c =
+    let m = c.args.self.now in
+    let x : c.one-own.result ≡ one (may_source m.phase m.root) = c.one-own.ensures ∙ ap one c.source_may.ensures in
+    let h = own_source m.phase m.root (c.args.pick % c.args.ready) c.one-own.result x c.if-picked-own.true in
+    let k : c.args.pick % counted (machine_ready (g.O.Order.active c.args.order.now) m) ≡ 0 = ap (λ n. c.args.pick % n) (sym c.requires.count) ∙ h.0 in
+    stops_as g.B.Fallible.faults g.B.Fallible.may_fail g.B.Fallible.must_fail c.args.source.now c.step_source.new.source (reads_at (phase_of m.phase) 0) (reads_at (phase_of m.phase) (c.args.pick % counted (machine_ready (g.O.Order.active c.args.order.now) m)))
+    c.in-Err.error (ap (reads_at (phase_of m.phase)) k) c.in-Err.ensures.told
+
+pub returns-in-Err-clause-sink_told : goal.returns-in-Err-clause-sink_told
+returns-in-Err-clause-sink_told g c =
+    source_quiet g.O.Sink.Fallible.faults g.O.Sink.Fallible.may_fail g.O.Sink.Fallible.must_fail (g.O.Order.sink c.args.order.now) (g.O.Order.sink c.step_source.new.order) c.step_source.ensures.sink (g.B.BatchSource.kind c.args.source.now) c.in-Err.error c.in-Err.ensures.cause
+
+pub returns-in-Ok-step-clause-source_told : goal.returns-in-Ok-step-clause-source_told
+returns-in-Ok-step-clause-source_told g c = task_reads (g.B.Fallible.faults c.args.source.now) (g.B.Fallible.may_fail c.args.source.now) (g.B.Fallible.must_fail c.args.source.now) c.in-Ok-step.did.action c.in-Ok-step.ensures.told.0
+
+pub returns-in-Ok-step-clause-sink_told : goal.returns-in-Ok-step-clause-sink_told
+returns-in-Ok-step-clause-sink_told g c = c.in-Ok-step.ensures.told.1
+
+pub returns-in-Err-step-clause-source_told : goal.returns-in-Err-step-clause-source_told
+returns-in-Err-step-clause-source_told g c =
+    let m = c.args.self.now in
+    let k : ℕ = c.args.pick % c.args.ready in
+    let x : c.one-own.result ≡ one (may_source m.phase m.root) = c.one-own.ensures ∙ ap one c.source_may.ensures in
+    let is : c.args.pick % counted (machine_ready (g.O.Order.active c.args.order.now) m) ≡ one_if (whole.may_source (phase_of m.phase) (task_row m.root no_tasks)) + (k - c.one-own.result)
+    = ap (λ n. c.args.pick % n) (sym c.requires.count) ∙ behind_source m.phase m.root k c.one-own.result x c.if-picked-own.false in
+    task_stops (g.B.Fallible.faults c.args.source.now) (g.B.Fallible.may_fail c.args.source.now) (g.B.Fallible.must_fail c.args.source.now) (reads_at (phase_of m.phase) (c.args.pick % counted (machine_ready (g.O.Order.active c.args.order.now) m)))
+    (reads_behind (phase_of m.phase) (task_row m.root no_tasks) (c.args.pick % counted (machine_ready (g.O.Order.active c.args.order.now) m)) (k - c.one-own.result) is) c.in-Err-step.error c.in-Err-step.ensures.cause
+
+pub returns-in-Err-step-clause-sink_told : goal.returns-in-Err-step-clause-sink_told
+returns-in-Err-step-clause-sink_told g c = c.in-Err-step.ensures.told
+
+-- ---- what is kept
+
+pub returns-in-Ok-clause-known : goal.returns-in-Ok-clause-known
+returns-in-Ok-clause-known g c =
+    let m = c.args.self.now in
+    let n = c.step_source.new.self in
+    let x = c.args.counts.now in
+    subst (λ z. Knows x z)
+    (source_keeps (g.B.BatchSource.kind c.args.source.now) (g.B.BatchSource.to_come c.args.source.now) (g.B.BatchSource.to_come c.step_source.new.source) (phase_of m.phase) (phase_of n.phase) m.root n.root c.in-Ok.action c.in-Ok.ensures.done)
+    (fresh_knows (fin.keys (g.O.Order.active c.args.order.now)) (asked_of x) 0 (ready_of x) (kids_of x) (row (out-Task m.root).kids.items) c.requires.fresh)
