@@ -1,42 +1,54 @@
 -- A write that was answered has written the plan, or a front of it.
-use Rattle.std.proofs.Common.{◌≡◌, ◌+◌, ◌^◌, ◌≤◌, ◌⊎◌, ◌∷◌, ◌++◌, ◌∙◌, ℕ, Bool, true, false, List, length, refl, sym, ap, subst, inl, inr, arith, Option, Some, None, Result, Ok, Err, []}
-use Rattle.std.specs.Prelude.{MatchOption}
-use Rattle.vx_model.specs.Ty.{Ty}
-use Rattle.vx_model.specs.ChunkData.{ChunkData}
-use Rattle.vx_fault.specs.Told.{NoneTold, then_told}
-use Rattle.vx_path.specs.Lists.{In}
+use Rattle.std.proofs.Common.{◌≡◌, ◌+◌, ◌^◌, ◌<◌, ◌≤◌, ◌⊎◌, ◌∷◌, ◌++◌, ◌∙◌, ℕ, max, Bool, true, false, List, length, refl, sym, ap, subst, inl, inr, arith, Option, Some, None, Ok, Err, if◌then◌else◌, append-nil, []}
+use Rattle.std.proofs.lemmas.Bool.{true≢false}
+use Rattle.vx_model.specs.Ty.{Ty, ty_eq}
+use Rattle.vx_model.specs.ChunkData.{ChunkData, piece_type}
+use Rattle.vx_fault.specs.Told.{before_told, NoneTold}
 use Rattle.vx_path.specs.Path.{root_eof}
+use Rattle.vx_tasks.specs.Run.{work}
 use Rattle.vx_layout_tree.specs.declared.layout.Layout.{Layout}
-use Rattle.vx_layout_tree.specs.LayoutView.{layout_data}
 use Rattle.vx_strategy_spec.specs.StrategyData.{StrategyData}
 use Rattle.vx_plan.specs.PlanData.{Setting, Plan, What, not_struct, duplicate_field}
 use Rattle.vx_plan.specs.Number.{segments}
-use Rattle.vx_plan.specs.SourcePlan.{start_fault, taken_plan}
+use Rattle.vx_plan.specs.SourcePlan.{start_fault, batch_items, of_schema, source_plan, taken_plan}
 use Rattle.vx_plan.specs.Statements.{StartFaultStands}
-use Rattle.vx_plan.specs.Valid.{Has, IsPast, Keeps}
+use Rattle.vx_plan.specs.Valid.{OfSchema, Valid, Fit, IsPast, Has, Keeps}
 use Rattle.vx_machine_turns.specs.Starts.{start_fault as form_fault}
 use Rattle.vx_machine_turns.specs.Planned.{StartFaultsAgree}
-use Rattle.vx_order.specs.Outlet.{Outlet}
+use Rattle.vx_order.specs.Outlet.{Outlet, own, shared, borrow_of}
 use Rattle.vx_sink.specs.declared.context.LayoutWriterContext.{LayoutWriterContext}
 use Rattle.vx_sink.specs.ContextView.{is_marked}
 use Rattle.vx_write_answer.specs.declared.step.Step.{Step}
 use Rattle.vx_write_answer.specs.declared.error.WriteError.{WriteError}
 use Rattle.vx_write_answer.specs.declared.error.WriteError.TheVariants.{SourceFault, SinkFault, CompressFault, BatchType, NotStruct, DuplicateField, ManyChunks, EmptyList, ZoneCut, ForbiddenAggregate, ForbiddenEncoding, TooLarge, OutOfMemory, Unbuilt, Stopped}
+use Rattle.vx_machine_promises.specs.Write.{Write, Future, Open, planned}
 use Rattle.vx_machine_view.specs.Built.{is_built}
-use Rattle.vx_machine_view.specs.Start.{first_indices}
 use Rattle.vx_machine_runs.specs.Steps.{StartIsCaused}
-use Rattle.vx_machine_runs.proofs.Ending.{none_later}
+use Rattle.vx_machine_runs.proofs.Asking.{all_of_schema}
+use Rattle.vx_machine_runs.proofs.Ending.{none_later, open_none, none_planned}
+use Rattle.vx_machine_runs.proofs.Sounding.{fits, none_has}
+use Rattle.vx_machine.specs.Calls.{appends_in, misfits}
 use Rattle.vx_machine.specs.Context.{setting_of}
 use Rattle.vx_machine.specs.Outcome.{Kept}
 use Rattle.vx_machine.specs.Starting.{FormRefused, WholeRefused}
+use Rattle.vx_machine.specs.View.{form_at}
 use Rattle.vx_machine_ran.specs.Ran.{write_by, OwnSink, own_sink}
-use Rattle.vx_machine_ran.specs.Written.{Planned, Wrote, HasCause, Halted, DoneIsWritten, StoppedStands}
-use Rattle.vx_machine_ran.specs.Answered.{form_at, IsStarted, Unstarted, HasRun, HasStopped, Answered, WroteAll, AnswersAreWritten}
+use Rattle.vx_machine_ran.specs.Traced.{tasks_of}
+use Rattle.vx_machine_ran.specs.Runs.{AllDone, DoneIsWritten, Halts, StoppedHalts, IsLeft, RunsLeaveSinks}
+use Rattle.vx_machine_ran.specs.Written.{AreFirst, NeedsNumber, HasCause, Halted}
+use Rattle.vx_machine_ran.specs.Answered.{IsStarted, HasRun, HasStopped, WroteAll, AnswersAreWritten, AnswersLeaveSinks, IsOutside, AnswersAreComplete}
 use Rattle.vx_machine_ran.proofs.Leading.{told_same, then_same}
 use Rattle.vx_machine_ran.proofs.Writing.{own_more}
 use Rattle.vx_machine_ran.proofs.Stopping.{kept_own}
 
-module _ (done : DoneIsWritten) (stopped : StoppedStands) (faults : StartFaultStands) (agree : StartFaultsAgree) (counts : StartIsCaused) (ctx : LayoutWriterContext) (image : ℕ → ChunkData → ChunkData) (w : StrategyData) (t : Ty)
+-- ---- where nothing was started
+
+-- the source has something to do
+source_works : (s : Setting) (w : StrategyData) (t : Ty) (m heard : Bool) → 0 < work (tasks_of s w t m [] heard)
+source_works s w t m true = omega arith
+source_works s w t m false = omega arith
+
+module _ (faults : StartFaultStands) (agree : StartFaultsAgree) (counts : StartIsCaused) (ctx : LayoutWriterContext) (image : ℕ → ChunkData → ChunkData) (w : StrategyData) (t : Ty)
     (to_come : Option (List ChunkData)) (first : ℕ) (before : Option (List (List ℕ))) where
   abbrev s : Setting
   s = setting_of ctx image
@@ -44,29 +56,35 @@ module _ (done : DoneIsWritten) (stopped : StoppedStands) (faults : StartFaultSt
   abbrev m : Bool
   m = is_marked ctx
 
-  -- the plan of no batch
-  abbrev none : Plan
-  none = taken_plan s w t m [] false
+  abbrev g : Write
+  g = write_by ctx image w t
 
+  -- no batch was read, and whatever comes, this is the cause
   abbrev Cause : WriteError → Type 0
-  Cause e = HasCause t (is_built w ≡ false) none [] first 0 e
+  Cause e = (misfits e ≡ 0) × ((f : Future) → HasCause t (is_built w ≡ false) (planned g [] f) [] first 0 e)
 
   -- nothing stands
-  halts : (e : WriteError) → Cause e → Halted s w t m first first to_come to_come before before e
-  halts e c = record {
+  none_stands : (schedule : List ℕ) (e : WriteError) → Cause e → Halts g first first to_come to_come before before schedule [] e
+  none_stands schedule e c = record {
     heard = false;
-    stand = record { taken = []; came = told_same to_come; appended = []; more = segments none; prefix = refl; stands = then_same before; numbers = omega arith };
-    cause = c;
+    stand = record { taken = []; came = told_same to_come; appended = []; more = segments (taken_plan s w t m [] false); prefix = refl; stands = then_same before; numbers = omega arith };
+    front = λ f still. (segments (planned g [] f), refl);
+    typed = λ h. tt;
+    ended = λ h. absurd (true≢false (sym h));
+    cause = λ f still. c.1 f;
+    traced = record { fewer = inr (source_works s w t m false); first = λ short. tt; all = λ short i. inl refl };
+    asked = inl (let a = c.0 in omega (arith, a));
+    appended = omega arith;
   }
 
-  fault_stands : (x : What) → ((z : Setting) → form_fault z (form_at w t) m ≡ Some x) → Has x none.faults
-  fault_stands x h = faults s w t m x (sym (agree s w t m) ∙ h s) [] false root_eof
+  fault_stands : (x : What) (f : Future) → ((z : Setting) → form_fault z (form_at w t) m ≡ Some x) → Has x (planned g [] f).faults
+  fault_stands x f h = faults s w t m x (sym (agree s w t m) ∙ h s) (batch_items 0 f.later) f.fits root_eof
 
   form_cause : is_built w ≡ true → (e : WriteError) → FormRefused (form_at w t) m root_eof e → Cause e
-  form_cause b NotStruct h = fault_stands not_struct h
-  form_cause b (DuplicateField name) h = fault_stands (duplicate_field name) h
-  form_cause b (TooLarge n) h = inr (subst (λ z. IsPast z none.numbers) (sym h.0) (counts (write_by ctx image w t) (none_later false) h.1.0 b h.1.1 h.1.2))
-  form_cause b OutOfMemory h = tt
+  form_cause b NotStruct h = (refl, λ f. fault_stands not_struct f h)
+  form_cause b (DuplicateField name) h = (refl, λ f. fault_stands (duplicate_field name) f h)
+  form_cause b (TooLarge n) h = (refl, λ f. inr (subst (λ z. IsPast z (planned g [] f).numbers) (sym h.0) (counts g f h.1.0 b h.1.1 h.1.2)))
+  form_cause b OutOfMemory h = (refl, λ f. tt)
   form_cause b SourceFault h = absurd h
   form_cause b SinkFault h = absurd h
   form_cause b CompressFault h = absurd h
@@ -80,33 +98,209 @@ module _ (done : DoneIsWritten) (stopped : StoppedStands) (faults : StartFaultSt
   form_cause b (Stopped by name) h = absurd h
 
   start_cause : (e : WriteError) → (e ≡ OutOfMemory) ⊎ WholeRefused (is_built w) (form_at w t) m root_eof e → Cause e
-  start_cause e (inl is) = subst Cause (sym is) tt
+  start_cause e (inl is) = subst Cause (sym is) (refl, λ f. tt)
   start_cause e (inr h) = by (is_built w) refl h
     where
       by : (b : Bool) → is_built w ≡ b → WholeRefused b (form_at w t) m root_eof e → Cause e
-      by false is x = subst Cause (sym x) is
+      by false is x = subst Cause (sym x) (refl, λ f. is)
       by true is x = form_cause is e x
 
-  none_starts : IsStarted w t m → start_fault s w t m ≡ None
-  none_starts a = sym (agree s w t m) ∙ a.allowed s
+-- ---- what the source told, and what it still tells
 
-  module _ (schedule : List ℕ) (trace : List Step) (to_come_now : Option (List ChunkData)) (after : Outlet) (keeps : Keeps s) where
-    done_answer : (l : Option Layout) → HasRun ctx w t schedule to_come (own_sink first before) trace to_come_now after l
-        → OwnSink after (λ next now. WroteAll s w t m first next to_come to_come_now before now l)
-    done_answer l (a, r) = by (done ctx image w t schedule to_come to_come_now first before trace after l keeps a.built (none_starts a) a.counted r)
-      where
-        by : (layout : Layout) × (l ≡ Some layout) × NoneTold to_come_now × OwnSink after (λ next now. Planned s w t m to_come (Wrote t first next before now (layout_data layout)))
-            → OwnSink after (λ next now. WroteAll s w t m first next to_come to_come_now before now l)
-        by (layout, is, ended, h) = own_more after _ _ h (λ next now p. (ended, subst (λ z. MatchOption z ⊥ (λ v. Planned s w t m to_come (Wrote t first next before now (layout_data v)))) (sym is) p))
+-- what is left of a list that was told
+rest_told : (taken xs : List ChunkData) (now : Option (List ChunkData)) → Some xs ≡ before_told taken now → (rest : List ChunkData) × (now ≡ Some rest) × (xs ≡ taken ++ rest)
+rest_told taken xs None e = absurd (let f : Some xs ≡ None = e in cc)
+rest_told taken xs (Some ys) e = (ys, refl, same e)
+  where
+    same : Some xs ≡ Some (taken ++ ys) → xs ≡ taken ++ ys
+    same f = cc
 
-    stopped_answer : (e : WriteError) → HasStopped ctx w t schedule to_come (own_sink first before) trace to_come_now after e
-        → OwnSink after (λ next now. Halted s w t m first next to_come to_come_now before now e)
-    stopped_answer e (inl u) = kept_own (own_sink first before) after (λ next now. Halted s w t m first next to_come to_come_now before now e) u.kept
-        (subst (λ z. Halted s w t m first first to_come z before before e) (sym u.told) (halts e (start_cause e u.cause)))
-    stopped_answer e (inr (a, r)) = stopped ctx image w t schedule to_come to_come_now first before trace after e keeps.codec a.built (none_starts a) r
+front_of_schema : (t : Ty) (xs ys : List ChunkData) → OfSchema t (xs ++ ys) → OfSchema t xs
+front_of_schema t [] ys h = tt
+front_of_schema t (x ∷ xs) ys h = (h.0, front_of_schema t xs ys h.1)
 
-pub answers_are_written : DoneIsWritten → StoppedStands → StartFaultStands → StartFaultsAgree → StartIsCaused → AnswersAreWritten
-answers_are_written done stopped faults agree counts ctx image w t schedule to_come to_come_now first before trace after (Ok l) keeps h =
-    done_answer done stopped faults agree counts ctx image w t to_come first before schedule trace to_come_now after keeps l h
-answers_are_written done stopped faults agree counts ctx image w t schedule to_come to_come_now first before trace after (Err e) keeps h =
-    stopped_answer done stopped faults agree counts ctx image w t to_come first before schedule trace to_come_now after keeps e h
+-- of all batches those of the schema in front are those of the first, and some more
+schema_more : (t : Ty) (xs ys : List ChunkData) → (more : List ChunkData) × (of_schema t (xs ++ ys) ≡ of_schema t xs ++ more)
+schema_more t [] ys = (of_schema t ys, refl)
+schema_more t (x ∷ xs) ys = by (ty_eq (piece_type x) t) (schema_more t xs ys)
+  where
+    by : (b : Bool) → (more : List ChunkData) × (of_schema t (xs ++ ys) ≡ of_schema t xs ++ more)
+        → (more : List ChunkData) × ((if b then x ∷ of_schema t (xs ++ ys) else []) ≡ (if b then x ∷ of_schema t xs else []) ++ more)
+    by true m = (m.0, ap (λ z. x ∷ z) m.1)
+    by false m = ([], refl)
+
+-- the future in which these come, and no more
+abbrev all_left : List ChunkData → Future
+all_left rest = record { later = rest; fits = true }
+
+module _ (g : Write) (first next : ℕ) (to_come to_come_now : Option (List ChunkData)) (before now : Option (List (List ℕ))) (schedule : List ℕ) (steps : List Step) (e : WriteError)
+    (h : Halts g first next to_come to_come_now before now schedule steps e) (xs : List ChunkData) where
+  -- where these are still to come
+  module _ (rest : List ChunkData) (left : to_come_now ≡ Some rest) (is : xs ≡ h.stand.taken ++ rest) where
+    still_open : Open h.heard (all_left rest)
+    still_open = λ i. (subst (λ z. NoneTold z) left (h.ended i), refl)
+
+    all_planned : OfSchema g.type xs → planned g (of_schema g.type h.stand.taken) (all_left rest) ≡ source_plan g.setting g.way g.type g.mark xs true
+    all_planned typed =
+        let k : of_schema g.type h.stand.taken ≡ h.stand.taken = all_of_schema g.type h.stand.taken (front_of_schema g.type h.stand.taken rest (subst (λ z. OfSchema g.type z) is typed)) in
+        ap (λ z. source_plan g.setting g.way g.type g.mark z true) (ap (λ z. z ++ rest) k ∙ sym is)
+
+    -- where the end was told, all were of the schema
+    heard_typed : h.heard ≡ true → OfSchema g.type xs
+    heard_typed i = subst (λ z. OfSchema g.type z) (sym (is ∙ ap (λ z. h.stand.taken ++ z) (still_open i).0 ∙ append-nil h.stand.taken)) (h.typed i)
+
+    other : (b : Bool) → h.heard ≡ b → ¬ OfSchema g.type xs → AreFirst h.stand.appended (taken_plan g.setting g.way g.type g.mark xs false)
+    other true i differs = absurd (differs (heard_typed i))
+    other false i differs =
+        let m : (more : List ChunkData) × (of_schema g.type (h.stand.taken ++ rest) ≡ of_schema g.type h.stand.taken ++ more) = schema_more g.type h.stand.taken rest in
+        subst (λ z. AreFirst h.stand.appended (source_plan g.setting g.way g.type g.mark z false)) (sym (ap (of_schema g.type) is ∙ m.1))
+        (h.front (record { later = m.0; fits = false }) (λ k. absurd (true≢false (sym k ∙ i))))
+
+  front_of_all : to_come ≡ Some xs → (OfSchema g.type xs → AreFirst h.stand.appended (source_plan g.setting g.way g.type g.mark xs true))
+      × (¬ OfSchema g.type xs → AreFirst h.stand.appended (taken_plan g.setting g.way g.type g.mark xs false))
+  front_of_all told = by (rest_told h.stand.taken xs to_come_now (sym told ∙ h.stand.came))
+    where
+      by : (rest : List ChunkData) × (to_come_now ≡ Some rest) × (xs ≡ h.stand.taken ++ rest)
+          → (OfSchema g.type xs → AreFirst h.stand.appended (source_plan g.setting g.way g.type g.mark xs true))
+          × (¬ OfSchema g.type xs → AreFirst h.stand.appended (taken_plan g.setting g.way g.type g.mark xs false))
+      by (rest, left, is) = (
+        λ typed. subst (λ z. AreFirst h.stand.appended z) (all_planned rest left is typed) (h.front (all_left rest) (still_open rest left is)),
+        other rest left is h.heard refl,
+      )
+
+-- ---- what was answered
+
+-- by the plan of the batches taken
+halted : (g : Write) (first next : ℕ) (to_come to_come_now : Option (List ChunkData)) (before now : Option (List (List ℕ))) (schedule : List ℕ) (steps : List Step) (e : WriteError)
+    → Halts g first next to_come to_come_now before now schedule steps e → Halted g.setting g.way g.type g.mark first next to_come to_come_now before now schedule steps e
+halted g first next to_come to_come_now before now schedule steps e h = record {
+  heard = h.heard;
+  stand = h.stand;
+  front = λ xs told. front_of_all g first next to_come to_come_now before now schedule steps e h xs told;
+  ended = h.ended;
+  cause = subst (λ z. HasCause g.type (is_built g.way ≡ false) z h.stand.taken next (length h.stand.appended) e) (none_planned g (of_schema g.type h.stand.taken) h.heard)
+      (h.cause (none_later h.heard) (open_none h.heard));
+  traced = h.traced;
+  asked = h.asked;
+  appended = h.appended;
+}
+
+module _ (done : DoneIsWritten) (stopped : StoppedHalts) (left : RunsLeaveSinks) (faults : StartFaultStands) (agree : StartFaultsAgree) (counts : StartIsCaused) (ctx : LayoutWriterContext)
+    (image : ℕ → ChunkData → ChunkData) (w : StrategyData) (t : Ty) (schedule : List ℕ) (to_come to_come_now : Option (List ChunkData)) (borrow first : ℕ) (before : Option (List (List ℕ)))
+    (steps : List Step) (after : Outlet) (keeps : Keeps (setting_of ctx image)) where
+  none_starts : IsStarted w t (is_marked ctx) → start_fault (setting_of ctx image) w t (is_marked ctx) ≡ None
+  none_starts a = sym (agree (setting_of ctx image) w t (is_marked ctx)) ∙ a.allowed (setting_of ctx image)
+
+  done_answer : length steps < 2 ^ 64 → (l : Option Layout) → HasRun ctx w t schedule to_come (own_sink borrow first before) steps to_come_now after l
+      → OwnSink after (λ next now. WroteAll (setting_of ctx image) w t (is_marked ctx) first next to_come to_come_now before now schedule steps l)
+  done_answer short l (a, r) = by (done ctx image w t schedule to_come to_come_now borrow first before steps after l keeps a.built (none_starts a) a.counted short r)
+    where
+      by : (layout : Layout) × (l ≡ Some layout) × NoneTold to_come_now × AllDone (write_by ctx image w t) to_come schedule first before steps after layout
+          → OwnSink after (λ next now. WroteAll (setting_of ctx image) w t (is_marked ctx) first next to_come to_come_now before now schedule steps l)
+      by (layout, is, ended, (h, traced)) =
+          subst (λ z. OwnSink after (λ next now. WroteAll (setting_of ctx image) w t (is_marked ctx) first next to_come to_come_now before now schedule steps z)) (sym is)
+          (own_more after _ (λ next now. WroteAll (setting_of ctx image) w t (is_marked ctx) first next to_come to_come_now before now schedule steps (Some layout)) h (λ next now p. (ended, p, traced)))
+
+  stopped_answer : (e : WriteError) → HasStopped ctx w t schedule to_come (own_sink borrow first before) steps to_come_now after e
+      → OwnSink after (λ next now. Halts (write_by ctx image w t) first next to_come to_come_now before now schedule steps e)
+  stopped_answer e (inl u) = kept_own (own_sink borrow first before) after (λ next now. Halts (write_by ctx image w t) first next to_come to_come_now before now schedule steps e) u.kept
+      (subst (λ z. Halts (write_by ctx image w t) first first to_come z before before schedule steps e) (sym u.told)
+      (subst (λ z. Halts (write_by ctx image w t) first first to_come to_come before before schedule z e) (sym u.none)
+      (none_stands faults agree counts ctx image w t to_come first before schedule e (start_cause faults agree counts ctx image w t to_come first before e u.cause))))
+  stopped_answer e (inr (a, r)) = stopped ctx image w t schedule to_come to_come_now borrow first before steps after e keeps.codec a.built (none_starts a) r
+
+  -- ---- what is left of the sink
+
+  same_borrow : (x y : Outlet) → Kept x y → (b : ℕ) → OwnSink x (λ next now. Unit {0}) → borrow_of x ≡ b → borrow_of y ≡ b
+  same_borrow (own a) (own c) k b h e = k.2 ∙ e
+  same_borrow (own a) (shared c) k b h e = absurd k
+  same_borrow (shared a) y k b h e = absurd h
+
+  kept_left : (x : Outlet) → Kept x after → IsLeft borrow first steps x → IsLeft borrow first steps after
+  kept_left x k h = (
+    kept_own x after (λ next now. (next ≤ max first (2 ^ 32)) × (next ≡ first + appends_in steps)) k h.0,
+    same_borrow x after k borrow (own_more x (λ next now. (next ≤ max first (2 ^ 32)) × (next ≡ first + appends_in steps)) (λ next now. Unit {0}) h.0 (λ next now p. tt)) h.1,
+  )
+
+  none_left : steps ≡ [] → IsLeft borrow first steps (own_sink borrow first before)
+  none_left e = subst (λ z. IsLeft borrow first z (own_sink borrow first before)) (sym e) ((omega arith, omega arith), refl)
+
+  done_left : (l : Option Layout) → HasRun ctx w t schedule to_come (own_sink borrow first before) steps to_come_now after l → IsLeft borrow first steps after
+  done_left l (a, r) = subst (λ z. IsLeft borrow first steps z) (sym r.sink) (left ctx image w t schedule to_come borrow first before steps r.end keeps.codec a.built (none_starts a) r.ran)
+
+  stopped_left : (e : WriteError) → HasStopped ctx w t schedule to_come (own_sink borrow first before) steps to_come_now after e → IsLeft borrow first steps after
+  stopped_left e (inl u) = kept_left (own_sink borrow first before) u.kept (none_left u.none)
+  stopped_left e (inr (a, r)) = kept_left r.end.outlet r.kept (left ctx image w t schedule to_come borrow first before steps r.end keeps.codec a.built (none_starts a) r.ran)
+
+-- ---- of valid input
+
+own_any : (o : Outlet) (P : ℕ → Option (List (List ℕ)) → Type 0) (Q : Type 0) → OwnSink o P → ((n : ℕ) (told : Option (List (List ℕ))) → P n told → Q) → Q
+own_any (own s) P Q h f = f s.next s.segments h
+own_any (shared s) P Q h f = absurd h
+
+last_of_schema : (t : Ty) (front : List ChunkData) (b : ChunkData) → OfSchema t (front ++ (b ∷ [])) → piece_type b ≡ t
+last_of_schema t [] b h = h.0
+last_of_schema t (x ∷ front) b h = last_of_schema t front b h.1
+
+module _ (t : Ty) (unbuilt : Type 0) (never : unbuilt → ⊥) (p : Plan) (taken : List ChunkData) (first next stand : ℕ) (clean : p.faults ≡ []) (typed : OfSchema t taken)
+    (numbered : first + length p.pairs ≤ 2 ^ 32) (fit : Fit p.numbers) (stands : next ≡ first + stand) where
+  number_fits : (n : ℕ) → NeedsNumber p next stand n ⊎ IsPast n p.numbers → ⊥
+  number_fits n (inl (is, big, more)) = omega (arith, is, big, more, stands, numbered)
+  number_fits n (inr (big, inl i)) = let l : n < 2 ^ 64 = fits n p.numbers fit i in omega (arith, l, big)
+  number_fits n (inr (big, inr (is, (k, i, past)))) = let l : k < 2 ^ 64 = fits k p.numbers fit i in omega (arith, l, past)
+
+  only_outside : (e : WriteError) → HasCause t unbuilt p taken next stand e → IsOutside e
+  only_outside OutOfMemory h = inl refl
+  only_outside SourceFault h = inr (inl refl)
+  only_outside SinkFault h = inr (inr refl)
+  only_outside (BatchType c) h = absurd (h.0 (last_of_schema t h.1.0 c (subst (λ z. OfSchema t z) h.1.1 typed)))
+  only_outside NotStruct h = absurd (none_has _ p.faults clean h)
+  only_outside (DuplicateField name) h = absurd (none_has _ p.faults clean h)
+  only_outside ManyChunks h = absurd (none_has _ p.faults clean h)
+  only_outside (ForbiddenEncoding id) h = absurd (none_has _ p.faults clean h)
+  only_outside (TooLarge n) h = absurd (number_fits n h)
+  only_outside Unbuilt h = absurd (never h)
+  only_outside CompressFault h = absurd h
+  only_outside EmptyList h = absurd h
+  only_outside (ZoneCut n) h = absurd h
+  only_outside (ForbiddenAggregate id) h = absurd h
+  only_outside (Stopped by name) h = absurd h
+
+module _ (g : Write) (first next : ℕ) (to_come to_come_now : Option (List ChunkData)) (before now : Option (List (List ℕ))) (schedule : List ℕ) (steps : List Step) (e : WriteError)
+    (h : Halts g first next to_come to_come_now before now schedule steps e) (xs : List ChunkData) (told : to_come ≡ Some xs) (built : is_built g.way ≡ true)
+    (valid : Valid g.setting g.way g.type g.mark first g.tracker xs) where
+  abbrev p : Plan
+  p = source_plan g.setting g.way g.type g.mark xs true
+
+  -- where these are still to come
+  by_rest : (rest : List ChunkData) × (to_come_now ≡ Some rest) × (xs ≡ h.stand.taken ++ rest) → IsOutside e
+  by_rest (rest, left, is) =
+      only_outside g.type (is_built g.way ≡ false) (λ i. true≢false (sym built ∙ i)) p h.stand.taken first next (length h.stand.appended) valid.faultless
+      (front_of_schema g.type h.stand.taken rest (subst (λ z. OfSchema g.type z) is valid.of_schema)) valid.numbered valid.fit h.stand.numbers e
+      (subst (λ z. HasCause g.type (is_built g.way ≡ false) z h.stand.taken next (length h.stand.appended) e)
+      (all_planned g first next to_come to_come_now before now schedule steps e h xs rest left is valid.of_schema)
+      (h.cause (all_left rest) (still_open g first next to_come to_come_now before now schedule steps e h xs rest left is)))
+
+  pub valid_outside : IsOutside e
+  valid_outside = by_rest (rest_told h.stand.taken xs to_come_now (sym told ∙ h.stand.came))
+
+-- ---- the laws
+
+pub answers_are_written : DoneIsWritten → StoppedHalts → RunsLeaveSinks → StartFaultStands → StartFaultsAgree → StartIsCaused → AnswersAreWritten
+answers_are_written done stopped left faults agree counts ctx image w t schedule to_come to_come_now borrow first before steps after (Ok l) keeps short h =
+    done_answer done stopped left faults agree counts ctx image w t schedule to_come to_come_now borrow first before steps after keeps short l h
+answers_are_written done stopped left faults agree counts ctx image w t schedule to_come to_come_now borrow first before steps after (Err e) keeps short h =
+    own_more after _ (λ next now. Halted (setting_of ctx image) w t (is_marked ctx) first next to_come to_come_now before now schedule steps e)
+    (stopped_answer done stopped left faults agree counts ctx image w t schedule to_come to_come_now borrow first before steps after keeps e h)
+    (λ next now p. halted (write_by ctx image w t) first next to_come to_come_now before now schedule steps e p)
+
+pub answers_leave_sinks : DoneIsWritten → StoppedHalts → RunsLeaveSinks → StartFaultStands → StartFaultsAgree → StartIsCaused → AnswersLeaveSinks
+answers_leave_sinks done stopped left faults agree counts ctx image w t schedule to_come to_come_now borrow first before steps after (Ok l) keeps h =
+    done_left done stopped left faults agree counts ctx image w t schedule to_come to_come_now borrow first before steps after keeps l h
+answers_leave_sinks done stopped left faults agree counts ctx image w t schedule to_come to_come_now borrow first before steps after (Err e) keeps h =
+    stopped_left done stopped left faults agree counts ctx image w t schedule to_come to_come_now borrow first before steps after keeps e h
+
+pub answers_are_complete : DoneIsWritten → StoppedHalts → RunsLeaveSinks → StartFaultStands → StartFaultsAgree → StartIsCaused → AnswersAreComplete
+answers_are_complete done stopped left faults agree counts ctx image w t schedule to_come to_come_now borrow first before steps after e keeps h xs told built valid =
+    own_any after _ (IsOutside e) (stopped_answer done stopped left faults agree counts ctx image w t schedule to_come to_come_now borrow first before steps after keeps e h)
+    (λ next now p. valid_outside (write_by ctx image w t) first next to_come to_come_now before now schedule steps e p xs told built valid)

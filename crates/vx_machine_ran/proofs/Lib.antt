@@ -1,5 +1,7 @@
 mod Fewness
 mod Leading
+mod Tracing
 mod Writing
 mod Stopping
+mod Reading
 mod Answering

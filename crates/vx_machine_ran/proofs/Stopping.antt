@@ -1,50 +1,63 @@
 -- A run that stopped has written a front of the plan of the batches taken, and has a cause there.
-use Rattle.std.proofs.Common.{◌≡◌, ◌+◌, ◌^◌, ◌<◌, ◌≤◌, ◌⊎◌, ◌∷◌, ◌++◌, ◌∙◌, ℕ, zero, suc, Bool, true, false, List, length, refl, sym, ap, subst, inl, inr, arith, Option, Some, None, []}
+use Rattle.std.proofs.Common.{◌≡◌, ◌+◌, ◌%◌, ◌^◌, ◌<◌, ◌≤◌, ◌⊎◌, ◌∷◌, ◌++◌, ◌∙◌, ℕ, zero, suc, Bool, true, false, List, take, length, refl, sym, ap, subst, inl, inr, arith, Option, Some, None, if◌then◌else◌, append-nil, length-append, slice_index, []}
 use Rattle.std.specs.Prelude.{IsTrue}
 use Rattle.std.proofs.lemmas.Bool.{true≢false}
 use Rattle.vx_model.specs.Ty.{Ty}
 use Rattle.vx_model.specs.ChunkData.{ChunkData}
-use Rattle.vx_fault.specs.Told.{before_told, then_told}
+use Rattle.vx_fault.specs.Told.{before_told, then_told, NoneTold}
 use Rattle.vx_path.specs.Lists.{In}
 use Rattle.vx_path.specs.Path.{Eof}
 use Rattle.vx_layout_spec.specs.Codec.{Lawful}
-use Rattle.vx_tasks.specs.Run.{nth}
+use Rattle.vx_tasks.specs.Task.{Forest}
+use Rattle.vx_tasks.specs.Run.{nth, trace, work}
+use Rattle.vx_cut_laws.specs.Cut.{cut}
 use Rattle.vx_strategy_spec.specs.StrategyData.{StrategyData}
-use Rattle.vx_plan.specs.PlanData.{Setting, Pair, Plan, stored}
+use Rattle.vx_plan.specs.PlanData.{Setting, Pair, Plan, What, stored}
 use Rattle.vx_plan.specs.Number.{sorted, segments}
-use Rattle.vx_plan.specs.SourcePlan.{start_fault, source_plan, taken_plan}
-use Rattle.vx_plan.specs.Valid.{IsPast}
+use Rattle.vx_plan.specs.SourcePlan.{start_fault, of_schema}
+use Rattle.vx_plan.specs.Valid.{OfSchema, IsPast}
 use Rattle.vx_order.specs.Outlet.{Outlet, own, shared}
-use Rattle.vx_order.specs.Answers.{IsPast as PastLast}
+use Rattle.vx_order.specs.Answers.{IsShared, IsPast as PastLast}
 use Rattle.vx_sink.specs.declared.context.LayoutWriterContext.{LayoutWriterContext}
 use Rattle.vx_sink.specs.ContextView.{is_marked}
+use Rattle.vx_write_answer.specs.declared.step.Step.{Step}
 use Rattle.vx_write_answer.specs.declared.error.WriteError.{WriteError}
 use Rattle.vx_write_answer.specs.declared.error.WriteError.TheVariants.{SourceFault, SinkFault, CompressFault, BatchType, NotStruct, DuplicateField, ManyChunks, EmptyList, ZoneCut, ForbiddenAggregate, ForbiddenEncoding, TooLarge, OutOfMemory, Unbuilt, Stopped}
-use Rattle.vx_machine_promises.specs.Write.{Write, Answer, unasked, came, over, taken_by, heard_by}
+use Rattle.vx_machine_promises.specs.Write.{Write, Future, Open, Answer, unasked, came, over, scripts, planned, taken_by, heard_by, before}
 use Rattle.vx_machine_view.specs.Built.{is_built}
 use Rattle.vx_machine_view.specs.Machine.{Phase, reading, giving, closing, finished, Machine, may_source, WholeStep, source_step, whole_steps, machine_ids}
+use Rattle.vx_machine_view.specs.Steps.{AllPairs}
 use Rattle.vx_machine_view.specs.Underway.{ready_steps}
-use Rattle.vx_machine_view.proofs.Placing.{source_place}
+use Rattle.vx_machine_view.proofs.Placing.{source_place, whole_is_ready}
 use Rattle.vx_machine_view.proofs.Sounding.{sound_is_typed}
-use Rattle.vx_machine_runs.specs.Runs.{Stand, outset, Asking, TypedAnswer, BeforeEnd, Chosen, scheduled, UnderwayAt, RunIsUnderway}
+use Rattle.vx_machine_view.proofs.Words.{pairs_length}
+use Rattle.vx_machine_runs.specs.Runs.{Stand, outset, Asking, TypedAnswer, BeforeEnd, Chosen, scheduled, UnderwayAt, RunByIsUnderway, RunIsUnderway}
 use Rattle.vx_machine_runs.specs.Ends.{plan_of, Caused, StepsHaveCause}
 use Rattle.vx_machine_runs.specs.Steps.{HistoryIsFront, AppendIsOneMore}
 use Rattle.vx_machine_runs.specs.Answers.{TakenAlone}
-use Rattle.vx_machine_runs.proofs.Asking.{asked_before_end, taken_are_planned, answer_of_schema, all_of_schema}
+use Rattle.vx_machine_runs.specs.Picks.{ReadyIsWithinAll}
+use Rattle.vx_machine_runs.specs.Traces.{NextIsWithinWork, NotesAreFirst, ReadyIsMore, RefusalIsLast, MisfitIsLast}
+use Rattle.vx_machine_runs.proofs.Asking.{asked_before_end, taken_are_typed, answer_of_schema, all_of_schema}
 use Rattle.vx_machine_runs.proofs.Ending.{none_later, open_none, none_planned}
 use Rattle.vx_machine_runs.proofs.Misfits.{misfit_is_read}
 use Rattle.vx_machine_runs.proofs.Sounding.{past_is_caused}
-use Rattle.vx_machine_runs.proofs.Stepping.{places, some_same}
+use Rattle.vx_machine_runs.proofs.Stepping.{open_before, places, some_same}
+use Rattle.vx_machine_runs.proofs.Tracing.{same_scripts}
+use Rattle.vx_machine.specs.Calls.{reads_in, misfits}
 use Rattle.vx_machine.specs.Context.{setting_of}
 use Rattle.vx_machine.specs.Outcome.{Kept, Refused, Past, Appending}
 use Rattle.vx_machine.specs.Source.{ReadsNone, SourceMay}
 use Rattle.vx_machine.specs.SourceActs.{AsksAt, TellsNothing, TellsRefused}
 use Rattle.vx_machine.specs.Steps.{StepRefused}
-use Rattle.vx_machine.specs.Run.{At, Stops}
-use Rattle.vx_machine_ran.specs.Ran.{write_by, OwnSink, Onward}
-use Rattle.vx_machine_ran.specs.Written.{NeedsNumber, HasCause, Halted, StoppedStands}
+use Rattle.vx_machine.specs.Ready.{counted}
+use Rattle.vx_machine.specs.Run.{At, ready_at, Stops}
+use Rattle.vx_machine_ran.specs.Ran.{write_by, OwnSink, ShowsCounted, Onward}
+use Rattle.vx_machine_ran.specs.Runs.{Halts, StoppedHalts}
+use Rattle.vx_machine_ran.specs.Traced.{tasks_of, ShowsNote, IsRefusal, TracedUntil, answers_in, IsLate}
+use Rattle.vx_machine_ran.specs.Written.{AreFirst, NeedsNumber, HasCause, IsAsked}
 use Rattle.vx_machine_ran.proofs.Fewness.{Few, whole_few}
 use Rattle.vx_machine_ran.proofs.Leading.{told_one, asking, runs_are_led}
+use Rattle.vx_machine_ran.proofs.Tracing.{reads_are, appends_are, traced_front, refused_last, misfit_last}
 use Rattle.vx_machine_ran.proofs.Writing.{stored_length, own_more, under}
 
 stored-append : (xs ys : List Pair) → stored (xs ++ ys) ≡ stored xs ++ stored ys
@@ -60,18 +73,24 @@ past_own : (o : Outlet) (n next : ℕ) (told : Option (List (List ℕ))) → Own
 past_own (own s) n next told h p = (p.0 ∙ h.0, (let a = p.0 in let b = p.1 in omega (arith, a, b)))
 past_own (shared s) n next told h p = absurd h
 
+unshared : (o : Outlet) (P : ℕ → Option (List (List ℕ)) → Type 0) → OwnSink o P → IsShared o → ⊥
+unshared (own s) P h k = k
+unshared (shared s) P h k = h
+
 -- ---- what the source told
 
 -- an error that isn't of a batch
 abbrev NoBatch : WriteError → Type 0
-NoBatch (BatchType c) = ⊥
-NoBatch e = Unit {0}
+NoBatch e = misfits e ≡ 0
+
+one_none : ◌≡◌ {A = ℕ} 1 0 → ⊥
+one_none h = omega (arith, h)
 
 reads_same : (before now : Option (List ChunkData)) (e : WriteError) → NoBatch e → ReadsNone before now e → now ≡ before
 reads_same before now SourceFault n h = h
 reads_same before now SinkFault n h = h
 reads_same before now CompressFault n h = h
-reads_same before now (BatchType c) n h = absurd n
+reads_same before now (BatchType c) n h = absurd (one_none n)
 reads_same before now NotStruct n h = h
 reads_same before now (DuplicateField name) n h = h
 reads_same before now ManyChunks n h = h
@@ -93,30 +112,61 @@ nothing_told finished k t before now e n h = h
 
 refused_typed : (p : Phase) (k : ℕ) (t : Ty) (before now : Option (List ChunkData)) (e : WriteError) (a : Answer) → TellsRefused p k t before now e a → TypedAnswer t a
 refused_typed p k t before now e unasked h = tt
-refused_typed p k t before now e (came b) h = sound_is_typed b t h.1.whole.sound h.1.typed
+refused_typed p k t before now e (came b) h = sound_is_typed b t h.2.whole.sound h.2.typed
 refused_typed p k t before now e over h = tt
 
 refused_came : (p : Phase) (k : ℕ) (t : Ty) (first before now : Option (List ChunkData)) (taken : List ChunkData) (e : WriteError) (a : Answer) → NoBatch e → TellsRefused p k t before now e a
     → first ≡ before_told taken before → first ≡ before_told (taken_by taken a) now
 refused_came p k t first before now taken e unasked n h i = i ∙ ap (before_told taken) (sym (nothing_told p k t before now e n h))
-refused_came p k t first before now taken e (came b) n h i = i ∙ ap (before_told taken) h.0 ∙ told_one taken b now
-refused_came p k t first before now taken e over n h i = i ∙ ap (before_told taken) (sym h.0)
+refused_came p k t first before now taken e (came b) n h i = i ∙ ap (before_told taken) h.1 ∙ told_one taken b now
+refused_came p k t first before now taken e over n h i = absurd h
+
+refused_ended : (p : Phase) (k : ℕ) (t : Ty) (before now : Option (List ChunkData)) (heard : Bool) (e : WriteError) (a : Answer) → NoBatch e → TellsRefused p k t before now e a → BeforeEnd heard a
+    → (heard ≡ true → NoneTold before) → heard_by heard a ≡ true → NoneTold now
+refused_ended p k t before now heard e unasked n h once end i = subst (λ z. NoneTold z) (sym (nothing_told p k t before now e n h)) (end i)
+refused_ended p k t before now heard e (came b) n h once end i = absurd (true≢false (sym i ∙ once))
+refused_ended p k t before now heard e over n h once end i = absurd h
+
+-- how often it answered in an act
+abbrev answers_of : Answer → ℕ
+answers_of unasked = 0
+answers_of (came b) = 1
+answers_of over = 1
+
+abbrev flag : Bool → ℕ
+flag b = if b then 1 else 0
+
+-- behind an answer an act is late
+refused_late : (p : Phase) (k : ℕ) (t : Ty) (before now : Option (List ChunkData)) (e : WriteError) (a : Answer) → TellsRefused p k t before now e a → (a ≡ unasked) ⊎ (IsLate e × (answers_of a ≡ 1))
+refused_late p k t before now e unasked h = inl refl
+refused_late p k t before now e (came b) h = inr (h.0, refl)
+refused_late p k t before now e over h = absurd h
+
+more_answers : (taken : List ChunkData) (heard : Bool) (a : Answer) → BeforeEnd heard a → answers_in (taken_by taken a) (heard_by heard a) ≡ answers_in taken heard + answers_of a
+more_answers taken heard unasked once = omega arith
+more_answers taken heard (came b) once = let n : length (taken ++ (b ∷ [])) ≡ length taken + 1 = length-append taken (b ∷ []) in omega (arith, n)
+more_answers taken heard over once = let n : flag heard ≡ 0 = ap flag once in omega (arith, n)
 
 -- ---- causes
+
+-- why a step is refused over this sink
+abbrev RefusedBy : WholeStep → Outlet → WriteError → Type 0
+RefusedBy w o e = Refused w.refusal w.misfit w.numbers w.indices w.wrote (PastLast o) (IsShared o) w.joined e
 
 module _ (t : Ty) (unbuilt : Type 0) (p : Plan) (taken : List ChunkData) (next stand : ℕ) where
   abbrev Cause : WriteError → Type 0
   Cause e = HasCause t unbuilt p taken next stand e
 
   -- of a step that is no batch of another type
-  module _ (w : WholeStep) (c : Caused p w) (o : Outlet) (fits : w.misfit ≡ false) (more : (x : Pair) → In x w.wrote → stand < length p.pairs) (last : (n : ℕ) → PastLast o n → (n ≡ next) × (2 ^ 32 ≤ n)) where
+  module _ (w : WholeStep) (c : Caused p w) (o : Outlet) (mine : IsShared o → ⊥) (fits : w.misfit ≡ false) (more : (x : Pair) → In x w.wrote → stand < length p.pairs)
+      (last : (n : ℕ) → PastLast o n → (n ≡ next) × (2 ^ 32 ≤ n)) where
     too_large : (n : ℕ) → Past w.numbers w.indices n ⊎ (Appending w.wrote × PastLast o n) ⊎ (In n w.joined × (2 ^ 64 ≤ n)) → NeedsNumber p next stand n ⊎ IsPast n p.numbers
     too_large n (inl (inl (i, big))) = inr ((past_is_caused p w n c big).numbers i)
     too_large n (inl (inr (k, i, big, is))) = inr (subst (λ z. IsPast z p.numbers) (sym is) ((past_is_caused p w k c big).indices i))
     too_large n (inr (inl (x, q))) = inl ((last n q).0, (last n q).1, more x.0 x.1)
     too_large n (inr (inr (i, big))) = inr ((past_is_caused p w n c big).joined i)
 
-    step_cause : (e : WriteError) → Refused w.refusal w.misfit w.numbers w.indices w.wrote (PastLast o) w.joined e → Cause e
+    step_cause : (e : WriteError) → RefusedBy w o e → Cause e
     step_cause SourceFault h = tt
     step_cause SinkFault h = tt
     step_cause CompressFault h = absurd h
@@ -131,34 +181,58 @@ module _ (t : Ty) (unbuilt : Type 0) (p : Plan) (taken : List ChunkData) (next s
     step_cause (TooLarge n) h = too_large n h
     step_cause OutOfMemory h = tt
     step_cause Unbuilt h = absurd h
-    step_cause (Stopped by name) h = tt
+    step_cause (Stopped by name) h = absurd (mine h.1)
 
-    fits_no_batch : (e : WriteError) → Refused w.refusal w.misfit w.numbers w.indices w.wrote (PastLast o) w.joined e → NoBatch e
-    fits_no_batch SourceFault h = tt
-    fits_no_batch SinkFault h = tt
-    fits_no_batch CompressFault h = tt
-    fits_no_batch (BatchType b) h = absurd (true≢false (sym h ∙ fits))
-    fits_no_batch NotStruct h = tt
-    fits_no_batch (DuplicateField name) h = tt
-    fits_no_batch ManyChunks h = tt
-    fits_no_batch EmptyList h = tt
-    fits_no_batch (ZoneCut n) h = tt
-    fits_no_batch (ForbiddenAggregate id) h = tt
-    fits_no_batch (ForbiddenEncoding id) h = tt
-    fits_no_batch (TooLarge n) h = tt
-    fits_no_batch OutOfMemory h = tt
-    fits_no_batch Unbuilt h = tt
-    fits_no_batch (Stopped by name) h = tt
+module _ (w : WholeStep) (o : Outlet) (fits : w.misfit ≡ false) where
+  fits_no_batch : (e : WriteError) → RefusedBy w o e → NoBatch e
+  fits_no_batch SourceFault h = refl
+  fits_no_batch SinkFault h = refl
+  fits_no_batch CompressFault h = refl
+  fits_no_batch (BatchType b) h = absurd (true≢false (sym h ∙ fits))
+  fits_no_batch NotStruct h = refl
+  fits_no_batch (DuplicateField name) h = refl
+  fits_no_batch ManyChunks h = refl
+  fits_no_batch EmptyList h = refl
+  fits_no_batch (ZoneCut n) h = refl
+  fits_no_batch (ForbiddenAggregate id) h = refl
+  fits_no_batch (ForbiddenEncoding id) h = refl
+  fits_no_batch (TooLarge n) h = refl
+  fits_no_batch OutOfMemory h = refl
+  fits_no_batch Unbuilt h = refl
+  fits_no_batch (Stopped by name) h = refl
 
--- a read that is told nothing counts nothing
-read_is : (s : Setting) (all : List (List ℕ)) (number : ℕ) (m : Machine) (d : Eof) (w : WholeStep) → m.phase ≡ reading d → nth (whole_steps s all number unasked m) 0 ≡ Some w → w ≡ source_step unasked (reading d) m.root
-read_is s all number m d w is at =
-    some_same w (source_step unasked m.phase m.root) (sym at ∙ source_place s all number unasked m (ap (λ z. may_source z m.root) is)) ∙ ap (λ z. source_step unasked z m.root) is
+  -- the word of the plan by which it is refused
+  word_of : (e : WriteError) → IsRefusal e → RefusedBy w o e → (v : What) × (w.refusal ≡ Some v)
+  word_of SourceFault i h = absurd i
+  word_of SinkFault i h = absurd i
+  word_of CompressFault i h = absurd i
+  word_of (BatchType b) i h = absurd (true≢false (sym h ∙ fits))
+  word_of NotStruct i h = (_, h)
+  word_of (DuplicateField name) i h = (_, h)
+  word_of ManyChunks i h = (_, h)
+  word_of EmptyList i h = absurd i
+  word_of (ZoneCut n) i h = absurd i
+  word_of (ForbiddenAggregate id) i h = absurd i
+  word_of (ForbiddenEncoding id) i h = (_, h)
+  word_of (TooLarge n) i h = absurd i
+  word_of OutOfMemory i h = absurd i
+  word_of Unbuilt i h = absurd i
+  word_of (Stopped by name) i h = absurd i
 
-module _ (ctx : LayoutWriterContext) (image : ℕ → ChunkData → ChunkData) (way : StrategyData) (t : Ty) (to_come : Option (List ChunkData)) (first : ℕ) (before : Option (List (List ℕ)))
+-- ---- the step in which the source reads
+
+read_is : (s : Setting) (all : List (List ℕ)) (number : ℕ) (a : Answer) (m : Machine) (d : Eof) (w : WholeStep) → m.phase ≡ reading d → nth (whole_steps s all number a m) 0 ≡ Some w
+    → w ≡ source_step a (reading d) m.root
+read_is s all number a m d w is at =
+    some_same w (source_step a m.phase m.root) (sym at ∙ source_place s all number a m (ap (λ z. may_source z m.root) is)) ∙ ap (λ z. source_step a z m.root) is
+
+-- ---- where a run stopped
+
+module _ (ctx : LayoutWriterContext) (image : ℕ → ChunkData → ChunkData) (way : StrategyData) (t : Ty) (to_come : Option (List ChunkData)) (borrow first : ℕ) (before_it : Option (List (List ℕ)))
     (law : Lawful (setting_of ctx image).codec (setting_of ctx image).encodings) (built : IsTrue (is_built way)) (clean : start_fault (setting_of ctx image) way t (is_marked ctx) ≡ None)
-    (run : RunIsUnderway) (front : HistoryIsFront) (causes : StepsHaveCause) (append : AppendIsOneMore) (y : At) (o : Onward (write_by ctx image way t) to_come first before (outset (write_by ctx image way t)) y)
-    (to_come_now : Option (List ChunkData)) (next : ℕ) (now : Option (List (List ℕ))) (sink : (next ≡ first + length o.stand.history) × (now ≡ then_told before (stored o.stand.history))) where
+    (schedule : List ℕ) (steps : List Step) (y : At) (o : Onward (write_by ctx image way t) to_come borrow first before_it schedule 0 (outset (write_by ctx image way t)) steps y)
+    (run : RunIsUnderway) (by : RunByIsUnderway) (front : HistoryIsFront) (causes : StepsHaveCause) (append : AppendIsOneMore) (firsts : NotesAreFirst) (refused_at : RefusalIsLast) (misfit_at : MisfitIsLast) (within : ReadyIsWithinAll) (next_within : NextIsWithinWork) (more_at : ReadyIsMore)
+    (to_come_now : Option (List ChunkData)) (next : ℕ) (now : Option (List (List ℕ))) (sink : (next ≡ first + length o.stand.history) × (now ≡ then_told before_it (stored o.stand.history))) where
   abbrev g : Write
   g = write_by ctx image way t
 
@@ -170,66 +244,136 @@ module _ (ctx : LayoutWriterContext) (image : ℕ → ChunkData → ChunkData) (
   x = o.stand
 
   u : UnderwayAt h first o.notes x
-  u = under ctx image way t to_come first before law built clean y o run
+  u = under ctx image way t to_come borrow first before_it law built clean schedule steps y o run
 
-  alone : TakenAlone g x.taken
-  alone = taken_are_planned g first o.notes x o.led
+  alone : TakenAlone t x.taken
+  alone = taken_are_typed g first o.notes x o.led
 
-  abbrev Halts : WriteError → Type 0
-  Halts e = Halted (setting_of ctx image) way t (is_marked ctx) first next to_come to_come_now before now e
+  reads : answers_in x.taken x.heard ≡ reads_in steps
+  reads = sym (reads_are ctx image way t to_come borrow first before_it law built clean schedule steps y o)
+
+  abbrev Halting : WriteError → Type 0
+  Halting e = Halts g first next to_come to_come_now before_it now schedule steps e
+
+  abbrev tasks : List ChunkData → Bool → Forest
+  tasks bs heard = tasks_of (setting_of ctx image) way t (is_marked ctx) bs heard
+
+  -- the tasks of the batches taken by then, where no more comes
+  tasks_are : (told : Answer) → cut (scripts g (taken_by x.taken told) (none_later (heard_by x.heard told))) ≡ tasks (taken_by x.taken told) (heard_by x.heard told)
+  tasks_are told = ap (λ z. tasks z (heard_by x.heard told)) (append-nil (taken_by x.taken told))
+
+  -- these have more than the steps, where something is ready
+  goes_on : (told : Answer) → BeforeEnd x.heard told → 0 < ready_at y.machine → length steps < work (tasks (taken_by x.taken told) (heard_by x.heard told))
+  goes_on told once some =
+      let f : Future = none_later (heard_by x.heard told) in
+      let size : length (ready_steps h first x.history told x.machine) ≡ ready_at x.machine = whole_is_ready (setting_of ctx image) (machine_ids x.machine) (first + length x.history) told x.machine in
+      let ready : 0 < length (ready_steps h first x.history told x.machine) = subst (λ z. 0 < z) (sym size) (subst (λ (m : Machine). 0 < ready_at m) o.same.machine_is some) in
+      let less : length o.notes < work (cut (scripts g x.taken (before told f))) = more_at h first o.notes x told (before told f) law u (open_before x.heard told f once (open_none (heard_by x.heard told))) ready in
+      subst (λ z. z < work (tasks (taken_by x.taken told) (heard_by x.heard told))) (sym (pairs_length ShowsCounted steps o.notes o.shown))
+      (subst (λ z. length o.notes < work z) (ap cut (same_scripts g x.taken told f) ∙ tasks_are told) less)
+
+  -- the steps are the first of these
+  begins : (told : Answer) → BeforeEnd x.heard told → work (tasks (taken_by x.taken told) (heard_by x.heard told)) < 2 ^ 64
+      → AllPairs ShowsNote steps (take (length steps) (trace (tasks (taken_by x.taken told) (heard_by x.heard told)) schedule))
+  begins told once =
+      let f : Future = none_later (heard_by x.heard told) in
+      subst (λ z. work z < 2 ^ 64 → AllPairs ShowsNote steps (take (length steps) (trace z schedule)))
+      (ap cut (same_scripts g x.taken told f) ∙ tasks_are told)
+      (traced_front ctx image way t to_come borrow first before_it law built clean schedule steps y o by firsts within (before told f)
+      (open_before x.heard told f once (open_none (heard_by x.heard told))))
+
+  -- and all of them, where the next one refuses
+  ends : (told : Answer) → BeforeEnd x.heard told → (k : ℕ) → k ≡ slice_index schedule (length steps) % counted (ready_at y.machine) → (w : WholeStep) (v : What) → Chosen (scheduled g schedule) first x told k w
+      → w.refusal ≡ Some v → work (tasks (taken_by x.taken told) (heard_by x.heard told)) < 2 ^ 64 → AllPairs ShowsNote steps (trace (tasks (taken_by x.taken told) (heard_by x.heard told)) schedule)
+  ends told once k pick w v c e short =
+      let f : Future = none_later (heard_by x.heard told) in
+      subst (λ z. AllPairs ShowsNote steps (trace z schedule)) (tasks_are told)
+      (refused_last ctx image way t to_come borrow first before_it law built clean schedule steps y o by within next_within told f once (open_none (heard_by x.heard told)) k pick
+      (subst (λ z. work z < 2 ^ 64) (sym (ap cut (same_scripts g x.taken told f) ∙ tasks_are told)) short) refused_at w v c e)
 
   -- what stands, by the plan of these batches
-  halts : (e : WriteError) (taken : List ChunkData) (heard : Bool) (p : Plan) → taken_plan (setting_of ctx image) way t (is_marked ctx) taken heard ≡ p → to_come ≡ before_told taken to_come_now
-      → (more : List Pair) × (sorted p.pairs ≡ x.history ++ more) → HasCause t (is_built way ≡ false) p taken next (length x.history) e → Halts e
-  halts e taken heard p is told m c = record {
+  halts : (e : WriteError) (taken bs : List ChunkData) (heard : Bool) → of_schema t taken ≡ bs → to_come ≡ before_told taken to_come_now → (heard ≡ true → NoneTold to_come_now)
+      → (heard ≡ true → OfSchema t taken) → ((f : Future) → Open heard f → (more : List Pair) × (sorted (planned g bs f).pairs ≡ x.history ++ more)) → TracedUntil (tasks bs heard) schedule steps e → IsAsked taken heard steps e
+      → ((f : Future) → Open heard f → HasCause t (is_built way ≡ false) (planned g bs f) taken next (length x.history) e) → Halting e
+  halts e taken bs heard is told end typed stood traced asked c = record {
     heard = heard;
     stand = record {
       taken = taken;
       came = told;
       appended = stored x.history;
-      more = stored m.0;
-      prefix = ap segments is ∙ ap stored m.1 ∙ stored-append x.history m.0;
+      more = (now_first (none_later heard) (open_none heard)).0;
+      prefix = ap (λ z. segments (plan_of g z heard)) is ∙ ap segments (sym (none_planned g bs heard)) ∙ (now_first (none_later heard) (open_none heard)).1;
       stands = sink.1;
       numbers = sink.0 ∙ ap (λ z. first + z) (sym (stored_length x.history));
     };
-    cause = subst (λ z. HasCause t (is_built way ≡ false) z taken next (length (stored x.history)) e) (sym is)
-        (subst (λ z. HasCause t (is_built way ≡ false) p taken next z e) (sym (stored_length x.history)) c);
+    front = λ f may. subst (λ z. AreFirst (stored x.history) (planned g z f)) (sym is) (now_first f may);
+    typed = typed;
+    ended = end;
+    cause = λ f may. subst (λ z. HasCause t (is_built way ≡ false) (planned g z f) taken next (length (stored x.history)) e) (sym is)
+        (subst (λ z. HasCause t (is_built way ≡ false) (planned g bs f) taken next z e) (sym (stored_length x.history)) (c f may));
+    traced = subst (λ z. TracedUntil (tasks z heard) schedule steps e) (sym is) traced;
+    asked = asked;
+    appended = sink.0 ∙ ap (λ z. first + z) (appends_are ctx image way t to_come borrow first before_it law built clean schedule steps y o u);
   }
+    where
+      now_first : (f : Future) → Open heard f → AreFirst (stored x.history) (planned g bs f)
+      now_first f may = let m : (more : List Pair) × (sorted (planned g bs f).pairs ≡ x.history ++ more) = stood f may in (stored m.0, ap stored m.1 ∙ stored-append x.history m.0)
+
+  -- each answer was asked in a step
+  all_asked : (e : WriteError) → NoBatch e → IsAsked x.taken x.heard steps e
+  all_asked e n = inl (let a = reads in omega (arith, a, n))
 
   -- by the batches taken so far
-  so_far : (e : WriteError) → to_come_now ≡ y.to_come → HasCause t (is_built way ≡ false) (plan_of g x.taken x.heard) x.taken next (length x.history) e → Halts e
-  so_far e same c = halts e x.taken x.heard (plan_of g x.taken x.heard) (alone.plan_is x.heard) (o.same.came ∙ ap (before_told x.taken) (sym same)) (front h first o.notes x unasked tt u) c
+  so_far : (e : WriteError) → NoBatch e → (IsRefusal e → ⊥) → (e ≡ OutOfMemory) ⊎ (0 < ready_at y.machine) → to_come_now ≡ y.to_come → ((p : Plan) → HasCause t (is_built way ≡ false) p x.taken next (length x.history) e) → Halting e
+  so_far e n plain some same c = halts e x.taken x.taken x.heard alone.all (o.same.came ∙ ap (before_told x.taken) (sym same)) (λ k. subst (λ z. NoneTold z) (sym same) (o.same.ended k))
+      (λ k. alone.typed) (λ f may. front h first o.notes x unasked f tt may u) (record { fewer = left some; first = begins unasked tt; all = λ short i. absurd (plain i) }) (all_asked e n) (λ f may. c (planned g x.taken f))
+    where
+      left : (e ≡ OutOfMemory) ⊎ (0 < ready_at y.machine) → (e ≡ OutOfMemory) ⊎ (length steps < work (tasks x.taken x.heard))
+      left (inl is) = inl is
+      left (inr q) = inr (goes_on unasked tt q)
 
-  module _ (k : ℕ) where
+  -- where it reads, the end isn't told
+  unheard : (d : Eof) (b : ChunkData) → x.machine.phase ≡ reading d → x.heard ≡ false
+  unheard d b is = asked_before_end g first o.notes x (came b) 0 o.led (subst (λ z. Asking z 0 (came b)) (sym is) tt)
+
+  module _ (some : 0 < ready_at y.machine) (k : ℕ) (pick : k ≡ slice_index schedule (length steps) % counted (ready_at y.machine)) where
     -- the source told nothing where it read
-    read_halts : (w : WholeStep) (d : Eof) → w ≡ source_step unasked (reading d) x.machine.root → (e : WriteError) → ReadsNone y.to_come to_come_now e → SourceMay t e
-        → Refused w.refusal w.misfit w.numbers w.indices w.wrote (PastLast y.outlet) w.joined e → Halts e
-    read_halts w d is SourceFault r m c = so_far SourceFault r tt
-    read_halts w d is OutOfMemory r m c = so_far OutOfMemory r tt
-    read_halts w d is (BatchType b) r m c =
-        halts (BatchType b) (x.taken ++ (b ∷ [])) x.heard (plan_of g x.taken x.heard) (alone.without x.heard b m) (o.same.came ∙ ap (before_told x.taken) r ∙ told_one x.taken b to_come_now)
-        (front h first o.notes x unasked tt u) (m, (x.taken, refl))
-    read_halts w d is (TooLarge n) r m c = absurd (none (subst (λ (z : WholeStep). Past z.numbers z.indices n ⊎ (Appending z.wrote × PastLast y.outlet n) ⊎ (In n z.joined × (2 ^ 64 ≤ n))) is c))
+    read_halts : (w : WholeStep) (d : Eof) → k ≡ 0 → nth (ready_steps h first x.history unasked x.machine) 0 ≡ Some w → x.machine.phase ≡ reading d → w ≡ source_step unasked (reading d) x.machine.root → (e : WriteError) → ReadsNone y.to_come to_come_now e → SourceMay t e
+        → RefusedBy w y.outlet e → Halting e
+    read_halts w d z at p is SourceFault r m c = so_far SourceFault refl (λ i. i) (inr some) r (λ q. tt)
+    read_halts w d z at p is OutOfMemory r m c = so_far OutOfMemory refl (λ i. i) (inr some) r (λ q. tt)
+    read_halts w d z at p is (BatchType b) r m c =
+        halts (BatchType b) (x.taken ++ (b ∷ [])) x.taken x.heard (alone.without b m) (o.same.came ∙ ap (before_told x.taken) r ∙ told_one x.taken b to_come_now)
+        (λ i. absurd (true≢false (sym i ∙ unheard d b p))) (λ i. absurd (true≢false (sym i ∙ unheard d b p))) (λ f may. front h first o.notes x unasked f tt may u) (record { fewer = inr (goes_on unasked tt some); first = begins unasked tt; all = λ short i. inr (all short) }) (inl one) (λ f may. (m, (x.taken, refl)))
+      where
+        one : answers_in (x.taken ++ (b ∷ [])) x.heard ≡ reads_in steps + 1
+        one = let a = reads in let n : length (x.taken ++ (b ∷ [])) ≡ length x.taken + 1 = length-append x.taken (b ∷ []) in omega (arith, a, n)
+
+        all : work (tasks x.taken x.heard) < 2 ^ 64 → AllPairs ShowsNote steps (trace (tasks x.taken x.heard) schedule)
+        all = subst (λ (v : Bool). work (tasks x.taken v) < 2 ^ 64 → AllPairs ShowsNote steps (trace (tasks x.taken v) schedule)) (sym (unheard d b p))
+            (misfit_last ctx image way t to_come borrow first before_it law built clean schedule steps y o by within next_within misfit_at k pick (unheard d b p) w
+            (subst (λ v. nth (ready_steps h first x.history unasked x.machine) v ≡ Some w) (sym z) at) (ap (λ (v : WholeStep). v.misfit) is))
+    read_halts w d z at p is (TooLarge n) r m c = absurd (none (subst (λ (z : WholeStep). Past z.numbers z.indices n ⊎ (Appending z.wrote × PastLast y.outlet n) ⊎ (In n z.joined × (2 ^ 64 ≤ n))) is c))
       where
         none : Past [] [] n ⊎ (Appending [] × PastLast y.outlet n) ⊎ (In n [] × (2 ^ 64 ≤ n)) → ⊥
         none (inl (inl (i, big))) = i
         none (inl (inr (j, i, big, e))) = i
         none (inr (inl (a, q))) = a.1
         none (inr (inr (i, big))) = i
-    read_halts w d is SinkFault r m c = absurd m
-    read_halts w d is CompressFault r m c = absurd m
-    read_halts w d is NotStruct r m c = absurd m
-    read_halts w d is (DuplicateField name) r m c = absurd m
-    read_halts w d is ManyChunks r m c = absurd m
-    read_halts w d is EmptyList r m c = absurd m
-    read_halts w d is (ZoneCut n) r m c = absurd m
-    read_halts w d is (ForbiddenAggregate id) r m c = absurd m
-    read_halts w d is (ForbiddenEncoding id) r m c = absurd m
-    read_halts w d is Unbuilt r m c = absurd m
-    read_halts w d is (Stopped by name) r m c = absurd m
+    read_halts w d z at p is SinkFault r m c = absurd m
+    read_halts w d z at p is CompressFault r m c = absurd m
+    read_halts w d z at p is NotStruct r m c = absurd m
+    read_halts w d z at p is (DuplicateField name) r m c = absurd m
+    read_halts w d z at p is ManyChunks r m c = absurd m
+    read_halts w d z at p is EmptyList r m c = absurd m
+    read_halts w d z at p is (ZoneCut n) r m c = absurd m
+    read_halts w d z at p is (ForbiddenAggregate id) r m c = absurd m
+    read_halts w d z at p is (ForbiddenEncoding id) r m c = absurd m
+    read_halts w d z at p is Unbuilt r m c = absurd m
+    read_halts w d z at p is (Stopped by_it name) r m c = absurd m
 
     module _ (told : Answer) (w : WholeStep) (at : nth (ready_steps h first x.history told x.machine) k ≡ Some w) (asks : Asking x.machine.phase k told) (e : WriteError)
-        (tells : TellsRefused x.machine.phase k t y.to_come to_come_now e told) (cause : Refused w.refusal w.misfit w.numbers w.indices w.wrote (PastLast y.outlet) w.joined e) where
+        (tells : TellsRefused x.machine.phase k t y.to_come to_come_now e told) (cause : RefusedBy w y.outlet e) where
       abbrev taken : List ChunkData
       taken = taken_by x.taken told
 
@@ -242,67 +386,77 @@ module _ (ctx : LayoutWriterContext) (image : ℕ → ChunkData → ChunkData) (
       once : BeforeEnd x.heard told
       once = asked_before_end g first o.notes x told k o.led asks
 
+      last : (n : ℕ) → PastLast y.outlet n → (n ≡ next) × (2 ^ 32 ≤ n)
+      last n q =
+          let r : (n ≡ first + length x.history) × (2 ^ 32 ≤ n) = past_own y.outlet n (first + length x.history) (then_told before_it (stored x.history)) o.same.sink q in
+          (r.0 ∙ sym sink.0, r.1)
+
       -- a step of batches of the type
-      fit_halts : w.misfit ≡ false → Halts e
-      fit_halts fits =
-          let c : Caused p w = causes h first o.notes x told k w law u chosen in
-          let n : NoBatch e = fits_no_batch t (is_built way ≡ false) p taken next (length x.history) w c y.outlet fits more last e cause in
-          halts e taken heard p (ap (λ z. source_plan (setting_of ctx image) way t (is_marked ctx) z heard) (all_of_schema t taken (answer_of_schema t x.taken told alone.of_schema typed)))
-          (refused_came x.machine.phase k t to_come y.to_come to_come_now x.taken e told n tells o.same.came)
-          (front h first o.notes x told once u)
-          (step_cause t (is_built way ≡ false) p taken next (length x.history) w c y.outlet fits more last e cause)
-        where
-          p : Plan
-          p = plan_of g taken heard
+      module _ (fits : w.misfit ≡ false) where
+        n : NoBatch e
+        n = fits_no_batch w y.outlet fits e cause
 
-          chosen : Chosen h first x told k w
-          chosen = record { place = at; asks = asks; typed = typed; once = once; fits = fits }
+        chosen : Chosen h first x told k w
+        chosen = record { place = at; asks = asks; typed = typed; once = once; fits = fits }
 
-          more : (z : Pair) → In z w.wrote → length x.history < length p.pairs
-          more z i = by (whole_few (setting_of ctx image) (machine_ids x.machine) (first + length x.history) told x.machine k w at)
-            where
-              by : Few w.wrote w.refusal → length x.history < length p.pairs
-              by (inl none) = absurd (subst (In z) none i)
-              by (inr (v, one, calm)) = subst (λ (q : Plan). length x.history < length q.pairs) (none_planned h taken heard)
-                  (append h first o.notes x told (none_later heard) k w v law u (open_none heard) chosen calm one)
+        more : (f : Future) → Open heard f → (z : Pair) → In z w.wrote → length x.history < length (planned g taken f).pairs
+        more f may z i = by_few (whole_few (setting_of ctx image) (machine_ids x.machine) (first + length x.history) told x.machine k w at)
+          where
+            by_few : Few w.wrote w.refusal → length x.history < length (planned g taken f).pairs
+            by_few (inl none) = absurd (subst (In z) none i)
+            by_few (inr (v, one, calm)) = append h first o.notes x told f k w v law u may chosen calm one
 
-          last : (n : ℕ) → PastLast y.outlet n → (n ≡ next) × (2 ^ 32 ≤ n)
-          last n q =
-              let r : (n ≡ first + length x.history) × (2 ^ 32 ≤ n) = past_own y.outlet n (first + length x.history) (then_told before (stored x.history)) o.same.sink q in
-              (r.0 ∙ sym sink.0, r.1)
+        fit_asked : IsAsked taken heard steps e
+        fit_asked = by_answer (refused_late x.machine.phase k t y.to_come to_come_now e told tells)
+          where
+            answers : answers_in taken heard ≡ answers_in x.taken x.heard + answers_of told
+            answers = more_answers x.taken x.heard told once
+
+            by_answer : (told ≡ unasked) ⊎ (IsLate e × (answers_of told ≡ 1)) → IsAsked taken heard steps e
+            by_answer (inl i) = inl (let a = reads in let b = answers in let c : answers_of told ≡ 0 = ap answers_of i in let m = n in omega (arith, a, b, c, m))
+            by_answer (inr (late, one)) = inr (late, (let a = reads in let b = answers in omega (arith, a, b, one)))
+
+        refused : work (tasks taken heard) < 2 ^ 64 → (v : What) × (w.refusal ≡ Some v) → AllPairs ShowsNote steps (trace (tasks taken heard) schedule)
+        refused short (v, i) = ends told once k pick w v (record { place = at; asks = asks; typed = typed; once = once; fits = fits }) i short
+
+        fit_halts : Halting e
+        fit_halts = halts e taken taken heard (all_of_schema t taken (answer_of_schema t x.taken told alone.typed typed)) (refused_came x.machine.phase k t to_come y.to_come to_come_now x.taken e told n tells o.same.came)
+            (refused_ended x.machine.phase k t y.to_come to_come_now x.heard e told n tells once o.same.ended) (λ k. answer_of_schema t x.taken told alone.typed typed) (λ f may. front h first o.notes x told f once may u) (record { fewer = inr (goes_on told once some); first = begins told once; all = λ short i. inr (refused short (word_of w y.outlet fits e i cause)) }) fit_asked
+            (λ f may. step_cause t (is_built way ≡ false) (planned g taken f) taken next (length x.history) w (causes h first o.notes x told f k w law u may chosen) y.outlet
+            (unshared y.outlet _ o.same.sink) fits (more f may) last e cause)
 
       -- a batch of another type
-      misfit_halts : (d : Eof) × (x.machine.phase ≡ reading d) × (k ≡ 0) × (told ≡ unasked) → Halts e
+      misfit_halts : (d : Eof) × (x.machine.phase ≡ reading d) × (k ≡ 0) × (told ≡ unasked) → Halting e
       misfit_halts (d, p, z, a) =
           let r : ReadsNone y.to_come to_come_now e × SourceMay t e
           = subst (λ v. TellsRefused v 0 t y.to_come to_come_now e unasked) p (subst (λ v. TellsRefused x.machine.phase v t y.to_come to_come_now e unasked) z (subst (TellsRefused x.machine.phase k t y.to_come to_come_now e) a tells)) in
           let q : nth (ready_steps h first x.history unasked x.machine) 0 ≡ Some w
           = subst (λ v. nth (ready_steps h first x.history v x.machine) 0 ≡ Some w) a (subst (λ v. nth (ready_steps h first x.history told x.machine) v ≡ Some w) z at) in
-          read_halts w d (read_is (setting_of ctx image) (machine_ids x.machine) (first + length x.history) x.machine d w p q) e r.0 r.1 cause
+          read_halts w d z q p (read_is (setting_of ctx image) (machine_ids x.machine) (first + length x.history) unasked x.machine d w p q) e r.0 r.1 cause
 
-      step_halts : Halts e
-      step_halts = by w.misfit refl
+      step_halts : Halting e
+      step_halts = by_misfit w.misfit refl
         where
-          by : (b : Bool) → w.misfit ≡ b → Halts e
-          by false is = fit_halts is
-          by true is = misfit_halts (misfit_is_read h first o.notes x told k w u at is)
+          by_misfit : (b : Bool) → w.misfit ≡ b → Halting e
+          by_misfit false is = fit_halts is
+          by_misfit true is = misfit_halts (misfit_is_read h first o.notes x told k w u at is)
 
-    refused_halts : (e : WriteError) → StepRefused (setting_of ctx image) (machine_ids y.machine) k t y.to_come to_come_now y.outlet (first + length x.history) y.machine e → Halts e
+    refused_halts : (e : WriteError) → StepRefused (setting_of ctx image) (machine_ids y.machine) k t y.to_come to_come_now y.outlet (first + length x.history) y.machine e → Halting e
     refused_halts e r = step_halts r.told r.step
         (subst (λ m. nth (whole_steps (setting_of ctx image) (machine_ids m) (first + length x.history) r.told m) k ≡ Some r.step) o.same.machine_is r.place)
         (asking x.machine.phase k r.told (subst (λ (m : Machine). AsksAt m.phase k r.told) o.same.machine_is r.asks)) e
         (subst (λ (m : Machine). TellsRefused m.phase k t y.to_come to_come_now e r.told) o.same.machine_is r.tells) r.cause
 
-  stops_halt : (schedule : List ℕ) (place : ℕ) (e : WriteError) → Stops ctx t schedule place y to_come_now e → Halts e
-  stops_halt schedule place e (inl (is, same)) = so_far e same (subst (HasCause t (is_built way ≡ false) (plan_of g x.taken x.heard) x.taken next (length x.history)) (sym is) tt)
-  stops_halt schedule place e (inr (some, fails)) = refused_halts _ e (fails image (first + length x.history))
+  stops_halt : (e : WriteError) → Stops ctx t schedule (length steps) y to_come_now e → Halting e
+  stops_halt e (inl (is, same)) = subst Halting (sym is) (so_far OutOfMemory refl (λ i. i) (inl refl) same (λ q. tt))
+  stops_halt e (inr (some, fails)) = refused_halts some _ refl e (fails image (first + length x.history))
 
-pub stopped_stands : RunIsUnderway → HistoryIsFront → StepsHaveCause → AppendIsOneMore → StoppedStands
-stopped_stands run front causes append ctx image w t schedule to_come to_come_now first before trace outlet e law built clean r =
+pub stopped_halts : RunIsUnderway → RunByIsUnderway → HistoryIsFront → StepsHaveCause → AppendIsOneMore → NotesAreFirst → RefusalIsLast → MisfitIsLast → ReadyIsWithinAll → NextIsWithinWork → ReadyIsMore → StoppedHalts
+stopped_halts run by front causes append firsts refused misfit within next_within more ctx image w t schedule to_come to_come_now borrow first before steps outlet e law built clean r =
     own_more outlet (λ next now. (next ≡ first + length o.stand.history) × (now ≡ then_told before (stored o.stand.history)))
-    (λ next now. Halted (setting_of ctx image) w t (is_marked ctx) first next to_come to_come_now before now e)
+    (λ next now. Halts (write_by ctx image w t) first next to_come to_come_now before now schedule steps e)
     (kept_own r.end.outlet outlet (λ next now. (next ≡ first + length o.stand.history) × (now ≡ then_told before (stored o.stand.history))) r.kept o.same.sink)
-    (λ next now s. stops_halt ctx image w t to_come first before law built clean run front causes append r.end o to_come_now next now s schedule (length trace) e r.stops)
+    (λ next now s. stops_halt ctx image w t to_come borrow first before law built clean schedule steps r.end o run by front causes append firsts refused misfit within next_within more to_come_now next now s e r.stops)
   where
-    o : Onward (write_by ctx image w t) to_come first before (outset (write_by ctx image w t)) r.end
-    o = runs_are_led ctx image w t schedule to_come first before trace r.end r.ran
+    o : Onward (write_by ctx image w t) to_come borrow first before schedule 0 (outset (write_by ctx image w t)) steps r.end
+    o = runs_are_led ctx image w t schedule to_come borrow first before steps r.end r.ran

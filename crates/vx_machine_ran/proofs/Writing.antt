@@ -21,24 +21,31 @@ use Rattle.vx_plan.specs.Valid.{Fit, AllOf, Keeps}
 use Rattle.vx_order.specs.Outlet.{Outlet, own, shared}
 use Rattle.vx_sink.specs.declared.context.LayoutWriterContext.{LayoutWriterContext}
 use Rattle.vx_sink.specs.ContextView.{is_marked}
+use Rattle.vx_write_answer.specs.declared.step.Step.{Step}
 use Rattle.vx_machine_promises.specs.Write.{Write}
 use Rattle.vx_machine_view.specs.Acts.{layouts_in}
 use Rattle.vx_machine_view.specs.Built.{is_built}
 use Rattle.vx_machine_view.specs.Start.{first_indices}
 use Rattle.vx_machine_view.specs.Machine.{Machine, is_finished}
 use Rattle.vx_machine_view.specs.Whole.{form_of}
-use Rattle.vx_machine_runs.specs.Runs.{outset, scheduled, UnderwayAt, RunIsUnderway}
+use Rattle.vx_machine_runs.specs.Runs.{outset, scheduled, UnderwayAt, RunByIsUnderway, RunIsUnderway}
 use Rattle.vx_machine_runs.specs.Ends.{plan_of, Whole, EndsWhole}
 use Rattle.vx_machine_runs.specs.Numbers.{AllBelow, NumbersFit}
+use Rattle.vx_machine_runs.specs.Picks.{ReadyIsWithinSteps}
+use Rattle.vx_machine_runs.specs.Traces.{NotesAreWhole}
 use Rattle.vx_machine_runs.proofs.Asking.{taken_are_whole}
 use Rattle.vx_machine_runs.proofs.Reserving.{nothing_reserved}
 use Rattle.vx_machine_runs.proofs.Sounding.{idle_is_finished}
 use Rattle.vx_machine_runs.proofs.Stepping.{places, schedule_is_free}
+use Rattle.vx_machine.specs.Calls.{appends_in}
 use Rattle.vx_machine.specs.Context.{setting_of}
 use Rattle.vx_machine.specs.Run.{At, Ends, ready_at}
 use Rattle.vx_machine_ran.specs.Ran.{write_by, OwnSink, Onward}
-use Rattle.vx_machine_ran.specs.Written.{Planned, Wrote, DoneIsWritten}
+use Rattle.vx_machine_ran.specs.Runs.{AllDone, DoneIsWritten, RunsLeaveSinks}
+use Rattle.vx_machine_ran.specs.Traced.{IsTraced, Traced}
+use Rattle.vx_machine_ran.specs.Written.{Planned, Wrote}
 use Rattle.vx_machine_ran.proofs.Leading.{runs_are_led}
+use Rattle.vx_machine_ran.proofs.Tracing.{appends_are, traced_whole}
 
 -- ---- lists and sinks
 
@@ -62,12 +69,12 @@ at_most : (first n : ℕ) → (n ≡ 0) ⊎ (first + n ≤ 2 ^ 32) → first + n
 at_most first n (inl e) = omega (arith, e)
 at_most first n (inr l) = omega (arith, l)
 
-module _ (ctx : LayoutWriterContext) (image : ℕ → ChunkData → ChunkData) (w : StrategyData) (t : Ty) (to_come : Option (List ChunkData)) (first : ℕ) (before : Option (List (List ℕ))) where
+module _ (ctx : LayoutWriterContext) (image : ℕ → ChunkData → ChunkData) (w : StrategyData) (t : Ty) (to_come : Option (List ChunkData)) (borrow first : ℕ) (before : Option (List (List ℕ))) where
   abbrev g : Write
   g = write_by ctx image w t
 
   module _ (law : Lawful (setting_of ctx image).codec (setting_of ctx image).encodings) (built : IsTrue (is_built w)) (clean : start_fault (setting_of ctx image) w t (is_marked ctx) ≡ None)
-      (y : At) (o : Onward g to_come first before (outset g) y) where
+      (schedule : List ℕ) (steps : List Step) (y : At) (o : Onward g to_come borrow first before schedule 0 (outset g) steps y) where
     -- the write is under way there, by the places that were picked
     pub under : RunIsUnderway → UnderwayAt (scheduled g (places o.notes)) first o.notes o.stand
     under run = run (scheduled g (places o.notes)) first o.notes o.stand law built clean refl (schedule_is_free g first (places o.notes) (outset g) o.stand o.notes o.led)
@@ -113,23 +120,19 @@ module _ (ctx : LayoutWriterContext) (image : ℕ → ChunkData → ChunkData) (
           };
         }
 
-pub done_is_written : RunIsUnderway → EndsWhole → NumbersFit → RowsComeBack → DoneIsWritten
-done_is_written run ends fit back ctx image w t schedule to_come to_come_now first before trace outlet l keeps built clean starts r = ended (end_is ctx image w t to_come first before keeps.codec built clean r.end o run ends l r.left)
+pub done_is_written : RunIsUnderway → RunByIsUnderway → EndsWhole → NotesAreWhole → ReadyIsWithinSteps → NumbersFit → RowsComeBack → DoneIsWritten
+done_is_written run by ends traces within fit back ctx image w t schedule to_come to_come_now borrow first before steps outlet l keeps built clean starts short r =
+    ended (end_is ctx image w t to_come borrow first before keeps.codec built clean schedule steps r.end o run ends l r.left)
   where
-    o : Onward (write_by ctx image w t) to_come first before (outset (write_by ctx image w t)) r.end
-    o = runs_are_led ctx image w t schedule to_come first before trace r.end r.ran
+    g : Write
+    g = write_by ctx image w t
 
-    ended : (layout : Layout) × (l ≡ Some layout) × End ctx image w t to_come first before keeps.codec built clean r.end o layout
-        → (layout : Layout) × (l ≡ Some layout) × NoneTold to_come_now
-        × OwnSink outlet (λ next now. Planned (setting_of ctx image) w t (is_marked ctx) to_come (Wrote t first next before now (layout_data layout)))
-    ended (layout, is, e) = (
-      layout,
-      is,
-      none,
-      subst (λ z. OwnSink z (λ next now. Planned (setting_of ctx image) w t (is_marked ctx) to_come (Wrote t first next before now (layout_data layout)))) (sym r.sink)
-          (own_more r.end.outlet (λ next now. (next ≡ first + length o.stand.history) × (now ≡ then_told before (stored o.stand.history)))
-          (λ next now. Planned (setting_of ctx image) w t (is_marked ctx) to_come (Wrote t first next before now (layout_data layout))) o.same.sink all),
-    )
+    o : Onward g to_come borrow first before schedule 0 (outset g) steps r.end
+    o = runs_are_led ctx image w t schedule to_come borrow first before steps r.end r.ran
+
+    ended : (layout : Layout) × (l ≡ Some layout) × End ctx image w t to_come borrow first before keeps.codec built clean schedule steps r.end o layout
+        → (layout : Layout) × (l ≡ Some layout) × NoneTold to_come_now × AllDone g to_come schedule first before steps outlet layout
+    ended (layout, is, e) = (layout, is, none, (written, traced))
       where
         nothing : NoneTold r.end.to_come
         nothing = o.same.ended e.0.heard
@@ -137,8 +140,39 @@ done_is_written run ends fit back ctx image w t schedule to_come to_come_now fir
         none : NoneTold to_come_now
         none = subst (λ z. NoneTold z) (sym r.told) nothing
 
+        taken_is : (xs : List ChunkData) → to_come ≡ Some xs → o.stand.taken ≡ xs
+        taken_is xs told = all_taken o.stand.taken xs r.end.to_come (sym told ∙ o.same.came) nothing
+
         all : (next : ℕ) (now : Option (List (List ℕ))) → (next ≡ first + length o.stand.history) × (now ≡ then_told before (stored o.stand.history))
             → Planned (setting_of ctx image) w t (is_marked ctx) to_come (Wrote t first next before now (layout_data layout))
         all next now s xs told =
-            subst (λ z. Wrote t first next before now (layout_data layout) z (source_plan (setting_of ctx image) w t (is_marked ctx) z true)) (all_taken o.stand.taken xs r.end.to_come (sym told ∙ o.same.came) nothing)
-            (wrote_taken ctx image w t to_come first before keeps.codec built clean r.end o fit back keeps starts layout e next now s)
+            subst (λ z. Wrote t first next before now (layout_data layout) z (source_plan (setting_of ctx image) w t (is_marked ctx) z true)) (taken_is xs told)
+            (wrote_taken ctx image w t to_come borrow first before keeps.codec built clean schedule steps r.end o fit back keeps starts layout e next now s)
+
+        written : OwnSink outlet (λ next now. Planned (setting_of ctx image) w t (is_marked ctx) to_come (Wrote t first next before now (layout_data layout)))
+        written =
+            subst (λ z. OwnSink z (λ next now. Planned (setting_of ctx image) w t (is_marked ctx) to_come (Wrote t first next before now (layout_data layout)))) (sym r.sink)
+            (own_more r.end.outlet (λ next now. (next ≡ first + length o.stand.history) × (now ≡ then_told before (stored o.stand.history)))
+            (λ next now. Planned (setting_of ctx image) w t (is_marked ctx) to_come (Wrote t first next before now (layout_data layout))) o.same.sink all)
+
+        traced : Traced (setting_of ctx image) w t (is_marked ctx) to_come schedule steps
+        traced xs told = subst (λ z. IsTraced (setting_of ctx image) w t (is_marked ctx) schedule z steps) (taken_is xs told)
+            (traced_whole ctx image w t to_come borrow first before keeps.codec built clean schedule steps r.end o by traces within short e.1 e.0.heard)
+
+-- ---- what is left of the sink
+
+pub runs_leave_sinks : RunIsUnderway → RunsLeaveSinks
+runs_leave_sinks run ctx image w t schedule to_come borrow first before steps y law built clean r = (
+  own_more y.outlet (λ next now. (next ≡ first + length o.stand.history) × (now ≡ then_told before (stored o.stand.history))) (λ next now. (next ≤ max first (2 ^ 32)) × (next ≡ first + appends_in steps))
+      o.same.sink (λ next now s. (
+        subst (λ z. z ≤ max first (2 ^ 32)) (sym s.0) (at_most first (length o.stand.history) o.same.numbered),
+        s.0 ∙ ap (λ z. first + z) (appends_are ctx image w t to_come borrow first before law built clean schedule steps y o u),
+      )),
+  o.same.borrowed,
+)
+  where
+    o : Onward (write_by ctx image w t) to_come borrow first before schedule 0 (outset (write_by ctx image w t)) steps y
+    o = runs_are_led ctx image w t schedule to_come borrow first before steps y r
+
+    u : UnderwayAt (scheduled (write_by ctx image w t) (places o.notes)) first o.notes o.stand
+    u = under ctx image w t to_come borrow first before law built clean schedule steps y o run

@@ -1,3 +1,5 @@
 pub mod Ran
+pub mod Traced
 pub mod Written
+pub mod Runs
 pub mod Answered

@@ -1,33 +1,22 @@
 -- What a write by the machine answers, against the plan.
-use Rattle.std.specs.Prelude.{◌≡◌, ℕ, ◌+◌, ◌^◌, ◌<◌, ◌≤◌, ◌⊎◌, max, Bool, true, false, List, [], ◌∷◌, ◌++◌, length, Option, Some, None, IsTrue}
+use Rattle.std.specs.Prelude.{◌≡◌, ℕ, ◌+◌, ◌^◌, ◌<◌, ◌≤◌, ◌⊎◌, max, Bool, true, false, List, [], ◌∷◌, ◌++◌, length, Option, Some}
 use Rattle.vx_model.specs.Ty.{Ty}
 use Rattle.vx_model.specs.ChunkData.{ChunkData, piece_type}
 use Rattle.vx_fault.specs.Told.{before_told, then_told, NoneTold}
-use Rattle.vx_path.specs.Path.{root_eof}
-use Rattle.vx_layout_spec.specs.Codec.{Lawful}
 use Rattle.vx_layout_spec.specs.LayoutTree.{LayoutData}
 use Rattle.vx_layout_spec.specs.Rows.{rows}
-use Rattle.vx_layout_tree.specs.declared.layout.Layout.{Layout}
-use Rattle.vx_layout_tree.specs.LayoutView.{layout_data}
 use Rattle.vx_segment_reader.specs.Codec.{segment_codec}
 use Rattle.vx_strategy_spec.specs.StrategyData.{StrategyData}
 use Rattle.vx_plan.specs.PlanData.{Setting, Plan, not_struct, duplicate_field, many_chunks, forbidden_encoding}
 use Rattle.vx_plan.specs.Number.{segments, numbered, segment_at}
-use Rattle.vx_plan.specs.SourcePlan.{start_fault, source_plan, taken_plan, source_values}
-use Rattle.vx_plan.specs.Valid.{Fit, IsPast, AllOf, Has, Keeps}
-use Rattle.vx_order.specs.Outlet.{Outlet}
-use Rattle.vx_sink.specs.declared.context.LayoutWriterContext.{LayoutWriterContext}
-use Rattle.vx_sink.specs.ContextView.{is_marked}
+use Rattle.vx_plan.specs.SourcePlan.{of_schema, source_plan, taken_plan, source_values}
+use Rattle.vx_plan.specs.Valid.{Fit, IsPast, OfSchema, AllOf, Has}
 use Rattle.vx_write_answer.specs.declared.step.Step.{Step}
 use Rattle.vx_write_answer.specs.declared.error.WriteError.{WriteError}
 use Rattle.vx_write_answer.specs.declared.error.WriteError.TheVariants.{SourceFault, SinkFault, CompressFault, BatchType, NotStruct, DuplicateField, ManyChunks, EmptyList, ZoneCut, ForbiddenAggregate, ForbiddenEncoding, TooLarge, OutOfMemory, Unbuilt, Stopped}
 use Rattle.vx_machine_view.specs.Built.{is_built}
-use Rattle.vx_machine_view.specs.Start.{first_indices}
-use Rattle.vx_machine_view.specs.Whole.{form_of}
-use Rattle.vx_machine_runs.specs.Numbers.{AllBelow}
-use Rattle.vx_machine.specs.Context.{setting_of}
-use Rattle.vx_machine.specs.Run.{RunDone, RunStopped}
-use Rattle.vx_machine_ran.specs.Ran.{write_by, OwnSink, at_start}
+use Rattle.vx_machine.specs.Calls.{reads_in, appends_in, misfits}
+use Rattle.vx_machine_ran.specs.Traced.{tasks_of, TracedUntil, answers_in, IsLate}
 
 -- ---- a write that came to its end
 
@@ -64,6 +53,15 @@ pub record Stands (plan_of : List ChunkData → Plan) (first next : ℕ) (to_com
   pub stands : now ≡ then_told before appended
   pub numbers : next ≡ first + length appended
 
+-- these are the first segments of a plan
+abbrev pub AreFirst : List (List ℕ) → Plan → Type 0
+AreFirst stood p = (more : List (List ℕ)) × (segments p ≡ stood ++ more)
+
+-- Where the source told its batches: of the plan of them all, or where one is of another type, of those before the first such.
+abbrev pub AreFirstOfAll : Setting → StrategyData → Ty → Bool → Option (List ChunkData) → List (List ℕ) → Type 0
+AreFirstOfAll s w t m told stood =
+    Planned s w t m told (λ xs p. (OfSchema t xs → AreFirst stood p) × (¬ OfSchema t xs → AreFirst stood (taken_plan s w t m xs false)))
+
 -- the last batch taken
 abbrev pub TookLast : List ChunkData → ChunkData → Type 0
 TookLast taken b = (front : List ChunkData) × (taken ≡ front ++ b ∷ [])
@@ -73,7 +71,7 @@ abbrev pub NeedsNumber : Plan → ℕ → ℕ → ℕ → Type 0
 NeedsNumber p next stand n = (n ≡ next) × (2 ^ 32 ≤ n) × (stand < length p.pairs)
 
 -- The cause of an error, by the plan of the batches taken: a table, one line an error. Faults are told by counts, and memory may run
--- out; `unbuilt` says that a form isn't built. An order that stops for another's refusal says so by its own answer.
+-- out; `unbuilt` says that a form isn't built.
 abbrev pub HasCause : Ty → Type 0 → Plan → List ChunkData → ℕ → ℕ → WriteError → Type 0
 HasCause t unbuilt p taken next stand (BatchType c) = (¬ (piece_type c ≡ t)) × TookLast taken c
 HasCause t unbuilt p taken next stand NotStruct = Has not_struct p.faults
@@ -84,35 +82,25 @@ HasCause t unbuilt p taken next stand (TooLarge n) = NeedsNumber p next stand n 
 HasCause t unbuilt p taken next stand SourceFault = Unit {0}
 HasCause t unbuilt p taken next stand SinkFault = Unit {0}
 HasCause t unbuilt p taken next stand OutOfMemory = Unit {0}
-HasCause t unbuilt p taken next stand (Stopped by name) = Unit {0}
 HasCause t unbuilt p taken next stand Unbuilt = unbuilt
 HasCause t unbuilt p taken next stand CompressFault = ⊥
 HasCause t unbuilt p taken next stand EmptyList = ⊥
 HasCause t unbuilt p taken next stand (ZoneCut n) = ⊥
 HasCause t unbuilt p taken next stand (ForbiddenAggregate id) = ⊥
+HasCause t unbuilt p taken next stand (Stopped by name) = ⊥
 
--- What stands, and why no more was written. The plan is that of the batches taken without one of another type; it has the ends of all
--- streams where the source's end was told.
-pub record Halted (s : Setting) (w : StrategyData) (t : Ty) (m : Bool) (first next : ℕ) (to_come_before to_come_now : Option (List ChunkData)) (before now : Option (List (List ℕ))) (e : WriteError) : Type 0 where
+-- the source's answers were asked in steps; a batch of another type in none, nor one behind which the act was refused
+abbrev pub IsAsked : List ChunkData → Bool → List Step → WriteError → Type 0
+IsAsked taken heard steps e = (answers_in taken heard ≡ reads_in steps + misfits e) ⊎ (IsLate e × (answers_in taken heard ≡ reads_in steps + 1))
+
+-- What stands, and why no more was written. Plan and tasks are those of the batches taken without one of another type; they have the
+-- ends of all streams where the source's end was told.
+pub record Halted (s : Setting) (w : StrategyData) (t : Ty) (m : Bool) (first next : ℕ) (to_come_before to_come_now : Option (List ChunkData)) (before now : Option (List (List ℕ))) (schedule : List ℕ) (steps : List Step) (e : WriteError) : Type 0 where
   pub heard : Bool
   pub stand : Stands (λ taken. taken_plan s w t m taken heard) first next to_come_before to_come_now before now
+  pub front : AreFirstOfAll s w t m to_come_before stand.appended
+  pub ended : heard ≡ true → NoneTold to_come_now
   pub cause : HasCause t (is_built w ≡ false) (taken_plan s w t m stand.taken heard) stand.taken next (length stand.appended) e
-
--- ---- laws, of a built strategy whose start refuses nothing, over a sink that nobody else uses
-
--- a run that is done gives a layout, the source has ended, and all was written by the plan
-abbrev pub DoneIsWritten : Type 0
-DoneIsWritten = (ctx : LayoutWriterContext) (image : ℕ → ChunkData → ChunkData) (w : StrategyData) (t : Ty) (schedule : List ℕ) (to_come to_come_now : Option (List ChunkData)) (first : ℕ)
-    (before : Option (List (List ℕ))) (trace : List Step) (outlet : Outlet) (l : Option Layout) → Keeps (setting_of ctx image) → IsTrue (is_built w)
-    → start_fault (setting_of ctx image) w t (is_marked ctx) ≡ None → AllBelow (2 ^ 64) (first_indices (form_of (write_by ctx image w t)) root_eof)
-    → RunDone ctx t schedule (at_start (write_by ctx image w t) to_come first before) trace to_come_now outlet l
-    → (layout : Layout) × (l ≡ Some layout) × NoneTold to_come_now
-    × OwnSink outlet (λ next now. Planned (setting_of ctx image) w t (is_marked ctx) to_come (Wrote t first next before now (layout_data layout)))
-
--- one that stopped has a cause
-abbrev pub StoppedStands : Type 0
-StoppedStands = (ctx : LayoutWriterContext) (image : ℕ → ChunkData → ChunkData) (w : StrategyData) (t : Ty) (schedule : List ℕ) (to_come to_come_now : Option (List ChunkData)) (first : ℕ)
-    (before : Option (List (List ℕ))) (trace : List Step) (outlet : Outlet) (e : WriteError) → Lawful (setting_of ctx image).codec (setting_of ctx image).encodings → IsTrue (is_built w)
-    → start_fault (setting_of ctx image) w t (is_marked ctx) ≡ None
-    → RunStopped ctx t schedule (at_start (write_by ctx image w t) to_come first before) trace to_come_now outlet e
-    → OwnSink outlet (λ next now. Halted (setting_of ctx image) w t (is_marked ctx) first next to_come to_come_now before now e)
+  pub traced : TracedUntil (tasks_of s w t m (of_schema t stand.taken) heard) schedule steps e
+  pub asked : IsAsked stand.taken heard steps e
+  pub appended : next ≡ first + appends_in steps

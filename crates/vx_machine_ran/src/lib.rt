@@ -3,8 +3,8 @@
 #![tactic(auto)]
 
 ghost use Rattle.vx_machine_ran.specs.Ran.{RunsAreLed};
-ghost use Rattle.vx_machine_ran.specs.Written.{DoneIsWritten, StoppedStands};
-ghost use Rattle.vx_machine_ran.specs.Answered.{AnswersAreWritten};
+ghost use Rattle.vx_machine_ran.specs.Runs.{DoneIsWritten, StoppedHalts, RunsLeaveSinks};
+ghost use Rattle.vx_machine_ran.specs.Answered.{AnswersAreWritten, AnswersLeaveSinks, AnswersAreComplete, MisfitsAreRead};
 
 /// The steps of a run lead on in plain data, and each counts what fits 64 bits.
 pub fn leads()
@@ -14,21 +14,29 @@ pub fn leads()
 /// A run that is done has written the plan of all batches, and one that stopped a front of the plan of those taken.
 pub fn writes()
     ensures done { DoneIsWritten }
-    ensures stopped { StoppedStands }
+    ensures stopped { StoppedHalts }
+    ensures left { RunsLeaveSinks }
 {
     vx_plan::rows_come_back();
     vx_machine_runs::runs();
     vx_machine_runs::ends();
     vx_machine_runs::stands();
+    vx_machine_runs::traces();
+    vx_machine_runs::picks();
     vx_machine_runs::counts();
 }
 
-/// From before the start on: a write that was answered has written the plan, or a front of it.
+/// From before the start on: a write that was answered has written the plan, or a front of it. Of valid input it is refused
+/// only for want of memory, or since the source or the sink failed.
 pub fn answers()
-    ensures { AnswersAreWritten }
+    ensures written { AnswersAreWritten }
+    ensures sink { AnswersLeaveSinks }
+    ensures complete { AnswersAreComplete }
+    ensures misfit { MisfitsAreRead }
 {
     writes();
     vx_plan::start_faults_stand();
     vx_machine_turns::start_faults_agree();
+    vx_machine_runs::runs();
     vx_machine_runs::stands();
 }

@@ -1,4 +1,4 @@
--- What the source told in a run, and what is planned of that.
+-- What the source told in a run.
 use Rattle.std.proofs.Common.{◌≡◌, ◌+◌, ◌&&◌, ◌==◌, ◌⊎◌, ◌∷◌, ◌++◌, ◌∙◌, ℕ, zero, suc, Bool, true, false, if◌then◌else◌, cond, List, map, length, refl, sym, ap, subst, inl, inr, arith, Some, length-append, []}
 use Rattle.std.proofs.lemmas.Bool.{true≢false}
 use Rattle.vx_model.specs.Words.{total_by}
@@ -6,11 +6,12 @@ use Rattle.vx_model.specs.Ty.{Ty, ty_eq}
 use Rattle.vx_model.specs.TyLaws.{ty_eq_decides}
 use Rattle.vx_model.specs.ChunkData.{ChunkData, piece_type}
 use Rattle.vx_path.specs.Lists.{In}
+use Rattle.vx_path.specs.Path.{Eof}
 use Rattle.vx_path.proofs.Lists.{in_cases, from_map}
 use Rattle.vx_tasks.specs.Task.{Kind}
 use Rattle.vx_tasks.specs.Run.{Note, nth}
 use Rattle.vx_plan.specs.PlanData.{Setting, Item}
-use Rattle.vx_plan.specs.SourcePlan.{source_plan, of_schema}
+use Rattle.vx_plan.specs.SourcePlan.{of_schema}
 use Rattle.vx_layout_spec.specs.Real.{Of}
 use Rattle.vx_plan.specs.Valid.{OfSchema, AllOf}
 use Rattle.vx_machine_promises.specs.Write.{Write, Answer, unasked, came, over, taken_by, heard_by}
@@ -20,7 +21,7 @@ use Rattle.vx_machine_view.specs.Moves.{has_room, Step, may_act, own_step, in_ki
 use Rattle.vx_machine_view.specs.Machine.{Phase, reading, giving, closing, finished, may_source, WholeStep, source_step, in_root, machine_ids}
 use Rattle.vx_machine_view.proofs.Words.{typed_is}
 use Rattle.vx_machine_runs.specs.Runs.{Stand, outset, Asking, TypedAnswer, BeforeEnd, Chosen, Done, Led}
-use Rattle.vx_machine_runs.specs.Answers.{AskedBeforeEnd, batch_read, end_read, AnswersAreNoted, TakenArePlanned, WholeAnswer, ToldWhole, TakenAreWhole}
+use Rattle.vx_machine_runs.specs.Answers.{AskedBeforeEnd, batch_read, end_read, AnswersAreNoted, TakenAreTyped, WholeAnswer, ToldWhole, TakenAreWhole}
 use Rattle.vx_machine_runs.proofs.Counting.{nth_in}
 use Rattle.vx_machine_runs.proofs.Misfits.{at_place}
 use Rattle.vx_machine_runs.proofs.Stepping.{some_same}
@@ -222,18 +223,29 @@ asked_before_end g first ns x told k l a = by told x.machine.phase k refl a (fro
     no_batch : (b : ChunkData) → came b ≡ unasked → ⊥
     no_batch b e = cc
 
+    no_end : over ≡ unasked → ⊥
+    no_end e = cc
+
+    -- where it reads
+    open_still : (here : Eof) → x.machine.phase ≡ reading here → Past x → x.heard ≡ false
+    open_still here e h = of x.heard refl
+      where
+        of : (b : Bool) → x.heard ≡ b → x.heard ≡ false
+        of false q = q
+        of true q = absurd (true≢false (sym (h q) ∙ ap is_past e))
+
     by : (told : Answer) (p : Phase) (k : ℕ) → x.machine.phase ≡ p → Asking p k told → Past x → BeforeEnd x.heard told
     by unasked p k e a h = tt
-    by over p k e a h = tt
-    by (came b) (reading here) zero e a h = open_still x.heard refl
-      where
-        open_still : (b : Bool) → x.heard ≡ b → x.heard ≡ false
-        open_still false q = q
-        open_still true q = absurd (true≢false (sym (h q) ∙ ap is_past e))
+    by (came b) (reading here) zero e a h = open_still here e h
     by (came b) (reading here) (suc k) e a h = absurd (no_batch b a)
     by (came b) (giving here i) k e a h = absurd (no_batch b a)
     by (came b) closing k e a h = absurd (no_batch b a)
     by (came b) finished k e a h = absurd (no_batch b a)
+    by over (reading here) zero e a h = open_still here e h
+    by over (reading here) (suc k) e a h = absurd (no_end a)
+    by over (giving here i) k e a h = absurd (no_end a)
+    by over closing k e a h = absurd (no_end a)
+    by over finished k e a h = absurd (no_end a)
 
 -- ---- the batches taken
 
@@ -265,14 +277,10 @@ none_behind t [] b h differs = by (ty_eq (piece_type b) t) refl
     by false e = rw e refl
 none_behind t (c ∷ bs) b (e, h) differs = let k : ty_eq (piece_type c) t ≡ true = (ty_eq_decides (piece_type c) t).1 e in rw k (ap (λ z. c ∷ z) (none_behind t bs b h differs))
 
-pub taken_are_planned : TakenArePlanned
-taken_are_planned g first ns x l =
+pub taken_are_typed : TakenAreTyped
+taken_are_typed g first ns x l =
     let h : OfSchema g.type x.taken = led_of_schema g first ns (outset g) x l tt in
-    record {
-      of_schema = h;
-      plan_is = λ heard. ap (λ z. source_plan g.setting g.way g.type g.mark z heard) (all_of_schema g.type x.taken h);
-      without = λ heard b differs. ap (λ z. source_plan g.setting g.way g.type g.mark z heard) (none_behind g.type x.taken b h differs);
-    }
+    record { typed = h; all = all_of_schema g.type x.taken h; without = λ b differs. none_behind g.type x.taken b h differs }
 
 more_whole : (t : Ty) (bs : List ChunkData) (b : ChunkData) → AllOf t bs → Of t b → AllOf t (bs ++ (b ∷ []))
 more_whole t [] b h o = (o, tt)

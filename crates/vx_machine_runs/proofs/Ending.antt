@@ -72,8 +72,6 @@ module _ (refusals : RefusalsHaveCause) (counts : MovesAreCounted) (g : Write) (
       }
 
 pub steps_have_cause : RefusalsHaveCause → MovesAreCounted → StepsHaveCause
-steps_have_cause refusals counts g first seen x told k w law u c =
-    let f : Future = none_later (heard_by x.heard told) in
-    let o : Open (heard_by x.heard told) f = open_none (heard_by x.heard told) in
+steps_have_cause refusals counts g first seen x told f k w law u o c =
     let p = u (before told f) (open_before x.heard told f c.once o) in
-    subst (λ z. Caused z w) (none_planned g (taken_by x.taken told) (heard_by x.heard told)) (caused refusals counts g first seen x told k w law c f o p.0 p.1)
+    caused refusals counts g first seen x told k w law c f o p.0 p.1

@@ -96,7 +96,7 @@ x10 = on x9 unasked
 
 runs_to_the_end : Led write 0 x0 (note_of x0 (came one_two) ∷ note_of x1 unasked ∷ note_of x2 over ∷ note_of x3 unasked ∷ note_of x4 unasked ∷ note_of x5 unasked ∷ note_of x6 unasked ∷ note_of x7 unasked ∷ note_of x8 unasked ∷ note_of x9 unasked ∷ []) x10
 runs_to_the_end =
-    (x1, done x0 (came one_two) refl tt refl refl refl refl, (x2, done x1 unasked refl refl tt tt refl refl, (x3, done x2 over refl tt tt tt refl refl, (x4, done x3 unasked refl refl tt tt refl refl, (x5, done x4 unasked refl refl tt tt refl refl, (x6, done x5 unasked refl refl tt tt refl refl, (x7, done x6 unasked refl refl tt tt refl refl, (x8, done x7 unasked refl refl tt tt refl refl, (x9, done x8 unasked refl refl tt tt refl refl, (x10, done x9 unasked refl refl tt tt refl refl, refl))))))))))
+    (x1, done x0 (came one_two) refl tt refl refl refl refl, (x2, done x1 unasked refl refl tt tt refl refl, (x3, done x2 over refl tt tt refl refl refl, (x4, done x3 unasked refl refl tt tt refl refl, (x5, done x4 unasked refl refl tt tt refl refl, (x6, done x5 unasked refl refl tt tt refl refl, (x7, done x6 unasked refl refl tt tt refl refl, (x8, done x7 unasked refl refl tt tt refl refl, (x9, done x8 unasked refl refl tt tt refl refl, (x10, done x9 unasked refl refl tt tt refl refl, refl))))))))))
 
 and_has_finished : is_finished x10.machine ≡ true
 and_has_finished = refl

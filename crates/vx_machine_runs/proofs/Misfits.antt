@@ -8,6 +8,7 @@ use Rattle.vx_path.specs.Path.{Eof}
 use Rattle.vx_path.proofs.Lists.{in_cases, from_map}
 use Rattle.vx_tasks.specs.Run.{nth}
 use Rattle.vx_plan.specs.PlanData.{Setting, Item, rows_in}
+use Rattle.vx_plan.specs.FlatNode.{inlined}
 use Rattle.vx_plan.specs.Number.{number_of}
 use Rattle.vx_machine_turns.specs.Acts.{Seed, Act}
 use Rattle.vx_machine_turns.specs.Locals.{Local}
@@ -71,9 +72,9 @@ module _ (s : Setting) (number : List ℕ → ℕ) (next : ℕ) (all : List (Lis
 
   own_fits : (d : Fuel) (c : Desk) (ks : Tasks) (q : Seed) (past todo : List Act) (l : Local) (off : Bool) (hs : Tree) → AllTyped q.type c.inbox → Stage s d c.mind c.todo ks q past todo l off hs
       → (do_act s next c ks c.todo).misfit ≡ false
-  own_fits d c ks q past todo l off hs ty (waits_first o t i k w) = idle_fits c ks w.idle (takes_first c ks c.inbox (no_chunk o t) (λ i xs. refl) w.mind_is)
-  own_fits d c ks q past todo l off hs ty (waits_end o t x b i k w) =
-      idle_fits c ks w.idle (takes_first c ks c.inbox (one_chunk (record { id = x.0; bytes = b; rows = rows_in x.1; type = t })) (λ i xs. refl) w.mind_is)
+  own_fits d c ks q past todo l off hs ty (waits_first o t k w) = idle_fits c ks w.idle (takes_first c ks c.inbox (no_chunk o t) (λ i xs. refl) w.mind_is)
+  own_fits d c ks q past todo l off hs ty (waits_end o t x b k w) =
+      idle_fits c ks w.idle (takes_first c ks c.inbox (one_chunk (record { id = x.0; bytes = b; tree = inlined s o x; rows = rows_in x.1; type = t })) (λ i xs. refl) w.mind_is)
   own_fits d c ks q past todo l off hs ty (appends x k w) = ap (λ z. (do_act s next c ks z).misfit) w.left_is
   own_fits d c ks q past todo l off hs ty (splits n e nm t sp b en u w) = idle_fits c ks w.idle (takes_first c ks c.inbox c.mind (λ i xs. ap (λ z. (take_chunk s c ks i xs z).misfit) w.mind_is) refl)
   own_fits d c ks q past todo l off hs ty (gathers_all t u w) = ap (λ z. (do_act s next c ks z).misfit) w.left_is

@@ -10,11 +10,11 @@ use Rattle.vx_machine_runs.specs.Picks.{PickedUpTo, PicksAreExact, ReadyIsWithin
 use Rattle.vx_machine_runs.proofs.Stepping.{places, schedule_is_free, run_under}
 use Rattle.vx_machine_runs.proofs.Tracing.{notes_are_within_work, notes_are_whole}
 
-least : (n most : ℕ) → n ≤ most → min n most ≡ n
+pub least : (n most : ℕ) → n ≤ most → min n most ≡ n
 least n most l = grind (arith, l)
 
 -- the next pick behind so many steps is that of its place
-pick_here : (k : ℕ) (picks : List ℕ) → first_pick (picks_after k picks) ≡ slice_index picks k
+pub pick_here : (k : ℕ) (picks : List ℕ) → first_pick (picks_after k picks) ≡ slice_index picks k
 pick_here zero [] = refl
 pick_here zero (p ∷ ps) = refl
 pick_here (suc k) [] = pick_here k []

@@ -9,18 +9,18 @@ use Rattle.vx_plan.specs.Valid.{Fit, Has, IsPast}
 use Rattle.vx_plan.proofs.SourceLaws.{start_stands}
 use Rattle.vx_machine_turns.specs.Acts.{refuses}
 use Rattle.vx_machine_turns.specs.Planned.{AtMost}
-use Rattle.vx_machine_promises.specs.Write.{Future, unasked, planned, taken_by, heard_by, before}
+use Rattle.vx_machine_promises.specs.Write.{unasked, planned, taken_by, before}
 use Rattle.vx_machine_promises.specs.Reached.{Reached, moves_at}
 use Rattle.vx_machine_promises.specs.Promises.{HistoryIsFirst, RefusalsHaveCause, MovesAreCounted, AppendsFit, StartIsCounted}
 use Rattle.vx_machine_view.specs.Machine.{WholeStep, is_finished, machine_ids}
 use Rattle.vx_machine_view.specs.Places.{whole_ready}
 use Rattle.vx_machine_view.specs.Underway.{Showing, ready_steps}
 use Rattle.vx_machine_view.proofs.Placing.{whole_is_ready}
-use Rattle.vx_machine_runs.specs.Ends.{plan_of, Caused}
+use Rattle.vx_machine_runs.specs.Ends.{Caused}
 use Rattle.vx_machine_runs.specs.Steps.{IdleIsFinished, HistoryIsFront, AppendIsOneMore, PastIsCaused, StartIsCaused, SoundStep, ValidIsSound, ValidStarts}
 use Rattle.vx_machine_runs.proofs.Counting.{nth_in}
 use Rattle.vx_machine_runs.proofs.Doing.{opened_first}
-use Rattle.vx_machine_runs.proofs.Ending.{none_later, open_none, none_planned, same_plan, stays_ready, caused}
+use Rattle.vx_machine_runs.proofs.Ending.{same_plan, stays_ready, caused}
 use Rattle.vx_machine_runs.proofs.Reaching.{move_of}
 use Rattle.vx_machine_runs.proofs.Stepping.{open_before, asks_so}
 
@@ -35,21 +35,19 @@ idle_is_finished g first seen x law u none = by (is_finished x.machine) refl
         absurd (omega (arith, a, b, none))
 
 pub history_is_front : HistoryIsFirst → HistoryIsFront
-history_is_front firsts g first seen x told once u =
-    let f : Future = none_later (heard_by x.heard told) in
-    let r = (u (before told f) (open_before x.heard told f once (open_none (heard_by x.heard told)))).0 in
+history_is_front firsts g first seen x told f once o u =
+    let r = (u (before told f) (open_before x.heard told f once o)).0 in
     let h = firsts g x.taken (before told f) seen x.history g.tracker r in
-    let p : planned g x.taken (before told f) ≡ plan_of g (taken_by x.taken told) (heard_by x.heard told) = same_plan g x.taken told f ∙ none_planned g (taken_by x.taken told) (heard_by x.heard told) in
-    (h.0, ap (λ (z : Plan). sorted z.pairs) (sym p) ∙ h.1)
+    (h.0, ap (λ (z : Plan). sorted z.pairs) (sym (same_plan g x.taken told f)) ∙ h.1)
 
 -- ---- valid input
 
-fits : (n : ℕ) (ns : List ℕ) → Fit ns → In n ns → n < 2 ^ 64
+pub fits : (n : ℕ) (ns : List ℕ) → Fit ns → In n ns → n < 2 ^ 64
 fits n [] h i = absurd i
 fits n (m ∷ ns) h (inl e) = omega (arith, h.0, e)
 fits n (m ∷ ns) h (inr i) = fits n ns h.1 i
 
-none_has : (w : What) (fs : List Fault) → fs ≡ [] → Has w fs → ⊥
+pub none_has : (w : What) (fs : List Fault) → fs ≡ [] → Has w fs → ⊥
 none_has w fs e h = no_one h.0 (subst (In h.0) e h.1)
   where
     no_one : (x : Fault) → In x [] → ⊥

@@ -8,7 +8,7 @@ use Rattle.vx_layout_spec.specs.Codec.{Lawful}
 use Rattle.vx_tasks.specs.Task.{Kind, Free, Take, TakeEnd, Put, Append, Join, appends_of}
 use Rattle.vx_tasks.specs.State.{left}
 use Rattle.vx_tasks.specs.State.Counts.{Zeros}
-use Rattle.vx_tasks.specs.Run.{Note, note, nth, ready, run, trace, work, first_pick, later_picks}
+use Rattle.vx_tasks.specs.Run.{Note, note, nth, ready, Leads, run, trace, work, first_pick, later_picks}
 use Rattle.vx_tasks.specs.Rules.{KeepsRules}
 use Rattle.vx_tasks.proofs.Picks.{nth_there}
 use Rattle.vx_cut_laws.specs.Cut.{cut}
@@ -19,9 +19,9 @@ use Rattle.vx_plan.proofs.ChunkedLaws.{paths-append}
 use Rattle.vx_machine_turns.specs.Acts.{refuses, written_by}
 use Rattle.vx_machine_turns.specs.Fuels.{Fuel}
 use Rattle.vx_machine_steps.specs.Tree.{Tree, forest, counts}
-use Rattle.vx_machine_steps.specs.Moves.{TreeMove, all_over}
+use Rattle.vx_machine_steps.specs.Moves.{TreeMove, view, all_over}
 use Rattle.vx_machine_steps.specs.Runs.{notes, picks_after, appended}
-use Rattle.vx_machine_steps.specs.StartPlanned.{started_forest}
+use Rattle.vx_machine_steps.specs.StartPlanned.{started_forest, IsPlanned}
 use Rattle.vx_machine_steps.proofs.Noted.{ready_is}
 use Rattle.vx_machine_promises.specs.Write.{Write, Future, Open, Answer, unasked, came, over, depth, begin, scripts, planned, taken_by, heard_by, before}
 use Rattle.vx_machine_promises.specs.Reached.{Reached, moves_at, pick_at}
@@ -32,9 +32,9 @@ use Rattle.vx_machine_view.specs.Underway.{Showing, ready_steps}
 use Rattle.vx_machine_view.proofs.Ending.{finish_shows}
 use Rattle.vx_machine_view.proofs.Underway.{write_ends}
 use Rattle.vx_machine_view.proofs.Words.{or_all}
-use Rattle.vx_machine_runs.specs.Runs.{Stand}
-use Rattle.vx_machine_runs.specs.Traces.{scripts_of, ReadyIsWithinWork, NotesAreWithinWork, NotesAreFirst, NotesAreFewer, WholeTrace, NotesAreWhole, RefusalIsLast, MisfitIsLast, appends_noted, AppendsAreNoted}
-use Rattle.vx_machine_runs.proofs.Counting.{nth_in, ready_is_within_left, noted_within}
+use Rattle.vx_machine_runs.specs.Runs.{Stand, UnderwayAt}
+use Rattle.vx_machine_runs.specs.Traces.{scripts_of, ReadyIsWithinWork, NextIsWithinWork, NotesAreWithinWork, NotesAreFirst, NotesAreFewer, ReadyIsMore, WholeTrace, NotesAreWhole, RefusalIsLast, MisfitIsLast, appends_noted, AppendsAreNoted}
+use Rattle.vx_machine_runs.proofs.Counting.{nth_in, ready_is_within_left, ready_within_cut, noted_within, run_is_front}
 use Rattle.vx_machine_runs.proofs.Ending.{none_later, open_none, ends_whole}
 use Rattle.vx_machine_runs.proofs.Misfits.{misfit_is_read}
 use Rattle.vx_machine_runs.proofs.Reaching.{at_start, leads, as_ready, move_of}
@@ -57,17 +57,35 @@ ready_is_within_work shared g first seen x a f law u o = on (u f o)
         let h : left (scripts g x.taken f) (counts r.tree) + length seen ≡ work (scripts g x.taken f) = shared g x.taken f seen x.history g.tracker r in
         omega (arith, b, c, d, e, h)
 
-pub notes_are_first : SeenIsFirst → NotesAreFirst
-notes_are_first firsts g first seen x f u o = on (u f o)
+pub next_is_within_work : NextIsWithinWork
+next_is_within_work g first seen x a f law u o = on (u f o)
+  where
+    on : At g first seen x f → length (ready_steps g first x.history a x.machine) ≤ work (cut (scripts g x.taken f))
+    on (r, shown) =
+        let l = leads g x.taken f seen x.history g.tracker r in
+        let s : IsPlanned g.setting g.way g.type g.mark (x.taken ++ f.later) f.fits = at_start g x.taken f seen x.history g.tracker r in
+        let b : length (ready_steps g first x.history a x.machine) ≡ length (moves_at g r.tree) = as_ready g x.taken f seen x.history g.tracker r first x.machine shown a law in
+        let c : ready (forest g.setting (depth g) r.tree) (counts r.tree) ≡ length (moves_at g r.tree) = ready_is g.setting (depth g) r.tree l.2 in
+        let e : ready (forest g.setting (depth g) r.tree) (counts r.tree) ≡ ready (scripts g x.taken f) (counts r.tree) = ap (λ z. ready z (counts r.tree)) l.1 in
+        let d : ready (scripts g x.taken f) (counts r.tree) ≤ work (cut (scripts g x.taken f)) = ready_within_cut (scripts g x.taken f) (counts r.tree) (map view r.moves) s.stands.rules
+        (subst (λ z. Leads (scripts g x.taken f) z (map view r.moves) (counts r.tree)) s.zeros l.0) in
+        omega (arith, b, c, d, e)
+
+run_is : SeenIsFirst → (g : Write) (first : ℕ) (seen : List Note) (x : Stand) (f : Future) → UnderwayAt g first seen x → Open x.heard f
+    → seen ≡ map note (run (cut (scripts g x.taken f)) Zeros g.schedule (length seen))
+run_is firsts g first seen x f u o = on (u f o)
   where
     on : At g first seen x f → seen ≡ map note (run (cut (scripts g x.taken f)) Zeros g.schedule (length seen))
     on (r, shown) =
         let rules : KeepsRules (scripts g x.taken f) = (at_start g x.taken f seen x.history g.tracker r).stands.rules in
         firsts g x.taken f seen x.history g.tracker r ∙ ap (map note) (sym (same_runs (scripts g x.taken f) g.schedule (length seen) rules))
 
+pub notes_are_first : SeenIsFirst → NotesAreFirst
+notes_are_first firsts g first seen x f u o = run_is_front (cut (scripts g x.taken f)) g.schedule seen (run_is firsts g first seen x f u o)
+
 pub notes_are_within_work : SeenIsFirst → NotesAreWithinWork
 notes_are_within_work firsts g first seen x f n u o i =
-    noted_within (cut (scripts g x.taken f)) g.schedule (length seen) n (subst (λ z. In n z) (notes_are_first firsts g first seen x f u o) i)
+    noted_within (cut (scripts g x.taken f)) g.schedule (length seen) n (subst (λ z. In n z) (run_is firsts g first seen x f u o) i)
 
 pub notes_are_fewer : SomethingIsReady → FewerSteps → NotesAreFewer
 notes_are_fewer some fewer g first seen x f u o open_still = on (u f o)
@@ -76,6 +94,15 @@ notes_are_fewer some fewer g first seen x f u o open_still = on (u f o)
     on (r, shown) =
         let going : all_over r.tree ≡ false = sym (finish_shows g (number_of (planned g x.taken f).pairs first) f x.machine r.tree (leads g x.taken f seen x.history g.tracker r).2 shown) ∙ open_still in
         let m : (m : TreeMove) × (nth (moves_at g r.tree) 0 ≡ Some m) = nth_there (moves_at g r.tree) 0 (some g x.taken f seen x.history g.tracker r going) in
+        fewer g x.taken f seen x.history g.tracker r m.0 (nth_in (moves_at g r.tree) 0 m.0 m.1)
+
+pub ready_is_more : FewerSteps → ReadyIsMore
+ready_is_more fewer g first seen x a f law u o some = on (u f o)
+  where
+    on : At g first seen x f → length seen < work (cut (scripts g x.taken f))
+    on (r, shown) =
+        let is : length (ready_steps g first x.history a x.machine) ≡ length (moves_at g r.tree) = as_ready g x.taken f seen x.history g.tracker r first x.machine shown a law in
+        let m : (m : TreeMove) × (nth (moves_at g r.tree) 0 ≡ Some m) = nth_there (moves_at g r.tree) 0 (subst (λ z. 0 < z) is some) in
         fewer g x.taken f seen x.history g.tracker r m.0 (nth_in (moves_at g r.tree) 0 m.0 m.1)
 
 pub notes_are_whole : EndIsPlanned → SeenIsWhole → AllSteps → NotesAreWhole
@@ -99,7 +126,7 @@ notes_are_whole planned_end whole all g first seen x u s fin = on (u (none_later
 
 -- ---- a refusal
 
-same_scripts : (g : Write) (taken : List ChunkData) (a : Answer) (f : Future) → scripts g taken (before a f) ≡ scripts g (taken_by taken a) f
+pub same_scripts : (g : Write) (taken : List ChunkData) (a : Answer) (f : Future) → scripts g taken (before a f) ≡ scripts g (taken_by taken a) f
 same_scripts g taken unasked f = refl
 same_scripts g taken (came b) f = ap (λ z. started_forest g.setting g.way g.type g.mark z f.fits) (sym (append_assoc taken (b ∷ []) f.later))
 same_scripts g taken over f = refl

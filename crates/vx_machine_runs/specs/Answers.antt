@@ -1,18 +1,17 @@
--- What the source told in a run, and what is planned of that.
-use Rattle.std.specs.Prelude.{◌≡◌, ℕ, Bool, List, [], ◌∷◌, ◌++◌, length, if◌then◌else◌}
+-- What the source told in a run.
+use Rattle.std.specs.Prelude.{◌≡◌, ℕ, List, [], ◌∷◌, ◌++◌, length, if◌then◌else◌}
 use Rattle.vx_model.specs.Words.{total_by}
 use Rattle.vx_model.specs.Ty.{Ty}
 use Rattle.vx_model.specs.ChunkData.{ChunkData, piece_type}
 use Rattle.vx_layout_spec.specs.Real.{Of}
 use Rattle.vx_tasks.specs.Task.{Kind, Free, Take, TakeEnd, Put, Append, Join, Batch, End, Call, Close}
 use Rattle.vx_tasks.specs.Run.{Note}
-use Rattle.vx_plan.specs.SourcePlan.{taken_plan}
+use Rattle.vx_plan.specs.SourcePlan.{of_schema}
 use Rattle.vx_plan.specs.Valid.{OfSchema, AllOf}
 use Rattle.vx_machine_promises.specs.Write.{Write, Answer, unasked, came, over}
 use Rattle.vx_machine_runs.specs.Runs.{Stand, outset, Asking, BeforeEnd, Led}
-use Rattle.vx_machine_runs.specs.Ends.{plan_of}
 
--- where the source may be asked, its end isn't told
+-- where the source tells something, its end isn't told
 abbrev pub AskedBeforeEnd : Type 0
 AskedBeforeEnd = (g : Write) (first : ℕ) (ns : List Note) (x : Stand) (told : Answer) (k : ℕ) → Led g first (outset g) ns x → Asking x.machine.phase k told → BeforeEnd x.heard told
 
@@ -44,15 +43,14 @@ abbrev pub AnswersAreNoted : Type 0
 AnswersAreNoted = (g : Write) (first : ℕ) (ns : List Note) (x : Stand) → Led g first (outset g) ns x
     → (total_by (λ n. batch_read n.kind) ns ≡ length x.taken) × (total_by (λ n. end_read n.kind) ns ≡ (if x.heard then 1 else 0))
 
--- The batches that were taken are of the type; what is planned of them is what is planned of those of the type, also where one of
--- another type comes behind them.
-pub record TakenAlone (g : Write) (taken : List ChunkData) : Type 0 where
-  pub of_schema : OfSchema g.type taken
-  pub plan_is : (heard : Bool) → taken_plan g.setting g.way g.type g.mark taken heard ≡ plan_of g taken heard
-  pub without : (heard : Bool) (b : ChunkData) → (piece_type b ≡ g.type → ⊥) → taken_plan g.setting g.way g.type g.mark (taken ++ (b ∷ [])) heard ≡ plan_of g taken heard
+-- The batches that were taken are of the type, all of them; also where one of another type comes behind.
+pub record TakenAlone (t : Ty) (taken : List ChunkData) : Type 0 where
+  pub typed : OfSchema t taken
+  pub all : of_schema t taken ≡ taken
+  pub without : (b : ChunkData) → (piece_type b ≡ t → ⊥) → of_schema t (taken ++ (b ∷ [])) ≡ taken
 
-abbrev pub TakenArePlanned : Type 0
-TakenArePlanned = (g : Write) (first : ℕ) (ns : List Note) (x : Stand) → Led g first (outset g) ns x → TakenAlone g x.taken
+abbrev pub TakenAreTyped : Type 0
+TakenAreTyped = (g : Write) (first : ℕ) (ns : List Note) (x : Stand) → Led g first (outset g) ns x → TakenAlone g.type x.taken
 
 -- each batch that the source told in a run is a whole chunk of the type
 

@@ -9,7 +9,7 @@ use Rattle.vx_plan.specs.Number.{sorted, numbered}
 use Rattle.vx_plan.specs.SourcePlan.{start_fault, source_plan}
 use Rattle.vx_plan.specs.Valid.{Has}
 use Rattle.vx_machine_turns.specs.Planned.{AtMost}
-use Rattle.vx_machine_promises.specs.Write.{Write, Answer, taken_by, heard_by}
+use Rattle.vx_machine_promises.specs.Write.{Write, Future, Open, Answer, planned, taken_by, heard_by}
 use Rattle.vx_machine_view.specs.Acts.{layouts_in}
 use Rattle.vx_machine_view.specs.Machine.{WholeStep, is_finished}
 use Rattle.vx_machine_view.specs.Underway.{ready_steps}
@@ -35,13 +35,14 @@ abbrev pub EndsWhole : Type 0
 EndsWhole = (g : Write) (first : ℕ) (seen : List Note) (x : Stand) → UnderwayAt g first seen x → start_fault g.setting g.way g.type g.mark ≡ None → IsTrue (is_finished x.machine)
     → Whole g first x
 
--- Why a step may be refused: by a fault of the plan of the batches taken by then, and by what this counts.
+-- Why a step may be refused: by a fault of the plan, and by what this counts.
 pub record Caused (p : Plan) (w : WholeStep) : Type 0 where
   pub refusal : (x : What) → w.refusal ≡ Some x → Has x p.faults
   pub numbers : (n : ℕ) → In n w.numbers → In n p.numbers
   pub indices : (n : ℕ) → In n w.indices → AtMost n p.numbers
   pub joined : (n : ℕ) → In n w.joined → (n ≡ 0) ⊎ In n p.numbers
 
+-- of the plan of the batches taken by then, and of those that may still come
 abbrev pub StepsHaveCause : Type 0
-StepsHaveCause = (g : Write) (first : ℕ) (seen : List Note) (x : Stand) (told : Answer) (k : ℕ) (w : WholeStep) → Lawful g.setting.codec g.setting.encodings → UnderwayAt g first seen x
-    → Chosen g first x told k w → Caused (plan_of g (taken_by x.taken told) (heard_by x.heard told)) w
+StepsHaveCause = (g : Write) (first : ℕ) (seen : List Note) (x : Stand) (told : Answer) (f : Future) (k : ℕ) (w : WholeStep) → Lawful g.setting.codec g.setting.encodings
+    → UnderwayAt g first seen x → Open (heard_by x.heard told) f → Chosen g first x told k w → Caused (planned g (taken_by x.taken told) f) w

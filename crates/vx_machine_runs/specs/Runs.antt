@@ -41,11 +41,11 @@ TypedAnswer t unasked = Unit {0}
 TypedAnswer t (came b) = Typed t b
 TypedAnswer t over = Unit {0}
 
--- and none comes behind the end
+-- and it tells nothing behind its end
 abbrev pub BeforeEnd : Bool → Answer → Type 0
 BeforeEnd heard unasked = Unit {0}
 BeforeEnd heard (came b) = heard ≡ false
-BeforeEnd heard over = Unit {0}
+BeforeEnd heard over = heard ≡ false
 
 -- a ready step, with what the source tells in it
 pub record Chosen (g : Write) (first : ℕ) (x : Stand) (told : Answer) (k : ℕ) (w : WholeStep) : Type 0 where

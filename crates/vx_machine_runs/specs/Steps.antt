@@ -16,7 +16,7 @@ use Rattle.vx_machine_view.specs.Machine.{reading, WholeStep, is_finished, machi
 use Rattle.vx_machine_view.specs.Places.{whole_ready}
 use Rattle.vx_machine_view.specs.Underway.{ready_steps}
 use Rattle.vx_machine_runs.specs.Runs.{Stand, BeforeEnd, Chosen, UnderwayAt}
-use Rattle.vx_machine_runs.specs.Ends.{plan_of, Caused}
+use Rattle.vx_machine_runs.specs.Ends.{Caused}
 
 -- where nothing is ready, the machine has finished
 abbrev pub IdleIsFinished : Type 0
@@ -28,10 +28,11 @@ abbrev pub MisfitIsRead : Type 0
 MisfitIsRead = (g : Write) (first : ℕ) (seen : List Note) (x : Stand) (a : Answer) (k : ℕ) (w : WholeStep) → UnderwayAt g first seen x
     → nth (ready_steps g first x.history a x.machine) k ≡ Some w → IsTrue w.misfit → (e : Eof) × (x.machine.phase ≡ reading e) × (k ≡ 0) × (a ≡ unasked)
 
--- what was appended are the first of the plan's pairs, in order of path: of the batches taken, and of what the next step is told
+-- what was appended are the first of the plan's pairs, in order of path: of the batches taken, of what the next step is told, and of
+-- those that may still come
 abbrev pub HistoryIsFront : Type 0
-HistoryIsFront = (g : Write) (first : ℕ) (seen : List Note) (x : Stand) (told : Answer) → BeforeEnd x.heard told → UnderwayAt g first seen x
-    → (more : List Pair) × (sorted (plan_of g (taken_by x.taken told) (heard_by x.heard told)).pairs ≡ x.history ++ more)
+HistoryIsFront = (g : Write) (first : ℕ) (seen : List Note) (x : Stand) (told : Answer) (f : Future) → BeforeEnd x.heard told → Open (heard_by x.heard told) f → UnderwayAt g first seen x
+    → (more : List Pair) × (sorted (planned g (taken_by x.taken told) f).pairs ≡ x.history ++ more)
 
 -- an append that isn't refused is one more of the plan's pairs, whatever may still come
 abbrev pub AppendIsOneMore : Type 0

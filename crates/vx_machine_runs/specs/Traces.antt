@@ -1,12 +1,11 @@
 -- What is noted of a run, against the work of its tree of scripts.
-use Rattle.std.specs.Prelude.{◌≡◌, ◌+◌, ◌%◌, ◌<◌, ◌≤◌, ℕ, Bool, true, false, List, [], ◌∷◌, ◌++◌, map, length, Some, None, IsTrue, IsFalse}
+use Rattle.std.specs.Prelude.{◌≡◌, ◌+◌, ◌%◌, ◌<◌, ◌≤◌, ℕ, Bool, true, false, List, [], ◌∷◌, ◌++◌, take, length, Some, None, IsTrue, IsFalse}
 use Rattle.vx_model.specs.ChunkData.{ChunkData}
 use Rattle.vx_path.specs.Lists.{In}
 use Rattle.vx_layout_spec.specs.Codec.{Lawful}
 use Rattle.vx_tasks.specs.Task.{Forest, appends_of}
 use Rattle.vx_tasks.specs.State.{Counts, left}
-use Rattle.vx_tasks.specs.State.Counts.{Zeros}
-use Rattle.vx_tasks.specs.Run.{Note, note, nth, ready, run, trace, work, first_pick}
+use Rattle.vx_tasks.specs.Run.{Note, nth, ready, trace, work, first_pick}
 use Rattle.vx_cut_laws.specs.Cut.{cut}
 use Rattle.vx_plan.specs.PlanData.{What, paths}
 use Rattle.vx_plan.specs.SourcePlan.{start_fault}
@@ -32,6 +31,11 @@ abbrev pub ReadyIsWithinWork : Type 0
 ReadyIsWithinWork = (g : Write) (first : ℕ) (seen : List Note) (x : Stand) (a : Answer) (f : Future) → Lawful g.setting.codec g.setting.encodings
     → UnderwayAt g first seen x → Open x.heard f → length (ready_steps g first x.history a x.machine) + length seen ≤ work (scripts g x.taken f)
 
+-- and of the tree in which a refusal ends its task
+abbrev pub NextIsWithinWork : Type 0
+NextIsWithinWork = (g : Write) (first : ℕ) (seen : List Note) (x : Stand) (a : Answer) (f : Future) → Lawful g.setting.codec g.setting.encodings
+    → UnderwayAt g first seen x → Open x.heard f → length (ready_steps g first x.history a x.machine) ≤ work (cut (scripts g x.taken f))
+
 -- and so it was at each step that was made
 abbrev pub NotesAreWithinWork : Type 0
 NotesAreWithinWork = (g : Write) (first : ℕ) (seen : List Note) (x : Stand) (f : Future) (n : Note) → UnderwayAt g first seen x → Open x.heard f → In n seen
@@ -42,12 +46,17 @@ NotesAreWithinWork = (g : Write) (first : ℕ) (seen : List Note) (x : Stand) (f
 -- the notes are the first of the trace, whatever may still come
 abbrev pub NotesAreFirst : Type 0
 NotesAreFirst = (g : Write) (first : ℕ) (seen : List Note) (x : Stand) (f : Future) → UnderwayAt g first seen x → Open x.heard f
-    → seen ≡ map note (run (cut (scripts g x.taken f)) Zeros g.schedule (length seen))
+    → seen ≡ take (length seen) (trace (cut (scripts g x.taken f)) g.schedule)
 
 -- and fewer than all, until the machine has finished
 abbrev pub NotesAreFewer : Type 0
 NotesAreFewer = (g : Write) (first : ℕ) (seen : List Note) (x : Stand) (f : Future) → UnderwayAt g first seen x → Open x.heard f → IsFalse (is_finished x.machine)
     → length seen < work (cut (scripts g x.taken f))
+
+-- as they are where something is ready
+abbrev pub ReadyIsMore : Type 0
+ReadyIsMore = (g : Write) (first : ℕ) (seen : List Note) (x : Stand) (a : Answer) (f : Future) → Lawful g.setting.codec g.setting.encodings → UnderwayAt g first seen x → Open x.heard f
+    → 0 < length (ready_steps g first x.history a x.machine) → length seen < work (cut (scripts g x.taken f))
 
 -- then they are the whole trace, and no step had more ready than there are steps
 pub record WholeTrace (g : Write) (seen : List Note) (f : Forest) : Type 0 where

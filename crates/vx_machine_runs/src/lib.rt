@@ -5,8 +5,8 @@
 ghost use Rattle.vx_machine_runs.specs.Runs.{StartIsUnderway, StepIsUnderway, RunByIsUnderway, PlacesArePicks, RunIsUnderway, ScheduleIsFree, NumberIsFree};
 ghost use Rattle.vx_machine_runs.specs.Ends.{StaysReady, EndsWhole, StepsHaveCause};
 ghost use Rattle.vx_machine_runs.specs.Steps.{IdleIsFinished, MisfitIsRead, HistoryIsFront, AppendIsOneMore, PastIsCaused, StartIsCaused, ValidIsSound, ValidStarts};
-ghost use Rattle.vx_machine_runs.specs.Answers.{AskedBeforeEnd, AnswersAreNoted, TakenArePlanned, TakenAreWhole};
-ghost use Rattle.vx_machine_runs.specs.Traces.{ReadyIsWithinLeft, ReadyIsWithinWork, NotesAreWithinWork, NotesAreFirst, NotesAreFewer, NotesAreWhole, RefusalIsLast, MisfitIsLast, AppendsAreNoted};
+ghost use Rattle.vx_machine_runs.specs.Answers.{AskedBeforeEnd, AnswersAreNoted, TakenAreTyped, TakenAreWhole};
+ghost use Rattle.vx_machine_runs.specs.Traces.{ReadyIsWithinLeft, ReadyIsWithinWork, NextIsWithinWork, NotesAreWithinWork, NotesAreFirst, NotesAreFewer, ReadyIsMore, NotesAreWhole, RefusalIsLast, MisfitIsLast, AppendsAreNoted};
 ghost use Rattle.vx_machine_runs.specs.Picks.{PicksAreExact, ReadyIsWithinSteps, ReadyIsWithinAll};
 ghost use Rattle.vx_machine_runs.specs.Numbers.{NumbersAreCounted, NumbersFit, NothingReserved};
 
@@ -53,11 +53,11 @@ pub fn stands()
     vx_machine_promises::valid();
 }
 
-/// What the source told, and what is planned of that.
+/// What the source told.
 pub fn answers()
     ensures asked { AskedBeforeEnd }
     ensures noted { AnswersAreNoted }
-    ensures planned { TakenArePlanned }
+    ensures typed { TakenAreTyped }
     ensures whole { TakenAreWhole }
 {}
 
@@ -65,9 +65,11 @@ pub fn answers()
 pub fn traces()
     ensures left { ReadyIsWithinLeft }
     ensures work { ReadyIsWithinWork }
+    ensures next { NextIsWithinWork }
     ensures within { NotesAreWithinWork }
     ensures first { NotesAreFirst }
     ensures fewer { NotesAreFewer }
+    ensures more { ReadyIsMore }
     ensures whole { NotesAreWhole }
     ensures refused { RefusalIsLast }
     ensures misfit { MisfitIsLast }

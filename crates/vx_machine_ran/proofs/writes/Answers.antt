@@ -1,9 +1,14 @@
-use Rattle.vx_machine_ran.proofs.Writing.{done_is_written}
-use Rattle.vx_machine_ran.proofs.Stopping.{stopped_stands}
+use Rattle.vx_machine_ran.proofs.Writing.{done_is_written, runs_leave_sinks}
+use Rattle.vx_machine_ran.proofs.Stopping.{stopped_halts}
 use Rattle.vx_machine_ran.proofs.writes.Goals as goal
 
 pub returns-clause-done : goal.returns-clause-done
-returns-clause-done c = done_is_written c.runs.ensures.run c.ends.ensures.whole c.counts.ensures.fit c.rows_come_back.ensures
+returns-clause-done c =
+    done_is_written c.runs.ensures.run c.runs.ensures.by c.ends.ensures.whole c.traces.ensures.whole c.picks.ensures.steps c.counts.ensures.fit c.rows_come_back.ensures
 
 pub returns-clause-stopped : goal.returns-clause-stopped
-returns-clause-stopped c = stopped_stands c.runs.ensures.run c.stands.ensures.front c.ends.ensures.causes c.stands.ensures.append
+returns-clause-stopped c =
+    stopped_halts c.runs.ensures.run c.runs.ensures.by c.stands.ensures.front c.ends.ensures.causes c.stands.ensures.append c.traces.ensures.first c.traces.ensures.refused c.traces.ensures.misfit c.picks.ensures.all c.traces.ensures.next c.traces.ensures.more
+
+pub returns-clause-left : goal.returns-clause-left
+returns-clause-left c = runs_leave_sinks c.runs.ensures.run
