@@ -126,7 +126,6 @@ pub mod nodes {
 /// The step machine, for strategies of flat, chunked and struct nodes.
 pub mod machine {
     pub use vx_machine::{Machine, run};
-    pub use vx_task_write::write_tasks;
 }
 
 /// Writing a stream of batches by a strategy.

@@ -23,19 +23,11 @@ abbrev pub told_report : ℕ → LayoutData ℕ → List (List ℕ) → List ℕ
 told_report first l segments zones steps rows =
     codes "layout\n" ++ (display_text true l ++ (codes "segments\n" ++ (segment_lines first segments ++ (codes "zones\n" ++ (zones ++ (codes "trace\n" ++ (step_lines steps ++ (codes "rows\n" ++ row_lines rows))))))))
 
--- the report of a write that takes no steps, with the rows of its zone tables
-abbrev pub report : ℕ → LayoutData ℕ → List (List ℕ) → List (List ValueData) → List ValueData → List ℕ
-report first l segments tables rows = told_report first l segments (zone_lines 0 (zone_tables l) tables) [] rows
-
--- the report of a write by tasks; it shows no zone table
-abbrev pub task_report : ℕ → LayoutData ℕ → List (List ℕ) → List Step → List ValueData → List ℕ
-task_report first l segments steps rows = told_report first l segments [] steps rows
+-- the report of a write, with the rows of the layout's zone tables
+abbrev pub report : ℕ → LayoutData ℕ → List (List ℕ) → List (List ValueData) → List Step → List ValueData → List ℕ
+report first l segments tables steps rows = told_report first l segments (zone_lines 0 (zone_tables l) tables) steps rows
 
 -- the refusal's name, the segments that were appended, and the steps before
-abbrev pub task_refusal : List ℕ → ℕ → List (List ℕ) → List Step → List ℕ
-task_refusal name first segments steps =
+abbrev pub refused_report : List ℕ → ℕ → List (List ℕ) → List Step → List ℕ
+refused_report name first segments steps =
     codes "refused " ++ (name ++ (codes "\nsegments\n" ++ (segment_lines first segments ++ (codes "trace\n" ++ step_lines steps))))
-
--- the same of a write that takes no steps
-abbrev pub refused_report : List ℕ → ℕ → List (List ℕ) → List ℕ
-refused_report name first segments = task_refusal name first segments []

@@ -5,4 +5,4 @@ mod report_text;
 mod row_text;
 mod trace_text;
 
-pub use report_text::{refused_report, report, task_refusal, task_report};
+pub use report_text::{refused_report, report};

@@ -4,7 +4,7 @@ ghost use Rattle.std.specs.Prelude.{◌≡◌, ◌++◌, ◌+◌, ◌<◌, ◌^�
 ghost use Rattle.vx_model.specs.TreeView.{val};
 ghost use Rattle.vx_layout_tree.specs.LayoutView.{layout_data};
 ghost use Rattle.vx_report.specs.ZoneText.{zone_tables};
-ghost use Rattle.vx_report.specs.Report.{report, task_report, refused_report, task_refusal, segment_line, segment_lines};
+ghost use Rattle.vx_report.specs.Report.{report, told_report, refused_report, segment_line, segment_lines};
 
 use crate::row_text::push_rows;
 use crate::trace_text::push_steps;
@@ -14,7 +14,7 @@ use vx_layout_tree::Layout;
 use vx_model::{Blob, Value};
 use vx_write_answer::Step;
 
-/// The report of a write that takes no steps, whose first segment has the number `first`, with the rows that were read back.
+/// The report of a write, whose first segment has the number `first`, with its steps and the rows that were read back.
 ///
 /// It prints no zone table yet: no layout that is written so far has one.
 pub fn report(
@@ -22,19 +22,19 @@ pub fn report(
     first: u64,
     layout: &Layout,
     segments: &[Blob],
+    steps: &[Step],
     rows: &[Value],
 ) -> Result<String, AllocError>
     requires numbered { first + length segments.now < 2 ^ 64 }
     requires no_tables { zone_tables (layout_data layout.now) ≡ [] }
-    ensures { IfOk result (λ text. string_bytes text ≡ report first (layout_data layout.now) segments.now [] (map val rows.now)) }
+    ensures { IfOk result (λ text. string_bytes text ≡ report first (layout_data layout.now) segments.now [] steps.now (map val rows.now)) }
 {
-    task_report(alloc, first, layout, segments, &[], rows)
+    told_report(alloc, first, layout, segments, steps, rows)
 }
 
-/// The report of a write by tasks, whose first segment has the number `first`, with its steps and the rows that were read
-/// back. It prints no zone table.
+/// The report without zone tables.
 #[tactic(auto, using(crate::proofs::Lines::text_rules))]
-pub fn task_report(
+fn told_report(
     alloc: Global,
     first: u64,
     layout: &Layout,
@@ -43,7 +43,7 @@ pub fn task_report(
     rows: &[Value],
 ) -> Result<String, AllocError>
     requires { first + length segments.now < 2 ^ 64 }
-    ensures { IfOk result (λ text. string_bytes text ≡ task_report first (layout_data layout.now) segments.now steps.now (map val rows.now)) }
+    ensures { IfOk result (λ text. string_bytes text ≡ told_report first (layout_data layout.now) segments.now [] steps.now (map val rows.now)) }
 {
     let mut out = String::from_str(alloc, "layout\n")?;
     let tree = layout.display_tree_verbose(alloc, true)?;
@@ -57,22 +57,9 @@ pub fn task_report(
     Ok(out)
 }
 
-/// The report of a refused write that takes no steps: the name of the refusal, and the segments that stand.
-pub fn refused_report(
-    alloc: Global,
-    name: &str,
-    first: u64,
-    segments: &[Blob],
-) -> Result<String, AllocError>
-    requires { first + length segments.now < 2 ^ 64 }
-    ensures { IfOk result (λ text. string_bytes text ≡ refused_report name.now first segments.now) }
-{
-    task_refusal(alloc, name, first, segments, &[])
-}
-
-/// The same of a write by tasks, with the steps before the refusal.
+/// The report of a refused write: the name of the refusal, the segments that stand, and the steps before.
 #[tactic(auto, using(crate::proofs::Lines::text_rules))]
-pub fn task_refusal(
+pub fn refused_report(
     alloc: Global,
     name: &str,
     first: u64,
@@ -80,7 +67,7 @@ pub fn task_refusal(
     steps: &[Step],
 ) -> Result<String, AllocError>
     requires { first + length segments.now < 2 ^ 64 }
-    ensures { IfOk result (λ text. string_bytes text ≡ task_refusal name.now first segments.now steps.now) }
+    ensures { IfOk result (λ text. string_bytes text ≡ refused_report name.now first segments.now steps.now) }
 {
     let mut out = String::from_str(alloc, "refused ")?;
     out.push_str(name)?;

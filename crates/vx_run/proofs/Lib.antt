@@ -1,6 +1,5 @@
-pub mod BackSteps
-pub mod JobSteps
-pub mod TaskSteps
-pub mod RunSteps
-pub mod TreeSteps
-pub mod WriteSteps
+mod RunSteps
+mod TableSteps
+mod JobSteps
+mod BackSteps
+mod TreeSteps

@@ -11,7 +11,7 @@ use Rattle.std.proofs.Math.Seq.{take-add}
 use Rattle.std.proofs.lemmas.Bool.{ltb-true, ltb-false, lt-ltb}
 use Rattle.std.specs.Prelude.{◌⊎◌}
 use Rattle.vx_fault.specs.Counts.{Counts, IsCalm}
-use Rattle.vx_write.specs.Stream.{is_built}
+use Rattle.vx_machine_view.specs.Built.{is_built}
 use Rattle.vx_run.specs.declared.status.Status.{Status}
 use Rattle.vx_run.specs.declared.status.Status.TheVariants.{Done, Usage, BadJob, Refused, InputFault, OutputFault, OutOfMemory}
 use Rattle.vx_session.specs.Made.{Made}
@@ -155,10 +155,9 @@ no_fault : (before now : ℕ) → Counts before now true → IsCalm before now �
 no_fault before now rose calm = absurd (omega (arith, rose.0, rose.1, calm.0, calm.1))
 
 -- which text belongs to a valid job: that of what is done
-valid_done : (j : JobData) (status : Status) (text : List ℕ) → is_built j.strategy j.schema ≡ true → SetsNoFaults j → IsValid j → JobAnswer j status text → status ≡ Done
+valid_done : (j : JobData) (status : Status) (text : List ℕ) → is_built j.strategy ≡ true → SetsNoFaults j → IsValid j → JobAnswer j status text → status ≡ Done
 valid_done j Done text form no_faults valid answers = refl
-valid_done j Refused text form no_faults valid (inl answers) = absurd (answers.refused.not_valid form no_faults valid)
-valid_done j Refused text form no_faults valid (inr answers) = absurd (let f : true ≡ false = sym form ∙ answers.form in cc)
+valid_done j Refused text form no_faults valid answers = absurd (answers.refused.not_valid form no_faults valid)
 valid_done j Usage text form no_faults valid answers = absurd answers
 valid_done j BadJob text form no_faults valid answers = absurd answers
 valid_done j InputFault text form no_faults valid answers = absurd answers
@@ -177,7 +176,7 @@ calm_end P wanted only before now OutputFault ins ins_now outs outs_now ends ros
 calm_end P wanted only before now OutOfMemory ins ins_now outs outs_now ends rose calm risen still = inr refl
 
 pub written_or_memory : (bytes : List ℕ) (j : JobData) (before now : Option (List ℕ)) (result : Status) (ins ins_now outs outs_now : ℕ)
-    → job bytes ≡ Ok j → is_built j.strategy j.schema ≡ true → SetsNoFaults j → IsValid j
+    → job bytes ≡ Ok j → is_built j.strategy ≡ true → SetsNoFaults j → IsValid j
     → Ends (Answers Write bytes) before now result → Counts ins ins_now (is_input_fault result) → IsCalm ins ins_now → Counts outs outs_now (is_output_fault result) → IsCalm outs outs_now
     → (result ≡ Done) ⊎ (result ≡ OutOfMemory)
 written_or_memory bytes j before now result ins ins_now outs outs_now is form no_faults valid =

@@ -1,6 +1,5 @@
 pub mod Failures
 pub mod RefusalNames
-pub mod Tasks
 pub mod Answers
 pub mod TreeAnswers
 pub mod Commands

@@ -1,6 +1,6 @@
 //! What the command `write` answers to a job.
 
-ghost use Rattle.std.specs.Prelude.{◌≡◌, ◌+◌, ◌^◌, ◌≤◌, max, true, false, [], string_bytes, map, length, Some, IsSome, IfOk, IfErr, option_map};
+ghost use Rattle.std.specs.Prelude.{◌≡◌, ◌+◌, ◌^◌, ◌≤◌, max, false, [], string_bytes, map, length, Some, IsSome, IfOk, IfErr, MatchResult, option_map};
 ghost use Rattle.vx_model.specs.TreeView.{val};
 ghost use Rattle.vx_layout_spec.specs.Rows.{rows};
 ghost use Rattle.vx_segment_reader.specs.Codec.{segment_codec};
@@ -12,13 +12,11 @@ ghost use Rattle.vx_job.specs.JobView.{ids_view, job_view};
 ghost use Rattle.vx_sink.specs.ContextView.{listed, allowed_in, is_marked, counted};
 ghost use Rattle.vx_report.specs.Report.{report, refused_report};
 ghost use Rattle.vx_report.specs.ZoneText.{zone_tables};
-ghost use Rattle.vx_write.specs.Stream.{is_built};
 ghost use Rattle.vx_run.specs.declared.status.Status.TheVariants as statuses;
 ghost use Rattle.vx_run.specs.RefusalNames.{refusal_name, is_memory};
 ghost use Rattle.vx_run.specs.Answers.{IsText, IsAnswer, JobAnswer, IsWritten, Halts, bad_job};
 
 use crate::status::Status;
-use crate::tasks::write_by_tasks;
 use std::alloc::{AllocError, Global};
 use vx_job::{Job, JobError, Key, read_job};
 use vx_layout_tree::Layout;
@@ -26,7 +24,7 @@ use vx_model::{ArrayContext, Blob, Text, Value};
 use vx_read::{ReadError, SegmentMap, read_rows};
 use vx_report::{refused_report, report};
 use vx_sink::{LayoutWriterContext, ListSource, MemorySink, PlainCompressor};
-use vx_write::{WriteError, is_built, write_stream};
+use vx_write::{Step, WriteError, write_stream};
 
 /// A status, and the text that is printed before it.
 #[derive(Debug, Drop)]
@@ -59,42 +57,35 @@ pub(crate) fn bad_job(alloc: Global, key: Key) -> Result<Answer, AllocError>
     })
 }
 
-/// Writes the job's batches, in the order that they come where that is built and else by tasks, and reports.
+/// Writes the job's batches, reads their rows from the segments, and reports.
 fn write_job(alloc: Global, job: Job) -> Result<Answer, AllocError>
-    ensures { IfOk result (λ a. JobAnswer (job_view job) a.status (string_bytes a.text)) }
-{
-    if is_built(&job.strategy, &job.schema) {
-        write_in_order(alloc, job)
-    } else {
-        write_by_tasks(alloc, job)
-    }
-}
-
-fn write_in_order(alloc: Global, job: Job) -> Result<Answer, AllocError>
-    requires { is_built (job_view job).strategy (job_view job).schema ≡ true }
     ensures { IfOk result (λ a. JobAnswer (job_view job) a.status (string_bytes a.text)) }
 {
     let first = job.next;
     match write_batches(alloc, job) {
-        Ok((layout, segments)) => {
-            let answer = written(alloc, first, &layout, segments);
+        Ok((layout, segments, steps)) => {
+            let answer = written(alloc, first, &layout, segments, &steps);
             drop(layout);
             answer
         }
-        Err((error, segments)) => {
-            let answer = refusal(alloc, first, &error, &segments);
+        Err((error, segments, steps)) => {
+            let answer = refusal(alloc, first, &error, &segments, &steps);
             drop(error);
             answer
         }
     }
 }
 
-/// Writes the job's batches, and gives the segments that were appended too.
-fn write_batches(alloc: Global, job: Job) -> Result<(Layout, Vec<Blob>), (WriteError, Vec<Blob>)>
-    ensures ok { IfOk result (λ w. IsWritten (job_view job) (layout_data w.0) w.1.items) }
-    ensures err { IfErr result (λ r. Halts (job_view job) r.0 r.1.items) }
+/// Writes the job's batches, and gives the segments that were appended and the steps too.
+fn write_batches(
+    alloc: Global,
+    job: Job,
+) -> Result<(Layout, Vec<Blob>, Vec<Step>), (WriteError, Vec<Blob>, Vec<Step>)>
+    ensures ok { IfOk result (λ w. IsWritten (job_view job) (layout_data w.0) w.1.items w.2.items) }
+    ensures no_tables { IfOk result (λ w. zone_tables (layout_data w.0) ≡ []) }
+    ensures err { IfErr result (λ r. Halts (job_view job) r.0 r.1.items r.2.items) }
+    ensures numbered { MatchResult result (λ w. job.next + length w.1.items ≤ max job.next (2 ^ 32)) (λ r. job.next + length r.1.items ≤ max job.next (2 ^ 32)) }
 {
-    vx_plan::chunks_stand_in_order();
     let mut ctx = context(job.encodings, job.aggregates, job.marked);
     let faults = job.faults;
     let mut source = ListSource::new(job.schema, job.batches, faults.source);
@@ -109,13 +100,13 @@ fn write_batches(alloc: Global, job: Job) -> Result<(Layout, Vec<Blob>), (WriteE
         &job.schedule,
         &mut compressor,
     ) {
-        Ok(written) => Ok((written.layout, sink.into_segments())),
-        Err(refused) => Err((refused.error, sink.into_segments())),
+        Ok(written) => Ok((written.layout, sink.into_segments(), written.trace)),
+        Err(refused) => Err((refused.error, sink.into_segments(), refused.trace)),
     }
 }
 
 /// What a job's write may use.
-pub(crate) fn context(
+fn context(
     encodings: ArrayContext,
     aggregates: Option<Vec<Text>>,
     marked: bool,
@@ -143,15 +134,17 @@ fn refusal(
     first: u64,
     error: &WriteError,
     segments: &Vec<Blob>,
+    steps: &[Step],
 ) -> Result<Answer, AllocError>
     requires { first + length segments.now.items ≤ max first (2 ^ 32) }
-    ensures { IfOk result (λ a. (is_memory error.now ≡ false) × IsText statuses.Refused (refused_report (refusal_name error.now) first segments.now.items) a.status (string_bytes a.text)) }
+    ensures { IfOk result (λ a. (is_memory error.now ≡ false)
+        × IsText statuses.Refused (refused_report (refusal_name error.now) first segments.now.items steps.now) a.status (string_bytes a.text)) }
 {
     let name = refusal_name(error);
     if let WriteError::OutOfMemory = error {
         return Err(AllocError);
     }
-    let text = refused_report(alloc, name, first, segments)?;
+    let text = refused_report(alloc, name, first, segments, steps)?;
     Ok(Answer {
         status: Status::Refused,
         text,
@@ -159,7 +152,7 @@ fn refusal(
 }
 
 /// The name of the error's variant.
-pub(crate) fn refusal_name(error: &WriteError) -> &'static str
+fn refusal_name(error: &WriteError) -> &'static str
     ensures { result.now ≡ refusal_name error.now }
 {
     match error {
@@ -187,16 +180,17 @@ fn written(
     first: u64,
     layout: &Layout,
     list: Vec<Blob>,
+    steps: &[Step],
 ) -> Result<Answer, AllocError>
     requires readable { IsSome (rows segment_codec (segment_at first list.items) (layout_data layout.now)) }
     requires numbered { first + length list.items ≤ max first (2 ^ 32) }
     requires no_tables { zone_tables (layout_data layout.now) ≡ [] }
     ensures { IfOk result (λ a. (a.status ≡ statuses.Done) × (Some (string_bytes a.text)
-        ≡ option_map (report first (layout_data layout.now) list.items []) (rows segment_codec (segment_at first list.items) (layout_data layout.now)))) }
+        ≡ option_map (report first (layout_data layout.now) list.items [] steps.now) (rows segment_codec (segment_at first list.items) (layout_data layout.now)))) }
 {
     let segments = numbered(first, list);
     let rows = read_back(alloc, layout, &segments)?;
-    let text = report(alloc, first, layout, &segments.list, &rows)?;
+    let text = report(alloc, first, layout, &segments.list, steps, &rows)?;
     Ok(Answer {
         status: Status::Done,
         text,
@@ -205,7 +199,7 @@ fn written(
 
 /// The segments, numbered from the first.
 #[tactic(auto, using(crate::proofs::BackSteps::in_map))]
-pub(crate) fn numbered(first: u64, list: Vec<Blob>) -> SegmentMap
+fn numbered(first: u64, list: Vec<Blob>) -> SegmentMap
     requires { first + length list.items ≤ max first (2 ^ 32) }
     ensures list { result.list.items ≡ list.items }
     ensures segments { segment_in result ≡ segment_at first list.items }

@@ -9,7 +9,6 @@ mod output;
 mod real;
 mod running;
 mod status;
-mod tasks;
 mod tree;
 
 pub use command::Command;

@@ -1,6 +1,4 @@
-pub mod Ways
-pub mod Steps
-pub mod Back
-pub mod Numbers
-pub mod Bridge
-pub mod Gathered
+mod WriteSteps
+mod RanSteps
+mod UnbuiltSteps
+mod LentSteps

@@ -1,4 +1,3 @@
-pub mod InOrder
-pub mod Stream
 pub mod ColumnCount
-pub mod Asked
+pub mod Lent
+pub mod Answer

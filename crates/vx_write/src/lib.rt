@@ -2,9 +2,10 @@
 #![tactic(auto)]
 
 mod columns;
-mod stream;
+mod lent;
+mod tasks;
 mod write;
 
 pub use columns::column_count;
 pub use vx_write_answer::{ActionKind, Step, WriteError};
-pub use write::{Refused, Written, is_built, write_stream};
+pub use write::{Refused, Written, write_stream};

@@ -1,54 +1,83 @@
-use Rattle.std.proofs.Common.{◌≡◌, ℕ, List, Option, true, false, Some, refl, ap, ap₂, ◌∙◌}
+use Rattle.std.proofs.Common.{◌≡◌, ℕ, List, Option, false, Some, refl, ap, ap₂, ◌∙◌}
 use Rattle.vx_model.specs.declared.encoding.EncodingId.{EncodingId}
-use Rattle.vx_model.specs.TyView.{ty}
-use Rattle.vx_sink.specs.ContextView.{is_marked}
+use Rattle.vx_plan.specs.PlanData.{Setting}
+use Rattle.vx_sink.specs.ContextView.{listed, allowed_in, is_marked}
 use Rattle.vx_setting.specs.Setting.{real}
-use Rattle.vx_write.specs.Stream.{setting_of}
+use Rattle.vx_machine.specs.Context.{setting_of}
 use Rattle.vx_job.specs.JobText.{JobData}
 use Rattle.vx_job.specs.JobView.{job_view}
-use Rattle.vx_run.proofs.JobSteps.{same_pieces, all_written, write_halts}
-use Rattle.vx_run.proofs.WriteSteps.{may_come, passed_before, behind_batch, passed_ended, passed_last}
+use Rattle.vx_run.proofs.JobSteps.{same_pieces, job_written, written_tables, written_fits, job_refused, refused_fits}
 use Rattle.vx_run.proofs.answer.write_batches.Goals as goal
+
+-- the setting is the job's
+same_setting : (ids ids_now : List EncodingId) (allowed allowed_now : Option (List (List ℕ))) → ids ≡ ids_now → allowed ≡ allowed_now
+    → real ids allowed (λ which p. p) ≡ real ids_now allowed_now (λ which p. p)
+same_setting ids ids_now allowed allowed_now e f = ap₂ (λ (xs : List EncodingId) (ys : Option (List (List ℕ))). real xs ys (λ which p. p)) e f
 
 pub returns-in-Ok-clause-ok : goal.returns-in-Ok-clause-ok
 returns-in-Ok-clause-ok c =
     let j : JobData = job_view c.args.job in
-    all_written j (setting_of c.context-ctx.result (λ which p. p)) _ (is_marked c.context-ctx.result) _ _
+    job_written j (setting_of c.context-ctx.result (λ which p. p)) _ (is_marked c.context-ctx.result) false false
     (record {
-      setting = ap₂ (λ (ids : List EncodingId) (allowed : Option (List (List ℕ))). real ids allowed (λ which p. p)) c.context-ctx.ensures.listed c.context-ctx.ensures.allowed;
+      setting = same_setting _ _ _ _ c.context-ctx.ensures.listed c.context-ctx.ensures.allowed;
       schema = c.new-source.ensures.kind;
       marked = c.context-ctx.ensures.marked;
       numbers = c.new-sink.ensures.next;
       counted = c.context-ctx.ensures.counted;
       batches = c.new-source.ensures.batches ∙ ap Some (same_pieces j.batches);
       none = c.new-sink.ensures.segments;
+      picks = c.deref.ensures.value;
     })
-    c.into_segments.ensures (λ f. absurd (c.in-Ok.ensures.unbuilt f).0) c.in-Ok.ensures.wrote c.in-Ok.ensures.last c.chunks_stand_in_order.ensures
-    (record { of_source = c.new-source.ensures.must_fail; of_sink = c.new-sink.ensures.must_fail })
-    (record { batches = passed_ended _ _ c.in-Ok.ensures.source.passed; ended = passed_last _ _ c.in-Ok.ensures.source.passed; appends = c.in-Ok.ensures.sink.passed })
+    (record {
+      may_of_source = c.new-source.ensures.may_fail;
+      must_of_source = c.new-source.ensures.must_fail;
+      may_of_sink = c.new-sink.ensures.may_fail;
+      must_of_sink = c.new-sink.ensures.must_fail;
+      source_none = c.new-source.ensures.faults;
+      sink_none = c.new-sink.ensures.faults;
+    })
+    c.into_segments.ensures (λ f. absurd (c.in-Ok.ensures.unbuilt f).0) c.in-Ok.ensures.wrote c.in-Ok.ensures.trace c.in-Ok.ensures.appended c.in-Ok.ensures.source c.in-Ok.ensures.sink
+
+pub returns-in-Ok-clause-no_tables : goal.returns-in-Ok-clause-no_tables
+returns-in-Ok-clause-no_tables c = written_tables (job_view c.args.job) (returns-in-Ok-clause-ok c)
+
+pub returns-in-Ok-clause-numbered : goal.returns-in-Ok-clause-numbered
+returns-in-Ok-clause-numbered c = written_fits (job_view c.args.job) c.new-sink.ensures.next (returns-in-Ok-clause-ok c) c.in-Ok.ensures.appended c.in-Ok.ensures.last
 
 pub returns-clause-err : goal.returns-clause-err
 returns-clause-err c =
     let j : JobData = job_view c.args.job in
-    write_halts j c.in-Err.refused.error (setting_of c.context-ctx.result (λ which p. p)) _ (is_marked c.context-ctx.result) _ _ _ _
+    job_refused j c.in-Err.refused.error c.into_segments-in-Err.ensures
     (record {
-      setting = ap₂ (λ (ids : List EncodingId) (allowed : Option (List (List ℕ))). real ids allowed (λ which p. p)) c.context-ctx.ensures.listed c.context-ctx.ensures.allowed;
-      schema = c.new-source.ensures.kind;
-      marked = c.context-ctx.ensures.marked;
-      numbers = c.new-sink.ensures.next;
-      counted = c.context-ctx.ensures.counted;
-      batches = c.new-source.ensures.batches ∙ ap Some (same_pieces j.batches);
-      none = c.new-sink.ensures.segments;
+      start = record {
+        setting = same_setting _ _ _ _ c.context-ctx.ensures.listed c.context-ctx.ensures.allowed;
+        schema = c.new-source.ensures.kind;
+        marked = c.context-ctx.ensures.marked;
+        numbers = c.new-sink.ensures.next;
+        counted = c.context-ctx.ensures.counted;
+        batches = c.new-source.ensures.batches ∙ ap Some (same_pieces j.batches);
+        none = c.new-sink.ensures.segments;
+        picks = c.deref.ensures.value;
+      };
+      failing = record {
+        may_of_source = c.new-source.ensures.may_fail;
+        must_of_source = c.new-source.ensures.must_fail;
+        may_of_sink = c.new-sink.ensures.may_fail;
+        must_of_sink = c.new-sink.ensures.must_fail;
+        source_none = c.new-source.ensures.faults;
+        sink_none = c.new-sink.ensures.faults;
+      };
+      halted = c.in-Err.ensures.halted;
+      source = c.in-Err.ensures.source;
+      sink = c.in-Err.ensures.sink;
+      unbuilt = λ f. (
+        rw (c.in-Err.ensures.unbuilt f).0.0 refl,
+        rw (c.in-Err.ensures.unbuilt f).1 refl,
+        rw (c.in-Err.ensures.unbuilt f).2 refl,
+        (c.in-Err.ensures.unbuilt f).0.1,
+      );
+      complete = c.in-Err.ensures.complete;
     })
-    (record {
-      of_source = c.new-source.ensures.may_fail;
-      of_sink = c.new-sink.ensures.may_fail;
-      source_none = c.new-source.ensures.faults;
-      sink_none = c.new-sink.ensures.faults;
-      source_count = c.in-Err.ensures.source.counted;
-      sink_count = c.in-Err.ensures.sink.counted;
-    })
-    c.into_segments-in-Err.ensures c.in-Err.ensures.stands c.in-Err.ensures.cause (may_come c.in-Err.refused.error _ _ _ _ _ _ _ _ _ c.in-Err.ensures.source c.in-Err.ensures.sink)
-    (record { of_source = c.new-source.ensures.must_fail; of_sink = c.new-sink.ensures.must_fail })
-    (record { batches = passed_before c.in-Err.refused.error _ _ c.in-Err.ensures.source.passed; behind = behind_batch c.in-Err.refused.error _ _ c.in-Err.ensures.source.passed; appends = c.in-Err.ensures.sink.passed })
-    (λ f. (c.in-Err.ensures.unbuilt f).0) (λ f. rw (c.in-Err.ensures.unbuilt f).1 refl) (λ f. rw (c.in-Err.ensures.unbuilt f).2 refl) c.in-Err.ensures.complete c.in-Err.ensures.last
+
+pub returns-clause-numbered : goal.returns-clause-numbered
+returns-clause-numbered c = refused_fits (job_view c.args.job) c.new-sink.ensures.next c.new-sink.ensures.segments c.into_segments-in-Err.ensures c.in-Err.ensures.halted c.in-Err.ensures.last

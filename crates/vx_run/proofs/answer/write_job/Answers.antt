@@ -1,0 +1,24 @@
+use Rattle.std.proofs.Common.{ap}
+use Rattle.std.proofs.lemmas.Result.{IfOk-weaker}
+use Rattle.std.specs.Prelude.{is_some}
+use Rattle.vx_job.specs.JobView.{job_view}
+use Rattle.vx_run.proofs.JobSteps.{written_rows, report_answers, refusal_answers}
+use Rattle.vx_run.proofs.answer.write_job.Goals as goal
+
+pub written-answer-requires-clause-readable : goal.written-answer-requires-clause-readable
+written-answer-requires-clause-readable c = ap is_some (written_rows (job_view c.args.job) c.in-Ok.ensures.ok)
+
+pub written-answer-requires-clause-numbered : goal.written-answer-requires-clause-numbered
+written-answer-requires-clause-numbered c = c.in-Ok.ensures.numbered
+
+pub written-answer-requires-clause-no_tables : goal.written-answer-requires-clause-no_tables
+written-answer-requires-clause-no_tables c = c.in-Ok.ensures.no_tables
+
+pub returns-in-Ok : goal.returns-in-Ok
+returns-in-Ok c = IfOk-weaker c.written-answer.result _ _ (λ a h. report_answers (job_view c.args.job) c.deref.ensures.value c.in-Ok.ensures.ok h) c.written-answer.ensures
+
+pub refusal-answer-requires : goal.refusal-answer-requires
+refusal-answer-requires c = c.in-Err.ensures.numbered
+
+pub returns-in-Err : goal.returns-in-Err
+returns-in-Err c = IfOk-weaker c.refusal-answer.result _ _ (λ a h. refusal_answers (job_view c.args.job) _ c.deref-in-Err.ensures.value c.in-Err.ensures.err h) c.refusal-answer.ensures

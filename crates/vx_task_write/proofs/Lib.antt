@@ -1,2 +1,0 @@
-mod WriteSteps
-mod RanSteps
