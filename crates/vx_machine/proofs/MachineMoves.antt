@@ -1,18 +1,19 @@
 -- What a machine as a whole moves.
-use Rattle.std.proofs.Common.{◌≡◌, ℕ, ◌+◌, ◌-◌, ◌<◌, ◌≤◌, Bool, true, false, refl, sym, ap, subst, arith}
+use Rattle.std.proofs.Common.{◌≡◌, ℕ, ◌+◌, ◌-◌, ◌<◌, ◌≤◌, Bool, true, false, refl, sym, ap, arith}
 use Rattle.std.proofs.lemmas.Bool.{true≢false}
 use Rattle.vx_sequence.specs.Universe.{Active}
 use Rattle.vx_machine_ids.specs.Stock.{Stock, none, both}
 use Rattle.vx_machine_ids.specs.Balance.{Owned, Moved}
 use Rattle.vx_machine_ids.proofs.MoveLaws.{moved_then, moved_drop, owned_now, owned_as, moved_as}
 use Rattle.vx_write_answer.specs.declared.error.WriteError.{WriteError}
-use Rattle.vx_write_answer.specs.declared.error.WriteError.TheVariants.{Unbuilt, OutOfMemory}
+use Rattle.vx_write_answer.specs.declared.error.WriteError.TheVariants.{Unbuilt}
 use Rattle.vx_path.specs.Path.{Eof}
 use Rattle.vx_machine_turns.specs.Forms.{Form}
-use Rattle.vx_machine.specs.Causes.{StartMay}
-use Rattle.vx_machine.specs.Starting.{FormRefused, WholeRefused}
+use Rattle.vx_machine_tasks.specs.Causes.{StartMay}
+use Rattle.vx_machine_tasks.specs.Starting.{FormRefused}
+use Rattle.vx_machine.specs.Starting.{WholeRefused}
 use Rattle.vx_machine.specs.Whole.{WholeStartMay}
-use Rattle.vx_machine.specs.Ready.{counted}
+use Rattle.vx_machine_tasks.specs.Ready.{counted}
 
 -- ---- the start, with two pointers
 
@@ -40,9 +41,6 @@ unbuilt_refused false f m e h = refl
 pub built_refused : (b : Bool) (f : Form) (m : Bool) (e : Eof) (x : WriteError) → b ≡ true → FormRefused f m e x → WholeRefused b f m e x
 built_refused true f m e x h r = r
 built_refused false f m e x h r = absurd (true≢false (sym h))
-
-pub memory_start : (e : WriteError) → e ≡ OutOfMemory → StartMay e
-memory_start e h = subst (λ x. StartMay x) (sym h) tt
 
 -- ---- a step
 

@@ -12,7 +12,7 @@ use Rattle.vx_write_answer.specs.declared.error.WriteError.TheVariants.{OutOfMem
 use Rattle.vx_machine_promises.specs.Write.{unasked}
 use Rattle.vx_machine_view.specs.Machine as whole
 use Rattle.vx_machine_view.proofs.Placing.{whole_is_ready}
-use Rattle.vx_machine.specs.Ready.{counted}
+use Rattle.vx_machine_tasks.specs.Ready.{counted}
 use Rattle.vx_machine.specs.Steps.{StepRefused}
 use Rattle.vx_machine.specs.View.{machine_of}
 use Rattle.vx_machine.specs.Whole.{machine_ready}

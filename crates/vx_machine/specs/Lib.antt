@@ -1,17 +1,7 @@
-pub mod Weight
-pub mod Stocks
-pub mod Sizes
-pub mod Ready
-pub mod Pairs
-pub mod Causes
 pub mod Calls
 pub mod Source
 pub mod Whole
 pub mod View
-pub mod Context
-pub mod Counting
-pub mod Outcome
-pub mod Acting
 pub mod SourceActs
 pub mod Steps
 pub mod Run

@@ -1,4 +1,4 @@
--- What a step did, of a task and all below it, and of the whole machine; against the steps in plain data.
+-- What a step did, of the whole machine; against the steps in plain data.
 use Rattle.std.specs.Prelude.{◌≡◌, ℕ, false, List, ◌++◌, Option, Some, None}
 use Rattle.vx_model.specs.Ty.{Ty}
 use Rattle.vx_model.specs.ChunkData.{ChunkData}
@@ -9,45 +9,12 @@ use Rattle.vx_plan.specs.PlanData.{Setting}
 use Rattle.vx_write_answer.specs.declared.step.ActionKind.{ActionKind}
 use Rattle.vx_write_answer.specs.declared.error.WriteError.{WriteError}
 use Rattle.vx_machine_promises.specs.Write.{Answer}
-use Rattle.vx_machine_view.specs.State.{Tasks}
-use Rattle.vx_machine_view.specs.Moves.{Step as TaskStep, steps}
 use Rattle.vx_machine_view.specs.Machine.{Machine, WholeStep, whole_steps}
 use Rattle.vx_sink.specs.declared.context.LayoutWriterContext.{LayoutWriterContext}
-use Rattle.vx_machine.specs.Context.{setting_of}
-use Rattle.vx_machine.specs.Outcome.{action_of, AllFit, Refused}
-use Rattle.vx_machine.specs.Acting.{Behind}
+use Rattle.vx_machine_tasks.specs.Context.{setting_of}
+use Rattle.vx_machine_tasks.specs.Outcome.{action_of, AllFit, Refused}
+use Rattle.vx_machine_tasks.specs.Acting.{Behind}
 use Rattle.vx_machine.specs.SourceActs.{AsksAt, Tells, TellsRefused}
-
--- ---- of tasks
-
--- The step at this place was done, by the task of this name, and left these tasks; what it wrote got this number.
-pub record TaskStepped (s : Setting) (all : List (List ℕ)) (k : ℕ) (before : Outlet) (number : ℕ) (after : Outlet) (cs new : Tasks) (name : List ℕ) (a : ActionKind) : Type 0 where
-  pub step : TaskStep
-  pub place : nth (steps s all number cs) k ≡ Some step
-  pub name_is : name ≡ step.name
-  pub kind : a ≡ action_of step.kind
-  pub unrefused : step.refusal ≡ None
-  pub fits : step.misfit ≡ false
-  pub counted : AllFit (step.numbers ++ step.indices)
-  pub left : new ≡ step.after
-  pub outlet : Behind before number step.wrote after
-
--- the step at this place was refused
-pub record TaskRefused (s : Setting) (all : List (List ℕ)) (k : ℕ) (before : Outlet) (number : ℕ) (cs : Tasks) (e : WriteError) : Type 0 where
-  pub step : TaskStep
-  pub place : nth (steps s all number cs) k ≡ Some step
-  pub cause : Refused step.refusal step.misfit step.numbers step.indices step.wrote (IsPast before) (IsShared before) step.joined e
-
--- whatever images there are, of which no act here asks: it was done where the next segment got some number, and is refused whatever
--- that would be
-
-abbrev pub TaskDone : LayoutWriterContext → List (List ℕ) → ℕ → Outlet → Outlet → Tasks → Tasks → List ℕ → ActionKind → Type 0
-TaskDone ctx all k before after cs new name a = (image : ℕ → ChunkData → ChunkData) → (number : ℕ) × TaskStepped (setting_of ctx image) all k before number after cs new name a
-
-abbrev pub TaskFails : LayoutWriterContext → List (List ℕ) → ℕ → Outlet → Tasks → WriteError → Type 0
-TaskFails ctx all k before cs e = (image : ℕ → ChunkData → ChunkData) (number : ℕ) → TaskRefused (setting_of ctx image) all k before number cs e
-
--- ---- of the whole machine
 
 -- The step at this place was done: what the source told in it, and what it wrote.
 pub record WholeStepped (s : Setting) (all : List (List ℕ)) (picked : ℕ) (t : Ty) (to_come to_come_then : Option (List ChunkData)) (before : Outlet) (number : ℕ) (after : Outlet) (m new : Machine) (name : List ℕ) (a : ActionKind) : Type 0 where

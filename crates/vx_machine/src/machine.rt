@@ -16,32 +16,32 @@ ghost use Rattle.vx_machine_view.specs.Machine.{is_finished as has_finished};
 ghost use Rattle.vx_machine_view.specs.Places.{whole_ready};
 ghost use Rattle.vx_sink.specs.ContextView.{is_marked};
 ghost use Rattle.vx_machine_view.specs.Built.{is_built};
-ghost use Rattle.vx_machine.specs.Calls.{SourceTold, SinkTold, reads_at};
-ghost use Rattle.vx_machine.specs.Causes.{StartMay};
-ghost use Rattle.vx_machine.specs.Outcome.{Kept};
-ghost use Rattle.vx_machine.specs.Pairs.{task_pairs, AllMay};
-ghost use Rattle.vx_machine.specs.Ready.{is_done as is_done_task, counted};
+ghost use Rattle.vx_machine_tasks.specs.Calls.{SinkTold};
+ghost use Rattle.vx_machine.specs.Calls.{SourceTold, reads_at};
+ghost use Rattle.vx_machine_tasks.specs.Causes.{StartMay};
+ghost use Rattle.vx_machine_tasks.specs.Outcome.{Kept};
+ghost use Rattle.vx_machine_tasks.specs.Pairs.{task_pairs, AllMay};
+ghost use Rattle.vx_machine_tasks.specs.Ready.{is_done as is_done_task, counted};
 ghost use Rattle.vx_machine.specs.Source.{SourceMay};
 ghost use Rattle.vx_machine.specs.SourceActs.{SourceActed, SourceRefused};
-ghost use Rattle.vx_machine.specs.Starting.{IsAllowed, Counted, Started, FormRefused, WholeRefused, machine_at};
+ghost use Rattle.vx_machine_tasks.specs.Starting.{IsAllowed, Counted, Started, FormRefused};
+ghost use Rattle.vx_machine.specs.Starting.{WholeRefused, machine_at};
 ghost use Rattle.vx_machine.specs.Steps.{StepDone, StepFails};
-ghost use Rattle.vx_machine.specs.Stocks.{task_stock};
-ghost use Rattle.vx_machine.specs.View.{form_of, task_row, row, phase_of, machine_of};
-ghost use Rattle.vx_machine.specs.declared.task.Task.{out-Task};
+ghost use Rattle.vx_machine_tasks.specs.Stocks.{task_stock};
+ghost use Rattle.vx_machine_tasks.specs.View.{form_of, task_row, row};
+ghost use Rattle.vx_machine.specs.View.{phase_of, machine_of};
+ghost use Rattle.vx_machine_tasks.specs.declared.task.Task.{out-Task};
 ghost use Rattle.vx_machine.specs.Whole.{machine_stock, machine_ready, may_source as may_act, has_closed as is_closed, is_finished, StepMay, WholeStartMay};
 
 use crate::built::is_built;
-use crate::node::Local;
-use crate::ready::{is_made, one};
 use crate::source::{Phase, act_source, give_up_phase};
-use crate::start::start_task;
-use crate::task::{Head, Task};
 use std::alloc::{AllocError, Global};
 use std::mem;
 use std::sync::Arc;
 use vx_kept::Counts;
 use vx_layout_tree::Layout;
 use vx_machine_ids::give_up_pointer;
+use vx_machine_tasks::{Task, one, start_task};
 use vx_model::DType;
 use vx_order::Order;
 use vx_path::owned::Path;
@@ -102,43 +102,6 @@ fn has_closed(phase: &Phase) -> bool
     match phase {
         Phase::Finished => true,
         Phase::Reading(_) | Phase::Giving(_, _) | Phase::Closing => false,
-    }
-}
-
-impl Task {
-    /// Whether its layout is there, and nothing else.
-    fn is_done(&self) -> bool
-        ensures { result ≡ is_done_task self.now }
-    {
-        let made = is_made(&self.head.local);
-        let idle = self.head.todo.is_empty();
-        let empty = self.head.inbox.is_empty();
-        let alone = self.kids.is_empty();
-        made && (idle && (empty && alone))
-    }
-
-    /// The layout of a task that has done all.
-    fn into_layout(self) -> Layout
-        requires { IsTrue (is_done_task self) }
-        ensures free { task_stock self ≡ none }
-        ensures layout { layouts_in (task_row self no_tasks) ≡ layout_data result ∷ [] }
-    {
-        let Task { head, kids } = self;
-        kids.destroy_empty();
-        let Head {
-            name: _name,
-            local,
-            todo,
-            inbox,
-            places: _,
-            closed: _,
-        } = head;
-        todo.destroy_empty();
-        inbox.destroy_empty();
-        match local {
-            Local::Made(layout) => layout,
-            _ => unreachable!(),
-        }
     }
 }
 

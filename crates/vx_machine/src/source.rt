@@ -11,14 +11,13 @@ ghost use Rattle.vx_write_answer.specs.Causes.{of_order};
 ghost use Rattle.vx_machine.specs.Calls.{ReadTold, SourceTold, reads_at};
 ghost use Rattle.vx_machine.specs.Source.{phase_stock, Reads, IsTyped, IsWhole, SourceMay, NoNumber};
 ghost use Rattle.vx_machine.specs.SourceActs.{IsLate, SourceActed, SourceRefused, ReadActed, ReadRefused};
-ghost use Rattle.vx_machine.specs.Stocks.{task_stock};
-ghost use Rattle.vx_machine.specs.View.{task_row, phase_of};
+ghost use Rattle.vx_machine_tasks.specs.Stocks.{task_stock};
+ghost use Rattle.vx_machine_tasks.specs.View.{task_row};
+ghost use Rattle.vx_machine.specs.View.{phase_of};
 
-use crate::columns::has_type;
-use crate::item::{Item, give_up_item};
-use crate::task::Task;
 use vx_chunk::Chunk;
 use vx_machine_ids::{give_up_id, give_up_pointer, take_id};
+use vx_machine_tasks::{Item, Task, give_up_item, has_type};
 use vx_order::{Order, OrderError};
 use vx_sequence::{SequenceId, SequencePointer};
 use vx_sink::BatchSource;

@@ -14,7 +14,7 @@ use Rattle.vx_write_answer.specs.Causes.{of_order, is_source_fault, is_sink_faul
 use Rattle.vx_fault.specs.Faults.{FaultsTold}
 use Rattle.vx_machine_ids.specs.Stock.{same, one, end_stock}
 use Rattle.vx_machine_ids.specs.Balance.{active_at, Owned, Exact}
-use Rattle.vx_machine.specs.Causes.{StartMay}
+use Rattle.vx_machine_tasks.specs.Causes.{StartMay}
 use Rattle.vx_machine.specs.Calls.{reads_in, appends_in, misfits}
 use Rattle.vx_machine.specs.Whole.{WholeStartMay}
 

@@ -16,7 +16,7 @@ ghost use Rattle.vx_write_answer.specs.declared.error.WriteError.TheVariants.{Ou
 ghost use Rattle.vx_write_answer.specs.Causes.{errs, is_source_fault, is_sink_fault};
 ghost use Rattle.vx_machine.specs.Calls.{reads_in, appends_in, asked_by};
 ghost use Rattle.vx_machine_view.specs.Built.{is_built};
-ghost use Rattle.vx_machine.specs.Context.{setting_of};
+ghost use Rattle.vx_machine_tasks.specs.Context.{setting_of};
 ghost use Rattle.vx_machine_ran.specs.Traced.{Traced};
 ghost use Rattle.vx_machine_ran.specs.Written.{Planned, Wrote, Halted};
 ghost use Rattle.vx_machine_ran.specs.Answered.{Answered};

@@ -2,7 +2,7 @@ use Rattle.std.proofs.Common.{◌≡◌, ◌≤◌, drop}
 use Rattle.vx_strategy.specs.FieldWays.{field_ways}
 use Rattle.vx_strategy.specs.StrategyView.{strategy_data}
 use Rattle.vx_machine_view.specs.Built.{are_built}
-use Rattle.vx_machine.specs.Weight.{weight, weights}
+use Rattle.vx_machine_tasks.specs.Weight.{weight, weights}
 use Rattle.vx_machine.proofs.built.+built.Given as goal
 
 abbrev pub decreases-is_built : goal.decreases-is_built

@@ -4,19 +4,21 @@ use Rattle.vx_sequence.specs.Universe.{Active}
 use Rattle.vx_machine_ids.specs.Stock.{none}
 use Rattle.vx_machine_ids.specs.Balance.{Moved}
 use Rattle.vx_machine_ids.proofs.MoveLaws.{moved_none, moved_then, owned_now}
-use Rattle.vx_machine.specs.Pairs.{task_pairs}
+use Rattle.vx_machine_tasks.specs.Pairs.{task_pairs}
 use Rattle.vx_machine.specs.Whole.{machine_stock}
-use Rattle.vx_machine.proofs.PairSteps.{all_may}
+use Rattle.vx_machine_tasks.proofs.PairSteps.{all_may}
 use Rattle.vx_machine_ids.specs.Balance.{Exact}
 use Rattle.vx_fault.specs.Faults.{FaultsTold}
 use Rattle.vx_write_answer.specs.Causes.{is_sink_fault}
-use Rattle.vx_machine.specs.Calls.{reads_action, append_action, reads_in, appends_in, reads_at}
-use Rattle.vx_machine.specs.Context.{setting_of}
-use Rattle.vx_machine.specs.Outcome.{Kept}
+use Rattle.vx_machine_tasks.specs.Calls.{reads_action, append_action}
+use Rattle.vx_machine.specs.Calls.{reads_in, appends_in, reads_at}
+use Rattle.vx_machine_tasks.specs.Context.{setting_of}
+use Rattle.vx_machine_tasks.specs.Outcome.{Kept}
 use Rattle.vx_machine.specs.Run.{at, Ran, stops_reading}
-use Rattle.vx_machine.specs.View.{row, phase_of, machine_of}
-use Rattle.vx_machine.specs.Ready.{counted}
-use Rattle.vx_machine.specs.declared.task.Task.{out-Task}
+use Rattle.vx_machine_tasks.specs.View.{row}
+use Rattle.vx_machine.specs.View.{phase_of, machine_of}
+use Rattle.vx_machine_tasks.specs.Ready.{counted}
+use Rattle.vx_machine_tasks.specs.declared.task.Task.{out-Task}
 use Rattle.vx_machine.specs.Whole.{machine_ready}
 use Rattle.vx_machine.proofs.HeldViews.{exact_then}
 use Rattle.vx_machine.proofs.RunCalls.{Answered, none_called, then_answered, reads_once, appends_once, reads_more, appends_more, ended, source_ends, sink_ends, read_stopped}

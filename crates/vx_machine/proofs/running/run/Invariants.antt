@@ -3,8 +3,9 @@ use Rattle.vx_machine_ids.specs.Balance.{Owned, Moved, Exact}
 use Rattle.vx_machine.specs.Calls.{reads_in, appends_in}
 use Rattle.vx_machine.specs.Run.{at, Ran}
 use Rattle.vx_kept.specs.Kept.{Knows}
-use Rattle.vx_machine.specs.declared.task.Task.{out-Task}
-use Rattle.vx_machine.specs.View.{row, machine_of}
+use Rattle.vx_machine_tasks.specs.declared.task.Task.{out-Task}
+use Rattle.vx_machine_tasks.specs.View.{row}
+use Rattle.vx_machine.specs.View.{machine_of}
 use Rattle.vx_machine.specs.Whole.{machine_stock}
 use Rattle.vx_machine.proofs.RunCalls.{Answered}
 use Rattle.vx_machine.proofs.running.run.Given as goal

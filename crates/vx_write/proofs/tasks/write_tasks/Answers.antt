@@ -8,7 +8,7 @@ use Rattle.vx_sink.specs.ContextView.{listed, allowed_in}
 use Rattle.vx_strategy.specs.StrategyView.{strategy_data}
 use Rattle.vx_write_answer.specs.declared.error.WriteError.TheVariants.{OutOfMemory}
 use Rattle.vx_write_answer.specs.Causes.{is_sink_fault}
-use Rattle.vx_machine.specs.Context.{setting_of}
+use Rattle.vx_machine_tasks.specs.Context.{setting_of}
 use Rattle.vx_machine_ran.specs.Answered.{Answered}
 use Rattle.vx_write.specs.Answer.{MisfitStops}
 use Rattle.vx_write.proofs.RanSteps.{handed, outlet_of, first_held, answers_told, outside_memory}

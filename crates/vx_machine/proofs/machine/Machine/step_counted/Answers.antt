@@ -2,8 +2,8 @@ use Rattle.std.proofs.Common.{◌≡◌, ℕ, ◌+◌, ◌-◌, ◌%◌, inl, re
 use Rattle.vx_sequence.specs.Universe.{Active}
 use Rattle.vx_machine_ids.specs.Stock.{one}
 use Rattle.vx_machine_ids.proofs.MoveLaws.{owned_right, moved_behind}
-use Rattle.vx_machine.specs.Ready.{counted}
-use Rattle.vx_machine.specs.Stocks.{task_stock}
+use Rattle.vx_machine_tasks.specs.Ready.{counted}
+use Rattle.vx_machine_tasks.specs.Stocks.{task_stock}
 use Rattle.vx_machine.specs.Source.{phase_stock}
 use Rattle.vx_machine.specs.Whole.{may_source, machine_ready}
 use Rattle.std.specs.FinMap as fin
@@ -12,16 +12,18 @@ use Rattle.vx_machine_view.specs.State.{no_tasks}
 use Rattle.vx_machine_view.specs.Machine as whole
 use Rattle.vx_machine_view.specs.Places.{one_if}
 use Rattle.vx_machine.specs.Calls.{reads_at}
-use Rattle.vx_machine.specs.Context.{setting_of}
-use Rattle.vx_machine.specs.View.{phase_of, task_row, row}
+use Rattle.vx_machine_tasks.specs.Context.{setting_of}
+use Rattle.vx_machine_tasks.specs.View.{task_row, row}
+use Rattle.vx_machine.specs.View.{phase_of}
 use Rattle.vx_machine.proofs.ReadyViews.{own_source, behind_source}
 use Rattle.vx_machine.proofs.StepShows.{source_stepped, source_refused, source_memory, root_stepped, root_refused}
-use Rattle.vx_machine.proofs.ActShows.{kept_same}
+use Rattle.vx_machine_tasks.proofs.ActShows.{kept_same}
 use Rattle.vx_machine.proofs.ActCauses.{act_step, source_step}
-use Rattle.vx_machine.proofs.CallSteps.{unasked_self, stops_as, source_quiet, source_act, source_appends, task_reads, task_stops, reads_behind}
+use Rattle.vx_machine_tasks.proofs.CallSteps.{unasked_self}
+use Rattle.vx_machine.proofs.CallSteps.{stops_as, source_quiet, source_act, source_appends, task_reads, task_stops, reads_behind}
 use Rattle.vx_kept.specs.Kept.{Knows, asked_of, ready_of, kids_of}
 use Rattle.vx_kept.proofs.Asking.{fresh_knows}
-use Rattle.vx_machine.specs.declared.task.Task.{out-Task}
+use Rattle.vx_machine_tasks.specs.declared.task.Task.{out-Task}
 use Rattle.vx_machine.proofs.Counting.{source_keeps}
 use Rattle.vx_machine.proofs.machine.Machine.step_counted.Goals as goal
 

@@ -1,0 +1,121 @@
+-- The next act of a task, by what is left to do and what stands on its queue.
+use Rattle.std.proofs.Common.{◌≡◌, ◌||◌, ◌==◌, not, ℕ, Bool, true, false, List, [], ◌∷◌, length, Result, Ok, Err, IfOk, IfErr, OnOk, refl, sym, ap, subst, ◌∙◌}
+use Rattle.std.proofs.lemmas.Bool.{and_parts, true≢false}
+use Rattle.std.specs.VecDeque.{deque_len}
+use Rattle.vx_model.specs.ChunkData.{ChunkData}
+use Rattle.vx_sequence.specs.Universe.{Active}
+use Rattle.vx_order.specs.Outlet.{Outlet}
+use Rattle.vx_order.specs.Answers.{IsPast, IsShared}
+use Rattle.vx_sink.specs.declared.context.LayoutWriterContext.{LayoutWriterContext}
+use Rattle.vx_sink.specs.ContextView.{listed}
+use Rattle.vx_machine_view.specs.State.{Next, Desk}
+use Rattle.vx_machine_view.specs.Acts.{Did, now, do_take, do_act}
+use Rattle.vx_write_answer.specs.declared.step.ActionKind.{ActionKind}
+use Rattle.vx_write_answer.specs.declared.step.ActionKind.TheVariants as actions
+use Rattle.vx_write_answer.specs.declared.error.WriteError.{WriteError}
+use Rattle.vx_write_answer.specs.declared.error.WriteError.TheVariants.{OutOfMemory}
+use Rattle.vx_machine_tasks.specs.declared.item.Due.{Due}
+use Rattle.vx_machine_tasks.specs.declared.item.Item.{Item}
+use Rattle.vx_machine_tasks.specs.declared.node.Local.{Local}
+use Rattle.vx_machine_tasks.specs.declared.task.Head.{Head}
+use Rattle.vx_machine_tasks.specs.declared.task.Task.{Task}
+use Rattle.vx_machine_tasks.specs.Acting.{ActRefused, DueDone, DueRefused, TakeRefused, ChunkTaken, ChunkRefused, EndTaken, TakeDone, NextTaken, NextUntaken, Acted, NextDone, NextRefused}
+use Rattle.vx_machine_tasks.specs.Context.{setting_of}
+use Rattle.vx_machine_tasks.specs.Ready.{Kid, is_over, may_now}
+use Rattle.vx_machine_tasks.specs.View.{item_of, items_of, next_of, todo_of, mind_of, desk_of, row}
+use Rattle.vx_machine_tasks.proofs.ActShows.{act_shows, act_refused}
+use Rattle.vx_machine_tasks.proofs.Readiness.{may_none}
+use Rattle.vx_machine_tasks.proofs.RefusalSteps.{any_past}
+use Rattle.vx_machine_tasks.proofs.TakeShows.{took_shows, took_refused, ended_shows, take_acts}
+use Rattle.vx_machine_tasks.proofs.ViewParts.{count_row}
+
+-- ---- from the queue
+
+-- what a take of these would do
+abbrev Takes : LayoutWriterContext → Head → List Task → List Item → (ℕ → ChunkData → ChunkData) → Did
+Takes ctx h ks xs image = do_take (setting_of ctx image) (desk_of h) (row ks) (items_of xs)
+
+module _ {A : Type 0} (ctx : LayoutWriterContext) (h : Head) (ks : List Task) where
+  module _ (i : Item) (rest : List Item) (is : h.inbox.items ≡ i ∷ rest) where
+    pub chunk_done : (e : Head) (kids : List Task) (m : Local) (todo : List Next) (r : Result A WriteError) → h.todo.items ≡ [] → desk_of e ≡ now (desk_of h) (mind_of m) todo (items_of rest)
+        → OnOk r (ChunkTaken ctx h.name (row ks) i h.local m todo (todo_of h.todo.items) (row kids)) → OnOk r (NextTaken ctx h ks e kids)
+    chunk_done e kids m todo (Ok x) idle d f = λ image.
+        subst (λ xs. TakeDone (Takes ctx h ks xs image) e kids) (sym is)
+        (took_shows (setting_of ctx image) (desk_of h) (row ks) (item_of i) (items_of rest) (mind_of h.local) (mind_of m) todo (todo_of h.todo.items) e kids (f image) (ap todo_of idle) d)
+    chunk_done e kids m todo (Err x) idle d f = tt
+
+    pub chunk_refused : (r : Result A WriteError) → IfErr r (ChunkRefused ctx h.name (row ks) i h.local) → IfErr r (NextUntaken ctx h ks)
+    chunk_refused (Ok x) f = tt
+    chunk_refused (Err e) f = λ image.
+        subst (λ xs. TakeRefused (Takes ctx h ks xs image) e) (sym is) (took_refused (setting_of ctx image) (desk_of h) (row ks) (item_of i) (items_of rest) (mind_of h.local) e (f image))
+
+  module _ (rest : List Item) (is : h.inbox.items ≡ rest) (none : rest ≡ []) where
+    pub end_done : (e : Head) (m : Local) (todo : List Next) (n : ℕ) (r : Result A WriteError) → n ≡ length ks → h.todo.items ≡ [] → desk_of e ≡ now (desk_of h) (mind_of m) todo (items_of rest)
+        → OnOk r (EndTaken h.local n m todo (todo_of h.todo.items)) → OnOk r (NextTaken ctx h ks e ks)
+    end_done e m todo n (Ok x) same idle d f = λ image.
+        subst (λ xs. TakeDone (Takes ctx h ks xs image) e ks) (sym (is ∙ none))
+        (ended_shows (desk_of h) (row ks) (mind_of m) todo e ks refl (d ∙ ap (λ (xs : List Item). now (desk_of h) (mind_of m) todo (items_of xs)) none) (mind_of h.local) (todo_of h.todo.items)
+        (ap todo_of idle) (f (row ks) (count_row ks ∙ sym same)))
+    end_done e m todo n (Err x) same idle d f = tt
+
+  -- memory may run out
+  pub end_refused : (r : Result A WriteError) → IfErr r (λ e. e ≡ OutOfMemory) → IfErr r (NextUntaken ctx h ks)
+  end_refused (Ok x) k = tt
+  end_refused (Err e) k = λ image. subst (λ z. TakeRefused (Takes ctx h ks h.inbox.items image) z) (sym k) tt
+
+-- ---- of a block
+
+module _ (ctx : LayoutWriterContext) (h : Head) (ks : List Task) (d : Due) (es : List Due) (is : h.todo.items ≡ d ∷ es) where
+  pub due_done : (e : Head) (kids : List Task) (o u : Outlet) (m : Local) (r : Result ActionKind WriteError) → desk_of e ≡ now (desk_of h) (mind_of m) (todo_of es) (items_of h.inbox.items)
+      → IfOk r (DueDone (listed ctx) h.local ks d o u m kids) → IfOk r (NextDone ctx h ks o u e kids)
+  due_done e kids o u m (Ok a) g f = λ image. (
+    f.0,
+    subst (λ zs. Acted (do_act (setting_of ctx image) f.0 (desk_of h) (row ks) (todo_of zs)) o f.0 u e kids a) (sym is)
+        (act_shows (listed ctx) f.0 (desk_of h) (row ks) (next_of d) (todo_of es) o u (mind_of m) e kids a f.1 g),
+  )
+  due_done e kids o u m (Err x) g f = tt
+
+  pub due_refused : (o : Outlet) (r : Result ActionKind WriteError) → IfErr r (DueRefused (listed ctx) h.local ks d o) → IfErr r (NextRefused ctx h ks o)
+  due_refused o (Ok a) f = tt
+  due_refused o (Err e) f = λ image n.
+      subst (λ zs. ActRefused (do_act (setting_of ctx image) n (desk_of h) (row ks) (todo_of zs)) o e) (sym is)
+      (act_refused (listed ctx) n (desk_of h) (row ks) (next_of d) (todo_of es) o e (f n))
+
+-- ---- where nothing is left of a block
+
+did_why : (w : Did) (o : Outlet) (e : WriteError) → TakeRefused w e → ActRefused w o e
+did_why w o e h = any_past w.refusal w.misfit w.numbers w.indices w.wrote (IsPast o) (IsShared o) w.joined e h
+
+module _ (ctx : LayoutWriterContext) (h : Head) (ks : List Task) (es : List Due) (is : h.todo.items ≡ es) (idle : es ≡ []) where
+  -- its desk, where that list stands for what is left
+  abbrev left : Desk
+  left = record { name = h.name; mind = mind_of h.local; todo = todo_of es; inbox = items_of h.inbox.items; places = h.places; closed = h.closed }
+
+  same : left ≡ desk_of h
+  same = λ j. record { name = h.name; mind = mind_of h.local; todo = todo_of (sym is j); inbox = items_of h.inbox.items; places = h.places; closed = h.closed }
+
+  pub take_acted : (image : ℕ → ChunkData → ChunkData) (e : Head) (kids : List Task) (o u : Outlet) → u ≡ o → TakeDone (do_take (setting_of ctx image) left (row ks) (items_of h.inbox.items)) e kids
+      → (n : ℕ) × Acted (do_act (setting_of ctx image) n (desk_of h) (row ks) (todo_of h.todo.items)) o n u e kids actions.Take
+  take_acted image e kids o u k d = (
+    0,
+    subst (λ zs. Acted (do_act (setting_of ctx image) 0 (desk_of h) (row ks) (todo_of zs)) o 0 u e kids actions.Take) (sym (is ∙ idle))
+        (take_acts (setting_of ctx image) (desk_of h) (row ks) (items_of h.inbox.items) o u 0 e kids k
+        (subst (λ c. TakeDone (do_take (setting_of ctx image) c (row ks) (items_of h.inbox.items)) e kids) same d)),
+  )
+
+  pub take_refused : (image : ℕ → ChunkData → ChunkData) (n : ℕ) (o : Outlet) (e : WriteError) → TakeRefused (do_take (setting_of ctx image) left (row ks) (items_of h.inbox.items)) e
+      → ActRefused (do_act (setting_of ctx image) n (desk_of h) (row ks) (todo_of h.todo.items)) o e
+  take_refused image n o e d =
+      subst (λ zs. ActRefused (do_act (setting_of ctx image) n (desk_of h) (row ks) (todo_of zs)) o e) (sym (is ∙ idle))
+      (did_why (do_take (setting_of ctx image) (desk_of h) (row ks) (items_of h.inbox.items)) o e
+      (subst (λ c. TakeRefused (do_take (setting_of ctx image) c (row ks) (items_of h.inbox.items)) e) same d))
+
+not_true : (b : Bool) → not b ≡ true → b ≡ false
+not_true false h = refl
+not_true true h = absurd (true≢false (sym h))
+
+-- one that may take something takes more
+pub take_open : (u : Active) (h : Head) (kids : List Kid) → h.todo.items ≡ [] → may_now u h kids ≡ true → is_over h.local ≡ false
+take_open u h kids e m =
+    let a = and_parts (not (is_over h.local)) (not (deque_len h.inbox == 0) || h.closed) (sym (may_none u h kids (ap length e)) ∙ m) in
+    not_true (is_over h.local) a.0

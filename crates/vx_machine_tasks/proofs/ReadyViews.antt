@@ -1,0 +1,174 @@
+-- Which tasks are ready, and how many, and when one has done all: as tasks in plain data tell it.
+use Rattle.std.proofs.Common.{◌≡◌, ℕ, zero, suc, ◌+◌, ◌-◌, ◌<◌, ◌≤◌, ◌&&◌, ◌||◌, ◌==◌, not, nat_lt, Bool, true, false, List, [], ◌∷◌, ◌++◌, map, length, vec_len, refl, sym, ap, ◌∙◌, arith}
+use Rattle.std.specs.Arc.{arc_value}
+use Rattle.std.specs.FinMap as fin
+use Rattle.std.specs.VecDeque.{deque_len}
+use Rattle.std.proofs.lemmas.Bool.{true≢false}
+use Rattle.std.proofs.lemmas.Bool.Decides.{nat_tests}
+use Rattle.std.proofs.lemmas.List.{length-map}
+use Rattle.vx_model.specs.Ty.{Ty, boolean, primitive, utf8, binary, list, struct, extension, is_struct}
+use Rattle.vx_model.specs.TyView.{ty}
+use Rattle.vx_sequence.specs.Universe.{Active}
+use Rattle.vx_layout_tree.specs.declared.layout.Layout.{Layout}
+use Rattle.vx_layout_tree.specs.LayoutView.{layout_data}
+use Rattle.vx_layout_tree.specs.Made.{struct_children}
+use Rattle.vx_machine_ids.specs.Stock.{one}
+use Rattle.vx_machine_view.specs.State.{Tasks, no_tasks}
+use Rattle.vx_machine_view.specs.Acts.{count, column_count, layout_in, layouts_in}
+use Rattle.vx_machine_view.specs.Moves as moves
+use Rattle.vx_machine_view.specs.Machine as whole
+use Rattle.vx_machine_view.specs.Places as places
+use Rattle.vx_machine_tasks.specs.declared.item.Item.{Item}
+use Rattle.vx_machine_tasks.specs.declared.item.Due.{Due}
+use Rattle.vx_machine_tasks.specs.declared.item.Due.TheVariants.{Put, Append, Close, Join}
+use Rattle.vx_machine_tasks.specs.declared.node.Local.{Local}
+use Rattle.vx_machine_tasks.specs.declared.node.Local.TheVariants.{Empty, Full, Chunked, Columns, Over, Made}
+use Rattle.vx_machine_tasks.specs.declared.node.Shape.{Shape}
+use Rattle.vx_machine_tasks.specs.declared.node.Shape.TheVariants as shapes
+use Rattle.vx_machine_tasks.specs.declared.task.Head.{Head}
+use Rattle.vx_machine_tasks.specs.declared.task.Task.{Task, out-Task}
+use Rattle.vx_machine_tasks.specs.Ready.{kid_of, kids_of, may_now, may_due, may_todo, room_at, all_made, can_join, is_made, is_over, ready_in, ready_among, counted, is_done}
+use Rattle.vx_machine_tasks.specs.Sizes.{task_count, count_of_all}
+use Rattle.vx_machine_tasks.specs.View.{item_of, items_of, fold_of, next_of, todo_of, mind_of, desk_of, task_row, row}
+use Rattle.vx_machine_tasks.proofs.TaskParts.{task_count_out}
+use Rattle.vx_machine_tasks.proofs.ViewParts.{row_out, count_row}
+use Rattle.vx_machine_tasks.proofs.Readiness.{ready_in_out}
+
+-- ---- whether a task may act
+
+made_view : (l : Local) → is_made l ≡ moves.is_made (mind_of l)
+made_view (Made x) = refl
+made_view (Empty n) = refl
+made_view (Full s) = refl
+made_view (Chunked n eof rows) = refl
+made_view (Columns n rows) = refl
+made_view Over = refl
+
+over_view : (l : Local) → is_over l ≡ moves.is_over (mind_of l)
+over_view (Made x) = refl
+over_view (Empty n) = refl
+over_view (Full s) = refl
+over_view (Chunked n eof rows) = refl
+over_view (Columns n rows) = refl
+over_view Over = refl
+
+pub room_view : (i : ℕ) (ks : List Task) → room_at i (kids_of ks) ≡ moves.has_room i (row ks)
+room_view zero [] = refl
+room_view (suc i) [] = refl
+room_view zero (x ∷ xs) =
+    ap (λ n. nat_lt n (out-Task x).head.places) ((out-Task x).head.inbox.ok.0 ∙ sym (length-map (out-Task x).head.inbox.items item_of))
+    ∙ sym (ap (moves.has_room zero) (row_out x (row xs)))
+room_view (suc i) (x ∷ xs) = room_view i xs ∙ sym (ap (moves.has_room (suc i)) (row_out x (row xs)))
+
+all_view : (ks : List Task) → all_made (kids_of ks) ≡ moves.all_made (row ks)
+all_view [] = refl
+all_view (x ∷ xs) = (λ i. made_view (out-Task x).head.local i && all_view xs i) ∙ sym (ap moves.all_made (row_out x (row xs)))
+
+columns_view : (t : Ty) (n : ℕ) → is_struct t ≡ true → (n == struct_children t) ≡ (n == column_count t)
+columns_view (struct fs b) n h = refl
+columns_view (boolean b) n h = absurd (true≢false (sym h))
+columns_view (primitive p b) n h = absurd (true≢false (sym h))
+columns_view (utf8 b) n h = absurd (true≢false (sym h))
+columns_view (binary b) n h = absurd (true≢false (sym h))
+columns_view (list t b) n h = absurd (true≢false (sym h))
+columns_view (extension tag t) n h = absurd (true≢false (sym h))
+
+fold_view : (f : Shape) (ks : List Task) → can_join f (length (kids_of ks)) ≡ moves.can_fold (fold_of f) (count (row ks))
+fold_view (shapes.Chunks t) ks = refl
+fold_view (shapes.Columns n rows) ks =
+    ap (λ k. k == struct_children (ty (arc_value n.dtype))) (length-map ks kid_of ∙ sym (count_row ks)) ∙ columns_view (ty (arc_value n.dtype)) (count (row ks)) n.structs
+
+due_view : (u : Active) (d : Due) (ks : List Task) → may_due u d (kids_of ks) ≡ moves.may_next (fin.keys u) (row ks) (next_of d)
+due_view u (Put c i) ks = room_view c ks
+due_view u (Append s) ks = refl
+due_view u Close ks = refl
+due_view u (Join f) ks = λ i. all_view ks i && fold_view f ks i
+
+and_true : (b : Bool) → (b && true) ≡ b
+and_true true = refl
+and_true false = refl
+
+some_there : (k : ℕ) → (suc k == 0) ≡ false
+some_there k = grind (arith, nat_tests)
+
+take_view : (l : Local) (n : ℕ) (xs : List Item) (c : Bool) → n ≡ length xs → (not (is_over l) && (not (n == 0) || c)) ≡ moves.may_take (mind_of l) (items_of xs) c
+take_view l n [] c e = ap (λ k. not (is_over l) && (not (k == 0) || c)) e ∙ ap (λ b. not b && c) (over_view l)
+take_view l n (x ∷ xs) c e =
+    ap (λ k. not (is_over l) && (not (k == 0) || c)) e ∙ ap (λ b. not (is_over l) && (not b || c)) (some_there (length xs)) ∙ and_true (not (is_over l)) ∙ ap not (over_view l)
+
+todo_view : (u : Active) (h : Head) (ks : List Task) (ds : List Due) → may_todo u h (kids_of ks) ds ≡ moves.may_act (fin.keys u) (desk_of h) (row ks) (todo_of ds)
+todo_view u h ks [] = take_view h.local (deque_len h.inbox) h.inbox.items h.closed h.inbox.ok.0
+todo_view u h ks (d ∷ ds) = due_view u d ks
+
+pub may_view : (u : Active) (h : Head) (ks : List Task) → may_now u h (kids_of ks) ≡ moves.may_act (fin.keys u) (desk_of h) (row ks) (todo_of h.todo.items)
+may_view u h ks = todo_view u h ks h.todo.items
+
+-- ---- how many are ready
+
+pub one_same : (b : Bool) → one b ≡ places.one_if b
+one_same true = refl
+one_same false = refl
+
+-- of a task with any others behind it
+abbrev Agrees : Active → Task → Type 0
+Agrees u x = (r : Tasks) → places.ready_in (fin.keys u) (task_row x r) ≡ ready_in u x + places.ready_in (fin.keys u) r
+
+kids_by : (u : Active) (n : ℕ) → ((x : Task) → task_count x ≤ n → Agrees u x) → (ts : List Task) → count_of_all ts ≤ n → places.ready_in (fin.keys u) (row ts) ≡ ready_among u ts
+kids_by u n each [] l = refl
+kids_by u n each (x ∷ xs) l = each x (omega (arith, l)) (row xs) ∙ ap (λ k. ready_in u x + k) (kids_by u n each xs (omega (arith, l)))
+
+upto : (u : Active) (n : ℕ) (x : Task) → task_count x ≤ n → Agrees u x
+upto u zero x l = λ r. absurd (omega (arith, task_count_out x, l))
+upto u (suc n) x l = λ r.
+    let h = (out-Task x).head in
+    let ks = (out-Task x).kids.items in
+    let m : task_count x ≡ 1 + count_of_all ks = task_count_out x in
+    let k : places.ready_in (fin.keys u) (row ks) ≡ ready_among u ks = kids_by u n (upto u n) ks (omega (arith, m, l)) in
+    let o : places.one_if (moves.may_act (fin.keys u) (desk_of h) (row ks) (todo_of h.todo.items)) ≡ one (may_now u h (kids_of ks)) = ap places.one_if (sym (may_view u h ks)) ∙ sym (one_same (may_now u h (kids_of ks))) in
+    let e : ready_in u x ≡ one (may_now u h (kids_of ks)) + ready_among u ks = ready_in_out u x in
+    let a : places.ready_in (fin.keys u) (task_row x r) ≡ (places.one_if (moves.may_act (fin.keys u) (desk_of h) (row ks) (todo_of h.todo.items)) + places.ready_in (fin.keys u) (row ks)) + places.ready_in (fin.keys u) r
+    = ap (places.ready_in (fin.keys u)) (row_out x r) in
+    omega (arith, k, o, e, a)
+
+pub task_ready : (u : Active) (x : Task) → places.ready_in (fin.keys u) (task_row x no_tasks) ≡ ready_in u x
+task_ready u x = let e : places.ready_in (fin.keys u) (task_row x no_tasks) ≡ ready_in u x + 0 = upto u (task_count x) x (omega arith) no_tasks in omega (arith, e)
+
+pub kids_ready : (u : Active) (ts : List Task) → places.ready_in (fin.keys u) (row ts) ≡ ready_among u ts
+kids_ready u ts = kids_by u (count_of_all ts) (upto u (count_of_all ts)) ts (omega arith)
+
+-- a task's own step comes first, its children's behind it
+pub none_before : (b : Bool) (n k : ℕ) → n ≡ one b → k < n → k ≡ 0
+none_before true n k e h = omega (arith, e, h)
+none_before false n k e h = omega (arith, e, h)
+
+pub behind_own : (u : Active) (t : Task) (k n : ℕ) → n ≡ one (may_now u (out-Task t).head (kids_of (out-Task t).kids.items)) → n ≤ k → k < counted (ready_in u t)
+    → (k ≡ places.one_if (moves.may_act (fin.keys u) (desk_of (out-Task t).head) (row (out-Task t).kids.items) (todo_of (out-Task t).head.todo.items)) + (k - n))
+    × (k - n < places.ready_in (fin.keys u) (row (out-Task t).kids.items))
+behind_own u t k n x l h =
+    let hd = (out-Task t).head in
+    let ks = (out-Task t).kids.items in
+    let o : places.one_if (moves.may_act (fin.keys u) (desk_of hd) (row ks) (todo_of hd.todo.items)) ≡ one (may_now u hd (kids_of ks)) = ap places.one_if (sym (may_view u hd ks)) ∙ sym (one_same (may_now u hd (kids_of ks))) in
+    let r : places.ready_in (fin.keys u) (row ks) ≡ ready_among u ks = kids_ready u ks in
+    let e : ready_in u t ≡ one (may_now u hd (kids_of ks)) + ready_among u ks = ready_in_out u t in
+    (omega (arith, o, x, l), omega (arith, o, x, l, h, r, e))
+
+empty_by : {A B : Type 0} (f : A → B) (n : ℕ) (xs : List A) → n ≡ length xs → (n == 0) ≡ whole.is_empty (map f xs)
+empty_by f n [] e = ap (λ k. k == 0) e
+empty_by f n (x ∷ xs) e = ap (λ k. k == 0) e ∙ some_there (length xs)
+
+none_by : (n : ℕ) (ts : List Task) → n ≡ length ts → (n == 0) ≡ whole.no_more (row ts)
+none_by n [] e = ap (λ k. k == 0) e
+none_by n (x ∷ xs) e = ap (λ k. k == 0) e ∙ some_there (length xs) ∙ sym (ap whole.no_more (row_out x (row xs)))
+
+pub done_view : (t : Task) → is_done t ≡ whole.is_done (task_row t no_tasks)
+done_view t =
+    let h = (out-Task t).head in
+    let ks = (out-Task t).kids in
+    let idle : (deque_len h.todo == 0) ≡ whole.is_empty (todo_of h.todo.items) = empty_by next_of (deque_len h.todo) h.todo.items h.todo.ok.0 in
+    let empty : (deque_len h.inbox == 0) ≡ whole.is_empty (items_of h.inbox.items) = empty_by item_of (deque_len h.inbox) h.inbox.items h.inbox.ok.0 in
+    let alone : (vec_len ks == 0) ≡ whole.no_more (row ks.items) = none_by (vec_len ks) ks.items ks.ok.0 in
+    (λ i. made_view h.local i && (idle i && (empty i && alone i))) ∙ sym (ap whole.is_done (row_out t no_tasks))
+
+-- a task that has its layout
+pub layout_view : (t : Task) (x : Layout) → (out-Task t).head.local ≡ Made x → layouts_in (task_row t no_tasks) ≡ layout_data x ∷ []
+layout_view t x e = ap layouts_in (row_out t no_tasks) ∙ ap (λ l. layout_in (mind_of l) ++ []) e

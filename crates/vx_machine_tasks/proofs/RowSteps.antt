@@ -1,0 +1,165 @@
+-- Children in plain data: a put on one's queue, the closing of all queues, and the layouts of those that have done all.
+use Rattle.std.proofs.Common.{◌≡◌, ℕ, zero, suc, ◌+◌, ◌<◌, Bool, true, List, [], ◌∷◌, ◌++◌, length, get_or, set, map, reverse, Option, Some, None, refl, sym, ap, subst, ◌∙◌, arith, append_assoc, append-nil}
+use Rattle.std.proofs.lemmas.List.{reverse-append}
+use Rattle.vx_model.specs.Ty.{Ty}
+use Rattle.vx_path.specs.Path.{Eof, under, inside}
+use Rattle.vx_layout_spec.specs.LayoutTree.{LayoutData}
+use Rattle.vx_layout_tree.specs.declared.layout.Layout.{Layout}
+use Rattle.vx_layout_tree.specs.LayoutView.{layout_data}
+use Rattle.vx_plan.specs.PlanData.{What, not_struct, duplicate_field, Item as Piece}
+use Rattle.vx_strategy_spec.specs.StrategyData.{StrategyData}
+use Rattle.vx_machine_turns.specs.Acts.{or_else}
+use Rattle.vx_machine_turns.specs.Forms.{Form}
+use Rattle.vx_machine_turns.specs.Starts.{start_fault}
+use Rattle.vx_machine_view.specs.State.{Tasks, no_tasks, task_then}
+use Rattle.vx_machine_view.specs.Start.{first_indices, started_task}
+use Rattle.vx_machine_view.specs.Acts.{count, add, with_item, give, shut_desk, shut_all, layout_in, layouts_in}
+use Rattle.vx_machine_tasks.specs.declared.task.Task.{Task, out-Task}
+use Rattle.vx_write_answer.specs.declared.error.WriteError.{WriteError}
+use Rattle.vx_write_answer.specs.declared.error.WriteError.TheVariants.{SourceFault, SinkFault, CompressFault, BatchType, NotStruct, DuplicateField, ManyChunks, EmptyList, ZoneCut, ForbiddenAggregate, ForbiddenEncoding, TooLarge, OutOfMemory, Unbuilt, Stopped}
+use Rattle.vx_machine_tasks.specs.Starting.{Started, StartRefused, OneRefused, TooFar}
+use Rattle.vx_machine_tasks.specs.View.{form_at, mind_of, desk_of, task_row, row}
+use Rattle.vx_machine_tasks.proofs.ViewParts.{row_out, row_push, count_row}
+use Rattle.vx_machine_tasks.proofs.Readiness.{none_is}
+
+-- ---- a put
+
+pub put_row : (ts : List Task) (n : ℕ) (x y : Task) (i : Piece) → n < length ts → get_or ts n x ≡ x
+    → ((r : Tasks) → task_row y r ≡ task_then (with_item (desk_of (out-Task x).head) i) (row (out-Task x).kids.items) r)
+    → row (set ts n y) ≡ give n i (row ts)
+put_row [] n x y i h e f = absurd (omega (arith, h))
+put_row (t ∷ ts) zero x y i h e f =
+    f (row ts) ∙ ap (give zero i) (sym (row_out x (row ts))) ∙ ap (λ z. give zero i (task_row z (row ts))) (sym e)
+put_row (t ∷ ts) (suc n) x y i h e f =
+    ap (task_row t) (put_row ts n x y i (omega (arith, h)) e f)
+    ∙ row_out t (give n i (row ts))
+    ∙ ap (give (suc n) i) (sym (row_out t (row ts)))
+
+-- ---- all queues closed, one after the other
+
+abbrev pub shut_at : ℕ → Tasks → Tasks
+shut_at n no_tasks = no_tasks
+shut_at zero (task_then c ks r) = task_then (shut_desk c) ks r
+shut_at (suc n) (task_then c ks r) = task_then c ks (shut_at n r)
+
+-- the first n
+abbrev pub shut_first : ℕ → Tasks → Tasks
+shut_first zero r = r
+shut_first (suc n) no_tasks = no_tasks
+shut_first (suc n) (task_then c ks r) = task_then (shut_desk c) ks (shut_first n r)
+
+shut_next : (n : ℕ) (r : Tasks) → shut_at n (shut_first n r) ≡ shut_first (suc n) r
+shut_next zero no_tasks = refl
+shut_next zero (task_then c ks r) = refl
+shut_next (suc n) no_tasks = refl
+shut_next (suc n) (task_then c ks r) = ap (task_then (shut_desk c) ks) (shut_next n r)
+
+shut_end : (n : ℕ) (r : Tasks) → count r ≡ n → shut_first n r ≡ shut_all r
+shut_end zero no_tasks h = refl
+shut_end zero (task_then c ks r) h = absurd (omega (arith, h))
+shut_end (suc n) no_tasks h = refl
+shut_end (suc n) (task_then c ks r) h = ap (task_then (shut_desk c) ks) (shut_end n r (omega (arith, h)))
+
+shut_row : (ts : List Task) (n : ℕ) (x y : Task) → n < length ts → get_or ts n x ≡ x
+    → ((r : Tasks) → task_row y r ≡ task_then (shut_desk (desk_of (out-Task x).head)) (row (out-Task x).kids.items) r)
+    → row (set ts n y) ≡ shut_at n (row ts)
+shut_row [] n x y h e f = absurd (omega (arith, h))
+shut_row (t ∷ ts) zero x y h e f =
+    f (row ts) ∙ ap (shut_at zero) (sym (row_out x (row ts))) ∙ ap (λ z. shut_at zero (task_row z (row ts))) (sym e)
+shut_row (t ∷ ts) (suc n) x y h e f =
+    ap (task_row t) (shut_row ts n x y (omega (arith, h)) e f)
+    ∙ row_out t (shut_at n (row ts))
+    ∙ ap (shut_at (suc n)) (sym (row_out t (row ts)))
+
+pub shut_more : (ts all : List Task) (n : ℕ) (x y : Task) → n < length ts → get_or ts n x ≡ x
+    → ((r : Tasks) → task_row y r ≡ task_then (shut_desk (desk_of (out-Task x).head)) (row (out-Task x).kids.items) r)
+    → row ts ≡ shut_first n (row all) → row (set ts n y) ≡ shut_first (n + 1) (row all)
+shut_more ts all n x y h e f is =
+    let k : suc n ≡ n + 1 = omega arith in
+    shut_row ts n x y h e f ∙ ap (shut_at n) is ∙ shut_next n (row all) ∙ ap (λ m. shut_first m (row all)) k
+
+pub shut_done : (ts all : List Task) (n : ℕ) → length all ≡ n → row ts ≡ shut_first n (row all) → row ts ≡ shut_all (row all)
+shut_done ts all n h is = is ∙ shut_end n (row all) (count_row all ∙ h)
+
+-- ---- layouts, from the last one on
+
+layouts_first : (t : Task) (r : Tasks) → layouts_in (task_row t r) ≡ layout_in (mind_of (out-Task t).head.local) ++ layouts_in r
+layouts_first t r = ap layouts_in (row_out t r)
+
+layouts_push : (ts : List Task) (t : Task) → layouts_in (row (ts ++ (t ∷ []))) ≡ layouts_in (row ts) ++ layout_in (mind_of (out-Task t).head.local)
+layouts_push [] t = layouts_first t no_tasks ∙ append-nil (layout_in (mind_of (out-Task t).head.local))
+layouts_push (x ∷ ts) t =
+    layouts_first x (row (ts ++ (t ∷ [])))
+    ∙ ap (λ z. layout_in (mind_of (out-Task x).head.local) ++ z) (layouts_push ts t)
+    ∙ sym (append_assoc (layout_in (mind_of (out-Task x).head.local)) (layouts_in (row ts)) (layout_in (mind_of (out-Task t).head.local)))
+    ∙ ap (λ z. z ++ layout_in (mind_of (out-Task t).head.local)) (sym (layouts_first x (row ts)))
+
+back_push : (ls : List Layout) (m : Layout) → map layout_data (reverse (ls ++ (m ∷ []))) ≡ layout_data m ∷ map layout_data (reverse ls)
+back_push ls m = ap (map layout_data) (reverse-append ls (m ∷ []))
+
+pub layouts_more : (init : List (LayoutData ℕ)) (all xs : List Task) (k : Task) (ls more : List Layout) (m : Layout) → all ≡ xs ++ (k ∷ []) → more ≡ ls ++ (m ∷ [])
+    → layout_in (mind_of (out-Task k).head.local) ≡ layout_data m ∷ []
+    → layouts_in (row all) ++ map layout_data (reverse ls) ≡ init → layouts_in (row xs) ++ map layout_data (reverse more) ≡ init
+layouts_more init all xs k ls more m a b is h =
+    ap (λ z. layouts_in (row xs) ++ map layout_data (reverse z)) b
+    ∙ ap (λ z. layouts_in (row xs) ++ z) (back_push ls m)
+    ∙ sym (append_assoc (layouts_in (row xs)) (layout_data m ∷ []) (map layout_data (reverse ls)))
+    ∙ ap (λ z. (layouts_in (row xs) ++ z) ++ map layout_data (reverse ls)) (sym is)
+    ∙ ap (λ z. z ++ map layout_data (reverse ls)) (sym (layouts_push xs k))
+    ∙ ap (λ z. layouts_in (row z) ++ map layout_data (reverse ls)) (sym a)
+    ∙ h
+
+-- before the first one is taken
+pub layouts_none : (ts : List Task) (ls : List Layout) → ls ≡ [] → layouts_in (row ts) ++ map layout_data (reverse ls) ≡ layouts_in (row ts)
+layouts_none ts ls e = ap (λ z. layouts_in (row ts) ++ map layout_data (reverse z)) e ∙ append-nil (layouts_in (row ts))
+
+-- behind the last one
+pub layouts_all : (init : List (LayoutData ℕ)) (ts : List Task) (ls back : List Layout) → length ts ≡ 0 → back ≡ reverse ls
+    → layouts_in (row ts) ++ map layout_data (reverse ls) ≡ init → map layout_data back ≡ init
+layouts_all init ts ls back n b h =
+    ap (map layout_data) b ∙ ap (λ z. layouts_in (row z) ++ map layout_data (reverse ls)) (sym (none_is ts n)) ∙ h
+
+-- ---- a child that is started with a chunk on its queue, which is closed
+
+pub fed_row : (t u v : Task) (i : Piece) → ((r : Tasks) → task_row u r ≡ task_then (with_item (desk_of (out-Task t).head) i) (row (out-Task t).kids.items) r)
+    → ((r : Tasks) → task_row v r ≡ task_then (shut_desk (desk_of (out-Task u).head)) (row (out-Task u).kids.items) r)
+    → (r : Tasks) → task_row v r ≡ task_then (shut_desk (with_item (desk_of (out-Task t).head) i)) (row (out-Task t).kids.items) r
+fed_row t u v i a b r = b r ∙ ap (shut_at zero) (sym (row_out u r) ∙ a r)
+
+pub chunk_row : (f : Form) (m : Bool) (at : List ℕ) (e : Eof) (k t : Task) (i : Piece) (ks more : List Task) → Started f m (under at (length ks)) e k
+    → ((r : Tasks) → task_row t r ≡ task_then (shut_desk (with_item (desk_of (out-Task k).head) i)) (row (out-Task k).kids.items) r)
+    → more ≡ ks ++ (t ∷ []) → row more ≡ add (row ks) (started_task f m (under at (count (row ks))) e (i ∷ []) true)
+chunk_row f m at e k t i ks more s fed is =
+    ap row is ∙ row_push ks t
+    ∙ ap (add (row ks)) (fed no_tasks ∙ ap (λ z. shut_at zero (give zero i z)) (sym (row_out k no_tasks) ∙ s.tasks no_tasks))
+    ∙ ap (λ n. add (row ks) (started_task f m (under at n) e (i ∷ []) true)) (sym (count_row ks))
+
+-- a form at a type, and a name, in other words
+pub started_as : (w : StrategyData) (t u : Ty) (m : Bool) (a b : List ℕ) (e : Eof) (k : Task) → t ≡ u → a ≡ b → Started (form_at w t) m a e k → Started (form_at w u) m b e k
+started_as w t u m a b e k x y h = subst (λ z. Started (form_at w z) m b e k) x (subst (λ z. Started (form_at w t) m z e k) y h)
+
+or_none : (o : Option What) (x : What) → or_else o None ≡ Some x → o ≡ Some x
+or_none None x h = h
+or_none (Some y) x h = h
+
+-- one column's refusal, as that of the form
+pub one_refused : (f : Form) (m : Bool) (e : Eof) (x : WriteError) → OneRefused f m e x → StartRefused (λ s. start_fault s f m) ((e.last + 1) ∷ first_indices f (inside e)) x
+one_refused f m e NotStruct h = λ s. or_none (start_fault s f m) not_struct (h s)
+one_refused f m e (DuplicateField name) h = λ s. or_none (start_fault s f m) (duplicate_field name) (h s)
+one_refused f m e (TooLarge n) h = (h.0, subst (λ zs. TooFar ((e.last + 1) ∷ zs)) (append-nil (first_indices f (inside e))) h.1)
+one_refused f m e OutOfMemory h = tt
+one_refused f m e SourceFault h = absurd h
+one_refused f m e SinkFault h = absurd h
+one_refused f m e CompressFault h = absurd h
+one_refused f m e (BatchType c) h = absurd h
+one_refused f m e ManyChunks h = absurd h
+one_refused f m e EmptyList h = absurd h
+one_refused f m e (ZoneCut n) h = absurd h
+one_refused f m e (ForbiddenAggregate id) h = absurd h
+one_refused f m e (ForbiddenEncoding id) h = absurd h
+one_refused f m e Unbuilt h = absurd h
+one_refused f m e (Stopped by name) h = absurd h
+
+pub one_refused_as : (w : StrategyData) (t u : Ty) (m : Bool) (e : Eof) (x : WriteError) → t ≡ u → OneRefused (form_at w t) m e x
+    → StartRefused (λ s. start_fault s (form_at w u) m) ((e.last + 1) ∷ first_indices (form_at w u) (inside e)) x
+one_refused_as w t u m e x is h = one_refused (form_at w u) m e x (subst (λ z. OneRefused (form_at w z) m e x) is h)

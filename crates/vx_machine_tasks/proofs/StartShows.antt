@@ -1,0 +1,323 @@
+-- What starts make is what the form starts, column by column.
+use Rattle.std.proofs.Common.{◌≡◌, ℕ, suc, ◌+◌, ◌^◌, ◌<◌, ◌≤◌, ◌||◌, Bool, true, false, List, [], ◌∷◌, ◌++◌, length, map, Option, Some, None, refl, sym, ap, ap₂, subst, ◌∙◌, inl, inr, ⊎_elim, get_or, drop, arith}
+use Rattle.std.proofs.lemmas.List.{drop_more, drop_all, length-append}
+use Rattle.vx_model.specs.declared.dtype.StructField.{StructField}
+use Rattle.vx_model.specs.TyView.{ty, field_ty}
+use Rattle.vx_model.proofs.Views.{field_ty_is}
+use Rattle.vx_model.specs.Ty.{Ty, Tys, boolean, primitive, utf8, binary, list, struct, extension, no_fields, field, fields_in, nullable, is_struct}
+use Rattle.vx_path.specs.Lists.{In}
+use Rattle.vx_path.specs.Path.{Eof, under, inside, next}
+use Rattle.vx_path.proofs.Lists.{in_left, in_right, in_cases}
+use Rattle.vx_chunk_cells.specs.Parts.{struct_fields}
+use Rattle.vx_layout_tree.specs.Children.{fields_of}
+use Rattle.vx_strategy_spec.specs.StrategyData.{StrategyData}
+use Rattle.vx_strategy_spec.specs.Walk.{chosen, duplicate, field_nodes, walk, walk_named}
+use Rattle.vx_strategy_spec.specs.Dispatch.{override, given_or}
+use Rattle.vx_strategy_spec.proofs.Lookups.{made, find_own}
+use Rattle.vx_strategy.specs.FieldWays.{field_ways}
+use Rattle.vx_strategy.specs.NodeViews.{struct_way}
+use Rattle.vx_strategy.specs.declared.structs.StructStrategy.{StructStrategy}
+use Rattle.vx_plan.specs.PlanData.{Setting, What, not_struct, duplicate_field}
+use Rattle.vx_machine_turns.specs.Acts.{or_else}
+use Rattle.vx_machine_turns.specs.Forms.{Form, Forms, struct_form, no_forms, form_then, forms_of, form_nodes}
+use Rattle.vx_machine_turns.specs.Starts.{start_fault, start_faults}
+use Rattle.vx_machine_view.specs.State.{Tasks, no_tasks, task_then}
+use Rattle.vx_machine_view.specs.Start.{waiting, first_mind, first_kids, field_tasks, form_count, first_indices, field_indices}
+use Rattle.vx_machine_view.specs.Acts.{add}
+use Rattle.vx_write_answer.specs.declared.error.WriteError.{WriteError}
+use Rattle.vx_write_answer.specs.declared.error.WriteError.TheVariants as errors
+use Rattle.vx_machine_tasks.specs.declared.node.Local.{Local}
+use Rattle.vx_machine_tasks.specs.declared.task.Task.{Task}
+use Rattle.vx_machine_tasks.specs.View.{form_at, mind_of, task_row, row}
+use Rattle.vx_machine_tasks.specs.Outcome.{AllFit}
+use Rattle.vx_machine_tasks.specs.Starting.{Counted, writer_of, field_form, field_forms, validity_form, validity_forms, columns_form, Started, ManyStarted, OneStarted, AllStarted, TooFar, StartRefused, many_indices, ManyRefused, OneRefused, PointerRefused, NodeRefused}
+use Rattle.vx_machine_tasks.proofs.Fitting.{none_fit, then_fit, one_fits, both_fit, first_fits, rest_fit, left_fit}
+use Rattle.vx_machine_tasks.proofs.ViewParts.{add_none, add_add, row_push}
+
+no_true : false ≡ true → ⊥
+no_true e = cc
+
+none_some : {A : Type 0} (x : A) → None ≡ Some x → ⊥
+none_some x e = cc
+
+-- ---- forms
+
+-- a field's node is that of its writer
+fields_are : (s : StructStrategy) (fs : Tys) → forms_of (field_nodes (walk form_nodes s.default.item) (walk_named form_nodes (field_ways s.writers.items)) fs) ≡ field_forms s (fields_in fs)
+fields_are s no_fields = refl
+fields_are s (field name t fs) = ap₂ form_then (ap (λ o. chosen o t (walk form_nodes s.default.item t)) (find_own form_nodes name (field_ways s.writers.items)) ∙ go (override name (field_ways s.writers.items))) (fields_are s fs)
+  where
+    go : (o : Option StrategyData) → chosen (made form_nodes o) t (walk form_nodes s.default.item t) ≡ walk form_nodes (given_or o s.default.item) t
+    go None = refl
+    go (Some w) = refl
+
+pub plain_form : (s : StructStrategy) (t : Ty) → is_struct t ≡ true → duplicate (struct_fields t) ≡ None → form_at (struct_way s) t ≡ columns_form s t
+plain_form s (struct fs n) h d = λ j. struct_form fs n (d j) (validity_form s) (fields_are s fs j)
+plain_form s (boolean n) h d = absurd (no_true h)
+plain_form s (primitive p n) h d = absurd (no_true h)
+plain_form s (utf8 n) h d = absurd (no_true h)
+plain_form s (binary n) h d = absurd (no_true h)
+plain_form s (list t n) h d = absurd (no_true h)
+plain_form s (extension tag t) h d = absurd (no_true h)
+
+pub typed : (t : Ty) → is_struct t ≡ true → t ≡ struct (struct_fields t) (nullable t)
+typed (struct fs n) h = refl
+typed (boolean n) h = absurd (no_true h)
+typed (primitive p n) h = absurd (no_true h)
+typed (utf8 n) h = absurd (no_true h)
+typed (binary n) h = absurd (no_true h)
+typed (list t n) h = absurd (no_true h)
+typed (extension tag t) h = absurd (no_true h)
+
+-- a field's form, by what its writer and its type are
+pub field_form_is : (s : StructStrategy) (f : StructField) (w : StrategyData) (t : Ty) → w ≡ writer_of s f.name → t ≡ ty f.dtype → form_at w t ≡ field_form s (field_ty f)
+field_form_is s f w t a b = (λ j. form_at (a j) (b j)) ∙ sym (ap (field_form s) (field_ty_is f))
+
+-- fields from place i on, at one more step
+pub fields_more : (s : StructStrategy) (xs : List StructField) (i : ℕ) (x : StructField) → i < length xs → x ≡ get_or xs i x
+    → field_forms s (map field_ty (drop i xs)) ≡ form_then (field_form s (field_ty x)) (field_forms s (map field_ty (drop (i + 1) xs)))
+fields_more s xs i x lt is = ap (λ z. field_forms s (map field_ty z)) (drop_more xs i x lt ∙ ap (λ z. z ∷ drop (i + 1) xs) (sym is))
+
+pub fields_end : (s : StructStrategy) (xs : List StructField) (i : ℕ) → length xs ≤ i → field_forms s (map field_ty (drop i xs)) ≡ no_forms
+fields_end s xs i h = ap (λ z. field_forms s (map field_ty z)) (drop_all i xs h)
+
+-- ---- refusals
+
+-- the same, said of others
+pub refused_as : (f g : Setting → Option What) (is js : List ℕ) (x : WriteError) → ((s : Setting) (w : What) → f s ≡ Some w → g s ≡ Some w) → (TooFar is → TooFar js) → StartRefused f is x → StartRefused g js x
+refused_as f g is js errors.NotStruct same far h = λ s. same s not_struct (h s)
+refused_as f g is js (errors.DuplicateField name) same far h = λ s. same s (duplicate_field name) (h s)
+refused_as f g is js (errors.TooLarge n) same far h = (h.0, far h.1)
+refused_as f g is js errors.OutOfMemory same far h = tt
+refused_as f g is js errors.SourceFault same far h = absurd h
+refused_as f g is js errors.SinkFault same far h = absurd h
+refused_as f g is js errors.CompressFault same far h = absurd h
+refused_as f g is js (errors.BatchType c) same far h = absurd h
+refused_as f g is js errors.ManyChunks same far h = absurd h
+refused_as f g is js errors.EmptyList same far h = absurd h
+refused_as f g is js (errors.ZoneCut n) same far h = absurd h
+refused_as f g is js (errors.ForbiddenAggregate id) same far h = absurd h
+refused_as f g is js (errors.ForbiddenEncoding id) same far h = absurd h
+refused_as f g is js errors.Unbuilt same far h = absurd h
+refused_as f g is js (errors.Stopped by name) same far h = absurd h
+
+pub memory_refused : (f : Setting → Option What) (is : List ℕ) (x : WriteError) → x ≡ errors.OutOfMemory → StartRefused f is x
+memory_refused f is x e = subst (λ y. StartRefused f is y) (sym e) tt
+
+other_type : (s : StructStrategy) (m : Bool) (c : Setting) (t : Ty) → is_struct t ≡ false → start_fault c (form_at (struct_way s) t) m ≡ Some not_struct
+other_type s m c (struct fs n) h = absurd (no_true (sym h))
+other_type s m c (boolean n) h = refl
+other_type s m c (primitive p n) h = refl
+other_type s m c (utf8 n) h = refl
+other_type s m c (binary n) h = refl
+other_type s m c (list t n) h = refl
+other_type s m c (extension tag t) h = refl
+
+twice_named : (s : StructStrategy) (m : Bool) (c : Setting) (name : List ℕ) (t : Ty) → is_struct t ≡ true → duplicate (struct_fields t) ≡ Some name → start_fault c (form_at (struct_way s) t) m ≡ Some (duplicate_field name)
+twice_named s m c name (struct fs n) h d = ap (λ o. start_fault c (struct_form fs n o (validity_form s) (forms_of (field_nodes (walk form_nodes s.default.item) (walk_named form_nodes (field_ways s.writers.items)) fs))) m) d
+twice_named s m c name (boolean n) h d = absurd (no_true h)
+twice_named s m c name (primitive p n) h d = absurd (no_true h)
+twice_named s m c name (utf8 n) h d = absurd (no_true h)
+twice_named s m c name (binary n) h d = absurd (no_true h)
+twice_named s m c name (list t n) h d = absurd (no_true h)
+twice_named s m c name (extension tag t) h d = absurd (no_true h)
+
+-- of a struct node
+pub node_refused : (s : StructStrategy) (t : Ty) (m : Bool) (is : List ℕ) (x : WriteError) → NodeRefused t x → StartRefused (λ c. start_fault c (form_at (struct_way s) t) m) is x
+node_refused s t m is errors.NotStruct h = λ c. other_type s m c t h
+node_refused s t m is (errors.DuplicateField name) h = λ c. twice_named s m c name t h.0 h.1
+node_refused s t m is errors.OutOfMemory h = tt
+node_refused s t m is (errors.TooLarge n) h = absurd h
+node_refused s t m is errors.SourceFault h = absurd h
+node_refused s t m is errors.SinkFault h = absurd h
+node_refused s t m is errors.CompressFault h = absurd h
+node_refused s t m is (errors.BatchType c) h = absurd h
+node_refused s t m is errors.ManyChunks h = absurd h
+node_refused s t m is errors.EmptyList h = absurd h
+node_refused s t m is (errors.ZoneCut n) h = absurd h
+node_refused s t m is (errors.ForbiddenAggregate id) h = absurd h
+node_refused s t m is (errors.ForbiddenEncoding id) h = absurd h
+node_refused s t m is errors.Unbuilt h = absurd h
+node_refused s t m is (errors.Stopped by name) h = absurd h
+
+or_some : (x y : Option What) (w : What) → x ≡ Some w → or_else x y ≡ Some w
+or_some x y w e = ap (λ z. or_else z y) e
+
+or_nil : (x : Option What) → or_else x None ≡ x
+or_nil None = refl
+or_nil (Some w) = refl
+
+-- a column's task is refused, or its pointer
+pub task_refused : (f : Form) (m : Bool) (e : Eof) (x : WriteError) → StartRefused (λ s. start_fault s f m) (first_indices f (inside e)) x → OneRefused f m e x
+task_refused f m e x h = refused_as (λ s. start_fault s f m) (λ s. start_faults s (form_then f no_forms) m) (first_indices f (inside e)) (many_indices (form_then f no_forms) e) x
+    (λ s w a. or_some (start_fault s f m) None w a) (λ p. (p.0, inr (in_left p.0 (first_indices f (inside e)) [] p.1), p.2)) h
+
+pub pointer_refused : (f : Form) (m : Bool) (e : Eof) (x : WriteError) → PointerRefused e.last x → OneRefused f m e x
+pointer_refused f m e x h = refused_as (λ s. None) (λ s. start_faults s (form_then f no_forms) m) ((e.last + 1) ∷ []) (many_indices (form_then f no_forms) e) x
+    (λ s w a. absurd (none_some w a)) (λ p. (p.0, ⊎_elim (λ a. inl a) (λ a. absurd a) p.1, p.2)) h
+
+-- ---- one task
+
+pub started : (f : Form) (m : Bool) (name : List ℕ) (e : Eof) (l : Local) (ks : List Task) (t : Task) → ((s : Setting) → start_fault s f m ≡ None) → Counted e (first_indices f e) → mind_of l ≡ first_mind f m e → row ks ≡ first_kids f m name e
+    → ((r : Tasks) → task_row t r ≡ task_then (waiting name (mind_of l) [] false) (row ks) r) → Started f m name e t
+started f m name e l ks t a fit mind kids is = record {
+  allowed = a;
+  counted = fit;
+  tasks = λ r. is r ∙ (λ j. task_then (waiting name (mind j) [] false) (kids j) r);
+}
+
+-- ---- one more column
+
+eof_is : (d e : Eof) (n : ℕ) → d.stem ≡ e.stem → d.last ≡ n → d ≡ record { stem = e.stem; last = n }
+eof_is d e n a b = λ j. record { stem = a j; last = b j }
+
+pub one_started : (f : Form) (m : Bool) (at name : List ℕ) (e d : Eof) (ks js : List Task) (t : Task) → Started f m name (inside e) t → name ≡ under at (length ks) → d ≡ next e → e.last + 1 < 2 ^ 64 → js ≡ ks ++ (t ∷ [])
+    → OneStarted f m at e ks d js
+one_started f m at name e d ks js t h n p fit is = record {
+  allowed = λ s. ap (λ z. or_else z None) (h.allowed s);
+  counted = λ a. then_fit (e.last + 1) (first_indices f (inside e) ++ []) fit (both_fit (first_indices f (inside e)) [] (h.counted (omega arith)) none_fit);
+  tasks =
+      ap row is ∙ row_push ks t
+      ∙ ap (add (row ks)) (h.tasks no_tasks ∙ ap (λ z. task_then (waiting z (first_mind f m (inside e)) [] false) (first_kids f m z (inside e)) no_tasks) n);
+  count = ap length is ∙ length-append ks (t ∷ []);
+  stem = ap (λ (z : Eof). z.stem) p;
+  last = ap (λ (z : Eof). z.last) p;
+}
+
+plus_none : (n : ℕ) → n ≡ n + 0
+plus_none n = omega arith
+
+pub none_started : (m : Bool) (at : List ℕ) (e : Eof) (ks : List Task) → ManyStarted no_forms m at e ks e ks
+none_started m at e ks = record {
+  allowed = λ s. refl;
+  counted = λ a. one_fits (e.last + 0) (omega (arith, a));
+  tasks = sym (add_none (row ks));
+  count = plus_none (length ks);
+  stem = refl;
+  last = plus_none e.last;
+}
+
+-- ---- all columns
+
+-- what is left of them: these are still to be started, and then all will be
+pub record Left (f : Form) (m : Bool) (at : List ℕ) (e : Eof) (ts : List Task) (fs : Forms) (n : Bool) (ks : List Task) (d : Eof) : Type 0 where
+  pub fault : (s : Setting) → start_faults s fs n ≡ start_fault s f m
+  pub far : TooFar (many_indices fs d) → TooFar (first_indices f e)
+  pub fit : e.last < 2 ^ 64 → (d.last < 2 ^ 64) × (AllFit (many_indices fs d) → AllFit (first_indices f e))
+  pub tasks : ts ≡ [] → add (row ks) (field_tasks fs n at (length ks) d) ≡ first_kids f m at e
+
+-- behind one column more
+later : (g : Form) (gs : Forms) (d p : Eof) → p ≡ next d → TooFar (many_indices gs p) → TooFar (many_indices (form_then g gs) d)
+later g gs d p q h = ⊎_elim
+    (λ a. let c : p.last ≡ d.last + 1 = ap (λ (z : Eof). z.last) q in (d.last + suc (form_count gs), inl refl, omega (arith, a, h.2, c)))
+    (λ a. (h.0, inr (in_right h.0 (first_indices g (inside d)) (field_indices gs (next d)) (subst (λ z. In h.0 (field_indices gs z)) q a)), h.2))
+    h.1
+
+-- it fits, and what comes behind it
+then_fits : (g : Form) (gs : Forms) (d p : Eof) → p ≡ next d → AllFit (many_indices (form_then g no_forms) d) → AllFit (many_indices gs p) → AllFit (many_indices (form_then g gs) d)
+then_fits g gs d p q a b =
+    let c : p.last ≡ d.last + 1 = ap (λ (z : Eof). z.last) q in
+    then_fit (d.last + suc (form_count gs)) (first_indices g (inside d) ++ field_indices gs (next d)) (omega (arith, c, first_fits (p.last + form_count gs) (field_indices gs p) b))
+    (both_fit (first_indices g (inside d)) (field_indices gs (next d)) (left_fit (first_indices g (inside d)) [] (rest_fit (d.last + 1) (first_indices g (inside d) ++ []) a))
+    (subst (λ z. AllFit (field_indices gs z)) q (rest_fit (p.last + form_count gs) (field_indices gs p) b)))
+
+-- the first of more
+wider : (g : Form) (gs : Forms) (d : Eof) → TooFar (many_indices (form_then g no_forms) d) → TooFar (many_indices (form_then g gs) d)
+wider g gs d h = ⊎_elim
+    (λ a. let b : h.0 ≡ d.last + 1 = a in (d.last + suc (form_count gs), inl refl, omega (arith, b, h.2)))
+    (λ a. (h.0, inr (⊎_elim (λ z. in_left h.0 (first_indices g (inside d)) (field_indices gs (next d)) z) (λ z. absurd z) (in_cases h.0 (first_indices g (inside d)) [] a)), h.2))
+    h.1
+
+none_wider : (gs : Forms) (d : Eof) → TooFar (many_indices no_forms d) → TooFar (many_indices gs d)
+none_wider gs d h = ⊎_elim (λ a. let b : h.0 ≡ d.last + 0 = a in (d.last + form_count gs, inl refl, omega (arith, b, h.2))) (λ a. absurd a) h.1
+
+-- the validity stands first
+left_at : (s : StructStrategy) (fs : Tys) (gs : Forms) (n m : Bool) (at : List ℕ) (e d : Eof) (ks js : List Task) → ManyStarted (validity_forms s n) m at e ks d js
+    → Left (struct_form fs n None (validity_form s) gs) m at e ks gs (m || n) js d
+left_at s fs gs true m at e d ks js h =
+    let p : d ≡ next e = eof_is d e (e.last + 1) h.stem h.last in
+    record {
+      fault = λ c. sym (ap (λ z. or_else z (start_faults c gs (m || true))) (sym (or_nil (start_fault c (validity_form s) m)) ∙ h.allowed c));
+      far = λ q. later (validity_form s) gs e d p q;
+      fit = λ a. (
+        omega (arith, h.last, first_fits (e.last + 1) (first_indices (validity_form s) (inside e) ++ []) (h.counted a)),
+        λ q. then_fits (validity_form s) gs e d p (h.counted a) q,
+      );
+      tasks = λ a.
+          (λ j. add (h.tasks j) (field_tasks gs (m || true) at (h.count j) (p j)))
+          ∙ (λ j. add (add (row (a j)) (field_tasks (form_then (validity_form s) no_forms) m at (length (a j)) e)) (field_tasks gs (m || true) at (length (a j) + 1) (next e)));
+    }
+left_at s fs gs false m at e d ks js h =
+    let p : d ≡ e = eof_is d e e.last h.stem (h.last ∙ sym (plus_none e.last)) in
+    record {
+      fault = λ c. refl;
+      far = λ q. subst (λ z. TooFar (many_indices gs z)) p q;
+      fit = λ a. (omega (arith, a, h.last), λ q. subst (λ z. AllFit (many_indices gs z)) p q);
+      tasks = λ a.
+          (λ j. add (h.tasks j) (field_tasks gs (m || false) at (h.count j) (p j)))
+          ∙ (λ j. add (add (row (a j)) no_tasks) (field_tasks gs (m || false) at (length (a j) + 0) e));
+    }
+
+pub left_first : (s : StructStrategy) (t : Ty) (n m : Bool) (at : List ℕ) (e d : Eof) (ks js : List Task) → n ≡ nullable t → ManyStarted (validity_forms s n) m at e ks d js
+    → Left (columns_form s t) m at e ks (field_forms s (fields_of t)) (m || n) js d
+left_first s t n m at e d ks js b h =
+    subst (λ z. Left (struct_form (struct_fields t) z None (validity_form s) (field_forms s (fields_of t))) m at e ks (field_forms s (fields_of t)) (m || n) js d) b
+    (left_at s (struct_fields t) (field_forms s (fields_of t)) n m at e d ks js h)
+
+one_more : (n : ℕ) → n + 1 ≡ suc n
+one_more n = omega arith
+
+-- then a field
+pub left_next : (f : Form) (m : Bool) (at : List ℕ) (e : Eof) (ts : List Task) (g : Form) (gs : Forms) (n : Bool) (ks js : List Task) (d p : Eof) → Left f m at e ts (form_then g gs) n ks d → OneStarted g n at d ks p js
+    → Left f m at e ts gs n js p
+left_next f m at e ts g gs n ks js d p l h =
+    let q : p ≡ next d = eof_is p d (d.last + 1) h.stem h.last in
+    record {
+      fault = λ c. sym (ap (λ z. or_else z (start_faults c gs n)) (sym (or_nil (start_fault c g n)) ∙ h.allowed c)) ∙ l.fault c;
+      far = λ k. l.far (later g gs d p q k);
+      fit = λ a.
+          let b = l.fit a in
+          let k = h.counted b.0 in
+          (omega (arith, h.last, first_fits (d.last + 1) (first_indices g (inside d) ++ []) k), λ z. b.1 (then_fits g gs d p q k z));
+      tasks = λ a.
+          (λ j. add (h.tasks j) (field_tasks gs n at (h.count j) (q j)))
+          ∙ add_add (row ks) (field_tasks (form_then g no_forms) n at (length ks) d) (field_tasks gs n at (length ks + 1) (next d))
+          ∙ (λ j. add (row ks) (add (field_tasks (form_then g no_forms) n at (length ks) d) (field_tasks gs n at (one_more (length ks) j) (next d))))
+          ∙ l.tasks a;
+    }
+
+-- the first of those that are left is refused
+pub left_refused : (f : Form) (m : Bool) (at : List ℕ) (e : Eof) (ts : List Task) (g : Form) (gs : Forms) (n : Bool) (ks : List Task) (d : Eof) (x : WriteError) → Left f m at e ts (form_then g gs) n ks d → OneRefused g n d x
+    → StartRefused (λ s. start_fault s f m) (first_indices f e) x
+left_refused f m at e ts g gs n ks d x l h =
+    refused_as (λ s. start_faults s (form_then g no_forms) n) (λ s. start_fault s f m) (many_indices (form_then g no_forms) d) (first_indices f e) x
+    (λ s w a. sym (l.fault s) ∙ or_some (start_fault s g n) (start_faults s gs n) w (sym (or_nil (start_fault s g n)) ∙ a))
+    (λ p. l.far (wider g gs d p)) h
+
+-- none is left
+pub all_started : (f : Form) (m : Bool) (at : List ℕ) (e : Eof) (ts : List Task) (n : Bool) (ks : List Task) (d : Eof) → Left f m at e ts no_forms n ks d → ts ≡ [] → AllStarted f m at e ks
+all_started f m at e ts n ks d l a = record {
+  allowed = λ s. sym (l.fault s);
+  counted = λ c. (l.fit c).1 (one_fits (d.last + 0) (omega (arith, (l.fit c).0)));
+  tasks = sym (add_none (row ks)) ∙ l.tasks a;
+}
+
+-- the validity is refused
+validity_at : (s : StructStrategy) (fs : Tys) (gs : Forms) (n m : Bool) (e : Eof) (x : WriteError) → ManyRefused (validity_forms s n) m e x
+    → StartRefused (λ c. start_fault c (struct_form fs n None (validity_form s) gs) m) (first_indices (struct_form fs n None (validity_form s) gs) e) x
+validity_at s fs gs true m e x h =
+    refused_as (λ c. start_faults c (form_then (validity_form s) no_forms) m) (λ c. start_fault c (struct_form fs true None (validity_form s) gs) m)
+    (many_indices (form_then (validity_form s) no_forms) e) (first_indices (struct_form fs true None (validity_form s) gs) e) x
+    (λ c w a. or_some (start_fault c (validity_form s) m) (start_faults c gs (m || true)) w (sym (or_nil (start_fault c (validity_form s) m)) ∙ a))
+    (λ p. wider (validity_form s) gs e p) h
+validity_at s fs gs false m e x h =
+    refused_as (λ c. start_faults c no_forms m) (λ c. start_fault c (struct_form fs false None (validity_form s) gs) m)
+    (many_indices no_forms e) (first_indices (struct_form fs false None (validity_form s) gs) e) x
+    (λ c w a. absurd (none_some w a))
+    (λ p. none_wider gs e p) h
+
+pub validity_refused : (s : StructStrategy) (t : Ty) (n m : Bool) (e : Eof) (x : WriteError) → n ≡ nullable t → ManyRefused (validity_forms s n) m e x
+    → StartRefused (λ c. start_fault c (columns_form s t) m) (first_indices (columns_form s t) e) x
+validity_refused s t n m e x b h =
+    subst (λ z. StartRefused (λ c. start_fault c (struct_form (struct_fields t) z None (validity_form s) (field_forms s (fields_of t))) m) (first_indices (struct_form (struct_fields t) z None (validity_form s) (field_forms s (fields_of t))) e) x) b
+    (validity_at s (struct_fields t) (field_forms s (fields_of t)) n m e x h)

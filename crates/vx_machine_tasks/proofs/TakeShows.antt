@@ -1,0 +1,416 @@
+-- What the take of a chunk or of the end does, against the same in plain data.
+use Rattle.std.proofs.Common.{◌≡◌, ◌+◌, ◌^◌, ◌<◌, ◌&&◌, ◌==◌, not, if◌then◌else◌, ℕ, Bool, true, false, List, [], ◌∷◌, ◌++◌, length, Option, Some, None, Result, Ok, Err, IfOk, IfErr, OnOk, refl, sym, ap, subst, ◌∙◌, inl, inr, append_assoc, append-nil}
+use Rattle.std.proofs.lemmas.Bool.{true≢false}
+use Rattle.std.proofs.lemmas.List.{map_push}
+use Rattle.std.specs.Arc.{arc_value}
+use Rattle.vx_path.specs.Path.{Eof, under, inside, next}
+use Rattle.vx_model.specs.declared.encoding.EncodingId.{EncodingId}
+use Rattle.vx_model.specs.Ty.{Ty, boolean, primitive, utf8, binary, list, struct, extension, is_struct, ty_eq}
+use Rattle.vx_model.specs.TyView.{ty}
+use Rattle.vx_model.specs.ChunkData.{ChunkData, piece_type, cells}
+use Rattle.vx_layout_spec.specs.LayoutTree.{gathered, struct_layout}
+use Rattle.vx_layout_tree.specs.Made.{struct_children}
+use Rattle.vx_segment_writer.specs.Segment.{encode, refused, bytes_unless, tree_bytes, segment_bytes}
+use Rattle.vx_segment_writer.specs.Encoding.{HasEncodeCause}
+use Rattle.vx_segment_writer.specs.declared.error.EncodeError.{EncodeError}
+use Rattle.vx_segment_writer.specs.declared.error.EncodeError.TheVariants as encoding
+use Rattle.vx_sink.specs.declared.context.LayoutWriterContext.{LayoutWriterContext}
+use Rattle.vx_sink.specs.ContextView.{listed}
+use Rattle.vx_order.specs.Outlet.{Outlet}
+use Rattle.vx_plan.specs.PlanData.{Setting, Item as Piece}
+use Rattle.vx_plan.specs.FlatNode.{segment, inlined, length_of}
+use Rattle.vx_strategy.specs.FlatViews.{flat_options}
+use Rattle.vx_machine_turns.specs.Forms.{Form}
+use Rattle.vx_machine_turns.specs.Flat.{forbidden}
+use Rattle.vx_machine_turns.specs.Starts.{start_fault}
+use Rattle.vx_machine_view.specs.State.{Next, shut_kids, join_kids, Mind, no_chunk, one_chunk, by_chunk, by_column, ending, made, fold_columns, Desk, Tasks}
+use Rattle.vx_machine_view.specs.Start.{first_indices, started_task}
+use Rattle.vx_machine_view.specs.Acts.{count, add, now, stored, columns_in, column_count, puts, take_chunk, end_columns, take_end, do_take}
+use Rattle.vx_write_answer.specs.Causes.{of_encode}
+use Rattle.vx_write_answer.specs.declared.step.ActionKind.TheVariants as actions
+use Rattle.vx_write_answer.specs.declared.error.WriteError.{WriteError}
+use Rattle.vx_write_answer.specs.declared.error.WriteError.TheVariants.{SourceFault, SinkFault, CompressFault, BatchType, NotStruct, DuplicateField, ManyChunks, EmptyList, ZoneCut, ForbiddenAggregate, ForbiddenEncoding, TooLarge, OutOfMemory, Unbuilt, Stopped}
+use Rattle.vx_machine_tasks.specs.declared.item.Due.{Due}
+use Rattle.vx_machine_tasks.specs.declared.item.Item.{Item}
+use Rattle.vx_machine_tasks.specs.declared.item.Segment.{Segment}
+use Rattle.vx_machine_tasks.specs.declared.kinds.FlatNode.{FlatNode}
+use Rattle.vx_machine_tasks.specs.declared.kinds.ChunkedNode.{ChunkedNode}
+use Rattle.vx_machine_tasks.specs.declared.kinds.ColumnsNode.{ColumnsNode}
+use Rattle.vx_machine_tasks.specs.declared.node.Local.{Local}
+use Rattle.vx_machine_tasks.specs.declared.node.Local.TheVariants.{Empty, Full, Chunked, Columns, Over, Made}
+use Rattle.vx_machine_tasks.specs.declared.task.Head.{Head}
+use Rattle.vx_machine_tasks.specs.declared.task.Task.{Task}
+use Rattle.vx_machine_tasks.specs.Acting.{Behind, bare, taken, Took, TakeRefused, ChunkTaken, ChunkRefused, tree_kept, IsStored, WordRefused, first_word, SplitRefused, is_flat, Ended, EndTaken, TakeDone, Acted}
+use Rattle.vx_machine_tasks.specs.Context.{setting_of}
+use Rattle.vx_machine_tasks.specs.Outcome.{action_of, AllFit}
+use Rattle.vx_machine_tasks.specs.Ready.{is_over}
+use Rattle.vx_machine_tasks.specs.Starting.{StartRefused}
+use Rattle.vx_machine_tasks.specs.View.{item_of, next_of, todo_of, mind_of, desk_of, row}
+use Rattle.vx_machine_tasks.proofs.Fitting.{none_fit, then_fit, one_fits}
+use Rattle.vx_machine_tasks.proofs.RefusalSteps.{by_word, by_split, by_rows}
+
+-- ---- a flat node's
+
+allowed : (ids : List EncodingId) (padded : Bool) (p : ChunkData) (first : Option EncodingId) (b : List ℕ) → first ≡ refused ids p
+    → bytes_unless first (segment_bytes ids padded p) ≡ Some b → forbidden first ≡ None
+allowed ids padded p None b is h = refl
+allowed ids padded p (Some e) b is h = cc
+
+pub listed_all : (ids : List EncodingId) (padded : Bool) (p : ChunkData) (b : List ℕ) → encode ids padded p ≡ Some b → forbidden (refused ids p) ≡ None
+listed_all ids padded p b h = allowed ids padded p (refused ids p) b refl h
+
+module _ (ctx : LayoutWriterContext) (image : ℕ → ChunkData → ChunkData) (name : List ℕ) (ks : Tasks) (i : Item) (todo : List Next) where
+  flat_from : (n : FlatNode) (x : Segment) → IsStored (listed ctx) n i.chunk x
+      → Took (taken (setting_of ctx image) name ks (item_of i) (mind_of (Empty n))) (mind_of (Full (record { id = i.id; segment = x }))) todo todo ks
+  flat_from n x s = record {
+    unrefused = listed_all (listed ctx) n.options.include_padding i.chunk x.bytes.items s.bytes;
+    fits = refl;
+    mind_is = (λ j. one_chunk (record { id = i.id; bytes = x.bytes.items; tree = s.tree j; rows = s.rows j; type = s.type j }))
+        ∙ ap (stored (ty (arc_value n.dtype)) (item_of i) (inlined (setting_of ctx image) (flat_options n.options) (item_of i))) (sym s.bytes);
+    todo_is = refl;
+    kids_are = refl;
+    counted = subst (λ z. AllFit ((length (cells i.chunk) ∷ length_of z) ++ [])) (sym s.bytes) s.counted;
+  }
+
+  -- the first chunk is stored
+  pub flat_took : (l m : Local) (n : FlatNode) (x : Segment) → l ≡ Empty n → m ≡ Full (record { id = i.id; segment = x }) → IsStored (listed ctx) n i.chunk x
+      → Took (taken (setting_of ctx image) name ks (item_of i) (mind_of l)) (mind_of m) todo todo ks
+  flat_took l m n x a b s =
+      subst (λ z. Took (taken (setting_of ctx image) name ks (item_of i) (mind_of z)) (mind_of m) todo todo ks) (sym a)
+      (subst (λ z. Took (taken (setting_of ctx image) name ks (item_of i) (mind_of (Empty n))) (mind_of z) todo todo ks) (sym b) (flat_from n x s))
+
+  -- a chunk with an encoding that isn't listed is refused, and so is a second one
+  pub flat_why : (l : Local) (e : WriteError) → is_flat l ≡ true → WordRefused (first_word (refused (listed ctx) i.chunk) l) e → TakeRefused (taken (setting_of ctx image) name ks (item_of i) (mind_of l)) e
+  flat_why (Empty n) e f h =
+      by_word (forbidden (refused (listed ctx) i.chunk)) (length (cells i.chunk) ∷ length_of (segment (setting_of ctx image) (flat_options n.options) (item_of i))) [] e h
+  flat_why (Full x) e f h = h
+  flat_why (Chunked n eof rows) e f h = absurd (true≢false (sym f))
+  flat_why (Columns n rows) e f h = absurd (true≢false (sym f))
+  flat_why Over e f h = absurd (true≢false (sym f))
+  flat_why (Made x) e f h = absurd (true≢false (sym f))
+
+encode_why : (first : Option EncodingId) (e : EncodeError) → HasEncodeCause first e → WordRefused (forbidden first) (of_encode e)
+encode_why first (encoding.EncodingNotListed id) h = ap forbidden h
+encode_why first encoding.OutOfMemory h = tt
+
+-- under the listed encodings
+pub store_refused : (ids all : List EncodingId) (p : ChunkData) (e : EncodeError) → ids ≡ all → HasEncodeCause (refused ids p) e → WordRefused (forbidden (refused all p)) (of_encode e)
+store_refused ids all p e is h = encode_why (refused all p) e (subst (λ z. HasEncodeCause (refused z p) e) is h)
+
+-- the tree that is kept of its segment
+
+pub none_kept : (ids : List EncodingId) (n : FlatNode) (p : ChunkData) → n.options.inline_array_node ≡ false → None ≡ tree_kept ids n p
+none_kept ids n p e = ap (λ b. if b then Some (tree_bytes ids n.options.include_padding p) else None) (sym e)
+
+pub tree_is_kept : (ids : List EncodingId) (n : FlatNode) (p : ChunkData) (tree : List ℕ) → n.options.inline_array_node ≡ true → tree ≡ tree_bytes ids n.options.include_padding p → Some tree ≡ tree_kept ids n p
+tree_is_kept ids n p tree e is = ap (λ t. Some t) is ∙ ap (λ b. if b then Some (tree_bytes ids n.options.include_padding p) else None) (sym e)
+
+-- of the first chunk, and of a further one
+
+pub first_stored : (ids : List EncodingId) (p : ChunkData) (l : Local) (n : FlatNode) (r : Result Segment WriteError) → l ≡ Empty n → IfOk r (IsStored ids n p)
+    → IfOk r (λ x. (k : FlatNode) × (l ≡ Empty k) × IsStored ids k p x)
+first_stored ids p l n (Ok x) e h = (n, e, h)
+first_stored ids p l n (Err x) e h = tt
+
+pub first_why : (first : Option EncodingId) (l : Local) (n : FlatNode) (r : Result Segment WriteError) → l ≡ Empty n → IfErr r (WordRefused (forbidden first)) → IfErr r (WordRefused (first_word first l))
+first_why first l n r e h = subst (λ z. IfErr r (WordRefused (first_word first z))) (sym e) h
+
+pub second_why : (first : Option EncodingId) (l : Local) → ((n : FlatNode) → l ≡ Empty n → ⊥) → WordRefused (first_word first l) ManyChunks
+second_why first (Empty n) h = absurd (h n refl)
+second_why first (Full x) h = refl
+second_why first (Chunked n eof rows) h = refl
+second_why first (Columns n rows) h = refl
+second_why first Over h = refl
+second_why first (Made x) h = refl
+
+-- what is neither a chunked nor a struct node's, and takes more, is a flat node's
+pub flat_left : (l : Local) → ((n : ChunkedNode) (eof : Eof) (rows : ℕ) → l ≡ Chunked n eof rows → ⊥) → ((n : ColumnsNode) (rows : ℕ) → l ≡ Columns n rows → ⊥) → is_over l ≡ false → is_flat l ≡ true
+flat_left (Empty n) a b h = refl
+flat_left (Full x) a b h = refl
+flat_left (Chunked n eof rows) a b h = absurd (a n eof rows refl)
+flat_left (Columns n rows) a b h = absurd (b n rows refl)
+flat_left Over a b h = absurd (true≢false h)
+flat_left (Made x) a b h = absurd (true≢false h)
+
+-- ---- a struct node's
+
+module _ (s : Setting) (name : List ℕ) (ks : Tasks) (i : Item) (t : Ty) (rows : ℕ) where
+  pub columns_took : (now_rows : ℕ) (todo before : List Next) (xs : List ChunkData) → ty_eq (piece_type i.chunk) t ≡ true → now_rows ≡ rows + length (cells i.chunk)
+      → rows + length (cells i.chunk) < 2 ^ 64 → column_count t < 2 ^ 64 → xs ≡ columns_in t i.chunk → todo ≡ puts 0 i.id xs ++ before → Took (taken s name ks (item_of i) (by_column t rows)) (by_column t now_rows) todo before ks
+  columns_took now_rows todo before xs typed sum fits few is put = record {
+    unrefused = refl;
+    fits = ap not typed;
+    mind_is = ap (by_column t) sum;
+    todo_is = put ∙ ap (λ z. puts 0 i.id z ++ before) is;
+    kids_are = refl;
+    counted = then_fit (rows + length (cells i.chunk)) (column_count t ∷ []) fits (one_fits (column_count t) few);
+  }
+
+  pub columns_why : (e : WriteError) → SplitRefused (not (ty_eq (piece_type i.chunk) t)) (rows + length (cells i.chunk)) e → TakeRefused (taken s name ks (item_of i) (by_column t rows)) e
+  columns_why e h = by_split (not (ty_eq (piece_type i.chunk) t)) (rows + length (cells i.chunk)) (column_count t ∷ []) e h
+
+-- ---- a chunked node's
+
+module _ (s : Setting) (name : List ℕ) (ks : Tasks) (i : Item) (m : Bool) (t : Ty) (f : Form) (e : Eof) (rows : ℕ) where
+  pub chunked_took : (d : Eof) (now_rows : ℕ) (kids : Tasks) (todo : List Next) → start_fault s f m ≡ None → d ≡ next e → now_rows ≡ rows + length (cells i.chunk)
+      → rows + length (cells i.chunk) < 2 ^ 64 → AllFit ((e.last + 1) ∷ first_indices f (inside e))
+      → kids ≡ add ks (started_task f m (under name (count ks)) (inside e) (item_of i ∷ []) true)
+      → Took (taken s name ks (item_of i) (by_chunk m t f e rows)) (by_chunk m t f d now_rows) todo todo kids
+  chunked_took d now_rows kids todo a b c fits far k = record {
+    unrefused = a;
+    fits = refl;
+    mind_is = λ j. by_chunk m t f (b j) (c j);
+    todo_is = refl;
+    kids_are = k;
+    counted = then_fit (rows + length (cells i.chunk)) ((e.last + 1) ∷ first_indices f (inside e)) fits far;
+  }
+
+  -- its child can't start
+  pub start_why : (x : WriteError) → StartRefused (λ z. start_fault z f m) ((e.last + 1) ∷ first_indices f (inside e)) x → TakeRefused (taken s name ks (item_of i) (by_chunk m t f e rows)) x
+  start_why SourceFault h = absurd h
+  start_why SinkFault h = absurd h
+  start_why CompressFault h = absurd h
+  start_why (BatchType c) h = absurd h
+  start_why NotStruct h = h s
+  start_why (DuplicateField a) h = h s
+  start_why ManyChunks h = absurd h
+  start_why EmptyList h = absurd h
+  start_why (ZoneCut k) h = absurd h
+  start_why (ForbiddenAggregate id) h = absurd h
+  start_why (ForbiddenEncoding id) h = absurd h
+  start_why (TooLarge n) h = inl (inr (h.1.0, h.1.1, h.1.2, h.0))
+  start_why OutOfMemory h = tt
+  start_why Unbuilt h = absurd h
+  start_why (Stopped by a) h = absurd h
+
+  -- its rows are too many
+  pub chunked_why : (x : WriteError) → SplitRefused false (rows + length (cells i.chunk)) x → TakeRefused (taken s name ks (item_of i) (by_chunk m t f e rows)) x
+  chunked_why x h = by_rows (start_fault s f m) false (rows + length (cells i.chunk)) ((e.last + 1) ∷ first_indices f (inside e)) x h
+
+-- ---- by what was in mind
+
+module _ (ctx : LayoutWriterContext) (name : List ℕ) (ks : Tasks) (i : Item) (l k : Local) (is : l ≡ k) where
+  taken_by : (m : Local) (todo before : List Next) (kids : Tasks) → ((s : Setting) → Took (taken s name ks (item_of i) (mind_of k)) (mind_of m) todo before kids)
+      → ChunkTaken ctx name ks i l m todo before kids
+  taken_by m todo before kids h = λ image. subst (λ z. Took (taken (setting_of ctx image) name ks (item_of i) (mind_of z)) (mind_of m) todo before kids) (sym is) (h (setting_of ctx image))
+
+  untaken_by : (e : WriteError) → ((s : Setting) → TakeRefused (taken s name ks (item_of i) (mind_of k)) e) → ChunkRefused ctx name ks i l e
+  untaken_by e h = λ image. subst (λ z. TakeRefused (taken (setting_of ctx image) name ks (item_of i) (mind_of z)) e) (sym is) (h (setting_of ctx image))
+
+-- told for each task, and whatever is left to do
+module _ {A : Type 0} (ctx : LayoutWriterContext) (name : List ℕ) (ks : Tasks) (i : Item) (l k : Local) (is : l ≡ k) where
+  pub chunked_by : (m : Local) (todo : List Next) (kids : Tasks) (r : Result A WriteError)
+      → OnOk r ((s : Setting) (td : List Next) → Took (taken s name ks (item_of i) (mind_of k)) (mind_of m) td td kids) → OnOk r (ChunkTaken ctx name ks i l m todo todo kids)
+  chunked_by m todo kids (Ok x) h = taken_by ctx name ks i l k is m todo todo kids (λ s. h s todo)
+  chunked_by m todo kids (Err e) h = tt
+
+  pub chunked_why_by : (r : Result A WriteError) → IfErr r (λ e. (s : Setting) → TakeRefused (taken s name ks (item_of i) (mind_of k)) e) → IfErr r (ChunkRefused ctx name ks i l)
+  chunked_why_by (Ok x) h = tt
+  chunked_why_by (Err e) h = untaken_by ctx name ks i l k is e h
+
+  pub columns_by : (m : Local) (todo before : List Next) (r : Result A WriteError)
+      → OnOk r ((s : Setting) (n : List ℕ) (ts : Tasks) → Took (taken s n ts (item_of i) (mind_of k)) (mind_of m) todo before ts) → OnOk r (ChunkTaken ctx name ks i l m todo before ks)
+  columns_by m todo before (Ok x) h = taken_by ctx name ks i l k is m todo before ks (λ s. h s name ks)
+  columns_by m todo before (Err e) h = tt
+
+  pub columns_why_by : (r : Result A WriteError) → IfErr r (λ e. (s : Setting) (n : List ℕ) (ts : Tasks) → TakeRefused (taken s n ts (item_of i) (mind_of k)) e) → IfErr r (ChunkRefused ctx name ks i l)
+  columns_why_by (Ok x) h = tt
+  columns_why_by (Err e) h = untaken_by ctx name ks i l k is e (λ s. h s name ks)
+
+module _ {A : Type 0} (ctx : LayoutWriterContext) (name : List ℕ) (ks : Tasks) (i : Item) (l : Local) where
+  pub flat_by : (m : Local) (todo : List Next) (r : Result A WriteError) → OnOk r ((n : List ℕ) (ts : Tasks) (td : List Next) → ChunkTaken ctx n ts i l m td td ts)
+      → OnOk r (ChunkTaken ctx name ks i l m todo todo ks)
+  flat_by m todo (Ok x) h = h name ks todo
+  flat_by m todo (Err e) h = tt
+
+  pub flat_why_by : (r : Result A WriteError) → IfErr r (λ e. (n : List ℕ) (ts : Tasks) → ChunkRefused ctx n ts i l e) → IfErr r (ChunkRefused ctx name ks i l)
+  flat_why_by (Ok x) h = tt
+  flat_why_by (Err e) h = h name ks
+
+-- ---- the end
+
+-- of a struct the columns are counted alike
+pub same_columns : (t : Ty) → is_struct t ≡ true → struct_children t ≡ column_count t
+same_columns (struct fs n) h = refl
+same_columns (boolean n) h = absurd (true≢false (sym h))
+same_columns (primitive p n) h = absurd (true≢false (sym h))
+same_columns (utf8 n) h = absurd (true≢false (sym h))
+same_columns (binary n) h = absurd (true≢false (sym h))
+same_columns (list u n) h = absurd (true≢false (sym h))
+same_columns (extension tag u) h = absurd (true≢false (sym h))
+
+-- whether there are neither children nor columns
+abbrev pub bare_columns : ColumnsNode → ℕ → Bool
+bare_columns n kids = (kids == 0) && (0 == column_count (ty (arc_value n.dtype)))
+
+module _ (n : ColumnsNode) (rows kids : ℕ) (m : Local) (todo before : List Next) where
+  columns_by_test : (b : Bool) → bare_columns n kids ≡ b → ((ks : Tasks) → Ended (end_columns b (ty (arc_value n.dtype)) rows (bare (mind_of (Columns n rows))) ks) (mind_of m) todo before)
+      → EndTaken (Columns n rows) kids m todo before
+  columns_by_test b is h = λ ks same.
+      subst (λ z. Ended (end_columns z (ty (arc_value n.dtype)) rows (bare (mind_of (Columns n rows))) ks) (mind_of m) todo before) (sym (ap (bare_columns n) same ∙ is)) (h ks)
+
+  pub columns_made : bare_columns n kids ≡ true → mind_of m ≡ made (struct_layout (ty (arc_value n.dtype)) rows []) → todo ≡ before → EndTaken (Columns n rows) kids m todo before
+  columns_made is a e = columns_by_test true is (λ ks. record { mind_is = a; todo_is = e ∙ sym (append-nil before) })
+
+  pub columns_end : bare_columns n kids ≡ false → mind_of m ≡ ending → todo ≡ before ++ (shut_kids ∷ join_kids (fold_columns (ty (arc_value n.dtype)) rows) ∷ [])
+      → EndTaken (Columns n rows) kids m todo before
+  columns_end is a e = columns_by_test false is (λ ks. record { mind_is = a; todo_is = e })
+
+pub two_more : (xs ys zs : List Due) (d e : Due) → ys ≡ xs ++ (d ∷ []) → zs ≡ ys ++ (e ∷ []) → todo_of zs ≡ todo_of xs ++ (next_of d ∷ next_of e ∷ [])
+two_more xs ys zs d e a b =
+    ap todo_of b ∙ map_push next_of ys e ∙ ap (λ ws. todo_of ws ++ (next_of e ∷ [])) a ∙ ap (λ ws. ws ++ (next_of e ∷ [])) (map_push next_of xs d)
+    ∙ append_assoc (todo_of xs) (next_of d ∷ []) (next_of e ∷ [])
+
+-- of a local that was replaced, behind a reservation
+pub ended_by : (l b a m : Local) (kids : ℕ) (todo : List Next) (mid before : List Due) → b ≡ l → m ≡ a → mid ≡ before → EndTaken b kids a todo (todo_of mid) → EndTaken l kids m todo (todo_of before)
+ended_by l b a m kids todo mid before x y z h =
+    subst (λ w. EndTaken w kids m todo (todo_of before)) x (subst (λ w. EndTaken b kids w todo (todo_of before)) (sym y) (subst (λ w. EndTaken b kids a todo (todo_of w)) z h))
+
+-- by what was in mind
+pub ended_as : (l k m : Local) (kids : ℕ) (todo before : List Next) → l ≡ k → EndTaken k kids m todo before → EndTaken l kids m todo before
+ended_as l k m kids todo before e h = subst (λ w. EndTaken w kids m todo before) (sym e) h
+
+-- of a flat node without a chunk, and of a struct node
+
+pub ended_empty : (l : Local) (n : FlatNode) (kids : ℕ) (todo : List Next) (r : Result Local WriteError) → l ≡ Empty n → IfOk r (λ m. mind_of m ≡ made (gathered (ty (arc_value n.dtype)) 0 []))
+    → IfOk r (λ m. EndTaken l kids m todo todo)
+ended_empty l n kids todo (Ok m) is h = ended_as l (Empty n) m kids todo todo is (λ ks same. record { mind_is = h; todo_is = sym (append-nil todo) })
+ended_empty l n kids todo (Err e) is h = tt
+
+pub ended_struct : (l : Local) (n : ColumnsNode) (rows kids : ℕ) (todo before : List Next) (r : Result Local WriteError) → l ≡ Columns n rows
+    → IfOk r (λ m. EndTaken (Columns n rows) kids m todo before) → IfOk r (λ m. EndTaken l kids m todo before)
+ended_struct l n rows kids todo before r is h = subst (λ w. IfOk r (λ m. EndTaken w kids m todo before)) (sym is) h
+
+-- ---- as the next act of a task
+
+pub took_shows : (s : Setting) (c : Desk) (ks : Tasks) (i : Piece) (xs : List Piece) (mind m : Mind) (todo before : List Next) (h : Head) (kids : List Task)
+    → Took (taken s c.name ks i mind) m todo before (row kids) → before ≡ [] → desk_of h ≡ now c m todo xs → TakeDone (take_chunk s c ks i xs mind) h kids
+took_shows s c ks i xs (no_chunk o t) m todo before h kids d n e = record {
+  unrefused = d.unrefused;
+  fits = d.fits;
+  counted = d.counted;
+  kids_are = d.kids_are;
+  desk = e ∙ (λ j. now c (d.mind_is j) ((d.todo_is ∙ n) j) xs);
+}
+took_shows s c ks i xs (one_chunk x) m todo before h kids d n e = record {
+  unrefused = d.unrefused;
+  fits = d.fits;
+  counted = d.counted;
+  kids_are = d.kids_are;
+  desk = e ∙ (λ j. now c (d.mind_is j) ((d.todo_is ∙ n) j) xs);
+}
+took_shows s c ks i xs (by_chunk a t f z rows) m todo before h kids d n e = record {
+  unrefused = d.unrefused;
+  fits = d.fits;
+  counted = d.counted;
+  kids_are = d.kids_are;
+  desk = e ∙ (λ j. now c (d.mind_is j) ((d.todo_is ∙ n) j) xs);
+}
+took_shows s c ks i xs (by_column t rows) m todo before h kids d n e = record {
+  unrefused = d.unrefused;
+  fits = d.fits;
+  counted = d.counted;
+  kids_are = d.kids_are;
+  desk = e ∙ (λ j. now c (d.mind_is j) ((d.todo_is ∙ ap (λ z. puts 0 i.0 (columns_in t i.1) ++ z) n ∙ append-nil (puts 0 i.0 (columns_in t i.1))) j) xs);
+}
+took_shows s c ks i xs ending m todo before h kids d n e = record {
+  unrefused = d.unrefused;
+  fits = d.fits;
+  counted = d.counted;
+  kids_are = d.kids_are;
+  desk = e ∙ (λ j. now c (d.mind_is j) ((d.todo_is ∙ n) j) xs);
+}
+took_shows s c ks i xs (made l) m todo before h kids d n e = record {
+  unrefused = d.unrefused;
+  fits = d.fits;
+  counted = d.counted;
+  kids_are = d.kids_are;
+  desk = e ∙ (λ j. now c (d.mind_is j) ((d.todo_is ∙ n) j) xs);
+}
+
+pub took_refused : (s : Setting) (c : Desk) (ks : Tasks) (i : Piece) (xs : List Piece) (mind : Mind) (e : WriteError) → TakeRefused (taken s c.name ks i mind) e → TakeRefused (take_chunk s c ks i xs mind) e
+took_refused s c ks i xs (no_chunk o t) e h = h
+took_refused s c ks i xs (one_chunk x) e h = h
+took_refused s c ks i xs (by_chunk a t f z rows) e h = h
+took_refused s c ks i xs (by_column t rows) e h = h
+took_refused s c ks i xs ending e h = h
+took_refused s c ks i xs (made l) e h = h
+
+-- what a take of the end leaves, of whichever task
+module _ (c : Desk) (ks : Tasks) (m : Mind) (todo : List Next) (h : Head) (kids : List Task) (same : row kids ≡ ks) (is : desk_of h ≡ now c m todo []) where
+  columns_shows : (b : Bool) (t : Ty) (rows : ℕ) (q : Mind) → Ended (end_columns b t rows (bare q) ks) m todo [] → TakeDone (end_columns b t rows c ks) h kids
+  columns_shows true t rows q d = record { unrefused = refl; fits = refl; counted = none_fit; kids_are = same; desk = is ∙ (λ j. now c (d.mind_is j) (d.todo_is j) []) }
+  columns_shows false t rows q d = record { unrefused = refl; fits = refl; counted = none_fit; kids_are = same; desk = is ∙ (λ j. now c (d.mind_is j) (d.todo_is j) []) }
+
+  end_shows : (mind : Mind) → Ended (take_end (bare mind) ks mind) m todo [] → TakeDone (take_end c ks mind) h kids
+  end_shows (no_chunk o t) d = record { unrefused = refl; fits = refl; counted = none_fit; kids_are = same; desk = is ∙ (λ j. now c (d.mind_is j) (d.todo_is j) []) }
+  end_shows (one_chunk x) d = record { unrefused = refl; fits = refl; counted = none_fit; kids_are = same; desk = is ∙ (λ j. now c (d.mind_is j) (d.todo_is j) []) }
+  end_shows (by_chunk a t f z rows) d = record { unrefused = refl; fits = refl; counted = none_fit; kids_are = same; desk = is ∙ (λ j. now c (d.mind_is j) (d.todo_is j) []) }
+  end_shows (by_column t rows) d = columns_shows ((count ks == 0) && (0 == column_count t)) t rows (by_column t rows) d
+  end_shows ending d = record { unrefused = refl; fits = refl; counted = none_fit; kids_are = same; desk = is ∙ (λ j. now c (d.mind_is j) (d.todo_is j) []) }
+  end_shows (made l) d = record { unrefused = refl; fits = refl; counted = none_fit; kids_are = same; desk = is ∙ (λ j. now c (d.mind_is j) (d.todo_is j) []) }
+
+  pub ended_shows : (mind : Mind) (before : List Next) → before ≡ [] → Ended (take_end (bare mind) ks mind) m todo before → TakeDone (take_end c ks mind) h kids
+  ended_shows mind before n d = end_shows mind (subst (λ z. Ended (take_end (bare mind) ks mind) m todo z) n d)
+
+-- ---- a take is a take, and appends nothing
+
+chunk_kind : (s : Setting) (c : Desk) (ks : Tasks) (i : Piece) (xs : List Piece) (mind : Mind) → actions.Take ≡ action_of (take_chunk s c ks i xs mind).kind
+chunk_kind s c ks i xs (no_chunk o t) = refl
+chunk_kind s c ks i xs (one_chunk x) = refl
+chunk_kind s c ks i xs (by_chunk a t f z rows) = refl
+chunk_kind s c ks i xs (by_column t rows) = refl
+chunk_kind s c ks i xs ending = refl
+chunk_kind s c ks i xs (made l) = refl
+
+chunk_wrote : (s : Setting) (c : Desk) (ks : Tasks) (i : Piece) (xs : List Piece) (mind : Mind) → (take_chunk s c ks i xs mind).wrote ≡ []
+chunk_wrote s c ks i xs (no_chunk o t) = refl
+chunk_wrote s c ks i xs (one_chunk x) = refl
+chunk_wrote s c ks i xs (by_chunk a t f z rows) = refl
+chunk_wrote s c ks i xs (by_column t rows) = refl
+chunk_wrote s c ks i xs ending = refl
+chunk_wrote s c ks i xs (made l) = refl
+
+columns_kind : (b : Bool) (t : Ty) (rows : ℕ) (c : Desk) (ks : Tasks) → actions.Take ≡ action_of (end_columns b t rows c ks).kind
+columns_kind true t rows c ks = refl
+columns_kind false t rows c ks = refl
+
+columns_wrote : (b : Bool) (t : Ty) (rows : ℕ) (c : Desk) (ks : Tasks) → (end_columns b t rows c ks).wrote ≡ []
+columns_wrote true t rows c ks = refl
+columns_wrote false t rows c ks = refl
+
+end_kind : (c : Desk) (ks : Tasks) (mind : Mind) → actions.Take ≡ action_of (take_end c ks mind).kind
+end_kind c ks (no_chunk o t) = refl
+end_kind c ks (one_chunk x) = refl
+end_kind c ks (by_chunk a t f z rows) = refl
+end_kind c ks (by_column t rows) = columns_kind ((count ks == 0) && (0 == column_count t)) t rows c ks
+end_kind c ks ending = refl
+end_kind c ks (made l) = refl
+
+end_wrote : (c : Desk) (ks : Tasks) (mind : Mind) → (take_end c ks mind).wrote ≡ []
+end_wrote c ks (no_chunk o t) = refl
+end_wrote c ks (one_chunk x) = refl
+end_wrote c ks (by_chunk a t f z rows) = refl
+end_wrote c ks (by_column t rows) = columns_wrote ((count ks == 0) && (0 == column_count t)) t rows c ks
+end_wrote c ks ending = refl
+end_wrote c ks (made l) = refl
+
+take_kind : (s : Setting) (c : Desk) (ks : Tasks) (xs : List Piece) → actions.Take ≡ action_of (do_take s c ks xs).kind
+take_kind s c ks (i ∷ xs) = chunk_kind s c ks i xs c.mind
+take_kind s c ks [] = end_kind c ks c.mind
+
+take_wrote : (s : Setting) (c : Desk) (ks : Tasks) (xs : List Piece) → (do_take s c ks xs).wrote ≡ []
+take_wrote s c ks (i ∷ xs) = chunk_wrote s c ks i xs c.mind
+take_wrote s c ks [] = end_wrote c ks c.mind
+
+pub take_acts : (s : Setting) (c : Desk) (ks : Tasks) (xs : List Piece) (o u : Outlet) (n : ℕ) (h : Head) (kids : List Task) → u ≡ o → TakeDone (do_take s c ks xs) h kids
+    → Acted (do_take s c ks xs) o n u h kids actions.Take
+take_acts s c ks xs o u n h kids e d = record {
+  unrefused = d.unrefused;
+  fits = d.fits;
+  counted = d.counted;
+  desk = d.desk;
+  kids_are = d.kids_are;
+  kind = take_kind s c ks xs;
+  outlet = subst (λ ps. Behind o n ps u) (sym (take_wrote s c ks xs)) e;
+}

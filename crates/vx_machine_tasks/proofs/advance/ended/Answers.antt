@@ -1,0 +1,69 @@
+use Rattle.std.proofs.Common.{ap, refl, append-nil, sym, ◌∙◌}
+use Rattle.vx_machine_ids.specs.Stock.{none, end_stock, ok_stock}
+use Rattle.vx_machine_tasks.specs.Stocks.{stored_stock, dues_stock, local_stock}
+use Rattle.vx_machine_tasks.proofs.ActMoves.{ok_none, ended_none, ended_full, ended_owned, ended_chunked}
+use Rattle.vx_machine_tasks.proofs.DueSteps.{one_more, one_free}
+use Rattle.std.proofs.lemmas.List.{map_push}
+use Rattle.vx_machine_tasks.specs.declared.node.Local.TheVariants.{Full, Chunked, Over, Made}
+use Rattle.vx_machine_tasks.specs.View.{next_of, todo_of}
+use Rattle.vx_machine_tasks.proofs.TakeShows.{ended_as, ended_empty, ended_struct}
+use Rattle.vx_machine_tasks.proofs.advance.ended.Goals as goal
+
+pub returns-in-Empty-clause-moved : goal.returns-in-Empty-clause-moved
+returns-in-Empty-clause-moved g c =
+    ended_none (g.O.Order.active c.args.order.now) (local_stock c.args.local) (ok_stock local_stock c.end_empty-after.result) (dues_stock c.args.todo.now.items) (dues_stock c.args.todo.now.items)
+    (ap local_stock c.in-Empty.is) (ok_none c.end_empty-after.result c.end_empty-after.ensures.local) refl c.requires.owned
+
+pub returns-in-Full-clause-moved : goal.returns-in-Full-clause-moved
+returns-in-Full-clause-moved g c =
+    ended_full (g.O.Order.active c.args.order.now) (local_stock c.args.local) (stored_stock c.in-Full.stored) (dues_stock c.args.todo.now.items) (dues_stock c.push_back_reserved.new.self.items)
+    (ap local_stock c.in-Full.is) (one_more c.args.todo.now.items c.push_back_reserved.new.self.items _ c.push_back_reserved.ensures.items) c.requires.owned
+
+pub give_up_pointer-requires : goal.give_up_pointer-requires
+give_up_pointer-requires g c =
+    ended_owned (g.O.Order.active c.args.order.now) (local_stock c.args.local) (end_stock c.in-Chunked.eof) (dues_stock c.args.todo.now.items) (ap local_stock c.in-Chunked.is) c.requires.owned
+
+pub returns-in-Chunked-clause-moved : goal.returns-in-Chunked-clause-moved
+returns-in-Chunked-clause-moved g c =
+    ended_chunked (g.O.Order.active c.args.order.now) (g.O.Order.active c.give_up_pointer.new.order) (local_stock c.args.local) (end_stock c.in-Chunked.eof) (dues_stock c.args.todo.now.items) (dues_stock c.push_back_reserved-in-Chunked.new.self.items)
+    (ap local_stock c.in-Chunked.is) (one_free c.args.todo.now.items c.push_back_reserved-in-Chunked.new.self.items _ c.push_back_reserved-in-Chunked.ensures.items refl) c.requires.owned c.give_up_pointer.ensures.moved
+
+pub returns-in-Columns-clause-moved : goal.returns-in-Columns-clause-moved
+returns-in-Columns-clause-moved g c =
+    ended_none (g.O.Order.active c.args.order.now) (local_stock c.args.local) (ok_stock local_stock c.end_columns.result) (dues_stock c.args.todo.now.items) (dues_stock c.end_columns.new.todo.items)
+    (ap local_stock c.in-Columns.is) (ok_none c.end_columns.result c.end_columns.ensures.local) c.end_columns.ensures.todo c.requires.owned
+
+pub returns-in-Over-clause-moved : goal.returns-in-Over-clause-moved
+returns-in-Over-clause-moved g c =
+    ended_none (g.O.Order.active c.args.order.now) (local_stock c.args.local) none (dues_stock c.args.todo.now.items) (dues_stock c.args.todo.now.items) (ap local_stock c.in-Over.is) refl refl c.requires.owned
+
+pub returns-in-Made-clause-moved : goal.returns-in-Made-clause-moved
+returns-in-Made-clause-moved g c =
+    ended_none (g.O.Order.active c.args.order.now) (local_stock c.args.local) none (dues_stock c.args.todo.now.items) (dues_stock c.args.todo.now.items) (ap local_stock c.in-Made.is) refl refl c.requires.owned
+
+pub returns-in-Empty-clause-done : goal.returns-in-Empty-clause-done
+returns-in-Empty-clause-done g c = ended_empty c.args.local c.in-Empty.node c.args.kids (todo_of c.args.todo.now.items) c.end_empty-after.result c.in-Empty.is c.end_empty-after.ensures.layout
+
+pub returns-in-Full-clause-done : goal.returns-in-Full-clause-done
+returns-in-Full-clause-done g c =
+    ended_as c.args.local (Full c.in-Full.stored) Over c.args.kids (todo_of c.push_back_reserved.new.self.items) (todo_of c.args.todo.now.items) c.in-Full.is
+    (λ ks same. record { mind_is = refl; todo_is = ap todo_of c.push_back_reserved.ensures.items ∙ map_push next_of c.args.todo.now.items _ })
+
+pub returns-in-Chunked-clause-done : goal.returns-in-Chunked-clause-done
+returns-in-Chunked-clause-done g c =
+    ended_as c.args.local (Chunked c.in-Chunked.node c.in-Chunked.eof _) Over c.args.kids (todo_of c.push_back_reserved-in-Chunked.new.self.items) (todo_of c.args.todo.now.items) c.in-Chunked.is
+    (λ ks same. record { mind_is = refl; todo_is = ap todo_of c.push_back_reserved-in-Chunked.ensures.items ∙ map_push next_of c.args.todo.now.items _ })
+
+pub returns-in-Columns-clause-done : goal.returns-in-Columns-clause-done
+returns-in-Columns-clause-done g c =
+    ended_struct c.args.local c.in-Columns.node c.in-Columns.rows c.args.kids (todo_of c.end_columns.new.todo.items) (todo_of c.args.todo.now.items) c.end_columns.result c.in-Columns.is c.end_columns.ensures.done
+
+pub returns-in-Over-clause-done : goal.returns-in-Over-clause-done
+returns-in-Over-clause-done g c =
+    ended_as c.args.local Over Over c.args.kids (todo_of c.args.todo.now.items) (todo_of c.args.todo.now.items) c.in-Over.is
+    (λ ks same. record { mind_is = refl; todo_is = sym (append-nil (todo_of c.args.todo.now.items)) })
+
+pub returns-in-Made-clause-done : goal.returns-in-Made-clause-done
+returns-in-Made-clause-done g c =
+    ended_as c.args.local (Made c.in-Made.layout) (Made c.in-Made.layout) c.args.kids (todo_of c.args.todo.now.items) (todo_of c.args.todo.now.items) c.in-Made.is
+    (λ ks same. record { mind_is = refl; todo_is = sym (append-nil (todo_of c.args.todo.now.items)) })

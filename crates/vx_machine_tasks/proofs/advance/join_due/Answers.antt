@@ -1,0 +1,27 @@
+use Rattle.vx_machine_ids.proofs.MoveLaws.{owned_right}
+use Rattle.vx_machine_tasks.specs.Stocks.{local_stock, tasks_stock}
+use Rattle.vx_machine_tasks.proofs.ActMoves.{joined_moved, local_owned, joined_then}
+use Rattle.std.proofs.Common.{◌∙◌}
+use Rattle.vx_machine_tasks.specs.View.{row}
+use Rattle.vx_machine_tasks.proofs.ActShows.{joined_done}
+use Rattle.vx_machine_tasks.proofs.advance.join_due.Goals as goal
+
+pub join-requires-clause-owned : goal.join-requires-clause-owned
+join-requires-clause-owned g c = owned_right (g.O.Order.active c.args.order.now) (local_stock c.args.local.now) (tasks_stock c.args.kids.now.items) c.requires.owned
+
+pub set_local-requires : goal.set_local-requires
+set_local-requires g c = local_owned (g.O.Order.active c.args.order.now) (g.O.Order.active c.join.new.order) (local_stock c.args.local.now) (tasks_stock c.args.kids.now.items) (tasks_stock c.join.new.kids.items) c.requires.owned c.join.ensures.moved
+
+pub returns-in-Ok-clause-moved : goal.returns-in-Ok-clause-moved
+returns-in-Ok-clause-moved g c =
+    joined_then (g.O.Order.active c.args.order.now) (g.O.Order.active c.join.new.order) (local_stock c.args.local.now) (tasks_stock c.args.kids.now.items) (tasks_stock c.join.new.kids.items) c.requires.owned c.join.ensures.moved
+    (g.O.Order.active c.set_local.new.order) (local_stock c.set_local.new.local) c.set_local.ensures.moved
+
+pub returns-in-Err-clause-moved : goal.returns-in-Err-clause-moved
+returns-in-Err-clause-moved g c =
+    joined_moved (g.O.Order.active c.args.order.now) (g.O.Order.active c.join.new.order) (local_stock c.args.local.now) (tasks_stock c.args.kids.now.items) (tasks_stock c.join.new.kids.items) c.requires.owned c.join.ensures.moved
+
+pub returns-in-Ok-clause-done : goal.returns-in-Ok-clause-done
+returns-in-Ok-clause-done g c = λ ids n mind.
+    joined_done ids n mind c.args.shape (row c.args.kids.now.items) c.in-Ok.layout c.set_local.new.local c.join.new.kids.items (g.O.Order.outlet c.args.order.now) (g.O.Order.outlet c.set_local.new.order)
+    c.in-Ok.ensures.layout c.set_local.ensures.local c.in-Ok.ensures.no_kids (c.set_local.ensures.outlet ∙ c.join.ensures.outlet)

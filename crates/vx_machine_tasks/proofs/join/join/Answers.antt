@@ -1,0 +1,31 @@
+use Rattle.std.proofs.Common.{map}
+use Rattle.vx_layout_tree.specs.LayoutView.{layout_data}
+use Rattle.vx_machine_view.specs.Acts.{layouts_in, joined_rows}
+use Rattle.vx_machine_tasks.specs.View.{fold_of, row}
+use Rattle.vx_machine_tasks.proofs.ActShows.{on_ok}
+use Rattle.vx_machine_tasks.proofs.JoinSteps.{shape_chunks, chunks_refused, shape_columns, columns_refused}
+use Rattle.vx_machine_tasks.proofs.join.join.Goals as goal
+
+pub returns-in-Chunks-clause-layout : goal.returns-in-Chunks-clause-layout
+returns-in-Chunks-clause-layout g c =
+    shape_chunks c.args.shape c.in-Chunks.dtype c.deref.result.now (map layout_data c.in-Ok.layouts.items) (layouts_in (row c.args.kids.now.items)) c.gather-layout.result
+    c.in-Chunks.is c.deref.ensures c.in-Ok.ensures.layouts c.gather-layout.ensures.layout
+
+pub returns-in-Chunks-clause-no_kids : goal.returns-in-Chunks-clause-no_kids
+returns-in-Chunks-clause-no_kids g c = on_ok c.gather-layout.result c.in-Ok.ensures.no_kids
+
+pub returns-in-Chunks-clause-refused : goal.returns-in-Chunks-clause-refused
+returns-in-Chunks-clause-refused g c =
+    chunks_refused c.args.shape c.in-Chunks.dtype (map layout_data c.in-Ok.layouts.items) (layouts_in (row c.args.kids.now.items)) c.gather-layout.result
+    c.in-Chunks.is c.in-Ok.ensures.layouts c.gather-layout.ensures.refused
+
+pub returns-in-Columns-clause-layout : goal.returns-in-Columns-clause-layout
+returns-in-Columns-clause-layout g c =
+    shape_columns c.args.shape c.in-Columns.node c.in-Columns.rows (map layout_data c.in-Ok.layouts.items) (layouts_in (row c.args.kids.now.items)) c.join_columns-layout.result
+    c.in-Columns.is c.in-Ok.ensures.layouts c.join_columns-layout.ensures.layout
+
+pub returns-in-Columns-clause-no_kids : goal.returns-in-Columns-clause-no_kids
+returns-in-Columns-clause-no_kids g c = on_ok c.join_columns-layout.result c.in-Ok.ensures.no_kids
+
+pub returns-in-Columns-clause-refused : goal.returns-in-Columns-clause-refused
+returns-in-Columns-clause-refused g c = columns_refused (joined_rows (fold_of c.args.shape) (layouts_in (row c.args.kids.now.items))) c.join_columns-layout.result c.join_columns-layout.ensures.memory

@@ -1,0 +1,344 @@
+use Rattle.std.proofs.Common.{rules, tests, ◌≡◌, ◌+◌, ◌*◌, ◌<◌, ◌||◌, Bool, [], ◌∷◌, ◌++◌, length, map, drop, refl, sym, ap, subst, ◌∙◌, arith}
+use Rattle.std.specs.Prelude.{IsTrue, IfOk, IfErr, OnOk}
+use Rattle.std.specs.Arc.{arc_value}
+use Rattle.std.proofs.lemmas.Result.{err_from_is_err_and, IfOk-weaker, IfErr-weaker}
+use Rattle.vx_path.specs.Path.{under, inside}
+use Rattle.vx_model.specs.Ty.{Ty, is_struct}
+use Rattle.vx_model.specs.TyView.{ty, field_ty}
+use Rattle.vx_model.specs.declared.dtype.StructField.{StructField}
+use Rattle.vx_chunk.proofs.FlagSteps.{ty_flags}
+use Rattle.vx_strategy.specs.declared.strategy.Strategy.TheVariants.{Flat}
+use Rattle.vx_write_answer.specs.declared.error.WriteError.TheVariants.{OutOfMemory}
+use Rattle.vx_machine_turns.specs.Forms.{Form, Forms, form_then}
+use Rattle.vx_machine_turns.specs.Starts.{start_fault}
+use Rattle.vx_machine_view.specs.State.{by_column}
+use Rattle.vx_machine_view.specs.Start.{first_indices}
+use Rattle.vx_strategy.specs.FieldWays.{field_ways}
+use Rattle.vx_strategy.specs.NodeViews.{struct_way}
+use Rattle.vx_strategy.specs.StrategyView.{strategy_data}
+use Rattle.vx_sequence.specs.Universe.{Active}
+use Rattle.vx_machine_ids.specs.Stock.{Stock, none, both, end_stock, ok_stock}
+use Rattle.vx_machine_ids.specs.Balance.{Owned, Moved}
+use Rattle.vx_machine_ids.proofs.MoveLaws.{moved_none, moved_then, owned_left, owned_now}
+use Rattle.vx_machine_view.specs.Built.{is_built}
+use Rattle.vx_machine_tasks.specs.Weight.{weight}
+use Rattle.vx_machine_tasks.specs.Starting.{field_form, field_forms, validity_form, validity_forms, columns_form, Started, ManyStarted, OneStarted, AllStarted, StartRefused, ManyRefused, OneRefused}
+use Rattle.vx_machine_tasks.specs.Stocks.{task_stock, tasks_stock}
+use Rattle.vx_machine_tasks.specs.View.{form_at, row}
+use Rattle.vx_machine_tasks.specs.declared.node.Local.TheVariants.{Empty, Columns}
+use Rattle.vx_machine_tasks.proofs.StartMoves.{alone_moved, none_yet, from_none, pointer_owned, kids_left, left_owned, held_kids, same_kids, pointer_moved, child_moved, off_owned, off_moved}
+use Rattle.vx_machine_tasks.proofs.Fitting.{none_fit}
+use Rattle.vx_machine_tasks.proofs.StartShows.{Left, plain_form, typed, field_form_is, fields_more, fields_end, memory_refused, node_refused, task_refused, pointer_refused, started, one_started, none_started, left_first, left_next, left_refused, all_started, validity_refused}
+use Rattle.vx_machine_tasks.proofs.ViewParts.{len_is}
+use Rattle.vx_machine_tasks.proofs.StartWeights.{writer_weight, writer_built, struct_built}
+use Rattle.vx_machine_tasks.proofs.start.+start.Goals as goal
+
+-- ---- a task
+
+pub start_task-returns-in-Flat-clause-moved : goal.start_task-returns-in-Flat-clause-moved
+start_task-returns-in-Flat-clause-moved g t c =
+    alone_moved (g.O.Order.active c.args.order.now) (g.O.Order.active c.give_up_pointer.new.order) (end_stock c.args.eof) none c.waiting.result c.new.result.items c.new.ensures.items c.waiting.ensures.held c.give_up_pointer.ensures.moved
+
+pub start_task-returns-in-Flat-clause-shows : goal.start_task-returns-in-Flat-clause-shows
+start_task-returns-in-Flat-clause-shows g t c =
+    subst (λ s. Started (form_at (strategy_data s) (ty (arc_value c.args.dtype))) c.args.marked c.args.name c.args.eof c.waiting.result) (sym c.in-Flat.is)
+    (started (form_at (strategy_data (Flat c.in-Flat.options)) (ty (arc_value c.args.dtype))) c.args.marked c.args.name c.args.eof (Empty (record { options = c.in-Flat.options; dtype = c.args.dtype })) c.new.result.items c.waiting.result
+    (λ s. refl) (λ a. none_fit) refl (ap row c.new.ensures.items) c.waiting.ensures.shows)
+
+pub start_task-returns-in-Chunked-clause-shows : goal.start_task-returns-in-Chunked-clause-shows
+start_task-returns-in-Chunked-clause-shows g t c =
+    subst (λ s. IfOk c.start_chunked.result (Started (form_at (strategy_data s) (ty (arc_value c.args.dtype))) c.args.marked c.args.name c.args.eof)) (sym c.in-Chunked.is) c.start_chunked.ensures.shows
+
+pub start_task-returns-in-Chunked-clause-refused : goal.start_task-returns-in-Chunked-clause-refused
+start_task-returns-in-Chunked-clause-refused g t c =
+    IfErr-weaker c.start_chunked.result (λ e. e ≡ OutOfMemory) _ (λ e h. memory_refused _ _ e h) c.start_chunked.ensures.memory
+
+pub start_task-returns-in-Ok-clause-shows : goal.start_task-returns-in-Ok-clause-shows
+start_task-returns-in-Ok-clause-shows g t c =
+    let d : ty (arc_value c.in-Ok.node.dtype) ≡ ty (arc_value c.args.dtype) = ap (λ z. ty (arc_value z)) c.in-Ok.ensures.node in
+    let f : columns_form c.in-Struct.fields (ty (arc_value c.in-Ok.node.dtype)) ≡ form_at (strategy_data c.args.strategy.now) (ty (arc_value c.args.dtype)) =
+    ap (columns_form c.in-Struct.fields) d
+    ∙ sym (plain_form c.in-Struct.fields (ty (arc_value c.args.dtype)) (subst (λ z. IsTrue (is_struct z)) d c.in-Ok.node.structs) c.in-Ok.ensures.distinct)
+    ∙ ap (λ s. form_at (strategy_data s) (ty (arc_value c.args.dtype))) (sym c.in-Struct.is) in
+    subst (λ z. IfOk c.start_columns.result (Started z c.args.marked c.args.name c.args.eof)) f c.start_columns.ensures.shows
+
+pub start_task-returns-in-Ok-clause-refused : goal.start_task-returns-in-Ok-clause-refused
+start_task-returns-in-Ok-clause-refused g t c =
+    let d : ty (arc_value c.in-Ok.node.dtype) ≡ ty (arc_value c.args.dtype) = ap (λ z. ty (arc_value z)) c.in-Ok.ensures.node in
+    let f : columns_form c.in-Struct.fields (ty (arc_value c.in-Ok.node.dtype)) ≡ form_at (strategy_data c.args.strategy.now) (ty (arc_value c.args.dtype)) =
+    ap (columns_form c.in-Struct.fields) d
+    ∙ sym (plain_form c.in-Struct.fields (ty (arc_value c.args.dtype)) (subst (λ z. IsTrue (is_struct z)) d c.in-Ok.node.structs) c.in-Ok.ensures.distinct)
+    ∙ ap (λ s. form_at (strategy_data s) (ty (arc_value c.args.dtype))) (sym c.in-Struct.is) in
+    subst (λ z. IfErr c.start_columns.result (StartRefused (λ s. start_fault s z c.args.marked) (first_indices z c.args.eof))) f c.start_columns.ensures.refused
+
+pub start_task-returns-in-Err-clause-refused : goal.start_task-returns-in-Err-clause-refused
+start_task-returns-in-Err-clause-refused g t c =
+    subst (λ s. StartRefused (λ x. start_fault x (form_at (strategy_data s) (ty (arc_value c.args.dtype))) c.args.marked) (first_indices (form_at (strategy_data s) (ty (arc_value c.args.dtype))) c.args.eof) c.in-Err.error) (sym c.in-Struct.is)
+    (node_refused c.in-Struct.fields (ty (arc_value c.args.dtype)) c.args.marked (first_indices (form_at (struct_way c.in-Struct.fields) (ty (arc_value c.args.dtype))) c.args.eof) c.in-Err.error c.in-Err.ensures.refused)
+
+pub start_task-start_columns-requires : goal.start_task-start_columns-requires
+start_task-start_columns-requires g t c κs within =
+    let b : IsTrue (is_built (struct_way c.in-Struct.fields)) = subst (λ s. IsTrue (is_built (strategy_data s))) c.in-Struct.is c.requires.built in
+    let n : weight (strategy_data c.args.strategy.now) ≡ weight (struct_way c.in-Struct.fields) = ap (λ s. weight (strategy_data s)) c.in-Struct.is in
+    let falls : 8 * weight (struct_way c.in-Struct.fields) + 3 < 8 * weight (strategy_data c.args.strategy.now) + 4 = omega (arith, n) in
+    search (rules, arith, c.requires.owned, b, falls)
+
+-- ---- a struct's columns
+
+pub start_columns-start_each-started-requires : goal.start_columns-start_each-started-requires
+start_columns-start_each-started-requires g t c κs within =
+    let u : Active = g.O.Order.active c.args.order.now in
+    let o : Owned u (both (end_stock c.args.eof) (tasks_stock c.new-kids.result.items)) = none_yet u u (end_stock c.args.eof) c.new-kids.result.items c.new-kids.ensures.items c.requires.owned in
+    let falls : 8 * weight (struct_way c.args.fields.now) + 2 < 8 * weight (struct_way c.args.fields.now) + 3 = omega arith in
+    search (rules, arith, o, c.requires.built, falls)
+
+pub start_columns-give_up_pointer-requires : goal.start_columns-give_up_pointer-requires
+start_columns-give_up_pointer-requires g t c =
+    let u : Active = g.O.Order.active c.args.order.now in
+    let v : Active = g.O.Order.active c.start_each-started.new.order in
+    let e : Stock = end_stock c.args.eof in
+    let f : Stock = end_stock c.start_each-started.new.eof in
+    let k : Stock = tasks_stock c.start_each-started.new.kids.items in
+    pointer_owned u v e f k c.requires.owned (from_none u v e c.new-kids.result.items c.new-kids.ensures.items (both f k) c.start_each-started.ensures.moved)
+
+pub start_columns-returns-in-Ok-clause-moved : goal.start_columns-returns-in-Ok-clause-moved
+start_columns-returns-in-Ok-clause-moved g t c =
+    let u : Active = g.O.Order.active c.args.order.now in
+    let v : Active = g.O.Order.active c.start_each-started.new.order in
+    let w : Active = g.O.Order.active c.give_up_pointer.new.order in
+    let e : Stock = end_stock c.args.eof in
+    let f : Stock = end_stock c.start_each-started.new.eof in
+    let k : Stock = tasks_stock c.start_each-started.new.kids.items in
+    let m : Moved u v e (both f k) = from_none u v e c.new-kids.result.items c.new-kids.ensures.items (both f k) c.start_each-started.ensures.moved in
+    held_kids u w e k c.waiting.result c.waiting.ensures.held (kids_left u v e f k c.requires.owned m w c.give_up_pointer.ensures.moved)
+
+pub start_columns-returns-in-Ok-clause-shows : goal.start_columns-returns-in-Ok-clause-shows
+start_columns-returns-in-Ok-clause-shows g t c =
+    let u : Ty = ty (arc_value c.args.node.dtype) in
+    let h : AllStarted (columns_form c.args.fields.now u) c.args.marked c.args.name c.args.eof c.start_each-started.new.kids.items =
+    subst (λ z. AllStarted (columns_form c.args.fields.now (ty z)) c.args.marked c.args.name c.args.eof c.start_each-started.new.kids.items) c.deref.ensures (c.in-Ok.ensures.shows c.new-kids.ensures.items) in
+    started (columns_form c.args.fields.now u) c.args.marked c.args.name c.args.eof (Columns c.args.node 0) c.start_each-started.new.kids.items c.waiting.result
+    h.allowed h.counted (ap (λ z. by_column z 0) (typed u c.args.node.structs)) h.tasks c.waiting.ensures.shows
+
+pub start_columns-returns-in-Err-clause-refused : goal.start_columns-returns-in-Err-clause-refused
+start_columns-returns-in-Err-clause-refused g t c =
+    subst (λ z. StartRefused (λ s. start_fault s (columns_form c.args.fields.now (ty z)) c.args.marked) (first_indices (columns_form c.args.fields.now (ty z)) c.args.eof) c.in-Err.error) c.deref.ensures c.in-Err.ensures.refused
+
+pub start_columns-refuse_all-requires : goal.start_columns-refuse_all-requires
+start_columns-refuse_all-requires g t c =
+    let u : Active = g.O.Order.active c.args.order.now in
+    let v : Active = g.O.Order.active c.start_each-started.new.order in
+    let w : Active = g.O.Order.active c.give_up_pointer.new.order in
+    let e : Stock = end_stock c.args.eof in
+    let f : Stock = end_stock c.start_each-started.new.eof in
+    let k : Stock = tasks_stock c.start_each-started.new.kids.items in
+    let m : Moved u v e (both f k) = from_none u v e c.new-kids.result.items c.new-kids.ensures.items (both f k) c.start_each-started.ensures.moved in
+    left_owned u v e f k c.requires.owned m w c.give_up_pointer.ensures.moved
+
+pub start_columns-returns-in-Err-clause-moved : goal.start_columns-returns-in-Err-clause-moved
+start_columns-returns-in-Err-clause-moved g t c =
+    let u : Active = g.O.Order.active c.args.order.now in
+    let v : Active = g.O.Order.active c.start_each-started.new.order in
+    let w : Active = g.O.Order.active c.give_up_pointer.new.order in
+    let e : Stock = end_stock c.args.eof in
+    let f : Stock = end_stock c.start_each-started.new.eof in
+    let k : Stock = tasks_stock c.start_each-started.new.kids.items in
+    let m : Moved u v e (both f k) = from_none u v e c.new-kids.result.items c.new-kids.ensures.items (both f k) c.start_each-started.ensures.moved in
+    moved_then u w (g.O.Order.active c.refuse_all.new.order) e k none (kids_left u v e f k c.requires.owned m w c.give_up_pointer.ensures.moved) c.refuse_all.ensures.moved
+
+-- ---- each of them
+
+pub start_each-start_validity-requires : goal.start_each-start_validity-requires
+start_each-start_validity-requires g t c κs within =
+    let falls : 8 * weight (struct_way c.args.fields.now) + 1 < 8 * weight (struct_way c.args.fields.now) + 2 = omega arith in
+    search (rules, arith, c.requires.owned, c.requires.built, falls)
+
+pub start_each-fields-init : goal.start_each-fields-init
+start_each-fields-init g t c = record {
+  owned = owned_now (g.O.Order.active c.args.order.now) (g.O.Order.active c.start_validity.new.order) (both (end_stock c.args.eof.now) (tasks_stock c.args.kids.now.items)) (both (end_stock c.start_validity.new.eof) (tasks_stock c.start_validity.new.kids.items)) c.requires.owned c.start_validity.ensures.moved;
+  moved = c.start_validity.ensures.moved;
+  outlet = c.start_validity.ensures.outlet;
+  sink = c.start_validity.ensures.sink;
+  left =
+      let b : c.if-marked.below ≡ (c.args.marked || c.is_nullable-nullable.result) = search (rules, tests) in
+      rw (b, c.fields_in-columns.ensures) (left_first c.args.fields.now (ty c.args.dtype.now) c.is_nullable-nullable.result c.args.marked c.args.name.now c.args.eof.now c.start_validity.new.eof c.args.kids.now.items c.start_validity.new.kids.items
+      c.is_nullable-nullable.ensures c.in_ok-start_validity.ensures.shows);
+}
+
+pub start_each-returns-in_err-start_validity-clause-refused : goal.start_each-returns-in_err-start_validity-clause-refused
+start_each-returns-in_err-start_validity-clause-refused g t c =
+    let p = err_from_is_err_and c.from_residual.result c.from_residual.ensures.1 in
+    rw (p.1, p.2) (validity_refused c.args.fields.now (ty c.args.dtype.now) c.is_nullable-nullable.result c.args.marked c.args.eof.now c.in_err-start_validity.field-0.0 c.is_nullable-nullable.ensures c.in_err-start_validity.ensures.refused)
+
+pub start_each-start_field-requires : goal.start_each-start_field-requires
+start_each-start_field-requires g t c κs within =
+    let falls : 8 * weight (struct_way c.args.fields.now) + 1 < 8 * weight (struct_way c.args.fields.now) + 2 = omega arith in
+    search (rules, arith, c.fields.invariant.owned, c.requires.built, falls)
+
+pub start_each-returns-in_err-start_field-clause-moved : goal.start_each-returns-in_err-start_field-clause-moved
+start_each-returns-in_err-start_field-clause-moved g t c =
+    moved_then (g.O.Order.active c.args.order.now) (g.O.Order.active c.fields.order) (g.O.Order.active c.start_field.new.order)
+    (both (end_stock c.args.eof.now) (tasks_stock c.args.kids.now.items)) (both (end_stock c.fields.eof) (tasks_stock c.fields.kids.items)) (both (end_stock c.start_field.new.eof) (tasks_stock c.start_field.new.kids.items))
+    c.fields.invariant.moved c.start_field.ensures.moved
+
+pub start_each-returns-in_err-start_field-clause-refused : goal.start_each-returns-in_err-start_field-clause-refused
+start_each-returns-in_err-start_field-clause-refused g t c =
+    let p = err_from_is_err_and c.from_residual-in_err-start_field.result c.from_residual-in_err-start_field.ensures.1 in
+    let f : Form = columns_form c.args.fields.now (ty c.args.dtype.now) in
+    let x : StructField = c.field-item.result in
+    let h : c.fields.field-index < length c.fields_in-columns.result.now = omega arith in
+    let m = fields_more c.args.fields.now c.fields_in-columns.result.now c.fields.field-index x h c.field-item.is in
+    let gs : Forms = field_forms c.args.fields.now (map field_ty (drop (c.fields.field-index + 1) c.fields_in-columns.result.now)) in
+    let l : Left f c.args.marked c.args.name.now c.args.eof.now c.args.kids.now.items (form_then (field_form c.args.fields.now (field_ty x)) gs) c.if-marked.below c.fields.kids.items c.fields.eof =
+    subst (λ z. Left f c.args.marked c.args.name.now c.args.eof.now c.args.kids.now.items z c.if-marked.below c.fields.kids.items c.fields.eof) m c.fields.invariant.left in
+    rw (p.1, p.2) (left_refused f c.args.marked c.args.name.now c.args.eof.now c.args.kids.now.items (field_form c.args.fields.now (field_ty x)) gs c.if-marked.below c.fields.kids.items c.fields.eof
+    c.in_err-start_field.field-0.0 l c.in_err-start_field.ensures.refused)
+
+pub start_each-returns-clause-shows : goal.start_each-returns-clause-shows
+start_each-returns-clause-shows g t c = λ empty.
+    let f : Form = columns_form c.args.fields.now (ty c.args.dtype.now) in
+    let b : Bool = c.if-marked.below in
+    all_started f c.args.marked c.args.name.now c.args.eof.now c.args.kids.now.items b c.fields.kids.items c.fields.eof
+    (subst (λ z. Left f c.args.marked c.args.name.now c.args.eof.now c.args.kids.now.items z b c.fields.kids.items c.fields.eof)
+    (fields_end c.args.fields.now c.fields_in-columns.result.now c.fields.field-index (omega arith)) c.fields.invariant.left) empty
+
+pub start_each-fields-preserved : goal.start_each-fields-preserved
+start_each-fields-preserved g t c = record {
+  owned = owned_now (g.O.Order.active c.fields.order) (g.O.Order.active c.start_field.new.order) (both (end_stock c.fields.eof) (tasks_stock c.fields.kids.items)) (both (end_stock c.start_field.new.eof) (tasks_stock c.start_field.new.kids.items)) c.fields.invariant.owned c.start_field.ensures.moved;
+  moved = moved_then (g.O.Order.active c.args.order.now) (g.O.Order.active c.fields.order) (g.O.Order.active c.start_field.new.order)
+      (both (end_stock c.args.eof.now) (tasks_stock c.args.kids.now.items)) (both (end_stock c.fields.eof) (tasks_stock c.fields.kids.items)) (both (end_stock c.start_field.new.eof) (tasks_stock c.start_field.new.kids.items))
+      c.fields.invariant.moved c.start_field.ensures.moved;
+  outlet = c.start_field.ensures.outlet ∙ c.fields.invariant.outlet;
+  sink = c.start_field.ensures.sink ∙ c.fields.invariant.sink;
+  left =
+      let f : Form = columns_form c.args.fields.now (ty c.args.dtype.now) in
+      let b : Bool = c.if-marked.below in
+      let x : StructField = c.field-item.result in
+      let h : c.fields.field-index < length c.fields_in-columns.result.now = omega arith in
+      let gs : Forms = field_forms c.args.fields.now (map field_ty (drop (c.fields.field-index + 1) c.fields_in-columns.result.now)) in
+      left_next f c.args.marked c.args.name.now c.args.eof.now c.args.kids.now.items (field_form c.args.fields.now (field_ty x)) gs b c.fields.kids.items c.start_field.new.kids.items c.fields.eof c.start_field.new.eof
+      (subst (λ z. Left f c.args.marked c.args.name.now c.args.eof.now c.args.kids.now.items z b c.fields.kids.items c.fields.eof) (fields_more c.args.fields.now c.fields_in-columns.result.now c.fields.field-index x h c.field-item.is) c.fields.invariant.left)
+      c.in_ok-start_field.ensures.shows;
+}
+
+-- ---- the validity, and a field
+
+pub start_validity-start_column-requires : goal.start_validity-start_column-requires
+start_validity-start_column-requires g t c κs within =
+    let s = c.args.fields.now in
+    let p = struct_built s.validity.item s.default.item (field_ways s.writers.items) c.requires.built in
+    let b : IsTrue (is_built c.validity.result.now.item) = subst (λ x. IsTrue (is_built x.item)) (sym c.validity.ensures) p.0 in
+    let n : weight c.validity.result.now.item ≡ weight s.validity.item = ap (λ x. weight x.item) c.validity.ensures in
+    let falls : 8 * weight c.validity.result.now.item + 6 < 8 * weight (struct_way s) + 1 = omega (arith, n) in
+    search (rules, arith, c.requires.owned, b, falls)
+
+pub start_validity-returns-then-not-nullable-clause-shows : goal.start_validity-returns-then-not-nullable-clause-shows
+start_validity-returns-then-not-nullable-clause-shows g t c =
+    subst (λ z. ManyStarted (validity_forms c.args.fields.now z) c.args.marked c.args.name.now c.args.eof.now c.args.kids.now.items c.args.eof.now c.args.kids.now.items) (sym c.if-not-nullable.true)
+    (none_started c.args.marked c.args.name.now c.args.eof.now c.args.kids.now.items)
+
+pub start_validity-returns-clause-shows : goal.start_validity-returns-clause-shows
+start_validity-returns-clause-shows g t c =
+    let f : form_at c.validity.result.now.item (ty (arc_value c.in_ok-flags.flags)) ≡ validity_form c.args.fields.now =
+    (λ j. form_at ((c.validity.ensures j).item) (ty (c.in_ok-flags.ensures.ok j))) ∙ ap (form_at c.args.fields.now.validity.item) ty_flags in
+    subst (λ z. OnOk c.start_column.result (ManyStarted (validity_forms c.args.fields.now z) c.args.marked c.args.name.now c.args.eof.now c.args.kids.now.items c.start_column.new.eof c.start_column.new.kids.items)) (sym c.if-not-nullable.false)
+    (subst (λ z. OnOk c.start_column.result (OneStarted z c.args.marked c.args.name.now c.args.eof.now c.args.kids.now.items c.start_column.new.eof c.start_column.new.kids.items)) f c.start_column.ensures.shows)
+
+pub start_validity-returns-clause-refused : goal.start_validity-returns-clause-refused
+start_validity-returns-clause-refused g t c =
+    let f : form_at c.validity.result.now.item (ty (arc_value c.in_ok-flags.flags)) ≡ validity_form c.args.fields.now =
+    (λ j. form_at ((c.validity.ensures j).item) (ty (c.in_ok-flags.ensures.ok j))) ∙ ap (form_at c.args.fields.now.validity.item) ty_flags in
+    subst (λ z. IfErr c.start_column.result (ManyRefused (validity_forms c.args.fields.now z) c.args.marked c.args.eof.now)) (sym c.if-not-nullable.false)
+    (subst (λ z. IfErr c.start_column.result (OneRefused z c.args.marked c.args.eof.now)) f c.start_column.ensures.refused)
+
+pub start_field-returns-clause-shows : goal.start_field-returns-clause-shows
+start_field-returns-clause-shows g t c =
+    subst (λ z. OnOk c.start_column.result (OneStarted z c.args.marked c.args.name.now c.args.eof.now c.args.kids.now.items c.start_column.new.eof c.start_column.new.kids.items))
+    (field_form_is c.args.fields.now c.args.field.now c.writer-writer.result.now.item (ty (arc_value c.in_ok-dtype.dtype)) c.writer-writer.ensures (ap ty c.in_ok-dtype.ensures.ok ∙ c.in_ok-clone.ensures.cases))
+    c.start_column.ensures.shows
+
+pub start_field-returns-clause-refused : goal.start_field-returns-clause-refused
+start_field-returns-clause-refused g t c =
+    subst (λ z. IfErr c.start_column.result (OneRefused z c.args.marked c.args.eof.now))
+    (field_form_is c.args.fields.now c.args.field.now c.writer-writer.result.now.item (ty (arc_value c.in_ok-dtype.dtype)) c.writer-writer.ensures (ap ty c.in_ok-dtype.ensures.ok ∙ c.in_ok-clone.ensures.cases))
+    c.start_column.ensures.refused
+
+pub start_field-start_column-requires : goal.start_field-start_column-requires
+start_field-start_column-requires g t c κs within =
+    let s = c.args.fields.now in
+    let p = struct_built s.validity.item s.default.item (field_ways s.writers.items) c.requires.built in
+    let b : IsTrue (is_built c.writer-writer.result.now.item) = subst (λ x. IsTrue (is_built x)) (sym c.writer-writer.ensures) (writer_built c.args.field.now.name (field_ways s.writers.items) s.default.item p.2 p.1) in
+    let falls : 8 * weight c.writer-writer.result.now.item + 6 < 8 * weight (struct_way s) + 1 = omega (arith, ap weight c.writer-writer.ensures, writer_weight c.args.field.now.name (field_ways s.writers.items) s.default.item) in
+    search (rules, arith, c.requires.owned, b, falls)
+
+-- ---- one more child
+
+pub start_column-returns-in_default-clause-moved : goal.start_column-returns-in_default-clause-moved
+start_column-returns-in_default-clause-moved g t c =
+    let u : Active = g.O.Order.active c.args.order.now in
+    let e : Stock = end_stock c.args.eof.now in
+    same_kids u u (both e (tasks_stock c.args.kids.now.items)) e c.args.kids.now.items c.next_name.new.kids.items c.next_name.ensures.kids (moved_none u (both e (tasks_stock c.args.kids.now.items)) c.requires.owned)
+
+pub start_column-start_under-requires : goal.start_column-start_under-requires
+start_column-start_under-requires g t c κs within =
+    let u : Active = g.O.Order.active c.args.order.now in
+    let o : Owned u (end_stock c.args.eof.now) = owned_left u (end_stock c.args.eof.now) (tasks_stock c.args.kids.now.items) c.requires.owned in
+    let falls : 8 * weight c.args.writer.now.item + 5 < 8 * weight c.args.writer.now.item + 6 = omega arith in
+    search (rules, arith, o, c.requires.built, falls)
+
+pub start_column-returns-in_err-kid-clause-moved : goal.start_column-returns-in_err-kid-clause-moved
+start_column-returns-in_err-kid-clause-moved g t c =
+    let u : Active = g.O.Order.active c.args.order.now in
+    let v : Active = g.O.Order.active c.start_under.new.order in
+    let e : Stock = end_stock c.args.eof.now in
+    let f : Stock = end_stock c.start_under.new.eof in
+    same_kids u v (both e (tasks_stock c.args.kids.now.items)) f c.args.kids.now.items c.next_name.new.kids.items c.next_name.ensures.kids
+    (pointer_moved u v e f (tasks_stock c.args.kids.now.items) c.requires.owned c.in_err-kid.ensures.moved)
+
+pub start_column-returns-clause-moved : goal.start_column-returns-clause-moved
+start_column-returns-clause-moved g t c =
+    child_moved (g.O.Order.active c.args.order.now) (g.O.Order.active c.start_under.new.order) (end_stock c.args.eof.now) (end_stock c.start_under.new.eof)
+    c.args.kids.now.items c.push_reserved.new.self.items c.in_ok-kid.kid c.requires.owned c.in_ok-kid.ensures.moved
+    (c.push_reserved.ensures.items ∙ ap (λ z. z ++ (c.in_ok-kid.kid ∷ [])) c.next_name.ensures.kids)
+
+pub start_column-returns-clause-shows : goal.start_column-returns-clause-shows
+start_column-returns-clause-shows g t c =
+    one_started (form_at c.args.writer.now.item (ty (arc_value c.args.dtype))) c.args.marked c.args.name.now c.in-Ok.name c.args.eof.now c.start_under.new.eof c.args.kids.now.items c.push_reserved.new.self.items c.in_ok-kid.kid
+    c.in_ok-kid.ensures.shows (c.in-Ok.ensures.name ∙ ap (under c.args.name.now) (len_is c.args.kids.now)) c.in_ok-kid.ensures.next c.in_ok-kid.ensures.fits
+    (c.push_reserved.ensures.items ∙ ap (λ z. z ++ (c.in_ok-kid.kid ∷ [])) c.next_name.ensures.kids)
+
+pub start_under-start_task-requires : goal.start_under-start_task-requires
+start_under-start_task-requires g t c κs within =
+    let v : Active = g.O.Order.active c.split_below.new.order in
+    let o : Owned v (end_stock c.in-Ok.below) = off_owned (g.O.Order.active c.args.order.now) v (end_stock c.args.eof.now) (end_stock c.split_below.new.eof) (end_stock c.in-Ok.below) c.requires.owned c.in-Ok.ensures.moved in
+    let b : IsTrue (is_built (strategy_data c.strategy.result.now)) = subst (λ x. IsTrue (is_built x)) (sym c.strategy.ensures.same) c.requires.built in
+    let n : weight (strategy_data c.strategy.result.now) ≡ weight c.args.writer.now.item = ap weight c.strategy.ensures.same in
+    let falls : 8 * weight (strategy_data c.strategy.result.now) + 4 < 8 * weight c.args.writer.now.item + 5 = omega (arith, n) in
+    search (rules, arith, o, b, falls)
+
+pub start_under-returns-in-Ok-clause-moved : goal.start_under-returns-in-Ok-clause-moved
+start_under-returns-in-Ok-clause-moved g t c =
+    off_moved (g.O.Order.active c.args.order.now) (g.O.Order.active c.split_below.new.order) (end_stock c.args.eof.now) (end_stock c.split_below.new.eof) (end_stock c.in-Ok.below) c.requires.owned c.in-Ok.ensures.moved
+    (g.O.Order.active c.start_task.new.order) (ok_stock task_stock c.start_task.result) c.start_task.ensures.moved
+
+pub start_under-returns-in-Ok-clause-shows : goal.start_under-returns-in-Ok-clause-shows
+start_under-returns-in-Ok-clause-shows g t c =
+    subst (λ z. IfOk c.start_task.result (Started (form_at z (ty (arc_value c.args.dtype))) c.args.marked c.args.name (inside c.args.eof.now))) c.strategy.ensures.same
+    (subst (λ z. IfOk c.start_task.result (Started (form_at (strategy_data c.strategy.result.now) (ty (arc_value c.args.dtype))) c.args.marked c.args.name z)) c.in-Ok.ensures.below c.start_task.ensures.shows)
+
+pub start_under-returns-in-Ok-clause-next : goal.start_under-returns-in-Ok-clause-next
+start_under-returns-in-Ok-clause-next g t c = IfOk-weaker c.start_task.result _ _ (λ k h. c.in-Ok.ensures.next) c.start_task.ensures.shows
+
+pub start_under-returns-in-Ok-clause-fits : goal.start_under-returns-in-Ok-clause-fits
+start_under-returns-in-Ok-clause-fits g t c = IfOk-weaker c.start_task.result _ _ (λ k h. c.in-Ok.ensures.fits) c.start_task.ensures.shows
+
+pub start_under-returns-in-Ok-clause-refused : goal.start_under-returns-in-Ok-clause-refused
+start_under-returns-in-Ok-clause-refused g t c =
+    let f : Form = form_at c.args.writer.now.item (ty (arc_value c.args.dtype)) in
+    IfErr-weaker c.start_task.result (StartRefused (λ s. start_fault s f c.args.marked) (first_indices f (inside c.args.eof.now))) (OneRefused f c.args.marked c.args.eof.now) (λ x h. task_refused f c.args.marked c.args.eof.now x h)
+    (subst (λ z. IfErr c.start_task.result (StartRefused (λ s. start_fault s (form_at z (ty (arc_value c.args.dtype))) c.args.marked) (first_indices (form_at z (ty (arc_value c.args.dtype))) (inside c.args.eof.now)))) c.strategy.ensures.same
+    (subst (λ z. IfErr c.start_task.result (StartRefused (λ s. start_fault s (form_at (strategy_data c.strategy.result.now) (ty (arc_value c.args.dtype))) c.args.marked) (first_indices (form_at (strategy_data c.strategy.result.now) (ty (arc_value c.args.dtype))) z))) c.in-Ok.ensures.below c.start_task.ensures.refused))
+
+pub start_under-returns-in-Err-clause-refused : goal.start_under-returns-in-Err-clause-refused
+start_under-returns-in-Err-clause-refused g t c =
+    pointer_refused (form_at c.args.writer.now.item (ty (arc_value c.args.dtype))) c.args.marked c.args.eof.now c.in-Err.error c.in-Err.ensures.refused

@@ -1,0 +1,11 @@
+use Rattle.std.proofs.Common.{sym, subst}
+use Rattle.vx_machine_tasks.specs.Causes.{StartMay}
+use Rattle.vx_machine_tasks.specs.Starting.{PointerRefused}
+use Rattle.vx_machine_tasks.proofs.CauseSteps.{full_starts, full_refused}
+use Rattle.vx_machine_tasks.proofs.start.split_below.Goals as goal
+
+pub returns-in-Err-clause-cause : goal.returns-in-Err-clause-cause
+returns-in-Err-clause-cause g c = subst (λ e. StartMay e) (sym c.into.ensures) (full_starts c.args.eof.now.last c.in-Err.full c.in-Err.ensures.full)
+
+pub returns-in-Err-clause-refused : goal.returns-in-Err-clause-refused
+returns-in-Err-clause-refused g c = subst (λ e. PointerRefused c.args.eof.now.last e) (sym c.into.ensures) (full_refused c.args.eof.now.last c.in-Err.full c.in-Err.ensures.full)

@@ -1,0 +1,30 @@
+use Rattle.std.proofs.Common.{refl, ap}
+use Rattle.std.specs.Arc.{arc_value}
+use Rattle.vx_sequence.specs.Universe.{Active}
+use Rattle.vx_model.specs.TyView.{ty}
+use Rattle.vx_machine_ids.specs.Stock.{end_stock}
+use Rattle.vx_machine_ids.proofs.MoveLaws.{moved_none}
+use Rattle.vx_machine_view.specs.State.{by_chunk}
+use Rattle.vx_strategy.specs.NodeViews.{chunked_way}
+use Rattle.vx_machine_tasks.specs.View.{form_at, row}
+use Rattle.vx_machine_tasks.specs.declared.node.Local.TheVariants.{Chunked}
+use Rattle.vx_machine_tasks.proofs.StartMoves.{alone_moved}
+use Rattle.vx_machine_tasks.proofs.Fitting.{none_fit}
+use Rattle.vx_machine_tasks.proofs.StartShows.{started}
+use Rattle.vx_machine_tasks.proofs.CauseSteps.{memory_start}
+use Rattle.vx_machine_tasks.proofs.start.start_chunked.Goals as goal
+
+pub returns-in-Ok-clause-moved : goal.returns-in-Ok-clause-moved
+returns-in-Ok-clause-moved g c =
+    let u : Active = g.O.Order.active c.args.order.now in
+    alone_moved u u (end_stock c.args.eof) (end_stock c.args.eof) c.waiting.result c.new.result.items c.new.ensures.items c.waiting.ensures.held (moved_none u (end_stock c.args.eof) c.requires.owned)
+
+pub returns-in-Ok-clause-shows : goal.returns-in-Ok-clause-shows
+returns-in-Ok-clause-shows g c =
+    started (form_at (chunked_way c.args.chunked.now) (ty (arc_value c.args.dtype))) c.args.marked c.args.name c.args.eof (Chunked c.in-Ok.node c.args.eof 0) c.new.result.items c.waiting.result
+    (λ s. refl) (λ a. none_fit)
+    (λ j. by_chunk (c.in-Ok.ensures.node.2 j) (ty (arc_value (c.in-Ok.ensures.node.0 j))) (form_at ((c.in-Ok.ensures.node.1 j).item) (ty (arc_value (c.in-Ok.ensures.node.0 j)))) c.args.eof 0)
+    (ap row c.new.ensures.items) c.waiting.ensures.shows
+
+pub returns-in-Err-clause-cause : goal.returns-in-Err-clause-cause
+returns-in-Err-clause-cause g c = memory_start c.in-Err.error c.in-Err.ensures.memory

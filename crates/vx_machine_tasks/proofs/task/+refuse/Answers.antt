@@ -1,0 +1,66 @@
+use Rattle.std.proofs.Common.{◌+◌, ◌*◌, ◌<◌, ◌≤◌, ◌≡◌, sym, subst, arith, rules, ◌∙◌, refl}
+use Rattle.vx_sequence.specs.Universe.{Active}
+use Rattle.vx_machine_ids.specs.Stock.{Stock, none, both}
+use Rattle.vx_machine_ids.specs.Balance.{Owned, Moved}
+use Rattle.vx_machine_ids.proofs.MoveLaws.{owned_now, moved_none, moved_then, moved_drop_first}
+use Rattle.vx_machine_ids.proofs.Lists.{pop_owned, pop_moved, pop_rest}
+use Rattle.vx_machine_tasks.specs.Sizes.{task_count, count_of_all}
+use Rattle.vx_machine_tasks.specs.Stocks.{head_stock, task_stock, tasks_stock}
+use Rattle.vx_machine_tasks.specs.declared.task.Task.{out-Task}
+use Rattle.vx_machine_tasks.proofs.TaskParts.{task_stock_out, task_count_out, popped_count}
+use Rattle.vx_machine_tasks.proofs.task.+refuse.Goals as goal
+
+pub Task::refuse-refuse_all-requires : goal.Task::refuse-refuse_all-requires
+Task::refuse-refuse_all-requires g t c κs within =
+    let u : Active = g.O.Order.active c.args.order.now in
+    let v : Active = g.O.Order.active c.give_up_head.new.order in
+    let h : Stock = head_stock (out-Task c.args.self).head in
+    let k : Stock = tasks_stock (out-Task c.args.self).kids.items in
+    let o : Owned u (both h k) = subst (λ s. Owned u s) (task_stock_out c.args.self) c.requires in
+    let m : Owned v k = owned_now u v (both h k) k o (moved_drop_first u v h k o c.give_up_head.ensures.moved) in
+    let n : task_count c.args.self ≡ 1 + count_of_all (out-Task c.args.self).kids.items = task_count_out c.args.self in
+    let falls : 2 * count_of_all (out-Task c.args.self).kids.items + 1 < 2 * task_count c.args.self = omega (arith, n) in
+    search (rules, arith, m, falls)
+
+pub Task::refuse-returns-clause-moved : goal.Task::refuse-returns-clause-moved
+Task::refuse-returns-clause-moved g t c =
+    let u : Active = g.O.Order.active c.args.order.now in
+    let v : Active = g.O.Order.active c.give_up_head.new.order in
+    let w : Active = g.O.Order.active c.refuse_all.new.order in
+    let h : Stock = head_stock (out-Task c.args.self).head in
+    let k : Stock = tasks_stock (out-Task c.args.self).kids.items in
+    let o : Owned u (both h k) = subst (λ s. Owned u s) (task_stock_out c.args.self) c.requires in
+    subst (λ s. Moved u w s none) (sym (task_stock_out c.args.self)) (moved_then u v w (both h k) k none (moved_drop_first u v h k o c.give_up_head.ensures.moved) c.refuse_all.ensures.moved)
+
+pub refuse_all-kids-init : goal.refuse_all-kids-init
+refuse_all-kids-init g t c = record {
+  owned = c.requires;
+  moved = moved_none (g.O.Order.active c.args.order.now) (tasks_stock c.args.kids.items) c.requires;
+  fewer = omega arith;
+  outlet = refl;
+  sink = refl;
+}
+
+pub refuse_all-refuse-requires : goal.refuse_all-refuse-requires
+refuse_all-refuse-requires g t c κs within =
+    let u : Active = g.O.Order.active c.kids.order in
+    let o : Owned u (task_stock c.in-Some.kid) = pop_owned task_stock u c.kids.kids.items c.pop.new.self.items c.in-Some.kid c.in-Some.ensures.items c.kids.invariant.owned in
+    let n : count_of_all c.kids.kids.items ≡ count_of_all c.pop.new.self.items + task_count c.in-Some.kid = popped_count c.kids.kids.items c.pop.new.self.items c.in-Some.kid c.in-Some.ensures.items in
+    let f : count_of_all c.kids.kids.items ≤ count_of_all c.args.kids.items = c.kids.invariant.fewer in
+    let falls : 2 * task_count c.in-Some.kid < 2 * count_of_all c.args.kids.items + 1 = omega (arith, n, f) in
+    search (rules, arith, o, falls)
+
+pub refuse_all-kids-preserved : goal.refuse_all-kids-preserved
+refuse_all-kids-preserved g t c =
+    let u : Active = g.O.Order.active c.kids.order in
+    let v : Active = g.O.Order.active c.refuse.new.order in
+    let n : count_of_all c.kids.kids.items ≡ count_of_all c.pop.new.self.items + task_count c.in-Some.kid = popped_count c.kids.kids.items c.pop.new.self.items c.in-Some.kid c.in-Some.ensures.items in
+    let f : count_of_all c.kids.kids.items ≤ count_of_all c.args.kids.items = c.kids.invariant.fewer in
+    record {
+      owned = pop_rest task_stock u c.kids.kids.items c.pop.new.self.items c.in-Some.kid c.in-Some.ensures.items c.kids.invariant.owned v c.refuse.ensures.moved;
+      moved = moved_then (g.O.Order.active c.args.order.now) u v (tasks_stock c.args.kids.items) (tasks_stock c.kids.kids.items) (tasks_stock c.pop.new.self.items) c.kids.invariant.moved
+          (pop_moved task_stock u c.kids.kids.items c.pop.new.self.items c.in-Some.kid c.in-Some.ensures.items c.kids.invariant.owned v c.refuse.ensures.moved);
+      fewer = omega (arith, n, f);
+      outlet = c.refuse.ensures.outlet ∙ c.kids.invariant.outlet;
+      sink = c.refuse.ensures.sink ∙ c.kids.invariant.sink;
+    }

@@ -1,0 +1,74 @@
+use Rattle.std.proofs.Common.{inl}
+use Rattle.std.proofs.lemmas.Result.{err_from_is_err_and}
+use Rattle.vx_sequence.specs.Universe.{Active}
+use Rattle.vx_write_answer.specs.declared.error.WriteError.TheVariants.{OutOfMemory}
+use Rattle.vx_machine_ids.specs.Stock.{Stock, both}
+use Rattle.vx_machine_tasks.specs.Stocks.{head_stock, tasks_stock}
+use Rattle.vx_machine_tasks.specs.declared.task.Task.{out-Task}
+use Rattle.vx_machine_tasks.specs.declared.task.Task.TheViews.{roll-Task}
+use Rattle.vx_machine_tasks.proofs.TaskParts.{parts_owned, parts_moved, rolled}
+use Rattle.vx_machine_tasks.specs.Context.{setting_of}
+use Rattle.vx_machine_tasks.proofs.CallSteps.{unasked_self}
+use Rattle.vx_machine_tasks.proofs.StepShows.{own_stepped, own_refused}
+use Rattle.std.proofs.Common.{sym, subst}
+use Rattle.vx_kept.specs.Kept.{Knows}
+use Rattle.vx_machine_tasks.specs.View.{row}
+use Rattle.vx_machine_tasks.specs.declared.task.Task.{Task}
+use Rattle.vx_machine_tasks.specs.declared.task.Task.TheOpen.{Task-F}
+use Rattle.vx_machine_tasks.proofs.TaskParts.{out_roll}
+use Rattle.vx_machine_tasks.proofs.Counting.{act_touches}
+use Rattle.vx_machine_tasks.proofs.task.Task.act.Goals as goal
+
+pub advance-requires-clause-owned : goal.advance-requires-clause-owned
+advance-requires-clause-owned g c = parts_owned (g.O.Order.active c.args.order.now) c.args.self.now c.requires.owned
+
+pub advance-requires-clause-ready : goal.advance-requires-clause-ready
+advance-requires-clause-ready g c = c.requires.ready
+
+pub advance-requires-clause-allowed : goal.advance-requires-clause-allowed
+advance-requires-clause-allowed g c = c.requires.allowed
+
+pub returns-in-Ok-clause-moved : goal.returns-in-Ok-clause-moved
+returns-in-Ok-clause-moved g c =
+    let u : Active = g.O.Order.active c.args.order.now in
+    let v : Active = g.O.Order.active c.advance.new.order in
+    let s : Stock = both (head_stock (out-Task c.args.self.now).head) (tasks_stock (out-Task c.args.self.now).kids.items) in
+    parts_moved u c.args.self.now c.requires.owned v (roll-Task (record { head = c.advance.new.head; kids = c.advance.new.kids }))
+    (rolled u v s (record { head = c.advance.new.head; kids = c.advance.new.kids }) c.advance.ensures.moved)
+
+pub returns-in-Err-clause-moved : goal.returns-in-Err-clause-moved
+returns-in-Err-clause-moved g c =
+    let u : Active = g.O.Order.active c.args.order.now in
+    let v : Active = g.O.Order.active c.advance.new.order in
+    let s : Stock = both (head_stock (out-Task c.args.self.now).head) (tasks_stock (out-Task c.args.self.now).kids.items) in
+    parts_moved u c.args.self.now c.requires.owned v (roll-Task (record { head = c.advance.new.head; kids = c.advance.new.kids }))
+    (rolled u v s (record { head = c.advance.new.head; kids = c.advance.new.kids }) c.advance.ensures.moved)
+
+pub returns-in-Ok-clause-done : goal.returns-in-Ok-clause-done
+returns-in-Ok-clause-done g c = λ image.
+    let u : Active = g.O.Order.active c.args.order.now in
+    let w = c.in-Ok.ensures.done image in
+    (w.0, own_stepped (setting_of c.args.ctx.now image) u w.0 (g.O.Order.outlet c.args.order.now) c.args.self.now c.requires.ready (g.O.Order.outlet c.advance.new.order) (record { head = c.advance.new.head; kids = c.advance.new.kids }) c.in_ok-task.task c.in-Ok.action c.in_ok-task.ensures.cases w.1)
+
+pub returns-in-Err-clause-refused : goal.returns-in-Err-clause-refused
+returns-in-Err-clause-refused g c = λ image number.
+    own_refused (setting_of c.args.ctx.now image) (g.O.Order.active c.args.order.now) number (g.O.Order.outlet c.args.order.now) c.args.self.now c.requires.ready c.in-Err.error (c.in-Err.ensures.refused image number)
+
+pub returns-in_err-task-clause-refused : goal.returns-in_err-task-clause-refused
+returns-in_err-task-clause-refused g c =
+    let p = err_from_is_err_and c.from_residual.result c.from_residual.ensures.1 in
+    rw (p.1, p.2) (λ image number. own_refused (setting_of c.args.ctx.now image) (g.O.Order.active c.args.order.now) number (g.O.Order.outlet c.args.order.now) c.args.self.now c.requires.ready OutOfMemory tt)
+
+pub returns-in_err-task-clause-told : goal.returns-in_err-task-clause-told
+returns-in_err-task-clause-told g c =
+    let p = err_from_is_err_and c.from_residual.result c.from_residual.ensures.1 in
+    rw (p.1, p.2) (inl (unasked_self (g.O.Sink.Fallible.faults (g.O.Order.sink c.args.order.now)) (g.O.Sink.Fallible.may_fail (g.O.Order.sink c.args.order.now)) (g.O.Sink.Fallible.must_fail (g.O.Order.sink c.args.order.now))))
+
+pub returns-in-Ok-clause-known : goal.returns-in-Ok-clause-known
+returns-in-Ok-clause-known g c =
+    let h = (out-Task c.args.self.now).head in
+    let ks = (out-Task c.args.self.now).kids.items in
+    let js = c.advance.new.kids.items in
+    let w = c.in-Ok.ensures.done (λ n p. p) in
+    subst (λ (z : Task-F Task). Knows c.follow.new.self (row z.kids.items)) (sym (out_roll (record { head = c.advance.new.head; kids = c.advance.new.kids })))
+    (c.follow.ensures (row ks) (row js) (act_touches (setting_of c.args.ctx.now (λ n p. p)) w.0 h ks js c.touched-touched.result c.touched-touched.ensures w.1.kids_are) c.requires.known)

@@ -1,0 +1,122 @@
+-- Which tasks are ready, and how many.
+use Rattle.std.specs.Prelude.{ℕ, zero, suc, ◌+◌, ◌-◌, ◌^◌, ◌&&◌, ◌||◌, ◌==◌, min, not, nat_lt, Bool, true, false, List, [], ◌∷◌, map, length, vec_len}
+use Rattle.std.specs.Arc.{arc_value}
+use Rattle.std.specs.VecDeque.{deque_len}
+use Rattle.std.specs.FinMap as fin
+use Rattle.vx_path.specs.Path.{is_least}
+use Rattle.vx_model.specs.TyView.{ty}
+use Rattle.vx_model.specs.Words.{all_by, total_by}
+use Rattle.vx_layout_tree.specs.Made.{struct_children}
+use Rattle.vx_sequence.specs.Universe.{Active}
+use Rattle.vx_machine_ids.specs.Stock.{one}
+use Rattle.vx_machine_tasks.specs.declared.item.Due.{Due}
+use Rattle.vx_machine_tasks.specs.declared.item.Due.TheVariants.{Put, Append, Close, Join}
+use Rattle.vx_machine_tasks.specs.declared.kinds.ColumnsNode.{ColumnsNode}
+use Rattle.vx_machine_tasks.specs.declared.node.Local.{Local}
+use Rattle.vx_machine_tasks.specs.declared.node.Local.TheVariants.{Empty, Full, Chunked, Columns, Over, Made}
+use Rattle.vx_machine_tasks.specs.declared.node.Shape.{Shape}
+use Rattle.vx_machine_tasks.specs.declared.node.Shape.TheVariants as shapes
+use Rattle.vx_machine_tasks.specs.declared.task.Head.{Head}
+use Rattle.vx_machine_tasks.specs.declared.task.Task.{Task, out-Task}
+use Rattle.vx_machine_tasks.specs.declared.task.Task.TheOpen.{Task-F}
+use Rattle.vx_machine_tasks.specs.declared.task.Task.TheFolds.{fold-Task}
+
+-- it has done all, and has its layout
+abbrev pub is_made : Local → Bool
+is_made (Made l) = true
+is_made (Empty n) = false
+is_made (Full s) = false
+is_made (Chunked n eof rows) = false
+is_made (Columns n rows) = false
+is_made Over = false
+
+-- it takes no more
+abbrev pub is_over : Local → Bool
+is_over (Made l) = true
+is_over Over = true
+is_over (Empty n) = false
+is_over (Full s) = false
+is_over (Chunked n eof rows) = false
+is_over (Columns n rows) = false
+
+-- what its parent needs to know of a task
+pub record Kid : Type 0 where
+  pub made : Bool
+  -- whether its queue has a place
+  pub room : Bool
+
+abbrev pub kid_at : Head → Kid
+kid_at h = record { made = is_made h.local; room = nat_lt (deque_len h.inbox) h.places }
+
+abbrev pub kid_of : Task → Kid
+kid_of t = kid_at (out-Task t).head
+
+abbrev pub kids_of : List Task → List Kid
+kids_of ts = map kid_of ts
+
+abbrev pub all_made : List Kid → Bool
+all_made ks = all_by (λ k. k.made) ks
+
+abbrev pub room_at : ℕ → List Kid → Bool
+room_at c [] = false
+room_at zero (k ∷ ks) = k.room
+room_at (suc c) (k ∷ ks) = room_at c ks
+
+-- so many columns the type has
+abbrev pub columns_fit : ColumnsNode → ℕ → Bool
+columns_fit node n = n == struct_children (ty (arc_value node.dtype))
+
+-- a layout can be made of so many
+abbrev pub can_join : Shape → ℕ → Bool
+can_join (shapes.Chunks t) n = true
+can_join (shapes.Columns node rows) n = columns_fit node n
+
+abbrev pub least_at : Active → List ℕ → Bool
+least_at u p = is_least p (fin.keys u)
+
+-- whether an act may be done, of a task with these children
+abbrev pub may_due : Active → Due → List Kid → Bool
+may_due u (Put c i) ks = room_at c ks
+may_due u (Append s) ks = least_at u s.id
+may_due u Close ks = true
+may_due u (Join h) ks = all_made ks && can_join h (length ks)
+
+-- whether there is something to take: an item, or the end
+abbrev pub may_take : Head → Bool
+may_take h = not (is_over h.local) && (not (deque_len h.inbox == 0) || h.closed)
+
+abbrev pub may_todo : Active → Head → List Kid → List Due → Bool
+may_todo u h ks [] = may_take h
+may_todo u h ks (d ∷ ds) = may_due u d ks
+
+-- whether the task itself is ready
+abbrev pub may_now : Active → Head → List Kid → Bool
+may_now u h ks = may_todo u h ks h.todo.items
+
+pub record Seen : Type 0 where
+  pub ready : ℕ
+  pub kid : Kid
+
+abbrev pub seen_step : Active → Task-F Seen → Seen
+seen_step u f = record {
+  ready = one (may_now u f.head (map (λ (s : Seen). s.kid) f.kids.items)) + total_by (λ (s : Seen). s.ready) f.kids.items;
+  kid = kid_at f.head;
+}
+
+abbrev pub seen : Active → Task → Seen
+seen u = fold-Task Seen (seen_step u)
+
+-- how many are ready, of a task and all below it
+abbrev pub ready_in : Active → Task → ℕ
+ready_in u t = (seen u t).ready
+
+abbrev pub ready_among : Active → List Task → ℕ
+ready_among u ts = total_by (ready_in u) ts
+
+-- as far as 64 bits tell
+abbrev pub counted : ℕ → ℕ
+counted n = min n (2 ^ 64 - 1)
+
+-- its layout is there, and nothing else
+abbrev pub is_done : Task → Bool
+is_done t = is_made (out-Task t).head.local && (deque_len (out-Task t).head.todo == 0 && (deque_len (out-Task t).head.inbox == 0 && vec_len (out-Task t).kids == 0))

@@ -1,0 +1,18 @@
+-- How many tasks there are.
+use Rattle.std.specs.Prelude.{ℕ, ◌+◌, List, [], ◌∷◌, map}
+use Rattle.vx_machine_tasks.specs.declared.task.Task.{Task}
+use Rattle.vx_machine_tasks.specs.declared.task.Task.TheOpen.{Task-F}
+use Rattle.vx_machine_tasks.specs.declared.task.Task.TheFolds.{fold-Task}
+
+abbrev pub sum_of : List ℕ → ℕ
+sum_of [] = 0
+sum_of (n ∷ ns) = n + sum_of ns
+
+abbrev pub count_step : Task-F ℕ → ℕ
+count_step f = 1 + sum_of f.kids.items
+
+abbrev pub task_count : Task → ℕ
+task_count = fold-Task ℕ count_step
+
+abbrev pub count_of_all : List Task → ℕ
+count_of_all ts = sum_of (map task_count ts)

@@ -1,0 +1,145 @@
+-- What a start makes, and why it is refused.
+use Rattle.std.specs.Prelude.{◌≡◌, ℕ, ◌+◌, ◌^◌, ◌<◌, ◌≤◌, Bool, true, false, List, [], ◌∷◌, length, Option, Some, None}
+use Rattle.vx_model.specs.Ty.{Ty, Named, boolean, nullable, is_struct}
+use Rattle.vx_path.specs.Lists.{In}
+use Rattle.vx_path.specs.Path.{Eof}
+use Rattle.vx_chunk_cells.specs.Parts.{struct_fields}
+use Rattle.vx_layout_tree.specs.Children.{fields_of}
+use Rattle.vx_strategy_spec.specs.StrategyData.{StrategyData}
+use Rattle.vx_strategy_spec.specs.Walk.{duplicate}
+use Rattle.vx_strategy_spec.specs.Dispatch.{override, given_or}
+use Rattle.vx_strategy.specs.FieldWays.{field_ways}
+use Rattle.vx_strategy.specs.declared.structs.StructStrategy.{StructStrategy}
+use Rattle.vx_plan.specs.PlanData.{Setting, What, not_struct, duplicate_field}
+use Rattle.vx_machine_turns.specs.Forms.{Form, Forms, struct_form, no_forms, form_then}
+use Rattle.vx_machine_turns.specs.Starts.{start_fault, start_faults}
+use Rattle.vx_machine_view.specs.State.{Tasks, task_then}
+use Rattle.vx_machine_view.specs.Start.{waiting, first_mind, first_kids, field_tasks, form_count, first_indices, field_indices}
+use Rattle.vx_machine_view.specs.Acts.{add}
+use Rattle.vx_write_answer.specs.declared.error.WriteError.{WriteError}
+use Rattle.vx_write_answer.specs.declared.error.WriteError.TheVariants.{SourceFault, SinkFault, CompressFault, BatchType, NotStruct, DuplicateField, ManyChunks, EmptyList, ZoneCut, ForbiddenAggregate, ForbiddenEncoding, TooLarge, OutOfMemory, Unbuilt, Stopped}
+use Rattle.vx_machine_tasks.specs.declared.task.Task.{Task}
+use Rattle.vx_machine_tasks.specs.Outcome.{AllFit}
+use Rattle.vx_machine_tasks.specs.View.{form_at, task_row, row}
+
+-- ---- the forms of a struct's columns
+
+-- the strategy of the fields of this name
+abbrev pub writer_of : StructStrategy → List ℕ → StrategyData
+writer_of s name = given_or (override name (field_ways s.writers.items)) s.default.item
+
+abbrev pub field_form : StructStrategy → Named → Form
+field_form s f = form_at (writer_of s f.0) f.1
+
+abbrev pub field_forms : StructStrategy → List Named → Forms
+field_forms s [] = no_forms
+field_forms s (f ∷ fs) = form_then (field_form s f) (field_forms s fs)
+
+abbrev pub validity_form : StructStrategy → Form
+validity_form s = form_at s.validity.item (boolean false)
+
+-- validity, where the type is nullable
+abbrev pub validity_forms : StructStrategy → Bool → Forms
+validity_forms s true = form_then (validity_form s) no_forms
+validity_forms s false = no_forms
+
+-- the form of a struct where no name is repeated
+abbrev pub columns_form : StructStrategy → Ty → Form
+columns_form s t = struct_form (struct_fields t) (nullable t) None (validity_form s) (field_forms s (fields_of t))
+
+-- ---- what is started
+
+-- the plan refuses nothing of a form before a chunk comes, whatever else the write is given
+abbrev pub IsAllowed : Form → Bool → Type 0
+IsAllowed f m = (s : Setting) → start_fault s f m ≡ None
+
+-- these fit 64 bits, where the pointer's last index does
+abbrev pub Counted : Eof → List ℕ → Type 0
+Counted e ns = e.last < 2 ^ 64 → AllFit ns
+
+-- how far pointers come behind the last of these columns, and below each
+abbrev pub many_indices : Forms → Eof → List ℕ
+many_indices fs e = (e.last + form_count fs) ∷ field_indices fs e
+
+-- the task is what the form starts, before whatever stands behind it
+pub record Started (f : Form) (m : Bool) (name : List ℕ) (e : Eof) (t : Task) : Type 0 where
+  pub allowed : IsAllowed f m
+  pub counted : Counted e (first_indices f e)
+  pub tasks : (r : Tasks) → task_row t r ≡ task_then (waiting name (first_mind f m e) [] false) (first_kids f m name e) r
+
+-- the children are those that were there and then these columns', each under the next name; the pointer went on by as many
+pub record ManyStarted (fs : Forms) (m : Bool) (at : List ℕ) (e : Eof) (ks : List Task) (d : Eof) (more : List Task) : Type 0 where
+  pub allowed : (s : Setting) → start_faults s fs m ≡ None
+  pub counted : Counted e (many_indices fs e)
+  pub tasks : row more ≡ add (row ks) (field_tasks fs m at (length ks) e)
+  pub count : length more ≡ length ks + form_count fs
+  pub stem : d.stem ≡ e.stem
+  pub last : d.last ≡ e.last + form_count fs
+
+-- one more child
+abbrev pub OneStarted : Form → Bool → List ℕ → Eof → List Task → Eof → List Task → Type 0
+OneStarted f m at e ks d more = ManyStarted (form_then f no_forms) m at e ks d more
+
+-- the children are those that a struct's form starts
+pub record AllStarted (f : Form) (m : Bool) (at : List ℕ) (e : Eof) (ks : List Task) : Type 0 where
+  pub allowed : IsAllowed f m
+  pub counted : Counted e (first_indices f e)
+  pub tasks : row ks ≡ first_kids f m at e
+
+-- ---- refusals
+
+-- one of these indices doesn't fit 64 bits
+abbrev pub TooFar : List ℕ → Type 0
+TooFar indices = (k : ℕ) × In k indices × (2 ^ 64 ≤ k)
+
+-- The error is the plan's fault by name, or a pointer would have come past 64 bits; or there was no memory.
+abbrev pub StartRefused : (Setting → Option What) → List ℕ → WriteError → Type 0
+StartRefused fault indices NotStruct = (s : Setting) → fault s ≡ Some not_struct
+StartRefused fault indices (DuplicateField name) = (s : Setting) → fault s ≡ Some (duplicate_field name)
+StartRefused fault indices (TooLarge n) = (n ≡ 2 ^ 64) × TooFar indices
+StartRefused fault indices OutOfMemory = Unit {0}
+StartRefused fault indices SourceFault = ⊥
+StartRefused fault indices SinkFault = ⊥
+StartRefused fault indices CompressFault = ⊥
+StartRefused fault indices (BatchType c) = ⊥
+StartRefused fault indices ManyChunks = ⊥
+StartRefused fault indices EmptyList = ⊥
+StartRefused fault indices (ZoneCut n) = ⊥
+StartRefused fault indices (ForbiddenAggregate id) = ⊥
+StartRefused fault indices (ForbiddenEncoding id) = ⊥
+StartRefused fault indices Unbuilt = ⊥
+StartRefused fault indices (Stopped by name) = ⊥
+
+-- a form's start is refused
+abbrev pub FormRefused : Form → Bool → Eof → WriteError → Type 0
+FormRefused f m e x = StartRefused (λ s. start_fault s f m) (first_indices f e) x
+
+-- one of these columns is refused
+abbrev pub ManyRefused : Forms → Bool → Eof → WriteError → Type 0
+ManyRefused fs m e x = StartRefused (λ s. start_faults s fs m) (many_indices fs e) x
+
+-- one more child is refused
+abbrev pub OneRefused : Form → Bool → Eof → WriteError → Type 0
+OneRefused f m e x = ManyRefused (form_then f no_forms) m e x
+
+-- a pointer with this last index can't go on
+abbrev pub PointerRefused : ℕ → WriteError → Type 0
+PointerRefused last x = StartRefused (λ s. None) ((last + 1) ∷ []) x
+
+-- a struct node at a type is refused
+abbrev pub NodeRefused : Ty → WriteError → Type 0
+NodeRefused t NotStruct = is_struct t ≡ false
+NodeRefused t (DuplicateField name) = (is_struct t ≡ true) × (duplicate (struct_fields t) ≡ Some name)
+NodeRefused t OutOfMemory = Unit {0}
+NodeRefused t (TooLarge n) = ⊥
+NodeRefused t SourceFault = ⊥
+NodeRefused t SinkFault = ⊥
+NodeRefused t CompressFault = ⊥
+NodeRefused t (BatchType c) = ⊥
+NodeRefused t ManyChunks = ⊥
+NodeRefused t EmptyList = ⊥
+NodeRefused t (ZoneCut n) = ⊥
+NodeRefused t (ForbiddenAggregate id) = ⊥
+NodeRefused t (ForbiddenEncoding id) = ⊥
+NodeRefused t Unbuilt = ⊥
+NodeRefused t (Stopped by name) = ⊥

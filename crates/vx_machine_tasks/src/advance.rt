@@ -1,0 +1,361 @@
+//! The next act of a task.
+
+ghost use Rattle.std.specs.Prelude.{◌≡◌, ◌≤◌, ◌+◌, ◌&&◌, ◌==◌, ℕ, List, [], IsTrue, IsFalse, length, IfOk, IfErr, OnOk, OnErr};
+ghost use Rattle.std.specs.Arc.{arc_value};
+ghost use Rattle.std.specs.VecDeque.{deque_len, deque_capacity};
+ghost use Rattle.vx_model.specs.declared.encoding.EncodingId.{EncodingId};
+ghost use Rattle.vx_model.specs.TyView.{ty};
+ghost use Rattle.vx_layout_spec.specs.LayoutTree.{gathered};
+ghost use Rattle.vx_sequence.specs.Universe.{IsLeast};
+ghost use Rattle.vx_machine_ids.specs.Stock.{none, both, ok_stock};
+ghost use Rattle.vx_machine_ids.specs.Balance.{Owned, Moved};
+ghost use Rattle.vx_sink.specs.ContextView.{listed};
+ghost use Rattle.vx_machine_view.specs.State.{append as append_next, join_kids, Mind, made as has_layout, Tasks};
+ghost use Rattle.vx_machine_view.specs.Acts.{give, shut_all, layouts_in, joined_rows, column_count};
+ghost use Rattle.vx_machine_tasks.specs.Acting.{AppendRefused, JoinRefused, acted, ActDone, DueDone, DueRefused, ChunkTaken, ChunkRefused, EndTaken, NextTaken, NextUntaken, NextDone, NextRefused};
+ghost use Rattle.vx_machine_tasks.specs.Calls.{TaskTold};
+ghost use Rattle.vx_machine_tasks.specs.Causes.{MayCome, ActMay};
+ghost use Rattle.vx_machine_tasks.specs.Outcome.{Kept};
+ghost use Rattle.vx_machine_tasks.specs.Pairs.{due_pairs, next_pairs, AllMay};
+ghost use Rattle.vx_machine_tasks.specs.Ready.{is_over, may_due, may_now, room_at, all_made, can_join, kids_of};
+ghost use Rattle.vx_machine_tasks.specs.Stocks.{item_stock, stored_stock, due_stock, dues_stock, local_stock, head_stock, tasks_stock};
+ghost use Rattle.vx_machine_tasks.specs.View.{item_of, stored_of, fold_of, todo_of, mind_of, row};
+
+use crate::chunked::take_chunked;
+use crate::columns::take_columns;
+use crate::flat::{append, set_local, take_flat};
+use crate::item::{Due, Item, Stored, give_up_item};
+use crate::join::{gather, join, join_columns};
+use crate::kinds::{ChunkedNode, ColumnsNode, FlatNode};
+use crate::node::{Local, Shape};
+use crate::ready::columns_fit;
+use crate::task::{Head, Task};
+use std::alloc::Global;
+use std::collections::VecDeque;
+use std::mem;
+use vx_machine_ids::give_up_pointer;
+use vx_order::Order;
+use vx_path::owned::Path;
+use vx_sink::LayoutWriterContext;
+use vx_write_answer::{ActionKind, WriteError};
+
+/// Puts an item on the queue of a child.
+fn put<O: Order>(
+    order: &mut O,
+    kids: &mut Vec<Task>,
+    child: usize,
+    item: Item,
+) -> Result<ActionKind, WriteError>
+    requires owned { Owned (O.active order.old) (both (tasks_stock kids.old.items) (item_stock item)) }
+    requires room { IsTrue (room_at child (kids_of kids.old.items)) }
+    ensures moved { Moved (O.active order.old) (O.active order.new) (both (tasks_stock kids.old.items) (item_stock item)) (tasks_stock kids.new.items) }
+    ensures kind { IfOk result (λ a. a ≡ ActionKind.Put) }
+    ensures kids { OnOk result (row kids.new.items ≡ give child (item_of item) (row kids.old.items)) }
+    ensures outlet { O.outlet order.new ≡ O.outlet order.old }
+    ensures sink { O.sink order.new ≡ O.sink order.old }
+    ensures memory { IfErr result (λ e. e ≡ WriteError.OutOfMemory) }
+{
+    match kids[child].give(item) {
+        Ok(()) => Ok(ActionKind::Put),
+        Err(item) => {
+            give_up_item(order, item);
+            Err(WriteError::OutOfMemory)
+        }
+    }
+}
+
+fn close_all(kids: &mut Vec<Task>)
+    ensures stock { tasks_stock kids.new.items ≡ tasks_stock kids.old.items }
+    ensures kids { row kids.new.items ≡ shut_all (row kids.old.items) }
+{
+    'kids: for i in 0..kids.len() {
+        kids[i].shut();
+    }
+}
+
+/// Appends a segment; then the task has its layout.
+fn append_due<O: Order>(
+    ctx: &LayoutWriterContext,
+    order: &mut O,
+    local: &mut Local,
+    stored: Stored,
+) -> Result<ActionKind, WriteError>
+    requires owned { Owned (O.active order.old) (both (local_stock local.old) (stored_stock stored)) }
+    requires least { IsLeast (O.active order.old) stored.id }
+    requires allowed { O.may_write order.old stored.id stored.segment.bytes.items }
+    ensures moved { Moved (O.active order.old) (O.active order.new) (both (local_stock local.old) (stored_stock stored)) (local_stock local.new) }
+    ensures done { IfOk result (λ a. (n : ℕ) × ((mind : Mind) (ks : Tasks)
+        → ActDone (acted (listed ctx.now) n mind ks (append_next (stored_of stored))) (O.outlet order.old) n (O.outlet order.new) (mind_of local.new) ks a)) }
+    ensures refused { IfErr result (AppendRefused (O.outlet order.old) (stored.id, stored.segment.bytes.items)) }
+    ensures kept { OnErr result (Kept (O.outlet order.old) (O.outlet order.new)) }
+    ensures told { TaskTold (O.Sink.faults (O.sink order.old)) (O.Sink.faults (O.sink order.new)) (O.Sink.may_fail (O.sink order.old)) (O.Sink.may_fail (O.sink order.new))
+        (O.Sink.must_fail (O.sink order.old)) (O.Sink.must_fail (O.sink order.new)) result (λ a. a) }
+    ensures cause { IfErr result ActMay }
+{
+    match append(ctx, order, stored) {
+        Ok(layout) => {
+            set_local(order, local, Local::Made(layout));
+            Ok(ActionKind::Append)
+        }
+        Err(error) => Err(error),
+    }
+}
+
+/// Joins the layouts of the children; then the task has its layout.
+fn join_due<O: Order>(
+    alloc: Global,
+    order: &mut O,
+    local: &mut Local,
+    kids: &mut Vec<Task>,
+    shape: Shape,
+) -> Result<ActionKind, WriteError>
+    requires owned { Owned (O.active order.old) (both (local_stock local.old) (tasks_stock kids.old.items)) }
+    requires made { IsTrue (all_made (kids_of kids.old.items)) }
+    requires fits { IsTrue (can_join shape (length (kids_of kids.old.items))) }
+    ensures moved { Moved (O.active order.old) (O.active order.new) (both (local_stock local.old) (tasks_stock kids.old.items)) (both (local_stock local.new) (tasks_stock kids.new.items)) }
+    ensures done { IfOk result (λ a. (ids : List EncodingId) (n : ℕ) (mind : Mind)
+        → ActDone (acted ids n mind (row kids.old.items) (join_kids (fold_of shape))) (O.outlet order.old) n (O.outlet order.new) (mind_of local.new) (row kids.new.items) a) }
+    ensures refused { IfErr result (JoinRefused (joined_rows (fold_of shape) (layouts_in (row kids.old.items)))) }
+    ensures outlet { O.outlet order.new ≡ O.outlet order.old }
+    ensures sink { O.sink order.new ≡ O.sink order.old }
+    ensures cause { IfErr result MayCome }
+{
+    match join(alloc, order, kids, shape) {
+        Ok(layout) => {
+            set_local(order, local, Local::Made(layout));
+            Ok(ActionKind::Join)
+        }
+        Err(error) => Err(error),
+    }
+}
+
+/// Does an act of a block.
+fn act<O: Order>(
+    alloc: Global,
+    ctx: &LayoutWriterContext,
+    order: &mut O,
+    local: &mut Local,
+    kids: &mut Vec<Task>,
+    due: Due,
+) -> Result<ActionKind, WriteError>
+    requires owned { Owned (O.active order.old) (both (both (local_stock local.old) (tasks_stock kids.old.items)) (due_stock due)) }
+    requires ready { IsTrue (may_due (O.active order.old) due (kids_of kids.old.items)) }
+    requires allowed { AllMay (O.may_write order.old) (due_pairs due) }
+    ensures moved { Moved (O.active order.old) (O.active order.new) (both (both (local_stock local.old) (tasks_stock kids.old.items)) (due_stock due)) (both (local_stock local.new) (tasks_stock kids.new.items)) }
+    ensures done { IfOk result (DueDone (listed ctx.now) local.old kids.old.items due (O.outlet order.old) (O.outlet order.new) local.new kids.new.items) }
+    ensures refused { IfErr result (DueRefused (listed ctx.now) local.old kids.old.items due (O.outlet order.old)) }
+    ensures kept { OnErr result (Kept (O.outlet order.old) (O.outlet order.new)) }
+    ensures told { TaskTold (O.Sink.faults (O.sink order.old)) (O.Sink.faults (O.sink order.new)) (O.Sink.may_fail (O.sink order.old)) (O.Sink.may_fail (O.sink order.new))
+        (O.Sink.must_fail (O.sink order.old)) (O.Sink.must_fail (O.sink order.new)) result (λ a. a) }
+    ensures cause { IfErr result ActMay }
+{
+    match due {
+        Due::Put { child, item } => put(order, kids, child, item),
+        Due::Append(stored) => append_due(ctx, order, local, stored),
+        Due::Close => {
+            close_all(kids);
+            Ok(ActionKind::Close)
+        }
+        Due::Join(shape) => join_due(alloc, order, local, kids, shape),
+    }
+}
+
+/// Takes a chunk from the queue.
+fn take<O: Order>(
+    alloc: Global,
+    ctx: &LayoutWriterContext,
+    order: &mut O,
+    name: &Path,
+    local: &mut Local,
+    todo: &mut VecDeque<Due>,
+    kids: &mut Vec<Task>,
+    item: Item,
+) -> Result<(), WriteError>
+    requires { Owned (O.active order.old) (both (both (both (local_stock local.old) (dues_stock todo.old.items)) (tasks_stock kids.old.items)) (item_stock item)) }
+    ensures moved { Moved (O.active order.old) (O.active order.new) (both (both (both (local_stock local.old) (dues_stock todo.old.items)) (tasks_stock kids.old.items)) (item_stock item)) (both (both (local_stock local.new) (dues_stock todo.new.items)) (tasks_stock kids.new.items)) }
+    ensures done { OnOk result (ChunkTaken ctx.now name.now (row kids.old.items) item local.old local.new (todo_of todo.new.items) (todo_of todo.old.items) (row kids.new.items)) }
+    ensures refused { IsFalse (is_over local.old) → IfErr result (ChunkRefused ctx.now name.now (row kids.old.items) item local.old) }
+    ensures outlet { O.outlet order.new ≡ O.outlet order.old }
+    ensures sink { O.sink order.new ≡ O.sink order.old }
+    ensures cause { IfErr result MayCome }
+{
+    match local {
+        Local::Chunked(node, eof, rows) => {
+            take_chunked(alloc, order, node, eof, rows, name, kids, item)
+        }
+        Local::Columns(node, rows) => take_columns(alloc, order, node, rows, todo, item),
+        _ => take_flat(alloc, ctx, order, local, item),
+    }
+}
+
+/// What a flat node's task has in mind at the end of a stream without chunks: its layout.
+fn end_empty(alloc: Global, node: &FlatNode) -> Result<Local, WriteError>
+    ensures local { IfOk result (λ l. local_stock l ≡ none) }
+    ensures layout { IfOk result (λ l. mind_of l ≡ has_layout (gathered (ty (arc_value node.now.dtype)) 0 [])) }
+    ensures memory { IfErr result (λ e. e ≡ WriteError.OutOfMemory) }
+    ensures cause { IfErr result MayCome }
+{
+    let layout = gather(&node.dtype, Vec::new(alloc))?;
+    Ok(Local::Made(layout))
+}
+
+/// Whether there are no children, and the type has no columns.
+fn has_no_columns(node: &ColumnsNode, kids: usize) -> bool
+    ensures { result ≡ ((kids == 0) && (0 == column_count (ty (arc_value node.now.dtype)))) }
+{
+    let fits = columns_fit(node, 0);
+    kids == 0 && fits
+}
+
+/// What a struct's task has in mind at the end of its stream: without columns its layout at once.
+fn end_columns(
+    kids: usize,
+    todo: &mut VecDeque<Due>,
+    node: ColumnsNode,
+    rows: u64,
+) -> Result<Local, WriteError>
+    requires { deque_len todo.old + 2 ≤ deque_capacity todo.old }
+    ensures todo { dues_stock todo.new.items ≡ dues_stock todo.old.items }
+    ensures local { IfOk result (λ l. local_stock l ≡ none) }
+    ensures done { IfOk result (λ l. EndTaken (Local.Columns node rows) kids l (todo_of todo.new.items) (todo_of todo.old.items)) }
+    ensures memory { IfErr result (λ e. e ≡ WriteError.OutOfMemory) }
+    ensures cause { IfErr result MayCome }
+{
+    if has_no_columns(&node, kids) {
+        let layout = join_columns(&node, rows, Vec::new(*todo.allocator()));
+        drop(node);
+        return match layout {
+            Ok(layout) => Ok(Local::Made(layout)),
+            Err(error) => Err(error),
+        };
+    }
+    todo.push_back_reserved(Due::Close);
+    todo.push_back_reserved(Due::Join(Shape::Columns(node, rows)));
+    Ok(Local::Over)
+}
+
+/// What is in mind behind the end, and what is still to be done.
+fn ended<O: Order>(
+    alloc: Global,
+    order: &mut O,
+    kids: usize,
+    todo: &mut VecDeque<Due>,
+    local: Local,
+) -> Result<Local, WriteError>
+    requires owned { Owned (O.active order.old) (both (local_stock local) (dues_stock todo.old.items)) }
+    requires room { deque_len todo.old + 2 ≤ deque_capacity todo.old }
+    ensures moved { Moved (O.active order.old) (O.active order.new) (both (local_stock local) (dues_stock todo.old.items)) (both (ok_stock local_stock result) (dues_stock todo.new.items)) }
+    ensures done { IfOk result (λ l. EndTaken local kids l (todo_of todo.new.items) (todo_of todo.old.items)) }
+    ensures memory { IfErr result (λ e. e ≡ WriteError.OutOfMemory) }
+    ensures outlet { O.outlet order.new ≡ O.outlet order.old }
+    ensures sink { O.sink order.new ≡ O.sink order.old }
+    ensures cause { IfErr result MayCome }
+{
+    match local {
+        Local::Empty(node) => {
+            let after = end_empty(alloc, &node);
+            drop(node);
+            after
+        }
+        Local::Full(stored) => {
+            todo.push_back_reserved(Due::Append(stored));
+            Ok(Local::Over)
+        }
+        Local::Chunked(node, eof, _) => {
+            let ChunkedNode { dtype, child, .. } = node;
+            drop(child);
+            give_up_pointer(order, eof);
+            todo.push_back_reserved(Due::Join(Shape::Chunks(dtype)));
+            Ok(Local::Over)
+        }
+        Local::Columns(node, rows) => end_columns(kids, todo, node, rows),
+        Local::Over => Ok(Local::Over),
+        Local::Made(layout) => Ok(Local::Made(layout)),
+    }
+}
+
+/// Takes the end of the stream.
+fn end<O: Order>(
+    alloc: Global,
+    order: &mut O,
+    kids: usize,
+    local: &mut Local,
+    todo: &mut VecDeque<Due>,
+) -> Result<(), WriteError>
+    requires { Owned (O.active order.old) (both (local_stock local.old) (dues_stock todo.old.items)) }
+    ensures moved { Moved (O.active order.old) (O.active order.new) (both (local_stock local.old) (dues_stock todo.old.items)) (both (local_stock local.new) (dues_stock todo.new.items)) }
+    ensures done { OnOk result (EndTaken local.old kids local.new (todo_of todo.new.items) (todo_of todo.old.items)) }
+    ensures memory { IfErr result (λ e. e ≡ WriteError.OutOfMemory) }
+    ensures outlet { O.outlet order.new ≡ O.outlet order.old }
+    ensures sink { O.sink order.new ≡ O.sink order.old }
+    ensures cause { IfErr result MayCome }
+{
+    todo.reserve(2)?;
+    let before = mem::replace(local, Local::Over);
+    match ended(alloc, order, kids, todo, before) {
+        Ok(after) => {
+            set_local(order, local, after);
+            Ok(())
+        }
+        Err(error) => Err(error),
+    }
+}
+
+/// Takes what is next on the queue: a chunk, or the end.
+fn take_next<O: Order>(
+    alloc: Global,
+    ctx: &LayoutWriterContext,
+    order: &mut O,
+    head: &mut Head,
+    kids: &mut Vec<Task>,
+) -> Result<(), WriteError>
+    requires { Owned (O.active order.old) (both (head_stock head.old) (tasks_stock kids.old.items)) }
+    ensures moved { Moved (O.active order.old) (O.active order.new) (both (head_stock head.old) (tasks_stock kids.old.items)) (both (head_stock head.new) (tasks_stock kids.new.items)) }
+    ensures done { head.old.todo.items ≡ [] → OnOk result (NextTaken ctx.now head.old kids.old.items head.new kids.new.items) }
+    ensures refused { IsFalse (is_over head.old.local) → IfErr result (NextUntaken ctx.now head.old kids.old.items) }
+    ensures outlet { O.outlet order.new ≡ O.outlet order.old }
+    ensures sink { O.sink order.new ≡ O.sink order.old }
+    ensures cause { IfErr result MayCome }
+{
+    match head.inbox.pop_front() {
+        Some(item) => take(
+            alloc,
+            ctx,
+            order,
+            &head.name,
+            &mut head.local,
+            &mut head.todo,
+            kids,
+            item,
+        ),
+        None => end(alloc, order, kids.len(), &mut head.local, &mut head.todo),
+    }
+}
+
+/// Does the next act of a task that is ready. After an error nothing but giving up is left to do.
+pub(crate) fn advance<O: Order>(
+    alloc: Global,
+    ctx: &LayoutWriterContext,
+    order: &mut O,
+    head: &mut Head,
+    kids: &mut Vec<Task>,
+) -> Result<ActionKind, WriteError>
+    requires owned { Owned (O.active order.old) (both (head_stock head.old) (tasks_stock kids.old.items)) }
+    requires ready { IsTrue (may_now (O.active order.old) head.old (kids_of kids.old.items)) }
+    requires allowed { AllMay (O.may_write order.old) (next_pairs head.old.todo.items) }
+    ensures moved { Moved (O.active order.old) (O.active order.new) (both (head_stock head.old) (tasks_stock kids.old.items)) (both (head_stock head.new) (tasks_stock kids.new.items)) }
+    ensures done { IfOk result (NextDone ctx.now head.old kids.old.items (O.outlet order.old) (O.outlet order.new) head.new kids.new.items) }
+    ensures refused { IfErr result (NextRefused ctx.now head.old kids.old.items (O.outlet order.old)) }
+    ensures kept { OnErr result (Kept (O.outlet order.old) (O.outlet order.new)) }
+    ensures told { TaskTold (O.Sink.faults (O.sink order.old)) (O.Sink.faults (O.sink order.new)) (O.Sink.may_fail (O.sink order.old)) (O.Sink.may_fail (O.sink order.new))
+        (O.Sink.must_fail (O.sink order.old)) (O.Sink.must_fail (O.sink order.new)) result (λ a. a) }
+    ensures cause { IfErr result ActMay }
+{
+    match head.todo.pop_front() {
+        Some(due) => act(alloc, ctx, order, &mut head.local, kids, due),
+        None => match take_next(alloc, ctx, order, head, kids) {
+            Ok(()) => Ok(ActionKind::Take),
+            Err(error) => Err(error),
+        },
+    }
+}

@@ -1,0 +1,38 @@
+//! Nodes of each kind that is built.
+
+ghost use Rattle.std.specs.Prelude.{◌≡◌, IsTrue};
+ghost use Rattle.std.specs.Arc.{arc_value};
+ghost use Rattle.vx_model.specs.Ty.{is_struct};
+ghost use Rattle.vx_model.specs.TyView.{ty};
+ghost use Rattle.vx_machine_view.specs.Built.{is_built};
+
+use std::sync::Arc;
+use vx_model::DType;
+use vx_split::ColumnSplit;
+use vx_strategy::{ChildStrategy, FlatLayoutStrategy};
+
+/// A node that stores its one chunk as one segment.
+#[derive(Drop)]
+pub struct FlatNode {
+    pub options: FlatLayoutStrategy,
+    pub dtype: Arc<DType>,
+}
+
+/// A node that hands each chunk to a child of its own.
+#[derive(Drop)]
+pub struct ChunkedNode {
+    pub dtype: Arc<DType>,
+    pub child: ChildStrategy,
+    /// A nullable struct stands above.
+    pub marked: bool,
+    ghost built: { IsTrue (is_built child.item) },
+}
+
+/// A node that splits structs into columns.
+#[derive(Drop)]
+pub struct ColumnsNode {
+    pub dtype: Arc<DType>,
+    pub split: ColumnSplit,
+    ghost same: { split ≡ ty (arc_value dtype) },
+    ghost structs: { IsTrue (is_struct (ty (arc_value dtype))) },
+}

@@ -1,0 +1,57 @@
+//! What a task's node is, and what it has in mind.
+
+ghost use Rattle.std.specs.Prelude.{◌≡◌};
+ghost use Rattle.vx_machine_ids.specs.Stock.{none};
+ghost use Rattle.vx_machine_ids.specs.Balance.{Owned, Moved};
+ghost use Rattle.vx_machine_tasks.specs.Stocks.{local_stock};
+
+use crate::item::{Stored, give_up_stored};
+use crate::kinds::{ChunkedNode, ColumnsNode, FlatNode};
+use std::sync::Arc;
+use vx_layout_tree::Layout;
+use vx_machine_ids::give_up_pointer;
+use vx_model::DType;
+use vx_order::Order;
+use vx_sequence::SequencePointer;
+
+/// What a task has in mind between two chunks.
+pub enum Local {
+    /// A flat node's: no chunk came.
+    Empty(FlatNode),
+    Full(Stored),
+    /// With the pointer to the next child's eof path, and the rows so far.
+    Chunked(ChunkedNode, SequencePointer, u64),
+    /// With the rows so far.
+    Columns(ColumnsNode, u64),
+    /// It has seen the end of its stream.
+    Over,
+    /// It has done all.
+    Made(Layout),
+}
+
+/// How a layout is made of the children's.
+#[derive(Drop)]
+pub enum Shape {
+    Chunks(Arc<DType>),
+    /// With the rows.
+    Columns(ColumnsNode, u64),
+}
+
+pub(crate) fn give_up_local<O: Order>(order: &mut O, local: Local)
+    requires { Owned (O.active order.old) (local_stock local) }
+    ensures moved { Moved (O.active order.old) (O.active order.new) (local_stock local) none }
+    ensures outlet { O.outlet order.new ≡ O.outlet order.old }
+    ensures sink { O.sink order.new ≡ O.sink order.old }
+{
+    match local {
+        Local::Empty(node) => drop(node),
+        Local::Full(stored) => give_up_stored(order, stored),
+        Local::Chunked(node, eof, _) => {
+            drop(node);
+            give_up_pointer(order, eof);
+        }
+        Local::Columns(node, _) => drop(node),
+        Local::Over => {}
+        Local::Made(layout) => drop(layout),
+    }
+}

@@ -1,0 +1,158 @@
+//! Which tasks are ready.
+
+ghost use Rattle.std.specs.Prelude.{◌≡◌};
+ghost use Rattle.std.specs.FinMap as fin;
+ghost use Rattle.vx_machine_ids.specs.Stock.{one as one_if};
+ghost use Rattle.vx_machine_ids.specs.Balance.{Owned};
+ghost use Rattle.vx_machine_view.specs.State.{no_tasks};
+ghost use Rattle.vx_machine_view.specs.Moves.{may_act};
+ghost use Rattle.vx_machine_view.specs.Places.{ready_in as ready_steps};
+ghost use Rattle.vx_machine_tasks.specs.Stocks.{due_stock, head_stock, task_stock, tasks_stock};
+ghost use Rattle.vx_machine_tasks.specs.View.{todo_of, desk_of, task_row, row};
+ghost use Rattle.vx_machine_tasks.specs.Ready.{is_made as has_layout, is_done as is_done_task, is_over as takes_no_more, kids_of, all_made as have_layouts, room_at, can_join as joins, columns_fit as are_columns, may_due as may_do, may_take as may_begin, may_now, ready_in, ready_among, counted};
+
+use crate::item::Due;
+use crate::kinds::ColumnsNode;
+use crate::node::{Local, Shape};
+use crate::task::{Head, Task};
+use vx_layout_tree::struct_children;
+use vx_order::Order;
+
+pub(crate) fn is_made(local: &Local) -> bool
+    ensures { result ≡ has_layout local.now }
+{
+    match local {
+        Local::Made(_) => true,
+        Local::Empty(_) | Local::Full(_) | Local::Chunked(..) => false,
+        Local::Columns(..) | Local::Over => false,
+    }
+}
+
+fn is_over(local: &Local) -> bool
+    ensures { result ≡ takes_no_more local.now }
+{
+    match local {
+        Local::Made(_) | Local::Over => true,
+        Local::Empty(_) | Local::Full(_) | Local::Chunked(..) => false,
+        Local::Columns(..) => false,
+    }
+}
+
+/// Whether child `child` is there, and its queue has a place.
+pub(crate) fn has_room(kids: &[Task], child: usize) -> bool
+    ensures { result ≡ room_at child (kids_of kids.now) }
+{
+    match kids.get(child) {
+        Some(kid) => kid.head.inbox.len() < kid.head.places,
+        None => false,
+    }
+}
+
+/// From the last one on, which mostly comes last.
+fn all_made(kids: &[Task]) -> bool
+    ensures { result ≡ have_layouts (kids_of kids.now) }
+{
+    let mut i = kids.len();
+    'kids: while i > 0 {
+        i -= 1;
+        if !is_made(&kids[i].head.local) {
+            return false;
+        }
+    }
+    true
+}
+
+/// Whether the type has so many columns.
+pub(crate) fn columns_fit(node: &ColumnsNode, kids: usize) -> bool
+    ensures { result ≡ are_columns node.now kids }
+{
+    kids as u64 == struct_children(&node.dtype)
+}
+
+fn can_join(shape: &Shape, kids: usize) -> bool
+    ensures { result ≡ joins shape.now kids }
+{
+    match shape {
+        Shape::Chunks(_) => true,
+        Shape::Columns(node, _) => columns_fit(node, kids),
+    }
+}
+
+/// Whether an act may be done now, of a task with these children.
+fn may_due<O: Order>(order: &O, due: &Due, kids: &[Task]) -> bool
+    requires { Owned (O.active order.now) (due_stock due.now) }
+    ensures { result ≡ may_do (O.active order.now) due.now (kids_of kids.now) }
+{
+    match due {
+        Due::Put { child, item: _ } => has_room(kids, *child),
+        Due::Append(stored) => order.is_least(&stored.id),
+        Due::Close => true,
+        Due::Join(shape) => {
+            let made = all_made(kids);
+            made && can_join(shape, kids.len())
+        }
+    }
+}
+
+fn may_take(head: &Head) -> bool
+    ensures { result ≡ may_begin head.now }
+{
+    !is_over(&head.local) && (!head.inbox.is_empty() || head.closed)
+}
+
+/// Whether the task itself may do its next act.
+pub(crate) fn may<O: Order>(order: &O, head: &Head, kids: &[Task]) -> bool
+    requires { Owned (O.active order.now) (head_stock head.now) }
+    ensures told { result ≡ may_now (O.active order.now) head.now (kids_of kids.now) }
+    ensures view { result ≡ may_act (fin.keys (O.active order.now)) (desk_of head.now) (row kids.now) (todo_of head.now.todo.items) }
+{
+    match head.todo.front() {
+        Some(due) => may_due(order, due, kids),
+        None => may_take(head),
+    }
+}
+
+/// One, where it is so.
+pub fn one(is: bool) -> u64
+    ensures { result ≡ one_if is }
+{
+    if is { 1 } else { 0 }
+}
+
+impl Task {
+    /// Whether its layout is there, and nothing else.
+    pub fn is_done(&self) -> bool
+        ensures { result ≡ is_done_task self.now }
+    {
+        let made = is_made(&self.head.local);
+        let idle = self.head.todo.is_empty();
+        let empty = self.head.inbox.is_empty();
+        let alone = self.kids.is_empty();
+        made && (idle && (empty && alone))
+    }
+
+    /// How many are ready, of this task and all below it, as far as 64 bits tell. It counts anew.
+    #[cycle(ready)]
+    pub fn ready<O: Order>(&self, order: &O) -> u64
+        requires { Owned (O.active order.now) (task_stock self.now) }
+        ensures told { result ≡ counted (ready_in (O.active order.now) self.now) }
+        ensures view { result ≡ counted (ready_steps (fin.keys (O.active order.now)) (task_row self.now no_tasks)) }
+    {
+        let own = one(may(order, &self.head, &self.kids));
+        own.saturating_add(ready_of(&self.kids, order))
+    }
+}
+
+/// How many are ready of these tasks and all below them.
+#[cycle(ready)]
+fn ready_of<O: Order>(kids: &[Task], order: &O) -> u64
+    requires { Owned (O.active order.now) (tasks_stock kids.now) }
+    ensures told { result ≡ counted (ready_among (O.active order.now) kids.now) }
+    ensures view { result ≡ counted (ready_steps (fin.keys (O.active order.now)) (row kids.now)) }
+{
+    let mut ready = 0u64;
+    for kid in kids {
+        ready = ready.saturating_add(kid.ready(order));
+    }
+    ready
+}

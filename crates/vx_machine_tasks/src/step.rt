@@ -1,0 +1,131 @@
+//! A step of the k-th ready task.
+
+ghost use Rattle.std.specs.Prelude.{◌<◌, IsTrue, IfOk, IfErr, OnOk, OnErr};
+ghost use Rattle.std.specs.FinMap as fin;
+ghost use Rattle.vx_machine_ids.specs.Balance.{Owned, Moved};
+ghost use Rattle.vx_kept.specs.Kept.{Fresh, Knows};
+ghost use Rattle.vx_machine_view.specs.State.{no_tasks};
+ghost use Rattle.vx_machine_tasks.specs.Calls.{TaskTold};
+ghost use Rattle.vx_machine_tasks.specs.Causes.{ActMay};
+ghost use Rattle.vx_machine_tasks.specs.Outcome.{Kept};
+ghost use Rattle.vx_machine_tasks.specs.Pairs.{next_pairs, task_pairs, tasks_pairs, AllMay};
+ghost use Rattle.vx_machine_tasks.specs.Ready.{kids_of, may_now, ready_in, ready_among, counted};
+ghost use Rattle.vx_machine_tasks.specs.Steps.{TaskDone, TaskFails};
+ghost use Rattle.vx_machine_tasks.specs.Stocks.{task_stock, tasks_stock};
+ghost use Rattle.vx_machine_tasks.specs.View.{task_row, row};
+ghost use Rattle.vx_machine_tasks.specs.declared.task.Task.{out-Task};
+
+use crate::advance::advance;
+use crate::counts::touched;
+use crate::ready::{may, one};
+use crate::task::Task;
+use std::alloc::Global;
+use vx_kept::Counts;
+use vx_order::Order;
+use vx_path::owned::Path;
+use vx_sink::LayoutWriterContext;
+use vx_write_answer::{ActionKind, WriteError};
+
+/// What a task did.
+#[derive(Drop)]
+pub struct Did {
+    pub task: Path,
+    pub action: ActionKind,
+}
+
+impl Task {
+    /// Does its own next act.
+    fn act<O: Order>(
+        &mut self,
+        alloc: Global,
+        ctx: &LayoutWriterContext,
+        order: &mut O,
+        counts: &mut Counts,
+    ) -> Result<Did, WriteError>
+        requires owned { Owned (O.active order.old) (task_stock self.old) }
+        requires known { Knows counts.old (row (out-Task self.old).kids.items) }
+        requires ready { IsTrue (may_now (O.active order.old) (out-Task self.old).head (kids_of (out-Task self.old).kids.items)) }
+        requires allowed { AllMay (O.may_write order.old) (next_pairs (out-Task self.old).head.todo.items) }
+        ensures moved { Moved (O.active order.old) (O.active order.new) (task_stock self.old) (task_stock self.new) }
+        ensures told { TaskTold (O.Sink.faults (O.sink order.old)) (O.Sink.faults (O.sink order.new)) (O.Sink.may_fail (O.sink order.old)) (O.Sink.may_fail (O.sink order.new))
+            (O.Sink.must_fail (O.sink order.old)) (O.Sink.must_fail (O.sink order.new)) result (λ did. did.action) }
+        ensures cause { IfErr result ActMay }
+        ensures done { IfOk result (λ did. TaskDone ctx.now (fin.keys (O.active order.old)) 0 (O.outlet order.old) (O.outlet order.new) (task_row self.old no_tasks) (task_row self.new no_tasks) did.task did.action) }
+        ensures refused { IfErr result (TaskFails ctx.now (fin.keys (O.active order.old)) 0 (O.outlet order.old) (task_row self.old no_tasks)) }
+        ensures kept { OnErr result (Kept (O.outlet order.old) (O.outlet order.new)) }
+        ensures known { OnOk result (Knows counts.new (row (out-Task self.new).kids.items)) }
+    {
+        let task = self.head.name.clone()?;
+        let touched = touched(&self.head);
+        match advance(alloc, ctx, order, &mut self.head, &mut self.kids) {
+            Ok(action) => {
+                counts.follow(alloc, touched);
+                Ok(Did { task, action })
+            }
+            Err(error) => Err(error),
+        }
+    }
+
+    /// The k-th ready one of this task and all below it does its next act.
+    #[cycle(step)]
+    pub fn step<O: Order>(
+        &mut self,
+        alloc: Global,
+        ctx: &LayoutWriterContext,
+        order: &mut O,
+        k: u64,
+        counts: &mut Counts,
+    ) -> Result<Did, WriteError>
+        requires owned { Owned (O.active order.old) (task_stock self.old) }
+        requires fresh { Fresh (fin.keys (O.active order.old)) counts.old (row (out-Task self.old).kids.items) }
+        requires there { k < counted (ready_in (O.active order.old) self.old) }
+        requires allowed { AllMay (O.may_write order.old) (task_pairs self.old) }
+        ensures moved { Moved (O.active order.old) (O.active order.new) (task_stock self.old) (task_stock self.new) }
+        ensures told { TaskTold (O.Sink.faults (O.sink order.old)) (O.Sink.faults (O.sink order.new)) (O.Sink.may_fail (O.sink order.old)) (O.Sink.may_fail (O.sink order.new))
+            (O.Sink.must_fail (O.sink order.old)) (O.Sink.must_fail (O.sink order.new)) result (λ did. did.action) }
+        ensures cause { IfErr result ActMay }
+        ensures done { IfOk result (λ did. TaskDone ctx.now (fin.keys (O.active order.old)) k (O.outlet order.old) (O.outlet order.new) (task_row self.old no_tasks) (task_row self.new no_tasks) did.task did.action) }
+        ensures refused { IfErr result (TaskFails ctx.now (fin.keys (O.active order.old)) k (O.outlet order.old) (task_row self.old no_tasks)) }
+        ensures kept { OnErr result (Kept (O.outlet order.old) (O.outlet order.new)) }
+        ensures known { OnOk result (Knows counts.new (row (out-Task self.new).kids.items)) }
+    {
+        let ready = may(order, &self.head, &self.kids);
+        let own = one(ready);
+        if k < own {
+            return self.act(alloc, ctx, order, counts);
+        }
+        step_kids(&mut self.kids, alloc, ctx, order, k - own, counts)
+    }
+}
+
+#[cycle(step)]
+fn step_kids<O: Order>(
+    kids: &mut [Task],
+    alloc: Global,
+    ctx: &LayoutWriterContext,
+    order: &mut O,
+    k: u64,
+    counts: &mut Counts,
+) -> Result<Did, WriteError>
+    requires owned { Owned (O.active order.old) (tasks_stock kids.old) }
+    requires fresh { Fresh (fin.keys (O.active order.old)) counts.old (row kids.old) }
+    requires there { k < counted (ready_among (O.active order.old) kids.old) }
+    requires allowed { AllMay (O.may_write order.old) (tasks_pairs kids.old) }
+    ensures moved { Moved (O.active order.old) (O.active order.new) (tasks_stock kids.old) (tasks_stock kids.new) }
+    ensures told { TaskTold (O.Sink.faults (O.sink order.old)) (O.Sink.faults (O.sink order.new)) (O.Sink.may_fail (O.sink order.old)) (O.Sink.may_fail (O.sink order.new))
+        (O.Sink.must_fail (O.sink order.old)) (O.Sink.must_fail (O.sink order.new)) result (λ did. did.action) }
+    ensures cause { IfErr result ActMay }
+    ensures done { IfOk result (λ did. TaskDone ctx.now (fin.keys (O.active order.old)) k (O.outlet order.old) (O.outlet order.new) (row kids.old) (row kids.new) did.task did.action) }
+    ensures refused { IfErr result (TaskFails ctx.now (fin.keys (O.active order.old)) k (O.outlet order.old) (row kids.old)) }
+    ensures kept { OnErr result (Kept (O.outlet order.old) (O.outlet order.new)) }
+    ensures known { OnOk result (Knows counts.new (row kids.new)) }
+{
+    let (place, left) = counts.ready.find(k);
+    match kids[place].step(alloc, ctx, order, left, &mut counts.kids[place]) {
+        Ok(did) => {
+            counts.mark(alloc, place);
+            Ok(did)
+        }
+        Err(error) => Err(error),
+    }
+}

@@ -1,0 +1,143 @@
+//! Tasks, and how they give up all that they hold.
+
+ghost use Rattle.std.specs.Prelude.{◌≡◌, [], ◌∷◌, IsTrue, IfErr, OnOk};
+ghost use Rattle.vx_layout_tree.specs.LayoutView.{layout_data};
+ghost use Rattle.vx_machine_ids.specs.Stock.{none, both};
+ghost use Rattle.vx_machine_ids.specs.Balance.{Owned, Moved};
+ghost use Rattle.vx_machine_view.specs.State.{Tasks, no_tasks, task_then};
+ghost use Rattle.vx_machine_view.specs.Acts.{with_item, shut_desk, layouts_in};
+ghost use Rattle.vx_machine_tasks.specs.Ready.{is_done as is_done_task};
+ghost use Rattle.vx_machine_tasks.specs.Stocks.{head_stock, item_stock, task_stock, tasks_stock};
+ghost use Rattle.vx_machine_tasks.specs.View.{item_of, desk_of, task_row, row};
+ghost use Rattle.vx_machine_tasks.specs.declared.task.Task.{out-Task};
+
+use crate::item::{Due, Item, give_up_dues, give_up_items};
+use crate::node::{Local, give_up_local};
+use std::alloc::AllocFailed;
+use std::collections::VecDeque;
+use vx_layout_tree::Layout;
+use vx_order::Order;
+use vx_path::owned::Path;
+
+/// A task by itself.
+pub struct Head {
+    pub name: Path,
+    pub local: Local,
+    pub todo: VecDeque<Due>,
+    /// The queue of what is still to be taken, its places, and whether it is closed.
+    pub inbox: VecDeque<Item>,
+    pub places: usize,
+    pub closed: bool,
+}
+
+/// A task with the children that it started.
+pub struct Task {
+    pub head: Head,
+    pub kids: Vec<Task>,
+}
+
+fn give_up_head<O: Order>(order: &mut O, head: Head)
+    requires { Owned (O.active order.old) (head_stock head) }
+    ensures moved { Moved (O.active order.old) (O.active order.new) (head_stock head) none }
+    ensures outlet { O.outlet order.new ≡ O.outlet order.old }
+    ensures sink { O.sink order.new ≡ O.sink order.old }
+{
+    let Head {
+        name: _name,
+        local,
+        todo,
+        inbox,
+        places: _,
+        closed: _,
+    } = head;
+    give_up_local(order, local);
+    give_up_dues(order, todo);
+    give_up_items(order, inbox);
+}
+
+impl Head {
+    /// Puts an item on the queue. One for which there is no memory is handed back.
+    fn enqueue(&mut self, item: Item) -> Result<(), Item>
+        ensures given { OnOk result (head_stock self.new ≡ both (head_stock self.old) (item_stock item)) }
+        ensures shows { OnOk result (desk_of self.new ≡ with_item (desk_of self.old) (item_of item)) }
+        ensures unchanged { IfErr result (λ i. (i ≡ item) × (head_stock self.new ≡ head_stock self.old)) }
+    {
+        match self.inbox.push_back(item) {
+            Ok(()) => Ok(()),
+            Err(AllocFailed { value }) => Err(value),
+        }
+    }
+}
+
+impl Task {
+    /// Gives up all ids and pointers.
+    #[cycle(refuse)]
+    pub fn refuse<O: Order>(self, order: &mut O)
+        requires { Owned (O.active order.old) (task_stock self) }
+        ensures moved { Moved (O.active order.old) (O.active order.new) (task_stock self) none }
+        ensures outlet { O.outlet order.new ≡ O.outlet order.old }
+        ensures sink { O.sink order.new ≡ O.sink order.old }
+    {
+        let Task { head, kids } = self;
+        give_up_head(order, head);
+        refuse_all(kids, order);
+    }
+
+    /// The layout of a task that has done all.
+    pub fn into_layout(self) -> Layout
+        requires { IsTrue (is_done_task self) }
+        ensures free { task_stock self ≡ none }
+        ensures layout { layouts_in (task_row self no_tasks) ≡ layout_data result ∷ [] }
+    {
+        let Task { head, kids } = self;
+        kids.destroy_empty();
+        let Head {
+            name: _name,
+            local,
+            todo,
+            inbox,
+            places: _,
+            closed: _,
+        } = head;
+        todo.destroy_empty();
+        inbox.destroy_empty();
+        match local {
+            Local::Made(layout) => layout,
+            _ => unreachable!(),
+        }
+    }
+
+    /// Closes the queue.
+    pub fn shut(&mut self)
+        ensures held { task_stock self.new ≡ task_stock self.old }
+        ensures shows { (r : Tasks) → task_row self.new r ≡ task_then (shut_desk (desk_of (out-Task self.old).head)) (row (out-Task self.old).kids.items) r }
+    {
+        self.head.closed = true;
+    }
+
+    /// Puts an item on the queue. One for which there is no memory is handed back.
+    pub fn give(&mut self, item: Item) -> Result<(), Item>
+        ensures given { OnOk result (task_stock self.new ≡ both (task_stock self.old) (item_stock item)) }
+        ensures shows { OnOk result ((r : Tasks) → task_row self.new r ≡ task_then (with_item (desk_of (out-Task self.old).head) (item_of item)) (row (out-Task self.old).kids.items) r) }
+        ensures unchanged { IfErr result (λ i. (i ≡ item) × (task_stock self.new ≡ task_stock self.old)) }
+    {
+        match self.head.enqueue(item) {
+            Ok(()) => Ok(()),
+            Err(item) => Err(item),
+        }
+    }
+}
+
+/// Gives up all ids and pointers.
+#[cycle(refuse)]
+pub(crate) fn refuse_all<O: Order>(mut kids: Vec<Task>, order: &mut O)
+    requires { Owned (O.active order.old) (tasks_stock kids.items) }
+    ensures moved { Moved (O.active order.old) (O.active order.new) (tasks_stock kids.items) none }
+    ensures outlet { O.outlet order.new ≡ O.outlet order.old }
+    ensures sink { O.sink order.new ≡ O.sink order.old }
+{
+    'kids: while let Some(kid) = kids.pop() {
+        kid.refuse(order);
+    }
+    kids.destroy_empty();
+}
