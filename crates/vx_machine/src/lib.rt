@@ -12,6 +12,7 @@ mod flat;
 mod item;
 mod join;
 mod kinds;
+mod lists;
 mod machine;
 mod node;
 mod ready;
