@@ -1,10 +1,11 @@
 -- What a task's own act changes below it.
 use Rattle.std.proofs.Common.{◌≡◌, ℕ, ◌==◌, ◌&&◌, ◌+◌, Bool, true, false, List, [], ◌∷◌, refl, sym, ap, subst, arith}
+use Rattle.vx_model.specs.Ty.{list}
 use Rattle.vx_plan.specs.PlanData.{Setting, Item}
 use Rattle.vx_path.specs.Path.{under, inside}
-use Rattle.vx_machine_view.specs.State.{Next, put, append, shut_kids, join_kids, Mind, no_chunk, one_chunk, by_chunk, by_column, ending, made, Desk, Tasks, no_tasks, task_then}
+use Rattle.vx_machine_view.specs.State.{Next, put, append, shut_kids, join_kids, Mind, no_chunk, one_chunk, by_chunk, by_column, by_list, ending, made, Desk, Tasks, no_tasks, task_then}
 use Rattle.vx_machine_view.specs.Start.{started_task}
-use Rattle.vx_machine_view.specs.Acts.{count, give, add, column_count, take_chunk, end_columns, take_end, do_take, do_act}
+use Rattle.vx_machine_view.specs.Acts.{count, give, add, column_count, take_chunk, end_columns, end_lists, take_end, do_take, do_act}
 use Rattle.vx_kept.specs.Kept.{KnowsFrom, Knows, asked_of, ready_of, kids_of}
 use Rattle.vx_kept.specs.Follow.{touched_by, Follows}
 use Rattle.vx_kept.specs.declared.counts.Counts.{Counts}
@@ -31,6 +32,11 @@ end_grown c ks (by_column t rows) = by ((count ks == 0) && (0 == column_count t)
     by : (z : Bool) → Grown ks (end_columns z t rows c ks).kids
     by true = same ks
     by false = same ks
+end_grown c ks (by_list t n first from rows) = by first
+  where
+    by : (z : Bool) → Grown ks (end_lists z (list t n) rows c ks).kids
+    by true = same ks
+    by false = same ks
 end_grown c ks ending = same ks
 end_grown c ks (made l) = same ks
 
@@ -39,6 +45,7 @@ chunk_grown s c ks i xs (no_chunk o t) = same ks
 chunk_grown s c ks i xs (one_chunk x) = same ks
 chunk_grown s c ks i xs (by_chunk m t f e rows) = (started_task f m (under c.name (count ks)) (inside e) (i ∷ []) true, refl)
 chunk_grown s c ks i xs (by_column t rows) = same ks
+chunk_grown s c ks i xs (by_list t n first from rows) = same ks
 chunk_grown s c ks i xs ending = same ks
 chunk_grown s c ks i xs (made l) = same ks
 

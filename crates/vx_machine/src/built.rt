@@ -2,10 +2,11 @@
 
 ghost use Rattle.std.specs.Prelude.{◌≡◌};
 ghost use Rattle.vx_strategy.specs.FieldWays.{field_ways};
+ghost use Rattle.vx_strategy.specs.PathWays.{path_ways};
 ghost use Rattle.vx_strategy.specs.StrategyView.{strategy_data};
 ghost use Rattle.vx_machine_view.specs.Built.{is_built, are_built};
 
-use vx_strategy::{FieldWriter, Strategy};
+use vx_strategy::{FieldWriter, PathWriter, Strategy};
 
 /// Whether the strategy names only nodes that are built.
 #[cycle(built)]
@@ -21,11 +22,22 @@ pub fn is_built(strategy: &Strategy) -> bool
             let writers = are_built(&fields.writers);
             validity && (default && writers)
         }
-        Strategy::List(_) | Strategy::Dict(_) | Strategy::Zoned(_) | Strategy::Repartition(_) => {
-            false
+        Strategy::List(lists) => {
+            let elements = is_built(lists.elements.strategy());
+            let offsets = is_built(lists.offsets.strategy());
+            let validity = is_built(lists.validity.strategy());
+            let fallback = is_built(lists.fallback.strategy());
+            elements && (offsets && (validity && fallback))
         }
+        Strategy::Table(table) => {
+            let validity = is_built(table.validity.strategy());
+            let leaf = is_built(table.leaf.strategy());
+            let overrides = all_built(&table.overrides.list);
+            let wrappers = table.wrappers.is_empty();
+            validity && (leaf && (overrides && wrappers))
+        }
+        Strategy::Dict(_) | Strategy::Zoned(_) | Strategy::Repartition(_) => false,
         Strategy::Buffered(_) | Strategy::Collect(_) | Strategy::Compressing(_) => false,
-        Strategy::Table(_) => false,
     }
 }
 
@@ -35,6 +47,19 @@ fn are_built(writers: &[FieldWriter]) -> bool
 {
     'writers: for writer in writers {
         let built = is_built(writer.writer.strategy());
+        if !built {
+            return false;
+        }
+    }
+    true
+}
+
+#[cycle(built)]
+fn all_built(overrides: &[PathWriter]) -> bool
+    ensures { result ≡ are_built (path_ways overrides.now) }
+{
+    'overrides: for one in overrides {
+        let built = is_built(one.writer.strategy());
         if !built {
             return false;
         }

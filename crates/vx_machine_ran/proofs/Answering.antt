@@ -262,7 +262,7 @@ module _ (t : Ty) (unbuilt : Type 0) (never : unbuilt → ⊥) (p : Plan) (taken
   only_outside (TooLarge n) h = absurd (number_fits n h)
   only_outside Unbuilt h = absurd (never h)
   only_outside CompressFault h = absurd h
-  only_outside EmptyList h = absurd h
+  only_outside EmptyList h = absurd (none_has _ p.faults clean h)
   only_outside (ZoneCut n) h = absurd h
   only_outside (ForbiddenAggregate id) h = absurd h
   only_outside (Stopped by name) h = absurd h

@@ -174,7 +174,7 @@ module _ (t : Ty) (unbuilt : Type 0) (p : Plan) (taken : List ChunkData) (next s
     step_cause NotStruct h = c.refusal _ h
     step_cause (DuplicateField name) h = c.refusal _ h
     step_cause ManyChunks h = c.refusal _ h
-    step_cause EmptyList h = absurd h
+    step_cause EmptyList h = c.refusal _ h
     step_cause (ZoneCut n) h = absurd h
     step_cause (ForbiddenAggregate id) h = absurd h
     step_cause (ForbiddenEncoding id) h = c.refusal _ h
@@ -210,7 +210,7 @@ module _ (w : WholeStep) (o : Outlet) (fits : w.misfit ≡ false) where
   word_of NotStruct i h = (_, h)
   word_of (DuplicateField name) i h = (_, h)
   word_of ManyChunks i h = (_, h)
-  word_of EmptyList i h = absurd i
+  word_of EmptyList i h = (_, h)
   word_of (ZoneCut n) i h = absurd i
   word_of (ForbiddenAggregate id) i h = absurd i
   word_of (ForbiddenEncoding id) i h = (_, h)

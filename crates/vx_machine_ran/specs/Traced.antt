@@ -10,7 +10,7 @@ use Rattle.vx_plan.specs.PlanData.{Setting}
 use Rattle.vx_machine_steps.specs.StartPlanned.{started_forest}
 use Rattle.vx_write_answer.specs.declared.step.Step.{Step}
 use Rattle.vx_write_answer.specs.declared.error.WriteError.{WriteError}
-use Rattle.vx_write_answer.specs.declared.error.WriteError.TheVariants.{BatchType, NotStruct, DuplicateField, ManyChunks, ForbiddenEncoding, OutOfMemory}
+use Rattle.vx_write_answer.specs.declared.error.WriteError.TheVariants.{BatchType, NotStruct, DuplicateField, ManyChunks, EmptyList, ForbiddenEncoding, OutOfMemory}
 use Rattle.vx_machine_view.specs.Steps.{AllPairs}
 use Rattle.vx_machine.specs.Calls.{reads_in}
 use Rattle.vx_machine_tasks.specs.Outcome.{action_of}
@@ -43,6 +43,7 @@ IsRefusal (BatchType c) = Unit {0}
 IsRefusal NotStruct = Unit {0}
 IsRefusal (DuplicateField name) = Unit {0}
 IsRefusal ManyChunks = Unit {0}
+IsRefusal EmptyList = Unit {0}
 IsRefusal (ForbiddenEncoding id) = Unit {0}
 IsRefusal e = ⊥
 

@@ -7,7 +7,7 @@ use Rattle.vx_layout_spec.specs.LayoutTree.{LayoutData}
 use Rattle.vx_layout_spec.specs.Rows.{rows}
 use Rattle.vx_segment_reader.specs.Codec.{segment_codec}
 use Rattle.vx_strategy_spec.specs.StrategyData.{StrategyData}
-use Rattle.vx_plan.specs.PlanData.{Setting, Plan, not_struct, duplicate_field, many_chunks, forbidden_encoding}
+use Rattle.vx_plan.specs.PlanData.{Setting, Plan, not_struct, duplicate_field, many_chunks, empty_list, forbidden_encoding}
 use Rattle.vx_plan.specs.Number.{segments, numbered, segment_at}
 use Rattle.vx_plan.specs.SourcePlan.{of_schema, source_plan, taken_plan, source_values}
 use Rattle.vx_plan.specs.Valid.{Fit, IsPast, OfSchema, AllOf, Has}
@@ -77,6 +77,7 @@ HasCause t unbuilt p taken next stand (BatchType c) = (¬ (piece_type c ≡ t)) 
 HasCause t unbuilt p taken next stand NotStruct = Has not_struct p.faults
 HasCause t unbuilt p taken next stand (DuplicateField name) = Has (duplicate_field name) p.faults
 HasCause t unbuilt p taken next stand ManyChunks = Has many_chunks p.faults
+HasCause t unbuilt p taken next stand EmptyList = Has empty_list p.faults
 HasCause t unbuilt p taken next stand (ForbiddenEncoding id) = Has (forbidden_encoding id) p.faults
 HasCause t unbuilt p taken next stand (TooLarge n) = NeedsNumber p next stand n ⊎ IsPast n p.numbers
 HasCause t unbuilt p taken next stand SourceFault = Unit {0}
@@ -84,7 +85,6 @@ HasCause t unbuilt p taken next stand SinkFault = Unit {0}
 HasCause t unbuilt p taken next stand OutOfMemory = Unit {0}
 HasCause t unbuilt p taken next stand Unbuilt = unbuilt
 HasCause t unbuilt p taken next stand CompressFault = ⊥
-HasCause t unbuilt p taken next stand EmptyList = ⊥
 HasCause t unbuilt p taken next stand (ZoneCut n) = ⊥
 HasCause t unbuilt p taken next stand (ForbiddenAggregate id) = ⊥
 HasCause t unbuilt p taken next stand (Stopped by name) = ⊥

@@ -2,7 +2,7 @@
 use Rattle.std.proofs.Common.{◌≡◌, ◌+◌, ◌&&◌, ◌==◌, ◌⊎◌, ◌∷◌, ◌++◌, ◌∙◌, ℕ, zero, suc, Bool, true, false, if◌then◌else◌, cond, List, map, length, refl, sym, ap, subst, inl, inr, arith, Some, length-append, []}
 use Rattle.std.proofs.lemmas.Bool.{true≢false}
 use Rattle.vx_model.specs.Words.{total_by}
-use Rattle.vx_model.specs.Ty.{Ty, ty_eq}
+use Rattle.vx_model.specs.Ty.{Ty, list, ty_eq}
 use Rattle.vx_model.specs.TyLaws.{ty_eq_decides}
 use Rattle.vx_model.specs.ChunkData.{ChunkData, piece_type}
 use Rattle.vx_path.specs.Lists.{In}
@@ -15,8 +15,8 @@ use Rattle.vx_plan.specs.SourcePlan.{of_schema}
 use Rattle.vx_layout_spec.specs.Real.{Of}
 use Rattle.vx_plan.specs.Valid.{OfSchema, AllOf}
 use Rattle.vx_machine_promises.specs.Write.{Write, Answer, unasked, came, over, taken_by, heard_by}
-use Rattle.vx_machine_view.specs.State.{Next, put, append, shut_kids, join_kids, Mind, no_chunk, one_chunk, by_chunk, by_column, ending, made, Desk, Tasks, no_tasks, task_then}
-use Rattle.vx_machine_view.specs.Acts.{count, column_count, take_chunk, end_columns, take_end, do_take, do_act}
+use Rattle.vx_machine_view.specs.State.{Next, put, append, shut_kids, join_kids, Mind, no_chunk, one_chunk, by_chunk, by_column, by_list, ending, made, Desk, Tasks, no_tasks, task_then}
+use Rattle.vx_machine_view.specs.Acts.{count, column_count, take_chunk, end_columns, end_lists, take_end, do_take, do_act}
 use Rattle.vx_machine_view.specs.Moves.{has_room, Step, may_act, own_step, in_kids, in_rest, steps}
 use Rattle.vx_machine_view.specs.Machine.{Phase, reading, giving, closing, finished, may_source, WholeStep, source_step, in_root, machine_ids}
 use Rattle.vx_machine_view.proofs.Words.{typed_is}
@@ -36,11 +36,16 @@ module _ (s : Setting) (next : ℕ) where
   columns_quiet true t rows c ks = (refl, refl)
   columns_quiet false t rows c ks = (refl, refl)
 
+  lists_quiet : (b : Bool) (t : Ty) (rows : ℕ) (c : Desk) (ks : Tasks) → Quiet (end_lists b t rows c ks).kind
+  lists_quiet true t rows c ks = (refl, refl)
+  lists_quiet false t rows c ks = (refl, refl)
+
   end_quiet : (c : Desk) (ks : Tasks) (mind : Mind) → Quiet (take_end c ks mind).kind
   end_quiet c ks (no_chunk o t) = (refl, refl)
   end_quiet c ks (one_chunk x) = (refl, refl)
   end_quiet c ks (by_chunk m t f e rows) = (refl, refl)
   end_quiet c ks (by_column t rows) = columns_quiet ((count ks == 0) && (0 == column_count t)) t rows c ks
+  end_quiet c ks (by_list t n first from rows) = lists_quiet first (list t n) rows c ks
   end_quiet c ks ending = (refl, refl)
   end_quiet c ks (made l) = (refl, refl)
 
@@ -49,6 +54,7 @@ module _ (s : Setting) (next : ℕ) where
   take_quiet c ks i xs (one_chunk x) = (refl, refl)
   take_quiet c ks i xs (by_chunk m t f e rows) = (refl, refl)
   take_quiet c ks i xs (by_column t rows) = (refl, refl)
+  take_quiet c ks i xs (by_list t n first from rows) = (refl, refl)
   take_quiet c ks i xs ending = (refl, refl)
   take_quiet c ks i xs (made l) = (refl, refl)
 

@@ -6,31 +6,32 @@ use Rattle.vx_model.specs.ChunkData.{ChunkData, cells}
 use Rattle.vx_path.specs.Lists.{In}
 use Rattle.vx_path.specs.Path.{Eof, under, inside, next, root_eof}
 use Rattle.vx_path.proofs.Lists.{in_left, in_right, in_cases}
-use Rattle.vx_rules.specs.Columns.{Split, column, other_columns, struct_splits, struct_columns}
+use Rattle.vx_rules.specs.Columns.{Split, column, other_columns, struct_splits, struct_columns, list_splits, list_columns}
 use Rattle.vx_strategy_spec.specs.StrategyData.{StrategyData, FlatOptions}
 use Rattle.vx_strategy_spec.specs.Walk.{walk}
 use Rattle.vx_tasks.specs.Runs.{first_batch}
 use Rattle.vx_plan.specs.PlanData.{Setting, Item, Node, Plan, rows_in, totals, row_totals}
 use Rattle.vx_plan.specs.FlatNode.{flat_node, segment, length_of}
 use Rattle.vx_plan.specs.ChunkedNode.{all_numbers, chunked_node, chunk_plans, chunked_numbers}
-use Rattle.vx_plan.specs.ColumnNodes.{Column, marked, column_plans, column_numbers, struct_writers, struct_plans, struct_node}
+use Rattle.vx_plan.specs.ColumnNodes.{Column, marked, column_plans, column_numbers, struct_writers, struct_plans, struct_node, elements_in, list_writers, list_numbers, list_plans, list_columns_plan, list_node}
 use Rattle.vx_plan.specs.SourcePlan.{plan_nodes, plan, batch_items, source_plan}
 use Rattle.vx_plan.proofs.Relate.{Agree, relate, Both}
-use Rattle.vx_machine_turns.specs.Forms.{Form, flat_form, chunked_form, struct_form, forms_of, form_nodes, form_type, Writer}
+use Rattle.vx_machine_turns.specs.Forms.{Form, flat_form, chunked_form, struct_form, list_form, forms_of, form_nodes, form_type, Writer}
 use Rattle.vx_machine_turns.specs.Acts.{Seed, Act, births, gifts, shut, numbers_in, indices_in}
-use Rattle.vx_machine_turns.specs.Locals.{ChunkedNode, StructNode, chunked_local, struct_local}
+use Rattle.vx_machine_turns.specs.Locals.{ChunkedNode, StructNode, ListNode, chunked_local, struct_local, list_local}
 use Rattle.vx_machine_turns.specs.Turns.{firsts, start_indices}
 use Rattle.vx_machine_turns.specs.Scripts.{script}
-use Rattle.vx_machine_turns.specs.Starts.{struct_columns_of, marked_forms}
+use Rattle.vx_machine_turns.specs.Starts.{struct_columns_of, list_columns_of, marked_forms}
 use Rattle.vx_machine_turns.specs.Source.{source_acts, source_seed}
 use Rattle.vx_machine_turns.specs.Fuels.{Fuel, spent, fuel, fuel_of, Enough, AllEnough}
 use Rattle.vx_machine_turns.specs.Readings.{Reading}
 use Rattle.vx_machine_turns.specs.Duties.{Duty, duty_of, seeds, duty_script, below, Given, grown}
 use Rattle.vx_machine_turns.specs.Planned.{AtMost}
-use Rattle.vx_machine_turns.proofs.DutyLaws.{row_is, below_is}
+use Rattle.vx_machine_turns.proofs.DutyLaws.{row_is, below_is, unread_same}
 use Rattle.vx_machine_turns.proofs.ChunkedLaws.{chunk_duties, all_seeds, all_given}
 use Rattle.vx_machine_turns.proofs.ColumnLaws.{column_duties, puts_add, ends_last}
 use Rattle.vx_machine_turns.proofs.StructLaws.{struct_streams}
+use Rattle.vx_machine_turns.proofs.ListLaws.{list_streams}
 use Rattle.vx_machine_turns.proofs.Fueled.{fuel_is_enough}
 use Rattle.vx_machine_steps.specs.Tree.{read}
 use Rattle.vx_machine_steps.specs.StartPlanned.{started}
@@ -39,6 +40,7 @@ use Rattle.vx_machine_promises.specs.Write.{Write, depth}
 use Rattle.vx_machine_view.specs.Built.{is_built, Built, AllBuilt}
 use Rattle.vx_machine_view.specs.Whole.{form_of}
 use Rattle.vx_machine_view.proofs.Building.{built_is_built}
+use Rattle.vx_machine_view.proofs.Words.{no_cons}
 
 -- what a task counts: in its acts, and where it is started
 abbrev pub counted_by : Seed → List Act → List ℕ
@@ -259,6 +261,112 @@ struct_covers s fs n None v f ks ls hv hs b = record { covers = go }
             (in_left y (rows ++ moves) ((e.last + length ws) ∷ []) (in_left y rows moves (subst (λ z. In y z) (sym (struct_rows s node 0 items ended)) a)))) (by y)
             (in_cases y (row_totals items) (length (struct_writers n m v ks) ∷ (e.last + length (struct_writers n m v ks)) ∷ []) j)
 
+-- ---- lists
+
+-- what is counted at each chunk: rows, offsets, elements
+abbrev told_counts : ℕ → ℕ → List Item → List ℕ
+told_counts from rows [] = []
+told_counts from rows (i ∷ is) = (rows + rows_in i.1) ∷ suc (rows + rows_in i.1) ∷ (from + elements_in i.1) ∷ told_counts (from + elements_in i.1) (rows + rows_in i.1) is
+
+list_counts : (s : Setting) (n : ListNode) (first : Bool) (from rows : ℕ) (items : List Item) (ended : Bool) → numbers_in (script s (list_local n first from rows) items ended) ≡ told_counts from rows items
+list_counts s n true from rows [] true = refl
+list_counts s n false from rows [] true = (ends_last n.writers).numbers
+list_counts s n first from rows [] false = refl
+list_counts s n first from rows (i ∷ is) ended = ap (λ z. (rows + rows_in i.1) ∷ suc (rows + rows_in i.1) ∷ (from + elements_in i.1) ∷ z)
+    ((puts_add [] 0 i.0 (list_columns n.elements n.nullable first from i.1) n.writers (script s (list_local n false (from + elements_in i.1) (rows + rows_in i.1)) is ended)).numbers
+    ∙ list_counts s n false (from + elements_in i.1) (rows + rows_in i.1) is ended)
+
+rows_told : (from rows : ℕ) (items : List Item) (x : ℕ) → In x (totals rows_in rows items) → In x (told_counts from rows items)
+rows_told from rows [] x h = absurd h
+rows_told from rows (i ∷ is) x (inl e) = inl e
+rows_told from rows (i ∷ is) x (inr h) = inr (inr (inr (rows_told (from + elements_in i.1) (rows + rows_in i.1) is x h)))
+
+-- offsets are one more than rows, as they are from 1 on
+offsets_told : (from rows more : ℕ) → suc rows ≡ more → (items : List Item) (x : ℕ) → In x (totals rows_in more items) → In x (told_counts from rows items)
+offsets_told from rows more q [] x h = absurd h
+offsets_told from rows more q (i ∷ is) x (inl e) = inr (inl (omega (arith, e, q)))
+offsets_told from rows more q (i ∷ is) x (inr h) = inr (inr (inr (offsets_told (from + elements_in i.1) (rows + rows_in i.1) (more + rows_in i.1) (omega (arith, q)) is x h)))
+
+elements_told : (from rows : ℕ) (items : List Item) (x : ℕ) → In x (totals elements_in from items) → In x (told_counts from rows items)
+elements_told from rows [] x h = absurd h
+elements_told from rows (i ∷ is) x (inl e) = inr (inr (inl e))
+elements_told from rows (i ∷ is) x (inr h) = inr (inr (inr (elements_told (from + elements_in i.1) (rows + rows_in i.1) is x h)))
+
+lists_covered : (s : Setting) (g : Ty → Fuel) (n m : Bool) (es os v : Node) (a b c : Form) → Covers s es a → Covers s os b → Covers s v c
+    → Enough (g (form_type a)) a → Enough (g (form_type b)) b → Enough (g (form_type c)) c → ColumnsCovered s g (list_writers n m es os v) (list_columns_of n m a b c)
+lists_covered s g true m es os v a b c h i j x y z = (
+  (λ name items ended e k l. h.covers m name items ended e (g (form_type a)) x k l),
+  ((λ name items ended e k l. i.covers m name items ended e (g (form_type b)) y k l), ((λ name items ended e k l. j.covers m name items ended e (g (form_type c)) z k l), tt)),
+)
+lists_covered s g false m es os v a b c h i j x y z = (
+  (λ name items ended e k l. h.covers m name items ended e (g (form_type a)) x k l),
+  ((λ name items ended e k l. i.covers m name items ended e (g (form_type b)) y k l), tt),
+)
+
+list_covers : (s : Setting) (t : Ty) (n : Bool) (es os v : Node) (a b c : Form) → Covers s es a → Covers s os b → Covers s v c → Covers s (list_node t n es os v) (list_form t n a b c)
+list_covers s t n es os v a b c h i j = record { covers = go }
+  where
+    begun : (m : Bool) (name : List ℕ) (items : List Item) (ended : Bool) (e : Eof) (d : Fuel) → Enough d (list_form t n a b c) → (items ≡ [] → ended ≡ true → ⊥) → (x : ℕ)
+        → In x (list_columns_plan t n es os v m items ended e).numbers → AtMost x (e.last ∷ all_counted s d (duty_of s (list_form t n a b c) m name items ended e))
+    begun m name items ended e spent enough some x k = absurd enough
+    begun m name items ended e (fuel g) enough some x k =
+        parent_covers s g (duty_of s (list_form t n a b c) m name items ended e) (column_duties s ws name 0 (list_splits t n true 0 items) ended e) (list_columns_plan t n es os v m items ended e)
+        (list_plans t n es os v m items ended e) (list_numbers items ks e) e.last (list_streams s t n m a b c name items ended e some).0
+        (list_streams s t n m a b c name items ended e some).1 refl own (columns_covered s g ks ws all name 0 (list_splits t n true 0 items) ended e) x k
+      where
+        ks : List Column
+        ks = list_writers n m es os v
+
+        ws : List Writer
+        ws = list_columns_of n m a b c
+
+        all : ColumnsCovered s g ks ws
+        all = lists_covered s g n m es os v a b c h i j enough.0 enough.1 enough.2
+
+        same : length ws ≡ length ks
+        same = same_length s g ks ws all
+
+        node : ListNode
+        node = record { name = name; elements = t; nullable = n; writers = ws; eof = e }
+
+        told : List ℕ
+        told = numbers_in (script s (list_local node true 0 0) items ended)
+
+        moves : List ℕ
+        moves = indices_in (script s (list_local node true 0 0) items ended)
+
+        at_last : (y : ℕ) → y ≤ e.last + length ws → AtMost y (e.last ∷ ((told ++ moves) ++ ((e.last + length ws) ∷ [])))
+        at_last y l = (e.last + length ws, inr (in_right (e.last + length ws) (told ++ moves) ((e.last + length ws) ∷ []) (inl refl)), l)
+
+        at_told : (y : ℕ) → In y (told_counts 0 0 items) → AtMost y (e.last ∷ ((told ++ moves) ++ ((e.last + length ws) ∷ [])))
+        at_told y q = most_in y e.last ((told ++ moves) ++ ((e.last + length ws) ∷ []))
+            (in_left y (told ++ moves) ((e.last + length ws) ∷ []) (in_left y told moves (subst (λ z. In y z) (sym (list_counts s node true 0 0 items ended)) q)))
+
+        by : (y : ℕ) → In y (length ks ∷ (e.last + length ks) ∷ []) → AtMost y (e.last ∷ ((told ++ moves) ++ ((e.last + length ws) ∷ [])))
+        by y (inl q) = at_last y (omega (arith, q, same))
+        by y (inr (inl q)) = at_last y (omega (arith, q, same))
+        by y (inr (inr q)) = absurd q
+
+        own : (y : ℕ) → In y (list_numbers items ks e) → AtMost y (e.last ∷ ((told ++ moves) ++ ((e.last + length ws) ∷ [])))
+        own y q = ⊎_elim (λ z. at_told y (offsets_told 0 0 1 refl items y z))
+            (λ z. ⊎_elim (λ w. at_told y (elements_told 0 0 items y w))
+            (λ w. ⊎_elim (λ u. at_told y (rows_told 0 0 items y u)) (by y) (in_cases y (row_totals items) (length ks ∷ (e.last + length ks) ∷ []) w))
+            (in_cases y (totals elements_in 0 items) (column_numbers items ks e) z))
+            (in_cases y (totals rows_in 1 items) (totals elements_in 0 items ++ column_numbers items ks e) q)
+
+    -- a node that refuses an empty stream counts what one does whose stream goes on
+    empty : (m : Bool) (name : List ℕ) (e : Eof) (d : Fuel) → all_counted s d (duty_of s (list_form t n a b c) m name [] true e) ≡ all_counted s d (duty_of s (list_form t n a b c) m name [] false e)
+    empty m name e d =
+        let c0 : Duty = duty_of s (list_form t n a b c) m name [] true e in
+        ap (λ z. start_indices c0.seed.local ++ z) (unread_same s count_reading d 0 (firsts c0.seed ++ []) (duty_script s c0) [] (λ k l. (refl, refl)))
+
+    go : (m : Bool) (name : List ℕ) (items : List Item) (ended : Bool) (e : Eof) (d : Fuel) → Enough d (list_form t n a b c) → (x : ℕ) → In x (list_node t n es os v m items ended e).numbers
+        → AtMost x (e.last ∷ all_counted s d (duty_of s (list_form t n a b c) m name items ended e))
+    go m name [] true e d enough x k =
+        subst (λ z. AtMost x (e.last ∷ z)) (sym (empty m name e d)) (begun m name [] false e d enough (λ q r. true≢false (sym r)) x k)
+    go m name [] false e d enough x k = begun m name [] false e d enough (λ q r. true≢false (sym r)) x k
+    go m name (y ∷ ys) ended e d enough x k = begun m name (y ∷ ys) ended e d enough (λ q r. no_cons y ys q) x k
+
 -- ---- the whole strategy
 
 all_covers : (s : Setting) → Agree Node Form (plan_nodes s) form_nodes false (λ t k f. Built f → Covers s k f)
@@ -271,7 +379,7 @@ all_covers s = record {
   at_zoned = λ o r t k l f g h i b. absurd b;
   at_not_struct = λ t b. record { covers = λ m name items ended e d enough n i. absurd i };
   at_struct = λ fs n dup v w ks ls h r b. struct_covers s fs n dup v w ks ls (h b.1) r b.2;
-  at_list = λ t n e o v f p w h i j b. absurd b;
+  at_list = λ t n e o v f p w h i j b. list_covers s t n e o v f p w (h b.1) (i b.3) (j b.5);
 }
 
 plan_covered : (s : Setting) (w : StrategyData) (t : Ty) → is_built w ≡ true → Covers s (plan s w t) (walk form_nodes w t)

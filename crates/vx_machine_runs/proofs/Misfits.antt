@@ -1,7 +1,7 @@
 -- A chunk of another type comes of the source alone.
 use Rattle.std.proofs.Common.{◌≡◌, ◌+◌, ◌&&◌, ◌==◌, ◌⊎◌, ◌∷◌, ◌++◌, ◌∙◌, ℕ, zero, suc, Bool, true, false, not, cond, List, map, length, refl, sym, ap, subst, inl, inr, Some, []}
 use Rattle.std.proofs.lemmas.Bool.{true≢false}
-use Rattle.vx_model.specs.Ty.{Ty, struct}
+use Rattle.vx_model.specs.Ty.{Ty, list, struct}
 use Rattle.vx_model.specs.ChunkData.{ChunkData}
 use Rattle.vx_path.specs.Lists.{In}
 use Rattle.vx_path.specs.Path.{Eof}
@@ -17,11 +17,11 @@ use Rattle.vx_machine_turns.specs.Source.{source_seed}
 use Rattle.vx_machine_steps.specs.Tree.{Tree, Leaf, Work}
 use Rattle.vx_machine_promises.specs.Write.{Answer, unasked, came, over, planned}
 use Rattle.vx_machine_promises.specs.Reached.{Reached}
-use Rattle.vx_machine_view.specs.State.{Mind, no_chunk, one_chunk, by_chunk, by_column, ending, made, Desk, Tasks, no_tasks, task_then}
-use Rattle.vx_machine_view.specs.Acts.{count, column_count, take_chunk, end_columns, take_end, do_take, do_act, puts}
+use Rattle.vx_machine_view.specs.State.{Mind, no_chunk, one_chunk, by_chunk, by_column, by_list, ending, made, Desk, Tasks, no_tasks, task_then}
+use Rattle.vx_machine_view.specs.Acts.{count, column_count, take_chunk, end_columns, end_lists, take_end, do_take, do_act, puts}
 use Rattle.vx_machine_view.specs.Moves.{Step, may_act, own_step, in_kids, in_rest, steps}
 use Rattle.vx_machine_view.specs.Typed.{AllTyped}
-use Rattle.vx_machine_view.specs.Shows.{Stage, waits_first, waits_end, appends, splits, gathers_all, hands, shuts, joins_columns, Done, Shows}
+use Rattle.vx_machine_view.specs.Shows.{Stage, waits_first, waits_end, appends, splits, gathers_all, hands, hands_lists, shuts, joins_columns, Done, Shows}
 use Rattle.vx_machine_view.specs.Machine.{Phase, reading, giving, closing, finished, may_source, WholeStep, source_step, in_root, machine_ids}
 use Rattle.vx_machine_view.specs.Whole.{form_of, root_depth}
 use Rattle.vx_machine_view.specs.Underway.{Showing}
@@ -36,11 +36,16 @@ columns_end : (b : Bool) (t : Ty) (rows : ℕ) (c : Desk) (ks : Tasks) → (end_
 columns_end true t rows c ks = refl
 columns_end false t rows c ks = refl
 
+lists_end : (b : Bool) (t : Ty) (rows : ℕ) (c : Desk) (ks : Tasks) → (end_lists b t rows c ks).misfit ≡ false
+lists_end true t rows c ks = refl
+lists_end false t rows c ks = refl
+
 ends_fit : (c : Desk) (ks : Tasks) (mind : Mind) → (take_end c ks mind).misfit ≡ false
 ends_fit c ks (no_chunk o t) = refl
 ends_fit c ks (one_chunk x) = refl
 ends_fit c ks (by_chunk m t f e rows) = refl
 ends_fit c ks (by_column t rows) = columns_end ((count ks == 0) && (0 == column_count t)) t rows c ks
+ends_fit c ks (by_list t n first from rows) = lists_end first (list t n) rows c ks
 ends_fit c ks ending = refl
 ends_fit c ks (made l) = refl
 
@@ -66,6 +71,10 @@ module _ (s : Setting) (number : List ℕ → ℕ) (next : ℕ) (all : List (Lis
   takes_columns c ks [] t rows e ty = tt
   takes_columns c ks (i ∷ xs) t rows e ty = ap (λ z. (take_chunk s c ks i xs z).misfit) e ∙ ap not (type_fits t i.1 ty.0)
 
+  takes_lists : (c : Desk) (ks : Tasks) (xs : List Item) (t : Ty) (n first : Bool) (from rows : ℕ) → c.mind ≡ by_list t n first from rows → AllTyped (list t n) xs → Takes c ks xs c.mind
+  takes_lists c ks [] t n first from rows e ty = tt
+  takes_lists c ks (i ∷ xs) t n first from rows e ty = ap (λ z. (take_chunk s c ks i xs z).misfit) e ∙ ap not (type_fits (list t n) i.1 ty.0)
+
   puts_fit : (c : Desk) (ks : Tasks) (j : ℕ) (p : List ℕ) (xs : List ChunkData) → Takes c ks c.inbox c.mind → (do_act s next c ks (puts j p xs)).misfit ≡ false
   puts_fit c ks j p [] t = take_fits c ks c.inbox t
   puts_fit c ks j p (x ∷ xs) t = refl
@@ -78,9 +87,12 @@ module _ (s : Setting) (number : List ℕ → ℕ) (next : ℕ) (all : List (Lis
   own_fits d c ks q past todo l off hs ty (appends x k w) = ap (λ z. (do_act s next c ks z).misfit) w.left_is
   own_fits d c ks q past todo l off hs ty (splits n e nm t sp b en u w) = idle_fits c ks w.idle (takes_first c ks c.inbox c.mind (λ i xs. ap (λ z. (take_chunk s c ks i xs z).misfit) w.mind_is) refl)
   own_fits d c ks q past todo l off hs ty (gathers_all t u w) = ap (λ z. (do_act s next c ks z).misfit) w.left_is
-  own_fits d c ks q past todo l off hs ty (hands n rows j p xs ws w) =
+  own_fits d c ks q past todo l off hs ty (hands n rows j p xs ws t v w) =
       ap (λ z. (do_act s next c ks z).misfit) w.left_is
-      ∙ puts_fit c ks j p xs (takes_columns c ks c.inbox (struct n.fields n.nullable) rows w.mind_is (subst (λ z. AllTyped z c.inbox) w.type_is ty))
+      ∙ puts_fit c ks j p xs (takes_columns c ks c.inbox (struct n.fields n.nullable) rows w.mind_is (subst (λ z. AllTyped z c.inbox) t ty))
+  own_fits d c ks q past todo l off hs ty (hands_lists n first from rows j p xs ws t v w) =
+      ap (λ z. (do_act s next c ks z).misfit) w.left_is
+      ∙ puts_fit c ks j p xs (takes_lists c ks c.inbox n.elements n.nullable first from rows w.mind_is (subst (λ z. AllTyped z c.inbox) t ty))
   own_fits d c ks q past todo l off hs ty (shuts t rows k w) = ap (λ z. (do_act s next c ks z).misfit) w.left_is
   own_fits d c ks q past todo l off hs ty (joins_columns t rows k w) = ap (λ z. (do_act s next c ks z).misfit) w.left_is
 

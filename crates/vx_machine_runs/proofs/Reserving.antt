@@ -3,12 +3,12 @@ use Rattle.std.proofs.Common.{◌≡◌, ◌+◌, ◌∷◌, ℕ, suc, Bool, tru
 use Rattle.std.proofs.lemmas.Bool.{true≢false}
 use Rattle.vx_model.specs.Ty.{Ty, Tys, no_fields, field}
 use Rattle.vx_path.specs.Path.{Eof, inside, next, root_eof}
-use Rattle.vx_rules.specs.Columns.{Split, column, other_columns, struct_splits}
+use Rattle.vx_rules.specs.Columns.{Split, column, other_columns, struct_splits, list_splits}
 use Rattle.vx_strategy_spec.specs.StrategyData.{FlatOptions}
 use Rattle.vx_plan.specs.PlanData.{Setting, Item, Node}
 use Rattle.vx_plan.specs.FlatNode.{flat_node}
 use Rattle.vx_plan.specs.ChunkedNode.{all_reserved, chunk_plans}
-use Rattle.vx_plan.specs.ColumnNodes.{Column, marked, column_plans, struct_writers, struct_node}
+use Rattle.vx_plan.specs.ColumnNodes.{Column, marked, column_plans, struct_writers, struct_node, list_columns_plan, list_node}
 use Rattle.vx_plan.specs.SourcePlan.{plan_nodes, batch_items}
 use Rattle.vx_plan.proofs.Relate.{Agree, relate, Both}
 use Rattle.vx_machine_turns.specs.Forms.{Form, forms_of, form_nodes}
@@ -59,6 +59,15 @@ bare_struct : (fs : Tys) (n : Bool) (dup : Option (List ℕ)) (v : Node) (ks : L
 bare_struct fs n (Some a) v ks ls hv h b m items ended e = refl
 bare_struct fs n None v ks ls hv h b m items ended e = bare_columns (struct_writers n m v ks) (bare_writers fs n m v ks ls hv h b) 0 (struct_splits fs n items) ended e
 
+bare_lists : (t : Ty) (n m : Bool) (es os v : Node) → Bare es → Bare os → Bare v → (items : List Item) (ended : Bool) (e : Eof) → (list_columns_plan t n es os v m items ended e).reserved ≡ 0
+bare_lists t true m es os v h i j items ended e = bare_columns (es m ∷ os m ∷ v m ∷ []) (h m, (i m, (j m, tt))) 0 (list_splits t true true 0 items) ended e
+bare_lists t false m es os v h i j items ended e = bare_columns (es m ∷ os m ∷ []) (h m, (i m, tt)) 0 (list_splits t false true 0 items) ended e
+
+bare_list : (t : Ty) (n : Bool) (es os v : Node) → Bare es → Bare os → Bare v → Bare (list_node t n es os v)
+bare_list t n es os v h i j m [] true e = refl
+bare_list t n es os v h i j m [] false e = bare_lists t n m es os v h i j [] false e
+bare_list t n es os v h i j m (x ∷ xs) ended e = bare_lists t n m es os v h i j (x ∷ xs) ended e
+
 all_bare : (s : Setting) → Agree Node Form (plan_nodes s) form_nodes false (λ t k f. Built f → Bare k)
 all_bare s = record {
   at_flat = λ o t b. bare_flat s o t;
@@ -69,7 +78,7 @@ all_bare s = record {
   at_zoned = λ o r t k l f g h i b. absurd b;
   at_not_struct = λ t b m items ended e. refl;
   at_struct = λ fs n dup v w ks ls h r b. bare_struct fs n dup v ks ls (h b.1) r b.2;
-  at_list = λ t n e o v f p w h i j b. absurd b;
+  at_list = λ t n e o v f p w h i j b. bare_list t n e o v (h b.1) (i b.3) (j b.5);
 }
 
 pub nothing_reserved : NothingReserved

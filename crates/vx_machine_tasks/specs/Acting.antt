@@ -25,7 +25,7 @@ use Rattle.vx_machine_tasks.specs.declared.item.Segment.{Segment}
 use Rattle.vx_machine_tasks.specs.declared.kinds.ChunkedNode.{ChunkedNode}
 use Rattle.vx_machine_tasks.specs.declared.kinds.FlatNode.{FlatNode}
 use Rattle.vx_machine_tasks.specs.declared.node.Local.{Local}
-use Rattle.vx_machine_tasks.specs.declared.node.Local.TheVariants.{Empty, Full, Chunked, Columns, Over, Made}
+use Rattle.vx_machine_tasks.specs.declared.node.Local.TheVariants.{Empty, Full, Chunked, Columns, Lists, Over, Made}
 use Rattle.vx_machine_tasks.specs.declared.task.Head.{Head}
 use Rattle.vx_machine_tasks.specs.declared.task.Task.{Task}
 use Rattle.vx_machine_tasks.specs.Context.{setting_of}
@@ -137,6 +137,7 @@ first_word first (Empty n) = forbidden first
 first_word first (Full x) = Some many_chunks
 first_word first (Chunked n eof rows) = Some many_chunks
 first_word first (Columns n rows) = Some many_chunks
+first_word first (Lists n rows) = Some many_chunks
 first_word first Over = Some many_chunks
 first_word first (Made l) = Some many_chunks
 
@@ -146,12 +147,17 @@ is_flat (Empty n) = true
 is_flat (Full x) = true
 is_flat (Chunked n eof rows) = false
 is_flat (Columns n rows) = false
+is_flat (Lists n rows) = false
 is_flat Over = false
 is_flat (Made l) = false
 
 -- why a chunk isn't split: it is of another type, or the rows with it are too many
 abbrev pub SplitRefused : Bool → ℕ → WriteError → Type 0
 SplitRefused misfit rows e = Refused None misfit (rows ∷ []) [] [] none_past ⊥ [] e
+
+-- why a chunk of lists isn't split: it is of another type, or one of these is too many
+abbrev pub ListRefused : Bool → List ℕ → WriteError → Type 0
+ListRefused misfit ns e = Refused None misfit ns [] [] none_past ⊥ [] e
 
 -- the next child of a chunked node, whose pointer is this one, isn't started
 abbrev pub ChildRefused : ChunkedNode → Eof → WriteError → Type 0
@@ -161,12 +167,17 @@ ChildRefused n eof e = StartRefused (λ s. start_fault s (child_form n) n.marked
 
 -- it was taken, with this in mind then, and this left to do behind what was
 pub record Ended (w : Did) (mind : Mind) (todo before : List Next) : Type 0 where
+  pub unrefused : w.refusal ≡ None
   pub mind_is : mind ≡ w.desk.mind
   pub todo_is : todo ≡ before ++ w.desk.todo
 
 -- by a task with so many children, of which only this is told: what it had in mind
 abbrev pub EndTaken : Local → ℕ → Local → List Next → List Next → Type 0
 EndTaken l n m todo before = (ks : Tasks) → count ks ≡ n → Ended (take_end (bare (mind_of l)) ks (mind_of l)) (mind_of m) todo before
+
+-- or it is refused
+abbrev pub EndRefused : Local → ℕ → WriteError → Type 0
+EndRefused l n e = (ks : Tasks) → count ks ≡ n → TakeRefused (take_end (bare (mind_of l)) ks (mind_of l)) e
 
 -- ---- the next act of a task
 

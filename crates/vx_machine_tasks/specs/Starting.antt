@@ -3,15 +3,17 @@ use Rattle.std.specs.Prelude.{◌≡◌, ℕ, ◌+◌, ◌^◌, ◌<◌, ◌≤�
 use Rattle.vx_model.specs.Ty.{Ty, Named, boolean, nullable, is_struct}
 use Rattle.vx_path.specs.Lists.{In}
 use Rattle.vx_path.specs.Path.{Eof}
-use Rattle.vx_chunk_cells.specs.Parts.{struct_fields}
+use Rattle.vx_rules.specs.Columns.{offset_type}
+use Rattle.vx_chunk_cells.specs.Parts.{element_type, struct_fields}
 use Rattle.vx_layout_tree.specs.Children.{fields_of}
 use Rattle.vx_strategy_spec.specs.StrategyData.{StrategyData}
 use Rattle.vx_strategy_spec.specs.Walk.{duplicate}
 use Rattle.vx_strategy_spec.specs.Dispatch.{override, given_or}
 use Rattle.vx_strategy.specs.FieldWays.{field_ways}
+use Rattle.vx_strategy.specs.declared.list.ListLayoutStrategy.{ListLayoutStrategy}
 use Rattle.vx_strategy.specs.declared.structs.StructStrategy.{StructStrategy}
 use Rattle.vx_plan.specs.PlanData.{Setting, What, not_struct, duplicate_field}
-use Rattle.vx_machine_turns.specs.Forms.{Form, Forms, struct_form, no_forms, form_then}
+use Rattle.vx_machine_turns.specs.Forms.{Form, Forms, struct_form, list_form, no_forms, form_then}
 use Rattle.vx_machine_turns.specs.Starts.{start_fault, start_faults}
 use Rattle.vx_machine_view.specs.State.{Tasks, task_then}
 use Rattle.vx_machine_view.specs.Start.{waiting, first_mind, first_kids, field_tasks, form_count, first_indices, field_indices}
@@ -39,13 +41,20 @@ abbrev pub validity_form : StructStrategy → Form
 validity_form s = form_at s.validity.item (boolean false)
 
 -- validity, where the type is nullable
-abbrev pub validity_forms : StructStrategy → Bool → Forms
-validity_forms s true = form_then (validity_form s) no_forms
-validity_forms s false = no_forms
+abbrev pub validity_forms : StrategyData → Bool → Forms
+validity_forms w true = form_then (form_at w (boolean false)) no_forms
+validity_forms w false = no_forms
 
 -- the form of a struct where no name is repeated
 abbrev pub columns_form : StructStrategy → Ty → Form
 columns_form s t = struct_form (struct_fields t) (nullable t) None (validity_form s) (field_forms s (fields_of t))
+
+-- the columns of a list: elements, offsets, and validity where the type is nullable
+abbrev pub list_forms : ListLayoutStrategy → Ty → Forms
+list_forms s t = form_then (form_at s.elements.item (element_type t)) (form_then (form_at s.offsets.item offset_type) (validity_forms s.validity.item (nullable t)))
+
+abbrev pub lists_form : ListLayoutStrategy → Ty → Form
+lists_form s t = list_form (element_type t) (nullable t) (form_at s.elements.item (element_type t)) (form_at s.offsets.item offset_type) (form_at s.validity.item (boolean false))
 
 -- ---- what is started
 

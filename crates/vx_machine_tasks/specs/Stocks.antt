@@ -6,7 +6,7 @@ use Rattle.vx_machine_tasks.specs.declared.item.Stored.{Stored}
 use Rattle.vx_machine_tasks.specs.declared.item.Due.{Due}
 use Rattle.vx_machine_tasks.specs.declared.item.Due.TheVariants.{Put, Append, Close, Join}
 use Rattle.vx_machine_tasks.specs.declared.node.Local.{Local}
-use Rattle.vx_machine_tasks.specs.declared.node.Local.TheVariants.{Empty, Full, Chunked, Columns, Over, Made}
+use Rattle.vx_machine_tasks.specs.declared.node.Local.TheVariants.{Empty, Full, Chunked, Columns, Lists, Over, Made}
 use Rattle.vx_machine_tasks.specs.declared.task.Head.{Head}
 use Rattle.vx_machine_tasks.specs.declared.task.Task.{Task}
 use Rattle.vx_machine_tasks.specs.declared.task.Task.TheOpen.{Task-F}
@@ -35,6 +35,7 @@ local_stock (Empty n) = none
 local_stock (Full s) = stored_stock s
 local_stock (Chunked n eof rows) = end_stock eof
 local_stock (Columns n rows) = none
+local_stock (Lists n rows) = none
 local_stock Over = none
 local_stock (Made l) = none
 

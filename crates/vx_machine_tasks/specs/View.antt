@@ -1,7 +1,8 @@
 -- Tasks in plain data: ids and pointers by their paths, chunks and layouts by their data, strategies at types as forms.
 use Rattle.std.specs.Prelude.{List, [], ◌∷◌, map}
 use Rattle.std.specs.Arc.{arc_value}
-use Rattle.vx_model.specs.Ty.{Ty}
+use Rattle.vx_model.specs.Ty.{Ty, nullable}
+use Rattle.vx_chunk_cells.specs.Parts.{element_type}
 use Rattle.vx_model.specs.TyView.{ty}
 use Rattle.vx_model.specs.declared.dtype.DType.{DType}
 use Rattle.vx_layout_tree.specs.LayoutView.{layout_data}
@@ -19,7 +20,7 @@ use Rattle.vx_machine_tasks.specs.declared.item.Due.{Due}
 use Rattle.vx_machine_tasks.specs.declared.item.Due.TheVariants.{Put, Append, Close, Join}
 use Rattle.vx_machine_tasks.specs.declared.kinds.ChunkedNode.{ChunkedNode}
 use Rattle.vx_machine_tasks.specs.declared.node.Local.{Local}
-use Rattle.vx_machine_tasks.specs.declared.node.Local.TheVariants.{Empty, Full, Chunked, Columns, Over, Made}
+use Rattle.vx_machine_tasks.specs.declared.node.Local.TheVariants.{Empty, Full, Chunked, Columns, Lists, Over, Made}
 use Rattle.vx_machine_tasks.specs.declared.node.Shape.{Shape}
 use Rattle.vx_machine_tasks.specs.declared.node.Shape.TheVariants as shapes
 use Rattle.vx_machine_tasks.specs.declared.task.Head.{Head}
@@ -47,7 +48,7 @@ stored_of x = record { id = x.id; bytes = x.segment.bytes.items; tree = x.segmen
 
 abbrev pub fold_of : Shape → view.Fold
 fold_of (shapes.Chunks t) = view.fold_chunks (ty (arc_value t))
-fold_of (shapes.Columns n rows) = view.fold_columns (ty (arc_value n.dtype)) rows
+fold_of (shapes.Columns t rows) = view.fold_columns (ty (arc_value t)) rows
 
 abbrev pub next_of : Due → view.Next
 next_of (Put c i) = view.put c (item_of i)
@@ -67,6 +68,7 @@ mind_of (Empty n) = view.no_chunk (flat_options n.options) (ty (arc_value n.dtyp
 mind_of (Full x) = view.one_chunk (stored_of x)
 mind_of (Chunked n eof rows) = view.by_chunk n.marked (ty (arc_value n.dtype)) (child_form n) eof rows
 mind_of (Columns n rows) = view.by_column (ty (arc_value n.dtype)) rows
+mind_of (Lists n rows) = view.by_list (element_type (ty (arc_value n.dtype))) (nullable (ty (arc_value n.dtype))) n.split.first n.split.base rows
 mind_of Over = view.ending
 mind_of (Made l) = view.made (layout_data l)
 

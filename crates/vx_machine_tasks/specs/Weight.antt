@@ -1,20 +1,20 @@
--- How far a strategy goes down.
+-- How much starts with a form.
 use Rattle.std.specs.Prelude.{ℕ, ◌+◌}
-use Rattle.vx_strategy_spec.specs.StrategyData.{StrategyData, StrategyList, flat, chunked, grouped, compressed, coded, zoned, structured, listed, tabled, no_ways, way_at}
+use Rattle.vx_machine_turns.specs.Forms.{Form, Forms, flat_form, chunked_form, grouped_form, compressed_form, dict_form, zoned_form, no_struct_form, struct_form, list_form, no_forms, form_then}
 
--- more than of each strategy that it holds
+-- two more than of each column that starts with it
 abbrev mutual
-  pub weight : StrategyData → ℕ
-  weight (flat o) = 1
-  weight (chunked w) = 1 + weight w
-  weight (grouped g w) = 1
-  weight (compressed which room w) = 1
-  weight (coded o c v f) = 1
-  weight (zoned o w stats) = 1
-  weight (structured v d ws) = 1 + (weight v + (weight d + weights ws))
-  weight (listed e o v f) = 1
-  weight (tabled v l ws lists wraps) = 1
+  pub weight : Form → ℕ
+  weight (struct_form fs n name v ks) = 2 + (weight v + weights ks)
+  weight (list_form t n es os v) = 2 + (weight es + (weight os + weight v))
+  weight (flat_form o t) = 1
+  weight (chunked_form t k) = 1
+  weight (grouped_form g t k) = 1
+  weight (compressed_form which room t k) = 1
+  weight (dict_form o t c v f) = 1
+  weight (zoned_form o t k stats) = 1
+  weight (no_struct_form t) = 1
 
-  pub weights : StrategyList → ℕ
-  weights no_ways = 0
-  weights (way_at path w ws) = 1 + (weight w + weights ws)
+  pub weights : Forms → ℕ
+  weights no_forms = 0
+  weights (form_then f fs) = weight f + weights fs

@@ -12,7 +12,7 @@ ghost use Rattle.vx_machine_ids.specs.Balance.{Owned, Moved};
 ghost use Rattle.vx_sink.specs.ContextView.{listed};
 ghost use Rattle.vx_machine_view.specs.State.{append as append_next, join_kids, Mind, made as has_layout, Tasks};
 ghost use Rattle.vx_machine_view.specs.Acts.{give, shut_all, layouts_in, joined_rows, column_count};
-ghost use Rattle.vx_machine_tasks.specs.Acting.{AppendRefused, JoinRefused, acted, ActDone, DueDone, DueRefused, ChunkTaken, ChunkRefused, EndTaken, NextTaken, NextUntaken, NextDone, NextRefused};
+ghost use Rattle.vx_machine_tasks.specs.Acting.{AppendRefused, JoinRefused, acted, ActDone, DueDone, DueRefused, ChunkTaken, ChunkRefused, EndTaken, EndRefused, NextTaken, NextUntaken, NextDone, NextRefused};
 ghost use Rattle.vx_machine_tasks.specs.Calls.{TaskTold};
 ghost use Rattle.vx_machine_tasks.specs.Causes.{MayCome, ActMay};
 ghost use Rattle.vx_machine_tasks.specs.Outcome.{Kept};
@@ -27,6 +27,7 @@ use crate::flat::{append, set_local, take_flat};
 use crate::item::{Due, Item, Stored, give_up_item};
 use crate::join::{gather, join, join_columns};
 use crate::kinds::{ChunkedNode, ColumnsNode, FlatNode};
+use crate::lists::{end_lists, take_lists};
 use crate::node::{Local, Shape};
 use crate::ready::columns_fit;
 use crate::task::{Head, Task};
@@ -184,6 +185,7 @@ fn take<O: Order>(
             take_chunked(alloc, order, node, eof, rows, name, kids, item)
         }
         Local::Columns(node, rows) => take_columns(alloc, order, node, rows, todo, item),
+        Local::Lists(node, rows) => take_lists(alloc, order, node, rows, todo, item),
         _ => take_flat(alloc, ctx, order, local, item),
     }
 }
@@ -203,7 +205,7 @@ fn end_empty(alloc: Global, node: &FlatNode) -> Result<Local, WriteError>
 fn has_no_columns(node: &ColumnsNode, kids: usize) -> bool
     ensures { result ≡ ((kids == 0) && (0 == column_count (ty (arc_value node.now.dtype)))) }
 {
-    let fits = columns_fit(node, 0);
+    let fits = columns_fit(&node.dtype, 0);
     kids == 0 && fits
 }
 
@@ -221,16 +223,20 @@ fn end_columns(
     ensures memory { IfErr result (λ e. e ≡ WriteError.OutOfMemory) }
     ensures cause { IfErr result MayCome }
 {
-    if has_no_columns(&node, kids) {
-        let layout = join_columns(&node, rows, Vec::new(*todo.allocator()));
-        drop(node);
+    let empty = has_no_columns(&node, kids);
+    let ColumnsNode { dtype, split } = node;
+    drop(split);
+    if empty {
+        let alloc = *todo.allocator();
+        let layout = join_columns(alloc, &dtype, rows, Vec::new(alloc));
+        drop(dtype);
         return match layout {
             Ok(layout) => Ok(Local::Made(layout)),
             Err(error) => Err(error),
         };
     }
     todo.push_back_reserved(Due::Close);
-    todo.push_back_reserved(Due::Join(Shape::Columns(node, rows)));
+    todo.push_back_reserved(Due::Join(Shape::Columns(dtype, rows)));
     Ok(Local::Over)
 }
 
@@ -246,7 +252,7 @@ fn ended<O: Order>(
     requires room { deque_len todo.old + 2 ≤ deque_capacity todo.old }
     ensures moved { Moved (O.active order.old) (O.active order.new) (both (local_stock local) (dues_stock todo.old.items)) (both (ok_stock local_stock result) (dues_stock todo.new.items)) }
     ensures done { IfOk result (λ l. EndTaken local kids l (todo_of todo.new.items) (todo_of todo.old.items)) }
-    ensures memory { IfErr result (λ e. e ≡ WriteError.OutOfMemory) }
+    ensures refused { IfErr result (EndRefused local kids) }
     ensures outlet { O.outlet order.new ≡ O.outlet order.old }
     ensures sink { O.sink order.new ≡ O.sink order.old }
     ensures cause { IfErr result MayCome }
@@ -269,6 +275,7 @@ fn ended<O: Order>(
             Ok(Local::Over)
         }
         Local::Columns(node, rows) => end_columns(kids, todo, node, rows),
+        Local::Lists(node, rows) => end_lists(kids, todo, node, rows),
         Local::Over => Ok(Local::Over),
         Local::Made(layout) => Ok(Local::Made(layout)),
     }
@@ -285,7 +292,7 @@ fn end<O: Order>(
     requires { Owned (O.active order.old) (both (local_stock local.old) (dues_stock todo.old.items)) }
     ensures moved { Moved (O.active order.old) (O.active order.new) (both (local_stock local.old) (dues_stock todo.old.items)) (both (local_stock local.new) (dues_stock todo.new.items)) }
     ensures done { OnOk result (EndTaken local.old kids local.new (todo_of todo.new.items) (todo_of todo.old.items)) }
-    ensures memory { IfErr result (λ e. e ≡ WriteError.OutOfMemory) }
+    ensures refused { IfErr result (EndRefused local.old kids) }
     ensures outlet { O.outlet order.new ≡ O.outlet order.old }
     ensures sink { O.sink order.new ≡ O.sink order.old }
     ensures cause { IfErr result MayCome }

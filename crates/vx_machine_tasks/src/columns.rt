@@ -109,7 +109,7 @@ fn add_put(todo: &mut VecDeque<Due>, ids: &mut Vec<SequenceId>, chunk: Chunk)
 }
 
 /// A column each is to be put next on the queue of its child.
-fn add_puts(todo: &mut VecDeque<Due>, mut ids: Vec<SequenceId>, mut columns: Vec<Chunk>)
+pub(crate) fn add_puts(todo: &mut VecDeque<Due>, mut ids: Vec<SequenceId>, mut columns: Vec<Chunk>)
     requires same { vec_len ids ≡ vec_len columns }
     requires room { deque_len todo.old + vec_len columns ≤ deque_capacity todo.old }
     ensures stock { dues_stock todo.new.items ≡ both (all_ids ids) (dues_stock todo.old.items) }

@@ -2,13 +2,13 @@
 
 ghost use Rattle.std.specs.Prelude.{◌≡◌, IsTrue};
 ghost use Rattle.std.specs.Arc.{arc_value};
-ghost use Rattle.vx_model.specs.Ty.{is_struct};
+ghost use Rattle.vx_model.specs.Ty.{is_struct, is_list};
 ghost use Rattle.vx_model.specs.TyView.{ty};
 ghost use Rattle.vx_machine_view.specs.Built.{is_built};
 
 use std::sync::Arc;
 use vx_model::DType;
-use vx_split::ColumnSplit;
+use vx_split::{ColumnSplit, ListSplit};
 use vx_strategy::{ChildStrategy, FlatLayoutStrategy};
 
 /// A node that stores its one chunk as one segment.
@@ -35,4 +35,13 @@ pub struct ColumnsNode {
     pub split: ColumnSplit,
     ghost same: { split ≡ ty (arc_value dtype) },
     ghost structs: { IsTrue (is_struct (ty (arc_value dtype))) },
+}
+
+/// A node that splits lists into columns.
+#[derive(Drop)]
+pub(crate) struct ListsNode {
+    pub dtype: Arc<DType>,
+    pub split: ListSplit,
+    ghost same: { split.typed ≡ ty (arc_value dtype) },
+    ghost lists: { IsTrue (is_list (ty (arc_value dtype))) },
 }

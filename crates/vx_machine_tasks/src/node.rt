@@ -6,7 +6,7 @@ ghost use Rattle.vx_machine_ids.specs.Balance.{Owned, Moved};
 ghost use Rattle.vx_machine_tasks.specs.Stocks.{local_stock};
 
 use crate::item::{Stored, give_up_stored};
-use crate::kinds::{ChunkedNode, ColumnsNode, FlatNode};
+use crate::kinds::{ChunkedNode, ColumnsNode, FlatNode, ListsNode};
 use std::sync::Arc;
 use vx_layout_tree::Layout;
 use vx_machine_ids::give_up_pointer;
@@ -23,6 +23,8 @@ pub enum Local {
     Chunked(ChunkedNode, SequencePointer, u64),
     /// With the rows so far.
     Columns(ColumnsNode, u64),
+    /// With the rows so far.
+    Lists(ListsNode, u64),
     /// It has seen the end of its stream.
     Over,
     /// It has done all.
@@ -33,8 +35,8 @@ pub enum Local {
 #[derive(Drop)]
 pub enum Shape {
     Chunks(Arc<DType>),
-    /// With the rows.
-    Columns(ColumnsNode, u64),
+    /// Of a struct's or a list's columns, with the rows.
+    Columns(Arc<DType>, u64),
 }
 
 pub(crate) fn give_up_local<O: Order>(order: &mut O, local: Local)
@@ -51,6 +53,7 @@ pub(crate) fn give_up_local<O: Order>(order: &mut O, local: Local)
             give_up_pointer(order, eof);
         }
         Local::Columns(node, _) => drop(node),
+        Local::Lists(node, _) => drop(node),
         Local::Over => {}
         Local::Made(layout) => drop(layout),
     }

@@ -1,7 +1,8 @@
 //! Which tasks are ready.
 
-ghost use Rattle.std.specs.Prelude.{◌≡◌};
+ghost use Rattle.std.specs.Prelude.{◌≡◌, if◌then◌else◌};
 ghost use Rattle.std.specs.FinMap as fin;
+ghost use Rattle.vx_model.specs.TyView.{ty};
 ghost use Rattle.vx_machine_ids.specs.Stock.{one as one_if};
 ghost use Rattle.vx_machine_ids.specs.Balance.{Owned};
 ghost use Rattle.vx_machine_view.specs.State.{no_tasks};
@@ -12,10 +13,10 @@ ghost use Rattle.vx_machine_tasks.specs.View.{todo_of, desk_of, task_row, row};
 ghost use Rattle.vx_machine_tasks.specs.Ready.{is_made as has_layout, is_done as is_done_task, is_over as takes_no_more, kids_of, all_made as have_layouts, room_at, can_join as joins, columns_fit as are_columns, may_due as may_do, may_take as may_begin, may_now, ready_in, ready_among, counted};
 
 use crate::item::Due;
-use crate::kinds::ColumnsNode;
 use crate::node::{Local, Shape};
 use crate::task::{Head, Task};
 use vx_layout_tree::struct_children;
+use vx_model::DType;
 use vx_order::Order;
 
 pub(crate) fn is_made(local: &Local) -> bool
@@ -24,7 +25,7 @@ pub(crate) fn is_made(local: &Local) -> bool
     match local {
         Local::Made(_) => true,
         Local::Empty(_) | Local::Full(_) | Local::Chunked(..) => false,
-        Local::Columns(..) | Local::Over => false,
+        Local::Columns(..) | Local::Lists(..) | Local::Over => false,
     }
 }
 
@@ -34,7 +35,7 @@ fn is_over(local: &Local) -> bool
     match local {
         Local::Made(_) | Local::Over => true,
         Local::Empty(_) | Local::Full(_) | Local::Chunked(..) => false,
-        Local::Columns(..) => false,
+        Local::Columns(..) | Local::Lists(..) => false,
     }
 }
 
@@ -63,10 +64,20 @@ fn all_made(kids: &[Task]) -> bool
 }
 
 /// Whether the type has so many columns.
-pub(crate) fn columns_fit(node: &ColumnsNode, kids: usize) -> bool
-    ensures { result ≡ are_columns node.now kids }
+pub(crate) fn columns_fit(dtype: &DType, kids: usize) -> bool
+    ensures { result ≡ are_columns (ty dtype.now) kids }
 {
-    kids as u64 == struct_children(&node.dtype)
+    if dtype.is_list() {
+        return kids == list_columns(dtype.is_nullable());
+    }
+    kids as u64 == struct_children(dtype)
+}
+
+/// Elements and offsets, and the validity.
+fn list_columns(nullable: bool) -> usize
+    ensures { result ≡ (if nullable then 3 else 2) }
+{
+    if nullable { 3 } else { 2 }
 }
 
 fn can_join(shape: &Shape, kids: usize) -> bool
@@ -74,7 +85,7 @@ fn can_join(shape: &Shape, kids: usize) -> bool
 {
     match shape {
         Shape::Chunks(_) => true,
-        Shape::Columns(node, _) => columns_fit(node, kids),
+        Shape::Columns(dtype, _) => columns_fit(dtype, kids),
     }
 }
 

@@ -1,12 +1,15 @@
 //! How tasks start.
 
-ghost use Rattle.std.specs.Prelude.{◌≡◌, ◌+◌, ◌<◌, ◌≤◌, ◌^◌, false, [], None, IsTrue, vec_len, vec_capacity, IfOk, IfErr, OnOk};
+ghost use Rattle.std.specs.Prelude.{◌≡◌, ◌+◌, ◌<◌, ◌≤◌, ◌^◌, false, [], None, IsTrue, IsFalse, vec_len, vec_capacity, IfOk, IfErr, OnOk};
 ghost use Rattle.std.specs.Arc.{arc_value};
 ghost use Rattle.vx_path.specs.Path.{under, inside, next};
 ghost use Rattle.vx_model.specs.TyView.{ty, field_ty};
-ghost use Rattle.vx_chunk_cells.specs.Parts.{struct_fields};
+ghost use Rattle.vx_chunk_cells.specs.Parts.{element_type, struct_fields};
+ghost use Rattle.vx_split.specs.ListState.{state_at};
 ghost use Rattle.vx_strategy_spec.specs.Walk.{duplicate};
-ghost use Rattle.vx_strategy.specs.NodeViews.{chunked_way, struct_way};
+ghost use Rattle.vx_model.specs.Ty.{is_list};
+ghost use Rattle.vx_table_dispatch.specs.Settled.{passes_on as has_next};
+ghost use Rattle.vx_strategy.specs.NodeViews.{chunked_way, struct_way, list_way};
 ghost use Rattle.vx_strategy.specs.StrategyView.{strategy_data};
 ghost use Rattle.vx_machine_ids.specs.Stock.{none, both, end_stock, ok_stock};
 ghost use Rattle.vx_machine_ids.specs.Balance.{Owned, Moved};
@@ -14,11 +17,11 @@ ghost use Rattle.vx_machine_view.specs.State.{Tasks, task_then};
 ghost use Rattle.vx_machine_view.specs.Start.{waiting};
 ghost use Rattle.vx_machine_view.specs.Built.{is_built};
 ghost use Rattle.vx_machine_tasks.specs.Causes.{StartMay};
-ghost use Rattle.vx_machine_tasks.specs.Starting.{validity_forms, field_form, columns_form, Started, ManyStarted, OneStarted, AllStarted, FormRefused, ManyRefused, OneRefused, PointerRefused, NodeRefused};
+ghost use Rattle.vx_machine_tasks.specs.Starting.{list_forms, lists_form, validity_forms, field_form, columns_form, Started, ManyStarted, OneStarted, AllStarted, FormRefused, ManyRefused, OneRefused, PointerRefused, NodeRefused};
 ghost use Rattle.vx_machine_tasks.specs.Stocks.{local_stock, task_stock, tasks_stock};
 ghost use Rattle.vx_machine_tasks.specs.View.{form_at, form_of, mind_of, task_row, row};
 
-use crate::kinds::{ChunkedNode, ColumnsNode, FlatNode};
+use crate::kinds::{ChunkedNode, ColumnsNode, FlatNode, ListsNode};
 use crate::node::Local;
 use crate::task::{Head, Task, refuse_all};
 use std::alloc::{AllocError, Global};
@@ -26,12 +29,15 @@ use std::collections::VecDeque;
 use std::sync::Arc;
 use vx_layout_tree::fields_in;
 use vx_machine_ids::{give_up_pointer, take_below};
-use vx_model::{DType, Nullability, StructField};
+use vx_model::{DType, Nullability, PType, StructField};
 use vx_order::Order;
 use vx_path::owned::Path;
 use vx_sequence::SequencePointer;
-use vx_split::ColumnSplit;
-use vx_strategy::{ChildStrategy, ChunkedLayoutStrategy, Strategy, StructStrategy};
+use vx_split::{ColumnSplit, ListSplit};
+use vx_strategy::{
+    ChildStrategy, ChunkedLayoutStrategy, ListLayoutStrategy, Strategy, StructStrategy,
+};
+use vx_table_dispatch::{passes_on, settled};
 use vx_write_answer::WriteError;
 
 /// A task that waits for its first chunk, with the children that are started with it.
@@ -110,7 +116,8 @@ pub(crate) fn next_name(
 
 /// The task of a strategy that is built, at a type. Refused, it gives up the pointer and all that was made of it.
 ///
-/// It refuses a struct node of another type, and repeated names of fields, of all nodes that start with it.
+/// It refuses a struct node of another type, and repeated names of fields, of all nodes that start with it. A table, and a
+/// list node of another type, give way to what stands for them.
 #[cycle(start)]
 pub fn start_task<O: Order>(
     alloc: Global,
@@ -123,6 +130,44 @@ pub fn start_task<O: Order>(
 ) -> Result<Task, WriteError>
     requires owned { Owned (O.active order.old) (end_stock eof) }
     requires built { IsTrue (is_built (strategy_data strategy.now)) }
+    ensures moved { Moved (O.active order.old) (O.active order.new) (end_stock eof) (ok_stock task_stock result) }
+    ensures outlet { O.outlet order.new ≡ O.outlet order.old }
+    ensures sink { O.sink order.new ≡ O.sink order.old }
+    ensures cause { IfErr result StartMay }
+    ensures shows { IfOk result (Started (form_of strategy.now (arc_value dtype)) marked name eof) }
+    ensures refused { IfErr result (FormRefused (form_of strategy.now (arc_value dtype)) marked eof) }
+{
+    if !passes_on(strategy, &dtype) {
+        return start_settled(alloc, order, strategy, dtype, marked, name, eof);
+    }
+    match settled(strategy, &dtype) {
+        Ok(strategy) => {
+            let task = start_settled(alloc, order, &strategy, dtype, marked, name, eof);
+            drop(strategy);
+            task
+        }
+        Err(_) => {
+            drop((dtype, name));
+            give_up_pointer(order, eof);
+            Err(WriteError::OutOfMemory)
+        }
+    }
+}
+
+/// As `start_task`, of a strategy for which no other stands.
+#[cycle(start)]
+fn start_settled<O: Order>(
+    alloc: Global,
+    order: &mut O,
+    strategy: &Strategy,
+    dtype: Arc<DType>,
+    marked: bool,
+    name: Path,
+    eof: SequencePointer,
+) -> Result<Task, WriteError>
+    requires owned { Owned (O.active order.old) (end_stock eof) }
+    requires built { IsTrue (is_built (strategy_data strategy.now)) }
+    requires settled { IsFalse (has_next (strategy_data strategy.now) (ty (arc_value dtype))) }
     ensures moved { Moved (O.active order.old) (O.active order.new) (end_stock eof) (ok_stock task_stock result) }
     ensures outlet { O.outlet order.new ≡ O.outlet order.old }
     ensures sink { O.sink order.new ≡ O.sink order.old }
@@ -149,7 +194,8 @@ pub fn start_task<O: Order>(
                 Err(error)
             }
         },
-        Strategy::List(_) | Strategy::Dict(_) | Strategy::Zoned(_) => unreachable!(),
+        Strategy::List(lists) => start_lists(alloc, order, lists, dtype, marked, name, eof),
+        Strategy::Dict(_) | Strategy::Zoned(_) => unreachable!(),
         Strategy::Repartition(_) | Strategy::Buffered(_) | Strategy::Collect(_) => unreachable!(),
         Strategy::Compressing(_) | Strategy::Table(_) => unreachable!(),
     }
@@ -250,7 +296,8 @@ fn start_each<O: Order>(
     ensures refused { IfErr result (FormRefused (columns_form fields.now (ty dtype.now)) marked eof.old) }
 {
     let nullable = dtype.is_nullable();
-    start_validity(alloc, order, fields, nullable, marked, name, eof, kids)?;
+    let validity = fields.validity();
+    start_validity(alloc, order, validity, nullable, marked, name, eof, kids)?;
     let below = marked || nullable;
     let columns = fields_in(dtype);
     'fields: for field in columns {
@@ -259,12 +306,139 @@ fn start_each<O: Order>(
     Ok(())
 }
 
+/// A list's task with its columns, whose pointers are split off; the rest of the pointer is given up.
+#[cycle(start)]
+fn start_lists<O: Order>(
+    alloc: Global,
+    order: &mut O,
+    lists: &ListLayoutStrategy,
+    dtype: Arc<DType>,
+    marked: bool,
+    name: Path,
+    mut eof: SequencePointer,
+) -> Result<Task, WriteError>
+    requires owned { Owned (O.active order.old) (end_stock eof) }
+    requires built { IsTrue (is_built (list_way lists.now)) }
+    requires list { IsTrue (is_list (ty (arc_value dtype))) }
+    ensures moved { Moved (O.active order.old) (O.active order.new) (end_stock eof) (ok_stock task_stock result) }
+    ensures outlet { O.outlet order.new ≡ O.outlet order.old }
+    ensures sink { O.sink order.new ≡ O.sink order.old }
+    ensures cause { IfErr result StartMay }
+    ensures shows { IfOk result (Started (lists_form lists.now (ty (arc_value dtype))) marked name eof) }
+    ensures refused { IfErr result (FormRefused (lists_form lists.now (ty (arc_value dtype))) marked eof) }
+{
+    let mut kids = Vec::new(alloc);
+    let started = start_parts(
+        alloc, order, lists, &dtype, marked, &name, &mut eof, &mut kids,
+    );
+    give_up_pointer(order, eof);
+    let node = match started {
+        Ok(()) => lists_node(dtype),
+        Err(error) => {
+            drop(dtype);
+            Err(error)
+        }
+    };
+    match node {
+        Ok(node) => Ok(waiting(alloc, name, Local::Lists(node, 0), kids)),
+        Err(error) => {
+            drop(name);
+            refuse_all(kids, order);
+            Err(error)
+        }
+    }
+}
+
+fn lists_node(dtype: Arc<DType>) -> Result<ListsNode, WriteError>
+    requires { IsTrue (is_list (ty (arc_value dtype))) }
+    ensures node { IfOk result (λ n. (n.dtype ≡ dtype) × (n.split ≡ state_at (ty (arc_value dtype)) true 0)) }
+    ensures memory { IfErr result (λ e. e ≡ WriteError.OutOfMemory) }
+{
+    let Ok(copy) = DType::clone(&dtype) else {
+        drop(dtype);
+        return Err(WriteError::OutOfMemory);
+    };
+    Ok(ListsNode {
+        dtype,
+        split: ListSplit::new(copy),
+    })
+}
+
+/// Starts elements, offsets, and the validity where the type is nullable. After an error what was started is in the list.
+#[cycle(start)]
+fn start_parts<O: Order>(
+    alloc: Global,
+    order: &mut O,
+    lists: &ListLayoutStrategy,
+    dtype: &DType,
+    marked: bool,
+    name: &Path,
+    eof: &mut SequencePointer,
+    kids: &mut Vec<Task>,
+) -> Result<(), WriteError>
+    requires owned { Owned (O.active order.old) (both (end_stock eof.old) (tasks_stock kids.old.items)) }
+    requires built { IsTrue (is_built (list_way lists.now)) }
+    requires list { IsTrue (is_list (ty dtype.now)) }
+    ensures moved { Moved (O.active order.old) (O.active order.new) (both (end_stock eof.old) (tasks_stock kids.old.items)) (both (end_stock eof.new) (tasks_stock kids.new.items)) }
+    ensures outlet { O.outlet order.new ≡ O.outlet order.old }
+    ensures sink { O.sink order.new ≡ O.sink order.old }
+    ensures cause { IfErr result StartMay }
+    ensures shows { OnOk result (ManyStarted (list_forms lists.now (ty dtype.now)) marked name.now eof.old kids.old.items eof.new kids.new.items) }
+    ensures refused { IfErr result (ManyRefused (list_forms lists.now (ty dtype.now)) marked eof.old) }
+{
+    let elements = Arc::new(alloc, element_copy(dtype)?)?;
+    start_column(
+        alloc,
+        order,
+        &lists.elements,
+        elements,
+        marked,
+        name,
+        eof,
+        kids,
+    )?;
+    let offsets = DType::Primitive(PType::U64, Nullability::NonNullable);
+    let offsets = Arc::new(alloc, offsets)?;
+    start_column(
+        alloc,
+        order,
+        &lists.offsets,
+        offsets,
+        marked,
+        name,
+        eof,
+        kids,
+    )?;
+    let nullable = dtype.is_nullable();
+    start_validity(
+        alloc,
+        order,
+        &lists.validity,
+        nullable,
+        marked,
+        name,
+        eof,
+        kids,
+    )
+}
+
+/// The type of a list's elements.
+fn element_copy(dtype: &DType) -> Result<DType, AllocError>
+    requires { IsTrue (is_list (ty dtype.now)) }
+    ensures { IfOk result (λ t. ty t ≡ element_type (ty dtype.now)) }
+{
+    match dtype {
+        DType::List(elements, _) => DType::clone(elements),
+        _ => unreachable!(),
+    }
+}
+
 /// Starts the validity, where there is one.
 #[cycle(start)]
 fn start_validity<O: Order>(
     alloc: Global,
     order: &mut O,
-    fields: &StructStrategy,
+    validity: &ChildStrategy,
     nullable: bool,
     marked: bool,
     name: &Path,
@@ -272,28 +446,19 @@ fn start_validity<O: Order>(
     kids: &mut Vec<Task>,
 ) -> Result<(), WriteError>
     requires owned { Owned (O.active order.old) (both (end_stock eof.old) (tasks_stock kids.old.items)) }
-    requires built { IsTrue (is_built (struct_way fields.now)) }
+    requires built { IsTrue (is_built validity.now.item) }
     ensures moved { Moved (O.active order.old) (O.active order.new) (both (end_stock eof.old) (tasks_stock kids.old.items)) (both (end_stock eof.new) (tasks_stock kids.new.items)) }
     ensures outlet { O.outlet order.new ≡ O.outlet order.old }
     ensures sink { O.sink order.new ≡ O.sink order.old }
     ensures cause { IfErr result StartMay }
-    ensures shows { OnOk result (ManyStarted (validity_forms fields.now nullable) marked name.now eof.old kids.old.items eof.new kids.new.items) }
-    ensures refused { IfErr result (ManyRefused (validity_forms fields.now nullable) marked eof.old) }
+    ensures shows { OnOk result (ManyStarted (validity_forms validity.now.item nullable) marked name.now eof.old kids.old.items eof.new kids.new.items) }
+    ensures refused { IfErr result (ManyRefused (validity_forms validity.now.item nullable) marked eof.old) }
 {
     if !nullable {
         return Ok(());
     }
     let flags = Arc::new(alloc, DType::Bool(Nullability::NonNullable))?;
-    start_column(
-        alloc,
-        order,
-        fields.validity(),
-        flags,
-        marked,
-        name,
-        eof,
-        kids,
-    )
+    start_column(alloc, order, validity, flags, marked, name, eof, kids)
 }
 
 /// Starts a field's column, by the writer of its name.

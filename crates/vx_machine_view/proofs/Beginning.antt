@@ -1,21 +1,22 @@
 -- A form's task shows the abstract one at its start, with all that is started with it.
 use Rattle.std.proofs.Common.{◌≡◌, ◌+◌, ◌||◌, ◌∷◌, ◌++◌, ◌∙◌, ℕ, suc, Bool, true, false, List, length, refl, sym, ap, subst, inl, arith, append_assoc, append-nil, get_or, Some, None, []}
-use Rattle.vx_model.specs.Ty.{Ty, Tys, boolean, struct, no_fields, field}
+use Rattle.vx_model.specs.Ty.{Ty, Tys, boolean, list, struct, no_fields, field}
 use Rattle.vx_path.specs.Path.{Eof, under, inside, next}
+use Rattle.vx_rules.specs.Columns.{offset_type}
 use Rattle.vx_plan.specs.PlanData.{Setting, Item, not_struct, duplicate_field, rows_in}
 use Rattle.vx_machine_turns.specs.Forms.{Form, Forms, flat_form, chunked_form, grouped_form, compressed_form, dict_form, zoned_form, no_struct_form, struct_form, list_form, no_forms, form_then, form_type, Writer}
-use Rattle.vx_machine_turns.specs.Locals.{struct_local}
-use Rattle.vx_machine_turns.specs.Acts.{Seed}
+use Rattle.vx_machine_turns.specs.Locals.{struct_local, list_local}
+use Rattle.vx_machine_turns.specs.Acts.{Seed, or_else}
 use Rattle.vx_machine_turns.specs.Columns.{column_seeds}
 use Rattle.vx_machine_turns.specs.Starts.{start_fault, start_faults, marked_forms, local_of, seed_of}
 use Rattle.vx_machine_turns.specs.Turns.{firsts, start_indices}
 use Rattle.vx_machine_turns.specs.Fuels.{Fuel, spent, fuel, Enough, AllEnough}
 use Rattle.vx_machine_steps.specs.Tree.{Tree, Leaf, Work, fresh, quiet, sprout, opened}
-use Rattle.vx_machine_view.specs.State.{by_column, Tasks, no_tasks}
+use Rattle.vx_machine_view.specs.State.{by_column, by_list, Tasks, no_tasks, task_then}
 use Rattle.vx_machine_view.specs.Start.{first_mind, first_kids, field_tasks, waiting, form_count, first_indices, field_indices, started_task}
-use Rattle.vx_machine_view.specs.Built.{Built, AllBuilt, field_types, column_types}
+use Rattle.vx_machine_view.specs.Built.{Built, AllBuilt, field_types, column_types, list_types}
 use Rattle.vx_machine_view.specs.Typed.{AllTyped}
-use Rattle.vx_machine_view.specs.Shows.{Alike, Stage, waits_first, splits, hands, Shows, types_of, task_rows}
+use Rattle.vx_machine_view.specs.Shows.{Alike, Stage, waits_first, splits, hands, hands_lists, Shows, types_of, task_rows}
 use Rattle.vx_machine_view.proofs.Words.{none_some, or_none}
 use Rattle.vx_machine_view.proofs.Feeding.{sprout_none, opened_none}
 
@@ -32,19 +33,56 @@ module _ (s : Setting) (number : List ℕ → ℕ) where
       Shows s number (fuel g) q c (field_tasks ks m name c e) (sprout (fuel g) quiet c (column_seeds name c (marked_forms m ks) e))
       × (types_of (sprout (fuel g) quiet c (column_seeds name c (marked_forms m ks) e)) ≡ field_types fs) × (length (marked_forms m ks) ≡ length (field_types fs))
 
-  columns_stage : (fs : Tys) (n : Bool) (ws : List Writer) (name : List ℕ) (e : Eof) (q : Seed) (d : Fuel) (hs : Tree) (ks : Tasks) → q.type ≡ struct fs n → types_of hs ≡ column_types fs n
-      → length ws ≡ length (column_types fs n)
-      → Stage s d (by_column (struct fs n) 0) [] ks q [] [] (struct_local (record { name = name; fields = fs; nullable = n; writers = ws; eof = e }) 0) false hs
-  columns_stage fs n ws name e q d hs ks t k l = hands (record { name = name; fields = fs; nullable = n; writers = ws; eof = e }) 0 (length (column_types fs n)) [] [] [] (record {
+  -- columns from number c on, of these types
+  abbrev Row : Tasks → List Seed → ℕ → (Ty → Fuel) → Seed → List Ty → Type 0
+  Row ks qs c g q ts = Shows s number (fuel g) q c ks (sprout (fuel g) quiet c qs) × (types_of (sprout (fuel g) quiet c qs) ≡ ts)
+
+  abbrev column : Form → Bool → List ℕ → ℕ → Eof → Tasks → Tasks
+  column f m name c e ks = task_then (waiting (under name c) (first_mind f m (inside e)) [] false) (first_kids f m (under name c) (inside e)) ks
+
+  abbrev Begun : Form → Bool → List ℕ → Eof → Fuel → Type 0
+  Begun f m name e d =
+      Stage s d (first_mind f m e) [] (first_kids f m name e) (seed_of f m name e) [] [] (local_of f m name e) false (sprout d quiet 0 (firsts (seed_of f m name e)))
+      × Shows s number d (seed_of f m name e) 0 (first_kids f m name e) (sprout d quiet 0 (firsts (seed_of f m name e)))
+
+  row_then : (f : Form) (m : Bool) (name : List ℕ) (c : ℕ) (e : Eof) (g : Ty → Fuel) (q : Seed) (t : Ty) (ks : Tasks) (qs : List Seed) (ts : List Ty) → q.spare ≡ [] → form_type f ≡ t
+      → Begun f m (under name c) (inside e) (g (form_type f)) → Row ks qs (suc c) g q ts
+      → Row (column f m name c e ks) (seed_of f m (under name c) (inside e) ∷ qs) c g q (t ∷ ts)
+  row_then f m name c e g q t ks qs ts sp ft w k = (
+    (alike q c f m (under name c) (inside e) [] false sp tt, inl w, k.0),
+    ap (λ z. z ∷ types_of (sprout (fuel g) quiet (suc c) qs)) ft ∙ ap (λ z. t ∷ z) k.1,
+  )
+
+  lists_stage : (t : Ty) (n : Bool) (ws : List Writer) (name : List ℕ) (e : Eof) (q : Seed) (d : Fuel) (hs : Tree) (ks : Tasks) → q.type ≡ list t n → types_of hs ≡ list_types t n
+      → length ws ≡ length (list_types t n)
+      → Stage s d (by_list t n true 0 0) [] ks q [] [] (list_local (record { name = name; elements = t; nullable = n; writers = ws; eof = e }) true 0 0) false hs
+  lists_stage t n ws name e q d hs ks ty k l = hands_lists (record { name = name; elements = t; nullable = n; writers = ws; eof = e }) true 0 0 (length (list_types t n)) [] [] [] ty l (record {
     mind_is = refl;
     local_is = refl;
     left_is = refl;
     rest = refl;
     on = refl;
     unshaped = refl;
-    type_is = t;
     kids = k;
-    as_many = l;
+    before = list_types t n;
+    behind = [];
+    split = sym (append-nil (list_types t n));
+    place = refl;
+    typed = tt;
+    same = refl;
+  })
+
+  columns_stage : (fs : Tys) (n : Bool) (ws : List Writer) (name : List ℕ) (e : Eof) (q : Seed) (d : Fuel) (hs : Tree) (ks : Tasks) → q.type ≡ struct fs n → types_of hs ≡ column_types fs n
+      → length ws ≡ length (column_types fs n)
+      → Stage s d (by_column (struct fs n) 0) [] ks q [] [] (struct_local (record { name = name; fields = fs; nullable = n; writers = ws; eof = e }) 0) false hs
+  columns_stage fs n ws name e q d hs ks t k l = hands (record { name = name; fields = fs; nullable = n; writers = ws; eof = e }) 0 (length (column_types fs n)) [] [] [] t l (record {
+    mind_is = refl;
+    local_is = refl;
+    left_is = refl;
+    rest = refl;
+    on = refl;
+    unshaped = refl;
+    kids = k;
     before = column_types fs n;
     behind = [];
     split = sym (append-nil (column_types fs n));
@@ -87,7 +125,30 @@ module _ (s : Setting) (number : List ℕ → ℕ) where
     begun (compressed_form which room t k) m name e d b f n = absurd b
     begun (dict_form o t c v w) m name e d b f n = absurd b
     begun (zoned_form o t k stats) m name e d b f n = absurd b
-    begun (list_form t n es os v) m name e d b f h = absurd b
+    begun (list_form t n es os v) m name e spent b f h = absurd h
+    begun (list_form t true es os v) m name e (fuel g) b f h =
+        let q : Seed = seed_of (list_form t true es os v) m name e in
+        let x : (start_fault s es m ≡ None) × (or_else (start_fault s os m) (start_fault s v m) ≡ None) = or_none (start_fault s es m) (or_else (start_fault s os m) (start_fault s v m)) f in
+        let y : (start_fault s os m ≡ None) × (start_fault s v m ≡ None) = or_none (start_fault s os m) (start_fault s v m) x.1 in
+        let k : Row (first_kids (list_form t true es os v) m name e) (firsts q) 0 g q (list_types t true) =
+        row_then es m name 0 e g q t (column os m name 1 (next e) (column v m name 2 (next (next e)) no_tasks)) (column_seeds name 1 ((m, os) ∷ (m, v) ∷ []) (next e)) (offset_type ∷ boolean false ∷ []) refl b.0
+        (begun es m (under name 0) (inside e) (g (form_type es)) b.1 x.0 h.0)
+        (row_then os m name 1 (next e) g q offset_type (column v m name 2 (next (next e)) no_tasks) (column_seeds name 2 ((m, v) ∷ []) (next (next e))) (boolean false ∷ []) refl b.2 (begun os m (under name 1) (inside (next e)) (g (form_type os)) b.3 y.0 h.1)
+        (row_then v m name 2 (next (next e)) g q (boolean false) no_tasks [] [] refl b.4 (begun v m (under name 2) (inside (next (next e))) (g (form_type v)) b.5 y.1 h.2) (tt, refl))) in (
+          lists_stage t true ((m, es) ∷ (m, os) ∷ (m, v) ∷ []) name e q (fuel g) (sprout (fuel g) quiet 0 (firsts q)) (first_kids (list_form t true es os v) m name e) refl k.1 refl,
+          k.0,
+        )
+    begun (list_form t false es os v) m name e (fuel g) b f h =
+        let q : Seed = seed_of (list_form t false es os v) m name e in
+        let x : (start_fault s es m ≡ None) × (or_else (start_fault s os m) None ≡ None) = or_none (start_fault s es m) (or_else (start_fault s os m) None) f in
+        let y : (start_fault s os m ≡ None) × (None ≡ None) = or_none (start_fault s os m) None x.1 in
+        let k : Row (first_kids (list_form t false es os v) m name e) (firsts q) 0 g q (list_types t false) =
+        row_then es m name 0 e g q t (column os m name 1 (next e) no_tasks) (column_seeds name 1 ((m, os) ∷ []) (next e)) (offset_type ∷ []) refl b.0
+        (begun es m (under name 0) (inside e) (g (form_type es)) b.1 x.0 h.0)
+        (row_then os m name 1 (next e) g q offset_type no_tasks [] [] refl b.2 (begun os m (under name 1) (inside (next e)) (g (form_type os)) b.3 y.0 h.1) (tt, refl)) in (
+          lists_stage t false ((m, es) ∷ (m, os) ∷ []) name e q (fuel g) (sprout (fuel g) quiet 0 (firsts q)) (first_kids (list_form t false es os v) m name e) refl k.1 refl,
+          k.0,
+        )
 
     fields_begun : (ks : Forms) (fs : Tys) (m : Bool) (name : List ℕ) (c : ℕ) (e : Eof) (g : Ty → Fuel) (q : Seed) → q.spare ≡ [] → AllBuilt fs ks → start_faults s ks m ≡ None → AllEnough g ks
         → Columns ks fs m name c e g q
@@ -120,13 +181,21 @@ first_rows (grouped_form g t k) m name e i b = absurd b
 first_rows (compressed_form which room t k) m name e i b = absurd b
 first_rows (dict_form o t c v w) m name e i b = absurd b
 first_rows (zoned_form o t k stats) m name e i b = absurd b
-first_rows (list_form t n es os v) m name e i b = absurd b
+first_rows (list_form t n es os v) m name e i b = let h : 0 + (rows_in i.1 + 0) ≡ rows_in i.1 = omega arith in h
 
 -- ---- how far pointers come
 
 column_length : (ks : Forms) (m : Bool) → length (marked_forms m ks) ≡ form_count ks
 column_length no_forms m = refl
 column_length (form_then k ks) m = ap suc (column_length ks m)
+
+-- one more column
+one_opened : (f : Form) (m : Bool) (name : List ℕ) (c : ℕ) (e : Eof) (g : Ty → Fuel) (qs : List Seed) (xs ys : List ℕ)
+    → start_indices (local_of f m (under name c) (inside e)) ++ opened (g (form_type f)) (firsts (seed_of f m (under name c) (inside e))) ≡ xs → opened (fuel g) qs ≡ ys
+    → opened (fuel g) (seed_of f m (under name c) (inside e) ∷ qs) ≡ xs ++ ys
+one_opened f m name c e g qs xs ys h k =
+    sym (append_assoc (start_indices (local_of f m (under name c) (inside e))) (opened (g (form_type f)) (firsts (seed_of f m (under name c) (inside e)))) (opened (fuel g) qs))
+    ∙ ap (λ z. z ++ opened (fuel g) qs) h ∙ ap (λ z. xs ++ z) k
 
 mutual
   pub opened_is : (f : Form) (m : Bool) (name : List ℕ) (e : Eof) (d : Fuel) → Built f → Enough d f
@@ -151,7 +220,19 @@ mutual
   opened_is (compressed_form which room t k) m name e d b n = absurd b
   opened_is (dict_form o t c v w) m name e d b n = absurd b
   opened_is (zoned_form o t k stats) m name e d b n = absurd b
-  opened_is (list_form t n es os v) m name e d b h = absurd b
+  opened_is (list_form t n es os v) m name e spent b h = absurd h
+  opened_is (list_form t true es os v) m name e (fuel g) b h =
+      ap (λ y. (e.last + 3) ∷ y) (one_opened es m name 0 e g (column_seeds name 1 ((m, os) ∷ (m, v) ∷ []) (next e)) (first_indices es (inside e)) (first_indices os (inside (next e)) ++ first_indices v (inside (next (next e))))
+      (opened_is es m (under name 0) (inside e) (g (form_type es)) b.1 h.0)
+      (one_opened os m name 1 (next e) g (column_seeds name 2 ((m, v) ∷ []) (next (next e))) (first_indices os (inside (next e))) (first_indices v (inside (next (next e))))
+      (opened_is os m (under name 1) (inside (next e)) (g (form_type os)) b.3 h.1)
+      (one_opened v m name 2 (next (next e)) g [] (first_indices v (inside (next (next e)))) []
+      (opened_is v m (under name 2) (inside (next (next e))) (g (form_type v)) b.5 h.2) refl ∙ append-nil (first_indices v (inside (next (next e)))))))
+  opened_is (list_form t false es os v) m name e (fuel g) b h =
+      ap (λ y. (e.last + 2) ∷ y) (one_opened es m name 0 e g (column_seeds name 1 ((m, os) ∷ []) (next e)) (first_indices es (inside e)) (first_indices os (inside (next e)))
+      (opened_is es m (under name 0) (inside e) (g (form_type es)) b.1 h.0)
+      (one_opened os m name 1 (next e) g [] (first_indices os (inside (next e))) []
+      (opened_is os m (under name 1) (inside (next e)) (g (form_type os)) b.3 h.1) refl ∙ append-nil (first_indices os (inside (next e)))))
 
   fields_opened : (ks : Forms) (fs : Tys) (m : Bool) (name : List ℕ) (c : ℕ) (e : Eof) (g : Ty → Fuel) → AllBuilt fs ks → AllEnough g ks
       → opened (fuel g) (column_seeds name c (marked_forms m ks) e) ≡ field_indices ks e

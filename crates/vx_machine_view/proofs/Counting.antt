@@ -1,7 +1,7 @@
 -- The rows of layouts that are joined were counted before.
 use Rattle.std.proofs.Common.{◌≡◌, ◌||◌, ◌&&◌, ◌==◌, ◌⊎◌, ◌∷◌, ◌++◌, ◌∙◌, ℕ, suc, Bool, true, false, cond, List, map, refl, sym, ap, subst, inl, inr, []}
 use Rattle.vx_model.specs.Words.{total_by}
-use Rattle.vx_model.specs.Ty.{Ty}
+use Rattle.vx_model.specs.Ty.{Ty, list}
 use Rattle.vx_model.specs.ChunkData.{ChunkData}
 use Rattle.vx_layout_spec.specs.LayoutTree.{row_count}
 use Rattle.vx_path.specs.Lists.{In}
@@ -14,10 +14,10 @@ use Rattle.vx_machine_turns.specs.Source.{source_seed}
 use Rattle.vx_machine_turns.specs.Fuels.{Fuel, less}
 use Rattle.vx_machine_steps.specs.Tree.{Head, Tree, Leaf, Work, ahead, read}
 use Rattle.vx_machine_promises.specs.Write.{Write, Future, Answer, unasked, came, over, depth}
-use Rattle.vx_machine_view.specs.State.{Mind, no_chunk, one_chunk, by_chunk, by_column, ending, made, Desk, Tasks, no_tasks, task_then}
-use Rattle.vx_machine_view.specs.Acts.{count, layouts_in, column_count, take_chunk, end_columns, take_end, do_take, do_act, puts}
+use Rattle.vx_machine_view.specs.State.{Mind, no_chunk, one_chunk, by_chunk, by_column, by_list, ending, made, Desk, Tasks, no_tasks, task_then}
+use Rattle.vx_machine_view.specs.Acts.{count, layouts_in, column_count, take_chunk, end_columns, end_lists, take_end, do_take, do_act, puts}
 use Rattle.vx_machine_view.specs.Moves.{Step, all_made, may_act, own_step, in_kids, in_rest, steps}
-use Rattle.vx_machine_view.specs.Shows.{Counted, Stage, waits_first, waits_end, appends, splits, gathers_all, hands, shuts, joins_columns, Done, Shows}
+use Rattle.vx_machine_view.specs.Shows.{Counted, Stage, waits_first, waits_end, appends, splits, gathers_all, hands, hands_lists, shuts, joins_columns, Done, Shows}
 use Rattle.vx_machine_view.specs.Machine.{Phase, reading, giving, closing, finished, Machine, may_source, WholeStep, source_step, in_root, whole_steps}
 use Rattle.vx_machine_view.specs.Whole.{form_of, phase_acts, source_at, root_depth, ShowsMachine}
 use Rattle.vx_machine_view.proofs.Words.{and_left, numbers_in-append}
@@ -30,6 +30,7 @@ chunk_joins s c ks i xs (no_chunk o t) = refl
 chunk_joins s c ks i xs (one_chunk x) = refl
 chunk_joins s c ks i xs (by_chunk m t f e rows) = refl
 chunk_joins s c ks i xs (by_column t rows) = refl
+chunk_joins s c ks i xs (by_list t n first from rows) = refl
 chunk_joins s c ks i xs ending = refl
 chunk_joins s c ks i xs (made l) = refl
 
@@ -37,11 +38,16 @@ columns_join : (b : Bool) (t : Ty) (rows : ℕ) (c : Desk) (ks : Tasks) → (end
 columns_join true t rows c ks = refl
 columns_join false t rows c ks = refl
 
+lists_join : (b : Bool) (t : Ty) (rows : ℕ) (c : Desk) (ks : Tasks) → (end_lists b t rows c ks).joined ≡ []
+lists_join true t rows c ks = refl
+lists_join false t rows c ks = refl
+
 end_joins : (c : Desk) (ks : Tasks) (mind : Mind) → (take_end c ks mind).joined ≡ []
 end_joins c ks (no_chunk o t) = refl
 end_joins c ks (one_chunk x) = refl
 end_joins c ks (by_chunk m t f e rows) = refl
 end_joins c ks (by_column t rows) = columns_join ((count ks == 0) && (0 == column_count t)) t rows c ks
+end_joins c ks (by_list t n first from rows) = lists_join first (list t n) rows c ks
 end_joins c ks ending = refl
 end_joins c ks (made l) = refl
 
@@ -74,7 +80,9 @@ module _ (s : Setting) (number : List ℕ → ℕ) (next : ℕ) (all : List (Lis
       by : (n : ℕ) → In n (total_by row_count (layouts_in ks) ∷ []) → Counted past n
       by n (inl e) = subst (Counted past) (sym (e ∙ there.rows)) u
       by n (inr i) = absurd i
-  own_joins d c ks q past todo l off hs (hands n rows j p xs ws w) sh m = nothing past (do_act s next c ks c.todo).joined (ap (λ z. (do_act s next c ks z).joined) w.left_is ∙ puts_join c ks j p xs)
+  own_joins d c ks q past todo l off hs (hands n rows j p xs ws t v w) sh m = nothing past (do_act s next c ks c.todo).joined (ap (λ z. (do_act s next c ks z).joined) w.left_is ∙ puts_join c ks j p xs)
+  own_joins d c ks q past todo l off hs (hands_lists n first from rows j p xs ws t v w) sh m =
+      nothing past (do_act s next c ks c.todo).joined (ap (λ z. (do_act s next c ks z).joined) w.left_is ∙ puts_join c ks j p xs)
   own_joins d c ks q past todo l off hs (shuts t rows k w) sh m = nothing past (do_act s next c ks c.todo).joined (ap (λ z. (do_act s next c ks z).joined) w.left_is)
   own_joins d c ks q past todo l off hs (joins_columns t rows k w) sh m = nothing past (do_act s next c ks c.todo).joined (ap (λ z. (do_act s next c ks z).joined) w.left_is)
 

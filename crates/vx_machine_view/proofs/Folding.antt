@@ -3,26 +3,26 @@ use Rattle.std.proofs.Common.{◌≡◌, ◌+◌, ◌&&◌, ◌==◌, ◌∷◌,
 use Rattle.vx_model.specs.Words.{total_by}
 use Rattle.vx_model.specs.Ty.{Ty}
 use Rattle.vx_path.specs.Path.{is_least}
-use Rattle.vx_layout_spec.specs.LayoutTree.{LayoutData, row_count, renamed, flat_layout, gathered, struct_layout}
+use Rattle.vx_layout_spec.specs.LayoutTree.{LayoutData, row_count, renamed, flat_layout, gathered}
 use Rattle.vx_layout_spec.specs.Codec.{Lawful}
 use Rattle.vx_tasks.specs.Task.{Join}
 use Rattle.vx_tasks.specs.Nodes.{numbers}
 use Rattle.vx_plan.specs.PlanData.{Setting, Item}
 use Rattle.vx_plan.proofs.InOrderLaws.{renamed-gathered}
 use Rattle.vx_machine_turns.specs.Locals.{Local}
-use Rattle.vx_machine_turns.specs.Acts.{Seed, Act, alone, gathers, struct_of, does, close_queues, shape_in}
+use Rattle.vx_machine_turns.specs.Acts.{Seed, Act, alone, gathers, does, close_queues, shape_in}
 use Rattle.vx_machine_turns.specs.Readings.{shaped}
 use Rattle.vx_machine_turns.specs.Fuels.{Fuel, less}
 use Rattle.vx_machine_steps.specs.Tree.{Tree, Work, feed}
 use Rattle.vx_machine_steps.specs.Moves.{all_paths, all_over}
 use Rattle.vx_machine_steps.proofs.Plain.{has_number}
 use Rattle.vx_machine_view.specs.State.{Stored, fold_chunks, fold_columns, append, shut_kids, join_kids, Mind, ending, made, Tasks, no_tasks, task_then}
-use Rattle.vx_machine_view.specs.Acts.{count, shut_all, layouts_in, do_act, column_count}
+use Rattle.vx_machine_view.specs.Acts.{count, shut_all, layouts_in, do_act, column_count, columns_layout}
 use Rattle.vx_machine_view.specs.Moves.{all_made, own_step}
 use Rattle.vx_machine_view.specs.Typed.{AllTyped}
-use Rattle.vx_machine_view.specs.Shows.{joins_columns, Shows, append_of, laid, rows_of, shape_rows}
+use Rattle.vx_machine_view.specs.Shows.{joins_columns, Shows, columns_of, append_of, laid, rows_of, shape_rows}
 use Rattle.vx_machine_view.specs.Steps.{SameStep}
-use Rattle.vx_machine_view.proofs.Words.{shape_kept, renamed-struct}
+use Rattle.vx_machine_view.proofs.Words.{shape_kept, shaped_columns, renamed-columns, columns_rows, rows_of_columns}
 use Rattle.vx_machine_view.proofs.Feeding.{opened_none, Leaves, feed_none, count-shut, shut_shows}
 use Rattle.vx_machine_view.proofs.Acting.{desk, head, Own, then_open, then_done, then_steady, bare, one_pair}
 use Rattle.vx_machine_view.proofs.Joining.{made_is, AllLaid, laid_all}
@@ -115,11 +115,11 @@ module _ (s : Setting) (number : List ℕ → ℕ) (segment_number : ℕ) (all :
         );
       })
 
-  pub shut_own : (t : Ty) (rows : ℕ) (l : Local) → column_count t ≡ count ks → shape_in past ≡ Some (struct_of t rows) → (xs : List Item) (closed : Bool) → AllTyped q.type xs
+  pub shut_own : (t : Ty) (rows : ℕ) (l : Local) → column_count t ≡ count ks → shape_in past ≡ Some (columns_of t rows) → (xs : List Item) (closed : Bool) → AllTyped q.type xs
       → Own s number segment_number all d q0 j0 q places ks more hs r past ending (shut_kids ∷ join_kids (fold_columns t rows) ∷ []) (close_queues (numbers 0 (count ks)) ∷ does Join ∷ []) l true xs closed
   shut_own t rows l c sh xs closed ty =
       let a : Act = close_queues (numbers 0 (count ks)) in
-      let kept : shape_in (past ++ (a ∷ [])) ≡ Some (struct_of t rows) = shape_kept past a (struct_of t rows) sh in (
+      let kept : shape_in (past ++ (a ∷ [])) ≡ Some (columns_of t rows) = shape_kept past a (columns_of t rows) sh in (
         record {
           name = refl;
           kind = refl;
@@ -140,15 +140,15 @@ module _ (s : Setting) (number : List ℕ → ℕ) (segment_number : ℕ) (all :
         tt,
       )
 
-  pub join_own : (t : Ty) (rows : ℕ) (l : Local) → column_count t ≡ count ks → shape_in past ≡ Some (struct_of t rows) → (all_over hs ≡ true → all_paths hs ≡ []) → (xs : List Item) (closed : Bool)
+  pub join_own : (t : Ty) (rows : ℕ) (l : Local) → column_count t ≡ count ks → shape_in past ≡ Some (columns_of t rows) → (all_over hs ≡ true → all_paths hs ≡ []) → (xs : List Item) (closed : Bool)
       → AllTyped q.type xs → Own s number segment_number all d q0 j0 q places ks more hs r past ending (join_kids (fold_columns t rows) ∷ []) (does Join ∷ []) l true xs closed
   join_own t rows l c sh free xs closed ty =
       let a : Act = does Join in
-      let m : Mind = made (struct_layout t rows (layouts_in ks)) in
+      let m : Mind = made (columns_layout t rows (layouts_in ks)) in
       let none : Leaves a 0 = record { gives = λ i k. refl; shuts = λ i k. refl; starts = refl } in
       let same : feed (less d q.type) a 0 hs ≡ hs = feed_none (less d q.type) a 0 hs none in
       let made_all : all_made ks ≡ all_over hs = made_is s number (less d q.type) q 0 ks hs kids in
-      let kept : shape_in (past ++ (a ∷ [])) ≡ Some (struct_of t rows) = shape_kept past a (struct_of t rows) sh in
+      let kept : shape_in (past ++ (a ∷ [])) ≡ Some (columns_of t rows) = shape_kept past a (columns_of t rows) sh in
       one_pair (SameStep s number segment_number d q0 j0 (task_then (desk s number segment_number all d q0 j0 q places ks more hs r past ending (join_kids (fold_columns t rows) ∷ []) xs closed) ks more) (Work (head s number segment_number all d q0 j0 q places ks more hs r past past (a ∷ []) l true xs closed) hs r))
       (own_step (desk s number segment_number all d q0 j0 q places ks more hs r past ending (join_kids (fold_columns t rows) ∷ []) xs closed) more (do_act s segment_number (desk s number segment_number all d q0 j0 q places ks more hs r past ending (join_kids (fold_columns t rows) ∷ []) xs closed) ks (join_kids (fold_columns t rows) ∷ []))) _
       (all_made ks && (count ks == column_count t)) (all_over hs) (ap (λ z. all_made ks && z) (eq-eqb (count ks) (column_count t) (sym c)) ∙ and_yes (all_made ks) ∙ made_all)
@@ -163,7 +163,7 @@ module _ (s : Setting) (number : List ℕ → ℕ) (segment_number : ℕ) (all :
         untracked = (refl, refl);
         after = λ f num. (
           then_done s number segment_number all d q0 j0 q places ks more hs r past m [] no_tasks a [] l true xs closed pl sm ty (record {
-            layout = struct_layout t rows (layouts_in ks);
+            layout = columns_layout t rows (layouts_in ks);
             mind_is = refl;
             idle = refl;
             no_kids = refl;
@@ -172,9 +172,10 @@ module _ (s : Setting) (number : List ℕ → ℕ) (segment_number : ℕ) (all :
             below = ap all_over same ∙ k;
             free = ap all_paths same ∙ free k;
             laid_is = ap (λ z. map (renamed number) (shaped z (laid (feed (less d q.type) a 0 hs)))) kept
-                ∙ ap (λ z. map (renamed number) (struct_layout t rows (laid z) ∷ [])) same
-                ∙ ap (λ z. z ∷ []) (renamed-struct number t rows (laid hs) ∙ ap (struct_layout t rows) (sym w.layouts));
-            rows_are = sym (ap shape_rows kept);
+                ∙ ap (map (renamed number)) (shaped_columns t rows (laid (feed (less d q.type) a 0 hs)))
+                ∙ ap (λ z. map (renamed number) (columns_layout t rows (laid z) ∷ [])) same
+                ∙ ap (λ z. z ∷ []) (renamed-columns number t rows (laid hs) ∙ ap (columns_layout t rows) (sym w.layouts));
+            rows_are = rows_of_columns t rows (layouts_in ks) ∙ sym (columns_rows t rows) ∙ sym (ap shape_rows kept);
           }),
           then_steady s number segment_number all d q0 j0 q places ks more hs r past (desk s number segment_number all d q0 j0 q places ks more hs r past ending (join_kids (fold_columns t rows) ∷ []) xs closed) m [] no_tasks (head s number segment_number all d q0 j0 q places ks more hs r past past (a ∷ []) l true xs closed) a [] l true xs closed (ap shape_rows (kept ∙ sym sh)) refl,
         );

@@ -14,7 +14,7 @@ use Rattle.vx_machine_steps.specs.Moves.{holding, all_paths}
 use Rattle.vx_machine_steps.specs.Stands.{kept_now, AllHold}
 use Rattle.vx_machine_view.specs.State.{Next, Mind, Tasks, no_tasks, task_then}
 use Rattle.vx_machine_view.specs.Acts.{puts}
-use Rattle.vx_machine_view.specs.Shows.{Stage, waits_first, waits_end, appends, splits, gathers_all, hands, shuts, joins_columns, Done, Shows}
+use Rattle.vx_machine_view.specs.Shows.{Stage, waits_first, waits_end, appends, splits, gathers_all, hands, hands_lists, shuts, joins_columns, Done, Shows}
 use Rattle.vx_machine_view.specs.Machine.{next_ids, mind_ids, held_by}
 use Rattle.vx_machine_view.proofs.Words.{carried}
 
@@ -31,7 +31,9 @@ stage_holds s d mind left ks q past todo l over hs (waits_end o t x b k w) = car
 stage_holds s d mind left ks q past todo l over hs (appends x k w) = carried (λ m f a z o. next_ids f ++ mind_ids m ≡ all_uses a ++ kept_now o z) w.mind_is w.left_is w.rest refl w.off refl
 stage_holds s d mind left ks q past todo l over hs (splits n e nm t sp b en u w) = carried (λ m f a l o. next_ids f ++ mind_ids m ≡ all_uses a ++ kept_now o l) w.mind_is w.idle w.rest w.local_is w.on refl
 stage_holds s d mind left ks q past todo l over hs (gathers_all t u w) = carried (λ m f a z o. next_ids f ++ mind_ids m ≡ all_uses a ++ kept_now o z) w.mind_is w.left_is w.rest refl w.off refl
-stage_holds s d mind left ks q past todo l over hs (hands n rows j p xs ws w) = carried (λ m f a l o. next_ids f ++ mind_ids m ≡ all_uses a ++ kept_now o l) w.mind_is w.left_is w.rest w.local_is w.on
+stage_holds s d mind left ks q past todo l over hs (hands n rows j p xs ws t v w) = carried (λ m f a l o. next_ids f ++ mind_ids m ≡ all_uses a ++ kept_now o l) w.mind_is w.left_is w.rest w.local_is w.on
+    (ap (λ z. z ++ []) (puts_ids j p xs ws w.same))
+stage_holds s d mind left ks q past todo l over hs (hands_lists n first from rows j p xs ws t v w) = carried (λ m f a l o. next_ids f ++ mind_ids m ≡ all_uses a ++ kept_now o l) w.mind_is w.left_is w.rest w.local_is w.on
     (ap (λ z. z ++ []) (puts_ids j p xs ws w.same))
 stage_holds s d mind left ks q past todo l over hs (shuts t rows c w) = carried (λ m f a z o. next_ids f ++ mind_ids m ≡ all_uses a ++ kept_now o z) w.mind_is w.left_is w.rest refl w.off refl
 stage_holds s d mind left ks q past todo l over hs (joins_columns t rows c w) = carried (λ m f a z o. next_ids f ++ mind_ids m ≡ all_uses a ++ kept_now o z) w.mind_is w.left_is w.rest refl w.off refl

@@ -13,7 +13,7 @@ use Rattle.vx_machine_steps.specs.Moves.{due, due_todo, due_more, is_nil, all_ov
 use Rattle.vx_machine_view.specs.State.{Next, Mind, Tasks, no_tasks, task_then}
 use Rattle.vx_machine_view.specs.Acts.{layout_in, layouts_in}
 use Rattle.vx_machine_view.specs.Moves.{is_made, all_made}
-use Rattle.vx_machine_view.specs.Shows.{Stage, waits_first, waits_end, appends, splits, gathers_all, hands, shuts, joins_columns, Done, Shows, laid, rows_of, task_rows}
+use Rattle.vx_machine_view.specs.Shows.{Stage, waits_first, waits_end, appends, splits, gathers_all, hands, hands_lists, shuts, joins_columns, Done, Shows, laid, rows_of, task_rows}
 use Rattle.vx_machine_view.proofs.Words.{true_false, and_left, and_right}
 
 off_false : (b x : Bool) → (b && false && x) ≡ false
@@ -29,7 +29,8 @@ stage_open s d mind left ks q past todo l over hs (waits_end o t x b k r) = ap i
 stage_open s d mind left ks q past todo l over hs (appends x k r) = ap is_made r.mind_is
 stage_open s d mind left ks q past todo l over hs (splits n e a b c f g u r) = ap is_made r.mind_is
 stage_open s d mind left ks q past todo l over hs (gathers_all t u r) = ap is_made r.mind_is
-stage_open s d mind left ks q past todo l over hs (hands n rows j p xs ws r) = ap is_made r.mind_is
+stage_open s d mind left ks q past todo l over hs (hands n rows j p xs ws t v r) = ap is_made r.mind_is
+stage_open s d mind left ks q past todo l over hs (hands_lists n first from rows j p xs ws t v r) = ap is_made r.mind_is
 stage_open s d mind left ks q past todo l over hs (shuts t rows c r) = ap is_made r.mind_is
 stage_open s d mind left ks q past todo l over hs (joins_columns t rows c r) = ap is_made r.mind_is
 
@@ -46,7 +47,8 @@ stage_busy s d mind left ks q past todo l over hs x (waits_end o t y b k r) = on
 stage_busy s d mind left ks q past todo l over hs x (appends y k r) = ends_busy over todo x _ _ r.rest
 stage_busy s d mind left ks q past todo l over hs x (splits n e a b c f g u r) = on_busy over todo x r.on
 stage_busy s d mind left ks q past todo l over hs x (gathers_all t u r) = ends_busy over todo x _ _ r.rest
-stage_busy s d mind left ks q past todo l over hs x (hands n rows j p xs ws r) = on_busy over todo x r.on
+stage_busy s d mind left ks q past todo l over hs x (hands n rows j p xs ws t v r) = on_busy over todo x r.on
+stage_busy s d mind left ks q past todo l over hs x (hands_lists n first from rows j p xs ws t v r) = on_busy over todo x r.on
 stage_busy s d mind left ks q past todo l over hs x (shuts t rows c r) = ends_busy over todo x _ _ r.rest
 stage_busy s d mind left ks q past todo l over hs x (joins_columns t rows c r) = ends_busy over todo x _ _ r.rest
 

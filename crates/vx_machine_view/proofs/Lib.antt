@@ -7,6 +7,7 @@ pub mod Folding
 pub mod Moving
 pub mod Holding
 pub mod Building
+pub mod Tabling
 pub mod Sounding
 pub mod Ending
 pub mod Wholes

@@ -7,7 +7,7 @@ use Rattle.vx_tasks.specs.Nodes.{numbers}
 use Rattle.vx_model.specs.Ty.{Ty, struct}
 use Rattle.vx_plan.specs.PlanData.{Setting, Item}
 use Rattle.vx_machine_turns.specs.Forms.{Writer}
-use Rattle.vx_machine_turns.specs.Locals.{StructNode, Local, chunked_local, struct_local}
+use Rattle.vx_machine_turns.specs.Locals.{Local, chunked_local, struct_local, list_local}
 use Rattle.vx_machine_turns.specs.Acts.{Seed, Act, does, close_queues, gathers}
 use Rattle.vx_machine_turns.specs.Columns.{column_puts}
 use Rattle.vx_machine_turns.specs.Scripts.{filled}
@@ -16,17 +16,17 @@ use Rattle.vx_machine_steps.specs.Tree.{Head, Tree, Leaf, Work}
 use Rattle.vx_machine_steps.specs.Moves.{Due, doing, due, due_todo, is_nil, all_paths, all_over, TreeMove, tree_moves, move_own}
 use Rattle.vx_machine_steps.specs.Moves as abstract
 use Rattle.vx_machine_steps.specs.Laws.{JoinsFree}
-use Rattle.vx_machine_view.specs.State.{Next, Mind, by_chunk, by_column, Desk, Tasks, no_tasks, task_then}
+use Rattle.vx_machine_view.specs.State.{Next, Mind, by_chunk, by_column, by_list, Desk, Tasks, no_tasks, task_then}
 use Rattle.vx_machine_view.specs.Acts.{count, do_act, puts}
 use Rattle.vx_machine_view.specs.Moves.{Step, own_step, in_kids, in_rest, steps, may_act, may_take, is_over}
-use Rattle.vx_machine_view.specs.Built.{column_types}
+use Rattle.vx_machine_view.specs.Built.{column_types, list_types}
 use Rattle.vx_machine_view.specs.Typed.{AllTyped, EachTyped}
-use Rattle.vx_machine_view.specs.Shows.{Alike, Hands, Counted, Stage, waits_first, waits_end, appends, splits, gathers_all, hands, shuts, joins_columns, Done, Shows, rows_of, task_rows}
+use Rattle.vx_machine_view.specs.Shows.{Alike, Hands, Counted, Stage, waits_first, waits_end, appends, splits, gathers_all, hands, hands_lists, shuts, joins_columns, Done, Shows, rows_of, types_of, task_rows}
 use Rattle.vx_machine_view.specs.Steps.{AllPairs, Steady, SameStep, StepsShow}
 use Rattle.vx_machine_view.proofs.Words.{carried, pairs_append, pairs_map}
 use Rattle.vx_machine_view.proofs.Feeding.{none_counted}
 use Rattle.vx_machine_view.proofs.Joining.{over_due, over_idle}
-use Rattle.vx_machine_view.proofs.Acting.{desk, Own, first_own, one_own, chunks_own, put_own, columns_own}
+use Rattle.vx_machine_view.proofs.Acting.{desk, Own, Going, first_own, one_own, chunks_own, put_own, struct_going, columns_own, lists_going, lists_own}
 use Rattle.vx_machine_view.proofs.Folding.{append_own, gather_own, shut_own, join_own}
 
 -- ---- a task by itself
@@ -42,20 +42,21 @@ own_moves : (s : Setting) (number : List ℕ → ℕ) (next : ℕ) (all : List (
     → Stage s (less d q.type) mind left ks q past todo l over hs → Own s number next all d q0 j0 q places ks more hs r past mind left todo l over xs closed
 own_moves s number next all d q0 j0 q places ks more hs r past law pl sm kids mind left todo l over xs closed ty free st = by st
   where
-    on_columns : (n : StructNode) (rows j : ℕ) (p : List ℕ) (ps : List ChunkData) (ws : List Writer) → Hands mind left q past todo l over hs n rows j p ps ws
+    -- a node with columns: it puts the next one, or it takes what is next
+    on_columns : (m : Mind) (x : Local) (types : List Ty) (j : ℕ) (p : List ℕ) (ps : List ChunkData) (ws : List Writer) → Hands mind left past todo l over hs m x types j p ps ws
+        → Going s number next all d q0 j0 q places ks more hs r past law pl sm kids m x types → Own s number next all d q0 j0 q places ks more hs r past m [] [] x false xs closed
         → Own s number next all d q0 j0 q places ks more hs r past mind left todo l over xs closed
-    on_columns n rows j p ps ws w = carried (λ m f a l o. Own s number next all d q0 j0 q places ks more hs r past m f a l o xs closed) w.mind_is w.left_is w.rest w.local_is w.on
+    on_columns m x types j p ps ws w going idle = carried (λ m f a l o. Own s number next all d q0 j0 q places ks more hs r past m f a l o xs closed) w.mind_is w.left_is w.rest w.local_is w.on
         (go ps ws w.behind w.split w.typed w.same)
       where
-        go : (ps : List ChunkData) (ws : List Writer) (behind : List Ty) → column_types n.fields n.nullable ≡ w.before ++ behind → EachTyped behind ps → length ws ≡ length ps
-            → Own s number next all d q0 j0 q places ks more hs r past (by_column (struct n.fields n.nullable) rows) (puts j p ps) (filled [] (column_puts j p ps ws)) (struct_local n rows) false xs closed
+        go : (ps : List ChunkData) (ws : List Writer) (behind : List Ty) → types ≡ w.before ++ behind → EachTyped behind ps → length ws ≡ length ps
+            → Own s number next all d q0 j0 q places ks more hs r past m (puts j p ps) (filled [] (column_puts j p ps ws)) x false xs closed
         go [] ws behind sp tps same =
-            subst (λ z. Own s number next all d q0 j0 q places ks more hs r past (by_column (struct n.fields n.nullable) rows) [] (filled [] (column_puts j p [] z)) (struct_local n rows) false xs closed)
-            (sym (no_length ws same)) (columns_own s number next all d q0 j0 q places ks more hs r past law pl sm kids n rows w.type_is w.kids w.as_many w.unshaped xs closed ty)
-        go (x ∷ ps) [] behind sp tps same = absurd (omega (arith, same))
-        go (x ∷ ps) (y ∷ ws) [] sp tps same = absurd tps
-        go (x ∷ ps) (y ∷ ws) (t ∷ ts) sp tps same =
-            put_own s number next all d q0 j0 q places ks more hs r past law pl sm kids n rows j p x ps y ws w.before t ts w.type_is w.kids w.as_many sp w.place tps.0 tps.1
+            subst (λ z. Own s number next all d q0 j0 q places ks more hs r past m [] (filled [] (column_puts j p [] z)) x false xs closed) (sym (no_length ws same)) idle
+        go (c ∷ ps) [] behind sp tps same = absurd (omega (arith, same))
+        go (c ∷ ps) (y ∷ ws) [] sp tps same = absurd tps
+        go (c ∷ ps) (y ∷ ws) (t ∷ ts) sp tps same =
+            put_own s number next all d q0 j0 q places ks more hs r past law pl sm kids m x types going j p c ps y ws w.before t ts w.kids sp w.place tps.0 tps.1
             (let z : length ws ≡ length ps = omega (arith, same) in z) w.unshaped xs closed ty
 
     by : Stage s (less d q.type) mind left ks q past todo l over hs → Own s number next all d q0 j0 q places ks more hs r past mind left todo l over xs closed
@@ -69,13 +70,38 @@ own_moves s number next all d q0 j0 q places ks more hs r past law pl sm kids mi
         (chunks_own s number next all d q0 j0 q places ks more hs r past law pl sm kids n e nm t sp b en u w.unshaped xs closed ty)
     by (gathers_all t u w) = carried (λ m f a z o. Own s number next all d q0 j0 q places ks more hs r past m f a z o xs closed) w.mind_is w.left_is w.rest refl w.off
         (gather_own s number next all d q0 j0 q places ks more hs r past law pl sm kids t l w.shape_is (free w.rest) xs closed ty)
-    by (hands n rows j p ps ws w) = on_columns n rows j p ps ws w
+    by (hands n rows j p ps ws t v w) =
+        on_columns (by_column (struct n.fields n.nullable) rows) (struct_local n rows) (column_types n.fields n.nullable) j p ps ws w
+        (struct_going s number next all d q0 j0 q places ks more hs r past law pl sm kids n rows t v)
+        (columns_own s number next all d q0 j0 q places ks more hs r past law pl sm kids n rows t w.kids v w.unshaped xs closed ty)
+    by (hands_lists n first from rows j p ps ws t v w) =
+        on_columns (by_list n.elements n.nullable first from rows) (list_local n first from rows) (list_types n.elements n.nullable) j p ps ws w
+        (lists_going s number next all d q0 j0 q places ks more hs r past law pl sm kids n first from rows t v)
+        (lists_own s number next all d q0 j0 q places ks more hs r past law pl sm kids n first from rows t w.kids v w.unshaped xs closed ty)
     by (shuts t rows c w) = carried (λ m f a z o. Own s number next all d q0 j0 q places ks more hs r past m f a z o xs closed) w.mind_is w.left_is w.rest refl w.off
         (shut_own s number next all d q0 j0 q places ks more hs r past law pl sm kids t rows l c w.shape_is xs closed ty)
     by (joins_columns t rows c w) = carried (λ m f a z o. Own s number next all d q0 j0 q places ks more hs r past m f a z o xs closed) w.mind_is w.left_is w.rest refl w.off
         (join_own s number next all d q0 j0 q places ks more hs r past law pl sm kids t rows l c w.shape_is (free w.rest) xs closed ty)
 
 -- ---- a task whose children have moved
+
+hands_on : (mind : Mind) (left : List Next) (past todo : List Act) (l : Local) (over : Bool) (hs ts : Tree) (m : Mind) (x : Local) (types : List Ty) (j : ℕ) (p : List ℕ) (xs : List ChunkData) (ws : List Writer)
+    → types_of ts ≡ types_of hs → Hands mind left past todo l over hs m x types j p xs ws → Hands mind left past todo l over ts m x types j p xs ws
+hands_on mind left past todo l over hs ts m x types j p xs ws e w = record {
+  mind_is = w.mind_is;
+  local_is = w.local_is;
+  left_is = w.left_is;
+  rest = w.rest;
+  on = w.on;
+  unshaped = w.unshaped;
+  kids = e ∙ w.kids;
+  before = w.before;
+  behind = w.behind;
+  split = w.split;
+  place = w.place;
+  typed = w.typed;
+  same = w.same;
+}
 
 stage_on : (s : Setting) (d : Fuel) (mind : Mind) (left : List Next) (ks kids : Tasks) (q : Seed) (past todo : List Act) (l : Local) (over : Bool) (hs ts : Tree)
     → Steady ks kids hs ts → Stage s d mind left ks q past todo l over hs → Stage s d mind left kids q past todo l over ts
@@ -97,23 +123,11 @@ stage_on s d mind left ks kids q past todo l over hs ts st (gathers_all t u w) =
   off = w.off;
   shape_is = w.shape_is ∙ ap (λ z. Some (gathers t z)) (sym st.rows_are);
 })
-stage_on s d mind left ks kids q past todo l over hs ts st (hands n rows j p xs ws w) = hands n rows j p xs ws (record {
-  mind_is = w.mind_is;
-  local_is = w.local_is;
-  left_is = w.left_is;
-  rest = w.rest;
-  on = w.on;
-  unshaped = w.unshaped;
-  type_is = w.type_is;
-  kids = st.types_are ∙ w.kids;
-  as_many = w.as_many;
-  before = w.before;
-  behind = w.behind;
-  split = w.split;
-  place = w.place;
-  typed = w.typed;
-  same = w.same;
-})
+stage_on s d mind left ks kids q past todo l over hs ts st (hands n rows j p xs ws t v w) =
+    hands n rows j p xs ws t v (hands_on mind left past todo l over hs ts (by_column (struct n.fields n.nullable) rows) (struct_local n rows) (column_types n.fields n.nullable) j p xs ws st.types_are w)
+stage_on s d mind left ks kids q past todo l over hs ts st (hands_lists n first from rows j p xs ws t v w) =
+    hands_lists n first from rows j p xs ws t v
+    (hands_on mind left past todo l over hs ts (by_list n.elements n.nullable first from rows) (list_local n first from rows) (list_types n.elements n.nullable) j p xs ws st.types_are w)
 stage_on s d mind left ks kids q past todo l over hs ts st (shuts t rows c w) = shuts t rows (c ∙ sym st.count_is) (record {
   mind_is = w.mind_is;
   left_is = w.left_is;

@@ -1,17 +1,20 @@
 -- Small lemmas: on lists that go in step, on what a task's past shows, on layouts and chunks.
 use Rattle.std.proofs.Common.{◌≡◌, ◌||◌, ◌&&◌, ◌∷◌, ◌++◌, ◌∙◌, ℕ, zero, suc, Bool, true, false, List, map, length, refl, sym, ap, subst, append_assoc, Option, Some, None, []}
-use Rattle.vx_model.specs.Ty.{Ty, Tys, struct, no_fields, field, ty_eq}
+use Rattle.vx_model.specs.Ty.{Ty, Tys, boolean, primitive, utf8, binary, list, struct, extension, no_fields, field, ty_eq}
 use Rattle.vx_model.specs.TyLaws.{ty_eq_decides}
 use Rattle.vx_model.specs.CellData.{CellData}
 use Rattle.vx_model.specs.ChunkData.{ChunkData, ChunkList, plain_piece, constant_piece, dict_piece, chunked_piece, list_piece, struct_piece, extension_piece, no_pieces, part, pieces_in, piece_type, cells}
-use Rattle.vx_layout_spec.specs.LayoutTree.{LayoutData, layout, child, lays_of, renamed, each_renamed, struct_layout, struct_kind}
+use Rattle.vx_layout_spec.specs.LayoutTree.{LayoutData, layout, child, lays_of, row_count, renamed, each_renamed, struct_layout, struct_kind, list_kind}
 use Rattle.vx_layout_spec.specs.Parts.{others_of, plain_fields, field_pieces}
-use Rattle.vx_rules.specs.Columns.{struct_columns}
+use Rattle.vx_rules.specs.Columns.{struct_columns, list_columns}
 use Rattle.vx_tasks.specs.Run.{nth}
 use Rattle.vx_machine_turns.specs.Locals.{Local}
 use Rattle.vx_machine_turns.specs.Acts.{Act, Shape, or_else, shape_in, numbers_in}
 use Rattle.vx_machine_view.specs.State.{Next, Mind}
-use Rattle.vx_machine_view.specs.Built.{field_types, column_types}
+use Rattle.vx_machine_turns.specs.Readings.{shaped}
+use Rattle.vx_machine_view.specs.Acts.{columns_layout}
+use Rattle.vx_machine_view.specs.Built.{field_types, column_types, list_types}
+use Rattle.vx_machine_view.specs.Shows.{columns_of, shape_rows}
 use Rattle.vx_machine_view.specs.Typed.{Typed, PartsTyped, EachTyped}
 use Rattle.vx_machine_view.specs.Steps.{AllPairs}
 
@@ -113,6 +116,44 @@ each_renamed-lays_of : (f : List ℕ → ℕ) (ls : List (LayoutData (List ℕ))
 each_renamed-lays_of f [] = refl
 each_renamed-lays_of f (l ∷ ls) = ap (child (renamed f l)) (each_renamed-lays_of f ls)
 
+-- ---- of a node with columns
+
+pub renamed-columns : (f : List ℕ → ℕ) (t : Ty) (n : ℕ) (ls : List (LayoutData (List ℕ))) → renamed f (columns_layout t n ls) ≡ columns_layout t n (map (renamed f) ls)
+renamed-columns f (list t b) n ls = ap (λ z. layout list_kind (list t b) n [] z) (each_renamed-lays_of f ls)
+renamed-columns f (struct fs b) n ls = ap (λ z. layout struct_kind (struct fs b) n [] z) (each_renamed-lays_of f ls)
+renamed-columns f (boolean b) n ls = ap (λ z. layout struct_kind (boolean b) n [] z) (each_renamed-lays_of f ls)
+renamed-columns f (primitive p b) n ls = ap (λ z. layout struct_kind (primitive p b) n [] z) (each_renamed-lays_of f ls)
+renamed-columns f (utf8 b) n ls = ap (λ z. layout struct_kind (utf8 b) n [] z) (each_renamed-lays_of f ls)
+renamed-columns f (binary b) n ls = ap (λ z. layout struct_kind (binary b) n [] z) (each_renamed-lays_of f ls)
+renamed-columns f (extension tag t) n ls = ap (λ z. layout struct_kind (extension tag t) n [] z) (each_renamed-lays_of f ls)
+
+pub shaped_columns : (t : Ty) (n : ℕ) (ls : List (LayoutData (List ℕ))) → shaped (Some (columns_of t n)) ls ≡ columns_layout t n ls ∷ []
+shaped_columns (list t b) n ls = refl
+shaped_columns (struct fs b) n ls = refl
+shaped_columns (boolean b) n ls = refl
+shaped_columns (primitive p b) n ls = refl
+shaped_columns (utf8 b) n ls = refl
+shaped_columns (binary b) n ls = refl
+shaped_columns (extension tag t) n ls = refl
+
+pub columns_rows : (t : Ty) (n : ℕ) → shape_rows (Some (columns_of t n)) ≡ n
+columns_rows (list t b) n = refl
+columns_rows (struct fs b) n = refl
+columns_rows (boolean b) n = refl
+columns_rows (primitive p b) n = refl
+columns_rows (utf8 b) n = refl
+columns_rows (binary b) n = refl
+columns_rows (extension tag t) n = refl
+
+pub rows_of_columns : (t : Ty) (n : ℕ) (ls : List (LayoutData ℕ)) → row_count (columns_layout t n ls) ≡ n
+rows_of_columns (list t b) n ls = refl
+rows_of_columns (struct fs b) n ls = refl
+rows_of_columns (boolean b) n ls = refl
+rows_of_columns (primitive p b) n ls = refl
+rows_of_columns (utf8 b) n ls = refl
+rows_of_columns (binary b) n ls = refl
+rows_of_columns (extension tag t) n ls = refl
+
 pub renamed-struct : (f : List ℕ → ℕ) (t : Ty) (n : ℕ) (ls : List (LayoutData (List ℕ))) → renamed f (struct_layout t n ls) ≡ struct_layout t n (map (renamed f) ls)
 renamed-struct f t n ls = ap (λ z. layout struct_kind t n [] z) (each_renamed-lays_of f ls)
 
@@ -153,6 +194,11 @@ fields_each fs n (extension_piece u p) h = plain_each fs (cells (extension_piece
 pub columns_each : (fs : Tys) (n : Bool) (p : ChunkData) → Typed (struct fs n) p → EachTyped (column_types fs n) (struct_columns fs n p)
 columns_each fs true p h = (refl, fields_each fs true p h)
 columns_each fs false p h = fields_each fs false p h
+
+-- those of a chunk of lists too
+pub lists_each : (t : Ty) (n first : Bool) (from : ℕ) (p : ChunkData) → EachTyped (list_types t n) (list_columns t n first from p)
+lists_each t true first from p = (refl, (refl, (refl, tt)))
+lists_each t false first from p = (refl, (refl, tt))
 
 pub each_length : (ts : List Ty) (ps : List ChunkData) → EachTyped ts ps → length ps ≡ length ts
 each_length [] [] h = refl

@@ -2,19 +2,20 @@
 use Rattle.std.specs.Prelude.{ℕ, zero, suc, ◌+◌, ◌==◌, ◌&&◌, not, if◌then◌else◌, Bool, true, false, List, [], ◌∷◌, ◌++◌, length, Option, Some, None}
 use Rattle.vx_model.specs.declared.encoding.EncodingId.{EncodingId}
 use Rattle.vx_model.specs.Words.{total_by}
-use Rattle.vx_model.specs.Ty.{Ty, struct, fields_in, ty_eq}
+use Rattle.vx_model.specs.Ty.{Ty, struct, list, fields_in, ty_eq}
 use Rattle.vx_model.specs.ChunkData.{ChunkData, piece_type}
 use Rattle.vx_path.specs.Path.{under, inside, next}
-use Rattle.vx_layout_spec.specs.LayoutTree.{LayoutData, row_count, flat_layout, gathered, struct_layout}
-use Rattle.vx_rules.specs.Columns.{struct_columns}
+use Rattle.vx_layout_spec.specs.LayoutTree.{LayoutData, row_count, flat_layout, gathered, struct_layout, list_layout}
+use Rattle.vx_rules.specs.Columns.{struct_columns, list_columns}
 use Rattle.vx_tasks.specs.Task.{Kind}
 use Rattle.vx_tasks.specs.Task.Prompt.{Close}
 use Rattle.vx_tasks.specs.Task.Kind.{Free, Take, TakeEnd, Put, Append, Join}
-use Rattle.vx_plan.specs.PlanData.{Setting, Item, Pair, What, many_chunks, rows_in}
+use Rattle.vx_plan.specs.PlanData.{Setting, Item, Pair, What, many_chunks, empty_list, rows_in}
+use Rattle.vx_plan.specs.ColumnNodes.{elements_in}
 use Rattle.vx_plan.specs.FlatNode.{segment, inlined, length_of}
 use Rattle.vx_machine_turns.specs.Starts.{start_fault}
 use Rattle.vx_machine_turns.specs.Flat.{forbidden}
-use Rattle.vx_machine_view.specs.State.{Fold, fold_chunks, fold_columns, Next, put, append, shut_kids, join_kids, Mind, no_chunk, one_chunk, by_chunk, by_column, ending, made, Desk, Tasks, no_tasks, task_then}
+use Rattle.vx_machine_view.specs.State.{Fold, fold_chunks, fold_columns, Next, put, append, shut_kids, join_kids, Mind, no_chunk, one_chunk, by_chunk, by_column, by_list, ending, made, Desk, Tasks, no_tasks, task_then}
 use Rattle.vx_machine_view.specs.Start.{first_indices, started_task}
 
 -- ---- children
@@ -51,6 +52,7 @@ layout_in (no_chunk o t) = []
 layout_in (one_chunk x) = []
 layout_in (by_chunk m t f e rows) = []
 layout_in (by_column t rows) = []
+layout_in (by_list t n first from rows) = []
 layout_in ending = []
 
 -- the layouts of those that have done all
@@ -82,9 +84,14 @@ now c mind todo inbox = record { name = c.name; mind = mind; todo = todo; inbox 
 abbrev pub done_as : Kind → Desk → Tasks → Did
 done_as k c ks = record { kind = k; refusal = None; misfit = false; numbers = []; indices = []; wrote = []; joined = []; desk = c; kids = ks }
 
+-- of the columns' layouts
+abbrev pub columns_layout : {A : Type 0} → Ty → ℕ → List (LayoutData A) → LayoutData A
+columns_layout (list t n) rows ls = list_layout (list t n) rows ls
+columns_layout t rows ls = struct_layout t rows ls
+
 abbrev pub folded : Fold → List (LayoutData ℕ) → LayoutData ℕ
 folded (fold_chunks t) ls = gathered t (total_by row_count ls) ls
-folded (fold_columns t rows) ls = struct_layout t rows ls
+folded (fold_columns t rows) ls = columns_layout t rows ls
 
 abbrev pub joined_rows : Fold → List (LayoutData ℕ) → List ℕ
 joined_rows (fold_chunks t) ls = total_by row_count ls ∷ []
@@ -106,9 +113,11 @@ abbrev pub columns_in : Ty → ChunkData → List ChunkData
 columns_in (struct fs n) p = struct_columns fs n p
 columns_in t p = []
 
--- the columns of a type: validity where it is nullable, and the fields
+-- the columns of a type: a struct's validity where it is nullable, and the fields; a list's elements, offsets, and validity
+-- where it is nullable
 abbrev pub column_count : Ty → ℕ
 column_count (struct fs n) = length (fields_in fs) + (if n then 1 else 0)
+column_count (list t n) = if n then 3 else 2
 column_count t = 0
 
 -- a column each, from number c on, for the queue of its child
@@ -152,6 +161,18 @@ take_chunk s c ks i xs (by_column t rows) = record {
   desk = now c (by_column t (rows + rows_in i.1)) (puts 0 i.0 (columns_in t i.1)) xs;
   kids = ks;
 }
+-- it counts the rows, the offsets' rows, one more than these, and the elements
+take_chunk s c ks i xs (by_list t n first from rows) = record {
+  kind = Take;
+  refusal = None;
+  misfit = not (ty_eq (piece_type i.1) (list t n));
+  numbers = (rows + rows_in i.1) ∷ suc (rows + rows_in i.1) ∷ (from + elements_in i.1) ∷ [];
+  indices = column_count (list t n) ∷ [];
+  wrote = [];
+  joined = [];
+  desk = now c (by_list t n false (from + elements_in i.1) (rows + rows_in i.1)) (puts 0 i.0 (list_columns t n first from i.1)) xs;
+  kids = ks;
+}
 take_chunk s c ks i xs ending = done_as Take (now c ending [] xs) ks
 take_chunk s c ks i xs (made l) = done_as Take (now c (made l) [] xs) ks
 
@@ -160,11 +181,17 @@ abbrev pub end_columns : Bool → Ty → ℕ → Desk → Tasks → Did
 end_columns true t rows c ks = done_as TakeEnd (now c (made (struct_layout t rows [])) [] []) ks
 end_columns false t rows c ks = done_as TakeEnd (now c ending (shut_kids ∷ join_kids (fold_columns t rows) ∷ []) []) ks
 
+-- a list node to which no chunk came is refused
+abbrev pub end_lists : Bool → Ty → ℕ → Desk → Tasks → Did
+end_lists true t rows c ks = record (done_as TakeEnd (now c ending [] []) ks) { refusal = Some empty_list }
+end_lists false t rows c ks = done_as TakeEnd (now c ending (shut_kids ∷ join_kids (fold_columns t rows) ∷ []) []) ks
+
 abbrev pub take_end : Desk → Tasks → Mind → Did
 take_end c ks (no_chunk o t) = done_as TakeEnd (now c (made (gathered t 0 [])) [] []) ks
 take_end c ks (one_chunk x) = done_as TakeEnd (now c ending (append x ∷ []) []) ks
 take_end c ks (by_chunk m t f e rows) = done_as TakeEnd (now c ending (join_kids (fold_chunks t) ∷ []) []) ks
 take_end c ks (by_column t rows) = end_columns ((count ks == 0) && (0 == column_count t)) t rows c ks
+take_end c ks (by_list t n first from rows) = end_lists first (list t n) rows c ks
 take_end c ks ending = done_as TakeEnd (now c ending [] []) ks
 take_end c ks (made l) = done_as TakeEnd (now c (made l) [] []) ks
 

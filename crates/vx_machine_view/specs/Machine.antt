@@ -6,7 +6,7 @@ use Rattle.vx_tasks.specs.Runs.{first_batch}
 use Rattle.vx_plan.specs.PlanData.{Setting, Item, Pair, What}
 use Rattle.vx_machine_turns.specs.Forms.{Form}
 use Rattle.vx_machine_promises.specs.Write.{Answer, unasked, came, over}
-use Rattle.vx_machine_view.specs.State.{Next, put, append, shut_kids, join_kids, Mind, no_chunk, one_chunk, by_chunk, by_column, ending, made, Tasks, no_tasks, task_then}
+use Rattle.vx_machine_view.specs.State.{Next, put, append, shut_kids, join_kids, Mind, no_chunk, one_chunk, by_chunk, by_column, by_list, ending, made, Tasks, no_tasks, task_then}
 use Rattle.vx_machine_view.specs.Start.{started_task}
 use Rattle.vx_machine_view.specs.Acts.{give, shut_all}
 use Rattle.vx_machine_view.specs.Moves.{is_made, has_room, Step, steps}
@@ -107,6 +107,7 @@ mind_ids (no_chunk o t) = []
 mind_ids (one_chunk x) = x.id ∷ []
 mind_ids (by_chunk m t f e rows) = eof_path e ∷ []
 mind_ids (by_column t rows) = []
+mind_ids (by_list t n first from rows) = []
 mind_ids ending = []
 mind_ids (made l) = []
 

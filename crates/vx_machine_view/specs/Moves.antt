@@ -3,7 +3,7 @@ use Rattle.std.specs.Prelude.{ℕ, zero, suc, ◌==◌, ◌&&◌, not, nat_lt, c
 use Rattle.vx_path.specs.Path.{is_least}
 use Rattle.vx_tasks.specs.Task.{Kind}
 use Rattle.vx_plan.specs.PlanData.{Setting, Item, Pair, What}
-use Rattle.vx_machine_view.specs.State.{Fold, fold_chunks, fold_columns, Next, put, append, shut_kids, join_kids, Mind, no_chunk, one_chunk, by_chunk, by_column, ending, made, Desk, Tasks, no_tasks, task_then}
+use Rattle.vx_machine_view.specs.State.{Fold, fold_chunks, fold_columns, Next, put, append, shut_kids, join_kids, Mind, no_chunk, one_chunk, by_chunk, by_column, by_list, ending, made, Desk, Tasks, no_tasks, task_then}
 use Rattle.vx_machine_view.specs.Acts.{count, Did, do_act, column_count}
 
 abbrev pub is_made : Mind → Bool
@@ -12,6 +12,7 @@ is_made (no_chunk o t) = false
 is_made (one_chunk x) = false
 is_made (by_chunk m t f e rows) = false
 is_made (by_column t rows) = false
+is_made (by_list t n first from rows) = false
 is_made ending = false
 
 -- it takes no more
@@ -22,6 +23,7 @@ is_over (no_chunk o t) = false
 is_over (one_chunk x) = false
 is_over (by_chunk m t f e rows) = false
 is_over (by_column t rows) = false
+is_over (by_list t n first from rows) = false
 
 abbrev pub all_made : Tasks → Bool
 all_made no_tasks = true

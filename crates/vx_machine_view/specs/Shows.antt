@@ -1,6 +1,6 @@
 -- The program's tasks against the abstract machine's.
 use Rattle.std.specs.Prelude.{◌≡◌, ◌+◌, ◌⊎◌, ℕ, suc, Bool, true, false, List, [], ◌∷◌, ◌++◌, map, length, get_or, Option, Some, None, IsTrue}
-use Rattle.vx_model.specs.Ty.{Ty, struct}
+use Rattle.vx_model.specs.Ty.{Ty, struct, list}
 use Rattle.vx_model.specs.ChunkData.{ChunkData}
 use Rattle.vx_path.specs.Lists.{In}
 use Rattle.vx_path.specs.Path.{Eof}
@@ -11,7 +11,7 @@ use Rattle.vx_strategy_spec.specs.StrategyData.{FlatOptions}
 use Rattle.vx_plan.specs.PlanData.{Setting, Item, row_total, rows_in}
 use Rattle.vx_plan.specs.FlatNode.{inlined}
 use Rattle.vx_machine_turns.specs.Forms.{Writer, chunked_form}
-use Rattle.vx_machine_turns.specs.Locals.{ChunkedNode, StructNode, Local, flat_empty, flat_full, flat_many, chunked_local, struct_local, list_local, blocks_local, bytes_local, collect_local, compressed_local, outlet_local, dict_local, fallback_local, runs_local, zoned_local, idle_local, source_local, outside_local}
+use Rattle.vx_machine_turns.specs.Locals.{ChunkedNode, StructNode, ListNode, Local, flat_empty, flat_full, flat_many, chunked_local, struct_local, list_local, blocks_local, bytes_local, collect_local, compressed_local, outlet_local, dict_local, fallback_local, runs_local, zoned_local, idle_local, source_local, outside_local}
 use Rattle.vx_machine_turns.specs.Acts.{Seed, Act, Shape, alone, gathers, struct_of, list_of, runs_of, zones_of, passes, does, close_queues, shape_in, numbers_in}
 use Rattle.vx_machine_turns.specs.Fuels.{Fuel, less, Enough}
 use Rattle.vx_machine_turns.specs.Columns.{column_puts}
@@ -19,9 +19,9 @@ use Rattle.vx_machine_turns.specs.Readings.{shaped}
 use Rattle.vx_machine_turns.specs.Scripts.{filled}
 use Rattle.vx_machine_steps.specs.Tree.{Head, Tree, Leaf, Work}
 use Rattle.vx_machine_steps.specs.Moves.{all_paths, all_over}
-use Rattle.vx_machine_view.specs.State.{Stored, fold_chunks, fold_columns, Next, append, shut_kids, join_kids, Mind, no_chunk, one_chunk, by_chunk, by_column, ending, made, Desk, Tasks, no_tasks, task_then}
+use Rattle.vx_machine_view.specs.State.{Stored, fold_chunks, fold_columns, Next, append, shut_kids, join_kids, Mind, no_chunk, one_chunk, by_chunk, by_column, by_list, ending, made, Desk, Tasks, no_tasks, task_then}
 use Rattle.vx_machine_view.specs.Acts.{count, column_count, puts}
-use Rattle.vx_machine_view.specs.Built.{Built, column_types}
+use Rattle.vx_machine_view.specs.Built.{Built, column_types, list_types}
 use Rattle.vx_machine_view.specs.Typed.{AllTyped, EachTyped}
 
 -- ---- what is read off the abstract tree
@@ -103,25 +103,27 @@ pub record Ends (mind : Mind) (left : List Next) (past todo : List Act) (over : 
   pub off : over ≡ true
   pub shape_is : shape_in past ≡ Some shape
 
--- a struct puts these columns next, from number j on of the chunk at p
-pub record Hands (mind : Mind) (left : List Next) (q : Seed) (past todo : List Act) (l : Local) (over : Bool) (hs : Tree) (n : StructNode) (rows j : ℕ) (p : List ℕ) (xs : List ChunkData) (ws : List Writer) : Type 0 where
-  pub mind_is : mind ≡ by_column (struct n.fields n.nullable) rows
-  pub local_is : l ≡ struct_local n rows
+-- a node with columns of these types has these in mind, and puts the last columns of the chunk at p next, from number j on
+pub record Hands (mind : Mind) (left : List Next) (past todo : List Act) (l : Local) (over : Bool) (hs : Tree) (mind_now : Mind) (local_now : Local) (types : List Ty) (j : ℕ) (p : List ℕ) (xs : List ChunkData) (ws : List Writer) : Type 0 where
+  pub mind_is : mind ≡ mind_now
+  pub local_is : l ≡ local_now
   pub left_is : left ≡ puts j p xs
   pub rest : todo ≡ filled [] (column_puts j p xs ws)
   pub on : over ≡ false
   pub unshaped : shape_in past ≡ None
-  pub type_is : q.type ≡ struct n.fields n.nullable
   -- its children are its columns
-  pub kids : types_of hs ≡ column_types n.fields n.nullable
-  pub as_many : length n.writers ≡ length (column_types n.fields n.nullable)
-  -- what is left are the last of them
+  pub kids : types_of hs ≡ types
   pub before : List Ty
   pub behind : List Ty
-  pub split : column_types n.fields n.nullable ≡ before ++ behind
+  pub split : types ≡ before ++ behind
   pub place : length before ≡ j
   pub typed : EachTyped behind xs
   pub same : length ws ≡ length xs
+
+-- the shape of a node with columns of this type
+abbrev pub columns_of : Ty → ℕ → Shape
+columns_of (list t n) rows = list_of (list t n) rows
+columns_of t rows = struct_of t rows
 
 abbrev pub append_of : Stored → Act
 append_of x = record (does (Append x.id)) { uses = x.id ∷ []; bytes = x.bytes }
@@ -146,12 +148,17 @@ pub data Stage (s : Setting) (d : Fuel) (mind : Mind) (left : List Next) (ks : T
       → Stage s d mind left ks q past todo l over hs
   gathers_all : (t : Ty) → Counted past (rows_of hs) → Ends mind left past todo over (join_kids (fold_chunks t) ∷ []) (does Join ∷ []) (gathers t (rows_of hs))
       → Stage s d mind left ks q past todo l over hs
-  hands : (n : StructNode) (rows j : ℕ) (p : List ℕ) (xs : List ChunkData) (ws : List Writer) → Hands mind left q past todo l over hs n rows j p xs ws
+  hands : (n : StructNode) (rows j : ℕ) (p : List ℕ) (xs : List ChunkData) (ws : List Writer) → q.type ≡ struct n.fields n.nullable → length n.writers ≡ length (column_types n.fields n.nullable)
+      → Hands mind left past todo l over hs (by_column (struct n.fields n.nullable) rows) (struct_local n rows) (column_types n.fields n.nullable) j p xs ws
+      → Stage s d mind left ks q past todo l over hs
+  hands_lists : (n : ListNode) (first : Bool) (from rows j : ℕ) (p : List ℕ) (xs : List ChunkData) (ws : List Writer) → q.type ≡ list n.elements n.nullable
+      → length n.writers ≡ length (list_types n.elements n.nullable)
+      → Hands mind left past todo l over hs (by_list n.elements n.nullable first from rows) (list_local n first from rows) (list_types n.elements n.nullable) j p xs ws
       → Stage s d mind left ks q past todo l over hs
   shuts : (t : Ty) (rows : ℕ) → column_count t ≡ count ks
-      → Ends mind left past todo over (shut_kids ∷ join_kids (fold_columns t rows) ∷ []) (close_queues (numbers 0 (count ks)) ∷ does Join ∷ []) (struct_of t rows)
+      → Ends mind left past todo over (shut_kids ∷ join_kids (fold_columns t rows) ∷ []) (close_queues (numbers 0 (count ks)) ∷ does Join ∷ []) (columns_of t rows)
       → Stage s d mind left ks q past todo l over hs
-  joins_columns : (t : Ty) (rows : ℕ) → column_count t ≡ count ks → Ends mind left past todo over (join_kids (fold_columns t rows) ∷ []) (does Join ∷ []) (struct_of t rows)
+  joins_columns : (t : Ty) (rows : ℕ) → column_count t ≡ count ks → Ends mind left past todo over (join_kids (fold_columns t rows) ∷ []) (does Join ∷ []) (columns_of t rows)
       → Stage s d mind left ks q past todo l over hs
 
 -- A task that has done all: its children are given up, and the layout is theirs, where `number` tells each segment's.

@@ -4,7 +4,7 @@ use Rattle.vx_model.specs.Ty.{struct}
 use Rattle.vx_path.specs.Path.{Eof, under, inside, next}
 use Rattle.vx_plan.specs.PlanData.{Item}
 use Rattle.vx_machine_turns.specs.Forms.{Form, Forms, flat_form, chunked_form, grouped_form, compressed_form, dict_form, zoned_form, no_struct_form, struct_form, list_form, no_forms, form_then}
-use Rattle.vx_machine_view.specs.State.{Mind, no_chunk, by_chunk, by_column, ending, Desk, Tasks, no_tasks, task_then}
+use Rattle.vx_machine_view.specs.State.{Mind, no_chunk, by_chunk, by_column, by_list, ending, Desk, Tasks, no_tasks, task_then}
 
 -- what it has in mind before a chunk comes: its mark and its pointer; kinds that aren't built start nothing
 abbrev pub first_mind : Form → Bool → Eof → Mind
@@ -16,14 +16,14 @@ first_mind (compressed_form which room t k) m e = ending
 first_mind (dict_form o t c v f) m e = ending
 first_mind (zoned_form o t k stats) m e = ending
 first_mind (no_struct_form t) m e = ending
-first_mind (list_form t n es os v) m e = ending
+first_mind (list_form t n es os v) m e = by_list t n true 0 0
 
 -- with this queue, of one place
 abbrev pub waiting : List ℕ → Mind → List Item → Bool → Desk
 waiting name mind inbox closed = record { name = name; mind = mind; todo = []; inbox = inbox; places = 1; closed = closed }
 
--- A struct's columns start with it: validity where it is nullable, then the fields. Column c has the c-th name below, and a
--- pointer inside the c-th path from e on.
+-- A struct's columns start with it: validity where it is nullable, then the fields. So do a list's: elements, offsets, and
+-- validity where it is nullable. Column c has the c-th name below, and a pointer inside the c-th path from e on.
 abbrev mutual
   pub first_kids : Form → Bool → List ℕ → Eof → Tasks
   first_kids (struct_form fs n name v ks) m at e =
@@ -37,7 +37,10 @@ abbrev mutual
   first_kids (dict_form o t c v f) m at e = no_tasks
   first_kids (zoned_form o t k stats) m at e = no_tasks
   first_kids (no_struct_form t) m at e = no_tasks
-  first_kids (list_form t n es os v) m at e = no_tasks
+  first_kids (list_form t n es os v) m at e =
+      task_then (waiting (under at 0) (first_mind es m (inside e)) [] false) (first_kids es m (under at 0) (inside e))
+      (task_then (waiting (under at 1) (first_mind os m (inside (next e))) [] false) (first_kids os m (under at 1) (inside (next e)))
+      (if n then task_then (waiting (under at 2) (first_mind v m (inside (next (next e)))) [] false) (first_kids v m (under at 2) (inside (next (next e)))) no_tasks else no_tasks))
 
   pub field_tasks : Forms → Bool → List ℕ → ℕ → Eof → Tasks
   field_tasks no_forms m at c e = no_tasks
@@ -61,7 +64,8 @@ abbrev mutual
   first_indices (dict_form o t c v f) e = []
   first_indices (zoned_form o t k stats) e = []
   first_indices (no_struct_form t) e = []
-  first_indices (list_form t n es os v) e = []
+  first_indices (list_form t true es os v) e = (e.last + 3) ∷ (first_indices es (inside e) ++ (first_indices os (inside (next e)) ++ first_indices v (inside (next (next e)))))
+  first_indices (list_form t false es os v) e = (e.last + 2) ∷ (first_indices es (inside e) ++ first_indices os (inside (next e)))
 
   pub field_indices : Forms → Eof → List ℕ
   field_indices no_forms e = []

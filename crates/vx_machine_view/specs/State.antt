@@ -19,7 +19,7 @@ pub record Stored : Type 0 where
 -- how a layout is made of the children's
 pub data Fold : Type 0 where
   fold_chunks : Ty → Fold
-  -- with the rows
+  -- of a struct's or a list's columns, with the rows
   fold_columns : Ty → ℕ → Fold
 
 -- what is left of a task's present block
@@ -39,6 +39,8 @@ pub data Mind : Type 0 where
   by_chunk : Bool → Ty → Form → Eof → ℕ → Mind
   -- a struct node's: type and rows so far
   by_column : Ty → ℕ → Mind
+  -- a list node's: elements' type, nullable, whether no chunk came, the elements and the rows so far
+  by_list : Ty → Bool → Bool → ℕ → ℕ → Mind
   -- it has seen the end of its stream
   ending : Mind
   -- it has done all

@@ -4,6 +4,7 @@
 #![tactic(auto)]
 
 ghost use Rattle.vx_machine_view.specs.Steps.{StepsShow};
+ghost use Rattle.vx_machine_view.specs.Tables.{TablesAreBuilt};
 ghost use Rattle.vx_machine_view.specs.Places.{StepsAreReady, OwnPlace, KidPlace, RestPlace, WholeIsReady, SourcePlace, RootPlace};
 ghost use Rattle.vx_machine_view.specs.Underway.{ReachedStands, AppendIsNext, WriteMoves, WriteSteps, WriteReady, WriteEnds, WriteJoins};
 ghost use Rattle.vx_machine_view.specs.Whole.{StartShows, StepShows, ReadyShows, HeldShows, FinishShows, LayoutShows, BuiltIsBuilt, SoundIsTyped, LeastAgrees};
@@ -49,9 +50,10 @@ pub fn writes()
     ensures joins { WriteJoins }
 {}
 
-/// What these laws ask of strategies, chunks and lists of paths.
+/// What these laws ask of strategies, chunks and lists of paths; a table's strategies are built where it is.
 pub fn conditions()
     ensures built { BuiltIsBuilt }
+    ensures tables { TablesAreBuilt }
     ensures typed { SoundIsTyped }
     ensures least { LeastAgrees }
 {}

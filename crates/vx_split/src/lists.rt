@@ -67,6 +67,13 @@ impl ListSplit {
         }
     }
 
+    /// Whether no chunk came.
+    pub fn is_first(&self) -> bool
+        ensures { result ≡ self.now.first }
+    {
+        self.first
+    }
+
     /// The columns of the next chunk of the type: plain ones, the first chunk with one offset more than it has rows. The
     /// elements are those that `Chunk::into_list_parts` moves or copies. Takes time by the rows, and where it copies by
     /// the elements.

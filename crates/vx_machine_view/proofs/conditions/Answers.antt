@@ -1,4 +1,5 @@
 use Rattle.vx_machine_view.proofs.Building.{built_is_built}
+use Rattle.vx_machine_view.proofs.Tabling.{tables_are_built}
 use Rattle.vx_machine_view.proofs.Sounding.{sound_is_typed, least_agrees}
 use Rattle.vx_machine_view.proofs.conditions.Goals as goal
 
@@ -10,3 +11,6 @@ returns-clause-typed c = sound_is_typed
 
 pub returns-clause-least : goal.returns-clause-least
 returns-clause-least c = least_agrees
+
+pub returns-clause-tables : goal.returns-clause-tables
+returns-clause-tables c = tables_are_built
