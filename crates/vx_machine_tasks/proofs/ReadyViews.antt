@@ -22,7 +22,7 @@ use Rattle.vx_machine_tasks.specs.declared.item.Item.{Item}
 use Rattle.vx_machine_tasks.specs.declared.item.Due.{Due}
 use Rattle.vx_machine_tasks.specs.declared.item.Due.TheVariants.{Put, Append, Close, Join}
 use Rattle.vx_machine_tasks.specs.declared.node.Local.{Local}
-use Rattle.vx_machine_tasks.specs.declared.node.Local.TheVariants.{Empty, Full, Chunked, Columns, Over, Made}
+use Rattle.vx_machine_tasks.specs.declared.node.Local.TheVariants.{Empty, Full, Chunked, Columns, Lists, Over, Made}
 use Rattle.vx_machine_tasks.specs.declared.node.Shape.{Shape}
 use Rattle.vx_machine_tasks.specs.declared.node.Shape.TheVariants as shapes
 use Rattle.vx_machine_tasks.specs.declared.task.Head.{Head}
@@ -42,6 +42,7 @@ made_view (Empty n) = refl
 made_view (Full s) = refl
 made_view (Chunked n eof rows) = refl
 made_view (Columns n rows) = refl
+made_view (Lists n rows) = refl
 made_view Over = refl
 
 over_view : (l : Local) → is_over l ≡ moves.is_over (mind_of l)
@@ -50,6 +51,7 @@ over_view (Empty n) = refl
 over_view (Full s) = refl
 over_view (Chunked n eof rows) = refl
 over_view (Columns n rows) = refl
+over_view (Lists n rows) = refl
 over_view Over = refl
 
 pub room_view : (i : ℕ) (ks : List Task) → room_at i (kids_of ks) ≡ moves.has_room i (row ks)
@@ -77,6 +79,7 @@ fold_view : (f : Shape) (ks : List Task) → can_join f (length (kids_of ks)) �
 fold_view (shapes.Chunks t) ks = refl
 fold_view (shapes.Columns n rows) ks =
     ap (λ k. k == struct_children (ty (arc_value n.dtype))) (length-map ks kid_of ∙ sym (count_row ks)) ∙ columns_view (ty (arc_value n.dtype)) (count (row ks)) n.structs
+fold_view (shapes.Lists n rows) ks = ap (λ k. k == column_count (ty (arc_value n.dtype))) (length-map ks kid_of ∙ sym (count_row ks))
 
 due_view : (u : Active) (d : Due) (ks : List Task) → may_due u d (kids_of ks) ≡ moves.may_next (fin.keys u) (row ks) (next_of d)
 due_view u (Put c i) ks = room_view c ks
