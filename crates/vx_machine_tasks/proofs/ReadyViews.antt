@@ -1,12 +1,13 @@
 -- Which tasks are ready, and how many, and when one has done all: as tasks in plain data tell it.
 use Rattle.std.proofs.Common.{◌≡◌, ℕ, zero, suc, ◌+◌, ◌-◌, ◌<◌, ◌≤◌, ◌&&◌, ◌||◌, ◌==◌, not, nat_lt, Bool, true, false, List, [], ◌∷◌, ◌++◌, map, length, vec_len, refl, sym, ap, ◌∙◌, arith}
+use Rattle.std.specs.Prelude.{if◌then◌else◌}
 use Rattle.std.specs.Arc.{arc_value}
 use Rattle.std.specs.FinMap as fin
 use Rattle.std.specs.VecDeque.{deque_len}
 use Rattle.std.proofs.lemmas.Bool.{true≢false}
 use Rattle.std.proofs.lemmas.Bool.Decides.{nat_tests}
 use Rattle.std.proofs.lemmas.List.{length-map}
-use Rattle.vx_model.specs.Ty.{Ty, boolean, primitive, utf8, binary, list, struct, extension, is_struct}
+use Rattle.vx_model.specs.Ty.{Ty, boolean, primitive, utf8, binary, list, struct, extension, is_struct, is_list, nullable}
 use Rattle.vx_model.specs.TyView.{ty}
 use Rattle.vx_sequence.specs.Universe.{Active}
 use Rattle.vx_layout_tree.specs.declared.layout.Layout.{Layout}
@@ -74,6 +75,16 @@ columns_view (utf8 b) n h = absurd (true≢false (sym h))
 columns_view (binary b) n h = absurd (true≢false (sym h))
 columns_view (list t b) n h = absurd (true≢false (sym h))
 columns_view (extension tag t) n h = absurd (true≢false (sym h))
+
+-- of a list the columns are counted by its validity
+pub lists_count : (t : Ty) → is_list t ≡ true → (if nullable t then 3 else 2) ≡ column_count t
+lists_count (list t b) h = refl
+lists_count (boolean b) h = absurd (true≢false (sym h))
+lists_count (primitive p b) h = absurd (true≢false (sym h))
+lists_count (utf8 b) h = absurd (true≢false (sym h))
+lists_count (binary b) h = absurd (true≢false (sym h))
+lists_count (struct fs b) h = absurd (true≢false (sym h))
+lists_count (extension tag t) h = absurd (true≢false (sym h))
 
 fold_view : (f : Shape) (ks : List Task) → can_join f (length (kids_of ks)) ≡ moves.can_fold (fold_of f) (count (row ks))
 fold_view (shapes.Chunks t) ks = refl
