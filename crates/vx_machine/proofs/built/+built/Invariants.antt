@@ -12,8 +12,11 @@ decreases-is_built l = 2 * depth (strategy_data l.strategy.now) + 1
 abbrev pub decreases-are_built : goal.decreases-are_built
 decreases-are_built l = 2 * depths (field_ways l.writers.now)
 
-abbrev pub decreases-all_built : goal.decreases-all_built
-decreases-all_built l = 2 * depths (path_ways l.overrides.now)
+abbrev pub decreases-overrides_built : goal.decreases-overrides_built
+decreases-overrides_built l = 2 * depths l.overrides.now.item + 1
+
+abbrev pub decreases-paths_built : goal.decreases-paths_built
+decreases-paths_built l = 2 * depths (path_ways l.writers.now)
 
 abbrev pub invariant-are_built-writers : goal.invariant-are_built-writers
 invariant-are_built-writers l = record {
@@ -21,8 +24,8 @@ invariant-are_built-writers l = record {
   fewer : depths (field_ways (drop l.writer-index l.writers)) ≤ depths (field_ways l.writers);
 }
 
-abbrev pub invariant-all_built-overrides : goal.invariant-all_built-overrides
-invariant-all_built-overrides l = record {
-  rest : are_built (path_ways (drop l.one-index l.overrides)) ≡ are_built (path_ways l.overrides);
-  fewer : depths (path_ways (drop l.one-index l.overrides)) ≤ depths (path_ways l.overrides);
+abbrev pub invariant-paths_built-writers : goal.invariant-paths_built-writers
+invariant-paths_built-writers l = record {
+  rest : are_built (path_ways (drop l.writer-index l.writers)) ≡ are_built (path_ways l.writers);
+  fewer : depths (path_ways (drop l.writer-index l.writers)) ≤ depths (path_ways l.writers);
 }
