@@ -14,6 +14,7 @@ mod join;
 mod kinds;
 mod lists;
 mod node;
+mod nodes;
 mod ready;
 mod start;
 mod step;
