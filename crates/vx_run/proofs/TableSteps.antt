@@ -78,8 +78,8 @@ struct_plain fs n None v ks ls plain both built m is ended e f = columns_below (
 -- ---- list nodes
 
 list_writers_plain : (n m : Bool) (es os v : Node) → Plain es → Plain os → Plain v → AllPlain (list_writers n m es os v)
-list_writers_plain true m es os v a b c = (λ is ended e f. a m is ended e f, λ is ended e f. b m is ended e f, λ is ended e f. c m is ended e f, tt)
-list_writers_plain false m es os v a b c = (λ is ended e f. a m is ended e f, λ is ended e f. b m is ended e f, tt)
+list_writers_plain true m es os v a b c = (λ is ended e f. a m is ended e f, (λ is ended e f. b m is ended e f, (λ is ended e f. c m is ended e f, tt)))
+list_writers_plain false m es os v a b c = (λ is ended e f. a m is ended e f, (λ is ended e f. b m is ended e f, tt))
 
 list_plain : (t : Ty) (n : Bool) (es os v : Node) → Plain es → Plain os → Plain v → Plain (list_node t n es os v)
 list_plain t n es os v a b c m [] true e f = refl
