@@ -59,8 +59,8 @@ use Rattle.vx_machine_ran.specs.Ran.{write_by, OwnSink, ShowsCounted, Onward}
 use Rattle.vx_machine_ran.specs.Runs.{Halts, StoppedHalts}
 use Rattle.vx_machine.proofs.StepShows.{asks_not, tells_memory}
 use Rattle.vx_machine_ran.specs.RefusedAct.{NextAct, IsRead, IsOwn, RefusedThere}
-use Rattle.vx_machine_ran.specs.Traced.{tasks_of, ShowsNote, IsRefusal, TracedUntil, answers_in, IsLate}
-use Rattle.vx_machine_ran.specs.Written.{AreFirst, NeedsNumber, HasCause, IsAsked}
+use Rattle.vx_machine_ran.specs.Traced.{tasks_of, ShowsNote, IsRefusal, StepsAreFirst, answers_in, IsLate}
+use Rattle.vx_machine_ran.specs.Written.{AreFirst, NeedsNumber, HasCause, AskedInSteps}
 use Rattle.vx_machine_ran.proofs.Fewness.{Few, whole_few}
 use Rattle.vx_machine_ran.proofs.Leading.{told_one, asking, runs_are_led}
 use Rattle.vx_machine_ran.proofs.Joining.{whole_join}
@@ -310,7 +310,7 @@ module _ (ctx : LayoutWriterContext) (image : ℕ → ChunkData → ChunkData) (
 
   -- what stands, by the plan of these batches
   halts : (e : WriteError) (taken bs : List ChunkData) (heard : Bool) → of_schema t taken ≡ bs → to_come ≡ before_told taken to_come_now → (heard ≡ true → NoneTold to_come_now)
-      → (heard ≡ true → OfSchema t taken) → ((f : Future) → Open heard f → (more : List Pair) × (sorted (planned g bs f).pairs ≡ x.history ++ more)) → TracedUntil (tasks bs heard) schedule steps e → IsAsked taken heard steps e
+      → (heard ≡ true → OfSchema t taken) → ((f : Future) → Open heard f → (more : List Pair) × (sorted (planned g bs f).pairs ≡ x.history ++ more)) → StepsAreFirst (tasks bs heard) schedule steps e → AskedInSteps taken heard steps e
       → ((f : Future) → Open heard f → HasCause t (is_built way ≡ false) (planned g bs f) taken next (length x.history) e) → There bs heard e → Halting e
   halts e taken bs heard is told end typed stood traced asked c there = record {
     heard = heard;
@@ -328,7 +328,7 @@ module _ (ctx : LayoutWriterContext) (image : ℕ → ChunkData → ChunkData) (
     ended = end;
     cause = λ f may. subst (λ z. HasCause t (is_built way ≡ false) (planned g z f) taken next (length (stored x.history)) e) (sym is)
         (subst (λ z. HasCause t (is_built way ≡ false) (planned g bs f) taken next z e) (sym (stored_length x.history)) (c f may));
-    traced = subst (λ z. TracedUntil (tasks z heard) schedule steps e) (sym is) traced;
+    traced = subst (λ z. StepsAreFirst (tasks z heard) schedule steps e) (sym is) traced;
     asked = asked;
     refused = subst (λ z. There z heard e) (sym is) there;
   }
@@ -337,7 +337,7 @@ module _ (ctx : LayoutWriterContext) (image : ℕ → ChunkData → ChunkData) (
       now_first f may = let m : (more : List Pair) × (sorted (planned g bs f).pairs ≡ x.history ++ more) = stood f may in (stored m.0, ap stored m.1 ∙ stored-append x.history m.0)
 
   -- each answer was asked in a step
-  all_asked : (e : WriteError) → NoBatch e → IsAsked x.taken x.heard steps e
+  all_asked : (e : WriteError) → NoBatch e → AskedInSteps x.taken x.heard steps e
   all_asked e n = inl (let a = reads in omega (arith, a, n))
 
   -- by the batches taken so far
@@ -439,13 +439,13 @@ module _ (ctx : LayoutWriterContext) (image : ℕ → ChunkData → ChunkData) (
             by_few (inl none) = absurd (subst (In z) none i)
             by_few (inr (v, one, calm)) = append h first o.notes x told f k w v law u may chosen calm one
 
-        fit_asked : IsAsked taken heard steps e
+        fit_asked : AskedInSteps taken heard steps e
         fit_asked = by_answer (refused_late x.machine.phase k t y.to_come to_come_now e told tells)
           where
             answers : answers_in taken heard ≡ answers_in x.taken x.heard + answers_of told
             answers = more_answers x.taken x.heard told once
 
-            by_answer : (told ≡ unasked) ⊎ (IsLate e × (answers_of told ≡ 1)) → IsAsked taken heard steps e
+            by_answer : (told ≡ unasked) ⊎ (IsLate e × (answers_of told ≡ 1)) → AskedInSteps taken heard steps e
             by_answer (inl i) = inl (let a = reads in let b = answers in let c : answers_of told ≡ 0 = ap answers_of i in let m = n in omega (arith, a, b, c, m))
             by_answer (inr (late, one)) = inr (late, (let a = reads in let b = answers in omega (arith, a, b, one)))
 

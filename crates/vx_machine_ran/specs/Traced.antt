@@ -48,7 +48,7 @@ IsRefusal e = ⊥
 
 -- The steps are fewer than all that these tasks have to do. Where all their work can be counted, the steps are the first of it, and all of
 -- it where a task refuses; a start that is refused has none.
-pub record TracedUntil (tasks : Forest) (schedule : List ℕ) (steps : List Step) (e : WriteError) : Type 0 where
+pub record StepsAreFirst (tasks : Forest) (schedule : List ℕ) (steps : List Step) (e : WriteError) : Type 0 where
   pub fewer : length steps < work tasks
   pub first : work tasks < 2 ^ 64 → AllPairs ShowsNote steps (take (length steps) (trace tasks schedule))
   pub all : work tasks < 2 ^ 64 → IsRefusal e → (steps ≡ []) ⊎ AllPairs ShowsNote steps (trace tasks schedule)

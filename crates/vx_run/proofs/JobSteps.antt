@@ -20,7 +20,7 @@ use Rattle.vx_machine_view.specs.Built.{is_built}
 use Rattle.vx_machine.specs.Calls.{reads_in, appends_in, misfits}
 use Rattle.vx_machine_ran.specs.Traced.{Traced}
 use Rattle.vx_machine_ran.specs.RefusedAct.{RefusedThere}
-use Rattle.vx_machine_ran.specs.Written.{Planned, Wrote, HasCause, IsAsked, Halted}
+use Rattle.vx_machine_ran.specs.Written.{Planned, Wrote, HasCause, AskedInSteps, Halted}
 use Rattle.vx_write_answer.specs.Causes.{is_source_fault, is_sink_fault, is_unbuilt}
 use Rattle.vx_write_answer.specs.declared.step.Step.{Step}
 use Rattle.vx_write_answer.specs.declared.error.WriteError.{WriteError}
@@ -160,7 +160,7 @@ unheard s w t m batches heard next schedule steps errors.SourceFault (inr (a, h)
 unheard s w t m batches heard next schedule steps e h is = absurd (let f : false ≡ true = is in cc)
 
 -- and behind as many answers as batches were taken
-answers_before : (taken : List ChunkData) (heard : Bool) (steps : List Step) (e : WriteError) → IsAsked taken heard steps e → heard ≡ false → IsTrue (is_source_fault e) → reads_in steps + misfits e ≡ length taken
+answers_before : (taken : List ChunkData) (heard : Bool) (steps : List Step) (e : WriteError) → AskedInSteps taken heard steps e → heard ≡ false → IsTrue (is_source_fault e) → reads_in steps + misfits e ≡ length taken
 answers_before taken heard steps errors.SourceFault (inl h) still is = let none : (if heard then 1 else 0) ≡ 0 = ap (λ (b : Bool). if b then 1 else 0) still in omega (arith, h, none)
 answers_before taken heard steps errors.SourceFault (inr h) still is = absurd h.0
 answers_before taken heard steps e h still is = absurd (let f : false ≡ true = is in cc)
