@@ -5,6 +5,7 @@ use Rattle.vx_write_answer.specs.declared.error.WriteError.{WriteError}
 use Rattle.vx_write_answer.specs.declared.error.WriteError.TheVariants.{SourceFault, SinkFault, CompressFault, BatchType, NotStruct, DuplicateField, ManyChunks, EmptyList, ZoneCut, ForbiddenAggregate, ForbiddenEncoding, TooLarge, OutOfMemory, Unbuilt, Stopped}
 use Rattle.vx_machine_tasks.specs.Causes.{ActMay}
 use Rattle.vx_machine.specs.Source.{SourceMay}
+use Rattle.vx_machine.specs.SourceActs.{IsElsewhere}
 use Rattle.vx_machine.specs.Whole.{StepMay}
 
 pub act_step : (e : WriteError) → ActMay e → StepMay e
@@ -40,3 +41,8 @@ source_step t (TooLarge n) h = omega (arith, h)
 source_step t OutOfMemory h = tt
 source_step t Unbuilt h = h
 source_step t (Stopped by name) h = tt
+
+-- a task's act never says that the source failed
+pub act_elsewhere : (e : WriteError) → ActMay e → IsElsewhere e
+act_elsewhere SourceFault h = h
+act_elsewhere e h = tt

@@ -12,7 +12,7 @@ use Rattle.vx_write_answer.specs.declared.error.WriteError.{WriteError}
 use Rattle.vx_write_answer.specs.declared.error.WriteError.TheVariants.{SourceFault, SinkFault, CompressFault, BatchType, NotStruct, DuplicateField, ManyChunks, EmptyList, ZoneCut, ForbiddenAggregate, ForbiddenEncoding, TooLarge, OutOfMemory, Unbuilt, Stopped}
 use Rattle.vx_machine_tasks.specs.Calls.{reads_action, append_action, CalledTimes, MaybeCalled, SinkStops}
 use Rattle.vx_machine.specs.Calls.{reads_in, appends_in, MisfitTold, SourceStops}
-use Rattle.vx_machine.specs.Run.{ReadStopped}
+use Rattle.vx_machine.specs.Run.{OfMisfit}
 
 -- ---- how often
 
@@ -152,23 +152,10 @@ module _ {S : Type 0} (faults : S → ℕ) (may must : S → ℕ → Type 0) whe
     read_passed true h is = unforced h
     read_passed false h is = absurd (true≢false (sym is))
 
-    -- of the source's errors, whether the step reads
-    pub read_stopped : (x y : Bool) (e : WriteError) → y ≡ x → SourceStops (faults b) (faults c) (may b) (may c) (must b) (must c) x e → ReadStopped y (must a n) e
-    read_stopped x y SourceFault is h = is ∙ h.0
-    read_stopped x y SinkFault is h = tt
-    read_stopped x y CompressFault is h = tt
-    read_stopped x y (BatchType p) is h = λ r. read_passed x h (sym is ∙ r)
-    read_stopped x y NotStruct is h = tt
-    read_stopped x y (DuplicateField name) is h = tt
-    read_stopped x y ManyChunks is h = tt
-    read_stopped x y EmptyList is h = tt
-    read_stopped x y (ZoneCut k) is h = tt
-    read_stopped x y (ForbiddenAggregate id) is h = tt
-    read_stopped x y (ForbiddenEncoding id) is h = tt
-    read_stopped x y (TooLarge k) is h = tt
-    read_stopped x y OutOfMemory is h = tt
-    read_stopped x y Unbuilt is h = tt
-    read_stopped x y (Stopped by name) is h = tt
+    -- of a batch of another type, where the step reads
+    pub misfit_passed : (x y : Bool) (e : WriteError) → y ≡ x → SourceStops (faults b) (faults c) (may b) (may c) (must b) (must c) x e → OfMisfit e (y ≡ true → ¬ must a n)
+    misfit_passed x y (BatchType p) is h = λ r. read_passed x h (sym is ∙ r)
+    misfit_passed x y e is h = tt
 
   -- where nothing is asked any more
   pub ended : (a b c : S) (n p : ℕ) → p ≡ n → c ≡ b → Answered faults may must a b n → FaultsTold (faults a) (faults c) (may a) (must a) p false

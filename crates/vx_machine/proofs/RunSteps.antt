@@ -21,7 +21,7 @@ use Rattle.vx_machine.specs.Calls.{reads_at}
 use Rattle.vx_machine_tasks.specs.Context.{setting_of}
 use Rattle.vx_machine_tasks.specs.Ready.{counted}
 use Rattle.vx_machine.specs.Steps.{WholeStepped, StepRefused, StepDone, StepFails}
-use Rattle.vx_machine.specs.Run.{At, at, ready_at, RunStep, Ran, Stops, stops_reading}
+use Rattle.vx_machine.specs.Run.{At, at, ready_at, RunStep, Ran, picked_at, Stops}
 use Rattle.vx_machine.specs.View.{phase_of, machine_of}
 use Rattle.vx_machine.specs.Whole.{machine_stock, machine_ready}
 use Rattle.vx_machine.proofs.ReadyViews.{machine_view}
@@ -117,9 +117,9 @@ module _ (ctx now : LayoutWriterContext) (same : now ≡ ctx) (t kind : Ty) (typ
       let k : ℕ = pick % counted (machine_ready u m) in
       let b : StepFails ctx (fin.keys u) k kind x y o (machine_of m) e = subst (λ z. StepFails z (fin.keys u) k kind x y o (machine_of m) e) same d in
       let f : StepFails ctx (fin.keys u) k t x y o (machine_of m) e = subst (λ z. StepFails ctx (fin.keys u) k z x y o (machine_of m) e) typed b in
-      let p : k ≡ slice_index schedule place % counted (ready_at (machine_of m)) = λ j. is j % counted (sym ready_counted j) in
+      let p : k ≡ picked_at schedule place (machine_of m) = λ j. is j % counted (sym ready_counted j) in
       inr (some_ready, subst (λ z. StepFails ctx (whole.machine_ids (machine_of m)) z t x y o (machine_of m) e) p (fails_held u m exact ctx k t x y o e f))
 
   -- whether the source reads in it
-  pub reads_same : stops_reading schedule place (machine_of m) ≡ reads_at (phase_of m.phase) (pick % counted (machine_ready u m))
+  pub reads_same : reads_at (phase_of m.phase) (picked_at schedule place (machine_of m)) ≡ reads_at (phase_of m.phase) (pick % counted (machine_ready u m))
   reads_same = λ j. reads_at (phase_of m.phase) (sym is j % counted (ready_counted j))

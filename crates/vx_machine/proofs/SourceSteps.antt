@@ -103,7 +103,7 @@ module _ (t : Ty) (told : Option (List ChunkData)) where
       (record { told = unasked; asks = refl; tells = refl; kind = refl; fits = refl; counted = none_fit; left = λ j. whole_at (reading e) (l j) })
 
   pub put_refused : (e : Eof) (i : Piece) (phase : Phase) (root : Tasks) → phase ≡ giving e i → SourceRefused t told told phase root OutOfMemory
-  put_refused e i phase root is = subst (λ p. SourceRefused t told told p root OutOfMemory) (sym is) (record { told = unasked; asks = refl; tells = refl; cause = tt })
+  put_refused e i phase root is = subst (λ p. SourceRefused t told told p root OutOfMemory) (sym is) (record { told = unasked; asks = refl; tells = (refl, tt); cause = tt })
 
   pub close_done : (phase : Phase) (x : Task) (new : Tasks) → phase ≡ closing → new ≡ task_then (shut_desk (desk_of (out-Task x).head)) (row (out-Task x).kids.items) no_tasks
       → SourceActed t told told phase finished (task_row x no_tasks) new Close

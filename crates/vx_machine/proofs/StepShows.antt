@@ -16,7 +16,7 @@ use Rattle.vx_machine_view.specs.Machine as whole
 use Rattle.vx_machine_view.specs.Places.{one_if}
 use Rattle.vx_machine_view.proofs.Placing.{source_place, root_place}
 use Rattle.vx_machine_tasks.specs.Acting.{Behind}
-use Rattle.vx_machine.specs.SourceActs.{AsksAt, TellsNothing, TellsRefused, whole_at, SourceActed, SourceRefused}
+use Rattle.vx_machine.specs.SourceActs.{AsksAt, IsElsewhere, TellsNothing, TellsRefused, whole_at, SourceActed, SourceRefused}
 use Rattle.vx_machine_tasks.specs.Steps.{TaskStepped, TaskRefused}
 use Rattle.vx_machine.specs.Steps.{WholeStepped, StepRefused}
 use Rattle.vx_machine_tasks.proofs.RefusalSteps.{any_past}
@@ -28,19 +28,19 @@ asks_not (whole.giving e i) k = refl
 asks_not whole.closing k = refl
 asks_not whole.finished k = refl
 
-tells_none : (p : whole.Phase) (root : Tasks) (k j : ℕ) (t : Ty) (before now : Option (List ChunkData)) (e : WriteError) → k ≡ one_if (whole.may_source p root) + j → now ≡ before → TellsNothing p k t before now e
-tells_none (whole.reading d) root zero j t before now e is h = absurd (omega (arith, is))
-tells_none (whole.reading d) root (suc k) j t before now e is h = h
-tells_none (whole.giving d i) root k j t before now e is h = h
-tells_none whole.closing root k j t before now e is h = h
-tells_none whole.finished root k j t before now e is h = h
+tells_none : (p : whole.Phase) (root : Tasks) (k j : ℕ) (t : Ty) (before now : Option (List ChunkData)) (e : WriteError) → k ≡ one_if (whole.may_source p root) + j → now ≡ before → IsElsewhere e → TellsNothing p k t before now e
+tells_none (whole.reading d) root zero j t before now e is h n = absurd (omega (arith, is))
+tells_none (whole.reading d) root (suc k) j t before now e is h n = (h, n)
+tells_none (whole.giving d i) root k j t before now e is h n = (h, n)
+tells_none whole.closing root k j t before now e is h n = (h, n)
+tells_none whole.finished root k j t before now e is h n = (h, n)
 
 pub tells_memory : (p : whole.Phase) (k : ℕ) (t : Ty) (before now : Option (List ChunkData)) → now ≡ before → TellsNothing p k t before now OutOfMemory
 tells_memory (whole.reading d) zero t before now h = (h, tt)
-tells_memory (whole.reading d) (suc k) t before now h = h
-tells_memory (whole.giving d i) k t before now h = h
-tells_memory whole.closing k t before now h = h
-tells_memory whole.finished k t before now h = h
+tells_memory (whole.reading d) (suc k) t before now h = (h, tt)
+tells_memory (whole.giving d i) k t before now h = (h, tt)
+tells_memory whole.closing k t before now h = (h, tt)
+tells_memory whole.finished k t before now h = (h, tt)
 
 -- what never changes of the source's steps
 record Fixed (w : whole.WholeStep) : Type 0 where
@@ -122,12 +122,12 @@ module _ (s : Setting) (all : List (List ℕ)) (number : ℕ) (t : Ty) (before :
       outlet = w.outlet;
     }
 
-    pub root_refused : (e : WriteError) → TaskRefused s all j before number root e → StepRefused s all picked t to_come to_come_then before number (whole_at phase root) e
-    root_refused e w = record {
+    pub root_refused : (e : WriteError) → IsElsewhere e → TaskRefused s all j before number root e → StepRefused s all picked t to_come to_come_then before number (whole_at phase root) e
+    root_refused e elsewhere w = record {
       told = unasked;
       step = whole.in_root phase w.step;
       place = root_at w.step w.place;
       asks = asks_not phase picked;
-      tells = tells_none phase root picked j t to_come to_come_then e is silent;
+      tells = tells_none phase root picked j t to_come to_come_then e is silent elsewhere;
       cause = w.cause;
     }

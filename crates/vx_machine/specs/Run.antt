@@ -1,5 +1,5 @@
 -- A run of the machine: its steps, one after the other.
-use Rattle.std.specs.Prelude.{◌≡◌, ◌⊎◌, ◌%◌, ◌<◌, ℕ, suc, Bool, true, false, List, [], ◌∷◌, length, Option, Some, None, slice_index}
+use Rattle.std.specs.Prelude.{◌≡◌, ◌⊎◌, ◌%◌, ◌<◌, ℕ, suc, true, false, List, [], ◌∷◌, length, Option, Some, None, slice_index}
 use Rattle.vx_model.specs.Ty.{Ty}
 use Rattle.vx_model.specs.ChunkData.{ChunkData}
 use Rattle.vx_layout_tree.specs.declared.layout.Layout.{Layout}
@@ -8,7 +8,7 @@ use Rattle.vx_order.specs.Outlet.{Outlet}
 use Rattle.vx_sink.specs.declared.context.LayoutWriterContext.{LayoutWriterContext}
 use Rattle.vx_write_answer.specs.declared.step.Step.{Step}
 use Rattle.vx_write_answer.specs.declared.error.WriteError.{WriteError}
-use Rattle.vx_write_answer.specs.declared.error.WriteError.TheVariants.{SourceFault, BatchType, OutOfMemory}
+use Rattle.vx_write_answer.specs.declared.error.WriteError.TheVariants.{BatchType, OutOfMemory}
 use Rattle.vx_machine_view.specs.Acts.{layouts_in}
 use Rattle.vx_machine_view.specs.Machine.{Machine, is_finished, machine_ids}
 use Rattle.vx_machine_view.specs.Places.{whole_ready}
@@ -54,10 +54,14 @@ pub record RunDone (ctx : LayoutWriterContext) (t : Ty) (schedule : List ℕ) (x
   pub sink : outlet ≡ end.outlet
   pub left : Ends end.machine l
 
--- memory ran out before a step, or one was refused
+-- the place that the schedule picks
+abbrev pub picked_at : List ℕ → ℕ → Machine → ℕ
+picked_at schedule place m = slice_index schedule place % counted (ready_at m)
+
+-- memory ran out before a step, where the machine hasn't finished, or one was refused
 abbrev pub Stops : LayoutWriterContext → Ty → List ℕ → ℕ → At → Option (List ChunkData) → WriteError → Type 0
-Stops ctx t schedule place x to_come e = ((e ≡ OutOfMemory) × (to_come ≡ x.to_come))
-    ⊎ ((0 < ready_at x.machine) × StepFails ctx (machine_ids x.machine) (slice_index schedule place % counted (ready_at x.machine)) t x.to_come to_come x.outlet x.machine e)
+Stops ctx t schedule place x to_come e = ((e ≡ OutOfMemory) × (to_come ≡ x.to_come) × (is_finished x.machine ≡ false))
+    ⊎ ((0 < ready_at x.machine) × StepFails ctx (machine_ids x.machine) (picked_at schedule place x.machine) t x.to_come to_come x.outlet x.machine e)
 
 pub record RunStopped (ctx : LayoutWriterContext) (t : Ty) (schedule : List ℕ) (x : At) (trace : List Step) (to_come : Option (List ChunkData)) (outlet : Outlet) (e : WriteError) : Type 0 where
   pub end : At
@@ -65,17 +69,13 @@ pub record RunStopped (ctx : LayoutWriterContext) (t : Ty) (schedule : List ℕ)
   pub kept : Kept end.outlet outlet
   pub stops : Stops ctx t schedule (length trace) end to_come e
 
--- The same, and of the source's error whether the step that was refused is a read: where the source failed it is. Where a read gave a
--- batch of another type, the call of the source behind those that the trace has isn't one that must fail.
-abbrev pub ReadStopped : Bool → Type 0 → WriteError → Type 0
-ReadStopped reads must SourceFault = reads ≡ true
-ReadStopped reads must (BatchType c) = reads ≡ true → ¬ must
-ReadStopped reads must e = Unit {0}
+-- of a batch of another type alone
+abbrev pub OfMisfit : WriteError → Type 0 → Type 0
+OfMisfit (BatchType c) P = P
+OfMisfit e P = Unit {0}
 
--- where the step at the end is the source's, and it reads
-abbrev pub stops_reading : List ℕ → ℕ → Machine → Bool
-stops_reading schedule place m = reads_at m.phase (slice_index schedule place % counted (ready_at m))
-
-pub record StopTold (ctx : LayoutWriterContext) (t : Ty) (schedule : List ℕ) (x : At) (trace : List Step) (to_come : Option (List ChunkData)) (outlet : Outlet) (must : ℕ → Type 0) (e : WriteError) : Type 0 where
+-- the same, where these calls of the source must fail
+pub record RunTold (ctx : LayoutWriterContext) (t : Ty) (schedule : List ℕ) (x : At) (trace : List Step) (to_come : Option (List ChunkData)) (outlet : Outlet) (must : ℕ → Type 0) (e : WriteError) : Type 0 where
   pub stop : RunStopped ctx t schedule x trace to_come outlet e
-  pub passed : ReadStopped (stops_reading schedule (length trace) stop.end.machine) (must (reads_in trace)) e
+  -- where the step that was refused is a read, which gave a batch of another type: this call wasn't one of them
+  pub passed : OfMisfit e (reads_at stop.end.machine.phase (picked_at schedule (length trace) stop.end.machine) ≡ true → ¬ must (reads_in trace))

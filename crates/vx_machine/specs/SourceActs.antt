@@ -7,7 +7,7 @@ use Rattle.vx_layout_spec.specs.Real.{Of}
 use Rattle.vx_fault.specs.Told.{NoneTold}
 use Rattle.vx_write_answer.specs.declared.step.ActionKind.{ActionKind}
 use Rattle.vx_write_answer.specs.declared.error.WriteError.{WriteError}
-use Rattle.vx_write_answer.specs.declared.error.WriteError.TheVariants.{TooLarge}
+use Rattle.vx_write_answer.specs.declared.error.WriteError.TheVariants.{SourceFault, TooLarge}
 use Rattle.vx_machine_promises.specs.Write.{Answer, unasked, came, over}
 use Rattle.vx_machine_view.specs.State.{Tasks}
 use Rattle.vx_machine_view.specs.Machine.{Phase, reading, giving, closing, finished, Machine, source_step}
@@ -25,15 +25,20 @@ abbrev pub IsLate : WriteError → Type 0
 IsLate (TooLarge n) = Unit {0}
 IsLate e = ⊥
 
--- The same where the step is refused. Where it is asked, it may also have told a batch of another type, or failed. Behind its end
--- nothing is refused.
+-- an error that doesn't say that the source failed
+abbrev pub IsElsewhere : WriteError → Type 0
+IsElsewhere SourceFault = ⊥
+IsElsewhere e = Unit {0}
+
+-- The same where the step is refused. Where it is asked, it may also have told a batch of another type, or failed, and it fails nowhere
+-- else. Behind its end nothing is refused.
 
 abbrev pub TellsNothing : Phase → ℕ → Ty → Option (List ChunkData) → Option (List ChunkData) → WriteError → Type 0
 TellsNothing (reading e) zero t before now error = ReadsNone before now error × SourceMay t error
-TellsNothing (reading e) (suc k) t before now error = now ≡ before
-TellsNothing (giving e i) k t before now error = now ≡ before
-TellsNothing closing k t before now error = now ≡ before
-TellsNothing finished k t before now error = now ≡ before
+TellsNothing (reading e) (suc k) t before now error = (now ≡ before) × IsElsewhere error
+TellsNothing (giving e i) k t before now error = (now ≡ before) × IsElsewhere error
+TellsNothing closing k t before now error = (now ≡ before) × IsElsewhere error
+TellsNothing finished k t before now error = (now ≡ before) × IsElsewhere error
 
 abbrev pub TellsRefused : Phase → ℕ → Ty → Option (List ChunkData) → Option (List ChunkData) → WriteError → Answer → Type 0
 TellsRefused p k t before now e unasked = TellsNothing p k t before now e

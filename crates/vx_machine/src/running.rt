@@ -6,7 +6,7 @@ ghost use Rattle.vx_machine_ids.specs.Stock.{none, both};
 ghost use Rattle.vx_machine_ids.specs.Balance.{Owned, Moved, Exact};
 ghost use Rattle.vx_write_answer.specs.Causes.{errs, is_source_fault, is_sink_fault};
 ghost use Rattle.vx_machine.specs.Calls.{reads_in, appends_in};
-ghost use Rattle.vx_machine.specs.Run.{at, RunDone, RunStopped, StopTold};
+ghost use Rattle.vx_machine.specs.Run.{at, RunDone, RunTold};
 ghost use Rattle.vx_machine.specs.View.{machine_of};
 ghost use Rattle.vx_machine.specs.Whole.{machine_stock, StepMay};
 
@@ -54,11 +54,7 @@ pub fn run<B: BatchSource, O: Order, C: CompressorPlugin>(
     ensures ran { trace.old.items ≡ [] → Exact (O.active order.old) (machine_stock machine)
         → MatchResult result
         (RunDone ctx.old (B.kind source.old) schedule.now (at (machine_of machine) (B.to_come source.old) (O.outlet order.old)) trace.new.items (B.to_come source.new) (O.outlet order.new))
-        (RunStopped ctx.old (B.kind source.old) schedule.now (at (machine_of machine) (B.to_come source.old) (O.outlet order.old)) trace.new.items (B.to_come source.new) (O.outlet order.new)) }
-    // Where the source failed, the step that was refused reads; where it gave a batch of another type, this call of it wasn't one that must
-    // fail.
-    ensures misfit { trace.old.items ≡ [] → Exact (O.active order.old) (machine_stock machine)
-        → IfErr result (StopTold ctx.old (B.kind source.old) schedule.now (at (machine_of machine) (B.to_come source.old) (O.outlet order.old)) trace.new.items (B.to_come source.new) (O.outlet order.new)
+        (RunTold ctx.old (B.kind source.old) schedule.now (at (machine_of machine) (B.to_come source.old) (O.outlet order.old)) trace.new.items (B.to_come source.new) (O.outlet order.new)
         (B.must_fail source.old)) }
     ensures context { ctx.new ≡ ctx.old }
     ensures compressor { compressor.new ≡ compressor.old }

@@ -34,6 +34,7 @@ use Rattle.vx_machine_tasks.specs.Starting.{FormRefused}
 use Rattle.vx_machine.specs.Starting.{WholeRefused}
 use Rattle.vx_machine_tasks.specs.View.{form_at}
 use Rattle.vx_machine_ran.specs.Ran.{write_by, OwnSink, own_sink}
+use Rattle.vx_machine_ran.specs.RefusedAct.{StartRefuses}
 use Rattle.vx_machine_ran.specs.Traced.{tasks_of}
 use Rattle.vx_machine_ran.specs.Runs.{AllDone, DoneIsWritten, Halts, StoppedHalts, IsLeft, RunsLeaveSinks}
 use Rattle.vx_machine_ran.specs.Written.{AreFirst, NeedsNumber, HasCause, Halted}
@@ -60,9 +61,9 @@ module _ (faults : StartFaultStands) (agree : StartFaultsAgree) (counts : StartI
   abbrev g : Write
   g = write_by ctx image w t
 
-  -- no batch was read, and whatever comes, this is the cause
+  -- no batch was read, whatever comes, this is the cause, and the start's own
   abbrev Cause : WriteError → Type 0
-  Cause e = (misfits e ≡ 0) × ((f : Future) → HasCause t (is_built w ≡ false) (planned g [] f) [] first 0 e)
+  Cause e = (misfits e ≡ 0) × ((f : Future) → HasCause t (is_built w ≡ false) (planned g [] f) [] first 0 e) × StartRefuses s w t m e
 
   -- nothing stands
   none_stands : (schedule : List ℕ) (e : WriteError) → Cause e → Halts g first first to_come to_come before before schedule [] e
@@ -73,19 +74,22 @@ module _ (faults : StartFaultStands) (agree : StartFaultsAgree) (counts : StartI
     typed = λ h. tt;
     ended = λ h. absurd (true≢false (sym h));
     cause = λ f still. c.1 f;
-    traced = record { fewer = inr (source_works s w t m false); first = λ short. tt; all = λ short i. inl refl };
+    traced = record { fewer = source_works s w t m false; first = λ short. tt; all = λ short i. inl refl };
     asked = inl (let a = c.0 in omega (arith, a));
-    appended = omega arith;
+    refused = inl (c.2, refl, refl);
   }
 
+  starts_with : (x : What) → ((z : Setting) → form_fault z (form_at w t) m ≡ Some x) → start_fault s w t m ≡ Some x
+  starts_with x h = sym (agree s w t m) ∙ h s
+
   fault_stands : (x : What) (f : Future) → ((z : Setting) → form_fault z (form_at w t) m ≡ Some x) → Has x (planned g [] f).faults
-  fault_stands x f h = faults s w t m x (sym (agree s w t m) ∙ h s) (batch_items 0 f.later) f.fits root_eof
+  fault_stands x f h = faults s w t m x (starts_with x h) (batch_items 0 f.later) f.fits root_eof
 
   form_cause : is_built w ≡ true → (e : WriteError) → FormRefused (form_at w t) m root_eof e → Cause e
-  form_cause b NotStruct h = (refl, λ f. fault_stands not_struct f h)
-  form_cause b (DuplicateField name) h = (refl, λ f. fault_stands (duplicate_field name) f h)
-  form_cause b (TooLarge n) h = (refl, λ f. inr (subst (λ z. IsPast z (planned g [] f).numbers) (sym h.0) (counts g f h.1.0 b h.1.1 h.1.2)))
-  form_cause b OutOfMemory h = (refl, λ f. tt)
+  form_cause b NotStruct h = (refl, λ f. fault_stands not_struct f h, starts_with not_struct h)
+  form_cause b (DuplicateField name) h = (refl, λ f. fault_stands (duplicate_field name) f h, starts_with (duplicate_field name) h)
+  form_cause b (TooLarge n) h = (refl, λ f. inr (subst (λ z. IsPast z (planned g [] f).numbers) (sym h.0) (counts g f h.1.0 b h.1.1 h.1.2)), h)
+  form_cause b OutOfMemory h = (refl, λ f. tt, tt)
   form_cause b SourceFault h = absurd h
   form_cause b SinkFault h = absurd h
   form_cause b CompressFault h = absurd h
@@ -99,11 +103,11 @@ module _ (faults : StartFaultStands) (agree : StartFaultsAgree) (counts : StartI
   form_cause b (Stopped by name) h = absurd h
 
   start_cause : (e : WriteError) → (e ≡ OutOfMemory) ⊎ WholeRefused (is_built w) (form_at w t) m root_eof e → Cause e
-  start_cause e (inl is) = subst Cause (sym is) (refl, λ f. tt)
+  start_cause e (inl is) = subst Cause (sym is) (refl, λ f. tt, tt)
   start_cause e (inr h) = by (is_built w) refl h
     where
       by : (b : Bool) → is_built w ≡ b → WholeRefused b (form_at w t) m root_eof e → Cause e
-      by false is x = subst Cause (sym x) (refl, λ f. is)
+      by false is x = subst Cause (sym x) (refl, λ f. is, is)
       by true is x = form_cause is e x
 
 -- ---- what the source told, and what it still tells
@@ -183,7 +187,7 @@ halted g first next to_come to_come_now before now schedule steps e h = record {
       (h.cause (none_later h.heard) (open_none h.heard));
   traced = h.traced;
   asked = h.asked;
-  appended = h.appended;
+  refused = h.refused;
 }
 
 module _ (done : DoneIsWritten) (stopped : StoppedHalts) (left : RunsLeaveSinks) (faults : StartFaultStands) (agree : StartFaultsAgree) (counts : StartIsCaused) (ctx : LayoutWriterContext)

@@ -1,4 +1,6 @@
 mod Fewness
+mod Joining
+mod Refusing
 mod Leading
 mod Tracing
 mod Writing

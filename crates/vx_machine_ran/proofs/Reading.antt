@@ -14,7 +14,7 @@ use Rattle.vx_machine_runs.proofs.Stepping.{places}
 use Rattle.vx_machine.specs.Calls.{reads_at}
 use Rattle.vx_machine_tasks.specs.Context.{setting_of}
 use Rattle.vx_machine.specs.Steps.{StepRefused}
-use Rattle.vx_machine.specs.Run.{Stops, stops_reading}
+use Rattle.vx_machine.specs.Run.{picked_at, Stops}
 use Rattle.vx_machine_ran.specs.Ran.{write_by, Onward}
 use Rattle.vx_machine_ran.specs.Answered.{MisfitsAreRead}
 use Rattle.vx_machine_ran.proofs.Leading.{runs_are_led}
@@ -46,6 +46,6 @@ misfits_are_read run agree ctx image w t schedule to_come to_come_now borrow fir
     refused k x = reads k x.told (misfit_is_read (scheduled g (places o.notes)) first o.notes o.stand x.told k x.step u
         (subst (λ m. nth (whole_steps (setting_of ctx image) (machine_ids m) (first + length o.stand.history) x.told m) k ≡ Some x.step) o.same.machine_is x.place) x.cause)
 
-    by : Stops ctx t schedule (length steps) r.end to_come_now (BatchType c) → stops_reading schedule (length steps) r.end.machine ≡ true
-    by (inl (e, same)) = absurd (no_memory e)
+    by : Stops ctx t schedule (length steps) r.end to_come_now (BatchType c) → reads_at r.end.machine.phase (picked_at schedule (length steps) r.end.machine) ≡ true
+    by (inl (e, same, going)) = absurd (no_memory e)
     by (inr (some, fails)) = refused _ (fails image (first + length o.stand.history))

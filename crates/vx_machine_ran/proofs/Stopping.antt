@@ -2,6 +2,7 @@
 use Rattle.std.proofs.Common.{◌≡◌, ◌+◌, ◌%◌, ◌^◌, ◌<◌, ◌≤◌, ◌⊎◌, ◌∷◌, ◌++◌, ◌∙◌, ℕ, zero, suc, Bool, true, false, List, take, length, refl, sym, ap, subst, inl, inr, arith, Option, Some, None, if◌then◌else◌, append-nil, length-append, slice_index, []}
 use Rattle.std.specs.Prelude.{IsTrue}
 use Rattle.std.proofs.lemmas.Bool.{true≢false}
+use Rattle.std.proofs.Math.Nat.{mod-lt}
 use Rattle.vx_model.specs.Ty.{Ty}
 use Rattle.vx_model.specs.ChunkData.{ChunkData}
 use Rattle.vx_fault.specs.Told.{before_told, then_told, NoneTold}
@@ -10,6 +11,7 @@ use Rattle.vx_path.specs.Path.{Eof}
 use Rattle.vx_layout_spec.specs.Codec.{Lawful}
 use Rattle.vx_tasks.specs.Task.{Forest}
 use Rattle.vx_tasks.specs.Run.{nth, trace, work}
+use Rattle.vx_tasks.proofs.Picks.{nth_there}
 use Rattle.vx_cut_laws.specs.Cut.{cut}
 use Rattle.vx_strategy_spec.specs.StrategyData.{StrategyData}
 use Rattle.vx_plan.specs.PlanData.{Setting, Pair, Plan, What, stored}
@@ -25,14 +27,16 @@ use Rattle.vx_write_answer.specs.declared.error.WriteError.{WriteError}
 use Rattle.vx_write_answer.specs.declared.error.WriteError.TheVariants.{SourceFault, SinkFault, CompressFault, BatchType, NotStruct, DuplicateField, ManyChunks, EmptyList, ZoneCut, ForbiddenAggregate, ForbiddenEncoding, TooLarge, OutOfMemory, Unbuilt, Stopped}
 use Rattle.vx_machine_promises.specs.Write.{Write, Future, Open, Answer, unasked, came, over, scripts, planned, taken_by, heard_by, before}
 use Rattle.vx_machine_view.specs.Built.{is_built}
-use Rattle.vx_machine_view.specs.Machine.{Phase, reading, giving, closing, finished, Machine, may_source, WholeStep, source_step, whole_steps, machine_ids}
+use Rattle.vx_machine_view.specs.Machine.{Phase, reading, giving, closing, finished, Machine, may_source, WholeStep, source_step, whole_steps, is_finished, machine_ids}
+use Rattle.vx_machine_steps.specs.Moves.{TreeMove}
 use Rattle.vx_machine_view.specs.Steps.{AllPairs}
+use Rattle.vx_machine_view.specs.Whole.{Asks}
 use Rattle.vx_machine_view.specs.Underway.{ready_steps}
 use Rattle.vx_machine_view.proofs.Placing.{source_place, whole_is_ready}
 use Rattle.vx_machine_view.proofs.Sounding.{sound_is_typed}
 use Rattle.vx_machine_view.proofs.Words.{pairs_length}
 use Rattle.vx_machine_runs.specs.Runs.{Stand, outset, Asking, TypedAnswer, BeforeEnd, Chosen, scheduled, UnderwayAt, RunByIsUnderway, RunIsUnderway}
-use Rattle.vx_machine_runs.specs.Ends.{plan_of, Caused, StepsHaveCause}
+use Rattle.vx_machine_runs.specs.Ends.{plan_of, StaysReady, Caused, StepsHaveCause}
 use Rattle.vx_machine_runs.specs.Steps.{HistoryIsFront, AppendIsOneMore}
 use Rattle.vx_machine_runs.specs.Answers.{TakenAlone}
 use Rattle.vx_machine_runs.specs.Picks.{ReadyIsWithinAll}
@@ -41,23 +45,27 @@ use Rattle.vx_machine_runs.proofs.Asking.{asked_before_end, taken_are_typed, ans
 use Rattle.vx_machine_runs.proofs.Ending.{none_later, open_none, none_planned}
 use Rattle.vx_machine_runs.proofs.Misfits.{misfit_is_read}
 use Rattle.vx_machine_runs.proofs.Sounding.{past_is_caused}
-use Rattle.vx_machine_runs.proofs.Stepping.{open_before, places, some_same}
+use Rattle.vx_machine_runs.proofs.Stepping.{open_before, asks_so, places, some_same}
 use Rattle.vx_machine_runs.proofs.Tracing.{same_scripts}
 use Rattle.vx_machine.specs.Calls.{reads_in, misfits}
 use Rattle.vx_machine_tasks.specs.Context.{setting_of}
-use Rattle.vx_machine_tasks.specs.Outcome.{Kept, Refused, Past, Appending}
+use Rattle.vx_machine_tasks.specs.Outcome.{Kept, Past, Appending}
 use Rattle.vx_machine.specs.Source.{ReadsNone, SourceMay}
-use Rattle.vx_machine.specs.SourceActs.{AsksAt, TellsNothing, TellsRefused}
+use Rattle.vx_machine.specs.SourceActs.{AsksAt, IsElsewhere, TellsNothing, TellsRefused}
 use Rattle.vx_machine.specs.Steps.{StepRefused}
 use Rattle.vx_machine_tasks.specs.Ready.{counted}
 use Rattle.vx_machine.specs.Run.{At, ready_at, Stops}
 use Rattle.vx_machine_ran.specs.Ran.{write_by, OwnSink, ShowsCounted, Onward}
 use Rattle.vx_machine_ran.specs.Runs.{Halts, StoppedHalts}
-use Rattle.vx_machine_ran.specs.Traced.{tasks_of, ShowsNote, IsRefusal, TracedUntil, answers_in, IsLate}
-use Rattle.vx_machine_ran.specs.Written.{AreFirst, NeedsNumber, HasCause, IsAsked}
+use Rattle.vx_machine.proofs.StepShows.{asks_not, tells_memory}
+use Rattle.vx_machine_ran.specs.RefusedAct.{NextAct, IsRead, IsOwn, RefusedThere}
+use Rattle.vx_machine_ran.specs.Traced.{tasks_of, ShowsNote, IsRefusal, StepsAreFirst, answers_in, IsLate}
+use Rattle.vx_machine_ran.specs.Written.{AreFirst, NeedsNumber, HasCause, AskedInSteps}
 use Rattle.vx_machine_ran.proofs.Fewness.{Few, whole_few}
 use Rattle.vx_machine_ran.proofs.Leading.{told_one, asking, runs_are_led}
-use Rattle.vx_machine_ran.proofs.Tracing.{reads_are, appends_are, traced_front, refused_last, misfit_last}
+use Rattle.vx_machine_ran.proofs.Joining.{whole_join}
+use Rattle.vx_machine_ran.proofs.Refusing.{RefusedBy, SameAct, own, own_read, next_act}
+use Rattle.vx_machine_ran.proofs.Tracing.{reads_are, traced_front, refused_last, misfit_last}
 use Rattle.vx_machine_ran.proofs.Writing.{stored_length, own_more, under}
 
 stored-append : (xs ys : List Pair) → stored (xs ++ ys) ≡ stored xs ++ stored ys
@@ -105,10 +113,20 @@ reads_same before now (Stopped by name) n h = h
 
 nothing_told : (p : Phase) (k : ℕ) (t : Ty) (before now : Option (List ChunkData)) (e : WriteError) → NoBatch e → TellsNothing p k t before now e → now ≡ before
 nothing_told (reading d) zero t before now e n h = reads_same before now e n h.0
-nothing_told (reading d) (suc k) t before now e n h = h
-nothing_told (giving d i) k t before now e n h = h
-nothing_told closing k t before now e n h = h
-nothing_told finished k t before now e n h = h
+nothing_told (reading d) (suc k) t before now e n h = h.0
+nothing_told (giving d i) k t before now e n h = h.0
+nothing_told closing k t before now e n h = h.0
+nothing_told finished k t before now e n h = h.0
+
+-- where it failed, it read
+fault_reads : (p : Phase) (k : ℕ) (t : Ty) (before now : Option (List ChunkData)) (a : Answer) → TellsRefused p k t before now SourceFault a → (d : Eof) × (p ≡ reading d) × (k ≡ 0) × (a ≡ unasked)
+fault_reads (reading d) zero t before now unasked h = (d, refl, refl, refl)
+fault_reads (reading d) (suc k) t before now unasked h = absurd h.1
+fault_reads (giving d i) k t before now unasked h = absurd h.1
+fault_reads closing k t before now unasked h = absurd h.1
+fault_reads finished k t before now unasked h = absurd h.1
+fault_reads p k t before now (came b) h = absurd h.0
+fault_reads p k t before now over h = absurd h
 
 refused_typed : (p : Phase) (k : ℕ) (t : Ty) (before now : Option (List ChunkData)) (e : WriteError) (a : Answer) → TellsRefused p k t before now e a → TypedAnswer t a
 refused_typed p k t before now e unasked h = tt
@@ -148,10 +166,6 @@ more_answers taken heard (came b) once = let n : length (taken ++ (b ∷ [])) �
 more_answers taken heard over once = let n : flag heard ≡ 0 = ap flag once in omega (arith, n)
 
 -- ---- causes
-
--- why a step is refused over this sink
-abbrev RefusedBy : WholeStep → Outlet → WriteError → Type 0
-RefusedBy w o e = Refused w.refusal w.misfit w.numbers w.indices w.wrote (PastLast o) (IsShared o) w.joined e
 
 module _ (t : Ty) (unbuilt : Type 0) (p : Plan) (taken : List ChunkData) (next stand : ℕ) where
   abbrev Cause : WriteError → Type 0
@@ -231,7 +245,7 @@ read_is s all number a m d w is at =
 module _ (ctx : LayoutWriterContext) (image : ℕ → ChunkData → ChunkData) (way : StrategyData) (t : Ty) (to_come : Option (List ChunkData)) (borrow first : ℕ) (before_it : Option (List (List ℕ)))
     (law : Lawful (setting_of ctx image).codec (setting_of ctx image).encodings) (built : IsTrue (is_built way)) (clean : start_fault (setting_of ctx image) way t (is_marked ctx) ≡ None)
     (schedule : List ℕ) (steps : List Step) (y : At) (o : Onward (write_by ctx image way t) to_come borrow first before_it schedule 0 (outset (write_by ctx image way t)) steps y)
-    (run : RunIsUnderway) (by : RunByIsUnderway) (front : HistoryIsFront) (causes : StepsHaveCause) (append : AppendIsOneMore) (firsts : NotesAreFirst) (refused_at : RefusalIsLast) (misfit_at : MisfitIsLast) (within : ReadyIsWithinAll) (next_within : NextIsWithinWork) (more_at : ReadyIsMore)
+    (run : RunIsUnderway) (by : RunByIsUnderway) (front : HistoryIsFront) (causes : StepsHaveCause) (append : AppendIsOneMore) (firsts : NotesAreFirst) (refused_at : RefusalIsLast) (misfit_at : MisfitIsLast) (within : ReadyIsWithinAll) (next_within : NextIsWithinWork) (more_at : ReadyIsMore) (stays : StaysReady)
     (to_come_now : Option (List ChunkData)) (next : ℕ) (now : Option (List (List ℕ))) (sink : (next ≡ first + length o.stand.history) × (now ≡ then_told before_it (stored o.stand.history))) where
   abbrev g : Write
   g = write_by ctx image way t
@@ -254,6 +268,9 @@ module _ (ctx : LayoutWriterContext) (image : ℕ → ChunkData → ChunkData) (
 
   abbrev Halting : WriteError → Type 0
   Halting e = Halts g first next to_come to_come_now before_it now schedule steps e
+
+  abbrev There : List ChunkData → Bool → WriteError → Type 0
+  There bs heard e = RefusedThere (setting_of ctx image) way t (is_marked ctx) bs heard next schedule steps e
 
   abbrev tasks : List ChunkData → Bool → Forest
   tasks bs heard = tasks_of (setting_of ctx image) way t (is_marked ctx) bs heard
@@ -293,9 +310,9 @@ module _ (ctx : LayoutWriterContext) (image : ℕ → ChunkData → ChunkData) (
 
   -- what stands, by the plan of these batches
   halts : (e : WriteError) (taken bs : List ChunkData) (heard : Bool) → of_schema t taken ≡ bs → to_come ≡ before_told taken to_come_now → (heard ≡ true → NoneTold to_come_now)
-      → (heard ≡ true → OfSchema t taken) → ((f : Future) → Open heard f → (more : List Pair) × (sorted (planned g bs f).pairs ≡ x.history ++ more)) → TracedUntil (tasks bs heard) schedule steps e → IsAsked taken heard steps e
-      → ((f : Future) → Open heard f → HasCause t (is_built way ≡ false) (planned g bs f) taken next (length x.history) e) → Halting e
-  halts e taken bs heard is told end typed stood traced asked c = record {
+      → (heard ≡ true → OfSchema t taken) → ((f : Future) → Open heard f → (more : List Pair) × (sorted (planned g bs f).pairs ≡ x.history ++ more)) → StepsAreFirst (tasks bs heard) schedule steps e → AskedInSteps taken heard steps e
+      → ((f : Future) → Open heard f → HasCause t (is_built way ≡ false) (planned g bs f) taken next (length x.history) e) → There bs heard e → Halting e
+  halts e taken bs heard is told end typed stood traced asked c there = record {
     heard = heard;
     stand = record {
       taken = taken;
@@ -311,47 +328,63 @@ module _ (ctx : LayoutWriterContext) (image : ℕ → ChunkData → ChunkData) (
     ended = end;
     cause = λ f may. subst (λ z. HasCause t (is_built way ≡ false) (planned g z f) taken next (length (stored x.history)) e) (sym is)
         (subst (λ z. HasCause t (is_built way ≡ false) (planned g bs f) taken next z e) (sym (stored_length x.history)) (c f may));
-    traced = subst (λ z. TracedUntil (tasks z heard) schedule steps e) (sym is) traced;
+    traced = subst (λ z. StepsAreFirst (tasks z heard) schedule steps e) (sym is) traced;
     asked = asked;
-    appended = sink.0 ∙ ap (λ z. first + z) (appends_are ctx image way t to_come borrow first before_it law built clean schedule steps y o u);
+    refused = subst (λ z. There z heard e) (sym is) there;
   }
     where
       now_first : (f : Future) → Open heard f → AreFirst (stored x.history) (planned g bs f)
       now_first f may = let m : (more : List Pair) × (sorted (planned g bs f).pairs ≡ x.history ++ more) = stood f may in (stored m.0, ap stored m.1 ∙ stored-append x.history m.0)
 
   -- each answer was asked in a step
-  all_asked : (e : WriteError) → NoBatch e → IsAsked x.taken x.heard steps e
+  all_asked : (e : WriteError) → NoBatch e → AskedInSteps x.taken x.heard steps e
   all_asked e n = inl (let a = reads in omega (arith, a, n))
 
   -- by the batches taken so far
-  so_far : (e : WriteError) → NoBatch e → (IsRefusal e → ⊥) → (e ≡ OutOfMemory) ⊎ (0 < ready_at y.machine) → to_come_now ≡ y.to_come → ((p : Plan) → HasCause t (is_built way ≡ false) p x.taken next (length x.history) e) → Halting e
-  so_far e n plain some same c = halts e x.taken x.taken x.heard alone.all (o.same.came ∙ ap (before_told x.taken) (sym same)) (λ k. subst (λ z. NoneTold z) (sym same) (o.same.ended k))
-      (λ k. alone.typed) (λ f may. front h first o.notes x unasked f tt may u) (record { fewer = left some; first = begins unasked tt; all = λ short i. absurd (plain i) }) (all_asked e n) (λ f may. c (planned g x.taken f))
-    where
-      left : (e ≡ OutOfMemory) ⊎ (0 < ready_at y.machine) → (e ≡ OutOfMemory) ⊎ (length steps < work (tasks x.taken x.heard))
-      left (inl is) = inl is
-      left (inr q) = inr (goes_on unasked tt q)
+  so_far : (e : WriteError) → NoBatch e → (IsRefusal e → ⊥) → 0 < ready_at y.machine → to_come_now ≡ y.to_come → ((p : Plan) → HasCause t (is_built way ≡ false) p x.taken next (length x.history) e)
+      → There x.taken x.heard e → Halting e
+  so_far e n plain some same c there = halts e x.taken x.taken x.heard alone.all (o.same.came ∙ ap (before_told x.taken) (sym same)) (λ k. subst (λ z. NoneTold z) (sym same) (o.same.ended k))
+      (λ k. alone.typed) (λ f may. front h first o.notes x unasked f tt may u) (record { fewer = goes_on unasked tt some; first = begins unasked tt; all = λ short i. absurd (plain i) }) (all_asked e n) (λ f may. c (planned g x.taken f)) there
 
   -- where it reads, the end isn't told
-  unheard : (d : Eof) (b : ChunkData) → x.machine.phase ≡ reading d → x.heard ≡ false
-  unheard d b is = asked_before_end g first o.notes x (came b) 0 o.led (subst (λ z. Asking z 0 (came b)) (sym is) tt)
+  unheard : (d : Eof) → x.machine.phase ≡ reading d → x.heard ≡ false
+  unheard d is = asked_before_end g first o.notes x over 0 o.led (subst (λ z. Asking z 0 over) (sym is) tt)
+
+  -- nobody else uses the sink
+  mine : IsShared y.outlet → ⊥
+  mine = unshared y.outlet _ o.same.sink
 
   module _ (some : 0 < ready_at y.machine) (k : ℕ) (pick : k ≡ slice_index schedule (length steps) % counted (ready_at y.machine)) where
+    pick_at : k ≡ slice_index schedule (length steps) % counted (ready_at x.machine)
+    pick_at = pick ∙ ap (λ m. slice_index schedule (length steps) % counted (ready_at m)) o.same.machine_is
+
+    -- where it reads and nothing more of the type comes, that is the act
+    read_there : (w : WholeStep) (d : Eof) → k ≡ 0 → nth (ready_steps h first x.history unasked x.machine) 0 ≡ Some w → x.machine.phase ≡ reading d → w ≡ source_step unasked (reading d) x.machine.root → (e : WriteError)
+        → ((m : TreeMove) → IsRead m.act x.heard → IsOwn m x.heard next e) → There x.taken x.heard e
+    read_there w d z at p is e whose = inr (n.0, whose n.0.move (own_read w n.0.move n.1 y.outlet mine x.heard next d x.machine.root is (unheard d p)))
+      where
+        asks : Asks t (none_later x.heard) x.machine.phase k unasked
+        asks = subst (λ v. Asks t (none_later x.heard) v k unasked) (sym p) (subst (λ v. Asks t (none_later x.heard) (reading d) v unasked) (sym z) (refl, unheard d p))
+
+        n : (a : NextAct (setting_of ctx image) way t (is_marked ctx) x.taken x.heard schedule steps) × SameAct w a.move
+        n = next_act h first o.notes x law u schedule steps o.shown unasked tt k w (subst (λ v. nth (ready_steps h first x.history unasked x.machine) v ≡ Some w) (sym z) at) asks pick_at
+
     -- the source told nothing where it read
     read_halts : (w : WholeStep) (d : Eof) → k ≡ 0 → nth (ready_steps h first x.history unasked x.machine) 0 ≡ Some w → x.machine.phase ≡ reading d → w ≡ source_step unasked (reading d) x.machine.root → (e : WriteError) → ReadsNone y.to_come to_come_now e → SourceMay t e
         → RefusedBy w y.outlet e → Halting e
-    read_halts w d z at p is SourceFault r m c = so_far SourceFault refl (λ i. i) (inr some) r (λ q. tt)
-    read_halts w d z at p is OutOfMemory r m c = so_far OutOfMemory refl (λ i. i) (inr some) r (λ q. tt)
+    read_halts w d z at p is SourceFault r m c = so_far SourceFault refl (λ i. i) some r (λ q. tt) (read_there w d z at p is SourceFault (λ v i. i))
+    read_halts w d z at p is OutOfMemory r m c = so_far OutOfMemory refl (λ i. i) some r (λ q. tt) (read_there w d z at p is OutOfMemory (λ v i. tt))
     read_halts w d z at p is (BatchType b) r m c =
         halts (BatchType b) (x.taken ++ (b ∷ [])) x.taken x.heard (alone.without b m) (o.same.came ∙ ap (before_told x.taken) r ∙ told_one x.taken b to_come_now)
-        (λ i. absurd (true≢false (sym i ∙ unheard d b p))) (λ i. absurd (true≢false (sym i ∙ unheard d b p))) (λ f may. front h first o.notes x unasked f tt may u) (record { fewer = inr (goes_on unasked tt some); first = begins unasked tt; all = λ short i. inr (all short) }) (inl one) (λ f may. (m, (x.taken, refl)))
+        (λ i. absurd (true≢false (sym i ∙ unheard d p))) (λ i. absurd (true≢false (sym i ∙ unheard d p))) (λ f may. front h first o.notes x unasked f tt may u) (record { fewer = goes_on unasked tt some; first = begins unasked tt; all = λ short i. inr (all short) }) (inl one) (λ f may. (m, (x.taken, refl)))
+        (read_there w d z at p is (BatchType b) (λ v i. i))
       where
         one : answers_in (x.taken ++ (b ∷ [])) x.heard ≡ reads_in steps + 1
         one = let a = reads in let n : length (x.taken ++ (b ∷ [])) ≡ length x.taken + 1 = length-append x.taken (b ∷ []) in omega (arith, a, n)
 
         all : work (tasks x.taken x.heard) < 2 ^ 64 → AllPairs ShowsNote steps (trace (tasks x.taken x.heard) schedule)
-        all = subst (λ (v : Bool). work (tasks x.taken v) < 2 ^ 64 → AllPairs ShowsNote steps (trace (tasks x.taken v) schedule)) (sym (unheard d b p))
-            (misfit_last ctx image way t to_come borrow first before_it law built clean schedule steps y o by within next_within misfit_at k pick (unheard d b p) w
+        all = subst (λ (v : Bool). work (tasks x.taken v) < 2 ^ 64 → AllPairs ShowsNote steps (trace (tasks x.taken v) schedule)) (sym (unheard d p))
+            (misfit_last ctx image way t to_come borrow first before_it law built clean schedule steps y o by within next_within misfit_at k pick (unheard d p) w
             (subst (λ v. nth (ready_steps h first x.history unasked x.machine) v ≡ Some w) (sym z) at) (ap (λ (v : WholeStep). v.misfit) is))
     read_halts w d z at p is (TooLarge n) r m c = absurd (none (subst (λ (z : WholeStep). Past z.numbers z.indices n ⊎ (Appending z.wrote × PastLast y.outlet n) ⊎ (In n z.joined × (2 ^ 64 ≤ n))) is c))
       where
@@ -406,39 +439,60 @@ module _ (ctx : LayoutWriterContext) (image : ℕ → ChunkData → ChunkData) (
             by_few (inl none) = absurd (subst (In z) none i)
             by_few (inr (v, one, calm)) = append h first o.notes x told f k w v law u may chosen calm one
 
-        fit_asked : IsAsked taken heard steps e
+        fit_asked : AskedInSteps taken heard steps e
         fit_asked = by_answer (refused_late x.machine.phase k t y.to_come to_come_now e told tells)
           where
             answers : answers_in taken heard ≡ answers_in x.taken x.heard + answers_of told
             answers = more_answers x.taken x.heard told once
 
-            by_answer : (told ≡ unasked) ⊎ (IsLate e × (answers_of told ≡ 1)) → IsAsked taken heard steps e
+            by_answer : (told ≡ unasked) ⊎ (IsLate e × (answers_of told ≡ 1)) → AskedInSteps taken heard steps e
             by_answer (inl i) = inl (let a = reads in let b = answers in let c : answers_of told ≡ 0 = ap answers_of i in let m = n in omega (arith, a, b, c, m))
             by_answer (inr (late, one)) = inr (late, (let a = reads in let b = answers in omega (arith, a, b, one)))
+
+        there : IsElsewhere e → There taken heard e
+        there far = inr (found.0, own w found.0.move found.1 y.outlet mine heard next fits (whole_join (setting_of ctx image) (machine_ids x.machine) (first + length x.history) told x.machine k w at) last e far cause)
+          where
+            found : (a : NextAct (setting_of ctx image) way t (is_marked ctx) taken heard schedule steps) × SameAct w a.move
+            found = next_act h first o.notes x law u schedule steps o.shown told once k w at (asks_so h first x told k w (none_later heard) chosen) pick_at
 
         refused : work (tasks taken heard) < 2 ^ 64 → (v : What) × (w.refusal ≡ Some v) → AllPairs ShowsNote steps (trace (tasks taken heard) schedule)
         refused short (v, i) = ends told once k pick w v (record { place = at; asks = asks; typed = typed; once = once; fits = fits }) i short
 
-        fit_halts : Halting e
-        fit_halts = halts e taken taken heard (all_of_schema t taken (answer_of_schema t x.taken told alone.typed typed)) (refused_came x.machine.phase k t to_come y.to_come to_come_now x.taken e told n tells o.same.came)
-            (refused_ended x.machine.phase k t y.to_come to_come_now x.heard e told n tells once o.same.ended) (λ k. answer_of_schema t x.taken told alone.typed typed) (λ f may. front h first o.notes x told f once may u) (record { fewer = inr (goes_on told once some); first = begins told once; all = λ short i. inr (refused short (word_of w y.outlet fits e i cause)) }) fit_asked
+        fit_halts : IsElsewhere e → Halting e
+        fit_halts far = halts e taken taken heard (all_of_schema t taken (answer_of_schema t x.taken told alone.typed typed)) (refused_came x.machine.phase k t to_come y.to_come to_come_now x.taken e told n tells o.same.came)
+            (refused_ended x.machine.phase k t y.to_come to_come_now x.heard e told n tells once o.same.ended) (λ k. answer_of_schema t x.taken told alone.typed typed) (λ f may. front h first o.notes x told f once may u) (record { fewer = goes_on told once some; first = begins told once; all = λ short i. inr (refused short (word_of w y.outlet fits e i cause)) }) fit_asked
             (λ f may. step_cause t (is_built way ≡ false) (planned g taken f) taken next (length x.history) w (causes h first o.notes x told f k w law u may chosen) y.outlet
-            (unshared y.outlet _ o.same.sink) fits (more f may) last e cause)
+            mine fits (more f may) last e cause)
+            (there far)
+
+      -- where the source reads and is told nothing
+      read_place : k ≡ 0 → told ≡ unasked → nth (ready_steps h first x.history unasked x.machine) 0 ≡ Some w
+      read_place z a = subst (λ v. nth (ready_steps h first x.history v x.machine) 0 ≡ Some w) a (subst (λ v. nth (ready_steps h first x.history told x.machine) v ≡ Some w) z at)
+
+      -- another error than the source's, or no batch of the type comes
+      elsewhere : w.misfit ≡ false → IsElsewhere e
+      elsewhere fits = by e tells
+        where
+          reads : (d : Eof) × (x.machine.phase ≡ reading d) × (k ≡ 0) × (told ≡ unasked) → w.misfit ≡ true
+          reads (d, p, z, a) = ap (λ (v : WholeStep). v.misfit) (read_is (setting_of ctx image) (machine_ids x.machine) (first + length x.history) unasked x.machine d w p (read_place z a))
+
+          by : (e : WriteError) → TellsRefused x.machine.phase k t y.to_come to_come_now e told → IsElsewhere e
+          by SourceFault r = absurd (true≢false (sym (reads (fault_reads x.machine.phase k t y.to_come to_come_now told r)) ∙ fits))
+          by e r = tt
 
       -- a batch of another type
       misfit_halts : (d : Eof) × (x.machine.phase ≡ reading d) × (k ≡ 0) × (told ≡ unasked) → Halting e
       misfit_halts (d, p, z, a) =
           let r : ReadsNone y.to_come to_come_now e × SourceMay t e
           = subst (λ v. TellsRefused v 0 t y.to_come to_come_now e unasked) p (subst (λ v. TellsRefused x.machine.phase v t y.to_come to_come_now e unasked) z (subst (TellsRefused x.machine.phase k t y.to_come to_come_now e) a tells)) in
-          let q : nth (ready_steps h first x.history unasked x.machine) 0 ≡ Some w
-          = subst (λ v. nth (ready_steps h first x.history v x.machine) 0 ≡ Some w) a (subst (λ v. nth (ready_steps h first x.history told x.machine) v ≡ Some w) z at) in
+          let q : nth (ready_steps h first x.history unasked x.machine) 0 ≡ Some w = read_place z a in
           read_halts w d z q p (read_is (setting_of ctx image) (machine_ids x.machine) (first + length x.history) unasked x.machine d w p q) e r.0 r.1 cause
 
       step_halts : Halting e
       step_halts = by_misfit w.misfit refl
         where
           by_misfit : (b : Bool) → w.misfit ≡ b → Halting e
-          by_misfit false is = fit_halts is
+          by_misfit false is = fit_halts is (elsewhere is)
           by_misfit true is = misfit_halts (misfit_is_read h first o.notes x told k w u at is)
 
     refused_halts : (e : WriteError) → StepRefused (setting_of ctx image) (machine_ids y.machine) k t y.to_come to_come_now y.outlet (first + length x.history) y.machine e → Halting e
@@ -447,16 +501,45 @@ module _ (ctx : LayoutWriterContext) (image : ℕ → ChunkData → ChunkData) (
         (asking x.machine.phase k r.told (subst (λ (m : Machine). AsksAt m.phase k r.told) o.same.machine_is r.asks)) e
         (subst (λ (m : Machine). TellsRefused m.phase k t y.to_come to_come_now e r.told) o.same.machine_is r.tells) r.cause
 
+  -- memory ran out before a step: whatever step it would have been
+  memory_halts : to_come_now ≡ y.to_come → is_finished y.machine ≡ false → Halting OutOfMemory
+  memory_halts same going = refused_halts some k refl OutOfMemory (record {
+    told = unasked;
+    step = there.0;
+    place = there.1;
+    asks = asks_not y.machine.phase k;
+    tells = tells_memory y.machine.phase k t y.to_come to_come_now same;
+    cause = tt;
+  })
+    where
+      some : 0 < ready_at y.machine
+      some =
+          let ready : 0 < length (ready_steps h first x.history unasked x.machine) = stays h first o.notes x unasked law u (subst (λ m. is_finished m ≡ false) o.same.machine_is going) in
+          let size : length (ready_steps h first x.history unasked x.machine) ≡ ready_at x.machine = whole_is_ready (setting_of ctx image) (machine_ids x.machine) (first + length x.history) unasked x.machine in
+          subst (λ m. 0 < ready_at m) (sym o.same.machine_is) (subst (λ z. 0 < z) size ready)
+
+      k : ℕ
+      k = slice_index schedule (length steps) % counted (ready_at y.machine)
+
+      all : List WholeStep
+      all = whole_steps (setting_of ctx image) (machine_ids y.machine) (first + length x.history) unasked y.machine
+
+      there : (w : WholeStep) × (nth all k ≡ Some w)
+      there =
+          let less : k < counted (ready_at y.machine) = mod-lt (slice_index schedule (length steps)) (omega (arith, some)) in
+          let are : length all ≡ ready_at y.machine = whole_is_ready (setting_of ctx image) (machine_ids y.machine) (first + length x.history) unasked y.machine in
+          nth_there all k (omega (arith, less, are))
+
   stops_halt : (e : WriteError) → Stops ctx t schedule (length steps) y to_come_now e → Halting e
-  stops_halt e (inl (is, same)) = subst Halting (sym is) (so_far OutOfMemory refl (λ i. i) (inl refl) same (λ q. tt))
+  stops_halt e (inl (is, same, going)) = subst Halting (sym is) (memory_halts same going)
   stops_halt e (inr (some, fails)) = refused_halts some _ refl e (fails image (first + length x.history))
 
-pub stopped_halts : RunIsUnderway → RunByIsUnderway → HistoryIsFront → StepsHaveCause → AppendIsOneMore → NotesAreFirst → RefusalIsLast → MisfitIsLast → ReadyIsWithinAll → NextIsWithinWork → ReadyIsMore → StoppedHalts
-stopped_halts run by front causes append firsts refused misfit within next_within more ctx image w t schedule to_come to_come_now borrow first before steps outlet e law built clean r =
+pub stopped_halts : RunIsUnderway → RunByIsUnderway → HistoryIsFront → StepsHaveCause → AppendIsOneMore → NotesAreFirst → RefusalIsLast → MisfitIsLast → ReadyIsWithinAll → NextIsWithinWork → ReadyIsMore → StaysReady → StoppedHalts
+stopped_halts run by front causes append firsts refused misfit within next_within more stays ctx image w t schedule to_come to_come_now borrow first before steps outlet e law built clean r =
     own_more outlet (λ next now. (next ≡ first + length o.stand.history) × (now ≡ then_told before (stored o.stand.history)))
     (λ next now. Halts (write_by ctx image w t) first next to_come to_come_now before now schedule steps e)
     (kept_own r.end.outlet outlet (λ next now. (next ≡ first + length o.stand.history) × (now ≡ then_told before (stored o.stand.history))) r.kept o.same.sink)
-    (λ next now s. stops_halt ctx image w t to_come borrow first before law built clean schedule steps r.end o run by front causes append firsts refused misfit within next_within more to_come_now next now s e r.stops)
+    (λ next now s. stops_halt ctx image w t to_come borrow first before law built clean schedule steps r.end o run by front causes append firsts refused misfit within next_within more stays to_come_now next now s e r.stops)
   where
     o : Onward (write_by ctx image w t) to_come borrow first before schedule 0 (outset (write_by ctx image w t)) steps r.end
     o = runs_are_led ctx image w t schedule to_come borrow first before steps r.end r.ran

@@ -21,8 +21,9 @@ use Rattle.vx_machine_view.specs.Machine.{start}
 use Rattle.vx_machine_tasks.specs.Context.{setting_of}
 use Rattle.vx_machine_tasks.specs.Outcome.{AllFit, Kept}
 use Rattle.vx_machine_tasks.specs.Starting.{IsAllowed}
+use Rattle.vx_machine.specs.Calls.{reads_at}
 use Rattle.vx_machine.specs.Starting.{WholeRefused}
-use Rattle.vx_machine.specs.Run.{At, at, RunDone, RunStopped, stops_reading}
+use Rattle.vx_machine.specs.Run.{At, at, RunDone, RunStopped, picked_at}
 use Rattle.vx_machine_tasks.specs.View.{form_at}
 use Rattle.vx_machine_ran.specs.Ran.{OwnSink, own_sink}
 use Rattle.vx_machine_ran.specs.Traced.{Traced}
@@ -97,4 +98,5 @@ AnswersAreComplete = (ctx : LayoutWriterContext) (image : ℕ → ChunkData → 
 abbrev pub MisfitsAreRead : Type 0
 MisfitsAreRead = (ctx : LayoutWriterContext) (image : ℕ → ChunkData → ChunkData) (w : StrategyData) (t : Ty) (schedule : List ℕ) (to_come to_come_now : Option (List ChunkData)) (borrow first : ℕ)
     (before : Option (List (List ℕ))) (steps : List Step) (after : Outlet) (c : ChunkData) → Keeps (setting_of ctx image) → IsStarted w t (is_marked ctx)
-    → (r : RunStopped ctx t schedule (begun w t (is_marked ctx) to_come (own_sink borrow first before)) steps to_come_now after (BatchType c)) → stops_reading schedule (length steps) r.end.machine ≡ true
+    → (r : RunStopped ctx t schedule (begun w t (is_marked ctx) to_come (own_sink borrow first before)) steps to_come_now after (BatchType c))
+    → reads_at r.end.machine.phase (picked_at schedule (length steps) r.end.machine) ≡ true

@@ -10,7 +10,7 @@ use Rattle.vx_plan.specs.PlanData.{Setting}
 use Rattle.vx_machine_steps.specs.StartPlanned.{started_forest}
 use Rattle.vx_write_answer.specs.declared.step.Step.{Step}
 use Rattle.vx_write_answer.specs.declared.error.WriteError.{WriteError}
-use Rattle.vx_write_answer.specs.declared.error.WriteError.TheVariants.{BatchType, NotStruct, DuplicateField, ManyChunks, EmptyList, ForbiddenEncoding, OutOfMemory}
+use Rattle.vx_write_answer.specs.declared.error.WriteError.TheVariants.{BatchType, NotStruct, DuplicateField, ManyChunks, EmptyList, ForbiddenEncoding}
 use Rattle.vx_machine_view.specs.Steps.{AllPairs}
 use Rattle.vx_machine.specs.Calls.{reads_in}
 use Rattle.vx_machine_tasks.specs.Outcome.{action_of}
@@ -47,10 +47,10 @@ IsRefusal EmptyList = Unit {0}
 IsRefusal (ForbiddenEncoding id) = Unit {0}
 IsRefusal e = ⊥
 
--- The steps are fewer than all that these tasks have to do; where memory ran out, that isn't told. Where all their work can be counted,
--- the steps are the first of it, and all of it where a task refuses; a start that is refused has none.
-pub record TracedUntil (tasks : Forest) (schedule : List ℕ) (steps : List Step) (e : WriteError) : Type 0 where
-  pub fewer : (e ≡ OutOfMemory) ⊎ (length steps < work tasks)
+-- The steps are fewer than all that these tasks have to do. Where all their work can be counted, the steps are the first of it, and all of
+-- it where a task refuses; a start that is refused has none.
+pub record StepsAreFirst (tasks : Forest) (schedule : List ℕ) (steps : List Step) (e : WriteError) : Type 0 where
+  pub fewer : length steps < work tasks
   pub first : work tasks < 2 ^ 64 → AllPairs ShowsNote steps (take (length steps) (trace tasks schedule))
   pub all : work tasks < 2 ^ 64 → IsRefusal e → (steps ≡ []) ⊎ AllPairs ShowsNote steps (trace tasks schedule)
 

@@ -15,8 +15,9 @@ use Rattle.vx_write_answer.specs.declared.step.Step.{Step}
 use Rattle.vx_write_answer.specs.declared.error.WriteError.{WriteError}
 use Rattle.vx_write_answer.specs.declared.error.WriteError.TheVariants.{SourceFault, SinkFault, CompressFault, BatchType, NotStruct, DuplicateField, ManyChunks, EmptyList, ZoneCut, ForbiddenAggregate, ForbiddenEncoding, TooLarge, OutOfMemory, Unbuilt, Stopped}
 use Rattle.vx_machine_view.specs.Built.{is_built}
-use Rattle.vx_machine.specs.Calls.{reads_in, appends_in, misfits}
-use Rattle.vx_machine_ran.specs.Traced.{tasks_of, TracedUntil, answers_in, IsLate}
+use Rattle.vx_machine.specs.Calls.{reads_in, misfits}
+use Rattle.vx_machine_ran.specs.Traced.{tasks_of, StepsAreFirst, answers_in, IsLate}
+use Rattle.vx_machine_ran.specs.RefusedAct.{RefusedThere}
 
 -- ---- a write that came to its end
 
@@ -90,17 +91,17 @@ HasCause t unbuilt p taken next stand (ForbiddenAggregate id) = ⊥
 HasCause t unbuilt p taken next stand (Stopped by name) = ⊥
 
 -- the source's answers were asked in steps; a batch of another type in none, nor one behind which the act was refused
-abbrev pub IsAsked : List ChunkData → Bool → List Step → WriteError → Type 0
-IsAsked taken heard steps e = (answers_in taken heard ≡ reads_in steps + misfits e) ⊎ (IsLate e × (answers_in taken heard ≡ reads_in steps + 1))
+abbrev pub AskedInSteps : List ChunkData → Bool → List Step → WriteError → Type 0
+AskedInSteps taken heard steps e = (answers_in taken heard ≡ reads_in steps + misfits e) ⊎ (IsLate e × (answers_in taken heard ≡ reads_in steps + 1))
 
--- What stands, and why no more was written. Plan and tasks are those of the batches taken without one of another type; they have the
--- ends of all streams where the source's end was told.
+-- What stands, and why no more was written, and at which act. Plan and tasks are those of the batches taken without one of another type;
+-- they have the ends of all streams where the source's end was told.
 pub record Halted (s : Setting) (w : StrategyData) (t : Ty) (m : Bool) (first next : ℕ) (to_come_before to_come_now : Option (List ChunkData)) (before now : Option (List (List ℕ))) (schedule : List ℕ) (steps : List Step) (e : WriteError) : Type 0 where
   pub heard : Bool
   pub stand : Stands (λ taken. taken_plan s w t m taken heard) first next to_come_before to_come_now before now
   pub front : AreFirstOfAll s w t m to_come_before stand.appended
   pub ended : heard ≡ true → NoneTold to_come_now
   pub cause : HasCause t (is_built w ≡ false) (taken_plan s w t m stand.taken heard) stand.taken next (length stand.appended) e
-  pub traced : TracedUntil (tasks_of s w t m (of_schema t stand.taken) heard) schedule steps e
-  pub asked : IsAsked stand.taken heard steps e
-  pub appended : next ≡ first + appends_in steps
+  pub traced : StepsAreFirst (tasks_of s w t m (of_schema t stand.taken) heard) schedule steps e
+  pub asked : AskedInSteps stand.taken heard steps e
+  pub refused : RefusedThere s w t m (of_schema t stand.taken) heard next schedule steps e

@@ -1,5 +1,5 @@
 -- What is shown of a job that was written, and of one that was refused.
-use Rattle.std.proofs.Common.{◌≡◌, ℕ, ◌+◌, ◌-◌, ◌≤◌, ◌<◌, ◌^◌, ◌&&◌, nat_lt, max, not, Bool, true, false, List, [], ◌∷◌, ◌++◌, length, Option, Some, None, refl, sym, ap, subst, ◌∙◌, arith}
+use Rattle.std.proofs.Common.{◌≡◌, ℕ, ◌+◌, ◌-◌, ◌≤◌, ◌<◌, ◌^◌, ◌&&◌, nat_lt, max, not, Bool, true, false, List, [], ◌∷◌, ◌++◌, length, Option, Some, None, refl, sym, ap, subst, inl, inr, ◌∙◌, if◌then◌else◌, length-append, arith}
 use Rattle.std.specs.Prelude.{map, option_map, IsTrue}
 use Rattle.vx_chunk.specs.ChunkView.{piece}
 use Rattle.vx_model.specs.Ty.{Ty}
@@ -7,8 +7,9 @@ use Rattle.vx_model.specs.ChunkData.{ChunkData}
 use Rattle.vx_layout_spec.specs.LayoutTree.{LayoutData}
 use Rattle.vx_layout_spec.specs.Rows.{rows, all_there}
 use Rattle.vx_segment_reader.specs.Codec.{segment_codec}
+use Rattle.vx_strategy_spec.specs.StrategyData.{StrategyData}
 use Rattle.vx_plan.specs.PlanData.{Setting, Plan}
-use Rattle.vx_plan.specs.SourcePlan.{taken_plan, source_values}
+use Rattle.vx_plan.specs.SourcePlan.{of_schema, taken_plan, source_values}
 use Rattle.vx_plan.specs.Number.{segments, segment_at}
 use Rattle.vx_plan.specs.Valid.{Valid}
 use Rattle.vx_fault.specs.Counts.{Counts, IsCalm}
@@ -18,7 +19,8 @@ use Rattle.vx_fault.specs.Told.{before_told, then_told}
 use Rattle.vx_machine_view.specs.Built.{is_built}
 use Rattle.vx_machine.specs.Calls.{reads_in, appends_in, misfits}
 use Rattle.vx_machine_ran.specs.Traced.{Traced}
-use Rattle.vx_machine_ran.specs.Written.{Planned, Wrote, HasCause, Halted}
+use Rattle.vx_machine_ran.specs.RefusedAct.{RefusedThere}
+use Rattle.vx_machine_ran.specs.Written.{Planned, Wrote, HasCause, AskedInSteps, Halted}
 use Rattle.vx_write_answer.specs.Causes.{is_source_fault, is_sink_fault, is_unbuilt}
 use Rattle.vx_write_answer.specs.declared.step.Step.{Step}
 use Rattle.vx_write_answer.specs.declared.error.WriteError.{WriteError}
@@ -150,7 +152,27 @@ built_is true false h k = refl
 built_is false true h k = refl
 built_is false false h k = absurd (let f : false ≡ true = h refl in cc)
 
-is_let : (e : WriteError) (j : JobData) (asked appended : ℕ) → is_memory e ≡ false → (IsTrue (is_source_fault e) → IsTrue (fails_at j.options.faults.source asked))
+-- the source failed before its end was told
+unheard : (s : Setting) (w : StrategyData) (t : Ty) (m : Bool) (batches : List ChunkData) (heard : Bool) (next : ℕ) (schedule : List ℕ) (steps : List Step) (e : WriteError)
+    → RefusedThere s w t m batches heard next schedule steps e → IsTrue (is_source_fault e) → heard ≡ false
+unheard s w t m batches heard next schedule steps errors.SourceFault (inl h) is = absurd h.0
+unheard s w t m batches heard next schedule steps errors.SourceFault (inr (a, h)) is = h.2
+unheard s w t m batches heard next schedule steps e h is = absurd (let f : false ≡ true = is in cc)
+
+-- and behind as many answers as batches were taken
+answers_before : (taken : List ChunkData) (heard : Bool) (steps : List Step) (e : WriteError) → AskedInSteps taken heard steps e → heard ≡ false → IsTrue (is_source_fault e) → reads_in steps + misfits e ≡ length taken
+answers_before taken heard steps errors.SourceFault (inl h) still is = let none : (if heard then 1 else 0) ≡ 0 = ap (λ (b : Bool). if b then 1 else 0) still in omega (arith, h, none)
+answers_before taken heard steps errors.SourceFault (inr h) still is = absurd h.0
+answers_before taken heard steps e h still is = absurd (let f : false ≡ true = is in cc)
+
+-- which are some of the job's
+taken_within : (taken later xs : List ChunkData) (a c : Option (List ChunkData)) → a ≡ before_told taken c → a ≡ Some xs → c ≡ Some later → length taken ≤ length xs
+taken_within taken later xs a c came is rest =
+    let e : Some xs ≡ Some (taken ++ later) = sym is ∙ (came ∙ ap (before_told taken) rest) in
+    let same : xs ≡ taken ++ later = cc in
+    omega (arith, ap (λ (ys : List ChunkData). length ys) same, length-append taken later)
+
+is_let : (e : WriteError) (j : JobData) (asked appended : ℕ) → is_memory e ≡ false → (IsTrue (is_source_fault e) → IsTrue (fails_at j.options.faults.source asked) × (asked ≤ length j.batches))
     → (IsTrue (is_sink_fault e) → IsTrue (fails_at j.options.faults.sink appended)) → IsLet j asked appended e
 is_let errors.SourceFault j asked appended memory of_source of_sink = of_source refl
 is_let errors.SinkFault j asked appended memory of_source of_sink = of_sink refl
@@ -189,6 +211,7 @@ pub record RefusedWrite (j : JobData) (e : WriteError) (s : Setting) (t : Ty) (m
   pub source : FaultsTold source_before source_now may_source must_source (reads_in steps + misfits e) (is_source_fault e)
   pub sink : FaultsTold sink_before sink_now may_sink must_sink (now - first) (is_sink_fault e)
   pub unbuilt : is_built j.strategy ≡ false → (is_unbuilt e ≡ true) × (c ≡ a) × (now ≡ first) × (steps ≡ [])
+  pub appended : now ≡ first + appends_in steps
   pub complete : (xs : List ChunkData) → a ≡ Some xs → is_built j.strategy ≡ true → Valid s j.strategy t m first tracker xs → IsCalm source_before source_now → IsCalm sink_before sink_now → e ≡ errors.OutOfMemory
 
 pub job_refused : (j : JobData) (e : WriteError) {s : Setting} {t : Ty} {m : Bool} {first now tracker : ℕ} {a c : Option (List ChunkData)} {old new : Option (List (List ℕ))} {stand : List (List ℕ)} {schedule : List ℕ} {steps : List Step}
@@ -204,12 +227,16 @@ job_refused j e {s} {t} {m} {first} {now} {tracker} {a} {c} {old} {new} {stand} 
     let sink = subst (λ n. FaultsTold sink_before sink_now may_sink must_sink n (is_sink_fault e)) count w.sink in
     let no_form = unbuilt_cause e t (is_built j.strategy ≡ false) (taken_plan s j.strategy t m w.halted.stand.taken w.halted.heard) w.halted.stand.taken now (length w.halted.stand.appended) in
     let of_source : IsTrue (is_source_fault e) → IsTrue (fails_at j.options.faults.source (reads_in steps + misfits e)) = λ is. w.failing.may_of_source (reads_in steps + misfits e) (w.source.allowed is) in
+    let within : IsTrue (is_source_fault e) → reads_in steps + misfits e ≤ length j.batches = λ is.
+    (let still : w.halted.heard ≡ false = unheard s j.strategy t m (of_schema t w.halted.stand.taken) w.halted.heard now schedule steps e w.halted.refused is in
+    omega (arith, answers_before w.halted.stand.taken w.halted.heard steps e w.halted.asked still is, taken_within w.halted.stand.taken rest.0 j.batches a c w.halted.stand.came start.batches rest.1)) in
     let of_sink : IsTrue (is_sink_fault e) → IsTrue (fails_at j.options.faults.sink (length stand)) = λ is. w.failing.may_of_sink (length stand) (sink.allowed is) in
     record {
       later = rest.0;
       halted = rw (start.setting, start.schema, start.marked, start.numbers, reached, start.batches, rest.1, start.none, told, start.picks) at w.halted;
       calls = none_fails j (reads_in steps + misfits e) (length stand) (is_source_fault e) (is_sink_fault e) w.failing w.source sink;
-      let_fail = is_let e j (reads_in steps + misfits e) (length stand) memory of_source of_sink;
+      appended = omega (arith, reached, start.numbers, w.appended);
+      let_fail = is_let e j (reads_in steps + misfits e) (length stand) memory (λ is. (of_source is, within is)) of_sink;
       built = built_is (is_built j.strategy) (is_unbuilt e) (λ f. (w.unbuilt f).0) (no_form w.halted.cause);
       unasked = λ is. (let u = w.unbuilt (no_form w.halted.cause is) in unbuilt_still e j start.batches rest.1 reached (u.1, u.2 ∙ start.numbers, u.3));
       not_valid = λ form no_faults valid.

@@ -82,20 +82,23 @@ pub record IsReport (j : JobData) (text : List ℕ) : Type 0 where
 
 -- ---- a job whose write is refused
 
--- a fault is that of a call that the job lets fail, the one behind those that were answered; want of memory isn't reported
+-- A fault is that of a call that the job lets fail, the one behind those that were answered; of the source one that would have given a
+-- batch, or told the end. Want of memory isn't reported.
 abbrev pub IsLet : JobData → ℕ → ℕ → WriteError → Type 0
-IsLet j asked appended errors.SourceFault = IsTrue (fails_at j.options.faults.source asked)
+IsLet j asked appended errors.SourceFault = IsTrue (fails_at j.options.faults.source asked) × (asked ≤ length j.batches)
 IsLet j asked appended errors.SinkFault = IsTrue (fails_at j.options.faults.sink appended)
 IsLet j asked appended errors.OutOfMemory = ⊥
 IsLet j asked appended e = Unit {0}
 
 -- A write of the job was refused by this error: these segments stand, behind these steps, and it has its cause in the plan of
--- the batches taken.
+-- the batches taken, at the act that the job's schedule picks next.
 pub record IsRefused (j : JobData) (e : WriteError) (stand : List (List ℕ)) (steps : List Step) : Type 0 where
   -- the batches that weren't taken
   pub later : List ChunkData
   pub halted : Halted (job_setting j) j.strategy j.schema j.options.marked j.options.next (j.options.next + length stand) (Some j.batches) (Some later) (Some []) (Some stand)
       j.options.schedule steps e
+  -- a segment each append
+  pub appended : length stand ≡ appends_in steps
   pub calls : NoneFails j (reads_in steps + misfits e) (length stand)
   pub let_fail : IsLet j (reads_in steps + misfits e) (length stand) e
   -- a strategy that isn't built is refused as that and as nothing else, before anything is done

@@ -1,6 +1,6 @@
 -- A write by tasks from before its start: what is started, and what its answer is then.
-use Rattle.std.proofs.Common.{◌≡◌, ◌∙◌, ◌+◌, ℕ, true, List, refl, sym, ap, subst, inl, inr, arith, add-zero, Option, Result, Ok, Err}
-use Rattle.std.specs.Prelude.{IfErr, MatchResult}
+use Rattle.std.proofs.Common.{◌≡◌, ◌⊎◌, ◌∙◌, ◌+◌, ℕ, Bool, true, false, List, refl, sym, ap, subst, inl, inr, arith, add-zero, Option, Result, Ok, Err}
+use Rattle.std.specs.Prelude.{MatchResult}
 use Rattle.vx_fault.specs.Counts.{Counts, IsCalm}
 use Rattle.vx_model.specs.Ty.{Ty}
 use Rattle.vx_model.specs.ChunkData.{ChunkData}
@@ -21,32 +21,20 @@ use Rattle.vx_machine_view.specs.Start.{first_indices}
 use Rattle.vx_machine_view.specs.Machine.{Machine, start}
 use Rattle.vx_machine_tasks.specs.Outcome.{AllFit}
 use Rattle.vx_machine_tasks.specs.Starting.{IsAllowed, Counted}
-use Rattle.vx_machine.specs.Starting.{machine_at}
+use Rattle.vx_machine.specs.Starting.{WholeRefused, machine_at}
 use Rattle.vx_plan.specs.Valid.{Keeps}
 use Rattle.vx_fault.specs.Faults.{FaultsTold}
 use Rattle.vx_machine.specs.Calls.{reads_in, misfits}
 use Rattle.vx_machine_tasks.specs.Context.{setting_of}
-use Rattle.vx_machine.specs.Run.{at, RunDone, RunStopped, StopTold}
+use Rattle.vx_machine.specs.Run.{at, RunDone, RunTold}
 use Rattle.vx_machine.proofs.RunCalls.{answer_more}
 use Rattle.vx_machine_ran.specs.Ran.{own_sink}
 use Rattle.vx_write_answer.specs.declared.error.WriteError.TheVariants as errors
 use Rattle.vx_write_answer.specs.Causes.{is_source_fault, is_sink_fault}
 use Rattle.vx_machine_tasks.specs.View.{form_at}
-use Rattle.vx_machine_ran.specs.Answered.{IsStarted, begun, Answered, IsOutside, MisfitsAreRead}
-use Rattle.vx_write.specs.Answer.{MisfitStops}
-use Rattle.vx_write.proofs.WriteSteps.{only_held, Quiet}
-
-misfit_stops : (ctx : LayoutWriterContext) (w : StrategyData) (t : Ty) (schedule : List ℕ) (to_come : Option (List ChunkData)) (before : Outlet) (steps : List Step) (to_come_now : Option (List ChunkData)) (after : Outlet)
-    (must : ℕ → Type 0) (e : WriteError) → IsStarted w t (is_marked ctx) → StopTold ctx t schedule (begun w t (is_marked ctx) to_come before) steps to_come_now after must e
-    → MisfitStops ctx w t schedule to_come before steps to_come_now after must e
-misfit_stops ctx w t schedule to_come before steps to_come_now after must (errors.BatchType c) started stop = (started, stop)
-misfit_stops ctx w t schedule to_come before steps to_come_now after must e started stop = tt
-
--- another error tells nothing of it
-pub quiet_stops : (ctx : LayoutWriterContext) (w : StrategyData) (t : Ty) (schedule : List ℕ) (to_come : Option (List ChunkData)) (before : Outlet) (steps : List Step) (to_come_now : Option (List ChunkData)) (after : Outlet)
-    (must : ℕ → Type 0) (e : WriteError) → Quiet e → MisfitStops ctx w t schedule to_come before steps to_come_now after must e
-quiet_stops ctx w t schedule to_come before steps to_come_now after must (errors.BatchType c) q = absurd (omega (arith, q.misfit))
-quiet_stops ctx w t schedule to_come before steps to_come_now after must e q = tt
+use Rattle.vx_machine_ran.specs.Answered.{IsStarted, IsOutside, MisfitsAreRead}
+use Rattle.vx_write.specs.Answer.{StoppedTold, AnsweredTold}
+use Rattle.vx_write.proofs.WriteSteps.{only_held}
 
 -- all that is active is held by the machine
 pub all_held : (u v z : Active) (e d stream : Eof) (s : Stock) → Exact u (end_stock e) → Moved u v (end_stock e) (both (end_stock d) (end_stock stream)) → Moved v z (both (end_stock stream) (end_stock d)) s → Exact z s
@@ -67,29 +55,20 @@ module _ (ctx : LayoutWriterContext) (w : StrategyData) (t : Ty) (schedule : Lis
     }
 
     -- it ran
-    pub has_run : (y z v : Outlet) (to_come_now : Option (List ChunkData)) (r : Result (Option Layout) WriteError) → y ≡ x → z ≡ y → is_built w ≡ true → IsAllowed (form_at w u) (is_marked ctx)
+    pub has_run : (y z v : Outlet) (to_come_now : Option (List ChunkData)) (must : ℕ → Type 0) (r : Result (Option Layout) WriteError) → y ≡ x → z ≡ y → is_built w ≡ true → IsAllowed (form_at w u) (is_marked ctx)
         → Counted d (first_indices (form_at w u) d) → m ≡ machine_at stream (form_at w u) (is_marked ctx) d
-        → MatchResult r (RunDone ctx t schedule (at m to_come z) trace to_come_now v) (RunStopped ctx t schedule (at m to_come z) trace to_come_now v)
-        → Answered ctx w t schedule to_come x trace to_come_now v r
-    has_run y z v to_come_now (Ok l) same again b a c h r = (
+        → MatchResult r (RunDone ctx t schedule (at m to_come z) trace to_come_now v) (RunTold ctx t schedule (at m to_come z) trace to_come_now v must)
+        → AnsweredTold ctx w t schedule to_come x trace to_come_now v must r
+    has_run y z v to_come_now must (Ok l) same again b a c h r = (
       starts b a c,
       subst (λ k. RunDone ctx t schedule (at k to_come x) trace to_come_now v l) (begins h)
           (subst (λ o. RunDone ctx t schedule (at m to_come o) trace to_come_now v l) (again ∙ same) r),
     )
-    has_run y z v to_come_now (Err error) same again b a c h r = inr (
+    has_run y z v to_come_now must (Err error) same again b a c h r = inr (
       starts b a c,
-      subst (λ k. RunStopped ctx t schedule (at k to_come x) trace to_come_now v error) (begins h)
-          (subst (λ o. RunStopped ctx t schedule (at m to_come o) trace to_come_now v error) (again ∙ same) r),
+      subst (λ k. RunTold ctx t schedule (at k to_come x) trace to_come_now v must error) (begins h)
+          (subst (λ o. RunTold ctx t schedule (at m to_come o) trace to_come_now v must error) (again ∙ same) r),
     )
-
-    -- where it stopped behind a batch of another type
-    pub has_told : (y z v : Outlet) (to_come_now : Option (List ChunkData)) (must : ℕ → Type 0) (r : Result (Option Layout) WriteError) → y ≡ x → z ≡ y → is_built w ≡ true → IsAllowed (form_at w u) (is_marked ctx)
-        → Counted d (first_indices (form_at w u) d) → m ≡ machine_at stream (form_at w u) (is_marked ctx) d
-        → IfErr r (StopTold ctx t schedule (at m to_come z) trace to_come_now v must) → IfErr r (MisfitStops ctx w t schedule to_come x trace to_come_now v must)
-    has_told y z v to_come_now must (Ok l) same again b a c h r = tt
-    has_told y z v to_come_now must (Err error) same again b a c h r = misfit_stops ctx w t schedule to_come x trace to_come_now v must error (starts b a c)
-        (subst (λ k. StopTold ctx t schedule (at k to_come x) trace to_come_now v must error) (begins h)
-        (subst (λ o. StopTold ctx t schedule (at m to_come o) trace to_come_now v must error) (again ∙ same) r))
 
 -- ---- over a sink that nobody else uses
 
@@ -103,14 +82,23 @@ pub handed : {S : Type 0} (borrow next : S → ℕ) (segments : S → Option (Li
 handed borrow next segments P given held left back a b h =
     subst (λ z. P (outlet_of borrow next segments z) (outlet_of borrow next segments back)) a (subst (λ z. P (outlet_of borrow next segments held) (outlet_of borrow next segments z)) (sym b) h)
 
+-- no start gives a batch of another type
+none_starts : (w : StrategyData) (t : Ty) (m : Bool) (c : ChunkData) → (errors.BatchType c ≡ errors.OutOfMemory) ⊎ WholeRefused (is_built w) (form_at w t) m root_eof (errors.BatchType c) → ⊥
+none_starts w t m c (inl e) = let f : errors.BatchType c ≡ errors.OutOfMemory = e in cc
+none_starts w t m c (inr h) = by (is_built w) h
+  where
+    by : (b : Bool) → WholeRefused b (form_at w t) m root_eof (errors.BatchType c) → ⊥
+    by false e = let f : errors.BatchType c ≡ errors.Unbuilt = e in cc
+    by true e = e
+
 -- the source's answers, with a batch of another type among them
 pub answers_told : (law : MisfitsAreRead) (ctx : LayoutWriterContext) (image : ℕ → ChunkData → ChunkData) (w : StrategyData) (t : Ty) (schedule : List ℕ) (to_come to_come_now : Option (List ChunkData)) (borrow first : ℕ)
     (before : Option (List (List ℕ))) (steps : List Step) (after : Outlet) (e : WriteError) (b n : ℕ) (may must : ℕ → Type 0) → Keeps (setting_of ctx image)
-    → MisfitStops ctx w t schedule to_come (own_sink borrow first before) steps to_come_now after must e
+    → StoppedTold ctx w t schedule to_come (own_sink borrow first before) steps to_come_now after must e
     → FaultsTold b n may must (reads_in steps) (is_source_fault e) → FaultsTold b n may must (reads_in steps + misfits e) (is_source_fault e)
-answers_told law ctx image w t schedule to_come to_come_now borrow first before steps after (errors.BatchType c) b n may must keeps stops told =
-    answer_more b n may must (reads_in steps) told
-    (stops.1.passed (law ctx image w t schedule to_come to_come_now borrow first before steps after c keeps stops.0 stops.1.stop))
+answers_told law ctx image w t schedule to_come to_come_now borrow first before steps after (errors.BatchType c) b n may must keeps (inl u) told = absurd (none_starts w t (is_marked ctx) c u.cause)
+answers_told law ctx image w t schedule to_come to_come_now borrow first before steps after (errors.BatchType c) b n may must keeps (inr (started, r)) told =
+    answer_more b n may must (reads_in steps) told (r.passed (law ctx image w t schedule to_come to_come_now borrow first before steps after c keeps started r.stop))
 answers_told law ctx image w t schedule to_come to_come_now borrow first before steps after e b n may must keeps stops told =
     subst (λ k. FaultsTold b n may must k (is_source_fault e)) (sym (add-zero (reads_in steps))) told
 

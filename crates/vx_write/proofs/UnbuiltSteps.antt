@@ -45,9 +45,9 @@ halted_here s w t m first to_come before schedule unbuilt = record {
   front = λ xs told. (λ same. (segments (source_plan s w t m xs true), refl), λ other. (segments (taken_plan s w t m xs false), refl));
   ended = λ h. absurd (true≢false (sym h));
   cause = unbuilt;
-  traced = record { fewer = inr (source_works s w t m); first = λ fits. tt; all = λ fits is. absurd is };
+  traced = record { fewer = source_works s w t m; first = λ fits. tt; all = λ fits is. absurd is };
   asked = inl refl;
-  appended = omega arith;
+  refused = inl (unbuilt, refl, refl);
 }
 
 pub unbuilt_halts : (s : Setting) (w : StrategyData) (t : Ty) (m : Bool) (first : ℕ) (to_come : Option (List ChunkData)) (before : Option (List (List ℕ))) (schedule : List ℕ) (steps : List Step) → is_built w ≡ false → steps ≡ []

@@ -1,5 +1,5 @@
 -- What a write's answer tells of its calls.
-use Rattle.std.specs.Prelude.{ℕ, List, Option, Result, Ok, Err}
+use Rattle.std.specs.Prelude.{ℕ, ◌⊎◌, List, Option, Result, Ok, Err, MatchResult}
 use Rattle.vx_model.specs.Ty.{Ty}
 use Rattle.vx_model.specs.ChunkData.{ChunkData}
 use Rattle.vx_strategy_spec.specs.StrategyData.{StrategyData}
@@ -8,9 +8,8 @@ use Rattle.vx_order.specs.Outlet.{Outlet}
 use Rattle.vx_sink.specs.declared.context.LayoutWriterContext.{LayoutWriterContext}
 use Rattle.vx_sink.specs.ContextView.{is_marked}
 use Rattle.vx_write_answer.specs.declared.error.WriteError.{WriteError}
-use Rattle.vx_write_answer.specs.declared.error.WriteError.TheVariants.{BatchType}
-use Rattle.vx_machine.specs.Run.{StopTold}
-use Rattle.vx_machine_ran.specs.Answered.{IsStarted, begun}
+use Rattle.vx_machine.specs.Run.{RunTold}
+use Rattle.vx_machine_ran.specs.Answered.{IsStarted, Unstarted, begun, HasRun}
 use Rattle.vx_write_answer.specs.declared.step.Step.{Step}
 use Rattle.vx_machine.specs.Calls.{asked_by}
 use Rattle.vx_write.specs.declared.write.Written.{Written}
@@ -26,8 +25,13 @@ abbrev pub asked : Result Written Refused → ℕ
 asked (Ok w) = asked_by {A = Layout} (Ok w.layout) w.trace.items
 asked (Err r) = asked_by {A = Layout} (Err r.error) r.trace.items
 
--- of an error that comes behind a batch of another type: a machine was started and stopped there, as is told of its calls
-abbrev pub MisfitStops : LayoutWriterContext → StrategyData → Ty → List ℕ → Option (List ChunkData) → Outlet → List Step → Option (List ChunkData) → Outlet → (ℕ → Type 0) → WriteError → Type 0
-MisfitStops ctx w t schedule to_come before steps to_come_now after must (BatchType c) =
-    IsStarted w t (is_marked ctx) × StopTold ctx t schedule (begun w t (is_marked ctx) to_come before) steps to_come_now after must (BatchType c)
-MisfitStops ctx w t schedule to_come before steps to_come_now after must e = Unit {0}
+-- How a write by tasks ended, of which these calls of the source must fail.
+
+abbrev pub StoppedTold : LayoutWriterContext → StrategyData → Ty → List ℕ → Option (List ChunkData) → Outlet → List Step → Option (List ChunkData) → Outlet → (ℕ → Type 0) → WriteError → Type 0
+StoppedTold ctx w t schedule to_come before steps to_come_now after must e =
+    Unstarted w t (is_marked ctx) to_come to_come_now before after steps e
+    ⊎ (IsStarted w t (is_marked ctx) × RunTold ctx t schedule (begun w t (is_marked ctx) to_come before) steps to_come_now after must e)
+
+abbrev pub AnsweredTold : LayoutWriterContext → StrategyData → Ty → List ℕ → Option (List ChunkData) → Outlet → List Step → Option (List ChunkData) → Outlet → (ℕ → Type 0) → Result (Option Layout) WriteError → Type 0
+AnsweredTold ctx w t schedule to_come before steps to_come_now after must r =
+    MatchResult r (HasRun ctx w t schedule to_come before steps to_come_now after) (StoppedTold ctx w t schedule to_come before steps to_come_now after must)

@@ -19,8 +19,7 @@ ghost use Rattle.vx_machine_view.specs.Built.{is_built};
 ghost use Rattle.vx_machine_tasks.specs.Context.{setting_of};
 ghost use Rattle.vx_machine_ran.specs.Traced.{Traced};
 ghost use Rattle.vx_machine_ran.specs.Written.{Planned, Wrote, Halted};
-ghost use Rattle.vx_machine_ran.specs.Answered.{Answered};
-ghost use Rattle.vx_write.specs.Answer.{MisfitStops};
+ghost use Rattle.vx_write.specs.Answer.{AnsweredTold};
 
 use std::alloc::Global;
 use vx_layout_tree::Layout;
@@ -118,11 +117,8 @@ fn write_in<B: BatchSource, O: Order, C: CompressorPlugin>(
     ensures sink { FaultsTold (O.Sink.faults (O.sink order.old)) (O.Sink.faults (O.sink order.new)) (O.Sink.may_fail (O.sink order.old)) (O.Sink.must_fail (O.sink order.old))
         (appends_in steps.new.items) (errs is_sink_fault result) }
     ensures ran { eof ≡ root → Exact (O.active order.old) (end_stock eof)
-        → Answered ctx.old (strategy_data strategy.now) (B.kind source.old) schedule.now (B.to_come source.old) (O.outlet order.old) steps.new.items (B.to_come source.new)
-        (O.outlet order.new) result }
-    ensures misfit { eof ≡ root → Exact (O.active order.old) (end_stock eof)
-        → IfErr result (MisfitStops ctx.old (strategy_data strategy.now) (B.kind source.old) schedule.now (B.to_come source.old) (O.outlet order.old) steps.new.items (B.to_come source.new)
-        (O.outlet order.new) (B.must_fail source.old)) }
+        → AnsweredTold ctx.old (strategy_data strategy.now) (B.kind source.old) schedule.now (B.to_come source.old) (O.outlet order.old) steps.new.items (B.to_come source.new)
+        (O.outlet order.new) (B.must_fail source.old) result }
     ensures same { (ctx.new ≡ ctx.old) × (B.kind source.new ≡ B.kind source.old) × (compressor.new ≡ compressor.old) }
 {
     let stream = match take_below(order, &mut eof) {

@@ -67,8 +67,8 @@ pub fn write_stream<B: BatchSource, S: SegmentSink, C: CompressorPlugin>(
     // Its steps are all those of the batches' tasks, as the schedule picks them.
     ensures trace { IfOk result (λ w. Traced (setting_of ctx.old (C.image (C.kind compressor.old))) (strategy_data strategy.now) (B.kind source.old)
         (is_marked ctx.old) (B.to_come source.old) schedule.now w.trace.items) }
-    // After a refusal the segments appended are the first of the plan of the batches taken, the error has its cause there, and
-    // the steps are the first that the schedule picks.
+    // After a refusal the segments appended are the first of the plan of the batches taken, the error has its cause there, the
+    // steps are the first that the schedule picks, and the error is that of the act that it picks next.
     ensures halted { IfErr result (λ r. Halted (setting_of ctx.old (C.image (C.kind compressor.old))) (strategy_data strategy.now) (B.kind source.old)
         (is_marked ctx.old) (S.next sink.old) (S.next sink.new) (B.to_come source.old) (B.to_come source.new) (S.segments sink.old) (S.segments sink.new)
         schedule.now r.trace.items r.error) }

@@ -14,14 +14,14 @@ use Rattle.vx_machine_tasks.specs.Calls.{reads_action, append_action}
 use Rattle.vx_machine.specs.Calls.{reads_in, appends_in, reads_at}
 use Rattle.vx_machine_tasks.specs.Context.{setting_of}
 use Rattle.vx_machine_tasks.specs.Outcome.{Kept}
-use Rattle.vx_machine.specs.Run.{at, Ran, stops_reading}
+use Rattle.vx_machine.specs.Run.{at, Ran, picked_at}
 use Rattle.vx_machine_tasks.specs.View.{row}
 use Rattle.vx_machine.specs.View.{phase_of, machine_of}
 use Rattle.vx_machine_tasks.specs.Ready.{counted}
 use Rattle.vx_machine_tasks.specs.declared.task.Task.{out-Task}
 use Rattle.vx_machine.specs.Whole.{machine_ready}
 use Rattle.vx_machine.proofs.HeldViews.{exact_then}
-use Rattle.vx_machine.proofs.RunCalls.{Answered, none_called, then_answered, reads_once, appends_once, reads_more, appends_more, ended, source_ends, sink_ends, read_stopped}
+use Rattle.vx_machine.proofs.RunCalls.{Answered, none_called, then_answered, reads_once, appends_once, reads_more, appends_more, ended, source_ends, sink_ends, misfit_passed}
 use Rattle.vx_machine.proofs.RunSteps.{ready_held, run_grows, run_step, run_refused, reads_same}
 use Rattle.vx_machine.proofs.running.run.Goals as goal
 
@@ -115,8 +115,8 @@ returns-then-ready-eq0-clause-ran g c = λ e x.
     }
 
 -- the step is refused
-pub returns-in-Err-step_counted-clause-misfit : goal.returns-in-Err-step_counted-clause-misfit
-returns-in-Err-step_counted-clause-misfit g c = λ e x.
+pub returns-in-Err-step_counted-clause-ran : goal.returns-in-Err-step_counted-clause-ran
+returns-in-Err-step_counted-clause-ran g c = λ e x.
     let u : Active = g.O.Order.active c.steps.order in
     let k : Exact u (machine_stock c.steps.machine) = exact_then (g.O.Order.active c.args.order.now) u (machine_stock c.args.machine) (machine_stock c.steps.machine) x c.steps.invariant.moved in
     let place : c.len.result ≡ length c.reserve.new.self.items = c.len.ensures ∙ c.reserve.new.self.ok.0 in
@@ -132,17 +132,14 @@ returns-in-Err-step_counted-clause-misfit g c = λ e x.
             some (length c.reserve.new.self.items) c.pick_at-pick.result pick
             (g.B.BatchSource.to_come c.steps.source) (g.B.BatchSource.to_come c.step_counted.new.source) (g.O.Order.outlet c.steps.order) c.in-Err-step_counted.error c.in-Err-step_counted.ensures.refused;
       };
-      passed = read_stopped g.B.Fallible.faults g.B.Fallible.may_fail g.B.Fallible.must_fail c.args.source.now c.steps.source c.step_counted.new.source (reads_in c.reserve.new.self.items)
+      passed = misfit_passed g.B.Fallible.faults g.B.Fallible.may_fail g.B.Fallible.must_fail c.args.source.now c.steps.source c.step_counted.new.source (reads_in c.reserve.new.self.items)
           (subst (λ ts. Answered g.B.Fallible.faults g.B.Fallible.may_fail g.B.Fallible.must_fail c.args.source.now c.steps.source (reads_in ts)) (sym c.reserve.ensures.items) (c.steps.invariant.sources e))
           (reads_at (phase_of c.steps.machine.phase) (c.pick_at-pick.result % counted (machine_ready u c.steps.machine)))
-          (stops_reading c.args.schedule.now (length c.reserve.new.self.items) (machine_of c.steps.machine)) c.in-Err-step_counted.error
+          (reads_at (phase_of c.steps.machine.phase) (picked_at c.args.schedule.now (length c.reserve.new.self.items) (machine_of c.steps.machine))) c.in-Err-step_counted.error
           (reads_same c.args.ctx.now c.steps.ctx c.steps.invariant.context (g.B.BatchSource.kind c.args.source.now) (g.B.BatchSource.kind c.steps.source) c.steps.invariant.kind c.args.schedule.now u c.steps.machine k
           some (length c.reserve.new.self.items) c.pick_at-pick.result pick)
           c.in-Err-step_counted.ensures.source_told;
     }
-
-pub returns-in-Err-step_counted-clause-ran : goal.returns-in-Err-step_counted-clause-ran
-returns-in-Err-step_counted-clause-ran g c = λ e x. (returns-in-Err-step_counted-clause-misfit g c e x).stop
 
 -- ---- calls of the source and of the sink
 

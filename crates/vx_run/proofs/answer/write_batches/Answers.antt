@@ -76,6 +76,7 @@ returns-clause-err c =
         rw (c.in-Err.ensures.unbuilt f).2 refl,
         (c.in-Err.ensures.unbuilt f).0.1,
       );
+      appended = c.in-Err.ensures.appended;
       complete = c.in-Err.ensures.complete;
     })
 

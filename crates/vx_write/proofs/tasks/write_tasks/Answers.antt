@@ -1,4 +1,4 @@
-use Rattle.std.proofs.Common.{◌∙◌, ℕ, List, Option, Err, Ok, Some, None, refl, sym, ap, subst, inl}
+use Rattle.std.proofs.Common.{◌∙◌, ℕ, List, Option, Err, Ok, Some, None, refl, sym, ap, subst, inl, inr}
 use Rattle.vx_model.specs.ChunkData.{ChunkData}
 use Rattle.vx_model.specs.Distinct.{first_repeat}
 use Rattle.vx_plan.specs.Valid.{Keeps}
@@ -10,7 +10,7 @@ use Rattle.vx_write_answer.specs.declared.error.WriteError.TheVariants.{OutOfMem
 use Rattle.vx_write_answer.specs.Causes.{is_sink_fault}
 use Rattle.vx_machine_tasks.specs.Context.{setting_of}
 use Rattle.vx_machine_ran.specs.Answered.{Answered}
-use Rattle.vx_write.specs.Answer.{MisfitStops}
+use Rattle.vx_write.specs.Answer.{StoppedTold}
 use Rattle.vx_write.proofs.RanSteps.{handed, outlet_of, first_held, answers_told, outside_memory}
 use Rattle.vx_write.proofs.WriteSteps.{short_none}
 use Rattle.vx_write.proofs.tasks.write_tasks.Goals as goal
@@ -81,7 +81,7 @@ returns-in-Err-clause-halted g c =
     let keeps : Keeps (setting_of c.args.ctx.now image) = c.real_settings_keep.ensures.keeps (listed c.args.ctx.now) (allowed_in c.args.ctx.now) image
     (ap (λ z. first_repeat z) (sym c.array_ctx.ensures) ∙ c.ids.ensures.distinct) (g.met.C.CompressorPlugin.keeps (g.C.CompressorPlugin.kind c.args.compressor.now)) in
     let told = handed g.S.SegmentSink.borrow g.S.SegmentSink.next g.S.SegmentSink.segments (λ x y. Answered c.args.ctx.now (strategy_data c.args.strategy.now) (g.B.BatchSource.kind c.args.source.now) c.args.schedule.now (g.B.BatchSource.to_come c.args.source.now) x c.write_in-written.new.steps.items (g.B.BatchSource.to_come c.write_in-written.new.source) y (Err c.in-Err.error)) c.args.sink c.new-order.result.sink c.write_in-written.new.order.sink c.into_sink-sink.result c.new-order.ensures.sink c.into_sink-sink.ensures
-    (c.in-Err.ensures.ran c.in-Ok.ensures.root.1 (first_held c.new-order.result.universe c.in-Ok.universe c.in-Ok.eof c.new-order.ensures.universe c.in-Ok.ensures.root.0 c.in-Ok.ensures.root.1)) in
+    (elim (c.in-Err.ensures.ran c.in-Ok.ensures.root.1 (first_held c.new-order.result.universe c.in-Ok.universe c.in-Ok.eof c.new-order.ensures.universe c.in-Ok.ensures.root.0 c.in-Ok.ensures.root.1)) [ inl u ↦ inl u | inr r ↦ inr (r.0, r.1.stop) ]) in
     c.answers.ensures.written c.args.ctx.now image (strategy_data c.args.strategy.now) (g.B.BatchSource.kind c.args.source.now) c.args.schedule.now (g.B.BatchSource.to_come c.args.source.now) (g.B.BatchSource.to_come c.write_in-written.new.source) (g.S.SegmentSink.borrow c.args.sink) (g.S.SegmentSink.next c.args.sink) (g.S.SegmentSink.segments c.args.sink) c.write_in-written.new.steps.items (outlet_of g.S.SegmentSink.borrow g.S.SegmentSink.next g.S.SegmentSink.segments c.into_sink-sink.result) (Err c.in-Err.error) keeps c.are_counted.ensures told
 
 pub returns-in-Err-clause-complete : goal.returns-in-Err-clause-complete
@@ -90,7 +90,7 @@ returns-in-Err-clause-complete g c xs came built valid calm still =
     let keeps : Keeps (setting_of c.args.ctx.now image) = c.real_settings_keep.ensures.keeps (listed c.args.ctx.now) (allowed_in c.args.ctx.now) image
     (ap (λ z. first_repeat z) (sym c.array_ctx.ensures) ∙ c.ids.ensures.distinct) (g.met.C.CompressorPlugin.keeps (g.C.CompressorPlugin.kind c.args.compressor.now)) in
     let told = handed g.S.SegmentSink.borrow g.S.SegmentSink.next g.S.SegmentSink.segments (λ x y. Answered c.args.ctx.now (strategy_data c.args.strategy.now) (g.B.BatchSource.kind c.args.source.now) c.args.schedule.now (g.B.BatchSource.to_come c.args.source.now) x c.write_in-written.new.steps.items (g.B.BatchSource.to_come c.write_in-written.new.source) y (Err c.in-Err.error)) c.args.sink c.new-order.result.sink c.write_in-written.new.order.sink c.into_sink-sink.result c.new-order.ensures.sink c.into_sink-sink.ensures
-    (c.in-Err.ensures.ran c.in-Ok.ensures.root.1 (first_held c.new-order.result.universe c.in-Ok.universe c.in-Ok.eof c.new-order.ensures.universe c.in-Ok.ensures.root.0 c.in-Ok.ensures.root.1)) in
+    (elim (c.in-Err.ensures.ran c.in-Ok.ensures.root.1 (first_held c.new-order.result.universe c.in-Ok.universe c.in-Ok.eof c.new-order.ensures.universe c.in-Ok.ensures.root.0 c.in-Ok.ensures.root.1)) [ inl u ↦ inl u | inr r ↦ inr (r.0, r.1.stop) ]) in
     let counted = subst (λ z. Counts (g.S.Fallible.faults z) (g.S.Fallible.faults c.into_sink-sink.result) (is_sink_fault c.in-Err.error)) c.new-order.ensures.sink
     (subst (λ z. Counts (g.S.Fallible.faults c.new-order.result.sink) (g.S.Fallible.faults z) (is_sink_fault c.in-Err.error)) (sym c.into_sink-sink.ensures) c.in-Err.ensures.sink.counted) in
     outside_memory c.in-Err.error (g.B.Fallible.faults c.args.source.now) (g.B.Fallible.faults c.write_in-written.new.source) (g.S.Fallible.faults c.args.sink) (g.S.Fallible.faults c.into_sink-sink.result)
@@ -101,8 +101,8 @@ returns-in-Err-clause-source g c =
     let image : ℕ → ChunkData → ChunkData = g.C.CompressorPlugin.image (g.C.CompressorPlugin.kind c.args.compressor.now) in
     let keeps : Keeps (setting_of c.args.ctx.now image) = c.real_settings_keep.ensures.keeps (listed c.args.ctx.now) (allowed_in c.args.ctx.now) image
     (ap (λ z. first_repeat z) (sym c.array_ctx.ensures) ∙ c.ids.ensures.distinct) (g.met.C.CompressorPlugin.keeps (g.C.CompressorPlugin.kind c.args.compressor.now)) in
-    let stops = handed g.S.SegmentSink.borrow g.S.SegmentSink.next g.S.SegmentSink.segments (λ x y. MisfitStops c.args.ctx.now (strategy_data c.args.strategy.now) (g.B.BatchSource.kind c.args.source.now) c.args.schedule.now (g.B.BatchSource.to_come c.args.source.now) x c.write_in-written.new.steps.items (g.B.BatchSource.to_come c.write_in-written.new.source) y (g.B.Fallible.must_fail c.args.source.now) c.in-Err.error) c.args.sink c.new-order.result.sink c.write_in-written.new.order.sink c.into_sink-sink.result c.new-order.ensures.sink c.into_sink-sink.ensures
-    (c.in-Err.ensures.misfit c.in-Ok.ensures.root.1 (first_held c.new-order.result.universe c.in-Ok.universe c.in-Ok.eof c.new-order.ensures.universe c.in-Ok.ensures.root.0 c.in-Ok.ensures.root.1)) in
+    let stops = handed g.S.SegmentSink.borrow g.S.SegmentSink.next g.S.SegmentSink.segments (λ x y. StoppedTold c.args.ctx.now (strategy_data c.args.strategy.now) (g.B.BatchSource.kind c.args.source.now) c.args.schedule.now (g.B.BatchSource.to_come c.args.source.now) x c.write_in-written.new.steps.items (g.B.BatchSource.to_come c.write_in-written.new.source) y (g.B.Fallible.must_fail c.args.source.now) c.in-Err.error) c.args.sink c.new-order.result.sink c.write_in-written.new.order.sink c.into_sink-sink.result c.new-order.ensures.sink c.into_sink-sink.ensures
+    (c.in-Err.ensures.ran c.in-Ok.ensures.root.1 (first_held c.new-order.result.universe c.in-Ok.universe c.in-Ok.eof c.new-order.ensures.universe c.in-Ok.ensures.root.0 c.in-Ok.ensures.root.1)) in
     answers_told c.answers.ensures.misfit c.args.ctx.now image (strategy_data c.args.strategy.now) (g.B.BatchSource.kind c.args.source.now) c.args.schedule.now (g.B.BatchSource.to_come c.args.source.now) (g.B.BatchSource.to_come c.write_in-written.new.source) (g.S.SegmentSink.borrow c.args.sink) (g.S.SegmentSink.next c.args.sink) (g.S.SegmentSink.segments c.args.sink) c.write_in-written.new.steps.items (outlet_of g.S.SegmentSink.borrow g.S.SegmentSink.next g.S.SegmentSink.segments c.into_sink-sink.result) c.in-Err.error _ _ _ _ keeps stops c.in-Err.ensures.source
 
 pub returns-in-Err-clause-appended : goal.returns-in-Err-clause-appended
@@ -111,7 +111,7 @@ returns-in-Err-clause-appended g c =
     let keeps : Keeps (setting_of c.args.ctx.now image) = c.real_settings_keep.ensures.keeps (listed c.args.ctx.now) (allowed_in c.args.ctx.now) image
     (ap (λ z. first_repeat z) (sym c.array_ctx.ensures) ∙ c.ids.ensures.distinct) (g.met.C.CompressorPlugin.keeps (g.C.CompressorPlugin.kind c.args.compressor.now)) in
     let told = handed g.S.SegmentSink.borrow g.S.SegmentSink.next g.S.SegmentSink.segments (λ x y. Answered c.args.ctx.now (strategy_data c.args.strategy.now) (g.B.BatchSource.kind c.args.source.now) c.args.schedule.now (g.B.BatchSource.to_come c.args.source.now) x c.write_in-written.new.steps.items (g.B.BatchSource.to_come c.write_in-written.new.source) y (Err c.in-Err.error)) c.args.sink c.new-order.result.sink c.write_in-written.new.order.sink c.into_sink-sink.result c.new-order.ensures.sink c.into_sink-sink.ensures
-    (c.in-Err.ensures.ran c.in-Ok.ensures.root.1 (first_held c.new-order.result.universe c.in-Ok.universe c.in-Ok.eof c.new-order.ensures.universe c.in-Ok.ensures.root.0 c.in-Ok.ensures.root.1)) in
+    (elim (c.in-Err.ensures.ran c.in-Ok.ensures.root.1 (first_held c.new-order.result.universe c.in-Ok.universe c.in-Ok.eof c.new-order.ensures.universe c.in-Ok.ensures.root.0 c.in-Ok.ensures.root.1)) [ inl u ↦ inl u | inr r ↦ inr (r.0, r.1.stop) ]) in
     (c.answers.ensures.sink c.args.ctx.now image (strategy_data c.args.strategy.now) (g.B.BatchSource.kind c.args.source.now) c.args.schedule.now (g.B.BatchSource.to_come c.args.source.now) (g.B.BatchSource.to_come c.write_in-written.new.source) (g.S.SegmentSink.borrow c.args.sink) (g.S.SegmentSink.next c.args.sink) (g.S.SegmentSink.segments c.args.sink) c.write_in-written.new.steps.items (outlet_of g.S.SegmentSink.borrow g.S.SegmentSink.next g.S.SegmentSink.segments c.into_sink-sink.result) (Err c.in-Err.error) keeps told).0.1
 
 pub returns-in-Err-clause-last : goal.returns-in-Err-clause-last
@@ -120,7 +120,7 @@ returns-in-Err-clause-last g c =
     let keeps : Keeps (setting_of c.args.ctx.now image) = c.real_settings_keep.ensures.keeps (listed c.args.ctx.now) (allowed_in c.args.ctx.now) image
     (ap (λ z. first_repeat z) (sym c.array_ctx.ensures) ∙ c.ids.ensures.distinct) (g.met.C.CompressorPlugin.keeps (g.C.CompressorPlugin.kind c.args.compressor.now)) in
     let told = handed g.S.SegmentSink.borrow g.S.SegmentSink.next g.S.SegmentSink.segments (λ x y. Answered c.args.ctx.now (strategy_data c.args.strategy.now) (g.B.BatchSource.kind c.args.source.now) c.args.schedule.now (g.B.BatchSource.to_come c.args.source.now) x c.write_in-written.new.steps.items (g.B.BatchSource.to_come c.write_in-written.new.source) y (Err c.in-Err.error)) c.args.sink c.new-order.result.sink c.write_in-written.new.order.sink c.into_sink-sink.result c.new-order.ensures.sink c.into_sink-sink.ensures
-    (c.in-Err.ensures.ran c.in-Ok.ensures.root.1 (first_held c.new-order.result.universe c.in-Ok.universe c.in-Ok.eof c.new-order.ensures.universe c.in-Ok.ensures.root.0 c.in-Ok.ensures.root.1)) in
+    (elim (c.in-Err.ensures.ran c.in-Ok.ensures.root.1 (first_held c.new-order.result.universe c.in-Ok.universe c.in-Ok.eof c.new-order.ensures.universe c.in-Ok.ensures.root.0 c.in-Ok.ensures.root.1)) [ inl u ↦ inl u | inr r ↦ inr (r.0, r.1.stop) ]) in
     (c.answers.ensures.sink c.args.ctx.now image (strategy_data c.args.strategy.now) (g.B.BatchSource.kind c.args.source.now) c.args.schedule.now (g.B.BatchSource.to_come c.args.source.now) (g.B.BatchSource.to_come c.write_in-written.new.source) (g.S.SegmentSink.borrow c.args.sink) (g.S.SegmentSink.next c.args.sink) (g.S.SegmentSink.segments c.args.sink) c.write_in-written.new.steps.items (outlet_of g.S.SegmentSink.borrow g.S.SegmentSink.next g.S.SegmentSink.segments c.into_sink-sink.result) (Err c.in-Err.error) keeps told).0.0
 
 pub returns-in-Err-clause-borrow : goal.returns-in-Err-clause-borrow
@@ -129,7 +129,7 @@ returns-in-Err-clause-borrow g c =
     let keeps : Keeps (setting_of c.args.ctx.now image) = c.real_settings_keep.ensures.keeps (listed c.args.ctx.now) (allowed_in c.args.ctx.now) image
     (ap (λ z. first_repeat z) (sym c.array_ctx.ensures) ∙ c.ids.ensures.distinct) (g.met.C.CompressorPlugin.keeps (g.C.CompressorPlugin.kind c.args.compressor.now)) in
     let told = handed g.S.SegmentSink.borrow g.S.SegmentSink.next g.S.SegmentSink.segments (λ x y. Answered c.args.ctx.now (strategy_data c.args.strategy.now) (g.B.BatchSource.kind c.args.source.now) c.args.schedule.now (g.B.BatchSource.to_come c.args.source.now) x c.write_in-written.new.steps.items (g.B.BatchSource.to_come c.write_in-written.new.source) y (Err c.in-Err.error)) c.args.sink c.new-order.result.sink c.write_in-written.new.order.sink c.into_sink-sink.result c.new-order.ensures.sink c.into_sink-sink.ensures
-    (c.in-Err.ensures.ran c.in-Ok.ensures.root.1 (first_held c.new-order.result.universe c.in-Ok.universe c.in-Ok.eof c.new-order.ensures.universe c.in-Ok.ensures.root.0 c.in-Ok.ensures.root.1)) in
+    (elim (c.in-Err.ensures.ran c.in-Ok.ensures.root.1 (first_held c.new-order.result.universe c.in-Ok.universe c.in-Ok.eof c.new-order.ensures.universe c.in-Ok.ensures.root.0 c.in-Ok.ensures.root.1)) [ inl u ↦ inl u | inr r ↦ inr (r.0, r.1.stop) ]) in
     (c.answers.ensures.sink c.args.ctx.now image (strategy_data c.args.strategy.now) (g.B.BatchSource.kind c.args.source.now) c.args.schedule.now (g.B.BatchSource.to_come c.args.source.now) (g.B.BatchSource.to_come c.write_in-written.new.source) (g.S.SegmentSink.borrow c.args.sink) (g.S.SegmentSink.next c.args.sink) (g.S.SegmentSink.segments c.args.sink) c.write_in-written.new.steps.items (outlet_of g.S.SegmentSink.borrow g.S.SegmentSink.next g.S.SegmentSink.segments c.into_sink-sink.result) (Err c.in-Err.error) keeps told).1
 
 pub unreachable-requires : goal.unreachable-requires

@@ -18,7 +18,7 @@ use Rattle.vx_machine.specs.View.{phase_of}
 use Rattle.vx_machine.proofs.ReadyViews.{own_source, behind_source}
 use Rattle.vx_machine.proofs.StepShows.{source_stepped, source_refused, source_memory, root_stepped, root_refused}
 use Rattle.vx_machine_tasks.proofs.ActShows.{kept_same}
-use Rattle.vx_machine.proofs.ActCauses.{act_step, source_step}
+use Rattle.vx_machine.proofs.ActCauses.{act_step, source_step, act_elsewhere}
 use Rattle.vx_machine_tasks.proofs.CallSteps.{unasked_self}
 use Rattle.vx_machine.proofs.CallSteps.{stops_as, source_quiet, source_act, source_appends, task_reads, task_stops, reads_behind}
 use Rattle.vx_kept.specs.Kept.{Knows, asked_of, ready_of, kids_of}
@@ -119,7 +119,8 @@ returns-in-Err-step-clause-refused g c = λ image number.
     let is : c.args.pick % counted (machine_ready u m) ≡ one_if (whole.may_source (phase_of m.phase) (task_row m.root no_tasks)) + (k - c.one-own.result)
     = ap (λ n. c.args.pick % n) (sym c.requires.count) ∙ behind_source m.phase m.root k c.one-own.result x c.if-picked-own.false in
     root_refused (setting_of c.args.ctx.now image) (fin.keys u) number (g.B.BatchSource.kind c.args.source.now) (g.O.Order.outlet c.args.order.now) (phase_of m.phase) (task_row m.root no_tasks)
-    (c.args.pick % counted (machine_ready u m)) (k - c.one-own.result) is (g.B.BatchSource.to_come c.args.source.now) (g.B.BatchSource.to_come c.args.source.now) refl c.in-Err-step.error (c.in-Err-step.ensures.refused image number)
+    (c.args.pick % counted (machine_ready u m)) (k - c.one-own.result) is (g.B.BatchSource.to_come c.args.source.now) (g.B.BatchSource.to_come c.args.source.now) refl c.in-Err-step.error
+    (act_elsewhere c.in-Err-step.error c.in-Err-step.ensures.cause) (c.in-Err-step.ensures.refused image number)
 
 -- ---- calls of the source and of the sink
 
