@@ -4,7 +4,6 @@ ghost use Rattle.std.specs.Prelude.{◌≡◌, IsTrue};
 ghost use Rattle.std.specs.Arc.{arc_value};
 ghost use Rattle.vx_model.specs.Ty.{is_struct, is_list};
 ghost use Rattle.vx_model.specs.TyView.{ty};
-ghost use Rattle.vx_split.specs.ListState.{state_at};
 ghost use Rattle.vx_machine_view.specs.Built.{is_built};
 
 use std::sync::Arc;
@@ -43,6 +42,6 @@ pub struct ColumnsNode {
 pub struct ListsNode {
     pub dtype: Arc<DType>,
     pub split: ListSplit,
-    ghost same: { split ≡ state_at (ty (arc_value dtype)) split.first split.base },
+    ghost same: { split.typed ≡ ty (arc_value dtype) },
     ghost lists: { IsTrue (is_list (ty (arc_value dtype))) },
 }

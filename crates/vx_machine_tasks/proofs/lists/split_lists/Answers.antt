@@ -12,14 +12,14 @@ use Rattle.vx_machine_tasks.proofs.SplitSteps.{misfit_eq}
 use Rattle.vx_machine_tasks.proofs.lists.split_lists.Goals as goal
 
 pub react-requires : goal.react-requires
-react-requires c = c.has_type.ensures.0 c.if-not-has_type.false ∙ ap ty c.deref.ensures ∙ sym (ap (λ z. z.typed) c.args.node.now.same)
+react-requires c = c.has_type.ensures.0 c.if-not-has_type.false ∙ ap ty c.deref.ensures ∙ sym c.args.node.now.same
 
 pub returns-in-Ok-reserve-clause-typed : goal.returns-in-Ok-reserve-clause-typed
 returns-in-Ok-reserve-clause-typed c = c.has_type.ensures.0 c.if-not-has_type.false ∙ ap ty c.deref.ensures
 
 pub returns-in-Ok-reserve-clause-columns : goal.returns-in-Ok-reserve-clause-columns
 returns-in-Ok-reserve-clause-columns c =
-    c.in-Ok-react.ensures.columns ∙ (λ j. list_columns (element_type ((c.args.node.now.same j).typed)) (nullable ((c.args.node.now.same j).typed)) c.args.node.now.split.first c.args.node.now.split.base c.args.chunk)
+    c.in-Ok-react.ensures.columns ∙ (λ j. list_columns (element_type (c.args.node.now.same j)) (nullable (c.args.node.now.same j)) c.args.node.now.split.first c.args.node.now.split.base c.args.chunk)
 
 pub returns-in-Ok-reserve-clause-rows : goal.returns-in-Ok-reserve-clause-rows
 returns-in-Ok-reserve-clause-rows c = c.in-Ok.ensures.ok ∙ ap (λ n. c.args.rows + n) c.len.ensures.rows
