@@ -73,22 +73,22 @@ module _ (w : WholeStep) (m : TreeMove) (same : SameAct w m) (o : Outlet) (mine 
     counts_past n (inr (inl (a, p))) = inr (inl (appends a, (last n p).0, (last n p).1))
     counts_past n (inr (inr (i, big))) = inr (inr (sym same.kind ∙ joins n i, big))
 
-    pub own : (e : WriteError) → IsElsewhere e → RefusedBy w o e → IsOwn m heard next e
-    own SourceFault far h = absurd far
-    own SinkFault far h = appends h
-    own CompressFault far h = absurd h
-    own (BatchType c) far h = absurd (true≢false (sym h ∙ fits))
-    own NotStruct far h = sym same.refusal ∙ h
-    own (DuplicateField name) far h = sym same.refusal ∙ h
-    own ManyChunks far h = sym same.refusal ∙ h
-    own EmptyList far h = absurd h
-    own (ZoneCut n) far h = absurd h
-    own (ForbiddenAggregate id) far h = absurd h
-    own (ForbiddenEncoding id) far h = sym same.refusal ∙ h
-    own (TooLarge n) far h = counts_past n h
-    own OutOfMemory far h = tt
-    own Unbuilt far h = absurd h
-    own (Stopped by name) far h = absurd (mine h.1)
+    pub is_own : (e : WriteError) → IsElsewhere e → RefusedBy w o e → IsOwn m heard next e
+    is_own SourceFault far h = absurd far
+    is_own SinkFault far h = appends h
+    is_own CompressFault far h = absurd h
+    is_own (BatchType c) far h = absurd (true≢false (sym h ∙ fits))
+    is_own NotStruct far h = sym same.refusal ∙ h
+    is_own (DuplicateField name) far h = sym same.refusal ∙ h
+    is_own ManyChunks far h = sym same.refusal ∙ h
+    is_own EmptyList far h = absurd h
+    is_own (ZoneCut n) far h = absurd h
+    is_own (ForbiddenAggregate id) far h = absurd h
+    is_own (ForbiddenEncoding id) far h = sym same.refusal ∙ h
+    is_own (TooLarge n) far h = counts_past n h
+    is_own OutOfMemory far h = tt
+    is_own Unbuilt far h = absurd h
+    is_own (Stopped by name) far h = absurd (mine h.1)
 
   -- of one in which the source reads, and no more of the type comes
   pub own_read : (d : Eof) (root : Tasks) → w ≡ source_step unasked (reading d) root → heard ≡ false → IsRead m.act heard

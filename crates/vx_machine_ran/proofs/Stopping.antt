@@ -64,7 +64,7 @@ use Rattle.vx_machine_ran.specs.Written.{AreFirst, NeedsNumber, HasCause, AskedI
 use Rattle.vx_machine_ran.proofs.Fewness.{Few, whole_few}
 use Rattle.vx_machine_ran.proofs.Leading.{told_one, asking, runs_are_led}
 use Rattle.vx_machine_ran.proofs.Joining.{whole_join}
-use Rattle.vx_machine_ran.proofs.Refusing.{RefusedBy, SameAct, own, own_read, next_act}
+use Rattle.vx_machine_ran.proofs.Refusing.{RefusedBy, SameAct, is_own, own_read, next_act}
 use Rattle.vx_machine_ran.proofs.Tracing.{reads_are, traced_front, refused_last, misfit_last}
 use Rattle.vx_machine_ran.proofs.Writing.{stored_length, own_more, under}
 
@@ -450,7 +450,7 @@ module _ (ctx : LayoutWriterContext) (image : ℕ → ChunkData → ChunkData) (
             by_answer (inr (late, one)) = inr (late, (let a = reads in let b = answers in omega (arith, a, b, one)))
 
         there : IsElsewhere e → There taken heard e
-        there far = inr (found.0, own w found.0.move found.1 y.outlet mine heard next fits (whole_join (setting_of ctx image) (machine_ids x.machine) (first + length x.history) told x.machine k w at) last e far cause)
+        there far = inr (found.0, is_own w found.0.move found.1 y.outlet mine heard next fits (whole_join (setting_of ctx image) (machine_ids x.machine) (first + length x.history) told x.machine k w at) last e far cause)
           where
             found : (a : NextAct (setting_of ctx image) way t (is_marked ctx) taken heard schedule steps) × SameAct w a.move
             found = next_act h first o.notes x law u schedule steps o.shown told once k w at (asks_so h first x told k w (none_later heard) chosen) pick_at
@@ -471,14 +471,14 @@ module _ (ctx : LayoutWriterContext) (image : ℕ → ChunkData → ChunkData) (
 
       -- another error than the source's, or no batch of the type comes
       elsewhere : w.misfit ≡ false → IsElsewhere e
-      elsewhere fits = by e tells
+      elsewhere fits = by_error e tells
         where
-          reads : (d : Eof) × (x.machine.phase ≡ reading d) × (k ≡ 0) × (told ≡ unasked) → w.misfit ≡ true
-          reads (d, p, z, a) = ap (λ (v : WholeStep). v.misfit) (read_is (setting_of ctx image) (machine_ids x.machine) (first + length x.history) unasked x.machine d w p (read_place z a))
+          read_none : (d : Eof) × (x.machine.phase ≡ reading d) × (k ≡ 0) × (told ≡ unasked) → w.misfit ≡ true
+          read_none (d, p, z, a) = ap (λ (v : WholeStep). v.misfit) (read_is (setting_of ctx image) (machine_ids x.machine) (first + length x.history) unasked x.machine d w p (read_place z a))
 
-          by : (e : WriteError) → TellsRefused x.machine.phase k t y.to_come to_come_now e told → IsElsewhere e
-          by SourceFault r = absurd (true≢false (sym (reads (fault_reads x.machine.phase k t y.to_come to_come_now told r)) ∙ fits))
-          by e r = tt
+          by_error : (e : WriteError) → TellsRefused x.machine.phase k t y.to_come to_come_now e told → IsElsewhere e
+          by_error SourceFault r = absurd (true≢false (sym (read_none (fault_reads x.machine.phase k t y.to_come to_come_now told r)) ∙ fits))
+          by_error e r = tt
 
       -- a batch of another type
       misfit_halts : (d : Eof) × (x.machine.phase ≡ reading d) × (k ≡ 0) × (told ≡ unasked) → Halting e
