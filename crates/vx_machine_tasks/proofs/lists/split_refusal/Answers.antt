@@ -3,7 +3,7 @@ use Rattle.vx_machine_tasks.proofs.ListSteps.{past_elements, past_may, other_ele
 use Rattle.vx_machine_tasks.proofs.lists.split_refusal.Goals as goal
 
 pub returns-else-n-clause-refused : goal.returns-else-n-clause-refused
-returns-else-n-clause-refused c = λ n h. past_elements n c.in-TooLarge.n c.args.error c.in-TooLarge.is c.if-n-eq-MAX.false h
+returns-else-n-clause-refused c = λ n h. past_elements n c.in-TooLarge.n c.args.error c.in-TooLarge.is c.if-n.false h
 
 pub returns-else-n-clause-cause : goal.returns-else-n-clause-cause
 returns-else-n-clause-cause c = λ n h. past_may n c.in-TooLarge.n c.args.error c.in-TooLarge.is h
