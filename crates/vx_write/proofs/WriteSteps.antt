@@ -1,5 +1,5 @@
 -- A write by tasks: what its pointer holds at the start, and what is told where it is refused there.
-use Rattle.std.proofs.Common.{◌≡◌, ◌≢◌, ◌+◌, ◌≤◌, ◌<◌, ◌^◌, ℕ, Bool, true, false, List, [], is_some, length, lit<, refl, sym, ap, subst, inl, inr, ◌∙◌, ⊎_elim, arith}
+use Rattle.std.proofs.Common.{◌≡◌, ◌≢◌, ◌+◌, ◌≤◌, ◌<◌, ◌^◌, ℕ, Bool, true, false, List, [], is_some, length, lit<, refl, sym, ap, subst, ◌∙◌, ⊎_elim, arith}
 use Rattle.std.specs.FinMap as map
 use Rattle.vx_path.specs.Path.{Eof, eof_path}
 use Rattle.vx_sequence.specs.Universe.{Active, path_cmp, root, only}
