@@ -1,5 +1,5 @@
 -- A write by tasks from before its start: what is started, and what its answer is then.
-use Rattle.std.proofs.Common.{◌≡◌, ◌⊎◌, ◌∙◌, ◌+◌, ℕ, Bool, true, false, List, refl, sym, ap, subst, inl, inr, arith, add-zero, Option, Result, Ok, Err}
+use Rattle.std.proofs.Common.{◌≡◌, ◌⊎◌, ◌∙◌, ◌+◌, ℕ, Bool, true, false, List, sym, ap, subst, inl, inr, arith, add-zero, Option, Result, Ok, Err}
 use Rattle.std.specs.Prelude.{MatchResult}
 use Rattle.vx_fault.specs.Counts.{Counts, IsCalm}
 use Rattle.vx_model.specs.Ty.{Ty}

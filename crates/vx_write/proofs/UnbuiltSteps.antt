@@ -1,5 +1,5 @@
 -- What is told where a strategy isn't built: nothing was done.
-use Rattle.std.proofs.Common.{◌≡◌, ◌<◌, ◌+◌, ℕ, Bool, true, false, List, [], ◌++◌, Option, Some, None, length, refl, sym, ap, ◌∙◌, inl, inr, arith}
+use Rattle.std.proofs.Common.{◌≡◌, ◌<◌, ℕ, Bool, true, false, List, [], Option, Some, None, refl, sym, ap, inl, arith}
 use Rattle.std.proofs.lemmas.List.{append-nil}
 use Rattle.std.proofs.lemmas.Bool.{true≢false}
 use Rattle.vx_model.specs.Ty.{Ty}
@@ -13,7 +13,6 @@ use Rattle.vx_plan.specs.SourcePlan.{source_plan, taken_plan}
 use Rattle.vx_write_answer.specs.declared.step.Step.{Step}
 use Rattle.vx_write_answer.specs.declared.error.WriteError.TheVariants.{Unbuilt}
 use Rattle.vx_machine_view.specs.Built.{is_built}
-use Rattle.vx_machine.specs.Calls.{appends_in}
 use Rattle.vx_machine_ran.specs.Traced.{tasks_of}
 use Rattle.vx_machine_ran.specs.Written.{Halted}
 

@@ -1,8 +1,8 @@
-use Rattle.std.proofs.Common.{◌∙◌, ℕ, List, Option, Err, Ok, Some, None, refl, sym, ap, subst, inl, inr}
+use Rattle.std.proofs.Common.{◌∙◌, ℕ, Option, Err, Ok, Some, None, refl, sym, ap, subst, inl, inr}
 use Rattle.vx_model.specs.ChunkData.{ChunkData}
 use Rattle.vx_model.specs.Distinct.{first_repeat}
 use Rattle.vx_plan.specs.Valid.{Keeps}
-use Rattle.vx_fault.specs.Counts.{Counts, IsCalm}
+use Rattle.vx_fault.specs.Counts.{Counts}
 use Rattle.vx_layout_tree.specs.declared.layout.Layout.{Layout}
 use Rattle.vx_sink.specs.ContextView.{listed, allowed_in}
 use Rattle.vx_strategy.specs.StrategyView.{strategy_data}

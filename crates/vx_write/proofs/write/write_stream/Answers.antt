@@ -1,4 +1,4 @@
-use Rattle.std.proofs.Common.{sym, ◌∙◌, ap, refl, rules}
+use Rattle.std.proofs.Common.{sym, ◌∙◌, ap, rules}
 use Rattle.vx_sink.specs.ContextView.{is_marked}
 use Rattle.vx_strategy.specs.StrategyView.{strategy_data}
 use Rattle.vx_machine_tasks.specs.Context.{setting_of}
