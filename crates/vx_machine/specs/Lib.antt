@@ -6,3 +6,10 @@ pub mod SourceActs
 pub mod Steps
 pub mod Run
 pub mod Starting
+pub use Rattle.vx_machine_tasks.specs.Acting
+pub use Rattle.vx_machine_tasks.specs.Calls as TaskCalls
+pub use Rattle.vx_machine_tasks.specs.Context
+pub use Rattle.vx_machine_tasks.specs.Outcome
+pub use Rattle.vx_machine_tasks.specs.Ready
+pub use Rattle.vx_machine_tasks.specs.Starting as TaskStarting
+pub use Rattle.vx_machine_tasks.specs.View as TaskView

@@ -28,11 +28,11 @@ use Rattle.vx_machine_runs.proofs.Asking.{all_of_schema}
 use Rattle.vx_machine_runs.proofs.Ending.{none_later, open_none, none_planned}
 use Rattle.vx_machine_runs.proofs.Sounding.{fits, none_has}
 use Rattle.vx_machine.specs.Calls.{appends_in, misfits}
-use Rattle.vx_machine_tasks.specs.Context.{setting_of}
-use Rattle.vx_machine_tasks.specs.Outcome.{Kept}
-use Rattle.vx_machine_tasks.specs.Starting.{FormRefused}
+use Rattle.vx_machine.specs.Context.{setting_of}
+use Rattle.vx_machine.specs.Outcome.{Kept}
+use Rattle.vx_machine.specs.TaskStarting.{FormRefused}
 use Rattle.vx_machine.specs.Starting.{WholeRefused}
-use Rattle.vx_machine_tasks.specs.View.{form_at}
+use Rattle.vx_machine.specs.TaskView.{form_at}
 use Rattle.vx_machine_ran.specs.Ran.{write_by, OwnSink, own_sink}
 use Rattle.vx_machine_ran.specs.RefusedAct.{StartRefuses}
 use Rattle.vx_machine_ran.specs.Traced.{tasks_of}

@@ -22,9 +22,9 @@ use Rattle.vx_machine_runs.specs.Answers.{WholeAnswer}
 use Rattle.vx_machine_runs.specs.Numbers.{AllBelow}
 use Rattle.vx_machine_runs.proofs.Asking.{asked_before_end}
 use Rattle.vx_machine_runs.proofs.Freed.{number_is_free}
-use Rattle.vx_machine_tasks.specs.Acting.{IsAppended, Behind}
-use Rattle.vx_machine_tasks.specs.Outcome.{action_of}
-use Rattle.vx_machine_tasks.specs.Ready.{counted}
+use Rattle.vx_machine.specs.Acting.{IsAppended, Behind}
+use Rattle.vx_machine.specs.Outcome.{action_of}
+use Rattle.vx_machine.specs.Ready.{counted}
 use Rattle.vx_machine.specs.SourceActs.{AsksAt, Tells}
 use Rattle.vx_machine.specs.Steps.{WholeStepped}
 use Rattle.vx_machine.specs.Run.{At, ready_at, Ran}

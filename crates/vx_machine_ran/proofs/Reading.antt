@@ -12,7 +12,7 @@ use Rattle.vx_machine_runs.specs.Runs.{outset, scheduled, UnderwayAt, RunIsUnder
 use Rattle.vx_machine_runs.proofs.Misfits.{misfit_is_read}
 use Rattle.vx_machine_runs.proofs.Stepping.{places}
 use Rattle.vx_machine.specs.Calls.{reads_at}
-use Rattle.vx_machine_tasks.specs.Context.{setting_of}
+use Rattle.vx_machine.specs.Context.{setting_of}
 use Rattle.vx_machine.specs.Steps.{StepRefused}
 use Rattle.vx_machine.specs.Run.{picked_at, Stops}
 use Rattle.vx_machine_ran.specs.Ran.{write_by, Onward}

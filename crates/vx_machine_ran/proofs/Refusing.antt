@@ -31,8 +31,8 @@ use Rattle.vx_machine_runs.specs.Runs.{Stand, BeforeEnd, UnderwayAt}
 use Rattle.vx_machine_runs.proofs.Ending.{none_later, open_none}
 use Rattle.vx_machine_runs.proofs.Reaching.{as_ready, move_of}
 use Rattle.vx_machine_runs.proofs.Stepping.{open_before}
-use Rattle.vx_machine_tasks.specs.Outcome.{Refused, Past, Appending}
-use Rattle.vx_machine_tasks.specs.Ready.{counted}
+use Rattle.vx_machine.specs.Outcome.{Refused, Past, Appending}
+use Rattle.vx_machine.specs.Ready.{counted}
 use Rattle.vx_machine.specs.SourceActs.{IsElsewhere}
 use Rattle.vx_machine.specs.Run.{ready_at}
 use Rattle.vx_machine_ran.specs.Ran.{ShowsCounted}

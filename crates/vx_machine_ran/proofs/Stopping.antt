@@ -48,12 +48,12 @@ use Rattle.vx_machine_runs.proofs.Sounding.{past_is_caused}
 use Rattle.vx_machine_runs.proofs.Stepping.{open_before, asks_so, places, some_same}
 use Rattle.vx_machine_runs.proofs.Tracing.{same_scripts}
 use Rattle.vx_machine.specs.Calls.{reads_in, misfits}
-use Rattle.vx_machine_tasks.specs.Context.{setting_of}
-use Rattle.vx_machine_tasks.specs.Outcome.{Kept, Past, Appending}
+use Rattle.vx_machine.specs.Context.{setting_of}
+use Rattle.vx_machine.specs.Outcome.{Kept, Past, Appending}
 use Rattle.vx_machine.specs.Source.{ReadsNone, SourceMay}
 use Rattle.vx_machine.specs.SourceActs.{AsksAt, IsElsewhere, TellsNothing, TellsRefused}
 use Rattle.vx_machine.specs.Steps.{StepRefused}
-use Rattle.vx_machine_tasks.specs.Ready.{counted}
+use Rattle.vx_machine.specs.Ready.{counted}
 use Rattle.vx_machine.specs.Run.{At, ready_at, Stops}
 use Rattle.vx_machine_ran.specs.Ran.{write_by, OwnSink, ShowsCounted, Onward}
 use Rattle.vx_machine_ran.specs.Runs.{Halts, StoppedHalts}

@@ -33,11 +33,11 @@ use Rattle.vx_machine_runs.proofs.Ending.{none_later}
 use Rattle.vx_machine_runs.proofs.Picking.{least, pick_here, picks_are_exact}
 use Rattle.vx_machine_runs.proofs.Stepping.{open_before, places, schedule_is_free}
 use Rattle.vx_machine_runs.proofs.Tracing.{appends_are_noted}
-use Rattle.vx_machine_tasks.specs.Calls.{reads_action, append_action}
+use Rattle.vx_machine.specs.TaskCalls.{reads_action, append_action}
 use Rattle.vx_machine.specs.Calls.{reads_in, appends_in}
-use Rattle.vx_machine_tasks.specs.Context.{setting_of}
-use Rattle.vx_machine_tasks.specs.Outcome.{action_of}
-use Rattle.vx_machine_tasks.specs.Ready.{counted}
+use Rattle.vx_machine.specs.Context.{setting_of}
+use Rattle.vx_machine.specs.Outcome.{action_of}
+use Rattle.vx_machine.specs.Ready.{counted}
 use Rattle.vx_machine.specs.Run.{At, ready_at}
 use Rattle.vx_machine_ran.specs.Ran.{write_by, ShowsCounted, Onward}
 use Rattle.vx_machine_ran.specs.Traced.{ShowsNote, IsTraced, answers_in}

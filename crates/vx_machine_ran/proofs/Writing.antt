@@ -38,7 +38,7 @@ use Rattle.vx_machine_runs.proofs.Reserving.{nothing_reserved}
 use Rattle.vx_machine_runs.proofs.Sounding.{idle_is_finished}
 use Rattle.vx_machine_runs.proofs.Stepping.{places, schedule_is_free}
 use Rattle.vx_machine.specs.Calls.{appends_in}
-use Rattle.vx_machine_tasks.specs.Context.{setting_of}
+use Rattle.vx_machine.specs.Context.{setting_of}
 use Rattle.vx_machine.specs.Run.{At, Ends, ready_at}
 use Rattle.vx_machine_ran.specs.Ran.{write_by, OwnSink, Onward}
 use Rattle.vx_machine_ran.specs.Runs.{AllDone, DoneIsWritten, RunsLeaveSinks}

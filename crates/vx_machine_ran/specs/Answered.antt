@@ -18,13 +18,13 @@ use Rattle.vx_write_answer.specs.declared.error.WriteError.TheVariants.{SourceFa
 use Rattle.vx_machine_view.specs.Built.{is_built}
 use Rattle.vx_machine_view.specs.Start.{first_indices}
 use Rattle.vx_machine_view.specs.Machine.{start}
-use Rattle.vx_machine_tasks.specs.Context.{setting_of}
-use Rattle.vx_machine_tasks.specs.Outcome.{AllFit, Kept}
-use Rattle.vx_machine_tasks.specs.Starting.{IsAllowed}
+use Rattle.vx_machine.specs.Context.{setting_of}
+use Rattle.vx_machine.specs.Outcome.{AllFit, Kept}
+use Rattle.vx_machine.specs.TaskStarting.{IsAllowed}
 use Rattle.vx_machine.specs.Calls.{reads_at}
 use Rattle.vx_machine.specs.Starting.{WholeRefused}
 use Rattle.vx_machine.specs.Run.{At, at, RunDone, RunStopped, picked_at}
-use Rattle.vx_machine_tasks.specs.View.{form_at}
+use Rattle.vx_machine.specs.TaskView.{form_at}
 use Rattle.vx_machine_ran.specs.Ran.{OwnSink, own_sink}
 use Rattle.vx_machine_ran.specs.Traced.{Traced}
 use Rattle.vx_machine_ran.specs.Written.{Planned, Wrote, Halted}

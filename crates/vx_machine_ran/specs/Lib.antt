@@ -4,3 +4,10 @@ pub mod RefusedAct
 pub mod Written
 pub mod Runs
 pub mod Answered
+pub use Rattle.vx_machine_view.specs.Built
+pub use Rattle.vx_machine_view.specs.Machine
+pub use Rattle.vx_machine_view.specs.Start
+pub use Rattle.vx_plan.specs.Number
+pub use Rattle.vx_plan.specs.PlanData
+pub use Rattle.vx_plan.specs.SourcePlan
+pub use Rattle.vx_plan.specs.Valid

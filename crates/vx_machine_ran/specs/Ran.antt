@@ -18,9 +18,9 @@ use Rattle.vx_machine_runs.specs.Runs.{Stand, outset, Led}
 use Rattle.vx_machine_runs.specs.Answers.{ToldWhole}
 use Rattle.vx_machine_runs.specs.Picks.{PickedUpTo}
 use Rattle.vx_machine_runs.specs.Numbers.{CountsBelow}
-use Rattle.vx_machine_tasks.specs.Context.{setting_of}
-use Rattle.vx_machine_tasks.specs.Outcome.{action_of}
-use Rattle.vx_machine_tasks.specs.Ready.{counted as counted_ready}
+use Rattle.vx_machine.specs.Context.{setting_of}
+use Rattle.vx_machine.specs.Outcome.{action_of}
+use Rattle.vx_machine.specs.Ready.{counted as counted_ready}
 use Rattle.vx_machine.specs.Run.{At, at, Ran}
 
 -- the write of a context, with these images, by a strategy at a type; its schedule isn't asked

@@ -18,10 +18,10 @@ use Rattle.vx_write_answer.specs.declared.error.WriteError.{WriteError}
 use Rattle.vx_write_answer.specs.declared.error.WriteError.TheVariants.{SourceFault, SinkFault, CompressFault, BatchType, NotStruct, DuplicateField, ManyChunks, EmptyList, ZoneCut, ForbiddenAggregate, ForbiddenEncoding, TooLarge, OutOfMemory, Unbuilt, Stopped}
 use Rattle.vx_machine_view.specs.Built.{is_built}
 use Rattle.vx_machine_view.specs.Start.{first_indices}
-use Rattle.vx_machine_tasks.specs.Outcome.{action_of, Past}
-use Rattle.vx_machine_tasks.specs.Ready.{counted}
-use Rattle.vx_machine_tasks.specs.Starting.{TooFar}
-use Rattle.vx_machine_tasks.specs.View.{form_at}
+use Rattle.vx_machine.specs.Outcome.{action_of, Past}
+use Rattle.vx_machine.specs.Ready.{counted}
+use Rattle.vx_machine.specs.TaskStarting.{TooFar}
+use Rattle.vx_machine.specs.TaskView.{form_at}
 
 -- ---- the act that comes next
 

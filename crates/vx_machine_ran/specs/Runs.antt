@@ -21,7 +21,7 @@ use Rattle.vx_machine_view.specs.Start.{first_indices}
 use Rattle.vx_machine_view.specs.Whole.{form_of}
 use Rattle.vx_machine_runs.specs.Numbers.{AllBelow}
 use Rattle.vx_machine.specs.Calls.{appends_in}
-use Rattle.vx_machine_tasks.specs.Context.{setting_of}
+use Rattle.vx_machine.specs.Context.{setting_of}
 use Rattle.vx_machine.specs.Run.{At, Ran, RunDone, RunStopped}
 use Rattle.vx_machine_ran.specs.Ran.{write_by, OwnSink, at_start}
 use Rattle.vx_machine_ran.specs.Traced.{tasks_of, Traced, StepsAreFirst}

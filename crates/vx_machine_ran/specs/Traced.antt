@@ -13,7 +13,7 @@ use Rattle.vx_write_answer.specs.declared.error.WriteError.{WriteError}
 use Rattle.vx_write_answer.specs.declared.error.WriteError.TheVariants.{BatchType, NotStruct, DuplicateField, ManyChunks, EmptyList, ForbiddenEncoding}
 use Rattle.vx_machine_view.specs.Steps.{AllPairs}
 use Rattle.vx_machine.specs.Calls.{reads_in}
-use Rattle.vx_machine_tasks.specs.Outcome.{action_of}
+use Rattle.vx_machine.specs.Outcome.{action_of}
 pub use Rattle.vx_machine.specs.SourceActs.{IsLate}
 
 -- the scripts of the tasks of these batches, in which a refusal ends its task

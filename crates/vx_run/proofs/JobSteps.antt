@@ -17,10 +17,10 @@ use Rattle.vx_fault.specs.Fails.{fails_at}
 use Rattle.vx_fault.specs.Faults.{FaultsTold}
 use Rattle.vx_fault.specs.Told.{before_told, then_told}
 use Rattle.vx_machine_view.specs.Built.{is_built}
-use Rattle.vx_machine.specs.Calls.{reads_in, appends_in, misfits}
-use Rattle.vx_machine_ran.specs.Traced.{Traced}
-use Rattle.vx_machine_ran.specs.RefusedAct.{RefusedThere}
-use Rattle.vx_machine_ran.specs.Written.{Planned, Wrote, HasCause, AskedInSteps, Halted}
+use Rattle.vx_write.specs.Calls.{reads_in, appends_in, misfits}
+use Rattle.vx_write.specs.Traced.{Traced}
+use Rattle.vx_write.specs.RefusedAct.{RefusedThere}
+use Rattle.vx_write.specs.Written.{Planned, Wrote, HasCause, AskedInSteps, Halted}
 use Rattle.vx_write_answer.specs.Causes.{is_source_fault, is_sink_fault, is_unbuilt}
 use Rattle.vx_write_answer.specs.declared.step.Step.{Step}
 use Rattle.vx_write_answer.specs.declared.error.WriteError.{WriteError}

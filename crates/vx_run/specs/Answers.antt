@@ -12,9 +12,9 @@ use Rattle.vx_plan.specs.Valid.{Valid}
 use Rattle.vx_fault.specs.Fails.{fails_at}
 use Rattle.vx_setting.specs.Setting.{real}
 use Rattle.vx_machine_view.specs.Built.{is_built}
-use Rattle.vx_machine.specs.Calls.{reads_in, appends_in, misfits}
-use Rattle.vx_machine_ran.specs.Traced.{IsTraced}
-use Rattle.vx_machine_ran.specs.Written.{Wrote, Halted}
+use Rattle.vx_write.specs.Calls.{reads_in, appends_in, misfits}
+use Rattle.vx_write.specs.Traced.{IsTraced}
+use Rattle.vx_write.specs.Written.{Wrote, Halted}
 use Rattle.vx_write_answer.specs.Causes.{is_unbuilt}
 use Rattle.vx_write_answer.specs.declared.step.Step.{Step}
 use Rattle.vx_write_answer.specs.declared.error.WriteError.{WriteError}

@@ -7,12 +7,12 @@ use Rattle.vx_model.specs.ChunkData.{ChunkData}
 use Rattle.vx_fault.specs.Told.{before_told, then_told}
 use Rattle.vx_tasks.specs.Run.{work}
 use Rattle.vx_strategy_spec.specs.StrategyData.{StrategyData}
-use Rattle.vx_plan.specs.PlanData.{Setting}
-use Rattle.vx_plan.specs.Number.{segments}
-use Rattle.vx_plan.specs.SourcePlan.{source_plan, taken_plan}
+use Rattle.vx_machine_ran.specs.PlanData.{Setting}
+use Rattle.vx_machine_ran.specs.Number.{segments}
+use Rattle.vx_machine_ran.specs.SourcePlan.{source_plan, taken_plan}
 use Rattle.vx_write_answer.specs.declared.step.Step.{Step}
 use Rattle.vx_write_answer.specs.declared.error.WriteError.TheVariants.{Unbuilt}
-use Rattle.vx_machine_view.specs.Built.{is_built}
+use Rattle.vx_machine_ran.specs.Built.{is_built}
 use Rattle.vx_machine_ran.specs.Traced.{tasks_of}
 use Rattle.vx_machine_ran.specs.Written.{Halted}
 

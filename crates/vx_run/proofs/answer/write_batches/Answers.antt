@@ -3,7 +3,7 @@ use Rattle.vx_model.specs.declared.encoding.EncodingId.{EncodingId}
 use Rattle.vx_plan.specs.PlanData.{Setting}
 use Rattle.vx_sink.specs.ContextView.{listed, allowed_in, is_marked}
 use Rattle.vx_setting.specs.Setting.{real}
-use Rattle.vx_machine_tasks.specs.Context.{setting_of}
+use Rattle.vx_write.specs.Context.{setting_of}
 use Rattle.vx_job.specs.JobText.{JobData}
 use Rattle.vx_job.specs.JobView.{job_view}
 use Rattle.vx_run.proofs.JobSteps.{same_pieces, job_written, written_tables, written_fits, job_refused, refused_fits}

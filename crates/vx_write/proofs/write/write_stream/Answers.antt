@@ -1,7 +1,7 @@
 use Rattle.std.proofs.Common.{sym, ◌∙◌, ap, rules}
 use Rattle.vx_sink.specs.ContextView.{is_marked}
 use Rattle.vx_strategy.specs.StrategyView.{strategy_data}
-use Rattle.vx_machine_tasks.specs.Context.{setting_of}
+use Rattle.vx_machine.specs.Context.{setting_of}
 use Rattle.vx_write.proofs.LentSteps.{first_told, second_told}
 use Rattle.vx_write.proofs.UnbuiltSteps.{unbuilt_halts}
 use Rattle.vx_write.proofs.write.write_stream.Goals as goal
