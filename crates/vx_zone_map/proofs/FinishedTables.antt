@@ -183,8 +183,8 @@ module _ (t : Ty) (listed : List Aggregate) (g : Gathered) (held : g.columns ≡
       → record_of m row ≡ map (told_entry z) cs
   told_are m c a zones z row e =
       let row_of : row ≡ struct_value (vals_of (map (λ vs. kept_value (value_at z vs)) (values_in_columns cs))) =
-          row_is (length g.records) (values_in_columns cs) z row
-          (ap (λ cols. slice_get (map value (struct_rows (length g.records) cols [])) z) (sym (cells_are cs)) ∙ ap (λ vs. slice_get vs z) (sym zones) ∙ e) in
+      row_is (length g.records) (values_in_columns cs) z row
+      (ap (λ cols. slice_get (map value (struct_rows (length g.records) cols [])) z) (sym (cells_are cs)) ∙ ap (λ vs. slice_get vs z) (sym zones) ∙ e) in
       let names : names_of (held_aggregates m.aggregates m.column) ≡ aggregates_in cs = ap₂ (λ (gs : List Aggregate) (u : Ty). names_of (held_aggregates gs u)) a c ∙ names_are t cs typed in
       ap₂ (λ (gs : List Aggregate) (r : ValueData). paired gs (fields_of r)) names row_of
       ∙ ap (paired (aggregates_in cs)) (back_in (map (λ vs. kept_value (value_at z vs)) (values_in_columns cs)))

@@ -64,7 +64,7 @@ module _ (m : ZoneMap) (columns : List ZoneColumn) (names : map name_in columns 
         let rows_are : zone_rows m z ≡ rows = ap (λ k. if nat_lt (suc z) k then m.zone_len else m.row_count - m.zone_len * z) count_is ∙ sym e in
         let one : falsified hash m.column p (record_of m (row_at z (map seen_values columns))) (zone_rows m z) ≡ b = ap₂ (λ r k. falsified hash m.column p r k) (record_at z) rows_are ∙ sym f in
         let front : drop z m.zones ≡ row_at z (map seen_values columns) ∷ drop (suc z) m.zones =
-            ap (drop z) zones ∙ drop_suc n (map seen_values columns) z h ∙ ap (λ vs. row_at z (map seen_values columns) ∷ drop (suc z) vs) (sym zones) in
+        ap (drop z) zones ∙ drop_suc n (map seen_values columns) z h ∙ ap (λ vs. row_at z (map seen_values columns) ∷ drop (suc z) vs) (sym zones) in
         ap (skips_from hash m p z) front
         ∙ ap (λ x. x ∷ skips_from hash m p (suc z) (drop (suc z) m.zones)) one
         ∙ ap (λ k. b ∷ skips_from hash m p k (drop k m.zones)) (sym (add-one z))

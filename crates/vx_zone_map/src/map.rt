@@ -1,6 +1,6 @@
 //! Zone maps.
 
-ghost use Rattle.std.specs.Prelude.{◌≡◌, length, map, true, false, IsOk, IfErr};
+ghost use Rattle.std.specs.Prelude.{◌≡◌, length, map, true, IfOk, IfErr};
 ghost use Rattle.vx_model.specs.TyView.{ty};
 ghost use Rattle.vx_model.specs.ChunkData.{piece_type, cells as cells_in};
 ghost use Rattle.vx_aggregate_spec.specs.Aggregate.{held_aggregates};
@@ -70,7 +70,7 @@ impl ZoneMap {
         ensures refused { IfErr result (RefusesTable (ty column_dtype) (map aggregate_of aggregate_fns.items) table zone_len row_count) }
     {
         let zones = table.len();
-        let tested = test(
+        let checked = check(
             alloc,
             &column_dtype,
             &table,
@@ -78,7 +78,7 @@ impl ZoneMap {
             zone_len,
             row_count,
         );
-        if let Err(error) = tested {
+        if let Err(error) = checked {
             drop(table);
             drop(column_dtype);
             return Err(error);
@@ -105,8 +105,8 @@ impl ZoneMap {
     pub fn prune(&self, alloc: Global, predicate: &Predicate) -> Result<Vec<bool>, ZoneError>
         ensures zones { IfOk result (λ v. v.items ≡ skips xxhash3_64 (zone_map self.now) (predicate_data predicate.now)) }
         ensures sound { IfOk result (λ v. NoneMatches (zone_map self.now) (predicate_data predicate.now) v.items) }
-        ensures fits { IfOk result (λ v. IsTrue (predicate_fits (ty self.now.dtype) (predicate_data predicate.now))) }
-        ensures refused { IfErr result (RefusesPredicate (ty self.now.dtype) (predicate_data predicate.now)) }
+        ensures fits { IfOk result (λ v. IsTrue (predicate_fits (zone_map self.now).column (predicate_data predicate.now))) }
+        ensures refused { IfErr result (RefusesPredicate (zone_map self.now).column (predicate_data predicate.now)) }
     {
         if !fits(predicate, &self.dtype) {
             return Err(ZoneError::PredicateType);
@@ -125,9 +125,9 @@ impl ZoneMap {
     }
 }
 
-/// Whether the table is one of the column and the aggregates, with no more rows than the column.
+/// Whether the table is one of the column and the aggregates, and its zones but the last lie within the rows.
 #[tactic(auto, using(crate::proofs::TypeSteps::type_rules))]
-fn test(
+fn check(
     alloc: Global,
     column: &DType,
     table: &Chunk,
@@ -135,8 +135,8 @@ fn test(
     zone_len: u64,
     row_count: u64,
 ) -> Result<(), ZoneError>
-    ensures typed { IsOk result → piece_type table.now ≡ stats_table (ty column.now) (map aggregate_of aggregates.now) }
-    ensures rows { IsOk result → zones_fit zone_len row_count (length (cells_in table.now)) ≡ true }
+    ensures typed { IfOk result (λ _. piece_type table.now ≡ stats_table (ty column.now) (map aggregate_of aggregates.now)) }
+    ensures rows { IfOk result (λ _. zones_fit zone_len row_count (length (cells_in table.now)) ≡ true) }
     ensures refused { IfErr result (RefusesTable (ty column.now) (map aggregate_of aggregates.now) table.now zone_len row_count) }
 {
     let dtype = aggregate_stats_table_dtype(alloc, column, aggregates)?;
