@@ -32,11 +32,11 @@ States t columns = (a : Column) → In a columns → state_type a.0 t ≡ Some a
 
 held_states : (t : Ty) (aggregates : List Aggregate) → States t (held_aggregates aggregates t)
 held_states t [] a i = absurd i
-held_states t (g ∷ aggregates) a i = go (state_type g t) refl i
+held_states t (g ∷ aggregates) a i = go (state_type g t) refl (λ j. held_states t aggregates a j) i
   where
-    go : (o : Option Ty) → state_type g t ≡ o → In a (with_state g o ++ held_aggregates aggregates t) → state_type a.0 t ≡ Some a.1
-    go None e i = held_states t aggregates a i
-    go (Some u) e i = ⊎_elim (λ k. subst (λ (c : Column). state_type c.0 t ≡ Some c.1) (sym k) e) (λ j. held_states t aggregates a j) i
+    go : (o : Option Ty) → state_type g t ≡ o → (In a (held_aggregates aggregates t) → state_type a.0 t ≡ Some a.1) → In a (with_state g o ++ held_aggregates aggregates t) → state_type a.0 t ≡ Some a.1
+    go None e rest j = rest j
+    go (Some u) e rest j = ⊎_elim (λ k. subst (λ (c : Column). state_type c.0 t ≡ Some c.1) (sym k) e) rest j
 
 filled_states : (t : Ty) (columns : List Column) (rs : List (List ValueData)) → States t columns → (f : Filled) → In f (filled columns rs) → state_type f.aggregate t ≡ Some f.state
 filled_states t [] rs h f i = absurd i
@@ -142,11 +142,11 @@ null_at (v ∷ vs) (suc z) h = null_at vs z (and_parts (is_null_value v) (all_by
 
 in_some : (f : Filled) (cs : List Filled) → In f cs → all_by is_null_value f.values ≡ false → In f (some_values cs)
 in_some f [] i e = absurd i
-in_some f (c ∷ cs) i e = go (all_by is_null_value c.values) refl
+in_some f (c ∷ cs) i e = go (all_by is_null_value c.values) refl (λ j. in_some f cs j e)
   where
-    go : (b : Bool) → all_by is_null_value c.values ≡ b → In f (if b then some_values cs else c ∷ some_values cs)
-    go true k = ⊎_elim (λ same. absurd (true≢false (sym k ∙ ap (λ (g : Filled). all_by is_null_value g.values) (sym same) ∙ e))) (λ j. in_some f cs j e) i
-    go false k = ⊎_elim (λ same. inl same) (λ j. inr (in_some f cs j e)) i
+    go : (b : Bool) → all_by is_null_value c.values ≡ b → (In f cs → In f (some_values cs)) → In f (if b then some_values cs else c ∷ some_values cs)
+    go true k rest = ⊎_elim (λ same. absurd (true≢false (sym k ∙ ap (λ (g : Filled). all_by is_null_value g.values) (sym same) ∙ e))) rest i
+    go false k rest = ⊎_elim (λ same. inl same) (λ j. inr (rest j)) i
 
 module _ (fs : List Filled) (z : ℕ) where
   from_left : (e : Aggregate × ValueData) → In e (map (told_entry z) (ordered (some_values fs))) → In e (map (told_entry z) fs)
@@ -207,7 +207,7 @@ module _ (t : Ty) (listed : List Aggregate) (g : Gathered) (held : g.columns ≡
 pub finished_tables_are_taken : FinishedTablesAreTaken
 finished_tables_are_taken t listed g table aggregates held e = go (kept_columns g.columns g.records) refl e
   where
-    go : (o : Option (List Filled)) → kept_columns g.columns g.records ≡ o → option_map (λ cs. (table_piece cs (length g.records), aggregates_in cs)) o ≡ Some (table, aggregates) → IsTaken t g table aggregates
+    go : (o : Option (List Filled)) → kept_columns g.columns g.records ≡ o → option_map {U = ChunkData × List Aggregate} (λ cs. (table_piece cs (length g.records), aggregates_in cs)) o ≡ Some (table, aggregates) → IsTaken t g table aggregates
     go None k e = absurd (none-some (table, aggregates) e)
     go (Some cs) k e =
         let same : (table_piece cs (length g.records), aggregates_in cs) ≡ (table, aggregates) = cc in

@@ -14,7 +14,7 @@ below_by : (x y : Bool) → (y ≡ false → x ≡ true) → not y ≡ (x && not
 below_by true true h = refl
 below_by false true h = refl
 below_by true false h = refl
-below_by false false h = h refl
+below_by false false h = sym (h refl)
 
 text_below : (p q : List ℕ) → path_lt p q ≡ (path_le p q && not (path_le q p))
 text_below p q = below_by (path_le p q) (path_le q p) (λ f. ⊎_elim (λ t. t) (λ t. absurd (clash (path_le q p) t f)) (path_le-total p q))

@@ -1,5 +1,5 @@
 -- What rules a predicate out, form by form.
-use Rattle.std.proofs.Common.{◌≡◌, ℕ, ◌&&◌, ◌||◌, Bool, true, false, not, List, [], ◌∷◌, refl, sym, ap, ap₂, ◌∙◌, Bor}
+use Rattle.std.proofs.Common.{◌≡◌, ℕ, ◌&&◌, ◌||◌, Bool, true, false, not, List, [], ◌∷◌, refl, sym, ap, ap₂, ◌∙◌, Bor, Box}
 use Rattle.std.specs.Prelude.{if◌then◌else◌}
 use Rattle.std.proofs.lemmas.Bool.{and_parts}
 use Rattle.vx_hash.specs.XxHash3.{xxhash3_64}
@@ -16,7 +16,10 @@ use Rattle.vx_zone_map.specs.declared.zone.Test.{Test}
 use Rattle.vx_zone_map.specs.declared.zone.Test.TheVariants.{Upper, Lower, Lacks, Nulls}
 use Rattle.vx_zone_map.specs.Tests.{stands, some_passes}
 use Rattle.vx_zone_map.specs.Comparisons.{comparison_data, opposite_comparison, turned_comparison, turned}
-use Rattle.vx_zone_map.proofs.PredicateSteps.{predicate_rules}
+use Rattle.std.specs.Global.{Global}
+use Rattle.vx_zone_map.specs.declared.predicate.Predicate as predicates
+use Rattle.vx_zone_map.specs.PredicateView.{predicate_data}
+use Rattle.vx_zone_map.proofs.PredicateSteps.{data_and, data_or, predicate_rules}
 
 -- ---- the entries that pass
 
@@ -110,6 +113,13 @@ left_fits t p q h = (and_parts (predicate_fits t p) (predicate_fits t q) h).0
 
 pub right_fits : (t : Ty) (p q : Predicate) → (predicate_fits t p && predicate_fits t q) ≡ true → predicate_fits t q ≡ true
 right_fits t p q h = (and_parts (predicate_fits t p) (predicate_fits t q) h).1
+
+-- the right side of And and of Or
+pub and_right : (t : Ty) (p : predicates.Predicate) (a b : Box predicates.Predicate Global) → p ≡ predicates.And a b → predicate_fits t (predicate_data p) ≡ true → predicate_fits t (predicate_data b.value) ≡ true
+and_right t p a b e h = right_fits t (predicate_data a.value) (predicate_data b.value) (ap (predicate_fits t) (sym (ap predicate_data e ∙ data_and a b)) ∙ h)
+
+pub or_right : (t : Ty) (p : predicates.Predicate) (a b : Box predicates.Predicate Global) → p ≡ predicates.Or a b → predicate_fits t (predicate_data p) ≡ true → predicate_fits t (predicate_data b.value) ≡ true
+or_right t p a b e h = right_fits t (predicate_data a.value) (predicate_data b.value) (ap (predicate_fits t) (sym (ap predicate_data e ∙ data_or a b)) ∙ h)
 
 pub ruleset rule_rules = (
   turned_eq,

@@ -1,6 +1,6 @@
 //! Why a zone map isn't made or doesn't answer.
 
-use std::alloc::AllocError;
+use std::alloc::{AllocError, AllocFailed};
 use thiserror::Error;
 
 /// Why a zone map isn't made or doesn't answer.
@@ -26,6 +26,17 @@ impl From<AllocError> for ZoneError {
     ghost from_gives = { λ _ e. e ≡ OutOfMemory };
 
     fn from(_error: AllocError) -> ZoneError {
+        ZoneError::OutOfMemory
+    }
+}
+
+impl<T: Drop> From<AllocFailed<T>> for ZoneError {
+    ghost use Rattle.std.specs.Prelude.{◌≡◌};
+    ghost use Rattle.vx_zone_map.specs.declared.error.ZoneError.TheVariants.{OutOfMemory};
+
+    ghost from_gives = { λ _ e. e ≡ OutOfMemory };
+
+    fn from(_error: AllocFailed<T>) -> ZoneError {
         ZoneError::OutOfMemory
     }
 }

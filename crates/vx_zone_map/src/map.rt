@@ -111,15 +111,18 @@ impl ZoneMap {
         if !fits(predicate, &self.dtype) {
             return Err(ZoneError::PredicateType);
         }
+        let columns = self.columns.as_slice();
         let mut skips = Vec::with_capacity(alloc, self.zones as usize)?;
         for place in 0..self.zones {
+            let rows = rows_at(self.zone_len, self.row_count, self.zones, place);
             let zone = Zone {
                 dtype: &self.dtype,
-                columns: &self.columns,
+                columns,
                 place: place as usize,
-                rows: rows_at(self.zone_len, self.row_count, self.zones, place),
+                rows,
             };
-            skips.push(rules_out(predicate, false, zone))?;
+            let skipped = rules_out(predicate, false, zone);
+            skips.push(skipped)?;
         }
         Ok(skips)
     }
