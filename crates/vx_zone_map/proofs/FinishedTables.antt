@@ -1,6 +1,6 @@
 -- The tables that a builder finishes have their type, and tell of each zone what was pushed.
 use Rattle.std.proofs.Common.{◌≡◌, ℕ, zero, suc, Bool, true, false, List, [], ◌∷◌, ◌++◌, length, map, Option, Some, None, refl, sym, ap, ap₂, ◌∙◌, subst, inl, inr, ⊎_elim}
-use Rattle.std.specs.Prelude.{◌≢◌, ◌&&◌, if◌then◌else◌, slice_get}
+use Rattle.std.specs.Prelude.{◌≢◌, if◌then◌else◌, slice_get}
 use Rattle.std.specs.Option.{option_map}
 use Rattle.std.proofs.lemmas.Bool.{true≢false, and_parts}
 use Rattle.std.proofs.lemmas.Option.{none-some}
@@ -9,17 +9,17 @@ use Rattle.vx_path.proofs.Lists.{in_map, from_map}
 use Rattle.vx_path.proofs.Sort.{in_sorted, from_sorted}
 use Rattle.vx_model.specs.Words.{all_by, head_or, tail}
 use Rattle.vx_model.specs.Ty.{Ty, struct, field, tys_of}
-use Rattle.vx_model.specs.CellData.{CellData, null_cell, trees_of}
+use Rattle.vx_model.specs.CellData.{null_cell, trees_of}
 use Rattle.vx_model.specs.ValueData.{ValueData, null_value, bool_value, int_value, text_value, bytes_value, list_value, struct_value, one_value, vals_of, value, values_in, is_null_value}
 use Rattle.vx_model.specs.ChunkData.{ChunkData, pieces_of, each_cells, struct_rows, row_values}
 use Rattle.vx_rules.proofs.CellLaws.{length-struct_rows}
 use Rattle.vx_aggregate_spec.specs.Aggregate.{Aggregate, Column, state_type, with_state, held_aggregates}
 use Rattle.vx_aggregate_spec.specs.Tables.{column_field, stats_table}
 use Rattle.vx_zone_spec.specs.Pruning.{ZoneRecord}
-use Rattle.vx_zone_spec.specs.ZoneTable.{Filled, name_of, filled, some_values, ordered, any_columns, kept_columns, state_cell, table_fields, table_type, table_columns, table_piece}
+use Rattle.vx_zone_spec.specs.ZoneTable.{Filled, name_of, filled, some_values, ordered, kept_columns, state_cell, table_fields, table_type, table_columns, table_piece}
 use Rattle.vx_zone_spec.specs.ZoneMap.{ZoneMap, names_of, paired, fields_of, record_of}
 use Rattle.vx_zone_table_laws.proofs.WholeTables.{from_some, any_same}
-use Rattle.vx_zone_table.specs.Gathered.{Gathered, aggregates_in, finished}
+use Rattle.vx_zone_table.specs.Gathered.{Gathered, aggregates_in}
 use Rattle.vx_zone_map.specs.Columns.{value_at}
 use Rattle.vx_zone_map.specs.Statements.{kept_value, kept_entries, pushed_record, TellsAs, IsTaken, FinishedTablesAreTaken}
 use Rattle.vx_zone_map.proofs.ZoneRows.{back_in}

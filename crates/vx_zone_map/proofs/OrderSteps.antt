@@ -1,8 +1,8 @@
 -- A value below another is at most it, and not the other way round.
-use Rattle.std.proofs.Common.{◌≡◌, ℕ, ◌&&◌, Bool, true, false, not, List, refl, sym, ap, ◌∙◌, inl, inr, ⊎_elim, arith}
+use Rattle.std.proofs.Common.{◌≡◌, ℕ, ◌&&◌, Bool, true, false, not, List, refl, sym, ⊎_elim, arith}
 use Rattle.std.specs.Prelude.{int_lt, ℤ}
 use Rattle.std.proofs.lemmas.Int.{ints}
-use Rattle.vx_model.specs.ValueData.{ValueData, null_value, bool_value, int_value, text_value, bytes_value, list_value, struct_value}
+use Rattle.vx_model.specs.ValueData.{ValueData, bool_value, int_value, text_value, bytes_value}
 use Rattle.vx_path.specs.Path.{path_le, path_lt}
 use Rattle.vx_path.proofs.Path.{path_le-total}
 use Rattle.vx_zone_spec.specs.ValueOrder.{value_le, value_lt}

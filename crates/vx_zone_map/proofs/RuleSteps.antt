@@ -1,5 +1,5 @@
 -- What rules a predicate out, form by form.
-use Rattle.std.proofs.Common.{◌≡◌, ℕ, ◌&&◌, ◌||◌, Bool, true, false, not, List, [], ◌∷◌, refl, sym, ap, ap₂, ◌∙◌, Bor, Box}
+use Rattle.std.proofs.Common.{◌≡◌, ℕ, ◌&&◌, ◌||◌, Bool, true, false, not, List, [], ◌∷◌, refl, sym, ap, ◌∙◌, Bor, Box}
 use Rattle.std.specs.Prelude.{if◌then◌else◌}
 use Rattle.std.proofs.lemmas.Bool.{and_parts}
 use Rattle.vx_hash.specs.XxHash3.{xxhash3_64}
@@ -7,15 +7,12 @@ use Rattle.vx_model.specs.Ty.{Ty, has_order}
 use Rattle.vx_model.specs.TreeView.{val}
 use Rattle.vx_model.specs.ValueData.{ValueData, value_fits, is_null_value, is_row_value}
 use Rattle.vx_model.specs.declared.row_value.Value.{Value}
-use Rattle.vx_zone_spec.specs.ValueOrder.{value_le, value_lt, value_same}
 use Rattle.vx_zone_spec.specs.Pruning.{Predicate, eq, not_eq, lt, lt_eq, gt, gt_eq, is_null, is_not_null, both, either, negated, ruled_out, ZoneRecord, is_literal, predicate_fits, some_upper, some_lower, some_filter_lacks, null_count_is, upper_passes, lower_passes, lacks, counts}
-use Rattle.vx_zone_map.specs.declared.comparison.Comparison.{Comparison}
 use Rattle.vx_zone_map.specs.declared.comparison.Comparison.TheVariants.{Eq, NotEq, Lt, LtEq, Gt, GtEq}
 use Rattle.vx_zone_map.specs.declared.comparison.Relation.{Relation}
-use Rattle.vx_zone_map.specs.declared.zone.Test.{Test}
 use Rattle.vx_zone_map.specs.declared.zone.Test.TheVariants.{Upper, Lower, Lacks, Nulls}
 use Rattle.vx_zone_map.specs.Tests.{stands, some_passes}
-use Rattle.vx_zone_map.specs.Comparisons.{comparison_data, opposite_comparison, turned_comparison, turned}
+use Rattle.vx_zone_map.specs.Comparisons.{comparison_data, turned_comparison, turned}
 use Rattle.std.specs.Global.{Global}
 use Rattle.vx_zone_map.specs.declared.predicate.Predicate as predicates
 use Rattle.vx_zone_map.specs.PredicateView.{predicate_data}

@@ -5,14 +5,14 @@ use Rattle.std.proofs.lemmas.List.{length-map}
 use Rattle.vx_model.specs.Words.{all_by}
 use Rattle.vx_model.specs.Ty.{Ty, Tys, struct, tys_of, is_struct}
 use Rattle.vx_model.specs.CellData.{CellData, CellList, null_cell, bool_cell, int_cell, text_cell, bytes_cell, list_cell, struct_cell, items, fits, fields_fit, flag_fits}
-use Rattle.vx_model.specs.ValueData.{ValueData, struct_value, value, values_in, masked}
+use Rattle.vx_model.specs.ValueData.{struct_value, value, values_in, masked}
 use Rattle.vx_model.specs.ChunkData.{ChunkData, piece_type, cells, row_values}
 use Rattle.vx_layout_spec.specs.Real.{Of, Whole}
 use Rattle.vx_layout_spec.specs.Rows.{zipped}
 use Rattle.vx_layout_spec.specs.Parts.{field_pieces}
 use Rattle.vx_chunk_cells.specs.Parts.{struct_fields}
 use Rattle.vx_rules.proofs.CellLaws.{Fine, cells_fine}
-use Rattle.vx_rules.proofs.ColumnCells.{field_cells, each_cell, FieldsOf, fields_are, inner_value, column_values, zipped_fields}
+use Rattle.vx_rules.proofs.ColumnCells.{each_cell, FieldsOf, fields_are, inner_value, column_values, zipped_fields}
 use Rattle.vx_aggregate_spec.specs.Aggregate.{Aggregate, Column, held_aggregates}
 use Rattle.vx_aggregate_spec.specs.Tables.{column_field, stats_table}
 use Rattle.vx_aggregate.specs.AggregateView.{aggregate}

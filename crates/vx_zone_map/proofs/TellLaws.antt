@@ -1,5 +1,5 @@
 -- A record without some of its entries that are null tells the same.
-use Rattle.std.proofs.Common.{◌≡◌, ℕ, ◌⊎◌, Bool, true, false, List, [], ◌∷◌, refl, sym, ap, ◌∙◌, subst, inl, inr, ⊎_elim}
+use Rattle.std.proofs.Common.{◌≡◌, ℕ, Bool, true, false, List, [], ◌∷◌, refl, sym, subst, inl, inr, ⊎_elim}
 use Rattle.std.specs.Prelude.{◌≢◌, pos}
 use Rattle.vx_path.specs.Lists.{In}
 use Rattle.vx_model.specs.Ty.{Ty}

@@ -1,7 +1,6 @@
 -- What one entry of a record tells.
-use Rattle.std.proofs.Common.{◌≡◌, ℕ, ◌+◌, ◌*◌, ◌/◌, ◌%◌, ◌^◌, ◌<◌, ◌&&◌, ◌||◌, Bool, true, false, not, List, length, refl, sym, ap, ap₂, ◌∙◌, arith}
-use Rattle.std.specs.Prelude.{◌==◌, ℤ, pos, negsuc, Some, None}
-use Rattle.std.proofs.lemmas.Bool.{and_from}
+use Rattle.std.proofs.Common.{◌≡◌, ℕ, ◌/◌, ◌%◌, ◌^◌, ◌<◌, ◌&&◌, Bool, true, false, not, List, length, refl, sym, ap, ap₂, ◌∙◌, arith}
+use Rattle.std.specs.Prelude.{◌==◌, pos, negsuc}
 use Rattle.std.proofs.lemmas.Bool.Decides.{nat_tests}
 use Rattle.vx_hash.specs.XxHash3.{xxhash3_64}
 use Rattle.vx_model.specs.Ty.{Ty}
@@ -9,7 +8,7 @@ use Rattle.vx_model.specs.ValueData.{ValueData, null_value, bool_value, int_valu
 use Rattle.vx_bloom_spec.specs.Bytes.{filter_at, IsFilterLength}
 use Rattle.vx_bloom_spec.specs.Values.{value_hash, may_contain_hash}
 use Rattle.vx_aggregate_spec.specs.Aggregate.{Aggregate, maximum, minimum, bounded_maximum, bounded_minimum, null_count, sum, bloom}
-use Rattle.vx_zone_spec.specs.ValueOrder.{value_le, value_lt, value_same}
+use Rattle.vx_zone_spec.specs.ValueOrder.{value_le, value_lt}
 use Rattle.vx_zone_spec.specs.Pruning.{upper_passes, lower_passes, counts, is_filter_length, bytes_lack, lacks}
 use Rattle.vx_zone_record.specs.Scalars.{shallow}
 use Rattle.vx_zone_map.specs.declared.comparison.Relation.{Relation}

@@ -1,14 +1,13 @@
 -- The record of a zone, from the row of its table.
-use Rattle.std.proofs.Common.{◌≡◌, ℕ, zero, suc, ◌+◌, ◌-◌, ◌*◌, ◌<◌, ◌≤◌, Bool, true, List, [], ◌∷◌, ◌++◌, length, map, drop, refl, sym, ap, ap₂, ◌∙◌, subst, arith, add-one}
+use Rattle.std.proofs.Common.{◌≡◌, ℕ, zero, suc, ◌+◌, ◌-◌, ◌*◌, ◌<◌, ◌≤◌, Bool, List, [], ◌∷◌, length, map, drop, refl, sym, ap, ap₂, ◌∙◌, arith, add-one}
 use Rattle.std.specs.Prelude.{if◌then◌else◌, nat_lt}
-use Rattle.std.proofs.lemmas.List.{drop_all, append-nil}
+use Rattle.std.proofs.lemmas.List.{drop_all}
 use Rattle.vx_model.specs.Words.{head_or, tail}
-use Rattle.vx_model.specs.Ty.{Ty}
 use Rattle.vx_model.specs.ValueData.{ValueData, null_value, struct_value, vals_of, vals_in}
 use Rattle.vx_layout_spec.specs.Rows.{zipped}
-use Rattle.vx_aggregate_spec.specs.Aggregate.{Aggregate, held_aggregates}
+use Rattle.vx_aggregate_spec.specs.Aggregate.{held_aggregates}
 use Rattle.vx_zone_spec.specs.Pruning.{Predicate, falsified}
-use Rattle.vx_zone_spec.specs.ZoneMap.{ZoneMap, names_of, paired, fields_of, record_of, zone_rows, skips_from}
+use Rattle.vx_zone_spec.specs.ZoneMap.{ZoneMap, names_of, paired, record_of, zone_rows, skips_from}
 use Rattle.vx_zone_map.specs.declared.columns.ZoneColumn.{ZoneColumn}
 use Rattle.vx_zone_map.specs.Columns.{name_in, seen_values, value_at, entries}
 

@@ -1,5 +1,5 @@
 -- The tables that a builder finishes, as zone maps.
-use Rattle.std.specs.Prelude.{◌≡◌, ◌≢◌, ℕ, true, List, [], ◌∷◌, length, Some, slice_get}
+use Rattle.std.specs.Prelude.{◌≡◌, ◌≢◌, ℕ, List, [], ◌∷◌, length, Some, slice_get}
 use Rattle.vx_path.specs.Lists.{In}
 use Rattle.vx_model.specs.Ty.{Ty}
 use Rattle.vx_model.specs.ValueData.{ValueData, null_value, value}

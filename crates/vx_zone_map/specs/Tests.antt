@@ -1,5 +1,5 @@
 -- What the entries of a record are asked.
-use Rattle.std.specs.Prelude.{ℕ, ◌&&◌, ◌||◌, ◌==◌, Bool, true, false, List, [], ◌∷◌, pos}
+use Rattle.std.specs.Prelude.{ℕ, ◌||◌, ◌==◌, Bool, true, false, [], ◌∷◌, pos}
 use Rattle.vx_hash.specs.XxHash3.{xxhash3_64}
 use Rattle.vx_model.specs.Ty.{Ty}
 use Rattle.vx_model.specs.TreeView.{val}
