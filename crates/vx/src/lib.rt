@@ -89,13 +89,14 @@ pub mod bloom {
     pub use vx_hash::{ByteHash, XxHash3_64};
 }
 
-/// Aggregates, statistics, the records of zones and their tables. No call prunes yet.
+/// Aggregates, statistics, the records of zones, their tables, and what predicates skip by them.
 pub mod zones {
     pub use vx_aggregate::{
         AggregateFn, MAX_IS_TRUNCATED, MIN_IS_TRUNCATED, SpecError, Stat,
         aggregate_stats_table_dtype, default_zoned_aggregate_fns, legacy_stats_table_dtype,
     };
     pub use vx_zone_guard::{GuardError, ZoneGuard};
+    pub use vx_zone_map::{Predicate, ZoneError, ZoneMap};
     pub use vx_zone_record::{RecordError, cells_record, held_aggregates, zone_record};
     pub use vx_zone_table::ZoneTableBuilder;
 }

@@ -83,7 +83,8 @@ fn is_null_value(value: &Value) -> bool
     }
 }
 
-pub(crate) fn has_order(dtype: &DType) -> bool
+/// Whether values of the type are compared and hashed: seen through extensions it is no list and no struct.
+pub fn has_order(dtype: &DType) -> bool
     ensures { result ≡ has_order (ty dtype.now) }
 {
     match dtype {
@@ -94,7 +95,7 @@ pub(crate) fn has_order(dtype: &DType) -> bool
 }
 
 // The hash of a value; none of null and of a value that isn't hashed.
-fn value_hash<H: ByteHash>(dtype: &DType, value: &Value) -> Option<u64>
+pub(crate) fn value_hash<H: ByteHash>(dtype: &DType, value: &Value) -> Option<u64>
     requires { IsTrue (is_row_value (ty dtype.now) (val value.now)) }
     ensures { result ≡ value_hash H.hash (ty dtype.now) (val value.now) }
 {

@@ -13,4 +13,6 @@ mod zones;
 
 pub use error::RecordError;
 pub use held::held_aggregates;
+pub use row::Row;
+pub use scalar::{Scalar, is_at_most};
 pub use zones::{cells_record, zone_record};

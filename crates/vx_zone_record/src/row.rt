@@ -7,12 +7,13 @@ use crate::scalar::Scalar;
 use vx_model::{Cell, Value};
 
 /// A row of a column. A cell is read as a reader sees it.
-pub(crate) trait Row {
+pub trait Row {
     ghost use Rattle.vx_model.specs.ValueData.{ValueData};
 
     // the value that a reader sees
     ghost seen: { Self → ValueData };
 
+    /// The row without what is below a list or a struct. Copies nothing.
     fn scalar(&self) -> Scalar<'_>
         ensures { scalar_value result ≡ shallow (seen self.now) };
 }

@@ -1,0 +1,13 @@
+pub mod PredicateSteps
+pub mod OrderSteps
+pub mod CountSteps
+pub mod ColumnSteps
+pub mod TableRows
+pub mod TestSteps
+pub mod EntrySteps
+pub mod RuleSteps
+pub mod ZoneRows
+pub mod PruneSteps
+pub mod TypeSteps
+pub mod TellLaws
+pub mod FinishedTables
