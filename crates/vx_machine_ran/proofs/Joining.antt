@@ -1,14 +1,14 @@
 -- What a step joins, it joins in a join.
 use Rattle.std.proofs.Common.{◌≡◌, ◌⊎◌, ◌&&◌, ◌==◌, ◌∷◌, ◌++◌, ℕ, Bool, true, false, cond, List, map, refl, sym, subst, inl, inr, Some, []}
-use Rattle.vx_model.specs.Ty.{Ty}
+use Rattle.vx_model.specs.Ty.{Ty, list}
 use Rattle.vx_path.specs.Lists.{In}
 use Rattle.vx_path.proofs.Lists.{in_cases, from_map}
 use Rattle.vx_tasks.specs.Task.{Kind, Join}
 use Rattle.vx_tasks.specs.Run.{nth}
 use Rattle.vx_plan.specs.PlanData.{Setting, Item}
 use Rattle.vx_machine_promises.specs.Write.{Answer, unasked, came, over}
-use Rattle.vx_machine_view.specs.State.{Next, put, append, shut_kids, join_kids, Mind, by_column, made, Desk, Tasks, no_tasks, task_then}
-use Rattle.vx_machine_view.specs.Acts.{count, column_count, take_chunk, end_columns, take_end, do_take, do_act}
+use Rattle.vx_machine_view.specs.State.{Next, put, append, shut_kids, join_kids, Mind, by_column, by_list, made, Desk, Tasks, no_tasks, task_then}
+use Rattle.vx_machine_view.specs.Acts.{count, column_count, take_chunk, end_columns, end_lists, take_end, do_take, do_act}
 use Rattle.vx_machine_view.specs.Moves.{Step, may_act, own_step, in_kids, in_rest, steps}
 use Rattle.vx_machine_view.specs.Machine.{Phase, reading, giving, closing, finished, Machine, may_source, WholeStep, source_step, in_root, whole_steps}
 use Rattle.vx_machine_runs.proofs.Misfits.{at_place}
@@ -22,8 +22,13 @@ module _ (s : Setting) (next : ℕ) where
   columns_join true t rows c ks = λ n i. absurd i
   columns_join false t rows c ks = λ n i. absurd i
 
+  lists_join : (first : Bool) (t : Ty) (rows : ℕ) (c : Desk) (ks : Tasks) → Joins (end_lists first t rows c ks).kind (end_lists first t rows c ks).joined
+  lists_join true t rows c ks = λ n i. absurd i
+  lists_join false t rows c ks = λ n i. absurd i
+
   end_join : (c : Desk) (ks : Tasks) (mind : Mind) → Joins (take_end c ks mind).kind (take_end c ks mind).joined
   end_join c ks (by_column t rows) = columns_join ((count ks == 0) && (0 == column_count t)) t rows c ks
+  end_join c ks (by_list t n first from rows) = lists_join first (list t n) rows c ks
   end_join c ks mind = λ n i. absurd i
 
   take_join : (c : Desk) (ks : Tasks) (i : Item) (xs : List Item) (mind : Mind) → Joins (take_chunk s c ks i xs mind).kind (take_chunk s c ks i xs mind).joined

@@ -81,7 +81,7 @@ module _ (w : WholeStep) (m : TreeMove) (same : SameAct w m) (o : Outlet) (mine 
     is_own NotStruct far h = sym same.refusal ∙ h
     is_own (DuplicateField name) far h = sym same.refusal ∙ h
     is_own ManyChunks far h = sym same.refusal ∙ h
-    is_own EmptyList far h = absurd h
+    is_own EmptyList far h = sym same.refusal ∙ h
     is_own (ZoneCut n) far h = absurd h
     is_own (ForbiddenAggregate id) far h = absurd h
     is_own (ForbiddenEncoding id) far h = sym same.refusal ∙ h
