@@ -5,7 +5,7 @@ use Rattle.std.proofs.lemmas.List.{length-map}
 use Rattle.std.specs.Arc.{arc_value}
 use Rattle.std.specs.declared.sync.Arc.{Arc}
 use Rattle.vx_model.specs.Words.{total_by}
-use Rattle.vx_model.specs.Ty.{Ty, boolean, primitive, utf8, binary, list, struct, extension, is_struct, is_list, nullable}
+use Rattle.vx_model.specs.Ty.{Ty, boolean, primitive, utf8, binary, list, struct, extension, is_struct, is_list}
 use Rattle.vx_layout_spec.specs.Refusal.{Refusal}
 use Rattle.vx_layout_spec.specs.LayoutTree.{LayoutData, layout, list_kind, lays_of, row_count, chunked_layout, gathered, struct_layout, list_layout}
 use Rattle.vx_model.specs.TyView.{ty}

@@ -1,5 +1,5 @@
 -- Why a chunk of lists isn't split.
-use Rattle.std.proofs.Common.{◌≡◌, ℕ, ◌-◌, ◌^◌, ◌≤◌, min, false, List, [], ◌∷◌, refl, sym, subst, inl, arith}
+use Rattle.std.proofs.Common.{◌≡◌, ℕ, ◌-◌, ◌^◌, ◌≤◌, min, false, [], ◌∷◌, refl, sym, subst, inl, arith}
 use Rattle.vx_split.specs.Causes.{IsPast}
 use Rattle.vx_split.specs.declared.error.SplitError.{SplitError}
 use Rattle.vx_split.specs.declared.error.SplitError.TheVariants as split

@@ -1,4 +1,3 @@
-use Rattle.std.proofs.Common.{◌≡◌, ℕ, ◌-◌, ◌^◌, false, [], ◌∷◌, sym, subst, ◌∙◌}
 use Rattle.vx_machine_tasks.proofs.ListSteps.{past_elements, past_may, other_elements, other_may}
 use Rattle.vx_machine_tasks.proofs.lists.split_refusal.Goals as goal
 
