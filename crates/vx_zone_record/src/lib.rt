@@ -6,6 +6,7 @@ mod error;
 mod filter;
 mod folds;
 mod held;
+mod parts;
 mod row;
 mod scalar;
 mod values;
@@ -13,4 +14,5 @@ mod zones;
 
 pub use error::RecordError;
 pub use held::held_aggregates;
+pub use parts::{cells_value, greater, lesser, lower_bound, null_count, upper_bound};
 pub use zones::{cells_record, zone_record};

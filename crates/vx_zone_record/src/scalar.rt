@@ -56,7 +56,7 @@ pub(crate) fn number(scalar: Scalar<'_>) -> i128
 /// Whether `a` is at most `b`: false before true, integers by size, texts and bytes by their bytes. Two kinds aren't
 /// compared.
 #[tactic(auto, using(crate::proofs::OrderSteps::order_rules))]
-fn is_at_most(a: Scalar<'_>, b: Scalar<'_>) -> bool
+pub(crate) fn is_at_most(a: Scalar<'_>, b: Scalar<'_>) -> bool
     ensures { result ≡ value_le (scalar_value a.entry) (scalar_value b.entry) }
 {
     match (a, b) {
