@@ -105,7 +105,7 @@ module _ (asked : List Stat) (limit : ℕ) (t : Ty) where
       let c = state ps in
       ap
       (λ (u : Ty). set_by (kept (keeps asked stats.Max u) (max_told u c.rows.upper)) (kept (keeps asked stats.Min u) (min_told c.rows.lower)) (kept (keeps asked stats.Sum u) (fitting u c.rows.total))
-          (kept (keeps asked stats.NullCount u) (counted c.rows.null_rows)) (kept (keeps asked stats.UncompressedSizeInBytes u) (counted c.bytes)))
+      (kept (keeps asked stats.NullCount u) (counted c.rows.null_rows)) (kept (keeps asked stats.UncompressedSizeInBytes u) (counted c.bytes)))
       (type_stays ps)
       ∙ same_set _ _ _ _ _ _ _ _ _ _
       (kept_same (keeps asked stats.Max t) (max_told t c.rows.upper) (max_of limit t ps) (λ k. ap (max_told t) (upper_is ps all k)))
@@ -113,6 +113,7 @@ module _ (asked : List Stat) (limit : ℕ) (t : Ty) where
       (kept_same (keeps asked stats.Sum t) (fitting t c.rows.total) (sum_of t ps) (λ k. ap (fitting t) (total_is ps all k)))
       (kept_same (keeps asked stats.NullCount t) (counted c.rows.null_rows) (null_count_of ps) (λ k. ap counted (nulls_are ps all k) ∙ counted_least (total_by (λ p. nulls (row_values p)) ps)))
       (kept_same (keeps asked stats.UncompressedSizeInBytes t) (counted c.bytes) (size_of ps) (λ k. ap counted (bytes_are ps all k) ∙ counted_least (total_by row_size ps)))
+
 -- ---- all columns
 
 firsts_typed : (t : Ty) (ts : List Ty) (rows : List (List ChunkData)) → AllTyped (t ∷ ts) rows → AllOf t (firsts rows)

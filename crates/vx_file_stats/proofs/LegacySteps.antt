@@ -5,7 +5,7 @@ use Rattle.std.specs.Option.{option_map}
 use Rattle.std.proofs.lemmas.Bool.{and_parts, and_from, true≢false}
 use Rattle.std.proofs.lemmas.List.{drop_more, drop_all, map_push, map-append}
 use Rattle.vx_model.specs.Words.{joined_by}
-use Rattle.vx_model.specs.Ty.{Ty, Named, is_struct, tys_of, ty_eq}
+use Rattle.vx_model.specs.Ty.{Ty, Named, boolean, is_struct, tys_of, ty_eq}
 use Rattle.vx_model.specs.ChunkData.{ChunkData, struct_piece, pieces_of, piece_type, cells, is_sound, match_fields}
 use Rattle.vx_layout_spec.specs.Parts.{field_pieces}
 use Rattle.vx_chunk_cells.specs.Parts.{struct_fields}
@@ -53,13 +53,31 @@ fields_without t s h = go (stat_state s t) h
     go None h = refl
     go (Some u) h = cc
 
-pub ruleset push_rules = (held_without, fields_without, append-nil)
+-- a bound has a flag behind it
+pub max_fields : (t : Ty) → is_some (stat_state stats.Max t) ≡ true → length (stat_fields t stats.Max) ≡ 2
+max_fields t h = go (stat_state stats.Max t) h
+  where
+    go : (o : Option Ty) → is_some o ≡ true → length (named_state stats.Max o) ≡ 2
+    go None h = cc
+    go (Some u) h = refl
+
+pub min_fields : (t : Ty) → is_some (stat_state stats.Min t) ≡ true → length (stat_fields t stats.Min) ≡ 2
+min_fields t h = go (stat_state stats.Min t) h
+  where
+    go : (o : Option Ty) → is_some o ≡ true → length (named_state stats.Min o) ≡ 2
+    go None h = cc
+    go (Some u) h = refl
+
+pub one_dropped : (p : ChunkData) (ps : List ChunkData) → drop 2 (p ∷ ps) ≡ drop 1 ps
+one_dropped p ps = refl
+
+pub ruleset push_rules = (held_without, fields_without, max_fields, min_fields, one_dropped, append-nil)
 
 -- ---- the columns that are left match the aggregates' fields
 
-held_more : (t : Ty) (as bs : List Aggregate) → held_aggregates (as ++ bs) t ≡ held_aggregates as t ++ held_aggregates bs t
+held_more : (t : Ty) (gs bs : List Aggregate) → held_aggregates (gs ++ bs) t ≡ held_aggregates gs t ++ held_aggregates bs t
 held_more t [] bs = refl
-held_more t (a ∷ as) bs = ap (λ (cs : List Column). with_state a (state_type a t) ++ cs) (held_more t as bs) ∙ sym (append_assoc (with_state a (state_type a t)) (held_aggregates as t) (held_aggregates bs t))
+held_more t (a ∷ gs) bs = ap (λ (cs : List Column). with_state a (state_type a t) ++ cs) (held_more t gs bs) ∙ sym (append_assoc (with_state a (state_type a t)) (held_aggregates gs t) (held_aggregates bs t))
 
 held_one : (t : Ty) (a : Aggregate) → held_aggregates (held_by (Some a) (state_type a t)) t ≡ with_state a (state_type a t)
 held_one t a = go (state_type a t) refl
@@ -97,27 +115,27 @@ module _ (n : ℕ) (fs : List Named) (hs : List Column) (k : List ChunkData → 
       → Match n (map column_field (with_state maximum o ++ hs)) (taken (held_by (Some maximum) o) ps ++ k (drop (length (named_state stats.Max o)) ps))
   max_step None ps h = ih ps h
   max_step (Some u) [] h = cc
-  max_step (Some u) (p ∷ []) h = absurd (no_flag _ _ u _ p h)
-  max_step (Some u) (p ∷ q ∷ ps) h = two _ _ u _ _ p q ps h
+  max_step (Some u) (p ∷ []) h = absurd (no_flag [] [] u (boolean false) p h)
+  max_step (Some u) (p ∷ q ∷ ps) h = two [] [] u (boolean false) [] p q ps h
 
   min_step : (o : Option Ty) (ps : List ChunkData) → Match n (named_state stats.Min o ++ fs) ps
       → Match n (map column_field (with_state minimum o ++ hs)) (taken (held_by (Some minimum) o) ps ++ k (drop (length (named_state stats.Min o)) ps))
   min_step None ps h = ih ps h
   min_step (Some u) [] h = cc
-  min_step (Some u) (p ∷ []) h = absurd (no_flag _ _ u _ p h)
-  min_step (Some u) (p ∷ q ∷ ps) h = two _ _ u _ _ p q ps h
+  min_step (Some u) (p ∷ []) h = absurd (no_flag [] [] u (boolean false) p h)
+  min_step (Some u) (p ∷ q ∷ ps) h = two [] [] u (boolean false) [] p q ps h
 
   sum_step : (o : Option Ty) (ps : List ChunkData) → Match n (named_state stats.Sum o ++ fs) ps
       → Match n (map column_field (with_state sum o ++ hs)) (taken (held_by (Some sum) o) ps ++ k (drop (length (named_state stats.Sum o)) ps))
   sum_step None ps h = ih ps h
   sum_step (Some u) [] h = cc
-  sum_step (Some u) (p ∷ ps) h = alone _ u _ p ps h
+  sum_step (Some u) (p ∷ ps) h = alone [] u [] p ps h
 
   null_step : (o : Option Ty) (ps : List ChunkData) → Match n (named_state stats.NullCount o ++ fs) ps
       → Match n (map column_field (with_state null_count o ++ hs)) (taken (held_by (Some null_count) o) ps ++ k (drop (length (named_state stats.NullCount o)) ps))
   null_step None ps h = ih ps h
   null_step (Some u) [] h = cc
-  null_step (Some u) (p ∷ ps) h = alone _ u _ p ps h
+  null_step (Some u) (p ∷ ps) h = alone [] u [] p ps h
 
   size_step : (o : Option Ty) (ps : List ChunkData) → Match n (named_state stats.UncompressedSizeInBytes o ++ fs) ps
       → Match n (map column_field hs) (k (drop (length (named_state stats.UncompressedSizeInBytes o)) ps))
@@ -157,19 +175,19 @@ kept_match t (stats.UncompressedSizeInBytes ∷ ss) n ps h =
 pub is_table : (t : Ty) (ss : List Stat) (p : ChunkData) → piece_type p ≡ legacy_table t ss → is_struct (piece_type p) ≡ true
 is_table t ss p e = ap is_struct e
 
-pub makes_table : (t : Ty) (ss : List Stat) (p : ChunkData) (fields columns : List ChunkData) (as : List Aggregate) (n : ℕ) → piece_type p ≡ legacy_table t ss → is_sound p ≡ true
-    → fields ≡ field_pieces (struct_fields (piece_type p)) p → columns ≡ legacy_columns t ss fields → as ≡ legacy_aggregates t ss → n ≡ length (cells p) → makes_struct (stats_table t as) columns [] n ≡ true
-makes_table t ss p fields columns as n e sound f g h k =
+pub makes_table : (t : Ty) (ss : List Stat) (p : ChunkData) (fields columns : List ChunkData) (gs : List Aggregate) (n : ℕ) → piece_type p ≡ legacy_table t ss → is_sound p ≡ true
+    → fields ≡ field_pieces (struct_fields (piece_type p)) p → columns ≡ legacy_columns t ss fields → gs ≡ legacy_aggregates t ss → n ≡ length (cells p) → makes_struct (stats_table t gs) columns [] n ≡ true
+makes_table t ss p fields columns gs n e sound f g h k =
     let matched : Match (length (cells p)) (joined_by (stat_fields t) ss) (field_pieces (struct_fields (piece_type p)) p) =
-      subst (λ (u : Ty). match_fields (struct_fields u) (field_pieces (struct_fields (piece_type p)) p) (length (cells p)) ≡ true) e (fields_match p (is_table t ss p e) sound)
+    subst (λ (u : Ty). match_fields (struct_fields u) (field_pieces (struct_fields (piece_type p)) p) (length (cells p)) ≡ true) e (fields_match p (is_table t ss p e) sound)
     in
-    ap (λ (m : ℕ). makes_struct (stats_table t as) columns [] m) k ∙ ap (λ (bs : List Aggregate). makes_struct (stats_table t bs) columns [] (length (cells p))) h
+    ap (λ (m : ℕ). makes_struct (stats_table t gs) columns [] m) k ∙ ap (λ (bs : List Aggregate). makes_struct (stats_table t bs) columns [] (length (cells p))) h
     ∙ ap (λ (qs : List ChunkData). makes_struct (stats_table t (legacy_aggregates t ss)) qs [] (length (cells p))) (g ∙ ap (legacy_columns t ss) f)
     ∙ and_from _ true (kept_match t ss (length (cells p)) (field_pieces (struct_fields (piece_type p)) p) matched) refl
 
-pub table_is : (t : Ty) (ss : List Stat) (p : ChunkData) (fields columns : List ChunkData) (as : List Aggregate) (n : ℕ) → fields ≡ field_pieces (struct_fields (piece_type p)) p → columns ≡ legacy_columns t ss fields → as ≡ legacy_aggregates t ss → n ≡ length (cells p)
-    → struct_piece (stats_table t as) (pieces_of columns) [] n ≡ legacy_piece t ss p
-table_is t ss p fields columns as n f g h k =
+pub table_is : (t : Ty) (ss : List Stat) (p : ChunkData) (fields columns : List ChunkData) (gs : List Aggregate) (n : ℕ) → fields ≡ field_pieces (struct_fields (piece_type p)) p → columns ≡ legacy_columns t ss fields → gs ≡ legacy_aggregates t ss → n ≡ length (cells p)
+    → struct_piece (stats_table t gs) (pieces_of columns) [] n ≡ legacy_piece t ss p
+table_is t ss p fields columns gs n f g h k =
     ap (λ (bs : List Aggregate). struct_piece (stats_table t bs) (pieces_of columns) [] n) h
     ∙ ap (λ (qs : List ChunkData). struct_piece (stats_table t (legacy_aggregates t ss)) (pieces_of qs) [] n) (g ∙ ap (legacy_columns t ss) f)
     ∙ ap (λ (m : ℕ). struct_piece (stats_table t (legacy_aggregates t ss)) (pieces_of (legacy_columns t ss (field_pieces (struct_fields (piece_type p)) p))) [] m) k

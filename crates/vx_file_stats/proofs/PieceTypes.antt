@@ -3,13 +3,14 @@ use Rattle.std.proofs.Common.{◌≡◌, ℕ, zero, suc, ◌&&◌, ◌^◌, Bool
 use Rattle.std.specs.Prelude.{◌==◌, nat_lt, if◌then◌else◌}
 use Rattle.std.proofs.lemmas.Bool.{and_parts, and_from}
 use Rattle.std.proofs.lemmas.List.{length-map}
-use Rattle.vx_model.specs.Words.{tail}
+use Rattle.vx_model.specs.Words.{all_by, tail}
 use Rattle.vx_model.specs.Ty.{Ty, Tys, boolean, primitive, utf8, binary, list, struct, extension, no_fields, field, is_struct, ty_eq}
 use Rattle.vx_model.specs.TyLaws.{ty_eq_decides}
-use Rattle.vx_model.specs.CellData.{CellData}
+use Rattle.vx_model.specs.CellData.{CellData, fits}
 use Rattle.vx_model.specs.ChunkData.{ChunkData, ChunkList, plain_piece, constant_piece, dict_piece, chunked_piece, list_piece, struct_piece, extension_piece, piece_type, pieces_in, cells, struct_rows, each_cells, match_fields, has_fields, is_sound, are_sound, are_flags}
 use Rattle.vx_layout_spec.specs.Parts.{first_of, others_of, plain_fields, field_pieces}
 use Rattle.vx_chunk_cells.specs.Parts.{struct_fields}
+use Rattle.vx_chunk.proofs.CellsFit.{cells_fit}
 use Rattle.vx_file_stats.specs.FileStats.{types_in, column_types, column_pieces}
 
 -- ---- plain fields
@@ -73,3 +74,8 @@ pub pieces_typed : (p : ChunkData) → is_sound p ≡ true → map piece_type (c
 pieces_typed p h =
     choose (piece_type p) p (is_struct (piece_type p)) refl
     (λ s. match_types (struct_fields (piece_type p)) (field_pieces (struct_fields (piece_type p)) p) (length (cells p)) (fields_match p s h))
+
+-- ---- its cells are of the type
+
+pub chunk_fits : (p : ChunkData) (t : Ty) (cs : List CellData) → is_sound p ≡ true → t ≡ piece_type p → cs ≡ cells p → all_by (fits t) cs ≡ true
+chunk_fits p t cs s e h = ap (all_by (fits t)) h ∙ subst (λ (u : Ty). all_by (fits u) (cells p) ≡ true) (sym e) (cells_fit p s)

@@ -133,12 +133,23 @@ fn push_column(
         return Ok(());
     };
     match stat {
-        Stat::Max | Stat::Min => {
+        Stat::Max => {
             columns.push(column)?;
-            let _flag = rest.next();
+            skip(rest);
+        }
+        Stat::Min => {
+            columns.push(column)?;
+            skip(rest);
         }
         Stat::Sum | Stat::NullCount => columns.push(column)?,
         Stat::UncompressedSizeInBytes => drop(column),
     }
     Ok(())
+}
+
+/// Drops the next field.
+fn skip(rest: &mut IntoIter<Chunk>)
+    ensures { into_iter_items rest.new ≡ drop 1 (into_iter_items rest.old) }
+{
+    let _flag = rest.next();
 }

@@ -1,5 +1,3 @@
-use Rattle.std.proofs.Common.{map}
-use Rattle.std.specs.Prelude.{IfOk}
 use Rattle.vx_hash.specs.XxHash3.{xxhash3_64}
 use Rattle.vx_model.specs.TyView.{ty}
 use Rattle.vx_aggregate.specs.AggregateView.{aggregate}
