@@ -11,7 +11,7 @@ use Rattle.vx_layout_spec.specs.Parts.{field_pieces}
 use Rattle.vx_chunk_cells.specs.Parts.{struct_fields}
 use Rattle.vx_aggregate.specs.declared.stat.Stat.{Stat}
 use Rattle.vx_file_stats.specs.FileStats.{types_in, column_types, column_pieces}
-use Rattle.vx_file_stats.specs.Gathering.{ColumnData, no_column, with_piece, with_pieces}
+use Rattle.vx_file_stats.specs.Gathering.{ColumnData, with_piece, with_pieces}
 
 -- ---- types
 

@@ -1,10 +1,10 @@
 -- What is gathered batch by batch is what the batches tell.
-use Rattle.std.proofs.Common.{◌≡◌, ℕ, ◌+◌, ◌-◌, ◌^◌, min, Bool, true, false, List, [], ◌∷◌, map, refl, sym, ap, ap₂, ◌∙◌, subst, arith, Option, Some, None}
-use Rattle.std.specs.Prelude.{◌&&◌, ◌||◌, nat_lt, if◌then◌else◌, ℤ, pos}
+use Rattle.std.proofs.Common.{◌≡◌, ℕ, ◌+◌, ◌-◌, ◌^◌, min, Bool, true, false, List, [], ◌∷◌, map, refl, sym, ap, ap₂, ◌∙◌, arith, Option}
+use Rattle.std.specs.Prelude.{nat_lt, if◌then◌else◌, ℤ, pos}
 use Rattle.std.proofs.lemmas.Bool.Decides.{nat_tests}
 use Rattle.vx_model.specs.Words.{total_by, head_or, tail}
-use Rattle.vx_model.specs.Ty.{Ty, ty_eq}
-use Rattle.vx_model.specs.ValueData.{ValueData, int_value, is_null_value}
+use Rattle.vx_model.specs.Ty.{Ty}
+use Rattle.vx_model.specs.ValueData.{int_value, is_null_value}
 use Rattle.vx_model.specs.ChunkData.{ChunkData, piece_type, row_values, row_size}
 use Rattle.vx_aggregate.specs.declared.stat.Stat.{Stat}
 use Rattle.vx_aggregate.specs.declared.stat.Stat.TheVariants as stats
@@ -12,7 +12,7 @@ use Rattle.vx_zone_spec.specs.ValueOrder.{greatest, least}
 use Rattle.vx_zone_spec.specs.Record.{nulls}
 use Rattle.vx_file_stats.specs.Precisions.{PrecisionData, exact, absent, SetData}
 use Rattle.vx_file_stats.specs.FileStats.{both, batch_sum, some_by, is_longer, batch_max, batch_min, total_sum, counted, keeps, kept, column_set, column_sets, max_of, min_of, sum_of, null_count_of, size_of, fitting, firsts, others}
-use Rattle.vx_file_stats.specs.Gathering.{no_column, BoundData, ColumnData, max_with, min_with, added, next_upper, next_lower, next_total, next_null_rows, next_bytes, with_piece, with_pieces, column_gathered, columns_gathered, max_told, min_told, set_told}
+use Rattle.vx_file_stats.specs.Gathering.{no_column, ColumnData, max_with, min_with, added, next_total, with_piece, with_pieces, column_gathered, columns_gathered, max_told, min_told, set_told}
 use Rattle.vx_file_stats.specs.Gathered.{AllTyped}
 
 -- all of one type

@@ -1,5 +1,5 @@
 -- What an accumulator has gathered, one batch more.
-use Rattle.std.proofs.Common.{◌≡◌, ℕ, Bool, true, false, List, [], ◌∷◌, map, refl, sym, ap, ◌∙◌, subst, Option, Some, None}
+use Rattle.std.proofs.Common.{◌≡◌, ℕ, Bool, true, false, List, ◌∷◌, map, refl, sym, ap, ◌∙◌, subst, Option, Some, None}
 use Rattle.std.specs.Prelude.{if◌then◌else◌, not, Result, IfOk, IfSome}
 use Rattle.std.specs.Global.{Vec}
 use Rattle.vx_model.specs.Ty.{Ty, ty_eq}

@@ -1,7 +1,6 @@
 -- Statistics of the old form, one at a time.
 use Rattle.std.proofs.Common.{◌≡◌, ℕ, ◌+◌, ◌<◌, ◌&&◌, Bool, true, false, List, [], ◌∷◌, ◌++◌, length, get_or, drop, take, map, refl, sym, ap, ◌∙◌, subst, append_assoc, append-nil, Option, Some, None}
 use Rattle.std.specs.Prelude.{◌==◌, is_some, option_to_list}
-use Rattle.std.specs.Option.{option_map}
 use Rattle.std.proofs.lemmas.Bool.{and_parts, and_from, true≢false}
 use Rattle.std.proofs.lemmas.List.{drop_more, drop_all, map_push, map-append}
 use Rattle.vx_model.specs.Words.{joined_by}
@@ -14,7 +13,7 @@ use Rattle.vx_aggregate_spec.specs.Aggregate.{Aggregate, maximum, minimum, null_
 use Rattle.vx_aggregate_spec.specs.Tables.{column_field, stats_table}
 use Rattle.vx_aggregate.specs.declared.stat.Stat.{Stat}
 use Rattle.vx_aggregate.specs.declared.stat.Stat.TheVariants as stats
-use Rattle.vx_aggregate.specs.Stats.{stat_aggregate, stat_state}
+use Rattle.vx_aggregate.specs.Stats.{stat_state}
 use Rattle.vx_aggregate.specs.Tables.{stat_fields, named_state, legacy_table}
 use Rattle.vx_file_stats.specs.Legacy.{held_by, held_stat, taken, legacy_aggregates, legacy_columns, legacy_piece}
 use Rattle.vx_file_stats.proofs.PieceTypes.{fields_match}

@@ -1,6 +1,5 @@
 -- Numbers that stop at the greatest.
-use Rattle.std.proofs.Common.{◌≡◌, ℕ, ◌+◌, ◌-◌, ◌<◌, ◌≤◌, ◌^◌, min, true, false, refl, arith}
-use Rattle.std.specs.Prelude.{nat_lt}
+use Rattle.std.proofs.Common.{◌≡◌, ℕ, ◌+◌, ◌-◌, ◌<◌, ◌^◌, min, arith}
 use Rattle.std.proofs.lemmas.Bool.Decides.{nat_tests}
 
 -- what stopped before stops after

@@ -1,7 +1,6 @@
 -- Whether a total fits the type of sums.
 use Rattle.std.proofs.Common.{◌≡◌, Bool, true, false, refl, sym, ap, ◌∙◌, Option, Some, None}
-use Rattle.std.specs.Prelude.{ℤ, ◌||◌, if◌then◌else◌}
-use Rattle.std.specs.Option.{option_map}
+use Rattle.std.specs.Prelude.{ℤ, if◌then◌else◌}
 use Rattle.vx_model.specs.declared.ptype.PType.{PType}
 use Rattle.vx_model.specs.Numbers.{int_fits}
 use Rattle.vx_model.specs.Ty.{Ty, primitive}

@@ -1,5 +1,5 @@
 -- The statistics that a file keeps of its columns, over the batches of a source. The last batch stands first.
-use Rattle.std.specs.Prelude.{ℕ, ◌^◌, ◌&&◌, ◌||◌, ◌==◌, nat_lt, Bool, true, false, if◌then◌else◌, List, [], ◌∷◌, length, map, Option, Some, None, is_some, ℤ, pos, ◌+ℤ◌}
+use Rattle.std.specs.Prelude.{ℕ, ◌^◌, ◌&&◌, ◌||◌, ◌==◌, nat_lt, Bool, false, if◌then◌else◌, List, [], ◌∷◌, length, map, Option, Some, None, is_some, ℤ, pos, ◌+ℤ◌}
 use Rattle.vx_model.specs.Words.{total_by}
 use Rattle.vx_model.specs.Ty.{Ty, Tys, no_fields, field, is_struct, nullable, ty_eq}
 use Rattle.vx_model.specs.ValueData.{ValueData, null_value, int_value, text_value, bytes_value, is_null_value}

@@ -1,5 +1,5 @@
 -- What an accumulator has gathered, and why there is none.
-use Rattle.std.specs.Prelude.{◌≡◌, ℕ, Bool, true, false, List, [], ◌∷◌, map, Option, Some, None, IfSome, Result, Ok, Err}
+use Rattle.std.specs.Prelude.{◌≡◌, ℕ, true, false, List, [], ◌∷◌, map, Option, Some, None, IfSome, Result, Ok, Err}
 use Rattle.vx_model.specs.Ty.{Ty}
 use Rattle.vx_model.specs.TyView.{ty}
 use Rattle.vx_model.specs.ChunkData.{ChunkData, piece_type}

@@ -1,5 +1,5 @@
 -- Tables of statistics of the old form, read as tables of zones.
-use Rattle.std.specs.Prelude.{ℕ, List, [], ◌∷◌, ◌++◌, length, take, drop, Option, Some, None}
+use Rattle.std.specs.Prelude.{List, [], ◌∷◌, ◌++◌, length, take, drop, Option, Some}
 use Rattle.vx_model.specs.Words.{joined_by}
 use Rattle.vx_model.specs.Ty.{Ty}
 use Rattle.vx_model.specs.ChunkData.{ChunkData, struct_piece, pieces_of, piece_type, cells}

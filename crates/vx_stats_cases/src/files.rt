@@ -108,7 +108,11 @@ fn push_answer(
     }
 }
 
-fn push_sets(out: &mut String, name: &str, gathered: FileStatsAccumulator) -> Result<(), AllocError> {
+fn push_sets(
+    out: &mut String,
+    name: &str,
+    gathered: FileStatsAccumulator,
+) -> Result<(), AllocError> {
     let sets = gathered.stats_sets()?;
     let pushed = push_each(out, name, &sets);
     drop(sets);

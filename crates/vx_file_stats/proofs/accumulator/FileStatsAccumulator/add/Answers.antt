@@ -1,8 +1,7 @@
-use Rattle.std.proofs.Common.{◌≡◌, true, false, map, sym, ap, ◌∙◌}
+use Rattle.std.proofs.Common.{◌≡◌, map, sym, ap, ◌∙◌}
 use Rattle.vx_model.specs.Ty.{Ty, ty_eq}
 use Rattle.vx_model.specs.TyLaws.{ty_eq_decides}
 use Rattle.vx_model.specs.TyView.{ty}
-use Rattle.vx_model.specs.ChunkData.{piece_type}
 use Rattle.vx_file_stats.specs.FileStats.{column_pieces}
 use Rattle.vx_file_stats.specs.Gathered.{asked_of, limit_of, type_of}
 use Rattle.vx_file_stats.specs.Gathering.{column_data, with_pieces}
