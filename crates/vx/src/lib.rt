@@ -89,11 +89,15 @@ pub mod bloom {
     pub use vx_hash::{ByteHash, XxHash3_64};
 }
 
-/// Aggregates, statistics, the records of zones, their tables, and what predicates skip by them.
+/// Aggregates, the records of zones, their tables, what predicates skip by them, and the statistics of files.
 pub mod zones {
     pub use vx_aggregate::{
         AggregateFn, MAX_IS_TRUNCATED, MIN_IS_TRUNCATED, SpecError, Stat,
         aggregate_stats_table_dtype, default_zoned_aggregate_fns, legacy_stats_table_dtype,
+    };
+    pub use vx_file_stats::{
+        FileStatsAccumulator, Precision, StatsError, StatsSet, StatsSource, accumulate_stats,
+        legacy_stats_to_aggregates,
     };
     pub use vx_zone_guard::{GuardError, ZoneGuard};
     pub use vx_zone_map::{Predicate, ZoneError, ZoneMap};

@@ -3,6 +3,7 @@ pub mod FilterSteps
 pub mod FoldSteps
 pub mod HeldSteps
 pub mod OrderSteps
+pub mod PartSteps
 pub mod RecordSteps
 pub mod RowValues
 pub mod ScalarSteps

@@ -61,7 +61,7 @@ cells_fit t (c ∷ cs) h =
     let parts : (fits t (tree c) ≡ true) × (all_by (fits t) (map tree cs) ≡ true) = and_parts (fits t (tree c)) (all_by (fits t) (map tree cs)) h in
     and_from (is_row_value t (value (tree c))) (all_by (is_row_value t) (map (λ c. value (tree c)) cs)) (cell_fits t (tree c) parts.0) (cells_fit t cs parts.1)
 
-cells_seen : (cs : List Cell) → map value (map tree cs) ≡ map (λ c. value (tree c)) cs
+pub cells_seen : (cs : List Cell) → map value (map tree cs) ≡ map (λ c. value (tree c)) cs
 cells_seen [] = refl
 cells_seen (c ∷ cs) = ap (λ (vs : List ValueData). value (tree c) ∷ vs) (cells_seen cs)
 

@@ -13,7 +13,7 @@ use vx_model::{Blob, Text, Value};
 
 /// At least the value, in so many bytes and at most one more; null where there is no such bound. What isn't a text or
 /// bytes stays.
-pub(crate) fn upper_bound(alloc: Global, scalar: Scalar<'_>, most: u32) -> Result<Value, AllocError>
+pub(crate) fn upper_bound(alloc: Global, scalar: Scalar<'_>, most: u64) -> Result<Value, AllocError>
     ensures { IfOk result (λ v. val v ≡ upper_bound most (scalar_value scalar.entry)) }
 {
     match scalar {
@@ -24,7 +24,7 @@ pub(crate) fn upper_bound(alloc: Global, scalar: Scalar<'_>, most: u32) -> Resul
 }
 
 /// At most the value, in at most so many bytes. What isn't a text or bytes stays.
-pub(crate) fn lower_bound(alloc: Global, scalar: Scalar<'_>, most: u32) -> Result<Value, AllocError>
+pub(crate) fn lower_bound(alloc: Global, scalar: Scalar<'_>, most: u64) -> Result<Value, AllocError>
     ensures { IfOk result (λ v. val v ≡ lower_bound most (scalar_value scalar.entry)) }
 {
     match scalar {
@@ -35,7 +35,7 @@ pub(crate) fn lower_bound(alloc: Global, scalar: Scalar<'_>, most: u32) -> Resul
 }
 
 #[tactic(auto, using(crate::proofs::BoundSteps::bound_rules))]
-fn upper_bytes(alloc: Global, bytes: &Blob, most: u32) -> Result<Value, AllocError>
+pub(crate) fn upper_bytes(alloc: Global, bytes: &Blob, most: u64) -> Result<Value, AllocError>
     ensures { IfOk result (λ v. val v ≡ upper_bound most (bytes_value bytes.now)) }
 {
     let whole = bytes.as_slice();
@@ -49,7 +49,7 @@ fn upper_bytes(alloc: Global, bytes: &Blob, most: u32) -> Result<Value, AllocErr
 }
 
 #[tactic(auto, using(crate::proofs::BoundSteps::bound_rules))]
-fn lower_bytes(alloc: Global, bytes: &Blob, most: u32) -> Result<Value, AllocError>
+pub(crate) fn lower_bytes(alloc: Global, bytes: &Blob, most: u64) -> Result<Value, AllocError>
     ensures { IfOk result (λ v. val v ≡ lower_bound most (bytes_value bytes.now)) }
 {
     let whole = bytes.as_slice();
@@ -58,7 +58,7 @@ fn lower_bytes(alloc: Global, bytes: &Blob, most: u32) -> Result<Value, AllocErr
 }
 
 #[tactic(auto, using(crate::proofs::BoundSteps::bound_rules))]
-fn upper_text(alloc: Global, text: &Text, most: u32) -> Result<Value, AllocError>
+pub(crate) fn upper_text(alloc: Global, text: &Text, most: u64) -> Result<Value, AllocError>
     ensures { IfOk result (λ v. val v ≡ upper_bound most (text_value text.now)) }
 {
     let whole = text.as_str();
@@ -72,7 +72,7 @@ fn upper_text(alloc: Global, text: &Text, most: u32) -> Result<Value, AllocError
 }
 
 #[tactic(auto, using(crate::proofs::BoundSteps::bound_rules))]
-fn lower_text(alloc: Global, text: &Text, most: u32) -> Result<Value, AllocError>
+pub(crate) fn lower_text(alloc: Global, text: &Text, most: u64) -> Result<Value, AllocError>
     ensures { IfOk result (λ v. val v ≡ lower_bound most (text_value text.now)) }
 {
     let whole = text.as_str();

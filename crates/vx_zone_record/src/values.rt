@@ -36,8 +36,8 @@ pub(crate) fn aggregate_value<R: Row>(
     match aggregate {
         AggregateFn::Max => to_value(alloc, greatest(rows)),
         AggregateFn::Min => to_value(alloc, least(rows)),
-        AggregateFn::BoundedMax(most) => upper_bound(alloc, greatest(rows), most.get()),
-        AggregateFn::BoundedMin(most) => lower_bound(alloc, least(rows), most.get()),
+        AggregateFn::BoundedMax(most) => upper_bound(alloc, greatest(rows), u64::from(most.get())),
+        AggregateFn::BoundedMin(most) => lower_bound(alloc, least(rows), u64::from(most.get())),
         AggregateFn::NullCount => Ok(Value::Int(i128::from(null_count(rows)))),
         AggregateFn::Sum => Ok(sum_value(sum_ptype(column), total(rows))),
         AggregateFn::Bloom(blocks) => filter(alloc, blocks, column, rows),

@@ -1,4 +1,4 @@
-use Rattle.std.proofs.Common.{map, ap}
+use Rattle.std.proofs.Common.{◌≡◌, map, ap, arith}
 use Rattle.std.specs.Int.NonZero.{non_zero_u32_get}
 use Rattle.vx_hash.specs.XxHash3.{xxhash3_64}
 use Rattle.vx_model.specs.TyView.{ty}
@@ -26,10 +26,12 @@ returns-in-Min g c =
 
 pub returns-in-BoundedMax : goal.returns-in-BoundedMax
 returns-in-BoundedMax g c =
+    let same : c.from.result ≡ non_zero_u32_get c.in-BoundedMax.most = grind (arith, c.get.ensures.value, c.from.ensures) in
     upper_given xxhash3_64 (ty c.args.column.now) g.R.Row.seen c.args.rows.now c.requires.fit (aggregate c.args.aggregate) c.requires.held c.upper_bound.result (scalar_value c.greatest-in-BoundedMax.result)
-    (non_zero_u32_get c.in-BoundedMax.most) c.get.result (ap aggregate c.in-BoundedMax.is) c.get.ensures.value c.greatest-in-BoundedMax.ensures c.upper_bound.ensures
+    (non_zero_u32_get c.in-BoundedMax.most) c.from.result (ap aggregate c.in-BoundedMax.is) same c.greatest-in-BoundedMax.ensures c.upper_bound.ensures
 
 pub returns-in-BoundedMin : goal.returns-in-BoundedMin
 returns-in-BoundedMin g c =
+    let same : c.from-in-BoundedMin.result ≡ non_zero_u32_get c.in-BoundedMin.most = grind (arith, c.get-in-BoundedMin.ensures.value, c.from-in-BoundedMin.ensures) in
     lower_given xxhash3_64 (ty c.args.column.now) g.R.Row.seen c.args.rows.now c.requires.fit (aggregate c.args.aggregate) c.requires.held c.lower_bound.result (scalar_value c.least-in-BoundedMin.result)
-    (non_zero_u32_get c.in-BoundedMin.most) c.get-in-BoundedMin.result (ap aggregate c.in-BoundedMin.is) c.get-in-BoundedMin.ensures.value c.least-in-BoundedMin.ensures c.lower_bound.ensures
+    (non_zero_u32_get c.in-BoundedMin.most) c.from-in-BoundedMin.result (ap aggregate c.in-BoundedMin.is) same c.least-in-BoundedMin.ensures c.lower_bound.ensures
