@@ -1,0 +1,14 @@
+-- The least active path beside a path that isn't least.
+use Rattle.std.proofs.Common.{◌≡◌, ℕ, List, true, subst, ⊎_elim}
+use Rattle.std.proofs.lemmas.Bool.{cases_Bool}
+use Rattle.std.specs.FinMap as map
+use Rattle.vx_path.specs.Path.{path_le, path_lt}
+use Rattle.vx_path.proofs.Path.{path_le-trans, not_le}
+use Rattle.vx_sequence.specs.Universe.{Active, IsActive, IsLeast}
+use Rattle.vx_sequence.proofs.Sets.{not_empty}
+
+pub least_below : (u : Active) (p id : List ℕ) → IsLeast u p → ¬ (IsLeast u id) → path_lt p id ≡ true
+least_below u p id least not = not_le p id (⊎_elim (λ t. absurd (not (λ q a. path_le-trans id p q t (least q a)))) (λ f. f) (cases_Bool (path_le id p)))
+
+pub none_active : (u : Active) (id : List ℕ) → u ≡ map.empty → IsActive u id → ⊥
+none_active u id e a = not_empty id (subst (λ w. IsActive w id) e a)
