@@ -16,7 +16,16 @@ use vx_sink::SegmentSink;
 ///
 /// Its universe holds the column's paths alone: for smaller paths of other columns `try_write` waits inside. Its seat
 /// must be spent, so it must be taken apart.
-pub struct ColumnOrder<'a, S: SegmentSink, R: Wait, W: Ledger, F: Ledger, M: Ledger, N: Ledger, P: Pairs> {
+pub struct ColumnOrder<
+    'a,
+    S: SegmentSink,
+    R: Wait,
+    W: Ledger,
+    F: Ledger,
+    M: Ledger,
+    N: Ledger,
+    P: Pairs,
+> {
     pub sink: &'a OrderedSink<S, W, F, M, N, P>,
     pub seat: Seat<W, F, M, N, P>,
     pub universe: Universe,

@@ -35,10 +35,12 @@ fn write_once<O: Order>(order: &mut O, id: SequenceId, bytes: &[u8]) -> bool
 {
     match order.try_write(id, bytes) {
         Ok(Attempt::Written(_receipt)) => true,
-        Ok(Attempt::Waiting {
-            id,
-            smaller: _smaller,
-        }) => {
+        Ok(
+            Attempt::Waiting {
+                id,
+                smaller: _smaller,
+            },
+        ) => {
             order.release(id);
             false
         }
@@ -49,8 +51,16 @@ fn write_once<O: Order>(order: &mut O, id: SequenceId, bytes: &[u8]) -> bool
     }
 }
 
-impl<'a, S: SegmentSink, R: Wait, W: Ledger, F: Ledger, M: Ledger, N: Ledger, P: Pairs>
-    Worker<'a, S, R, W, F, M, N, P> {
+impl<'a, S: SegmentSink, R: Wait, W: Ledger, F: Ledger, M: Ledger, N: Ledger, P: Pairs> Worker<
+    'a,
+    S,
+    R,
+    W,
+    F,
+    M,
+    N,
+    P,
+> {
     /// Writes, or stops the others, and ends its column.
     fn run(&mut self) {
         let Some(id) = self.id.take() else {
@@ -64,9 +74,7 @@ impl<'a, S: SegmentSink, R: Wait, W: Ledger, F: Ledger, M: Ledger, N: Ledger, P:
                 WriteErrorName::OutOfMemory,
             );
         }
-        self.order
-            .sink
-            .raise(self.order.rt, &self.order.seat, None);
+        self.order.sink.raise(self.order.rt, &self.order.seat, None);
     }
 
     fn into_seat(self) -> Seat<W, F, M, N, P> {
@@ -93,10 +101,7 @@ fn run_each<
     M: Ledger + Send + Sync,
     N: Ledger + Send + Sync,
     P: Pairs + Send + Sync,
->(
-    rt: &R,
-    workers: &mut [Worker<'a, S, R, W, F, M, N, P>],
-) {
+>(rt: &R, workers: &mut [Worker<'a, S, R, W, F, M, N, P>]) {
     thread::for_each_mut(rt, workers, 2, &|_, worker| worker.run());
 }
 
@@ -222,8 +227,7 @@ fn columns_write_in_threads(rt: HostRuntime) {
     );
     let (sink, history) = columns.expect(&rt, "memory");
     let written = format!(in rt.alloc(); "{history:?}").expect(&rt, "memory");
-    assert_eq!(
-        rt;
+    assert_eq!(rt;
         written.as_str(),
         "[Receipt { path: [0], number: 7 }, Receipt { path: [1], number: 8 }]"
     );

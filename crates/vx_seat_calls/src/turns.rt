@@ -91,8 +91,7 @@ fn columns_try_in_turns(rt: HostRuntime) {
     let fronts = vec![in rt.alloc(); one, two].expect(&rt, "memory");
     let (told, sink, history) = taken_in_turns(rt.alloc(), sink, fronts).expect(&rt, "memory");
     let told = told.expect(&rt, "memory");
-    assert_eq!(
-        rt;
+    assert_eq!(rt;
         told.as_str(),
         "Ok(Waiting([0, 0, 0])) Ok(Written(Receipt { path: [0, 0, 0], number: 0 })) Ok(Written(Receipt { path: [0, 0, 1], number: 1 })) Ok(Waiting([0, 0, 1])) Err(Stopped(0, ManyChunks))"
     );

@@ -49,7 +49,14 @@ pub struct SinkState<S: SegmentSink, W: Ledger, F: Ledger, M: Ledger, N: Ledger,
     pub ghost columns: { vec_len fronts ≡ P.columns },
 }
 
-impl<S: SegmentSink, W: Ledger, F: Ledger, M: Ledger, N: Ledger, P: Pairs> SinkState<S, W, F, M, N, P> {
+impl<S: SegmentSink, W: Ledger, F: Ledger, M: Ledger, N: Ledger, P: Pairs> SinkState<
+    S,
+    W,
+    F,
+    M,
+    N,
+    P,
+> {
     /// A state without a write, and a seat for each front. A blank has as many parts as there are fronts.
     pub fn new(
         sink: S,

@@ -23,7 +23,14 @@ pub struct OrderedSink<S: SegmentSink, W: Ledger, F: Ledger, M: Ledger, N: Ledge
     moved: Condvar,
 }
 
-impl<S: SegmentSink, W: Ledger, F: Ledger, M: Ledger, N: Ledger, P: Pairs> OrderedSink<S, W, F, M, N, P> {
+impl<S: SegmentSink, W: Ledger, F: Ledger, M: Ledger, N: Ledger, P: Pairs> OrderedSink<
+    S,
+    W,
+    F,
+    M,
+    N,
+    P,
+> {
     /// `SinkState::new`.
     pub fn new(
         sink: S,
