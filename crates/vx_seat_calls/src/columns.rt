@@ -3,6 +3,7 @@
 ghost use Rattle.std.specs.Prelude.{◌≡◌, ◌<◌, ℕ, [], ◌∷◌, Some, vec_len, IfSome};
 ghost use Rattle.vx_sequence.specs.Universe.{IsActive};
 ghost use Rattle.vx_seats.specs.History.{bytes_for};
+ghost use Rattle.vx_seats.specs.Turns.{NeverFails};
 ghost use Rattle.vx_seat_calls.specs.Written.{beside};
 
 use std::marker::Brand;
@@ -128,7 +129,7 @@ fn in_threads<
     requires made { (blanks.2.name ≡ M.name) × (blanks.2.parts ≡ M.parts) × (M.parts ≡ 2) }
     requires seen { (blanks.3.name ≡ N.name) × (blanks.3.parts ≡ N.parts) × (N.parts ≡ 2) }
     requires sink { (S.next sink ≡ P.first) × (S.segments sink ≡ P.told) × (S.faults sink ≡ P.faults) × (S.borrow sink ≡ P.borrow) }
-    requires may_fail { (k : ℕ) → S.may_fail sink k → P.may_fail k }
+    requires never_fails { NeverFails P.may_fail → NeverFails (S.may_fail sink) }
     requires pairs { P.pairs ≡ beside }
     requires one { (one.1 ≡ 0 ∷ []) × IsActive one.0 one.1 }
     requires two { (two.1 ≡ 1 ∷ []) × IsActive two.0 two.1 }

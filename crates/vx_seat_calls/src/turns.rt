@@ -1,6 +1,7 @@
 //! Tries of two columns in turns.
 
-ghost use Rattle.std.specs.Prelude.{◌≡◌, ℕ, vec_len};
+ghost use Rattle.std.specs.Prelude.{◌≡◌, vec_len};
+ghost use Rattle.vx_seats.specs.Turns.{NeverFails};
 ghost use Rattle.vx_seat_calls.specs.Written.{in_turns};
 
 use std::alloc::{AllocError, Global};
@@ -44,7 +45,7 @@ fn tried<S: SegmentSink + Drop, W: Ledger, F: Ledger, M: Ledger, N: Ledger, P: P
     requires made { (blanks.2.name ≡ M.name) × (blanks.2.parts ≡ M.parts) × (M.parts ≡ 2) }
     requires seen { (blanks.3.name ≡ N.name) × (blanks.3.parts ≡ N.parts) × (N.parts ≡ 2) }
     requires sink { (S.next sink ≡ P.first) × (S.segments sink ≡ P.told) × (S.faults sink ≡ P.faults) × (S.borrow sink ≡ P.borrow) }
-    requires may_fail { (k : ℕ) → S.may_fail sink k → P.may_fail k }
+    requires never_fails { NeverFails P.may_fail → NeverFails (S.may_fail sink) }
     requires pairs { P.pairs ≡ in_turns }
 {
     let made = SinkState::<S, W, F, M, N, P>::new(

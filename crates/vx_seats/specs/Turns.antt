@@ -95,6 +95,10 @@ NumberFits first pairs SinkFault = Unit {0}
 NumberFits first pairs OutOfMemory = Unit {0}
 NumberFits first pairs (Stopped by name) = Unit {0}
 
+-- no append may fail
+abbrev pub NeverFails : (ℕ → Type 0) → Type 0
+NeverFails may = (k : ℕ) → ¬ (may k)
+
 -- A try asks the sink where it writes or the sink fails. Where memory ran out it may have.
 abbrev pub Tells : ℕ → ℕ → (ℕ → Type 0) → (ℕ → Type 0) → (ℕ → Type 0) → (ℕ → Type 0) → Tried → Type 0
 Tells before now may may_then must must_then (Ok (Written r)) = Called before now may may_then must must_then false

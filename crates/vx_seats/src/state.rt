@@ -6,7 +6,7 @@ ghost use Rattle.vx_fault.specs.Told.{then_told};
 ghost use Rattle.vx_order_answer.specs.Refusal.{once};
 ghost use Rattle.vx_seats.specs.History.{bytes_for, all_listed, ascends, paths, numbered, stored, bit};
 ghost use Rattle.vx_seats.specs.Fronts.{NoneAhead, later, raised_front};
-ghost use Rattle.vx_seats.specs.Turns.{Answers, NumberFits, IsFree, IsLast, IsNew, WaitsFor, IsWaiting, IsTooLarge, IsWritten, Tells, is_sink_fault, is_stopped, history_after, writes_after};
+ghost use Rattle.vx_seats.specs.Turns.{Answers, NumberFits, IsFree, IsLast, IsNew, WaitsFor, IsWaiting, IsTooLarge, IsWritten, NeverFails, Tells, is_sink_fault, is_stopped, history_after, writes_after};
 
 use crate::fronts::least_ahead;
 use crate::pairs::Pairs;
@@ -41,8 +41,8 @@ pub struct SinkState<S: SegmentSink, W: Ledger, F: Ledger, M: Ledger, N: Ledger,
     pub ghost counted: { length history.items ≡ writes.total },
     pub ghost rises: { P.faults ≤ S.faults sink },
     pub ghost failed: { 0 < faults.total → Rose P.faults (S.faults sink) },
-    pub ghost may_fail: { (k : ℕ) → S.may_fail sink k → (j : ℕ) × P.may_fail j },
-    pub ghost could_fail: { 0 < faults.total → (j : ℕ) × P.may_fail j },
+    pub ghost never_fails: { NeverFails P.may_fail → NeverFails (S.may_fail sink) },
+    pub ghost could_fail: { 0 < faults.total → ¬ NeverFails P.may_fail },
     pub ghost borrowed: { S.borrow sink ≡ P.borrow },
     pub ghost stopped: { is_some stop ≡ nat_lt 0 made.total },
     pub ghost stops: { 0 < seen.total → 0 < made.total },
@@ -72,7 +72,7 @@ impl<S: SegmentSink, W: Ledger, F: Ledger, M: Ledger, N: Ledger, P: Pairs> SinkS
         requires made { (made.name ≡ M.name) × (made.parts ≡ M.parts) × (M.parts ≡ P.columns) }
         requires seen { (seen.name ≡ N.name) × (seen.parts ≡ N.parts) × (N.parts ≡ P.columns) }
         requires sink { (S.next sink ≡ P.first) × (S.segments sink ≡ P.told) × (S.faults sink ≡ P.faults) × (S.borrow sink ≡ P.borrow) }
-        requires may_fail { (k : ℕ) → S.may_fail sink k → P.may_fail k }
+        requires never_fails { NeverFails P.may_fail → NeverFails (S.may_fail sink) }
         ensures sink { IfOk result (λ r. r.0.sink ≡ sink) }
         ensures history { IfOk result (λ r. r.0.history.items ≡ []) }
         ensures stop { IfOk result (λ r. r.0.stop ≡ None) }
@@ -277,7 +277,7 @@ impl<S: SegmentSink, W: Ledger, F: Ledger, M: Ledger, N: Ledger, P: Pairs> SinkS
         ensures all { 0 < vec_len seats → vec_len seats ≡ W.parts → length result.1.items ≡ sum_by (λ s. s.writes.amount) seats.items }
         ensures some { sum_by (λ s. s.writes.amount) seats.items ≤ length result.1.items }
         ensures faults { 0 < sum_by (λ s. s.faults.amount) seats.items → Rose P.faults (S.faults result.0) }
-        ensures could_fail { 0 < sum_by (λ s. s.faults.amount) seats.items → (j : ℕ) × P.may_fail j }
+        ensures could_fail { 0 < sum_by (λ s. s.faults.amount) seats.items → ¬ NeverFails P.may_fail }
         ensures stops { vec_len seats ≡ M.parts → 0 < sum_by (λ s. s.seen.amount) seats.items → 0 < sum_by (λ s. s.made.amount) seats.items }
     {
         let SinkState {

@@ -6,7 +6,7 @@ ghost use Rattle.vx_fault.specs.Counts.{Rose};
 ghost use Rattle.vx_fault.specs.Told.{then_told};
 ghost use Rattle.vx_order_answer.specs.Refusal.{once};
 ghost use Rattle.vx_seats.specs.History.{bytes_for, all_listed, ascends, paths, numbered, stored};
-ghost use Rattle.vx_seats.specs.Turns.{NumberFits};
+ghost use Rattle.vx_seats.specs.Turns.{NeverFails, NumberFits};
 ghost use Rattle.vx_shared.specs.Wrote.{wrote, faulted, stopped};
 
 use std::sync::ledger::{Blank, Ledger};
@@ -46,7 +46,7 @@ impl<S: SegmentSink, W: Ledger, F: Ledger, M: Ledger, N: Ledger, P: Pairs> Order
         requires made { (made.name ≡ M.name) × (made.parts ≡ M.parts) × (M.parts ≡ P.columns) }
         requires seen { (seen.name ≡ N.name) × (seen.parts ≡ N.parts) × (N.parts ≡ P.columns) }
         requires sink { (S.next sink ≡ P.first) × (S.segments sink ≡ P.told) × (S.faults sink ≡ P.faults) × (S.borrow sink ≡ P.borrow) }
-        requires may_fail { (k : ℕ) → S.may_fail sink k → P.may_fail k }
+        requires never_fails { NeverFails P.may_fail → NeverFails (S.may_fail sink) }
         ensures seats { IfOk result (λ r. vec_len r.1 ≡ vec_len fronts) }
         ensures columns { IfOk result (λ r. map (λ s. s.column) r.1.items ≡ range_with_len 0 (vec_len fronts)) }
         ensures none { IfOk result (λ r. All (λ s. (s.writes.amount ≡ 0) × (s.faults.amount ≡ 0) × (s.made.amount ≡ 0) × (s.seen.amount ≡ 0)) r.1.items) }
@@ -123,7 +123,7 @@ impl<S: SegmentSink, W: Ledger, F: Ledger, M: Ledger, N: Ledger, P: Pairs> Order
         ensures whole { 0 < vec_len seats → vec_len seats ≡ W.parts → sum_by (λ s. s.writes.amount) seats.items ≡ length P.pairs
             → paths result.1.items ≡ sort (map (λ c. c.path) P.pairs) }
         ensures faults { 0 < sum_by (λ s. s.faults.amount) seats.items → Rose P.faults (S.faults result.0) }
-        ensures could_fail { 0 < sum_by (λ s. s.faults.amount) seats.items → (j : ℕ) × P.may_fail j }
+        ensures could_fail { 0 < sum_by (λ s. s.faults.amount) seats.items → ¬ NeverFails P.may_fail }
         ensures stops { vec_len seats ≡ M.parts → 0 < sum_by (λ s. s.seen.amount) seats.items → 0 < sum_by (λ s. s.made.amount) seats.items }
     {
         let OrderedSink {
