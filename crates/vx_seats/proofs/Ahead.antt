@@ -1,11 +1,11 @@
 -- The least front.
 use Rattle.std.specs.Option.{option_copied}
-use Rattle.std.proofs.Common.{Bor, IfNone, IfSome, ◌≤◌, ◌≡◌, ◌≢◌, ℕ, ◌+◌, ◌<◌, ◌⊎◌, Bool, true, false, cond, List, [], ◌∷◌, Option, Some, None, length, slice_get, refl, sym, ap, ◌∙◌, arith, inl, inr, ⊎_elim, subst, IsTrue}
+use Rattle.std.proofs.Common.{Bor, IfNone, IfSome, ◌≤◌, ◌≡◌, ◌≢◌, ℕ, ◌+◌, ◌<◌, ◌⊎◌, true, false, List, Option, Some, None, length, slice_get, sym, ap, ◌∙◌, arith, ⊎_elim, subst}
 use Rattle.std.proofs.lemmas.Bool.{cases_Bool, true≢false}
 use Rattle.std.proofs.lemmas.Option.{slice_get_within}
-use Rattle.vx_path.specs.Path.{path_le, path_lt}
-use Rattle.vx_path.proofs.Path.{path_le-trans, path_le-total, path_le-refl, not_le, lt_le}
-use Rattle.vx_seats.specs.Fronts.{Fronts, IsOther, NoneAhead, IsAhead, lesser, IsBest}
+use Rattle.vx_path.specs.Path.{path_le}
+use Rattle.vx_path.proofs.Path.{path_le-trans, path_le-refl, not_le, lt_le}
+use Rattle.vx_seats.specs.Fronts.{Fronts, NoneAhead, IsAhead, lesser, IsBest}
 
 -- what stands at place i of the others' fronts
 abbrev pub IsAt : Fronts → ℕ → ℕ → Option (List ℕ) → Type 0

@@ -1,14 +1,14 @@
 -- One more entry of the history.
-use Rattle.std.proofs.Common.{◌≡◌, ℕ, ◌+◌, ◌-◌, ◌<◌, ◌==◌, ◌&&◌, Bool, true, false, cond, List, [], ◌∷◌, ◌++◌, map, length, Option, Some, None, option_map, is_some, refl, sym, ap, ap₂, ◌∙◌, suc, arith, append_assoc, IsTrue, slice_get, subst}
+use Rattle.std.proofs.Common.{◌≡◌, ℕ, ◌+◌, ◌-◌, ◌==◌, ◌&&◌, Bool, true, false, List, [], ◌∷◌, ◌++◌, length, Option, Some, None, is_some, refl, sym, ap, ◌∙◌, suc, arith, append_assoc, slice_get, subst}
 use Rattle.std.proofs.lemmas.List.{map_push}
 use Rattle.std.specs.Cmp.Derive.{both_true}
-use Rattle.std.proofs.lemmas.Bool.{cases_Bool, true≢false}
+use Rattle.std.proofs.lemmas.Bool.{true≢false}
 use Rattle.vx_path.specs.Path.{path_le, path_lt}
 use Rattle.vx_path.proofs.Path.{not_le}
 use Rattle.vx_order_answer.specs.declared.receipt.Receipt.{Receipt}
 use Rattle.vx_seats.specs.Turns.{IsLast, IsNew}
 use Rattle.vx_fault.specs.Told.{then_told}
-use Rattle.vx_seats.specs.History.{Pair, bytes_for, bytes_at, all_listed, leads, ascends, paths, numbered, stored}
+use Rattle.vx_seats.specs.History.{Pair, bytes_for, bytes_at, all_listed, ascends, paths, numbered, stored}
 
 pub left_true : (a b : Bool) → (a && b) ≡ true → a ≡ true
 left_true true b h = refl

@@ -1,5 +1,5 @@
 -- What waits isn't free, and a calm sink didn't fail.
-use Rattle.std.proofs.Common.{◌≡◌, ℕ, List, ⊎_elim, arith}
+use Rattle.std.proofs.Common.{ℕ, List, ⊎_elim, arith}
 use Rattle.vx_path.proofs.Path.{lt_not_le}
 use Rattle.vx_fault.specs.Counts.{Rose, IsCalm}
 use Rattle.vx_seats.specs.Fronts.{Fronts}

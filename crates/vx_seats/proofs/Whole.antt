@@ -1,11 +1,10 @@
 -- A history of distinct listed paths, as many as are listed, is all of them in order.
-use Rattle.std.proofs.Common.{◌≡◌, ℕ, ◌+◌, ◌<◌, ◌≤◌, ◌⊎◌, ◌&&◌, Bool, true, false, cond, List, [], ◌∷◌, ◌++◌, map, length, Option, Some, None, is_some, refl, sym, ap, ◌∙◌, suc, zero, arith, inl, inr, ⊎_elim, subst, IsTrue, length-append}
-use Rattle.std.specs.Cmp.Derive.{both_true}
+use Rattle.std.proofs.Common.{◌≡◌, ℕ, ◌≤◌, true, cond, List, [], ◌∷◌, ◌++◌, map, length, Some, is_some, refl, sym, ap, ◌∙◌, suc, arith, inl, inr, ⊎_elim, subst}
 use Rattle.std.proofs.lemmas.Bool.{cases_Bool, true≢false}
 use Rattle.vx_path.specs.Lists.{In}
 use Rattle.vx_path.specs.Path.{path_le, path_lt}
 use Rattle.vx_path.specs.Sort.{sort}
-use Rattle.vx_path.proofs.Lists.{split_at, in_left, in_right, in_cases, in_map}
+use Rattle.vx_path.proofs.Lists.{split_at, in_left, in_right, in_cases}
 use Rattle.vx_path.proofs.Path.{lt_le, lt_le_trans, lt_irrefl, path_le-antisym}
 use Rattle.vx_path.proofs.Sort.{sort-least, in_sorted}
 use Rattle.vx_seats.specs.History.{Pair, same, bytes_for, all_listed, leads, ascends}

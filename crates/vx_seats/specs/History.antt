@@ -1,5 +1,5 @@
 -- The history of writes, and the pairs that may be written.
-use Rattle.std.specs.Prelude.{◌≡◌, ℕ, ◌+◌, ◌==◌, Bool, true, false, cond, ◌&&◌, List, [], ◌∷◌, map, Option, Some, None}
+use Rattle.std.specs.Prelude.{ℕ, ◌+◌, ◌==◌, Bool, true, false, cond, ◌&&◌, List, [], ◌∷◌, map, Option, Some, None}
 use Rattle.std.specs.Prelude.{is_some, unwrap_or}
 use Rattle.vx_path.specs.Path.{path_le, path_lt}
 use Rattle.vx_order_answer.specs.declared.receipt.Receipt.{Receipt}

@@ -1,5 +1,5 @@
 -- What a try to write answers.
-use Rattle.std.specs.Prelude.{◌≡◌, ℕ, ◌+◌, ◌^◌, ◌<◌, ◌≤◌, ◌⊎◌, Bool, true, false, List, [], ◌∷◌, ◌++◌, Option, Some, None, IsTrue, Result, Ok, Err}
+use Rattle.std.specs.Prelude.{◌≡◌, ℕ, ◌+◌, ◌^◌, ◌<◌, ◌≤◌, ◌⊎◌, Bool, false, List, [], ◌∷◌, ◌++◌, Option, Some, None, IsTrue, Result, Ok, Err}
 use Rattle.vx_path.specs.Path.{path_le, path_lt}
 use Rattle.vx_fault.specs.Faults.{Called}
 use Rattle.vx_order_answer.specs.Refusal.{is_fault, is_stop}

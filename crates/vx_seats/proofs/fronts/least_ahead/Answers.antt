@@ -1,4 +1,4 @@
-use Rattle.std.proofs.Common.{◌≡◌, ◌+◌, ◌∙◌, sym, ap, subst, arith, length, Option, List, ℕ}
+use Rattle.std.proofs.Common.{◌+◌, ◌∙◌, sym, ap, subst, arith}
 use Rattle.std.specs.Option.{option_copied}
 use Rattle.vx_seats.specs.Fronts.{IsBest, NoneAhead}
 use Rattle.vx_seats.proofs.Ahead.{best_more, best_none, best_not_ahead, best_ahead, is_at, if_none}

@@ -1,4 +1,4 @@
-use Rattle.std.proofs.Common.{◌≡◌, List, ℕ, sym, subst}
+use Rattle.std.proofs.Common.{List, ℕ, sym, subst}
 use Rattle.vx_seats.specs.History.{paths}
 use Rattle.vx_seats.specs.Turns.{IsLast}
 use Rattle.vx_seats.proofs.History.{last_is}

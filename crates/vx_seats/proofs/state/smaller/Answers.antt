@@ -1,4 +1,4 @@
-use Rattle.std.proofs.Common.{◌≡◌, ◌∙◌, sym, rules}
+use Rattle.std.proofs.Common.{◌∙◌, sym}
 use Rattle.vx_seats.specs.History.{paths}
 use Rattle.vx_seats.proofs.History.{is_new}
 use Rattle.vx_seats.proofs.state.smaller.Goals as goal
