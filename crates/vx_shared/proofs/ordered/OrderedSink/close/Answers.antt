@@ -1,4 +1,4 @@
-use Rattle.std.proofs.Common.{◌≡◌, ◌∙◌, rules, arith, List, ℕ}
+use Rattle.std.proofs.Common.{◌∙◌}
 use Rattle.std.proofs.lemmas.List.{length-map}
 use Rattle.vx_order_answer.specs.declared.receipt.Receipt.{Receipt}
 use Rattle.vx_seats.specs.History.{paths}
