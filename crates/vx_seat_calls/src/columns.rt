@@ -1,6 +1,6 @@
 //! Two columns, each in a thread of its own.
 
-ghost use Rattle.std.specs.Prelude.{◌≡◌, ◌<◌, ℕ, [], ◌∷◌, Some, vec_len, IfSome};
+ghost use Rattle.std.specs.Prelude.{◌≡◌, ◌<◌, ℕ, [], ◌∷◌, Some, vec_len, ForSome};
 ghost use Rattle.vx_sequence.specs.Universe.{IsActive};
 ghost use Rattle.vx_seats.specs.History.{bytes_for};
 ghost use Rattle.vx_seats.specs.Turns.{NeverFails};
@@ -25,8 +25,8 @@ struct Worker<'a, S: SegmentSink, R: Wait, W: Ledger, F: Ledger, M: Ledger, N: L
     order: ColumnOrder<'a, S, R, W, F, M, N, P>,
     id: Option<SequenceId>,
     byte: u8,
-    ghost active: { IfSome id (λ i. IsActive order.universe i) },
-    ghost allowed: { IfSome id (λ i. bytes_for P.pairs i ≡ Some (byte ∷ [])) },
+    ghost active: { ForSome id (λ i. IsActive order.universe i) },
+    ghost allowed: { ForSome id (λ i. bytes_for P.pairs i ≡ Some (byte ∷ [])) },
 }
 
 /// Writes once, over any order, and tells whether it did.
@@ -120,8 +120,8 @@ fn in_threads<
     sink: S,
     fronts: Vec<Path>,
     blanks: (Blank, Blank, Blank, Blank),
-    mut one: (Universe, SequenceId),
-    mut two: (Universe, SequenceId),
+    one: (Universe, SequenceId),
+    two: (Universe, SequenceId),
 ) -> Result<(S, Vec<Receipt>), SeatError>
     requires columns { (vec_len fronts ≡ 2) × (P.columns ≡ 2) }
     requires writes { (blanks.0.name ≡ W.name) × (blanks.0.parts ≡ W.parts) × (W.parts ≡ 2) }
@@ -137,12 +137,46 @@ fn in_threads<
     let made = OrderedSink::<S, W, F, M, N, P>::new(
         sink, fronts, blanks.0, blanks.1, blanks.2, blanks.3,
     );
-    let (sink, mut seats) = match made {
+    let (sink, seats) = match made {
         Ok(made) => made,
         Err((_sink, error)) => {
-            one.1.release(&mut one.0);
-            two.1.release(&mut two.0);
+            give_up(one);
+            give_up(two);
             return Err(error);
+        }
+    };
+    let seats = side_by_side(rt, &sink, seats, one, two);
+    Ok(sink.close(seats))
+}
+
+/// The seats, once both columns are written.
+fn side_by_side<
+    'a,
+    S: SegmentSink + Send,
+    R: Threads + Wait + Sync,
+    W: Ledger + Send + Sync,
+    F: Ledger + Send + Sync,
+    M: Ledger + Send + Sync,
+    N: Ledger + Send + Sync,
+    P: Pairs + Send + Sync,
+>(
+    rt: &'a R,
+    sink: &'a OrderedSink<S, W, F, M, N, P>,
+    mut seats: Vec<Seat<W, F, M, N, P>>,
+    one: (Universe, SequenceId),
+    two: (Universe, SequenceId),
+) -> Vec<Seat<W, F, M, N, P>>
+    requires seats { vec_len seats ≡ 2 }
+    requires pairs { P.pairs ≡ beside }
+    requires one { (one.1 ≡ 0 ∷ []) × IsActive one.0 one.1 }
+    requires two { (two.1 ≡ 1 ∷ []) × IsActive two.0 two.1 }
+{
+    let mut workers = match Vec::with_capacity(*seats.allocator(), 2) {
+        Ok(workers) => workers,
+        Err(_) => {
+            give_up(one);
+            give_up(two);
+            return seats;
         }
     };
     let Some(second) = seats.pop() else {
@@ -151,15 +185,10 @@ fn in_threads<
     let Some(first) = seats.pop() else {
         unreachable!()
     };
-    let mut workers = [
-        hired(rt, &sink, first, one, 1),
-        hired(rt, &sink, second, two, 2),
-    ];
+    hire(&mut workers, hired(rt, sink, first, one, 1));
+    hire(&mut workers, hired(rt, sink, second, two, 2));
     run_each(rt, workers.as_mut_slice());
-    let [first, second] = workers;
-    put_back(&mut seats, first.into_seat());
-    put_back(&mut seats, second.into_seat());
-    Ok(sink.close(seats))
+    dismissed(workers, seats)
 }
 
 fn hired<'a, S: SegmentSink, R: Wait, W: Ledger, F: Ledger, M: Ledger, N: Ledger, P: Pairs>(
@@ -183,6 +212,36 @@ fn hired<'a, S: SegmentSink, R: Wait, W: Ledger, F: Ledger, M: Ledger, N: Ledger
         id: Some(id),
         byte,
     }
+}
+
+fn hire<'a, S: SegmentSink, R: Wait, W: Ledger, F: Ledger, M: Ledger, N: Ledger, P: Pairs>(
+    workers: &mut Vec<Worker<'a, S, R, W, F, M, N, P>>,
+    worker: Worker<'a, S, R, W, F, M, N, P>,
+) {
+    if let Err(failed) = workers.push(worker) {
+        failed.value.into_seat().spend();
+    }
+}
+
+/// The workers' seats, behind these.
+fn dismissed<'a, S: SegmentSink, R: Wait, W: Ledger, F: Ledger, M: Ledger, N: Ledger, P: Pairs>(
+    workers: Vec<Worker<'a, S, R, W, F, M, N, P>>,
+    seats: Vec<Seat<W, F, M, N, P>>,
+) -> Vec<Seat<W, F, M, N, P>> {
+    let mut workers = workers;
+    let mut seats = seats;
+    while let Some(worker) = workers.pop() {
+        put_back(&mut seats, worker.into_seat());
+    }
+    workers.destroy_empty();
+    seats
+}
+
+fn give_up(column: (Universe, SequenceId))
+    requires { IsActive column.0 column.1 }
+{
+    let (mut universe, id) = column;
+    id.release(&mut universe);
 }
 
 fn put_back<W: Ledger, F: Ledger, M: Ledger, N: Ledger, P: Pairs>(

@@ -1,4 +1,4 @@
-use Rattle.std.proofs.Common.{◌≡◌, ◌∙◌, sym}
+use Rattle.std.proofs.Common.{◌∙◌, sym}
 use Rattle.std.proofs.lemmas.Bool.{true≢false}
 use Rattle.vx_column_order.proofs.Smaller.{below}
 use Rattle.vx_column_order.proofs.column.smaller_path.Goals as goal
