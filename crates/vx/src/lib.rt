@@ -82,6 +82,14 @@ pub mod sink {
     pub use vx_table_compressor::TableCompressor;
 }
 
+/// What columns share that are written by a thread each: the sink under its lock, a seat for each column, the order of
+/// a column, and the count of the bytes that workers hold. No call writes columns on threads yet.
+pub mod threads {
+    pub use vx_column_order::ColumnOrder;
+    pub use vx_seats::{Pairs, Seat, SeatError, SinkState, Turn};
+    pub use vx_shared::{BytesSeat, OrderedSink, SharedBytesTracker};
+}
+
 /// Bloom filters, their options, and the hash that they store.
 pub mod bloom {
     pub use vx_bloom::{BlockCount, BloomFilter, BloomPartial, PartialError, Unsupported};
