@@ -64,7 +64,5 @@ fn map_of(
         None => rows,
     };
     let column = dtype.clone()?;
-    Ok(ZoneMap::try_new(
-        alloc, column, table, aggregates, zone_len, row_count,
-    )?)
+    Ok(ZoneMap::try_new(alloc, column, table, aggregates, zone_len, row_count)?)
 }

@@ -59,10 +59,7 @@ fn push_zone(
     ensures { OnOk result ((gathered builder.new).columns ≡ (gathered builder.old).columns) }
 {
     let zone = read_zone(alloc, dtype, aggregates, batch)?;
-    let Told {
-        rows: more,
-        values,
-    } = zone;
+    let Told { rows: more, values } = zone;
     builder.push(values)?;
     Ok(rows.saturating_add(more))
 }
