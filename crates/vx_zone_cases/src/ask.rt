@@ -1,5 +1,6 @@
 //! Predicates, and what a zone map answers.
 
+use crate::given::items_in;
 use anyhow::{Context, bail};
 use serde_json::Value as Json;
 use std::alloc::{AllocError, Global};
@@ -11,8 +12,9 @@ pub(crate) fn answers(
     alloc: Global,
     name: &str,
     map: &ZoneMap,
-    asked: &[Json],
+    object: &Json,
 ) -> anyhow::Result<String> {
+    let asked = items_in(object, "ask")?;
     let mut out = String::new(alloc);
     for i in 0..asked.len() {
         write!(out, "{name} {i}: ")?;

@@ -1,7 +1,7 @@
 //! Zone maps.
 
 use crate::ask::answers;
-use crate::given::{aggregates_in, dtype_in, items_in, number_in};
+use crate::given::{aggregates_in, dtype_in, number_in};
 use anyhow::Context;
 use serde_json::Value as Json;
 use std::alloc::Global;
@@ -42,7 +42,7 @@ pub(crate) fn asked(
 ) -> anyhow::Result<String> {
     match map_of(alloc, object, dtype, table, aggregates, rows) {
         Ok(map) => {
-            let told = answers(alloc, name, &map, items_in(object, "ask")?);
+            let told = answers(alloc, name, &map, object);
             drop(map);
             told
         }

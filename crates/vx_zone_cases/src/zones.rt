@@ -21,7 +21,7 @@ use vx_zone_table::ZoneTableBuilder;
 
 /// A zone's rows and its record.
 #[derive(Drop)]
-struct Told {
+struct BatchRecord {
     rows: u64,
     values: Vec<Value>,
 }
@@ -59,7 +59,7 @@ fn push_zone(
     ensures { OnOk result ((gathered builder.new).columns ≡ (gathered builder.old).columns) }
 {
     let zone = read_zone(alloc, dtype, aggregates, batch)?;
-    let Told { rows: more, values } = zone;
+    let BatchRecord { rows: more, values } = zone;
     builder.push(values)?;
     Ok(rows.saturating_add(more))
 }
@@ -69,7 +69,7 @@ fn read_zone(
     dtype: &DType,
     aggregates: &[AggregateFn],
     batch: &Json,
-) -> anyhow::Result<Told>
+) -> anyhow::Result<BatchRecord>
     ensures { IfOk result (λ z. IsTrue (record_fits (columns_held (map aggregate_of aggregates.now) (ty dtype.now)) (map val z.values.items))) }
 {
     let chunk = read_batch(alloc, dtype, batch)?;
@@ -84,7 +84,7 @@ fn zone_of(
     dtype: &DType,
     aggregates: &[AggregateFn],
     cells: &[Cell],
-) -> anyhow::Result<Told>
+) -> anyhow::Result<BatchRecord>
     ensures { IfOk result (λ z. IsTrue (record_fits (columns_held (map aggregate_of aggregates.now) (ty dtype.now)) (map val z.values.items))) }
 {
     if !fits(dtype, cells) {
@@ -93,5 +93,5 @@ fn zone_of(
     let held = held_aggregates(alloc, aggregates, dtype)?;
     let values = cells_record(alloc, &held, dtype, cells)?;
     let rows = cells.len() as u64;
-    Ok(Told { rows, values })
+    Ok(BatchRecord { rows, values })
 }
