@@ -161,7 +161,8 @@ unheard s w t m batches heard next schedule steps e h is = absurd (let f : false
 
 -- and behind as many answers as batches were taken
 answers_before : (taken : List ChunkData) (heard : Bool) (steps : List Step) (e : WriteError) → AskedInSteps taken heard steps e → heard ≡ false → IsTrue (is_source_fault e) → reads_in steps + misfits e ≡ length taken
-answers_before taken heard steps errors.SourceFault (inl h) still is = let none : (if heard then 1 else 0) ≡ 0 = ap (λ (b : Bool). if b then 1 else 0) still in omega (arith, h, none)
+answers_before taken true steps errors.SourceFault (inl h) still is = absurd (let f : true ≡ false = still in cc)
+answers_before taken false steps errors.SourceFault (inl h) still is = omega (arith, h)
 answers_before taken heard steps errors.SourceFault (inr h) still is = absurd h.0
 answers_before taken heard steps e h still is = absurd (let f : false ≡ true = is in cc)
 
