@@ -1,6 +1,7 @@
 //! Two columns, each in a thread of its own.
 
-ghost use Rattle.std.specs.Prelude.{◌≡◌, ◌<◌, ℕ, [], ◌∷◌, Some, vec_len, ForSome};
+ghost use Rattle.std.specs.Prelude.{◌≡◌, ◌<◌, ℕ, [], ◌∷◌, Some, vec_len};
+ghost use Rattle.std.specs.Option.{ForSome};
 ghost use Rattle.vx_sequence.specs.Universe.{IsActive};
 ghost use Rattle.vx_seats.specs.History.{bytes_for};
 ghost use Rattle.vx_seats.specs.Turns.{NeverFails};
