@@ -9,7 +9,3 @@ pair_at p b = record { path = p; bytes = b ∷ [] }
 -- in turns
 abbrev pub in_turns : List Pair
 in_turns = pair_at (0 ∷ 0 ∷ 0 ∷ []) 1 ∷ pair_at (0 ∷ 0 ∷ 1 ∷ []) 2 ∷ pair_at (0 ∷ 1 ∷ 1 ∷ []) 3 ∷ []
-
--- side by side
-abbrev pub beside : List Pair
-beside = pair_at (0 ∷ []) 1 ∷ pair_at (1 ∷ []) 2 ∷ []
