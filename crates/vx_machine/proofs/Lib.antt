@@ -11,3 +11,4 @@ pub mod HeldViews
 pub mod StepShows
 pub mod RunCalls
 pub mod RunSteps
+pub mod BuiltSteps

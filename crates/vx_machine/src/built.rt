@@ -4,9 +4,10 @@ ghost use Rattle.std.specs.Prelude.{◌≡◌};
 ghost use Rattle.vx_strategy.specs.FieldWays.{field_ways};
 ghost use Rattle.vx_strategy.specs.PathWays.{path_ways};
 ghost use Rattle.vx_strategy.specs.StrategyView.{strategy_data};
-ghost use Rattle.vx_machine_view.specs.Built.{is_built, are_built};
+ghost use Rattle.vx_strategy.specs.WrapViews.{wraps};
+ghost use Rattle.vx_machine_view.specs.Built.{is_built, are_built, wraps_built};
 
-use vx_strategy::{FieldWriter, PathWriter, Strategy};
+use vx_strategy::{FieldWriter, Overrides, PathWriter, Strategy, Wrapper};
 
 /// Whether the strategy names only nodes that are built.
 #[cycle(built)]
@@ -32,8 +33,8 @@ pub fn is_built(strategy: &Strategy) -> bool
         Strategy::Table(table) => {
             let validity = is_built(table.validity.strategy());
             let leaf = is_built(table.leaf.strategy());
-            let overrides = all_built(&table.overrides.list);
-            let wrappers = table.wrappers.is_empty();
+            let overrides = overrides_built(&table.overrides);
+            let wrappers = wrappers_built(&table.wrappers);
             validity && (leaf && (overrides && wrappers))
         }
         Strategy::Dict(_) | Strategy::Zoned(_) | Strategy::Repartition(_) => false,
@@ -55,14 +56,29 @@ fn are_built(writers: &[FieldWriter]) -> bool
 }
 
 #[cycle(built)]
-fn all_built(overrides: &[PathWriter]) -> bool
-    ensures { result ≡ are_built (path_ways overrides.now) }
+#[tactic(auto, using(vx_strategy::specs::AdmittedStrategy::item_overrides))]
+fn overrides_built(overrides: &Overrides) -> bool
+    ensures { result ≡ are_built overrides.now.item }
 {
-    'overrides: for one in overrides {
-        let built = is_built(one.writer.strategy());
+    paths_built(&overrides.list)
+}
+
+#[cycle(built)]
+fn paths_built(writers: &[PathWriter]) -> bool
+    ensures { result ≡ are_built (path_ways writers.now) }
+{
+    'writers: for writer in writers {
+        let built = is_built(writer.writer.strategy());
         if !built {
             return false;
         }
     }
     true
+}
+
+/// No wrapper is built so far.
+fn wrappers_built(wrappers: &[Wrapper]) -> bool
+    ensures { result ≡ wraps_built (wraps wrappers.now) }
+{
+    wrappers.is_empty()
 }

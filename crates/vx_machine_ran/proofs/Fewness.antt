@@ -1,13 +1,13 @@
 -- A step appends one pair at most, and then it isn't refused.
 use Rattle.std.proofs.Common.{◌≡◌, ◌⊎◌, ◌&&◌, ◌==◌, ◌∷◌, ◌++◌, ℕ, Bool, true, false, cond, List, map, refl, sym, subst, inl, inr, Some, None, Option, []}
-use Rattle.vx_model.specs.Ty.{Ty}
+use Rattle.vx_model.specs.Ty.{Ty, list}
 use Rattle.vx_path.specs.Lists.{In}
 use Rattle.vx_path.proofs.Lists.{in_cases, from_map}
 use Rattle.vx_tasks.specs.Run.{nth}
 use Rattle.vx_plan.specs.PlanData.{Setting, Item, Pair, What}
 use Rattle.vx_machine_promises.specs.Write.{Answer, unasked, came, over}
-use Rattle.vx_machine_view.specs.State.{Next, put, append, shut_kids, join_kids, Mind, no_chunk, one_chunk, by_chunk, by_column, ending, made, Desk, Tasks, no_tasks, task_then}
-use Rattle.vx_machine_view.specs.Acts.{count, column_count, take_chunk, end_columns, take_end, do_take, do_act}
+use Rattle.vx_machine_view.specs.State.{Next, put, append, shut_kids, join_kids, Mind, no_chunk, one_chunk, by_chunk, by_column, by_list, ending, made, Desk, Tasks, no_tasks, task_then}
+use Rattle.vx_machine_view.specs.Acts.{count, column_count, take_chunk, end_columns, end_lists, take_end, do_take, do_act}
 use Rattle.vx_machine_view.specs.Moves.{Step, may_act, own_step, in_kids, in_rest, steps}
 use Rattle.vx_machine_view.specs.Machine.{Phase, reading, giving, closing, finished, Machine, may_source, WholeStep, source_step, in_root, whole_steps}
 use Rattle.vx_machine_runs.proofs.Misfits.{at_place}
@@ -20,11 +20,16 @@ module _ (s : Setting) (next : ℕ) where
   columns_few true t rows c ks = inl refl
   columns_few false t rows c ks = inl refl
 
+  lists_few : (b : Bool) (t : Ty) (rows : ℕ) (c : Desk) (ks : Tasks) → Few (end_lists b t rows c ks).wrote (end_lists b t rows c ks).refusal
+  lists_few true t rows c ks = inl refl
+  lists_few false t rows c ks = inl refl
+
   end_few : (c : Desk) (ks : Tasks) (mind : Mind) → Few (take_end c ks mind).wrote (take_end c ks mind).refusal
   end_few c ks (no_chunk o t) = inl refl
   end_few c ks (one_chunk x) = inl refl
   end_few c ks (by_chunk m t f e rows) = inl refl
   end_few c ks (by_column t rows) = columns_few ((count ks == 0) && (0 == column_count t)) t rows c ks
+  end_few c ks (by_list t n first from rows) = lists_few first (list t n) rows c ks
   end_few c ks ending = inl refl
   end_few c ks (made l) = inl refl
 
@@ -33,6 +38,7 @@ module _ (s : Setting) (next : ℕ) where
   take_few c ks i xs (one_chunk x) = inl refl
   take_few c ks i xs (by_chunk m t f e rows) = inl refl
   take_few c ks i xs (by_column t rows) = inl refl
+  take_few c ks i xs (by_list t n first from rows) = inl refl
   take_few c ks i xs ending = inl refl
   take_few c ks i xs (made l) = inl refl
 

@@ -7,7 +7,7 @@ use Rattle.vx_machine_ids.specs.Stock.{Stock, none, both, all_stock}
 use Rattle.vx_machine_tasks.specs.Stocks.{local_stock, dues_stock, items_stock, task_stock, tasks_stock}
 use Rattle.vx_machine_tasks.specs.Ready.{is_made, is_done}
 use Rattle.vx_machine_tasks.specs.declared.node.Local.{Local}
-use Rattle.vx_machine_tasks.specs.declared.node.Local.TheVariants.{Empty, Full, Chunked, Columns, Over, Made}
+use Rattle.vx_machine_tasks.specs.declared.node.Local.TheVariants.{Empty, Full, Chunked, Columns, Lists, Over, Made}
 use Rattle.vx_machine_tasks.specs.declared.task.Task.{Task, out-Task}
 use Rattle.vx_machine_tasks.proofs.TaskParts.{task_stock_out}
 use Rattle.vx_machine_tasks.proofs.Readiness.{none_is}
@@ -18,6 +18,7 @@ made_none (Empty n) h = refl
 made_none (Full s) h = absurd (true≢false (sym h))
 made_none (Chunked n eof rows) h = absurd (true≢false (sym h))
 made_none (Columns n rows) h = refl
+made_none (Lists n rows) h = refl
 made_none Over h = refl
 
 pub made_is : (l : Local) → is_made l ≡ true → (x : Layout) × (l ≡ Made x)
@@ -26,6 +27,7 @@ made_is (Empty n) h = absurd (true≢false (sym h))
 made_is (Full s) h = absurd (true≢false (sym h))
 made_is (Chunked n eof rows) h = absurd (true≢false (sym h))
 made_is (Columns n rows) h = absurd (true≢false (sym h))
+made_is (Lists n rows) h = absurd (true≢false (sym h))
 made_is Over h = absurd (true≢false (sym h))
 
 -- the parts of a task that has done all

@@ -1,14 +1,16 @@
 -- Layouts that are joined aren't refused, and what is made of them.
-use Rattle.std.proofs.Common.{◌≡◌, ◌≢◌, ℕ, ◌==◌, ◌^◌, ◌≤◌, true, List, [], ◌∷◌, ◌++◌, length, vec_len, map, Result, Ok, IfOk, IfErr, Vec, Global, refl, sym, ap, subst, ◌∙◌, inl, inr, arith, length-append, eqb-true, eq-eqb}
+use Rattle.std.proofs.Common.{◌≡◌, ◌≢◌, ℕ, ◌+◌, ◌==◌, ◌^◌, ◌≤◌, true, List, [], ◌∷◌, ◌++◌, length, vec_len, map, Result, Ok, IfOk, IfErr, Vec, Global, refl, sym, ap, subst, ◌∙◌, inl, inr, arith, length-append, eqb-true, eq-eqb}
+use Rattle.std.proofs.lemmas.Bool.{true≢false}
 use Rattle.std.proofs.lemmas.List.{length-map}
 use Rattle.std.specs.Arc.{arc_value}
 use Rattle.std.specs.declared.sync.Arc.{Arc}
 use Rattle.vx_model.specs.Words.{total_by}
-use Rattle.vx_model.specs.Ty.{Ty, is_struct}
+use Rattle.vx_model.specs.Ty.{Ty, boolean, primitive, utf8, binary, list, struct, extension, is_struct, is_list, nullable}
 use Rattle.vx_layout_spec.specs.Refusal.{Refusal}
-use Rattle.vx_layout_spec.specs.LayoutTree.{LayoutData, row_count, chunked_layout, gathered, struct_layout}
+use Rattle.vx_layout_spec.specs.LayoutTree.{LayoutData, layout, list_kind, lays_of, row_count, chunked_layout, gathered, struct_layout, list_layout}
 use Rattle.vx_model.specs.TyView.{ty}
 use Rattle.vx_model.specs.declared.dtype.DType.{DType}
+use Rattle.vx_model.specs.declared.segment.SegmentId.{SegmentId}
 use Rattle.vx_session.specs.Made.{kid_rows}
 use Rattle.vx_layout_tree.specs.declared.error.LayoutError.{LayoutError}
 use Rattle.vx_layout_tree.specs.declared.error.LayoutError.TheVariants as errors
@@ -16,15 +18,16 @@ use Rattle.vx_layout_tree.specs.declared.layout.Layout.{Layout}
 use Rattle.vx_layout_tree.specs.declared.layout.Layout.TheVariants as layouts
 use Rattle.vx_layout_tree.specs.declared.children.LayoutChildren.{LayoutChildren}
 use Rattle.vx_layout_tree.specs.declared.children.LayoutChildren.TheVariants as children
-use Rattle.vx_layout_tree.specs.LayoutView.{layout_data}
+use Rattle.vx_layout_tree.specs.LayoutView.{layout_data, number, seen_layout}
 use Rattle.vx_layout_tree.specs.KidsView.{layout_kids, chunks}
-use Rattle.vx_layout_tree.specs.Made.{make_chunked, make_struct, struct_children}
+use Rattle.vx_layout_tree.specs.Made.{make_chunked, make_struct, struct_children, validity_count}
 use Rattle.vx_layout_tree.specs.Views.{Fails}
 use Rattle.vx_layout_tree.proofs.KidSteps.{chunk_sum}
-use Rattle.vx_machine_view.specs.Acts.{folded, joined_rows}
+use Rattle.vx_machine_view.specs.Acts.{column_count, columns_layout, folded, joined_rows}
 use Rattle.vx_write_answer.specs.declared.error.WriteError.{WriteError}
 use Rattle.vx_write_answer.specs.declared.error.WriteError.TheVariants.{TooLarge, OutOfMemory}
 use Rattle.vx_machine_tasks.specs.declared.kinds.ColumnsNode.{ColumnsNode}
+use Rattle.vx_machine_tasks.specs.declared.kinds.ListsNode.{ListsNode}
 use Rattle.vx_machine_tasks.specs.declared.node.Shape.{Shape}
 use Rattle.vx_machine_tasks.specs.declared.node.Shape.TheVariants as shapes
 use Rattle.vx_machine_tasks.specs.Acting.{JoinRefused}
@@ -111,6 +114,46 @@ columns_made t u n v x is s k h =
     let e : x ≡ struct_layout u n ls = cc in
     e
 
+-- ---- of lists
+
+-- how many columns, as those who keep layouts count them
+pub list_count : (t : Ty) → is_list t ≡ true → column_count t ≡ 2 + validity_count t
+list_count (list t true) h = refl
+list_count (list t false) h = refl
+list_count (boolean n) h = absurd (true≢false (sym h))
+list_count (primitive p n) h = absurd (true≢false (sym h))
+list_count (utf8 n) h = absurd (true≢false (sym h))
+list_count (binary n) h = absurd (true≢false (sym h))
+list_count (struct fs n) h = absurd (true≢false (sym h))
+list_count (extension tag t) h = absurd (true≢false (sym h))
+
+pub lists_join : (t u : Ty) (v : Vec Layout Global) → t ≡ u → is_list u ≡ true → (vec_len v == column_count u) ≡ true → length v.items ≡ 2 + validity_count t
+lists_join t u v is l k = sym v.ok.0 ∙ eqb-true (vec_len v) (column_count u) k ∙ list_count u l ∙ ap (λ z. 2 + validity_count z) (sym is)
+
+pub lists_made : (d : DType) (u : Ty) (n : ℕ) (segments : Vec SegmentId Global) (v : Vec Layout Global) (x : Layout) → ty d ≡ u → segments.items ≡ []
+    → layout_data x ≡ seen_layout list_kind d n segments (map layout_data v.items) → layout_data x ≡ list_layout u n (map layout_data v.items)
+lists_made d u n segments v x is none h = h ∙ (λ j. layout list_kind (is j) n (map number (none j)) (lays_of (map layout_data v.items)))
+
+-- by the type
+
+struct_is : (t : Ty) (n : ℕ) (ls : List (LayoutData ℕ)) → is_struct t ≡ true → columns_layout t n ls ≡ struct_layout t n ls
+struct_is (struct fs b) n ls h = refl
+struct_is (boolean b) n ls h = refl
+struct_is (primitive p b) n ls h = refl
+struct_is (utf8 b) n ls h = refl
+struct_is (binary b) n ls h = refl
+struct_is (list t b) n ls h = absurd (true≢false (sym h))
+struct_is (extension tag t) n ls h = refl
+
+list_is : (t : Ty) (n : ℕ) (ls : List (LayoutData ℕ)) → is_list t ≡ true → columns_layout t n ls ≡ list_layout t n ls
+list_is (list t b) n ls h = refl
+list_is (boolean b) n ls h = absurd (true≢false (sym h))
+list_is (primitive p b) n ls h = absurd (true≢false (sym h))
+list_is (utf8 b) n ls h = absurd (true≢false (sym h))
+list_is (binary b) n ls h = absurd (true≢false (sym h))
+list_is (struct fs b) n ls h = absurd (true≢false (sym h))
+list_is (extension tag t) n ls h = absurd (true≢false (sym h))
+
 -- their rows are too many
 pub rows_past : (t : Ty) (n : ℕ) (c : LayoutChildren) (v : Vec Layout Global) → c ≡ children.Owned v → n ≡ total_by kid_rows (layout_kids c) → 2 ^ 64 ≤ n
     → JoinRefused (total_by row_count (map layout_data v.items) ∷ []) (TooLarge n)
@@ -133,7 +176,13 @@ pub shape_columns : (h : Shape) (n : ColumnsNode) (rows : ℕ) (ls all : List (L
     → IfOk r (λ l. layout_data l ≡ struct_layout (ty (arc_value n.dtype)) rows ls) → IfOk r (λ l. layout_data l ≡ folded (fold_of h) all)
 shape_columns h n rows ls all r a e k =
     subst (λ z. IfOk r (λ l. layout_data l ≡ folded (fold_of z) all)) (sym a)
-    (subst (λ z. IfOk r (λ l. layout_data l ≡ struct_layout (ty (arc_value n.dtype)) rows z)) e k)
+    (subst (λ z. IfOk r (λ l. layout_data l ≡ z)) (ap (struct_layout (ty (arc_value n.dtype)) rows) e ∙ sym (struct_is (ty (arc_value n.dtype)) rows all n.structs)) k)
+
+pub shape_lists : (h : Shape) (n : ListsNode) (rows : ℕ) (ls all : List (LayoutData ℕ)) (r : Result Layout WriteError) → h ≡ shapes.Lists n rows → ls ≡ all
+    → IfOk r (λ l. layout_data l ≡ list_layout (ty (arc_value n.dtype)) rows ls) → IfOk r (λ l. layout_data l ≡ folded (fold_of h) all)
+shape_lists h n rows ls all r a e k =
+    subst (λ z. IfOk r (λ l. layout_data l ≡ folded (fold_of z) all)) (sym a)
+    (subst (λ z. IfOk r (λ l. layout_data l ≡ z)) (ap (list_layout (ty (arc_value n.dtype)) rows) e ∙ sym (list_is (ty (arc_value n.dtype)) rows all n.lists)) k)
 
 pub columns_refused : (ns : List ℕ) (r : Result Layout WriteError) → IfErr r (λ e. e ≡ OutOfMemory) → IfErr r (JoinRefused ns)
 columns_refused ns r h = memory_only (JoinRefused ns) r tt h

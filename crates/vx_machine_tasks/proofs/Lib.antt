@@ -20,6 +20,7 @@ pub mod StartShows
 pub mod RefusalSteps
 pub mod RowSteps
 pub mod SplitSteps
+pub mod ListSteps
 pub mod PutSteps
 pub mod ActShows
 pub mod TakeShows

@@ -13,20 +13,19 @@ use Rattle.vx_machine_view.specs.Acts.{Did, now, do_take, do_act}
 use Rattle.vx_write_answer.specs.declared.step.ActionKind.{ActionKind}
 use Rattle.vx_write_answer.specs.declared.step.ActionKind.TheVariants as actions
 use Rattle.vx_write_answer.specs.declared.error.WriteError.{WriteError}
-use Rattle.vx_write_answer.specs.declared.error.WriteError.TheVariants.{OutOfMemory}
 use Rattle.vx_machine_tasks.specs.declared.item.Due.{Due}
 use Rattle.vx_machine_tasks.specs.declared.item.Item.{Item}
 use Rattle.vx_machine_tasks.specs.declared.node.Local.{Local}
 use Rattle.vx_machine_tasks.specs.declared.task.Head.{Head}
 use Rattle.vx_machine_tasks.specs.declared.task.Task.{Task}
-use Rattle.vx_machine_tasks.specs.Acting.{ActRefused, DueDone, DueRefused, TakeRefused, ChunkTaken, ChunkRefused, EndTaken, TakeDone, NextTaken, NextUntaken, Acted, NextDone, NextRefused}
+use Rattle.vx_machine_tasks.specs.Acting.{ActRefused, DueDone, DueRefused, TakeRefused, ChunkTaken, ChunkRefused, EndTaken, EndRefused, TakeDone, NextTaken, NextUntaken, Acted, NextDone, NextRefused}
 use Rattle.vx_machine_tasks.specs.Context.{setting_of}
 use Rattle.vx_machine_tasks.specs.Ready.{Kid, is_over, may_now}
 use Rattle.vx_machine_tasks.specs.View.{item_of, items_of, next_of, todo_of, mind_of, desk_of, row}
 use Rattle.vx_machine_tasks.proofs.ActShows.{act_shows, act_refused}
 use Rattle.vx_machine_tasks.proofs.Readiness.{may_none}
 use Rattle.vx_machine_tasks.proofs.RefusalSteps.{any_past}
-use Rattle.vx_machine_tasks.proofs.TakeShows.{took_shows, took_refused, ended_shows, take_acts}
+use Rattle.vx_machine_tasks.proofs.TakeShows.{took_shows, took_refused, ended_shows, end_fails, take_acts}
 use Rattle.vx_machine_tasks.proofs.ViewParts.{count_row}
 
 -- ---- from the queue
@@ -58,10 +57,10 @@ module _ {A : Type 0} (ctx : LayoutWriterContext) (h : Head) (ks : List Task) wh
         (ap todo_of idle) (f (row ks) (count_row ks ∙ sym same)))
     end_done e m todo n (Err x) same idle d f = tt
 
-  -- memory may run out
-  pub end_refused : (r : Result A WriteError) → IfErr r (λ e. e ≡ OutOfMemory) → IfErr r (NextUntaken ctx h ks)
-  end_refused (Ok x) k = tt
-  end_refused (Err e) k = λ image. subst (λ z. TakeRefused (Takes ctx h ks h.inbox.items image) z) (sym k) tt
+    pub end_refused : (n : ℕ) (r : Result A WriteError) → n ≡ length ks → IfErr r (EndRefused h.local n) → IfErr r (NextUntaken ctx h ks)
+    end_refused n (Ok x) same f = tt
+    end_refused n (Err e) same f = λ image.
+        subst (λ xs. TakeRefused (Takes ctx h ks xs image) e) (sym (is ∙ none)) (end_fails (desk_of h) (row ks) e (mind_of h.local) (f (row ks) (count_row ks ∙ sym same)))
 
 -- ---- of a block
 

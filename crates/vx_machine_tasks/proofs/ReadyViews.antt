@@ -1,12 +1,13 @@
 -- Which tasks are ready, and how many, and when one has done all: as tasks in plain data tell it.
 use Rattle.std.proofs.Common.{◌≡◌, ℕ, zero, suc, ◌+◌, ◌-◌, ◌<◌, ◌≤◌, ◌&&◌, ◌||◌, ◌==◌, not, nat_lt, Bool, true, false, List, [], ◌∷◌, ◌++◌, map, length, vec_len, refl, sym, ap, ◌∙◌, arith}
+use Rattle.std.specs.Prelude.{if◌then◌else◌}
 use Rattle.std.specs.Arc.{arc_value}
 use Rattle.std.specs.FinMap as fin
 use Rattle.std.specs.VecDeque.{deque_len}
 use Rattle.std.proofs.lemmas.Bool.{true≢false}
 use Rattle.std.proofs.lemmas.Bool.Decides.{nat_tests}
 use Rattle.std.proofs.lemmas.List.{length-map}
-use Rattle.vx_model.specs.Ty.{Ty, boolean, primitive, utf8, binary, list, struct, extension, is_struct}
+use Rattle.vx_model.specs.Ty.{Ty, boolean, primitive, utf8, binary, list, struct, extension, is_struct, is_list, nullable}
 use Rattle.vx_model.specs.TyView.{ty}
 use Rattle.vx_sequence.specs.Universe.{Active}
 use Rattle.vx_layout_tree.specs.declared.layout.Layout.{Layout}
@@ -22,7 +23,7 @@ use Rattle.vx_machine_tasks.specs.declared.item.Item.{Item}
 use Rattle.vx_machine_tasks.specs.declared.item.Due.{Due}
 use Rattle.vx_machine_tasks.specs.declared.item.Due.TheVariants.{Put, Append, Close, Join}
 use Rattle.vx_machine_tasks.specs.declared.node.Local.{Local}
-use Rattle.vx_machine_tasks.specs.declared.node.Local.TheVariants.{Empty, Full, Chunked, Columns, Over, Made}
+use Rattle.vx_machine_tasks.specs.declared.node.Local.TheVariants.{Empty, Full, Chunked, Columns, Lists, Over, Made}
 use Rattle.vx_machine_tasks.specs.declared.node.Shape.{Shape}
 use Rattle.vx_machine_tasks.specs.declared.node.Shape.TheVariants as shapes
 use Rattle.vx_machine_tasks.specs.declared.task.Head.{Head}
@@ -42,6 +43,7 @@ made_view (Empty n) = refl
 made_view (Full s) = refl
 made_view (Chunked n eof rows) = refl
 made_view (Columns n rows) = refl
+made_view (Lists n rows) = refl
 made_view Over = refl
 
 over_view : (l : Local) → is_over l ≡ moves.is_over (mind_of l)
@@ -50,6 +52,7 @@ over_view (Empty n) = refl
 over_view (Full s) = refl
 over_view (Chunked n eof rows) = refl
 over_view (Columns n rows) = refl
+over_view (Lists n rows) = refl
 over_view Over = refl
 
 pub room_view : (i : ℕ) (ks : List Task) → room_at i (kids_of ks) ≡ moves.has_room i (row ks)
@@ -73,10 +76,21 @@ columns_view (binary b) n h = absurd (true≢false (sym h))
 columns_view (list t b) n h = absurd (true≢false (sym h))
 columns_view (extension tag t) n h = absurd (true≢false (sym h))
 
+-- of a list the columns are counted by its validity
+pub lists_count : (t : Ty) → is_list t ≡ true → (if nullable t then 3 else 2) ≡ column_count t
+lists_count (list t b) h = refl
+lists_count (boolean b) h = absurd (true≢false (sym h))
+lists_count (primitive p b) h = absurd (true≢false (sym h))
+lists_count (utf8 b) h = absurd (true≢false (sym h))
+lists_count (binary b) h = absurd (true≢false (sym h))
+lists_count (struct fs b) h = absurd (true≢false (sym h))
+lists_count (extension tag t) h = absurd (true≢false (sym h))
+
 fold_view : (f : Shape) (ks : List Task) → can_join f (length (kids_of ks)) ≡ moves.can_fold (fold_of f) (count (row ks))
 fold_view (shapes.Chunks t) ks = refl
 fold_view (shapes.Columns n rows) ks =
     ap (λ k. k == struct_children (ty (arc_value n.dtype))) (length-map ks kid_of ∙ sym (count_row ks)) ∙ columns_view (ty (arc_value n.dtype)) (count (row ks)) n.structs
+fold_view (shapes.Lists n rows) ks = ap (λ k. k == column_count (ty (arc_value n.dtype))) (length-map ks kid_of ∙ sym (count_row ks))
 
 due_view : (u : Active) (d : Due) (ks : List Task) → may_due u d (kids_of ks) ≡ moves.may_next (fin.keys u) (row ks) (next_of d)
 due_view u (Put c i) ks = room_view c ks

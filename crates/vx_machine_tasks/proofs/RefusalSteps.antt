@@ -1,12 +1,13 @@
 -- Refusals that say more, as those that say less.
-use Rattle.std.proofs.Common.{◌≡◌, ◌^◌, ◌≤◌, ℕ, Bool, true, false, List, [], ◌∷◌, Option, Some, None, Result, IfErr, refl, sym, subst, inl, inr, ⊎_elim, arith}
+use Rattle.std.proofs.Common.{◌≡◌, ◌^◌, ◌≤◌, ℕ, suc, Bool, true, false, List, [], ◌∷◌, Option, Some, None, Result, IfErr, refl, sym, subst, inl, inr, ⊎_elim, arith}
 use Rattle.std.proofs.lemmas.Result.{IfErr-weaker}
 use Rattle.std.proofs.lemmas.Bool.{true≢false}
 use Rattle.vx_path.specs.Lists.{In}
-use Rattle.vx_plan.specs.PlanData.{Pair, What, not_struct, duplicate_field, many_chunks, forbidden_encoding}
+use Rattle.vx_path.proofs.Lists.{in_left}
+use Rattle.vx_plan.specs.PlanData.{Pair, What, not_struct, duplicate_field, many_chunks, empty_list, forbidden_encoding}
 use Rattle.vx_write_answer.specs.declared.error.WriteError.{WriteError}
 use Rattle.vx_write_answer.specs.declared.error.WriteError.TheVariants.{SourceFault, SinkFault, CompressFault, BatchType, NotStruct, DuplicateField, ManyChunks, EmptyList, ZoneCut, ForbiddenAggregate, ForbiddenEncoding, TooLarge, OutOfMemory, Unbuilt, Stopped}
-use Rattle.vx_machine_tasks.specs.Acting.{JoinRefused, SplitRefused}
+use Rattle.vx_machine_tasks.specs.Acting.{JoinRefused, SplitRefused, ListRefused}
 use Rattle.vx_machine_tasks.specs.Causes.{MayCome}
 use Rattle.vx_machine_tasks.specs.Outcome.{Past, Refused, none_past}
 
@@ -25,7 +26,7 @@ module _ (w : List Pair) (hs : List ℕ) (r q : Option What) (b c : Bool) (ns ms
   wider NotStruct h = word not_struct h
   wider (DuplicateField a) h = word (duplicate_field a) h
   wider ManyChunks h = word many_chunks h
-  wider EmptyList h = h
+  wider EmptyList h = word empty_list h
   wider (ZoneCut n) h = h
   wider (ForbiddenAggregate id) h = h
   wider (ForbiddenEncoding id) h = word (forbidden_encoding id) h
@@ -59,6 +60,24 @@ by_rows q c rows is = wider [] [] None q false c (rows ∷ []) (rows ∷ []) [] 
 pub rows_large : (b : Bool) (rows n : ℕ) → n ≡ rows → 2 ^ 64 ≤ n → SplitRefused b rows (TooLarge n)
 rows_large b rows n e h = inl (inl (inl e, h))
 
+-- by one of the numbers of lists
+pub by_one : (n : ℕ) (ns : List ℕ) (e : WriteError) → In n ns → SplitRefused false n e → ListRefused false ns e
+by_one n ns e i = wider [] [] None None false false (n ∷ []) ns [] [] none_past none_past ⊥ ⊥ (λ x h. h) (λ h. h) (λ m k. ⊎_elim (λ z. subst (λ x. In x ns) (sym z) i) (λ z. absurd z) k) (λ n h. h) (λ n h. h) (λ h. h) e
+
+-- by the rows of lists, or the offsets' rows
+pub by_offsets : (b : Bool) (rows elements : ℕ) (e : WriteError) → ListRefused false (rows ∷ suc rows ∷ []) e → ListRefused b (rows ∷ suc rows ∷ elements ∷ []) e
+by_offsets b rows elements = wider [] [] None None false b (rows ∷ suc rows ∷ []) (rows ∷ suc rows ∷ elements ∷ []) [] [] none_past none_past ⊥ ⊥ (λ x h. h) (λ h. absurd (true≢false (sym h)))
+    (λ m i. in_left m (rows ∷ suc rows ∷ []) (elements ∷ []) i) (λ n h. h) (λ n h. h) (λ h. h)
+
+-- by their elements
+pub by_elements : (b : Bool) (rows more elements : ℕ) (e : WriteError) → ListRefused false (elements ∷ []) e → ListRefused b (rows ∷ more ∷ elements ∷ []) e
+by_elements b rows more elements = wider [] [] None None false b (elements ∷ []) (rows ∷ more ∷ elements ∷ []) [] [] none_past none_past ⊥ ⊥ (λ x h. h) (λ h. absurd (true≢false (sym h)))
+    (λ m i. inr (inr i)) (λ n h. h) (λ n h. h) (λ h. h)
+
+-- by a split of lists, whatever pointers there are
+pub by_lists : (b c : Bool) (ns is : List ℕ) (e : WriteError) → (b ≡ true → c ≡ true) → ListRefused b ns e → Refused None c ns is [] none_past ⊥ [] e
+by_lists b c ns is e misfit = wider [] [] None None b c ns ns [] is none_past none_past ⊥ ⊥ (λ x h. h) misfit (λ n h. h) (not_in is) (λ n h. h) (λ h. h) e
+
 -- memory may run out
 pub memory_only : {A : Type 0} (P : WriteError → Type 0) (r : Result A WriteError) → P OutOfMemory → IfErr r (λ e. e ≡ OutOfMemory) → IfErr r P
 memory_only P r p h = IfErr-weaker r (λ e. e ≡ OutOfMemory) P (λ e k. subst P (sym k) p) h
@@ -72,7 +91,7 @@ none_joined (BatchType c) m h = absurd (true≢false (sym h))
 none_joined NotStruct m h = cc
 none_joined (DuplicateField name) m h = cc
 none_joined ManyChunks m h = cc
-none_joined EmptyList m h = absurd m
+none_joined EmptyList m h = cc
 none_joined (ZoneCut n) m h = absurd m
 none_joined (ForbiddenAggregate id) m h = absurd m
 none_joined (ForbiddenEncoding id) m h = cc

@@ -1,36 +1,43 @@
 -- What starts make is what the form starts, column by column.
-use Rattle.std.proofs.Common.{◌≡◌, ℕ, suc, ◌+◌, ◌^◌, ◌<◌, ◌≤◌, ◌||◌, Bool, true, false, List, [], ◌∷◌, ◌++◌, length, map, Option, Some, None, refl, sym, ap, ap₂, subst, ◌∙◌, inl, inr, ⊎_elim, get_or, drop, arith}
+use Rattle.std.proofs.Common.{◌≡◌, ℕ, suc, ◌+◌, ◌^◌, ◌<◌, ◌≤◌, ◌||◌, Bool, true, false, List, [], ◌∷◌, ◌++◌, length, map, Option, Some, None, refl, sym, ap, ap₂, subst, ◌∙◌, inl, inr, ⊎_elim, get_or, drop, append-nil, arith}
+use Rattle.std.specs.Arc.{arc_value}
 use Rattle.std.proofs.lemmas.List.{drop_more, drop_all, length-append}
 use Rattle.vx_model.specs.declared.dtype.StructField.{StructField}
 use Rattle.vx_model.specs.TyView.{ty, field_ty}
 use Rattle.vx_model.proofs.Views.{field_ty_is}
-use Rattle.vx_model.specs.Ty.{Ty, Tys, boolean, primitive, utf8, binary, list, struct, extension, no_fields, field, fields_in, nullable, is_struct}
+use Rattle.vx_model.specs.Ty.{Ty, Tys, boolean, primitive, utf8, binary, list, struct, extension, no_fields, field, fields_in, nullable, is_struct, is_list}
 use Rattle.vx_path.specs.Lists.{In}
 use Rattle.vx_path.specs.Path.{Eof, under, inside, next}
 use Rattle.vx_path.proofs.Lists.{in_left, in_right, in_cases}
-use Rattle.vx_chunk_cells.specs.Parts.{struct_fields}
+use Rattle.vx_chunk_cells.specs.Parts.{element_type, struct_fields}
+use Rattle.vx_rules.specs.Columns.{offset_type}
+use Rattle.vx_split.specs.ListState.{state_at}
+use Rattle.vx_table_dispatch.specs.Settled.{passes_on}
 use Rattle.vx_layout_tree.specs.Children.{fields_of}
 use Rattle.vx_strategy_spec.specs.StrategyData.{StrategyData}
 use Rattle.vx_strategy_spec.specs.Walk.{chosen, duplicate, field_nodes, walk, walk_named}
 use Rattle.vx_strategy_spec.specs.Dispatch.{override, given_or}
 use Rattle.vx_strategy_spec.proofs.Lookups.{made, find_own}
 use Rattle.vx_strategy.specs.FieldWays.{field_ways}
-use Rattle.vx_strategy.specs.NodeViews.{struct_way}
+use Rattle.vx_strategy.specs.NodeViews.{struct_way, list_way}
+use Rattle.vx_strategy.specs.declared.list.ListLayoutStrategy.{ListLayoutStrategy}
 use Rattle.vx_strategy.specs.declared.structs.StructStrategy.{StructStrategy}
 use Rattle.vx_plan.specs.PlanData.{Setting, What, not_struct, duplicate_field}
 use Rattle.vx_machine_turns.specs.Acts.{or_else}
-use Rattle.vx_machine_turns.specs.Forms.{Form, Forms, struct_form, no_forms, form_then, forms_of, form_nodes}
+use Rattle.vx_machine_turns.specs.Forms.{Form, Forms, struct_form, list_form, no_forms, form_then, forms_of, form_nodes}
 use Rattle.vx_machine_turns.specs.Starts.{start_fault, start_faults}
-use Rattle.vx_machine_view.specs.State.{Tasks, no_tasks, task_then}
+use Rattle.vx_machine_view.specs.State.{Tasks, no_tasks, task_then, by_list}
 use Rattle.vx_machine_view.specs.Start.{waiting, first_mind, first_kids, field_tasks, form_count, first_indices, field_indices}
 use Rattle.vx_machine_view.specs.Acts.{add}
 use Rattle.vx_write_answer.specs.declared.error.WriteError.{WriteError}
 use Rattle.vx_write_answer.specs.declared.error.WriteError.TheVariants as errors
+use Rattle.vx_machine_tasks.specs.declared.kinds.ListsNode.{ListsNode}
 use Rattle.vx_machine_tasks.specs.declared.node.Local.{Local}
+use Rattle.vx_machine_tasks.specs.declared.node.Local.TheVariants.{Lists}
 use Rattle.vx_machine_tasks.specs.declared.task.Task.{Task}
 use Rattle.vx_machine_tasks.specs.View.{form_at, mind_of, task_row, row}
 use Rattle.vx_machine_tasks.specs.Outcome.{AllFit}
-use Rattle.vx_machine_tasks.specs.Starting.{Counted, writer_of, field_form, field_forms, validity_form, validity_forms, columns_form, Started, ManyStarted, OneStarted, AllStarted, TooFar, StartRefused, many_indices, ManyRefused, OneRefused, PointerRefused, NodeRefused}
+use Rattle.vx_machine_tasks.specs.Starting.{Counted, writer_of, field_form, field_forms, validity_form, validity_forms, columns_form, list_forms, lists_form, Started, ManyStarted, OneStarted, AllStarted, TooFar, StartRefused, many_indices, ManyRefused, OneRefused, PointerRefused, NodeRefused}
 use Rattle.vx_machine_tasks.proofs.Fitting.{none_fit, then_fit, one_fits, both_fit, first_fits, rest_fit, left_fit}
 use Rattle.vx_machine_tasks.proofs.ViewParts.{add_none, add_add, row_push}
 
@@ -232,7 +239,7 @@ none_wider : (gs : Forms) (d : Eof) → TooFar (many_indices no_forms d) → Too
 none_wider gs d h = ⊎_elim (λ a. let b : h.0 ≡ d.last + 0 = a in (d.last + form_count gs, inl refl, omega (arith, b, h.2))) (λ a. absurd a) h.1
 
 -- the validity stands first
-left_at : (s : StructStrategy) (fs : Tys) (gs : Forms) (n m : Bool) (at : List ℕ) (e d : Eof) (ks js : List Task) → ManyStarted (validity_forms s n) m at e ks d js
+left_at : (s : StructStrategy) (fs : Tys) (gs : Forms) (n m : Bool) (at : List ℕ) (e d : Eof) (ks js : List Task) → ManyStarted (validity_forms s.validity.item n) m at e ks d js
     → Left (struct_form fs n None (validity_form s) gs) m at e ks gs (m || n) js d
 left_at s fs gs true m at e d ks js h =
     let p : d ≡ next e = eof_is d e (e.last + 1) h.stem h.last in
@@ -258,7 +265,7 @@ left_at s fs gs false m at e d ks js h =
           ∙ (λ j. add (add (row (a j)) no_tasks) (field_tasks gs (m || false) at (length (a j) + 0) e));
     }
 
-pub left_first : (s : StructStrategy) (t : Ty) (n m : Bool) (at : List ℕ) (e d : Eof) (ks js : List Task) → n ≡ nullable t → ManyStarted (validity_forms s n) m at e ks d js
+pub left_first : (s : StructStrategy) (t : Ty) (n m : Bool) (at : List ℕ) (e d : Eof) (ks js : List Task) → n ≡ nullable t → ManyStarted (validity_forms s.validity.item n) m at e ks d js
     → Left (columns_form s t) m at e ks (field_forms s (fields_of t)) (m || n) js d
 left_first s t n m at e d ks js b h =
     subst (λ z. Left (struct_form (struct_fields t) z None (validity_form s) (field_forms s (fields_of t))) m at e ks (field_forms s (fields_of t)) (m || n) js d) b
@@ -303,7 +310,7 @@ all_started f m at e ts n ks d l a = record {
 }
 
 -- the validity is refused
-validity_at : (s : StructStrategy) (fs : Tys) (gs : Forms) (n m : Bool) (e : Eof) (x : WriteError) → ManyRefused (validity_forms s n) m e x
+validity_at : (s : StructStrategy) (fs : Tys) (gs : Forms) (n m : Bool) (e : Eof) (x : WriteError) → ManyRefused (validity_forms s.validity.item n) m e x
     → StartRefused (λ c. start_fault c (struct_form fs n None (validity_form s) gs) m) (first_indices (struct_form fs n None (validity_form s) gs) e) x
 validity_at s fs gs true m e x h =
     refused_as (λ c. start_faults c (form_then (validity_form s) no_forms) m) (λ c. start_fault c (struct_form fs true None (validity_form s) gs) m)
@@ -316,8 +323,111 @@ validity_at s fs gs false m e x h =
     (λ c w a. absurd (none_some w a))
     (λ p. none_wider gs e p) h
 
-pub validity_refused : (s : StructStrategy) (t : Ty) (n m : Bool) (e : Eof) (x : WriteError) → n ≡ nullable t → ManyRefused (validity_forms s n) m e x
+pub validity_refused : (s : StructStrategy) (t : Ty) (n m : Bool) (e : Eof) (x : WriteError) → n ≡ nullable t → ManyRefused (validity_forms s.validity.item n) m e x
     → StartRefused (λ c. start_fault c (columns_form s t) m) (first_indices (columns_form s t) e) x
 validity_refused s t n m e x b h =
     subst (λ z. StartRefused (λ c. start_fault c (struct_form (struct_fields t) z None (validity_form s) (field_forms s (fields_of t))) m) (first_indices (struct_form (struct_fields t) z None (validity_form s) (field_forms s (fields_of t))) e) x) b
     (validity_at s (struct_fields t) (field_forms s (fields_of t)) n m e x h)
+
+-- ---- a list
+
+-- of a list type, where no other strategy stands for its node
+pub list_at : (s : ListLayoutStrategy) (t : Ty) → passes_on (list_way s) t ≡ false → is_list t ≡ true
+list_at s (list t n) h = refl
+list_at s (boolean n) h = absurd (no_true (sym h))
+list_at s (primitive p n) h = absurd (no_true (sym h))
+list_at s (utf8 n) h = absurd (no_true (sym h))
+list_at s (binary n) h = absurd (no_true (sym h))
+list_at s (struct fs n) h = absurd (no_true (sym h))
+list_at s (extension tag t) h = absurd (no_true (sym h))
+
+pub list_plain : (s : ListLayoutStrategy) (t : Ty) → is_list t ≡ true → form_at (list_way s) t ≡ lists_form s t
+list_plain s (list t n) h = refl
+list_plain s (boolean n) h = absurd (no_true h)
+list_plain s (primitive p n) h = absurd (no_true h)
+list_plain s (utf8 n) h = absurd (no_true h)
+list_plain s (binary n) h = absurd (no_true h)
+list_plain s (struct fs n) h = absurd (no_true h)
+list_plain s (extension tag t) h = absurd (no_true h)
+
+-- no chunk came
+pub list_mind : (n : ListsNode) (s : ListLayoutStrategy) (m : Bool) (e : Eof) → n.split ≡ state_at (ty (arc_value n.dtype)) true 0 → mind_of (Lists n 0) ≡ first_mind (lists_form s (ty (arc_value n.dtype))) m e
+list_mind n s m e h = λ j. by_list (element_type (ty (arc_value n.dtype))) (nullable (ty (arc_value n.dtype))) (h j).first (h j).base 0
+
+parts_fault : (c : Setting) (n m : Bool) (t : Ty) (es os : Form) (w : StrategyData) → start_faults c (form_then es (form_then os (validity_forms w n))) m ≡ start_fault c (list_form t n es os (form_at w (boolean false))) m
+parts_fault c true m t es os w = ap (λ x. or_else (start_fault c es m) (or_else (start_fault c os m) x)) (or_nil (start_fault c (form_at w (boolean false)) m))
+parts_fault c false m t es os w = refl
+
+parts_indices : (n : Bool) (t : Ty) (es os : Form) (w : StrategyData) (e : Eof) → many_indices (form_then es (form_then os (validity_forms w n))) e ≡ first_indices (list_form t n es os (form_at w (boolean false))) e
+parts_indices true t es os w e = ap (λ x. (e.last + 3) ∷ (first_indices es (inside e) ++ (first_indices os (inside (next e)) ++ x))) (append-nil (first_indices (form_at w (boolean false)) (inside (next (next e)))))
+parts_indices false t es os w e = ap (λ x. (e.last + 2) ∷ (first_indices es (inside e) ++ x)) (append-nil (first_indices os (inside (next e))))
+
+parts_tasks : (n m : Bool) (t : Ty) (es os : Form) (w : StrategyData) (at : List ℕ) (e : Eof) → field_tasks (form_then es (form_then os (validity_forms w n))) m at 0 e ≡ first_kids (list_form t n es os (form_at w (boolean false))) m at e
+parts_tasks true m t es os w at e = refl
+parts_tasks false m t es os w at e = refl
+
+module _ (s : ListLayoutStrategy) (t : Ty) (m : Bool) (at : List ℕ) (e : Eof) (ts : List Task) where
+  -- nothing is started yet
+  left_parts : Left (lists_form s t) m at e ts (list_forms s t) m ts e
+  left_parts =
+      let es : Form = form_at s.elements.item (element_type t) in
+      let os : Form = form_at s.offsets.item offset_type in
+      let is = parts_indices (nullable t) (element_type t) es os s.validity.item e in
+      record {
+        fault = λ c. parts_fault c (nullable t) m (element_type t) es os s.validity.item;
+        far = λ h. subst TooFar is h;
+        fit = λ a. (a, λ h. subst AllFit is h);
+        tasks = λ a. ap (λ z. add (row z) (field_tasks (list_forms s t) m at (length z) e)) a ∙ parts_tasks (nullable t) m (element_type t) es os s.validity.item at e;
+      }
+
+  -- the elements are
+  pub left_elements : (u : Ty) (js : List Task) (d : Eof) → u ≡ element_type t → OneStarted (form_at s.elements.item u) m at e ts d js
+      → Left (lists_form s t) m at e ts (form_then (form_at s.offsets.item offset_type) (validity_forms s.validity.item (nullable t))) m js d
+  left_elements u js d is h =
+      left_next (lists_form s t) m at e ts (form_at s.elements.item (element_type t)) (form_then (form_at s.offsets.item offset_type) (validity_forms s.validity.item (nullable t))) m ts js e d
+      left_parts (subst (λ z. OneStarted (form_at s.elements.item z) m at e ts d js) is h)
+
+  -- the offsets are
+  pub left_offsets : (u : Ty) (ks js : List Task) (d p : Eof) → u ≡ offset_type
+      → Left (lists_form s t) m at e ts (form_then (form_at s.offsets.item offset_type) (validity_forms s.validity.item (nullable t))) m ks d → OneStarted (form_at s.offsets.item u) m at d ks p js
+      → Left (lists_form s t) m at e ts (validity_forms s.validity.item (nullable t)) m js p
+  left_offsets u ks js d p is l h =
+      left_next (lists_form s t) m at e ts (form_at s.offsets.item offset_type) (validity_forms s.validity.item (nullable t)) m ks js d p
+      l (subst (λ z. OneStarted (form_at s.offsets.item z) m at d ks p js) is h)
+
+  pub elements_refused : (u : Ty) (x : WriteError) → u ≡ element_type t → OneRefused (form_at s.elements.item u) m e x → StartRefused (λ c. start_fault c (lists_form s t) m) (first_indices (lists_form s t) e) x
+  elements_refused u x is h =
+      left_refused (lists_form s t) m at e ts (form_at s.elements.item (element_type t)) (form_then (form_at s.offsets.item offset_type) (validity_forms s.validity.item (nullable t))) m ts e x
+      left_parts (subst (λ z. OneRefused (form_at s.elements.item z) m e x) is h)
+
+  pub offsets_refused : (u : Ty) (ks : List Task) (d : Eof) (x : WriteError) → u ≡ offset_type
+      → Left (lists_form s t) m at e ts (form_then (form_at s.offsets.item offset_type) (validity_forms s.validity.item (nullable t))) m ks d → OneRefused (form_at s.offsets.item u) m d x
+      → StartRefused (λ c. start_fault c (lists_form s t) m) (first_indices (lists_form s t) e) x
+  offsets_refused u ks d x is l h =
+      left_refused (lists_form s t) m at e ts (form_at s.offsets.item offset_type) (validity_forms s.validity.item (nullable t)) m ks d x
+      l (subst (λ z. OneRefused (form_at s.offsets.item z) m d x) is h)
+
+-- the validity is, where there is one
+left_last : (f : Form) (m : Bool) (at : List ℕ) (e : Eof) (ts : List Task) (w : StrategyData) (b n : Bool) (ks js : List Task) (d p : Eof) → Left f m at e ts (validity_forms w b) n ks d
+    → ManyStarted (validity_forms w b) n at d ks p js → Left f m at e ts no_forms n js p
+left_last f m at e ts w true n ks js d p l h = left_next f m at e ts (form_at w (boolean false)) no_forms n ks js d p l h
+left_last f m at e ts w false n ks js d p l h =
+    let q : p ≡ d = eof_is p d d.last h.stem (h.last ∙ sym (plus_none d.last)) in
+    record {
+      fault = l.fault;
+      far = λ k. l.far (subst (λ z. TooFar (many_indices no_forms z)) q k);
+      fit = λ a.
+          let r = l.fit a in
+          (omega (arith, h.last, r.0), λ k. r.1 (subst (λ z. AllFit (many_indices no_forms z)) q k));
+      tasks = λ a. (λ j. add (h.tasks j) no_tasks) ∙ ap (λ z. add z no_tasks) (add_none (row ks)) ∙ l.tasks a;
+    }
+
+pub last_started : (f : Form) (m : Bool) (at : List ℕ) (e : Eof) (ts : List Task) (w : StrategyData) (b n : Bool) (ks js : List Task) (d p : Eof) → Left f m at e ts (validity_forms w b) n ks d
+    → ManyStarted (validity_forms w b) n at d ks p js → ts ≡ [] → AllStarted f m at e js
+last_started f m at e ts w b n ks js d p l h a = all_started f m at e ts n js p (left_last f m at e ts w b n ks js d p l h) a
+
+-- all that is left is refused
+pub rest_refused : (f : Form) (m : Bool) (at : List ℕ) (e : Eof) (ts : List Task) (fs : Forms) (n : Bool) (ks : List Task) (d : Eof) (x : WriteError) → Left f m at e ts fs n ks d → ManyRefused fs n d x
+    → StartRefused (λ s. start_fault s f m) (first_indices f e) x
+rest_refused f m at e ts fs n ks d x l h =
+    refused_as (λ s. start_faults s fs n) (λ s. start_fault s f m) (many_indices fs d) (first_indices f e) x (λ s w a. sym (l.fault s) ∙ a) l.far h

@@ -1,13 +1,17 @@
 -- What the take of a chunk or of the end does, against the same in plain data.
-use Rattle.std.proofs.Common.{◌≡◌, ◌+◌, ◌^◌, ◌<◌, ◌&&◌, ◌==◌, not, if◌then◌else◌, ℕ, Bool, true, false, List, [], ◌∷◌, ◌++◌, length, Option, Some, None, Result, Ok, Err, IfOk, IfErr, OnOk, refl, sym, ap, subst, ◌∙◌, inl, inr, append_assoc, append-nil}
+use Rattle.std.proofs.Common.{◌≡◌, ◌+◌, ◌^◌, ◌<◌, ◌&&◌, ◌==◌, not, if◌then◌else◌, ℕ, suc, Bool, true, false, List, [], ◌∷◌, ◌++◌, length, Option, Some, None, Result, Ok, Err, IfOk, IfErr, OnOk, refl, sym, ap, subst, ◌∙◌, inl, inr, append_assoc, append-nil, arith}
 use Rattle.std.proofs.lemmas.Bool.{true≢false}
 use Rattle.std.proofs.lemmas.List.{map_push}
 use Rattle.std.specs.Arc.{arc_value}
 use Rattle.vx_path.specs.Path.{Eof, under, inside, next}
 use Rattle.vx_model.specs.declared.encoding.EncodingId.{EncodingId}
-use Rattle.vx_model.specs.Ty.{Ty, boolean, primitive, utf8, binary, list, struct, extension, is_struct, ty_eq}
+use Rattle.vx_model.specs.Ty.{Ty, boolean, primitive, utf8, binary, list, struct, extension, nullable, is_struct, is_list, ty_eq}
+use Rattle.vx_model.specs.TyLaws.{ty_eq_decides}
 use Rattle.vx_model.specs.TyView.{ty}
 use Rattle.vx_model.specs.ChunkData.{ChunkData, piece_type, cells}
+use Rattle.vx_chunk_cells.specs.Parts.{element_type}
+use Rattle.vx_rules.specs.Columns.{list_columns}
+use Rattle.vx_split.specs.ListState.{behind, elements_to}
 use Rattle.vx_layout_spec.specs.LayoutTree.{gathered, struct_layout}
 use Rattle.vx_layout_tree.specs.Made.{struct_children}
 use Rattle.vx_segment_writer.specs.Segment.{encode, refused, bytes_unless, tree_bytes, segment_bytes}
@@ -23,9 +27,9 @@ use Rattle.vx_strategy.specs.FlatViews.{flat_options}
 use Rattle.vx_machine_turns.specs.Forms.{Form}
 use Rattle.vx_machine_turns.specs.Flat.{forbidden}
 use Rattle.vx_machine_turns.specs.Starts.{start_fault}
-use Rattle.vx_machine_view.specs.State.{Next, shut_kids, join_kids, Mind, no_chunk, one_chunk, by_chunk, by_column, ending, made, fold_columns, Desk, Tasks}
+use Rattle.vx_machine_view.specs.State.{Next, shut_kids, join_kids, Mind, no_chunk, one_chunk, by_chunk, by_column, by_list, ending, made, fold_columns, Desk, Tasks}
 use Rattle.vx_machine_view.specs.Start.{first_indices, started_task}
-use Rattle.vx_machine_view.specs.Acts.{count, add, now, stored, columns_in, column_count, puts, take_chunk, end_columns, take_end, do_take}
+use Rattle.vx_machine_view.specs.Acts.{count, add, Did, now, stored, columns_in, column_count, puts, take_chunk, end_columns, end_lists, take_end, do_take}
 use Rattle.vx_write_answer.specs.Causes.{of_encode}
 use Rattle.vx_write_answer.specs.declared.step.ActionKind.TheVariants as actions
 use Rattle.vx_write_answer.specs.declared.error.WriteError.{WriteError}
@@ -36,18 +40,19 @@ use Rattle.vx_machine_tasks.specs.declared.item.Segment.{Segment}
 use Rattle.vx_machine_tasks.specs.declared.kinds.FlatNode.{FlatNode}
 use Rattle.vx_machine_tasks.specs.declared.kinds.ChunkedNode.{ChunkedNode}
 use Rattle.vx_machine_tasks.specs.declared.kinds.ColumnsNode.{ColumnsNode}
+use Rattle.vx_machine_tasks.specs.declared.kinds.ListsNode.{ListsNode}
 use Rattle.vx_machine_tasks.specs.declared.node.Local.{Local}
-use Rattle.vx_machine_tasks.specs.declared.node.Local.TheVariants.{Empty, Full, Chunked, Columns, Over, Made}
+use Rattle.vx_machine_tasks.specs.declared.node.Local.TheVariants.{Empty, Full, Chunked, Columns, Lists, Over, Made}
 use Rattle.vx_machine_tasks.specs.declared.task.Head.{Head}
 use Rattle.vx_machine_tasks.specs.declared.task.Task.{Task}
-use Rattle.vx_machine_tasks.specs.Acting.{Behind, bare, taken, Took, TakeRefused, ChunkTaken, ChunkRefused, tree_kept, IsStored, WordRefused, first_word, SplitRefused, is_flat, Ended, EndTaken, TakeDone, Acted}
+use Rattle.vx_machine_tasks.specs.Acting.{Behind, bare, taken, Took, TakeRefused, ChunkTaken, ChunkRefused, tree_kept, IsStored, WordRefused, first_word, SplitRefused, ListRefused, is_flat, Ended, EndTaken, EndRefused, TakeDone, Acted}
 use Rattle.vx_machine_tasks.specs.Context.{setting_of}
 use Rattle.vx_machine_tasks.specs.Outcome.{action_of, AllFit}
 use Rattle.vx_machine_tasks.specs.Ready.{is_over}
 use Rattle.vx_machine_tasks.specs.Starting.{StartRefused}
 use Rattle.vx_machine_tasks.specs.View.{item_of, next_of, todo_of, mind_of, desk_of, row}
 use Rattle.vx_machine_tasks.proofs.Fitting.{none_fit, then_fit, one_fits}
-use Rattle.vx_machine_tasks.proofs.RefusalSteps.{by_word, by_split, by_rows}
+use Rattle.vx_machine_tasks.proofs.RefusalSteps.{by_word, by_split, by_rows, by_lists, memory_only}
 
 -- ---- a flat node's
 
@@ -86,6 +91,7 @@ module _ (ctx : LayoutWriterContext) (image : ℕ → ChunkData → ChunkData) (
   flat_why (Full x) e f h = h
   flat_why (Chunked n eof rows) e f h = absurd (true≢false (sym f))
   flat_why (Columns n rows) e f h = absurd (true≢false (sym f))
+  flat_why (Lists n rows) e f h = absurd (true≢false (sym f))
   flat_why Over e f h = absurd (true≢false (sym f))
   flat_why (Made x) e f h = absurd (true≢false (sym f))
 
@@ -120,17 +126,20 @@ second_why first (Empty n) h = absurd (h n refl)
 second_why first (Full x) h = refl
 second_why first (Chunked n eof rows) h = refl
 second_why first (Columns n rows) h = refl
+second_why first (Lists n rows) h = refl
 second_why first Over h = refl
 second_why first (Made x) h = refl
 
--- what is neither a chunked nor a struct node's, and takes more, is a flat node's
-pub flat_left : (l : Local) → ((n : ChunkedNode) (eof : Eof) (rows : ℕ) → l ≡ Chunked n eof rows → ⊥) → ((n : ColumnsNode) (rows : ℕ) → l ≡ Columns n rows → ⊥) → is_over l ≡ false → is_flat l ≡ true
-flat_left (Empty n) a b h = refl
-flat_left (Full x) a b h = refl
-flat_left (Chunked n eof rows) a b h = absurd (a n eof rows refl)
-flat_left (Columns n rows) a b h = absurd (b n rows refl)
-flat_left Over a b h = absurd (true≢false h)
-flat_left (Made x) a b h = absurd (true≢false h)
+-- what is none of a node with children, and takes more, is a flat node's
+pub flat_left : (l : Local) → ((n : ChunkedNode) (eof : Eof) (rows : ℕ) → l ≡ Chunked n eof rows → ⊥) → ((n : ColumnsNode) (rows : ℕ) → l ≡ Columns n rows → ⊥)
+    → ((n : ListsNode) (rows : ℕ) → l ≡ Lists n rows → ⊥) → is_over l ≡ false → is_flat l ≡ true
+flat_left (Empty n) a b d h = refl
+flat_left (Full x) a b d h = refl
+flat_left (Chunked n eof rows) a b d h = absurd (a n eof rows refl)
+flat_left (Columns n rows) a b d h = absurd (b n rows refl)
+flat_left (Lists n rows) a b d h = absurd (d n rows refl)
+flat_left Over a b d h = absurd (true≢false h)
+flat_left (Made x) a b d h = absurd (true≢false h)
 
 -- ---- a struct node's
 
@@ -148,6 +157,51 @@ module _ (s : Setting) (name : List ℕ) (ks : Tasks) (i : Item) (t : Ty) (rows 
 
   pub columns_why : (e : WriteError) → SplitRefused (not (ty_eq (piece_type i.chunk) t)) (rows + length (cells i.chunk)) e → TakeRefused (taken s name ks (item_of i) (by_column t rows)) e
   columns_why e h = by_split (not (ty_eq (piece_type i.chunk) t)) (rows + length (cells i.chunk)) (column_count t ∷ []) e h
+
+-- ---- a list node's
+
+-- a list's type by its parts
+pub list_parts : (t : Ty) → is_list t ≡ true → list (element_type t) (nullable t) ≡ t
+list_parts (list u n) h = refl
+list_parts (boolean n) h = absurd (true≢false (sym h))
+list_parts (primitive p n) h = absurd (true≢false (sym h))
+list_parts (utf8 n) h = absurd (true≢false (sym h))
+list_parts (binary n) h = absurd (true≢false (sym h))
+list_parts (struct fs n) h = absurd (true≢false (sym h))
+list_parts (extension tag u) h = absurd (true≢false (sym h))
+
+few_columns : (t : Ty) (n : Bool) → column_count (list t n) < 2 ^ 64
+few_columns t true = omega arith
+few_columns t false = omega arith
+
+module _ (s : Setting) (name : List ℕ) (ks : Tasks) (i : Item) (n : ListsNode) (rows : ℕ) where
+  abbrev typed : Ty
+  typed = ty (arc_value n.dtype)
+
+  abbrev parts : Ty
+  parts = list (element_type typed) (nullable typed)
+
+  abbrev longer : ℕ
+  longer = rows + length (cells i.chunk)
+
+  pub lists_took : (m : ListsNode) (now_rows : ℕ) (todo before : List Next) (xs : List ChunkData) → m.dtype ≡ n.dtype → piece_type i.chunk ≡ typed → m.split ≡ behind n.split i.chunk
+      → now_rows ≡ longer → longer + 1 < 2 ^ 64 → elements_to n.split i.chunk < 2 ^ 64 → xs ≡ list_columns (element_type typed) (nullable typed) n.split.first n.split.base i.chunk
+      → todo ≡ puts 0 i.id xs ++ before → Took (taken s name ks (item_of i) (mind_of (Lists n rows))) (mind_of (Lists m now_rows)) todo before ks
+  lists_took m now_rows todo before xs same fit next sum far few is put = record {
+    unrefused = refl;
+    fits = ap not ((ty_eq_decides (piece_type i.chunk) parts).1 (fit ∙ sym (list_parts typed n.lists)));
+    mind_is = λ j. by_list (element_type (ty (arc_value (same j)))) (nullable (ty (arc_value (same j)))) ((next j).first) ((next j).base) (sum j);
+    todo_is = put ∙ ap (λ z. puts 0 i.id z ++ before) is;
+    kids_are = refl;
+    counted = then_fit longer (suc longer ∷ elements_to n.split i.chunk ∷ column_count parts ∷ []) (omega (arith, far))
+        (then_fit (suc longer) (elements_to n.split i.chunk ∷ column_count parts ∷ []) (omega (arith, far))
+        (then_fit (elements_to n.split i.chunk) (column_count parts ∷ []) few (one_fits (column_count parts) (few_columns (element_type typed) (nullable typed)))));
+  }
+
+  pub lists_why : (e : WriteError) → ListRefused (not (ty_eq (piece_type i.chunk) typed)) (longer ∷ suc longer ∷ elements_to n.split i.chunk ∷ []) e
+      → TakeRefused (taken s name ks (item_of i) (mind_of (Lists n rows))) e
+  lists_why e h = by_lists (not (ty_eq (piece_type i.chunk) typed)) (not (ty_eq (piece_type i.chunk) parts)) (longer ∷ suc longer ∷ elements_to n.split i.chunk ∷ []) (column_count parts ∷ []) e
+      (λ k. ap (λ z. not (ty_eq (piece_type i.chunk) z)) (list_parts typed n.lists) ∙ k) h
 
 -- ---- a chunked node's
 
@@ -250,16 +304,34 @@ module _ (n : ColumnsNode) (rows kids : ℕ) (m : Local) (todo before : List Nex
       subst (λ z. Ended (end_columns z (ty (arc_value n.dtype)) rows (bare (mind_of (Columns n rows))) ks) (mind_of m) todo before) (sym (ap (bare_columns n) same ∙ is)) (h ks)
 
   pub columns_made : bare_columns n kids ≡ true → mind_of m ≡ made (struct_layout (ty (arc_value n.dtype)) rows []) → todo ≡ before → EndTaken (Columns n rows) kids m todo before
-  columns_made is a e = columns_by_test true is (λ ks. record { mind_is = a; todo_is = e ∙ sym (append-nil before) })
+  columns_made is a e = columns_by_test true is (λ ks. record { unrefused = refl; mind_is = a; todo_is = e ∙ sym (append-nil before) })
 
   pub columns_end : bare_columns n kids ≡ false → mind_of m ≡ ending → todo ≡ before ++ (shut_kids ∷ join_kids (fold_columns (ty (arc_value n.dtype)) rows) ∷ [])
       → EndTaken (Columns n rows) kids m todo before
-  columns_end is a e = columns_by_test false is (λ ks. record { mind_is = a; todo_is = e })
+  columns_end is a e = columns_by_test false is (λ ks. record { unrefused = refl; mind_is = a; todo_is = e })
 
 pub two_more : (xs ys zs : List Due) (d e : Due) → ys ≡ xs ++ (d ∷ []) → zs ≡ ys ++ (e ∷ []) → todo_of zs ≡ todo_of xs ++ (next_of d ∷ next_of e ∷ [])
 two_more xs ys zs d e a b =
     ap todo_of b ∙ map_push next_of ys e ∙ ap (λ ws. todo_of ws ++ (next_of e ∷ [])) a ∙ ap (λ ws. ws ++ (next_of e ∷ [])) (map_push next_of xs d)
     ∙ append_assoc (todo_of xs) (next_of d ∷ []) (next_of e ∷ [])
+
+-- a list node to which no chunk came refuses the end
+module _ (n : ListsNode) (rows kids : ℕ) where
+  -- its end, by whether a chunk came
+  abbrev ends_by : Bool → Tasks → Did
+  ends_by b ks = end_lists b (list (element_type (ty (arc_value n.dtype))) (nullable (ty (arc_value n.dtype)))) rows (bare (mind_of (Lists n rows))) ks
+
+  pub lists_end : (m : Local) (todo before : List Next) → n.split.first ≡ false → mind_of m ≡ ending
+      → todo ≡ before ++ (shut_kids ∷ join_kids (fold_columns (ty (arc_value n.dtype)) rows) ∷ []) → EndTaken (Lists n rows) kids m todo before
+  lists_end m todo before is a e = λ ks same. subst (λ z. Ended (ends_by z ks) (mind_of m) todo before) (sym is)
+      (record { unrefused = refl; mind_is = a; todo_is = e ∙ ap (λ t. before ++ (shut_kids ∷ join_kids (fold_columns t rows) ∷ [])) (sym (list_parts (ty (arc_value n.dtype)) n.lists)) })
+
+  pub lists_empty : n.split.first ≡ true → EndRefused (Lists n rows) kids EmptyList
+  lists_empty is = λ ks same. ap (λ z. (ends_by z ks).refusal) is
+
+-- memory may run out
+pub end_memory : {A : Type 0} (l : Local) (kids : ℕ) (r : Result A WriteError) → IfErr r (λ e. e ≡ OutOfMemory) → IfErr r (EndRefused l kids)
+end_memory l kids r h = memory_only (EndRefused l kids) r (λ ks same. tt) h
 
 -- of a local that was replaced, behind a reservation
 pub ended_by : (l b a m : Local) (kids : ℕ) (todo : List Next) (mid before : List Due) → b ≡ l → m ≡ a → mid ≡ before → EndTaken b kids a todo (todo_of mid) → EndTaken l kids m todo (todo_of before)
@@ -274,12 +346,21 @@ ended_as l k m kids todo before e h = subst (λ w. EndTaken w kids m todo before
 
 pub ended_empty : (l : Local) (n : FlatNode) (kids : ℕ) (todo : List Next) (r : Result Local WriteError) → l ≡ Empty n → IfOk r (λ m. mind_of m ≡ made (gathered (ty (arc_value n.dtype)) 0 []))
     → IfOk r (λ m. EndTaken l kids m todo todo)
-ended_empty l n kids todo (Ok m) is h = ended_as l (Empty n) m kids todo todo is (λ ks same. record { mind_is = h; todo_is = sym (append-nil todo) })
+ended_empty l n kids todo (Ok m) is h = ended_as l (Empty n) m kids todo todo is (λ ks same. record { unrefused = refl; mind_is = h; todo_is = sym (append-nil todo) })
 ended_empty l n kids todo (Err e) is h = tt
 
 pub ended_struct : (l : Local) (n : ColumnsNode) (rows kids : ℕ) (todo before : List Next) (r : Result Local WriteError) → l ≡ Columns n rows
     → IfOk r (λ m. EndTaken (Columns n rows) kids m todo before) → IfOk r (λ m. EndTaken l kids m todo before)
 ended_struct l n rows kids todo before r is h = subst (λ w. IfOk r (λ m. EndTaken w kids m todo before)) (sym is) h
+
+-- of a list node
+
+pub ended_lists : (l : Local) (n : ListsNode) (rows kids : ℕ) (todo before : List Next) (r : Result Local WriteError) → l ≡ Lists n rows
+    → IfOk r (λ m. EndTaken (Lists n rows) kids m todo before) → IfOk r (λ m. EndTaken l kids m todo before)
+ended_lists l n rows kids todo before r is h = subst (λ w. IfOk r (λ m. EndTaken w kids m todo before)) (sym is) h
+
+pub unended_as : {A : Type 0} (l k : Local) (kids : ℕ) (r : Result A WriteError) → l ≡ k → IfErr r (EndRefused k kids) → IfErr r (EndRefused l kids)
+unended_as l k kids r is h = subst (λ w. IfErr r (EndRefused w kids)) (sym is) h
 
 -- ---- as the next act of a task
 
@@ -313,6 +394,13 @@ took_shows s c ks i xs (by_column t rows) m todo before h kids d n e = record {
   kids_are = d.kids_are;
   desk = e ∙ (λ j. now c (d.mind_is j) ((d.todo_is ∙ ap (λ z. puts 0 i.0 (columns_in t i.1) ++ z) n ∙ append-nil (puts 0 i.0 (columns_in t i.1))) j) xs);
 }
+took_shows s c ks i xs (by_list t b first from rows) m todo before h kids d n e = record {
+  unrefused = d.unrefused;
+  fits = d.fits;
+  counted = d.counted;
+  kids_are = d.kids_are;
+  desk = e ∙ (λ j. now c (d.mind_is j) ((d.todo_is ∙ ap (λ z. puts 0 i.0 (list_columns t b first from i.1) ++ z) n ∙ append-nil (puts 0 i.0 (list_columns t b first from i.1))) j) xs);
+}
 took_shows s c ks i xs ending m todo before h kids d n e = record {
   unrefused = d.unrefused;
   fits = d.fits;
@@ -333,6 +421,7 @@ took_refused s c ks i xs (no_chunk o t) e h = h
 took_refused s c ks i xs (one_chunk x) e h = h
 took_refused s c ks i xs (by_chunk a t f z rows) e h = h
 took_refused s c ks i xs (by_column t rows) e h = h
+took_refused s c ks i xs (by_list t b first from rows) e h = h
 took_refused s c ks i xs ending e h = h
 took_refused s c ks i xs (made l) e h = h
 
@@ -342,16 +431,40 @@ module _ (c : Desk) (ks : Tasks) (m : Mind) (todo : List Next) (h : Head) (kids 
   columns_shows true t rows q d = record { unrefused = refl; fits = refl; counted = none_fit; kids_are = same; desk = is ∙ (λ j. now c (d.mind_is j) (d.todo_is j) []) }
   columns_shows false t rows q d = record { unrefused = refl; fits = refl; counted = none_fit; kids_are = same; desk = is ∙ (λ j. now c (d.mind_is j) (d.todo_is j) []) }
 
+  lists_shows : (b : Bool) (t : Ty) (rows : ℕ) (q : Mind) → Ended (end_lists b t rows (bare q) ks) m todo [] → TakeDone (end_lists b t rows c ks) h kids
+  lists_shows true t rows q d = record { unrefused = d.unrefused; fits = refl; counted = none_fit; kids_are = same; desk = is ∙ (λ j. now c (d.mind_is j) (d.todo_is j) []) }
+  lists_shows false t rows q d = record { unrefused = refl; fits = refl; counted = none_fit; kids_are = same; desk = is ∙ (λ j. now c (d.mind_is j) (d.todo_is j) []) }
+
   end_shows : (mind : Mind) → Ended (take_end (bare mind) ks mind) m todo [] → TakeDone (take_end c ks mind) h kids
   end_shows (no_chunk o t) d = record { unrefused = refl; fits = refl; counted = none_fit; kids_are = same; desk = is ∙ (λ j. now c (d.mind_is j) (d.todo_is j) []) }
   end_shows (one_chunk x) d = record { unrefused = refl; fits = refl; counted = none_fit; kids_are = same; desk = is ∙ (λ j. now c (d.mind_is j) (d.todo_is j) []) }
   end_shows (by_chunk a t f z rows) d = record { unrefused = refl; fits = refl; counted = none_fit; kids_are = same; desk = is ∙ (λ j. now c (d.mind_is j) (d.todo_is j) []) }
   end_shows (by_column t rows) d = columns_shows ((count ks == 0) && (0 == column_count t)) t rows (by_column t rows) d
+  end_shows (by_list t n first from rows) d = lists_shows first (list t n) rows (by_list t n first from rows) d
   end_shows ending d = record { unrefused = refl; fits = refl; counted = none_fit; kids_are = same; desk = is ∙ (λ j. now c (d.mind_is j) (d.todo_is j) []) }
   end_shows (made l) d = record { unrefused = refl; fits = refl; counted = none_fit; kids_are = same; desk = is ∙ (λ j. now c (d.mind_is j) (d.todo_is j) []) }
 
   pub ended_shows : (mind : Mind) (before : List Next) → before ≡ [] → Ended (take_end (bare mind) ks mind) m todo before → TakeDone (take_end c ks mind) h kids
   ended_shows mind before n d = end_shows mind (subst (λ z. Ended (take_end (bare mind) ks mind) m todo z) n d)
+
+-- why it isn't taken, of whichever task
+module _ (c : Desk) (ks : Tasks) (e : WriteError) where
+  columns_fail : (b : Bool) (t : Ty) (rows : ℕ) (q : Mind) → TakeRefused (end_columns b t rows (bare q) ks) e → TakeRefused (end_columns b t rows c ks) e
+  columns_fail true t rows q h = h
+  columns_fail false t rows q h = h
+
+  lists_fail : (b : Bool) (t : Ty) (rows : ℕ) (q : Mind) → TakeRefused (end_lists b t rows (bare q) ks) e → TakeRefused (end_lists b t rows c ks) e
+  lists_fail true t rows q h = h
+  lists_fail false t rows q h = h
+
+  pub end_fails : (mind : Mind) → TakeRefused (take_end (bare mind) ks mind) e → TakeRefused (take_end c ks mind) e
+  end_fails (no_chunk o t) h = h
+  end_fails (one_chunk x) h = h
+  end_fails (by_chunk a t f z rows) h = h
+  end_fails (by_column t rows) h = columns_fail ((count ks == 0) && (0 == column_count t)) t rows (by_column t rows) h
+  end_fails (by_list t n first from rows) h = lists_fail first (list t n) rows (by_list t n first from rows) h
+  end_fails ending h = h
+  end_fails (made l) h = h
 
 -- ---- a take is a take, and appends nothing
 
@@ -360,6 +473,7 @@ chunk_kind s c ks i xs (no_chunk o t) = refl
 chunk_kind s c ks i xs (one_chunk x) = refl
 chunk_kind s c ks i xs (by_chunk a t f z rows) = refl
 chunk_kind s c ks i xs (by_column t rows) = refl
+chunk_kind s c ks i xs (by_list t n first from rows) = refl
 chunk_kind s c ks i xs ending = refl
 chunk_kind s c ks i xs (made l) = refl
 
@@ -368,6 +482,7 @@ chunk_wrote s c ks i xs (no_chunk o t) = refl
 chunk_wrote s c ks i xs (one_chunk x) = refl
 chunk_wrote s c ks i xs (by_chunk a t f z rows) = refl
 chunk_wrote s c ks i xs (by_column t rows) = refl
+chunk_wrote s c ks i xs (by_list t n first from rows) = refl
 chunk_wrote s c ks i xs ending = refl
 chunk_wrote s c ks i xs (made l) = refl
 
@@ -379,11 +494,20 @@ columns_wrote : (b : Bool) (t : Ty) (rows : ℕ) (c : Desk) (ks : Tasks) → (en
 columns_wrote true t rows c ks = refl
 columns_wrote false t rows c ks = refl
 
+lists_kind : (b : Bool) (t : Ty) (rows : ℕ) (c : Desk) (ks : Tasks) → actions.Take ≡ action_of (end_lists b t rows c ks).kind
+lists_kind true t rows c ks = refl
+lists_kind false t rows c ks = refl
+
+lists_wrote : (b : Bool) (t : Ty) (rows : ℕ) (c : Desk) (ks : Tasks) → (end_lists b t rows c ks).wrote ≡ []
+lists_wrote true t rows c ks = refl
+lists_wrote false t rows c ks = refl
+
 end_kind : (c : Desk) (ks : Tasks) (mind : Mind) → actions.Take ≡ action_of (take_end c ks mind).kind
 end_kind c ks (no_chunk o t) = refl
 end_kind c ks (one_chunk x) = refl
 end_kind c ks (by_chunk a t f z rows) = refl
 end_kind c ks (by_column t rows) = columns_kind ((count ks == 0) && (0 == column_count t)) t rows c ks
+end_kind c ks (by_list t n first from rows) = lists_kind first (list t n) rows c ks
 end_kind c ks ending = refl
 end_kind c ks (made l) = refl
 
@@ -392,6 +516,7 @@ end_wrote c ks (no_chunk o t) = refl
 end_wrote c ks (one_chunk x) = refl
 end_wrote c ks (by_chunk a t f z rows) = refl
 end_wrote c ks (by_column t rows) = columns_wrote ((count ks == 0) && (0 == column_count t)) t rows c ks
+end_wrote c ks (by_list t n first from rows) = lists_wrote first (list t n) rows c ks
 end_wrote c ks ending = refl
 end_wrote c ks (made l) = refl
 

@@ -4,15 +4,16 @@ use Rattle.std.specs.Arc.{arc_value}
 use Rattle.std.specs.VecDeque.{deque_len}
 use Rattle.std.specs.FinMap as fin
 use Rattle.vx_path.specs.Path.{is_least}
-use Rattle.vx_model.specs.Ty.{Ty}
 use Rattle.vx_model.specs.TyView.{ty}
 use Rattle.vx_model.specs.Words.{all_by, total_by}
+use Rattle.vx_layout_tree.specs.Made.{struct_children}
 use Rattle.vx_machine_view.specs.Acts.{column_count}
 use Rattle.vx_sequence.specs.Universe.{Active}
 use Rattle.vx_machine_ids.specs.Stock.{one}
 use Rattle.vx_machine_tasks.specs.declared.item.Due.{Due}
 use Rattle.vx_machine_tasks.specs.declared.item.Due.TheVariants.{Put, Append, Close, Join}
 use Rattle.vx_machine_tasks.specs.declared.kinds.ColumnsNode.{ColumnsNode}
+use Rattle.vx_machine_tasks.specs.declared.kinds.ListsNode.{ListsNode}
 use Rattle.vx_machine_tasks.specs.declared.node.Local.{Local}
 use Rattle.vx_machine_tasks.specs.declared.node.Local.TheVariants.{Empty, Full, Chunked, Columns, Lists, Over, Made}
 use Rattle.vx_machine_tasks.specs.declared.node.Shape.{Shape}
@@ -66,13 +67,18 @@ room_at zero (k ∷ ks) = k.room
 room_at (suc c) (k ∷ ks) = room_at c ks
 
 -- so many columns the type has
-abbrev pub columns_fit : Ty → ℕ → Bool
-columns_fit t n = n == column_count t
+abbrev pub columns_fit : ColumnsNode → ℕ → Bool
+columns_fit node n = n == struct_children (ty (arc_value node.dtype))
+
+-- as many as a list's columns
+abbrev pub lists_fit : ListsNode → ℕ → Bool
+lists_fit node n = n == column_count (ty (arc_value node.dtype))
 
 -- a layout can be made of so many
 abbrev pub can_join : Shape → ℕ → Bool
 can_join (shapes.Chunks t) n = true
-can_join (shapes.Columns t rows) n = columns_fit (ty (arc_value t)) n
+can_join (shapes.Columns node rows) n = columns_fit node n
+can_join (shapes.Lists node rows) n = lists_fit node n
 
 abbrev pub least_at : Active → List ℕ → Bool
 least_at u p = is_least p (fin.keys u)

@@ -48,7 +48,8 @@ stored_of x = record { id = x.id; bytes = x.segment.bytes.items; tree = x.segmen
 
 abbrev pub fold_of : Shape → view.Fold
 fold_of (shapes.Chunks t) = view.fold_chunks (ty (arc_value t))
-fold_of (shapes.Columns t rows) = view.fold_columns (ty (arc_value t)) rows
+fold_of (shapes.Columns n rows) = view.fold_columns (ty (arc_value n.dtype)) rows
+fold_of (shapes.Lists n rows) = view.fold_columns (ty (arc_value n.dtype)) rows
 
 abbrev pub next_of : Due → view.Next
 next_of (Put c i) = view.put c (item_of i)

@@ -205,7 +205,7 @@ fn end_empty(alloc: Global, node: &FlatNode) -> Result<Local, WriteError>
 fn has_no_columns(node: &ColumnsNode, kids: usize) -> bool
     ensures { result ≡ ((kids == 0) && (0 == column_count (ty (arc_value node.now.dtype)))) }
 {
-    let fits = columns_fit(&node.dtype, 0);
+    let fits = columns_fit(node, 0);
     kids == 0 && fits
 }
 
@@ -223,20 +223,16 @@ fn end_columns(
     ensures memory { IfErr result (λ e. e ≡ WriteError.OutOfMemory) }
     ensures cause { IfErr result MayCome }
 {
-    let empty = has_no_columns(&node, kids);
-    let ColumnsNode { dtype, split } = node;
-    drop(split);
-    if empty {
-        let alloc = *todo.allocator();
-        let layout = join_columns(alloc, &dtype, rows, Vec::new(alloc));
-        drop(dtype);
+    if has_no_columns(&node, kids) {
+        let layout = join_columns(&node, rows, Vec::new(*todo.allocator()));
+        drop(node);
         return match layout {
             Ok(layout) => Ok(Local::Made(layout)),
             Err(error) => Err(error),
         };
     }
     todo.push_back_reserved(Due::Close);
-    todo.push_back_reserved(Due::Join(Shape::Columns(dtype, rows)));
+    todo.push_back_reserved(Due::Join(Shape::Columns(node, rows)));
     Ok(Local::Over)
 }
 

@@ -1,27 +1,26 @@
 //! Layouts that are made of those of children.
 
-ghost use Rattle.std.specs.Prelude.{◌≡◌, [], ◌∷◌, IsTrue, IsFalse, length, map, reverse, vec_len, IfOk, IfErr, OnOk};
+ghost use Rattle.std.specs.Prelude.{◌≡◌, [], ◌∷◌, IsTrue, length, map, reverse, vec_len, IfOk, IfErr, OnOk};
 ghost use Rattle.std.specs.Arc.{arc_value};
 ghost use Rattle.vx_model.specs.Words.{total_by};
-ghost use Rattle.vx_model.specs.Ty.{is_list};
 ghost use Rattle.vx_model.specs.TyView.{ty};
-ghost use Rattle.vx_layout_spec.specs.LayoutTree.{row_count, chunked_layout, gathered};
+ghost use Rattle.vx_layout_spec.specs.LayoutTree.{row_count, chunked_layout, gathered, struct_layout, list_layout};
 ghost use Rattle.vx_layout_tree.specs.LayoutView.{layout_data};
 ghost use Rattle.vx_machine_ids.specs.Stock.{none, both};
 ghost use Rattle.vx_machine_ids.specs.Balance.{Owned, Moved};
-ghost use Rattle.vx_machine_view.specs.Acts.{layout_in, layouts_in, folded, joined_rows, columns_layout};
+ghost use Rattle.vx_machine_view.specs.Acts.{layout_in, layouts_in, folded, joined_rows};
 ghost use Rattle.vx_machine_tasks.specs.Acting.{JoinRefused};
 ghost use Rattle.vx_machine_tasks.specs.Causes.{MayCome};
-ghost use Rattle.vx_machine_tasks.specs.Ready.{is_made, all_made, can_join, columns_fit, kids_of};
+ghost use Rattle.vx_machine_tasks.specs.Ready.{is_made, all_made, can_join, columns_fit, lists_fit, kids_of};
 ghost use Rattle.vx_machine_tasks.specs.Stocks.{task_stock, tasks_stock};
 ghost use Rattle.vx_machine_tasks.specs.View.{fold_of, mind_of, row};
 ghost use Rattle.vx_machine_tasks.specs.declared.task.Task.{out-Task};
 
 use crate::item::{give_up_dues, give_up_items};
+use crate::kinds::{ColumnsNode, ListsNode};
 use crate::node::{Local, Shape};
 use crate::task::{Head, Task, refuse_all};
 use std::alloc::Global;
-use std::sync::Arc;
 use vx_layout_tree::{
     ChunkedLayout, KindParts, Layout, LayoutHead, StructLayout, layout_children, total_rows,
 };
@@ -71,54 +70,50 @@ fn chunk_all(dtype: DType, layouts: Vec<Layout>) -> Result<Layout, WriteError>
     }
 }
 
-/// A struct's or a list's layout of its columns'.
+/// A struct's layout of its columns'.
 pub(crate) fn join_columns(
-    alloc: Global,
-    dtype: &Arc<DType>,
+    node: &ColumnsNode,
     rows: u64,
     layouts: Vec<Layout>,
 ) -> Result<Layout, WriteError>
-    requires { IsTrue (columns_fit (ty (arc_value dtype.now)) (vec_len layouts)) }
-    ensures layout { IfOk result (λ l. layout_data l ≡ columns_layout (ty (arc_value dtype.now)) rows (map layout_data layouts.items)) }
+    requires { IsTrue (columns_fit node.now (vec_len layouts)) }
+    ensures layout { IfOk result (λ l. layout_data l ≡ struct_layout (ty (arc_value node.now.dtype)) rows (map layout_data layouts.items)) }
     ensures memory { IfErr result (λ e. e ≡ WriteError.OutOfMemory) }
     ensures cause { IfErr result MayCome }
 {
-    let Ok(dtype) = DType::clone(dtype) else {
+    let Ok(dtype) = DType::clone(&node.dtype) else {
         drop(layouts);
         return Err(WriteError::OutOfMemory);
     };
-    if dtype.is_list() {
-        return Ok(list_of(alloc, dtype, rows, layouts));
-    }
-    struct_of(dtype, rows, layouts)
-}
-
-/// The layout of lists, with the rows that their node has counted.
-fn list_of(alloc: Global, dtype: DType, rows: u64, layouts: Vec<Layout>) -> Layout
-    requires list { IsTrue (is_list (ty dtype)) }
-    requires fits { IsTrue (columns_fit (ty dtype) (vec_len layouts)) }
-    ensures { layout_data result ≡ columns_layout (ty dtype) rows (map layout_data layouts.items) }
-{
-    let head = LayoutHead {
-        row_count: rows,
-        dtype,
-        segment_ids: Vec::new(alloc),
-    };
-    Layout::from_parts(alloc, KindParts::List(head, layouts))
-}
-
-fn struct_of(dtype: DType, rows: u64, layouts: Vec<Layout>) -> Result<Layout, WriteError>
-    requires other { IsFalse (is_list (ty dtype)) }
-    requires fits { IsTrue (columns_fit (ty dtype) (vec_len layouts)) }
-    ensures layout { IfOk result (λ l. layout_data l ≡ columns_layout (ty dtype) rows (map layout_data layouts.items)) }
-    ensures memory { IfErr result (λ e. e ≡ WriteError.OutOfMemory) }
-    ensures cause { IfErr result MayCome }
-{
     match StructLayout::new(rows, dtype, layouts) {
         Ok(fields) => Ok(Layout::Struct(fields)),
         // There are as many as columns.
         Err(_refusal) => unreachable!(),
     }
+}
+
+/// A list's layout of its columns', with the rows that the node has counted.
+fn join_lists(
+    alloc: Global,
+    node: &ListsNode,
+    rows: u64,
+    layouts: Vec<Layout>,
+) -> Result<Layout, WriteError>
+    requires { IsTrue (lists_fit node.now (vec_len layouts)) }
+    ensures layout { IfOk result (λ l. layout_data l ≡ list_layout (ty (arc_value node.now.dtype)) rows (map layout_data layouts.items)) }
+    ensures memory { IfErr result (λ e. e ≡ WriteError.OutOfMemory) }
+    ensures cause { IfErr result MayCome }
+{
+    let Ok(dtype) = DType::clone(&node.dtype) else {
+        drop(layouts);
+        return Err(WriteError::OutOfMemory);
+    };
+    let head = LayoutHead {
+        row_count: rows,
+        dtype,
+        segment_ids: Vec::new(alloc),
+    };
+    Ok(Layout::from_parts(alloc, KindParts::List(head, layouts)))
 }
 
 /// The layout of a task that has done all. What else it might hold is given up.
@@ -206,9 +201,14 @@ pub(crate) fn join<O: Order>(
                 drop(dtype);
                 layout
             }
-            Shape::Columns(dtype, rows) => {
-                let layout = join_columns(alloc, &dtype, rows, layouts);
-                drop(dtype);
+            Shape::Columns(node, rows) => {
+                let layout = join_columns(&node, rows, layouts);
+                drop(node);
+                layout
+            }
+            Shape::Lists(node, rows) => {
+                let layout = join_lists(alloc, &node, rows, layouts);
+                drop(node);
                 layout
             }
         },

@@ -39,7 +39,7 @@ pub struct ColumnsNode {
 
 /// A node that splits lists into columns.
 #[derive(Drop)]
-pub(crate) struct ListsNode {
+pub struct ListsNode {
     pub dtype: Arc<DType>,
     pub split: ListSplit,
     ghost same: { split.typed ≡ ty (arc_value dtype) },

@@ -1,7 +1,6 @@
 //! Tasks of the step machine, which own their queues and what they have in mind: they take chunks from queues, put parts of
 //! them on others, and append segments in the order of their paths, a step at a time. So far there are the nodes that need
-//! no compressor and hold nothing back: flat, chunked, struct and
-//! list nodes, and tables.
+//! no compressor and hold nothing back: flat, chunked, struct and list nodes, and tables.
 #![tactic(auto)]
 
 mod advance;
@@ -14,6 +13,7 @@ mod join;
 mod kinds;
 mod lists;
 mod node;
+mod nodes;
 mod ready;
 mod start;
 mod step;

@@ -1,6 +1,6 @@
 //! A list node hands its columns the parts of each chunk.
 
-ghost use Rattle.std.specs.Prelude.{◌≡◌, ◌+◌, ◌++◌, ◌<◌, ◌≤◌, ◌^◌, ℕ, suc, List, [], ◌∷◌, not, length, vec_len, IfOk, IfErr, OnOk};
+ghost use Rattle.std.specs.Prelude.{◌≡◌, ◌+◌, ◌<◌, ◌≤◌, ◌^◌, ℕ, suc, List, [], ◌∷◌, false, not, length, vec_len, IfOk, IfErr, OnOk};
 ghost use Rattle.std.specs.Arc.{arc_value};
 ghost use Rattle.std.specs.VecDeque.{deque_len, deque_capacity};
 ghost use Rattle.vx_model.specs.Ty.{nullable, ty_eq};
@@ -8,12 +8,12 @@ ghost use Rattle.vx_model.specs.ChunkData.{piece_type, cells};
 ghost use Rattle.vx_model.specs.TyView.{ty};
 ghost use Rattle.vx_chunk_cells.specs.Parts.{element_type};
 ghost use Rattle.vx_rules.specs.Columns.{list_columns};
+ghost use Rattle.vx_split.specs.Causes.{IsPast};
 ghost use Rattle.vx_split.specs.ListState.{behind, elements_to};
 ghost use Rattle.vx_machine_ids.specs.Stock.{none, both};
 ghost use Rattle.vx_machine_ids.specs.Balance.{Owned, Moved};
 ghost use Rattle.vx_plan.specs.PlanData.{Setting};
 ghost use Rattle.vx_machine_view.specs.State.{Tasks};
-ghost use Rattle.vx_machine_tasks.specs.declared.node.Local.{Local};
 ghost use Rattle.vx_machine_tasks.specs.Acting.{ListRefused, taken, Took, TakeRefused, EndTaken, EndRefused};
 ghost use Rattle.vx_machine_tasks.specs.Causes.{MayCome};
 ghost use Rattle.vx_machine_tasks.specs.Stocks.{item_stock, dues_stock, local_stock};
@@ -28,6 +28,7 @@ use std::collections::VecDeque;
 use vx_chunk::Chunk;
 use vx_machine_ids::{give_up_id, take_children};
 use vx_order::Order;
+use vx_split::SplitError;
 use vx_write_answer::WriteError;
 
 /// The rows with the chunk's, which are one less than the offsets that the columns then have.
@@ -73,13 +74,31 @@ fn split_lists(
             return Err(error);
         }
     };
-    let columns = node.split.react(alloc, chunk)?;
-    match todo.reserve(columns.len()) {
-        Ok(()) => Ok((columns, rows)),
-        Err(_) => {
-            drop(columns);
-            Err(WriteError::OutOfMemory)
+    match node.split.react(alloc, chunk) {
+        Ok(columns) => match todo.reserve(columns.len()) {
+            Ok(()) => Ok((columns, rows)),
+            Err(_) => {
+                drop(columns);
+                Err(WriteError::OutOfMemory)
+            }
+        },
+        Err(error) => Err(split_refusal(error)),
+    }
+}
+
+/// Why a chunk isn't split. The greatest u128 may stand for more elements, and no memory holds so many.
+fn split_refusal(error: SplitError) -> WriteError
+    ensures refused { (n : ℕ) → IsPast n error → ListRefused false (n ∷ []) result }
+    ensures cause { (n : ℕ) → IsPast n error → MayCome result }
+{
+    match error {
+        SplitError::TooLarge(n) => {
+            if n == u128::MAX {
+                return WriteError::OutOfMemory;
+            }
+            WriteError::TooLarge(n)
         }
+        error => error.into(),
     }
 }
 
@@ -137,13 +156,11 @@ pub(crate) fn end_lists(
     ensures refused { IfErr result (EndRefused (Local.Lists node rows) kids) }
     ensures cause { IfErr result MayCome }
 {
-    let ListsNode { dtype, split } = node;
-    if split.is_first() {
-        drop((dtype, split));
+    if node.split.is_first() {
+        drop(node);
         return Err(WriteError::EmptyList);
     }
-    drop(split);
     todo.push_back_reserved(Due::Close);
-    todo.push_back_reserved(Due::Join(Shape::Columns(dtype, rows)));
+    todo.push_back_reserved(Due::Join(Shape::Lists(node, rows)));
     Ok(Local::Over)
 }

@@ -35,8 +35,10 @@ pub enum Local {
 #[derive(Drop)]
 pub enum Shape {
     Chunks(Arc<DType>),
-    /// Of a struct's or a list's columns, with the rows.
-    Columns(Arc<DType>, u64),
+    /// With the rows.
+    Columns(ColumnsNode, u64),
+    /// With the rows.
+    Lists(ListsNode, u64),
 }
 
 pub(crate) fn give_up_local<O: Order>(order: &mut O, local: Local)

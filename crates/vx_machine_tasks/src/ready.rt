@@ -2,7 +2,6 @@
 
 ghost use Rattle.std.specs.Prelude.{◌≡◌, if◌then◌else◌};
 ghost use Rattle.std.specs.FinMap as fin;
-ghost use Rattle.vx_model.specs.TyView.{ty};
 ghost use Rattle.vx_machine_ids.specs.Stock.{one as one_if};
 ghost use Rattle.vx_machine_ids.specs.Balance.{Owned};
 ghost use Rattle.vx_machine_view.specs.State.{no_tasks};
@@ -10,13 +9,13 @@ ghost use Rattle.vx_machine_view.specs.Moves.{may_act};
 ghost use Rattle.vx_machine_view.specs.Places.{ready_in as ready_steps};
 ghost use Rattle.vx_machine_tasks.specs.Stocks.{due_stock, head_stock, task_stock, tasks_stock};
 ghost use Rattle.vx_machine_tasks.specs.View.{todo_of, desk_of, task_row, row};
-ghost use Rattle.vx_machine_tasks.specs.Ready.{is_made as has_layout, is_done as is_done_task, is_over as takes_no_more, kids_of, all_made as have_layouts, room_at, can_join as joins, columns_fit as are_columns, may_due as may_do, may_take as may_begin, may_now, ready_in, ready_among, counted};
+ghost use Rattle.vx_machine_tasks.specs.Ready.{is_made as has_layout, is_done as is_done_task, is_over as takes_no_more, kids_of, all_made as have_layouts, room_at, can_join as joins, columns_fit as are_columns, lists_fit as are_parts, may_due as may_do, may_take as may_begin, may_now, ready_in, ready_among, counted};
 
 use crate::item::Due;
+use crate::kinds::{ColumnsNode, ListsNode};
 use crate::node::{Local, Shape};
 use crate::task::{Head, Task};
 use vx_layout_tree::struct_children;
-use vx_model::DType;
 use vx_order::Order;
 
 pub(crate) fn is_made(local: &Local) -> bool
@@ -64,13 +63,17 @@ fn all_made(kids: &[Task]) -> bool
 }
 
 /// Whether the type has so many columns.
-pub(crate) fn columns_fit(dtype: &DType, kids: usize) -> bool
-    ensures { result ≡ are_columns (ty dtype.now) kids }
+pub(crate) fn columns_fit(node: &ColumnsNode, kids: usize) -> bool
+    ensures { result ≡ are_columns node.now kids }
 {
-    if dtype.is_list() {
-        return kids == list_columns(dtype.is_nullable());
-    }
-    kids as u64 == struct_children(dtype)
+    kids as u64 == struct_children(&node.dtype)
+}
+
+/// Whether there are as many as a list's columns.
+fn lists_fit(node: &ListsNode, kids: usize) -> bool
+    ensures { result ≡ are_parts node.now kids }
+{
+    kids == list_columns(node.dtype.is_nullable())
 }
 
 /// Elements and offsets, and the validity.
@@ -85,7 +88,8 @@ fn can_join(shape: &Shape, kids: usize) -> bool
 {
     match shape {
         Shape::Chunks(_) => true,
-        Shape::Columns(dtype, _) => columns_fit(dtype, kids),
+        Shape::Columns(node, _) => columns_fit(node, kids),
+        Shape::Lists(node, _) => lists_fit(node, kids),
     }
 }
 

@@ -1,13 +1,11 @@
 //! How tasks start.
 
-ghost use Rattle.std.specs.Prelude.{◌≡◌, ◌+◌, ◌<◌, ◌≤◌, ◌^◌, false, [], None, IsTrue, IsFalse, vec_len, vec_capacity, IfOk, IfErr, OnOk};
+ghost use Rattle.std.specs.Prelude.{◌≡◌, ◌+◌, ◌<◌, ◌≤◌, ◌^◌, true, false, [], IsTrue, IsFalse, vec_len, vec_capacity, IfOk, IfErr, OnOk};
 ghost use Rattle.std.specs.Arc.{arc_value};
 ghost use Rattle.vx_path.specs.Path.{under, inside, next};
-ghost use Rattle.vx_model.specs.TyView.{ty, field_ty};
-ghost use Rattle.vx_chunk_cells.specs.Parts.{element_type, struct_fields};
-ghost use Rattle.vx_split.specs.ListState.{state_at};
-ghost use Rattle.vx_strategy_spec.specs.Walk.{duplicate};
 ghost use Rattle.vx_model.specs.Ty.{is_list};
+ghost use Rattle.vx_model.specs.TyView.{ty, field_ty};
+ghost use Rattle.vx_split.specs.ListState.{state_at};
 ghost use Rattle.vx_table_dispatch.specs.Settled.{passes_on as has_next};
 ghost use Rattle.vx_strategy.specs.NodeViews.{chunked_way, struct_way, list_way};
 ghost use Rattle.vx_strategy.specs.StrategyView.{strategy_data};
@@ -17,12 +15,13 @@ ghost use Rattle.vx_machine_view.specs.State.{Tasks, task_then};
 ghost use Rattle.vx_machine_view.specs.Start.{waiting};
 ghost use Rattle.vx_machine_view.specs.Built.{is_built};
 ghost use Rattle.vx_machine_tasks.specs.Causes.{StartMay};
-ghost use Rattle.vx_machine_tasks.specs.Starting.{list_forms, lists_form, validity_forms, field_form, columns_form, Started, ManyStarted, OneStarted, AllStarted, FormRefused, ManyRefused, OneRefused, PointerRefused, NodeRefused};
+ghost use Rattle.vx_machine_tasks.specs.Starting.{lists_form, validity_forms, field_form, columns_form, Started, ManyStarted, OneStarted, AllStarted, FormRefused, ManyRefused, OneRefused, PointerRefused};
 ghost use Rattle.vx_machine_tasks.specs.Stocks.{local_stock, task_stock, tasks_stock};
 ghost use Rattle.vx_machine_tasks.specs.View.{form_at, form_of, mind_of, task_row, row};
 
-use crate::kinds::{ChunkedNode, ColumnsNode, FlatNode, ListsNode};
+use crate::kinds::{ColumnsNode, FlatNode, ListsNode};
 use crate::node::Local;
+use crate::nodes::{chunked_node, columns_node, element_copy, lists_node};
 use crate::task::{Head, Task, refuse_all};
 use std::alloc::{AllocError, Global};
 use std::collections::VecDeque;
@@ -33,7 +32,6 @@ use vx_model::{DType, Nullability, PType, StructField};
 use vx_order::Order;
 use vx_path::owned::Path;
 use vx_sequence::SequencePointer;
-use vx_split::{ColumnSplit, ListSplit};
 use vx_strategy::{
     ChildStrategy, ChunkedLayoutStrategy, ListLayoutStrategy, Strategy, StructStrategy,
 };
@@ -55,47 +53,6 @@ pub(crate) fn waiting(alloc: Global, name: Path, local: Local, kids: Vec<Task>) 
             closed: false,
         },
         kids,
-    }
-}
-
-fn chunked_node(
-    chunked: &ChunkedLayoutStrategy,
-    dtype: Arc<DType>,
-    marked: bool,
-) -> Result<ChunkedNode, WriteError>
-    requires { IsTrue (is_built chunked.now.child.item) }
-    ensures node { IfOk result (λ n. (n.dtype ≡ dtype) × (n.child ≡ chunked.now.child) × (n.marked ≡ marked)) }
-    ensures memory { IfErr result (λ e. e ≡ WriteError.OutOfMemory) }
-{
-    match chunked.child().clone() {
-        Ok(child) => Ok(ChunkedNode {
-            dtype,
-            child,
-            marked,
-        }),
-        Err(_) => {
-            drop(dtype);
-            Err(WriteError::OutOfMemory)
-        }
-    }
-}
-
-fn columns_node(alloc: Global, dtype: Arc<DType>) -> Result<ColumnsNode, WriteError>
-    ensures node { IfOk result (λ n. n.dtype ≡ dtype) }
-    ensures distinct { OnOk result (duplicate (struct_fields (ty (arc_value dtype))) ≡ None) }
-    ensures cause { IfErr result StartMay }
-    ensures refused { IfErr result (NodeRefused (ty (arc_value dtype))) }
-{
-    let Ok(copy) = DType::clone(&dtype) else {
-        drop(dtype);
-        return Err(WriteError::OutOfMemory);
-    };
-    match ColumnSplit::new(alloc, copy) {
-        Ok(split) => Ok(ColumnsNode { dtype, split }),
-        Err(error) => {
-            drop(dtype);
-            Err(error.into())
-        }
     }
 }
 
@@ -140,18 +97,14 @@ pub fn start_task<O: Order>(
     if !passes_on(strategy, &dtype) {
         return start_settled(alloc, order, strategy, dtype, marked, name, eof);
     }
-    match settled(strategy, &dtype) {
-        Ok(strategy) => {
-            let task = start_settled(alloc, order, &strategy, dtype, marked, name, eof);
-            drop(strategy);
-            task
-        }
-        Err(_) => {
-            drop((dtype, name));
-            give_up_pointer(order, eof);
-            Err(WriteError::OutOfMemory)
-        }
-    }
+    let Ok(found) = settled(strategy, &dtype) else {
+        drop((dtype, name));
+        give_up_pointer(order, eof);
+        return Err(WriteError::OutOfMemory);
+    };
+    let task = start_settled(alloc, order, &found, dtype, marked, name, eof);
+    drop(found);
+    task
 }
 
 /// As `start_task`, of a strategy for which no other stands.
@@ -194,10 +147,17 @@ fn start_settled<O: Order>(
                 Err(error)
             }
         },
-        Strategy::List(lists) => start_lists(alloc, order, lists, dtype, marked, name, eof),
+        Strategy::List(lists) => match lists_node(dtype) {
+            Ok(node) => start_lists(alloc, order, lists, node, marked, name, eof),
+            Err(error) => {
+                give_up_pointer(order, eof);
+                Err(error)
+            }
+        },
         Strategy::Dict(_) | Strategy::Zoned(_) => unreachable!(),
         Strategy::Repartition(_) | Strategy::Buffered(_) | Strategy::Collect(_) => unreachable!(),
-        Strategy::Compressing(_) | Strategy::Table(_) => unreachable!(),
+        Strategy::Compressing(_) => unreachable!(),
+        Strategy::Table(_) => unreachable!(),
     }
 }
 
@@ -312,56 +272,41 @@ fn start_lists<O: Order>(
     alloc: Global,
     order: &mut O,
     lists: &ListLayoutStrategy,
-    dtype: Arc<DType>,
+    node: ListsNode,
     marked: bool,
     name: Path,
     mut eof: SequencePointer,
 ) -> Result<Task, WriteError>
     requires owned { Owned (O.active order.old) (end_stock eof) }
     requires built { IsTrue (is_built (list_way lists.now)) }
-    requires list { IsTrue (is_list (ty (arc_value dtype))) }
+    requires fresh { node.split ≡ state_at (ty (arc_value node.dtype)) true 0 }
     ensures moved { Moved (O.active order.old) (O.active order.new) (end_stock eof) (ok_stock task_stock result) }
     ensures outlet { O.outlet order.new ≡ O.outlet order.old }
     ensures sink { O.sink order.new ≡ O.sink order.old }
     ensures cause { IfErr result StartMay }
-    ensures shows { IfOk result (Started (lists_form lists.now (ty (arc_value dtype))) marked name eof) }
-    ensures refused { IfErr result (FormRefused (lists_form lists.now (ty (arc_value dtype))) marked eof) }
+    ensures shows { IfOk result (Started (lists_form lists.now (ty (arc_value node.dtype))) marked name eof) }
+    ensures refused { IfErr result (FormRefused (lists_form lists.now (ty (arc_value node.dtype))) marked eof) }
 {
     let mut kids = Vec::new(alloc);
     let started = start_parts(
-        alloc, order, lists, &dtype, marked, &name, &mut eof, &mut kids,
+        alloc,
+        order,
+        lists,
+        &node.dtype,
+        marked,
+        &name,
+        &mut eof,
+        &mut kids,
     );
     give_up_pointer(order, eof);
-    let node = match started {
-        Ok(()) => lists_node(dtype),
+    match started {
+        Ok(()) => Ok(waiting(alloc, name, Local::Lists(node, 0), kids)),
         Err(error) => {
-            drop(dtype);
-            Err(error)
-        }
-    };
-    match node {
-        Ok(node) => Ok(waiting(alloc, name, Local::Lists(node, 0), kids)),
-        Err(error) => {
-            drop(name);
+            drop(node);
             refuse_all(kids, order);
             Err(error)
         }
     }
-}
-
-fn lists_node(dtype: Arc<DType>) -> Result<ListsNode, WriteError>
-    requires { IsTrue (is_list (ty (arc_value dtype))) }
-    ensures node { IfOk result (λ n. (n.dtype ≡ dtype) × (n.split ≡ state_at (ty (arc_value dtype)) true 0)) }
-    ensures memory { IfErr result (λ e. e ≡ WriteError.OutOfMemory) }
-{
-    let Ok(copy) = DType::clone(&dtype) else {
-        drop(dtype);
-        return Err(WriteError::OutOfMemory);
-    };
-    Ok(ListsNode {
-        dtype,
-        split: ListSplit::new(copy),
-    })
 }
 
 /// Starts elements, offsets, and the validity where the type is nullable. After an error what was started is in the list.
@@ -383,54 +328,19 @@ fn start_parts<O: Order>(
     ensures outlet { O.outlet order.new ≡ O.outlet order.old }
     ensures sink { O.sink order.new ≡ O.sink order.old }
     ensures cause { IfErr result StartMay }
-    ensures shows { OnOk result (ManyStarted (list_forms lists.now (ty dtype.now)) marked name.now eof.old kids.old.items eof.new kids.new.items) }
-    ensures refused { IfErr result (ManyRefused (list_forms lists.now (ty dtype.now)) marked eof.old) }
+    ensures shows { OnOk result (kids.old.items ≡ [] → AllStarted (lists_form lists.now (ty dtype.now)) marked name.now eof.old kids.new.items) }
+    ensures refused { IfErr result (FormRefused (lists_form lists.now (ty dtype.now)) marked eof.old) }
 {
     let elements = Arc::new(alloc, element_copy(dtype)?)?;
-    start_column(
-        alloc,
-        order,
-        &lists.elements,
-        elements,
-        marked,
-        name,
-        eof,
-        kids,
-    )?;
-    let offsets = DType::Primitive(PType::U64, Nullability::NonNullable);
-    let offsets = Arc::new(alloc, offsets)?;
-    start_column(
-        alloc,
-        order,
-        &lists.offsets,
-        offsets,
-        marked,
-        name,
-        eof,
-        kids,
-    )?;
+    let first = &lists.elements;
+    start_column(alloc, order, first, elements, marked, name, eof, kids)?;
+    let numbers = DType::Primitive(PType::U64, Nullability::NonNullable);
+    let offsets = Arc::new(alloc, numbers)?;
+    let second = &lists.offsets;
+    start_column(alloc, order, second, offsets, marked, name, eof, kids)?;
     let nullable = dtype.is_nullable();
-    start_validity(
-        alloc,
-        order,
-        &lists.validity,
-        nullable,
-        marked,
-        name,
-        eof,
-        kids,
-    )
-}
-
-/// The type of a list's elements.
-fn element_copy(dtype: &DType) -> Result<DType, AllocError>
-    requires { IsTrue (is_list (ty dtype.now)) }
-    ensures { IfOk result (λ t. ty t ≡ element_type (ty dtype.now)) }
-{
-    match dtype {
-        DType::List(elements, _) => DType::clone(elements),
-        _ => unreachable!(),
-    }
+    let validity = &lists.validity;
+    start_validity(alloc, order, validity, nullable, marked, name, eof, kids)
 }
 
 /// Starts the validity, where there is one.

@@ -3,6 +3,8 @@ use Rattle.vx_machine_ids.specs.Stock.{none, both}
 use Rattle.vx_machine_ids.specs.Balance.{Moved}
 use Rattle.vx_machine_tasks.specs.Stocks.{dues_stock, local_stock}
 use Rattle.vx_machine_tasks.proofs.ActMoves.{stays_as, end_owned, end_moved, end_local, end_then}
+use Rattle.std.proofs.lemmas.Result.{err_from_is_err_and}
+use Rattle.vx_machine_tasks.specs.Acting.{EndRefused}
 use Rattle.vx_machine_tasks.specs.View.{todo_of}
 use Rattle.vx_machine_tasks.proofs.TakeShows.{ended_by}
 use Rattle.vx_machine_tasks.proofs.advance.end.Goals as goal
@@ -43,3 +45,11 @@ pub returns-in-Ok-clause-done : goal.returns-in-Ok-clause-done
 returns-in-Ok-clause-done g c =
     ended_by c.args.local.now c.replace-before.result c.in-Ok.after c.set_local.new.local c.args.kids (todo_of c.ended.new.todo.items) c.reserve.new.self.items c.args.todo.now.items
     c.replace-before.ensures.value c.set_local.ensures.local c.reserve.ensures.items c.in-Ok.ensures.done
+
+pub returns-in_err-reserve-clause-refused : goal.returns-in_err-reserve-clause-refused
+returns-in_err-reserve-clause-refused g c =
+    let p = err_from_is_err_and c.from_residual.result c.from_residual.ensures.1 in
+    rw (p.1, p.2) (λ ks same. tt)
+
+pub returns-in-Err-clause-refused : goal.returns-in-Err-clause-refused
+returns-in-Err-clause-refused g c = subst (λ l. EndRefused l c.args.kids c.in-Err.error) c.replace-before.ensures.value c.in-Err.ensures.refused

@@ -4,9 +4,9 @@ use Rattle.vx_machine_tasks.specs.Stocks.{stored_stock, dues_stock, local_stock}
 use Rattle.vx_machine_tasks.proofs.ActMoves.{ok_none, ended_none, ended_full, ended_owned, ended_chunked}
 use Rattle.vx_machine_tasks.proofs.DueSteps.{one_more, one_free}
 use Rattle.std.proofs.lemmas.List.{map_push}
-use Rattle.vx_machine_tasks.specs.declared.node.Local.TheVariants.{Full, Chunked, Over, Made}
+use Rattle.vx_machine_tasks.specs.declared.node.Local.TheVariants.{Full, Chunked, Lists, Over, Made}
 use Rattle.vx_machine_tasks.specs.View.{next_of, todo_of}
-use Rattle.vx_machine_tasks.proofs.TakeShows.{ended_as, ended_empty, ended_struct}
+use Rattle.vx_machine_tasks.proofs.TakeShows.{ended_as, ended_empty, ended_struct, ended_lists, unended_as, end_memory}
 use Rattle.vx_machine_tasks.proofs.advance.ended.Goals as goal
 
 pub returns-in-Empty-clause-moved : goal.returns-in-Empty-clause-moved
@@ -33,6 +33,11 @@ returns-in-Columns-clause-moved g c =
     ended_none (g.O.Order.active c.args.order.now) (local_stock c.args.local) (ok_stock local_stock c.end_columns.result) (dues_stock c.args.todo.now.items) (dues_stock c.end_columns.new.todo.items)
     (ap local_stock c.in-Columns.is) (ok_none c.end_columns.result c.end_columns.ensures.local) c.end_columns.ensures.todo c.requires.owned
 
+pub returns-in-Lists-clause-moved : goal.returns-in-Lists-clause-moved
+returns-in-Lists-clause-moved g c =
+    ended_none (g.O.Order.active c.args.order.now) (local_stock c.args.local) (ok_stock local_stock c.end_lists.result) (dues_stock c.args.todo.now.items) (dues_stock c.end_lists.new.todo.items)
+    (ap local_stock c.in-Lists.is) (ok_none c.end_lists.result c.end_lists.ensures.local) c.end_lists.ensures.todo c.requires.owned
+
 pub returns-in-Over-clause-moved : goal.returns-in-Over-clause-moved
 returns-in-Over-clause-moved g c =
     ended_none (g.O.Order.active c.args.order.now) (local_stock c.args.local) none (dues_stock c.args.todo.now.items) (dues_stock c.args.todo.now.items) (ap local_stock c.in-Over.is) refl refl c.requires.owned
@@ -47,12 +52,12 @@ returns-in-Empty-clause-done g c = ended_empty c.args.local c.in-Empty.node c.ar
 pub returns-in-Full-clause-done : goal.returns-in-Full-clause-done
 returns-in-Full-clause-done g c =
     ended_as c.args.local (Full c.in-Full.stored) Over c.args.kids (todo_of c.push_back_reserved.new.self.items) (todo_of c.args.todo.now.items) c.in-Full.is
-    (λ ks same. record { mind_is = refl; todo_is = ap todo_of c.push_back_reserved.ensures.items ∙ map_push next_of c.args.todo.now.items _ })
+    (λ ks same. record { unrefused = refl; mind_is = refl; todo_is = ap todo_of c.push_back_reserved.ensures.items ∙ map_push next_of c.args.todo.now.items _ })
 
 pub returns-in-Chunked-clause-done : goal.returns-in-Chunked-clause-done
 returns-in-Chunked-clause-done g c =
     ended_as c.args.local (Chunked c.in-Chunked.node c.in-Chunked.eof _) Over c.args.kids (todo_of c.push_back_reserved-in-Chunked.new.self.items) (todo_of c.args.todo.now.items) c.in-Chunked.is
-    (λ ks same. record { mind_is = refl; todo_is = ap todo_of c.push_back_reserved-in-Chunked.ensures.items ∙ map_push next_of c.args.todo.now.items _ })
+    (λ ks same. record { unrefused = refl; mind_is = refl; todo_is = ap todo_of c.push_back_reserved-in-Chunked.ensures.items ∙ map_push next_of c.args.todo.now.items _ })
 
 pub returns-in-Columns-clause-done : goal.returns-in-Columns-clause-done
 returns-in-Columns-clause-done g c =
@@ -61,9 +66,22 @@ returns-in-Columns-clause-done g c =
 pub returns-in-Over-clause-done : goal.returns-in-Over-clause-done
 returns-in-Over-clause-done g c =
     ended_as c.args.local Over Over c.args.kids (todo_of c.args.todo.now.items) (todo_of c.args.todo.now.items) c.in-Over.is
-    (λ ks same. record { mind_is = refl; todo_is = sym (append-nil (todo_of c.args.todo.now.items)) })
+    (λ ks same. record { unrefused = refl; mind_is = refl; todo_is = sym (append-nil (todo_of c.args.todo.now.items)) })
 
 pub returns-in-Made-clause-done : goal.returns-in-Made-clause-done
 returns-in-Made-clause-done g c =
     ended_as c.args.local (Made c.in-Made.layout) (Made c.in-Made.layout) c.args.kids (todo_of c.args.todo.now.items) (todo_of c.args.todo.now.items) c.in-Made.is
-    (λ ks same. record { mind_is = refl; todo_is = sym (append-nil (todo_of c.args.todo.now.items)) })
+    (λ ks same. record { unrefused = refl; mind_is = refl; todo_is = sym (append-nil (todo_of c.args.todo.now.items)) })
+
+pub returns-in-Lists-clause-done : goal.returns-in-Lists-clause-done
+returns-in-Lists-clause-done g c =
+    ended_lists c.args.local c.in-Lists.node c.in-Lists.rows c.args.kids (todo_of c.end_lists.new.todo.items) (todo_of c.args.todo.now.items) c.end_lists.result c.in-Lists.is c.end_lists.ensures.done
+
+pub returns-in-Empty-clause-refused : goal.returns-in-Empty-clause-refused
+returns-in-Empty-clause-refused g c = end_memory c.args.local c.args.kids c.end_empty-after.result c.end_empty-after.ensures.memory
+
+pub returns-in-Columns-clause-refused : goal.returns-in-Columns-clause-refused
+returns-in-Columns-clause-refused g c = end_memory c.args.local c.args.kids c.end_columns.result c.end_columns.ensures.memory
+
+pub returns-in-Lists-clause-refused : goal.returns-in-Lists-clause-refused
+returns-in-Lists-clause-refused g c = unended_as c.args.local (Lists c.in-Lists.node c.in-Lists.rows) c.args.kids c.end_lists.result c.in-Lists.is c.end_lists.ensures.refused

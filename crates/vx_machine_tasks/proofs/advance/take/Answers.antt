@@ -2,7 +2,7 @@ use Rattle.std.proofs.Common.{ap, sym}
 use Rattle.vx_machine_ids.specs.Stock.{none, end_stock}
 use Rattle.vx_machine_tasks.specs.Stocks.{item_stock, dues_stock, local_stock, tasks_stock}
 use Rattle.vx_machine_tasks.proofs.ActMoves.{take_chunked_owned, take_chunked_moved, take_columns_owned, take_columns_moved, take_flat_owned, take_flat_moved}
-use Rattle.vx_machine_tasks.specs.declared.node.Local.TheVariants.{Chunked, Columns}
+use Rattle.vx_machine_tasks.specs.declared.node.Local.TheVariants.{Chunked, Columns, Lists}
 use Rattle.vx_machine_tasks.specs.View.{todo_of, row}
 use Rattle.vx_machine_tasks.proofs.TakeShows.{chunked_by, chunked_why_by, columns_by, columns_why_by, flat_by, flat_why_by, flat_left}
 use Rattle.vx_machine_tasks.proofs.advance.take.Goals as goal
@@ -25,6 +25,24 @@ pub returns-in-Columns-clause-moved : goal.returns-in-Columns-clause-moved
 returns-in-Columns-clause-moved g c =
     take_columns_moved (g.O.Order.active c.args.order.now) (local_stock c.args.local.now) (dues_stock c.args.todo.now.items) (tasks_stock c.args.kids.now.items) (item_stock c.args.item) c.requires
     (g.O.Order.active c.take_columns.new.order) none (dues_stock c.take_columns.new.todo.items) (sym (ap local_stock c.in-Columns.is)) c.take_columns.ensures.moved
+
+pub take_lists-requires : goal.take_lists-requires
+take_lists-requires g c =
+    take_columns_owned (g.O.Order.active c.args.order.now) (local_stock c.args.local.now) (dues_stock c.args.todo.now.items) (tasks_stock c.args.kids.now.items) (item_stock c.args.item) c.requires
+
+pub returns-in-Lists-clause-moved : goal.returns-in-Lists-clause-moved
+returns-in-Lists-clause-moved g c =
+    take_columns_moved (g.O.Order.active c.args.order.now) (local_stock c.args.local.now) (dues_stock c.args.todo.now.items) (tasks_stock c.args.kids.now.items) (item_stock c.args.item) c.requires
+    (g.O.Order.active c.take_lists.new.order) none (dues_stock c.take_lists.new.todo.items) (sym (ap local_stock c.in-Lists.is)) c.take_lists.ensures.moved
+
+pub returns-in-Lists-clause-done : goal.returns-in-Lists-clause-done
+returns-in-Lists-clause-done g c =
+    columns_by c.args.ctx.now c.args.name.now (row c.args.kids.now.items) c.args.item c.args.local.now (Lists c.in-Lists.node c.in-Lists.rows) c.in-Lists.is
+    (Lists c.take_lists.new.node c.take_lists.new.rows) (todo_of c.take_lists.new.todo.items) (todo_of c.args.todo.now.items) c.take_lists.result c.take_lists.ensures.done
+
+pub returns-in-Lists-clause-refused : goal.returns-in-Lists-clause-refused
+returns-in-Lists-clause-refused g c = λ more.
+    columns_why_by c.args.ctx.now c.args.name.now (row c.args.kids.now.items) c.args.item c.args.local.now (Lists c.in-Lists.node c.in-Lists.rows) c.in-Lists.is c.take_lists.result c.take_lists.ensures.refused
 
 pub take_flat-requires : goal.take_flat-requires
 take_flat-requires g c =
@@ -58,4 +76,4 @@ returns-in_default-clause-done g c = flat_by c.args.ctx.now c.args.name.now (row
 
 pub returns-in_default-clause-refused : goal.returns-in_default-clause-refused
 returns-in_default-clause-refused g c = λ more.
-    flat_why_by c.args.ctx.now c.args.name.now (row c.args.kids.now.items) c.args.item c.args.local.now c.take_flat.result (c.take_flat.ensures.refused (flat_left c.args.local.now c.in_default.not-Chunked c.in_default.not-Columns more))
+    flat_why_by c.args.ctx.now c.args.name.now (row c.args.kids.now.items) c.args.item c.args.local.now c.take_flat.result (c.take_flat.ensures.refused (flat_left c.args.local.now c.in_default.not-Chunked c.in_default.not-Columns c.in_default.not-Lists more))

@@ -47,4 +47,6 @@ returns-in-None-clause-done g c = λ idle.
     e c.end.new.local (todo_of c.end.new.todo.items) c.len.result c.end.result (c.len.ensures ∙ c.args.kids.now.ok.0) idle refl c.end.ensures.done
 
 pub returns-in-None-clause-refused : goal.returns-in-None-clause-refused
-returns-in-None-clause-refused g c = λ more. end_refused c.args.ctx.now c.args.head.now c.args.kids.now.items c.end.result c.end.ensures.memory
+returns-in-None-clause-refused g c = λ more.
+    end_refused c.args.ctx.now c.args.head.now c.args.kids.now.items c.pop_front.new.self.items c.in-None.ensures.items
+    (none_is c.pop_front.new.self.items (sym c.pop_front.new.self.ok.0 ∙ c.in-None.ensures.cases.1)) c.len.result c.end.result (c.len.ensures ∙ c.args.kids.now.ok.0) c.end.ensures.refused

@@ -1,12 +1,20 @@
-use Rattle.std.proofs.Common.{rules, tests, ◌≡◌, ◌+◌, ◌*◌, ◌<◌, ◌||◌, Bool, [], ◌∷◌, ◌++◌, length, map, drop, refl, sym, ap, subst, ◌∙◌, arith}
-use Rattle.std.specs.Prelude.{IsTrue, IfOk, IfErr, OnOk}
+use Rattle.std.proofs.Common.{rules, tests, ◌≡◌, ◌+◌, ◌*◌, ◌<◌, ◌||◌, Bool, true, false, [], ◌∷◌, ◌++◌, length, map, drop, refl, sym, ap, subst, ◌∙◌, arith}
+use Rattle.std.specs.Prelude.{IsTrue, IsFalse, IfOk, IfErr, OnOk}
 use Rattle.std.specs.Arc.{arc_value}
 use Rattle.std.proofs.lemmas.Result.{err_from_is_err_and, IfOk-weaker, IfErr-weaker}
 use Rattle.vx_path.specs.Path.{under, inside}
-use Rattle.vx_model.specs.Ty.{Ty, is_struct}
+use Rattle.vx_model.specs.Ty.{Ty, boolean, is_struct, is_list}
 use Rattle.vx_model.specs.TyView.{ty, field_ty}
 use Rattle.vx_model.specs.declared.dtype.StructField.{StructField}
 use Rattle.vx_chunk.proofs.FlagSteps.{ty_flags}
+use Rattle.vx_chunk_cells.specs.Parts.{element_type}
+use Rattle.vx_layout_tree.specs.Children.{fields_of}
+use Rattle.vx_rules.specs.Columns.{offset_type}
+use Rattle.vx_split.specs.ListState.{state_at}
+use Rattle.vx_split.proofs.ListSteps.{ty_offsets}
+use Rattle.vx_strategy_spec.specs.StrategyData.{StrategyData}
+use Rattle.vx_table_dispatch.specs.Settled.{passes_on, settled}
+use Rattle.vx_table_dispatch.proofs.Settling.{no_other}
 use Rattle.vx_strategy.specs.declared.strategy.Strategy.TheVariants.{Flat}
 use Rattle.vx_write_answer.specs.declared.error.WriteError.TheVariants.{OutOfMemory}
 use Rattle.vx_machine_turns.specs.Forms.{Form, Forms, form_then}
@@ -14,47 +22,80 @@ use Rattle.vx_machine_turns.specs.Starts.{start_fault}
 use Rattle.vx_machine_view.specs.State.{by_column}
 use Rattle.vx_machine_view.specs.Start.{first_indices}
 use Rattle.vx_strategy.specs.FieldWays.{field_ways}
-use Rattle.vx_strategy.specs.NodeViews.{struct_way}
+use Rattle.vx_strategy.specs.NodeViews.{struct_way, list_way}
 use Rattle.vx_strategy.specs.StrategyView.{strategy_data}
 use Rattle.vx_sequence.specs.Universe.{Active}
 use Rattle.vx_machine_ids.specs.Stock.{Stock, none, both, end_stock, ok_stock}
 use Rattle.vx_machine_ids.specs.Balance.{Owned, Moved}
 use Rattle.vx_machine_ids.proofs.MoveLaws.{moved_none, moved_then, owned_left, owned_now}
 use Rattle.vx_machine_view.specs.Built.{is_built}
-use Rattle.vx_machine_tasks.specs.Weight.{weight}
-use Rattle.vx_machine_tasks.specs.Starting.{field_form, field_forms, validity_form, validity_forms, columns_form, Started, ManyStarted, OneStarted, AllStarted, StartRefused, ManyRefused, OneRefused}
+use Rattle.vx_machine_tasks.specs.Weight.{weight, weights}
+use Rattle.vx_machine_tasks.specs.Starting.{field_form, field_forms, validity_form, validity_forms, columns_form, lists_form, Started, ManyStarted, OneStarted, AllStarted, StartRefused, ManyRefused, OneRefused}
 use Rattle.vx_machine_tasks.specs.Stocks.{task_stock, tasks_stock}
-use Rattle.vx_machine_tasks.specs.View.{form_at, row}
-use Rattle.vx_machine_tasks.specs.declared.node.Local.TheVariants.{Empty, Columns}
+use Rattle.vx_machine_tasks.specs.View.{form_at, form_of, row}
+use Rattle.vx_machine_tasks.specs.declared.node.Local.TheVariants.{Empty, Columns, Lists}
 use Rattle.vx_machine_tasks.proofs.StartMoves.{alone_moved, none_yet, from_none, pointer_owned, kids_left, left_owned, held_kids, same_kids, pointer_moved, child_moved, off_owned, off_moved}
 use Rattle.vx_machine_tasks.proofs.Fitting.{none_fit}
-use Rattle.vx_machine_tasks.proofs.StartShows.{Left, plain_form, typed, field_form_is, fields_more, fields_end, memory_refused, node_refused, task_refused, pointer_refused, started, one_started, none_started, left_first, left_next, left_refused, all_started, validity_refused}
+use Rattle.vx_machine_tasks.proofs.StartShows.{Left, plain_form, typed, field_form_is, fields_more, fields_end, memory_refused, node_refused, task_refused, pointer_refused, started, one_started, none_started, left_first, left_next, left_refused, all_started, validity_refused, list_at, list_plain, list_mind, left_elements, left_offsets, elements_refused, offsets_refused, last_started, rest_refused}
 use Rattle.vx_machine_tasks.proofs.ViewParts.{len_is}
-use Rattle.vx_machine_tasks.proofs.StartWeights.{writer_weight, writer_built, struct_built}
+use Rattle.vx_machine_tasks.proofs.StartWeights.{field_weight, writer_built, struct_built, list_built, settled_built, settled_form}
 use Rattle.vx_machine_tasks.proofs.start.+start.Goals as goal
+
+-- ---- a strategy, and what stands for it
+
+pub start_task-start_settled-requires : goal.start_task-start_settled-requires
+start_task-start_settled-requires g t c κs within =
+    let falls : 8 * weight (form_of c.args.strategy.now (arc_value c.args.dtype)) + 4 < 8 * weight (form_of c.args.strategy.now (arc_value c.args.dtype)) + 5 = omega arith in
+    let n : IsFalse (passes_on (strategy_data c.args.strategy.now) (ty (arc_value c.args.dtype))) = sym (c.passes_on.ensures ∙ ap (λ z. passes_on (strategy_data c.args.strategy.now) (ty z)) c.deref.ensures) ∙ c.if-not-passes_on.true in
+    search (rules, arith, c.requires.owned, c.requires.built, n, falls)
+
+pub start_task-start_settled-task-requires : goal.start_task-start_settled-task-requires
+start_task-start_settled-task-requires g t c κs within =
+    let w : StrategyData = strategy_data c.args.strategy.now in
+    let u : Ty = ty (arc_value c.args.dtype) in
+    let e : strategy_data c.in-Ok.found ≡ settled w u = c.in-Ok.ensures ∙ ap (λ z. settled w (ty z)) c.deref-settled.ensures in
+    let b : IsTrue (is_built (strategy_data c.in-Ok.found)) = subst (λ z. IsTrue (is_built z)) (sym e) (settled_built w u c.requires.built) in
+    let n : IsFalse (passes_on (strategy_data c.in-Ok.found) u) = subst (λ z. IsFalse (passes_on z u)) (sym e) (no_other w u) in
+    let f : weight (form_at (strategy_data c.in-Ok.found) u) ≡ weight (form_at w u) = ap weight (ap (λ z. form_at z u) e ∙ settled_form w u) in
+    let falls : 8 * weight (form_at (strategy_data c.in-Ok.found) u) + 4 < 8 * weight (form_at w u) + 5 = omega (arith, f) in
+    search (rules, arith, c.requires.owned, b, n, falls)
+
+pub start_task-returns-clause-shows : goal.start_task-returns-clause-shows
+start_task-returns-clause-shows g t c =
+    let w : StrategyData = strategy_data c.args.strategy.now in
+    let u : Ty = ty (arc_value c.args.dtype) in
+    let e : strategy_data c.in-Ok.found ≡ settled w u = c.in-Ok.ensures ∙ ap (λ z. settled w (ty z)) c.deref-settled.ensures in
+    subst (λ z. IfOk c.start_settled-task.result (Started z c.args.marked c.args.name c.args.eof)) (ap (λ z. form_at z u) e ∙ settled_form w u) c.start_settled-task.ensures.shows
+
+pub start_task-returns-clause-refused : goal.start_task-returns-clause-refused
+start_task-returns-clause-refused g t c =
+    let w : StrategyData = strategy_data c.args.strategy.now in
+    let u : Ty = ty (arc_value c.args.dtype) in
+    let e : strategy_data c.in-Ok.found ≡ settled w u = c.in-Ok.ensures ∙ ap (λ z. settled w (ty z)) c.deref-settled.ensures in
+    subst (λ z. IfErr c.start_settled-task.result (StartRefused (λ s. start_fault s z c.args.marked) (first_indices z c.args.eof))) (ap (λ z. form_at z u) e ∙ settled_form w u) c.start_settled-task.ensures.refused
 
 -- ---- a task
 
-pub start_task-returns-in-Flat-clause-moved : goal.start_task-returns-in-Flat-clause-moved
-start_task-returns-in-Flat-clause-moved g t c =
+pub start_settled-returns-in-Flat-clause-moved : goal.start_settled-returns-in-Flat-clause-moved
+start_settled-returns-in-Flat-clause-moved g t c =
     alone_moved (g.O.Order.active c.args.order.now) (g.O.Order.active c.give_up_pointer.new.order) (end_stock c.args.eof) none c.waiting.result c.new.result.items c.new.ensures.items c.waiting.ensures.held c.give_up_pointer.ensures.moved
 
-pub start_task-returns-in-Flat-clause-shows : goal.start_task-returns-in-Flat-clause-shows
-start_task-returns-in-Flat-clause-shows g t c =
+pub start_settled-returns-in-Flat-clause-shows : goal.start_settled-returns-in-Flat-clause-shows
+start_settled-returns-in-Flat-clause-shows g t c =
     subst (λ s. Started (form_at (strategy_data s) (ty (arc_value c.args.dtype))) c.args.marked c.args.name c.args.eof c.waiting.result) (sym c.in-Flat.is)
     (started (form_at (strategy_data (Flat c.in-Flat.options)) (ty (arc_value c.args.dtype))) c.args.marked c.args.name c.args.eof (Empty (record { options = c.in-Flat.options; dtype = c.args.dtype })) c.new.result.items c.waiting.result
     (λ s. refl) (λ a. none_fit) refl (ap row c.new.ensures.items) c.waiting.ensures.shows)
 
-pub start_task-returns-in-Chunked-clause-shows : goal.start_task-returns-in-Chunked-clause-shows
-start_task-returns-in-Chunked-clause-shows g t c =
+pub start_settled-returns-in-Chunked-clause-shows : goal.start_settled-returns-in-Chunked-clause-shows
+start_settled-returns-in-Chunked-clause-shows g t c =
     subst (λ s. IfOk c.start_chunked.result (Started (form_at (strategy_data s) (ty (arc_value c.args.dtype))) c.args.marked c.args.name c.args.eof)) (sym c.in-Chunked.is) c.start_chunked.ensures.shows
 
-pub start_task-returns-in-Chunked-clause-refused : goal.start_task-returns-in-Chunked-clause-refused
-start_task-returns-in-Chunked-clause-refused g t c =
+pub start_settled-returns-in-Chunked-clause-refused : goal.start_settled-returns-in-Chunked-clause-refused
+start_settled-returns-in-Chunked-clause-refused g t c =
     IfErr-weaker c.start_chunked.result (λ e. e ≡ OutOfMemory) _ (λ e h. memory_refused _ _ e h) c.start_chunked.ensures.memory
 
-pub start_task-returns-in-Ok-clause-shows : goal.start_task-returns-in-Ok-clause-shows
-start_task-returns-in-Ok-clause-shows g t c =
+pub start_settled-returns-in-Ok-clause-shows : goal.start_settled-returns-in-Ok-clause-shows
+start_settled-returns-in-Ok-clause-shows g t c =
     let d : ty (arc_value c.in-Ok.node.dtype) ≡ ty (arc_value c.args.dtype) = ap (λ z. ty (arc_value z)) c.in-Ok.ensures.node in
     let f : columns_form c.in-Struct.fields (ty (arc_value c.in-Ok.node.dtype)) ≡ form_at (strategy_data c.args.strategy.now) (ty (arc_value c.args.dtype)) =
     ap (columns_form c.in-Struct.fields) d
@@ -62,8 +103,8 @@ start_task-returns-in-Ok-clause-shows g t c =
     ∙ ap (λ s. form_at (strategy_data s) (ty (arc_value c.args.dtype))) (sym c.in-Struct.is) in
     subst (λ z. IfOk c.start_columns.result (Started z c.args.marked c.args.name c.args.eof)) f c.start_columns.ensures.shows
 
-pub start_task-returns-in-Ok-clause-refused : goal.start_task-returns-in-Ok-clause-refused
-start_task-returns-in-Ok-clause-refused g t c =
+pub start_settled-returns-in-Ok-clause-refused : goal.start_settled-returns-in-Ok-clause-refused
+start_settled-returns-in-Ok-clause-refused g t c =
     let d : ty (arc_value c.in-Ok.node.dtype) ≡ ty (arc_value c.args.dtype) = ap (λ z. ty (arc_value z)) c.in-Ok.ensures.node in
     let f : columns_form c.in-Struct.fields (ty (arc_value c.in-Ok.node.dtype)) ≡ form_at (strategy_data c.args.strategy.now) (ty (arc_value c.args.dtype)) =
     ap (columns_form c.in-Struct.fields) d
@@ -71,17 +112,58 @@ start_task-returns-in-Ok-clause-refused g t c =
     ∙ ap (λ s. form_at (strategy_data s) (ty (arc_value c.args.dtype))) (sym c.in-Struct.is) in
     subst (λ z. IfErr c.start_columns.result (StartRefused (λ s. start_fault s z c.args.marked) (first_indices z c.args.eof))) f c.start_columns.ensures.refused
 
-pub start_task-returns-in-Err-clause-refused : goal.start_task-returns-in-Err-clause-refused
-start_task-returns-in-Err-clause-refused g t c =
+pub start_settled-returns-in-Err-clause-refused : goal.start_settled-returns-in-Err-clause-refused
+start_settled-returns-in-Err-clause-refused g t c =
     subst (λ s. StartRefused (λ x. start_fault x (form_at (strategy_data s) (ty (arc_value c.args.dtype))) c.args.marked) (first_indices (form_at (strategy_data s) (ty (arc_value c.args.dtype))) c.args.eof) c.in-Err.error) (sym c.in-Struct.is)
     (node_refused c.in-Struct.fields (ty (arc_value c.args.dtype)) c.args.marked (first_indices (form_at (struct_way c.in-Struct.fields) (ty (arc_value c.args.dtype))) c.args.eof) c.in-Err.error c.in-Err.ensures.refused)
 
-pub start_task-start_columns-requires : goal.start_task-start_columns-requires
-start_task-start_columns-requires g t c κs within =
+pub start_settled-start_columns-requires : goal.start_settled-start_columns-requires
+start_settled-start_columns-requires g t c κs within =
     let b : IsTrue (is_built (struct_way c.in-Struct.fields)) = subst (λ s. IsTrue (is_built (strategy_data s))) c.in-Struct.is c.requires.built in
-    let n : weight (strategy_data c.args.strategy.now) ≡ weight (struct_way c.in-Struct.fields) = ap (λ s. weight (strategy_data s)) c.in-Struct.is in
-    let falls : 8 * weight (struct_way c.in-Struct.fields) + 3 < 8 * weight (strategy_data c.args.strategy.now) + 4 = omega (arith, n) in
+    let d : ty (arc_value c.in-Ok.node.dtype) ≡ ty (arc_value c.args.dtype) = ap (λ z. ty (arc_value z)) c.in-Ok.ensures.node in
+    let f : columns_form c.in-Struct.fields (ty (arc_value c.in-Ok.node.dtype)) ≡ form_at (strategy_data c.args.strategy.now) (ty (arc_value c.args.dtype)) =
+    ap (columns_form c.in-Struct.fields) d
+    ∙ sym (plain_form c.in-Struct.fields (ty (arc_value c.args.dtype)) (subst (λ z. IsTrue (is_struct z)) d c.in-Ok.node.structs) c.in-Ok.ensures.distinct)
+    ∙ ap (λ s. form_at (strategy_data s) (ty (arc_value c.args.dtype))) (sym c.in-Struct.is) in
+    let n : weight (columns_form c.in-Struct.fields (ty (arc_value c.in-Ok.node.dtype))) ≡ weight (form_of c.args.strategy.now (arc_value c.args.dtype)) = ap weight f in
+    let falls : 8 * weight (columns_form c.in-Struct.fields (ty (arc_value c.in-Ok.node.dtype))) + 3 < 8 * weight (form_of c.args.strategy.now (arc_value c.args.dtype)) + 4 = omega (arith, n) in
     search (rules, arith, c.requires.owned, b, falls)
+
+pub start_settled-start_lists-requires : goal.start_settled-start_lists-requires
+start_settled-start_lists-requires g t c κs within =
+    let u : Ty = ty (arc_value c.args.dtype) in
+    let s = c.in-List.lists in
+    let b : IsTrue (is_built (list_way s)) = subst (λ z. IsTrue (is_built (strategy_data z))) c.in-List.is c.requires.built in
+    let l : is_list u ≡ true = list_at s u (subst (λ z. IsFalse (passes_on (strategy_data z) u)) c.in-List.is c.requires.settled) in
+    let d : ty (arc_value c.in-Ok.node.dtype) ≡ u = ap (λ z. ty (arc_value z)) c.in-Ok.ensures.node.0 in
+    let h : c.in-Ok.node.split ≡ state_at (ty (arc_value c.in-Ok.node.dtype)) true 0 = c.in-Ok.ensures.node.1 ∙ ap (λ z. state_at z true 0) (sym d) in
+    let f : lists_form s (ty (arc_value c.in-Ok.node.dtype)) ≡ form_at (strategy_data c.args.strategy.now) u =
+    ap (lists_form s) d ∙ sym (list_plain s u l) ∙ ap (λ z. form_at (strategy_data z) u) (sym c.in-List.is) in
+    let n : weight (lists_form s (ty (arc_value c.in-Ok.node.dtype))) ≡ weight (form_at (strategy_data c.args.strategy.now) u) = ap weight f in
+    let falls : 8 * weight (lists_form s (ty (arc_value c.in-Ok.node.dtype))) + 3 < 8 * weight (form_at (strategy_data c.args.strategy.now) u) + 4 = omega (arith, n) in
+    search (rules, arith, c.requires.owned, b, h, falls)
+
+pub start_settled-lists_node-requires : goal.start_settled-lists_node-requires
+start_settled-lists_node-requires g t c =
+    list_at c.in-List.lists (ty (arc_value c.args.dtype)) (subst (λ z. IsFalse (passes_on (strategy_data z) (ty (arc_value c.args.dtype)))) c.in-List.is c.requires.settled)
+
+pub start_settled-returns-in-List-in-Ok-clause-shows : goal.start_settled-returns-in-List-in-Ok-clause-shows
+start_settled-returns-in-List-in-Ok-clause-shows g t c =
+    let u : Ty = ty (arc_value c.args.dtype) in
+    let s = c.in-List.lists in
+    let l : is_list u ≡ true = list_at s u (subst (λ z. IsFalse (passes_on (strategy_data z) u)) c.in-List.is c.requires.settled) in
+    let f : lists_form s (ty (arc_value c.in-Ok.node.dtype)) ≡ form_at (strategy_data c.args.strategy.now) u =
+    ap (λ z. lists_form s (ty (arc_value z))) c.in-Ok.ensures.node.0 ∙ sym (list_plain s u l) ∙ ap (λ z. form_at (strategy_data z) u) (sym c.in-List.is) in
+    subst (λ z. IfOk c.start_lists.result (Started z c.args.marked c.args.name c.args.eof)) f c.start_lists.ensures.shows
+
+pub start_settled-returns-in-List-in-Ok-clause-refused : goal.start_settled-returns-in-List-in-Ok-clause-refused
+start_settled-returns-in-List-in-Ok-clause-refused g t c =
+    let u : Ty = ty (arc_value c.args.dtype) in
+    let s = c.in-List.lists in
+    let l : is_list u ≡ true = list_at s u (subst (λ z. IsFalse (passes_on (strategy_data z) u)) c.in-List.is c.requires.settled) in
+    let f : lists_form s (ty (arc_value c.in-Ok.node.dtype)) ≡ form_at (strategy_data c.args.strategy.now) u =
+    ap (λ z. lists_form s (ty (arc_value z))) c.in-Ok.ensures.node.0 ∙ sym (list_plain s u l) ∙ ap (λ z. form_at (strategy_data z) u) (sym c.in-List.is) in
+    subst (λ z. IfErr c.start_lists.result (StartRefused (λ s. start_fault s z c.args.marked) (first_indices z c.args.eof))) f c.start_lists.ensures.refused
 
 -- ---- a struct's columns
 
@@ -89,7 +171,8 @@ pub start_columns-start_each-started-requires : goal.start_columns-start_each-st
 start_columns-start_each-started-requires g t c κs within =
     let u : Active = g.O.Order.active c.args.order.now in
     let o : Owned u (both (end_stock c.args.eof) (tasks_stock c.new-kids.result.items)) = none_yet u u (end_stock c.args.eof) c.new-kids.result.items c.new-kids.ensures.items c.requires.owned in
-    let falls : 8 * weight (struct_way c.args.fields.now) + 2 < 8 * weight (struct_way c.args.fields.now) + 3 = omega arith in
+    let n : weight (columns_form c.args.fields.now (ty c.deref.result.now)) ≡ weight (columns_form c.args.fields.now (ty (arc_value c.args.node.dtype))) = ap (λ z. weight (columns_form c.args.fields.now (ty z))) c.deref.ensures in
+    let falls : 8 * weight (columns_form c.args.fields.now (ty c.deref.result.now)) + 2 < 8 * weight (columns_form c.args.fields.now (ty (arc_value c.args.node.dtype))) + 3 = omega (arith, n) in
     search (rules, arith, o, c.requires.built, falls)
 
 pub start_columns-give_up_pointer-requires : goal.start_columns-give_up_pointer-requires
@@ -146,12 +229,81 @@ start_columns-returns-in-Err-clause-moved g t c =
     let m : Moved u v e (both f k) = from_none u v e c.new-kids.result.items c.new-kids.ensures.items (both f k) c.start_each-started.ensures.moved in
     moved_then u w (g.O.Order.active c.refuse_all.new.order) e k none (kids_left u v e f k c.requires.owned m w c.give_up_pointer.ensures.moved) c.refuse_all.ensures.moved
 
+-- ---- a list's columns
+
+pub start_lists-start_parts-started-requires : goal.start_lists-start_parts-started-requires
+start_lists-start_parts-started-requires g t c κs within =
+    let u : Active = g.O.Order.active c.args.order.now in
+    let o : Owned u (both (end_stock c.args.eof) (tasks_stock c.new-kids.result.items)) = none_yet u u (end_stock c.args.eof) c.new-kids.result.items c.new-kids.ensures.items c.requires.owned in
+    let l : IsTrue (is_list (ty c.deref.result.now)) = subst (λ z. IsTrue (is_list (ty z))) (sym c.deref.ensures) c.args.node.lists in
+    let n : weight (lists_form c.args.lists.now (ty c.deref.result.now)) ≡ weight (lists_form c.args.lists.now (ty (arc_value c.args.node.dtype))) = ap (λ z. weight (lists_form c.args.lists.now (ty z))) c.deref.ensures in
+    let falls : 8 * weight (lists_form c.args.lists.now (ty c.deref.result.now)) + 2 < 8 * weight (lists_form c.args.lists.now (ty (arc_value c.args.node.dtype))) + 3 = omega (arith, n) in
+    search (rules, arith, o, c.requires.built, l, falls)
+
+pub start_lists-give_up_pointer-requires : goal.start_lists-give_up_pointer-requires
+start_lists-give_up_pointer-requires g t c =
+    let u : Active = g.O.Order.active c.args.order.now in
+    let v : Active = g.O.Order.active c.start_parts-started.new.order in
+    let e : Stock = end_stock c.args.eof in
+    let f : Stock = end_stock c.start_parts-started.new.eof in
+    let k : Stock = tasks_stock c.start_parts-started.new.kids.items in
+    pointer_owned u v e f k c.requires.owned (from_none u v e c.new-kids.result.items c.new-kids.ensures.items (both f k) c.start_parts-started.ensures.moved)
+
+pub start_lists-returns-in-Ok-clause-moved : goal.start_lists-returns-in-Ok-clause-moved
+start_lists-returns-in-Ok-clause-moved g t c =
+    let u : Active = g.O.Order.active c.args.order.now in
+    let v : Active = g.O.Order.active c.start_parts-started.new.order in
+    let w : Active = g.O.Order.active c.give_up_pointer.new.order in
+    let e : Stock = end_stock c.args.eof in
+    let f : Stock = end_stock c.start_parts-started.new.eof in
+    let k : Stock = tasks_stock c.start_parts-started.new.kids.items in
+    let m : Moved u v e (both f k) = from_none u v e c.new-kids.result.items c.new-kids.ensures.items (both f k) c.start_parts-started.ensures.moved in
+    held_kids u w e k c.waiting.result c.waiting.ensures.held (kids_left u v e f k c.requires.owned m w c.give_up_pointer.ensures.moved)
+
+pub start_lists-returns-in-Ok-clause-shows : goal.start_lists-returns-in-Ok-clause-shows
+start_lists-returns-in-Ok-clause-shows g t c =
+    let u : Ty = ty (arc_value c.args.node.dtype) in
+    let h : AllStarted (lists_form c.args.lists.now u) c.args.marked c.args.name c.args.eof c.start_parts-started.new.kids.items =
+    subst (λ z. AllStarted (lists_form c.args.lists.now (ty z)) c.args.marked c.args.name c.args.eof c.start_parts-started.new.kids.items) c.deref.ensures (c.in-Ok.ensures.shows c.new-kids.ensures.items) in
+    started (lists_form c.args.lists.now u) c.args.marked c.args.name c.args.eof (Lists c.args.node 0) c.start_parts-started.new.kids.items c.waiting.result
+    h.allowed h.counted (list_mind c.args.node c.args.lists.now c.args.marked c.args.eof c.requires.fresh) h.tasks c.waiting.ensures.shows
+
+pub start_lists-returns-in-Err-clause-refused : goal.start_lists-returns-in-Err-clause-refused
+start_lists-returns-in-Err-clause-refused g t c =
+    subst (λ z. StartRefused (λ s. start_fault s (lists_form c.args.lists.now (ty z)) c.args.marked) (first_indices (lists_form c.args.lists.now (ty z)) c.args.eof) c.in-Err.error) c.deref.ensures c.in-Err.ensures.refused
+
+pub start_lists-refuse_all-requires : goal.start_lists-refuse_all-requires
+start_lists-refuse_all-requires g t c =
+    let u : Active = g.O.Order.active c.args.order.now in
+    let v : Active = g.O.Order.active c.start_parts-started.new.order in
+    let w : Active = g.O.Order.active c.give_up_pointer.new.order in
+    let e : Stock = end_stock c.args.eof in
+    let f : Stock = end_stock c.start_parts-started.new.eof in
+    let k : Stock = tasks_stock c.start_parts-started.new.kids.items in
+    let m : Moved u v e (both f k) = from_none u v e c.new-kids.result.items c.new-kids.ensures.items (both f k) c.start_parts-started.ensures.moved in
+    left_owned u v e f k c.requires.owned m w c.give_up_pointer.ensures.moved
+
+pub start_lists-returns-in-Err-clause-moved : goal.start_lists-returns-in-Err-clause-moved
+start_lists-returns-in-Err-clause-moved g t c =
+    let u : Active = g.O.Order.active c.args.order.now in
+    let v : Active = g.O.Order.active c.start_parts-started.new.order in
+    let w : Active = g.O.Order.active c.give_up_pointer.new.order in
+    let e : Stock = end_stock c.args.eof in
+    let f : Stock = end_stock c.start_parts-started.new.eof in
+    let k : Stock = tasks_stock c.start_parts-started.new.kids.items in
+    let m : Moved u v e (both f k) = from_none u v e c.new-kids.result.items c.new-kids.ensures.items (both f k) c.start_parts-started.ensures.moved in
+    moved_then u w (g.O.Order.active c.refuse_all.new.order) e k none (kids_left u v e f k c.requires.owned m w c.give_up_pointer.ensures.moved) c.refuse_all.ensures.moved
+
 -- ---- each of them
 
 pub start_each-start_validity-requires : goal.start_each-start_validity-requires
 start_each-start_validity-requires g t c κs within =
-    let falls : 8 * weight (struct_way c.args.fields.now) + 1 < 8 * weight (struct_way c.args.fields.now) + 2 = omega arith in
-    search (rules, arith, c.requires.owned, c.requires.built, falls)
+    let s = c.args.fields.now in
+    let p = struct_built s.validity.item s.default.item (field_ways s.writers.items) c.requires.built in
+    let b : IsTrue (is_built c.validity-validity.result.now.item) = subst (λ x. IsTrue (is_built x.item)) (sym c.validity-validity.ensures) p.0 in
+    let n : weight (form_at c.validity-validity.result.now.item (boolean false)) ≡ weight (validity_form s) = ap (λ x. weight (form_at x.item (boolean false))) c.validity-validity.ensures in
+    let falls : 8 * weight (form_at c.validity-validity.result.now.item (boolean false)) + 8 < 8 * weight (columns_form s (ty c.args.dtype.now)) + 2 = omega (arith, n) in
+    search (rules, arith, c.requires.owned, b, falls)
 
 pub start_each-fields-init : goal.start_each-fields-init
 start_each-fields-init g t c = record {
@@ -172,7 +324,12 @@ start_each-returns-in_err-start_validity-clause-refused g t c =
 
 pub start_each-start_field-requires : goal.start_each-start_field-requires
 start_each-start_field-requires g t c κs within =
-    let falls : 8 * weight (struct_way c.args.fields.now) + 1 < 8 * weight (struct_way c.args.fields.now) + 2 = omega arith in
+    let s = c.args.fields.now in
+    let x : StructField = c.field-item.result in
+    let h : c.fields.field-index < length c.fields_in-columns.result.now = omega arith in
+    let a = field_weight s c.fields_in-columns.result.now c.fields.field-index x h c.field-item.is in
+    let b : weights (field_forms s (map field_ty c.fields_in-columns.result.now)) ≡ weights (field_forms s (fields_of (ty c.args.dtype.now))) = ap (λ z. weights (field_forms s z)) c.fields_in-columns.ensures in
+    let falls : 8 * weight (field_form s (field_ty x)) + 8 < 8 * weight (columns_form s (ty c.args.dtype.now)) + 2 = omega (arith, a, b) in
     search (rules, arith, c.fields.invariant.owned, c.requires.built, falls)
 
 pub start_each-returns-in_err-start_field-clause-moved : goal.start_each-returns-in_err-start_field-clause-moved
@@ -221,34 +378,54 @@ start_each-fields-preserved g t c = record {
       c.in_ok-start_field.ensures.shows;
 }
 
+-- ---- elements, offsets and validity
+
+pub start_parts-start_column-requires : goal.start_parts-start_column-requires
+start_parts-start_column-requires g t c κs within =
+    let s = c.args.lists.now in
+    let p = list_built s.elements.item s.offsets.item s.validity.item s.fallback.item c.requires.built in
+    let u : Ty = ty (arc_value c.in_ok-elements.elements) in
+    let n : weight (form_at s.elements.item u) ≡ weight (form_at s.elements.item (element_type (ty c.args.dtype.now))) = ap (λ z. weight (form_at s.elements.item z)) (ap ty c.in_ok-elements.ensures.ok ∙ c.in_ok-element_copy.ensures) in
+    let falls : 8 * weight (form_at s.elements.item u) + 7 < 8 * weight (lists_form s (ty c.args.dtype.now)) + 2 = omega (arith, n) in
+    search (rules, arith, c.requires.owned, p.0, falls)
+
+pub start_parts-start_column-requires-2 : goal.start_parts-start_column-requires-2
+start_parts-start_column-requires-2 g t c κs within =
+    let s = c.args.lists.now in
+    let p = list_built s.elements.item s.offsets.item s.validity.item s.fallback.item c.requires.built in
+    let u : Ty = ty (arc_value c.in_ok-offsets.offsets) in
+    let o : Owned (g.O.Order.active c.start_column.new.order) (both (end_stock c.start_column.new.eof) (tasks_stock c.start_column.new.kids.items)) =
+    owned_now (g.O.Order.active c.args.order.now) (g.O.Order.active c.start_column.new.order) (both (end_stock c.args.eof.now) (tasks_stock c.args.kids.now.items)) (both (end_stock c.start_column.new.eof) (tasks_stock c.start_column.new.kids.items)) c.requires.owned c.start_column.ensures.moved in
+    let n : weight (form_at s.offsets.item u) ≡ weight (form_at s.offsets.item offset_type) = ap (λ z. weight (form_at s.offsets.item z)) (ap ty c.in_ok-offsets.ensures.ok ∙ ty_offsets) in
+    let falls : 8 * weight (form_at s.offsets.item u) + 7 < 8 * weight (lists_form s (ty c.args.dtype.now)) + 2 = omega (arith, n) in
+    search (rules, arith, o, p.1, falls)
+
 -- ---- the validity, and a field
 
 pub start_validity-start_column-requires : goal.start_validity-start_column-requires
 start_validity-start_column-requires g t c κs within =
-    let s = c.args.fields.now in
-    let p = struct_built s.validity.item s.default.item (field_ways s.writers.items) c.requires.built in
-    let b : IsTrue (is_built c.validity.result.now.item) = subst (λ x. IsTrue (is_built x.item)) (sym c.validity.ensures) p.0 in
-    let n : weight c.validity.result.now.item ≡ weight s.validity.item = ap (λ x. weight x.item) c.validity.ensures in
-    let falls : 8 * weight c.validity.result.now.item + 6 < 8 * weight (struct_way s) + 1 = omega (arith, n) in
-    search (rules, arith, c.requires.owned, b, falls)
+    let w = c.args.validity.now.item in
+    let n : weight (form_at w (ty (arc_value c.in_ok-flags.flags))) ≡ weight (form_at w (boolean false)) = ap (λ z. weight (form_at w z)) (ap ty c.in_ok-flags.ensures.ok ∙ ty_flags) in
+    let falls : 8 * weight (form_at w (ty (arc_value c.in_ok-flags.flags))) + 7 < 8 * weight (form_at w (boolean false)) + 8 = omega (arith, n) in
+    search (rules, arith, c.requires.owned, c.requires.built, falls)
 
 pub start_validity-returns-then-not-nullable-clause-shows : goal.start_validity-returns-then-not-nullable-clause-shows
 start_validity-returns-then-not-nullable-clause-shows g t c =
-    subst (λ z. ManyStarted (validity_forms c.args.fields.now z) c.args.marked c.args.name.now c.args.eof.now c.args.kids.now.items c.args.eof.now c.args.kids.now.items) (sym c.if-not-nullable.true)
+    subst (λ z. ManyStarted (validity_forms c.args.validity.now.item z) c.args.marked c.args.name.now c.args.eof.now c.args.kids.now.items c.args.eof.now c.args.kids.now.items) (sym c.if-not-nullable.true)
     (none_started c.args.marked c.args.name.now c.args.eof.now c.args.kids.now.items)
 
 pub start_validity-returns-clause-shows : goal.start_validity-returns-clause-shows
 start_validity-returns-clause-shows g t c =
-    let f : form_at c.validity.result.now.item (ty (arc_value c.in_ok-flags.flags)) ≡ validity_form c.args.fields.now =
-    (λ j. form_at ((c.validity.ensures j).item) (ty (c.in_ok-flags.ensures.ok j))) ∙ ap (form_at c.args.fields.now.validity.item) ty_flags in
-    subst (λ z. OnOk c.start_column.result (ManyStarted (validity_forms c.args.fields.now z) c.args.marked c.args.name.now c.args.eof.now c.args.kids.now.items c.start_column.new.eof c.start_column.new.kids.items)) (sym c.if-not-nullable.false)
+    let w = c.args.validity.now.item in
+    let f : form_at w (ty (arc_value c.in_ok-flags.flags)) ≡ form_at w (boolean false) = ap (form_at w) (ap ty c.in_ok-flags.ensures.ok ∙ ty_flags) in
+    subst (λ z. OnOk c.start_column.result (ManyStarted (validity_forms w z) c.args.marked c.args.name.now c.args.eof.now c.args.kids.now.items c.start_column.new.eof c.start_column.new.kids.items)) (sym c.if-not-nullable.false)
     (subst (λ z. OnOk c.start_column.result (OneStarted z c.args.marked c.args.name.now c.args.eof.now c.args.kids.now.items c.start_column.new.eof c.start_column.new.kids.items)) f c.start_column.ensures.shows)
 
 pub start_validity-returns-clause-refused : goal.start_validity-returns-clause-refused
 start_validity-returns-clause-refused g t c =
-    let f : form_at c.validity.result.now.item (ty (arc_value c.in_ok-flags.flags)) ≡ validity_form c.args.fields.now =
-    (λ j. form_at ((c.validity.ensures j).item) (ty (c.in_ok-flags.ensures.ok j))) ∙ ap (form_at c.args.fields.now.validity.item) ty_flags in
-    subst (λ z. IfErr c.start_column.result (ManyRefused (validity_forms c.args.fields.now z) c.args.marked c.args.eof.now)) (sym c.if-not-nullable.false)
+    let w = c.args.validity.now.item in
+    let f : form_at w (ty (arc_value c.in_ok-flags.flags)) ≡ form_at w (boolean false) = ap (form_at w) (ap ty c.in_ok-flags.ensures.ok ∙ ty_flags) in
+    subst (λ z. IfErr c.start_column.result (ManyRefused (validity_forms w z) c.args.marked c.args.eof.now)) (sym c.if-not-nullable.false)
     (subst (λ z. IfErr c.start_column.result (OneRefused z c.args.marked c.args.eof.now)) f c.start_column.ensures.refused)
 
 pub start_field-returns-clause-shows : goal.start_field-returns-clause-shows
@@ -268,7 +445,9 @@ start_field-start_column-requires g t c κs within =
     let s = c.args.fields.now in
     let p = struct_built s.validity.item s.default.item (field_ways s.writers.items) c.requires.built in
     let b : IsTrue (is_built c.writer-writer.result.now.item) = subst (λ x. IsTrue (is_built x)) (sym c.writer-writer.ensures) (writer_built c.args.field.now.name (field_ways s.writers.items) s.default.item p.2 p.1) in
-    let falls : 8 * weight c.writer-writer.result.now.item + 6 < 8 * weight (struct_way s) + 1 = omega (arith, ap weight c.writer-writer.ensures, writer_weight c.args.field.now.name (field_ways s.writers.items) s.default.item) in
+    let n : weight (form_at c.writer-writer.result.now.item (ty (arc_value c.in_ok-dtype.dtype))) ≡ weight (field_form s (field_ty c.args.field.now)) =
+    ap weight (field_form_is s c.args.field.now c.writer-writer.result.now.item (ty (arc_value c.in_ok-dtype.dtype)) c.writer-writer.ensures (ap ty c.in_ok-dtype.ensures.ok ∙ c.in_ok-clone.ensures.cases)) in
+    let falls : 8 * weight (form_at c.writer-writer.result.now.item (ty (arc_value c.in_ok-dtype.dtype))) + 7 < 8 * weight (field_form s (field_ty c.args.field.now)) + 8 = omega (arith, n) in
     search (rules, arith, c.requires.owned, b, falls)
 
 -- ---- one more child
@@ -283,7 +462,7 @@ pub start_column-start_under-requires : goal.start_column-start_under-requires
 start_column-start_under-requires g t c κs within =
     let u : Active = g.O.Order.active c.args.order.now in
     let o : Owned u (end_stock c.args.eof.now) = owned_left u (end_stock c.args.eof.now) (tasks_stock c.args.kids.now.items) c.requires.owned in
-    let falls : 8 * weight c.args.writer.now.item + 5 < 8 * weight c.args.writer.now.item + 6 = omega arith in
+    let falls : 8 * weight (form_at c.args.writer.now.item (ty (arc_value c.args.dtype))) + 6 < 8 * weight (form_at c.args.writer.now.item (ty (arc_value c.args.dtype))) + 7 = omega arith in
     search (rules, arith, o, c.requires.built, falls)
 
 pub start_column-returns-in_err-kid-clause-moved : goal.start_column-returns-in_err-kid-clause-moved
@@ -312,8 +491,8 @@ start_under-start_task-requires g t c κs within =
     let v : Active = g.O.Order.active c.split_below.new.order in
     let o : Owned v (end_stock c.in-Ok.below) = off_owned (g.O.Order.active c.args.order.now) v (end_stock c.args.eof.now) (end_stock c.split_below.new.eof) (end_stock c.in-Ok.below) c.requires.owned c.in-Ok.ensures.moved in
     let b : IsTrue (is_built (strategy_data c.strategy.result.now)) = subst (λ x. IsTrue (is_built x)) (sym c.strategy.ensures.same) c.requires.built in
-    let n : weight (strategy_data c.strategy.result.now) ≡ weight c.args.writer.now.item = ap weight c.strategy.ensures.same in
-    let falls : 8 * weight (strategy_data c.strategy.result.now) + 4 < 8 * weight c.args.writer.now.item + 5 = omega (arith, n) in
+    let n : weight (form_of c.strategy.result.now (arc_value c.args.dtype)) ≡ weight (form_at c.args.writer.now.item (ty (arc_value c.args.dtype))) = ap (λ z. weight (form_at z (ty (arc_value c.args.dtype)))) c.strategy.ensures.same in
+    let falls : 8 * weight (form_of c.strategy.result.now (arc_value c.args.dtype)) + 5 < 8 * weight (form_at c.args.writer.now.item (ty (arc_value c.args.dtype))) + 6 = omega (arith, n) in
     search (rules, arith, o, b, falls)
 
 pub start_under-returns-in-Ok-clause-moved : goal.start_under-returns-in-Ok-clause-moved

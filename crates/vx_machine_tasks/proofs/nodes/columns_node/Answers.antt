@@ -4,7 +4,7 @@ use Rattle.vx_model.specs.TyView.{ty}
 use Rattle.vx_machine_tasks.specs.Causes.{StartMay}
 use Rattle.vx_machine_tasks.specs.Starting.{NodeRefused}
 use Rattle.vx_machine_tasks.proofs.CauseSteps.{split_starts, split_refused}
-use Rattle.vx_machine_tasks.proofs.start.columns_node.Goals as goal
+use Rattle.vx_machine_tasks.proofs.nodes.columns_node.Goals as goal
 
 pub returns-in-Err-clause-cause : goal.returns-in-Err-clause-cause
 returns-in-Err-clause-cause c = subst (λ e. StartMay e) (sym c.into.ensures) (split_starts (ty c.in-Ok.copy) c.in-Err.error c.in-Err.ensures.refused)
