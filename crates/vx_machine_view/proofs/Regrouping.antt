@@ -77,12 +77,18 @@ module _ (s : Setting) (number : List ℕ → ℕ) (segment_number : ℕ) (all :
       (λ y c w k. typed_append n.type _ _ (cut_typed n.type (y ++ cells c) (sizes_at o n.type y c)) (last_typed n.type (left_over (y ++ cells c) (sizes_at o n.type y c))))
       (λ left new done todo deep y p rows outs w tp np gr. regroups_rows o n y p rows outs tp np gr)
       x j rows tt tj nh one un
-  blocks_idle o n x j rows tj nh is_type one un (i ∷ xs) closed ty =
+  blocks_idle o n x None rows tj nh is_type one un (i ∷ xs) closed ty =
       take_own s number segment_number all d q0 j0 q places ks more hs r past law pl sm kids (block_grouper o n.type) (by_block (block_len o n.type) o.minimum n.type) (blocks_local o n) n.type (λ rows. rows) (λ z. Unit {0}) NoneHeld (λ y p rows k. refl)
       (blocks_regroup o n.type).keeps (blocks_regroup o n.type).all (λ y e. e) (λ y p. tt) (λ y c w k. (cut_typed n.type (y ++ cells c) (sizes_at o n.type y c), tt))
       (λ y c w k. typed_append n.type _ _ (cut_typed n.type (y ++ cells c) (sizes_at o n.type y c)) (last_typed n.type (left_over (y ++ cells c) (sizes_at o n.type y c))))
       (λ left new done todo deep y p rows outs w tp np gr. regroups_rows o n y p rows outs tp np gr)
-      x j rows _ i (ap not (type_fits n.type i.1 (subst (λ z. Typed z i.1) is_type ty.0))) tt tj nh is_type one un xs closed ty
+      x None rows _ i (ap not (type_fits n.type i.1 (subst (λ z. Typed z i.1) is_type ty.0))) tt tj nh is_type one un xs closed ty
+  blocks_idle o n x (Some p) rows tj nh is_type one un (i ∷ xs) closed ty =
+      take_own s number segment_number all d q0 j0 q places ks more hs r past law pl sm kids (block_grouper o n.type) (by_block (block_len o n.type) o.minimum n.type) (blocks_local o n) n.type (λ rows. rows) (λ z. Unit {0}) NoneHeld (λ y w rows k. refl)
+      (blocks_regroup o n.type).keeps (blocks_regroup o n.type).all (λ y e. e) (λ y w. tt) (λ y c w k. (cut_typed n.type (y ++ cells c) (sizes_at o n.type y c), tt))
+      (λ y c w k. typed_append n.type _ _ (cut_typed n.type (y ++ cells c) (sizes_at o n.type y c)) (last_typed n.type (left_over (y ++ cells c) (sizes_at o n.type y c))))
+      (λ left new done todo deep y v rows outs w tp np gr. regroups_rows o n y v rows outs tp np gr)
+      x (Some p) rows _ i (ap not (type_fits n.type i.1 (subst (λ z. Typed z i.1) is_type ty.0))) tt tj nh is_type one un xs closed ty
 
   pub blocks_own : (o : BlockOptions) (n : GroupedNode) (x : List CellData) (j : Option Item) (rows : ℕ) (outs : List Item) → NewestTyped n.type j → NoneHeld x j → q.type ≡ n.type → types_of hs ≡ n.type ∷ []
       → AllTyped n.type outs → shape_in past ≡ None → (xs : List Item) (closed : Bool) → AllTyped q.type xs
@@ -106,11 +112,16 @@ module _ (s : Setting) (number : List ℕ → ℕ) (segment_number : ℕ) (all :
       (flushes_regroup size n.type).keeps (flushes_regroup size n.type).all (λ y e. ap piece_cells e) (λ y p. tt) (buffer_typed size n.type) (λ y c w k. typed_append n.type y (c ∷ []) w (k, tt))
       (λ left new done todo deep y p rows outs w tp np gr. regroups_chunks size n y p rows outs w tp np gr)
       x j rows tx tj nh one un
-  buffer_idle size n x j rows tx tj nh is_type one un (i ∷ xs) closed ty =
+  buffer_idle size n x None rows tx tj nh is_type one un (i ∷ xs) closed ty =
       take_own s number segment_number all d q0 j0 q places ks more hs r past law pl sm kids (byte_grouper size) (by_size size) (bytes_local size n) n.type piece_cells (ChunksTyped n.type) NoneHeld (λ y p rows k. refl)
       (flushes_regroup size n.type).keeps (flushes_regroup size n.type).all (λ y e. ap piece_cells e) (λ y p. tt) (buffer_typed size n.type) (λ y c w k. typed_append n.type y (c ∷ []) w (k, tt))
       (λ left new done todo deep y p rows outs w tp np gr. regroups_chunks size n y p rows outs w tp np gr)
-      x j rows false i refl tx tj nh is_type one un xs closed ty
+      x None rows false i refl tx tj nh is_type one un xs closed ty
+  buffer_idle size n x (Some p) rows tx tj nh is_type one un (i ∷ xs) closed ty =
+      take_own s number segment_number all d q0 j0 q places ks more hs r past law pl sm kids (byte_grouper size) (by_size size) (bytes_local size n) n.type piece_cells (ChunksTyped n.type) NoneHeld (λ y w rows k. refl)
+      (flushes_regroup size n.type).keeps (flushes_regroup size n.type).all (λ y e. ap piece_cells e) (λ y w. tt) (buffer_typed size n.type) (λ y c w k. typed_append n.type y (c ∷ []) w (k, tt))
+      (λ left new done todo deep y v rows outs w tp np gr. regroups_chunks size n y v rows outs w tp np gr)
+      x (Some p) rows false i refl tx tj nh is_type one un xs closed ty
 
   pub buffer_own : (size : ℕ) (n : GroupedNode) (x : List ChunkData) (j : Option Item) (rows : ℕ) (outs : List Item) → ChunksTyped n.type x → NewestTyped n.type j → NoneHeld x j → q.type ≡ n.type
       → types_of hs ≡ n.type ∷ [] → AllTyped n.type outs → shape_in past ≡ None → (xs : List Item) (closed : Bool) → AllTyped q.type xs
