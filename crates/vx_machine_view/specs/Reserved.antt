@@ -3,7 +3,6 @@ use Rattle.std.specs.Prelude.{◌≡◌, ◌+◌, ℕ, Bool, List, [], ◌∷◌
 use Rattle.vx_model.specs.Words.{total_by}
 use Rattle.vx_model.specs.ChunkData.{held}
 use Rattle.vx_path.specs.Lists.{In}
-use Rattle.vx_tasks.specs.Run.{nth}
 use Rattle.vx_plan.specs.PlanData.{Setting, Item}
 use Rattle.vx_machine_turns.specs.Forms.{Form}
 use Rattle.vx_machine_turns.specs.Acts.{Seed}
@@ -60,8 +59,8 @@ abbrev pub StartReserves : Type 0
 StartReserves = (f : Form) (m : Bool) → reserved_by (start f m).root ≡ 0
 
 abbrev pub WholeReserves : Type 0
-WholeReserves = (g : Write) (number : List ℕ → ℕ) (next : ℕ) (all : List (List ℕ)) (a : Answer) (f : Future) (m : Machine) (t : Tree) (k : ℕ) (w : WholeStep) → ShowsMachine g number m f t
-    → nth (whole_steps g.setting all next a m) k ≡ Some w → reserved_by w.after.root + w.lowers ≡ reserved_by m.root + w.raises
+WholeReserves = (g : Write) (number : List ℕ → ℕ) (next : ℕ) (all : List (List ℕ)) (a : Answer) (f : Future) (m : Machine) (t : Tree) (w : WholeStep) → ShowsMachine g number m f t
+    → In w (whole_steps g.setting all next a m) → reserved_by w.after.root + w.lowers ≡ reserved_by m.root + w.raises
 
 -- nor once it has finished
 abbrev pub FinishReserves : Type 0

@@ -1,6 +1,5 @@
 -- The program's tasks against the abstract machine's.
 use Rattle.std.specs.Prelude.{◌≡◌, ◌+◌, ◌⊎◌, ℕ, suc, Bool, true, false, List, [], ◌∷◌, ◌++◌, map, length, get_or, Option, Some, None, IsTrue}
-use Rattle.vx_model.specs.Words.{total_by}
 use Rattle.vx_model.specs.Ty.{Ty, struct, list}
 use Rattle.vx_model.specs.CellData.{CellData}
 use Rattle.vx_model.specs.ChunkData.{ChunkData, held}
@@ -10,6 +9,7 @@ use Rattle.vx_layout_spec.specs.LayoutTree.{LayoutData, row_count, renamed, flat
 use Rattle.vx_tasks.specs.Task.Kind.{Append, Join}
 use Rattle.vx_tasks.specs.Nodes.{numbers}
 use Rattle.vx_rules.specs.Blocks.{BlockOptions, block_len}
+use Rattle.vx_rules.specs.Stream.{piece_cells}
 use Rattle.vx_strategy_spec.specs.StrategyData.{FlatOptions}
 use Rattle.vx_plan.specs.PlanData.{Setting, Item, row_total, rows_in}
 use Rattle.vx_plan.specs.FlatNode.{inlined}
@@ -65,8 +65,8 @@ local_rows (struct_local n rows) below = rows
 local_rows flat_many below = 0
 local_rows (list_local n first from rows) below = rows
 local_rows (blocks_local o n x j rows) below = (length x + newest_rows j) + below
-local_rows (bytes_local size n x j rows) below = (total_by rows_in x + newest_rows j) + below
-local_rows (collect_local n x rows) below = total_by rows_in (collected_so_far x) + below
+local_rows (bytes_local size n x j rows) below = (length (piece_cells x) + newest_rows j) + below
+local_rows (collect_local n x rows) below = length (piece_cells (collected_so_far x)) + below
 local_rows (compressed_local n) below = below
 local_rows (outlet_local n) below = below
 local_rows (dict_local n) below = 0
@@ -130,6 +130,11 @@ pub record Hands (mind : Mind) (left : List Next) (past todo : List Act) (l : Lo
   pub typed : EachTyped behind xs
   pub same : length ws ≡ length xs
 
+-- before a chunk came nothing is held
+abbrev pub NoneHeld : {A : Type 0} → List A → Option Item → Type 0
+NoneHeld x None = x ≡ []
+NoneHeld x (Some j) = Unit {0}
+
 -- a node that regroups chunks of this type has these in mind, and hands these on next
 pub record Groups (mind : Mind) (left : List Next) (q : Seed) (past todo : List Act) (l : Local) (over : Bool) (hs : Tree) (mind_now : Mind) (local_now : Local) (t : Ty) (weight : ChunkData → ℕ) (keep : List (List ℕ)) (outs : List Item) : Type 0 where
   pub mind_is : mind ≡ mind_now
@@ -183,10 +188,10 @@ pub data Stage (s : Setting) (d : Fuel) (mind : Mind) (left : List Next) (ks : T
       → Stage s d mind left ks q past todo l over hs
   joins_columns : (t : Ty) (rows : ℕ) → column_count t ≡ count ks → Ends mind left past todo over ending (join_kids (fold_columns t rows) ∷ []) (does Join ∷ []) (columns_of t rows)
       → Stage s d mind left ks q past todo l over hs
-  regroups_rows : (o : BlockOptions) (n : GroupedNode) (x : List CellData) (j : Option Item) (rows : ℕ) (outs : List Item)
+  regroups_rows : (o : BlockOptions) (n : GroupedNode) (x : List CellData) (j : Option Item) (rows : ℕ) (outs : List Item) → NewestTyped n.type j → NoneHeld x j
       → Groups mind left q past todo l over hs (by_block (block_len o n.type) o.minimum n.type x j rows) (blocks_local o n x j rows) n.type (λ p. 0) (group_kept j) outs
       → Stage s d mind left ks q past todo l over hs
-  regroups_chunks : (size : ℕ) (n : GroupedNode) (x : List ChunkData) (j : Option Item) (rows : ℕ) (outs : List Item) → ChunksTyped n.type x → NewestTyped n.type j
+  regroups_chunks : (size : ℕ) (n : GroupedNode) (x : List ChunkData) (j : Option Item) (rows : ℕ) (outs : List Item) → ChunksTyped n.type x → NewestTyped n.type j → NoneHeld x j
       → Groups mind left q past todo l over hs (by_size size x j rows) (bytes_local size n x j rows) n.type held (group_kept j) outs
       → Stage s d mind left ks q past todo l over hs
   collects : (n : GroupedNode) (x : Option (List ℕ × List ChunkData)) (rows : ℕ)
