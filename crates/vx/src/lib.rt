@@ -123,7 +123,7 @@ pub mod nodes {
     };
 }
 
-/// The step machine, for strategies of flat, chunked and struct nodes.
+/// The step machine, for strategies of flat, chunked, struct and list nodes, and tables of these.
 pub mod machine {
     pub use vx_machine::{Machine, run};
 }

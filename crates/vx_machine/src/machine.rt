@@ -119,7 +119,7 @@ impl Machine {
     /// The machine before its first step. The batches get paths from `stream` on; what is written behind all of them goes on
     /// from `eof`.
     ///
-    /// `Unbuilt` comes where the strategy names a node that isn't built. `NotStruct` and `DuplicateField` come of the nodes that
+    /// `Unbuilt` comes where the strategy names a node or a wrapper that isn't built. `NotStruct` and `DuplicateField` come of the nodes that
     /// start with the root, `TooLarge(2^64)` where a path index has no next one. Refused, both pointers are given up.
     pub fn start<O: Order>(
         alloc: Global,

@@ -19,8 +19,10 @@ pub(crate) fn refusal_advice(line: &str) -> &'static str {
         "refused DuplicateField" => "a struct of `schema` that is split has a field name twice",
         "refused ManyChunks" =>
             "a flat node of `strategy` takes one batch; put `chunked` around it",
+        "refused EmptyList" => "a list node of `strategy` takes a batch, and `batches` has none",
         "refused ForbiddenEncoding" => "a batch has an encoding that `encodings` doesn't list",
-        "refused TooLarge" => "there are more segments than 32 bits count, or more rows than 64 do",
+        "refused TooLarge" =>
+            "there are more segments than 32 bits count, or more rows or elements than 64 do",
         "refused SourceFault" | "refused SinkFault" | "refused CompressFault" =>
             "a call failed that `faults` lists",
         _ => layout_advice(line),

@@ -1,17 +1,17 @@
--- What flat, chunked and struct nodes write has no zone tables.
+-- What flat, chunked, struct and list nodes write has no zone tables.
 use Rattle.std.proofs.Common.{◌≡◌, ℕ, suc, ◌+◌, Bool, true, false, List, [], ◌∷◌, ◌++◌, Option, Some, None, refl, sym, ap, ◌∙◌}
 use Rattle.std.proofs.lemmas.Bool.{true≢false}
 use Rattle.vx_model.specs.Ty.{Ty, Tys, struct, no_fields, field}
 use Rattle.vx_model.specs.ChunkData.{ChunkData}
 use Rattle.vx_path.specs.Path.{Eof, inside, next, root_eof}
 use Rattle.vx_layout_spec.specs.LayoutTree.{LayoutData, lays_of, gathered, renamed, each_renamed}
-use Rattle.vx_rules.specs.Columns.{Split, struct_splits, column, other_columns}
+use Rattle.vx_rules.specs.Columns.{Split, struct_splits, list_splits, column, other_columns}
 use Rattle.vx_strategy_spec.specs.StrategyData.{StrategyData, FlatOptions}
 use Rattle.vx_strategy_spec.specs.Walk.{walk}
 use Rattle.vx_plan.specs.PlanData.{Setting, Item, Node, Plan, row_total}
 use Rattle.vx_plan.specs.FlatNode.{flat_node}
 use Rattle.vx_plan.specs.ChunkedNode.{chunked_node, chunk_plans, all_layouts}
-use Rattle.vx_plan.specs.ColumnNodes.{Column, marked, column_plans, struct_writers, struct_plans, struct_node, not_struct_node}
+use Rattle.vx_plan.specs.ColumnNodes.{Column, marked, column_plans, struct_writers, struct_plans, struct_node, not_struct_node, list_writers, list_node}
 use Rattle.vx_plan.specs.SourcePlan.{plan_nodes, source_plan, batch_items}
 use Rattle.vx_plan.specs.Number.{numbered, number_of}
 use Rattle.vx_plan.proofs.Relate.{Agree, relate, Both}
@@ -75,6 +75,17 @@ struct_plain : (fs : Tys) (n : Bool) (dup : Option (List ℕ)) (v : Node) (ks : 
 struct_plain fs n (Some name) v ks ls plain both built m is ended e f = refl
 struct_plain fs n None v ks ls plain both built m is ended e f = columns_below (struct_writers n m v ks) 0 (struct_splits fs n is) ended e f (writers_plain fs n m v ks ls plain both built)
 
+-- ---- list nodes
+
+list_writers_plain : (n m : Bool) (es os v : Node) → Plain es → Plain os → Plain v → AllPlain (list_writers n m es os v)
+list_writers_plain true m es os v a b c = (λ is ended e f. a m is ended e f, (λ is ended e f. b m is ended e f, (λ is ended e f. c m is ended e f, tt)))
+list_writers_plain false m es os v a b c = (λ is ended e f. a m is ended e f, (λ is ended e f. b m is ended e f, tt))
+
+list_plain : (t : Ty) (n : Bool) (es os v : Node) → Plain es → Plain os → Plain v → Plain (list_node t n es os v)
+list_plain t n es os v a b c m [] true e f = refl
+list_plain t n es os v a b c m [] false e f = columns_below (list_writers n m es os v) 0 (list_splits t n true 0 []) false e f (list_writers_plain n m es os v a b c)
+list_plain t n es os v a b c m (i ∷ is) ended e f = columns_below (list_writers n m es os v) 0 (list_splits t n true 0 (i ∷ is)) ended e f (list_writers_plain n m es os v a b c)
+
 -- ---- by one induction over the walk
 
 all_plain : (s : Setting) → Agree Node Form (plan_nodes s) form_nodes false BuiltPlain
@@ -87,7 +98,7 @@ all_plain s = record {
   at_zoned = λ o r t k l f g plain tables built. absurd built;
   at_not_struct = λ t built m is ended e f. refl;
   at_struct = λ fs n dup v w ks ls plain both built. struct_plain fs n dup v ks ls (plain built.1) both built.2;
-  at_list = λ t n e o v f p w x y z built. absurd built;
+  at_list = λ t n e o v f p w x y z built. list_plain t n e o v (x built.1) (y built.3) (z built.5);
 }
 
 pub no_tables : (s : Setting) (w : StrategyData) (t : Ty) (m : Bool) (xs : List ChunkData) (first : ℕ) → is_built w ≡ true → zone_tables (numbered (source_plan s w t m xs true) first) ≡ []

@@ -47,7 +47,7 @@ pub struct Refused {
 /// takes the one at this place modulo their number, and past the schedule's end the first is taken. Layout and segments don't
 /// depend on the schedule. It decides the trace, and how far a write comes that is refused: where several faults stand in the
 /// stream, also which one comes. After a refusal earlier segments stand. `Unbuilt` comes exactly where the strategy names a
-/// node that isn't built, and before the source is asked.
+/// node or a wrapper that isn't built, and before the source is asked.
 ///
 /// A step counts anew what changed, down to the task that acted, and what has an append that waits for its turn.
 pub fn write_stream<B: BatchSource, S: SegmentSink, C: CompressorPlugin>(

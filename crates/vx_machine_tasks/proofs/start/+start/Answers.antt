@@ -3,7 +3,7 @@ use Rattle.std.specs.Prelude.{IsTrue, IsFalse, IfOk, IfErr, OnOk}
 use Rattle.std.specs.Arc.{arc_value}
 use Rattle.std.proofs.lemmas.Result.{err_from_is_err_and, IfOk-weaker, IfErr-weaker}
 use Rattle.vx_path.specs.Path.{under, inside}
-use Rattle.vx_model.specs.Ty.{Ty, boolean, is_struct, is_list}
+use Rattle.vx_model.specs.Ty.{Ty, boolean, nullable, is_struct, is_list}
 use Rattle.vx_model.specs.TyView.{ty, field_ty}
 use Rattle.vx_model.specs.declared.dtype.StructField.{StructField}
 use Rattle.vx_chunk.proofs.FlagSteps.{ty_flags}
@@ -399,6 +399,83 @@ start_parts-start_column-requires-2 g t c κs within =
     let n : weight (form_at s.offsets.item u) ≡ weight (form_at s.offsets.item offset_type) = ap (λ z. weight (form_at s.offsets.item z)) (ap ty c.in_ok-offsets.ensures.ok ∙ ty_offsets) in
     let falls : 8 * weight (form_at s.offsets.item u) + 7 < 8 * weight (lists_form s (ty c.args.dtype.now)) + 2 = omega (arith, n) in
     search (rules, arith, o, p.1, falls)
+
+pub start_parts-start_validity-requires : goal.start_parts-start_validity-requires
+start_parts-start_validity-requires g t c κs within =
+    let s = c.args.lists.now in
+    let p = list_built s.elements.item s.offsets.item s.validity.item s.fallback.item c.requires.built in
+    let o : Owned (g.O.Order.active c.start_column-2.new.order) (both (end_stock c.start_column-2.new.eof) (tasks_stock c.start_column-2.new.kids.items)) =
+    owned_now (g.O.Order.active c.start_column.new.order) (g.O.Order.active c.start_column-2.new.order) (both (end_stock c.start_column.new.eof) (tasks_stock c.start_column.new.kids.items)) (both (end_stock c.start_column-2.new.eof) (tasks_stock c.start_column-2.new.kids.items)) (owned_now (g.O.Order.active c.args.order.now) (g.O.Order.active c.start_column.new.order) (both (end_stock c.args.eof.now) (tasks_stock c.args.kids.now.items)) (both (end_stock c.start_column.new.eof) (tasks_stock c.start_column.new.kids.items)) c.requires.owned c.start_column.ensures.moved) c.start_column-2.ensures.moved in
+    let falls : 8 * weight (form_at s.validity.item (boolean false)) + 8 < 8 * weight (lists_form s (ty c.args.dtype.now)) + 2 = omega arith in
+    search (rules, arith, o, p.2, falls)
+
+pub start_parts-returns-in_err-start_column-clause-refused : goal.start_parts-returns-in_err-start_column-clause-refused
+start_parts-returns-in_err-start_column-clause-refused g t c =
+    let r = err_from_is_err_and c.from_residual-in_err-start_column.result c.from_residual-in_err-start_column.ensures.1 in
+    rw (r.1, r.2) (elements_refused c.args.lists.now (ty c.args.dtype.now) c.args.marked c.args.name.now c.args.eof.now c.args.kids.now.items (ty (arc_value c.in_ok-elements.elements)) c.in_err-start_column.field-0.0
+    (ap ty c.in_ok-elements.ensures.ok ∙ c.in_ok-element_copy.ensures) c.in_err-start_column.ensures.refused)
+
+pub start_parts-returns-in_err-start_column-2-clause-moved : goal.start_parts-returns-in_err-start_column-2-clause-moved
+start_parts-returns-in_err-start_column-2-clause-moved g t c =
+    moved_then (g.O.Order.active c.args.order.now) (g.O.Order.active c.start_column.new.order) (g.O.Order.active c.start_column-2.new.order) (both (end_stock c.args.eof.now) (tasks_stock c.args.kids.now.items)) (both (end_stock c.start_column.new.eof) (tasks_stock c.start_column.new.kids.items)) (both (end_stock c.start_column-2.new.eof) (tasks_stock c.start_column-2.new.kids.items)) c.start_column.ensures.moved c.start_column-2.ensures.moved
+
+pub start_parts-returns-in_err-start_column-2-clause-refused : goal.start_parts-returns-in_err-start_column-2-clause-refused
+start_parts-returns-in_err-start_column-2-clause-refused g t c =
+    let s = c.args.lists.now in
+    let u : Ty = ty c.args.dtype.now in
+    let m : Bool = c.args.marked in
+    let at = c.args.name.now in
+    let e = c.args.eof.now in
+    let ts = c.args.kids.now.items in
+    let p : ty (arc_value c.in_ok-elements.elements) ≡ element_type u = ap ty c.in_ok-elements.ensures.ok ∙ c.in_ok-element_copy.ensures in
+    let one : Left (lists_form s u) m at e ts (form_then (form_at s.offsets.item offset_type) (validity_forms s.validity.item (nullable u))) m c.start_column.new.kids.items c.start_column.new.eof =
+    left_elements s u m at e ts (ty (arc_value c.in_ok-elements.elements)) c.start_column.new.kids.items c.start_column.new.eof p c.in_ok-start_column.ensures.shows in
+    let q : ty (arc_value c.in_ok-offsets.offsets) ≡ offset_type = ap ty c.in_ok-offsets.ensures.ok ∙ ty_offsets in
+    let r = err_from_is_err_and c.from_residual-in_err-start_column-2.result c.from_residual-in_err-start_column-2.ensures.1 in
+    rw (r.1, r.2) (offsets_refused s u m at e ts (ty (arc_value c.in_ok-offsets.offsets)) c.start_column.new.kids.items c.start_column.new.eof c.in_err-start_column-2.field-0.0 q one c.in_err-start_column-2.ensures.refused)
+
+pub start_parts-returns-clause-moved : goal.start_parts-returns-clause-moved
+start_parts-returns-clause-moved g t c =
+    moved_then (g.O.Order.active c.args.order.now) (g.O.Order.active c.start_column-2.new.order) (g.O.Order.active c.start_validity.new.order) (both (end_stock c.args.eof.now) (tasks_stock c.args.kids.now.items)) (both (end_stock c.start_column-2.new.eof) (tasks_stock c.start_column-2.new.kids.items)) (both (end_stock c.start_validity.new.eof) (tasks_stock c.start_validity.new.kids.items))
+    (moved_then (g.O.Order.active c.args.order.now) (g.O.Order.active c.start_column.new.order) (g.O.Order.active c.start_column-2.new.order) (both (end_stock c.args.eof.now) (tasks_stock c.args.kids.now.items)) (both (end_stock c.start_column.new.eof) (tasks_stock c.start_column.new.kids.items)) (both (end_stock c.start_column-2.new.eof) (tasks_stock c.start_column-2.new.kids.items)) c.start_column.ensures.moved c.start_column-2.ensures.moved) c.start_validity.ensures.moved
+
+pub start_parts-returns-clause-shows : goal.start_parts-returns-clause-shows
+start_parts-returns-clause-shows g t c =
+    let s = c.args.lists.now in
+    let u : Ty = ty c.args.dtype.now in
+    let m : Bool = c.args.marked in
+    let at = c.args.name.now in
+    let e = c.args.eof.now in
+    let ts = c.args.kids.now.items in
+    let p : ty (arc_value c.in_ok-elements.elements) ≡ element_type u = ap ty c.in_ok-elements.ensures.ok ∙ c.in_ok-element_copy.ensures in
+    let one : Left (lists_form s u) m at e ts (form_then (form_at s.offsets.item offset_type) (validity_forms s.validity.item (nullable u))) m c.start_column.new.kids.items c.start_column.new.eof =
+    left_elements s u m at e ts (ty (arc_value c.in_ok-elements.elements)) c.start_column.new.kids.items c.start_column.new.eof p c.in_ok-start_column.ensures.shows in
+    let q : ty (arc_value c.in_ok-offsets.offsets) ≡ offset_type = ap ty c.in_ok-offsets.ensures.ok ∙ ty_offsets in
+    let two : Left (lists_form s u) m at e ts (validity_forms s.validity.item (nullable u)) m c.start_column-2.new.kids.items c.start_column-2.new.eof =
+    left_offsets s u m at e ts (ty (arc_value c.in_ok-offsets.offsets)) c.start_column.new.kids.items c.start_column-2.new.kids.items c.start_column.new.eof c.start_column-2.new.eof q one c.in_ok-start_column-2.ensures.shows in
+    IfOk-weaker c.start_validity.result _ _
+    (λ k h empty. last_started (lists_form s u) m at e ts s.validity.item (nullable u) m c.start_column-2.new.kids.items c.start_validity.new.kids.items c.start_column-2.new.eof c.start_validity.new.eof two
+    (subst (λ z. ManyStarted (validity_forms s.validity.item z) m at c.start_column-2.new.eof c.start_column-2.new.kids.items c.start_validity.new.eof c.start_validity.new.kids.items) c.is_nullable-nullable.ensures h) empty)
+    c.start_validity.ensures.shows
+
+pub start_parts-returns-clause-refused : goal.start_parts-returns-clause-refused
+start_parts-returns-clause-refused g t c =
+    let s = c.args.lists.now in
+    let u : Ty = ty c.args.dtype.now in
+    let m : Bool = c.args.marked in
+    let at = c.args.name.now in
+    let e = c.args.eof.now in
+    let ts = c.args.kids.now.items in
+    let p : ty (arc_value c.in_ok-elements.elements) ≡ element_type u = ap ty c.in_ok-elements.ensures.ok ∙ c.in_ok-element_copy.ensures in
+    let one : Left (lists_form s u) m at e ts (form_then (form_at s.offsets.item offset_type) (validity_forms s.validity.item (nullable u))) m c.start_column.new.kids.items c.start_column.new.eof =
+    left_elements s u m at e ts (ty (arc_value c.in_ok-elements.elements)) c.start_column.new.kids.items c.start_column.new.eof p c.in_ok-start_column.ensures.shows in
+    let q : ty (arc_value c.in_ok-offsets.offsets) ≡ offset_type = ap ty c.in_ok-offsets.ensures.ok ∙ ty_offsets in
+    let two : Left (lists_form s u) m at e ts (validity_forms s.validity.item (nullable u)) m c.start_column-2.new.kids.items c.start_column-2.new.eof =
+    left_offsets s u m at e ts (ty (arc_value c.in_ok-offsets.offsets)) c.start_column.new.kids.items c.start_column-2.new.kids.items c.start_column.new.eof c.start_column-2.new.eof q one c.in_ok-start_column-2.ensures.shows in
+    IfErr-weaker c.start_validity.result _ _
+    (λ x h. rest_refused (lists_form s u) m at e ts (validity_forms s.validity.item (nullable u)) m c.start_column-2.new.kids.items c.start_column-2.new.eof x two
+    (subst (λ z. ManyRefused (validity_forms s.validity.item z) m c.start_column-2.new.eof x) c.is_nullable-nullable.ensures h))
+    c.start_validity.ensures.refused
 
 -- ---- the validity, and a field
 
