@@ -424,7 +424,14 @@ fn take_next<O: Order>(
             kids,
             item,
         ),
-        None => end(alloc, ctx, order, kids.len(), &mut head.local, &mut head.todo),
+        None => end(
+            alloc,
+            ctx,
+            order,
+            kids.len(),
+            &mut head.local,
+            &mut head.todo,
+        ),
     }
 }
 

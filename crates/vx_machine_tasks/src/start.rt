@@ -355,7 +355,16 @@ fn start_grouped<O: Order>(
     ensures refused { IfErr result (FormRefused (form_at child.now.item (ty (arc_value node.dtype))) marked eof) }
 {
     let mut kids = Vec::new(alloc);
-    match start_only(alloc, order, child, &node.dtype, marked, &name, eof, &mut kids) {
+    match start_only(
+        alloc,
+        order,
+        child,
+        &node.dtype,
+        marked,
+        &name,
+        eof,
+        &mut kids,
+    ) {
         Ok(()) => Ok(waiting(alloc, name, Local::Grouped(node), kids)),
         Err(error) => {
             drop_fresh(node);
@@ -390,15 +399,7 @@ fn start_only<O: Order>(
 {
     match child_parts(alloc, name, dtype, kids) {
         Ok((name, dtype)) => {
-            let kid = start_task(
-                alloc,
-                order,
-                child.strategy(),
-                dtype,
-                marked,
-                name,
-                eof,
-            )?;
+            let kid = start_task(alloc, order, child.strategy(), dtype, marked, name, eof)?;
             kids.push_reserved(kid);
             Ok(())
         }
