@@ -1,9 +1,10 @@
 -- What the tracker counts in a run.
-use Rattle.std.proofs.Common.{◌≡◌, ◌+◌, ◌≤◌, ◌∙◌, ℕ, sym, ap, subst, arith, Some}
+use Rattle.std.proofs.Common.{◌≡◌, ◌+◌, ◌≤◌, ◌∷◌, ◌++◌, ◌∙◌, refl, sym, ap, subst, arith, append_assoc, []}
 use Rattle.vx_plan.specs.PlanData.{Plan}
 use Rattle.vx_machine_turns.specs.Acts.{raised_in, lowered_in}
 use Rattle.vx_machine_steps.specs.Runs.{acts_of}
-use Rattle.vx_machine_promises.specs.Write.{Future, before, planned, taken_by, heard_by}
+use Rattle.vx_machine_steps.specs.StartPlanned.{started}
+use Rattle.vx_machine_promises.specs.Write.{Future, Answer, unasked, came, over, begin, before, planned, taken_by, heard_by}
 use Rattle.vx_machine_promises.specs.Reached.{Reached}
 use Rattle.vx_machine_promises.specs.Promises.{MovesAreCounted, Counted}
 use Rattle.vx_machine_view.specs.Underway.{Showing}
@@ -36,9 +37,14 @@ steps_are_tracked counts g first seen x told f k w law u o c = on (u (before tol
         (subst (λ z. tracked g x + z ≤ g.tracker + (planned g x.taken (before told f)).reserved) (sym m.2.raises) n.tracked)
 
 pub tracker_comes : TrackerComes
-tracker_comes g first seen x told f k w law u o c = on (u (before told f) (open_before x.heard told f c.once o))
+tracker_comes g first seen x told f k w law u o c = subst (λ z. Comes g z seen k (tracked g x + w.raises)) (same_begin told) (on (u (before told f) (open_before x.heard told f c.once o)))
   where
-    on : (r : Reached g x.taken (before told f) seen x.history (tracked g x)) × Showing g first x.taken x.machine (before told f) r.tree → Comes g x.taken (before told f) seen k (tracked g x + w.raises)
+    same_begin : (a : Answer) → begin g x.taken (before a f) ≡ begin g (taken_by x.taken a) f
+    same_begin unasked = refl
+    same_begin (came b) = ap (λ z. started g.way g.type g.mark z f.fits) (sym (append_assoc x.taken (b ∷ []) f.later))
+    same_begin over = refl
+
+    on : (r : Reached g x.taken (before told f) seen x.history (tracked g x)) × Showing g first x.taken x.machine (before told f) r.tree → Comes g (begin g x.taken (before told f)) seen k (tracked g x + w.raises)
     on (r, shown) =
         let m = move_of g first x.taken x.heard told f seen x.history (tracked g x) r x.machine k w law o shown c.place (asks_so g first x told k w f c) in
         let a : tracked g x + lowered_in (acts_of r.moves) ≡ g.tracker + raised_in (acts_of r.moves) = r.tracked in
