@@ -12,7 +12,7 @@ use Rattle.vx_rules.specs.Flushes.{flushed, still_held, is_full, flushes}
 use Rattle.vx_rules.specs.Regroup.{ranked}
 use Rattle.vx_rules.specs.Columns.{list_columns}
 use Rattle.vx_strategy_spec.specs.StrategyData.{by_blocks, by_bytes, into_one}
-use Rattle.vx_plan.specs.PlanData.{Setting, Item, rows_in}
+use Rattle.vx_plan.specs.PlanData.{Setting, Item}
 use Rattle.vx_plan.specs.FlatNode.{segment, inlined}
 use Rattle.vx_machine_turns.specs.Forms.{Form, Forms, flat_form, chunked_form, grouped_form, compressed_form, dict_form, zoned_form, no_struct_form, struct_form, list_form, no_forms, form_then}
 use Rattle.vx_machine_turns.specs.Grouped.{block_grouper}
@@ -27,11 +27,11 @@ use Rattle.vx_machine_view.specs.State.{Next, put, hand_on, append, shut_kids, j
 use Rattle.vx_machine_view.specs.Start.{first_mind, first_kids, field_tasks, started_task}
 use Rattle.vx_machine_view.specs.Acts.{count, add, give, shut_all, Did, column_count, columns_in, puts, stored, of_length, hand_all, take_chunk, end_columns, end_lists, take_end, do_take, do_act}
 use Rattle.vx_machine_view.specs.Moves.{is_empty, all_made, Step, may_act, own_step, in_kids, in_rest, steps}
-use Rattle.vx_machine_view.specs.Machine.{Phase, reading, giving, closing, finished, no_more, is_alone, has_layout, is_done, has_closed, WholeStep, may_source, source_step, in_root, whole_steps}
+use Rattle.vx_machine_view.specs.Machine.{Phase, reading, giving, closing, finished, no_more, is_alone, has_layout, is_done, has_closed, WholeStep, may_source, source_step, in_root}
 use Rattle.vx_machine_view.specs.Shows.{NoneHeld, Stage, waits_first, waits_end, appends, splits, gathers_all, hands, hands_lists, shuts, joins_columns, regroups_rows, regroups_chunks, collects, passes_on, passed, Done, Shows, types_of}
 use Rattle.vx_machine_view.specs.Whole.{form_of, root_depth}
-use Rattle.vx_machine_view.specs.Reserved.{next_reserved, newest_held, mind_reserved, reserved_by, StepsReserve, StartReserves, WholeReserves, FinishReserves}
-use Rattle.vx_machine_view.proofs.Words.{no_cons, and_left, and_right}
+use Rattle.vx_machine_view.specs.Reserved.{next_reserved, mind_reserved, reserved_by, StepsReserve, StartReserves, WholeReserves, FinishReserves}
+use Rattle.vx_machine_view.proofs.Words.{and_left, and_right}
 use Rattle.vx_machine_view.proofs.Feeding.{count_types}
 use Rattle.vx_machine_view.proofs.Joining.{Passed, stage_made}
 
