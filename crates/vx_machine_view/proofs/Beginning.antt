@@ -6,7 +6,7 @@ use Rattle.vx_path.specs.Path.{Eof, under, inside, next}
 use Rattle.vx_rules.specs.Blocks.{block_len}
 use Rattle.vx_rules.specs.Columns.{offset_type}
 use Rattle.vx_strategy_spec.specs.StrategyData.{Grouping, by_blocks, by_bytes, into_one}
-use Rattle.vx_plan.specs.PlanData.{Setting, Item, not_struct, duplicate_field, rows_in}
+use Rattle.vx_plan.specs.PlanData.{Setting, Item, not_struct, duplicate_field}
 use Rattle.vx_machine_turns.specs.Forms.{Form, Forms, flat_form, chunked_form, grouped_form, compressed_form, dict_form, zoned_form, no_struct_form, struct_form, list_form, no_forms, form_then, form_type, Writer}
 use Rattle.vx_machine_turns.specs.Locals.{GroupedNode, Local, struct_local, list_local, blocks_local, bytes_local, collect_local}
 use Rattle.vx_machine_turns.specs.Acts.{Seed, or_else}

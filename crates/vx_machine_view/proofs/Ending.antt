@@ -4,7 +4,7 @@ use Rattle.vx_layout_spec.specs.LayoutTree.{renamed}
 use Rattle.vx_model.specs.ChunkData.{ChunkData}
 use Rattle.vx_model.specs.Ty.{Ty}
 use Rattle.vx_path.specs.Path.{Eof}
-use Rattle.vx_plan.specs.PlanData.{Setting, Item}
+use Rattle.vx_plan.specs.PlanData.{Setting}
 use Rattle.vx_machine_turns.specs.Acts.{Seed, Act, shape_in, passes}
 use Rattle.vx_machine_turns.specs.Source.{source_acts, source_seed}
 use Rattle.vx_machine_turns.specs.Readings.{shaped, unread, layout_reading}

@@ -3,7 +3,7 @@ use Rattle.std.proofs.Common.{◌≡◌, ◌+◌, ◌&&◌, ◌⊎◌, ◌∷◌
 use Rattle.std.proofs.lemmas.List.{map-append}
 use Rattle.vx_model.specs.Words.{total_by}
 use Rattle.vx_model.specs.ChunkData.{ChunkData}
-use Rattle.vx_model.specs.Ty.{Ty, list, struct}
+use Rattle.vx_model.specs.Ty.{Ty, struct}
 use Rattle.vx_layout_spec.specs.LayoutTree.{LayoutData, row_count, renamed}
 use Rattle.vx_rules.specs.Blocks.{block_len}
 use Rattle.vx_plan.specs.PlanData.{Setting, Item, row_total, rows_in}

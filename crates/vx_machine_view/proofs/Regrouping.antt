@@ -1,5 +1,5 @@
 -- What a task can do that repartitions, buffers or collects.
-use Rattle.std.proofs.Common.{◌≡◌, ◌+◌, ◌&&◌, ◌∷◌, ◌++◌, ◌∙◌, ℕ, suc, Bool, true, false, not, List, length, refl, sym, ap, subst, arith, get_or, append-nil, length-append, Option, Some, None, []}
+use Rattle.std.proofs.Common.{◌≡◌, ◌+◌, ◌∷◌, ◌++◌, ◌∙◌, ℕ, suc, Bool, true, false, not, List, length, refl, sym, ap, subst, arith, get_or, append-nil, length-append, Option, Some, None, []}
 use Rattle.std.specs.Prelude.{if◌then◌else◌, nat_le}
 use Rattle.vx_model.specs.Words.{total_by}
 use Rattle.vx_model.specs.Ty.{Ty}
@@ -16,12 +16,12 @@ use Rattle.vx_plan.specs.PlanData.{Setting, Item, row_total, rows_in}
 use Rattle.vx_machine_turns.specs.Locals.{GroupedNode, Local, blocks_local, bytes_local, collect_local}
 use Rattle.vx_machine_turns.specs.Acts.{Seed, Act, passes, close_queues, shape_in}
 use Rattle.vx_machine_turns.specs.Grouped.{block_grouper, byte_grouper, weighed_puts, group_kept}
-use Rattle.vx_machine_turns.specs.Collected.{collected_so_far, collect_rest}
+use Rattle.vx_machine_turns.specs.Collected.{collected_so_far}
 use Rattle.vx_machine_turns.specs.Scripts.{filled}
 use Rattle.vx_machine_turns.specs.Fuels.{Fuel, less}
-use Rattle.vx_machine_steps.specs.Tree.{Head, Tree, feed}
+use Rattle.vx_machine_steps.specs.Tree.{Tree, feed}
 use Rattle.vx_machine_steps.specs.Moves.{take_first, end_first, end_more}
-use Rattle.vx_machine_view.specs.State.{Next, shut_kids, Mind, by_block, by_size, as_one, passing, Desk, Tasks}
+use Rattle.vx_machine_view.specs.State.{Next, shut_kids, Mind, by_block, by_size, as_one, passing, Tasks}
 use Rattle.vx_machine_view.specs.Acts.{hand_all}
 use Rattle.vx_machine_view.specs.Typed.{Typed, AllTyped, ChunksTyped, NewestTyped}
 use Rattle.vx_machine_view.specs.Shows.{NoneHeld, regroups_rows, regroups_chunks, collects, passes_on, Shows, rows_of, types_of, shape_rows}

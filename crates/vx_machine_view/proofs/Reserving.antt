@@ -2,7 +2,7 @@
 use Rattle.std.proofs.Common.{◌≡◌, ◌+◌, ◌&&◌, ◌||◌, ◌==◌, ◌⊎◌, ◌∷◌, ◌++◌, ◌∙◌, ℕ, zero, suc, Bool, true, false, cond, List, map, length, refl, sym, ap, subst, inl, inr, arith, Option, Some, None, []}
 use Rattle.std.specs.Prelude.{if◌then◌else◌, nat_le}
 use Rattle.vx_model.specs.Words.{total_by}
-use Rattle.vx_model.specs.Ty.{Ty, list}
+use Rattle.vx_model.specs.Ty.{Ty, list, struct}
 use Rattle.vx_model.specs.ChunkData.{ChunkData, held}
 use Rattle.vx_path.specs.Lists.{In}
 use Rattle.vx_path.proofs.Lists.{in_cases, from_map}
@@ -10,8 +10,9 @@ use Rattle.vx_path.specs.Path.{Eof, under, inside, next}
 use Rattle.vx_rules.specs.Blocks.{block_len}
 use Rattle.vx_rules.specs.Flushes.{flushed, still_held, is_full, flushes}
 use Rattle.vx_rules.specs.Regroup.{ranked}
+use Rattle.vx_rules.specs.Columns.{list_columns}
 use Rattle.vx_strategy_spec.specs.StrategyData.{by_blocks, by_bytes, into_one}
-use Rattle.vx_plan.specs.PlanData.{Setting, Item, rows_in}
+use Rattle.vx_plan.specs.PlanData.{Setting, Item}
 use Rattle.vx_plan.specs.FlatNode.{segment, inlined}
 use Rattle.vx_machine_turns.specs.Forms.{Form, Forms, flat_form, chunked_form, grouped_form, compressed_form, dict_form, zoned_form, no_struct_form, struct_form, list_form, no_forms, form_then}
 use Rattle.vx_machine_turns.specs.Grouped.{block_grouper}
@@ -26,11 +27,11 @@ use Rattle.vx_machine_view.specs.State.{Next, put, hand_on, append, shut_kids, j
 use Rattle.vx_machine_view.specs.Start.{first_mind, first_kids, field_tasks, started_task}
 use Rattle.vx_machine_view.specs.Acts.{count, add, give, shut_all, Did, column_count, columns_in, puts, stored, of_length, hand_all, take_chunk, end_columns, end_lists, take_end, do_take, do_act}
 use Rattle.vx_machine_view.specs.Moves.{is_empty, all_made, Step, may_act, own_step, in_kids, in_rest, steps}
-use Rattle.vx_machine_view.specs.Machine.{Phase, reading, giving, closing, finished, no_more, is_alone, has_layout, is_done, has_closed, WholeStep, may_source, source_step, in_root, whole_steps}
+use Rattle.vx_machine_view.specs.Machine.{Phase, reading, giving, closing, finished, no_more, is_alone, has_layout, is_done, has_closed, WholeStep, may_source, source_step, in_root}
 use Rattle.vx_machine_view.specs.Shows.{NoneHeld, Stage, waits_first, waits_end, appends, splits, gathers_all, hands, hands_lists, shuts, joins_columns, regroups_rows, regroups_chunks, collects, passes_on, passed, Done, Shows, types_of}
 use Rattle.vx_machine_view.specs.Whole.{form_of, root_depth}
-use Rattle.vx_machine_view.specs.Reserved.{next_reserved, newest_held, mind_reserved, reserved_by, StepsReserve, StartReserves, WholeReserves, FinishReserves}
-use Rattle.vx_machine_view.proofs.Words.{no_cons, and_left, and_right}
+use Rattle.vx_machine_view.specs.Reserved.{next_reserved, mind_reserved, reserved_by, StepsReserve, StartReserves, WholeReserves, FinishReserves}
+use Rattle.vx_machine_view.proofs.Words.{and_left, and_right}
 use Rattle.vx_machine_view.proofs.Feeding.{count_types}
 use Rattle.vx_machine_view.proofs.Joining.{Passed, stage_made}
 
@@ -164,9 +165,9 @@ chunk_even s c ks i xs (by_chunk m t f e rows) =
     ∙ (let h : reserved_by (started_task f m (under c.name (count ks)) (inside e) (i ∷ []) true) ≡ 0 = started_reserved f m (under c.name (count ks)) (inside e) (i ∷ []) true in
     let z : (0 + (reserved_by ks + reserved_by (started_task f m (under c.name (count ks)) (inside e) (i ∷ []) true))) + 0 ≡ (0 + reserved_by ks) + 0 = omega (arith, h) in z)
 chunk_even s c ks i xs (by_column t rows) = ap (λ z. ((z + 0) + reserved_by ks) + 0) (puts_reserved 0 i.0 (columns_in t i.1))
-chunk_even s c ks i xs (by_list t n first from rows) = ap (λ z. ((z + 0) + reserved_by ks) + 0) (puts_reserved 0 i.0 _)
+chunk_even s c ks i xs (by_list t n first from rows) = ap (λ z. ((z + 0) + reserved_by ks) + 0) (puts_reserved 0 i.0 (list_columns t n first from i.1))
 chunk_even s c ks i xs (by_block len minimum t x None rows) = refl
-chunk_even s c ks i xs (by_block len minimum t x (Some j) rows) = ap (λ z. ((z + 0) + reserved_by ks) + 0) (none_reserved _)
+chunk_even s c ks i xs (by_block len minimum t x (Some j) rows) = ap (λ z. ((z + 0) + reserved_by ks) + 0) (none_reserved (ranked j.0 0 ((block_grouper (of_length len minimum) t).rule.leaves x j.1)))
 chunk_even s c ks i xs (by_size size x None rows) =
     let e : ((0 + (total_by held x + held i.1)) + reserved_by ks) + 0 ≡ ((0 + (total_by held x + 0)) + reserved_by ks) + held i.1 = omega arith in e
 chunk_even s c ks i xs (by_size size x (Some j) rows) =
@@ -265,22 +266,22 @@ ends_fine : (m : Mind) (weight : ChunkData → ℕ) (outs : List Item) → Fine 
 ends_fine m weight [] = tt
 ends_fine m weight (i ∷ outs) = tt
 
-stage_fine : (s : Setting) (d : Fuel) (mind : Mind) (left : List Next) (ks : Tasks) (q : Seed) (past todo : List Act) (l : Local) (over : Bool) (hs : Tree)
-    → Stage s d mind left ks q past todo l over hs → Fine mind left
-stage_fine s d mind left ks q past todo l over hs (waits_first o t k w) = carry w.mind_is w.idle tt
-stage_fine s d mind left ks q past todo l over hs (waits_end o t x b k w) = carry w.mind_is w.idle tt
-stage_fine s d mind left ks q past todo l over hs (appends x k w) = carry w.mind_is w.left_is refl
-stage_fine s d mind left ks q past todo l over hs (splits n e nm t sp b en u w) = carry w.mind_is w.idle tt
-stage_fine s d mind left ks q past todo l over hs (gathers_all t u w) = carry w.mind_is w.left_is refl
-stage_fine s d mind left ks q past todo l over hs (hands n rows j p xs ws t v w) = carry w.mind_is w.left_is (puts_fine _ tt j p xs)
-stage_fine s d mind left ks q past todo l over hs (hands_lists n first from rows j p xs ws t v w) = carry w.mind_is w.left_is (puts_fine _ tt j p xs)
-stage_fine s d mind left ks q past todo l over hs (shuts t rows k w) = carry w.mind_is w.left_is tt
-stage_fine s d mind left ks q past todo l over hs (joins_columns t rows k w) = carry w.mind_is w.left_is refl
-stage_fine s d mind left ks q past todo l over hs (regroups_rows o n x j rows outs tj nh w) = carry w.mind_is w.left_is (hands_fine (by_block (block_len o n.type) o.minimum n.type x j rows) tt (λ p. 0) outs)
-stage_fine s d mind left ks q past todo l over hs (regroups_chunks size n x j rows outs tx tj nh w) = carry w.mind_is w.left_is (hands_fine (by_size size x j rows) nh held outs)
-stage_fine s d mind left ks q past todo l over hs (collects n x rows w) = carry w.mind_is w.left_is tt
-stage_fine s d mind left ks q past todo l over hs (passes_on t weight outs one to w) = carry w.mind_is w.left_is (ends_fine passing weight outs)
-stage_fine s d mind left ks q past todo l over hs (passed t one w) = carry w.mind_is w.left_is tt
+stage_fine : (s : Setting) (d : Fuel) (mind : Mind) (left : List Next) (ks : Tasks) (q : Seed) (past todo : List Act) (l : Local) (off : Bool) (hs : Tree)
+    → Stage s d mind left ks q past todo l off hs → Fine mind left
+stage_fine s d mind left ks q past todo l off hs (waits_first o t k w) = carry w.mind_is w.idle tt
+stage_fine s d mind left ks q past todo l off hs (waits_end o t x b k w) = carry w.mind_is w.idle tt
+stage_fine s d mind left ks q past todo l off hs (appends x k w) = carry w.mind_is w.left_is refl
+stage_fine s d mind left ks q past todo l off hs (splits n e nm t sp b en u w) = carry w.mind_is w.idle tt
+stage_fine s d mind left ks q past todo l off hs (gathers_all t u w) = carry w.mind_is w.left_is refl
+stage_fine s d mind left ks q past todo l off hs (hands n rows j p xs ws t v w) = carry w.mind_is w.left_is (puts_fine (by_column (struct n.fields n.nullable) rows) tt j p xs)
+stage_fine s d mind left ks q past todo l off hs (hands_lists n first from rows j p xs ws t v w) = carry w.mind_is w.left_is (puts_fine (by_list n.elements n.nullable first from rows) tt j p xs)
+stage_fine s d mind left ks q past todo l off hs (shuts t rows k w) = carry w.mind_is w.left_is tt
+stage_fine s d mind left ks q past todo l off hs (joins_columns t rows k w) = carry w.mind_is w.left_is refl
+stage_fine s d mind left ks q past todo l off hs (regroups_rows o n x j rows outs tj nh w) = carry w.mind_is w.left_is (hands_fine (by_block (block_len o n.type) o.minimum n.type x j rows) tt (λ p. 0) outs)
+stage_fine s d mind left ks q past todo l off hs (regroups_chunks size n x j rows outs tx tj nh w) = carry w.mind_is w.left_is (hands_fine (by_size size x j rows) nh held outs)
+stage_fine s d mind left ks q past todo l off hs (collects n x rows w) = carry w.mind_is w.left_is tt
+stage_fine s d mind left ks q past todo l off hs (passes_on t weight outs one to w) = carry w.mind_is w.left_is (ends_fine passing weight outs)
+stage_fine s d mind left ks q past todo l off hs (passed t one w) = carry w.mind_is w.left_is tt
 
 module _ (s : Setting) (number : List ℕ → ℕ) where
   -- those that have done all have nothing
