@@ -2,8 +2,10 @@
 
 ghost use Rattle.std.specs.Prelude.{◌≡◌, IsTrue};
 ghost use Rattle.std.specs.Arc.{arc_value};
+ghost use Rattle.std.specs.Coded.{Coded-set};
 ghost use Rattle.vx_model.specs.Ty.{is_struct, is_list};
 ghost use Rattle.vx_model.specs.TyView.{ty};
+ghost use Rattle.vx_split.specs.ListState.{ty_coded};
 ghost use Rattle.vx_machine_view.specs.Built.{is_built};
 
 use std::sync::Arc;
@@ -42,6 +44,6 @@ pub struct ColumnsNode {
 pub struct ListsNode {
     pub dtype: Arc<DType>,
     pub split: ListSplit,
-    ghost same: { split.typed ≡ ty (arc_value dtype) },
+    ghost same: { split.typed ≡ ty (arc_value dtype) } by { Coded-set ty_coded split.typed (ty (arc_value dtype)) },
     ghost lists: { IsTrue (is_list (ty (arc_value dtype))) },
 }

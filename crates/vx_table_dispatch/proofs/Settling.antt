@@ -1,5 +1,5 @@
 -- What stands for a strategy that others stand for, step by step.
-use Rattle.std.proofs.Common.{◌≡◌, ◌<◌, ℕ, suc, Bool, true, false, if◌then◌else◌, refl, sym, subst, arith}
+use Rattle.std.proofs.Common.{◌≡◌, ◌<◌, ℕ, zero, suc, Bool, true, false, if◌then◌else◌, refl, sym, subst, arith}
 use Rattle.std.proofs.lemmas.Bool.{true≢false}
 use Rattle.vx_model.specs.Ty.{Ty, boolean, primitive, utf8, binary, list, struct, extension}
 use Rattle.vx_strategy_spec.specs.StrategyData.{StrategyData, StrategyList, Wraps, flat, chunked, grouped, compressed, coded, zoned, structured, listed, tabled, no_ways, no_wraps, wrap_grouped, wrap_zoned}
@@ -103,7 +103,7 @@ holds_on P t keep w h = go (nested w) w refl h
         subst P (one_more w t) (down (nested (further w t)) (subst (λ z. nested (further w t) < z) q (fewer w t e)) (further w t) refl (keep w p))
 
     below : (k j : ℕ) → j < k → (x : StrategyData) → nested x ≡ j → P x → P (settled x t)
-    below 0 j l x q p = absurd (omega (arith, l))
+    below zero j l x q p = absurd (omega (arith, l))
     below (suc k) j l x q p = kind x (passes_on x t) refl j q p (λ i m y r z. below k i (omega (arith, l, m)) y r z)
 
     go : (k : ℕ) (w : StrategyData) → nested w ≡ k → P w → P (settled w t)
