@@ -21,11 +21,11 @@ abbrev pub with_newest : List ChunkData → Option Item → List ChunkData
 with_newest cs None = cs
 with_newest cs (Some j) = cs ++ (j.chunk ∷ [])
 
--- the rule's type; a buffer has each type
-abbrev pub type_in : Regroup → Ty → Ty
-type_in (Repartition h) t = h.typed
-type_in (Buffered h) t = t
-type_in (Collect h) t = h.typed
+-- the rule has the type; a buffer has each
+abbrev pub is_of : Regroup → Ty → Bool
+is_of (Repartition h) t = ty_eq h.typed t
+is_of (Buffered h) t = true
+is_of (Collect h) t = ty_eq h.typed t
 
 -- whether a chunk has another type than the rule's
 abbrev pub misfits : Regroup → ChunkData → Bool
@@ -72,10 +72,14 @@ chunks_held (Repartition h) = []
 abbrev pub sizes_in : Regroup → Option Item → List ℕ
 sizes_in r j = sizes_of r (with_newest (chunks_held r) j)
 
--- what is held before the first chunk came
-abbrev pub idle_in : Regroup → Option Item → List ChunkData
-idle_in r None = chunks_held r
-idle_in r (Some j) = []
+abbrev pub are_none : List ChunkData → Bool
+are_none [] = true
+are_none (c ∷ cs) = false
+
+-- nothing is held before the first chunk came
+abbrev pub is_idle : Regroup → Option Item → Bool
+is_idle r None = are_none (chunks_held r)
+is_idle r (Some j) = true
 
 -- the rows of all chunks so far, where they are still held
 abbrev pub rows_counted : Regroup → Option Item → ℕ → ℕ

@@ -1,6 +1,6 @@
 //! A node that regroups holds chunks back, and hands what leaves to its only child.
 
-ghost use Rattle.std.specs.Prelude.{◌≡◌, ◌+◌, ◌++◌, ◌<◌, ◌≤◌, ◌^◌, ℕ, List, [], ◌∷◌, false, map, length, vec_len, IfOk, IfErr, OnOk};
+ghost use Rattle.std.specs.Prelude.{◌≡◌, ◌+◌, ◌++◌, ◌<◌, ◌≤◌, ◌^◌, ℕ, List, [], ◌∷◌, false, map, length, vec_len, IsTrue, IsFalse, IfOk, IfErr, OnOk};
 ghost use Rattle.std.specs.VecDeque.{deque_len, deque_capacity};
 ghost use Rattle.vx_model.specs.ChunkData.{ChunkData, cells, held};
 ghost use Rattle.vx_model.specs.TyView.{ty};
@@ -17,7 +17,7 @@ ghost use Rattle.vx_machine_view.specs.Acts.{hand_all};
 ghost use Rattle.vx_machine_tasks.specs.Acting.{ListRefused, TakeStopped, taken, Took, EndTaken, EndRefused};
 ghost use Rattle.vx_machine_tasks.specs.Causes.{MayCome};
 ghost use Rattle.vx_machine_tasks.specs.Ledger.{Paid, told_by, some_bytes, ok_bytes, dues_reserved, local_reserved, node_reserved};
-ghost use Rattle.vx_machine_tasks.specs.Regrouped.{type_in, misfits, misfit_in, weight_in, reserved_of, sizes_in, idle_in, rows_counted, Weighs, taken_sizes, handed, ActedOn, acted_numbers, is_collection, rest_hands, RestFits};
+ghost use Rattle.vx_machine_tasks.specs.Regrouped.{is_of, misfits, misfit_in, weight_in, reserved_of, sizes_in, is_idle, rows_counted, Weighs, taken_sizes, handed, ActedOn, acted_numbers, is_collection, rest_hands, RestFits};
 ghost use Rattle.vx_machine_tasks.specs.Sizes.{sum_of};
 ghost use Rattle.vx_machine_tasks.specs.Stocks.{item_stock, dues_stock, local_stock, node_stock};
 ghost use Rattle.vx_machine_tasks.specs.View.{item_of, todo_of, mind_of};
@@ -109,7 +109,7 @@ fn refusal(error: ChunkError) -> WriteError
 
 /// Whether the chunk has another type than the rule's.
 fn is_misfit(rule: &Regroup, dtype: &DType, chunk: &Chunk) -> bool
-    requires { type_in rule.now (ty dtype.now) ≡ ty dtype.now }
+    requires { IsTrue (is_of rule.now (ty dtype.now)) }
     ensures { result ≡ misfits rule.now chunk.now }
 {
     match rule {
@@ -299,7 +299,7 @@ fn act_on<O: Order>(
     reserved: &mut VecDeque<BufferedBytesReservation>,
 ) -> Result<Regroup, WriteError>
     requires owned { Owned (O.active order.old) (both (some_stock item_stock newest) (dues_stock todo.old.items)) }
-    requires typed { misfit_in rule newest ≡ false }
+    requires typed { IsFalse (misfit_in rule newest) }
     requires weighed { reserved.old.items ≡ sizes_in rule newest }
     requires few { sum_of reserved.old.items < 2 ^ 64 }
     ensures moved { Moved (O.active order.old) (O.active order.new) (both (some_stock item_stock newest) (dues_stock todo.old.items)) (dues_stock todo.new.items) }
@@ -342,7 +342,7 @@ fn take_fitting<O: Order>(
 ) -> Result<GroupedNode, WriteError>
     requires owned { Owned (O.active order.old) (both (both (node_stock node) (dues_stock todo.old.items)) (item_stock item)) }
     requires reserved { node_reserved node + dues_reserved todo.old.items ≤ counted ctx.old }
-    requires typed { misfits node.rule item.chunk ≡ false }
+    requires typed { IsFalse (misfits node.rule item.chunk) }
     ensures moved { Moved (O.active order.old) (O.active order.new) (both (both (node_stock node) (dues_stock todo.old.items)) (item_stock item)) (both (ok_stock node_stock result) (dues_stock todo.new.items)) }
     ensures tracked { Paid ctx.old ctx.new (node_reserved node + dues_reserved todo.old.items) (ok_bytes node_reserved result + dues_reserved todo.new.items) }
     ensures context { told_by ctx.new ≡ told_by ctx.old }
@@ -468,9 +468,9 @@ fn hand_rest<O: Order>(
     reserved: &mut VecDeque<BufferedBytesReservation>,
 ) -> Result<(), WriteError>
     requires owned { Owned (O.active order.old) (both (some_stock item_stock newest) (dues_stock todo.old.items)) }
-    requires typed { misfit_in rule newest ≡ false }
+    requires typed { IsFalse (misfit_in rule newest) }
     requires weighed { reserved.old.items ≡ sizes_in rule newest }
-    requires idle { idle_in rule newest ≡ [] }
+    requires idle { IsTrue (is_idle rule newest) }
     requires counted { rows_counted rule newest rows ≡ rows }
     ensures moved { Moved (O.active order.old) (O.active order.new) (both (some_stock item_stock newest) (dues_stock todo.old.items)) (dues_stock todo.new.items) }
     ensures balance { dues_reserved todo.new.items + sum_of reserved.new.items ≡ dues_reserved todo.old.items + sum_of reserved.old.items }

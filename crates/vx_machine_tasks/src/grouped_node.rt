@@ -1,9 +1,10 @@
 //! Nodes that regroup.
 
-ghost use Rattle.std.specs.Prelude.{◌≡◌, false, []};
+ghost use Rattle.std.specs.Prelude.{◌≡◌, IsTrue, IsFalse};
 ghost use Rattle.std.specs.Arc.{arc_value};
+ghost use Rattle.std.specs.Coded.{Coded-set, coded_list, coded_ℕ};
 ghost use Rattle.vx_model.specs.TyView.{ty};
-ghost use Rattle.vx_machine_tasks.specs.Regrouped.{type_in, misfit_in, sizes_in, idle_in, rows_counted};
+ghost use Rattle.vx_machine_tasks.specs.Regrouped.{is_of, misfit_in, sizes_in, is_idle, rows_counted};
 
 use crate::item::Item;
 use std::collections::VecDeque;
@@ -22,9 +23,9 @@ pub struct GroupedNode {
     pub rows: u64,
     /// Of a buffer: one for each chunk that it holds, in their order, the newest one's last.
     pub reserved: VecDeque<BufferedBytesReservation>,
-    ghost typed: { type_in rule (ty (arc_value dtype)) ≡ ty (arc_value dtype) },
-    ghost fits: { misfit_in rule newest ≡ false },
-    ghost idle: { idle_in rule newest ≡ [] },
-    ghost weighed: { reserved.items ≡ sizes_in rule newest },
+    ghost typed: { IsTrue (is_of rule (ty (arc_value dtype))) },
+    ghost fits: { IsFalse (misfit_in rule newest) },
+    ghost idle: { IsTrue (is_idle rule newest) },
+    ghost weighed: { reserved.items ≡ sizes_in rule newest } by { Coded-set (coded_list coded_ℕ) reserved.items (sizes_in rule newest) },
     ghost counted: { rows_counted rule newest rows ≡ rows },
 }

@@ -1,12 +1,12 @@
 //! Nodes that regroup, as they stand before their first chunk.
 
-ghost use Rattle.std.specs.Prelude.{◌≡◌, ◌+◌, ◌≤◌, [], vec_len, vec_capacity, IfOk, IfErr, OnOk};
+ghost use Rattle.std.specs.Prelude.{◌≡◌, ◌+◌, ◌≤◌, [], None, vec_len, IsTrue, vec_capacity, IfOk, IfErr, OnOk};
 ghost use Rattle.std.specs.Arc.{arc_value};
 ghost use Rattle.vx_path.specs.Path.{under};
 ghost use Rattle.vx_model.specs.TyView.{ty};
 ghost use Rattle.vx_strategy_spec.specs.StrategyData.{by_blocks, by_bytes, into_one};
 ghost use Rattle.vx_strategy_options.specs.RuleViews.{block_rule};
-ghost use Rattle.vx_machine_tasks.specs.Regrouped.{type_in, chunks_held, mind_in};
+ghost use Rattle.vx_machine_tasks.specs.Regrouped.{is_of, is_idle, rows_counted, sizes_in};
 ghost use Rattle.vx_machine_tasks.specs.Starting.{IsFresh, Begins};
 
 use crate::grouped_node::GroupedNode;
@@ -23,8 +23,10 @@ use vx_write_answer::WriteError;
 
 /// A node of a rule that holds nothing.
 fn fresh(alloc: Global, rule: Regroup, dtype: Arc<DType>) -> GroupedNode
-    requires typed { type_in rule (ty (arc_value dtype)) ≡ ty (arc_value dtype) }
-    requires empty { chunks_held rule ≡ [] }
+    requires typed { IsTrue (is_of rule (ty (arc_value dtype))) }
+    requires idle { IsTrue (is_idle rule None) }
+    requires counted { rows_counted rule None 0 ≡ 0 }
+    requires sizes { sizes_in rule None ≡ [] }
     ensures dtype { result.dtype ≡ dtype }
     ensures rule { result.rule ≡ rule }
     ensures rows { result.rows ≡ 0 }
