@@ -1,5 +1,5 @@
 -- Layouts that are joined aren't refused, and what is made of them.
-use Rattle.std.proofs.Common.{◌≡◌, ◌≢◌, ℕ, ◌+◌, ◌==◌, ◌^◌, ◌≤◌, true, List, [], ◌∷◌, ◌++◌, length, vec_len, map, Result, Ok, IfOk, IfErr, Vec, Global, refl, sym, ap, subst, ◌∙◌, inl, inr, arith, length-append, eqb-true, eq-eqb}
+use Rattle.std.proofs.Common.{◌≡◌, ◌≢◌, ℕ, ◌+◌, ◌==◌, ◌^◌, ◌≤◌, true, false, List, [], ◌∷◌, ◌++◌, length, vec_len, map, Result, Ok, IfOk, IfErr, Vec, Global, refl, sym, ap, subst, ◌∙◌, inl, inr, arith, length-append, eqb-true, eq-eqb}
 use Rattle.std.proofs.lemmas.Bool.{true≢false}
 use Rattle.std.proofs.lemmas.List.{length-map}
 use Rattle.std.specs.Arc.{arc_value}

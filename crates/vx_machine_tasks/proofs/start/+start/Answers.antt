@@ -53,7 +53,7 @@ pub start_task-start_settled-task-requires : goal.start_task-start_settled-task-
 start_task-start_settled-task-requires g t c κs within =
     let w : StrategyData = strategy_data c.args.strategy.now in
     let u : Ty = ty (arc_value c.args.dtype) in
-    let e : strategy_data c.in-Ok.found ≡ settled w u = c.in-Ok.ensures ∙ ap (λ z. settled w (ty z)) c.deref-settled.ensures in
+    let e : strategy_data c.in-Ok.found ≡ settled w u = c.in-Ok.ensures ∙ ap (λ z. settled w (ty z)) c.deref-2.ensures in
     let b : IsTrue (is_built (strategy_data c.in-Ok.found)) = subst (λ z. IsTrue (is_built z)) (sym e) (settled_built w u c.requires.built) in
     let n : IsFalse (passes_on (strategy_data c.in-Ok.found) u) = subst (λ z. IsFalse (passes_on z u)) (sym e) (no_other w u) in
     let f : weight (form_at (strategy_data c.in-Ok.found) u) ≡ weight (form_at w u) = ap weight (ap (λ z. form_at z u) e ∙ settled_form w u) in
@@ -64,14 +64,14 @@ pub start_task-returns-clause-shows : goal.start_task-returns-clause-shows
 start_task-returns-clause-shows g t c =
     let w : StrategyData = strategy_data c.args.strategy.now in
     let u : Ty = ty (arc_value c.args.dtype) in
-    let e : strategy_data c.in-Ok.found ≡ settled w u = c.in-Ok.ensures ∙ ap (λ z. settled w (ty z)) c.deref-settled.ensures in
+    let e : strategy_data c.in-Ok.found ≡ settled w u = c.in-Ok.ensures ∙ ap (λ z. settled w (ty z)) c.deref-2.ensures in
     subst (λ z. IfOk c.start_settled-task.result (Started z c.args.marked c.args.name c.args.eof)) (ap (λ z. form_at z u) e ∙ settled_form w u) c.start_settled-task.ensures.shows
 
 pub start_task-returns-clause-refused : goal.start_task-returns-clause-refused
 start_task-returns-clause-refused g t c =
     let w : StrategyData = strategy_data c.args.strategy.now in
     let u : Ty = ty (arc_value c.args.dtype) in
-    let e : strategy_data c.in-Ok.found ≡ settled w u = c.in-Ok.ensures ∙ ap (λ z. settled w (ty z)) c.deref-settled.ensures in
+    let e : strategy_data c.in-Ok.found ≡ settled w u = c.in-Ok.ensures ∙ ap (λ z. settled w (ty z)) c.deref-2.ensures in
     subst (λ z. IfErr c.start_settled-task.result (StartRefused (λ s. start_fault s z c.args.marked) (first_indices z c.args.eof))) (ap (λ z. form_at z u) e ∙ settled_form w u) c.start_settled-task.ensures.refused
 
 -- ---- a task
@@ -135,34 +135,34 @@ start_settled-start_lists-requires g t c κs within =
     let s = c.in-List.lists in
     let b : IsTrue (is_built (list_way s)) = subst (λ z. IsTrue (is_built (strategy_data z))) c.in-List.is c.requires.built in
     let l : is_list u ≡ true = list_at s u (subst (λ z. IsFalse (passes_on (strategy_data z) u)) c.in-List.is c.requires.settled) in
-    let d : ty (arc_value c.in-Ok.node.dtype) ≡ u = ap (λ z. ty (arc_value z)) c.in-Ok.ensures.node.0 in
-    let h : c.in-Ok.node.split ≡ state_at (ty (arc_value c.in-Ok.node.dtype)) true 0 = c.in-Ok.ensures.node.1 ∙ ap (λ z. state_at z true 0) (sym d) in
-    let f : lists_form s (ty (arc_value c.in-Ok.node.dtype)) ≡ form_at (strategy_data c.args.strategy.now) u =
+    let d : ty (arc_value c.in-Ok-lists_node.node.dtype) ≡ u = ap (λ z. ty (arc_value z)) c.in-Ok-lists_node.ensures.node.0 in
+    let h : c.in-Ok-lists_node.node.split ≡ state_at (ty (arc_value c.in-Ok-lists_node.node.dtype)) true 0 = c.in-Ok-lists_node.ensures.node.1 ∙ ap (λ z. state_at z true 0) (sym d) in
+    let f : lists_form s (ty (arc_value c.in-Ok-lists_node.node.dtype)) ≡ form_at (strategy_data c.args.strategy.now) u =
     ap (lists_form s) d ∙ sym (list_plain s u l) ∙ ap (λ z. form_at (strategy_data z) u) (sym c.in-List.is) in
-    let n : weight (lists_form s (ty (arc_value c.in-Ok.node.dtype))) ≡ weight (form_at (strategy_data c.args.strategy.now) u) = ap weight f in
-    let falls : 8 * weight (lists_form s (ty (arc_value c.in-Ok.node.dtype))) + 3 < 8 * weight (form_at (strategy_data c.args.strategy.now) u) + 4 = omega (arith, n) in
+    let n : weight (lists_form s (ty (arc_value c.in-Ok-lists_node.node.dtype))) ≡ weight (form_at (strategy_data c.args.strategy.now) u) = ap weight f in
+    let falls : 8 * weight (lists_form s (ty (arc_value c.in-Ok-lists_node.node.dtype))) + 3 < 8 * weight (form_at (strategy_data c.args.strategy.now) u) + 4 = omega (arith, n) in
     search (rules, arith, c.requires.owned, b, h, falls)
 
 pub start_settled-lists_node-requires : goal.start_settled-lists_node-requires
 start_settled-lists_node-requires g t c =
     list_at c.in-List.lists (ty (arc_value c.args.dtype)) (subst (λ z. IsFalse (passes_on (strategy_data z) (ty (arc_value c.args.dtype)))) c.in-List.is c.requires.settled)
 
-pub start_settled-returns-in-List-in-Ok-clause-shows : goal.start_settled-returns-in-List-in-Ok-clause-shows
-start_settled-returns-in-List-in-Ok-clause-shows g t c =
+pub start_settled-returns-in-Ok-lists_node-clause-shows : goal.start_settled-returns-in-Ok-lists_node-clause-shows
+start_settled-returns-in-Ok-lists_node-clause-shows g t c =
     let u : Ty = ty (arc_value c.args.dtype) in
     let s = c.in-List.lists in
     let l : is_list u ≡ true = list_at s u (subst (λ z. IsFalse (passes_on (strategy_data z) u)) c.in-List.is c.requires.settled) in
-    let f : lists_form s (ty (arc_value c.in-Ok.node.dtype)) ≡ form_at (strategy_data c.args.strategy.now) u =
-    ap (λ z. lists_form s (ty (arc_value z))) c.in-Ok.ensures.node.0 ∙ sym (list_plain s u l) ∙ ap (λ z. form_at (strategy_data z) u) (sym c.in-List.is) in
+    let f : lists_form s (ty (arc_value c.in-Ok-lists_node.node.dtype)) ≡ form_at (strategy_data c.args.strategy.now) u =
+    ap (λ z. lists_form s (ty (arc_value z))) c.in-Ok-lists_node.ensures.node.0 ∙ sym (list_plain s u l) ∙ ap (λ z. form_at (strategy_data z) u) (sym c.in-List.is) in
     subst (λ z. IfOk c.start_lists.result (Started z c.args.marked c.args.name c.args.eof)) f c.start_lists.ensures.shows
 
-pub start_settled-returns-in-List-in-Ok-clause-refused : goal.start_settled-returns-in-List-in-Ok-clause-refused
-start_settled-returns-in-List-in-Ok-clause-refused g t c =
+pub start_settled-returns-in-Ok-lists_node-clause-refused : goal.start_settled-returns-in-Ok-lists_node-clause-refused
+start_settled-returns-in-Ok-lists_node-clause-refused g t c =
     let u : Ty = ty (arc_value c.args.dtype) in
     let s = c.in-List.lists in
     let l : is_list u ≡ true = list_at s u (subst (λ z. IsFalse (passes_on (strategy_data z) u)) c.in-List.is c.requires.settled) in
-    let f : lists_form s (ty (arc_value c.in-Ok.node.dtype)) ≡ form_at (strategy_data c.args.strategy.now) u =
-    ap (λ z. lists_form s (ty (arc_value z))) c.in-Ok.ensures.node.0 ∙ sym (list_plain s u l) ∙ ap (λ z. form_at (strategy_data z) u) (sym c.in-List.is) in
+    let f : lists_form s (ty (arc_value c.in-Ok-lists_node.node.dtype)) ≡ form_at (strategy_data c.args.strategy.now) u =
+    ap (λ z. lists_form s (ty (arc_value z))) c.in-Ok-lists_node.ensures.node.0 ∙ sym (list_plain s u l) ∙ ap (λ z. form_at (strategy_data z) u) (sym c.in-List.is) in
     subst (λ z. IfErr c.start_lists.result (StartRefused (λ s. start_fault s z c.args.marked) (first_indices z c.args.eof))) f c.start_lists.ensures.refused
 
 -- ---- a struct's columns
@@ -314,13 +314,15 @@ start_each-fields-init g t c = record {
   left =
       let b : c.if-marked.below ≡ (c.args.marked || c.is_nullable-nullable.result) = search (rules, tests) in
       rw (b, c.fields_in-columns.ensures) (left_first c.args.fields.now (ty c.args.dtype.now) c.is_nullable-nullable.result c.args.marked c.args.name.now c.args.eof.now c.start_validity.new.eof c.args.kids.now.items c.start_validity.new.kids.items
-      c.is_nullable-nullable.ensures c.in_ok-start_validity.ensures.shows);
+      c.is_nullable-nullable.ensures
+      (subst (λ z. ManyStarted (validity_forms z.item c.is_nullable-nullable.result) c.args.marked c.args.name.now c.args.eof.now c.args.kids.now.items c.start_validity.new.eof c.start_validity.new.kids.items) c.validity-validity.ensures c.in_ok-start_validity.ensures.shows));
 }
 
 pub start_each-returns-in_err-start_validity-clause-refused : goal.start_each-returns-in_err-start_validity-clause-refused
 start_each-returns-in_err-start_validity-clause-refused g t c =
     let p = err_from_is_err_and c.from_residual.result c.from_residual.ensures.1 in
-    rw (p.1, p.2) (validity_refused c.args.fields.now (ty c.args.dtype.now) c.is_nullable-nullable.result c.args.marked c.args.eof.now c.in_err-start_validity.field-0.0 c.is_nullable-nullable.ensures c.in_err-start_validity.ensures.refused)
+    rw (p.1, p.2) (validity_refused c.args.fields.now (ty c.args.dtype.now) c.is_nullable-nullable.result c.args.marked c.args.eof.now c.in_err-start_validity.field-0.0 c.is_nullable-nullable.ensures
+    (subst (λ z. ManyRefused (validity_forms z.item c.is_nullable-nullable.result) c.args.marked c.args.eof.now c.in_err-start_validity.field-0.0) c.validity-validity.ensures c.in_err-start_validity.ensures.refused))
 
 pub start_each-start_field-requires : goal.start_each-start_field-requires
 start_each-start_field-requires g t c κs within =
