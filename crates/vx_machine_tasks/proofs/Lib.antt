@@ -16,6 +16,10 @@ pub mod ViewParts
 pub mod Counting
 pub mod ReadyViews
 pub mod Fitting
+pub mod GroupNumbers
+pub mod GroupSizes
+pub mod GroupHands
+pub mod GroupTakes
 pub mod StartShows
 pub mod RefusalSteps
 pub mod RowSteps
