@@ -20,8 +20,9 @@ pub mod GroupNumbers
 pub mod GroupSizes
 pub mod GroupHands
 pub mod GroupTakes
+pub mod GroupShows
+pub mod StopSteps
 pub mod ReservedSteps
-pub mod LedgerSteps
 pub mod LedgerSteps
 pub mod StartShows
 pub mod RefusalSteps

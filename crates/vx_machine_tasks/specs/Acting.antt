@@ -197,6 +197,8 @@ ChildRefused n eof e = StartRefused (λ s. start_fault s (child_form n) n.marked
 -- it was taken, with this in mind then, and this left to do behind what was
 pub record Ended (w : Did) (mind : Mind) (todo before : List Next) : Type 0 where
   pub unrefused : w.refusal ≡ None
+  pub fits : w.misfit ≡ false
+  pub counted : AllFit (w.numbers ++ w.indices)
   pub mind_is : mind ≡ w.desk.mind
   pub todo_is : todo ≡ before ++ w.desk.todo
 
