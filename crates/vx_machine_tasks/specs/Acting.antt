@@ -16,7 +16,7 @@ use Rattle.vx_machine_turns.specs.Starts.{start_fault}
 use Rattle.vx_machine_view.specs.State.{Next, Mind, ending, Desk, Tasks}
 use Rattle.vx_machine_view.specs.Start.{waiting, first_indices}
 use Rattle.vx_sink.specs.declared.context.LayoutWriterContext.{LayoutWriterContext}
-use Rattle.vx_sink.specs.ContextView.{counted}
+use Rattle.vx_sink.specs.ContextView.{counted as bytes_counted}
 use Rattle.vx_machine_view.specs.Acts.{count, Did, do_next, take_chunk, take_end, do_take, do_act}
 use Rattle.vx_write_answer.specs.declared.step.ActionKind.{ActionKind}
 use Rattle.vx_write_answer.specs.declared.error.WriteError.{WriteError}
@@ -126,7 +126,7 @@ ChunkRefused ctx name ks i l e = (image : ℕ → ChunkData → ChunkData) → T
 
 -- where the tracker counts what the context tells
 abbrev pub ChunkStopped : LayoutWriterContext → List ℕ → Tasks → Item → Local → WriteError → Type 0
-ChunkStopped ctx name ks i l e = (image : ℕ → ChunkData → ChunkData) → TakeStopped (counted ctx) (taken (setting_of ctx image) name ks (item_of i) (mind_of l)) e
+ChunkStopped ctx name ks i l e = (image : ℕ → ChunkData → ChunkData) → TakeStopped (bytes_counted ctx) (taken (setting_of ctx image) name ks (item_of i) (mind_of l)) e
 
 -- what a flat node's layout keeps of a chunk's segment: its tree, where the node inlines
 abbrev pub tree_kept : List EncodingId → FlatNode → ChunkData → Option (List ℕ)
@@ -227,7 +227,7 @@ abbrev pub NextTaken : LayoutWriterContext → Head → List Task → Head → L
 NextTaken ctx h ks head kids = (image : ℕ → ChunkData → ChunkData) → TakeDone (taken_next ctx image h ks) head kids
 
 abbrev pub NextUntaken : LayoutWriterContext → Head → List Task → WriteError → Type 0
-NextUntaken ctx h ks e = (image : ℕ → ChunkData → ChunkData) → TakeStopped (counted ctx) (taken_next ctx image h ks) e
+NextUntaken ctx h ks e = (image : ℕ → ChunkData → ChunkData) → TakeStopped (bytes_counted ctx) (taken_next ctx image h ks) e
 
 -- the act was done
 pub record Acted (w : Did) (before : Outlet) (number : ℕ) (after : Outlet) (head : Head) (kids : List Task) (a : ActionKind) : Type 0 where
@@ -246,4 +246,4 @@ abbrev pub NextDone : LayoutWriterContext → Head → List Task → Outlet → 
 NextDone ctx h ks before after head kids a = (image : ℕ → ChunkData → ChunkData) → (n : ℕ) × Acted (act_next ctx image n h ks) before n after head kids a
 
 abbrev pub NextRefused : LayoutWriterContext → Head → List Task → Outlet → WriteError → Type 0
-NextRefused ctx h ks o e = (image : ℕ → ChunkData → ChunkData) (n : ℕ) → ActStopped (counted ctx) (act_next ctx image n h ks) o e
+NextRefused ctx h ks o e = (image : ℕ → ChunkData → ChunkData) (n : ℕ) → ActStopped (bytes_counted ctx) (act_next ctx image n h ks) o e

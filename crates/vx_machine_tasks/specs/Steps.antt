@@ -10,7 +10,7 @@ use Rattle.vx_write_answer.specs.declared.error.WriteError.{WriteError}
 use Rattle.vx_machine_view.specs.State.{Tasks}
 use Rattle.vx_machine_view.specs.Moves.{Step as TaskStep, steps}
 use Rattle.vx_sink.specs.declared.context.LayoutWriterContext.{LayoutWriterContext}
-use Rattle.vx_sink.specs.ContextView.{counted}
+use Rattle.vx_sink.specs.ContextView.{counted as bytes_counted}
 use Rattle.vx_machine_tasks.specs.Context.{setting_of}
 use Rattle.vx_machine_tasks.specs.Outcome.{action_of, AllFit, Refused}
 use Rattle.vx_machine_tasks.specs.Acting.{Behind}
@@ -40,4 +40,4 @@ abbrev pub TaskDone : LayoutWriterContext → List (List ℕ) → ℕ → Outlet
 TaskDone ctx all k before after cs new name a = (image : ℕ → ChunkData → ChunkData) → (number : ℕ) × TaskStepped (setting_of ctx image) all k before number after cs new name a
 
 abbrev pub TaskFails : LayoutWriterContext → List (List ℕ) → ℕ → Outlet → Tasks → WriteError → Type 0
-TaskFails ctx all k before cs e = (image : ℕ → ChunkData → ChunkData) (number : ℕ) → TaskRefused (setting_of ctx image) all k (counted ctx) before number cs e
+TaskFails ctx all k before cs e = (image : ℕ → ChunkData → ChunkData) (number : ℕ) → TaskRefused (setting_of ctx image) all k (bytes_counted ctx) before number cs e

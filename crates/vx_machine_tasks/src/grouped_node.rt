@@ -27,5 +27,5 @@ pub struct GroupedNode {
     ghost fits: { IsFalse (misfit_in rule newest) },
     ghost idle: { IsTrue (is_idle rule newest) },
     ghost weighed: { reserved.items ≡ sizes_in rule newest } by { Coded-set (coded_list coded_ℕ) reserved.items (sizes_in rule newest) },
-    ghost counted: { rows_counted rule newest rows ≡ rows },
+    ghost summed: { rows_counted rule newest rows ≡ rows },
 }
