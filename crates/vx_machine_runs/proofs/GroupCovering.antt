@@ -1,5 +1,5 @@
 -- Each number of a regrouping node's plan is at most one that its tasks count.
-use Rattle.std.proofs.Common.{◌≡◌, ◌+◌, ◌≤◌, ◌⊎◌, ◌∷◌, ◌++◌, ◌∙◌, ℕ, inl, inr, ⊎_elim, Bool, true, false, List, refl, sym, ap, subst, arith, append_assoc, append-nil, Option, Some, None, []}
+use Rattle.std.proofs.Common.{◌≡◌, ◌+◌, ◌⊎◌, ◌∷◌, ◌++◌, ◌∙◌, ℕ, inl, inr, ⊎_elim, Bool, true, false, List, refl, sym, ap, subst, arith, append_assoc, append-nil, Option, Some, None, []}
 use Rattle.vx_model.specs.Ty.{Ty}
 use Rattle.vx_model.specs.CellData.{CellData}
 use Rattle.vx_model.specs.ChunkData.{ChunkData, held}
@@ -7,12 +7,11 @@ use Rattle.vx_model.specs.Words.{total_by}
 use Rattle.vx_path.specs.Lists.{In}
 use Rattle.vx_path.specs.Path.{Eof, under}
 use Rattle.vx_path.proofs.Lists.{in_left, in_right, in_cases}
-use Rattle.vx_rules.specs.Blocks.{BlockOptions, blocks}
 use Rattle.vx_rules.specs.Flushes.{flushes}
 use Rattle.vx_strategy_spec.specs.StrategyData.{Grouping, by_blocks, by_bytes, into_one}
 use Rattle.vx_tasks.specs.Task.Kind.{Take, TakeEnd}
 use Rattle.vx_plan.specs.PlanData.{Setting, Item, Node, Plan, rows_in, totals, row_totals}
-use Rattle.vx_plan.specs.GroupNode.{counted_at, left_count, rest_count, block_count, block_rest, held_sizes, group_numbers, grouped_stream, grouped_node}
+use Rattle.vx_plan.specs.GroupNode.{counted_at, left_count, rest_count, held_sizes, group_numbers, grouped_stream, grouped_node}
 use Rattle.vx_machine_turns.specs.Forms.{Form, grouped_form, form_type}
 use Rattle.vx_machine_turns.specs.Locals.{GroupedNode, Local, blocks_local, bytes_local, collect_local}
 use Rattle.vx_machine_turns.specs.Acts.{Act, Turn, births, numbers_in, indices_in}
@@ -21,7 +20,7 @@ use Rattle.vx_machine_turns.specs.Grouped.{Grouper, block_grouper, byte_grouper,
 use Rattle.vx_machine_turns.specs.Turns.{turn, firsts, kept, start_indices}
 use Rattle.vx_machine_turns.specs.Scripts.{as_kind, with_holds, all_uses, filled, block_of, last_block, script}
 use Rattle.vx_machine_turns.specs.Fuels.{Fuel, spent, fuel, Enough}
-use Rattle.vx_machine_turns.specs.Duties.{Duty, duty_of, seeds, duty_script, below, Given, grown}
+use Rattle.vx_machine_turns.specs.Duties.{Duty, duty_of, duty_script, below, Given, grown}
 use Rattle.vx_machine_turns.specs.Planned.{AtMost}
 use Rattle.vx_machine_turns.proofs.DutyLaws.{below_is}
 use Rattle.vx_machine_turns.proofs.GroupedLaws.{blocks_stream, bytes_stream}

@@ -1,5 +1,5 @@
 -- What the tracker counts in a run.
-use Rattle.std.specs.Prelude.{◌≡◌, ◌+◌, ◌^◌, ◌<◌, ◌≤◌, ℕ, List, Some}
+use Rattle.std.specs.Prelude.{◌≡◌, ◌+◌, ◌≤◌, ℕ, List, Some}
 use Rattle.vx_layout_spec.specs.Codec.{Lawful}
 use Rattle.vx_tasks.specs.Run.{Note, nth}
 use Rattle.vx_machine_turns.specs.Acts.{raised_in, lowered_in}
@@ -9,7 +9,6 @@ use Rattle.vx_machine_steps.specs.Runs.{RunsBy, notes, acts_of}
 use Rattle.vx_machine_promises.specs.Write.{Write, Future, Open, Answer, depth, begin, planned, taken_by, heard_by}
 use Rattle.vx_machine_promises.specs.Reached.{moves_at}
 use Rattle.vx_machine_view.specs.Machine.{WholeStep}
-use Rattle.vx_machine_view.specs.Reserved.{reserved_by}
 use Rattle.vx_machine_runs.specs.Runs.{Stand, tracked, Chosen, Done, UnderwayAt}
 
 -- a step that was done changes it by what it adds and takes
