@@ -17,14 +17,13 @@ use Rattle.vx_plan.specs.ColumnNodes.{Column, marked, column_plans, column_numbe
 use Rattle.vx_plan.specs.SourcePlan.{plan_nodes, plan, batch_items, source_plan}
 use Rattle.vx_plan.proofs.Relate.{Agree, relate, Both}
 use Rattle.vx_machine_turns.specs.Forms.{Form, flat_form, chunked_form, struct_form, list_form, forms_of, form_nodes, form_type, Writer}
-use Rattle.vx_machine_turns.specs.Acts.{Seed, Act, births, gifts, shut, numbers_in, indices_in}
+use Rattle.vx_machine_turns.specs.Acts.{Act, births, gifts, shut, numbers_in, indices_in}
 use Rattle.vx_machine_turns.specs.Locals.{ChunkedNode, StructNode, ListNode, chunked_local, struct_local, list_local}
 use Rattle.vx_machine_turns.specs.Turns.{firsts, start_indices}
 use Rattle.vx_machine_turns.specs.Scripts.{script}
 use Rattle.vx_machine_turns.specs.Starts.{struct_columns_of, list_columns_of, marked_forms}
 use Rattle.vx_machine_turns.specs.Source.{source_acts, source_seed}
 use Rattle.vx_machine_turns.specs.Fuels.{Fuel, spent, fuel, fuel_of, Enough, AllEnough}
-use Rattle.vx_machine_turns.specs.Readings.{Reading}
 use Rattle.vx_machine_turns.specs.Duties.{Duty, duty_of, seeds, duty_script, below, Given, grown}
 use Rattle.vx_machine_turns.specs.Planned.{AtMost}
 use Rattle.vx_machine_turns.proofs.DutyLaws.{row_is, below_is, unread_same}

@@ -1,5 +1,5 @@
 -- What a task and all below it count, and what it means that this covers the numbers of a plan.
-use Rattle.std.proofs.Common.{◌≡◌, ◌+◌, ◌≤◌, ◌∷◌, ◌++◌, ℕ, inl, inr, Bool, List, refl, arith, []}
+use Rattle.std.proofs.Common.{◌≤◌, ◌∷◌, ◌++◌, ℕ, inl, inr, Bool, List, refl, arith, []}
 use Rattle.vx_path.specs.Lists.{In}
 use Rattle.vx_path.specs.Path.{Eof}
 use Rattle.vx_plan.specs.PlanData.{Setting, Item, Node}

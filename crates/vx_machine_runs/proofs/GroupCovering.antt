@@ -1,5 +1,5 @@
 -- Each number of a regrouping node's plan is at most one that its tasks count.
-use Rattle.std.proofs.Common.{◌≡◌, ◌+◌, ◌≤◌, ◌⊎◌, ◌∷◌, ◌++◌, ◌∙◌, ℕ, inl, inr, ⊎_elim, Bool, true, false, List, refl, sym, ap, subst, arith, append_assoc, append-nil, Option, Some, None, []}
+use Rattle.std.proofs.Common.{◌≡◌, ◌+◌, ◌⊎◌, ◌∷◌, ◌++◌, ◌∙◌, ℕ, inl, inr, ⊎_elim, Bool, true, false, List, refl, sym, ap, subst, arith, append_assoc, append-nil, Option, Some, None, []}
 use Rattle.vx_model.specs.Ty.{Ty}
 use Rattle.vx_model.specs.CellData.{CellData}
 use Rattle.vx_model.specs.ChunkData.{ChunkData, held}
@@ -7,21 +7,20 @@ use Rattle.vx_model.specs.Words.{total_by}
 use Rattle.vx_path.specs.Lists.{In}
 use Rattle.vx_path.specs.Path.{Eof, under}
 use Rattle.vx_path.proofs.Lists.{in_left, in_right, in_cases}
-use Rattle.vx_rules.specs.Blocks.{BlockOptions, blocks}
 use Rattle.vx_rules.specs.Flushes.{flushes}
 use Rattle.vx_strategy_spec.specs.StrategyData.{Grouping, by_blocks, by_bytes, into_one}
-use Rattle.vx_tasks.specs.Task.Kind.{TakeEnd}
+use Rattle.vx_tasks.specs.Task.Kind.{Take, TakeEnd}
 use Rattle.vx_plan.specs.PlanData.{Setting, Item, Node, Plan, rows_in, totals, row_totals}
-use Rattle.vx_plan.specs.GroupNode.{counted_at, left_count, rest_count, block_count, block_rest, held_sizes, group_numbers, grouped_stream, grouped_node}
+use Rattle.vx_plan.specs.GroupNode.{counted_at, left_count, rest_count, held_sizes, group_numbers, grouped_stream, grouped_node}
 use Rattle.vx_machine_turns.specs.Forms.{Form, grouped_form, form_type}
 use Rattle.vx_machine_turns.specs.Locals.{GroupedNode, Local, blocks_local, bytes_local, collect_local}
-use Rattle.vx_machine_turns.specs.Acts.{Act, births, numbers_in, indices_in}
+use Rattle.vx_machine_turns.specs.Acts.{Act, Turn, births, numbers_in, indices_in}
 use Rattle.vx_machine_turns.specs.Collected.{collected_so_far}
 use Rattle.vx_machine_turns.specs.Grouped.{Grouper, block_grouper, byte_grouper, group_turn, group_end, group_ends}
-use Rattle.vx_machine_turns.specs.Turns.{turn, firsts, start_indices}
-use Rattle.vx_machine_turns.specs.Scripts.{as_kind, filled, block_of, last_block, script}
+use Rattle.vx_machine_turns.specs.Turns.{turn, firsts, kept, start_indices}
+use Rattle.vx_machine_turns.specs.Scripts.{as_kind, with_holds, all_uses, filled, block_of, last_block, script}
 use Rattle.vx_machine_turns.specs.Fuels.{Fuel, spent, fuel, Enough}
-use Rattle.vx_machine_turns.specs.Duties.{Duty, duty_of, seeds, duty_script, below, Given, grown}
+use Rattle.vx_machine_turns.specs.Duties.{Duty, duty_of, duty_script, below, Given, grown}
 use Rattle.vx_machine_turns.specs.Planned.{AtMost}
 use Rattle.vx_machine_turns.proofs.DutyLaws.{below_is}
 use Rattle.vx_machine_turns.proofs.GroupedLaws.{blocks_stream, bytes_stream}
@@ -56,6 +55,13 @@ first_told : (n : ℕ) (a : Act) (acts : List Act) → In n a.numbers ⊎ In n a
 first_told n a acts (inl i) = in_left n (a.numbers ++ numbers_in acts) (a.indices ++ indices_in acts) (in_left n a.numbers (numbers_in acts) i)
 first_told n a acts (inr i) = in_right n (a.numbers ++ numbers_in acts) (a.indices ++ indices_in acts) (in_left n a.indices (indices_in acts) i)
 
+-- so of a turn, and of the end
+block_told : (n : ℕ) (u : Turn) → In n u.first.numbers ⊎ In n u.first.indices → In n (told (block_of u))
+block_told n u h = first_told n (with_holds (all_uses u.more ++ kept u.after) (as_kind Take u.first)) (filled (kept u.after) u.more) h
+
+end_told : (n : ℕ) (a : Act) (acts : List Act) → In n a.numbers ⊎ In n a.indices → In n (told (filled [] (as_kind TakeEnd a ∷ acts)))
+end_told n a acts h = first_told n (with_holds (all_uses acts ++ []) (as_kind TakeEnd a)) (filled [] acts) h
+
 -- ---- a rule
 
 abbrev with_newest : Option Item → List Item → List Item
@@ -89,8 +95,8 @@ module _ (S : Type 0) (s : Setting) (g : Grouper S) (l : S → Option Item → �
 
   rows_told : (n : ℕ) (items : List Item) (x : S) (j : Option Item) (rows : ℕ) (ended : Bool) → In n (totals rows_in rows items) → In n (told (script s (l x j rows) items ended))
   rows_told n [] x j rows ended h = absurd h
-  rows_told n (i ∷ is) x None rows ended (inl e) = at_chunk n x None rows i is ended (inl (first_told n _ _ (inl (inl e))))
-  rows_told n (i ∷ is) x (Some p) rows ended (inl e) = at_chunk n x (Some p) rows i is ended (inl (first_told n _ _ (inl (inl e))))
+  rows_told n (i ∷ is) x None rows ended (inl e) = at_chunk n x None rows i is ended (inl (block_told n (group_turn g l x None rows i) (inl (inl e))))
+  rows_told n (i ∷ is) x (Some p) rows ended (inl e) = at_chunk n x (Some p) rows i is ended (inl (block_told n (group_turn g l x (Some p) rows i) (inl (inl e))))
   rows_told n (i ∷ is) x j rows ended (inr k) = at_chunk n x j rows i is ended (inr (rows_told n is (state g x j) (Some i) (rows + rows_in i.1) ended k))
 
   sizes_told : (n : ℕ) (items : List Item) (x : S) (j : Option Item) (rows : ℕ) (ended : Bool) → In n (sizes g (state g x j) items) → In n (told (script s (l x j rows) items ended))
@@ -100,22 +106,26 @@ module _ (S : Type 0) (s : Setting) (g : Grouper S) (l : S → Option Item → �
       (in_cases n (g.taken (state g x j) i.1) (sizes g (g.rule.holds (state g x j) i.1) is) h)
     where
       here : (j : Option Item) → In n (g.taken (state g x j) i.1) → In n (told (script s (l x j rows) (i ∷ is) ended))
-      here None k = at_chunk n x None rows i is ended (inl (first_told n _ _ (inl (inr k))))
-      here (Some p) k = at_chunk n x (Some p) rows i is ended (inl (first_told n _ _ (inl (inr (in_left n (g.taken (g.rule.holds x p.1) i.1) (g.acted x p.1) k)))))
+      here None k = at_chunk n x None rows i is ended (inl (block_told n (group_turn g l x None rows i) (inl (inr k))))
+      here (Some p) k = at_chunk n x (Some p) rows i is ended (inl (block_told n (group_turn g l x (Some p) rows i) (inl (inr (in_left n (g.taken (g.rule.holds x p.1) i.1) (g.acted x p.1) k)))))
 
   acted_told : (n : ℕ) (items : List Item) (x : S) (j : Option Item) (rows : ℕ) (ended : Bool) → In n (acted g x (with_newest j items) ended) → In n (told (script s (l x j rows) items ended))
   acted_told n [] x None rows ended h = absurd h
   acted_told n [] x (Some p) rows false h = absurd h
   acted_told n [] x (Some p) rows true h =
-      subst (λ z. In n (told z)) (sym (ends x (Some p) rows)) (first_told n _ _ (⊎_elim (λ a. inr a) (λ a. inl a) (in_cases n (rest_count g.rule x p.1) (g.acted x p.1) h)))
+      subst (λ z. In n (told z)) (sym (ends x (Some p) rows)) (end_told n (group_end g x (Some p)) (group_ends g x (Some p)) (last_first (in_cases n (rest_count g.rule x p.1) (g.acted x p.1) h)))
+    where
+      last_first : In n (rest_count g.rule x p.1) ⊎ In n (g.acted x p.1) → In n (g.acted x p.1) ⊎ In n (rest_count g.rule x p.1)
+      last_first (inl a) = inr a
+      last_first (inr a) = inl a
   acted_told n (i ∷ is) x None rows ended h = at_chunk n x None rows i is ended (inr (acted_told n is x (Some i) (rows + rows_in i.1) ended h))
   acted_told n (i ∷ is) x (Some p) rows ended h =
-      ⊎_elim (λ a. at_chunk n x (Some p) rows i is ended (inl (first_told n _ _ (here a)))) (λ a. at_chunk n x (Some p) rows i is ended (inr (acted_told n is (g.rule.holds x p.1) (Some i) (rows + rows_in i.1) ended a)))
+      ⊎_elim (λ a. at_chunk n x (Some p) rows i is ended (inl (block_told n (group_turn g l x (Some p) rows i) (here (in_cases n (left_count g.rule x p.1) (g.acted x p.1) a))))) (λ a. at_chunk n x (Some p) rows i is ended (inr (acted_told n is (g.rule.holds x p.1) (Some i) (rows + rows_in i.1) ended a)))
       (in_cases n (left_count g.rule x p.1 ++ g.acted x p.1) (acted g (g.rule.holds x p.1) (i ∷ is) ended) h)
     where
-      here : In n (left_count g.rule x p.1 ++ g.acted x p.1)
-          → In n ((rows + rows_in i.1) ∷ (g.taken (g.rule.holds x p.1) i.1 ++ g.acted x p.1)) ⊎ In n (left_count g.rule x p.1)
-      here a = ⊎_elim (λ b. inr b) (λ b. inl (inr (in_right n (g.taken (g.rule.holds x p.1) i.1) (g.acted x p.1) b))) (in_cases n (left_count g.rule x p.1) (g.acted x p.1) a)
+      here : In n (left_count g.rule x p.1) ⊎ In n (g.acted x p.1) → In n ((rows + rows_in i.1) ∷ (g.taken (g.rule.holds x p.1) i.1 ++ g.acted x p.1)) ⊎ In n (left_count g.rule x p.1)
+      here (inl b) = inr b
+      here (inr b) = inl (inr (in_right n (g.taken (g.rule.holds x p.1) i.1) (g.acted x p.1) b))
 
 -- ---- an only child, which gets the eof path itself
 
@@ -139,7 +149,7 @@ all_sizes size (i ∷ is) x = ap (λ z. held i.1 ∷ total_by held (x ++ (i.1 �
 -- a collection counts its rows alone
 collected_told : (s : Setting) (n : GroupedNode) (k : ℕ) (items : List Item) (x : Option (List ℕ × List ChunkData)) (rows : ℕ) (ended : Bool) → In k (totals rows_in rows items) → In k (told (script s (collect_local n x rows) items ended))
 collected_told s n k [] x rows ended h = absurd h
-collected_told s n k (i ∷ is) x rows ended (inl e) = told_in k (block_of (turn s (collect_local n x rows) i)) (script s (turn s (collect_local n x rows) i).after is ended) (inl (first_told k _ _ (inl (inl e))))
+collected_told s n k (i ∷ is) x rows ended (inl e) = told_in k (block_of (turn s (collect_local n x rows) i)) (script s (turn s (collect_local n x rows) i).after is ended) (inl (block_told k (turn s (collect_local n x rows) i) (inl (inl e))))
 collected_told s n k (i ∷ is) x rows ended (inr h) =
     told_in k (block_of (turn s (collect_local n x rows) i)) (script s (turn s (collect_local n x rows) i).after is ended)
     (inr (collected_told s n k is (Some (i.0, collected_so_far x ++ (i.1 ∷ []))) (rows + rows_in i.1) ended h))

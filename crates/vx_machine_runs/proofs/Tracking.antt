@@ -1,16 +1,16 @@
 -- What the tracker counts in a run.
-use Rattle.std.proofs.Common.{◌≡◌, ◌+◌, ◌≤◌, ◌∷◌, ◌++◌, ◌∙◌, refl, sym, ap, subst, arith, append_assoc, []}
+use Rattle.std.proofs.Common.{◌≡◌, ◌+◌, ◌≤◌, ◌∷◌, ◌++◌, ◌∙◌, refl, sym, ap, subst, append_assoc, []}
 use Rattle.vx_plan.specs.PlanData.{Plan}
-use Rattle.vx_machine_turns.specs.Acts.{raised_in, lowered_in}
-use Rattle.vx_machine_steps.specs.Runs.{acts_of}
+use Rattle.vx_machine_steps.specs.Runs.{appended}
 use Rattle.vx_machine_steps.specs.StartPlanned.{started}
 use Rattle.vx_machine_promises.specs.Write.{Future, Answer, unasked, came, over, begin, before, planned, taken_by, heard_by}
-use Rattle.vx_machine_promises.specs.Reached.{Reached}
+use Rattle.vx_machine_promises.specs.Reached.{Reached, moves_at}
 use Rattle.vx_machine_promises.specs.Promises.{MovesAreCounted, Counted}
 use Rattle.vx_machine_view.specs.Underway.{Showing}
 use Rattle.vx_machine_view.proofs.Underway.{write_moves}
 use Rattle.vx_machine_runs.specs.Runs.{tracked}
-use Rattle.vx_machine_runs.specs.Tracked.{StepIsTracked, StepsAreTracked, Comes, TrackerComes}
+use Rattle.vx_machine_runs.specs.Tracked.{StepIsTracked, StepsAreTracked, Comes, TrackerComes, TrackerComesWithin}
+use Rattle.vx_machine_runs.proofs.Counting.{nth_in}
 use Rattle.vx_machine_runs.proofs.Ending.{none_later, open_none, same_plan}
 use Rattle.vx_machine_runs.proofs.Reaching.{move_of}
 use Rattle.vx_machine_runs.proofs.Stepping.{open_before, asks_so, evened}
@@ -47,7 +47,12 @@ tracker_comes g first seen x told f k w law u o c = subst (λ z. Comes g z seen 
     on : (r : Reached g x.taken (before told f) seen x.history (tracked g x)) × Showing g first x.taken x.machine (before told f) r.tree → Comes g (begin g x.taken (before told f)) seen k (tracked g x + w.raises)
     on (r, shown) =
         let m = move_of g first x.taken x.heard told f seen x.history (tracked g x) r x.machine k w law o shown c.place (asks_so g first x told k w f c) in
-        let a : tracked g x + lowered_in (acts_of r.moves) ≡ g.tracker + raised_in (acts_of r.moves) = r.tracked in
-        let b : w.raises ≡ m.0.act.raises = m.2.raises in
-        let e : (tracked g x + w.raises) + lowered_in (acts_of r.moves) ≡ (g.tracker + raised_in (acts_of r.moves)) + m.0.act.raises = omega (arith, a, b) in
-        record { tree = r.tree; moves = r.moves; runs = r.runs; seen_is = r.seen_is; move = m.0; place = m.1; count = e }
+        record { tree = r.tree; moves = r.moves; runs = r.runs; seen_is = r.seen_is; move = m.0; place = m.1; counts = tracked g x; counts_are = r.tracked; number_is = ap (λ z. tracked g x + z) m.2.raises }
+
+pub tracker_comes_within : MovesAreCounted → TrackerComesWithin
+tracker_comes_within counted g taken f seen k n c =
+    let m : Counted g taken f c.counts c.move = counted g taken f seen (appended c.moves) c.counts r c.move (nth_in (moves_at g c.tree) k c.move c.place) in
+    subst (λ z. z ≤ g.tracker + (planned g taken f).reserved) (sym c.number_is) m.tracked
+  where
+    r : Reached g taken f seen (appended c.moves) c.counts
+    r = record { tree = c.tree; moves = c.moves; runs = c.runs; seen_is = c.seen_is; wrote = refl; tracked = c.counts_are }

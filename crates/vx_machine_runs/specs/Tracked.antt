@@ -1,5 +1,6 @@
 -- What the tracker counts in a run.
-use Rattle.std.specs.Prelude.{◌≡◌, ◌+◌, ◌^◌, ◌<◌, ◌≤◌, ℕ, List, Some}
+use Rattle.std.specs.Prelude.{◌≡◌, ◌+◌, ◌≤◌, ℕ, List, Some}
+use Rattle.vx_model.specs.ChunkData.{ChunkData}
 use Rattle.vx_layout_spec.specs.Codec.{Lawful}
 use Rattle.vx_tasks.specs.Run.{Note, nth}
 use Rattle.vx_machine_turns.specs.Acts.{raised_in, lowered_in}
@@ -9,7 +10,6 @@ use Rattle.vx_machine_steps.specs.Runs.{RunsBy, notes, acts_of}
 use Rattle.vx_machine_promises.specs.Write.{Write, Future, Open, Answer, depth, begin, planned, taken_by, heard_by}
 use Rattle.vx_machine_promises.specs.Reached.{moves_at}
 use Rattle.vx_machine_view.specs.Machine.{WholeStep}
-use Rattle.vx_machine_view.specs.Reserved.{reserved_by}
 use Rattle.vx_machine_runs.specs.Runs.{Stand, tracked, Chosen, Done, UnderwayAt}
 
 -- a step that was done changes it by what it adds and takes
@@ -23,7 +23,8 @@ StepsAreTracked = (g : Write) (first : ℕ) (seen : List Note) (x : Stand) (told
     → UnderwayAt g first seen x → Open (heard_by x.heard told) f → Chosen g first x told k w → tracked g x + w.raises ≤ g.tracker + (planned g (taken_by x.taken told) f).reserved
 
 -- The number that the tracker comes to by the tasks alone, from this state on: these notes are of moves that lead to another one, where
--- a move stands in this place; the number is what was counted at first, and what all of these add, without what they take before the last.
+-- a move stands in this place. There it counts what it did at first, and what the moves added, without what they took; and the number is
+-- this, with what that move adds.
 pub record Comes (g : Write) (start : Tree) (seen : List Note) (k n : ℕ) : Type 0 where
   pub tree : Tree
   pub moves : List TreeMove
@@ -31,9 +32,15 @@ pub record Comes (g : Write) (start : Tree) (seen : List Note) (k n : ℕ) : Typ
   pub seen_is : seen ≡ notes g.setting (depth g) start g.schedule moves
   pub move : TreeMove
   pub place : nth (moves_at g tree) k ≡ Some move
-  pub count : n + lowered_in (acts_of moves) ≡ (g.tracker + raised_in (acts_of moves)) + move.act.raises
+  pub counts : ℕ
+  pub counts_are : counts + lowered_in (acts_of moves) ≡ g.tracker + raised_in (acts_of moves)
+  pub number_is : n ≡ counts + move.act.raises
 
 -- so it does with each step
 abbrev pub TrackerComes : Type 0
 TrackerComes = (g : Write) (first : ℕ) (seen : List Note) (x : Stand) (told : Answer) (f : Future) (k : ℕ) (w : WholeStep) → Lawful g.setting.codec g.setting.encodings
     → UnderwayAt g first seen x → Open (heard_by x.heard told) f → Chosen g first x told k w → Comes g (begin g (taken_by x.taken told) f) seen k (tracked g x + w.raises)
+
+-- and it is at most what was counted at first, and all that the plan reserves
+abbrev pub TrackerComesWithin : Type 0
+TrackerComesWithin = (g : Write) (taken : List ChunkData) (f : Future) (seen : List Note) (k n : ℕ) → Comes g (begin g taken f) seen k n → n ≤ g.tracker + (planned g taken f).reserved

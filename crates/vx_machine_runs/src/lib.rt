@@ -9,7 +9,7 @@ ghost use Rattle.vx_machine_runs.specs.Answers.{AskedBeforeEnd, AnswersAreNoted,
 ghost use Rattle.vx_machine_runs.specs.Traces.{ReadyIsWithinLeft, ReadyIsWithinWork, NextIsWithinWork, NotesAreWithinWork, NotesAreFirst, NotesAreFewer, ReadyIsMore, NotesAreWhole, RefusalIsLast, MisfitIsLast, AppendsAreNoted};
 ghost use Rattle.vx_machine_runs.specs.Picks.{PicksAreExact, ReadyIsWithinSteps, ReadyIsWithinAll};
 ghost use Rattle.vx_machine_runs.specs.Numbers.{NumbersAreCounted, NumbersFit};
-ghost use Rattle.vx_machine_runs.specs.Tracked.{StepIsTracked, StepsAreTracked, TrackerComes};
+ghost use Rattle.vx_machine_runs.specs.Tracked.{StepIsTracked, StepsAreTracked, TrackerComes, TrackerComesWithin};
 
 /// From the start on, step by step.
 pub fn runs()
@@ -106,6 +106,7 @@ pub fn tracks()
     ensures step { StepIsTracked }
     ensures within { StepsAreTracked }
     ensures comes { TrackerComes }
+    ensures fits { TrackerComesWithin }
 {
     vx_machine_promises::causes();
 }
