@@ -1,5 +1,5 @@
 -- A task that has done all holds nothing, and has reserved nothing.
-use Rattle.std.proofs.Common.{◌≡◌, ℕ, zero, suc, ◌+◌, ◌≤◌, ◌&&◌, ◌==◌, Bool, true, false, List, [], ◌∷◌, map, length, inl, inr, ⊎_elim, ◌⊎◌, refl, ap, sym, ◌∙◌, arith}
+use Rattle.std.proofs.Common.{◌≡◌, ℕ, zero, suc, ◌+◌, ◌≤◌, ◌&&◌, ◌==◌, true, false, List, [], ◌∷◌, map, length, inl, inr, ⊎_elim, ◌⊎◌, refl, ap, sym, ◌∙◌, arith}
 use Rattle.std.proofs.lemmas.Bool.{and_parts, true≢false, eqb-true}
 use Rattle.std.specs.VecDeque.{deque_len}
 use Rattle.vx_layout_tree.specs.declared.layout.Layout.{Layout}
@@ -61,19 +61,19 @@ none_upto (suc n) t m h =
     let own : task_reserved t ≡ (dues_reserved l.todo.items + local_reserved l.local) + tasks_reserved ks = task_reserved_out t in
     ⊎_elim
     (λ z.
-        let a : local_stock l.local ≡ none = ap local_stock z.1 in
-        let k : tasks_stock ks ≡ none = ap tasks_stock z.2 in
-        let f : local_reserved l.local ≡ 0 = ap local_reserved z.1 in
-        let g : tasks_reserved ks ≡ 0 = ap tasks_reserved z.2 in
-        (task_stock_out t ∙ (λ i. both (both (a i) (both (b i) (e i))) (k i)), omega (arith, own, r, f, g)))
+    let a : local_stock l.local ≡ none = ap local_stock z.1 in
+    let k : tasks_stock ks ≡ none = ap tasks_stock z.2 in
+    let f : local_reserved l.local ≡ 0 = ap local_reserved z.1 in
+    let g : tasks_reserved ks ≡ 0 = ap tasks_reserved z.2 in
+    (task_stock_out t ∙ (λ i. both (both (a i) (both (b i) (e i))) (k i)), omega (arith, own, r, f, g)))
     (λ z.
-        let s : count_of_all ks ≡ task_count z.0 + 0 = ap count_of_all z.2 in
-        let w = none_upto n z.0 (omega (arith, m, c, s)) z.3 in
-        let a : local_stock l.local ≡ none = ap local_stock z.1 in
-        let k : tasks_stock ks ≡ none = ap tasks_stock z.2 ∙ ap (λ x. both x none) w.0 in
-        let f : local_reserved l.local ≡ 0 = ap local_reserved z.1 in
-        let g : tasks_reserved ks ≡ task_reserved z.0 + 0 = ap tasks_reserved z.2 in
-        (task_stock_out t ∙ (λ i. both (both (a i) (both (b i) (e i))) (k i)), omega (arith, own, r, f, g, w.1)))
+    let s : count_of_all ks ≡ task_count z.0 + 0 = ap count_of_all z.2 in
+    let w = none_upto n z.0 (omega (arith, m, c, s)) z.3 in
+    let a : local_stock l.local ≡ none = ap local_stock z.1 in
+    let k : tasks_stock ks ≡ none = ap tasks_stock z.2 ∙ ap (λ x. both x none) w.0 in
+    let f : local_reserved l.local ≡ 0 = ap local_reserved z.1 in
+    let g : tasks_reserved ks ≡ task_reserved z.0 + 0 = ap tasks_reserved z.2 in
+    (task_stock_out t ∙ (λ i. both (both (a i) (both (b i) (e i))) (k i)), omega (arith, own, r, f, g, w.1)))
     (there_cases l.local ks d.there)
 
 pub done_none : (t : Task) → is_done t ≡ true → task_stock t ≡ none

@@ -1,5 +1,5 @@
 -- Chunks that are to be handed on, from the last one on.
-use Rattle.std.proofs.Common.{◌≡◌, ℕ, suc, ◌+◌, List, [], ◌∷◌, ◌++◌, length, refl, sym, ap, ◌∙◌, arith}
+use Rattle.std.proofs.Common.{◌≡◌, ℕ, suc, ◌+◌, List, [], ◌∷◌, ◌++◌, length, sym, ap, ◌∙◌, arith}
 use Rattle.vx_path.specs.Path.{under}
 use Rattle.vx_model.specs.ChunkData.{ChunkData}
 use Rattle.vx_rules.specs.Regroup.{ranked}

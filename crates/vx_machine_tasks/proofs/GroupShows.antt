@@ -1,11 +1,10 @@
 -- Takes of nodes that regroup, whichever rule: of a task alone, as of one with a name and a queue.
-use Rattle.std.proofs.Common.{◌≡◌, ℕ, Bool, List, [], ◌∷◌, ◌++◌, Option, Some, None, refl, sym, ap, ◌∙◌, append-nil}
-use Rattle.vx_model.specs.ChunkData.{ChunkData}
+use Rattle.std.proofs.Common.{◌≡◌, ℕ, Bool, List, [], ◌++◌, Option, Some, None, refl, ap, ◌∙◌, append-nil}
 use Rattle.vx_rules.specs.Regroup.{ranked}
 use Rattle.vx_plan.specs.PlanData.{Item as Piece}
 use Rattle.vx_machine_turns.specs.Grouped.{Grouper}
-use Rattle.vx_machine_view.specs.State.{Next, shut_kids, Mind, Desk, Tasks}
-use Rattle.vx_machine_view.specs.Acts.{now, hand_all, take_grouped, pass_on, end_grouped}
+use Rattle.vx_machine_view.specs.State.{Next, Mind, Desk, Tasks}
+use Rattle.vx_machine_view.specs.Acts.{now, hand_all, take_grouped, end_grouped}
 use Rattle.vx_write_answer.specs.declared.step.ActionKind.TheVariants as actions
 use Rattle.vx_write_answer.specs.declared.error.WriteError.{WriteError}
 use Rattle.vx_machine_tasks.specs.declared.task.Head.{Head}

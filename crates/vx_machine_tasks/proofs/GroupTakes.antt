@@ -1,20 +1,19 @@
 -- What a node that regroups holds behind a chunk, against the same in plain data.
-use Rattle.std.proofs.Common.{◌≡◌, ℕ, ◌+◌, ◌<◌, ◌≤◌, ◌^◌, not, Bool, true, false, List, [], ◌∷◌, ◌++◌, map, length, Option, Some, None, refl, sym, ap, subst, ◌∙◌, inl, inr, arith, append-nil}
+use Rattle.std.proofs.Common.{◌≡◌, ℕ, ◌+◌, ◌<◌, ◌≤◌, ◌^◌, true, false, List, [], ◌∷◌, ◌++◌, map, length, Option, Some, None, refl, sym, ap, subst, ◌∙◌, arith}
 use Rattle.std.proofs.lemmas.List.{map-append}
 use Rattle.vx_model.specs.Ty.{Ty}
 use Rattle.vx_model.specs.ChunkData.{ChunkData, cells, held}
 use Rattle.vx_plan.specs.PlanData.{Setting}
-use Rattle.vx_regroup.specs.Rules.{row_count}
 use Rattle.vx_regroup.specs.Regrouping.{given_by, after}
 use Rattle.vx_regroup.specs.declared.regroup.Regroup.{Regroup}
 use Rattle.vx_regroup.specs.declared.regroup.Regroup.TheVariants.{Repartition, Buffered, Collect}
-use Rattle.vx_machine_view.specs.State.{Mind, by_block, by_size, as_one, Next, Tasks}
+use Rattle.vx_machine_view.specs.State.{as_one, Next, Tasks}
 use Rattle.vx_machine_tasks.specs.declared.item.Item.{Item}
 use Rattle.vx_machine_tasks.specs.Acting.{taken, Took}
-use Rattle.vx_machine_tasks.specs.Regrouped.{with_newest, is_of, misfits, misfit_in, weight_in, reserved_of, sizes_of, chunks_held, sizes_in, is_idle, are_none, rows_counted, Weighs, numbers_of, handed, mind_in, Left, ActedOn}
+use Rattle.vx_machine_tasks.specs.Regrouped.{is_of, misfits, misfit_in, reserved_of, sizes_of, chunks_held, sizes_in, is_idle, are_none, rows_counted, Weighs, numbers_of, handed, mind_in, ActedOn}
 use Rattle.vx_machine_tasks.specs.Sizes.{sum_of}
 use Rattle.vx_machine_tasks.specs.View.{item_of}
-use Rattle.vx_machine_tasks.proofs.Fitting.{none_fit, then_fit, one_fits, both_fit}
+use Rattle.vx_machine_tasks.proofs.Fitting.{then_fit, one_fits, both_fit}
 use Rattle.vx_machine_tasks.proofs.GroupSizes.{held_push, rows_more}
 
 none_held : (cs : List ChunkData) → are_none cs ≡ true → cs ≡ []

@@ -21,9 +21,11 @@ pub mod GroupSizes
 pub mod GroupHands
 pub mod GroupTakes
 pub mod GroupShows
+pub mod GroupEnds
 pub mod StopSteps
 pub mod ReservedSteps
 pub mod LedgerSteps
+pub mod PaidSteps
 pub mod StartShows
 pub mod RefusalSteps
 pub mod RowSteps

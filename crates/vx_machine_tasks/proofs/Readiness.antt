@@ -44,7 +44,7 @@ kids_upto u (suc n) (t ∷ ts) h =
     let hd = (out-Task t).head in
     let below : map (λ (s : Seen). s.kid) (map (seen u) (out-Task t).kids.items) ≡ kids_of (out-Task t).kids.items = kids_upto u n (out-Task t).kids.items (omega (arith, h, c)) in
     let made : is_made hd.local (deque_len hd.todo == 0) (all_made (map (λ (s : Seen). s.kid) (map (seen u) (out-Task t).kids.items))) ≡ made_of t =
-        ap (λ ks. is_made hd.local (deque_len hd.todo == 0) (all_made ks)) below ∙ sym (made_out t) in
+    ap (λ ks. is_made hd.local (deque_len hd.todo == 0) (all_made ks)) below ∙ sym (made_out t) in
     let own : (seen u t).kid ≡ kid_of t = ap (λ (s : Seen). s.kid) (fold_out-Task Seen (seen_step u) t) ∙ (λ i. record { made = made i; room = room_in hd }) in
     λ i. own i ∷ kids_upto u n ts (omega (arith, h, c)) i
 

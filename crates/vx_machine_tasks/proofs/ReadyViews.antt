@@ -97,7 +97,7 @@ all_upto (suc n) (x ∷ xs) h =
     let hd = (out-Task x).head in
     let below : all_made (kids_of (out-Task x).kids.items) ≡ moves.all_made (row (out-Task x).kids.items) = all_upto n (out-Task x).kids.items (omega (arith, h, c)) in
     let own : made_of x ≡ moves.is_made (mind_of hd.local) (todo_of hd.todo.items) (moves.all_made (row (out-Task x).kids.items)) =
-        made_out x ∙ made_view hd.local (deque_len hd.todo) hd.todo.items _ _ hd.todo.ok.0 below in
+    made_out x ∙ made_view hd.local (deque_len hd.todo) hd.todo.items _ _ hd.todo.ok.0 below in
     (λ i. own i && all_upto n xs (omega (arith, h, c)) i) ∙ sym (ap moves.all_made (row_out x (row xs)))
 
 pub all_view : (ks : List Task) → all_made (kids_of ks) ≡ moves.all_made (row ks)
@@ -234,8 +234,8 @@ done_upto (suc n) t r h =
     let ks = (out-Task t).kids.items in
     let c : task_count t ≡ 1 + count_of_all ks = task_count_out t in
     let first : (x : Task) (xs : List Task) → ks ≡ x ∷ xs → is_done x ≡ whole.is_done (row ks) = λ x xs e.
-        let s : count_of_all ks ≡ task_count x + count_of_all xs = ap count_of_all e in
-        done_upto n x (row xs) (omega (arith, h, c, s)) ∙ ap (λ (z : List Task). whole.is_done (row z)) (sym e) in
+    let s : count_of_all ks ≡ task_count x + count_of_all xs = ap count_of_all e in
+    done_upto n x (row xs) (omega (arith, h, c, s)) ∙ ap (λ (z : List Task). whole.is_done (row z)) (sym e) in
     done_out t ∙ (λ i. there_view hd.local ks first i && left_view (deque_len hd.todo) (deque_len hd.inbox) hd.todo.items hd.inbox.items hd.todo.ok.0 hd.inbox.ok.0 i)
     ∙ sym (ap whole.is_done (row_out t r))
 

@@ -41,7 +41,7 @@ module _ (w : List Pair) (hs : List ℕ) (r q : Option What) (b c : Bool) (ns ms
 no_word : (q : Option What) (x : What) → None ≡ Some x → q ≡ Some x
 no_word q x h = cc
 
-not_in : (ms : List ℕ) (n : ℕ) → In n [] → In n ms
+pub not_in : (ms : List ℕ) (n : ℕ) → In n [] → In n ms
 not_in ms n h = absurd h
 
 -- whatever numbers of segments don't fit

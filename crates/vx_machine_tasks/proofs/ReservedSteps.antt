@@ -7,7 +7,7 @@ use Rattle.vx_strategy_spec.specs.StrategyData.{by_blocks, by_bytes, into_one}
 use Rattle.vx_regroup.specs.declared.regroup.Regroup.{Regroup}
 use Rattle.vx_regroup.specs.declared.regroup.Regroup.TheVariants.{Repartition, Buffered, Collect}
 use Rattle.vx_machine_turns.specs.Forms.{Form, Forms, flat_form, chunked_form, grouped_form, compressed_form, dict_form, zoned_form, no_struct_form, struct_form, list_form, no_forms, form_then}
-use Rattle.vx_machine_view.specs.State.{Tasks, no_tasks, task_then}
+use Rattle.vx_machine_view.specs.State.{no_tasks}
 use Rattle.vx_machine_view.specs.Start.{first_mind, first_kids, field_tasks}
 use Rattle.vx_machine_view.specs.Reserved.{next_reserved, mind_reserved, reserved_by}
 use Rattle.vx_machine_tasks.specs.declared.item.Due.{Due}

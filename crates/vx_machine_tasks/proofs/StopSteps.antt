@@ -1,6 +1,5 @@
 -- Refusals of takes, also where the tracker is asked.
-use Rattle.std.proofs.Common.{◌≡◌, ℕ, List, Result, Ok, Err, IfOk, IfErr, OnOk, refl, sym, ap, subst}
-use Rattle.vx_model.specs.ChunkData.{ChunkData}
+use Rattle.std.proofs.Common.{ℕ, List, Result, Ok, Err, IfErr, OnOk}
 use Rattle.vx_sink.specs.declared.context.LayoutWriterContext.{LayoutWriterContext}
 use Rattle.vx_sink.specs.ContextView.{counted}
 use Rattle.vx_plan.specs.PlanData.{Setting}

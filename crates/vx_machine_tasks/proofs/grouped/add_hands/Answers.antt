@@ -1,4 +1,4 @@
-use Rattle.std.proofs.Common.{◌≡◌, ◌++◌, ◌∷◌, [], ℕ, List, map, vec_len, rules, arith, refl, sym, ap, ◌∙◌, append_assoc, append-nil}
+use Rattle.std.proofs.Common.{◌≡◌, ◌++◌, ◌∷◌, [], map, vec_len, rules, arith, refl, sym, ap, ◌∙◌, append_assoc, append-nil}
 use Rattle.std.proofs.lemmas.List.{map-append}
 use Rattle.vx_model.specs.ChunkData.{held}
 use Rattle.vx_rules.specs.Regroup.{ranked}
@@ -33,8 +33,8 @@ hands-preserved c = record {
       let o = c.hands.invariant.weighed p rest is e in
       let i = c.hands.invariant.ids p is in
       let apart : c.hands.reserved.items ≡ (rest ++ map held c.pop.new.self.items) ++ (held c.in-Some.chunk ∷ []) =
-          o.0 ∙ ap (λ z. rest ++ map held z) c.in-Some.ensures.items ∙ ap (λ z. rest ++ z) (map-append held c.pop.new.self.items (c.in-Some.chunk ∷ []))
-          ∙ sym (append_assoc rest (map held c.pop.new.self.items) (held c.in-Some.chunk ∷ [])) in
+      o.0 ∙ ap (λ z. rest ++ map held z) c.in-Some.ensures.items ∙ ap (λ z. rest ++ z) (map-append held c.pop.new.self.items (c.in-Some.chunk ∷ []))
+      ∙ sym (append_assoc rest (map held c.pop.new.self.items) (held c.in-Some.chunk ∷ [])) in
       let a = c.add_hand.ensures.weighed p (rest ++ map held c.pop.new.self.items) (held c.in-Some.chunk) i apart in (
         a.0,
         hands_less held p c.hands.chunks.items c.pop.new.self.items c.in-Some.chunk (held c.in-Some.chunk) (vec_len c.add_hand.new.ids) (todo_of c.hands.todo.items) (todo_of c.add_hand.new.todo.items)
