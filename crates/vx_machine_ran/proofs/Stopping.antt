@@ -21,7 +21,7 @@ use Rattle.vx_plan.specs.Valid.{OfSchema, IsPast}
 use Rattle.vx_order.specs.Outlet.{Outlet, own, shared}
 use Rattle.vx_order.specs.Answers.{IsShared, IsPast as PastLast}
 use Rattle.vx_sink.specs.declared.context.LayoutWriterContext.{LayoutWriterContext}
-use Rattle.vx_sink.specs.ContextView.{is_marked}
+use Rattle.vx_sink.specs.ContextView.{is_marked, counted as counted_bytes}
 use Rattle.vx_write_answer.specs.declared.step.Step.{Step}
 use Rattle.vx_write_answer.specs.declared.error.WriteError.{WriteError}
 use Rattle.vx_write_answer.specs.declared.error.WriteError.TheVariants.{SourceFault, SinkFault, CompressFault, BatchType, NotStruct, DuplicateField, ManyChunks, EmptyList, ZoneCut, ForbiddenAggregate, ForbiddenEncoding, TooLarge, OutOfMemory, Unbuilt, Stopped}
@@ -280,7 +280,7 @@ module _ (ctx : LayoutWriterContext) (image : ℕ → ChunkData → ChunkData) (
   Halting e = Halts g first next to_come to_come_now before_it now schedule steps e
 
   abbrev There : List ChunkData → Bool → WriteError → Type 0
-  There bs heard e = RefusedThere (setting_of ctx image) way t (is_marked ctx) bs heard next schedule steps e
+  There bs heard e = RefusedThere (setting_of ctx image) way t (is_marked ctx) (counted_bytes ctx) bs heard next schedule steps e
 
   abbrev tasks : List ChunkData → Bool → Forest
   tasks bs heard = tasks_of (setting_of ctx image) way t (is_marked ctx) bs heard
@@ -370,24 +370,24 @@ module _ (ctx : LayoutWriterContext) (image : ℕ → ChunkData → ChunkData) (
 
     -- where it reads and nothing more of the type comes, that is the act
     read_there : (w : WholeStep) (d : Eof) → k ≡ 0 → nth (ready_steps h first x.history unasked x.machine) 0 ≡ Some w → x.machine.phase ≡ reading d → w ≡ source_step unasked (reading d) x.machine.root → (e : WriteError)
-        → ((m : TreeMove) → IsRead m.act x.heard → IsOwn m x.heard next e) → There x.taken x.heard e
-    read_there w d z at p is e whose = inr (n.0, whose n.0.move (own_read w n.0.move n.1 y.outlet mine x.heard next d x.machine.root is (unheard d p)))
+        → ((m : TreeMove) (n : ℕ) → IsRead m.act x.heard → IsOwn m n x.heard next e) → There x.taken x.heard e
+    read_there w d z at p is e whose = inr (n.0, whose n.0.move n.0.counts (own_read w n.0.move n.1.1 y.outlet mine x.heard next d x.machine.root is (unheard d p)))
       where
         asks : Asks t (none_later x.heard) x.machine.phase k unasked
         asks = subst (λ v. Asks t (none_later x.heard) v k unasked) (sym p) (subst (λ v. Asks t (none_later x.heard) (reading d) v unasked) (sym z) (refl, unheard d p))
 
-        n : (a : NextAct (setting_of ctx image) way t (is_marked ctx) x.taken x.heard schedule steps) × SameAct w a.move
+        n : (a : NextAct (setting_of ctx image) way t (is_marked ctx) (counted_bytes ctx) x.taken x.heard schedule steps) × (a.counts ≡ tracked h x) × SameAct w a.move
         n = next_act h first o.notes x law u schedule steps o.shown unasked tt k w (subst (λ v. nth (ready_steps h first x.history unasked x.machine) v ≡ Some w) (sym z) at) asks pick_at
 
     -- the source told nothing where it read
     read_halts : (w : WholeStep) (d : Eof) → k ≡ 0 → nth (ready_steps h first x.history unasked x.machine) 0 ≡ Some w → x.machine.phase ≡ reading d → w ≡ source_step unasked (reading d) x.machine.root → (e : WriteError) → ReadsNone y.to_come to_come_now e → SourceMay t e
         → NoNumber e → Halting e
-    read_halts w d z at p is SourceFault r m c = so_far SourceFault refl (λ i. i) some r (λ q p. tt) (read_there w d z at p is SourceFault (λ v i. i))
-    read_halts w d z at p is OutOfMemory r m c = so_far OutOfMemory refl (λ i. i) some r (λ q p. tt) (read_there w d z at p is OutOfMemory (λ v i. tt))
+    read_halts w d z at p is SourceFault r m c = so_far SourceFault refl (λ i. i) some r (λ q p. tt) (read_there w d z at p is SourceFault (λ v q i. i))
+    read_halts w d z at p is OutOfMemory r m c = so_far OutOfMemory refl (λ i. i) some r (λ q p. tt) (read_there w d z at p is OutOfMemory (λ v q i. tt))
     read_halts w d z at p is (BatchType b) r m c =
         halts (BatchType b) (x.taken ++ (b ∷ [])) x.taken x.heard (alone.without b m) (o.same.came ∙ ap (before_told x.taken) r ∙ told_one x.taken b to_come_now)
         (λ i. absurd (true≢false (sym i ∙ unheard d p))) (λ i. absurd (true≢false (sym i ∙ unheard d p))) (λ f may. front h first o.notes x unasked f tt may u) (record { fewer = goes_on unasked tt some; first = begins unasked tt; all = λ short i. inr (all short) }) (inl one) (λ f may. (m, (x.taken, refl)))
-        (read_there w d z at p is (BatchType b) (λ v i. i))
+        (read_there w d z at p is (BatchType b) (λ v q i. i))
       where
         one : answers_in (x.taken ++ (b ∷ [])) x.heard ≡ reads_in steps + 1
         one = let a = reads in let n : length (x.taken ++ (b ∷ [])) ≡ length x.taken + 1 = length-append x.taken (b ∷ []) in omega (arith, a, n)
@@ -464,9 +464,10 @@ module _ (ctx : LayoutWriterContext) (image : ℕ → ChunkData → ChunkData) (
             by_answer (inr (late, one)) = inr (late, (let a = reads in let b = answers in omega (arith, a, b, one)))
 
         there : IsElsewhere e → There taken heard e
-        there far = inr (found.0, is_own w found.0.move found.1 y.outlet mine heard next fits (whole_join (setting_of ctx image) (machine_ids x.machine) (first + length x.history) told x.machine k w at) last e far cause)
+        there far = inr (found.0, subst (λ z. IsOwn found.0.move z heard next e) (sym (found.1.0 ∙ counts_are)) (is_own w found.0.move found.1.1 y.outlet mine heard next fits
+            (whole_join (setting_of ctx image) (machine_ids x.machine) (first + length x.history) told x.machine k w at) last counts e far cause))
           where
-            found : (a : NextAct (setting_of ctx image) way t (is_marked ctx) taken heard schedule steps) × SameAct w a.move
+            found : (a : NextAct (setting_of ctx image) way t (is_marked ctx) (counted_bytes ctx) taken heard schedule steps) × (a.counts ≡ tracked h x) × SameAct w a.move
             found = next_act h first o.notes x law u schedule steps o.shown told once k w at (asks_so h first x told k w (none_later heard) chosen) pick_at
 
         refused : work (tasks taken heard) < 2 ^ 64 → (v : What) × (w.refusal ≡ Some v) → AllPairs ShowsNote steps (trace (tasks taken heard) schedule)

@@ -57,7 +57,7 @@ pub record Halts (g : Write) (first next : ℕ) (to_come_before to_come_now : Op
   pub cause : (f : Future) → Open heard f → HasCause g.type (is_built g.way ≡ false) (Passes g (of_schema g.type stand.taken) f steps) (planned g (of_schema g.type stand.taken) f) stand.taken next (length stand.appended) e
   pub traced : StepsAreFirst (tasks_of g.setting g.way g.type g.mark (of_schema g.type stand.taken) heard) schedule steps e
   pub asked : AskedInSteps stand.taken heard steps e
-  pub refused : RefusedThere g.setting g.way g.type g.mark (of_schema g.type stand.taken) heard next schedule steps e
+  pub refused : RefusedThere g.setting g.way g.type g.mark g.tracker (of_schema g.type stand.taken) heard next schedule steps e
 
 abbrev pub StoppedHalts : Type 0
 StoppedHalts = (ctx : LayoutWriterContext) (image : ℕ → ChunkData → ChunkData) (w : StrategyData) (t : Ty) (schedule : List ℕ) (to_come to_come_now : Option (List ChunkData)) (borrow first : ℕ)

@@ -109,4 +109,4 @@ pub record Halted (s : Setting) (w : StrategyData) (t : Ty) (m : Bool) (tracker 
   pub cause : HasCause t (is_built w ≡ false) (PassesAt (write_of s w t m tracker) (of_schema t stand.taken) heard steps) (taken_plan s w t m stand.taken heard) stand.taken next (length stand.appended) e
   pub traced : StepsAreFirst (tasks_of s w t m (of_schema t stand.taken) heard) schedule steps e
   pub asked : AskedInSteps stand.taken heard steps e
-  pub refused : RefusedThere s w t m (of_schema t stand.taken) heard next schedule steps e
+  pub refused : RefusedThere s w t m tracker (of_schema t stand.taken) heard next schedule steps e
