@@ -17,7 +17,7 @@ use Rattle.vx_machine_turns.specs.Acts.{written_by}
 use Rattle.vx_machine_turns.specs.Fuels.{Fuel}
 use Rattle.vx_machine_steps.specs.Tree.{Tree, opened}
 use Rattle.vx_machine_steps.specs.Moves.{TreeMove, machine_moves}
-use Rattle.vx_machine_steps.specs.Runs.{RunsBy, notes, acts_of}
+use Rattle.vx_machine_steps.specs.Runs.{RunsBy, notes}
 use Rattle.vx_machine_steps.specs.StartPlanned.{started}
 use Rattle.vx_machine_promises.specs.Write.{Write, Future, Answer, unasked, came, over, depth, begin, taken_by, heard_by, before}
 use Rattle.vx_machine_promises.specs.Reached.{Reached, moves_at}
