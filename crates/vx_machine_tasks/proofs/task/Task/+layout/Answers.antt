@@ -1,5 +1,5 @@
 use Rattle.vx_machine_tasks.proofs.Finishing.{done_parts, done_none, done_unreserved}
-use Rattle.vx_machine_tasks.proofs.task.+layout.Goals as goal
+use Rattle.vx_machine_tasks.proofs.task.Task.+layout.Goals as goal
 
 pub Task::into_layout-destroy_empty-requires : goal.Task::into_layout-destroy_empty-requires
 Task::into_layout-destroy_empty-requires t c = (done_parts c.args.self c.requires).idle
