@@ -141,7 +141,6 @@ pub fn one(is: bool) -> u64
 
 impl Task {
     /// Whether its layout is there, its own or its only child's, and nothing else.
-    #[cycle(done)]
     pub fn is_done(&self) -> bool
         ensures { result ≡ is_done_task self.now }
     {

@@ -95,7 +95,6 @@ impl Task {
     }
 
     /// The layout of a task that has done all: its own, or its only child's.
-    #[cycle(layout)]
     pub fn into_layout(self) -> Layout
         requires { IsTrue (is_done_task self) }
         ensures free { task_stock self ≡ none }
