@@ -65,12 +65,12 @@ tasks_set (t ∷ ts) (suc n) x y h e = let a : tasks_reserved (set ts n y) + tas
 
 dues_view : (ds : List Due) → next_reserved (todo_of ds) ≡ dues_reserved ds
 dues_view [] = refl
-dues_view (Put c i ∷ ds) = dues_view ds
+dues_view (Put c i ∷ ds) = let r : next_reserved (todo_of ds) ≡ dues_reserved ds = dues_view ds in omega (arith, r)
 dues_view (HandOn i None ∷ ds) = let r : next_reserved (todo_of ds) ≡ dues_reserved ds = dues_view ds in omega (arith, r)
 dues_view (HandOn i (Some n) ∷ ds) = ap (λ k. n + k) (dues_view ds)
-dues_view (Append x ∷ ds) = dues_view ds
-dues_view (Close ∷ ds) = dues_view ds
-dues_view (Join f ∷ ds) = dues_view ds
+dues_view (Append x ∷ ds) = let r : next_reserved (todo_of ds) ≡ dues_reserved ds = dues_view ds in omega (arith, r)
+dues_view (Close ∷ ds) = let r : next_reserved (todo_of ds) ≡ dues_reserved ds = dues_view ds in omega (arith, r)
+dues_view (Join f ∷ ds) = let r : next_reserved (todo_of ds) ≡ dues_reserved ds = dues_view ds in omega (arith, r)
 
 node_view : (r : Regroup) (j : Option Item) (rows : ℕ) (sizes : List ℕ) → sizes ≡ sizes_in r j → mind_reserved (mind_in r j rows) ≡ sum_of sizes
 node_view (Repartition h) j rows sizes e = ap sum_of (sym e)
