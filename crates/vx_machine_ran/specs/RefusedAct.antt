@@ -55,7 +55,7 @@ abbrev pub IsAppend : Act → Type 0
 IsAppend a = (p : List ℕ) × (a.kind ≡ Append p)
 
 -- It counts so many rows or bytes, or a pointer comes so far, and that doesn't fit 64 bits; or it appends the next segment, whose number
--- doesn't fit 32; or it joins layouts of so many rows.
+-- doesn't fit 32; or it joins, and the number doesn't fit 64.
 abbrev pub CountsPast : TreeMove → ℕ → ℕ → Type 0
 CountsPast m next n = Past m.act.numbers (m.act.indices ++ opened m.room m.act.starts) n
     ⊎ (IsAppend m.act × (n ≡ next) × (2 ^ 32 ≤ n))
