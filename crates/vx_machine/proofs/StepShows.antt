@@ -36,7 +36,7 @@ tells_none whole.closing root k j t before now e is h n = (h, n)
 tells_none whole.finished root k j t before now e is h n = (h, n)
 
 pub tells_memory : (p : whole.Phase) (k : ℕ) (t : Ty) (before now : Option (List ChunkData)) → now ≡ before → TellsNothing p k t before now OutOfMemory
-tells_memory (whole.reading d) zero t before now h = (h, tt)
+tells_memory (whole.reading d) zero t before now h = (h, tt, tt)
 tells_memory (whole.reading d) (suc k) t before now h = (h, tt)
 tells_memory (whole.giving d i) k t before now h = (h, tt)
 tells_memory whole.closing k t before now h = (h, tt)

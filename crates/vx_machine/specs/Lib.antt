@@ -1,3 +1,4 @@
+pub mod Wrappers
 pub mod Calls
 pub mod Source
 pub mod Whole

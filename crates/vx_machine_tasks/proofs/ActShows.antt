@@ -1,12 +1,12 @@
 -- What an act of a block does, against the same act in plain data.
-use Rattle.std.proofs.Common.{◌≡◌, ℕ, false, List, [], None, Result, Ok, Err, IfOk, IfErr, OnOk, OnErr, refl, sym, ap, subst, ◌∙◌}
+use Rattle.std.proofs.Common.{◌≡◌, ℕ, false, List, [], Option, None, Result, Ok, Err, IfOk, IfErr, OnOk, OnErr, refl, sym, ap, subst, ◌∙◌}
 use Rattle.std.proofs.lemmas.Result.{IfErr-weaker}
 use Rattle.vx_model.specs.declared.encoding.EncodingId.{EncodingId}
 use Rattle.vx_layout_tree.specs.declared.layout.Layout.{Layout}
 use Rattle.vx_layout_tree.specs.LayoutView.{layout_data}
 use Rattle.vx_order.specs.Outlet.{Outlet, own, shared}
 use Rattle.vx_order.specs.Answers.{IsPast, IsShared}
-use Rattle.vx_machine_view.specs.State.{Next, put, append, shut_kids, join_kids, Mind, ending, made, Desk, Tasks}
+use Rattle.vx_machine_view.specs.State.{Next, put, hand_on, append, shut_kids, join_kids, Mind, ending, made, Desk, Tasks}
 use Rattle.vx_machine_view.specs.Acts.{give, shut_all, layouts_in, folded, joined_rows, now, do_next}
 use Rattle.vx_write_answer.specs.declared.step.ActionKind.{ActionKind}
 use Rattle.vx_write_answer.specs.declared.step.ActionKind.TheVariants as actions
@@ -64,6 +64,14 @@ module _ (ids : List EncodingId) (l : Local) (ks : List Task) (d : Due) (o u : O
   pub put_says : (j : ℕ) (i : Item) (r : Result ActionKind WriteError) → d ≡ dues.Put j i → IfErr r (λ e. e ≡ OutOfMemory) → IfErr r (DueRefused ids l ks d o)
   put_says j i r is h = why_due (dues.Put j i) r is (memory_only (DueRefused ids l ks (dues.Put j i) o) r (λ n. tt) h)
 
+  pub hand_does : (i : Item) (b : Option ℕ) (more : List Task) (r : Result ActionKind WriteError) → d ≡ dues.HandOn i b → IfOk r (λ a. a ≡ actions.Put)
+      → OnOk r (row more ≡ give 0 (item_of i) (row ks)) → u ≡ o → IfOk r (DueDone ids l ks d o u l more)
+  hand_does i b more (Ok a) is k g e = by_due (dues.HandOn i b) l more a is (0, record { unrefused = refl; fits = refl; mind_is = refl; kids_are = g; kind = k; outlet = e })
+  hand_does i b more (Err x) is k g e = tt
+
+  pub hand_says : (i : Item) (b : Option ℕ) (r : Result ActionKind WriteError) → d ≡ dues.HandOn i b → IfErr r (λ e. e ≡ OutOfMemory) → IfErr r (DueRefused ids l ks d o)
+  hand_says i b r is h = why_due (dues.HandOn i b) r is (memory_only (DueRefused ids l ks (dues.HandOn i b) o) r (λ n. tt) h)
+
   pub append_does : (x : Stored) (m : Local) (r : Result ActionKind WriteError) → d ≡ dues.Append x
       → IfOk r (λ a. (n : ℕ) × ((mind : Mind) (kids : Tasks) → ActDone (acted ids n mind kids (append (stored_of x))) o n u (mind_of m) kids a)) → IfOk r (DueDone ids l ks d o u m ks)
   append_does x m (Ok a) is h = by_due (dues.Append x) m ks a is (h.0, h.1 (mind_of l) (row ks))
@@ -105,6 +113,8 @@ pub act_shows : (ids : List EncodingId) (n : ℕ) (c : Desk) (ks : Tasks) (x : N
     → ActDone (acted ids n c.mind ks x) o n u m (row kids) a → desk_of h ≡ now c m todo c.inbox → Acted (do_next ids n c ks x todo) o n u h kids a
 act_shows ids n c ks (put j i) todo o u m h kids a d e =
     record { unrefused = refl; fits = refl; counted = none_fit; desk = e ∙ ap (λ z. now c z todo c.inbox) d.mind_is; kids_are = d.kids_are; kind = d.kind; outlet = d.outlet }
+act_shows ids n c ks (hand_on k i) todo o u m h kids a d e =
+    record { unrefused = refl; fits = refl; counted = none_fit; desk = e ∙ ap (λ z. now c z todo c.inbox) d.mind_is; kids_are = d.kids_are; kind = d.kind; outlet = d.outlet }
 act_shows ids n c ks (append x) todo o u m h kids a d e =
     record { unrefused = refl; fits = refl; counted = none_fit; desk = e ∙ ap (λ z. now c z todo c.inbox) d.mind_is; kids_are = d.kids_are; kind = d.kind; outlet = d.outlet }
 act_shows ids n c ks shut_kids todo o u m h kids a d e =
@@ -115,6 +125,7 @@ act_shows ids n c ks (join_kids f) todo o u m h kids a d e =
 pub act_refused : (ids : List EncodingId) (n : ℕ) (c : Desk) (ks : Tasks) (x : Next) (todo : List Next) (o : Outlet) (e : WriteError)
     → ActRefused (acted ids n c.mind ks x) o e → ActRefused (do_next ids n c ks x todo) o e
 act_refused ids n c ks (put j i) todo o e h = h
+act_refused ids n c ks (hand_on k i) todo o e h = h
 act_refused ids n c ks (append x) todo o e h = h
 act_refused ids n c ks shut_kids todo o e h = h
 act_refused ids n c ks (join_kids f) todo o e h = h

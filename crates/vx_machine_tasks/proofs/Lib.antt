@@ -16,6 +16,16 @@ pub mod ViewParts
 pub mod Counting
 pub mod ReadyViews
 pub mod Fitting
+pub mod GroupNumbers
+pub mod GroupSizes
+pub mod GroupHands
+pub mod GroupTakes
+pub mod GroupShows
+pub mod GroupEnds
+pub mod StopSteps
+pub mod ReservedSteps
+pub mod LedgerSteps
+pub mod PaidSteps
 pub mod StartShows
 pub mod RefusalSteps
 pub mod RowSteps

@@ -1,8 +1,9 @@
 -- Counts of what is ready, and walks over children.
-use Rattle.std.proofs.Common.{◌≡◌, ◌↔◌, ℕ, zero, suc, ◌+◌, ◌-◌, ◌^◌, ◌<◌, ◌≤◌, ◌&&◌, ◌||◌, min, Bool, true, false, List, [], ◌∷◌, ◌++◌, map, length, take, drop, get_or, refl, sym, ap, subst, ◌∙◌, arith, ⊎_elim}
+use Rattle.std.proofs.Common.{◌≡◌, ◌↔◌, ℕ, zero, suc, ◌+◌, ◌-◌, ◌^◌, ◌<◌, ◌≤◌, ◌&&◌, ◌||◌, ◌==◌, min, Bool, true, false, List, [], ◌∷◌, ◌++◌, map, length, take, drop, get_or, refl, sym, ap, subst, ◌∙◌, arith, ⊎_elim}
 use Rattle.std.proofs.lemmas.Bool.{cases_Bool, and_parts, true≢false}
 use Rattle.std.specs.FinMap as fin
 use Rattle.std.specs.List.{list_any}
+use Rattle.std.specs.VecDeque.{deque_len}
 use Rattle.std.specs.Ordering.{eq_by_cmp}
 use Rattle.vx_path.specs.Path.{is_least, path_le}
 use Rattle.vx_model.specs.Words.{total_by}
@@ -13,20 +14,42 @@ use Rattle.vx_machine_ids.specs.Balance.{Owned}
 use Rattle.vx_machine_ids.proofs.MoveLaws.{owned_left, owned_right}
 use Rattle.vx_machine_ids.proofs.Lists.{first_owned}
 use Rattle.vx_machine_tasks.specs.Stocks.{local_stock, dues_stock, due_stock, items_stock, head_stock}
-use Rattle.vx_machine_tasks.specs.Ready.{Kid, Seen, kid_of, kids_of, seen, seen_step, may_now, may_due, may_take, may_todo, least_at, room_at, all_made, is_made, ready_in, ready_among, counted}
+use Rattle.vx_machine_tasks.specs.Ready.{Kid, Seen, kid_of, kids_of, seen, seen_step, may_now, may_due, may_take, may_todo, least_at, room_at, room_in, all_made, all_true, is_made, made_step, made_of, has_layout, done_step, is_done, ready_in, ready_among, counted}
+use Rattle.vx_machine_tasks.specs.Sizes.{task_count, count_of_all}
 use Rattle.vx_machine_tasks.specs.declared.item.Due.{Due}
 use Rattle.vx_machine_tasks.specs.declared.task.Head.{Head}
 use Rattle.vx_machine_tasks.specs.declared.task.Task.{Task, out-Task}
 use Rattle.vx_machine_tasks.specs.declared.task.Task.TheFolds.{fold_out-Task}
+use Rattle.vx_machine_tasks.proofs.TaskParts.{task_count_out}
 
 -- ---- by the parts of a task
 
-kid_seen : (u : Active) (t : Task) → (seen u t).kid ≡ kid_of t
-kid_seen u t = ap (λ (s : Seen). s.kid) (fold_out-Task Seen (seen_step u) t)
+-- what is told of one that has done all, by its parts
+
+made_all : (ts : List Task) → all_true (map made_of ts) ≡ all_made (kids_of ts)
+made_all [] = refl
+made_all (t ∷ ts) = ap (λ b. made_of t && b) (made_all ts)
+
+pub made_out : (t : Task) → made_of t ≡ is_made (out-Task t).head.local (deque_len (out-Task t).head.todo == 0) (all_made (kids_of (out-Task t).kids.items))
+made_out t = fold_out-Task Bool made_step t ∙ ap (is_made (out-Task t).head.local (deque_len (out-Task t).head.todo == 0)) (made_all (out-Task t).kids.items)
+
+pub done_out : (t : Task) → is_done t ≡ (has_layout (out-Task t).head.local (map is_done (out-Task t).kids.items) && (deque_len (out-Task t).head.todo == 0 && deque_len (out-Task t).head.inbox == 0))
+done_out t = fold_out-Task Bool done_step t
+
+kids_upto : (u : Active) (n : ℕ) (ts : List Task) → count_of_all ts ≤ n → map (λ (s : Seen). s.kid) (map (seen u) ts) ≡ kids_of ts
+kids_upto u n [] h = refl
+kids_upto u zero (t ∷ ts) h = absurd (omega (arith, h, task_count_out t))
+kids_upto u (suc n) (t ∷ ts) h =
+    let c : task_count t ≡ 1 + count_of_all (out-Task t).kids.items = task_count_out t in
+    let hd = (out-Task t).head in
+    let below : map (λ (s : Seen). s.kid) (map (seen u) (out-Task t).kids.items) ≡ kids_of (out-Task t).kids.items = kids_upto u n (out-Task t).kids.items (omega (arith, h, c)) in
+    let made : is_made hd.local (deque_len hd.todo == 0) (all_made (map (λ (s : Seen). s.kid) (map (seen u) (out-Task t).kids.items))) ≡ made_of t =
+    ap (λ ks. is_made hd.local (deque_len hd.todo == 0) (all_made ks)) below ∙ sym (made_out t) in
+    let own : (seen u t).kid ≡ kid_of t = ap (λ (s : Seen). s.kid) (fold_out-Task Seen (seen_step u) t) ∙ (λ i. record { made = made i; room = room_in hd }) in
+    λ i. own i ∷ kids_upto u n ts (omega (arith, h, c)) i
 
 kids_seen : (u : Active) (ts : List Task) → map (λ (s : Seen). s.kid) (map (seen u) ts) ≡ kids_of ts
-kids_seen u [] = refl
-kids_seen u (t ∷ ts) = λ i. kid_seen u t i ∷ kids_seen u ts i
+kids_seen u ts = kids_upto u (count_of_all ts) ts (omega arith)
 
 total_seen : (u : Active) (ts : List Task) → total_by (λ (s : Seen). s.ready) (map (seen u) ts) ≡ ready_among u ts
 total_seen u [] = refl
@@ -78,22 +101,22 @@ and_false : (b : Bool) → (b && false) ≡ false
 and_false true = refl
 and_false false = refl
 
-made_last : (xs : List Task) (i : ℕ) (x : Task) → i < length xs → x ≡ get_or xs i x → is_made (out-Task x).head.local ≡ true → all_made (kids_of (take (suc i) xs)) ≡ all_made (kids_of (take i xs))
+made_last : (xs : List Task) (i : ℕ) (x : Task) → i < length xs → x ≡ get_or xs i x → made_of x ≡ true → all_made (kids_of (take (suc i) xs)) ≡ all_made (kids_of (take i xs))
 made_last [] i x h e m = absurd (omega (arith, h))
-made_last (y ∷ ys) zero x h e m = ap (λ b. b && true) (ap (λ z. is_made (out-Task z).head.local) (sym e) ∙ m)
+made_last (y ∷ ys) zero x h e m = ap (λ b. b && true) (ap made_of (sym e) ∙ m)
 made_last (y ∷ ys) (suc i) x h e m = ap (λ b. (kid_of y).made && b) (made_last ys i x (omega (arith, h)) e m)
 
-last_not : (xs : List Task) (i : ℕ) (x : Task) → i < length xs → x ≡ get_or xs i x → is_made (out-Task x).head.local ≡ false → all_made (kids_of (take (suc i) xs)) ≡ false
+last_not : (xs : List Task) (i : ℕ) (x : Task) → i < length xs → x ≡ get_or xs i x → made_of x ≡ false → all_made (kids_of (take (suc i) xs)) ≡ false
 last_not [] i x h e m = absurd (omega (arith, h))
-last_not (y ∷ ys) zero x h e m = ap (λ b. b && true) (ap (λ z. is_made (out-Task z).head.local) (sym e) ∙ m)
+last_not (y ∷ ys) zero x h e m = ap (λ b. b && true) (ap made_of (sym e) ∙ m)
 last_not (y ∷ ys) (suc i) x h e m = ap (λ b. (kid_of y).made && b) (last_not ys i x (omega (arith, h)) e m) ∙ and_false (kid_of y).made
 
 -- all of the first have their layouts, but for the last of them
-pub made_down : (xs : List Task) (n : ℕ) (x : Task) → 0 < n → n ≤ length xs → x ≡ get_or xs (n - 1) x → is_made (out-Task x).head.local ≡ true
+pub made_down : (xs : List Task) (n : ℕ) (x : Task) → 0 < n → n ≤ length xs → x ≡ get_or xs (n - 1) x → made_of x ≡ true
     → all_made (kids_of (take (n - 1) xs)) ≡ all_made (kids_of (take n xs))
 made_down xs n x o l e m = let k : suc (n - 1) ≡ n = omega (arith, o) in sym (made_last xs (n - 1) x (omega (arith, o, l)) e m) ∙ ap (λ j. all_made (kids_of (take j xs))) k
 
-pub made_down_not : (xs : List Task) (n : ℕ) (x : Task) → 0 < n → n ≤ length xs → x ≡ get_or xs (n - 1) x → is_made (out-Task x).head.local ≡ false
+pub made_down_not : (xs : List Task) (n : ℕ) (x : Task) → 0 < n → n ≤ length xs → x ≡ get_or xs (n - 1) x → made_of x ≡ false
     → all_made (kids_of (take n xs)) ≡ false
 made_down_not xs n x o l e m = let k : suc (n - 1) ≡ n = omega (arith, o) in ap (λ j. all_made (kids_of (take j xs))) (sym k) ∙ last_not xs (n - 1) x (omega (arith, o, l)) e m
 

@@ -1,5 +1,5 @@
 -- Refusals that say more, as those that say less.
-use Rattle.std.proofs.Common.{◌≡◌, ◌^◌, ◌≤◌, ℕ, suc, Bool, true, false, List, [], ◌∷◌, Option, Some, None, Result, IfErr, refl, sym, subst, inl, inr, ⊎_elim, arith}
+use Rattle.std.proofs.Common.{◌≡◌, ◌+◌, ◌^◌, ◌≤◌, ℕ, suc, Bool, true, false, List, [], ◌∷◌, Option, Some, None, Result, IfErr, refl, sym, subst, inl, inr, ⊎_elim, arith}
 use Rattle.std.proofs.lemmas.Result.{IfErr-weaker}
 use Rattle.std.proofs.lemmas.Bool.{true≢false}
 use Rattle.vx_path.specs.Lists.{In}
@@ -7,7 +7,10 @@ use Rattle.vx_path.proofs.Lists.{in_left}
 use Rattle.vx_plan.specs.PlanData.{Pair, What, not_struct, duplicate_field, many_chunks, empty_list, forbidden_encoding}
 use Rattle.vx_write_answer.specs.declared.error.WriteError.{WriteError}
 use Rattle.vx_write_answer.specs.declared.error.WriteError.TheVariants.{SourceFault, SinkFault, CompressFault, BatchType, NotStruct, DuplicateField, ManyChunks, EmptyList, ZoneCut, ForbiddenAggregate, ForbiddenEncoding, TooLarge, OutOfMemory, Unbuilt, Stopped}
-use Rattle.vx_machine_tasks.specs.Acting.{JoinRefused, SplitRefused, ListRefused}
+use Rattle.vx_order.specs.Outlet.{Outlet}
+use Rattle.vx_order.specs.Answers.{IsPast, IsShared}
+use Rattle.vx_machine_view.specs.Acts.{Did}
+use Rattle.vx_machine_tasks.specs.Acting.{ActRefused, ActStopped, TakeRefused, TakeStopped, JoinRefused, SplitRefused, ListRefused}
 use Rattle.vx_machine_tasks.specs.Causes.{MayCome}
 use Rattle.vx_machine_tasks.specs.Outcome.{Past, Refused, none_past}
 
@@ -38,7 +41,7 @@ module _ (w : List Pair) (hs : List ℕ) (r q : Option What) (b c : Bool) (ns ms
 no_word : (q : Option What) (x : What) → None ≡ Some x → q ≡ Some x
 no_word q x h = cc
 
-not_in : (ms : List ℕ) (n : ℕ) → In n [] → In n ms
+pub not_in : (ms : List ℕ) (n : ℕ) → In n [] → In n ms
 not_in ms n h = absurd h
 
 -- whatever numbers of segments don't fit
@@ -99,3 +102,10 @@ none_joined (TooLarge n) m h = ⊎_elim (λ x. ⊎_elim (λ y. absurd y.0) (λ y
 none_joined OutOfMemory m h = refl
 none_joined Unbuilt m h = absurd m
 none_joined (Stopped by name) m h = absurd m
+
+-- also where the tracker is asked
+pub take_stops : (counts : ℕ) (w : Did) (e : WriteError) → TakeRefused w e → TakeStopped counts w e
+take_stops counts w e = wider w.wrote w.joined w.refusal w.refusal w.misfit w.misfit w.numbers ((counts + w.raises) ∷ w.numbers) w.indices w.indices none_past none_past ⊥ ⊥ (λ x h. h) (λ h. h) (λ n i. inr i) (λ n h. h) (λ n h. h) (λ h. h) e
+
+pub act_stops : (counts : ℕ) (w : Did) (o : Outlet) (e : WriteError) → ActRefused w o e → ActStopped counts w o e
+act_stops counts w o e = wider w.wrote w.joined w.refusal w.refusal w.misfit w.misfit w.numbers ((counts + w.raises) ∷ w.numbers) w.indices w.indices (IsPast o) (IsPast o) (IsShared o) (IsShared o) (λ x h. h) (λ h. h) (λ n i. inr i) (λ n h. h) (λ n h. h) (λ h. h) e

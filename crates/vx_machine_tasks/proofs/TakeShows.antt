@@ -27,13 +27,16 @@ use Rattle.vx_strategy.specs.FlatViews.{flat_options}
 use Rattle.vx_machine_turns.specs.Forms.{Form}
 use Rattle.vx_machine_turns.specs.Flat.{forbidden}
 use Rattle.vx_machine_turns.specs.Starts.{start_fault}
-use Rattle.vx_machine_view.specs.State.{Next, shut_kids, join_kids, Mind, no_chunk, one_chunk, by_chunk, by_column, by_list, ending, made, fold_columns, Desk, Tasks}
+use Rattle.vx_machine_view.specs.State.{Next, shut_kids, join_kids, Mind, no_chunk, one_chunk, by_chunk, by_column, by_list, by_block, by_size, as_one, ending, passing, made, fold_columns, Desk, Tasks}
 use Rattle.vx_machine_view.specs.Start.{first_indices, started_task}
-use Rattle.vx_machine_view.specs.Acts.{count, add, Did, now, stored, columns_in, column_count, puts, take_chunk, end_columns, end_lists, take_end, do_take}
+use Rattle.vx_machine_view.specs.Acts.{count, add, Did, now, of_length, stored, columns_in, column_count, puts, take_chunk, end_columns, end_lists, take_end, do_take}
 use Rattle.vx_write_answer.specs.Causes.{of_encode}
 use Rattle.vx_write_answer.specs.declared.step.ActionKind.TheVariants as actions
 use Rattle.vx_write_answer.specs.declared.error.WriteError.{WriteError}
 use Rattle.vx_write_answer.specs.declared.error.WriteError.TheVariants.{SourceFault, SinkFault, CompressFault, BatchType, NotStruct, DuplicateField, ManyChunks, EmptyList, ZoneCut, ForbiddenAggregate, ForbiddenEncoding, TooLarge, OutOfMemory, Unbuilt, Stopped}
+use Rattle.vx_machine_turns.specs.Grouped.{block_grouper, byte_grouper}
+use Rattle.vx_machine_tasks.specs.declared.grouped_node.GroupedNode.{GroupedNode}
+use Rattle.vx_machine_tasks.proofs.GroupShows.{group_shows, group_refused, group_stopped, group_kind, group_wrote, rest_shows, rest_fails, rest_kind, rest_wrote}
 use Rattle.vx_machine_tasks.specs.declared.item.Due.{Due}
 use Rattle.vx_machine_tasks.specs.declared.item.Item.{Item}
 use Rattle.vx_machine_tasks.specs.declared.item.Segment.{Segment}
@@ -42,10 +45,10 @@ use Rattle.vx_machine_tasks.specs.declared.kinds.ChunkedNode.{ChunkedNode}
 use Rattle.vx_machine_tasks.specs.declared.kinds.ColumnsNode.{ColumnsNode}
 use Rattle.vx_machine_tasks.specs.declared.kinds.ListsNode.{ListsNode}
 use Rattle.vx_machine_tasks.specs.declared.node.Local.{Local}
-use Rattle.vx_machine_tasks.specs.declared.node.Local.TheVariants.{Empty, Full, Chunked, Columns, Lists, Over, Made}
+use Rattle.vx_machine_tasks.specs.declared.node.Local.TheVariants.{Empty, Full, Chunked, Columns, Lists, Grouped, Over, Passing, Made}
 use Rattle.vx_machine_tasks.specs.declared.task.Head.{Head}
 use Rattle.vx_machine_tasks.specs.declared.task.Task.{Task}
-use Rattle.vx_machine_tasks.specs.Acting.{Behind, bare, taken, Took, TakeRefused, ChunkTaken, ChunkRefused, tree_kept, IsStored, WordRefused, first_word, SplitRefused, ListRefused, is_flat, Ended, EndTaken, EndRefused, TakeDone, Acted}
+use Rattle.vx_machine_tasks.specs.Acting.{Behind, bare, taken, Took, TakeRefused, TakeStopped, ChunkTaken, ChunkRefused, tree_kept, IsStored, WordRefused, first_word, SplitRefused, ListRefused, is_flat, Ended, EndTaken, EndRefused, TakeDone, Acted}
 use Rattle.vx_machine_tasks.specs.Context.{setting_of}
 use Rattle.vx_machine_tasks.specs.Outcome.{action_of, AllFit}
 use Rattle.vx_machine_tasks.specs.Ready.{is_over}
@@ -92,6 +95,8 @@ module _ (ctx : LayoutWriterContext) (image : ℕ → ChunkData → ChunkData) (
   flat_why (Chunked n eof rows) e f h = absurd (true≢false (sym f))
   flat_why (Columns n rows) e f h = absurd (true≢false (sym f))
   flat_why (Lists n rows) e f h = absurd (true≢false (sym f))
+  flat_why (Grouped n) e f h = absurd (true≢false (sym f))
+  flat_why Passing e f h = absurd (true≢false (sym f))
   flat_why Over e f h = absurd (true≢false (sym f))
   flat_why (Made x) e f h = absurd (true≢false (sym f))
 
@@ -127,19 +132,23 @@ second_why first (Full x) h = refl
 second_why first (Chunked n eof rows) h = refl
 second_why first (Columns n rows) h = refl
 second_why first (Lists n rows) h = refl
+second_why first (Grouped n) h = refl
+second_why first Passing h = refl
 second_why first Over h = refl
 second_why first (Made x) h = refl
 
 -- what is none of a node with children, and takes more, is a flat node's
-pub flat_left : (l : Local) → ((n : ChunkedNode) (eof : Eof) (rows : ℕ) → l ≡ Chunked n eof rows → ⊥) → ((n : ColumnsNode) (rows : ℕ) → l ≡ Columns n rows → ⊥)
+pub flat_left : (l : Local) → ((n : GroupedNode) → l ≡ Grouped n → ⊥) → ((n : ChunkedNode) (eof : Eof) (rows : ℕ) → l ≡ Chunked n eof rows → ⊥) → ((n : ColumnsNode) (rows : ℕ) → l ≡ Columns n rows → ⊥)
     → ((n : ListsNode) (rows : ℕ) → l ≡ Lists n rows → ⊥) → is_over l ≡ false → is_flat l ≡ true
-flat_left (Empty n) a b d h = refl
-flat_left (Full x) a b d h = refl
-flat_left (Chunked n eof rows) a b d h = absurd (a n eof rows refl)
-flat_left (Columns n rows) a b d h = absurd (b n rows refl)
-flat_left (Lists n rows) a b d h = absurd (d n rows refl)
-flat_left Over a b d h = absurd (true≢false h)
-flat_left (Made x) a b d h = absurd (true≢false h)
+flat_left (Empty n) q a b d h = refl
+flat_left (Full x) q a b d h = refl
+flat_left (Chunked n eof rows) q a b d h = absurd (a n eof rows refl)
+flat_left (Columns n rows) q a b d h = absurd (b n rows refl)
+flat_left (Lists n rows) q a b d h = absurd (d n rows refl)
+flat_left (Grouped n) q a b d h = absurd (q n refl)
+flat_left Passing q a b d h = absurd (true≢false h)
+flat_left Over q a b d h = absurd (true≢false h)
+flat_left (Made x) q a b d h = absurd (true≢false h)
 
 -- ---- a struct node's
 
@@ -304,11 +313,11 @@ module _ (n : ColumnsNode) (rows kids : ℕ) (m : Local) (todo before : List Nex
       subst (λ z. Ended (end_columns z (ty (arc_value n.dtype)) rows (bare (mind_of (Columns n rows))) ks) (mind_of m) todo before) (sym (ap (bare_columns n) same ∙ is)) (h ks)
 
   pub columns_made : bare_columns n kids ≡ true → mind_of m ≡ made (struct_layout (ty (arc_value n.dtype)) rows []) → todo ≡ before → EndTaken (Columns n rows) kids m todo before
-  columns_made is a e = columns_by_test true is (λ ks. record { unrefused = refl; mind_is = a; todo_is = e ∙ sym (append-nil before) })
+  columns_made is a e = columns_by_test true is (λ ks. record { unrefused = refl; fits = refl; counted = none_fit; mind_is = a; todo_is = e ∙ sym (append-nil before) })
 
   pub columns_end : bare_columns n kids ≡ false → mind_of m ≡ ending → todo ≡ before ++ (shut_kids ∷ join_kids (fold_columns (ty (arc_value n.dtype)) rows) ∷ [])
       → EndTaken (Columns n rows) kids m todo before
-  columns_end is a e = columns_by_test false is (λ ks. record { unrefused = refl; mind_is = a; todo_is = e })
+  columns_end is a e = columns_by_test false is (λ ks. record { unrefused = refl; fits = refl; counted = none_fit; mind_is = a; todo_is = e })
 
 pub two_more : (xs ys zs : List Due) (d e : Due) → ys ≡ xs ++ (d ∷ []) → zs ≡ ys ++ (e ∷ []) → todo_of zs ≡ todo_of xs ++ (next_of d ∷ next_of e ∷ [])
 two_more xs ys zs d e a b =
@@ -324,7 +333,7 @@ module _ (n : ListsNode) (rows kids : ℕ) where
   pub lists_end : (m : Local) (todo before : List Next) → n.split.first ≡ false → mind_of m ≡ ending
       → todo ≡ before ++ (shut_kids ∷ join_kids (fold_columns (ty (arc_value n.dtype)) rows) ∷ []) → EndTaken (Lists n rows) kids m todo before
   lists_end m todo before is a e = λ ks same. subst (λ z. Ended (ends_by z ks) (mind_of m) todo before) (sym is)
-      (record { unrefused = refl; mind_is = a; todo_is = e ∙ ap (λ t. before ++ (shut_kids ∷ join_kids (fold_columns t rows) ∷ [])) (sym (list_parts (ty (arc_value n.dtype)) n.lists)) })
+      (record { unrefused = refl; fits = refl; counted = none_fit; mind_is = a; todo_is = e ∙ ap (λ t. before ++ (shut_kids ∷ join_kids (fold_columns t rows) ∷ [])) (sym (list_parts (ty (arc_value n.dtype)) n.lists)) })
 
   pub lists_empty : n.split.first ≡ true → EndRefused (Lists n rows) kids EmptyList
   lists_empty is = λ ks same. ap (λ z. (ends_by z ks).refusal) is
@@ -346,7 +355,7 @@ ended_as l k m kids todo before e h = subst (λ w. EndTaken w kids m todo before
 
 pub ended_empty : (l : Local) (n : FlatNode) (kids : ℕ) (todo : List Next) (r : Result Local WriteError) → l ≡ Empty n → IfOk r (λ m. mind_of m ≡ made (gathered (ty (arc_value n.dtype)) 0 []))
     → IfOk r (λ m. EndTaken l kids m todo todo)
-ended_empty l n kids todo (Ok m) is h = ended_as l (Empty n) m kids todo todo is (λ ks same. record { unrefused = refl; mind_is = h; todo_is = sym (append-nil todo) })
+ended_empty l n kids todo (Ok m) is h = ended_as l (Empty n) m kids todo todo is (λ ks same. record { unrefused = refl; fits = refl; counted = none_fit; mind_is = h; todo_is = sym (append-nil todo) })
 ended_empty l n kids todo (Err e) is h = tt
 
 pub ended_struct : (l : Local) (n : ColumnsNode) (rows kids : ℕ) (todo before : List Next) (r : Result Local WriteError) → l ≡ Columns n rows
@@ -401,6 +410,12 @@ took_shows s c ks i xs (by_list t b first from rows) m todo before h kids d n e 
   kids_are = d.kids_are;
   desk = e ∙ (λ j. now c (d.mind_is j) ((d.todo_is ∙ ap (λ z. puts 0 i.0 (list_columns t b first from i.1) ++ z) n ∙ append-nil (puts 0 i.0 (list_columns t b first from i.1))) j) xs);
 }
+took_shows s c ks i xs (by_block len minimum t z j rows) m todo before h kids d n e = group_shows (block_grouper (of_length len minimum) t) (by_block len minimum t) (not (ty_eq (piece_type i.1) t)) z rows c ks i xs j m todo before h kids d n e
+took_shows s c ks i xs (by_size size z j rows) m todo before h kids d n e = group_shows (byte_grouper size) (by_size size) false z rows c ks i xs j m todo before h kids d n e
+took_shows s c ks i xs (as_one t z rows) m todo before h kids d n e =
+    record { unrefused = d.unrefused; fits = d.fits; counted = d.counted; kids_are = d.kids_are; desk = e ∙ (λ j. now c (d.mind_is j) ((d.todo_is ∙ n) j) xs) }
+took_shows s c ks i xs passing m todo before h kids d n e =
+    record { unrefused = d.unrefused; fits = d.fits; counted = d.counted; kids_are = d.kids_are; desk = e ∙ (λ j. now c (d.mind_is j) ((d.todo_is ∙ n) j) xs) }
 took_shows s c ks i xs ending m todo before h kids d n e = record {
   unrefused = d.unrefused;
   fits = d.fits;
@@ -422,8 +437,25 @@ took_refused s c ks i xs (one_chunk x) e h = h
 took_refused s c ks i xs (by_chunk a t f z rows) e h = h
 took_refused s c ks i xs (by_column t rows) e h = h
 took_refused s c ks i xs (by_list t b first from rows) e h = h
+took_refused s c ks i xs (by_block len minimum t z j rows) e h = group_refused (block_grouper (of_length len minimum) t) (by_block len minimum t) (not (ty_eq (piece_type i.1) t)) z rows c ks i xs j e h
+took_refused s c ks i xs (by_size size z j rows) e h = group_refused (byte_grouper size) (by_size size) false z rows c ks i xs j e h
+took_refused s c ks i xs (as_one t z rows) e h = h
+took_refused s c ks i xs passing e h = h
 took_refused s c ks i xs ending e h = h
 took_refused s c ks i xs (made l) e h = h
+
+pub took_stopped : (counts : ℕ) (s : Setting) (c : Desk) (ks : Tasks) (i : Piece) (xs : List Piece) (mind : Mind) (e : WriteError) → TakeStopped counts (taken s c.name ks i mind) e → TakeStopped counts (take_chunk s c ks i xs mind) e
+took_stopped counts s c ks i xs (no_chunk o t) e h = h
+took_stopped counts s c ks i xs (one_chunk x) e h = h
+took_stopped counts s c ks i xs (by_chunk a t f z rows) e h = h
+took_stopped counts s c ks i xs (by_column t rows) e h = h
+took_stopped counts s c ks i xs (by_list t b first from rows) e h = h
+took_stopped counts s c ks i xs (by_block len minimum t z j rows) e h = group_stopped (block_grouper (of_length len minimum) t) (by_block len minimum t) (not (ty_eq (piece_type i.1) t)) z rows c ks i xs counts j e h
+took_stopped counts s c ks i xs (by_size size z j rows) e h = group_stopped (byte_grouper size) (by_size size) false z rows c ks i xs counts j e h
+took_stopped counts s c ks i xs (as_one t z rows) e h = h
+took_stopped counts s c ks i xs passing e h = h
+took_stopped counts s c ks i xs ending e h = h
+took_stopped counts s c ks i xs (made l) e h = h
 
 -- what a take of the end leaves, of whichever task
 module _ (c : Desk) (ks : Tasks) (m : Mind) (todo : List Next) (h : Head) (kids : List Task) (same : row kids ≡ ks) (is : desk_of h ≡ now c m todo []) where
@@ -441,6 +473,10 @@ module _ (c : Desk) (ks : Tasks) (m : Mind) (todo : List Next) (h : Head) (kids 
   end_shows (by_chunk a t f z rows) d = record { unrefused = refl; fits = refl; counted = none_fit; kids_are = same; desk = is ∙ (λ j. now c (d.mind_is j) (d.todo_is j) []) }
   end_shows (by_column t rows) d = columns_shows ((count ks == 0) && (0 == column_count t)) t rows (by_column t rows) d
   end_shows (by_list t n first from rows) d = lists_shows first (list t n) rows (by_list t n first from rows) d
+  end_shows (by_block len minimum t z j rows) d = rest_shows (block_grouper (of_length len minimum) t) z c ks (by_block len minimum t z j rows) m j todo h kids same is d
+  end_shows (by_size size z j rows) d = rest_shows (byte_grouper size) z c ks (by_size size z j rows) m j todo h kids same is d
+  end_shows (as_one t z rows) d = record { unrefused = refl; fits = refl; counted = none_fit; kids_are = same; desk = is ∙ (λ j. now c (d.mind_is j) (d.todo_is j) []) }
+  end_shows passing d = record { unrefused = refl; fits = refl; counted = none_fit; kids_are = same; desk = is ∙ (λ j. now c (d.mind_is j) (d.todo_is j) []) }
   end_shows ending d = record { unrefused = refl; fits = refl; counted = none_fit; kids_are = same; desk = is ∙ (λ j. now c (d.mind_is j) (d.todo_is j) []) }
   end_shows (made l) d = record { unrefused = refl; fits = refl; counted = none_fit; kids_are = same; desk = is ∙ (λ j. now c (d.mind_is j) (d.todo_is j) []) }
 
@@ -463,6 +499,10 @@ module _ (c : Desk) (ks : Tasks) (e : WriteError) where
   end_fails (by_chunk a t f z rows) h = h
   end_fails (by_column t rows) h = columns_fail ((count ks == 0) && (0 == column_count t)) t rows (by_column t rows) h
   end_fails (by_list t n first from rows) h = lists_fail first (list t n) rows (by_list t n first from rows) h
+  end_fails (by_block len minimum t z j rows) h = rest_fails (block_grouper (of_length len minimum) t) z c ks (by_block len minimum t z j rows) j e h
+  end_fails (by_size size z j rows) h = rest_fails (byte_grouper size) z c ks (by_size size z j rows) j e h
+  end_fails (as_one t z rows) h = h
+  end_fails passing h = h
   end_fails ending h = h
   end_fails (made l) h = h
 
@@ -474,6 +514,10 @@ chunk_kind s c ks i xs (one_chunk x) = refl
 chunk_kind s c ks i xs (by_chunk a t f z rows) = refl
 chunk_kind s c ks i xs (by_column t rows) = refl
 chunk_kind s c ks i xs (by_list t n first from rows) = refl
+chunk_kind s c ks i xs (by_block len minimum t z j rows) = group_kind (block_grouper (of_length len minimum) t) (by_block len minimum t) (not (ty_eq (piece_type i.1) t)) z rows c ks i xs j
+chunk_kind s c ks i xs (by_size size z j rows) = group_kind (byte_grouper size) (by_size size) false z rows c ks i xs j
+chunk_kind s c ks i xs (as_one t z rows) = refl
+chunk_kind s c ks i xs passing = refl
 chunk_kind s c ks i xs ending = refl
 chunk_kind s c ks i xs (made l) = refl
 
@@ -483,6 +527,10 @@ chunk_wrote s c ks i xs (one_chunk x) = refl
 chunk_wrote s c ks i xs (by_chunk a t f z rows) = refl
 chunk_wrote s c ks i xs (by_column t rows) = refl
 chunk_wrote s c ks i xs (by_list t n first from rows) = refl
+chunk_wrote s c ks i xs (by_block len minimum t z j rows) = group_wrote (block_grouper (of_length len minimum) t) (by_block len minimum t) (not (ty_eq (piece_type i.1) t)) z rows c ks i xs j
+chunk_wrote s c ks i xs (by_size size z j rows) = group_wrote (byte_grouper size) (by_size size) false z rows c ks i xs j
+chunk_wrote s c ks i xs (as_one t z rows) = refl
+chunk_wrote s c ks i xs passing = refl
 chunk_wrote s c ks i xs ending = refl
 chunk_wrote s c ks i xs (made l) = refl
 
@@ -508,6 +556,10 @@ end_kind c ks (one_chunk x) = refl
 end_kind c ks (by_chunk a t f z rows) = refl
 end_kind c ks (by_column t rows) = columns_kind ((count ks == 0) && (0 == column_count t)) t rows c ks
 end_kind c ks (by_list t n first from rows) = lists_kind first (list t n) rows c ks
+end_kind c ks (by_block len minimum t z j rows) = rest_kind (block_grouper (of_length len minimum) t) z c ks j
+end_kind c ks (by_size size z j rows) = rest_kind (byte_grouper size) z c ks j
+end_kind c ks (as_one t z rows) = refl
+end_kind c ks passing = refl
 end_kind c ks ending = refl
 end_kind c ks (made l) = refl
 
@@ -517,6 +569,10 @@ end_wrote c ks (one_chunk x) = refl
 end_wrote c ks (by_chunk a t f z rows) = refl
 end_wrote c ks (by_column t rows) = columns_wrote ((count ks == 0) && (0 == column_count t)) t rows c ks
 end_wrote c ks (by_list t n first from rows) = lists_wrote first (list t n) rows c ks
+end_wrote c ks (by_block len minimum t z j rows) = rest_wrote (block_grouper (of_length len minimum) t) z c ks j
+end_wrote c ks (by_size size z j rows) = rest_wrote (byte_grouper size) z c ks j
+end_wrote c ks (as_one t z rows) = refl
+end_wrote c ks passing = refl
 end_wrote c ks ending = refl
 end_wrote c ks (made l) = refl
 

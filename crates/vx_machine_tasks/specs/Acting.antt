@@ -16,6 +16,7 @@ use Rattle.vx_machine_turns.specs.Starts.{start_fault}
 use Rattle.vx_machine_view.specs.State.{Next, Mind, ending, Desk, Tasks}
 use Rattle.vx_machine_view.specs.Start.{waiting, first_indices}
 use Rattle.vx_sink.specs.declared.context.LayoutWriterContext.{LayoutWriterContext}
+use Rattle.vx_sink.specs.ContextView.{counted as bytes_counted}
 use Rattle.vx_machine_view.specs.Acts.{count, Did, do_next, take_chunk, take_end, do_take, do_act}
 use Rattle.vx_write_answer.specs.declared.step.ActionKind.{ActionKind}
 use Rattle.vx_write_answer.specs.declared.error.WriteError.{WriteError}
@@ -25,7 +26,7 @@ use Rattle.vx_machine_tasks.specs.declared.item.Segment.{Segment}
 use Rattle.vx_machine_tasks.specs.declared.kinds.ChunkedNode.{ChunkedNode}
 use Rattle.vx_machine_tasks.specs.declared.kinds.FlatNode.{FlatNode}
 use Rattle.vx_machine_tasks.specs.declared.node.Local.{Local}
-use Rattle.vx_machine_tasks.specs.declared.node.Local.TheVariants.{Empty, Full, Chunked, Columns, Lists, Over, Made}
+use Rattle.vx_machine_tasks.specs.declared.node.Local.TheVariants.{Empty, Full, Chunked, Columns, Lists, Grouped, Over, Passing, Made}
 use Rattle.vx_machine_tasks.specs.declared.task.Head.{Head}
 use Rattle.vx_machine_tasks.specs.declared.task.Task.{Task}
 use Rattle.vx_machine_tasks.specs.Context.{setting_of}
@@ -51,6 +52,10 @@ Behind o n (x ∷ xs) u = IsAppended o n x u
 -- why an act is refused that may append
 abbrev pub ActRefused : Did → Outlet → WriteError → Type 0
 ActRefused w o e = Refused w.refusal w.misfit w.numbers w.indices w.wrote (IsPast o) (IsShared o) w.joined e
+
+-- The same where the tracker counts so much: what is added may be too much for it.
+abbrev pub ActStopped : ℕ → Did → Outlet → WriteError → Type 0
+ActStopped counts w o e = Refused w.refusal w.misfit ((counts + w.raises) ∷ w.numbers) w.indices w.wrote (IsPast o) (IsShared o) w.joined e
 
 -- why an append is
 abbrev pub AppendRefused : Outlet → Pair → WriteError → Type 0
@@ -107,6 +112,10 @@ pub record Took (w : Did) (mind : Mind) (todo before : List Next) (kids : Tasks)
 abbrev pub TakeRefused : Did → WriteError → Type 0
 TakeRefused w e = Refused w.refusal w.misfit w.numbers w.indices w.wrote none_past ⊥ w.joined e
 
+-- the same where the tracker counts so much
+abbrev pub TakeStopped : ℕ → Did → WriteError → Type 0
+TakeStopped counts w e = Refused w.refusal w.misfit ((counts + w.raises) ∷ w.numbers) w.indices w.wrote none_past ⊥ w.joined e
+
 -- the same whatever images there are, of which no act here asks
 
 abbrev pub ChunkTaken : LayoutWriterContext → List ℕ → Tasks → Item → Local → Local → List Next → List Next → Tasks → Type 0
@@ -114,6 +123,10 @@ ChunkTaken ctx name ks i l m todo before kids = (image : ℕ → ChunkData → C
 
 abbrev pub ChunkRefused : LayoutWriterContext → List ℕ → Tasks → Item → Local → WriteError → Type 0
 ChunkRefused ctx name ks i l e = (image : ℕ → ChunkData → ChunkData) → TakeRefused (taken (setting_of ctx image) name ks (item_of i) (mind_of l)) e
+
+-- where the tracker counts what the context tells
+abbrev pub ChunkStopped : LayoutWriterContext → List ℕ → Tasks → Item → Local → WriteError → Type 0
+ChunkStopped ctx name ks i l e = (image : ℕ → ChunkData → ChunkData) → TakeStopped (bytes_counted ctx) (taken (setting_of ctx image) name ks (item_of i) (mind_of l)) e
 
 -- what a flat node's layout keeps of a chunk's segment: its tree, where the node inlines
 abbrev pub tree_kept : List EncodingId → FlatNode → ChunkData → Option (List ℕ)
@@ -138,7 +151,9 @@ first_word first (Full x) = Some many_chunks
 first_word first (Chunked n eof rows) = Some many_chunks
 first_word first (Columns n rows) = Some many_chunks
 first_word first (Lists n rows) = Some many_chunks
+first_word first (Grouped n) = Some many_chunks
 first_word first Over = Some many_chunks
+first_word first Passing = Some many_chunks
 first_word first (Made l) = Some many_chunks
 
 -- whether it is a flat node's
@@ -148,8 +163,22 @@ is_flat (Full x) = true
 is_flat (Chunked n eof rows) = false
 is_flat (Columns n rows) = false
 is_flat (Lists n rows) = false
+is_flat (Grouped n) = false
 is_flat Over = false
+is_flat Passing = false
 is_flat (Made l) = false
+
+-- whether its node regroups
+abbrev pub is_grouped : Local → Bool
+is_grouped (Grouped n) = true
+is_grouped (Empty n) = false
+is_grouped (Full x) = false
+is_grouped (Chunked n eof rows) = false
+is_grouped (Columns n rows) = false
+is_grouped (Lists n rows) = false
+is_grouped Over = false
+is_grouped Passing = false
+is_grouped (Made l) = false
 
 -- why a chunk isn't split: it is of another type, or the rows with it are too many
 abbrev pub SplitRefused : Bool → ℕ → WriteError → Type 0
@@ -168,6 +197,8 @@ ChildRefused n eof e = StartRefused (λ s. start_fault s (child_form n) n.marked
 -- it was taken, with this in mind then, and this left to do behind what was
 pub record Ended (w : Did) (mind : Mind) (todo before : List Next) : Type 0 where
   pub unrefused : w.refusal ≡ None
+  pub fits : w.misfit ≡ false
+  pub counted : AllFit (w.numbers ++ w.indices)
   pub mind_is : mind ≡ w.desk.mind
   pub todo_is : todo ≡ before ++ w.desk.todo
 
@@ -196,7 +227,7 @@ abbrev pub NextTaken : LayoutWriterContext → Head → List Task → Head → L
 NextTaken ctx h ks head kids = (image : ℕ → ChunkData → ChunkData) → TakeDone (taken_next ctx image h ks) head kids
 
 abbrev pub NextUntaken : LayoutWriterContext → Head → List Task → WriteError → Type 0
-NextUntaken ctx h ks e = (image : ℕ → ChunkData → ChunkData) → TakeRefused (taken_next ctx image h ks) e
+NextUntaken ctx h ks e = (image : ℕ → ChunkData → ChunkData) → TakeStopped (bytes_counted ctx) (taken_next ctx image h ks) e
 
 -- the act was done
 pub record Acted (w : Did) (before : Outlet) (number : ℕ) (after : Outlet) (head : Head) (kids : List Task) (a : ActionKind) : Type 0 where
@@ -215,4 +246,4 @@ abbrev pub NextDone : LayoutWriterContext → Head → List Task → Outlet → 
 NextDone ctx h ks before after head kids a = (image : ℕ → ChunkData → ChunkData) → (n : ℕ) × Acted (act_next ctx image n h ks) before n after head kids a
 
 abbrev pub NextRefused : LayoutWriterContext → Head → List Task → Outlet → WriteError → Type 0
-NextRefused ctx h ks o e = (image : ℕ → ChunkData → ChunkData) (n : ℕ) → ActRefused (act_next ctx image n h ks) o e
+NextRefused ctx h ks o e = (image : ℕ → ChunkData → ChunkData) (n : ℕ) → ActStopped (bytes_counted ctx) (act_next ctx image n h ks) o e

@@ -1,6 +1,8 @@
 pub mod Weight
 pub mod Stocks
 pub mod Sizes
+pub mod Regrouped
+pub mod Ledger
 pub mod Ready
 pub mod Pairs
 pub mod Causes

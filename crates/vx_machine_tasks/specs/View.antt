@@ -17,16 +17,18 @@ use Rattle.vx_machine_view.specs.State as view
 use Rattle.vx_machine_tasks.specs.declared.item.Item.{Item}
 use Rattle.vx_machine_tasks.specs.declared.item.Stored.{Stored}
 use Rattle.vx_machine_tasks.specs.declared.item.Due.{Due}
-use Rattle.vx_machine_tasks.specs.declared.item.Due.TheVariants.{Put, Append, Close, Join}
+use Rattle.vx_machine_tasks.specs.declared.item.Due.TheVariants.{Put, HandOn, Append, Close, Join}
 use Rattle.vx_machine_tasks.specs.declared.kinds.ChunkedNode.{ChunkedNode}
 use Rattle.vx_machine_tasks.specs.declared.node.Local.{Local}
-use Rattle.vx_machine_tasks.specs.declared.node.Local.TheVariants.{Empty, Full, Chunked, Columns, Lists, Over, Made}
+use Rattle.vx_machine_tasks.specs.declared.node.Local.TheVariants.{Empty, Full, Chunked, Columns, Lists, Grouped, Over, Passing, Made}
 use Rattle.vx_machine_tasks.specs.declared.node.Shape.{Shape}
 use Rattle.vx_machine_tasks.specs.declared.node.Shape.TheVariants as shapes
 use Rattle.vx_machine_tasks.specs.declared.task.Head.{Head}
 use Rattle.vx_machine_tasks.specs.declared.task.Task.{Task}
 use Rattle.vx_machine_tasks.specs.declared.task.Task.TheOpen.{Task-F}
 use Rattle.vx_machine_tasks.specs.declared.task.Task.TheFolds.{fold-Task}
+use Rattle.vx_machine_tasks.specs.Ledger.{some_bytes}
+use Rattle.vx_machine_tasks.specs.Regrouped.{mind_in}
 
 -- a strategy at a type
 abbrev pub form_at : StrategyData → Ty → Form
@@ -53,6 +55,7 @@ fold_of (shapes.Lists n rows) = view.fold_columns (ty (arc_value n.dtype)) rows
 
 abbrev pub next_of : Due → view.Next
 next_of (Put c i) = view.put c (item_of i)
+next_of (HandOn i r) = view.hand_on (some_bytes r) (item_of i)
 next_of (Append x) = view.append (stored_of x)
 next_of Close = view.shut_kids
 next_of (Join f) = view.join_kids (fold_of f)
@@ -70,7 +73,9 @@ mind_of (Full x) = view.one_chunk (stored_of x)
 mind_of (Chunked n eof rows) = view.by_chunk n.marked (ty (arc_value n.dtype)) (child_form n) eof rows
 mind_of (Columns n rows) = view.by_column (ty (arc_value n.dtype)) rows
 mind_of (Lists n rows) = view.by_list (element_type (ty (arc_value n.dtype))) (nullable (ty (arc_value n.dtype))) n.split.first n.split.base rows
+mind_of (Grouped n) = mind_in n.rule n.newest n.rows
 mind_of Over = view.ending
+mind_of Passing = view.passing
 mind_of (Made l) = view.made (layout_data l)
 
 abbrev pub desk_of : Head → view.Desk

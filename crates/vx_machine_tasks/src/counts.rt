@@ -26,7 +26,8 @@ fn is_steady(head: &Head, counts: &Counts) -> bool
     match head.todo.front() {
         Some(due) => match due {
             Due::Append(_) => false,
-            Due::Put { .. } | Due::Close | Due::Join(_) => counts.asked.is_empty(),
+            Due::Put { .. } | Due::HandOn { .. } => counts.asked.is_empty(),
+            Due::Close | Due::Join(_) => counts.asked.is_empty(),
         },
         None => counts.asked.is_empty(),
     }
@@ -39,6 +40,7 @@ pub(crate) fn touched(head: &Head) -> Touched
     match head.todo.front() {
         Some(due) => match due {
             Due::Put { child, item: _ } => Touched::Child(*child),
+            Due::HandOn { .. } => Touched::Child(0),
             Due::Append(_) => Touched::Nothing,
             Due::Close | Due::Join(_) => Touched::All,
         },

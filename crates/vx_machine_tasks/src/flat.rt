@@ -1,6 +1,6 @@
 //! A flat node stores its one chunk as one segment.
 
-ghost use Rattle.std.specs.Prelude.{◌≡◌, ℕ, List, Some, IsTrue, IfOk, IfErr, OnOk, OnErr};
+ghost use Rattle.std.specs.Prelude.{◌≡◌, ◌≤◌, ◌+◌, ℕ, List, Some, IsTrue, IfOk, IfErr, OnOk, OnErr};
 ghost use Rattle.std.specs.Arc.{arc_value};
 ghost use Rattle.vx_model.specs.declared.encoding.EncodingId.{EncodingId};
 ghost use Rattle.vx_model.specs.ChunkData.{ChunkData};
@@ -9,7 +9,7 @@ ghost use Rattle.vx_layout_spec.specs.LayoutTree.{flat_layout};
 ghost use Rattle.vx_layout_tree.specs.LayoutView.{layout_data};
 ghost use Rattle.vx_segment_writer.specs.Segment.{encode, refused as refused_first};
 ghost use Rattle.vx_array_tree.specs.Written.{IsEncoded};
-ghost use Rattle.vx_sink.specs.ContextView.{listed};
+ghost use Rattle.vx_sink.specs.ContextView.{listed, counted};
 ghost use Rattle.vx_sequence.specs.Universe.{IsLeast};
 ghost use Rattle.vx_machine_ids.specs.Stock.{none, both, id_stock};
 ghost use Rattle.vx_machine_ids.specs.Balance.{Owned, Moved};
@@ -18,6 +18,7 @@ ghost use Rattle.vx_machine_view.specs.State.{Next, Tasks};
 ghost use Rattle.vx_machine_tasks.specs.Acting.{IsAppended, AppendRefused, tree_kept, IsStored, WordRefused, first_word, is_flat, ChunkTaken, ChunkRefused};
 ghost use Rattle.vx_machine_tasks.specs.Calls.{AppendTold};
 ghost use Rattle.vx_machine_tasks.specs.Causes.{MayCome, ActMay};
+ghost use Rattle.vx_machine_tasks.specs.Ledger.{Paid, told_by, local_reserved};
 ghost use Rattle.vx_machine_tasks.specs.Outcome.{Kept};
 ghost use Rattle.vx_machine_tasks.specs.Stocks.{item_stock, local_stock, stored_stock};
 
@@ -39,15 +40,23 @@ use vx_sink::LayoutWriterContext;
 use vx_write_answer::WriteError;
 
 /// Puts something else in mind. What was there is given up.
-pub(crate) fn set_local<O: Order>(order: &mut O, local: &mut Local, new: Local)
-    requires { Owned (O.active order.old) (both (local_stock local.old) (local_stock new)) }
+pub(crate) fn set_local<O: Order>(
+    ctx: &mut LayoutWriterContext,
+    order: &mut O,
+    local: &mut Local,
+    new: Local,
+)
+    requires owned { Owned (O.active order.old) (both (local_stock local.old) (local_stock new)) }
+    requires reserved { local_reserved local.old ≤ counted ctx.old }
     ensures moved { Moved (O.active order.old) (O.active order.new) (both (local_stock local.old) (local_stock new)) (local_stock local.new) }
+    ensures tracked { Paid ctx.old ctx.new (local_reserved local.old) 0 }
+    ensures context { told_by ctx.new ≡ told_by ctx.old }
     ensures local { local.new ≡ new }
     ensures outlet { O.outlet order.new ≡ O.outlet order.old }
     ensures sink { O.sink order.new ≡ O.sink order.old }
 {
     let old = mem::replace(local, new);
-    give_up_local(order, old);
+    give_up_local(ctx, order, old);
 }
 
 /// The segment's tree, where the node's layout keeps it.
@@ -103,15 +112,18 @@ fn first_segment(
 /// Takes the first chunk, or refuses a further one.
 pub(crate) fn take_flat<O: Order>(
     alloc: Global,
-    ctx: &LayoutWriterContext,
+    ctx: &mut LayoutWriterContext,
     order: &mut O,
     local: &mut Local,
     item: Item,
 ) -> Result<(), WriteError>
-    requires { Owned (O.active order.old) (both (local_stock local.old) (item_stock item)) }
+    requires owned { Owned (O.active order.old) (both (local_stock local.old) (item_stock item)) }
+    requires reserved { local_reserved local.old ≤ counted ctx.old }
     ensures moved { Moved (O.active order.old) (O.active order.new) (both (local_stock local.old) (item_stock item)) (local_stock local.new) }
-    ensures done { OnOk result ((name : List ℕ) (ks : Tasks) (todo : List Next) → ChunkTaken ctx.now name ks item local.old local.new todo todo ks) }
-    ensures refused { IsTrue (is_flat local.old) → IfErr result (λ e. (name : List ℕ) (ks : Tasks) → ChunkRefused ctx.now name ks item local.old e) }
+    ensures tracked { Paid ctx.old ctx.new (local_reserved local.old) (local_reserved local.new) }
+    ensures context { told_by ctx.new ≡ told_by ctx.old }
+    ensures done { OnOk result ((name : List ℕ) (ks : Tasks) (todo : List Next) → ChunkTaken ctx.old name ks item local.old local.new todo todo ks) }
+    ensures refused { IsTrue (is_flat local.old) → IfErr result (λ e. (name : List ℕ) (ks : Tasks) → ChunkRefused ctx.old name ks item local.old e) }
     ensures outlet { O.outlet order.new ≡ O.outlet order.old }
     ensures sink { O.sink order.new ≡ O.sink order.old }
     ensures cause { IfErr result MayCome }
@@ -121,7 +133,7 @@ pub(crate) fn take_flat<O: Order>(
     drop(chunk);
     match segment {
         Ok(segment) => {
-            set_local(order, local, Local::Full(Stored { id, segment }));
+            set_local(ctx, order, local, Local::Full(Stored { id, segment }));
             Ok(())
         }
         Err(error) => {

@@ -1,8 +1,10 @@
 //! Chunks at their places: as they stand in queues, and as segments that are to be appended.
 
-ghost use Rattle.std.specs.Prelude.{◌≡◌};
+ghost use Rattle.std.specs.Prelude.{◌≡◌, ◌≤◌, ◌+◌};
 ghost use Rattle.vx_machine_ids.specs.Stock.{none};
 ghost use Rattle.vx_machine_ids.specs.Balance.{Owned, Moved};
+ghost use Rattle.vx_sink.specs.ContextView.{counted};
+ghost use Rattle.vx_machine_tasks.specs.Ledger.{Paid, told_by, some_bytes, due_reserved, dues_reserved};
 ghost use Rattle.vx_machine_tasks.specs.Stocks.{item_stock, items_stock, stored_stock, due_stock, dues_stock};
 
 use crate::node::Shape;
@@ -13,6 +15,7 @@ use vx_machine_ids::give_up_id;
 use vx_model::{Blob, DType};
 use vx_order::Order;
 use vx_sequence::SequenceId;
+use vx_sink::{BufferedBytesReservation, LayoutWriterContext};
 
 /// A chunk, and the place of what is written of it.
 pub struct Item {
@@ -38,7 +41,15 @@ pub struct Segment {
 
 /// What is left of a task's present block.
 pub enum Due {
-    Put { child: usize, item: Item },
+    Put {
+        child: usize,
+        item: Item,
+    },
+    /// On the queue of the only child; then the reservation is released.
+    HandOn {
+        item: Item,
+        reservation: Option<BufferedBytesReservation>,
+    },
     Append(Stored),
     /// Closes the queues of all children.
     Close,
@@ -68,14 +79,34 @@ pub(crate) fn give_up_stored<O: Order>(order: &mut O, stored: Stored)
     give_up_id(order, id);
 }
 
-pub(crate) fn give_up_due<O: Order>(order: &mut O, due: Due)
-    requires { Owned (O.active order.old) (due_stock due) }
+/// Releases what is reserved.
+pub(crate) fn release(ctx: &mut LayoutWriterContext, reservation: Option<BufferedBytesReservation>)
+    requires { some_bytes reservation ≤ counted ctx.old }
+    ensures tracked { Paid ctx.old ctx.new (some_bytes reservation) 0 }
+    ensures context { told_by ctx.new ≡ told_by ctx.old }
+{
+    match reservation {
+        Some(reservation) => ctx.release_buffered_bytes(reservation),
+        None => {}
+    }
+}
+
+/// Gives up its id, and what it has reserved.
+pub(crate) fn give_up_due<O: Order>(ctx: &mut LayoutWriterContext, order: &mut O, due: Due)
+    requires owned { Owned (O.active order.old) (due_stock due) }
+    requires reserved { due_reserved due ≤ counted ctx.old }
     ensures moved { Moved (O.active order.old) (O.active order.new) (due_stock due) none }
+    ensures tracked { Paid ctx.old ctx.new (due_reserved due) 0 }
+    ensures context { told_by ctx.new ≡ told_by ctx.old }
     ensures outlet { O.outlet order.new ≡ O.outlet order.old }
     ensures sink { O.sink order.new ≡ O.sink order.old }
 {
     match due {
         Due::Put { child: _, item } => give_up_item(order, item),
+        Due::HandOn { item, reservation } => {
+            release(ctx, reservation);
+            give_up_item(order, item);
+        }
         Due::Append(stored) => give_up_stored(order, stored),
         Due::Close => {}
         Due::Join(shape) => drop(shape),
@@ -94,14 +125,21 @@ pub(crate) fn give_up_items<O: Order>(order: &mut O, mut items: VecDeque<Item>)
     items.destroy_empty();
 }
 
-pub(crate) fn give_up_dues<O: Order>(order: &mut O, mut dues: VecDeque<Due>)
-    requires { Owned (O.active order.old) (dues_stock dues.items) }
+pub(crate) fn give_up_dues<O: Order>(
+    ctx: &mut LayoutWriterContext,
+    order: &mut O,
+    mut dues: VecDeque<Due>,
+)
+    requires owned { Owned (O.active order.old) (dues_stock dues.items) }
+    requires reserved { dues_reserved dues.items ≤ counted ctx.old }
     ensures moved { Moved (O.active order.old) (O.active order.new) (dues_stock dues.items) none }
+    ensures tracked { Paid ctx.old ctx.new (dues_reserved dues.items) 0 }
+    ensures context { told_by ctx.new ≡ told_by ctx.old }
     ensures outlet { O.outlet order.new ≡ O.outlet order.old }
     ensures sink { O.sink order.new ≡ O.sink order.old }
 {
     'dues: while let Some(due) = dues.pop_back() {
-        give_up_due(order, due);
+        give_up_due(ctx, order, due);
     }
     dues.destroy_empty();
 }

@@ -1,10 +1,14 @@
 //! What a task's node is, and what it has in mind.
 
-ghost use Rattle.std.specs.Prelude.{◌≡◌};
+ghost use Rattle.std.specs.Prelude.{◌≡◌, ◌≤◌, ◌+◌};
 ghost use Rattle.vx_machine_ids.specs.Stock.{none};
 ghost use Rattle.vx_machine_ids.specs.Balance.{Owned, Moved};
+ghost use Rattle.vx_sink.specs.ContextView.{counted};
+ghost use Rattle.vx_machine_tasks.specs.Ledger.{Paid, told_by, local_reserved};
 ghost use Rattle.vx_machine_tasks.specs.Stocks.{local_stock};
 
+use crate::grouped::give_up_grouped;
+use crate::grouped_node::GroupedNode;
 use crate::item::{Stored, give_up_stored};
 use crate::kinds::{ChunkedNode, ColumnsNode, FlatNode, ListsNode};
 use std::sync::Arc;
@@ -13,6 +17,7 @@ use vx_machine_ids::give_up_pointer;
 use vx_model::DType;
 use vx_order::Order;
 use vx_sequence::SequencePointer;
+use vx_sink::LayoutWriterContext;
 
 /// What a task has in mind between two chunks.
 pub enum Local {
@@ -25,8 +30,11 @@ pub enum Local {
     Columns(ColumnsNode, u64),
     /// With the rows so far.
     Lists(ListsNode, u64),
+    Grouped(GroupedNode),
     /// It has seen the end of its stream.
     Over,
+    /// So it has, and its layout is its only child's.
+    Passing,
     /// It has done all.
     Made(Layout),
 }
@@ -41,9 +49,12 @@ pub enum Shape {
     Lists(ListsNode, u64),
 }
 
-pub(crate) fn give_up_local<O: Order>(order: &mut O, local: Local)
-    requires { Owned (O.active order.old) (local_stock local) }
+pub(crate) fn give_up_local<O: Order>(ctx: &mut LayoutWriterContext, order: &mut O, local: Local)
+    requires owned { Owned (O.active order.old) (local_stock local) }
+    requires reserved { local_reserved local ≤ counted ctx.old }
     ensures moved { Moved (O.active order.old) (O.active order.new) (local_stock local) none }
+    ensures tracked { Paid ctx.old ctx.new (local_reserved local) 0 }
+    ensures context { told_by ctx.new ≡ told_by ctx.old }
     ensures outlet { O.outlet order.new ≡ O.outlet order.old }
     ensures sink { O.sink order.new ≡ O.sink order.old }
 {
@@ -56,7 +67,9 @@ pub(crate) fn give_up_local<O: Order>(order: &mut O, local: Local)
         }
         Local::Columns(node, _) => drop(node),
         Local::Lists(node, _) => drop(node),
+        Local::Grouped(node) => give_up_grouped(ctx, order, node),
         Local::Over => {}
+        Local::Passing => {}
         Local::Made(layout) => drop(layout),
     }
 }

@@ -7,14 +7,14 @@ use Rattle.vx_machine_tasks.specs.Pairs.{due_pairs, AllMay}
 use Rattle.vx_machine_tasks.specs.Ready.{Kid, may_due, kids_of, all_made, can_join}
 use Rattle.vx_machine_tasks.specs.Stocks.{item_stock, stored_stock, due_stock, local_stock, tasks_stock}
 use Rattle.vx_machine_tasks.specs.declared.item.Due.{Due}
-use Rattle.vx_machine_tasks.specs.declared.item.Due.TheVariants.{Put, Append, Join}
+use Rattle.vx_machine_tasks.specs.declared.item.Due.TheVariants.{Put, HandOn, Append, Join}
 use Rattle.vx_machine_tasks.specs.declared.node.Shape.{Shape}
 use Rattle.vx_machine_tasks.proofs.ActMoves.{put_owned, put_moved, append_owned, append_moved, join_owned, join_moved, close_moved}
 use Rattle.vx_machine_tasks.proofs.ActCauses.{memory_may, all_wider}
 use Rattle.vx_machine_tasks.proofs.CallSteps.{unasked_self, quiet_told}
 use Rattle.vx_machine_tasks.proofs.Readiness.{least_means}
 use Rattle.vx_sink.specs.ContextView.{listed}
-use Rattle.vx_machine_tasks.proofs.ActShows.{err_kept, put_does, put_says, append_does, append_says, close_does, join_does, join_says, join_kind}
+use Rattle.vx_machine_tasks.proofs.ActShows.{err_kept, put_does, put_says, hand_does, hand_says, append_does, append_says, close_does, join_does, join_says, join_kind}
 use Rattle.vx_machine_tasks.proofs.advance.act.Goals as goal
 
 by_case : (u : Active) (ks : List Kid) (d e : Due) → d ≡ e → may_due u d ks ≡ true → may_due u e ks ≡ true
@@ -71,9 +71,6 @@ may_join u ks d h is m = and_parts (all_made ks) (can_join h (length ks)) (by_ca
 pub join_due-requires-clause-made : goal.join_due-requires-clause-made
 join_due-requires-clause-made g c = (may_join (g.O.Order.active c.args.order.now) (kids_of c.args.kids.now.items) c.args.due c.in-Join.shape c.in-Join.is c.requires.ready).0
 
-pub join_due-requires-clause-fits : goal.join_due-requires-clause-fits
-join_due-requires-clause-fits g c = (may_join (g.O.Order.active c.args.order.now) (kids_of c.args.kids.now.items) c.args.due c.in-Join.shape c.in-Join.is c.requires.ready).1
-
 pub returns-in-Join-clause-moved : goal.returns-in-Join-clause-moved
 returns-in-Join-clause-moved g c =
     join_moved (g.O.Order.active c.args.order.now) (local_stock c.args.local.now) (tasks_stock c.args.kids.now.items) (due_stock c.args.due) (ap due_stock c.in-Join.is) c.requires.owned
@@ -128,3 +125,34 @@ returns-in-Join-clause-refused g c =
 
 pub returns-in-Join-clause-kept : goal.returns-in-Join-clause-kept
 returns-in-Join-clause-kept g c = err_kept c.join_due.result (g.O.Order.outlet c.args.order.now) (g.O.Order.outlet c.join_due.new.order) c.join_due.ensures.outlet
+
+pub hand_over-requires-clause-owned : goal.hand_over-requires-clause-owned
+hand_over-requires-clause-owned g c =
+    put_owned (g.O.Order.active c.args.order.now) (local_stock c.args.local.now) (tasks_stock c.args.kids.now.items) (due_stock c.args.due) (item_stock c.in-HandOn.item) (ap due_stock c.in-HandOn.is) c.requires.owned
+
+pub hand_over-requires-clause-room : goal.hand_over-requires-clause-room
+hand_over-requires-clause-room g c = by_case (g.O.Order.active c.args.order.now) (kids_of c.args.kids.now.items) c.args.due (HandOn c.in-HandOn.item c.in-HandOn.reservation) c.in-HandOn.is c.requires.ready
+
+pub returns-in-HandOn-clause-moved : goal.returns-in-HandOn-clause-moved
+returns-in-HandOn-clause-moved g c =
+    put_moved (g.O.Order.active c.args.order.now) (local_stock c.args.local.now) (tasks_stock c.args.kids.now.items) (due_stock c.args.due) (item_stock c.in-HandOn.item) (ap due_stock c.in-HandOn.is) c.requires.owned
+    (g.O.Order.active c.hand_over.new.order) (tasks_stock c.hand_over.new.kids.items) c.hand_over.ensures.moved
+
+pub returns-in-HandOn-clause-told : goal.returns-in-HandOn-clause-told
+returns-in-HandOn-clause-told g c =
+    quiet_told g.O.Sink.Fallible.faults g.O.Sink.Fallible.may_fail g.O.Sink.Fallible.must_fail (g.O.Order.sink c.args.order.now) (g.O.Order.sink c.hand_over.new.order) c.hand_over.ensures.sink actions.Put refl refl c.hand_over.result c.hand_over.ensures.kind (memory_may c.hand_over.result c.hand_over.ensures.memory)
+
+pub returns-in-HandOn-clause-cause : goal.returns-in-HandOn-clause-cause
+returns-in-HandOn-clause-cause g c = all_wider c.hand_over.result (memory_may c.hand_over.result c.hand_over.ensures.memory)
+
+pub returns-in-HandOn-clause-done : goal.returns-in-HandOn-clause-done
+returns-in-HandOn-clause-done g c =
+    hand_does (listed c.args.ctx.now) c.args.local.now c.args.kids.now.items c.args.due (g.O.Order.outlet c.args.order.now) (g.O.Order.outlet c.hand_over.new.order) c.in-HandOn.item c.in-HandOn.reservation c.hand_over.new.kids.items c.hand_over.result
+    c.in-HandOn.is c.hand_over.ensures.kind c.hand_over.ensures.kids c.hand_over.ensures.outlet
+
+pub returns-in-HandOn-clause-refused : goal.returns-in-HandOn-clause-refused
+returns-in-HandOn-clause-refused g c =
+    hand_says (listed c.args.ctx.now) c.args.local.now c.args.kids.now.items c.args.due (g.O.Order.outlet c.args.order.now) (g.O.Order.outlet c.hand_over.new.order) c.in-HandOn.item c.in-HandOn.reservation c.hand_over.result c.in-HandOn.is c.hand_over.ensures.memory
+
+pub returns-in-HandOn-clause-kept : goal.returns-in-HandOn-clause-kept
+returns-in-HandOn-clause-kept g c = err_kept c.hand_over.result (g.O.Order.outlet c.args.order.now) (g.O.Order.outlet c.hand_over.new.order) c.hand_over.ensures.outlet

@@ -31,8 +31,8 @@ returns-in-Some-clause-moved g c =
     c.args.head.now.todo.items c.pop_front.new.self.items c.in-Some.due c.in-Some.ensures.items c.requires.owned
     (g.O.Order.active c.act.new.order) (local_stock c.act.new.local) (tasks_stock c.act.new.kids.items) c.act.ensures.moved
 
-pub take_next-requires : goal.take_next-requires
-take_next-requires g c =
+pub take_next-requires-clause-owned : goal.take_next-requires-clause-owned
+take_next-requires-clause-owned g c =
     idle_owned (g.O.Order.active c.args.order.now) (local_stock c.args.head.now.local) (items_stock c.args.head.now.inbox.items) (tasks_stock c.args.kids.now.items)
     c.args.head.now.todo.items c.pop_front.new.self.items c.in-None.ensures.items c.requires.owned
 

@@ -1,4 +1,4 @@
-use Rattle.std.proofs.Common.{ap, subst, sym}
+use Rattle.std.proofs.Common.{ap, subst, sym, ◌∙◌}
 use Rattle.vx_machine_ids.specs.Stock.{none, both}
 use Rattle.vx_machine_ids.specs.Balance.{Moved}
 use Rattle.vx_machine_tasks.specs.Stocks.{dues_stock, local_stock}
@@ -12,39 +12,39 @@ use Rattle.vx_machine_tasks.proofs.advance.end.Goals as goal
 pub returns-in_err-reserve-clause-moved : goal.returns-in_err-reserve-clause-moved
 returns-in_err-reserve-clause-moved g c =
     stays_as (g.O.Order.active c.args.order.now) (both (local_stock c.args.local.now) (dues_stock c.args.todo.now.items)) (both (local_stock c.args.local.now) (dues_stock c.reserve.new.self.items))
-    (ap (λ z. both (local_stock c.args.local.now) (dues_stock z)) (sym c.reserve.ensures.items)) c.requires
+    (ap (λ z. both (local_stock c.args.local.now) (dues_stock z)) (sym c.reserve.ensures.items)) c.requires.owned
 
 pub ended-requires-clause-owned : goal.ended-requires-clause-owned
 ended-requires-clause-owned g c =
     end_owned (g.O.Order.active c.args.order.now) (g.O.Order.active c.args.order.now) (local_stock c.args.local.now) (dues_stock c.args.todo.now.items) (local_stock c.replace-before.result) (dues_stock c.reserve.new.self.items) none none
-    (ap local_stock c.replace-before.ensures.value) (ap dues_stock c.reserve.ensures.items) c.requires
+    (ap local_stock c.replace-before.ensures.value) (ap dues_stock c.reserve.ensures.items) c.requires.owned
 
-pub set_local-requires : goal.set_local-requires
-set_local-requires g c =
+pub set_local-requires-clause-owned : goal.set_local-requires-clause-owned
+set_local-requires-clause-owned g c =
     end_local (g.O.Order.active c.args.order.now) (g.O.Order.active c.ended.new.order) (local_stock c.args.local.now) (dues_stock c.args.todo.now.items) (local_stock c.replace-before.result) (dues_stock c.reserve.new.self.items)
     (local_stock c.in-Ok.after) (dues_stock c.ended.new.todo.items)
-    (ap local_stock c.replace-before.ensures.value) (ap dues_stock c.reserve.ensures.items) c.requires
+    (ap local_stock c.replace-before.ensures.value) (ap dues_stock c.reserve.ensures.items) c.requires.owned
     (local_stock c.replace-before.new.dest) (ap local_stock c.replace-before.ensures.after) c.in-Ok.ensures.moved
 
 pub returns-in-Ok-clause-moved : goal.returns-in-Ok-clause-moved
 returns-in-Ok-clause-moved g c =
     end_then (g.O.Order.active c.args.order.now) (g.O.Order.active c.ended.new.order) (local_stock c.args.local.now) (dues_stock c.args.todo.now.items) (local_stock c.replace-before.result) (dues_stock c.reserve.new.self.items)
     (local_stock c.in-Ok.after) (dues_stock c.ended.new.todo.items)
-    (ap local_stock c.replace-before.ensures.value) (ap dues_stock c.reserve.ensures.items) c.requires
+    (ap local_stock c.replace-before.ensures.value) (ap dues_stock c.reserve.ensures.items) c.requires.owned
     (g.O.Order.active c.set_local.new.order) (local_stock c.replace-before.new.dest) (local_stock c.set_local.new.local) (ap local_stock c.replace-before.ensures.after) c.in-Ok.ensures.moved c.set_local.ensures.moved
 
 pub returns-in-Err-clause-moved : goal.returns-in-Err-clause-moved
 returns-in-Err-clause-moved g c =
     end_moved (g.O.Order.active c.args.order.now) (g.O.Order.active c.ended.new.order) (local_stock c.args.local.now) (dues_stock c.args.todo.now.items) (local_stock c.replace-before.result) (dues_stock c.reserve.new.self.items)
     (local_stock c.replace-before.new.dest) (dues_stock c.ended.new.todo.items)
-    (ap local_stock c.replace-before.ensures.value) (ap dues_stock c.reserve.ensures.items) c.requires
+    (ap local_stock c.replace-before.ensures.value) (ap dues_stock c.reserve.ensures.items) c.requires.owned
     (subst (λ z. Moved (g.O.Order.active c.args.order.now) (g.O.Order.active c.ended.new.order) (both (local_stock c.replace-before.result) (dues_stock c.reserve.new.self.items)) (both z (dues_stock c.ended.new.todo.items)))
     (sym (ap local_stock c.replace-before.ensures.after)) c.in-Err.ensures.moved)
 
 pub returns-in-Ok-clause-done : goal.returns-in-Ok-clause-done
-returns-in-Ok-clause-done g c =
+returns-in-Ok-clause-done g c = λ idle.
     ended_by c.args.local.now c.replace-before.result c.in-Ok.after c.set_local.new.local c.args.kids (todo_of c.ended.new.todo.items) c.reserve.new.self.items c.args.todo.now.items
-    c.replace-before.ensures.value c.set_local.ensures.local c.reserve.ensures.items c.in-Ok.ensures.done
+    c.replace-before.ensures.value c.set_local.ensures.local c.reserve.ensures.items (c.in-Ok.ensures.done (c.reserve.ensures.items ∙ idle))
 
 pub returns-in_err-reserve-clause-refused : goal.returns-in_err-reserve-clause-refused
 returns-in_err-reserve-clause-refused g c =

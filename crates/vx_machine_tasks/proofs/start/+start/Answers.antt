@@ -39,6 +39,8 @@ use Rattle.vx_machine_tasks.proofs.Fitting.{none_fit}
 use Rattle.vx_machine_tasks.proofs.StartShows.{Left, plain_form, typed, field_form_is, fields_more, fields_end, memory_refused, node_refused, task_refused, pointer_refused, started, one_started, none_started, left_first, left_next, left_refused, all_started, validity_refused, list_at, list_plain, list_mind, left_elements, left_offsets, elements_refused, offsets_refused, last_started, rest_refused}
 use Rattle.vx_machine_tasks.proofs.ViewParts.{len_is}
 use Rattle.vx_machine_tasks.proofs.StartWeights.{field_weight, writer_built, struct_built, list_built, settled_built, settled_form}
+use Rattle.vx_machine_tasks.specs.Ledger.{tasks_reserved}
+use Rattle.vx_machine_tasks.proofs.ReservedSteps.{tasks_push, started_none}
 use Rattle.vx_machine_tasks.proofs.start.+start.Goals as goal
 
 -- ---- a strategy, and what stands for it
@@ -207,8 +209,8 @@ pub start_columns-returns-in-Err-clause-refused : goal.start_columns-returns-in-
 start_columns-returns-in-Err-clause-refused g t c =
     subst (λ z. StartRefused (λ s. start_fault s (columns_form c.args.fields.now (ty z)) c.args.marked) (first_indices (columns_form c.args.fields.now (ty z)) c.args.eof) c.in-Err.error) c.deref.ensures c.in-Err.ensures.refused
 
-pub start_columns-refuse_all-requires : goal.start_columns-refuse_all-requires
-start_columns-refuse_all-requires g t c =
+pub start_columns-refuse_started-requires-clause-owned : goal.start_columns-refuse_started-requires-clause-owned
+start_columns-refuse_started-requires-clause-owned g t c =
     let u : Active = g.O.Order.active c.args.order.now in
     let v : Active = g.O.Order.active c.start_each-started.new.order in
     let w : Active = g.O.Order.active c.give_up_pointer.new.order in
@@ -217,6 +219,9 @@ start_columns-refuse_all-requires g t c =
     let k : Stock = tasks_stock c.start_each-started.new.kids.items in
     let m : Moved u v e (both f k) = from_none u v e c.new-kids.result.items c.new-kids.ensures.items (both f k) c.start_each-started.ensures.moved in
     left_owned u v e f k c.requires.owned m w c.give_up_pointer.ensures.moved
+
+pub start_columns-refuse_started-requires-clause-reserved : goal.start_columns-refuse_started-requires-clause-reserved
+start_columns-refuse_started-requires-clause-reserved g t c = c.start_each-started.ensures.reserved ∙ ap tasks_reserved c.new-kids.ensures.items
 
 pub start_columns-returns-in-Err-clause-moved : goal.start_columns-returns-in-Err-clause-moved
 start_columns-returns-in-Err-clause-moved g t c =
@@ -227,7 +232,7 @@ start_columns-returns-in-Err-clause-moved g t c =
     let f : Stock = end_stock c.start_each-started.new.eof in
     let k : Stock = tasks_stock c.start_each-started.new.kids.items in
     let m : Moved u v e (both f k) = from_none u v e c.new-kids.result.items c.new-kids.ensures.items (both f k) c.start_each-started.ensures.moved in
-    moved_then u w (g.O.Order.active c.refuse_all.new.order) e k none (kids_left u v e f k c.requires.owned m w c.give_up_pointer.ensures.moved) c.refuse_all.ensures.moved
+    moved_then u w (g.O.Order.active c.refuse_started.new.order) e k none (kids_left u v e f k c.requires.owned m w c.give_up_pointer.ensures.moved) c.refuse_started.ensures.moved
 
 -- ---- a list's columns
 
@@ -272,8 +277,8 @@ pub start_lists-returns-in-Err-clause-refused : goal.start_lists-returns-in-Err-
 start_lists-returns-in-Err-clause-refused g t c =
     subst (λ z. StartRefused (λ s. start_fault s (lists_form c.args.lists.now (ty z)) c.args.marked) (first_indices (lists_form c.args.lists.now (ty z)) c.args.eof) c.in-Err.error) c.deref.ensures c.in-Err.ensures.refused
 
-pub start_lists-refuse_all-requires : goal.start_lists-refuse_all-requires
-start_lists-refuse_all-requires g t c =
+pub start_lists-refuse_started-requires-clause-owned : goal.start_lists-refuse_started-requires-clause-owned
+start_lists-refuse_started-requires-clause-owned g t c =
     let u : Active = g.O.Order.active c.args.order.now in
     let v : Active = g.O.Order.active c.start_parts-started.new.order in
     let w : Active = g.O.Order.active c.give_up_pointer.new.order in
@@ -282,6 +287,9 @@ start_lists-refuse_all-requires g t c =
     let k : Stock = tasks_stock c.start_parts-started.new.kids.items in
     let m : Moved u v e (both f k) = from_none u v e c.new-kids.result.items c.new-kids.ensures.items (both f k) c.start_parts-started.ensures.moved in
     left_owned u v e f k c.requires.owned m w c.give_up_pointer.ensures.moved
+
+pub start_lists-refuse_started-requires-clause-reserved : goal.start_lists-refuse_started-requires-clause-reserved
+start_lists-refuse_started-requires-clause-reserved g t c = c.start_parts-started.ensures.reserved ∙ ap tasks_reserved c.new-kids.ensures.items
 
 pub start_lists-returns-in-Err-clause-moved : goal.start_lists-returns-in-Err-clause-moved
 start_lists-returns-in-Err-clause-moved g t c =
@@ -292,7 +300,7 @@ start_lists-returns-in-Err-clause-moved g t c =
     let f : Stock = end_stock c.start_parts-started.new.eof in
     let k : Stock = tasks_stock c.start_parts-started.new.kids.items in
     let m : Moved u v e (both f k) = from_none u v e c.new-kids.result.items c.new-kids.ensures.items (both f k) c.start_parts-started.ensures.moved in
-    moved_then u w (g.O.Order.active c.refuse_all.new.order) e k none (kids_left u v e f k c.requires.owned m w c.give_up_pointer.ensures.moved) c.refuse_all.ensures.moved
+    moved_then u w (g.O.Order.active c.refuse_started.new.order) e k none (kids_left u v e f k c.requires.owned m w c.give_up_pointer.ensures.moved) c.refuse_started.ensures.moved
 
 -- ---- each of them
 
@@ -309,6 +317,7 @@ pub start_each-fields-init : goal.start_each-fields-init
 start_each-fields-init g t c = record {
   owned = owned_now (g.O.Order.active c.args.order.now) (g.O.Order.active c.start_validity.new.order) (both (end_stock c.args.eof.now) (tasks_stock c.args.kids.now.items)) (both (end_stock c.start_validity.new.eof) (tasks_stock c.start_validity.new.kids.items)) c.requires.owned c.start_validity.ensures.moved;
   moved = c.start_validity.ensures.moved;
+  reserved = c.start_validity.ensures.reserved;
   outlet = c.start_validity.ensures.outlet;
   sink = c.start_validity.ensures.sink;
   left =
@@ -367,6 +376,7 @@ start_each-fields-preserved g t c = record {
   moved = moved_then (g.O.Order.active c.args.order.now) (g.O.Order.active c.fields.order) (g.O.Order.active c.start_field.new.order)
       (both (end_stock c.args.eof.now) (tasks_stock c.args.kids.now.items)) (both (end_stock c.fields.eof) (tasks_stock c.fields.kids.items)) (both (end_stock c.start_field.new.eof) (tasks_stock c.start_field.new.kids.items))
       c.fields.invariant.moved c.start_field.ensures.moved;
+  reserved = c.start_field.ensures.reserved ∙ c.fields.invariant.reserved;
   outlet = c.start_field.ensures.outlet ∙ c.fields.invariant.outlet;
   sink = c.start_field.ensures.sink ∙ c.fields.invariant.sink;
   left =
@@ -600,3 +610,28 @@ start_under-returns-in-Ok-clause-refused g t c =
 pub start_under-returns-in-Err-clause-refused : goal.start_under-returns-in-Err-clause-refused
 start_under-returns-in-Err-clause-refused g t c =
     pointer_refused (form_at c.args.writer.now.item (ty (arc_value c.args.dtype))) c.args.marked c.args.eof.now c.in-Err.error c.in-Err.ensures.refused
+
+pub start_column-returns-clause-reserved : goal.start_column-returns-clause-reserved
+start_column-returns-clause-reserved g t c =
+    let n = started_none (form_at c.args.writer.now.item (ty (arc_value c.args.dtype))) c.args.marked _ (inside c.args.eof.now) c.in_ok-kid.kid c.in_ok-kid.ensures.shows in
+    omega (arith, n, tasks_push c.push_reserved.new.self.items c.args.kids.now.items c.in_ok-kid.kid (c.push_reserved.ensures.items ∙ ap (λ z. z ++ (c.in_ok-kid.kid ∷ [])) c.next_name.ensures.kids))
+
+pub start_column-returns-in_default-clause-reserved : goal.start_column-returns-in_default-clause-reserved
+start_column-returns-in_default-clause-reserved g t c = ap tasks_reserved c.next_name.ensures.kids
+
+pub start_column-returns-in_err-kid-clause-reserved : goal.start_column-returns-in_err-kid-clause-reserved
+start_column-returns-in_err-kid-clause-reserved g t c = ap tasks_reserved c.next_name.ensures.kids
+
+-- ---- a node that regroups
+
+pub start_grouped-start_only-requires : goal.start_grouped-start_only-requires
+start_grouped-start_only-requires g t c κs within =
+    let k : Form = form_at c.args.child.now.item (ty (arc_value c.args.node.dtype)) in
+    let falls : 8 * (2 + weight k) + 2 < 8 * (2 + weight k) + 3 = omega arith in
+    search (rules, arith, c.requires.owned, c.requires.built, falls)
+
+pub start_only-start_task-requires : goal.start_only-start_task-requires
+start_only-start_task-requires g t c κs within =
+    let k : Form = form_at c.args.child.now.item (ty (arc_value c.args.dtype.now)) in
+    let falls : 8 * weight k + 5 < 8 * (2 + weight k) + 2 = omega arith in
+    search (rules, arith, c.requires.owned, c.requires.built, falls)

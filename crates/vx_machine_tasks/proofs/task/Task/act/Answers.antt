@@ -10,13 +10,15 @@ use Rattle.vx_machine_tasks.proofs.TaskParts.{parts_owned, parts_moved, rolled}
 use Rattle.vx_machine_tasks.specs.Context.{setting_of}
 use Rattle.vx_machine_tasks.proofs.CallSteps.{unasked_self}
 use Rattle.vx_machine_tasks.proofs.StepShows.{own_stepped, own_refused}
-use Rattle.std.proofs.Common.{sym, subst}
+use Rattle.std.proofs.Common.{◌≡◌, ◌+◌, sym, subst, arith}
 use Rattle.vx_kept.specs.Kept.{Knows}
 use Rattle.vx_machine_tasks.specs.View.{row}
 use Rattle.vx_machine_tasks.specs.declared.task.Task.{Task}
 use Rattle.vx_machine_tasks.specs.declared.task.Task.TheOpen.{Task-F}
 use Rattle.vx_machine_tasks.proofs.TaskParts.{out_roll}
 use Rattle.vx_machine_tasks.proofs.Counting.{act_touches}
+use Rattle.vx_machine_tasks.specs.Ledger.{head_reserved, task_reserved, tasks_reserved}
+use Rattle.vx_machine_tasks.proofs.ReservedSteps.{task_reserved_out, task_reserved_roll}
 use Rattle.vx_machine_tasks.proofs.task.Task.act.Goals as goal
 
 pub advance-requires-clause-owned : goal.advance-requires-clause-owned
@@ -72,3 +74,22 @@ returns-in-Ok-clause-known g c =
     let w = c.in-Ok.ensures.done (λ n p. p) in
     subst (λ (z : Task-F Task). Knows c.follow.new.self (row z.kids.items)) (sym (out_roll (record { head = c.advance.new.head; kids = c.advance.new.kids })))
     (c.follow.ensures (row ks) (row js) (act_touches (setting_of c.args.ctx.now (λ n p. p)) w.0 h ks js c.touched-touched.result c.touched-touched.ensures w.1.kids_are) c.requires.known)
+
+pub advance-requires-clause-reserved : goal.advance-requires-clause-reserved
+advance-requires-clause-reserved g c =
+    let x : task_reserved c.args.self.now ≡ head_reserved (out-Task c.args.self.now).head + tasks_reserved (out-Task c.args.self.now).kids.items = task_reserved_out c.args.self.now in
+    omega (arith, x, c.requires.reserved)
+
+pub returns-in-Ok-clause-tracked : goal.returns-in-Ok-clause-tracked
+returns-in-Ok-clause-tracked g c =
+    let x : task_reserved c.args.self.now ≡ head_reserved (out-Task c.args.self.now).head + tasks_reserved (out-Task c.args.self.now).kids.items = task_reserved_out c.args.self.now in
+    let y : task_reserved (roll-Task (record { head = c.advance.new.head; kids = c.advance.new.kids })) ≡ head_reserved c.advance.new.head + tasks_reserved c.advance.new.kids.items =
+    task_reserved_roll (record { head = c.advance.new.head; kids = c.advance.new.kids }) in
+    omega (arith, x, y, c.advance.ensures.tracked)
+
+pub returns-in-Err-clause-tracked : goal.returns-in-Err-clause-tracked
+returns-in-Err-clause-tracked g c =
+    let x : task_reserved c.args.self.now ≡ head_reserved (out-Task c.args.self.now).head + tasks_reserved (out-Task c.args.self.now).kids.items = task_reserved_out c.args.self.now in
+    let y : task_reserved (roll-Task (record { head = c.advance.new.head; kids = c.advance.new.kids })) ≡ head_reserved c.advance.new.head + tasks_reserved c.advance.new.kids.items =
+    task_reserved_roll (record { head = c.advance.new.head; kids = c.advance.new.kids }) in
+    omega (arith, x, y, c.advance.ensures.tracked)

@@ -1,0 +1,29 @@
+-- Refusals of takes, also where the tracker is asked.
+use Rattle.std.proofs.Common.{ℕ, List, Result, Ok, Err, IfErr, OnOk}
+use Rattle.vx_sink.specs.declared.context.LayoutWriterContext.{LayoutWriterContext}
+use Rattle.vx_sink.specs.ContextView.{counted}
+use Rattle.vx_plan.specs.PlanData.{Setting}
+use Rattle.vx_machine_view.specs.State.{Next, Tasks}
+use Rattle.vx_write_answer.specs.declared.error.WriteError.{WriteError}
+use Rattle.vx_machine_tasks.specs.declared.item.Item.{Item}
+use Rattle.vx_machine_tasks.specs.declared.node.Local.{Local}
+use Rattle.vx_machine_tasks.specs.Acting.{taken, Took, TakeStopped, ChunkTaken, ChunkRefused, ChunkStopped}
+use Rattle.vx_machine_tasks.specs.Context.{setting_of}
+use Rattle.vx_machine_tasks.specs.View.{item_of, mind_of}
+use Rattle.vx_machine_tasks.proofs.RefusalSteps.{take_stops}
+
+pub chunk_stops : {A : Type 0} (ctx : LayoutWriterContext) (name : List ℕ) (ks : Tasks) (i : Item) (l : Local) (r : Result A WriteError) → IfErr r (ChunkRefused ctx name ks i l) → IfErr r (ChunkStopped ctx name ks i l)
+chunk_stops ctx name ks i l (Ok x) h = tt
+chunk_stops ctx name ks i l (Err e) h = λ image. take_stops (counted ctx) (taken (setting_of ctx image) name ks (item_of i) (mind_of l)) e (h image)
+
+-- of a node that regroups, told of each setting and each task
+
+pub group_done : {A : Type 0} (ctx : LayoutWriterContext) (name : List ℕ) (ks : Tasks) (i : Item) (l m : Local) (todo before : List Next) (r : Result A WriteError)
+    → OnOk r ((s : Setting) (n : List ℕ) (ts : Tasks) → Took (taken s n ts (item_of i) (mind_of l)) (mind_of m) todo before ts) → OnOk r (ChunkTaken ctx name ks i l m todo before ks)
+group_done ctx name ks i l m todo before (Ok x) h = λ image. h (setting_of ctx image) name ks
+group_done ctx name ks i l m todo before (Err e) h = tt
+
+pub group_stops : {A : Type 0} (ctx : LayoutWriterContext) (name : List ℕ) (ks : Tasks) (i : Item) (l : Local) (r : Result A WriteError)
+    → IfErr r (λ e. (s : Setting) (n : List ℕ) (ts : Tasks) → TakeStopped (counted ctx) (taken s n ts (item_of i) (mind_of l)) e) → IfErr r (ChunkStopped ctx name ks i l)
+group_stops ctx name ks i l (Ok x) h = tt
+group_stops ctx name ks i l (Err e) h = λ image. h (setting_of ctx image) name ks
