@@ -14,20 +14,22 @@ use Rattle.vx_machine_promises.specs.Write.{Answer}
 use Rattle.vx_machine_view.specs.State.{Tasks, no_tasks}
 use Rattle.vx_machine_view.specs.Machine as whole
 use Rattle.vx_machine_view.proofs.Sounding.{least_agrees}
-use Rattle.vx_machine_tasks.specs.declared.item.Item.{Item}
-use Rattle.vx_machine_tasks.specs.declared.item.Due.{Due}
-use Rattle.vx_machine_tasks.specs.declared.item.Due.TheVariants.{Put, Append, Close, Join}
-use Rattle.vx_machine_tasks.specs.declared.node.Local.{Local}
-use Rattle.vx_machine_tasks.specs.declared.node.Local.TheVariants.{Empty, Full, Chunked, Columns, Lists, Over, Made}
+use Rattle.vx_machine_nodes.specs.declared.item.Item.{Item}
+use Rattle.vx_machine_nodes.specs.declared.item.Due.{Due}
+use Rattle.vx_machine_nodes.specs.declared.item.Due.TheVariants.{Put, Append, Close, Join}
+use Rattle.vx_machine_nodes.specs.declared.node.Local.{Local}
+use Rattle.vx_machine_nodes.specs.declared.node.Local.TheVariants.{Empty, Full, Chunked, Columns, Lists, Over, Made}
 use Rattle.vx_machine.specs.declared.source.Phase.{Phase}
 use Rattle.vx_machine.specs.declared.source.Phase.TheVariants.{Reading, Giving, Closing, Finished}
 use Rattle.vx_machine.specs.declared.machine.Machine.{Machine}
 use Rattle.vx_machine_tasks.specs.declared.task.Task.{Task, out-Task}
 use Rattle.vx_machine_tasks.specs.Sizes.{task_count, count_of_all}
 use Rattle.vx_machine.specs.Source.{phase_stock}
-use Rattle.vx_machine_tasks.specs.Stocks.{items_stock, dues_stock, local_stock, head_stock, task_stock, tasks_stock}
+use Rattle.vx_machine_nodes.specs.Stocks.{items_stock, dues_stock, local_stock}
+use Rattle.vx_machine_tasks.specs.Stocks.{head_stock, task_stock, tasks_stock}
 use Rattle.vx_machine.specs.Whole.{machine_stock}
-use Rattle.vx_machine_tasks.specs.View.{items_of, todo_of, mind_of, task_row, row}
+use Rattle.vx_machine_nodes.specs.View.{items_of, todo_of, mind_of}
+use Rattle.vx_machine_tasks.specs.View.{task_row, row}
 use Rattle.vx_machine.specs.View.{phase_of, machine_of}
 use Rattle.vx_machine_tasks.proofs.TaskParts.{task_count_out, task_stock_out}
 use Rattle.vx_machine_tasks.proofs.ViewParts.{row_out}

@@ -18,7 +18,7 @@ use Rattle.vx_machine_view.specs.Machine as whole
 use Rattle.vx_machine_view.proofs.Placing.{whole_is_ready}
 use Rattle.vx_machine.specs.declared.machine.Machine.{Machine}
 use Rattle.vx_machine.specs.Calls.{reads_at}
-use Rattle.vx_machine_tasks.specs.Context.{setting_of}
+use Rattle.vx_machine_nodes.specs.Context.{setting_of}
 use Rattle.vx_machine_tasks.specs.Ready.{counted}
 use Rattle.vx_machine.specs.Steps.{WholeStepped, StepRefused, StepDone, StepFails}
 use Rattle.vx_machine.specs.Run.{At, at, ready_at, RunStep, Ran, picked_at, Stops}

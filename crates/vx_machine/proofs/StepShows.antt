@@ -15,11 +15,11 @@ use Rattle.vx_machine_view.specs.Moves.{Step, steps}
 use Rattle.vx_machine_view.specs.Machine as whole
 use Rattle.vx_machine_view.specs.Places.{one_if}
 use Rattle.vx_machine_view.proofs.Placing.{source_place, root_place}
-use Rattle.vx_machine_tasks.specs.Acting.{Behind}
+use Rattle.vx_machine_nodes.specs.Acting.{Behind}
 use Rattle.vx_machine.specs.SourceActs.{AsksAt, IsElsewhere, TellsNothing, TellsRefused, whole_at, SourceActed, SourceRefused}
 use Rattle.vx_machine_tasks.specs.Steps.{TaskStepped, TaskRefused}
 use Rattle.vx_machine.specs.Steps.{WholeStepped, StepRefused}
-use Rattle.vx_machine_tasks.proofs.RefusalSteps.{any_past}
+use Rattle.vx_machine_nodes.proofs.RefusalSteps.{any_past}
 
 pub asks_not : (p : whole.Phase) (k : ℕ) → AsksAt p k unasked
 asks_not (whole.reading e) zero = tt

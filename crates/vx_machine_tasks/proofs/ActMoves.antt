@@ -7,10 +7,11 @@ use Rattle.vx_machine_ids.proofs.Stocks.{stock_is, both_none, none_both, both_as
 use Rattle.vx_machine_ids.proofs.MoveLaws.{moved_none, moved_then, moved_beside, moved_behind, moved_drop, owned_left, owned_right, owned_now, owned_as, moved_as}
 use Rattle.vx_machine_ids.proofs.Lists.{set_more, set_same}
 use Rattle.vx_write_answer.specs.declared.error.WriteError.{WriteError}
-use Rattle.vx_machine_tasks.specs.Stocks.{item_stock, items_stock, due_stock, dues_stock, local_stock, task_stock, tasks_stock}
-use Rattle.vx_machine_tasks.specs.declared.item.Due.{Due}
-use Rattle.vx_machine_tasks.specs.declared.item.Item.{Item}
-use Rattle.vx_machine_tasks.specs.declared.node.Local.{Local}
+use Rattle.vx_machine_nodes.specs.Stocks.{item_stock, items_stock, due_stock, dues_stock, local_stock}
+use Rattle.vx_machine_tasks.specs.Stocks.{task_stock, tasks_stock}
+use Rattle.vx_machine_nodes.specs.declared.item.Due.{Due}
+use Rattle.vx_machine_nodes.specs.declared.item.Item.{Item}
+use Rattle.vx_machine_nodes.specs.declared.node.Local.{Local}
 use Rattle.vx_machine_tasks.specs.declared.task.Task.{Task}
 
 -- nothing moves, and what is held is said in other words

@@ -4,15 +4,18 @@ use Rattle.std.proofs.lemmas.Bool.{and_parts, true≢false, eqb-true}
 use Rattle.std.specs.VecDeque.{deque_len}
 use Rattle.vx_layout_tree.specs.declared.layout.Layout.{Layout}
 use Rattle.vx_machine_ids.specs.Stock.{Stock, none, both, all_stock}
-use Rattle.vx_machine_tasks.specs.Ledger.{dues_reserved, local_reserved, task_reserved, tasks_reserved}
+use Rattle.vx_machine_nodes.specs.Ledger.{dues_reserved, local_reserved}
+use Rattle.vx_machine_tasks.specs.Ledger.{task_reserved, tasks_reserved}
 use Rattle.vx_machine_tasks.specs.Sizes.{task_count, count_of_all}
-use Rattle.vx_machine_tasks.specs.Stocks.{local_stock, dues_stock, items_stock, task_stock, tasks_stock}
+use Rattle.vx_machine_nodes.specs.Stocks.{local_stock, dues_stock, items_stock}
+use Rattle.vx_machine_tasks.specs.Stocks.{task_stock, tasks_stock}
 use Rattle.vx_machine_tasks.specs.Ready.{no_others, has_layout, is_done}
-use Rattle.vx_machine_tasks.specs.declared.node.Local.{Local}
-use Rattle.vx_machine_tasks.specs.declared.node.Local.TheVariants.{Empty, Full, Chunked, Columns, Lists, Grouped, Over, Passing, Made}
+use Rattle.vx_machine_nodes.specs.declared.node.Local.{Local}
+use Rattle.vx_machine_nodes.specs.declared.node.Local.TheVariants.{Empty, Full, Chunked, Columns, Lists, Grouped, Over, Passing, Made}
 use Rattle.vx_machine_tasks.specs.declared.task.Task.{Task, out-Task}
 use Rattle.vx_machine_tasks.proofs.TaskParts.{task_stock_out, task_count_out}
-use Rattle.vx_machine_tasks.proofs.Readiness.{none_is, done_out}
+use Rattle.vx_machine_nodes.proofs.ListParts.{none_is}
+use Rattle.vx_machine_tasks.proofs.Readiness.{done_out}
 use Rattle.vx_machine_tasks.proofs.ReservedSteps.{task_reserved_out}
 
 -- the parts of a task that has done all

@@ -13,18 +13,20 @@ use Rattle.vx_machine_view.specs.Acts.{Did, now, do_take, do_act}
 use Rattle.vx_write_answer.specs.declared.step.ActionKind.{ActionKind}
 use Rattle.vx_write_answer.specs.declared.step.ActionKind.TheVariants as actions
 use Rattle.vx_write_answer.specs.declared.error.WriteError.{WriteError}
-use Rattle.vx_machine_tasks.specs.declared.item.Due.{Due}
-use Rattle.vx_machine_tasks.specs.declared.item.Item.{Item}
-use Rattle.vx_machine_tasks.specs.declared.node.Local.{Local}
+use Rattle.vx_machine_nodes.specs.declared.item.Due.{Due}
+use Rattle.vx_machine_nodes.specs.declared.item.Item.{Item}
+use Rattle.vx_machine_nodes.specs.declared.node.Local.{Local}
 use Rattle.vx_machine_tasks.specs.declared.task.Head.{Head}
 use Rattle.vx_machine_tasks.specs.declared.task.Task.{Task}
-use Rattle.vx_machine_tasks.specs.Acting.{ActStopped, DueDone, DueRefused, TakeStopped, ChunkTaken, ChunkStopped, EndTaken, EndRefused, TakeDone, NextTaken, NextUntaken, Acted, NextDone, NextRefused}
-use Rattle.vx_machine_tasks.specs.Context.{setting_of}
+use Rattle.vx_machine_nodes.specs.Acting.{ActStopped, TakeStopped, ChunkTaken, ChunkStopped, EndTaken, EndRefused}
+use Rattle.vx_machine_tasks.specs.Acting.{DueDone, DueRefused, TakeDone, NextTaken, NextUntaken, Acted, NextDone, NextRefused}
+use Rattle.vx_machine_nodes.specs.Context.{setting_of}
 use Rattle.vx_machine_tasks.specs.Ready.{Kid, is_over, may_now}
-use Rattle.vx_machine_tasks.specs.View.{item_of, items_of, next_of, todo_of, mind_of, desk_of, row}
+use Rattle.vx_machine_nodes.specs.View.{item_of, items_of, next_of, todo_of, mind_of}
+use Rattle.vx_machine_tasks.specs.View.{desk_of, row}
 use Rattle.vx_machine_tasks.proofs.ActShows.{act_shows, act_refused}
 use Rattle.vx_machine_tasks.proofs.Readiness.{may_none}
-use Rattle.vx_machine_tasks.proofs.RefusalSteps.{any_past, take_stops, act_stops}
+use Rattle.vx_machine_nodes.proofs.RefusalSteps.{any_past, take_stops, act_stops}
 use Rattle.vx_machine_tasks.proofs.TakeShows.{took_shows, took_stopped, ended_shows, end_fails, take_acts}
 use Rattle.vx_machine_tasks.proofs.ViewParts.{count_row}
 

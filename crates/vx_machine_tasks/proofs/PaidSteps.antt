@@ -2,7 +2,8 @@
 use Rattle.std.proofs.Common.{◌≡◌, ℕ, ◌+◌, ◌<◌, ◌≤◌, List, length, get_or, set, ap, arith}
 use Rattle.vx_sink.specs.declared.context.LayoutWriterContext.{LayoutWriterContext}
 use Rattle.vx_sink.specs.ContextView.{counted}
-use Rattle.vx_machine_tasks.specs.Ledger.{Paid, head_reserved, task_reserved, tasks_reserved}
+use Rattle.vx_machine_nodes.specs.Ledger.{Paid}
+use Rattle.vx_machine_tasks.specs.Ledger.{head_reserved, task_reserved, tasks_reserved}
 use Rattle.vx_machine_tasks.specs.declared.task.Task.{Task, out-Task}
 use Rattle.vx_machine_tasks.specs.declared.task.Task.TheOpen.{Task-F}
 use Rattle.vx_machine_tasks.specs.declared.task.Task.TheViews.{roll-Task}

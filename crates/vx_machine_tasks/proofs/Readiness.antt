@@ -13,18 +13,18 @@ use Rattle.vx_machine_ids.specs.Stock.{one, both}
 use Rattle.vx_machine_ids.specs.Balance.{Owned}
 use Rattle.vx_machine_ids.proofs.MoveLaws.{owned_left, owned_right}
 use Rattle.vx_machine_ids.proofs.Lists.{first_owned}
-use Rattle.vx_machine_tasks.specs.Stocks.{local_stock, dues_stock, due_stock, items_stock, head_stock}
+use Rattle.vx_machine_nodes.specs.Stocks.{local_stock, dues_stock, due_stock, items_stock}
+use Rattle.vx_machine_tasks.specs.Stocks.{head_stock}
 use Rattle.vx_machine_tasks.specs.Ready.{Kid, Seen, kid_of, kids_of, seen, seen_step, may_now, may_due, may_take, may_todo, least_at, room_at, room_in, all_made, all_true, is_made, made_step, made_of, has_layout, done_step, is_done, ready_in, ready_among, counted}
 use Rattle.vx_machine_tasks.specs.Sizes.{task_count, count_of_all}
-use Rattle.vx_machine_tasks.specs.declared.item.Due.{Due}
+use Rattle.vx_machine_nodes.specs.declared.item.Due.{Due}
 use Rattle.vx_machine_tasks.specs.declared.task.Head.{Head}
 use Rattle.vx_machine_tasks.specs.declared.task.Task.{Task, out-Task}
 use Rattle.vx_machine_tasks.specs.declared.task.Task.TheFolds.{fold_out-Task}
 use Rattle.vx_machine_tasks.proofs.TaskParts.{task_count_out}
+use Rattle.vx_machine_nodes.proofs.ListParts.{none_is}
 
 -- ---- by the parts of a task
-
--- what is told of one that has done all, by its parts
 
 made_all : (ts : List Task) → all_true (map made_of ts) ≡ all_made (kids_of ts)
 made_all [] = refl
@@ -92,10 +92,6 @@ get_same (y ∷ ys) (suc i) x d h e = get_same ys i x d (omega (arith, h)) e
 
 pub front_is : {A : Type 0} (xs : List A) (x : A) → 0 < length xs → x ≡ get_or xs 0 x → xs ≡ x ∷ drop 1 xs
 front_is xs x h e = drop_is xs 0 x h e
-
-pub none_is : {A : Type 0} (xs : List A) → length xs ≡ 0 → xs ≡ []
-none_is [] h = refl
-none_is (y ∷ ys) h = absurd (omega (arith, h))
 
 and_false : (b : Bool) → (b && false) ≡ false
 and_false true = refl

@@ -18,9 +18,10 @@ use Rattle.vx_machine_tasks.specs.declared.task.Task.{Task, out-Task}
 use Rattle.vx_write_answer.specs.declared.error.WriteError.{WriteError}
 use Rattle.vx_write_answer.specs.declared.error.WriteError.TheVariants.{SourceFault, SinkFault, CompressFault, BatchType, NotStruct, DuplicateField, ManyChunks, EmptyList, ZoneCut, ForbiddenAggregate, ForbiddenEncoding, TooLarge, OutOfMemory, Unbuilt, Stopped}
 use Rattle.vx_machine_tasks.specs.Starting.{Started, StartRefused, OneRefused, TooFar}
-use Rattle.vx_machine_tasks.specs.View.{form_at, mind_of, desk_of, task_row, row}
+use Rattle.vx_machine_nodes.specs.View.{form_at, mind_of}
+use Rattle.vx_machine_tasks.specs.View.{desk_of, task_row, row}
 use Rattle.vx_machine_tasks.proofs.ViewParts.{row_out, row_push, count_row}
-use Rattle.vx_machine_tasks.proofs.Readiness.{none_is}
+use Rattle.vx_machine_nodes.proofs.ListParts.{none_is}
 
 -- ---- a put
 

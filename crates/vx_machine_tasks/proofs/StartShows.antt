@@ -31,14 +31,16 @@ use Rattle.vx_machine_view.specs.Start.{waiting, first_mind, first_kids, field_t
 use Rattle.vx_machine_view.specs.Acts.{add}
 use Rattle.vx_write_answer.specs.declared.error.WriteError.{WriteError}
 use Rattle.vx_write_answer.specs.declared.error.WriteError.TheVariants as errors
-use Rattle.vx_machine_tasks.specs.declared.kinds.ListsNode.{ListsNode}
-use Rattle.vx_machine_tasks.specs.declared.node.Local.{Local}
-use Rattle.vx_machine_tasks.specs.declared.node.Local.TheVariants.{Lists}
+use Rattle.vx_machine_nodes.specs.declared.kinds.ListsNode.{ListsNode}
+use Rattle.vx_machine_nodes.specs.declared.node.Local.{Local}
+use Rattle.vx_machine_nodes.specs.declared.node.Local.TheVariants.{Lists}
 use Rattle.vx_machine_tasks.specs.declared.task.Task.{Task}
-use Rattle.vx_machine_tasks.specs.View.{form_at, mind_of, task_row, row}
-use Rattle.vx_machine_tasks.specs.Outcome.{AllFit}
-use Rattle.vx_machine_tasks.specs.Starting.{Counted, writer_of, field_form, field_forms, validity_form, validity_forms, columns_form, list_forms, lists_form, Started, ManyStarted, OneStarted, AllStarted, TooFar, StartRefused, many_indices, ManyRefused, OneRefused, PointerRefused, NodeRefused}
-use Rattle.vx_machine_tasks.proofs.Fitting.{none_fit, then_fit, one_fits, both_fit, first_fits, rest_fit, left_fit}
+use Rattle.vx_machine_nodes.specs.View.{form_at, mind_of}
+use Rattle.vx_machine_tasks.specs.View.{task_row, row}
+use Rattle.vx_machine_nodes.specs.Outcome.{AllFit}
+use Rattle.vx_machine_nodes.specs.Fresh.{NodeRefused}
+use Rattle.vx_machine_tasks.specs.Starting.{Counted, writer_of, field_form, field_forms, validity_form, validity_forms, columns_form, list_forms, lists_form, Started, ManyStarted, OneStarted, AllStarted, TooFar, StartRefused, many_indices, ManyRefused, OneRefused, PointerRefused}
+use Rattle.vx_machine_nodes.proofs.Fitting.{none_fit, then_fit, one_fits, both_fit, first_fits, rest_fit, left_fit}
 use Rattle.vx_machine_tasks.proofs.ViewParts.{add_none, add_add, row_push}
 
 no_true : false ≡ true → ⊥

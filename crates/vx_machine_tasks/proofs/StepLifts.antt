@@ -11,10 +11,11 @@ use Rattle.vx_machine_view.specs.Moves.{may_act}
 use Rattle.vx_machine_view.specs.Places.{one_if, ready_in as ready_of}
 use Rattle.vx_machine_tasks.specs.declared.step.Did.{Did}
 use Rattle.vx_machine_tasks.specs.declared.task.Task.{Task, out-Task}
-use Rattle.vx_machine_tasks.specs.Context.{setting_of}
+use Rattle.vx_machine_nodes.specs.Context.{setting_of}
 use Rattle.vx_machine_tasks.specs.Ready.{ready_among}
 use Rattle.vx_machine_tasks.specs.Steps.{TaskStepped, TaskRefused, TaskDone, TaskFails}
-use Rattle.vx_machine_tasks.specs.View.{todo_of, desk_of, task_row, row}
+use Rattle.vx_machine_nodes.specs.View.{todo_of}
+use Rattle.vx_machine_tasks.specs.View.{desk_of, task_row, row}
 use Rattle.vx_machine_tasks.proofs.StepShows.{below_stepped, below_refused, kid_stepped, kid_refused}
 
 module _ (ctx : LayoutWriterContext) (u : Active) (before after : Outlet) (r : Result Did WriteError) where

@@ -17,10 +17,11 @@ use Rattle.vx_machine_tasks.specs.declared.task.Task.{Task, out-Task}
 use Rattle.vx_machine_tasks.specs.declared.task.Task.TheOpen.{Task-F}
 use Rattle.vx_machine_tasks.specs.declared.task.Task.TheViews.{roll-Task}
 use Rattle.vx_machine_tasks.specs.Acting.{Acted}
-use Rattle.vx_machine_tasks.specs.Outcome.{Refused}
+use Rattle.vx_machine_nodes.specs.Outcome.{Refused}
 use Rattle.vx_machine_tasks.specs.Ready.{kids_of, may_now, ready_among}
 use Rattle.vx_machine_tasks.specs.Steps.{TaskStepped, TaskRefused}
-use Rattle.vx_machine_tasks.specs.View.{todo_of, desk_of, task_row, row}
+use Rattle.vx_machine_nodes.specs.View.{todo_of}
+use Rattle.vx_machine_tasks.specs.View.{desk_of, task_row, row}
 use Rattle.vx_machine_tasks.proofs.ViewParts.{row_out, row_roll}
 use Rattle.vx_machine_tasks.proofs.ReadyViews.{may_view}
 use Rattle.vx_machine_tasks.proofs.StepViews.{with_after, kid_after, kid_set, kid_step, below_place}

@@ -5,12 +5,12 @@ use Rattle.vx_sink.specs.ContextView.{counted}
 use Rattle.vx_plan.specs.PlanData.{Setting}
 use Rattle.vx_machine_view.specs.State.{Next, Tasks}
 use Rattle.vx_write_answer.specs.declared.error.WriteError.{WriteError}
-use Rattle.vx_machine_tasks.specs.declared.item.Item.{Item}
-use Rattle.vx_machine_tasks.specs.declared.node.Local.{Local}
-use Rattle.vx_machine_tasks.specs.Acting.{taken, Took, TakeStopped, ChunkTaken, ChunkRefused, ChunkStopped}
-use Rattle.vx_machine_tasks.specs.Context.{setting_of}
-use Rattle.vx_machine_tasks.specs.View.{item_of, mind_of}
-use Rattle.vx_machine_tasks.proofs.RefusalSteps.{take_stops}
+use Rattle.vx_machine_nodes.specs.declared.item.Item.{Item}
+use Rattle.vx_machine_nodes.specs.declared.node.Local.{Local}
+use Rattle.vx_machine_nodes.specs.Acting.{taken, Took, TakeStopped, ChunkTaken, ChunkRefused, ChunkStopped}
+use Rattle.vx_machine_nodes.specs.Context.{setting_of}
+use Rattle.vx_machine_nodes.specs.View.{item_of, mind_of}
+use Rattle.vx_machine_nodes.proofs.RefusalSteps.{take_stops}
 
 pub chunk_stops : {A : Type 0} (ctx : LayoutWriterContext) (name : List ℕ) (ks : Tasks) (i : Item) (l : Local) (r : Result A WriteError) → IfErr r (ChunkRefused ctx name ks i l) → IfErr r (ChunkStopped ctx name ks i l)
 chunk_stops ctx name ks i l (Ok x) h = tt

@@ -10,10 +10,10 @@ use Rattle.vx_machine_tasks.proofs.PairSteps.{all_may}
 use Rattle.vx_machine_ids.specs.Balance.{Exact}
 use Rattle.vx_fault.specs.Faults.{FaultsTold}
 use Rattle.vx_write_answer.specs.Causes.{is_sink_fault}
-use Rattle.vx_machine_tasks.specs.Calls.{reads_action, append_action}
+use Rattle.vx_machine_nodes.specs.Calls.{reads_action, append_action}
 use Rattle.vx_machine.specs.Calls.{reads_in, appends_in, reads_at}
-use Rattle.vx_machine_tasks.specs.Context.{setting_of}
-use Rattle.vx_machine_tasks.specs.Outcome.{Kept}
+use Rattle.vx_machine_nodes.specs.Context.{setting_of}
+use Rattle.vx_machine_nodes.specs.Outcome.{Kept}
 use Rattle.vx_machine.specs.Run.{at, Ran, picked_at}
 use Rattle.vx_machine_tasks.specs.View.{row}
 use Rattle.vx_machine.specs.View.{phase_of, machine_of}

@@ -5,13 +5,14 @@ use Rattle.vx_machine_ids.specs.Stock.{both}
 use Rattle.vx_write_answer.specs.declared.step.ActionKind.TheVariants as actions
 use Rattle.vx_machine_tasks.specs.Pairs.{due_pairs, AllMay}
 use Rattle.vx_machine_tasks.specs.Ready.{Kid, may_due, kids_of, all_made, can_join}
-use Rattle.vx_machine_tasks.specs.Stocks.{item_stock, stored_stock, due_stock, local_stock, tasks_stock}
-use Rattle.vx_machine_tasks.specs.declared.item.Due.{Due}
-use Rattle.vx_machine_tasks.specs.declared.item.Due.TheVariants.{Put, HandOn, Append, Join}
-use Rattle.vx_machine_tasks.specs.declared.node.Shape.{Shape}
+use Rattle.vx_machine_nodes.specs.Stocks.{item_stock, stored_stock, due_stock, local_stock}
+use Rattle.vx_machine_tasks.specs.Stocks.{tasks_stock}
+use Rattle.vx_machine_nodes.specs.declared.item.Due.{Due}
+use Rattle.vx_machine_nodes.specs.declared.item.Due.TheVariants.{Put, HandOn, Append, Join}
+use Rattle.vx_machine_nodes.specs.declared.node.Shape.{Shape}
 use Rattle.vx_machine_tasks.proofs.ActMoves.{put_owned, put_moved, append_owned, append_moved, join_owned, join_moved, close_moved}
-use Rattle.vx_machine_tasks.proofs.ActCauses.{memory_may, all_wider}
-use Rattle.vx_machine_tasks.proofs.CallSteps.{unasked_self, quiet_told}
+use Rattle.vx_machine_nodes.proofs.ActCauses.{memory_may, all_wider}
+use Rattle.vx_machine_nodes.proofs.CallSteps.{unasked_self, quiet_told}
 use Rattle.vx_machine_tasks.proofs.Readiness.{least_means}
 use Rattle.vx_sink.specs.ContextView.{listed}
 use Rattle.vx_machine_tasks.proofs.ActShows.{err_kept, put_does, put_says, hand_does, hand_says, append_does, append_says, close_does, join_does, join_says, join_kind}

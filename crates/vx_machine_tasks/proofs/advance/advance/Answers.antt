@@ -2,14 +2,15 @@ use Rattle.std.proofs.Common.{sym, ap, subst, ◌∙◌, ◌≡◌, [], refl}
 use Rattle.vx_machine_ids.specs.Stock.{both}
 use Rattle.vx_machine_tasks.specs.Pairs.{next_pairs, AllMay}
 use Rattle.vx_machine_tasks.specs.Ready.{may_todo, kids_of}
-use Rattle.vx_machine_tasks.specs.Stocks.{items_stock, head_stock, local_stock, tasks_stock}
+use Rattle.vx_machine_nodes.specs.Stocks.{items_stock, local_stock}
+use Rattle.vx_machine_tasks.specs.Stocks.{head_stock, tasks_stock}
 use Rattle.vx_machine_tasks.proofs.ActMoves.{act_owned, act_moved, idle_owned, idle_moved}
-use Rattle.vx_machine_tasks.proofs.ActCauses.{wider}
-use Rattle.vx_machine_tasks.proofs.CallSteps.{unasked_by, quiet_stops}
+use Rattle.vx_machine_nodes.proofs.ActCauses.{wider}
+use Rattle.vx_machine_nodes.proofs.CallSteps.{unasked_by, quiet_stops}
 use Rattle.vx_machine_tasks.specs.declared.task.Head.{Head}
-use Rattle.vx_machine_tasks.proofs.ActShows.{kept_same}
+use Rattle.vx_machine_nodes.proofs.WriteSteps.{kept_same}
 use Rattle.vx_machine_tasks.proofs.NextShows.{due_done, due_refused, take_acted, take_refused, take_open}
-use Rattle.vx_machine_tasks.proofs.Readiness.{none_is}
+use Rattle.vx_machine_nodes.proofs.ListParts.{none_is}
 use Rattle.vx_machine_tasks.proofs.advance.advance.Goals as goal
 
 pub act-requires-clause-owned : goal.act-requires-clause-owned

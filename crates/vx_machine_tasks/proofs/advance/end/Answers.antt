@@ -1,11 +1,11 @@
 use Rattle.std.proofs.Common.{ap, subst, sym, ◌∙◌}
 use Rattle.vx_machine_ids.specs.Stock.{none, both}
 use Rattle.vx_machine_ids.specs.Balance.{Moved}
-use Rattle.vx_machine_tasks.specs.Stocks.{dues_stock, local_stock}
+use Rattle.vx_machine_nodes.specs.Stocks.{dues_stock, local_stock}
 use Rattle.vx_machine_tasks.proofs.ActMoves.{stays_as, end_owned, end_moved, end_local, end_then}
 use Rattle.std.proofs.lemmas.Result.{err_from_is_err_and}
-use Rattle.vx_machine_tasks.specs.Acting.{EndRefused}
-use Rattle.vx_machine_tasks.specs.View.{todo_of}
+use Rattle.vx_machine_nodes.specs.Acting.{EndRefused}
+use Rattle.vx_machine_nodes.specs.View.{todo_of}
 use Rattle.vx_machine_tasks.proofs.TakeShows.{ended_by}
 use Rattle.vx_machine_tasks.proofs.advance.end.Goals as goal
 

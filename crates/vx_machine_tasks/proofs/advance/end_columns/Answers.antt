@@ -4,10 +4,11 @@ use Rattle.vx_model.specs.TyView.{ty}
 use Rattle.vx_layout_spec.specs.LayoutTree.{struct_layout}
 use Rattle.vx_layout_tree.specs.LayoutView.{layout_data}
 use Rattle.vx_machine_view.specs.State as view
-use Rattle.vx_machine_tasks.specs.declared.node.Local.TheVariants.{Over, Made}
-use Rattle.vx_machine_tasks.specs.View.{todo_of}
-use Rattle.vx_machine_tasks.proofs.DueSteps.{two_free}
-use Rattle.vx_machine_tasks.proofs.TakeShows.{columns_made, columns_end, two_more}
+use Rattle.vx_machine_nodes.specs.declared.node.Local.TheVariants.{Over, Made}
+use Rattle.vx_machine_nodes.specs.View.{todo_of}
+use Rattle.vx_machine_nodes.proofs.DueSteps.{two_free}
+use Rattle.vx_machine_nodes.proofs.TakeShows.{two_more}
+use Rattle.vx_machine_tasks.proofs.TakeShows.{columns_made, columns_end}
 use Rattle.vx_machine_tasks.proofs.advance.end_columns.Goals as goal
 
 pub returns-clause-todo : goal.returns-clause-todo

@@ -1,11 +1,11 @@
 use Rattle.std.proofs.Common.{ap, refl, append-nil, sym, ◌∙◌}
 use Rattle.vx_machine_ids.specs.Stock.{none, end_stock, ok_stock}
-use Rattle.vx_machine_tasks.specs.Stocks.{stored_stock, dues_stock, local_stock}
+use Rattle.vx_machine_nodes.specs.Stocks.{stored_stock, dues_stock, local_stock}
 use Rattle.vx_machine_tasks.proofs.ActMoves.{ok_none, ended_none, ended_full, ended_owned, ended_chunked}
-use Rattle.vx_machine_tasks.proofs.DueSteps.{one_more, one_free}
+use Rattle.vx_machine_nodes.proofs.DueSteps.{one_more, one_free}
 use Rattle.std.proofs.lemmas.List.{map_push}
-use Rattle.vx_machine_tasks.specs.declared.node.Local.TheVariants.{Full, Chunked, Lists, Over, Made}
-use Rattle.vx_machine_tasks.specs.View.{next_of, todo_of}
+use Rattle.vx_machine_nodes.specs.declared.node.Local.TheVariants.{Full, Chunked, Lists, Over, Made}
+use Rattle.vx_machine_nodes.specs.View.{next_of, todo_of}
 use Rattle.vx_machine_tasks.proofs.TakeShows.{ended_as, ended_empty, ended_struct, ended_lists, unended_as, end_memory}
 use Rattle.vx_machine_tasks.proofs.advance.ended.Goals as goal
 

@@ -1,9 +1,11 @@
 use Rattle.std.proofs.Common.{ap, sym}
 use Rattle.vx_machine_ids.specs.Stock.{none, end_stock}
-use Rattle.vx_machine_tasks.specs.Stocks.{item_stock, dues_stock, local_stock, tasks_stock}
+use Rattle.vx_machine_nodes.specs.Stocks.{item_stock, dues_stock, local_stock}
+use Rattle.vx_machine_tasks.specs.Stocks.{tasks_stock}
 use Rattle.vx_machine_tasks.proofs.ActMoves.{take_chunked_owned, take_chunked_moved, take_columns_owned, take_columns_moved, take_flat_owned, take_flat_moved}
-use Rattle.vx_machine_tasks.specs.declared.node.Local.TheVariants.{Chunked, Columns, Lists}
-use Rattle.vx_machine_tasks.specs.View.{todo_of, row}
+use Rattle.vx_machine_nodes.specs.declared.node.Local.TheVariants.{Chunked, Columns, Lists}
+use Rattle.vx_machine_nodes.specs.View.{todo_of}
+use Rattle.vx_machine_tasks.specs.View.{row}
 use Rattle.vx_machine_tasks.proofs.TakeShows.{chunked_by, chunked_why_by, columns_by, columns_why_by, flat_by, flat_why_by, flat_left}
 use Rattle.vx_machine_tasks.proofs.StopSteps.{chunk_stops, group_done, group_stops}
 use Rattle.vx_machine_tasks.proofs.advance.take.Goals as goal

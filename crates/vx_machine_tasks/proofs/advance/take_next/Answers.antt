@@ -1,10 +1,11 @@
-use Rattle.vx_machine_tasks.specs.Stocks.{dues_stock, local_stock, tasks_stock}
+use Rattle.vx_machine_nodes.specs.Stocks.{dues_stock, local_stock}
+use Rattle.vx_machine_tasks.specs.Stocks.{tasks_stock}
 use Rattle.vx_machine_tasks.proofs.ActMoves.{take_owned, take_moved, last_owned, last_moved}
 use Rattle.std.proofs.Common.{refl, sym, ◌∙◌}
 use Rattle.vx_machine_tasks.specs.declared.task.Head.{Head}
-use Rattle.vx_machine_tasks.specs.View.{todo_of}
+use Rattle.vx_machine_nodes.specs.View.{todo_of}
 use Rattle.vx_machine_tasks.proofs.NextShows.{chunk_done, chunk_refused, end_done, end_refused}
-use Rattle.vx_machine_tasks.proofs.Readiness.{none_is}
+use Rattle.vx_machine_nodes.proofs.ListParts.{none_is}
 use Rattle.vx_machine_tasks.proofs.advance.take_next.Goals as goal
 
 pub take-requires-clause-owned : goal.take-requires-clause-owned

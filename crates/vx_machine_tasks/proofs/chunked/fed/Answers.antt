@@ -1,4 +1,4 @@
-use Rattle.vx_machine_tasks.specs.View.{item_of}
+use Rattle.vx_machine_nodes.specs.View.{item_of}
 use Rattle.vx_machine_tasks.proofs.RowSteps.{fed_row}
 use Rattle.vx_machine_tasks.proofs.chunked.fed.Goals as goal
 

@@ -1,11 +1,11 @@
 use Rattle.std.proofs.Common.{◌+◌, [], ◌∷◌, ◌++◌, ap, ◌∙◌, arith}
 use Rattle.vx_machine_ids.specs.Stock.{end_stock}
-use Rattle.vx_machine_tasks.specs.Stocks.{item_stock}
+use Rattle.vx_machine_nodes.specs.Stocks.{item_stock}
 use Rattle.vx_machine_tasks.proofs.StartMoves.{fed_moved}
 use Rattle.vx_path.specs.Path.{inside}
 use Rattle.vx_machine_view.specs.Start.{first_indices}
-use Rattle.vx_machine_tasks.specs.View.{item_of, child_form}
-use Rattle.vx_machine_tasks.proofs.Fitting.{then_fit}
+use Rattle.vx_machine_nodes.specs.View.{item_of, child_form}
+use Rattle.vx_machine_nodes.proofs.Fitting.{then_fit}
 use Rattle.vx_machine_tasks.proofs.RowSteps.{chunk_row}
 use Rattle.vx_machine_tasks.proofs.chunked.take_chunk.Goals as goal
 

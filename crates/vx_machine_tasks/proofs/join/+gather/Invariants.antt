@@ -3,7 +3,8 @@ use Rattle.vx_layout_tree.specs.LayoutView.{layout_data}
 use Rattle.vx_sink.specs.ContextView.{counted}
 use Rattle.vx_machine_view.specs.Acts.{layouts_in}
 use Rattle.vx_machine_ids.specs.Balance.{Owned, Moved}
-use Rattle.vx_machine_tasks.specs.Ledger.{Paid, told_by, tasks_reserved}
+use Rattle.vx_machine_nodes.specs.Ledger.{Paid, told_by}
+use Rattle.vx_machine_tasks.specs.Ledger.{tasks_reserved}
 use Rattle.vx_machine_tasks.specs.Ready.{all_made, kids_of}
 use Rattle.vx_machine_tasks.specs.Sizes.{task_count, count_of_all}
 use Rattle.vx_machine_tasks.specs.Stocks.{tasks_stock}

@@ -32,10 +32,11 @@ use Rattle.vx_machine_view.specs.Built.{is_built}
 use Rattle.vx_machine_tasks.specs.Weight.{weight, weights}
 use Rattle.vx_machine_tasks.specs.Starting.{field_form, field_forms, validity_form, validity_forms, columns_form, lists_form, Started, ManyStarted, OneStarted, AllStarted, StartRefused, ManyRefused, OneRefused}
 use Rattle.vx_machine_tasks.specs.Stocks.{task_stock, tasks_stock}
-use Rattle.vx_machine_tasks.specs.View.{form_at, form_of, row}
-use Rattle.vx_machine_tasks.specs.declared.node.Local.TheVariants.{Empty, Columns, Lists}
+use Rattle.vx_machine_nodes.specs.View.{form_at, form_of}
+use Rattle.vx_machine_tasks.specs.View.{row}
+use Rattle.vx_machine_nodes.specs.declared.node.Local.TheVariants.{Empty, Columns, Lists}
 use Rattle.vx_machine_tasks.proofs.StartMoves.{alone_moved, none_yet, from_none, pointer_owned, kids_left, left_owned, held_kids, same_kids, pointer_moved, child_moved, off_owned, off_moved}
-use Rattle.vx_machine_tasks.proofs.Fitting.{none_fit}
+use Rattle.vx_machine_nodes.proofs.Fitting.{none_fit}
 use Rattle.vx_machine_tasks.proofs.StartShows.{Left, plain_form, typed, field_form_is, fields_more, fields_end, memory_refused, node_refused, task_refused, pointer_refused, started, one_started, none_started, left_first, left_next, left_refused, all_started, validity_refused, list_at, list_plain, list_mind, left_elements, left_offsets, elements_refused, offsets_refused, last_started, rest_refused}
 use Rattle.vx_machine_tasks.proofs.ViewParts.{len_is}
 use Rattle.vx_machine_tasks.proofs.StartWeights.{field_weight, writer_built, struct_built, list_built, settled_built, settled_form}

@@ -9,7 +9,7 @@ use Rattle.vx_machine_view.specs.State.{no_tasks}
 use Rattle.vx_machine_view.specs.Machine.{reading}
 use Rattle.vx_machine_tasks.specs.Starting.{IsAllowed, FormRefused}
 use Rattle.vx_machine.specs.Starting.{machine_at}
-use Rattle.vx_machine_tasks.specs.View.{form_of}
+use Rattle.vx_machine_nodes.specs.View.{form_of}
 use Rattle.vx_machine_tasks.specs.Stocks.{task_stock}
 use Rattle.vx_machine.proofs.MachineMoves.{first_left, second_first, unbuilt, built_may, unbuilt_refused, built_refused}
 use Rattle.vx_machine.proofs.machine.Machine.start.Goals as goal

@@ -7,8 +7,8 @@ use Rattle.vx_machine_tasks.specs.Stocks.{head_stock, tasks_stock}
 use Rattle.vx_machine_tasks.specs.declared.task.Task.{out-Task}
 use Rattle.vx_machine_tasks.specs.declared.task.Task.TheViews.{roll-Task}
 use Rattle.vx_machine_tasks.proofs.TaskParts.{parts_owned, parts_moved, rolled}
-use Rattle.vx_machine_tasks.specs.Context.{setting_of}
-use Rattle.vx_machine_tasks.proofs.CallSteps.{unasked_self}
+use Rattle.vx_machine_nodes.specs.Context.{setting_of}
+use Rattle.vx_machine_nodes.proofs.CallSteps.{unasked_self}
 use Rattle.vx_machine_tasks.proofs.StepShows.{own_stepped, own_refused}
 use Rattle.std.proofs.Common.{◌≡◌, ◌+◌, sym, subst, arith}
 use Rattle.vx_kept.specs.Kept.{Knows}
