@@ -125,8 +125,8 @@ module _ (ctx now : LayoutWriterContext) (same : told_by now ≡ told_by ctx) (t
       let k : ℕ = pick % counted (machine_ready u m) in
       let n : ℕ = tracker_by ctx (machine_of m) in
       let b : StepFails ctx n (fin.keys u) k kind x y o (machine_of m) e = λ image number.
-          subst (λ z. StepRefused (setting_of ctx image) (fin.keys u) k z kind x y o number (machine_of m) e) counts
-          (subst (λ z. StepRefused z (fin.keys u) k (counted_bytes now) kind x y o number (machine_of m) e) (setting_same image) (d image number)) in
+      subst (λ z. StepRefused (setting_of ctx image) (fin.keys u) k z kind x y o number (machine_of m) e) counts
+      (subst (λ z. StepRefused z (fin.keys u) k (counted_bytes now) kind x y o number (machine_of m) e) (setting_same image) (d image number)) in
       let f : StepFails ctx n (fin.keys u) k t x y o (machine_of m) e = subst (λ z. StepFails ctx n (fin.keys u) k z x y o (machine_of m) e) typed b in
       let p : k ≡ picked_at schedule place (machine_of m) = λ j. is j % counted (sym ready_counted j) in
       inr (some_ready, subst (λ z. StepFails ctx n (whole.machine_ids (machine_of m)) z t x y o (machine_of m) e) p (fails_held u m exact ctx k t x y o n e f))
