@@ -1,6 +1,6 @@
 //! A case and its answer.
 
-use crate::{columns, fails, reading, spelling};
+use crate::{columns, counting, fails, reading, spelling};
 use anyhow::{Context, bail};
 use std::alloc::Global;
 use vx_case_lines::{cut, is_case};
@@ -22,6 +22,7 @@ fn answer_to(alloc: Global, word: &str, given: &str) -> anyhow::Result<String> {
         "columns" => columns::told(alloc, given),
         "spelled" => spelling::spelled(alloc, given),
         "fails" => fails::told(alloc, given),
+        "counted" => counting::told(alloc, given),
         _ => bail!("no word {word}"),
     }
 }

@@ -12,10 +12,12 @@
 //! | `spelled` | batches of integers | the bytes of the layout that they are written as, in chunks |
 //! | `parsed` | the bytes of a layout, batches of integers | the rows of the layout, read from the segments that the batches are written to |
 //! | `fails` | `source` or `sink`, and the number of its call that fails, from 0 | how a write of two batches ends, how many segments are in the sink, and how many batches are left in the source |
+//! | `counted` | bytes that are counted at first, the calls of source and sink that fail (`-`: none), a strategy, batches of integers | how the write ends, behind how many steps, and how many bytes are counted then |
 #![tactic(auto)]
 
 mod case;
 mod columns;
+mod counting;
 mod fails;
 mod given;
 mod own_objects;

@@ -1,9 +1,9 @@
 -- What a task's own act changes below it.
-use Rattle.std.proofs.Common.{◌≡◌, ℕ, ◌==◌, ◌&&◌, ◌+◌, Bool, true, false, List, [], ◌∷◌, refl, sym, ap, subst, arith}
+use Rattle.std.proofs.Common.{◌≡◌, ℕ, ◌==◌, ◌&&◌, ◌+◌, Bool, true, false, List, [], ◌∷◌, Some, None, refl, sym, ap, subst, arith}
 use Rattle.vx_model.specs.Ty.{list}
 use Rattle.vx_plan.specs.PlanData.{Setting, Item}
 use Rattle.vx_path.specs.Path.{under, inside}
-use Rattle.vx_machine_view.specs.State.{Next, put, append, shut_kids, join_kids, Mind, no_chunk, one_chunk, by_chunk, by_column, by_list, ending, made, Desk, Tasks, no_tasks, task_then}
+use Rattle.vx_machine_view.specs.State.{Next, put, hand_on, append, shut_kids, join_kids, Mind, no_chunk, one_chunk, by_chunk, by_column, by_list, by_block, by_size, as_one, ending, passing, made, Desk, Tasks, no_tasks, task_then}
 use Rattle.vx_machine_view.specs.Start.{started_task}
 use Rattle.vx_machine_view.specs.Acts.{count, give, add, column_count, take_chunk, end_columns, end_lists, take_end, do_take, do_act}
 use Rattle.vx_kept.specs.Kept.{KnowsFrom, Knows, asked_of, ready_of, kids_of}
@@ -37,7 +37,13 @@ end_grown c ks (by_list t n first from rows) = by first
     by : (z : Bool) → Grown ks (end_lists z (list t n) rows c ks).kids
     by true = same ks
     by false = same ks
+end_grown c ks (by_block len minimum t x None rows) = same ks
+end_grown c ks (by_block len minimum t x (Some j) rows) = same ks
+end_grown c ks (by_size size x None rows) = same ks
+end_grown c ks (by_size size x (Some j) rows) = same ks
+end_grown c ks (as_one t x rows) = same ks
 end_grown c ks ending = same ks
+end_grown c ks passing = same ks
 end_grown c ks (made l) = same ks
 
 chunk_grown : (s : Setting) (c : Desk) (ks : Tasks) (i : Item) (xs : List Item) (m : Mind) → Grown ks (take_chunk s c ks i xs m).kids
@@ -46,7 +52,13 @@ chunk_grown s c ks i xs (one_chunk x) = same ks
 chunk_grown s c ks i xs (by_chunk m t f e rows) = (started_task f m (under c.name (count ks)) (inside e) (i ∷ []) true, refl)
 chunk_grown s c ks i xs (by_column t rows) = same ks
 chunk_grown s c ks i xs (by_list t n first from rows) = same ks
+chunk_grown s c ks i xs (by_block len minimum t x None rows) = same ks
+chunk_grown s c ks i xs (by_block len minimum t x (Some j) rows) = same ks
+chunk_grown s c ks i xs (by_size size x None rows) = same ks
+chunk_grown s c ks i xs (by_size size x (Some j) rows) = same ks
+chunk_grown s c ks i xs (as_one t x rows) = same ks
 chunk_grown s c ks i xs ending = same ks
+chunk_grown s c ks i xs passing = same ks
 chunk_grown s c ks i xs (made l) = same ks
 
 take_grown : (s : Setting) (c : Desk) (ks : Tasks) (inbox : List Item) → Grown ks (do_take s c ks inbox).kids
@@ -56,6 +68,7 @@ take_grown s c ks (i ∷ xs) = chunk_grown s c ks i xs c.mind
 pub act_follows : (s : Setting) (number : ℕ) (c : Desk) (ks : Tasks) (todo : List Next) → Follows (touched_by todo) ks (do_act s number c ks todo).kids
 act_follows s number c ks [] = take_grown s c ks c.inbox
 act_follows s number c ks (put j i ∷ todo) = (i, refl)
+act_follows s number c ks (hand_on n i ∷ todo) = (i, refl)
 act_follows s number c ks (append x ∷ todo) = same ks
 act_follows s number c ks (shut_kids ∷ todo) = tt
 act_follows s number c ks (join_kids f ∷ todo) = tt

@@ -23,12 +23,12 @@ use Rattle.vx_machine_view.specs.Acts.{with_item, shut_desk, give, shut_all}
 use Rattle.vx_machine_view.specs.Machine.{Phase, reading, giving, closing, finished}
 use Rattle.vx_machine.specs.declared.source.Phase as held
 use Rattle.vx_machine_tasks.specs.declared.task.Task.{Task, out-Task}
-use Rattle.vx_machine_tasks.specs.Outcome.{Refused, none_past}
+use Rattle.vx_machine_nodes.specs.Outcome.{Refused, none_past}
 use Rattle.vx_machine.specs.Source.{SourceMay, ReadsNone, NoNumber}
 use Rattle.vx_machine.specs.SourceActs.{IsLate, whole_at, SourceActed, SourceRefused, ReadActed, ReadRefused}
 use Rattle.vx_machine_tasks.specs.View.{desk_of, task_row, row}
 use Rattle.vx_machine.specs.View.{phase_of}
-use Rattle.vx_machine_tasks.proofs.Fitting.{none_fit, one_fits}
+use Rattle.vx_machine_nodes.proofs.Fitting.{none_fit, one_fits}
 use Rattle.vx_machine_tasks.proofs.ViewParts.{row_out}
 
 pub no_number : (e : SourceError) → NoNumber (of_source e)
@@ -77,7 +77,7 @@ module _ (t : Ty) (before now : Option (List ChunkData)) where
   ends e h = λ root. record { told = over; asks = tt; tells = h; kind = refl; fits = refl; counted = none_fit; left = refl }
 
   pub refuses : (e : Eof) (error : WriteError) → ReadsNone before now error → SourceMay t error → NoNumber error → ReadRefused t before now e error
-  refuses e error r m k = λ root. record { told = unasked; asks = tt; tells = (r, m); cause = read_cause t error m k }
+  refuses e error r m k = λ root. record { told = unasked; asks = tt; tells = (r, m, k); cause = read_cause t error m k }
 
   pub full : (e : Eof) (b : ChunkData) (x : OrderError) → before ≡ option_map (λ cs. b ∷ cs) now → piece_type b ≡ t → Whole b → FullAt e.last x → IsLate (of_order x) → ReadRefused t before now e (of_order x)
   full e b x r y h f l = λ root. record { told = came b; asks = tt; tells = (l, r, record { typed = y; whole = h }); cause = full_cause e.last x f }

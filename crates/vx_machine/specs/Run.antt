@@ -1,5 +1,5 @@
 -- A run of the machine: its steps, one after the other.
-use Rattle.std.specs.Prelude.{◌≡◌, ◌⊎◌, ◌%◌, ◌<◌, ℕ, suc, true, false, List, [], ◌∷◌, length, Option, Some, None, slice_index}
+use Rattle.std.specs.Prelude.{◌≡◌, ◌⊎◌, ◌+◌, ◌%◌, ◌<◌, ℕ, suc, true, false, List, [], ◌∷◌, length, Option, Some, None, slice_index}
 use Rattle.vx_model.specs.Ty.{Ty}
 use Rattle.vx_model.specs.ChunkData.{ChunkData}
 use Rattle.vx_layout_tree.specs.declared.layout.Layout.{Layout}
@@ -9,12 +9,14 @@ use Rattle.vx_sink.specs.declared.context.LayoutWriterContext.{LayoutWriterConte
 use Rattle.vx_write_answer.specs.declared.step.Step.{Step}
 use Rattle.vx_write_answer.specs.declared.error.WriteError.{WriteError}
 use Rattle.vx_write_answer.specs.declared.error.WriteError.TheVariants.{BatchType, OutOfMemory}
+use Rattle.vx_sink.specs.ContextView.{counted as counted_bytes}
 use Rattle.vx_machine_view.specs.Acts.{layouts_in}
+use Rattle.vx_machine_view.specs.Reserved.{reserved_by}
 use Rattle.vx_machine_view.specs.Machine.{Machine, is_finished, machine_ids}
 use Rattle.vx_machine_view.specs.Places.{whole_ready}
 use Rattle.vx_machine.specs.Calls.{reads_in, reads_at}
 use Rattle.vx_machine_tasks.specs.Ready.{counted}
-use Rattle.vx_machine_tasks.specs.Outcome.{Kept}
+use Rattle.vx_machine_nodes.specs.Outcome.{Kept}
 use Rattle.vx_machine.specs.Steps.{StepDone, StepFails}
 
 -- where it stands: the machine, what the source still tells, and what the order tells of its sink
@@ -58,10 +60,14 @@ pub record RunDone (ctx : LayoutWriterContext) (t : Ty) (schedule : List ℕ) (x
 abbrev pub picked_at : List ℕ → ℕ → Machine → ℕ
 picked_at schedule place m = slice_index schedule place % counted (ready_at m)
 
+-- what the tracker then counts: what it did before the run, and what is reserved
+abbrev pub tracker_by : LayoutWriterContext → Machine → ℕ
+tracker_by ctx m = counted_bytes ctx + reserved_by m.root
+
 -- memory ran out before a step, where the machine hasn't finished, or one was refused
 abbrev pub Stops : LayoutWriterContext → Ty → List ℕ → ℕ → At → Option (List ChunkData) → WriteError → Type 0
 Stops ctx t schedule place x to_come e = ((e ≡ OutOfMemory) × (to_come ≡ x.to_come) × (is_finished x.machine ≡ false))
-    ⊎ ((0 < ready_at x.machine) × StepFails ctx (machine_ids x.machine) (picked_at schedule place x.machine) t x.to_come to_come x.outlet x.machine e)
+    ⊎ ((0 < ready_at x.machine) × StepFails ctx (tracker_by ctx x.machine) (machine_ids x.machine) (picked_at schedule place x.machine) t x.to_come to_come x.outlet x.machine e)
 
 pub record RunStopped (ctx : LayoutWriterContext) (t : Ty) (schedule : List ℕ) (x : At) (trace : List Step) (to_come : Option (List ChunkData)) (outlet : Outlet) (e : WriteError) : Type 0 where
   pub end : At

@@ -11,8 +11,8 @@ use Rattle.vx_write_answer.specs.declared.error.WriteError.TheVariants.{SourceFa
 use Rattle.vx_machine_promises.specs.Write.{Answer, unasked, came, over}
 use Rattle.vx_machine_view.specs.State.{Tasks}
 use Rattle.vx_machine_view.specs.Machine.{Phase, reading, giving, closing, finished, Machine, source_step}
-use Rattle.vx_machine_tasks.specs.Outcome.{action_of, AllFit, Refused, none_past}
-use Rattle.vx_machine.specs.Source.{ReadsNone, SourceMay}
+use Rattle.vx_machine_nodes.specs.Outcome.{action_of, AllFit, Refused, none_past}
+use Rattle.vx_machine.specs.Source.{ReadsNone, SourceMay, NoNumber}
 
 -- what it tells, where it is asked: a whole batch of the type, or the end
 abbrev pub Tells : Ty → Option (List ChunkData) → Option (List ChunkData) → Answer → Type 0
@@ -30,11 +30,11 @@ abbrev pub IsElsewhere : WriteError → Type 0
 IsElsewhere SourceFault = ⊥
 IsElsewhere e = Unit {0}
 
--- The same where the step is refused. Where it is asked, it may also have told a batch of another type, or failed, and it fails nowhere
--- else. Behind its end nothing is refused.
+-- The same where the step is refused. Where it is asked, it may also have told a batch of another type, or failed: then no number is too
+-- large. It fails nowhere else. Behind its end nothing is refused.
 
 abbrev pub TellsNothing : Phase → ℕ → Ty → Option (List ChunkData) → Option (List ChunkData) → WriteError → Type 0
-TellsNothing (reading e) zero t before now error = ReadsNone before now error × SourceMay t error
+TellsNothing (reading e) zero t before now error = ReadsNone before now error × SourceMay t error × NoNumber error
 TellsNothing (reading e) (suc k) t before now error = (now ≡ before) × IsElsewhere error
 TellsNothing (giving e i) k t before now error = (now ≡ before) × IsElsewhere error
 TellsNothing closing k t before now error = (now ≡ before) × IsElsewhere error

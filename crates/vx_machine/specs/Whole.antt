@@ -8,7 +8,8 @@ use Rattle.vx_machine.specs.declared.source.Phase.{Phase}
 use Rattle.vx_machine.specs.declared.source.Phase.TheVariants.{Reading, Giving, Closing, Finished}
 use Rattle.vx_machine.specs.declared.machine.Machine.{Machine}
 use Rattle.vx_machine_tasks.specs.declared.task.Task.{Task}
-use Rattle.vx_machine_tasks.specs.Causes.{StartMay}
+use Rattle.vx_machine_nodes.specs.Causes.{StartMay}
+use Rattle.vx_machine_tasks.specs.Ledger.{task_reserved}
 use Rattle.vx_machine_tasks.specs.Stocks.{task_stock}
 use Rattle.vx_machine.specs.Source.{phase_stock}
 use Rattle.vx_machine_tasks.specs.Ready.{kid_of, ready_in, is_done}
@@ -16,6 +17,10 @@ use Rattle.vx_machine_tasks.specs.Ready.{kid_of, ready_in, is_done}
 -- all that it holds
 abbrev pub machine_stock : Machine → Stock
 machine_stock m = both (phase_stock m.phase) (task_stock m.root)
+
+-- and has reserved
+abbrev pub machine_reserved : Machine → ℕ
+machine_reserved m = task_reserved m.root
 
 abbrev pub may_source : Phase → Task → Bool
 may_source (Reading e) root = true

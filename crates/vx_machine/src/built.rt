@@ -5,6 +5,7 @@ ghost use Rattle.vx_strategy.specs.FieldWays.{field_ways};
 ghost use Rattle.vx_strategy.specs.PathWays.{path_ways};
 ghost use Rattle.vx_strategy.specs.StrategyView.{strategy_data};
 ghost use Rattle.vx_strategy.specs.WrapViews.{wraps};
+ghost use Rattle.vx_machine.specs.Wrappers.{records_zones};
 ghost use Rattle.vx_machine_view.specs.Built.{is_built, are_built, wraps_built};
 
 use vx_strategy::{FieldWriter, Overrides, PathWriter, Strategy, Wrapper};
@@ -37,8 +38,10 @@ pub fn is_built(strategy: &Strategy) -> bool
             let wrappers = wrappers_built(&table.wrappers);
             validity && (leaf && (overrides && wrappers))
         }
-        Strategy::Dict(_) | Strategy::Zoned(_) | Strategy::Repartition(_) => false,
-        Strategy::Buffered(_) | Strategy::Collect(_) | Strategy::Compressing(_) => false,
+        Strategy::Repartition(by) => is_built(by.child().strategy()),
+        Strategy::Buffered(by) => is_built(by.child().strategy()),
+        Strategy::Collect(into) => is_built(into.child().strategy()),
+        Strategy::Dict(_) | Strategy::Zoned(_) | Strategy::Compressing(_) => false,
     }
 }
 
@@ -76,9 +79,23 @@ fn paths_built(writers: &[PathWriter]) -> bool
     true
 }
 
-/// No wrapper is built so far.
+/// Whether none of the wrappers records zones.
 fn wrappers_built(wrappers: &[Wrapper]) -> bool
     ensures { result ≡ wraps_built (wraps wrappers.now) }
 {
-    wrappers.is_empty()
+    'wrappers: for wrapper in wrappers {
+        if is_zoned(wrapper) {
+            return false;
+        }
+    }
+    true
+}
+
+fn is_zoned(wrapper: &Wrapper) -> bool
+    ensures { result ≡ records_zones wrapper.now }
+{
+    match wrapper {
+        Wrapper::Zoned(..) => true,
+        Wrapper::Repartition(_) | Wrapper::Buffered(_) => false,
+    }
 }

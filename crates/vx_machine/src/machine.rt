@@ -1,6 +1,6 @@
 //! The machine.
 
-ghost use Rattle.std.specs.Prelude.{◌≡◌, ◌<◌, ◌%◌, [], ◌∷◌, IsTrue, IfOk, IfErr, OnOk, OnErr};
+ghost use Rattle.std.specs.Prelude.{◌≡◌, ◌+◌, ◌<◌, ◌≤◌, ◌%◌, [], ◌∷◌, IsTrue, IfOk, IfErr, OnOk, OnErr};
 ghost use Rattle.std.specs.FinMap as fin;
 ghost use Rattle.std.specs.Arc.{arc_value};
 ghost use Rattle.vx_model.specs.TyView.{ty};
@@ -14,12 +14,13 @@ ghost use Rattle.vx_machine_view.specs.Start.{first_indices};
 ghost use Rattle.vx_machine_view.specs.Acts.{layouts_in};
 ghost use Rattle.vx_machine_view.specs.Machine.{is_finished as has_finished};
 ghost use Rattle.vx_machine_view.specs.Places.{whole_ready};
-ghost use Rattle.vx_sink.specs.ContextView.{is_marked};
+ghost use Rattle.vx_sink.specs.ContextView.{is_marked, counted as counted_bytes};
+ghost use Rattle.vx_machine_nodes.specs.Ledger.{Paid, told_by};
 ghost use Rattle.vx_machine_view.specs.Built.{is_built};
-ghost use Rattle.vx_machine_tasks.specs.Calls.{SinkTold};
+ghost use Rattle.vx_machine_nodes.specs.Calls.{SinkTold};
 ghost use Rattle.vx_machine.specs.Calls.{SourceTold, reads_at};
-ghost use Rattle.vx_machine_tasks.specs.Causes.{StartMay};
-ghost use Rattle.vx_machine_tasks.specs.Outcome.{Kept};
+ghost use Rattle.vx_machine_nodes.specs.Causes.{StartMay};
+ghost use Rattle.vx_machine_nodes.specs.Outcome.{Kept};
 ghost use Rattle.vx_machine_tasks.specs.Pairs.{task_pairs, AllMay};
 ghost use Rattle.vx_machine_tasks.specs.Ready.{is_done as is_done_task, counted};
 ghost use Rattle.vx_machine.specs.Source.{SourceMay};
@@ -28,10 +29,11 @@ ghost use Rattle.vx_machine_tasks.specs.Starting.{IsAllowed, Counted, Started, F
 ghost use Rattle.vx_machine.specs.Starting.{WholeRefused, machine_at};
 ghost use Rattle.vx_machine.specs.Steps.{StepDone, StepFails};
 ghost use Rattle.vx_machine_tasks.specs.Stocks.{task_stock};
-ghost use Rattle.vx_machine_tasks.specs.View.{form_of, task_row, row};
+ghost use Rattle.vx_machine_nodes.specs.View.{form_of};
+ghost use Rattle.vx_machine_tasks.specs.View.{task_row, row};
 ghost use Rattle.vx_machine.specs.View.{phase_of, machine_of};
 ghost use Rattle.vx_machine_tasks.specs.declared.task.Task.{out-Task};
-ghost use Rattle.vx_machine.specs.Whole.{machine_stock, machine_ready, may_source as may_act, has_closed as is_closed, is_finished, StepMay, WholeStartMay};
+ghost use Rattle.vx_machine.specs.Whole.{machine_stock, machine_reserved, machine_ready, may_source as may_act, has_closed as is_closed, is_finished, StepMay, WholeStartMay};
 
 use crate::built::is_built;
 use crate::source::{Phase, act_source, give_up_phase};
@@ -132,6 +134,7 @@ impl Machine {
     ) -> Result<Machine, WriteError>
         requires { Owned (O.active order.old) (both (end_stock stream) (end_stock eof)) }
         ensures moved { Moved (O.active order.old) (O.active order.new) (both (end_stock stream) (end_stock eof)) (ok_stock machine_stock result) }
+        ensures unreserved { IfOk result (λ m. machine_reserved m ≡ 0) }
         ensures built { OnOk result (IsTrue (is_built (strategy_data strategy.now))) }
         ensures outlet { O.outlet order.new ≡ O.outlet order.old }
         ensures sink { O.sink order.new ≡ O.sink order.old }
@@ -210,6 +213,7 @@ impl Machine {
     ) -> Result<ActionKind, WriteError>
         requires { Owned (O.active order.old) (machine_stock self.old) }
         ensures moved { Moved (O.active order.old) (O.active order.new) (machine_stock self.old) (machine_stock self.new) }
+        ensures reserved { machine_reserved self.new ≡ machine_reserved self.old }
         ensures outlet { O.outlet order.new ≡ O.outlet order.old }
         ensures sink { O.sink order.new ≡ O.sink order.old }
         ensures kind { B.kind source.new ≡ B.kind source.old }
@@ -238,11 +242,13 @@ impl Machine {
         counts: &mut Counts,
     ) -> Result<Step, WriteError>
         requires owned { Owned (O.active order.old) (machine_stock self.old) }
+        requires reserved { machine_reserved self.old ≤ counted_bytes ctx.old }
         requires ready { 0 < machine_ready (O.active order.old) self.old }
         requires count { ready ≡ counted (machine_ready (O.active order.old) self.old) }
         requires fresh { Fresh (fin.keys (O.active order.old)) counts.old (row (out-Task self.old.root).kids.items) }
         requires allowed { AllMay (O.may_write order.old) (task_pairs self.old.root) }
         ensures moved { Moved (O.active order.old) (O.active order.new) (machine_stock self.old) (machine_stock self.new) }
+        ensures tracked { Paid ctx.old ctx.new (machine_reserved self.old) (machine_reserved self.new) }
         ensures told { IfOk result (λ s. (s.ready ≡ counted (machine_ready (O.active order.old) self.old)) × (s.picked ≡ pick % s.ready)) }
         ensures kind { B.kind source.new ≡ B.kind source.old }
         ensures source_told { SourceTold (B.faults source.old) (B.faults source.new) (B.may_fail source.old) (B.may_fail source.new)
@@ -253,10 +259,10 @@ impl Machine {
         ensures cause { IfErr result StepMay }
         ensures done { IfOk result (λ s. StepDone ctx.old (fin.keys (O.active order.old)) s.picked (B.kind source.old) (B.to_come source.old) (B.to_come source.new)
             (O.outlet order.old) (O.outlet order.new) (machine_of self.old) (machine_of self.new) s.task s.action) }
-        ensures refused { IfErr result (StepFails ctx.old (fin.keys (O.active order.old)) (pick % counted (machine_ready (O.active order.old) self.old)) (B.kind source.old) (B.to_come source.old) (B.to_come source.new)
+        ensures refused { IfErr result (StepFails ctx.old (counted_bytes ctx.old) (fin.keys (O.active order.old)) (pick % counted (machine_ready (O.active order.old) self.old)) (B.kind source.old) (B.to_come source.old) (B.to_come source.new)
             (O.outlet order.old) (machine_of self.old)) }
         ensures kept { OnErr result (Kept (O.outlet order.old) (O.outlet order.new)) }
-        ensures context { ctx.new ≡ ctx.old }
+        ensures context { told_by ctx.new ≡ told_by ctx.old }
         ensures compressor { _compressor.new ≡ _compressor.old }
         ensures known { OnOk result (Knows counts.new (row (out-Task self.new.root).kids.items)) }
     {
@@ -298,9 +304,11 @@ impl Machine {
         compressor: &mut C,
     ) -> Result<Step, WriteError>
         requires owned { Owned (O.active order.old) (machine_stock self.old) }
+        requires reserved { machine_reserved self.old ≤ counted_bytes ctx.old }
         requires ready { 0 < machine_ready (O.active order.old) self.old }
         requires allowed { AllMay (O.may_write order.old) (task_pairs self.old.root) }
         ensures moved { Moved (O.active order.old) (O.active order.new) (machine_stock self.old) (machine_stock self.new) }
+        ensures tracked { Paid ctx.old ctx.new (machine_reserved self.old) (machine_reserved self.new) }
         ensures told { IfOk result (λ s. (s.ready ≡ counted (machine_ready (O.active order.old) self.old)) × (s.picked ≡ pick % s.ready)) }
         ensures kind { B.kind source.new ≡ B.kind source.old }
         ensures source_told { SourceTold (B.faults source.old) (B.faults source.new) (B.may_fail source.old) (B.may_fail source.new)
@@ -311,10 +319,10 @@ impl Machine {
         ensures cause { IfErr result StepMay }
         ensures done { IfOk result (λ s. StepDone ctx.old (fin.keys (O.active order.old)) s.picked (B.kind source.old) (B.to_come source.old) (B.to_come source.new)
             (O.outlet order.old) (O.outlet order.new) (machine_of self.old) (machine_of self.new) s.task s.action) }
-        ensures refused { IfErr result (StepFails ctx.old (fin.keys (O.active order.old)) (pick % counted (machine_ready (O.active order.old) self.old)) (B.kind source.old) (B.to_come source.old) (B.to_come source.new)
+        ensures refused { IfErr result (StepFails ctx.old (counted_bytes ctx.old) (fin.keys (O.active order.old)) (pick % counted (machine_ready (O.active order.old) self.old)) (B.kind source.old) (B.to_come source.old) (B.to_come source.new)
             (O.outlet order.old) (machine_of self.old)) }
         ensures kept { OnErr result (Kept (O.outlet order.old) (O.outlet order.new)) }
-        ensures context { ctx.new ≡ ctx.old }
+        ensures context { told_by ctx.new ≡ told_by ctx.old }
         ensures compressor { compressor.new ≡ compressor.old }
     {
         let mut counts = Counts::new(self.alloc);
@@ -337,6 +345,7 @@ impl Machine {
     pub fn finish(self) -> Layout
         requires { IsTrue (is_finished self) }
         ensures free { machine_stock self ≡ none }
+        ensures unreserved { machine_reserved self ≡ 0 }
         ensures layout { layouts_in (machine_of self).root ≡ layout_data result ∷ [] }
     {
         let Machine {
@@ -351,14 +360,17 @@ impl Machine {
         }
     }
 
-    /// Gives up all ids and pointers, after an error as well. What is active then is what was, less what the machine held.
-    pub fn refuse<O: Order>(self, _ctx: &mut LayoutWriterContext, order: &mut O)
-        requires { Owned (O.active order.old) (machine_stock self) }
+    /// Gives up all ids and pointers, and releases all reservations, after an error as well. What is active then is what was,
+    /// less what the machine held, and so it is with what the tracker counts.
+    pub fn refuse<O: Order>(self, ctx: &mut LayoutWriterContext, order: &mut O)
+        requires owned { Owned (O.active order.old) (machine_stock self) }
+        requires reserved { machine_reserved self ≤ counted_bytes ctx.old }
         ensures moved { Moved (O.active order.old) (O.active order.new) (machine_stock self) none }
         ensures empty { Exact (O.active order.old) (machine_stock self) → IsNone (O.active order.new) }
         ensures outlet { O.outlet order.new ≡ O.outlet order.old }
         ensures sink { O.sink order.new ≡ O.sink order.old }
-        ensures context { _ctx.new ≡ _ctx.old }
+        ensures tracked { Paid ctx.old ctx.new (machine_reserved self) 0 }
+        ensures context { told_by ctx.new ≡ told_by ctx.old }
     {
         let Machine {
             alloc: _,
@@ -366,6 +378,6 @@ impl Machine {
             root,
         } = self;
         give_up_phase(order, phase);
-        root.refuse(order);
+        root.refuse(ctx, order);
     }
 }

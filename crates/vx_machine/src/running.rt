@@ -8,7 +8,9 @@ ghost use Rattle.vx_write_answer.specs.Causes.{errs, is_source_fault, is_sink_fa
 ghost use Rattle.vx_machine.specs.Calls.{reads_in, appends_in};
 ghost use Rattle.vx_machine.specs.Run.{at, RunDone, RunTold};
 ghost use Rattle.vx_machine.specs.View.{machine_of};
-ghost use Rattle.vx_machine.specs.Whole.{machine_stock, StepMay};
+ghost use Rattle.vx_sink.specs.ContextView.{counted};
+ghost use Rattle.vx_machine_nodes.specs.Ledger.{told_by};
+ghost use Rattle.vx_machine.specs.Whole.{machine_stock, machine_reserved, StepMay};
 
 use crate::machine::Machine;
 use vx_kept::Counts;
@@ -43,6 +45,7 @@ pub fn run<B: BatchSource, O: Order, C: CompressorPlugin>(
     trace: &mut Vec<Step>,
 ) -> Result<Option<Layout>, WriteError>
     requires owned { Owned (O.active order.old) (machine_stock machine) }
+    requires unreserved { machine_reserved machine ≡ 0 }
     requires allowed { (o : O) (p b : List ℕ) → O.may_write o p b }
     ensures moved { Moved (O.active order.old) (O.active order.new) (machine_stock machine) none }
     ensures kind { B.kind source.new ≡ B.kind source.old }
@@ -56,7 +59,9 @@ pub fn run<B: BatchSource, O: Order, C: CompressorPlugin>(
         (RunDone ctx.old (B.kind source.old) schedule.now (at (machine_of machine) (B.to_come source.old) (O.outlet order.old)) trace.new.items (B.to_come source.new) (O.outlet order.new))
         (RunTold ctx.old (B.kind source.old) schedule.now (at (machine_of machine) (B.to_come source.old) (O.outlet order.old)) trace.new.items (B.to_come source.new) (O.outlet order.new)
         (B.must_fail source.old)) }
-    ensures context { ctx.new ≡ ctx.old }
+    // Behind it the tracker counts what it did.
+    ensures tracked { counted ctx.new ≡ counted ctx.old }
+    ensures context { told_by ctx.new ≡ told_by ctx.old }
     ensures compressor { compressor.new ≡ compressor.old }
 {
     let mut counts = Counts::new(machine.alloc);

@@ -11,13 +11,15 @@ ghost use Rattle.vx_write_answer.specs.Causes.{of_order};
 ghost use Rattle.vx_machine.specs.Calls.{ReadTold, SourceTold, reads_at};
 ghost use Rattle.vx_machine.specs.Source.{phase_stock, Reads, IsTyped, IsWhole, SourceMay, NoNumber};
 ghost use Rattle.vx_machine.specs.SourceActs.{IsLate, SourceActed, SourceRefused, ReadActed, ReadRefused};
+ghost use Rattle.vx_machine_tasks.specs.Ledger.{task_reserved};
 ghost use Rattle.vx_machine_tasks.specs.Stocks.{task_stock};
 ghost use Rattle.vx_machine_tasks.specs.View.{task_row};
 ghost use Rattle.vx_machine.specs.View.{phase_of};
 
 use vx_chunk::Chunk;
 use vx_machine_ids::{give_up_id, give_up_pointer, take_id};
-use vx_machine_tasks::{Item, Task, give_up_item, has_type};
+use vx_machine_nodes::{Item, give_up_item, has_type};
+use vx_machine_tasks::Task;
 use vx_order::{Order, OrderError};
 use vx_sequence::{SequenceId, SequencePointer};
 use vx_sink::BatchSource;
@@ -177,6 +179,7 @@ pub(crate) fn act_source<O: Order, B: BatchSource>(
 ) -> (Phase, Result<ActionKind, WriteError>)
     requires { Owned (O.active order.old) (both (phase_stock phase) (task_stock root.old)) }
     ensures moved { Moved (O.active order.old) (O.active order.new) (both (phase_stock phase) (task_stock root.old)) (both (phase_stock result.0) (task_stock root.new)) }
+    ensures reserved { task_reserved root.new ≡ task_reserved root.old }
     ensures outlet { O.outlet order.new ≡ O.outlet order.old }
     ensures sink { O.sink order.new ≡ O.sink order.old }
     ensures kind { B.kind source.new ≡ B.kind source.old }

@@ -17,13 +17,15 @@ use Rattle.vx_machine_turns.specs.Starts.{start_fault as form_fault}
 use Rattle.vx_machine_turns.specs.Planned.{StartFaultsAgree}
 use Rattle.vx_order.specs.Outlet.{Outlet, own, shared, borrow_of}
 use Rattle.vx_sink.specs.declared.context.LayoutWriterContext.{LayoutWriterContext}
-use Rattle.vx_sink.specs.ContextView.{is_marked}
+use Rattle.vx_sink.specs.ContextView.{is_marked, counted}
 use Rattle.vx_write_answer.specs.declared.step.Step.{Step}
 use Rattle.vx_write_answer.specs.declared.error.WriteError.{WriteError}
 use Rattle.vx_write_answer.specs.declared.error.WriteError.TheVariants.{SourceFault, SinkFault, CompressFault, BatchType, NotStruct, DuplicateField, ManyChunks, EmptyList, ZoneCut, ForbiddenAggregate, ForbiddenEncoding, TooLarge, OutOfMemory, Unbuilt, Stopped}
 use Rattle.vx_machine_promises.specs.Write.{Write, Future, Open, planned}
 use Rattle.vx_machine_view.specs.Built.{is_built}
+use Rattle.vx_machine_runs.specs.Runs.{scheduled}
 use Rattle.vx_machine_runs.specs.Steps.{StartIsCaused}
+use Rattle.vx_machine_runs.specs.Tracked.{TrackerComesWithin}
 use Rattle.vx_machine_runs.proofs.Asking.{all_of_schema}
 use Rattle.vx_machine_runs.proofs.Ending.{none_later, open_none, none_planned}
 use Rattle.vx_machine_runs.proofs.Sounding.{fits, none_has}
@@ -37,7 +39,8 @@ use Rattle.vx_machine_ran.specs.Ran.{write_by, OwnSink, own_sink}
 use Rattle.vx_machine_ran.specs.RefusedAct.{StartRefuses}
 use Rattle.vx_machine_ran.specs.Traced.{tasks_of}
 use Rattle.vx_machine_ran.specs.Runs.{AllDone, DoneIsWritten, Halts, StoppedHalts, IsLeft, RunsLeaveSinks}
-use Rattle.vx_machine_ran.specs.Written.{AreFirst, NeedsNumber, HasCause, Halted}
+use Rattle.vx_machine_ran.specs.Tracking.{Passes, PassesAt}
+use Rattle.vx_machine_ran.specs.Written.{AreFirst, NeedsNumber, HasCause, write_of, Halted}
 use Rattle.vx_machine_ran.specs.Answered.{IsStarted, HasRun, HasStopped, WroteAll, AnswersAreWritten, AnswersLeaveSinks, IsOutside, AnswersAreComplete}
 use Rattle.vx_machine_ran.proofs.Leading.{told_same, then_same}
 use Rattle.vx_machine_ran.proofs.Writing.{own_more}
@@ -63,7 +66,7 @@ module _ (faults : StartFaultStands) (agree : StartFaultsAgree) (counts : StartI
 
   -- no batch was read, whatever comes, this is the cause, and the start's own
   abbrev Cause : WriteError → Type 0
-  Cause e = (misfits e ≡ 0) × ((f : Future) → HasCause t (is_built w ≡ false) (planned g [] f) [] first 0 e) × StartRefuses s w t m e
+  Cause e = (misfits e ≡ 0) × ((f : Future) → HasCause t (is_built w ≡ false) (Passes g [] f []) (planned g [] f) [] first 0 e) × StartRefuses s w t m e
 
   -- nothing stands
   none_stands : (schedule : List ℕ) (e : WriteError) → Cause e → Halts g first first to_come to_come before before schedule [] e
@@ -88,7 +91,7 @@ module _ (faults : StartFaultStands) (agree : StartFaultsAgree) (counts : StartI
   form_cause : is_built w ≡ true → (e : WriteError) → FormRefused (form_at w t) m root_eof e → Cause e
   form_cause b NotStruct h = (refl, λ f. fault_stands not_struct f h, starts_with not_struct h)
   form_cause b (DuplicateField name) h = (refl, λ f. fault_stands (duplicate_field name) f h, starts_with (duplicate_field name) h)
-  form_cause b (TooLarge n) h = (refl, λ f. inr (subst (λ z. IsPast z (planned g [] f).numbers) (sym h.0) (counts g f h.1.0 b h.1.1 h.1.2)), h)
+  form_cause b (TooLarge n) h = (refl, λ f. inr (inl (subst (λ z. IsPast z (planned g [] f).numbers) (sym h.0) (counts g f h.1.0 b h.1.1 h.1.2))), h)
   form_cause b OutOfMemory h = (refl, λ f. tt, tt)
   form_cause b SourceFault h = absurd h
   form_cause b SinkFault h = absurd h
@@ -176,19 +179,22 @@ module _ (g : Write) (first next : ℕ) (to_come to_come_now : Option (List Chun
 -- ---- what was answered
 
 -- by the plan of the batches taken
-halted : (g : Write) (first next : ℕ) (to_come to_come_now : Option (List ChunkData)) (before now : Option (List (List ℕ))) (schedule : List ℕ) (steps : List Step) (e : WriteError)
-    → Halts g first next to_come to_come_now before now schedule steps e → Halted g.setting g.way g.type g.mark first next to_come to_come_now before now schedule steps e
-halted g first next to_come to_come_now before now schedule steps e h = record {
-  heard = h.heard;
-  stand = h.stand;
-  front = λ xs told. front_of_all g first next to_come to_come_now before now schedule steps e h xs told;
-  ended = h.ended;
-  cause = subst (λ z. HasCause g.type (is_built g.way ≡ false) z h.stand.taken next (length h.stand.appended) e) (none_planned g (of_schema g.type h.stand.taken) h.heard)
-      (h.cause (none_later h.heard) (open_none h.heard));
-  traced = h.traced;
-  asked = h.asked;
-  refused = h.refused;
-}
+module _ (s : Setting) (w : StrategyData) (t : Ty) (m : Bool) (tracker first next : ℕ) (to_come to_come_now : Option (List ChunkData)) (before now : Option (List (List ℕ))) (schedule : List ℕ) (steps : List Step) (e : WriteError) where
+  abbrev by_itself : Write
+  by_itself = write_of s w t m tracker
+
+  halted : Halts by_itself first next to_come to_come_now before now schedule steps e → Halted s w t m tracker first next to_come to_come_now before now schedule steps e
+  halted h = record {
+    heard = h.heard;
+    stand = h.stand;
+    front = λ xs told. front_of_all by_itself first next to_come to_come_now before now schedule steps e h xs told;
+    ended = h.ended;
+    cause = subst (λ z. HasCause t (is_built w ≡ false) (PassesAt by_itself (of_schema t h.stand.taken) h.heard steps) z h.stand.taken next (length h.stand.appended) e)
+        (none_planned by_itself (of_schema t h.stand.taken) h.heard) (h.cause (none_later h.heard) (open_none h.heard));
+    traced = h.traced;
+    asked = h.asked;
+    refused = h.refused;
+  }
 
 module _ (done : DoneIsWritten) (stopped : StoppedHalts) (left : RunsLeaveSinks) (faults : StartFaultStands) (agree : StartFaultsAgree) (counts : StartIsCaused) (ctx : LayoutWriterContext)
     (image : ℕ → ChunkData → ChunkData) (w : StrategyData) (t : Ty) (schedule : List ℕ) (to_come to_come_now : Option (List ChunkData)) (borrow first : ℕ) (before : Option (List (List ℕ)))
@@ -247,14 +253,15 @@ last_of_schema : (t : Ty) (front : List ChunkData) (b : ChunkData) → OfSchema 
 last_of_schema t [] b h = h.0
 last_of_schema t (x ∷ front) b h = last_of_schema t front b h.1
 
-module _ (t : Ty) (unbuilt : Type 0) (never : unbuilt → ⊥) (p : Plan) (taken : List ChunkData) (first next stand : ℕ) (clean : p.faults ≡ []) (typed : OfSchema t taken)
+module _ (t : Ty) (unbuilt : Type 0) (never : unbuilt → ⊥) (passes : ℕ → Type 0) (below : (n : ℕ) → passes n → n < 2 ^ 64) (past : (n : ℕ) → passes n → 2 ^ 64 ≤ n) (p : Plan) (taken : List ChunkData) (first next stand : ℕ) (clean : p.faults ≡ []) (typed : OfSchema t taken)
     (numbered : first + length p.pairs ≤ 2 ^ 32) (fit : Fit p.numbers) (stands : next ≡ first + stand) where
-  number_fits : (n : ℕ) → NeedsNumber p next stand n ⊎ IsPast n p.numbers → ⊥
+  number_fits : (n : ℕ) → NeedsNumber p next stand n ⊎ IsPast n p.numbers ⊎ passes n → ⊥
   number_fits n (inl (is, big, more)) = omega (arith, is, big, more, stands, numbered)
-  number_fits n (inr (big, inl i)) = let l : n < 2 ^ 64 = fits n p.numbers fit i in omega (arith, l, big)
-  number_fits n (inr (big, inr (is, (k, i, past)))) = let l : k < 2 ^ 64 = fits k p.numbers fit i in omega (arith, l, past)
+  number_fits n (inr (inl (big, inl i))) = let l : n < 2 ^ 64 = fits n p.numbers fit i in omega (arith, l, big)
+  number_fits n (inr (inl (big, inr (is, (k, i, far))))) = let l : k < 2 ^ 64 = fits k p.numbers fit i in omega (arith, l, far)
+  number_fits n (inr (inr h)) = let l : n < 2 ^ 64 = below n h in let b : 2 ^ 64 ≤ n = past n h in omega (arith, l, b)
 
-  only_outside : (e : WriteError) → HasCause t unbuilt p taken next stand e → IsOutside e
+  only_outside : (e : WriteError) → HasCause t unbuilt passes p taken next stand e → IsOutside e
   only_outside OutOfMemory h = inl refl
   only_outside SourceFault h = inr (inl refl)
   only_outside SinkFault h = inr (inr refl)
@@ -273,21 +280,40 @@ module _ (t : Ty) (unbuilt : Type 0) (never : unbuilt → ⊥) (p : Plan) (taken
 
 module _ (g : Write) (first next : ℕ) (to_come to_come_now : Option (List ChunkData)) (before now : Option (List (List ℕ))) (schedule : List ℕ) (steps : List Step) (e : WriteError)
     (h : Halts g first next to_come to_come_now before now schedule steps e) (xs : List ChunkData) (told : to_come ≡ Some xs) (built : is_built g.way ≡ true)
-    (valid : Valid g.setting g.way g.type g.mark first g.tracker xs) where
+    (valid : Valid g.setting g.way g.type g.mark first g.tracker xs) (within : TrackerComesWithin) where
   abbrev p : Plan
   p = source_plan g.setting g.way g.type g.mark xs true
 
   -- where these are still to come
-  by_rest : (rest : List ChunkData) × (to_come_now ≡ Some rest) × (xs ≡ h.stand.taken ++ rest) → IsOutside e
-  by_rest (rest, left, is) =
-      only_outside g.type (is_built g.way ≡ false) (λ i. true≢false (sym built ∙ i)) p h.stand.taken first next (length h.stand.appended) valid.faultless
-      (front_of_schema g.type h.stand.taken rest (subst (λ z. OfSchema g.type z) is valid.of_schema)) valid.numbered valid.fit h.stand.numbers e
-      (subst (λ z. HasCause g.type (is_built g.way ≡ false) z h.stand.taken next (length h.stand.appended) e)
-      (all_planned g first next to_come to_come_now before now schedule steps e h xs rest left is valid.of_schema)
-      (h.cause (all_left rest) (still_open g first next to_come to_come_now before now schedule steps e h xs rest left is)))
+  module _ (rest : List ChunkData) (left : to_come_now ≡ Some rest) (is : xs ≡ h.stand.taken ++ rest) where
+    abbrev Past : ℕ → Type 0
+    Past n = Passes g (of_schema g.type h.stand.taken) (all_left rest) steps n
+
+    plan_is : planned g (of_schema g.type h.stand.taken) (all_left rest) ≡ p
+    plan_is = all_planned g first next to_come to_come_now before now schedule steps e h xs rest left is valid.of_schema
+
+    below : (n : ℕ) → Past n → n < 2 ^ 64
+    below n q =
+        let l : n ≤ g.tracker + (planned g (of_schema g.type h.stand.taken) (all_left rest)).reserved = within (scheduled g q.picks) (of_schema g.type h.stand.taken) (all_left rest) q.notes q.place n q.comes in
+        let k : n ≤ g.tracker + p.reserved = subst (λ (z : Plan). n ≤ g.tracker + z.reserved) plan_is l in
+        let v : g.tracker + p.reserved < 2 ^ 64 = valid.tracked in
+        omega (arith, k, v)
+
+    past : (n : ℕ) → Past n → 2 ^ 64 ≤ n
+    past n q = q.past
+
+    by_rest : IsOutside e
+    by_rest =
+        only_outside g.type (is_built g.way ≡ false) (λ i. true≢false (sym built ∙ i)) Past below past p h.stand.taken first next (length h.stand.appended) valid.faultless
+        (front_of_schema g.type h.stand.taken rest (subst (λ z. OfSchema g.type z) is valid.of_schema)) valid.numbered valid.fit h.stand.numbers e
+        (subst (λ z. HasCause g.type (is_built g.way ≡ false) Past z h.stand.taken next (length h.stand.appended) e) plan_is
+        (h.cause (all_left rest) (still_open g first next to_come to_come_now before now schedule steps e h xs rest left is)))
 
   pub valid_outside : IsOutside e
-  valid_outside = by_rest (rest_told h.stand.taken xs to_come_now (sym told ∙ h.stand.came))
+  valid_outside = by (rest_told h.stand.taken xs to_come_now (sym told ∙ h.stand.came))
+    where
+      by : (rest : List ChunkData) × (to_come_now ≡ Some rest) × (xs ≡ h.stand.taken ++ rest) → IsOutside e
+      by (rest, left, is) = by_rest rest left is
 
 -- ---- the laws
 
@@ -295,9 +321,9 @@ pub answers_are_written : DoneIsWritten → StoppedHalts → RunsLeaveSinks → 
 answers_are_written done stopped left faults agree counts ctx image w t schedule to_come to_come_now borrow first before steps after (Ok l) keeps short h =
     done_answer done stopped left faults agree counts ctx image w t schedule to_come to_come_now borrow first before steps after keeps short l h
 answers_are_written done stopped left faults agree counts ctx image w t schedule to_come to_come_now borrow first before steps after (Err e) keeps short h =
-    own_more after _ (λ next now. Halted (setting_of ctx image) w t (is_marked ctx) first next to_come to_come_now before now schedule steps e)
+    own_more after _ (λ next now. Halted (setting_of ctx image) w t (is_marked ctx) (counted ctx) first next to_come to_come_now before now schedule steps e)
     (stopped_answer done stopped left faults agree counts ctx image w t schedule to_come to_come_now borrow first before steps after keeps e h)
-    (λ next now p. halted (write_by ctx image w t) first next to_come to_come_now before now schedule steps e p)
+    (λ next now p. halted (setting_of ctx image) w t (is_marked ctx) (counted ctx) first next to_come to_come_now before now schedule steps e p)
 
 pub answers_leave_sinks : DoneIsWritten → StoppedHalts → RunsLeaveSinks → StartFaultStands → StartFaultsAgree → StartIsCaused → AnswersLeaveSinks
 answers_leave_sinks done stopped left faults agree counts ctx image w t schedule to_come to_come_now borrow first before steps after (Ok l) keeps h =
@@ -305,7 +331,7 @@ answers_leave_sinks done stopped left faults agree counts ctx image w t schedule
 answers_leave_sinks done stopped left faults agree counts ctx image w t schedule to_come to_come_now borrow first before steps after (Err e) keeps h =
     stopped_left done stopped left faults agree counts ctx image w t schedule to_come to_come_now borrow first before steps after keeps e h
 
-pub answers_are_complete : DoneIsWritten → StoppedHalts → RunsLeaveSinks → StartFaultStands → StartFaultsAgree → StartIsCaused → AnswersAreComplete
-answers_are_complete done stopped left faults agree counts ctx image w t schedule to_come to_come_now borrow first before steps after e keeps h xs told built valid =
+pub answers_are_complete : DoneIsWritten → StoppedHalts → RunsLeaveSinks → StartFaultStands → StartFaultsAgree → StartIsCaused → TrackerComesWithin → AnswersAreComplete
+answers_are_complete done stopped left faults agree counts within ctx image w t schedule to_come to_come_now borrow first before steps after e keeps h xs told built valid =
     own_any after _ (IsOutside e) (stopped_answer done stopped left faults agree counts ctx image w t schedule to_come to_come_now borrow first before steps after keeps e h)
-    (λ next now p. valid_outside (write_by ctx image w t) first next to_come to_come_now before now schedule steps e p xs told built valid)
+    (λ next now p. valid_outside (write_by ctx image w t) first next to_come to_come_now before now schedule steps e p xs told built valid within)

@@ -14,7 +14,7 @@ use Rattle.vx_machine_runs.proofs.Stepping.{places}
 use Rattle.vx_machine.specs.Calls.{reads_at}
 use Rattle.vx_machine.specs.Context.{setting_of}
 use Rattle.vx_machine.specs.Steps.{StepRefused}
-use Rattle.vx_machine.specs.Run.{picked_at, Stops}
+use Rattle.vx_machine.specs.Run.{picked_at, tracker_by, Stops}
 use Rattle.vx_machine_ran.specs.Ran.{write_by, Onward}
 use Rattle.vx_machine_ran.specs.Answered.{MisfitsAreRead}
 use Rattle.vx_machine_ran.proofs.Leading.{runs_are_led}
@@ -41,7 +41,7 @@ misfits_are_read run agree ctx image w t schedule to_come to_come_now borrow fir
     reads : (k : ℕ) (told : Answer) → (d : Eof) × (o.stand.machine.phase ≡ reading d) × (k ≡ 0) × (told ≡ unasked) → reads_at r.end.machine.phase k ≡ true
     reads k told (d, p, z, q) = ap (λ (m : Machine). reads_at m.phase k) o.same.machine_is ∙ ap (λ v. reads_at v k) p ∙ ap (λ v. reads_at (reading d) v) z
 
-    refused : (k : ℕ) → StepRefused (setting_of ctx image) (machine_ids r.end.machine) k t r.end.to_come to_come_now r.end.outlet (first + length o.stand.history) r.end.machine (BatchType c)
+    refused : (k : ℕ) → StepRefused (setting_of ctx image) (machine_ids r.end.machine) k (tracker_by ctx r.end.machine) t r.end.to_come to_come_now r.end.outlet (first + length o.stand.history) r.end.machine (BatchType c)
         → reads_at r.end.machine.phase k ≡ true
     refused k x = reads k x.told (misfit_is_read (scheduled g (places o.notes)) first o.notes o.stand x.told k x.step u
         (subst (λ m. nth (whole_steps (setting_of ctx image) (machine_ids m) (first + length o.stand.history) x.told m) k ≡ Some x.step) o.same.machine_is x.place) x.cause)

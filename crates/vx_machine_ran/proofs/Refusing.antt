@@ -27,7 +27,7 @@ use Rattle.vx_machine_view.specs.Steps.{AllPairs}
 use Rattle.vx_machine_view.specs.Underway.{Showing, ready_steps}
 use Rattle.vx_machine_view.specs.Whole.{Asks}
 use Rattle.vx_machine_view.proofs.Placing.{whole_is_ready}
-use Rattle.vx_machine_runs.specs.Runs.{Stand, BeforeEnd, UnderwayAt}
+use Rattle.vx_machine_runs.specs.Runs.{Stand, tracked, BeforeEnd, UnderwayAt}
 use Rattle.vx_machine_runs.proofs.Ending.{none_later, open_none}
 use Rattle.vx_machine_runs.proofs.Reaching.{as_ready, move_of}
 use Rattle.vx_machine_runs.proofs.Stepping.{open_before}
@@ -39,9 +39,9 @@ use Rattle.vx_machine_ran.specs.Ran.{ShowsCounted}
 use Rattle.vx_machine_ran.specs.RefusedAct.{LeadTo, NextAct, IsRead, IsAppend, CountsPast, IsOwn}
 use Rattle.vx_machine_ran.proofs.Joining.{Joins}
 
--- why a step is refused over this sink
-abbrev pub RefusedBy : WholeStep → Outlet → WriteError → Type 0
-RefusedBy w o e = Refused w.refusal w.misfit w.numbers w.indices w.wrote (PastLast o) (IsShared o) w.joined e
+-- why a step is refused over this sink, where the tracker counts so much
+abbrev pub RefusedBy : ℕ → WholeStep → Outlet → WriteError → Type 0
+RefusedBy counts w o e = Refused w.refusal w.misfit ((counts + w.raises) ∷ w.numbers) w.indices w.wrote (PastLast o) (IsShared o) w.joined e
 
 -- a step is an act of the tasks
 pub record SameAct (w : WholeStep) (m : TreeMove) : Type 0 where
@@ -51,6 +51,7 @@ pub record SameAct (w : WholeStep) (m : TreeMove) : Type 0 where
   pub numbers : w.numbers ≡ m.act.numbers
   pub indices : w.indices ≡ m.act.indices ++ opened m.room m.act.starts
   pub wrote : w.wrote ≡ written_by m.act.kind m.act.bytes
+  pub raises : w.raises ≡ m.act.raises
 
 -- ---- whose own the error is
 
@@ -67,13 +68,18 @@ module _ (w : WholeStep) (m : TreeMove) (same : SameAct w m) (o : Outlet) (mine 
   appends a = written_appends m.act.kind m.act.bytes a.0 (subst (In a.0) same.wrote a.1)
 
   -- of a step that is no batch of another type
-  module _ (fits : w.misfit ≡ false) (joins : Joins w.kind w.joined) (last : (n : ℕ) → PastLast o n → (n ≡ next) × (2 ^ 32 ≤ n)) where
-    counts_past : (n : ℕ) → Past w.numbers w.indices n ⊎ (Appending w.wrote × PastLast o n) ⊎ (In n w.joined × (2 ^ 64 ≤ n)) → CountsPast m next n
-    counts_past n (inl p) = inl (subst (λ z. Past z (m.act.indices ++ opened m.room m.act.starts) n) same.numbers (subst (λ z. Past w.numbers z n) same.indices p))
-    counts_past n (inr (inl (a, p))) = inr (inl (appends a, (last n p).0, (last n p).1))
-    counts_past n (inr (inr (i, big))) = inr (inr (sym same.kind ∙ joins n i, big))
+  module _ (fits : w.misfit ≡ false) (joins : Joins w.kind w.joined) (last : (n : ℕ) → PastLast o n → (n ≡ next) × (2 ^ 32 ≤ n)) (counts : ℕ) where
+    own_past : (n : ℕ) → Past w.numbers w.indices n → Past m.act.numbers (m.act.indices ++ opened m.room m.act.starts) n
+    own_past n p = subst (λ z. Past z (m.act.indices ++ opened m.room m.act.starts) n) same.numbers (subst (λ z. Past w.numbers z n) same.indices p)
 
-    pub is_own : (e : WriteError) → IsElsewhere e → RefusedBy w o e → IsOwn m heard next e
+    counts_past : (n : ℕ) → Past ((counts + w.raises) ∷ w.numbers) w.indices n ⊎ (Appending w.wrote × PastLast o n) ⊎ (In n w.joined × (2 ^ 64 ≤ n)) → CountsPast m counts next n
+    counts_past n (inl (inl (inl is, big))) = inr (inl (is ∙ ap (λ z. counts + z) same.raises, big))
+    counts_past n (inl (inl (inr i, big))) = inl (own_past n (inl (i, big)))
+    counts_past n (inl (inr p)) = inl (own_past n (inr p))
+    counts_past n (inr (inl (a, p))) = inr (inr (inl (appends a, (last n p).0, (last n p).1)))
+    counts_past n (inr (inr (i, big))) = inr (inr (inr (sym same.kind ∙ joins n i, big)))
+
+    pub is_own : (e : WriteError) → IsElsewhere e → RefusedBy counts w o e → IsOwn m counts heard next e
     is_own SourceFault far h = absurd far
     is_own SinkFault far h = appends h
     is_own CompressFault far h = absurd h
@@ -96,12 +102,11 @@ module _ (w : WholeStep) (m : TreeMove) (same : SameAct w m) (o : Outlet) (mine 
 
 -- ---- the act that is picked
 
-lead_to : (s : Setting) (d : Fuel) (t e : Tree) (picks : List ℕ) (steps : List Step) (ms : List TreeMove) → RunsBy s d t picks ms e → AllPairs ShowsCounted steps (notes s d t picks ms) → LeadTo s d t steps e
+lead_to : (s : Setting) (d : Fuel) (t e : Tree) (picks : List ℕ) (steps : List Step) (ms : List TreeMove) → RunsBy s d t picks ms e → AllPairs ShowsCounted steps (notes s d t picks ms) → LeadTo s d t steps ms e
 lead_to s d t e picks [] [] r h = r
 lead_to s d t e picks [] (m ∷ ms) r h = absurd h
 lead_to s d t e picks (x ∷ steps) [] r h = absurd h
 lead_to s d t e picks (x ∷ steps) (m ∷ ms) r h = (
-  m,
   record { place = ap (nth (machine_moves s d t)) h.0.1 ∙ r.0; ready = h.0.0; task = h.0.2; action = h.0.3; unrefused = r.1 },
   lead_to s d m.after e (later_picks picks) steps ms r.2 h.1,
 )
@@ -120,23 +125,27 @@ module _ (g : Write) (first : ℕ) (seen : List Note) (x : Stand) (law : Lawful 
   f = none_later (heard_by x.heard told)
 
   abbrev Next : Type 0
-  Next = (a : NextAct g.setting g.way g.type g.mark (taken_by x.taken told) (heard_by x.heard told) schedule steps) × SameAct w a.move
+  Next = (a : NextAct g.setting g.way g.type g.mark g.tracker (taken_by x.taken told) (heard_by x.heard told) schedule steps) × (a.counts ≡ tracked g x) × SameAct w a.move
 
-  on : (r : Reached g x.taken (before told f) seen x.history g.tracker) × Showing g first x.taken x.machine (before told f) r.tree → Next
+  on : (r : Reached g x.taken (before told f) seen x.history (tracked g x)) × Showing g first x.taken x.machine (before told f) r.tree → Next
   on (r, shows) =
-      let m = move_of g first x.taken x.heard told f seen x.history g.tracker r x.machine k w law (open_none (heard_by x.heard told)) shows place asks in
+      let m = move_of g first x.taken x.heard told f seen x.history (tracked g x) r x.machine k w law (open_none (heard_by x.heard told)) shows place asks in
       let size : ready_at x.machine ≡ length (moves_at g r.tree) =
-      sym (whole_is_ready g.setting (machine_ids x.machine) (first + length x.history) told x.machine) ∙ as_ready g x.taken (before told f) seen x.history g.tracker r first x.machine shows told law in
+      sym (whole_is_ready g.setting (machine_ids x.machine) (first + length x.history) told x.machine) ∙ as_ready g x.taken (before told f) seen x.history (tracked g x) r first x.machine shows told law in
       let at : slice_index schedule (length steps) % counted (length (moves_at g r.tree)) ≡ k = ap (λ z. slice_index schedule (length steps) % counted z) (sym size) ∙ sym pick in
-      let led : LeadTo g.setting (depth g) (begin g x.taken (before told f)) steps r.tree =
+      let led : LeadTo g.setting (depth g) (begin g x.taken (before told f)) steps r.moves r.tree =
       lead_to g.setting (depth g) (begin g x.taken (before told f)) r.tree g.schedule steps r.moves r.runs (subst (AllPairs ShowsCounted steps) r.seen_is shown) in (
         record {
           stand = r.tree;
-          led = subst (λ z. LeadTo g.setting (depth g) z steps r.tree) (same_begin g x.taken x.heard told) led;
+          moves = r.moves;
+          led = subst (λ z. LeadTo g.setting (depth g) z steps r.moves r.tree) (same_begin g x.taken x.heard told) led;
+          counts = tracked g x;
+          counts_are = r.tracked;
           move = m.0;
           picked = ap (nth (moves_at g r.tree)) at ∙ m.1;
         },
-        record { kind = m.2.kind; refusal = m.2.refusal; misfit = m.2.misfit; numbers = m.2.numbers; indices = m.2.indices; wrote = m.2.wrote },
+        refl,
+        record { kind = m.2.kind; refusal = m.2.refusal; misfit = m.2.misfit; numbers = m.2.numbers; indices = m.2.indices; wrote = m.2.wrote; raises = m.2.raises },
       )
 
   pub next_act : Next

@@ -21,11 +21,11 @@ use Rattle.vx_plan.specs.Valid.{OfSchema, IsPast}
 use Rattle.vx_order.specs.Outlet.{Outlet, own, shared}
 use Rattle.vx_order.specs.Answers.{IsShared, IsPast as PastLast}
 use Rattle.vx_sink.specs.declared.context.LayoutWriterContext.{LayoutWriterContext}
-use Rattle.vx_sink.specs.ContextView.{is_marked}
+use Rattle.vx_sink.specs.ContextView.{is_marked, counted as counted_bytes}
 use Rattle.vx_write_answer.specs.declared.step.Step.{Step}
 use Rattle.vx_write_answer.specs.declared.error.WriteError.{WriteError}
 use Rattle.vx_write_answer.specs.declared.error.WriteError.TheVariants.{SourceFault, SinkFault, CompressFault, BatchType, NotStruct, DuplicateField, ManyChunks, EmptyList, ZoneCut, ForbiddenAggregate, ForbiddenEncoding, TooLarge, OutOfMemory, Unbuilt, Stopped}
-use Rattle.vx_machine_promises.specs.Write.{Write, Future, Open, Answer, unasked, came, over, scripts, planned, taken_by, heard_by, before}
+use Rattle.vx_machine_promises.specs.Write.{Write, Future, Open, Answer, unasked, came, over, scripts, planned, taken_by, heard_by, before, begin}
 use Rattle.vx_machine_view.specs.Built.{is_built}
 use Rattle.vx_machine_view.specs.Machine.{Phase, reading, giving, closing, finished, Machine, may_source, WholeStep, source_step, whole_steps, is_finished, machine_ids}
 use Rattle.vx_machine_steps.specs.Moves.{TreeMove}
@@ -35,11 +35,12 @@ use Rattle.vx_machine_view.specs.Underway.{ready_steps}
 use Rattle.vx_machine_view.proofs.Placing.{source_place, whole_is_ready}
 use Rattle.vx_machine_view.proofs.Sounding.{sound_is_typed}
 use Rattle.vx_machine_view.proofs.Words.{pairs_length}
-use Rattle.vx_machine_runs.specs.Runs.{Stand, outset, Asking, TypedAnswer, BeforeEnd, Chosen, scheduled, UnderwayAt, RunByIsUnderway, RunIsUnderway}
+use Rattle.vx_machine_runs.specs.Runs.{Stand, outset, tracked, Asking, TypedAnswer, BeforeEnd, Chosen, scheduled, UnderwayAt, RunByIsUnderway, RunIsUnderway}
 use Rattle.vx_machine_runs.specs.Ends.{plan_of, StaysReady, Caused, StepsHaveCause}
 use Rattle.vx_machine_runs.specs.Steps.{HistoryIsFront, AppendIsOneMore}
 use Rattle.vx_machine_runs.specs.Answers.{TakenAlone}
 use Rattle.vx_machine_runs.specs.Picks.{ReadyIsWithinAll}
+use Rattle.vx_machine_runs.specs.Tracked.{Comes, TrackerComes}
 use Rattle.vx_machine_runs.specs.Traces.{NextIsWithinWork, NotesAreFirst, ReadyIsMore, RefusalIsLast, MisfitIsLast}
 use Rattle.vx_machine_runs.proofs.Asking.{asked_before_end, taken_are_typed, answer_of_schema, all_of_schema}
 use Rattle.vx_machine_runs.proofs.Ending.{none_later, open_none, none_planned}
@@ -50,16 +51,17 @@ use Rattle.vx_machine_runs.proofs.Tracing.{same_scripts}
 use Rattle.vx_machine.specs.Calls.{reads_in, misfits}
 use Rattle.vx_machine.specs.Context.{setting_of}
 use Rattle.vx_machine.specs.Outcome.{Kept, Past, Appending}
-use Rattle.vx_machine.specs.Source.{ReadsNone, SourceMay}
+use Rattle.vx_machine.specs.Source.{ReadsNone, SourceMay, NoNumber}
 use Rattle.vx_machine.specs.SourceActs.{AsksAt, IsElsewhere, TellsNothing, TellsRefused}
 use Rattle.vx_machine.specs.Steps.{StepRefused}
 use Rattle.vx_machine.specs.Ready.{counted}
-use Rattle.vx_machine.specs.Run.{At, ready_at, Stops}
+use Rattle.vx_machine.specs.Run.{At, ready_at, tracker_by, Stops}
 use Rattle.vx_machine_ran.specs.Ran.{write_by, OwnSink, ShowsCounted, Onward}
 use Rattle.vx_machine_ran.specs.Runs.{Halts, StoppedHalts}
 use Rattle.vx_machine.proofs.StepShows.{asks_not, tells_memory}
 use Rattle.vx_machine_ran.specs.RefusedAct.{NextAct, IsRead, IsOwn, RefusedThere}
 use Rattle.vx_machine_ran.specs.Traced.{tasks_of, ShowsNote, IsRefusal, StepsAreFirst, answers_in, IsLate}
+use Rattle.vx_machine_ran.specs.Tracking.{Passes}
 use Rattle.vx_machine_ran.specs.Written.{AreFirst, NeedsNumber, HasCause, AskedInSteps}
 use Rattle.vx_machine_ran.proofs.Fewness.{Few, whole_few}
 use Rattle.vx_machine_ran.proofs.Leading.{told_one, asking, runs_are_led}
@@ -167,20 +169,21 @@ more_answers taken heard over once = let n : flag heard ≡ 0 = ap flag once in 
 
 -- ---- causes
 
-module _ (t : Ty) (unbuilt : Type 0) (p : Plan) (taken : List ChunkData) (next stand : ℕ) where
+module _ (t : Ty) (unbuilt : Type 0) (passes : ℕ → Type 0) (p : Plan) (taken : List ChunkData) (next stand : ℕ) where
   abbrev Cause : WriteError → Type 0
-  Cause e = HasCause t unbuilt p taken next stand e
+  Cause e = HasCause t unbuilt passes p taken next stand e
 
   -- of a step that is no batch of another type
   module _ (w : WholeStep) (c : Caused p w) (o : Outlet) (mine : IsShared o → ⊥) (fits : w.misfit ≡ false) (more : (x : Pair) → In x w.wrote → stand < length p.pairs)
-      (last : (n : ℕ) → PastLast o n → (n ≡ next) × (2 ^ 32 ≤ n)) where
-    too_large : (n : ℕ) → Past w.numbers w.indices n ⊎ (Appending w.wrote × PastLast o n) ⊎ (In n w.joined × (2 ^ 64 ≤ n)) → NeedsNumber p next stand n ⊎ IsPast n p.numbers
-    too_large n (inl (inl (i, big))) = inr ((past_is_caused p w n c big).numbers i)
-    too_large n (inl (inr (k, i, big, is))) = inr (subst (λ z. IsPast z p.numbers) (sym is) ((past_is_caused p w k c big).indices i))
+      (last : (n : ℕ) → PastLast o n → (n ≡ next) × (2 ^ 32 ≤ n)) (counts : ℕ) (tracked_past : 2 ^ 64 ≤ counts + w.raises → passes (counts + w.raises)) where
+    too_large : (n : ℕ) → Past ((counts + w.raises) ∷ w.numbers) w.indices n ⊎ (Appending w.wrote × PastLast o n) ⊎ (In n w.joined × (2 ^ 64 ≤ n)) → NeedsNumber p next stand n ⊎ IsPast n p.numbers ⊎ passes n
+    too_large n (inl (inl (inl is, big))) = inr (inr (subst passes (sym is) (tracked_past (subst (λ z. 2 ^ 64 ≤ z) is big))))
+    too_large n (inl (inl (inr i, big))) = inr (inl ((past_is_caused p w n c big).numbers i))
+    too_large n (inl (inr (k, i, big, is))) = inr (inl (subst (λ z. IsPast z p.numbers) (sym is) ((past_is_caused p w k c big).indices i)))
     too_large n (inr (inl (x, q))) = inl ((last n q).0, (last n q).1, more x.0 x.1)
-    too_large n (inr (inr (i, big))) = inr ((past_is_caused p w n c big).joined i)
+    too_large n (inr (inr (i, big))) = inr (inl ((past_is_caused p w n c big).joined i))
 
-    step_cause : (e : WriteError) → RefusedBy w o e → Cause e
+    step_cause : (e : WriteError) → RefusedBy counts w o e → Cause e
     step_cause SourceFault h = tt
     step_cause SinkFault h = tt
     step_cause CompressFault h = absurd h
@@ -197,8 +200,8 @@ module _ (t : Ty) (unbuilt : Type 0) (p : Plan) (taken : List ChunkData) (next s
     step_cause Unbuilt h = absurd h
     step_cause (Stopped by name) h = absurd (mine h.1)
 
-module _ (w : WholeStep) (o : Outlet) (fits : w.misfit ≡ false) where
-  fits_no_batch : (e : WriteError) → RefusedBy w o e → NoBatch e
+module _ (counts : ℕ) (w : WholeStep) (o : Outlet) (fits : w.misfit ≡ false) where
+  fits_no_batch : (e : WriteError) → RefusedBy counts w o e → NoBatch e
   fits_no_batch SourceFault h = refl
   fits_no_batch SinkFault h = refl
   fits_no_batch CompressFault h = refl
@@ -216,7 +219,7 @@ module _ (w : WholeStep) (o : Outlet) (fits : w.misfit ≡ false) where
   fits_no_batch (Stopped by name) h = refl
 
   -- the word of the plan by which it is refused
-  word_of : (e : WriteError) → IsRefusal e → RefusedBy w o e → (v : What) × (w.refusal ≡ Some v)
+  word_of : (e : WriteError) → IsRefusal e → RefusedBy counts w o e → (v : What) × (w.refusal ≡ Some v)
   word_of SourceFault i h = absurd i
   word_of SinkFault i h = absurd i
   word_of CompressFault i h = absurd i
@@ -245,7 +248,7 @@ read_is s all number a m d w is at =
 module _ (ctx : LayoutWriterContext) (image : ℕ → ChunkData → ChunkData) (way : StrategyData) (t : Ty) (to_come : Option (List ChunkData)) (borrow first : ℕ) (before_it : Option (List (List ℕ)))
     (law : Lawful (setting_of ctx image).codec (setting_of ctx image).encodings) (built : IsTrue (is_built way)) (clean : start_fault (setting_of ctx image) way t (is_marked ctx) ≡ None)
     (schedule : List ℕ) (steps : List Step) (y : At) (o : Onward (write_by ctx image way t) to_come borrow first before_it schedule 0 (outset (write_by ctx image way t)) steps y)
-    (run : RunIsUnderway) (by : RunByIsUnderway) (front : HistoryIsFront) (causes : StepsHaveCause) (append : AppendIsOneMore) (firsts : NotesAreFirst) (refused_at : RefusalIsLast) (misfit_at : MisfitIsLast) (within : ReadyIsWithinAll) (next_within : NextIsWithinWork) (more_at : ReadyIsMore) (stays : StaysReady)
+    (run : RunIsUnderway) (by : RunByIsUnderway) (front : HistoryIsFront) (causes : StepsHaveCause) (append : AppendIsOneMore) (firsts : NotesAreFirst) (refused_at : RefusalIsLast) (misfit_at : MisfitIsLast) (within : ReadyIsWithinAll) (next_within : NextIsWithinWork) (more_at : ReadyIsMore) (stays : StaysReady) (tracks : TrackerComes)
     (to_come_now : Option (List ChunkData)) (next : ℕ) (now : Option (List (List ℕ))) (sink : (next ≡ first + length o.stand.history) × (now ≡ then_told before_it (stored o.stand.history))) where
   abbrev g : Write
   g = write_by ctx image way t
@@ -260,6 +263,13 @@ module _ (ctx : LayoutWriterContext) (image : ℕ → ChunkData → ChunkData) (
   u : UnderwayAt h first o.notes x
   u = under ctx image way t to_come borrow first before_it law built clean schedule steps y o run
 
+  -- what the tracker counts there
+  abbrev counts : ℕ
+  counts = tracker_by ctx y.machine
+
+  counts_are : tracked h x ≡ counts
+  counts_are = ap (λ m. tracker_by ctx m) (sym o.same.machine_is)
+
   alone : TakenAlone t x.taken
   alone = taken_are_typed g first o.notes x o.led
 
@@ -270,7 +280,7 @@ module _ (ctx : LayoutWriterContext) (image : ℕ → ChunkData → ChunkData) (
   Halting e = Halts g first next to_come to_come_now before_it now schedule steps e
 
   abbrev There : List ChunkData → Bool → WriteError → Type 0
-  There bs heard e = RefusedThere (setting_of ctx image) way t (is_marked ctx) bs heard next schedule steps e
+  There bs heard e = RefusedThere (setting_of ctx image) way t (is_marked ctx) (counted_bytes ctx) bs heard next schedule steps e
 
   abbrev tasks : List ChunkData → Bool → Forest
   tasks bs heard = tasks_of (setting_of ctx image) way t (is_marked ctx) bs heard
@@ -311,7 +321,7 @@ module _ (ctx : LayoutWriterContext) (image : ℕ → ChunkData → ChunkData) (
   -- what stands, by the plan of these batches
   halts : (e : WriteError) (taken bs : List ChunkData) (heard : Bool) → of_schema t taken ≡ bs → to_come ≡ before_told taken to_come_now → (heard ≡ true → NoneTold to_come_now)
       → (heard ≡ true → OfSchema t taken) → ((f : Future) → Open heard f → (more : List Pair) × (sorted (planned g bs f).pairs ≡ x.history ++ more)) → StepsAreFirst (tasks bs heard) schedule steps e → AskedInSteps taken heard steps e
-      → ((f : Future) → Open heard f → HasCause t (is_built way ≡ false) (planned g bs f) taken next (length x.history) e) → There bs heard e → Halting e
+      → ((f : Future) → Open heard f → HasCause t (is_built way ≡ false) (Passes g bs f steps) (planned g bs f) taken next (length x.history) e) → There bs heard e → Halting e
   halts e taken bs heard is told end typed stood traced asked c there = record {
     heard = heard;
     stand = record {
@@ -326,8 +336,8 @@ module _ (ctx : LayoutWriterContext) (image : ℕ → ChunkData → ChunkData) (
     front = λ f may. subst (λ z. AreFirst (stored x.history) (planned g z f)) (sym is) (now_first f may);
     typed = typed;
     ended = end;
-    cause = λ f may. subst (λ z. HasCause t (is_built way ≡ false) (planned g z f) taken next (length (stored x.history)) e) (sym is)
-        (subst (λ z. HasCause t (is_built way ≡ false) (planned g bs f) taken next z e) (sym (stored_length x.history)) (c f may));
+    cause = λ f may. subst (λ z. HasCause t (is_built way ≡ false) (Passes g z f steps) (planned g z f) taken next (length (stored x.history)) e) (sym is)
+        (subst (λ z. HasCause t (is_built way ≡ false) (Passes g bs f steps) (planned g bs f) taken next z e) (sym (stored_length x.history)) (c f may));
     traced = subst (λ z. StepsAreFirst (tasks z heard) schedule steps e) (sym is) traced;
     asked = asked;
     refused = subst (λ z. There z heard e) (sym is) there;
@@ -341,10 +351,10 @@ module _ (ctx : LayoutWriterContext) (image : ℕ → ChunkData → ChunkData) (
   all_asked e n = inl (let a = reads in omega (arith, a, n))
 
   -- by the batches taken so far
-  so_far : (e : WriteError) → NoBatch e → (IsRefusal e → ⊥) → 0 < ready_at y.machine → to_come_now ≡ y.to_come → ((p : Plan) → HasCause t (is_built way ≡ false) p x.taken next (length x.history) e)
+  so_far : (e : WriteError) → NoBatch e → (IsRefusal e → ⊥) → 0 < ready_at y.machine → to_come_now ≡ y.to_come → ((passes : ℕ → Type 0) (p : Plan) → HasCause t (is_built way ≡ false) passes p x.taken next (length x.history) e)
       → There x.taken x.heard e → Halting e
   so_far e n plain some same c there = halts e x.taken x.taken x.heard alone.all (o.same.came ∙ ap (before_told x.taken) (sym same)) (λ k. subst (λ z. NoneTold z) (sym same) (o.same.ended k))
-      (λ k. alone.typed) (λ f may. front h first o.notes x unasked f tt may u) (record { fewer = goes_on unasked tt some; first = begins unasked tt; all = λ short i. absurd (plain i) }) (all_asked e n) (λ f may. c (planned g x.taken f)) there
+      (λ k. alone.typed) (λ f may. front h first o.notes x unasked f tt may u) (record { fewer = goes_on unasked tt some; first = begins unasked tt; all = λ short i. absurd (plain i) }) (all_asked e n) (λ f may. c (Passes g x.taken f steps) (planned g x.taken f)) there
 
   -- where it reads, the end isn't told
   unheard : (d : Eof) → x.machine.phase ≡ reading d → x.heard ≡ false
@@ -360,24 +370,24 @@ module _ (ctx : LayoutWriterContext) (image : ℕ → ChunkData → ChunkData) (
 
     -- where it reads and nothing more of the type comes, that is the act
     read_there : (w : WholeStep) (d : Eof) → k ≡ 0 → nth (ready_steps h first x.history unasked x.machine) 0 ≡ Some w → x.machine.phase ≡ reading d → w ≡ source_step unasked (reading d) x.machine.root → (e : WriteError)
-        → ((m : TreeMove) → IsRead m.act x.heard → IsOwn m x.heard next e) → There x.taken x.heard e
-    read_there w d z at p is e whose = inr (n.0, whose n.0.move (own_read w n.0.move n.1 y.outlet mine x.heard next d x.machine.root is (unheard d p)))
+        → ((m : TreeMove) (n : ℕ) → IsRead m.act x.heard → IsOwn m n x.heard next e) → There x.taken x.heard e
+    read_there w d z at p is e whose = inr (n.0, whose n.0.move n.0.counts (own_read w n.0.move n.1.1 y.outlet mine x.heard next d x.machine.root is (unheard d p)))
       where
         asks : Asks t (none_later x.heard) x.machine.phase k unasked
         asks = subst (λ v. Asks t (none_later x.heard) v k unasked) (sym p) (subst (λ v. Asks t (none_later x.heard) (reading d) v unasked) (sym z) (refl, unheard d p))
 
-        n : (a : NextAct (setting_of ctx image) way t (is_marked ctx) x.taken x.heard schedule steps) × SameAct w a.move
+        n : (a : NextAct (setting_of ctx image) way t (is_marked ctx) (counted_bytes ctx) x.taken x.heard schedule steps) × (a.counts ≡ tracked h x) × SameAct w a.move
         n = next_act h first o.notes x law u schedule steps o.shown unasked tt k w (subst (λ v. nth (ready_steps h first x.history unasked x.machine) v ≡ Some w) (sym z) at) asks pick_at
 
     -- the source told nothing where it read
     read_halts : (w : WholeStep) (d : Eof) → k ≡ 0 → nth (ready_steps h first x.history unasked x.machine) 0 ≡ Some w → x.machine.phase ≡ reading d → w ≡ source_step unasked (reading d) x.machine.root → (e : WriteError) → ReadsNone y.to_come to_come_now e → SourceMay t e
-        → RefusedBy w y.outlet e → Halting e
-    read_halts w d z at p is SourceFault r m c = so_far SourceFault refl (λ i. i) some r (λ q. tt) (read_there w d z at p is SourceFault (λ v i. i))
-    read_halts w d z at p is OutOfMemory r m c = so_far OutOfMemory refl (λ i. i) some r (λ q. tt) (read_there w d z at p is OutOfMemory (λ v i. tt))
+        → NoNumber e → Halting e
+    read_halts w d z at p is SourceFault r m c = so_far SourceFault refl (λ i. i) some r (λ q p. tt) (read_there w d z at p is SourceFault (λ v q i. i))
+    read_halts w d z at p is OutOfMemory r m c = so_far OutOfMemory refl (λ i. i) some r (λ q p. tt) (read_there w d z at p is OutOfMemory (λ v q i. tt))
     read_halts w d z at p is (BatchType b) r m c =
         halts (BatchType b) (x.taken ++ (b ∷ [])) x.taken x.heard (alone.without b m) (o.same.came ∙ ap (before_told x.taken) r ∙ told_one x.taken b to_come_now)
         (λ i. absurd (true≢false (sym i ∙ unheard d p))) (λ i. absurd (true≢false (sym i ∙ unheard d p))) (λ f may. front h first o.notes x unasked f tt may u) (record { fewer = goes_on unasked tt some; first = begins unasked tt; all = λ short i. inr (all short) }) (inl one) (λ f may. (m, (x.taken, refl)))
-        (read_there w d z at p is (BatchType b) (λ v i. i))
+        (read_there w d z at p is (BatchType b) (λ v q i. i))
       where
         one : answers_in (x.taken ++ (b ∷ [])) x.heard ≡ reads_in steps + 1
         one = let a = reads in let n : length (x.taken ++ (b ∷ [])) ≡ length x.taken + 1 = length-append x.taken (b ∷ []) in omega (arith, a, n)
@@ -386,13 +396,7 @@ module _ (ctx : LayoutWriterContext) (image : ℕ → ChunkData → ChunkData) (
         all = subst (λ (v : Bool). work (tasks x.taken v) < 2 ^ 64 → AllPairs ShowsNote steps (trace (tasks x.taken v) schedule)) (sym (unheard d p))
             (misfit_last ctx image way t to_come borrow first before_it law built clean schedule steps y o by within next_within misfit_at k pick (unheard d p) w
             (subst (λ v. nth (ready_steps h first x.history unasked x.machine) v ≡ Some w) (sym z) at) (ap (λ (v : WholeStep). v.misfit) is))
-    read_halts w d z at p is (TooLarge n) r m c = absurd (none (subst (λ (z : WholeStep). Past z.numbers z.indices n ⊎ (Appending z.wrote × PastLast y.outlet n) ⊎ (In n z.joined × (2 ^ 64 ≤ n))) is c))
-      where
-        none : Past [] [] n ⊎ (Appending [] × PastLast y.outlet n) ⊎ (In n [] × (2 ^ 64 ≤ n)) → ⊥
-        none (inl (inl (i, big))) = i
-        none (inl (inr (j, i, big, e))) = i
-        none (inr (inl (a, q))) = a.1
-        none (inr (inr (i, big))) = i
+    read_halts w d z at p is (TooLarge n) r m c = absurd c
     read_halts w d z at p is SinkFault r m c = absurd m
     read_halts w d z at p is CompressFault r m c = absurd m
     read_halts w d z at p is NotStruct r m c = absurd m
@@ -406,7 +410,7 @@ module _ (ctx : LayoutWriterContext) (image : ℕ → ChunkData → ChunkData) (
     read_halts w d z at p is (Stopped by_it name) r m c = absurd m
 
     module _ (told : Answer) (w : WholeStep) (at : nth (ready_steps h first x.history told x.machine) k ≡ Some w) (asks : Asking x.machine.phase k told) (e : WriteError)
-        (tells : TellsRefused x.machine.phase k t y.to_come to_come_now e told) (cause : RefusedBy w y.outlet e) where
+        (tells : TellsRefused x.machine.phase k t y.to_come to_come_now e told) (cause : RefusedBy counts w y.outlet e) where
       abbrev taken : List ChunkData
       taken = taken_by x.taken told
 
@@ -427,7 +431,7 @@ module _ (ctx : LayoutWriterContext) (image : ℕ → ChunkData → ChunkData) (
       -- a step of batches of the type
       module _ (fits : w.misfit ≡ false) where
         n : NoBatch e
-        n = fits_no_batch w y.outlet fits e cause
+        n = fits_no_batch counts w y.outlet fits e cause
 
         chosen : Chosen h first x told k w
         chosen = record { place = at; asks = asks; typed = typed; once = once; fits = fits }
@@ -438,6 +442,16 @@ module _ (ctx : LayoutWriterContext) (image : ℕ → ChunkData → ChunkData) (
             by_few : Few w.wrote w.refusal → length x.history < length (planned g taken f).pairs
             by_few (inl none) = absurd (subst (In z) none i)
             by_few (inr (v, one, calm)) = append h first o.notes x told f k w v law u may chosen calm one
+
+        passes : (f : Future) → Open heard f → 2 ^ 64 ≤ counts + w.raises → Passes g taken f steps (counts + w.raises)
+        passes f may past = record {
+          picks = places o.notes;
+          notes = o.notes;
+          shown = o.shown;
+          place = k;
+          comes = subst (λ z. Comes h (begin g taken f) o.notes k (z + w.raises)) counts_are (tracks h first o.notes x told f k w law u may chosen);
+          past = past;
+        }
 
         fit_asked : AskedInSteps taken heard steps e
         fit_asked = by_answer (refused_late x.machine.phase k t y.to_come to_come_now e told tells)
@@ -450,9 +464,13 @@ module _ (ctx : LayoutWriterContext) (image : ℕ → ChunkData → ChunkData) (
             by_answer (inr (late, one)) = inr (late, (let a = reads in let b = answers in omega (arith, a, b, one)))
 
         there : IsElsewhere e → There taken heard e
-        there far = inr (found.0, is_own w found.0.move found.1 y.outlet mine heard next fits (whole_join (setting_of ctx image) (machine_ids x.machine) (first + length x.history) told x.machine k w at) last e far cause)
+        there far = inr (
+          found.0,
+          subst (λ z. IsOwn found.0.move z heard next e) (sym (found.1.0 ∙ counts_are)) (is_own w found.0.move found.1.1 y.outlet mine heard next fits
+              (whole_join (setting_of ctx image) (machine_ids x.machine) (first + length x.history) told x.machine k w at) last counts e far cause),
+        )
           where
-            found : (a : NextAct (setting_of ctx image) way t (is_marked ctx) taken heard schedule steps) × SameAct w a.move
+            found : (a : NextAct (setting_of ctx image) way t (is_marked ctx) (counted_bytes ctx) taken heard schedule steps) × (a.counts ≡ tracked h x) × SameAct w a.move
             found = next_act h first o.notes x law u schedule steps o.shown told once k w at (asks_so h first x told k w (none_later heard) chosen) pick_at
 
         refused : work (tasks taken heard) < 2 ^ 64 → (v : What) × (w.refusal ≡ Some v) → AllPairs ShowsNote steps (trace (tasks taken heard) schedule)
@@ -460,9 +478,9 @@ module _ (ctx : LayoutWriterContext) (image : ℕ → ChunkData → ChunkData) (
 
         fit_halts : IsElsewhere e → Halting e
         fit_halts far = halts e taken taken heard (all_of_schema t taken (answer_of_schema t x.taken told alone.typed typed)) (refused_came x.machine.phase k t to_come y.to_come to_come_now x.taken e told n tells o.same.came)
-            (refused_ended x.machine.phase k t y.to_come to_come_now x.heard e told n tells once o.same.ended) (λ k. answer_of_schema t x.taken told alone.typed typed) (λ f may. front h first o.notes x told f once may u) (record { fewer = goes_on told once some; first = begins told once; all = λ short i. inr (refused short (word_of w y.outlet fits e i cause)) }) fit_asked
-            (λ f may. step_cause t (is_built way ≡ false) (planned g taken f) taken next (length x.history) w (causes h first o.notes x told f k w law u may chosen) y.outlet
-            mine fits (more f may) last e cause)
+            (refused_ended x.machine.phase k t y.to_come to_come_now x.heard e told n tells once o.same.ended) (λ k. answer_of_schema t x.taken told alone.typed typed) (λ f may. front h first o.notes x told f once may u) (record { fewer = goes_on told once some; first = begins told once; all = λ short i. inr (refused short (word_of counts w y.outlet fits e i cause)) }) fit_asked
+            (λ f may. step_cause t (is_built way ≡ false) (Passes g taken f steps) (planned g taken f) taken next (length x.history) w (causes h first o.notes x told f k w law u may chosen) y.outlet
+            mine fits (more f may) last counts (passes f may) e cause)
             (there far)
 
       -- where the source reads and is told nothing
@@ -483,10 +501,10 @@ module _ (ctx : LayoutWriterContext) (image : ℕ → ChunkData → ChunkData) (
       -- a batch of another type
       misfit_halts : (d : Eof) × (x.machine.phase ≡ reading d) × (k ≡ 0) × (told ≡ unasked) → Halting e
       misfit_halts (d, p, z, a) =
-          let r : ReadsNone y.to_come to_come_now e × SourceMay t e
+          let r : ReadsNone y.to_come to_come_now e × SourceMay t e × NoNumber e
           = subst (λ v. TellsRefused v 0 t y.to_come to_come_now e unasked) p (subst (λ v. TellsRefused x.machine.phase v t y.to_come to_come_now e unasked) z (subst (TellsRefused x.machine.phase k t y.to_come to_come_now e) a tells)) in
           let q : nth (ready_steps h first x.history unasked x.machine) 0 ≡ Some w = read_place z a in
-          read_halts w d z q p (read_is (setting_of ctx image) (machine_ids x.machine) (first + length x.history) unasked x.machine d w p q) e r.0 r.1 cause
+          read_halts w d z q p (read_is (setting_of ctx image) (machine_ids x.machine) (first + length x.history) unasked x.machine d w p q) e r.0 r.1 r.2
 
       step_halts : Halting e
       step_halts = by_misfit w.misfit refl
@@ -495,7 +513,7 @@ module _ (ctx : LayoutWriterContext) (image : ℕ → ChunkData → ChunkData) (
           by_misfit false is = fit_halts is (elsewhere is)
           by_misfit true is = misfit_halts (misfit_is_read h first o.notes x told k w u at is)
 
-    refused_halts : (e : WriteError) → StepRefused (setting_of ctx image) (machine_ids y.machine) k t y.to_come to_come_now y.outlet (first + length x.history) y.machine e → Halting e
+    refused_halts : (e : WriteError) → StepRefused (setting_of ctx image) (machine_ids y.machine) k counts t y.to_come to_come_now y.outlet (first + length x.history) y.machine e → Halting e
     refused_halts e r = step_halts r.told r.step
         (subst (λ m. nth (whole_steps (setting_of ctx image) (machine_ids m) (first + length x.history) r.told m) k ≡ Some r.step) o.same.machine_is r.place)
         (asking x.machine.phase k r.told (subst (λ (m : Machine). AsksAt m.phase k r.told) o.same.machine_is r.asks)) e
@@ -534,12 +552,12 @@ module _ (ctx : LayoutWriterContext) (image : ℕ → ChunkData → ChunkData) (
   stops_halt e (inl (is, same, going)) = subst Halting (sym is) (memory_halts same going)
   stops_halt e (inr (some, fails)) = refused_halts some _ refl e (fails image (first + length x.history))
 
-pub stopped_halts : RunIsUnderway → RunByIsUnderway → HistoryIsFront → StepsHaveCause → AppendIsOneMore → NotesAreFirst → RefusalIsLast → MisfitIsLast → ReadyIsWithinAll → NextIsWithinWork → ReadyIsMore → StaysReady → StoppedHalts
-stopped_halts run by front causes append firsts refused misfit within next_within more stays ctx image w t schedule to_come to_come_now borrow first before steps outlet e law built clean r =
+pub stopped_halts : RunIsUnderway → RunByIsUnderway → HistoryIsFront → StepsHaveCause → AppendIsOneMore → NotesAreFirst → RefusalIsLast → MisfitIsLast → ReadyIsWithinAll → NextIsWithinWork → ReadyIsMore → StaysReady → TrackerComes → StoppedHalts
+stopped_halts run by front causes append firsts refused misfit within next_within more stays tracks ctx image w t schedule to_come to_come_now borrow first before steps outlet e law built clean r =
     own_more outlet (λ next now. (next ≡ first + length o.stand.history) × (now ≡ then_told before (stored o.stand.history)))
     (λ next now. Halts (write_by ctx image w t) first next to_come to_come_now before now schedule steps e)
     (kept_own r.end.outlet outlet (λ next now. (next ≡ first + length o.stand.history) × (now ≡ then_told before (stored o.stand.history))) r.kept o.same.sink)
-    (λ next now s. stops_halt ctx image w t to_come borrow first before law built clean schedule steps r.end o run by front causes append firsts refused misfit within next_within more stays to_come_now next now s e r.stops)
+    (λ next now s. stops_halt ctx image w t to_come borrow first before law built clean schedule steps r.end o run by front causes append firsts refused misfit within next_within more stays tracks to_come_now next now s e r.stops)
   where
     o : Onward (write_by ctx image w t) to_come borrow first before schedule 0 (outset (write_by ctx image w t)) steps r.end
     o = runs_are_led ctx image w t schedule to_come borrow first before steps r.end r.ran

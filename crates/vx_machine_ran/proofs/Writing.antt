@@ -34,7 +34,6 @@ use Rattle.vx_machine_runs.specs.Numbers.{AllBelow, NumbersFit}
 use Rattle.vx_machine_runs.specs.Picks.{ReadyIsWithinSteps}
 use Rattle.vx_machine_runs.specs.Traces.{NotesAreWhole}
 use Rattle.vx_machine_runs.proofs.Asking.{taken_are_whole}
-use Rattle.vx_machine_runs.proofs.Reserving.{nothing_reserved}
 use Rattle.vx_machine_runs.proofs.Sounding.{idle_is_finished}
 use Rattle.vx_machine_runs.proofs.Stepping.{places, schedule_is_free}
 use Rattle.vx_machine.specs.Calls.{appends_in}
@@ -116,7 +115,6 @@ module _ (ctx : LayoutWriterContext) (image : ℕ → ChunkData → ChunkData) (
             whole = all;
             numbered = subst (λ z. first + z ≤ max first (2 ^ 32)) some (at_most first (length o.stand.history) o.same.numbered);
             fit = numbers;
-            reserved = nothing_reserved g o.stand.taken true built;
           };
         }
 

@@ -75,7 +75,7 @@ AnswersAreWritten = (ctx : LayoutWriterContext) (image : ℕ → ChunkData → C
     (before : Option (List (List ℕ))) (steps : List Step) (after : Outlet) (r : Result (Option Layout) WriteError) → Keeps (setting_of ctx image) → length steps < 2 ^ 64
     → Answered ctx w t schedule to_come (own_sink borrow first before) steps to_come_now after r
     → OwnSink after (λ next now. MatchResult r (WroteAll (setting_of ctx image) w t (is_marked ctx) first next to_come to_come_now before now schedule steps)
-    (Halted (setting_of ctx image) w t (is_marked ctx) first next to_come to_come_now before now schedule steps))
+    (Halted (setting_of ctx image) w t (is_marked ctx) (counted ctx) first next to_come to_come_now before now schedule steps))
 
 -- what is left of the sink
 abbrev pub AnswersLeaveSinks : Type 0

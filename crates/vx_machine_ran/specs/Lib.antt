@@ -1,6 +1,7 @@
 pub mod Ran
 pub mod Traced
 pub mod RefusedAct
+pub mod Tracking
 pub mod Written
 pub mod Runs
 pub mod Answered

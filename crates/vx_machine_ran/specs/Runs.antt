@@ -25,6 +25,7 @@ use Rattle.vx_machine.specs.Context.{setting_of}
 use Rattle.vx_machine.specs.Run.{At, Ran, RunDone, RunStopped}
 use Rattle.vx_machine_ran.specs.Ran.{write_by, OwnSink, at_start}
 use Rattle.vx_machine_ran.specs.Traced.{tasks_of, Traced, StepsAreFirst}
+use Rattle.vx_machine_ran.specs.Tracking.{Passes}
 use Rattle.vx_machine_ran.specs.RefusedAct.{RefusedThere}
 use Rattle.vx_machine_ran.specs.Written.{Planned, Wrote, Stands, AreFirst, HasCause, AskedInSteps}
 
@@ -53,10 +54,10 @@ pub record Halts (g : Write) (first next : ℕ) (to_come_before to_come_now : Op
   pub front : (f : Future) → Open heard f → AreFirst stand.appended (planned g (of_schema g.type stand.taken) f)
   pub typed : heard ≡ true → OfSchema g.type stand.taken
   pub ended : heard ≡ true → NoneTold to_come_now
-  pub cause : (f : Future) → Open heard f → HasCause g.type (is_built g.way ≡ false) (planned g (of_schema g.type stand.taken) f) stand.taken next (length stand.appended) e
+  pub cause : (f : Future) → Open heard f → HasCause g.type (is_built g.way ≡ false) (Passes g (of_schema g.type stand.taken) f steps) (planned g (of_schema g.type stand.taken) f) stand.taken next (length stand.appended) e
   pub traced : StepsAreFirst (tasks_of g.setting g.way g.type g.mark (of_schema g.type stand.taken) heard) schedule steps e
   pub asked : AskedInSteps stand.taken heard steps e
-  pub refused : RefusedThere g.setting g.way g.type g.mark (of_schema g.type stand.taken) heard next schedule steps e
+  pub refused : RefusedThere g.setting g.way g.type g.mark g.tracker (of_schema g.type stand.taken) heard next schedule steps e
 
 abbrev pub StoppedHalts : Type 0
 StoppedHalts = (ctx : LayoutWriterContext) (image : ℕ → ChunkData → ChunkData) (w : StrategyData) (t : Ty) (schedule : List ℕ) (to_come to_come_now : Option (List ChunkData)) (borrow first : ℕ)

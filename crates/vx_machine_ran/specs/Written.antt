@@ -16,7 +16,9 @@ use Rattle.vx_write_answer.specs.declared.error.WriteError.{WriteError}
 use Rattle.vx_write_answer.specs.declared.error.WriteError.TheVariants.{SourceFault, SinkFault, CompressFault, BatchType, NotStruct, DuplicateField, ManyChunks, EmptyList, ZoneCut, ForbiddenAggregate, ForbiddenEncoding, TooLarge, OutOfMemory, Unbuilt, Stopped}
 use Rattle.vx_machine_view.specs.Built.{is_built}
 use Rattle.vx_machine.specs.Calls.{reads_in, misfits}
+use Rattle.vx_machine_promises.specs.Write.{Write}
 use Rattle.vx_machine_ran.specs.Traced.{tasks_of, StepsAreFirst, answers_in, IsLate}
+use Rattle.vx_machine_ran.specs.Tracking.{PassesAt}
 use Rattle.vx_machine_ran.specs.RefusedAct.{RefusedThere}
 
 -- ---- a write that came to its end
@@ -25,14 +27,13 @@ use Rattle.vx_machine_ran.specs.RefusedAct.{RefusedThere}
 abbrev pub Planned : Setting → StrategyData → Ty → Bool → Option (List ChunkData) → (List ChunkData → Plan → Type 0) → Type 0
 Planned s w t m told P = (xs : List ChunkData) → told ≡ Some xs → P xs (source_plan s w t m xs true)
 
--- The input was valid: the plan p of all batches has no fault and holds nothing back, every batch is a whole chunk of the type, and
+-- The input was valid: the plan p of all batches has no fault, every batch is a whole chunk of the type, and
 -- all numbers fit. The next number itself may pass 32 bits where no segment needs it.
 pub record WasValid (t : Ty) (first : ℕ) (batches : List ChunkData) (p : Plan) : Type 0 where
   pub faultless : p.faults ≡ []
   pub whole : AllOf t batches
   pub numbered : first + length p.pairs ≤ max first (2 ^ 32)
   pub fit : Fit p.numbers
-  pub reserved : p.reserved ≡ 0
 
 -- All was written by the plan p of all batches.
 pub record Wrote (t : Ty) (first next : ℕ) (before now : Option (List (List ℕ))) (l : LayoutData ℕ) (xs : List ChunkData) (p : Plan) : Type 0 where
@@ -72,36 +73,40 @@ abbrev pub NeedsNumber : Plan → ℕ → ℕ → ℕ → Type 0
 NeedsNumber p next stand n = (n ≡ next) × (2 ^ 32 ≤ n) × (stand < length p.pairs)
 
 -- The cause of an error, by the plan of the batches taken: a table, one line an error. Faults are told by counts, and memory may run
--- out; `unbuilt` says that a form isn't built.
-abbrev pub HasCause : Ty → Type 0 → Plan → List ChunkData → ℕ → ℕ → WriteError → Type 0
-HasCause t unbuilt p taken next stand (BatchType c) = (¬ (piece_type c ≡ t)) × TookLast taken c
-HasCause t unbuilt p taken next stand NotStruct = Has not_struct p.faults
-HasCause t unbuilt p taken next stand (DuplicateField name) = Has (duplicate_field name) p.faults
-HasCause t unbuilt p taken next stand ManyChunks = Has many_chunks p.faults
-HasCause t unbuilt p taken next stand EmptyList = Has empty_list p.faults
-HasCause t unbuilt p taken next stand (ForbiddenEncoding id) = Has (forbidden_encoding id) p.faults
-HasCause t unbuilt p taken next stand (TooLarge n) = NeedsNumber p next stand n ⊎ IsPast n p.numbers
-HasCause t unbuilt p taken next stand SourceFault = Unit {0}
-HasCause t unbuilt p taken next stand SinkFault = Unit {0}
-HasCause t unbuilt p taken next stand OutOfMemory = Unit {0}
-HasCause t unbuilt p taken next stand Unbuilt = unbuilt
-HasCause t unbuilt p taken next stand CompressFault = ⊥
-HasCause t unbuilt p taken next stand (ZoneCut n) = ⊥
-HasCause t unbuilt p taken next stand (ForbiddenAggregate id) = ⊥
-HasCause t unbuilt p taken next stand (Stopped by name) = ⊥
+-- out; `unbuilt` says that a form isn't built, and `passes` what the tracker would count behind the steps, past 64 bits.
+abbrev pub HasCause : Ty → Type 0 → (ℕ → Type 0) → Plan → List ChunkData → ℕ → ℕ → WriteError → Type 0
+HasCause t unbuilt passes p taken next stand (BatchType c) = (¬ (piece_type c ≡ t)) × TookLast taken c
+HasCause t unbuilt passes p taken next stand NotStruct = Has not_struct p.faults
+HasCause t unbuilt passes p taken next stand (DuplicateField name) = Has (duplicate_field name) p.faults
+HasCause t unbuilt passes p taken next stand ManyChunks = Has many_chunks p.faults
+HasCause t unbuilt passes p taken next stand EmptyList = Has empty_list p.faults
+HasCause t unbuilt passes p taken next stand (ForbiddenEncoding id) = Has (forbidden_encoding id) p.faults
+HasCause t unbuilt passes p taken next stand (TooLarge n) = NeedsNumber p next stand n ⊎ IsPast n p.numbers ⊎ passes n
+HasCause t unbuilt passes p taken next stand SourceFault = Unit {0}
+HasCause t unbuilt passes p taken next stand SinkFault = Unit {0}
+HasCause t unbuilt passes p taken next stand OutOfMemory = Unit {0}
+HasCause t unbuilt passes p taken next stand Unbuilt = unbuilt
+HasCause t unbuilt passes p taken next stand CompressFault = ⊥
+HasCause t unbuilt passes p taken next stand (ZoneCut n) = ⊥
+HasCause t unbuilt passes p taken next stand (ForbiddenAggregate id) = ⊥
+HasCause t unbuilt passes p taken next stand (Stopped by name) = ⊥
 
 -- the source's answers were asked in steps; a batch of another type in none, nor one behind which the act was refused
 abbrev pub AskedInSteps : List ChunkData → Bool → List Step → WriteError → Type 0
 AskedInSteps taken heard steps e = (answers_in taken heard ≡ reads_in steps + misfits e) ⊎ (IsLate e × (answers_in taken heard ≡ reads_in steps + 1))
 
+-- the write by itself: its schedule isn't asked
+abbrev pub write_of : Setting → StrategyData → Ty → Bool → ℕ → Write
+write_of s w t m tracker = record { setting = s; way = w; type = t; mark = m; tracker = tracker; schedule = [] }
+
 -- What stands, and why no more was written, and at which act. Plan and tasks are those of the batches taken without one of another type;
 -- they have the ends of all streams where the source's end was told.
-pub record Halted (s : Setting) (w : StrategyData) (t : Ty) (m : Bool) (first next : ℕ) (to_come_before to_come_now : Option (List ChunkData)) (before now : Option (List (List ℕ))) (schedule : List ℕ) (steps : List Step) (e : WriteError) : Type 0 where
+pub record Halted (s : Setting) (w : StrategyData) (t : Ty) (m : Bool) (tracker first next : ℕ) (to_come_before to_come_now : Option (List ChunkData)) (before now : Option (List (List ℕ))) (schedule : List ℕ) (steps : List Step) (e : WriteError) : Type 0 where
   pub heard : Bool
   pub stand : Stands (λ taken. taken_plan s w t m taken heard) first next to_come_before to_come_now before now
   pub front : AreFirstOfAll s w t m to_come_before stand.appended
   pub ended : heard ≡ true → NoneTold to_come_now
-  pub cause : HasCause t (is_built w ≡ false) (taken_plan s w t m stand.taken heard) stand.taken next (length stand.appended) e
+  pub cause : HasCause t (is_built w ≡ false) (PassesAt (write_of s w t m tracker) (of_schema t stand.taken) heard steps) (taken_plan s w t m stand.taken heard) stand.taken next (length stand.appended) e
   pub traced : StepsAreFirst (tasks_of s w t m (of_schema t stand.taken) heard) schedule steps e
   pub asked : AskedInSteps stand.taken heard steps e
-  pub refused : RefusedThere s w t m (of_schema t stand.taken) heard next schedule steps e
+  pub refused : RefusedThere s w t m tracker (of_schema t stand.taken) heard next schedule steps e

@@ -24,6 +24,7 @@ pub fn writes()
     vx_machine_runs::traces();
     vx_machine_runs::picks();
     vx_machine_runs::counts();
+    vx_machine_runs::tracks();
 }
 
 /// From before the start on: a write that was answered has written the plan, or a front of it. Of valid input it is refused
@@ -39,4 +40,5 @@ pub fn answers()
     vx_machine_turns::start_faults_agree();
     vx_machine_runs::runs();
     vx_machine_runs::stands();
+    vx_machine_runs::tracks();
 }

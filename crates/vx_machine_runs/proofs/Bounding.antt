@@ -1,5 +1,5 @@
 -- What a finished run has counted, against the plan's numbers.
-use Rattle.std.proofs.Common.{◌≡◌, ◌^◌, ◌%◌, ◌<◌, ◌∷◌, ◌++◌, ◌∙◌, ℕ, true, List, length, refl, sym, ap, subst, inl, inr, ⊎_elim, arith, append_assoc, append-nil, None, []}
+use Rattle.std.proofs.Common.{◌≡◌, ◌+◌, ◌^◌, ◌%◌, ◌<◌, ◌∷◌, ◌++◌, ◌∙◌, ℕ, true, List, length, refl, sym, ap, subst, inl, inr, ⊎_elim, arith, append_assoc, append-nil, None, []}
 use Rattle.vx_path.specs.Lists.{In}
 use Rattle.vx_path.specs.Path.{root_eof}
 use Rattle.vx_layout_spec.specs.Codec.{Lawful}
@@ -20,28 +20,31 @@ use Rattle.vx_machine_promises.specs.Promises.{StartIsReached, StepIsReached, En
 use Rattle.vx_machine_view.specs.Built.{is_built}
 use Rattle.vx_machine_view.specs.Start.{first_indices}
 use Rattle.vx_machine_view.specs.Machine.{WholeStep}
+use Rattle.vx_machine_view.specs.Reserved.{reserved_by}
 use Rattle.vx_machine_view.specs.Whole.{form_of}
 use Rattle.vx_machine_view.specs.Underway.{Showing, ready_steps}
 use Rattle.vx_machine_view.proofs.Underway.{write_steps, write_ends}
 use Rattle.vx_machine_view.proofs.Wholes.{start_shows}
-use Rattle.vx_machine_runs.specs.Runs.{Stand, outset, Chosen, Done, Led, PickedBy, scheduled, UnderwayAt}
+use Rattle.vx_machine_runs.specs.Runs.{Stand, outset, tracked, Chosen, Done, Led, PickedBy, scheduled, UnderwayAt}
 use Rattle.vx_machine_runs.specs.Ends.{plan_of}
 use Rattle.vx_machine_runs.specs.Numbers.{AllBelow, CountsBelow, NumbersAreCounted, NumbersFit}
 use Rattle.vx_machine_runs.proofs.Counting.{nth_in}
-use Rattle.vx_machine_runs.proofs.Covering.{count_reading, start_covered}
+use Rattle.vx_machine_runs.proofs.Covers.{count_reading}
+use Rattle.vx_machine_runs.proofs.Covering.{start_covered}
 use Rattle.vx_machine_runs.proofs.Doing.{did, counted_in, move_did, all_did, start_did}
 use Rattle.vx_machine_runs.proofs.Ending.{none_later, open_none, none_planned, ends_whole}
 use Rattle.vx_machine_runs.proofs.Reaching.{leads, reads, as_ready, move_of}
-use Rattle.vx_machine_runs.proofs.Stepping.{open_before, some_same, asks_so, picks_more, places, places_are_picks, led_so}
+use Rattle.vx_machine_runs.proofs.Stepping.{open_before, some_same, asks_so, start_tracked, evened, picks_more, places, places_are_picks, led_so}
 
 -- the write is under way there, and all that its tasks have counted is below this
 abbrev Bounded : ℕ → Write → ℕ → List Note → Stand → Type 0
-Bounded most g first seen x = Underway (λ f t. Showing g first x.taken x.machine f t × AllBelow most (did t)) g x.taken x.heard seen x.history g.tracker
+Bounded most g first seen x = Underway (λ f t. Showing g first x.taken x.machine f t × AllBelow most (did t)) g x.taken x.heard seen x.history (tracked g x)
 
 start_bounded : StartIsReached → (most : ℕ) (g : Write) (first : ℕ) → is_built g.way ≡ true → start_fault g.setting g.way g.type g.mark ≡ None → AllBelow most (first_indices (form_of g) root_eof)
     → Bounded most g first [] (outset g)
 start_bounded reached most g first b s all f o =
-    let r = reached g f in (
+    let r = reached g f in
+    subst (λ z. (r : Reached g [] f [] [] z) × (Showing g first [] (outset g).machine f r.tree × AllBelow most (did r.tree))) (sym (start_tracked g)) (
       r.0,
       subst (λ t. Showing g first [] (outset g).machine f t × AllBelow most (did t)) (sym r.1)
           (start_shows g (number_of (planned g [] f).pairs first) f b s, λ n i. all n (subst (λ z. In n z) (start_did g [] f b) i)),
@@ -57,17 +60,18 @@ module _ (reached : StepIsReached) (most : ℕ) (g : Write) (first : ℕ) (seen 
   step_to told w c u note counts under f o = on (under (before told f) (open_before x.heard told f c.once o))
     where
       Then : Note → Type 0
-      Then z = (q : Reached g (taken_by x.taken told) f (seen ++ (z ∷ [])) (x.history ++ w.wrote) g.tracker) × (Showing g first (taken_by x.taken told) w.after f q.tree × AllBelow most (did q.tree))
+      Then z = (q : Reached g (taken_by x.taken told) f (seen ++ (z ∷ [])) (x.history ++ w.wrote) (g.tracker + reserved_by w.after.root)) × (Showing g first (taken_by x.taken told) w.after f q.tree × AllBelow most (did q.tree))
 
-      on : (r : Reached g x.taken (before told f) seen x.history g.tracker) × (Showing g first x.taken x.machine (before told f) r.tree × AllBelow most (did r.tree)) → Then n
+      on : (r : Reached g x.taken (before told f) seen x.history (tracked g x)) × (Showing g first x.taken x.machine (before told f) r.tree × AllBelow most (did r.tree)) → Then n
       on (r, (shown, below)) =
           let size : ℕ = length (ready_steps g first x.history told x.machine) in
           let k : n.picked ≡ first_pick (picks_after (length seen) g.schedule) % size = pick ∙ ap (λ (z : Note). first_pick (picks_after (length seen) g.schedule) % z.ready) note in
-          let st = write_steps g first x.taken x.heard told f seen x.history g.tracker r x.machine n.picked w law o shown c.place k (asks_so g first x told n.picked w f c) u c.fits in
-          let q = reached g x.taken told f seen x.history (x.history ++ w.wrote) g.tracker g.tracker (noted size n.picked w.name w.kind) r st.0 in
-          let m = move_of g first x.taken x.heard told f seen x.history g.tracker r x.machine n.picked w law o shown c.place (asks_so g first x told n.picked w f c) in
+          let st = write_steps g first x.taken x.heard told f seen x.history (tracked g x) (g.tracker + reserved_by w.after.root) r x.machine n.picked w law o shown c.place k (asks_so g first x told n.picked w f c) u c.fits
+          (evened g first x told f r.tree shown n.picked w c.place) in
+          let q = reached g x.taken told f seen x.history (x.history ++ w.wrote) (tracked g x) (g.tracker + reserved_by w.after.root) (noted size n.picked w.name w.kind) r st.0 in
+          let m = move_of g first x.taken x.heard told f seen x.history (tracked g x) r x.machine n.picked w law o shown c.place (asks_so g first x told n.picked w f c) in
           let place : n.picked ≡ pick_at g r.tree seen
-          = k ∙ ap (λ z. first_pick (picks_after (length seen) g.schedule) % z) (as_ready g x.taken (before told f) seen x.history g.tracker r first x.machine shown told law) in
+          = k ∙ ap (λ z. first_pick (picks_after (length seen) g.schedule) % z) (as_ready g x.taken (before told f) seen x.history (tracked g x) r first x.machine shown told law) in
           let same : st.0.move ≡ m.0 = some_same st.0.move m.0 (sym st.0.picked ∙ ap (nth (moves_at g r.tree)) (sym place) ∙ m.1) in
           let is : counted_in st.0.move ≡ w.numbers ++ w.indices = ap counted_in same ∙ ap (λ z. z ++ (m.0.act.indices ++ opened m.0.room m.0.act.starts)) (sym m.2.numbers) ∙ ap (λ z. w.numbers ++ z) (sym m.2.indices) in
           let after : AllBelow most (did st.0.move.after) = λ i h. ⊎_elim (below i) (λ z. counts i (subst (λ v. In i v) is z))
@@ -113,15 +117,15 @@ numbers_are_counted began reached planned_end most w first ns y law b s l fin on
     told : planned g y.taken (none_later y.heard) ≡ plan_of g y.taken true
     told = none_planned g y.taken y.heard ∙ ap (plan_of g y.taken) (ends_whole planned_end g first ns y plain s fin).heard
 
-    on : (r : Reached g y.taken (none_later y.heard) ns y.history g.tracker) × (Showing g first y.taken y.machine (none_later y.heard) r.tree × AllBelow most (did r.tree)) → AllBelow most (plan_of g y.taken true).numbers
+    on : (r : Reached g y.taken (none_later y.heard) ns y.history (tracked g y)) × (Showing g first y.taken y.machine (none_later y.heard) r.tree × AllBelow most (did r.tree)) → AllBelow most (plan_of g y.taken true).numbers
     on (r, (shown, below)) n i = by (start_covered g (y.taken ++ []) y.heard b n (subst (λ (z : Plan). In n z.numbers) (sym told) i))
       where
         over : all_over r.tree ≡ true
-        over = (write_ends g first y.taken (none_later y.heard) ns y.history g.tracker r y.machine shown fin).0
+        over = (write_ends g first y.taken (none_later y.heard) ns y.history (tracked g y) r y.machine shown fin).0
 
         is : read g.setting count_reading (depth g) 0 [] (begin g y.taken (none_later y.heard)) ≡ did r.tree
-        is = sym (reads g y.taken (none_later y.heard) ns y.history g.tracker r count_reading)
-            ∙ all_did g.setting (depth g) 0 r.tree ((over_is_done g.setting (depth g) r.tree (leads g y.taken (none_later y.heard) ns y.history g.tracker r).2).0 over)
+        is = sym (reads g y.taken (none_later y.heard) ns y.history (tracked g y) r count_reading)
+            ∙ all_did g.setting (depth g) 0 r.tree ((over_is_done g.setting (depth g) r.tree (leads g y.taken (none_later y.heard) ns y.history (tracked g y) r).2).0 over)
 
         by : AtMost n (1 ∷ read g.setting count_reading (depth g) 0 [] (begin g y.taken (none_later y.heard))) → n < most
         by (m, inl e, k) = omega (arith, one, e, k)

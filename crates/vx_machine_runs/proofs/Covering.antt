@@ -17,14 +17,13 @@ use Rattle.vx_plan.specs.ColumnNodes.{Column, marked, column_plans, column_numbe
 use Rattle.vx_plan.specs.SourcePlan.{plan_nodes, plan, batch_items, source_plan}
 use Rattle.vx_plan.proofs.Relate.{Agree, relate, Both}
 use Rattle.vx_machine_turns.specs.Forms.{Form, flat_form, chunked_form, struct_form, list_form, forms_of, form_nodes, form_type, Writer}
-use Rattle.vx_machine_turns.specs.Acts.{Seed, Act, births, gifts, shut, numbers_in, indices_in}
+use Rattle.vx_machine_turns.specs.Acts.{Act, births, gifts, shut, numbers_in, indices_in}
 use Rattle.vx_machine_turns.specs.Locals.{ChunkedNode, StructNode, ListNode, chunked_local, struct_local, list_local}
 use Rattle.vx_machine_turns.specs.Turns.{firsts, start_indices}
 use Rattle.vx_machine_turns.specs.Scripts.{script}
 use Rattle.vx_machine_turns.specs.Starts.{struct_columns_of, list_columns_of, marked_forms}
 use Rattle.vx_machine_turns.specs.Source.{source_acts, source_seed}
 use Rattle.vx_machine_turns.specs.Fuels.{Fuel, spent, fuel, fuel_of, Enough, AllEnough}
-use Rattle.vx_machine_turns.specs.Readings.{Reading}
 use Rattle.vx_machine_turns.specs.Duties.{Duty, duty_of, seeds, duty_script, below, Given, grown}
 use Rattle.vx_machine_turns.specs.Planned.{AtMost}
 use Rattle.vx_machine_turns.proofs.DutyLaws.{row_is, below_is, unread_same}
@@ -41,29 +40,8 @@ use Rattle.vx_machine_view.specs.Built.{is_built, Built, AllBuilt}
 use Rattle.vx_machine_view.specs.Whole.{form_of}
 use Rattle.vx_machine_view.proofs.Building.{built_is_built}
 use Rattle.vx_machine_view.proofs.Words.{no_cons}
-
--- what a task counts: in its acts, and where it is started
-abbrev pub counted_by : Seed → List Act → List ℕ
-counted_by q acts = (numbers_in acts ++ indices_in acts) ++ start_indices q.local
-
-abbrev pub count_reading : Reading (List ℕ)
-count_reading = record { none = []; make = λ q acts kids rest. counted_by q acts ++ (kids ++ rest) }
-
--- the task of a duty and all below it
-abbrev all_counted : Setting → Fuel → Duty → List ℕ
-all_counted s d c = counted_by c.seed (duty_script s c) ++ below s count_reading d c
-
--- each number of a node's plan is at most one of these, or the last index of the eof path that it is given
-record Covers (s : Setting) (k : Node) (f : Form) : Type 0 where
-  covers : (m : Bool) (name : List ℕ) (items : List Item) (ended : Bool) (e : Eof) (d : Fuel) → Enough d f → (n : ℕ) → In n (k m items ended e).numbers
-      → AtMost n (e.last ∷ all_counted s d (duty_of s f m name items ended e))
-
-most_over : (n a b : ℕ) (xs ys : List ℕ) → a ≤ b → ((k : ℕ) → In k xs → In k ys) → AtMost n (a ∷ xs) → AtMost n (b ∷ ys)
-most_over n a b xs ys l h (m, inl e, k) = (b, inl refl, omega (arith, l, e, k))
-most_over n a b xs ys l h (m, inr i, k) = (m, inr (h m i), k)
-
-most_in : (n a : ℕ) (xs : List ℕ) → In n xs → AtMost n (a ∷ xs)
-most_in n a xs i = (n, inr i, omega arith)
+use Rattle.vx_machine_runs.proofs.Covers.{counted_by, count_reading, all_counted, Covers, most_over, most_in}
+use Rattle.vx_machine_runs.proofs.GroupCovering.{group_covers}
 
 -- ---- several duties
 
@@ -373,7 +351,7 @@ all_covers : (s : Setting) → Agree Node Form (plan_nodes s) form_nodes false (
 all_covers s = record {
   at_flat = λ o t b. flat_covers s o t;
   at_chunked = λ t k l h b. chunked_covers s t k l (h b.1);
-  at_grouped = λ g r t k l h b. absurd b;
+  at_grouped = λ g r t k l h b. group_covers s g t k l (h b.1);
   at_compressed = λ which room r t k l h b. absurd b;
   at_dict = λ o t is c v f d w g h i j b. absurd b;
   at_zoned = λ o r t k l f g h i b. absurd b;

@@ -28,7 +28,7 @@ use Rattle.vx_machine_view.specs.Whole.{form_of, root_depth}
 use Rattle.vx_machine_view.proofs.Beginning.{opened_is}
 use Rattle.vx_machine_view.proofs.Building.{built_is_built}
 use Rattle.vx_machine_view.proofs.Words.{numbers_in-append}
-use Rattle.vx_machine_runs.proofs.Covering.{counted_by, count_reading}
+use Rattle.vx_machine_runs.proofs.Covers.{counted_by, count_reading}
 
 abbrev pub did : Tree → List ℕ
 did Leaf = []

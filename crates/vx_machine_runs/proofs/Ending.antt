@@ -17,8 +17,9 @@ use Rattle.vx_machine_promises.specs.Reached.{Reached}
 use Rattle.vx_machine_promises.specs.Promises.{EndIsPlanned, Ended, RefusalsHaveCause, MovesAreCounted, Counted}
 use Rattle.vx_machine_view.specs.Machine.{WholeStep}
 use Rattle.vx_machine_view.specs.Underway.{Showing}
+use Rattle.vx_machine_view.proofs.Reserving.{finish_reserves}
 use Rattle.vx_machine_view.proofs.Underway.{write_moves, write_ready, write_ends, write_joins}
-use Rattle.vx_machine_runs.specs.Runs.{Stand, Chosen}
+use Rattle.vx_machine_runs.specs.Runs.{Stand, tracked, Chosen}
 use Rattle.vx_machine_runs.specs.Ends.{plan_of, StaysReady, Whole, EndsWhole, Caused, StepsHaveCause}
 use Rattle.vx_machine_runs.proofs.Stepping.{open_before, asks_so}
 
@@ -40,35 +41,36 @@ same_plan g taken over f = refl
 pub stays_ready : StaysReady
 stays_ready g first seen x a law u n =
     let p = u (none_later x.heard) (open_none x.heard) in
-    write_ready g first x.taken a (none_later x.heard) seen x.history g.tracker p.0 x.machine law p.1 n
+    write_ready g first x.taken a (none_later x.heard) seen x.history (tracked g x) p.0 x.machine law p.1 n
 
 pub ends_whole : EndIsPlanned → EndsWhole
 ends_whole planned_end g first seen x u s fin = from (u (none_later x.heard) (open_none x.heard))
   where
-    from : (r : Reached g x.taken (none_later x.heard) seen x.history g.tracker) × Showing g first x.taken x.machine (none_later x.heard) r.tree → Whole g first x
+    from : (r : Reached g x.taken (none_later x.heard) seen x.history (tracked g x)) × Showing g first x.taken x.machine (none_later x.heard) r.tree → Whole g first x
     from (r, shown) =
-        let w = write_ends g first x.taken (none_later x.heard) seen x.history g.tracker r x.machine shown fin in
-        let e : Ended g x.taken (none_later x.heard) x.history g.tracker r.tree = planned_end g x.taken (none_later x.heard) seen x.history g.tracker r w.0 s in
+        let w = write_ends g first x.taken (none_later x.heard) seen x.history (tracked g x) r x.machine shown fin in
+        let e : Ended g x.taken (none_later x.heard) x.history (tracked g x) r.tree = planned_end g x.taken (none_later x.heard) seen x.history (tracked g x) r w.0 s in
         let p : planned g x.taken (none_later x.heard) ≡ plan_of g x.taken true = none_planned g x.taken x.heard ∙ ap (plan_of g x.taken) e.fits in
         record {
           heard = e.fits;
           faultless = ap (λ (z : Plan). z.faults) (sym p) ∙ e.faultless;
           appended = e.whole ∙ ap (λ (z : Plan). sorted z.pairs) p;
           layout = w.1 ∙ ap (λ ls. map (renamed (number_of (planned g x.taken (none_later x.heard)).pairs first)) ls) e.layout ∙ ap (λ z. numbered z first ∷ []) p;
+          released = finish_reserves g (number_of (planned g x.taken (none_later x.heard)).pairs first) (none_later x.heard) x.machine r.tree shown fin;
         }
 
 module _ (refusals : RefusalsHaveCause) (counts : MovesAreCounted) (g : Write) (first : ℕ) (seen : List Note) (x : Stand) (told : Answer) (k : ℕ) (w : WholeStep) (law : Lawful g.setting.codec g.setting.encodings)
     (c : Chosen g first x told k w) (f : Future) (o : Open (heard_by x.heard told) f) where
-  pub caused : (r : Reached g x.taken (before told f) seen x.history g.tracker) → Showing g first x.taken x.machine (before told f) r.tree → Caused (planned g (taken_by x.taken told) f) w
+  pub caused : (r : Reached g x.taken (before told f) seen x.history (tracked g x)) → Showing g first x.taken x.machine (before told f) r.tree → Caused (planned g (taken_by x.taken told) f) w
   caused r shown =
       let p : planned g x.taken (before told f) ≡ planned g (taken_by x.taken told) f = same_plan g x.taken told f in
-      let m = write_moves g first x.taken x.heard told f seen x.history g.tracker r x.machine k w law o shown c.place (asks_so g first x told k w f c) in
-      let n : Counted g x.taken (before told f) g.tracker m.0 = counts g x.taken (before told f) seen x.history g.tracker r m.0 m.1 in
+      let m = write_moves g first x.taken x.heard told f seen x.history (tracked g x) r x.machine k w law o shown c.place (asks_so g first x told k w f c) in
+      let n : Counted g x.taken (before told f) (tracked g x) m.0 = counts g x.taken (before told f) seen x.history (tracked g x) r m.0 m.1 in
       record {
-        refusal = λ v e. subst (λ (z : Plan). Has v z.faults) p (refusals g x.taken (before told f) seen x.history g.tracker r m.0 v m.1 (sym m.2.refusal ∙ e));
+        refusal = λ v e. subst (λ (z : Plan). Has v z.faults) p (refusals g x.taken (before told f) seen x.history (tracked g x) r m.0 v m.1 (sym m.2.refusal ∙ e));
         numbers = λ i h. subst (λ (z : Plan). In i z.numbers) p (n.numbers i (subst (In i) m.2.numbers h));
         indices = λ i h. subst (λ (z : Plan). AtMost i z.numbers) p (⊎_elim (n.indices i) (n.births i) (in_cases i m.0.act.indices (opened m.0.room m.0.act.starts) (subst (In i) m.2.indices h)));
-        joined = λ i h. subst (λ (z : Plan). (i ≡ 0) ⊎ In i z.numbers) p (write_joins g first x.taken told (before told f) seen x.history g.tracker r x.machine k w shown c.place i h);
+        joined = λ i h. subst (λ (z : Plan). (i ≡ 0) ⊎ In i z.numbers) p (write_joins g first x.taken told (before told f) seen x.history (tracked g x) r x.machine k w shown c.place i h);
       }
 
 pub steps_have_cause : RefusalsHaveCause → MovesAreCounted → StepsHaveCause

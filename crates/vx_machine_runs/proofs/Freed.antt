@@ -2,7 +2,7 @@
 use Rattle.std.proofs.Common.{◌≡◌, ◌∷◌, ◌++◌, ◌∙◌, ℕ, cond, List, map, refl, sym, ap, Some, []}
 use Rattle.vx_plan.specs.PlanData.{Setting}
 use Rattle.vx_machine_promises.specs.Write.{Answer}
-use Rattle.vx_machine_view.specs.State.{Next, put, append, shut_kids, join_kids, Desk, Tasks, no_tasks, task_then}
+use Rattle.vx_machine_view.specs.State.{Next, put, hand_on, append, shut_kids, join_kids, Desk, Tasks, no_tasks, task_then}
 use Rattle.vx_machine_view.specs.Acts.{do_act}
 use Rattle.vx_machine_view.specs.Moves.{Step, may_act, own_step, in_kids, in_rest, steps}
 use Rattle.vx_machine_view.specs.Machine.{Machine, may_source, WholeStep, source_step, in_root, whole_steps}
@@ -14,6 +14,7 @@ use Rattle.vx_machine_runs.specs.Runs.{NumberIsFree}
 act_free : (s : Setting) (n number : ℕ) (c : Desk) (ks : Tasks) (todo : List Next) → (do_act s n c ks todo).wrote ≡ [] → do_act s n c ks todo ≡ do_act s number c ks todo
 act_free s n number c ks [] e = refl
 act_free s n number c ks (put j i ∷ todo) e = refl
+act_free s n number c ks (hand_on w i ∷ todo) e = refl
 act_free s n number c ks (append x ∷ todo) e = cc
 act_free s n number c ks (shut_kids ∷ todo) e = refl
 act_free s n number c ks (join_kids f ∷ todo) e = refl

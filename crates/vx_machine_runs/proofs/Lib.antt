@@ -8,7 +8,9 @@ pub mod Asking
 pub mod Sounding
 pub mod Tracing
 pub mod Picking
-pub mod Reserving
+pub mod Tracking
+pub mod Covers
+pub mod GroupCovering
 pub mod Covering
 pub mod Doing
 pub mod Bounding

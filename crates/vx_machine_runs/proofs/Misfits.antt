@@ -1,8 +1,10 @@
 -- A chunk of another type comes of the source alone.
-use Rattle.std.proofs.Common.{◌≡◌, ◌+◌, ◌&&◌, ◌==◌, ◌⊎◌, ◌∷◌, ◌++◌, ◌∙◌, ℕ, zero, suc, Bool, true, false, not, cond, List, map, length, refl, sym, ap, subst, inl, inr, Some, []}
+use Rattle.std.proofs.Common.{◌≡◌, ◌+◌, ◌&&◌, ◌==◌, ◌⊎◌, ◌∷◌, ◌++◌, ◌∙◌, ℕ, zero, suc, Bool, true, false, not, cond, List, map, length, refl, sym, ap, subst, inl, inr, Option, Some, None, []}
 use Rattle.std.proofs.lemmas.Bool.{true≢false}
 use Rattle.vx_model.specs.Ty.{Ty, list, struct}
-use Rattle.vx_model.specs.ChunkData.{ChunkData}
+use Rattle.vx_model.specs.CellData.{CellData}
+use Rattle.vx_model.specs.ChunkData.{ChunkData, held}
+use Rattle.vx_rules.specs.Blocks.{block_len}
 use Rattle.vx_path.specs.Lists.{In}
 use Rattle.vx_path.specs.Path.{Eof}
 use Rattle.vx_path.proofs.Lists.{in_cases, from_map}
@@ -17,15 +19,16 @@ use Rattle.vx_machine_turns.specs.Source.{source_seed}
 use Rattle.vx_machine_steps.specs.Tree.{Tree, Leaf, Work}
 use Rattle.vx_machine_promises.specs.Write.{Answer, unasked, came, over, planned}
 use Rattle.vx_machine_promises.specs.Reached.{Reached}
-use Rattle.vx_machine_view.specs.State.{Mind, no_chunk, one_chunk, by_chunk, by_column, by_list, ending, made, Desk, Tasks, no_tasks, task_then}
-use Rattle.vx_machine_view.specs.Acts.{count, column_count, take_chunk, end_columns, end_lists, take_end, do_take, do_act, puts}
+use Rattle.vx_machine_view.specs.State.{shut_kids, Mind, no_chunk, one_chunk, by_chunk, by_column, by_list, by_block, by_size, as_one, ending, passing, made, Desk, Tasks, no_tasks, task_then}
+use Rattle.vx_machine_view.specs.Acts.{count, column_count, take_chunk, end_columns, end_lists, take_end, do_take, do_act, puts, hand_all}
 use Rattle.vx_machine_view.specs.Moves.{Step, may_act, own_step, in_kids, in_rest, steps}
 use Rattle.vx_machine_view.specs.Typed.{AllTyped}
-use Rattle.vx_machine_view.specs.Shows.{Stage, waits_first, waits_end, appends, splits, gathers_all, hands, hands_lists, shuts, joins_columns, Done, Shows}
+use Rattle.vx_machine_view.specs.Shows.{Stage, waits_first, waits_end, appends, splits, gathers_all, hands, hands_lists, shuts, joins_columns, regroups_rows, regroups_chunks, collects, passes_on, passed, Done, Shows}
 use Rattle.vx_machine_view.specs.Machine.{Phase, reading, giving, closing, finished, may_source, WholeStep, source_step, in_root, machine_ids}
 use Rattle.vx_machine_view.specs.Whole.{form_of, root_depth}
 use Rattle.vx_machine_view.specs.Underway.{Showing}
 use Rattle.vx_machine_view.proofs.Words.{type_fits}
+use Rattle.vx_machine_runs.specs.Runs.{tracked}
 use Rattle.vx_machine_runs.specs.Steps.{MisfitIsRead}
 use Rattle.vx_machine_runs.proofs.Counting.{nth_in}
 use Rattle.vx_machine_runs.proofs.Ending.{none_later, open_none}
@@ -46,7 +49,13 @@ ends_fit c ks (one_chunk x) = refl
 ends_fit c ks (by_chunk m t f e rows) = refl
 ends_fit c ks (by_column t rows) = columns_end ((count ks == 0) && (0 == column_count t)) t rows c ks
 ends_fit c ks (by_list t n first from rows) = lists_end first (list t n) rows c ks
+ends_fit c ks (by_block len minimum t x None rows) = refl
+ends_fit c ks (by_block len minimum t x (Some j) rows) = refl
+ends_fit c ks (by_size size x None rows) = refl
+ends_fit c ks (by_size size x (Some j) rows) = refl
+ends_fit c ks (as_one t x rows) = refl
 ends_fit c ks ending = refl
+ends_fit c ks passing = refl
 ends_fit c ks (made l) = refl
 
 module _ (s : Setting) (number : List ℕ → ℕ) (next : ℕ) (all : List (List ℕ)) where
@@ -75,6 +84,28 @@ module _ (s : Setting) (number : List ℕ → ℕ) (next : ℕ) (all : List (Lis
   takes_lists c ks [] t n first from rows e ty = tt
   takes_lists c ks (i ∷ xs) t n first from rows e ty = ap (λ z. (take_chunk s c ks i xs z).misfit) e ∙ ap not (type_fits (list t n) i.1 ty.0)
 
+  takes_blocks : (c : Desk) (ks : Tasks) (xs : List Item) (len minimum : ℕ) (t : Ty) (x : List CellData) (j : Option Item) (rows : ℕ) → c.mind ≡ by_block len minimum t x j rows → AllTyped t xs → Takes c ks xs c.mind
+  takes_blocks c ks [] len minimum t x j rows e ty = tt
+  takes_blocks c ks (i ∷ xs) len minimum t x None rows e ty = ap (λ z. (take_chunk s c ks i xs z).misfit) e ∙ ap not (type_fits t i.1 ty.0)
+  takes_blocks c ks (i ∷ xs) len minimum t x (Some p) rows e ty = ap (λ z. (take_chunk s c ks i xs z).misfit) e ∙ ap not (type_fits t i.1 ty.0)
+
+  takes_sizes : (c : Desk) (ks : Tasks) (xs : List Item) (size : ℕ) (x : List ChunkData) (j : Option Item) (rows : ℕ) → c.mind ≡ by_size size x j rows → Takes c ks xs c.mind
+  takes_sizes c ks [] size x j rows e = tt
+  takes_sizes c ks (i ∷ xs) size x None rows e = ap (λ z. (take_chunk s c ks i xs z).misfit) e
+  takes_sizes c ks (i ∷ xs) size x (Some p) rows e = ap (λ z. (take_chunk s c ks i xs z).misfit) e
+
+  takes_all : (c : Desk) (ks : Tasks) (xs : List Item) (t : Ty) (x : Option (List ℕ × List ChunkData)) (rows : ℕ) → c.mind ≡ as_one t x rows → AllTyped t xs → Takes c ks xs c.mind
+  takes_all c ks [] t x rows e ty = tt
+  takes_all c ks (i ∷ xs) t x rows e ty = ap (λ z. (take_chunk s c ks i xs z).misfit) e ∙ ap not (type_fits t i.1 ty.0)
+
+  hands_fit : (c : Desk) (ks : Tasks) (weight : ChunkData → ℕ) (outs : List Item) → Takes c ks c.inbox c.mind → (do_act s next c ks (hand_all weight outs)).misfit ≡ false
+  hands_fit c ks weight [] t = take_fits c ks c.inbox t
+  hands_fit c ks weight (i ∷ outs) t = refl
+
+  passes_fit : (c : Desk) (ks : Tasks) (weight : ChunkData → ℕ) (outs : List Item) → (do_act s next c ks (hand_all weight outs ++ (shut_kids ∷ []))).misfit ≡ false
+  passes_fit c ks weight [] = refl
+  passes_fit c ks weight (i ∷ outs) = refl
+
   puts_fit : (c : Desk) (ks : Tasks) (j : ℕ) (p : List ℕ) (xs : List ChunkData) → Takes c ks c.inbox c.mind → (do_act s next c ks (puts j p xs)).misfit ≡ false
   puts_fit c ks j p [] t = take_fits c ks c.inbox t
   puts_fit c ks j p (x ∷ xs) t = refl
@@ -95,6 +126,14 @@ module _ (s : Setting) (number : List ℕ → ℕ) (next : ℕ) (all : List (Lis
       ∙ puts_fit c ks j p xs (takes_lists c ks c.inbox n.elements n.nullable first from rows w.mind_is (subst (λ z. AllTyped z c.inbox) t ty))
   own_fits d c ks q past todo l off hs ty (shuts t rows k w) = ap (λ z. (do_act s next c ks z).misfit) w.left_is
   own_fits d c ks q past todo l off hs ty (joins_columns t rows k w) = ap (λ z. (do_act s next c ks z).misfit) w.left_is
+  own_fits d c ks q past todo l off hs ty (regroups_rows o n x j rows outs tj nh w) =
+      ap (λ z. (do_act s next c ks z).misfit) w.left_is
+      ∙ hands_fit c ks (λ p. 0) outs (takes_blocks c ks c.inbox (block_len o n.type) o.minimum n.type x j rows w.mind_is (subst (λ z. AllTyped z c.inbox) w.type_is ty))
+  own_fits d c ks q past todo l off hs ty (regroups_chunks size n x j rows outs tx tj nh w) =
+      ap (λ z. (do_act s next c ks z).misfit) w.left_is ∙ hands_fit c ks held outs (takes_sizes c ks c.inbox size x j rows w.mind_is)
+  own_fits d c ks q past todo l off hs ty (collects n x rows w) = idle_fits c ks w.left_is (takes_all c ks c.inbox n.type x rows w.mind_is (subst (λ z. AllTyped z c.inbox) w.type_is ty))
+  own_fits d c ks q past todo l off hs ty (passes_on t weight outs one to w) = ap (λ z. (do_act s next c ks z).misfit) w.left_is ∙ passes_fit c ks weight outs
+  own_fits d c ks q past todo l off hs ty (passed t one w) = idle_fits c ks w.left_is (takes_first c ks c.inbox passing (λ i xs. refl) w.mind_is)
 
   -- ---- of all tasks
 
@@ -161,7 +200,7 @@ misfit_is_read g first seen x a k w u at mis = on (u (none_later x.heard) (open_
     Read : Type 0
     Read = (e : Eof) × (x.machine.phase ≡ reading e) × (k ≡ 0) × (a ≡ unasked)
 
-    on : (r : Reached g x.taken (none_later x.heard) seen x.history g.tracker) × Showing g first x.taken x.machine (none_later x.heard) r.tree → Read
+    on : (r : Reached g x.taken (none_later x.heard) seen x.history (tracked g x)) × Showing g first x.taken x.machine (none_later x.heard) r.tree → Read
     on (r, shown) = by (at_place (may_source x.machine.phase x.machine.root) (source_step a x.machine.phase x.machine.root)
         (map (in_root x.machine.phase) (steps g.setting (machine_ids x.machine) (first + length x.history) x.machine.root)) k w at)
       where

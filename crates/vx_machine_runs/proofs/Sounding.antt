@@ -16,6 +16,7 @@ use Rattle.vx_machine_view.specs.Machine.{WholeStep, is_finished, machine_ids}
 use Rattle.vx_machine_view.specs.Places.{whole_ready}
 use Rattle.vx_machine_view.specs.Underway.{Showing, ready_steps}
 use Rattle.vx_machine_view.proofs.Placing.{whole_is_ready}
+use Rattle.vx_machine_runs.specs.Runs.{tracked}
 use Rattle.vx_machine_runs.specs.Ends.{Caused}
 use Rattle.vx_machine_runs.specs.Steps.{IdleIsFinished, HistoryIsFront, AppendIsOneMore, PastIsCaused, StartIsCaused, SoundStep, ValidIsSound, ValidStarts}
 use Rattle.vx_machine_runs.proofs.Counting.{nth_in}
@@ -37,7 +38,7 @@ idle_is_finished g first seen x law u none = by (is_finished x.machine) refl
 pub history_is_front : HistoryIsFirst → HistoryIsFront
 history_is_front firsts g first seen x told f once o u =
     let r = (u (before told f) (open_before x.heard told f once o)).0 in
-    let h = firsts g x.taken (before told f) seen x.history g.tracker r in
+    let h = firsts g x.taken (before told f) seen x.history (tracked g x) r in
     (h.0, ap (λ (z : Plan). sorted z.pairs) (sym (same_plan g x.taken told f)) ∙ h.1)
 
 -- ---- valid input
@@ -75,7 +76,7 @@ sound_of p w clean fit c = record {
 pub valid_is_sound : RefusalsHaveCause → MovesAreCounted → ValidIsSound
 valid_is_sound refusals counts g first seen x told f k w law u o c clean fit = on (u (before told f) (open_before x.heard told f c.once o))
   where
-    on : (r : Reached g x.taken (before told f) seen x.history g.tracker) × Showing g first x.taken x.machine (before told f) r.tree → SoundStep w
+    on : (r : Reached g x.taken (before told f) seen x.history (tracked g x)) × Showing g first x.taken x.machine (before told f) r.tree → SoundStep w
     on (r, shown) = sound_of (planned g (taken_by x.taken told) f) w clean fit (caused refusals counts g first seen x told k w law c f o r shown)
 
 pub valid_starts : StartIsCounted → ValidStarts
@@ -91,12 +92,12 @@ valid_starts counts g f b clean fit =
 pub append_is_one_more : AppendsFit → AppendIsOneMore
 append_is_one_more more g first seen x told f k w y law u o c none e = on (u (before told f) (open_before x.heard told f c.once o))
   where
-    on : (r : Reached g x.taken (before told f) seen x.history g.tracker) × Showing g first x.taken x.machine (before told f) r.tree → length x.history < length (planned g (taken_by x.taken told) f).pairs
+    on : (r : Reached g x.taken (before told f) seen x.history (tracked g x)) × Showing g first x.taken x.machine (before told f) r.tree → length x.history < length (planned g (taken_by x.taken told) f).pairs
     on (r, shown) =
-        let m = move_of g first x.taken x.heard told f seen x.history g.tracker r x.machine k w law o shown c.place (asks_so g first x told k w f c) in
+        let m = move_of g first x.taken x.heard told f seen x.history (tracked g x) r x.machine k w law o shown c.place (asks_so g first x told k w f c) in
         let q : refuses m.0.act ≡ false = ap (λ z. z || is_some m.0.act.refusal) (sym m.2.misfit ∙ c.fits) ∙ ap is_some (sym m.2.refusal ∙ none) in
         subst (λ (z : Plan). length x.history < length z.pairs) (same_plan g x.taken told f)
-        (more g x.taken (before told f) seen x.history g.tracker r m.0 y (nth_in (moves_at g r.tree) k m.0 m.1) q (sym m.2.wrote ∙ e))
+        (more g x.taken (before told f) seen x.history (tracked g x) r m.0 y (nth_in (moves_at g r.tree) k m.0 m.1) q (sym m.2.wrote ∙ e))
 
 -- ---- what doesn't fit
 

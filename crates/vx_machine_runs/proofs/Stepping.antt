@@ -1,5 +1,5 @@
 -- A run is a write that is under way.
-use Rattle.std.proofs.Common.{◌≡◌, ◌%◌, ◌<◌, ◌∷◌, ◌++◌, ◌∙◌, ℕ, zero, suc, Bool, true, List, map, length, refl, sym, ap, subst, arith, Some, None, append_assoc, append-nil, []}
+use Rattle.std.proofs.Common.{◌≡◌, ◌+◌, ◌%◌, ◌<◌, ◌∷◌, ◌++◌, ◌∙◌, ℕ, zero, suc, Bool, true, List, map, length, refl, sym, ap, subst, arith, Some, None, append_assoc, append-nil, []}
 use Rattle.std.proofs.Math.Nat.{mod-eq_of_lt}
 use Rattle.std.proofs.lemmas.Bool.{true≢false}
 use Rattle.vx_model.specs.Ty.{Ty}
@@ -8,18 +8,22 @@ use Rattle.vx_layout_spec.specs.Codec.{Lawful}
 use Rattle.vx_tasks.specs.Run.{Note, nth, first_pick, later_picks}
 use Rattle.vx_tasks.specs.Runs.{noted}
 use Rattle.vx_plan.specs.PlanData.{Setting}
+use Rattle.vx_machine_steps.specs.Tree.{Tree}
 use Rattle.vx_machine_steps.specs.Runs.{picks_after}
 use Rattle.vx_machine_promises.specs.Write.{Write, Future, Open, Answer, unasked, came, over, planned, taken_by, heard_by, before}
 use Rattle.vx_machine_promises.specs.Reached.{Reached}
 use Rattle.vx_machine_promises.specs.Promises.{StartIsReached, StepIsReached}
 use Rattle.vx_plan.specs.Number.{number_of}
-use Rattle.vx_machine_view.specs.Machine.{Phase, reading, giving, closing, finished, Machine, may_source, WholeStep, source_step, whole_steps}
-use Rattle.vx_machine_view.specs.Whole.{Asks}
+use Rattle.vx_machine_view.specs.Machine.{Phase, reading, giving, closing, finished, Machine, may_source, WholeStep, source_step, whole_steps, machine_ids}
+use Rattle.vx_machine_view.specs.Reserved.{reserved_by}
+use Rattle.vx_machine_view.specs.Whole.{form_of, Asks}
 use Rattle.vx_machine_view.specs.Underway.{Showing, ready_steps}
 use Rattle.vx_machine_view.proofs.Placing.{source_place}
+use Rattle.vx_machine_view.proofs.Reserving.{start_reserves, whole_reserves}
 use Rattle.vx_machine_view.proofs.Underway.{write_steps}
 use Rattle.vx_machine_view.proofs.Wholes.{start_shows}
-use Rattle.vx_machine_runs.specs.Runs.{Stand, outset, Asking, TypedAnswer, BeforeEnd, Chosen, Done, Led, PickedBy, scheduled, UnderwayAt, StartIsUnderway, StepIsUnderway, RunByIsUnderway, PlacesArePicks, RunIsUnderway, ScheduleIsFree}
+use Rattle.vx_machine_runs.specs.Runs.{Stand, outset, tracked, Asking, TypedAnswer, BeforeEnd, Chosen, Done, Led, PickedBy, scheduled, UnderwayAt, StartIsUnderway, StepIsUnderway, RunByIsUnderway, PlacesArePicks, RunIsUnderway, ScheduleIsFree}
+use Rattle.vx_machine_runs.proofs.Counting.{nth_in}
 
 -- ---- what is asked
 
@@ -50,11 +54,26 @@ pub asks_so : (g : Write) (first : ℕ) (x : Stand) (told : Answer) (k : ℕ) (w
 asks_so g first x told k w f c = asked g.type f x.machine.phase k told c.asks c.typed
     (λ e is z u. true≢false (sym (misfits g.setting _ _ x.machine e w is (subst (λ a. nth (ready_steps g first x.history a x.machine) 0 ≡ Some w) u (subst (λ j. nth (ready_steps g first x.history told x.machine) j ≡ Some w) z c.place))) ∙ c.fits))
 
+-- ---- the tracker
+
+pub start_tracked : (g : Write) → tracked g (outset g) ≡ g.tracker
+start_tracked g = let h : reserved_by (outset g).machine.root ≡ 0 = start_reserves (form_of g) g.mark in omega (arith, h)
+
+-- a step changes it by what it adds and takes
+pub evened : (g : Write) (first : ℕ) (x : Stand) (told : Answer) (f : Future) (t : Tree) → Showing g first x.taken x.machine (before told f) t → (k : ℕ) (w : WholeStep)
+    → nth (ready_steps g first x.history told x.machine) k ≡ Some w → (g.tracker + reserved_by w.after.root) + w.lowers ≡ tracked g x + w.raises
+evened g first x told f t shown k w at =
+    let h : reserved_by w.after.root + w.lowers ≡ reserved_by x.machine.root + w.raises =
+    whole_reserves g (number_of (planned g x.taken (before told f)).pairs first) (first + length x.history) (machine_ids x.machine) told (before told f) x.machine t w shown
+    (nth_in (ready_steps g first x.history told x.machine) k w at) in
+    let e : (g.tracker + reserved_by w.after.root) + w.lowers ≡ (g.tracker + reserved_by x.machine.root) + w.raises = omega (arith, h) in e
+
 -- ---- the start
 
 pub start_under : StartIsReached → StartIsUnderway
 start_under reached g first b s f o =
     let r = reached g f in
+    subst (λ z. (r : Reached g [] f [] [] z) × Showing g first [] (outset g).machine f r.tree) (sym (start_tracked g))
     (r.0, subst (λ t. Showing g first [] (outset g).machine f t) (sym r.1) (start_shows g (number_of (planned g [] f).pairs first) f b s))
 
 -- ---- a step
@@ -66,14 +85,15 @@ module _ (reached : StepIsReached) (g : Write) (first : ℕ) (seen : List Note) 
   step_to told w c u note under f o = on (under (before told f) (open_before x.heard told f c.once o))
     where
       Then : Note → Type 0
-      Then z = (q : Reached g (taken_by x.taken told) f (seen ++ (z ∷ [])) (x.history ++ w.wrote) g.tracker) × Showing g first (taken_by x.taken told) w.after f q.tree
+      Then z = (q : Reached g (taken_by x.taken told) f (seen ++ (z ∷ [])) (x.history ++ w.wrote) (g.tracker + reserved_by w.after.root)) × Showing g first (taken_by x.taken told) w.after f q.tree
 
-      on : (r : Reached g x.taken (before told f) seen x.history g.tracker) × Showing g first x.taken x.machine (before told f) r.tree → Then n
+      on : (r : Reached g x.taken (before told f) seen x.history (tracked g x)) × Showing g first x.taken x.machine (before told f) r.tree → Then n
       on (r, shown) =
           let size : ℕ = length (ready_steps g first x.history told x.machine) in
           let k : n.picked ≡ first_pick (picks_after (length seen) g.schedule) % size = pick ∙ ap (λ (z : Note). first_pick (picks_after (length seen) g.schedule) % z.ready) note in
-          let st = write_steps g first x.taken x.heard told f seen x.history g.tracker r x.machine n.picked w law o shown c.place k (asks_so g first x told n.picked w f c) u c.fits in
-          let q = reached g x.taken told f seen x.history (x.history ++ w.wrote) g.tracker g.tracker (noted size n.picked w.name w.kind) r st.0 in
+          let st = write_steps g first x.taken x.heard told f seen x.history (tracked g x) (g.tracker + reserved_by w.after.root) r x.machine n.picked w law o shown c.place k (asks_so g first x told n.picked w f c) u c.fits
+          (evened g first x told f r.tree shown n.picked w c.place) in
+          let q = reached g x.taken told f seen x.history (x.history ++ w.wrote) (tracked g x) (g.tracker + reserved_by w.after.root) (noted size n.picked w.name w.kind) r st.0 in
           subst Then (sym note) (q.0, subst (λ t. Showing g first (taken_by x.taken told) w.after f t) (sym q.1) st.1)
 
 pub step_under : StepIsReached → StepIsUnderway

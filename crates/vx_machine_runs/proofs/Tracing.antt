@@ -32,7 +32,7 @@ use Rattle.vx_machine_view.specs.Underway.{Showing, ready_steps}
 use Rattle.vx_machine_view.proofs.Ending.{finish_shows}
 use Rattle.vx_machine_view.proofs.Underway.{write_ends}
 use Rattle.vx_machine_view.proofs.Words.{or_all}
-use Rattle.vx_machine_runs.specs.Runs.{Stand, UnderwayAt}
+use Rattle.vx_machine_runs.specs.Runs.{Stand, tracked, UnderwayAt}
 use Rattle.vx_machine_runs.specs.Traces.{scripts_of, ReadyIsWithinWork, NextIsWithinWork, NotesAreWithinWork, NotesAreFirst, NotesAreFewer, ReadyIsMore, WholeTrace, NotesAreWhole, RefusalIsLast, MisfitIsLast, appends_noted, AppendsAreNoted}
 use Rattle.vx_machine_runs.proofs.Counting.{nth_in, ready_is_within_left, ready_within_cut, noted_within, run_is_front}
 use Rattle.vx_machine_runs.proofs.Ending.{none_later, open_none, ends_whole}
@@ -42,19 +42,19 @@ use Rattle.vx_machine_runs.proofs.Stepping.{open_before, asks_so}
 
 -- where the write has come, and what the machine shows there
 abbrev At : Write → ℕ → List Note → Stand → Future → Type 0
-At g first seen x f = (r : Reached g x.taken f seen x.history g.tracker) × Showing g first x.taken x.machine f r.tree
+At g first seen x f = (r : Reached g x.taken f seen x.history (tracked g x)) × Showing g first x.taken x.machine f r.tree
 
 pub ready_is_within_work : WorkIsShared → ReadyIsWithinWork
 ready_is_within_work shared g first seen x a f law u o = on (u f o)
   where
     on : At g first seen x f → length (ready_steps g first x.history a x.machine) + length seen ≤ work (scripts g x.taken f)
     on (r, shown) =
-        let l = leads g x.taken f seen x.history g.tracker r in
-        let b : length (ready_steps g first x.history a x.machine) ≡ length (moves_at g r.tree) = as_ready g x.taken f seen x.history g.tracker r first x.machine shown a law in
+        let l = leads g x.taken f seen x.history (tracked g x) r in
+        let b : length (ready_steps g first x.history a x.machine) ≡ length (moves_at g r.tree) = as_ready g x.taken f seen x.history (tracked g x) r first x.machine shown a law in
         let c : ready (forest g.setting (depth g) r.tree) (counts r.tree) ≡ length (moves_at g r.tree) = ready_is g.setting (depth g) r.tree l.2 in
         let d : ready (forest g.setting (depth g) r.tree) (counts r.tree) ≤ left (forest g.setting (depth g) r.tree) (counts r.tree) = ready_is_within_left (forest g.setting (depth g) r.tree) (counts r.tree) in
         let e : left (forest g.setting (depth g) r.tree) (counts r.tree) ≡ left (scripts g x.taken f) (counts r.tree) = ap (λ z. left z (counts r.tree)) l.1 in
-        let h : left (scripts g x.taken f) (counts r.tree) + length seen ≡ work (scripts g x.taken f) = shared g x.taken f seen x.history g.tracker r in
+        let h : left (scripts g x.taken f) (counts r.tree) + length seen ≡ work (scripts g x.taken f) = shared g x.taken f seen x.history (tracked g x) r in
         omega (arith, b, c, d, e, h)
 
 pub next_is_within_work : NextIsWithinWork
@@ -62,9 +62,9 @@ next_is_within_work g first seen x a f law u o = on (u f o)
   where
     on : At g first seen x f → length (ready_steps g first x.history a x.machine) ≤ work (cut (scripts g x.taken f))
     on (r, shown) =
-        let l = leads g x.taken f seen x.history g.tracker r in
-        let s : IsPlanned g.setting g.way g.type g.mark (x.taken ++ f.later) f.fits = at_start g x.taken f seen x.history g.tracker r in
-        let b : length (ready_steps g first x.history a x.machine) ≡ length (moves_at g r.tree) = as_ready g x.taken f seen x.history g.tracker r first x.machine shown a law in
+        let l = leads g x.taken f seen x.history (tracked g x) r in
+        let s : IsPlanned g.setting g.way g.type g.mark (x.taken ++ f.later) f.fits = at_start g x.taken f seen x.history (tracked g x) r in
+        let b : length (ready_steps g first x.history a x.machine) ≡ length (moves_at g r.tree) = as_ready g x.taken f seen x.history (tracked g x) r first x.machine shown a law in
         let c : ready (forest g.setting (depth g) r.tree) (counts r.tree) ≡ length (moves_at g r.tree) = ready_is g.setting (depth g) r.tree l.2 in
         let e : ready (forest g.setting (depth g) r.tree) (counts r.tree) ≡ ready (scripts g x.taken f) (counts r.tree) = ap (λ z. ready z (counts r.tree)) l.1 in
         let d : ready (scripts g x.taken f) (counts r.tree) ≤ work (cut (scripts g x.taken f)) = ready_within_cut (scripts g x.taken f) (counts r.tree) (map view r.moves) s.stands.rules
@@ -77,8 +77,8 @@ run_is firsts g first seen x f u o = on (u f o)
   where
     on : At g first seen x f → seen ≡ map note (run (cut (scripts g x.taken f)) Zeros g.schedule (length seen))
     on (r, shown) =
-        let rules : KeepsRules (scripts g x.taken f) = (at_start g x.taken f seen x.history g.tracker r).stands.rules in
-        firsts g x.taken f seen x.history g.tracker r ∙ ap (map note) (sym (same_runs (scripts g x.taken f) g.schedule (length seen) rules))
+        let rules : KeepsRules (scripts g x.taken f) = (at_start g x.taken f seen x.history (tracked g x) r).stands.rules in
+        firsts g x.taken f seen x.history (tracked g x) r ∙ ap (map note) (sym (same_runs (scripts g x.taken f) g.schedule (length seen) rules))
 
 pub notes_are_first : SeenIsFirst → NotesAreFirst
 notes_are_first firsts g first seen x f u o = run_is_front (cut (scripts g x.taken f)) g.schedule seen (run_is firsts g first seen x f u o)
@@ -92,18 +92,18 @@ notes_are_fewer some fewer g first seen x f u o open_still = on (u f o)
   where
     on : At g first seen x f → length seen < work (cut (scripts g x.taken f))
     on (r, shown) =
-        let going : all_over r.tree ≡ false = sym (finish_shows g (number_of (planned g x.taken f).pairs first) f x.machine r.tree (leads g x.taken f seen x.history g.tracker r).2 shown) ∙ open_still in
-        let m : (m : TreeMove) × (nth (moves_at g r.tree) 0 ≡ Some m) = nth_there (moves_at g r.tree) 0 (some g x.taken f seen x.history g.tracker r going) in
-        fewer g x.taken f seen x.history g.tracker r m.0 (nth_in (moves_at g r.tree) 0 m.0 m.1)
+        let going : all_over r.tree ≡ false = sym (finish_shows g (number_of (planned g x.taken f).pairs first) f x.machine r.tree (leads g x.taken f seen x.history (tracked g x) r).2 shown) ∙ open_still in
+        let m : (m : TreeMove) × (nth (moves_at g r.tree) 0 ≡ Some m) = nth_there (moves_at g r.tree) 0 (some g x.taken f seen x.history (tracked g x) r going) in
+        fewer g x.taken f seen x.history (tracked g x) r m.0 (nth_in (moves_at g r.tree) 0 m.0 m.1)
 
 pub ready_is_more : FewerSteps → ReadyIsMore
 ready_is_more fewer g first seen x a f law u o some = on (u f o)
   where
     on : At g first seen x f → length seen < work (cut (scripts g x.taken f))
     on (r, shown) =
-        let is : length (ready_steps g first x.history a x.machine) ≡ length (moves_at g r.tree) = as_ready g x.taken f seen x.history g.tracker r first x.machine shown a law in
+        let is : length (ready_steps g first x.history a x.machine) ≡ length (moves_at g r.tree) = as_ready g x.taken f seen x.history (tracked g x) r first x.machine shown a law in
         let m : (m : TreeMove) × (nth (moves_at g r.tree) 0 ≡ Some m) = nth_there (moves_at g r.tree) 0 (subst (λ z. 0 < z) is some) in
-        fewer g x.taken f seen x.history g.tracker r m.0 (nth_in (moves_at g r.tree) 0 m.0 m.1)
+        fewer g x.taken f seen x.history (tracked g x) r m.0 (nth_in (moves_at g r.tree) 0 m.0 m.1)
 
 pub notes_are_whole : EndIsPlanned → SeenIsWhole → AllSteps → NotesAreWhole
 notes_are_whole planned_end whole all g first seen x u s fin = on (u (none_later x.heard) (open_none x.heard))
@@ -113,9 +113,9 @@ notes_are_whole planned_end whole all g first seen x u s fin = on (u (none_later
 
     on : At g first seen x (none_later x.heard) → WholeTrace g seen (scripts_of g x.taken true)
     on (r, shown) =
-        let over : all_over r.tree ≡ true = (write_ends g first x.taken (none_later x.heard) seen x.history g.tracker r x.machine shown fin).0 in
-        let t : seen ≡ trace (cut (scripts_of g x.taken true)) g.schedule = (whole g x.taken (none_later x.heard) seen x.history g.tracker r (inl over)).1 ∙ ap (λ z. trace (cut z) g.schedule) told in
-        let c : length seen ≡ work (cut (scripts_of g x.taken true)) = all g x.taken (none_later x.heard) seen x.history g.tracker r over ∙ ap (λ z. work (cut z)) told in
+        let over : all_over r.tree ≡ true = (write_ends g first x.taken (none_later x.heard) seen x.history (tracked g x) r x.machine shown fin).0 in
+        let t : seen ≡ trace (cut (scripts_of g x.taken true)) g.schedule = (whole g x.taken (none_later x.heard) seen x.history (tracked g x) r (inl over)).1 ∙ ap (λ z. trace (cut z) g.schedule) told in
+        let c : length seen ≡ work (cut (scripts_of g x.taken true)) = all g x.taken (none_later x.heard) seen x.history (tracked g x) r over ∙ ap (λ z. work (cut z)) told in
         record {
           trace_is = t;
           count_is = c;
@@ -137,11 +137,11 @@ module _ (whole : SeenIsWhole) (g : Write) (first : ℕ) (seen : List Note) (x :
   -- where the picked step is refused
   last_one : (w.misfit || is_some w.refusal) ≡ true → At g first seen x (before told f) → seen ≡ trace (cut (scripts g x.taken (before told f))) g.schedule
   last_one e (r, shown) =
-      let m = move_of g first x.taken x.heard told f seen x.history g.tracker r x.machine k w law o shown place asks in
+      let m = move_of g first x.taken x.heard told f seen x.history (tracked g x) r x.machine k w law o shown place asks in
       let is : k ≡ pick_at g r.tree seen
-      = pick ∙ ap (λ z. first_pick (picks_after (length seen) g.schedule) % z) (as_ready g x.taken (before told f) seen x.history g.tracker r first x.machine shown told law) in
+      = pick ∙ ap (λ z. first_pick (picks_after (length seen) g.schedule) % z) (as_ready g x.taken (before told f) seen x.history (tracked g x) r first x.machine shown told law) in
       let refused : refuses m.0.act ≡ true = ap (λ z. z || is_some m.0.act.refusal) (sym m.2.misfit) ∙ ap (λ z. w.misfit || is_some z) (sym m.2.refusal) ∙ e in
-      (whole g x.taken (before told f) seen x.history g.tracker r (inr (m.0, ap (nth (moves_at g r.tree)) (sym is) ∙ m.1, refused))).1
+      (whole g x.taken (before told f) seen x.history (tracked g x) r (inr (m.0, ap (nth (moves_at g r.tree)) (sym is) ∙ m.1, refused))).1
 
 pub refusal_is_last : SeenIsWhole → RefusalIsLast
 refusal_is_last whole g first seen x told f k w v law u o c e pick =

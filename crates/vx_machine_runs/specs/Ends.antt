@@ -12,6 +12,7 @@ use Rattle.vx_machine_turns.specs.Planned.{AtMost}
 use Rattle.vx_machine_promises.specs.Write.{Write, Future, Open, Answer, planned, taken_by, heard_by}
 use Rattle.vx_machine_view.specs.Acts.{layouts_in}
 use Rattle.vx_machine_view.specs.Machine.{WholeStep, is_finished}
+use Rattle.vx_machine_view.specs.Reserved.{reserved_by}
 use Rattle.vx_machine_view.specs.Underway.{ready_steps}
 use Rattle.vx_machine_runs.specs.Runs.{Stand, Chosen, UnderwayAt}
 
@@ -30,6 +31,8 @@ pub record Whole (g : Write) (first : ℕ) (x : Stand) : Type 0 where
   pub faultless : (plan_of g x.taken true).faults ≡ []
   pub appended : x.history ≡ sorted (plan_of g x.taken true).pairs
   pub layout : layouts_in x.machine.root ≡ numbered (plan_of g x.taken true) first ∷ []
+  -- in the tracker
+  pub released : reserved_by x.machine.root ≡ 0
 
 abbrev pub EndsWhole : Type 0
 EndsWhole = (g : Write) (first : ℕ) (seen : List Note) (x : Stand) → UnderwayAt g first seen x → start_fault g.setting g.way g.type g.mark ≡ None → IsTrue (is_finished x.machine)

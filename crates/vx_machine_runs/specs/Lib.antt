@@ -5,3 +5,4 @@ pub mod Answers
 pub mod Traces
 pub mod Picks
 pub mod Numbers
+pub mod Tracked

@@ -1,6 +1,5 @@
 -- What a finished run has counted, against the plan's numbers.
-use Rattle.std.specs.Prelude.{◌≡◌, ◌^◌, ◌<◌, ℕ, Bool, true, List, [], ◌∷◌, ◌++◌, None, IsTrue}
-use Rattle.vx_model.specs.ChunkData.{ChunkData}
+use Rattle.std.specs.Prelude.{◌≡◌, ◌^◌, ◌<◌, ℕ, true, List, [], ◌∷◌, ◌++◌, None, IsTrue}
 use Rattle.vx_path.specs.Lists.{Each}
 use Rattle.vx_path.specs.Path.{root_eof}
 use Rattle.vx_layout_spec.specs.Codec.{Lawful}
@@ -35,7 +34,3 @@ abbrev pub NumbersFit : Type 0
 NumbersFit = (g : Write) (first : ℕ) (ns : List Note) (y : Stand) → Lawful g.setting.codec g.setting.encodings → IsTrue (is_built g.way)
     → start_fault g.setting g.way g.type g.mark ≡ None → (l : Led g first (outset g) ns y) → IsTrue (is_finished y.machine)
     → AllBelow (2 ^ 64) (first_indices (form_of g) root_eof) → CountsBelow (2 ^ 64) g first (outset g) ns y l → Fit (plan_of g y.taken true).numbers
-
--- and the tracker has nothing to count
-abbrev pub NothingReserved : Type 0
-NothingReserved = (g : Write) (batches : List ChunkData) (heard : Bool) → IsTrue (is_built g.way) → (plan_of g batches heard).reserved ≡ 0

@@ -1,5 +1,5 @@
 -- Runs of the machine as the program keeps it, in a write.
-use Rattle.std.specs.Prelude.{◌≡◌, ◌%◌, ℕ, zero, suc, Bool, false, List, [], ◌∷◌, ◌++◌, map, length, Some, None, IsTrue, IsFalse}
+use Rattle.std.specs.Prelude.{◌≡◌, ◌+◌, ◌%◌, ℕ, zero, suc, Bool, false, List, [], ◌∷◌, ◌++◌, map, length, Some, None, IsTrue, IsFalse}
 use Rattle.vx_model.specs.Ty.{Ty}
 use Rattle.vx_model.specs.ChunkData.{ChunkData}
 use Rattle.vx_layout_spec.specs.Codec.{Lawful}
@@ -12,6 +12,7 @@ use Rattle.vx_machine_promises.specs.Write.{Write, Answer, unasked, came, over, 
 use Rattle.vx_machine_promises.specs.Reached.{Underway}
 use Rattle.vx_machine_view.specs.Machine.{Phase, reading, giving, closing, finished, Machine, start, WholeStep, whole_steps}
 use Rattle.vx_machine_view.specs.Built.{is_built}
+use Rattle.vx_machine_view.specs.Reserved.{reserved_by}
 use Rattle.vx_machine_view.specs.Typed.{Typed}
 use Rattle.vx_machine_view.specs.Whole.{form_of}
 use Rattle.vx_machine_view.specs.Underway.{Showing, ready_steps}
@@ -78,9 +79,13 @@ PickedBy picks (n ∷ ns) = (n.picked ≡ first_pick picks % n.ready) × PickedB
 abbrev pub scheduled : Write → List ℕ → Write
 scheduled g picks = record { setting = g.setting; way = g.way; type = g.type; mark = g.mark; tracker = g.tracker; schedule = picks }
 
+-- what the tracker counts there: what it counted at the start, and what the machine's tasks have reserved
+abbrev pub tracked : Write → Stand → ℕ
+tracked g x = g.tracker + reserved_by x.machine.root
+
 -- the write is under way there, by these notes
 abbrev pub UnderwayAt : Write → ℕ → List Note → Stand → Type 0
-UnderwayAt g first seen x = Underway (Showing g first x.taken x.machine) g x.taken x.heard seen x.history g.tracker
+UnderwayAt g first seen x = Underway (Showing g first x.taken x.machine) g x.taken x.heard seen x.history (tracked g x)
 
 -- ---- laws
 

@@ -8,7 +8,8 @@ ghost use Rattle.vx_machine_runs.specs.Steps.{IdleIsFinished, MisfitIsRead, Hist
 ghost use Rattle.vx_machine_runs.specs.Answers.{AskedBeforeEnd, AnswersAreNoted, TakenAreTyped, TakenAreWhole};
 ghost use Rattle.vx_machine_runs.specs.Traces.{ReadyIsWithinLeft, ReadyIsWithinWork, NextIsWithinWork, NotesAreWithinWork, NotesAreFirst, NotesAreFewer, ReadyIsMore, NotesAreWhole, RefusalIsLast, MisfitIsLast, AppendsAreNoted};
 ghost use Rattle.vx_machine_runs.specs.Picks.{PicksAreExact, ReadyIsWithinSteps, ReadyIsWithinAll};
-ghost use Rattle.vx_machine_runs.specs.Numbers.{NumbersAreCounted, NumbersFit, NothingReserved};
+ghost use Rattle.vx_machine_runs.specs.Numbers.{NumbersAreCounted, NumbersFit};
+ghost use Rattle.vx_machine_runs.specs.Tracked.{StepIsTracked, StepsAreTracked, TrackerComes, TrackerComesWithin};
 
 /// From the start on, step by step.
 pub fn runs()
@@ -95,8 +96,17 @@ pub fn picks()
 pub fn counts()
     ensures counted { NumbersAreCounted }
     ensures fit { NumbersFit }
-    ensures reserved { NothingReserved }
 {
     vx_machine_promises::steps();
     vx_machine_promises::ends();
+}
+
+/// What the tracker counts in a run.
+pub fn tracks()
+    ensures step { StepIsTracked }
+    ensures within { StepsAreTracked }
+    ensures comes { TrackerComes }
+    ensures fits { TrackerComesWithin }
+{
+    vx_machine_promises::causes();
 }

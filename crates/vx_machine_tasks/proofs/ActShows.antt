@@ -1,40 +1,36 @@
 -- What an act of a block does, against the same act in plain data.
-use Rattle.std.proofs.Common.{◌≡◌, ℕ, false, List, [], None, Result, Ok, Err, IfOk, IfErr, OnOk, OnErr, refl, sym, ap, subst, ◌∙◌}
+use Rattle.std.proofs.Common.{◌≡◌, ℕ, false, List, [], Option, None, Result, Ok, Err, IfOk, IfErr, OnOk, OnErr, refl, sym, ap, subst, ◌∙◌}
 use Rattle.std.proofs.lemmas.Result.{IfErr-weaker}
 use Rattle.vx_model.specs.declared.encoding.EncodingId.{EncodingId}
 use Rattle.vx_layout_tree.specs.declared.layout.Layout.{Layout}
 use Rattle.vx_layout_tree.specs.LayoutView.{layout_data}
-use Rattle.vx_order.specs.Outlet.{Outlet, own, shared}
+use Rattle.vx_order.specs.Outlet.{Outlet}
 use Rattle.vx_order.specs.Answers.{IsPast, IsShared}
-use Rattle.vx_machine_view.specs.State.{Next, put, append, shut_kids, join_kids, Mind, ending, made, Desk, Tasks}
+use Rattle.vx_machine_view.specs.State.{Next, put, hand_on, append, shut_kids, join_kids, Mind, ending, made, Desk, Tasks}
 use Rattle.vx_machine_view.specs.Acts.{give, shut_all, layouts_in, folded, joined_rows, now, do_next}
 use Rattle.vx_write_answer.specs.declared.step.ActionKind.{ActionKind}
 use Rattle.vx_write_answer.specs.declared.step.ActionKind.TheVariants as actions
 use Rattle.vx_write_answer.specs.declared.error.WriteError.{WriteError}
 use Rattle.vx_write_answer.specs.declared.error.WriteError.TheVariants.{OutOfMemory}
-use Rattle.vx_machine_tasks.specs.declared.item.Due.{Due}
-use Rattle.vx_machine_tasks.specs.declared.item.Due.TheVariants as dues
-use Rattle.vx_machine_tasks.specs.declared.item.Item.{Item}
-use Rattle.vx_machine_tasks.specs.declared.item.Stored.{Stored}
-use Rattle.vx_machine_tasks.specs.declared.node.Local.{Local}
-use Rattle.vx_machine_tasks.specs.declared.node.Local.TheVariants.{Made}
-use Rattle.vx_machine_tasks.specs.declared.node.Shape.{Shape}
+use Rattle.vx_machine_nodes.specs.declared.item.Due.{Due}
+use Rattle.vx_machine_nodes.specs.declared.item.Due.TheVariants as dues
+use Rattle.vx_machine_nodes.specs.declared.item.Item.{Item}
+use Rattle.vx_machine_nodes.specs.declared.item.Stored.{Stored}
+use Rattle.vx_machine_nodes.specs.declared.node.Local.{Local}
+use Rattle.vx_machine_nodes.specs.declared.node.Local.TheVariants.{Made}
+use Rattle.vx_machine_nodes.specs.declared.node.Shape.{Shape}
 use Rattle.vx_machine_tasks.specs.declared.task.Head.{Head}
 use Rattle.vx_machine_tasks.specs.declared.task.Task.{Task}
-use Rattle.vx_machine_tasks.specs.Acting.{ActRefused, AppendRefused, acted, ActDone, DueDone, DueRefused, JoinRefused, Acted}
-use Rattle.vx_machine_tasks.specs.Outcome.{Kept}
-use Rattle.vx_machine_tasks.specs.View.{item_of, stored_of, fold_of, mind_of, desk_of, row}
-use Rattle.vx_machine_tasks.proofs.Fitting.{none_fit}
-use Rattle.vx_machine_tasks.proofs.RefusalSteps.{any_past, memory_only}
+use Rattle.vx_machine_nodes.specs.Acting.{ActRefused, AppendRefused, acted, ActDone, JoinRefused}
+use Rattle.vx_machine_tasks.specs.Acting.{DueDone, DueRefused, Acted}
+use Rattle.vx_machine_nodes.specs.Outcome.{Kept}
+use Rattle.vx_machine_nodes.specs.View.{item_of, stored_of, fold_of, mind_of}
+use Rattle.vx_machine_tasks.specs.View.{desk_of, row}
+use Rattle.vx_machine_nodes.proofs.Fitting.{none_fit}
+use Rattle.vx_machine_nodes.proofs.RefusalSteps.{any_past, memory_only}
+use Rattle.vx_machine_nodes.proofs.WriteSteps.{kept_same}
 
 -- ---- what the sink is told
-
-kept_self : (o : Outlet) → Kept o o
-kept_self (own s) = (refl, refl, refl)
-kept_self (shared s) = (refl, refl, refl, refl, refl)
-
-pub kept_same : (o u : Outlet) → u ≡ o → Kept o u
-kept_same o u e = subst (λ z. Kept o z) (sym e) (kept_self o)
 
 pub on_ok : {A E P : Type 0} (r : Result A E) → P → OnOk r P
 on_ok (Ok x) p = p
@@ -63,6 +59,14 @@ module _ (ids : List EncodingId) (l : Local) (ks : List Task) (d : Due) (o u : O
 
   pub put_says : (j : ℕ) (i : Item) (r : Result ActionKind WriteError) → d ≡ dues.Put j i → IfErr r (λ e. e ≡ OutOfMemory) → IfErr r (DueRefused ids l ks d o)
   put_says j i r is h = why_due (dues.Put j i) r is (memory_only (DueRefused ids l ks (dues.Put j i) o) r (λ n. tt) h)
+
+  pub hand_does : (i : Item) (b : Option ℕ) (more : List Task) (r : Result ActionKind WriteError) → d ≡ dues.HandOn i b → IfOk r (λ a. a ≡ actions.Put)
+      → OnOk r (row more ≡ give 0 (item_of i) (row ks)) → u ≡ o → IfOk r (DueDone ids l ks d o u l more)
+  hand_does i b more (Ok a) is k g e = by_due (dues.HandOn i b) l more a is (0, record { unrefused = refl; fits = refl; mind_is = refl; kids_are = g; kind = k; outlet = e })
+  hand_does i b more (Err x) is k g e = tt
+
+  pub hand_says : (i : Item) (b : Option ℕ) (r : Result ActionKind WriteError) → d ≡ dues.HandOn i b → IfErr r (λ e. e ≡ OutOfMemory) → IfErr r (DueRefused ids l ks d o)
+  hand_says i b r is h = why_due (dues.HandOn i b) r is (memory_only (DueRefused ids l ks (dues.HandOn i b) o) r (λ n. tt) h)
 
   pub append_does : (x : Stored) (m : Local) (r : Result ActionKind WriteError) → d ≡ dues.Append x
       → IfOk r (λ a. (n : ℕ) × ((mind : Mind) (kids : Tasks) → ActDone (acted ids n mind kids (append (stored_of x))) o n u (mind_of m) kids a)) → IfOk r (DueDone ids l ks d o u m ks)
@@ -105,6 +109,8 @@ pub act_shows : (ids : List EncodingId) (n : ℕ) (c : Desk) (ks : Tasks) (x : N
     → ActDone (acted ids n c.mind ks x) o n u m (row kids) a → desk_of h ≡ now c m todo c.inbox → Acted (do_next ids n c ks x todo) o n u h kids a
 act_shows ids n c ks (put j i) todo o u m h kids a d e =
     record { unrefused = refl; fits = refl; counted = none_fit; desk = e ∙ ap (λ z. now c z todo c.inbox) d.mind_is; kids_are = d.kids_are; kind = d.kind; outlet = d.outlet }
+act_shows ids n c ks (hand_on k i) todo o u m h kids a d e =
+    record { unrefused = refl; fits = refl; counted = none_fit; desk = e ∙ ap (λ z. now c z todo c.inbox) d.mind_is; kids_are = d.kids_are; kind = d.kind; outlet = d.outlet }
 act_shows ids n c ks (append x) todo o u m h kids a d e =
     record { unrefused = refl; fits = refl; counted = none_fit; desk = e ∙ ap (λ z. now c z todo c.inbox) d.mind_is; kids_are = d.kids_are; kind = d.kind; outlet = d.outlet }
 act_shows ids n c ks shut_kids todo o u m h kids a d e =
@@ -115,6 +121,7 @@ act_shows ids n c ks (join_kids f) todo o u m h kids a d e =
 pub act_refused : (ids : List EncodingId) (n : ℕ) (c : Desk) (ks : Tasks) (x : Next) (todo : List Next) (o : Outlet) (e : WriteError)
     → ActRefused (acted ids n c.mind ks x) o e → ActRefused (do_next ids n c ks x todo) o e
 act_refused ids n c ks (put j i) todo o e h = h
+act_refused ids n c ks (hand_on k i) todo o e h = h
 act_refused ids n c ks (append x) todo o e h = h
 act_refused ids n c ks shut_kids todo o e h = h
 act_refused ids n c ks (join_kids f) todo o e h = h

@@ -1,5 +1,5 @@
 -- The next act of a task, by what is left to do and what stands on its queue.
-use Rattle.std.proofs.Common.{◌≡◌, ◌||◌, ◌==◌, not, ℕ, Bool, true, false, List, [], ◌∷◌, length, Result, Ok, Err, IfOk, IfErr, OnOk, refl, sym, ap, subst, ◌∙◌}
+use Rattle.std.proofs.Common.{◌≡◌, ◌+◌, ◌||◌, ◌==◌, not, ℕ, Bool, true, false, List, [], ◌∷◌, length, Result, Ok, Err, IfOk, IfErr, OnOk, refl, sym, ap, subst, ◌∙◌}
 use Rattle.std.proofs.lemmas.Bool.{and_parts, true≢false}
 use Rattle.std.specs.VecDeque.{deque_len}
 use Rattle.vx_model.specs.ChunkData.{ChunkData}
@@ -7,25 +7,27 @@ use Rattle.vx_sequence.specs.Universe.{Active}
 use Rattle.vx_order.specs.Outlet.{Outlet}
 use Rattle.vx_order.specs.Answers.{IsPast, IsShared}
 use Rattle.vx_sink.specs.declared.context.LayoutWriterContext.{LayoutWriterContext}
-use Rattle.vx_sink.specs.ContextView.{listed}
+use Rattle.vx_sink.specs.ContextView.{listed, counted}
 use Rattle.vx_machine_view.specs.State.{Next, Desk}
-use Rattle.vx_machine_view.specs.Acts.{Did, now, do_take, do_act}
+use Rattle.vx_machine_view.specs.Acts.{Did, now, do_next, take_end, do_take, do_act}
 use Rattle.vx_write_answer.specs.declared.step.ActionKind.{ActionKind}
 use Rattle.vx_write_answer.specs.declared.step.ActionKind.TheVariants as actions
 use Rattle.vx_write_answer.specs.declared.error.WriteError.{WriteError}
-use Rattle.vx_machine_tasks.specs.declared.item.Due.{Due}
-use Rattle.vx_machine_tasks.specs.declared.item.Item.{Item}
-use Rattle.vx_machine_tasks.specs.declared.node.Local.{Local}
+use Rattle.vx_machine_nodes.specs.declared.item.Due.{Due}
+use Rattle.vx_machine_nodes.specs.declared.item.Item.{Item}
+use Rattle.vx_machine_nodes.specs.declared.node.Local.{Local}
 use Rattle.vx_machine_tasks.specs.declared.task.Head.{Head}
 use Rattle.vx_machine_tasks.specs.declared.task.Task.{Task}
-use Rattle.vx_machine_tasks.specs.Acting.{ActRefused, DueDone, DueRefused, TakeRefused, ChunkTaken, ChunkRefused, EndTaken, EndRefused, TakeDone, NextTaken, NextUntaken, Acted, NextDone, NextRefused}
-use Rattle.vx_machine_tasks.specs.Context.{setting_of}
+use Rattle.vx_machine_nodes.specs.Acting.{ActStopped, TakeStopped, ChunkTaken, ChunkStopped, EndTaken, EndRefused}
+use Rattle.vx_machine_tasks.specs.Acting.{DueDone, DueRefused, TakeDone, NextTaken, NextUntaken, Acted, NextDone, NextRefused}
+use Rattle.vx_machine_nodes.specs.Context.{setting_of}
 use Rattle.vx_machine_tasks.specs.Ready.{Kid, is_over, may_now}
-use Rattle.vx_machine_tasks.specs.View.{item_of, items_of, next_of, todo_of, mind_of, desk_of, row}
+use Rattle.vx_machine_nodes.specs.View.{item_of, items_of, next_of, todo_of, mind_of}
+use Rattle.vx_machine_tasks.specs.View.{desk_of, row}
 use Rattle.vx_machine_tasks.proofs.ActShows.{act_shows, act_refused}
 use Rattle.vx_machine_tasks.proofs.Readiness.{may_none}
-use Rattle.vx_machine_tasks.proofs.RefusalSteps.{any_past}
-use Rattle.vx_machine_tasks.proofs.TakeShows.{took_shows, took_refused, ended_shows, end_fails, take_acts}
+use Rattle.vx_machine_nodes.proofs.RefusalSteps.{any_past, take_stops, act_stops}
+use Rattle.vx_machine_tasks.proofs.TakeShows.{took_shows, took_stopped, ended_shows, end_fails, take_acts}
 use Rattle.vx_machine_tasks.proofs.ViewParts.{count_row}
 
 -- ---- from the queue
@@ -43,10 +45,10 @@ module _ {A : Type 0} (ctx : LayoutWriterContext) (h : Head) (ks : List Task) wh
         (took_shows (setting_of ctx image) (desk_of h) (row ks) (item_of i) (items_of rest) (mind_of h.local) (mind_of m) todo (todo_of h.todo.items) e kids (f image) (ap todo_of idle) d)
     chunk_done e kids m todo (Err x) idle d f = tt
 
-    pub chunk_refused : (r : Result A WriteError) → IfErr r (ChunkRefused ctx h.name (row ks) i h.local) → IfErr r (NextUntaken ctx h ks)
+    pub chunk_refused : (r : Result A WriteError) → IfErr r (ChunkStopped ctx h.name (row ks) i h.local) → IfErr r (NextUntaken ctx h ks)
     chunk_refused (Ok x) f = tt
     chunk_refused (Err e) f = λ image.
-        subst (λ xs. TakeRefused (Takes ctx h ks xs image) e) (sym is) (took_refused (setting_of ctx image) (desk_of h) (row ks) (item_of i) (items_of rest) (mind_of h.local) e (f image))
+        subst (λ xs. TakeStopped (counted ctx) (Takes ctx h ks xs image) e) (sym is) (took_stopped (counted ctx) (setting_of ctx image) (desk_of h) (row ks) (item_of i) (items_of rest) (mind_of h.local) e (f image))
 
   module _ (rest : List Item) (is : h.inbox.items ≡ rest) (none : rest ≡ []) where
     pub end_done : (e : Head) (m : Local) (todo : List Next) (n : ℕ) (r : Result A WriteError) → n ≡ length ks → h.todo.items ≡ [] → desk_of e ≡ now (desk_of h) (mind_of m) todo (items_of rest)
@@ -60,7 +62,8 @@ module _ {A : Type 0} (ctx : LayoutWriterContext) (h : Head) (ks : List Task) wh
     pub end_refused : (n : ℕ) (r : Result A WriteError) → n ≡ length ks → IfErr r (EndRefused h.local n) → IfErr r (NextUntaken ctx h ks)
     end_refused n (Ok x) same f = tt
     end_refused n (Err e) same f = λ image.
-        subst (λ xs. TakeRefused (Takes ctx h ks xs image) e) (sym (is ∙ none)) (end_fails (desk_of h) (row ks) e (mind_of h.local) (f (row ks) (count_row ks ∙ sym same)))
+        subst (λ xs. TakeStopped (counted ctx) (Takes ctx h ks xs image) e) (sym (is ∙ none))
+        (take_stops (counted ctx) (take_end (desk_of h) (row ks) (mind_of h.local)) e (end_fails (desk_of h) (row ks) e (mind_of h.local) (f (row ks) (count_row ks ∙ sym same))))
 
 -- ---- of a block
 
@@ -77,13 +80,13 @@ module _ (ctx : LayoutWriterContext) (h : Head) (ks : List Task) (d : Due) (es :
   pub due_refused : (o : Outlet) (r : Result ActionKind WriteError) → IfErr r (DueRefused (listed ctx) h.local ks d o) → IfErr r (NextRefused ctx h ks o)
   due_refused o (Ok a) f = tt
   due_refused o (Err e) f = λ image n.
-      subst (λ zs. ActRefused (do_act (setting_of ctx image) n (desk_of h) (row ks) (todo_of zs)) o e) (sym is)
-      (act_refused (listed ctx) n (desk_of h) (row ks) (next_of d) (todo_of es) o e (f n))
+      subst (λ zs. ActStopped (counted ctx) (do_act (setting_of ctx image) n (desk_of h) (row ks) (todo_of zs)) o e) (sym is)
+      (act_stops (counted ctx) (do_next (listed ctx) n (desk_of h) (row ks) (next_of d) (todo_of es)) o e (act_refused (listed ctx) n (desk_of h) (row ks) (next_of d) (todo_of es) o e (f n)))
 
 -- ---- where nothing is left of a block
 
-did_why : (w : Did) (o : Outlet) (e : WriteError) → TakeRefused w e → ActRefused w o e
-did_why w o e h = any_past w.refusal w.misfit w.numbers w.indices w.wrote (IsPast o) (IsShared o) w.joined e h
+did_why : (counts : ℕ) (w : Did) (o : Outlet) (e : WriteError) → TakeStopped counts w e → ActStopped counts w o e
+did_why counts w o e h = any_past w.refusal w.misfit ((counts + w.raises) ∷ w.numbers) w.indices w.wrote (IsPast o) (IsShared o) w.joined e h
 
 module _ (ctx : LayoutWriterContext) (h : Head) (ks : List Task) (es : List Due) (is : h.todo.items ≡ es) (idle : es ≡ []) where
   -- its desk, where that list stands for what is left
@@ -102,12 +105,12 @@ module _ (ctx : LayoutWriterContext) (h : Head) (ks : List Task) (es : List Due)
         (subst (λ c. TakeDone (do_take (setting_of ctx image) c (row ks) (items_of h.inbox.items)) e kids) same d)),
   )
 
-  pub take_refused : (image : ℕ → ChunkData → ChunkData) (n : ℕ) (o : Outlet) (e : WriteError) → TakeRefused (do_take (setting_of ctx image) left (row ks) (items_of h.inbox.items)) e
-      → ActRefused (do_act (setting_of ctx image) n (desk_of h) (row ks) (todo_of h.todo.items)) o e
+  pub take_refused : (image : ℕ → ChunkData → ChunkData) (n : ℕ) (o : Outlet) (e : WriteError) → TakeStopped (counted ctx) (do_take (setting_of ctx image) left (row ks) (items_of h.inbox.items)) e
+      → ActStopped (counted ctx) (do_act (setting_of ctx image) n (desk_of h) (row ks) (todo_of h.todo.items)) o e
   take_refused image n o e d =
-      subst (λ zs. ActRefused (do_act (setting_of ctx image) n (desk_of h) (row ks) (todo_of zs)) o e) (sym (is ∙ idle))
-      (did_why (do_take (setting_of ctx image) (desk_of h) (row ks) (items_of h.inbox.items)) o e
-      (subst (λ c. TakeRefused (do_take (setting_of ctx image) c (row ks) (items_of h.inbox.items)) e) same d))
+      subst (λ zs. ActStopped (counted ctx) (do_act (setting_of ctx image) n (desk_of h) (row ks) (todo_of zs)) o e) (sym (is ∙ idle))
+      (did_why (counted ctx) (do_take (setting_of ctx image) (desk_of h) (row ks) (items_of h.inbox.items)) o e
+      (subst (λ c. TakeStopped (counted ctx) (do_take (setting_of ctx image) c (row ks) (items_of h.inbox.items)) e) same d))
 
 not_true : (b : Bool) → not b ≡ true → b ≡ false
 not_true false h = refl

@@ -1,8 +1,9 @@
 -- Counts of what is ready, and walks over children.
-use Rattle.std.proofs.Common.{◌≡◌, ◌↔◌, ℕ, zero, suc, ◌+◌, ◌-◌, ◌^◌, ◌<◌, ◌≤◌, ◌&&◌, ◌||◌, min, Bool, true, false, List, [], ◌∷◌, ◌++◌, map, length, take, drop, get_or, refl, sym, ap, subst, ◌∙◌, arith, ⊎_elim}
+use Rattle.std.proofs.Common.{◌≡◌, ◌↔◌, ℕ, zero, suc, ◌+◌, ◌-◌, ◌^◌, ◌<◌, ◌≤◌, ◌&&◌, ◌||◌, ◌==◌, min, Bool, true, false, List, [], ◌∷◌, ◌++◌, map, length, take, drop, get_or, refl, sym, ap, subst, ◌∙◌, arith, ⊎_elim}
 use Rattle.std.proofs.lemmas.Bool.{cases_Bool, and_parts, true≢false}
 use Rattle.std.specs.FinMap as fin
 use Rattle.std.specs.List.{list_any}
+use Rattle.std.specs.VecDeque.{deque_len}
 use Rattle.std.specs.Ordering.{eq_by_cmp}
 use Rattle.vx_path.specs.Path.{is_least, path_le}
 use Rattle.vx_model.specs.Words.{total_by}
@@ -12,21 +13,46 @@ use Rattle.vx_machine_ids.specs.Stock.{one, both}
 use Rattle.vx_machine_ids.specs.Balance.{Owned}
 use Rattle.vx_machine_ids.proofs.MoveLaws.{owned_left, owned_right}
 use Rattle.vx_machine_ids.proofs.Lists.{first_owned}
-use Rattle.vx_machine_tasks.specs.Stocks.{local_stock, dues_stock, due_stock, items_stock, head_stock}
-use Rattle.vx_machine_tasks.specs.Ready.{Kid, Seen, kid_of, kids_of, seen, seen_step, may_now, may_due, may_take, may_todo, least_at, room_at, all_made, is_made, ready_in, ready_among, counted}
-use Rattle.vx_machine_tasks.specs.declared.item.Due.{Due}
+use Rattle.vx_machine_nodes.specs.Stocks.{local_stock, dues_stock, due_stock, items_stock}
+use Rattle.vx_machine_tasks.specs.Stocks.{head_stock}
+use Rattle.vx_machine_tasks.specs.Ready.{Kid, Seen, kid_of, kids_of, seen, seen_step, may_now, may_due, may_take, may_todo, least_at, room_at, room_in, all_made, all_true, is_made, made_step, made_of, has_layout, done_step, is_done, ready_in, ready_among, counted}
+use Rattle.vx_machine_tasks.specs.Sizes.{task_count, count_of_all}
+use Rattle.vx_layout_tree.specs.declared.layout.Layout.{Layout}
+use Rattle.vx_machine_nodes.specs.declared.item.Due.{Due}
+use Rattle.vx_machine_nodes.specs.declared.node.Local.{Local}
+use Rattle.vx_machine_nodes.specs.declared.node.Local.TheVariants.{Empty, Full, Chunked, Columns, Lists, Grouped, Over, Passing, Made}
 use Rattle.vx_machine_tasks.specs.declared.task.Head.{Head}
 use Rattle.vx_machine_tasks.specs.declared.task.Task.{Task, out-Task}
 use Rattle.vx_machine_tasks.specs.declared.task.Task.TheFolds.{fold_out-Task}
+use Rattle.vx_machine_tasks.proofs.TaskParts.{task_count_out}
+use Rattle.vx_machine_nodes.proofs.ListParts.{none_is}
 
 -- ---- by the parts of a task
 
-kid_seen : (u : Active) (t : Task) → (seen u t).kid ≡ kid_of t
-kid_seen u t = ap (λ (s : Seen). s.kid) (fold_out-Task Seen (seen_step u) t)
+made_all : (ts : List Task) → all_true (map made_of ts) ≡ all_made (kids_of ts)
+made_all [] = refl
+made_all (t ∷ ts) = ap (λ b. made_of t && b) (made_all ts)
+
+pub made_out : (t : Task) → made_of t ≡ is_made (out-Task t).head.local (deque_len (out-Task t).head.todo == 0) (all_made (kids_of (out-Task t).kids.items))
+made_out t = fold_out-Task Bool made_step t ∙ ap (is_made (out-Task t).head.local (deque_len (out-Task t).head.todo == 0)) (made_all (out-Task t).kids.items)
+
+pub done_out : (t : Task) → is_done t ≡ (has_layout (out-Task t).head.local (map is_done (out-Task t).kids.items) && (deque_len (out-Task t).head.todo == 0 && deque_len (out-Task t).head.inbox == 0))
+done_out t = fold_out-Task Bool done_step t
+
+kids_upto : (u : Active) (n : ℕ) (ts : List Task) → count_of_all ts ≤ n → map (λ (s : Seen). s.kid) (map (seen u) ts) ≡ kids_of ts
+kids_upto u n [] h = refl
+kids_upto u zero (t ∷ ts) h = absurd (omega (arith, h, task_count_out t))
+kids_upto u (suc n) (t ∷ ts) h =
+    let c : task_count t ≡ 1 + count_of_all (out-Task t).kids.items = task_count_out t in
+    let hd = (out-Task t).head in
+    let below : map (λ (s : Seen). s.kid) (map (seen u) (out-Task t).kids.items) ≡ kids_of (out-Task t).kids.items = kids_upto u n (out-Task t).kids.items (omega (arith, h, c)) in
+    let made : is_made hd.local (deque_len hd.todo == 0) (all_made (map (λ (s : Seen). s.kid) (map (seen u) (out-Task t).kids.items))) ≡ made_of t =
+    ap (λ ks. is_made hd.local (deque_len hd.todo == 0) (all_made ks)) below ∙ sym (made_out t) in
+    let own : (seen u t).kid ≡ kid_of t = ap (λ (s : Seen). s.kid) (fold_out-Task Seen (seen_step u) t) ∙ (λ i. record { made = made i; room = room_in hd }) in
+    λ i. own i ∷ kids_upto u n ts (omega (arith, h, c)) i
 
 kids_seen : (u : Active) (ts : List Task) → map (λ (s : Seen). s.kid) (map (seen u) ts) ≡ kids_of ts
-kids_seen u [] = refl
-kids_seen u (t ∷ ts) = λ i. kid_seen u t i ∷ kids_seen u ts i
+kids_seen u ts = kids_upto u (count_of_all ts) ts (omega arith)
 
 total_seen : (u : Active) (ts : List Task) → total_by (λ (s : Seen). s.ready) (map (seen u) ts) ≡ ready_among u ts
 total_seen u [] = refl
@@ -70,30 +96,26 @@ get_same (y ∷ ys) (suc i) x d h e = get_same ys i x d (omega (arith, h)) e
 pub front_is : {A : Type 0} (xs : List A) (x : A) → 0 < length xs → x ≡ get_or xs 0 x → xs ≡ x ∷ drop 1 xs
 front_is xs x h e = drop_is xs 0 x h e
 
-pub none_is : {A : Type 0} (xs : List A) → length xs ≡ 0 → xs ≡ []
-none_is [] h = refl
-none_is (y ∷ ys) h = absurd (omega (arith, h))
-
 and_false : (b : Bool) → (b && false) ≡ false
 and_false true = refl
 and_false false = refl
 
-made_last : (xs : List Task) (i : ℕ) (x : Task) → i < length xs → x ≡ get_or xs i x → is_made (out-Task x).head.local ≡ true → all_made (kids_of (take (suc i) xs)) ≡ all_made (kids_of (take i xs))
+made_last : (xs : List Task) (i : ℕ) (x : Task) → i < length xs → x ≡ get_or xs i x → made_of x ≡ true → all_made (kids_of (take (suc i) xs)) ≡ all_made (kids_of (take i xs))
 made_last [] i x h e m = absurd (omega (arith, h))
-made_last (y ∷ ys) zero x h e m = ap (λ b. b && true) (ap (λ z. is_made (out-Task z).head.local) (sym e) ∙ m)
+made_last (y ∷ ys) zero x h e m = ap (λ b. b && true) (ap made_of (sym e) ∙ m)
 made_last (y ∷ ys) (suc i) x h e m = ap (λ b. (kid_of y).made && b) (made_last ys i x (omega (arith, h)) e m)
 
-last_not : (xs : List Task) (i : ℕ) (x : Task) → i < length xs → x ≡ get_or xs i x → is_made (out-Task x).head.local ≡ false → all_made (kids_of (take (suc i) xs)) ≡ false
+last_not : (xs : List Task) (i : ℕ) (x : Task) → i < length xs → x ≡ get_or xs i x → made_of x ≡ false → all_made (kids_of (take (suc i) xs)) ≡ false
 last_not [] i x h e m = absurd (omega (arith, h))
-last_not (y ∷ ys) zero x h e m = ap (λ b. b && true) (ap (λ z. is_made (out-Task z).head.local) (sym e) ∙ m)
+last_not (y ∷ ys) zero x h e m = ap (λ b. b && true) (ap made_of (sym e) ∙ m)
 last_not (y ∷ ys) (suc i) x h e m = ap (λ b. (kid_of y).made && b) (last_not ys i x (omega (arith, h)) e m) ∙ and_false (kid_of y).made
 
 -- all of the first have their layouts, but for the last of them
-pub made_down : (xs : List Task) (n : ℕ) (x : Task) → 0 < n → n ≤ length xs → x ≡ get_or xs (n - 1) x → is_made (out-Task x).head.local ≡ true
+pub made_down : (xs : List Task) (n : ℕ) (x : Task) → 0 < n → n ≤ length xs → x ≡ get_or xs (n - 1) x → made_of x ≡ true
     → all_made (kids_of (take (n - 1) xs)) ≡ all_made (kids_of (take n xs))
 made_down xs n x o l e m = let k : suc (n - 1) ≡ n = omega (arith, o) in sym (made_last xs (n - 1) x (omega (arith, o, l)) e m) ∙ ap (λ j. all_made (kids_of (take j xs))) k
 
-pub made_down_not : (xs : List Task) (n : ℕ) (x : Task) → 0 < n → n ≤ length xs → x ≡ get_or xs (n - 1) x → is_made (out-Task x).head.local ≡ false
+pub made_down_not : (xs : List Task) (n : ℕ) (x : Task) → 0 < n → n ≤ length xs → x ≡ get_or xs (n - 1) x → made_of x ≡ false
     → all_made (kids_of (take n xs)) ≡ false
 made_down_not xs n x o l e m = let k : suc (n - 1) ≡ n = omega (arith, o) in ap (λ j. all_made (kids_of (take j xs))) (sym k) ∙ last_not xs (n - 1) x (omega (arith, o, l)) e m
 
@@ -106,6 +128,39 @@ front_made (x ∷ xs) k h =
 -- without the last
 pub made_front : (all xs : List Task) (k : Task) → all ≡ xs ++ (k ∷ []) → all_made (kids_of all) ≡ true → all_made (kids_of xs) ≡ true
 made_front all xs k is h = front_made xs k (subst (λ z. all_made (kids_of z) ≡ true) is h)
+
+last_made : (xs : List Task) (k : Task) → all_made (kids_of (xs ++ (k ∷ []))) ≡ true → made_of k ≡ true
+last_made [] k h = (and_parts (made_of k) true h).0
+last_made (x ∷ xs) k h = last_made xs k (and_parts (kid_of x).made (all_made (kids_of (xs ++ (k ∷ [])))) h).1
+
+-- and the last
+pub made_popped : (all xs : List Task) (k : Task) → all ≡ xs ++ (k ∷ []) → all_made (kids_of all) ≡ true → made_of k ≡ true
+made_popped all xs k is h = last_made xs k (subst (λ z. all_made (kids_of z) ≡ true) is h)
+
+-- one that has done all has its layout, or its children's
+made_cases : (l : Local) (b c : Bool) → is_made l b c ≡ true → ((x : Layout) → l ≡ Made x → ⊥) → (l ≡ Passing → ⊥) → ⊥
+made_cases (Made x) b c h m p = m x refl
+made_cases Passing b c h m p = p refl
+made_cases (Empty n) b c h m p = true≢false (sym h)
+made_cases (Full s) b c h m p = true≢false (sym h)
+made_cases (Chunked n eof rows) b c h m p = true≢false (sym h)
+made_cases (Columns n rows) b c h m p = true≢false (sym h)
+made_cases (Lists n rows) b c h m p = true≢false (sym h)
+made_cases (Grouped n) b c h m p = true≢false (sym h)
+made_cases Over b c h m p = true≢false (sym h)
+
+pub not_made : (t : Task) → made_of t ≡ true → ((x : Layout) → (out-Task t).head.local ≡ Made x → ⊥) → ((out-Task t).head.local ≡ Passing → ⊥) → ⊥
+not_made t h m p = made_cases (out-Task t).head.local (deque_len (out-Task t).head.todo == 0) (all_made (kids_of (out-Task t).kids.items)) (sym (made_out t) ∙ h) m p
+
+-- and does, where they have done all
+pub made_passing : (t : Task) (b : Bool) → (out-Task t).head.local ≡ Passing → (deque_len (out-Task t).head.todo == 0) ≡ true → b ≡ all_made (kids_of (out-Task t).kids.items) → b ≡ made_of t
+made_passing t b e h k = k ∙ sym (made_out t ∙ (λ j. is_made (e j) (h j) (all_made (kids_of (out-Task t).kids.items))))
+
+pub made_kids : (t : Task) → made_of t ≡ true → (out-Task t).head.local ≡ Passing → all_made (kids_of (out-Task t).kids.items) ≡ true
+made_kids t h e =
+    let idle : Bool = deque_len (out-Task t).head.todo == 0 in
+    let below : Bool = all_made (kids_of (out-Task t).kids.items) in
+    (and_parts idle below (sym (ap (λ l. is_made l idle below) e) ∙ sym (made_out t) ∙ h)).1
 
 pub among_more : (u : Active) (xs : List Task) (i : ℕ) (x : Task) → i < length xs → x ≡ get_or xs i x
     → ready_among u (drop i xs) ≡ ready_in u x + ready_among u (drop (i + 1) xs)

@@ -1,5 +1,5 @@
 -- Which tasks are ready, and how many, and when one has done all: as tasks in plain data tell it.
-use Rattle.std.proofs.Common.{◌≡◌, ℕ, zero, suc, ◌+◌, ◌-◌, ◌<◌, ◌≤◌, ◌&&◌, ◌||◌, ◌==◌, not, nat_lt, Bool, true, false, List, [], ◌∷◌, ◌++◌, map, length, vec_len, refl, sym, ap, ◌∙◌, arith}
+use Rattle.std.proofs.Common.{◌≡◌, ℕ, zero, suc, ◌+◌, ◌-◌, ◌<◌, ◌≤◌, ◌&&◌, ◌||◌, ◌==◌, not, nat_lt, Bool, true, false, List, [], ◌∷◌, ◌++◌, map, length, Option, refl, sym, ap, ◌∙◌, arith}
 use Rattle.std.specs.Prelude.{if◌then◌else◌}
 use Rattle.std.specs.Arc.{arc_value}
 use Rattle.std.specs.FinMap as fin
@@ -14,37 +14,62 @@ use Rattle.vx_layout_tree.specs.declared.layout.Layout.{Layout}
 use Rattle.vx_layout_tree.specs.LayoutView.{layout_data}
 use Rattle.vx_layout_tree.specs.Made.{struct_children}
 use Rattle.vx_machine_ids.specs.Stock.{one}
-use Rattle.vx_machine_view.specs.State.{Tasks, no_tasks}
+use Rattle.vx_regroup.specs.declared.regroup.Regroup.{Regroup}
+use Rattle.vx_regroup.specs.declared.regroup.Regroup.TheVariants.{Repartition, Buffered, Collect}
+use Rattle.vx_machine_view.specs.State.{Next, Tasks, no_tasks}
 use Rattle.vx_machine_view.specs.Acts.{count, column_count, layout_in, layouts_in}
 use Rattle.vx_machine_view.specs.Moves as moves
 use Rattle.vx_machine_view.specs.Machine as whole
 use Rattle.vx_machine_view.specs.Places as places
-use Rattle.vx_machine_tasks.specs.declared.item.Item.{Item}
-use Rattle.vx_machine_tasks.specs.declared.item.Due.{Due}
-use Rattle.vx_machine_tasks.specs.declared.item.Due.TheVariants.{Put, Append, Close, Join}
-use Rattle.vx_machine_tasks.specs.declared.node.Local.{Local}
-use Rattle.vx_machine_tasks.specs.declared.node.Local.TheVariants.{Empty, Full, Chunked, Columns, Lists, Over, Made}
-use Rattle.vx_machine_tasks.specs.declared.node.Shape.{Shape}
-use Rattle.vx_machine_tasks.specs.declared.node.Shape.TheVariants as shapes
+use Rattle.vx_machine_nodes.specs.declared.item.Item.{Item}
+use Rattle.vx_machine_nodes.specs.declared.item.Due.{Due}
+use Rattle.vx_machine_nodes.specs.declared.item.Due.TheVariants.{Put, HandOn, Append, Close, Join}
+use Rattle.vx_machine_nodes.specs.declared.node.Local.{Local}
+use Rattle.vx_machine_nodes.specs.declared.node.Local.TheVariants.{Empty, Full, Chunked, Columns, Lists, Grouped, Over, Passing, Made}
+use Rattle.vx_machine_nodes.specs.declared.node.Shape.{Shape}
+use Rattle.vx_machine_nodes.specs.declared.node.Shape.TheVariants as shapes
 use Rattle.vx_machine_tasks.specs.declared.task.Head.{Head}
 use Rattle.vx_machine_tasks.specs.declared.task.Task.{Task, out-Task}
-use Rattle.vx_machine_tasks.specs.Ready.{kid_of, kids_of, may_now, may_due, may_todo, room_at, all_made, can_join, is_made, is_over, ready_in, ready_among, counted, is_done}
+use Rattle.vx_machine_tasks.specs.Ready.{made_of, no_others, has_layout, kid_of, kids_of, may_now, may_due, may_todo, room_at, all_made, can_join, is_made, is_over, ready_in, ready_among, counted, is_done}
 use Rattle.vx_machine_tasks.specs.Sizes.{task_count, count_of_all}
-use Rattle.vx_machine_tasks.specs.View.{item_of, items_of, fold_of, next_of, todo_of, mind_of, desk_of, task_row, row}
+use Rattle.vx_machine_nodes.specs.View.{item_of, items_of, fold_of, next_of, todo_of, mind_of}
+use Rattle.vx_machine_tasks.specs.View.{desk_of, task_row, row}
 use Rattle.vx_machine_tasks.proofs.TaskParts.{task_count_out}
 use Rattle.vx_machine_tasks.proofs.ViewParts.{row_out, count_row}
-use Rattle.vx_machine_tasks.proofs.Readiness.{ready_in_out}
+use Rattle.vx_machine_nodes.specs.Regrouped.{mind_in}
+use Rattle.vx_machine_tasks.proofs.Readiness.{ready_in_out, made_out, done_out}
 
 -- ---- whether a task may act
 
-made_view : (l : Local) → is_made l ≡ moves.is_made (mind_of l)
-made_view (Made x) = refl
-made_view (Empty n) = refl
-made_view (Full s) = refl
-made_view (Chunked n eof rows) = refl
-made_view (Columns n rows) = refl
-made_view (Lists n rows) = refl
-made_view Over = refl
+-- a node that regroups has no layout of its own, and takes more
+
+mind_unmade : (r : Regroup) (j : Option Item) (rows : ℕ) (left : List Next) (b : Bool) → false ≡ moves.is_made (mind_in r j rows) left b
+mind_unmade (Repartition h) j rows left b = refl
+mind_unmade (Buffered h) j rows left b = refl
+mind_unmade (Collect h) j rows left b = refl
+
+mind_open : (r : Regroup) (j : Option Item) (rows : ℕ) → false ≡ moves.is_over (mind_in r j rows)
+mind_open (Repartition h) j rows = refl
+mind_open (Buffered h) j rows = refl
+mind_open (Collect h) j rows = refl
+
+some_there : (k : ℕ) → (suc k == 0) ≡ false
+some_there k = grind (arith, nat_tests)
+
+empty_by : {A B : Type 0} (f : A → B) (n : ℕ) (xs : List A) → n ≡ length xs → (n == 0) ≡ moves.is_empty (map f xs)
+empty_by f n [] e = ap (λ k. k == 0) e
+empty_by f n (x ∷ xs) e = ap (λ k. k == 0) e ∙ some_there (length xs)
+
+made_view : (l : Local) (n : ℕ) (ds : List Due) (b c : Bool) → n ≡ length ds → b ≡ c → is_made l (n == 0) b ≡ moves.is_made (mind_of l) (todo_of ds) c
+made_view (Made x) n ds b c e h = refl
+made_view (Empty k) n ds b c e h = refl
+made_view (Full s) n ds b c e h = refl
+made_view (Chunked k eof rows) n ds b c e h = refl
+made_view (Columns k rows) n ds b c e h = refl
+made_view (Lists k rows) n ds b c e h = refl
+made_view (Grouped k) n ds b c e h = mind_unmade k.rule k.newest k.rows (todo_of ds) c
+made_view Over n ds b c e h = refl
+made_view Passing n ds b c e h = λ i. empty_by next_of n ds e i && h i
 
 over_view : (l : Local) → is_over l ≡ moves.is_over (mind_of l)
 over_view (Made x) = refl
@@ -53,7 +78,9 @@ over_view (Full s) = refl
 over_view (Chunked n eof rows) = refl
 over_view (Columns n rows) = refl
 over_view (Lists n rows) = refl
+over_view (Grouped n) = mind_open n.rule n.newest n.rows
 over_view Over = refl
+over_view Passing = refl
 
 pub room_view : (i : ℕ) (ks : List Task) → room_at i (kids_of ks) ≡ moves.has_room i (row ks)
 room_view zero [] = refl
@@ -63,9 +90,19 @@ room_view zero (x ∷ xs) =
     ∙ sym (ap (moves.has_room zero) (row_out x (row xs)))
 room_view (suc i) (x ∷ xs) = room_view i xs ∙ sym (ap (moves.has_room (suc i)) (row_out x (row xs)))
 
-all_view : (ks : List Task) → all_made (kids_of ks) ≡ moves.all_made (row ks)
-all_view [] = refl
-all_view (x ∷ xs) = (λ i. made_view (out-Task x).head.local i && all_view xs i) ∙ sym (ap moves.all_made (row_out x (row xs)))
+all_upto : (n : ℕ) (ks : List Task) → count_of_all ks ≤ n → all_made (kids_of ks) ≡ moves.all_made (row ks)
+all_upto n [] h = refl
+all_upto zero (x ∷ xs) h = absurd (omega (arith, h, task_count_out x))
+all_upto (suc n) (x ∷ xs) h =
+    let c : task_count x ≡ 1 + count_of_all (out-Task x).kids.items = task_count_out x in
+    let hd = (out-Task x).head in
+    let below : all_made (kids_of (out-Task x).kids.items) ≡ moves.all_made (row (out-Task x).kids.items) = all_upto n (out-Task x).kids.items (omega (arith, h, c)) in
+    let own : made_of x ≡ moves.is_made (mind_of hd.local) (todo_of hd.todo.items) (moves.all_made (row (out-Task x).kids.items)) =
+    made_out x ∙ made_view hd.local (deque_len hd.todo) hd.todo.items _ _ hd.todo.ok.0 below in
+    (λ i. own i && all_upto n xs (omega (arith, h, c)) i) ∙ sym (ap moves.all_made (row_out x (row xs)))
+
+pub all_view : (ks : List Task) → all_made (kids_of ks) ≡ moves.all_made (row ks)
+all_view ks = all_upto (count_of_all ks) ks (omega arith)
 
 columns_view : (t : Ty) (n : ℕ) → is_struct t ≡ true → (n == struct_children t) ≡ (n == column_count t)
 columns_view (struct fs b) n h = refl
@@ -94,6 +131,7 @@ fold_view (shapes.Lists n rows) ks = ap (λ k. k == column_count (ty (arc_value 
 
 due_view : (u : Active) (d : Due) (ks : List Task) → may_due u d (kids_of ks) ≡ moves.may_next (fin.keys u) (row ks) (next_of d)
 due_view u (Put c i) ks = room_view c ks
+due_view u (HandOn i r) ks = room_view 0 ks
 due_view u (Append s) ks = refl
 due_view u Close ks = refl
 due_view u (Join f) ks = λ i. all_view ks i && fold_view f ks i
@@ -101,9 +139,6 @@ due_view u (Join f) ks = λ i. all_view ks i && fold_view f ks i
 and_true : (b : Bool) → (b && true) ≡ b
 and_true true = refl
 and_true false = refl
-
-some_there : (k : ℕ) → (suc k == 0) ≡ false
-some_there k = grind (arith, nat_tests)
 
 take_view : (l : Local) (n : ℕ) (xs : List Item) (c : Bool) → n ≡ length xs → (not (is_over l) && (not (n == 0) || c)) ≡ moves.may_take (mind_of l) (items_of xs) c
 take_view l n [] c e = ap (λ k. not (is_over l) && (not (k == 0) || c)) e ∙ ap (λ b. not b && c) (over_view l)
@@ -166,23 +201,54 @@ behind_own u t k n x l h =
     let e : ready_in u t ≡ one (may_now u hd (kids_of ks)) + ready_among u ks = ready_in_out u t in
     (omega (arith, o, x, l), omega (arith, o, x, l, h, r, e))
 
-empty_by : {A B : Type 0} (f : A → B) (n : ℕ) (xs : List A) → n ≡ length xs → (n == 0) ≡ whole.is_empty (map f xs)
-empty_by f n [] e = ap (λ k. k == 0) e
-empty_by f n (x ∷ xs) e = ap (λ k. k == 0) e ∙ some_there (length xs)
+-- ---- a task that has done all
 
-none_by : (n : ℕ) (ts : List Task) → n ≡ length ts → (n == 0) ≡ whole.no_more (row ts)
-none_by n [] e = ap (λ k. k == 0) e
-none_by n (x ∷ xs) e = ap (λ k. k == 0) e ∙ some_there (length xs) ∙ sym (ap whole.no_more (row_out x (row xs)))
+left_view : (n m : ℕ) (ds : List Due) (is : List Item) → n ≡ length ds → m ≡ length is → (n == 0 && m == 0) ≡ (moves.is_empty (todo_of ds) && moves.is_empty (items_of is))
+left_view n m ds is a b = λ i. empty_by next_of n ds a i && empty_by item_of m is b i
+
+mind_undone : (r : Regroup) (j : Option Item) (rows : ℕ) (ks : Tasks) (b : Bool) → false ≡ whole.has_layout (mind_in r j rows) ks b
+mind_undone (Repartition h) j rows ks b = refl
+mind_undone (Buffered h) j rows ks b = refl
+mind_undone (Collect h) j rows ks b = refl
+
+alone_view : (ts : List Task) → no_others (map is_done ts) ≡ whole.no_more (row ts)
+alone_view [] = refl
+alone_view (x ∷ xs) = sym (ap whole.no_more (row_out x (row xs)))
+
+there_view : (l : Local) (ts : List Task) → ((x : Task) (xs : List Task) → ts ≡ x ∷ xs → is_done x ≡ whole.is_done (row ts)) → has_layout l (map is_done ts) ≡ whole.has_layout (mind_of l) (row ts) (whole.is_done (row ts))
+there_view (Made x) ts h = alone_view ts
+there_view (Empty n) ts h = refl
+there_view (Full s) ts h = refl
+there_view (Chunked n eof rows) ts h = refl
+there_view (Columns n rows) ts h = refl
+there_view (Lists n rows) ts h = refl
+there_view (Grouped n) ts h = mind_undone n.rule n.newest n.rows (row ts) (whole.is_done (row ts))
+there_view Over ts h = refl
+there_view Passing [] h = refl
+there_view Passing (x ∷ xs) h =
+    (λ i. alone_view xs i && h x xs refl i) ∙ ap (λ b. b && whole.is_done (row (x ∷ xs))) (sym (ap whole.is_alone (row_out x (row xs))))
+
+done_upto : (n : ℕ) (t : Task) (r : Tasks) → task_count t ≤ n → is_done t ≡ whole.is_done (task_row t r)
+done_upto zero t r h = absurd (omega (arith, h, task_count_out t))
+done_upto (suc n) t r h =
+    let hd = (out-Task t).head in
+    let ks = (out-Task t).kids.items in
+    let c : task_count t ≡ 1 + count_of_all ks = task_count_out t in
+    let first : (x : Task) (xs : List Task) → ks ≡ x ∷ xs → is_done x ≡ whole.is_done (row ks) = λ x xs e.
+    let s : count_of_all ks ≡ task_count x + count_of_all xs = ap count_of_all e in
+    done_upto n x (row xs) (omega (arith, h, c, s)) ∙ ap (λ (z : List Task). whole.is_done (row z)) (sym e) in
+    done_out t ∙ (λ i. there_view hd.local ks first i && left_view (deque_len hd.todo) (deque_len hd.inbox) hd.todo.items hd.inbox.items hd.todo.ok.0 hd.inbox.ok.0 i)
+    ∙ sym (ap whole.is_done (row_out t r))
 
 pub done_view : (t : Task) → is_done t ≡ whole.is_done (task_row t no_tasks)
-done_view t =
-    let h = (out-Task t).head in
-    let ks = (out-Task t).kids in
-    let idle : (deque_len h.todo == 0) ≡ whole.is_empty (todo_of h.todo.items) = empty_by next_of (deque_len h.todo) h.todo.items h.todo.ok.0 in
-    let empty : (deque_len h.inbox == 0) ≡ whole.is_empty (items_of h.inbox.items) = empty_by item_of (deque_len h.inbox) h.inbox.items h.inbox.ok.0 in
-    let alone : (vec_len ks == 0) ≡ whole.no_more (row ks.items) = none_by (vec_len ks) ks.items ks.ok.0 in
-    (λ i. made_view h.local i && (idle i && (empty i && alone i))) ∙ sym (ap whole.is_done (row_out t no_tasks))
+done_view t = done_upto (task_count t) t no_tasks (omega arith)
 
 -- a task that has its layout
 pub layout_view : (t : Task) (x : Layout) → (out-Task t).head.local ≡ Made x → layouts_in (task_row t no_tasks) ≡ layout_data x ∷ []
-layout_view t x e = ap layouts_in (row_out t no_tasks) ∙ ap (λ l. layout_in (mind_of l) ++ []) e
+layout_view t x e = ap layouts_in (row_out t no_tasks) ∙ ap (λ l. layout_in (mind_of l) (layouts_in (row (out-Task t).kids.items)) ++ []) e
+
+-- and one that has its only child's
+pub passed_view : (t k : Task) (x : Layout) → (out-Task t).head.local ≡ Passing → (out-Task t).kids.items ≡ k ∷ [] → layouts_in (task_row k no_tasks) ≡ layout_data x ∷ [] → layouts_in (task_row t no_tasks) ≡ layout_data x ∷ []
+passed_view t k x e a h =
+    ap layouts_in (row_out t no_tasks) ∙ ap (λ l. layout_in (mind_of l) (layouts_in (row (out-Task t).kids.items)) ++ []) e
+    ∙ ap (λ (ks : List Task). layouts_in (row ks) ++ []) a ∙ ap (λ z. z ++ []) h

@@ -1,5 +1,5 @@
 -- Which tasks are ready, and how many.
-use Rattle.std.specs.Prelude.{ℕ, zero, suc, ◌+◌, ◌-◌, ◌^◌, ◌&&◌, ◌||◌, ◌==◌, min, not, nat_lt, Bool, true, false, List, [], ◌∷◌, map, length, vec_len}
+use Rattle.std.specs.Prelude.{ℕ, zero, suc, ◌+◌, ◌-◌, ◌^◌, ◌&&◌, ◌||◌, ◌==◌, min, not, nat_lt, Bool, true, false, List, [], ◌∷◌, map, length}
 use Rattle.std.specs.Arc.{arc_value}
 use Rattle.std.specs.VecDeque.{deque_len}
 use Rattle.std.specs.FinMap as fin
@@ -10,38 +10,43 @@ use Rattle.vx_layout_tree.specs.Made.{struct_children}
 use Rattle.vx_machine_view.specs.Acts.{column_count}
 use Rattle.vx_sequence.specs.Universe.{Active}
 use Rattle.vx_machine_ids.specs.Stock.{one}
-use Rattle.vx_machine_tasks.specs.declared.item.Due.{Due}
-use Rattle.vx_machine_tasks.specs.declared.item.Due.TheVariants.{Put, Append, Close, Join}
-use Rattle.vx_machine_tasks.specs.declared.kinds.ColumnsNode.{ColumnsNode}
-use Rattle.vx_machine_tasks.specs.declared.kinds.ListsNode.{ListsNode}
-use Rattle.vx_machine_tasks.specs.declared.node.Local.{Local}
-use Rattle.vx_machine_tasks.specs.declared.node.Local.TheVariants.{Empty, Full, Chunked, Columns, Lists, Over, Made}
-use Rattle.vx_machine_tasks.specs.declared.node.Shape.{Shape}
-use Rattle.vx_machine_tasks.specs.declared.node.Shape.TheVariants as shapes
+use Rattle.vx_machine_nodes.specs.declared.item.Due.{Due}
+use Rattle.vx_machine_nodes.specs.declared.item.Due.TheVariants.{Put, HandOn, Append, Close, Join}
+use Rattle.vx_machine_nodes.specs.declared.kinds.ColumnsNode.{ColumnsNode}
+use Rattle.vx_machine_nodes.specs.declared.kinds.ListsNode.{ListsNode}
+use Rattle.vx_machine_nodes.specs.declared.node.Local.{Local}
+use Rattle.vx_machine_nodes.specs.declared.node.Local.TheVariants.{Empty, Full, Chunked, Columns, Lists, Grouped, Over, Passing, Made}
+use Rattle.vx_machine_nodes.specs.declared.node.Shape.{Shape}
+use Rattle.vx_machine_nodes.specs.declared.node.Shape.TheVariants as shapes
 use Rattle.vx_machine_tasks.specs.declared.task.Head.{Head}
 use Rattle.vx_machine_tasks.specs.declared.task.Task.{Task, out-Task}
 use Rattle.vx_machine_tasks.specs.declared.task.Task.TheOpen.{Task-F}
 use Rattle.vx_machine_tasks.specs.declared.task.Task.TheFolds.{fold-Task}
 
--- it has done all, and has its layout
-abbrev pub is_made : Local → Bool
-is_made (Made l) = true
-is_made (Empty n) = false
-is_made (Full s) = false
-is_made (Chunked n eof rows) = false
-is_made (Columns n rows) = false
-is_made (Lists n rows) = false
-is_made Over = false
+-- It has done all, and has its layout; or nothing is left to do of one that has its children's. Whether that is so, and whether its
+-- children have done all, is told.
+abbrev pub is_made : Local → Bool → Bool → Bool
+is_made (Made l) idle below = true
+is_made Passing idle below = idle && below
+is_made (Empty n) idle below = false
+is_made (Full s) idle below = false
+is_made (Chunked n eof rows) idle below = false
+is_made (Columns n rows) idle below = false
+is_made (Lists n rows) idle below = false
+is_made (Grouped n) idle below = false
+is_made Over idle below = false
 
 -- it takes no more
 abbrev pub is_over : Local → Bool
 is_over (Made l) = true
 is_over Over = true
+is_over Passing = true
 is_over (Empty n) = false
 is_over (Full s) = false
 is_over (Chunked n eof rows) = false
 is_over (Columns n rows) = false
 is_over (Lists n rows) = false
+is_over (Grouped n) = false
 
 -- what its parent needs to know of a task
 pub record Kid : Type 0 where
@@ -49,11 +54,21 @@ pub record Kid : Type 0 where
   -- whether its queue has a place
   pub room : Bool
 
-abbrev pub kid_at : Head → Kid
-kid_at h = record { made = is_made h.local; room = nat_lt (deque_len h.inbox) h.places }
+abbrev pub all_true : List Bool → Bool
+all_true bs = all_by (λ b. b) bs
+
+abbrev pub made_step : Task-F Bool → Bool
+made_step f = is_made f.head.local (deque_len f.head.todo == 0) (all_true f.kids.items)
+
+-- a task has done all
+abbrev pub made_of : Task → Bool
+made_of = fold-Task Bool made_step
+
+abbrev pub room_in : Head → Bool
+room_in h = nat_lt (deque_len h.inbox) h.places
 
 abbrev pub kid_of : Task → Kid
-kid_of t = kid_at (out-Task t).head
+kid_of t = record { made = made_of t; room = room_in (out-Task t).head }
 
 abbrev pub kids_of : List Task → List Kid
 kids_of ts = map kid_of ts
@@ -86,6 +101,7 @@ least_at u p = is_least p (fin.keys u)
 -- whether an act may be done, of a task with these children
 abbrev pub may_due : Active → Due → List Kid → Bool
 may_due u (Put c i) ks = room_at c ks
+may_due u (HandOn i r) ks = room_at 0 ks
 may_due u (Append s) ks = least_at u s.id
 may_due u Close ks = true
 may_due u (Join h) ks = all_made ks && can_join h (length ks)
@@ -109,7 +125,7 @@ pub record Seen : Type 0 where
 abbrev pub seen_step : Active → Task-F Seen → Seen
 seen_step u f = record {
   ready = one (may_now u f.head (map (λ (s : Seen). s.kid) f.kids.items)) + total_by (λ (s : Seen). s.ready) f.kids.items;
-  kid = kid_at f.head;
+  kid = record { made = is_made f.head.local (deque_len f.head.todo == 0) (all_made (map (λ (s : Seen). s.kid) f.kids.items)); room = room_in f.head };
 }
 
 abbrev pub seen : Active → Task → Seen
@@ -126,6 +142,27 @@ ready_among u ts = total_by (ready_in u) ts
 abbrev pub counted : ℕ → ℕ
 counted n = min n (2 ^ 64 - 1)
 
--- its layout is there, and nothing else
+-- there are no more
+abbrev pub no_others : List Bool → Bool
+no_others [] = true
+no_others (b ∷ bs) = false
+
+-- whether the layout is there, where this is told of each child
+abbrev pub has_layout : Local → List Bool → Bool
+has_layout (Made l) ks = no_others ks
+has_layout Passing [] = false
+has_layout Passing (k ∷ ks) = no_others ks && k
+has_layout (Empty n) ks = false
+has_layout (Full s) ks = false
+has_layout (Chunked n eof rows) ks = false
+has_layout (Columns n rows) ks = false
+has_layout (Lists n rows) ks = false
+has_layout (Grouped n) ks = false
+has_layout Over ks = false
+
+abbrev pub done_step : Task-F Bool → Bool
+done_step f = has_layout f.head.local f.kids.items && (deque_len f.head.todo == 0 && deque_len f.head.inbox == 0)
+
+-- its layout is there, its own or its only child's, and nothing else
 abbrev pub is_done : Task → Bool
-is_done t = is_made (out-Task t).head.local && (deque_len (out-Task t).head.todo == 0 && (deque_len (out-Task t).head.inbox == 0 && vec_len (out-Task t).kids == 0))
+is_done = fold-Task Bool done_step

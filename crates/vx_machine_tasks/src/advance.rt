@@ -9,35 +9,39 @@ ghost use Rattle.vx_layout_spec.specs.LayoutTree.{gathered};
 ghost use Rattle.vx_sequence.specs.Universe.{IsLeast};
 ghost use Rattle.vx_machine_ids.specs.Stock.{none, both, ok_stock};
 ghost use Rattle.vx_machine_ids.specs.Balance.{Owned, Moved};
-ghost use Rattle.vx_sink.specs.ContextView.{listed};
+ghost use Rattle.vx_sink.specs.ContextView.{listed, counted};
+ghost use Rattle.vx_plan.specs.PlanData.{Setting};
 ghost use Rattle.vx_machine_view.specs.State.{append as append_next, join_kids, Mind, made as has_layout, Tasks};
 ghost use Rattle.vx_machine_view.specs.Acts.{give, shut_all, layouts_in, joined_rows, column_count};
-ghost use Rattle.vx_machine_tasks.specs.Acting.{AppendRefused, JoinRefused, acted, ActDone, DueDone, DueRefused, ChunkTaken, ChunkRefused, EndTaken, EndRefused, NextTaken, NextUntaken, NextDone, NextRefused};
-ghost use Rattle.vx_machine_tasks.specs.Calls.{TaskTold};
-ghost use Rattle.vx_machine_tasks.specs.Causes.{MayCome, ActMay};
-ghost use Rattle.vx_machine_tasks.specs.Outcome.{Kept};
+ghost use Rattle.vx_machine_nodes.specs.Acting.{AppendRefused, JoinRefused, acted, ActDone, taken, Took, TakeStopped, is_grouped, ChunkTaken, ChunkStopped, EndTaken, EndRefused};
+ghost use Rattle.vx_machine_tasks.specs.Acting.{DueDone, DueRefused, NextTaken, NextUntaken, NextDone, NextRefused};
+ghost use Rattle.vx_machine_nodes.specs.Calls.{TaskTold};
+ghost use Rattle.vx_machine_nodes.specs.Causes.{MayCome, ActMay};
+ghost use Rattle.vx_machine_nodes.specs.Ledger.{Paid, told_by, some_bytes, ok_bytes, due_reserved, dues_reserved, local_reserved};
+ghost use Rattle.vx_machine_tasks.specs.Ledger.{head_reserved, tasks_reserved};
+ghost use Rattle.vx_machine_nodes.specs.Outcome.{Kept};
 ghost use Rattle.vx_machine_tasks.specs.Pairs.{due_pairs, next_pairs, AllMay};
-ghost use Rattle.vx_machine_tasks.specs.Ready.{is_over, may_due, may_now, room_at, all_made, can_join, kids_of};
-ghost use Rattle.vx_machine_tasks.specs.Stocks.{item_stock, stored_stock, due_stock, dues_stock, local_stock, head_stock, tasks_stock};
-ghost use Rattle.vx_machine_tasks.specs.View.{item_of, stored_of, fold_of, todo_of, mind_of, row};
+ghost use Rattle.vx_machine_tasks.specs.Ready.{is_over, may_due, may_now, room_at, all_made, kids_of};
+ghost use Rattle.vx_machine_nodes.specs.Stocks.{item_stock, stored_stock, due_stock, dues_stock, local_stock};
+ghost use Rattle.vx_machine_tasks.specs.Stocks.{head_stock, tasks_stock};
+ghost use Rattle.vx_machine_nodes.specs.View.{item_of, stored_of, fold_of, todo_of, mind_of};
+ghost use Rattle.vx_machine_tasks.specs.View.{row};
 
 use crate::chunked::take_chunked;
-use crate::columns::take_columns;
-use crate::flat::{append, set_local, take_flat};
-use crate::item::{Due, Item, Stored, give_up_item};
 use crate::join::{gather, join, join_columns};
-use crate::kinds::{ChunkedNode, ColumnsNode, FlatNode};
-use crate::lists::{end_lists, take_lists};
-use crate::node::{Local, Shape};
 use crate::ready::columns_fit;
 use crate::task::{Head, Task};
 use std::alloc::Global;
 use std::collections::VecDeque;
 use std::mem;
 use vx_machine_ids::give_up_pointer;
+use vx_machine_nodes::{
+    ChunkedNode, ColumnsNode, Due, FlatNode, Item, Local, Shape, Stored, append, end_grouped,
+    end_lists, give_up_item, release, set_local, take_columns, take_flat, take_grouped, take_lists,
+};
 use vx_order::Order;
 use vx_path::owned::Path;
-use vx_sink::LayoutWriterContext;
+use vx_sink::{BufferedBytesReservation, LayoutWriterContext};
 use vx_write_answer::{ActionKind, WriteError};
 
 /// Puts an item on the queue of a child.
@@ -50,6 +54,7 @@ fn put<O: Order>(
     requires owned { Owned (O.active order.old) (both (tasks_stock kids.old.items) (item_stock item)) }
     requires room { IsTrue (room_at child (kids_of kids.old.items)) }
     ensures moved { Moved (O.active order.old) (O.active order.new) (both (tasks_stock kids.old.items) (item_stock item)) (tasks_stock kids.new.items) }
+    ensures same { tasks_reserved kids.new.items ≡ tasks_reserved kids.old.items }
     ensures kind { IfOk result (λ a. a ≡ ActionKind.Put) }
     ensures kids { OnOk result (row kids.new.items ≡ give child (item_of item) (row kids.old.items)) }
     ensures outlet { O.outlet order.new ≡ O.outlet order.old }
@@ -65,8 +70,36 @@ fn put<O: Order>(
     }
 }
 
+/// Puts an item on the queue of the only child. Then what was reserved for it is released, and before where there is no
+/// memory.
+fn hand_over<O: Order>(
+    ctx: &mut LayoutWriterContext,
+    order: &mut O,
+    kids: &mut Vec<Task>,
+    item: Item,
+    reservation: Option<BufferedBytesReservation>,
+) -> Result<ActionKind, WriteError>
+    requires owned { Owned (O.active order.old) (both (tasks_stock kids.old.items) (item_stock item)) }
+    requires reserved { some_bytes reservation ≤ counted ctx.old }
+    requires room { IsTrue (room_at 0 (kids_of kids.old.items)) }
+    ensures moved { Moved (O.active order.old) (O.active order.new) (both (tasks_stock kids.old.items) (item_stock item)) (tasks_stock kids.new.items) }
+    ensures tracked { Paid ctx.old ctx.new (some_bytes reservation) 0 }
+    ensures context { told_by ctx.new ≡ told_by ctx.old }
+    ensures same { tasks_reserved kids.new.items ≡ tasks_reserved kids.old.items }
+    ensures kind { IfOk result (λ a. a ≡ ActionKind.Put) }
+    ensures kids { OnOk result (row kids.new.items ≡ give 0 (item_of item) (row kids.old.items)) }
+    ensures outlet { O.outlet order.new ≡ O.outlet order.old }
+    ensures sink { O.sink order.new ≡ O.sink order.old }
+    ensures memory { IfErr result (λ e. e ≡ WriteError.OutOfMemory) }
+{
+    let given = put(order, kids, 0, item);
+    release(ctx, reservation);
+    given
+}
+
 fn close_all(kids: &mut Vec<Task>)
     ensures stock { tasks_stock kids.new.items ≡ tasks_stock kids.old.items }
+    ensures reserved { tasks_reserved kids.new.items ≡ tasks_reserved kids.old.items }
     ensures kids { row kids.new.items ≡ shut_all (row kids.old.items) }
 {
     'kids: for i in 0..kids.len() {
@@ -76,17 +109,20 @@ fn close_all(kids: &mut Vec<Task>)
 
 /// Appends a segment; then the task has its layout.
 fn append_due<O: Order>(
-    ctx: &LayoutWriterContext,
+    ctx: &mut LayoutWriterContext,
     order: &mut O,
     local: &mut Local,
     stored: Stored,
 ) -> Result<ActionKind, WriteError>
     requires owned { Owned (O.active order.old) (both (local_stock local.old) (stored_stock stored)) }
+    requires reserved { local_reserved local.old ≤ counted ctx.old }
     requires least { IsLeast (O.active order.old) stored.id }
     requires allowed { O.may_write order.old stored.id stored.segment.bytes.items }
     ensures moved { Moved (O.active order.old) (O.active order.new) (both (local_stock local.old) (stored_stock stored)) (local_stock local.new) }
+    ensures tracked { Paid ctx.old ctx.new (local_reserved local.old) (local_reserved local.new) }
+    ensures context { told_by ctx.new ≡ told_by ctx.old }
     ensures done { IfOk result (λ a. (n : ℕ) × ((mind : Mind) (ks : Tasks)
-        → ActDone (acted (listed ctx.now) n mind ks (append_next (stored_of stored))) (O.outlet order.old) n (O.outlet order.new) (mind_of local.new) ks a)) }
+        → ActDone (acted (listed ctx.old) n mind ks (append_next (stored_of stored))) (O.outlet order.old) n (O.outlet order.new) (mind_of local.new) ks a)) }
     ensures refused { IfErr result (AppendRefused (O.outlet order.old) (stored.id, stored.segment.bytes.items)) }
     ensures kept { OnErr result (Kept (O.outlet order.old) (O.outlet order.new)) }
     ensures told { TaskTold (O.Sink.faults (O.sink order.old)) (O.Sink.faults (O.sink order.new)) (O.Sink.may_fail (O.sink order.old)) (O.Sink.may_fail (O.sink order.new))
@@ -95,7 +131,7 @@ fn append_due<O: Order>(
 {
     match append(ctx, order, stored) {
         Ok(layout) => {
-            set_local(order, local, Local::Made(layout));
+            set_local(ctx, order, local, Local::Made(layout));
             Ok(ActionKind::Append)
         }
         Err(error) => Err(error),
@@ -105,15 +141,18 @@ fn append_due<O: Order>(
 /// Joins the layouts of the children; then the task has its layout.
 fn join_due<O: Order>(
     alloc: Global,
+    ctx: &mut LayoutWriterContext,
     order: &mut O,
     local: &mut Local,
     kids: &mut Vec<Task>,
     shape: Shape,
 ) -> Result<ActionKind, WriteError>
     requires owned { Owned (O.active order.old) (both (local_stock local.old) (tasks_stock kids.old.items)) }
+    requires reserved { local_reserved local.old + tasks_reserved kids.old.items ≤ counted ctx.old }
     requires made { IsTrue (all_made (kids_of kids.old.items)) }
-    requires fits { IsTrue (can_join shape (length (kids_of kids.old.items))) }
     ensures moved { Moved (O.active order.old) (O.active order.new) (both (local_stock local.old) (tasks_stock kids.old.items)) (both (local_stock local.new) (tasks_stock kids.new.items)) }
+    ensures tracked { Paid ctx.old ctx.new (local_reserved local.old + tasks_reserved kids.old.items) (local_reserved local.new + tasks_reserved kids.new.items) }
+    ensures context { told_by ctx.new ≡ told_by ctx.old }
     ensures done { IfOk result (λ a. (ids : List EncodingId) (n : ℕ) (mind : Mind)
         → ActDone (acted ids n mind (row kids.old.items) (join_kids (fold_of shape))) (O.outlet order.old) n (O.outlet order.new) (mind_of local.new) (row kids.new.items) a) }
     ensures refused { IfErr result (JoinRefused (joined_rows (fold_of shape) (layouts_in (row kids.old.items)))) }
@@ -121,9 +160,9 @@ fn join_due<O: Order>(
     ensures sink { O.sink order.new ≡ O.sink order.old }
     ensures cause { IfErr result MayCome }
 {
-    match join(alloc, order, kids, shape) {
+    match join(alloc, ctx, order, kids, shape) {
         Ok(layout) => {
-            set_local(order, local, Local::Made(layout));
+            set_local(ctx, order, local, Local::Made(layout));
             Ok(ActionKind::Join)
         }
         Err(error) => Err(error),
@@ -133,18 +172,21 @@ fn join_due<O: Order>(
 /// Does an act of a block.
 fn act<O: Order>(
     alloc: Global,
-    ctx: &LayoutWriterContext,
+    ctx: &mut LayoutWriterContext,
     order: &mut O,
     local: &mut Local,
     kids: &mut Vec<Task>,
     due: Due,
 ) -> Result<ActionKind, WriteError>
     requires owned { Owned (O.active order.old) (both (both (local_stock local.old) (tasks_stock kids.old.items)) (due_stock due)) }
+    requires reserved { local_reserved local.old + tasks_reserved kids.old.items + due_reserved due ≤ counted ctx.old }
     requires ready { IsTrue (may_due (O.active order.old) due (kids_of kids.old.items)) }
     requires allowed { AllMay (O.may_write order.old) (due_pairs due) }
     ensures moved { Moved (O.active order.old) (O.active order.new) (both (both (local_stock local.old) (tasks_stock kids.old.items)) (due_stock due)) (both (local_stock local.new) (tasks_stock kids.new.items)) }
-    ensures done { IfOk result (DueDone (listed ctx.now) local.old kids.old.items due (O.outlet order.old) (O.outlet order.new) local.new kids.new.items) }
-    ensures refused { IfErr result (DueRefused (listed ctx.now) local.old kids.old.items due (O.outlet order.old)) }
+    ensures tracked { Paid ctx.old ctx.new (local_reserved local.old + tasks_reserved kids.old.items + due_reserved due) (local_reserved local.new + tasks_reserved kids.new.items) }
+    ensures context { told_by ctx.new ≡ told_by ctx.old }
+    ensures done { IfOk result (DueDone (listed ctx.old) local.old kids.old.items due (O.outlet order.old) (O.outlet order.new) local.new kids.new.items) }
+    ensures refused { IfErr result (DueRefused (listed ctx.old) local.old kids.old.items due (O.outlet order.old)) }
     ensures kept { OnErr result (Kept (O.outlet order.old) (O.outlet order.new)) }
     ensures told { TaskTold (O.Sink.faults (O.sink order.old)) (O.Sink.faults (O.sink order.new)) (O.Sink.may_fail (O.sink order.old)) (O.Sink.may_fail (O.sink order.new))
         (O.Sink.must_fail (O.sink order.old)) (O.Sink.must_fail (O.sink order.new)) result (λ a. a) }
@@ -152,19 +194,20 @@ fn act<O: Order>(
 {
     match due {
         Due::Put { child, item } => put(order, kids, child, item),
+        Due::HandOn { item, reservation } => hand_over(ctx, order, kids, item, reservation),
         Due::Append(stored) => append_due(ctx, order, local, stored),
         Due::Close => {
             close_all(kids);
             Ok(ActionKind::Close)
         }
-        Due::Join(shape) => join_due(alloc, order, local, kids, shape),
+        Due::Join(shape) => join_due(alloc, ctx, order, local, kids, shape),
     }
 }
 
 /// Takes a chunk from the queue.
 fn take<O: Order>(
     alloc: Global,
-    ctx: &LayoutWriterContext,
+    ctx: &mut LayoutWriterContext,
     order: &mut O,
     name: &Path,
     local: &mut Local,
@@ -172,27 +215,66 @@ fn take<O: Order>(
     kids: &mut Vec<Task>,
     item: Item,
 ) -> Result<(), WriteError>
-    requires { Owned (O.active order.old) (both (both (both (local_stock local.old) (dues_stock todo.old.items)) (tasks_stock kids.old.items)) (item_stock item)) }
+    requires owned { Owned (O.active order.old) (both (both (both (local_stock local.old) (dues_stock todo.old.items)) (tasks_stock kids.old.items)) (item_stock item)) }
+    requires reserved { local_reserved local.old + dues_reserved todo.old.items + tasks_reserved kids.old.items ≤ counted ctx.old }
     ensures moved { Moved (O.active order.old) (O.active order.new) (both (both (both (local_stock local.old) (dues_stock todo.old.items)) (tasks_stock kids.old.items)) (item_stock item)) (both (both (local_stock local.new) (dues_stock todo.new.items)) (tasks_stock kids.new.items)) }
-    ensures done { OnOk result (ChunkTaken ctx.now name.now (row kids.old.items) item local.old local.new (todo_of todo.new.items) (todo_of todo.old.items) (row kids.new.items)) }
-    ensures refused { IsFalse (is_over local.old) → IfErr result (ChunkRefused ctx.now name.now (row kids.old.items) item local.old) }
+    ensures tracked { Paid ctx.old ctx.new (local_reserved local.old + dues_reserved todo.old.items + tasks_reserved kids.old.items)
+        (local_reserved local.new + dues_reserved todo.new.items + tasks_reserved kids.new.items) }
+    ensures context { told_by ctx.new ≡ told_by ctx.old }
+    ensures done { OnOk result (ChunkTaken ctx.old name.now (row kids.old.items) item local.old local.new (todo_of todo.new.items) (todo_of todo.old.items) (row kids.new.items)) }
+    ensures refused { IsFalse (is_over local.old) → IfErr result (ChunkStopped ctx.old name.now (row kids.old.items) item local.old) }
     ensures outlet { O.outlet order.new ≡ O.outlet order.old }
     ensures sink { O.sink order.new ≡ O.sink order.old }
     ensures cause { IfErr result MayCome }
 {
     match local {
         Local::Chunked(node, eof, rows) => {
-            take_chunked(alloc, order, node, eof, rows, name, kids, item)
+            take_chunked(alloc, ctx, order, node, eof, rows, name, kids, item)
         }
         Local::Columns(node, rows) => take_columns(alloc, order, node, rows, todo, item),
         Local::Lists(node, rows) => take_lists(alloc, order, node, rows, todo, item),
+        Local::Grouped(_) => regroup(alloc, ctx, order, local, todo, item),
         _ => take_flat(alloc, ctx, order, local, item),
+    }
+}
+
+/// Takes a chunk where the task's node regroups.
+fn regroup<O: Order>(
+    alloc: Global,
+    ctx: &mut LayoutWriterContext,
+    order: &mut O,
+    local: &mut Local,
+    todo: &mut VecDeque<Due>,
+    item: Item,
+) -> Result<(), WriteError>
+    requires owned { Owned (O.active order.old) (both (both (local_stock local.old) (dues_stock todo.old.items)) (item_stock item)) }
+    requires reserved { local_reserved local.old + dues_reserved todo.old.items ≤ counted ctx.old }
+    requires grouped { IsTrue (is_grouped local.old) }
+    ensures moved { Moved (O.active order.old) (O.active order.new) (both (both (local_stock local.old) (dues_stock todo.old.items)) (item_stock item)) (both (local_stock local.new) (dues_stock todo.new.items)) }
+    ensures tracked { Paid ctx.old ctx.new (local_reserved local.old + dues_reserved todo.old.items) (local_reserved local.new + dues_reserved todo.new.items) }
+    ensures context { told_by ctx.new ≡ told_by ctx.old }
+    ensures done { OnOk result ((s : Setting) (name : List ℕ) (ks : Tasks) → Took (taken s name ks (item_of item) (mind_of local.old)) (mind_of local.new) (todo_of todo.new.items) (todo_of todo.old.items) ks) }
+    ensures refused { IfErr result (λ e. (s : Setting) (name : List ℕ) (ks : Tasks) → TakeStopped (counted ctx.old) (taken s name ks (item_of item) (mind_of local.old)) e) }
+    ensures outlet { O.outlet order.new ≡ O.outlet order.old }
+    ensures sink { O.sink order.new ≡ O.sink order.old }
+    ensures cause { IfErr result MayCome }
+{
+    match mem::replace(local, Local::Over) {
+        Local::Grouped(node) => match take_grouped(alloc, ctx, order, node, todo, item) {
+            Ok(node) => {
+                set_local(ctx, order, local, Local::Grouped(node));
+                Ok(())
+            }
+            Err(error) => Err(error),
+        },
+        _ => unreachable!(),
     }
 }
 
 /// What a flat node's task has in mind at the end of a stream without chunks: its layout.
 fn end_empty(alloc: Global, node: &FlatNode) -> Result<Local, WriteError>
     ensures local { IfOk result (λ l. local_stock l ≡ none) }
+    ensures unreserved { IfOk result (λ l. local_reserved l ≡ 0) }
     ensures layout { IfOk result (λ l. mind_of l ≡ has_layout (gathered (ty (arc_value node.now.dtype)) 0 [])) }
     ensures memory { IfErr result (λ e. e ≡ WriteError.OutOfMemory) }
     ensures cause { IfErr result MayCome }
@@ -218,7 +300,9 @@ fn end_columns(
 ) -> Result<Local, WriteError>
     requires { deque_len todo.old + 2 ≤ deque_capacity todo.old }
     ensures todo { dues_stock todo.new.items ≡ dues_stock todo.old.items }
+    ensures reserved { dues_reserved todo.new.items ≡ dues_reserved todo.old.items }
     ensures local { IfOk result (λ l. local_stock l ≡ none) }
+    ensures unreserved { IfOk result (λ l. local_reserved l ≡ 0) }
     ensures done { IfOk result (λ l. EndTaken (Local.Columns node rows) kids l (todo_of todo.new.items) (todo_of todo.old.items)) }
     ensures memory { IfErr result (λ e. e ≡ WriteError.OutOfMemory) }
     ensures cause { IfErr result MayCome }
@@ -239,15 +323,19 @@ fn end_columns(
 /// What is in mind behind the end, and what is still to be done.
 fn ended<O: Order>(
     alloc: Global,
+    ctx: &mut LayoutWriterContext,
     order: &mut O,
     kids: usize,
     todo: &mut VecDeque<Due>,
     local: Local,
 ) -> Result<Local, WriteError>
     requires owned { Owned (O.active order.old) (both (local_stock local) (dues_stock todo.old.items)) }
+    requires reserved { local_reserved local + dues_reserved todo.old.items ≤ counted ctx.old }
     requires room { deque_len todo.old + 2 ≤ deque_capacity todo.old }
     ensures moved { Moved (O.active order.old) (O.active order.new) (both (local_stock local) (dues_stock todo.old.items)) (both (ok_stock local_stock result) (dues_stock todo.new.items)) }
-    ensures done { IfOk result (λ l. EndTaken local kids l (todo_of todo.new.items) (todo_of todo.old.items)) }
+    ensures tracked { Paid ctx.old ctx.new (local_reserved local + dues_reserved todo.old.items) (ok_bytes local_reserved result + dues_reserved todo.new.items) }
+    ensures context { told_by ctx.new ≡ told_by ctx.old }
+    ensures done { todo.old.items ≡ [] → IfOk result (λ l. EndTaken local kids l (todo_of todo.new.items) (todo_of todo.old.items)) }
     ensures refused { IfErr result (EndRefused local kids) }
     ensures outlet { O.outlet order.new ≡ O.outlet order.old }
     ensures sink { O.sink order.new ≡ O.sink order.old }
@@ -272,7 +360,9 @@ fn ended<O: Order>(
         }
         Local::Columns(node, rows) => end_columns(kids, todo, node, rows),
         Local::Lists(node, rows) => end_lists(kids, todo, node, rows),
+        Local::Grouped(node) => end_grouped(alloc, ctx, order, todo, node),
         Local::Over => Ok(Local::Over),
+        Local::Passing => Ok(Local::Passing),
         Local::Made(layout) => Ok(Local::Made(layout)),
     }
 }
@@ -280,14 +370,18 @@ fn ended<O: Order>(
 /// Takes the end of the stream.
 fn end<O: Order>(
     alloc: Global,
+    ctx: &mut LayoutWriterContext,
     order: &mut O,
     kids: usize,
     local: &mut Local,
     todo: &mut VecDeque<Due>,
 ) -> Result<(), WriteError>
-    requires { Owned (O.active order.old) (both (local_stock local.old) (dues_stock todo.old.items)) }
+    requires owned { Owned (O.active order.old) (both (local_stock local.old) (dues_stock todo.old.items)) }
+    requires reserved { local_reserved local.old + dues_reserved todo.old.items ≤ counted ctx.old }
     ensures moved { Moved (O.active order.old) (O.active order.new) (both (local_stock local.old) (dues_stock todo.old.items)) (both (local_stock local.new) (dues_stock todo.new.items)) }
-    ensures done { OnOk result (EndTaken local.old kids local.new (todo_of todo.new.items) (todo_of todo.old.items)) }
+    ensures tracked { Paid ctx.old ctx.new (local_reserved local.old + dues_reserved todo.old.items) (local_reserved local.new + dues_reserved todo.new.items) }
+    ensures context { told_by ctx.new ≡ told_by ctx.old }
+    ensures done { todo.old.items ≡ [] → OnOk result (EndTaken local.old kids local.new (todo_of todo.new.items) (todo_of todo.old.items)) }
     ensures refused { IfErr result (EndRefused local.old kids) }
     ensures outlet { O.outlet order.new ≡ O.outlet order.old }
     ensures sink { O.sink order.new ≡ O.sink order.old }
@@ -295,9 +389,9 @@ fn end<O: Order>(
 {
     todo.reserve(2)?;
     let before = mem::replace(local, Local::Over);
-    match ended(alloc, order, kids, todo, before) {
+    match ended(alloc, ctx, order, kids, todo, before) {
         Ok(after) => {
-            set_local(order, local, after);
+            set_local(ctx, order, local, after);
             Ok(())
         }
         Err(error) => Err(error),
@@ -307,15 +401,18 @@ fn end<O: Order>(
 /// Takes what is next on the queue: a chunk, or the end.
 fn take_next<O: Order>(
     alloc: Global,
-    ctx: &LayoutWriterContext,
+    ctx: &mut LayoutWriterContext,
     order: &mut O,
     head: &mut Head,
     kids: &mut Vec<Task>,
 ) -> Result<(), WriteError>
-    requires { Owned (O.active order.old) (both (head_stock head.old) (tasks_stock kids.old.items)) }
+    requires owned { Owned (O.active order.old) (both (head_stock head.old) (tasks_stock kids.old.items)) }
+    requires reserved { head_reserved head.old + tasks_reserved kids.old.items ≤ counted ctx.old }
     ensures moved { Moved (O.active order.old) (O.active order.new) (both (head_stock head.old) (tasks_stock kids.old.items)) (both (head_stock head.new) (tasks_stock kids.new.items)) }
-    ensures done { head.old.todo.items ≡ [] → OnOk result (NextTaken ctx.now head.old kids.old.items head.new kids.new.items) }
-    ensures refused { IsFalse (is_over head.old.local) → IfErr result (NextUntaken ctx.now head.old kids.old.items) }
+    ensures tracked { Paid ctx.old ctx.new (head_reserved head.old + tasks_reserved kids.old.items) (head_reserved head.new + tasks_reserved kids.new.items) }
+    ensures context { told_by ctx.new ≡ told_by ctx.old }
+    ensures done { head.old.todo.items ≡ [] → OnOk result (NextTaken ctx.old head.old kids.old.items head.new kids.new.items) }
+    ensures refused { IsFalse (is_over head.old.local) → IfErr result (NextUntaken ctx.old head.old kids.old.items) }
     ensures outlet { O.outlet order.new ≡ O.outlet order.old }
     ensures sink { O.sink order.new ≡ O.sink order.old }
     ensures cause { IfErr result MayCome }
@@ -331,24 +428,34 @@ fn take_next<O: Order>(
             kids,
             item,
         ),
-        None => end(alloc, order, kids.len(), &mut head.local, &mut head.todo),
+        None => end(
+            alloc,
+            ctx,
+            order,
+            kids.len(),
+            &mut head.local,
+            &mut head.todo,
+        ),
     }
 }
 
 /// Does the next act of a task that is ready. After an error nothing but giving up is left to do.
 pub(crate) fn advance<O: Order>(
     alloc: Global,
-    ctx: &LayoutWriterContext,
+    ctx: &mut LayoutWriterContext,
     order: &mut O,
     head: &mut Head,
     kids: &mut Vec<Task>,
 ) -> Result<ActionKind, WriteError>
     requires owned { Owned (O.active order.old) (both (head_stock head.old) (tasks_stock kids.old.items)) }
+    requires reserved { head_reserved head.old + tasks_reserved kids.old.items ≤ counted ctx.old }
     requires ready { IsTrue (may_now (O.active order.old) head.old (kids_of kids.old.items)) }
     requires allowed { AllMay (O.may_write order.old) (next_pairs head.old.todo.items) }
     ensures moved { Moved (O.active order.old) (O.active order.new) (both (head_stock head.old) (tasks_stock kids.old.items)) (both (head_stock head.new) (tasks_stock kids.new.items)) }
-    ensures done { IfOk result (NextDone ctx.now head.old kids.old.items (O.outlet order.old) (O.outlet order.new) head.new kids.new.items) }
-    ensures refused { IfErr result (NextRefused ctx.now head.old kids.old.items (O.outlet order.old)) }
+    ensures tracked { Paid ctx.old ctx.new (head_reserved head.old + tasks_reserved kids.old.items) (head_reserved head.new + tasks_reserved kids.new.items) }
+    ensures context { told_by ctx.new ≡ told_by ctx.old }
+    ensures done { IfOk result (NextDone ctx.old head.old kids.old.items (O.outlet order.old) (O.outlet order.new) head.new kids.new.items) }
+    ensures refused { IfErr result (NextRefused ctx.old head.old kids.old.items (O.outlet order.old)) }
     ensures kept { OnErr result (Kept (O.outlet order.old) (O.outlet order.new)) }
     ensures told { TaskTold (O.Sink.faults (O.sink order.old)) (O.Sink.faults (O.sink order.new)) (O.Sink.may_fail (O.sink order.old)) (O.Sink.may_fail (O.sink order.new))
         (O.Sink.must_fail (O.sink order.old)) (O.Sink.must_fail (O.sink order.new)) result (λ a. a) }

@@ -8,31 +8,44 @@ ghost use Rattle.vx_plan.specs.PlanData.{Setting};
 ghost use Rattle.vx_machine_view.specs.State.{Next, Tasks, task_then};
 ghost use Rattle.vx_machine_view.specs.Start.{first_indices, started_task};
 ghost use Rattle.vx_machine_view.specs.Acts.{add, count, with_item, shut_desk};
-ghost use Rattle.vx_machine_tasks.specs.Acting.{taken, Took, TakeRefused, ChildRefused};
-ghost use Rattle.vx_machine_tasks.specs.Causes.{MayCome};
-ghost use Rattle.vx_machine_tasks.specs.Outcome.{AllFit};
+ghost use Rattle.vx_machine_nodes.specs.Acting.{taken, Took, TakeRefused};
+ghost use Rattle.vx_machine_tasks.specs.Acting.{ChildRefused};
+ghost use Rattle.vx_machine_nodes.specs.Causes.{MayCome};
+ghost use Rattle.vx_sink.specs.ContextView.{counted};
+ghost use Rattle.vx_machine_nodes.specs.Ledger.{Paid, told_by, ok_bytes};
+ghost use Rattle.vx_machine_tasks.specs.Ledger.{task_reserved, tasks_reserved};
+ghost use Rattle.vx_machine_nodes.specs.Outcome.{AllFit};
 ghost use Rattle.vx_machine_tasks.specs.Starting.{IsAllowed, Started};
-ghost use Rattle.vx_machine_tasks.specs.Stocks.{item_stock, task_stock, tasks_stock};
-ghost use Rattle.vx_machine_tasks.specs.View.{item_of, child_form, mind_of, desk_of, task_row, row};
-ghost use Rattle.vx_machine_tasks.specs.declared.node.Local.TheVariants.{Chunked};
+ghost use Rattle.vx_machine_nodes.specs.Stocks.{item_stock};
+ghost use Rattle.vx_machine_tasks.specs.Stocks.{task_stock, tasks_stock};
+ghost use Rattle.vx_machine_nodes.specs.View.{item_of, child_form, mind_of};
+ghost use Rattle.vx_machine_tasks.specs.View.{desk_of, task_row, row};
+ghost use Rattle.vx_machine_nodes.specs.declared.node.Local.TheVariants.{Chunked};
 ghost use Rattle.vx_machine_tasks.specs.declared.task.Task.{out-Task};
 
-use crate::columns::add_rows;
-use crate::item::{Item, give_up_item};
-use crate::kinds::ChunkedNode;
 use crate::start::{next_name, start_under};
 use crate::task::Task;
 use std::alloc::Global;
 use std::sync::Arc;
+use vx_machine_nodes::{ChunkedNode, Item, add_rows, give_up_item};
 use vx_order::Order;
 use vx_path::owned::Path;
 use vx_sequence::SequencePointer;
+use vx_sink::LayoutWriterContext;
 use vx_write_answer::WriteError;
 
 /// The task with the item on its queue, which is closed.
-fn fed<O: Order>(order: &mut O, mut kid: Task, item: Item) -> Result<Task, WriteError>
-    requires { Owned (O.active order.old) (both (task_stock kid) (item_stock item)) }
+fn fed<O: Order>(
+    ctx: &mut LayoutWriterContext,
+    order: &mut O,
+    mut kid: Task,
+    item: Item,
+) -> Result<Task, WriteError>
+    requires owned { Owned (O.active order.old) (both (task_stock kid) (item_stock item)) }
+    requires reserved { task_reserved kid ≤ counted ctx.old }
     ensures moved { Moved (O.active order.old) (O.active order.new) (both (task_stock kid) (item_stock item)) (ok_stock task_stock result) }
+    ensures tracked { Paid ctx.old ctx.new (task_reserved kid) (ok_bytes task_reserved result) }
+    ensures context { told_by ctx.new ≡ told_by ctx.old }
     ensures fed { IfOk result (λ t. (r : Tasks) → task_row t r ≡ task_then (shut_desk (with_item (desk_of (out-Task kid).head) (item_of item))) (row (out-Task kid).kids.items) r) }
     ensures outlet { O.outlet order.new ≡ O.outlet order.old }
     ensures sink { O.sink order.new ≡ O.sink order.old }
@@ -45,7 +58,7 @@ fn fed<O: Order>(order: &mut O, mut kid: Task, item: Item) -> Result<Task, Write
         }
         Err(item) => {
             give_up_item(order, item);
-            kid.refuse(order);
+            kid.refuse(ctx, order);
             Err(WriteError::OutOfMemory)
         }
     }
@@ -81,6 +94,7 @@ fn next_child<O: Order>(
 /// Takes a chunk.
 pub(crate) fn take_chunk<O: Order>(
     alloc: Global,
+    ctx: &mut LayoutWriterContext,
     order: &mut O,
     node: &ChunkedNode,
     eof: &mut SequencePointer,
@@ -90,6 +104,8 @@ pub(crate) fn take_chunk<O: Order>(
 ) -> Result<(), WriteError>
     requires { Owned (O.active order.old) (both (both (end_stock eof.old) (tasks_stock kids.old.items)) (item_stock item)) }
     ensures moved { Moved (O.active order.old) (O.active order.new) (both (both (end_stock eof.old) (tasks_stock kids.old.items)) (item_stock item)) (both (end_stock eof.new) (tasks_stock kids.new.items)) }
+    ensures tracked { Paid ctx.old ctx.new (tasks_reserved kids.old.items) (tasks_reserved kids.new.items) }
+    ensures context { told_by ctx.new ≡ told_by ctx.old }
     ensures allowed { OnOk result (IsAllowed (child_form node.now) node.now.marked) }
     ensures kids { OnOk result (row kids.new.items ≡ add (row kids.old.items) (started_task (child_form node.now) node.now.marked (under name.now (count (row kids.old.items)))
         (inside eof.old) (item_of item ∷ []) true)) }
@@ -102,7 +118,7 @@ pub(crate) fn take_chunk<O: Order>(
 {
     match next_child(alloc, order, node, eof, name, kids) {
         Ok(kid) => {
-            let kid = fed(order, kid, item)?;
+            let kid = fed(ctx, order, kid, item)?;
             kids.push_reserved(kid);
             Ok(())
         }
@@ -116,6 +132,7 @@ pub(crate) fn take_chunk<O: Order>(
 /// Takes a chunk, and counts its rows.
 pub(crate) fn take_chunked<O: Order>(
     alloc: Global,
+    ctx: &mut LayoutWriterContext,
     order: &mut O,
     node: &ChunkedNode,
     eof: &mut SequencePointer,
@@ -126,6 +143,8 @@ pub(crate) fn take_chunked<O: Order>(
 ) -> Result<(), WriteError>
     requires { Owned (O.active order.old) (both (both (end_stock eof.old) (tasks_stock kids.old.items)) (item_stock item)) }
     ensures moved { Moved (O.active order.old) (O.active order.new) (both (both (end_stock eof.old) (tasks_stock kids.old.items)) (item_stock item)) (both (end_stock eof.new) (tasks_stock kids.new.items)) }
+    ensures tracked { Paid ctx.old ctx.new (tasks_reserved kids.old.items) (tasks_reserved kids.new.items) }
+    ensures context { told_by ctx.new ≡ told_by ctx.old }
     ensures done { OnOk result ((s : Setting) (todo : List Next) → Took (taken s name.now (row kids.old.items) (item_of item) (mind_of (Chunked node.now eof.old rows.old)))
         (mind_of (Chunked node.now eof.new rows.new)) todo todo (row kids.new.items)) }
     ensures refused { IfErr result (λ e. (s : Setting) → TakeRefused (taken s name.now (row kids.old.items) (item_of item) (mind_of (Chunked node.now eof.old rows.old))) e) }
@@ -135,7 +154,7 @@ pub(crate) fn take_chunked<O: Order>(
 {
     match add_rows(*rows, item.chunk.len()) {
         Ok(total) => {
-            take_chunk(alloc, order, node, eof, name, kids, item)?;
+            take_chunk(alloc, ctx, order, node, eof, name, kids, item)?;
             *rows = total;
             Ok(())
         }

@@ -6,16 +6,17 @@ ghost use Rattle.vx_machine_ids.specs.Balance.{Owned};
 ghost use Rattle.vx_kept.specs.Kept.{FreshFrom, Fresh, KnowsFrom, Knows, GoingFrom, asked_of};
 ghost use Rattle.vx_kept.specs.Follow.{touched_by, waits};
 ghost use Rattle.vx_machine_tasks.specs.Stocks.{task_stock, tasks_stock};
-ghost use Rattle.vx_machine_tasks.specs.View.{todo_of, row};
+ghost use Rattle.vx_machine_nodes.specs.View.{todo_of};
+ghost use Rattle.vx_machine_tasks.specs.View.{row};
 ghost use Rattle.vx_machine_tasks.specs.Ready.{ready_in, counted};
 ghost use Rattle.vx_machine_tasks.specs.Counting.{AllKnown};
 ghost use Rattle.vx_machine_tasks.specs.declared.task.Task.{out-Task};
 
-use crate::item::Due;
 use crate::ready::{may, one};
 use crate::task::{Head, Task};
 use std::alloc::{AllocError, Global};
 use vx_kept::{Counts, Touched, top_up};
+use vx_machine_nodes::Due;
 use vx_order::Order;
 use vx_tally::Tally;
 
@@ -26,7 +27,8 @@ fn is_steady(head: &Head, counts: &Counts) -> bool
     match head.todo.front() {
         Some(due) => match due {
             Due::Append(_) => false,
-            Due::Put { .. } | Due::Close | Due::Join(_) => counts.asked.is_empty(),
+            Due::Put { .. } | Due::HandOn { .. } => counts.asked.is_empty(),
+            Due::Close | Due::Join(_) => counts.asked.is_empty(),
         },
         None => counts.asked.is_empty(),
     }
@@ -39,6 +41,7 @@ pub(crate) fn touched(head: &Head) -> Touched
     match head.todo.front() {
         Some(due) => match due {
             Due::Put { child, item: _ } => Touched::Child(*child),
+            Due::HandOn { .. } => Touched::Child(0),
             Due::Append(_) => Touched::Nothing,
             Due::Close | Due::Join(_) => Touched::All,
         },

@@ -1,31 +1,35 @@
 //! Layouts that are made of those of children.
 
-ghost use Rattle.std.specs.Prelude.{◌≡◌, [], ◌∷◌, IsTrue, length, map, reverse, vec_len, IfOk, IfErr, OnOk};
+ghost use Rattle.std.specs.Prelude.{◌≡◌, ◌≤◌, ◌+◌, ◌++◌, [], ◌∷◌, IsTrue, length, map, reverse, vec_len, IfOk, IfErr, OnOk};
 ghost use Rattle.std.specs.Arc.{arc_value};
 ghost use Rattle.vx_model.specs.Words.{total_by};
 ghost use Rattle.vx_model.specs.TyView.{ty};
 ghost use Rattle.vx_layout_spec.specs.LayoutTree.{row_count, chunked_layout, gathered, struct_layout, list_layout};
 ghost use Rattle.vx_layout_tree.specs.LayoutView.{layout_data};
-ghost use Rattle.vx_machine_ids.specs.Stock.{none, both};
+ghost use Rattle.vx_machine_ids.specs.Stock.{none};
 ghost use Rattle.vx_machine_ids.specs.Balance.{Owned, Moved};
-ghost use Rattle.vx_machine_view.specs.Acts.{layout_in, layouts_in, folded, joined_rows};
-ghost use Rattle.vx_machine_tasks.specs.Acting.{JoinRefused};
-ghost use Rattle.vx_machine_tasks.specs.Causes.{MayCome};
-ghost use Rattle.vx_machine_tasks.specs.Ready.{is_made, all_made, can_join, columns_fit, lists_fit, kids_of};
+ghost use Rattle.vx_machine_view.specs.State.{no_tasks};
+ghost use Rattle.vx_machine_view.specs.Acts.{layouts_in, folded, joined_rows};
+ghost use Rattle.vx_machine_nodes.specs.Acting.{JoinRefused};
+ghost use Rattle.vx_machine_nodes.specs.Causes.{MayCome};
+ghost use Rattle.vx_sink.specs.ContextView.{counted};
+ghost use Rattle.vx_machine_nodes.specs.Ledger.{Paid, told_by};
+ghost use Rattle.vx_machine_tasks.specs.Ledger.{task_reserved, tasks_reserved};
+ghost use Rattle.vx_machine_tasks.specs.Ready.{made_of, all_made, columns_fit as are_columns, lists_fit as are_parts, kids_of};
 ghost use Rattle.vx_machine_tasks.specs.Stocks.{task_stock, tasks_stock};
-ghost use Rattle.vx_machine_tasks.specs.View.{fold_of, mind_of, row};
-ghost use Rattle.vx_machine_tasks.specs.declared.task.Task.{out-Task};
+ghost use Rattle.vx_machine_nodes.specs.View.{fold_of};
+ghost use Rattle.vx_machine_tasks.specs.View.{task_row, row};
 
-use crate::item::{give_up_dues, give_up_items};
-use crate::kinds::{ColumnsNode, ListsNode};
-use crate::node::{Local, Shape};
+use crate::ready::{columns_fit, lists_fit};
 use crate::task::{Head, Task, refuse_all};
 use std::alloc::Global;
 use vx_layout_tree::{
     ChunkedLayout, KindParts, Layout, LayoutHead, StructLayout, layout_children, total_rows,
 };
+use vx_machine_nodes::{ColumnsNode, ListsNode, Local, Shape, give_up_dues, give_up_items};
 use vx_model::DType;
 use vx_order::Order;
+use vx_sink::LayoutWriterContext;
 use vx_write_answer::WriteError;
 
 /// One layout is given itself, none or several are chunked.
@@ -76,7 +80,7 @@ pub(crate) fn join_columns(
     rows: u64,
     layouts: Vec<Layout>,
 ) -> Result<Layout, WriteError>
-    requires { IsTrue (columns_fit node.now (vec_len layouts)) }
+    requires { IsTrue (are_columns node.now (vec_len layouts)) }
     ensures layout { IfOk result (λ l. layout_data l ≡ struct_layout (ty (arc_value node.now.dtype)) rows (map layout_data layouts.items)) }
     ensures memory { IfErr result (λ e. e ≡ WriteError.OutOfMemory) }
     ensures cause { IfErr result MayCome }
@@ -92,6 +96,38 @@ pub(crate) fn join_columns(
     }
 }
 
+/// The same of the layouts of children that have done all. Each child has one, as a task that passes its layout on has one
+/// child; of another number there is no layout.
+fn join_all(node: &ColumnsNode, rows: u64, layouts: Vec<Layout>) -> Result<Layout, WriteError>
+    ensures layout { IfOk result (λ l. layout_data l ≡ struct_layout (ty (arc_value node.now.dtype)) rows (map layout_data layouts.items)) }
+    ensures memory { IfErr result (λ e. e ≡ WriteError.OutOfMemory) }
+    ensures cause { IfErr result MayCome }
+{
+    if !columns_fit(node, layouts.len()) {
+        drop(layouts);
+        return Err(WriteError::OutOfMemory);
+    }
+    join_columns(node, rows, layouts)
+}
+
+/// The same of a list's columns.
+fn join_parts(
+    alloc: Global,
+    node: &ListsNode,
+    rows: u64,
+    layouts: Vec<Layout>,
+) -> Result<Layout, WriteError>
+    ensures layout { IfOk result (λ l. layout_data l ≡ list_layout (ty (arc_value node.now.dtype)) rows (map layout_data layouts.items)) }
+    ensures memory { IfErr result (λ e. e ≡ WriteError.OutOfMemory) }
+    ensures cause { IfErr result MayCome }
+{
+    if !lists_fit(node, layouts.len()) {
+        drop(layouts);
+        return Err(WriteError::OutOfMemory);
+    }
+    join_lists(alloc, node, rows, layouts)
+}
+
 /// A list's layout of its columns', with the rows that the node has counted.
 fn join_lists(
     alloc: Global,
@@ -99,7 +135,7 @@ fn join_lists(
     rows: u64,
     layouts: Vec<Layout>,
 ) -> Result<Layout, WriteError>
-    requires { IsTrue (lists_fit node.now (vec_len layouts)) }
+    requires { IsTrue (are_parts node.now (vec_len layouts)) }
     ensures layout { IfOk result (λ l. layout_data l ≡ list_layout (ty (arc_value node.now.dtype)) rows (map layout_data layouts.items)) }
     ensures memory { IfErr result (λ e. e ≡ WriteError.OutOfMemory) }
     ensures cause { IfErr result MayCome }
@@ -116,16 +152,27 @@ fn join_lists(
     Ok(Layout::from_parts(alloc, KindParts::List(head, layouts)))
 }
 
-/// The layout of a task that has done all. What else it might hold is given up.
-fn made<O: Order>(order: &mut O, kid: Task) -> Layout
+/// The layout of a task that has done all, or those of its children where it passes them on, behind the others. What else it
+/// might hold is given up.
+#[cycle(gather)]
+fn add_layout<O: Order>(
+    ctx: &mut LayoutWriterContext,
+    order: &mut O,
+    kid: Task,
+    layouts: &mut Vec<Layout>,
+) -> Result<(), WriteError>
     requires owned { Owned (O.active order.old) (task_stock kid) }
-    requires made { IsTrue (is_made (out-Task kid).head.local) }
-    ensures layout { layout_in (mind_of (out-Task kid).head.local) ≡ layout_data result ∷ [] }
+    requires reserved { task_reserved kid ≤ counted ctx.old }
+    requires made { IsTrue (made_of kid) }
+    ensures layouts { OnOk result (map layout_data (reverse layouts.new.items) ≡ layouts_in (task_row kid no_tasks) ++ map layout_data (reverse layouts.old.items)) }
     ensures moved { Moved (O.active order.old) (O.active order.new) (task_stock kid) none }
+    ensures tracked { Paid ctx.old ctx.new (task_reserved kid) 0 }
+    ensures context { told_by ctx.new ≡ told_by ctx.old }
     ensures outlet { O.outlet order.new ≡ O.outlet order.old }
     ensures sink { O.sink order.new ≡ O.sink order.old }
+    ensures memory { IfErr result (λ e. e ≡ WriteError.OutOfMemory) }
 {
-    let Task { head, kids } = kid;
+    let Task { head, mut kids } = kid;
     let Head {
         name: _name,
         local,
@@ -134,13 +181,59 @@ fn made<O: Order>(order: &mut O, kid: Task) -> Layout
         places: _,
         closed: _,
     } = head;
-    give_up_dues(order, todo);
+    give_up_dues(ctx, order, todo);
     give_up_items(order, inbox);
-    refuse_all(kids, order);
     match local {
-        Local::Made(layout) => layout,
+        Local::Made(layout) => {
+            refuse_all(kids, ctx, order);
+            add_one(layouts, layout)
+        }
+        Local::Passing => {
+            let added = add_layouts(ctx, order, &mut kids, layouts);
+            refuse_all(kids, ctx, order);
+            added
+        }
         _ => unreachable!(),
     }
+}
+
+fn add_one(layouts: &mut Vec<Layout>, layout: Layout) -> Result<(), WriteError>
+    ensures added { OnOk result (layouts.new.items ≡ layouts.old.items ++ (layout ∷ [])) }
+    ensures memory { IfErr result (λ e. e ≡ WriteError.OutOfMemory) }
+{
+    match layouts.push(layout) {
+        Ok(()) => Ok(()),
+        Err(error) => {
+            drop(error);
+            Err(WriteError::OutOfMemory)
+        }
+    }
+}
+
+/// The same of several, from the last one on. Without an error none of them is left.
+#[cycle(gather)]
+fn add_layouts<O: Order>(
+    ctx: &mut LayoutWriterContext,
+    order: &mut O,
+    kids: &mut Vec<Task>,
+    layouts: &mut Vec<Layout>,
+) -> Result<(), WriteError>
+    requires owned { Owned (O.active order.old) (tasks_stock kids.old.items) }
+    requires reserved { tasks_reserved kids.old.items ≤ counted ctx.old }
+    requires made { IsTrue (all_made (kids_of kids.old.items)) }
+    ensures layouts { OnOk result (map layout_data (reverse layouts.new.items) ≡ layouts_in (row kids.old.items) ++ map layout_data (reverse layouts.old.items)) }
+    ensures no_kids { OnOk result (kids.new.items ≡ []) }
+    ensures moved { Moved (O.active order.old) (O.active order.new) (tasks_stock kids.old.items) (tasks_stock kids.new.items) }
+    ensures tracked { Paid ctx.old ctx.new (tasks_reserved kids.old.items) (tasks_reserved kids.new.items) }
+    ensures context { told_by ctx.new ≡ told_by ctx.old }
+    ensures outlet { O.outlet order.new ≡ O.outlet order.old }
+    ensures sink { O.sink order.new ≡ O.sink order.old }
+    ensures memory { IfErr result (λ e. e ≡ WriteError.OutOfMemory) }
+{
+    'kids: while let Some(kid) = kids.pop() {
+        add_layout(ctx, order, kid, layouts)?;
+    }
+    Ok(())
 }
 
 /// The layouts, the last one first.
@@ -152,49 +245,57 @@ fn in_order(mut layouts: Vec<Layout>) -> Vec<Layout>
     layouts
 }
 
-/// The layouts of children that have done all, in order. None of the children is left.
-#[tactic(auto, using(crate::proofs::Readiness::none_is))]
+/// The layouts of children that have done all, in order. None of the children is left, but after an error.
 fn take_layouts<O: Order>(
     alloc: Global,
+    ctx: &mut LayoutWriterContext,
     order: &mut O,
     kids: &mut Vec<Task>,
 ) -> Result<Vec<Layout>, WriteError>
     requires owned { Owned (O.active order.old) (tasks_stock kids.old.items) }
+    requires reserved { tasks_reserved kids.old.items ≤ counted ctx.old }
     requires made { IsTrue (all_made (kids_of kids.old.items)) }
     ensures moved { Moved (O.active order.old) (O.active order.new) (tasks_stock kids.old.items) (tasks_stock kids.new.items) }
+    ensures tracked { Paid ctx.old ctx.new (tasks_reserved kids.old.items) (tasks_reserved kids.new.items) }
+    ensures context { told_by ctx.new ≡ told_by ctx.old }
     ensures layouts { IfOk result (λ v. map layout_data v.items ≡ layouts_in (row kids.old.items)) }
     ensures no_kids { OnOk result (kids.new.items ≡ []) }
-    ensures count { IfOk result (λ v. vec_len v ≡ length kids.old.items) }
     ensures outlet { O.outlet order.new ≡ O.outlet order.old }
     ensures sink { O.sink order.new ≡ O.sink order.old }
     ensures memory { IfErr result (λ e. e ≡ WriteError.OutOfMemory) }
 {
     let mut layouts = Vec::with_capacity(alloc, kids.len())?;
-    'kids: while let Some(kid) = kids.pop() {
-        layouts.push_reserved(made(order, kid));
+    match add_layouts(ctx, order, kids, &mut layouts) {
+        Ok(()) => Ok(in_order(layouts)),
+        Err(error) => {
+            drop(layouts);
+            Err(error)
+        }
     }
-    Ok(in_order(layouts))
 }
 
 /// The layout of this shape. None of the children is left, but after an error.
 pub(crate) fn join<O: Order>(
     alloc: Global,
+    ctx: &mut LayoutWriterContext,
     order: &mut O,
     kids: &mut Vec<Task>,
     shape: Shape,
 ) -> Result<Layout, WriteError>
     requires owned { Owned (O.active order.old) (tasks_stock kids.old.items) }
+    requires reserved { tasks_reserved kids.old.items ≤ counted ctx.old }
     requires made { IsTrue (all_made (kids_of kids.old.items)) }
-    requires fits { IsTrue (can_join shape (length (kids_of kids.old.items))) }
     ensures layout { IfOk result (λ l. layout_data l ≡ folded (fold_of shape) (layouts_in (row kids.old.items))) }
     ensures no_kids { OnOk result (kids.new.items ≡ []) }
     ensures refused { IfErr result (JoinRefused (joined_rows (fold_of shape) (layouts_in (row kids.old.items)))) }
     ensures moved { Moved (O.active order.old) (O.active order.new) (tasks_stock kids.old.items) (tasks_stock kids.new.items) }
+    ensures tracked { Paid ctx.old ctx.new (tasks_reserved kids.old.items) (tasks_reserved kids.new.items) }
+    ensures context { told_by ctx.new ≡ told_by ctx.old }
     ensures outlet { O.outlet order.new ≡ O.outlet order.old }
     ensures sink { O.sink order.new ≡ O.sink order.old }
     ensures cause { IfErr result MayCome }
 {
-    match take_layouts(alloc, order, kids) {
+    match take_layouts(alloc, ctx, order, kids) {
         Ok(layouts) => match shape {
             Shape::Chunks(dtype) => {
                 let layout = gather(&dtype, layouts);
@@ -202,12 +303,12 @@ pub(crate) fn join<O: Order>(
                 layout
             }
             Shape::Columns(node, rows) => {
-                let layout = join_columns(&node, rows, layouts);
+                let layout = join_all(&node, rows, layouts);
                 drop(node);
                 layout
             }
             Shape::Lists(node, rows) => {
-                let layout = join_lists(alloc, &node, rows, layouts);
+                let layout = join_parts(alloc, &node, rows, layouts);
                 drop(node);
                 layout
             }

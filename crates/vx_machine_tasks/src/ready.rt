@@ -7,23 +7,26 @@ ghost use Rattle.vx_machine_ids.specs.Balance.{Owned};
 ghost use Rattle.vx_machine_view.specs.State.{no_tasks};
 ghost use Rattle.vx_machine_view.specs.Moves.{may_act};
 ghost use Rattle.vx_machine_view.specs.Places.{ready_in as ready_steps};
-ghost use Rattle.vx_machine_tasks.specs.Stocks.{due_stock, head_stock, task_stock, tasks_stock};
-ghost use Rattle.vx_machine_tasks.specs.View.{todo_of, desk_of, task_row, row};
-ghost use Rattle.vx_machine_tasks.specs.Ready.{is_made as has_layout, is_done as is_done_task, is_over as takes_no_more, kids_of, all_made as have_layouts, room_at, can_join as joins, columns_fit as are_columns, lists_fit as are_parts, may_due as may_do, may_take as may_begin, may_now, ready_in, ready_among, counted};
+ghost use Rattle.vx_machine_nodes.specs.Stocks.{due_stock};
+ghost use Rattle.vx_machine_tasks.specs.Stocks.{head_stock, task_stock, tasks_stock};
+ghost use Rattle.vx_machine_nodes.specs.View.{todo_of};
+ghost use Rattle.vx_machine_tasks.specs.View.{desk_of, task_row, row};
+ghost use Rattle.vx_machine_tasks.specs.Ready.{made_of as has_done, is_done as is_done_task, is_over as takes_no_more, kids_of, all_made as have_layouts, room_at, can_join as joins, columns_fit as are_columns, lists_fit as are_parts, may_due as may_do, may_take as may_begin, may_now, ready_in, ready_among, counted};
 
-use crate::item::Due;
-use crate::kinds::{ColumnsNode, ListsNode};
-use crate::node::{Local, Shape};
 use crate::task::{Head, Task};
 use vx_layout_tree::struct_children;
+use vx_machine_nodes::{ColumnsNode, Due, ListsNode, Local, Shape};
 use vx_order::Order;
 
-pub(crate) fn is_made(local: &Local) -> bool
-    ensures { result ≡ has_layout local.now }
+/// Whether it has done all: its layout is there, or that of its children where it passes them on.
+#[cycle(made)]
+fn is_made(kid: &Task) -> bool
+    ensures { result ≡ has_done kid.now }
 {
-    match local {
+    match &kid.head.local {
         Local::Made(_) => true,
-        Local::Empty(_) | Local::Full(_) | Local::Chunked(..) => false,
+        Local::Passing => kid.head.todo.is_empty() && all_made(&kid.kids),
+        Local::Empty(_) | Local::Full(_) | Local::Chunked(..) | Local::Grouped(_) => false,
         Local::Columns(..) | Local::Lists(..) | Local::Over => false,
     }
 }
@@ -32,9 +35,9 @@ fn is_over(local: &Local) -> bool
     ensures { result ≡ takes_no_more local.now }
 {
     match local {
-        Local::Made(_) | Local::Over => true,
+        Local::Made(_) | Local::Over | Local::Passing => true,
         Local::Empty(_) | Local::Full(_) | Local::Chunked(..) => false,
-        Local::Columns(..) | Local::Lists(..) => false,
+        Local::Columns(..) | Local::Lists(..) | Local::Grouped(_) => false,
     }
 }
 
@@ -49,13 +52,14 @@ pub(crate) fn has_room(kids: &[Task], child: usize) -> bool
 }
 
 /// From the last one on, which mostly comes last.
+#[cycle(made)]
 fn all_made(kids: &[Task]) -> bool
     ensures { result ≡ have_layouts (kids_of kids.now) }
 {
     let mut i = kids.len();
     'kids: while i > 0 {
         i -= 1;
-        if !is_made(&kids[i].head.local) {
+        if !is_made(&kids[i]) {
             return false;
         }
     }
@@ -70,7 +74,7 @@ pub(crate) fn columns_fit(node: &ColumnsNode, kids: usize) -> bool
 }
 
 /// Whether there are as many as a list's columns.
-fn lists_fit(node: &ListsNode, kids: usize) -> bool
+pub(crate) fn lists_fit(node: &ListsNode, kids: usize) -> bool
     ensures { result ≡ are_parts node.now kids }
 {
     kids == list_columns(node.dtype.is_nullable())
@@ -100,6 +104,7 @@ fn may_due<O: Order>(order: &O, due: &Due, kids: &[Task]) -> bool
 {
     match due {
         Due::Put { child, item: _ } => has_room(kids, *child),
+        Due::HandOn { .. } => has_room(kids, 0),
         Due::Append(stored) => order.is_least(&stored.id),
         Due::Close => true,
         Due::Join(shape) => {
@@ -135,15 +140,21 @@ pub fn one(is: bool) -> u64
 }
 
 impl Task {
-    /// Whether its layout is there, and nothing else.
+    /// Whether its layout is there, its own or its only child's, and nothing else.
     pub fn is_done(&self) -> bool
         ensures { result ≡ is_done_task self.now }
     {
-        let made = is_made(&self.head.local);
         let idle = self.head.todo.is_empty();
         let empty = self.head.inbox.is_empty();
-        let alone = self.kids.is_empty();
-        made && (idle && (empty && alone))
+        let there = match &self.head.local {
+            Local::Made(_) => self.kids.is_empty(),
+            Local::Passing => match self.kids.as_slice() {
+                [kid] => kid.is_done(),
+                _ => false,
+            },
+            _ => false,
+        };
+        there && (idle && empty)
     }
 
     /// How many are ready, of this task and all below it, as far as 64 bits tell. It counts anew.

@@ -6,6 +6,8 @@ ghost use Rattle.vx_path.specs.Path.{under, inside, next};
 ghost use Rattle.vx_model.specs.Ty.{is_list};
 ghost use Rattle.vx_model.specs.TyView.{ty, field_ty};
 ghost use Rattle.vx_split.specs.ListState.{state_at};
+ghost use Rattle.vx_strategy_spec.specs.StrategyData.{Grouping};
+ghost use Rattle.vx_machine_turns.specs.Forms.{grouped_form};
 ghost use Rattle.vx_table_dispatch.specs.Settled.{passes_on as has_next};
 ghost use Rattle.vx_strategy.specs.NodeViews.{chunked_way, struct_way, list_way};
 ghost use Rattle.vx_strategy.specs.StrategyView.{strategy_data};
@@ -14,20 +16,26 @@ ghost use Rattle.vx_machine_ids.specs.Balance.{Owned, Moved};
 ghost use Rattle.vx_machine_view.specs.State.{Tasks, task_then};
 ghost use Rattle.vx_machine_view.specs.Start.{waiting};
 ghost use Rattle.vx_machine_view.specs.Built.{is_built};
-ghost use Rattle.vx_machine_tasks.specs.Causes.{StartMay};
-ghost use Rattle.vx_machine_tasks.specs.Starting.{lists_form, validity_forms, field_form, columns_form, Started, ManyStarted, OneStarted, AllStarted, FormRefused, ManyRefused, OneRefused, PointerRefused};
-ghost use Rattle.vx_machine_tasks.specs.Stocks.{local_stock, task_stock, tasks_stock};
-ghost use Rattle.vx_machine_tasks.specs.View.{form_at, form_of, mind_of, task_row, row};
+ghost use Rattle.vx_machine_nodes.specs.Causes.{StartMay};
+ghost use Rattle.vx_machine_tasks.specs.Ledger.{tasks_reserved};
+ghost use Rattle.vx_machine_nodes.specs.Fresh.{IsFresh, Begins};
+ghost use Rattle.vx_machine_tasks.specs.Starting.{OnlyStarted, lists_form, validity_forms, field_form, columns_form, Started, ManyStarted, OneStarted, AllStarted, FormRefused, ManyRefused, OneRefused, PointerRefused};
+ghost use Rattle.vx_machine_nodes.specs.Stocks.{local_stock};
+ghost use Rattle.vx_machine_tasks.specs.Stocks.{task_stock, tasks_stock};
+ghost use Rattle.vx_machine_nodes.specs.View.{form_at, form_of, mind_of};
+ghost use Rattle.vx_machine_tasks.specs.View.{task_row, row};
 
-use crate::kinds::{ColumnsNode, FlatNode, ListsNode};
-use crate::node::Local;
-use crate::nodes::{chunked_node, columns_node, element_copy, lists_node};
-use crate::task::{Head, Task, refuse_all};
+use crate::grouped_start::child_parts;
+use crate::task::{Head, Task, refuse_started};
 use std::alloc::{AllocError, Global};
 use std::collections::VecDeque;
 use std::sync::Arc;
 use vx_layout_tree::fields_in;
 use vx_machine_ids::{give_up_pointer, take_below};
+use vx_machine_nodes::{
+    ColumnsNode, FlatNode, GroupedNode, ListsNode, Local, blocks_node, buffer_node, chunked_node,
+    collect_node, columns_node, drop_fresh, element_copy, lists_node,
+};
 use vx_model::{DType, Nullability, PType, StructField};
 use vx_order::Order;
 use vx_path::owned::Path;
@@ -155,7 +163,24 @@ fn start_settled<O: Order>(
             }
         },
         Strategy::Dict(_) | Strategy::Zoned(_) => unreachable!(),
-        Strategy::Repartition(_) | Strategy::Buffered(_) | Strategy::Collect(_) => unreachable!(),
+        Strategy::Repartition(by) => match blocks_node(alloc, by, dtype) {
+            Ok(node) => start_grouped(alloc, order, by.child(), node, marked, name, eof),
+            Err(error) => {
+                give_up_pointer(order, eof);
+                Err(error)
+            }
+        },
+        Strategy::Buffered(by) => {
+            let node = buffer_node(alloc, by, dtype);
+            start_grouped(alloc, order, by.child(), node, marked, name, eof)
+        }
+        Strategy::Collect(into) => match collect_node(alloc, dtype) {
+            Ok(node) => start_grouped(alloc, order, into.child(), node, marked, name, eof),
+            Err(error) => {
+                give_up_pointer(order, eof);
+                Err(error)
+            }
+        },
         Strategy::Compressing(_) => unreachable!(),
         Strategy::Table(_) => unreachable!(),
     }
@@ -228,7 +253,7 @@ fn start_columns<O: Order>(
         Ok(()) => Ok(waiting(alloc, name, Local::Columns(node, 0), kids)),
         Err(error) => {
             drop(node);
-            refuse_all(kids, order);
+            refuse_started(alloc, kids, order);
             Err(error)
         }
     }
@@ -249,6 +274,7 @@ fn start_each<O: Order>(
     requires owned { Owned (O.active order.old) (both (end_stock eof.old) (tasks_stock kids.old.items)) }
     requires built { IsTrue (is_built (struct_way fields.now)) }
     ensures moved { Moved (O.active order.old) (O.active order.new) (both (end_stock eof.old) (tasks_stock kids.old.items)) (both (end_stock eof.new) (tasks_stock kids.new.items)) }
+    ensures reserved { tasks_reserved kids.new.items ≡ tasks_reserved kids.old.items }
     ensures outlet { O.outlet order.new ≡ O.outlet order.old }
     ensures sink { O.sink order.new ≡ O.sink order.old }
     ensures cause { IfErr result StartMay }
@@ -303,8 +329,86 @@ fn start_lists<O: Order>(
         Ok(()) => Ok(waiting(alloc, name, Local::Lists(node, 0), kids)),
         Err(error) => {
             drop(node);
-            refuse_all(kids, order);
+            refuse_started(alloc, kids, order);
             Err(error)
+        }
+    }
+}
+
+/// The task of a node that regroups, with its only child, which gets the pointer.
+#[cycle(start)]
+fn start_grouped<O: Order>(
+    alloc: Global,
+    order: &mut O,
+    child: &ChildStrategy,
+    node: GroupedNode,
+    marked: bool,
+    name: Path,
+    eof: SequencePointer,
+) -> Result<Task, WriteError>
+    requires owned { Owned (O.active order.old) (end_stock eof) }
+    requires built { IsTrue (is_built child.now.item) }
+    requires fresh { IsFresh node }
+    ensures moved { Moved (O.active order.old) (O.active order.new) (end_stock eof) (ok_stock task_stock result) }
+    ensures outlet { O.outlet order.new ≡ O.outlet order.old }
+    ensures sink { O.sink order.new ≡ O.sink order.old }
+    ensures cause { IfErr result StartMay }
+    ensures shows { (g : Grouping) → Begins g (ty (arc_value node.dtype)) node
+        → IfOk result (Started (grouped_form g (ty (arc_value node.dtype)) (form_at child.now.item (ty (arc_value node.dtype)))) marked name eof) }
+    ensures refused { IfErr result (FormRefused (form_at child.now.item (ty (arc_value node.dtype))) marked eof) }
+{
+    let mut kids = Vec::new(alloc);
+    match start_only(
+        alloc,
+        order,
+        child,
+        &node.dtype,
+        marked,
+        &name,
+        eof,
+        &mut kids,
+    ) {
+        Ok(()) => Ok(waiting(alloc, name, Local::Grouped(node), kids)),
+        Err(error) => {
+            drop_fresh(node);
+            refuse_started(alloc, kids, order);
+            Err(error)
+        }
+    }
+}
+
+/// Starts the only child, with the pointer itself.
+#[cycle(start)]
+fn start_only<O: Order>(
+    alloc: Global,
+    order: &mut O,
+    child: &ChildStrategy,
+    dtype: &Arc<DType>,
+    marked: bool,
+    name: &Path,
+    eof: SequencePointer,
+    kids: &mut Vec<Task>,
+) -> Result<(), WriteError>
+    requires owned { Owned (O.active order.old) (end_stock eof) }
+    requires built { IsTrue (is_built child.now.item) }
+    requires none { kids.old.items ≡ [] }
+    ensures moved { Moved (O.active order.old) (O.active order.new) (end_stock eof) (tasks_stock kids.new.items) }
+    ensures reserved { tasks_reserved kids.new.items ≡ 0 }
+    ensures outlet { O.outlet order.new ≡ O.outlet order.old }
+    ensures sink { O.sink order.new ≡ O.sink order.old }
+    ensures cause { IfErr result StartMay }
+    ensures shows { OnOk result (OnlyStarted (form_at child.now.item (ty (arc_value dtype.now))) marked name.now eof kids.new.items) }
+    ensures refused { IfErr result (FormRefused (form_at child.now.item (ty (arc_value dtype.now))) marked eof) }
+{
+    match child_parts(alloc, name, dtype, kids) {
+        Ok((name, dtype)) => {
+            let kid = start_task(alloc, order, child.strategy(), dtype, marked, name, eof)?;
+            kids.push_reserved(kid);
+            Ok(())
+        }
+        Err(_) => {
+            give_up_pointer(order, eof);
+            Err(WriteError::OutOfMemory)
         }
     }
 }
@@ -325,6 +429,7 @@ fn start_parts<O: Order>(
     requires built { IsTrue (is_built (list_way lists.now)) }
     requires list { IsTrue (is_list (ty dtype.now)) }
     ensures moved { Moved (O.active order.old) (O.active order.new) (both (end_stock eof.old) (tasks_stock kids.old.items)) (both (end_stock eof.new) (tasks_stock kids.new.items)) }
+    ensures reserved { tasks_reserved kids.new.items ≡ tasks_reserved kids.old.items }
     ensures outlet { O.outlet order.new ≡ O.outlet order.old }
     ensures sink { O.sink order.new ≡ O.sink order.old }
     ensures cause { IfErr result StartMay }
@@ -358,6 +463,7 @@ fn start_validity<O: Order>(
     requires owned { Owned (O.active order.old) (both (end_stock eof.old) (tasks_stock kids.old.items)) }
     requires built { IsTrue (is_built validity.now.item) }
     ensures moved { Moved (O.active order.old) (O.active order.new) (both (end_stock eof.old) (tasks_stock kids.old.items)) (both (end_stock eof.new) (tasks_stock kids.new.items)) }
+    ensures reserved { tasks_reserved kids.new.items ≡ tasks_reserved kids.old.items }
     ensures outlet { O.outlet order.new ≡ O.outlet order.old }
     ensures sink { O.sink order.new ≡ O.sink order.old }
     ensures cause { IfErr result StartMay }
@@ -386,6 +492,7 @@ fn start_field<O: Order>(
     requires owned { Owned (O.active order.old) (both (end_stock eof.old) (tasks_stock kids.old.items)) }
     requires built { IsTrue (is_built (struct_way fields.now)) }
     ensures moved { Moved (O.active order.old) (O.active order.new) (both (end_stock eof.old) (tasks_stock kids.old.items)) (both (end_stock eof.new) (tasks_stock kids.new.items)) }
+    ensures reserved { tasks_reserved kids.new.items ≡ tasks_reserved kids.old.items }
     ensures outlet { O.outlet order.new ≡ O.outlet order.old }
     ensures sink { O.sink order.new ≡ O.sink order.old }
     ensures cause { IfErr result StartMay }
@@ -412,6 +519,7 @@ fn start_column<O: Order>(
     requires owned { Owned (O.active order.old) (both (end_stock eof.old) (tasks_stock kids.old.items)) }
     requires built { IsTrue (is_built writer.now.item) }
     ensures moved { Moved (O.active order.old) (O.active order.new) (both (end_stock eof.old) (tasks_stock kids.old.items)) (both (end_stock eof.new) (tasks_stock kids.new.items)) }
+    ensures reserved { tasks_reserved kids.new.items ≡ tasks_reserved kids.old.items }
     ensures outlet { O.outlet order.new ≡ O.outlet order.old }
     ensures sink { O.sink order.new ≡ O.sink order.old }
     ensures cause { IfErr result StartMay }

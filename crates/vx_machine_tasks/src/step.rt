@@ -1,13 +1,16 @@
 //! A step of the k-th ready task.
 
-ghost use Rattle.std.specs.Prelude.{◌<◌, IsTrue, IfOk, IfErr, OnOk, OnErr};
+ghost use Rattle.std.specs.Prelude.{◌≡◌, ◌+◌, ◌<◌, ◌≤◌, IsTrue, IfOk, IfErr, OnOk, OnErr};
 ghost use Rattle.std.specs.FinMap as fin;
 ghost use Rattle.vx_machine_ids.specs.Balance.{Owned, Moved};
 ghost use Rattle.vx_kept.specs.Kept.{Fresh, Knows};
 ghost use Rattle.vx_machine_view.specs.State.{no_tasks};
-ghost use Rattle.vx_machine_tasks.specs.Calls.{TaskTold};
-ghost use Rattle.vx_machine_tasks.specs.Causes.{ActMay};
-ghost use Rattle.vx_machine_tasks.specs.Outcome.{Kept};
+ghost use Rattle.vx_machine_nodes.specs.Calls.{TaskTold};
+ghost use Rattle.vx_machine_nodes.specs.Causes.{ActMay};
+ghost use Rattle.vx_sink.specs.ContextView.{counted as counted_bytes};
+ghost use Rattle.vx_machine_nodes.specs.Ledger.{Paid, told_by};
+ghost use Rattle.vx_machine_tasks.specs.Ledger.{task_reserved, tasks_reserved};
+ghost use Rattle.vx_machine_nodes.specs.Outcome.{Kept};
 ghost use Rattle.vx_machine_tasks.specs.Pairs.{next_pairs, task_pairs, tasks_pairs, AllMay};
 ghost use Rattle.vx_machine_tasks.specs.Ready.{kids_of, may_now, ready_in, ready_among, counted};
 ghost use Rattle.vx_machine_tasks.specs.Steps.{TaskDone, TaskFails};
@@ -38,20 +41,23 @@ impl Task {
     fn act<O: Order>(
         &mut self,
         alloc: Global,
-        ctx: &LayoutWriterContext,
+        ctx: &mut LayoutWriterContext,
         order: &mut O,
         counts: &mut Counts,
     ) -> Result<Did, WriteError>
         requires owned { Owned (O.active order.old) (task_stock self.old) }
+        requires reserved { task_reserved self.old ≤ counted_bytes ctx.old }
         requires known { Knows counts.old (row (out-Task self.old).kids.items) }
         requires ready { IsTrue (may_now (O.active order.old) (out-Task self.old).head (kids_of (out-Task self.old).kids.items)) }
         requires allowed { AllMay (O.may_write order.old) (next_pairs (out-Task self.old).head.todo.items) }
         ensures moved { Moved (O.active order.old) (O.active order.new) (task_stock self.old) (task_stock self.new) }
+        ensures tracked { Paid ctx.old ctx.new (task_reserved self.old) (task_reserved self.new) }
+        ensures context { told_by ctx.new ≡ told_by ctx.old }
         ensures told { TaskTold (O.Sink.faults (O.sink order.old)) (O.Sink.faults (O.sink order.new)) (O.Sink.may_fail (O.sink order.old)) (O.Sink.may_fail (O.sink order.new))
             (O.Sink.must_fail (O.sink order.old)) (O.Sink.must_fail (O.sink order.new)) result (λ did. did.action) }
         ensures cause { IfErr result ActMay }
-        ensures done { IfOk result (λ did. TaskDone ctx.now (fin.keys (O.active order.old)) 0 (O.outlet order.old) (O.outlet order.new) (task_row self.old no_tasks) (task_row self.new no_tasks) did.task did.action) }
-        ensures refused { IfErr result (TaskFails ctx.now (fin.keys (O.active order.old)) 0 (O.outlet order.old) (task_row self.old no_tasks)) }
+        ensures done { IfOk result (λ did. TaskDone ctx.old (fin.keys (O.active order.old)) 0 (O.outlet order.old) (O.outlet order.new) (task_row self.old no_tasks) (task_row self.new no_tasks) did.task did.action) }
+        ensures refused { IfErr result (TaskFails ctx.old (fin.keys (O.active order.old)) 0 (O.outlet order.old) (task_row self.old no_tasks)) }
         ensures kept { OnErr result (Kept (O.outlet order.old) (O.outlet order.new)) }
         ensures known { OnOk result (Knows counts.new (row (out-Task self.new).kids.items)) }
     {
@@ -71,21 +77,24 @@ impl Task {
     pub fn step<O: Order>(
         &mut self,
         alloc: Global,
-        ctx: &LayoutWriterContext,
+        ctx: &mut LayoutWriterContext,
         order: &mut O,
         k: u64,
         counts: &mut Counts,
     ) -> Result<Did, WriteError>
         requires owned { Owned (O.active order.old) (task_stock self.old) }
+        requires reserved { task_reserved self.old ≤ counted_bytes ctx.old }
         requires fresh { Fresh (fin.keys (O.active order.old)) counts.old (row (out-Task self.old).kids.items) }
         requires there { k < counted (ready_in (O.active order.old) self.old) }
         requires allowed { AllMay (O.may_write order.old) (task_pairs self.old) }
         ensures moved { Moved (O.active order.old) (O.active order.new) (task_stock self.old) (task_stock self.new) }
+        ensures tracked { Paid ctx.old ctx.new (task_reserved self.old) (task_reserved self.new) }
+        ensures context { told_by ctx.new ≡ told_by ctx.old }
         ensures told { TaskTold (O.Sink.faults (O.sink order.old)) (O.Sink.faults (O.sink order.new)) (O.Sink.may_fail (O.sink order.old)) (O.Sink.may_fail (O.sink order.new))
             (O.Sink.must_fail (O.sink order.old)) (O.Sink.must_fail (O.sink order.new)) result (λ did. did.action) }
         ensures cause { IfErr result ActMay }
-        ensures done { IfOk result (λ did. TaskDone ctx.now (fin.keys (O.active order.old)) k (O.outlet order.old) (O.outlet order.new) (task_row self.old no_tasks) (task_row self.new no_tasks) did.task did.action) }
-        ensures refused { IfErr result (TaskFails ctx.now (fin.keys (O.active order.old)) k (O.outlet order.old) (task_row self.old no_tasks)) }
+        ensures done { IfOk result (λ did. TaskDone ctx.old (fin.keys (O.active order.old)) k (O.outlet order.old) (O.outlet order.new) (task_row self.old no_tasks) (task_row self.new no_tasks) did.task did.action) }
+        ensures refused { IfErr result (TaskFails ctx.old (fin.keys (O.active order.old)) k (O.outlet order.old) (task_row self.old no_tasks)) }
         ensures kept { OnErr result (Kept (O.outlet order.old) (O.outlet order.new)) }
         ensures known { OnOk result (Knows counts.new (row (out-Task self.new).kids.items)) }
     {
@@ -102,21 +111,24 @@ impl Task {
 fn step_kids<O: Order>(
     kids: &mut [Task],
     alloc: Global,
-    ctx: &LayoutWriterContext,
+    ctx: &mut LayoutWriterContext,
     order: &mut O,
     k: u64,
     counts: &mut Counts,
 ) -> Result<Did, WriteError>
     requires owned { Owned (O.active order.old) (tasks_stock kids.old) }
+    requires reserved { tasks_reserved kids.old ≤ counted_bytes ctx.old }
     requires fresh { Fresh (fin.keys (O.active order.old)) counts.old (row kids.old) }
     requires there { k < counted (ready_among (O.active order.old) kids.old) }
     requires allowed { AllMay (O.may_write order.old) (tasks_pairs kids.old) }
     ensures moved { Moved (O.active order.old) (O.active order.new) (tasks_stock kids.old) (tasks_stock kids.new) }
+    ensures tracked { Paid ctx.old ctx.new (tasks_reserved kids.old) (tasks_reserved kids.new) }
+    ensures context { told_by ctx.new ≡ told_by ctx.old }
     ensures told { TaskTold (O.Sink.faults (O.sink order.old)) (O.Sink.faults (O.sink order.new)) (O.Sink.may_fail (O.sink order.old)) (O.Sink.may_fail (O.sink order.new))
         (O.Sink.must_fail (O.sink order.old)) (O.Sink.must_fail (O.sink order.new)) result (λ did. did.action) }
     ensures cause { IfErr result ActMay }
-    ensures done { IfOk result (λ did. TaskDone ctx.now (fin.keys (O.active order.old)) k (O.outlet order.old) (O.outlet order.new) (row kids.old) (row kids.new) did.task did.action) }
-    ensures refused { IfErr result (TaskFails ctx.now (fin.keys (O.active order.old)) k (O.outlet order.old) (row kids.old)) }
+    ensures done { IfOk result (λ did. TaskDone ctx.old (fin.keys (O.active order.old)) k (O.outlet order.old) (O.outlet order.new) (row kids.old) (row kids.new) did.task did.action) }
+    ensures refused { IfErr result (TaskFails ctx.old (fin.keys (O.active order.old)) k (O.outlet order.old) (row kids.old)) }
     ensures kept { OnErr result (Kept (O.outlet order.old) (O.outlet order.new)) }
     ensures known { OnOk result (Knows counts.new (row kids.new)) }
 {

@@ -18,7 +18,7 @@ use Rattle.vx_plan.specs.ColumnNodes.{elements_in}
 use Rattle.vx_plan.specs.FlatNode.{segment, inlined}
 use Rattle.vx_machine_turns.specs.Forms.{Writer, chunked_form, form_type}
 use Rattle.vx_machine_turns.specs.Locals.{ChunkedNode, StructNode, ListNode, Local, flat_empty, flat_full, chunked_local, struct_local, list_local}
-use Rattle.vx_machine_turns.specs.Acts.{Seed, Act, alone, gathers, struct_of, list_of, does, put_item, close_queues, born, shape_in, numbers_in}
+use Rattle.vx_machine_turns.specs.Acts.{Seed, Act, alone, gathers, struct_of, list_of, does, put_item, close_queues, born, shape_in, gifts, numbers_in}
 use Rattle.vx_machine_turns.specs.Columns.{column_puts, column_ends}
 use Rattle.vx_machine_turns.specs.Flat.{forbidden}
 use Rattle.vx_machine_turns.specs.Struct.{struct_end}
@@ -36,11 +36,11 @@ use Rattle.vx_machine_view.specs.Acts.{count, add, give, do_act, end_columns, en
 use Rattle.vx_machine_view.specs.Moves.{has_room, may_act, own_step}
 use Rattle.vx_machine_view.specs.Built.{Built, field_types, column_types, list_types}
 use Rattle.vx_machine_view.specs.Typed.{Typed, AllTyped, EachTyped}
-use Rattle.vx_machine_view.specs.Shows.{Hands, Counted, Stage, waits_end, appends, splits, gathers_all, hands, hands_lists, shuts, Done, Shows, append_of, laid, rows_of, types_of, task_rows, shape_rows}
+use Rattle.vx_machine_view.specs.Shows.{Hands, Counted, Stage, waits_end, appends, splits, gathers_all, hands, hands_lists, shuts, Done, Shows, append_of, laid, rows_of, types_of, task_rows, local_rows, shape_rows}
 use Rattle.vx_machine_view.specs.Steps.{AllPairs, Steady, SameStep}
 use Rattle.vx_machine_view.proofs.Words.{true_false, numbers_in-append, shape_last, type_fits, columns_each, lists_each, each_length}
 use Rattle.vx_machine_view.proofs.Feeding.{opened_none, Leaves, feed_none, feed_types, no_tree, count_types, count-add, none_counted, room_is, given, one_more, rows_one_more}
-use Rattle.vx_machine_view.proofs.Beginning.{task_begun, first_rows, opened_is}
+use Rattle.vx_machine_view.proofs.Beginning.{task_begun, fresh_rows, opened_is}
 
 shorter : (before : List Ty) (t : Ty) (ts : List Ty) (j : ℕ) → length before ≡ j → j < length (before ++ (t ∷ ts))
 shorter before t ts j e = let h : length (before ++ (t ∷ ts)) ≡ length before + suc (length ts) = length-append before (t ∷ ts) in omega (arith, h, e)
@@ -106,7 +106,7 @@ chunk_fed s number (fuel g) q n e x a ks hs en b sp f ty k nm gs sh st =
           (started_task n.child n.mark (under n.name (count ks)) (inside e) (x ∷ []) true) hs k c gs sh st
           (task_begun s number g q (count ks) n.child n.mark (under n.name (count ks)) (inside e) (x ∷ []) true sp (subst (λ z. Typed z x.1) (sym b.0) ty, tt) b.1 f en)),
       rows_one_more s number g q 0 (count ks) a x (seed_of n.child n.mark (under n.name (count ks)) (inside e)) ks hs k c gs st
-          (first_rows n.child n.mark (under n.name (count ks)) (inside e) x b.1),
+          (fresh_rows n.child n.mark (under n.name (count ks)) (inside e) (g (form_type n.child)) b.1),
     )
 
 -- rows that were counted before an act or by it
@@ -151,14 +151,21 @@ module _ (s : Setting) (number : List ℕ → ℕ) (segment_number : ℕ) (all :
       → Done number mind left kids (past ++ (a ∷ [])) todo over (feed (less d q.type) a 0 hs) → Then mind left kids a todo l over xs closed
   then_done mind left kids a todo l over xs closed pl sm ty w = (record { name = refl; inbox = refl; closed = refl; places = pl; typed = ty }, inr w, sm)
 
+  pub then_same : (c : Desk) (mind : Mind) (left : List Next) (kids : Tasks) (h : Head) (a : Act) (todo : List Act) (l : Local) (over : Bool) (xs : List Item) (closed : Bool)
+      → task_rows over l (past ++ (a ∷ [])) (row_total (gifts 0 todo) + rows_of (feed (less d q.type) a 0 hs)) + row_total xs ≡ task_rows h.over h.local h.past (row_total (gifts 0 h.todo) + rows_of hs) + row_total h.inbox
+      → q.type ≡ h.seed.type → Stays c mind left kids h a todo l over xs closed
+  then_same c mind left kids h a todo l over xs closed e t = record { count_is = refl; rows_are = ap (λ z. z + rows_of r) e; types_are = ap (λ z. z ∷ types_of r) t }
+
+  -- where its rows aren't those below it
   pub then_steady : (c : Desk) (mind : Mind) (left : List Next) (kids : Tasks) (h : Head) (a : Act) (todo : List Act) (l : Local) (over : Bool) (xs : List Item) (closed : Bool)
-      → task_rows over l (past ++ (a ∷ [])) xs ≡ task_rows h.over h.local h.past h.inbox → q.type ≡ h.seed.type → Stays c mind left kids h a todo l over xs closed
-  then_steady c mind left kids h a todo l over xs closed e t = record { count_is = refl; rows_are = ap (λ z. z + rows_of r) e; types_are = ap (λ z. z ∷ types_of r) t }
+      → ((u v : ℕ) → task_rows over l (past ++ (a ∷ [])) u + row_total xs ≡ task_rows h.over h.local h.past v + row_total h.inbox) → q.type ≡ h.seed.type → Stays c mind left kids h a todo l over xs closed
+  then_steady c mind left kids h a todo l over xs closed e t =
+      then_same c mind left kids h a todo l over xs closed (e (row_total (gifts 0 todo) + rows_of (feed (less d q.type) a 0 hs)) (row_total (gifts 0 h.todo) + rows_of hs)) t
 
   -- ---- flat
 
   module _ (law : Lawful s.codec s.encodings) (pl : places ≡ 1 + get_or q0.spare j0 0) (sm : Shows s number d q0 (suc j0) more r) (kids : Shows s number (less d q.type) q 0 ks hs) where
-    still : (a : Act) → Leaves a 0 → Shows s number (less d q.type) q 0 ks (feed (less d q.type) a 0 hs)
+    pub still : (a : Act) → Leaves a 0 → Shows s number (less d q.type) q 0 ks (feed (less d q.type) a 0 hs)
     still a l = subst (Shows s number (less d q.type) q 0 ks) (sym (feed_none (less d q.type) a 0 hs l)) kids
 
     pub bare : (a : Act) → Leaves a 0 → ks ≡ no_tasks → feed (less d q.type) a 0 hs ≡ Leaf
@@ -178,7 +185,7 @@ module _ (s : Setting) (number : List ℕ → ℕ) (segment_number : ℕ) (all :
               (waits_end o t x bytes nk (record { mind_is = ap (stored t x (inlined s o x)) e; local_is = ap (flat_full o t x) e; idle = refl; rest = refl; on = refl; unshaped = shape_last past (take_first s (flat_empty o t) x) un }))
               (still (take_first s (flat_empty o t) x) (record { gives = λ i l. refl; shuts = λ i l. refl; starts = refl })),
           then_steady (desk (no_chunk o t) [] (x ∷ xs) closed) (stored t x (inlined s o x) (segment s o x)) [] ks (head past [] (flat_empty o t) false (x ∷ xs) closed) (take_first s (flat_empty o t) x) [] (flat_full o t x (segment s o x)) false xs closed
-              (let h : rows_in x.1 + row_total xs ≡ 0 + (rows_in x.1 + row_total xs) = omega arith in h) refl,
+              (λ u v. let h : rows_in x.1 + row_total xs ≡ 0 + (rows_in x.1 + row_total xs) = omega arith in h) refl,
         )
 
     pub first_own : (o : FlatOptions) (t : Ty) → ks ≡ no_tasks → shape_in past ≡ None → (xs : List Item) (closed : Bool) → AllTyped q.type xs
@@ -193,7 +200,8 @@ module _ (s : Setting) (number : List ℕ → ℕ) (segment_number : ℕ) (all :
         numbers = refl;
         indices = sym (opened_none (less d q.type));
         wrote = refl;
-        untracked = (refl, refl);
+        raises = refl;
+        lowers = refl;
         after = λ f n. (
           then_done (made (gathered t 0 [])) [] ks (end_first s (flat_empty o t)) [] (flat_empty o t) true [] true pl sm tt (record {
             layout = gathered t 0 [];
@@ -205,10 +213,10 @@ module _ (s : Setting) (number : List ℕ → ℕ) (segment_number : ℕ) (all :
             below = ap all_over (bare (end_first s (flat_empty o t)) (record { gives = λ i l. refl; shuts = λ i l. refl; starts = refl }) nk);
             free = ap all_paths (bare (end_first s (flat_empty o t)) (record { gives = λ i l. refl; shuts = λ i l. refl; starts = refl }) nk);
             laid_is = ap (λ z. map (renamed number) (shaped z (laid (feed (less d q.type) (end_first s (flat_empty o t)) 0 hs)))) (shape_last past (end_first s (flat_empty o t)) un);
-            rows_are = sym (ap shape_rows (shape_last past (end_first s (flat_empty o t)) un));
+            rows_are = λ u. sym (ap (λ z. shape_rows z u) (shape_last past (end_first s (flat_empty o t)) un));
           }),
           then_steady (desk (no_chunk o t) [] [] true) (made (gathered t 0 [])) [] ks (head past [] (flat_empty o t) false [] true) (end_first s (flat_empty o t)) [] (flat_empty o t) true [] true
-              (ap shape_rows (shape_last past (end_first s (flat_empty o t)) un)) refl,
+              (λ u v. ap (λ z. shape_rows z u + 0) (shape_last past (end_first s (flat_empty o t)) un)) refl,
         );
       },
       tt,
@@ -222,7 +230,8 @@ module _ (s : Setting) (number : List ℕ → ℕ) (segment_number : ℕ) (all :
         numbers = refl;
         indices = sym (opened_none (less d q.type));
         wrote = refl;
-        untracked = (refl, refl);
+        raises = refl;
+        lowers = refl;
         after = λ f n. first_taken o t x xs closed nk un ty.1 f;
       },
       tt,
@@ -240,7 +249,8 @@ module _ (s : Setting) (number : List ℕ → ℕ) (segment_number : ℕ) (all :
         numbers = refl;
         indices = sym (opened_none (less d q.type));
         wrote = refl;
-        untracked = (refl, refl);
+        raises = refl;
+        lowers = refl;
         after = λ f n. absurd (true_false f);
       },
       tt,
@@ -257,13 +267,14 @@ module _ (s : Setting) (number : List ℕ → ℕ) (segment_number : ℕ) (all :
             numbers = refl;
             indices = sym (opened_none (less d q.type));
             wrote = refl;
-            untracked = (refl, refl);
+            raises = refl;
+            lowers = refl;
             after = λ f n. (
               then_open ending (append x ∷ []) ks (end_first s l) (append_of x ∷ []) l true [] true pl sm tt
                   (appends x nk (record { mind_is = refl; left_is = refl; rest = refl; off = refl; shape_is = sh }))
                   (still (end_first s l) (record { gives = λ i l. refl; shuts = λ i l. refl; starts = refl })),
               then_steady (desk (one_chunk x) [] [] true) ending (append x ∷ []) ks (head past [] l false [] true) (end_first s l) (append_of x ∷ []) l true [] true
-                  (ap shape_rows sh ∙ (let h : rows_in i.1 ≡ rows_in i.1 + 0 = omega arith in h)) refl,
+                  (λ u v. ap (λ z. shape_rows z u + 0) sh) refl,
             );
           },
           tt,
@@ -288,7 +299,8 @@ module _ (s : Setting) (number : List ℕ → ℕ) (segment_number : ℕ) (all :
             numbers = refl;
             indices = sym (opened_none (less d q.type));
             wrote = refl;
-            untracked = (refl, refl);
+            raises = refl;
+            lowers = refl;
             after = λ f k. (
               then_open ending (join_kids (fold_chunks n.type) ∷ []) ks (end_first s l) (does Join ∷ []) l true [] true pl sm tt
                   (gathers_all n.type (subst (Counted (past ++ (end_first s l ∷ []))) (ap rows_of (sym (feed_none (less d q.type) (end_first s l) 0 hs none))) (counted_before past (end_first s l) (rows_of hs) ct)) (record {
@@ -299,7 +311,7 @@ module _ (s : Setting) (number : List ℕ → ℕ) (segment_number : ℕ) (all :
                     shape_is = sh ∙ ap (λ z. Some (gathers n.type (rows_of z))) (sym (feed_none (less d q.type) (end_first s l) 0 hs none));
                   })) (still (end_first s l) none),
               then_steady (desk m [] [] true) ending (join_kids (fold_chunks n.type) ∷ []) ks (head past [] l false [] true) (end_first s l) (does Join ∷ []) l true [] true
-                  (ap shape_rows sh ∙ (let h : rows_of hs ≡ rows_of hs + 0 = omega arith in h)) refl,
+                  (λ u v. ap (λ z. shape_rows z u + 0) sh) refl,
             );
           },
           tt,
@@ -319,7 +331,8 @@ module _ (s : Setting) (number : List ℕ → ℕ) (segment_number : ℕ) (all :
             numbers = refl;
             indices = ap (λ z. (e.last + 1) ∷ z) (sym (chunk_opened (less d q.type) n (count ks) e en b));
             wrote = refl;
-            untracked = (refl, refl);
+            raises = refl;
+            lowers = refl;
             after = λ f k.
                 let w : Shows s number (less d q.type) q 0 (add ks new) (feed (less d q.type) a 0 hs) × (rows_of (feed (less d q.type) a 0 hs) ≡ rows_of hs + rows_in x.1) =
                 chunk_fed s number (less d q.type) q n e x a ks hs en b sp (no_refusal (start_fault s n.child n.mark) f) (subst (λ z. Typed z x.1) t ty.0) kids nm refl refl refl in (
@@ -333,7 +346,7 @@ module _ (s : Setting) (number : List ℕ → ℕ) (segment_number : ℕ) (all :
                         unshaped = shape_last past a un;
                       })) w.0,
                   then_steady (desk m [] (x ∷ xs) closed) m2 [] (add ks new) (head past [] l false (x ∷ xs) closed) a [] l2 false xs closed
-                      (let h : (rows_of hs + rows_in x.1) + row_total xs ≡ rows_of hs + (rows_in x.1 + row_total xs) = omega arith in h) refl,
+                      (λ u v. let h : (rows_of hs + rows_in x.1) + row_total xs ≡ rows_of hs + (rows_in x.1 + row_total xs) = omega arith in h) refl,
                 );
           },
           tt,
@@ -346,11 +359,11 @@ module _ (s : Setting) (number : List ℕ → ℕ) (segment_number : ℕ) (all :
     Going m l types = (left : List Next) (kids : Tasks) (done todo : List Act) (deep : Tree) (j : ℕ) (p : List ℕ) (xs : List ChunkData) (ws : List Writer)
         → Hands m left done todo l false deep m l types j p xs ws → Stage s (less d q.type) m left kids q done todo l false deep
 
-    pub put_own : (m : Mind) (l : Local) (types : List Ty) → Going m l types → (j : ℕ) (p : List ℕ) (x : ChunkData) (ps : List ChunkData) (w : Writer) (ws : List Writer) (before : List Ty) (t : Ty) (ts : List Ty)
+    pub put_own : (m : Mind) (l : Local) (types : List Ty) → Going m l types → ((u v : ℕ) → local_rows l u ≡ local_rows l v) → (j : ℕ) (p : List ℕ) (x : ChunkData) (ps : List ChunkData) (w : Writer) (ws : List Writer) (before : List Ty) (t : Ty) (ts : List Ty)
         → types_of hs ≡ types → types ≡ before ++ (t ∷ ts) → length before ≡ j → Typed t x → EachTyped ts ps → length ws ≡ length ps → shape_in past ≡ None
         → (xs : List Item) (closed : Bool) → AllTyped q.type xs
         → Own m (puts j p (x ∷ ps)) (filled [] (column_puts j p (x ∷ ps) (w ∷ ws))) l false xs closed
-    put_own m l types going j p x ps w ws before t ts below split place tx tps same un xs closed ty =
+    put_own m l types going own j p x ps w ws before t ts below split place tx tps same un xs closed ty =
         let a : Act = with_holds (all_uses (column_puts (suc j) p ps ws) ++ []) (put_item j (under p j, x)) in
         one_pair
         (SameStep s number segment_number d q0 j0 (task_then (desk m (puts j p (x ∷ ps)) xs closed) ks more) (Work (head past (filled [] (column_puts j p (x ∷ ps) (w ∷ ws))) l false xs closed) hs r))
@@ -365,7 +378,8 @@ module _ (s : Setting) (number : List ℕ → ℕ) (segment_number : ℕ) (all :
           numbers = refl;
           indices = sym (opened_none (less d q.type));
           wrote = refl;
-          untracked = (refl, refl);
+          raises = refl;
+          lowers = refl;
           after = λ f y. (
             then_open m (puts (suc j) p ps) (give j (under p j, x) ks) a (filled [] (column_puts (suc j) p ps ws)) l false xs closed pl sm ty
                 (going (puts (suc j) p ps) (give j (under p j, x) ks) (past ++ (a ∷ [])) (filled [] (column_puts (suc j) p ps ws)) (feed (less d q.type) a 0 hs) (suc j) p ps ws (record {
@@ -385,7 +399,7 @@ module _ (s : Setting) (number : List ℕ → ℕ) (segment_number : ℕ) (all :
                 }))
                 (given s number (less d q.type) q 0 j j a (under p j, x) t before ts ks hs kids (below ∙ split) place tx (let h : j ≡ 0 + j = omega arith in h) refl refl refl),
             then_steady (desk m (puts j p (x ∷ ps)) xs closed) m (puts (suc j) p ps) (give j (under p j, x) ks) (head past (filled [] (column_puts j p (x ∷ ps) (w ∷ ws))) l false xs closed) a
-                (filled [] (column_puts (suc j) p ps ws)) l false xs closed refl refl,
+                (filled [] (column_puts (suc j) p ps ws)) l false xs closed (λ u v. ap (λ z. z + row_total xs) (own u v)) refl,
           );
         })
 
@@ -426,7 +440,8 @@ module _ (s : Setting) (number : List ℕ → ℕ) (segment_number : ℕ) (all :
           numbers = refl;
           indices = sym (opened_none (less d q.type));
           wrote = refl;
-          untracked = (refl, refl);
+          raises = refl;
+          lowers = refl;
           after = λ f k. (
             then_done (made (struct_layout (struct n.fields n.nullable) rows [])) [] ks a [] l true [] true pl sm tt (record {
               layout = struct_layout (struct n.fields n.nullable) rows [];
@@ -438,10 +453,10 @@ module _ (s : Setting) (number : List ℕ → ℕ) (segment_number : ℕ) (all :
               below = ap all_over lf;
               free = ap all_paths lf;
               laid_is = ap (λ z. map (renamed number) (shaped z (laid (feed (less d q.type) a 0 hs)))) sh ∙ ap (λ z. map (renamed number) (struct_layout (struct n.fields n.nullable) rows (laid z) ∷ [])) lf;
-              rows_are = sym (ap shape_rows sh);
+              rows_are = λ u. sym (ap (λ z. shape_rows z u) sh);
             }),
             then_steady (desk m [] [] true) (made (struct_layout (struct n.fields n.nullable) rows [])) [] ks (head past [] l false [] true) a [] l true [] true
-                (ap shape_rows sh ∙ (let h : rows ≡ rows + 0 = omega arith in h)) refl,
+                (λ u v. ap (λ z. shape_rows z u + 0) sh) refl,
           );
         }
 
@@ -462,7 +477,8 @@ module _ (s : Setting) (number : List ℕ → ℕ) (segment_number : ℕ) (all :
           numbers = refl;
           indices = sym (opened_none (less d q.type));
           wrote = refl;
-          untracked = (refl, refl);
+          raises = refl;
+          lowers = refl;
           after = λ f k. (
             then_open ending (shut_kids ∷ join_kids (fold_columns t rows) ∷ []) ks a (close_queues (numbers 0 (length (w ∷ ws))) ∷ does Join ∷ []) l true [] true pl sm tt
                 (shuts t rows cc' (record {
@@ -473,7 +489,7 @@ module _ (s : Setting) (number : List ℕ → ℕ) (segment_number : ℕ) (all :
                   shape_is = sh;
                 })) (still a none),
             then_steady (desk m [] [] true) ending (shut_kids ∷ join_kids (fold_columns t rows) ∷ []) ks (head past [] l false [] true) a (close_queues (numbers 0 (length (w ∷ ws))) ∷ does Join ∷ []) l true [] true
-                (ap shape_rows sh ∙ (let h : rows ≡ rows + 0 = omega arith in h)) refl,
+                (λ u v. ap (λ z. shape_rows z u + 0) sh) refl,
           );
         }
 
@@ -517,7 +533,8 @@ module _ (s : Setting) (number : List ℕ → ℕ) (segment_number : ℕ) (all :
             numbers = refl;
             indices = ap (λ z. z ∷ []) (columns_counted n.fields n.nullable ∙ sym many) ∙ ap (λ z. length n.writers ∷ z) (sym (opened_none (less d q.type)));
             wrote = refl;
-            untracked = (refl, refl);
+            raises = refl;
+            lowers = refl;
             after = λ f k. (
               then_open (by_column t (rows + rows_in x.1)) (puts 0 x.0 (struct_columns n.fields n.nullable x.1)) ks a (take_more s l x) (struct_local n (rows + rows_in x.1)) false xs closed pl sm ty.1
                   (hands n (rows + rows_in x.1) 0 x.0 (struct_columns n.fields n.nullable x.1) n.writers is_type many (record {
@@ -536,7 +553,7 @@ module _ (s : Setting) (number : List ℕ → ℕ) (segment_number : ℕ) (all :
                     same = many ∙ sym (each_length (column_types n.fields n.nullable) (struct_columns n.fields n.nullable x.1) each);
                   })) (still a none),
               then_steady (desk m [] (x ∷ xs) closed) (by_column t (rows + rows_in x.1)) (puts 0 x.0 (struct_columns n.fields n.nullable x.1)) ks (head past [] l false (x ∷ xs) closed) a (take_more s l x)
-                  (struct_local n (rows + rows_in x.1)) false xs closed (let h : (rows + rows_in x.1) + row_total xs ≡ rows + (rows_in x.1 + row_total xs) = omega arith in h) refl,
+                  (struct_local n (rows + rows_in x.1)) false xs closed (λ u v. let h : (rows + rows_in x.1) + row_total xs ≡ rows + (rows_in x.1 + row_total xs) = omega arith in h) refl,
             );
           },
           tt,
@@ -580,7 +597,8 @@ module _ (s : Setting) (number : List ℕ → ℕ) (segment_number : ℕ) (all :
           numbers = refl;
           indices = sym (opened_none (less d q.type));
           wrote = refl;
-          untracked = (refl, refl);
+          raises = refl;
+          lowers = refl;
           after = λ f k. (
             then_open ending (shut_kids ∷ join_kids (fold_columns t rows) ∷ []) ks a (close_queues (numbers 0 (length (w ∷ ws))) ∷ does Join ∷ []) l true [] true pl sm tt
                 (shuts t rows cc' (record {
@@ -591,7 +609,7 @@ module _ (s : Setting) (number : List ℕ → ℕ) (segment_number : ℕ) (all :
                   shape_is = sh;
                 })) (still a none),
             then_steady (desk m [] [] true) ending (shut_kids ∷ join_kids (fold_columns t rows) ∷ []) ks (head past [] l false [] true) a (close_queues (numbers 0 (length (w ∷ ws))) ∷ does Join ∷ []) l true [] true
-                (ap shape_rows sh ∙ (let h : rows ≡ rows + 0 = omega arith in h)) refl,
+                (λ u v. ap (λ z. shape_rows z u + 0) sh) refl,
           );
         }
 
@@ -609,7 +627,8 @@ module _ (s : Setting) (number : List ℕ → ℕ) (segment_number : ℕ) (all :
         numbers = refl;
         indices = sym (opened_none (less d q.type));
         wrote = refl;
-        untracked = (refl, refl);
+        raises = refl;
+        lowers = refl;
         after = λ f k. absurd (true_false f);
       },
       tt,
@@ -639,7 +658,8 @@ module _ (s : Setting) (number : List ℕ → ℕ) (segment_number : ℕ) (all :
             numbers = refl;
             indices = ap (λ z. z ∷ []) (lists_counted n.elements n.nullable ∙ sym many) ∙ ap (λ z. length n.writers ∷ z) (sym (opened_none (less d q.type)));
             wrote = refl;
-            untracked = (refl, refl);
+            raises = refl;
+            lowers = refl;
             after = λ f k. (
               then_open (by_list n.elements n.nullable false (from + elements_in x.1) (rows + rows_in x.1)) (puts 0 x.0 cs) ks a (take_more s l x)
                   (list_local n false (from + elements_in x.1) (rows + rows_in x.1)) false xs closed pl sm ty.1
@@ -659,7 +679,7 @@ module _ (s : Setting) (number : List ℕ → ℕ) (segment_number : ℕ) (all :
                     same = many ∙ sym (each_length ts cs each);
                   })) (still a none),
               then_steady (desk m [] (x ∷ xs) closed) (by_list n.elements n.nullable false (from + elements_in x.1) (rows + rows_in x.1)) (puts 0 x.0 cs) ks (head past [] l false (x ∷ xs) closed) a (take_more s l x)
-                  (list_local n false (from + elements_in x.1) (rows + rows_in x.1)) false xs closed (let h : (rows + rows_in x.1) + row_total xs ≡ rows + (rows_in x.1 + row_total xs) = omega arith in h) refl,
+                  (list_local n false (from + elements_in x.1) (rows + rows_in x.1)) false xs closed (λ u v. let h : (rows + rows_in x.1) + row_total xs ≡ rows + (rows_in x.1 + row_total xs) = omega arith in h) refl,
             );
           },
           tt,

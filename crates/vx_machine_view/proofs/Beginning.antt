@@ -1,22 +1,25 @@
 -- A form's task shows the abstract one at its start, with all that is started with it.
 use Rattle.std.proofs.Common.{◌≡◌, ◌+◌, ◌||◌, ◌∷◌, ◌++◌, ◌∙◌, ℕ, suc, Bool, true, false, List, length, refl, sym, ap, subst, inl, arith, append_assoc, append-nil, get_or, Some, None, []}
 use Rattle.vx_model.specs.Ty.{Ty, Tys, boolean, list, struct, no_fields, field}
+use Rattle.vx_model.specs.ChunkData.{ChunkData, held}
 use Rattle.vx_path.specs.Path.{Eof, under, inside, next}
+use Rattle.vx_rules.specs.Blocks.{block_len}
 use Rattle.vx_rules.specs.Columns.{offset_type}
-use Rattle.vx_plan.specs.PlanData.{Setting, Item, not_struct, duplicate_field, rows_in}
+use Rattle.vx_strategy_spec.specs.StrategyData.{Grouping, by_blocks, by_bytes, into_one}
+use Rattle.vx_plan.specs.PlanData.{Setting, Item, not_struct, duplicate_field}
 use Rattle.vx_machine_turns.specs.Forms.{Form, Forms, flat_form, chunked_form, grouped_form, compressed_form, dict_form, zoned_form, no_struct_form, struct_form, list_form, no_forms, form_then, form_type, Writer}
-use Rattle.vx_machine_turns.specs.Locals.{struct_local, list_local}
+use Rattle.vx_machine_turns.specs.Locals.{GroupedNode, Local, struct_local, list_local, blocks_local, bytes_local, collect_local}
 use Rattle.vx_machine_turns.specs.Acts.{Seed, or_else}
 use Rattle.vx_machine_turns.specs.Columns.{column_seeds}
 use Rattle.vx_machine_turns.specs.Starts.{start_fault, start_faults, marked_forms, local_of, seed_of}
 use Rattle.vx_machine_turns.specs.Turns.{firsts, start_indices}
 use Rattle.vx_machine_turns.specs.Fuels.{Fuel, spent, fuel, Enough, AllEnough}
 use Rattle.vx_machine_steps.specs.Tree.{Tree, Leaf, Work, fresh, quiet, sprout, opened}
-use Rattle.vx_machine_view.specs.State.{by_column, by_list, Tasks, no_tasks, task_then}
+use Rattle.vx_machine_view.specs.State.{Mind, by_column, by_list, by_block, by_size, as_one, Tasks, no_tasks, task_then}
 use Rattle.vx_machine_view.specs.Start.{first_mind, first_kids, field_tasks, waiting, form_count, first_indices, field_indices, started_task}
 use Rattle.vx_machine_view.specs.Built.{Built, AllBuilt, field_types, column_types, list_types}
 use Rattle.vx_machine_view.specs.Typed.{AllTyped}
-use Rattle.vx_machine_view.specs.Shows.{Alike, Stage, waits_first, splits, hands, hands_lists, Shows, types_of, task_rows}
+use Rattle.vx_machine_view.specs.Shows.{Alike, Groups, Stage, waits_first, splits, hands, hands_lists, regroups_rows, regroups_chunks, collects, Shows, rows_of, types_of, local_rows}
 use Rattle.vx_machine_view.proofs.Words.{none_some, or_none}
 use Rattle.vx_machine_view.proofs.Feeding.{sprout_none, opened_none}
 
@@ -91,6 +94,29 @@ module _ (s : Setting) (number : List ℕ → ℕ) where
     same = refl;
   })
 
+  groups_begun : (q : Seed) (hs : Tree) (mind : Mind) (l : Local) (t : Ty) (weight : ChunkData → ℕ) → q.type ≡ t → types_of hs ≡ t ∷ [] → Groups mind [] q [] [] l false hs mind l t weight [] []
+  groups_begun q hs mind l t weight ty k = record { mind_is = refl; local_is = refl; left_is = refl; rest = refl; on = refl; unshaped = refl; type_is = ty; kids = k; typed = tt }
+
+  groups_stage : (r : Grouping) (t : Ty) (k : Form) (m : Bool) (name : List ℕ) (e : Eof) (d : Fuel) (hs : Tree) (ks : Tasks) → form_type k ≡ t → types_of hs ≡ form_type k ∷ []
+      → Stage s d (first_mind (grouped_form r t k) m e) [] ks (seed_of (grouped_form r t k) m name e) [] [] (local_of (grouped_form r t k) m name e) false hs
+  groups_stage (by_blocks o) t k m name e d hs ks ty one =
+      let n : GroupedNode = record { name = name; mark = m; type = t; child = k; eof = e } in
+      regroups_rows o n [] None 0 [] tt refl
+      (groups_begun (seed_of (grouped_form (by_blocks o) t k) m name e) hs (by_block (block_len o t) o.minimum t [] None 0) (blocks_local o n [] None 0) t (λ p. 0) ty (one ∙ ap (λ z. z ∷ []) ty))
+  groups_stage (by_bytes size) t k m name e d hs ks ty one =
+      let n : GroupedNode = record { name = name; mark = m; type = t; child = k; eof = e } in
+      regroups_chunks size n [] None 0 [] tt tt refl
+      (groups_begun (seed_of (grouped_form (by_bytes size) t k) m name e) hs (by_size size [] None 0) (bytes_local size n [] None 0) t held ty (one ∙ ap (λ z. z ∷ []) ty))
+  groups_stage into_one t k m name e d hs ks ty one =
+      let n : GroupedNode = record { name = name; mark = m; type = t; child = k; eof = e } in
+      collects n None 0 (groups_begun (seed_of (grouped_form into_one t k) m name e) hs (as_one t None 0) (collect_local n None 0) t (λ p. 0) ty (one ∙ ap (λ z. z ∷ []) ty))
+
+  -- its child is started with it
+  groups_kid : (r : Grouping) (t : Ty) (k : Form) (m : Bool) (name : List ℕ) (e : Eof) → firsts (seed_of (grouped_form r t k) m name e) ≡ seed_of k m (under name 0) e ∷ []
+  groups_kid (by_blocks o) t k m name e = refl
+  groups_kid (by_bytes size) t k m name e = refl
+  groups_kid into_one t k m name e = refl
+
   mutual
     pub begun : (f : Form) (m : Bool) (name : List ℕ) (e : Eof) (d : Fuel) → Built f → start_fault s f m ≡ None → Enough d f
         → (Stage s d (first_mind f m e) [] (first_kids f m name e) (seed_of f m name e) [] [] (local_of f m name e) false (sprout d quiet 0 (firsts (seed_of f m name e)))
@@ -121,7 +147,14 @@ module _ (s : Setting) (number : List ℕ → ℕ) where
           k.0,
         )
     begun (no_struct_form t) m name e d b f n = absurd (none_some not_struct (sym f))
-    begun (grouped_form g t k) m name e d b f n = absurd b
+    begun (grouped_form r t k) m name e spent b f n = absurd n
+    begun (grouped_form r t k) m name e (fuel g) b f n =
+        let q : Seed = seed_of (grouped_form r t k) m name e in
+        subst (λ z. Stage s (fuel g) (first_mind (grouped_form r t k) m e) [] (first_kids (grouped_form r t k) m name e) q [] [] (local_of (grouped_form r t k) m name e) false (sprout (fuel g) quiet 0 z)
+        × Shows s number (fuel g) q 0 (first_kids (grouped_form r t k) m name e) (sprout (fuel g) quiet 0 z)) (sym (groups_kid r t k m name e)) (
+          groups_stage r t k m name e (fuel g) (sprout (fuel g) quiet 0 (seed_of k m (under name 0) e ∷ [])) (first_kids (grouped_form r t k) m name e) b.0 refl,
+          (alike q 0 k m (under name 0) e [] false refl tt, inl (begun k m (under name 0) e (g (form_type k)) b.1 f n), tt),
+        )
     begun (compressed_form which room t k) m name e d b f n = absurd b
     begun (dict_form o t c v w) m name e d b f n = absurd b
     begun (zoned_form o t k stats) m name e d b f n = absurd b
@@ -170,18 +203,32 @@ module _ (s : Setting) (number : List ℕ → ℕ) where
       (Work (fresh (seed_of f m name e) xs closed) (sprout (g (form_type f)) quiet 0 (firsts (seed_of f m name e))) Leaf)
   task_begun g q j f m name e xs closed sp ty b n h = (alike q j f m name e xs closed sp ty, inl (begun f m name e (g (form_type f)) b n h), tt)
 
+only_zero : (x : ℕ) → x ≡ 0 → (0 + 0) + (0 + ((x + 0) + 0)) ≡ 0
+only_zero x e = omega (arith, e)
+
+one_zero : (x : ℕ) → x ≡ 0 → 0 + (0 + ((x + 0) + 0)) ≡ 0
+one_zero x e = omega (arith, e)
+
 -- it has no rows but those in its queue
-pub first_rows : (f : Form) (m : Bool) (name : List ℕ) (e : Eof) (i : Item) → Built f → task_rows false (local_of f m name e) [] (i ∷ []) ≡ rows_in i.1
-first_rows (flat_form o t) m name e i b = let h : 0 + (rows_in i.1 + 0) ≡ rows_in i.1 = omega arith in h
-first_rows (chunked_form t k) m name e i b = let h : 0 + (rows_in i.1 + 0) ≡ rows_in i.1 = omega arith in h
-first_rows (struct_form fs n (Some a) v ks) m name e i b = let h : 0 + (rows_in i.1 + 0) ≡ rows_in i.1 = omega arith in h
-first_rows (struct_form fs n None v ks) m name e i b = let h : 0 + (rows_in i.1 + 0) ≡ rows_in i.1 = omega arith in h
-first_rows (no_struct_form t) m name e i b = let h : 0 + (rows_in i.1 + 0) ≡ rows_in i.1 = omega arith in h
-first_rows (grouped_form g t k) m name e i b = absurd b
-first_rows (compressed_form which room t k) m name e i b = absurd b
-first_rows (dict_form o t c v w) m name e i b = absurd b
-first_rows (zoned_form o t k stats) m name e i b = absurd b
-first_rows (list_form t n es os v) m name e i b = let h : 0 + (rows_in i.1 + 0) ≡ rows_in i.1 = omega arith in h
+pub fresh_rows : (f : Form) (m : Bool) (name : List ℕ) (e : Eof) (d : Fuel) → Built f → local_rows (local_of f m name e) (0 + rows_of (sprout d quiet 0 (firsts (seed_of f m name e)))) ≡ 0
+fresh_rows (flat_form o t) m name e d b = refl
+fresh_rows (chunked_form t k) m name e d b = refl
+fresh_rows (struct_form fs n (Some a) v ks) m name e d b = refl
+fresh_rows (struct_form fs n None v ks) m name e d b = refl
+fresh_rows (no_struct_form t) m name e d b = refl
+fresh_rows (grouped_form (by_blocks o) t k) m name e spent b = refl
+fresh_rows (grouped_form (by_bytes size) t k) m name e spent b = refl
+fresh_rows (grouped_form into_one t k) m name e spent b = refl
+fresh_rows (grouped_form (by_blocks o) t k) m name e (fuel g) b = only_zero (local_rows (local_of k m (under name 0) e) (0 + rows_of (sprout (g (form_type k)) quiet 0 (firsts (seed_of k m (under name 0) e)))))
+    (fresh_rows k m (under name 0) e (g (form_type k)) b.1)
+fresh_rows (grouped_form (by_bytes size) t k) m name e (fuel g) b = only_zero (local_rows (local_of k m (under name 0) e) (0 + rows_of (sprout (g (form_type k)) quiet 0 (firsts (seed_of k m (under name 0) e)))))
+    (fresh_rows k m (under name 0) e (g (form_type k)) b.1)
+fresh_rows (grouped_form into_one t k) m name e (fuel g) b = one_zero (local_rows (local_of k m (under name 0) e) (0 + rows_of (sprout (g (form_type k)) quiet 0 (firsts (seed_of k m (under name 0) e)))))
+    (fresh_rows k m (under name 0) e (g (form_type k)) b.1)
+fresh_rows (compressed_form which room t k) m name e d b = absurd b
+fresh_rows (dict_form o t c v w) m name e d b = absurd b
+fresh_rows (zoned_form o t k stats) m name e d b = absurd b
+fresh_rows (list_form t n es os v) m name e d b = refl
 
 -- ---- how far pointers come
 
@@ -196,6 +243,12 @@ one_opened : (f : Form) (m : Bool) (name : List ℕ) (c : ℕ) (e : Eof) (g : Ty
 one_opened f m name c e g qs xs ys h k =
     sym (append_assoc (start_indices (local_of f m (under name c) (inside e))) (opened (g (form_type f)) (firsts (seed_of f m (under name c) (inside e)))) (opened (fuel g) qs))
     ∙ ap (λ z. z ++ opened (fuel g) qs) h ∙ ap (λ z. xs ++ z) k
+
+-- an only child gets the pointer itself
+kid_opened : (k : Form) (m : Bool) (name : List ℕ) (e : Eof) (g : Ty → Fuel)
+    → start_indices (local_of k m (under name 0) e) ++ opened (g (form_type k)) (firsts (seed_of k m (under name 0) e)) ≡ first_indices k e
+    → opened (fuel g) (seed_of k m (under name 0) e ∷ []) ≡ first_indices k e
+kid_opened k m name e g h = ap (λ z. start_indices (local_of k m (under name 0) e) ++ z) (append-nil (opened (g (form_type k)) (firsts (seed_of k m (under name 0) e)))) ∙ h
 
 mutual
   pub opened_is : (f : Form) (m : Bool) (name : List ℕ) (e : Eof) (d : Fuel) → Built f → Enough d f
@@ -216,7 +269,10 @@ mutual
       ap (λ y. (e.last + y) ∷ opened (fuel g) (column_seeds name 0 (marked_forms (m || false) ks) e)) (column_length ks (m || false))
       ∙ ap (λ y. (e.last + form_count ks) ∷ y) (fields_opened ks fs (m || false) name 0 e g b.2 h.1)
   opened_is (no_struct_form t) m name e d b n = opened_none d
-  opened_is (grouped_form g t k) m name e d b n = absurd b
+  opened_is (grouped_form r t k) m name e spent b n = absurd n
+  opened_is (grouped_form (by_blocks o) t k) m name e (fuel g) b n = kid_opened k m name e g (opened_is k m (under name 0) e (g (form_type k)) b.1 n)
+  opened_is (grouped_form (by_bytes size) t k) m name e (fuel g) b n = kid_opened k m name e g (opened_is k m (under name 0) e (g (form_type k)) b.1 n)
+  opened_is (grouped_form into_one t k) m name e (fuel g) b n = kid_opened k m name e g (opened_is k m (under name 0) e (g (form_type k)) b.1 n)
   opened_is (compressed_form which room t k) m name e d b n = absurd b
   opened_is (dict_form o t c v w) m name e d b n = absurd b
   opened_is (zoned_form o t k stats) m name e d b n = absurd b

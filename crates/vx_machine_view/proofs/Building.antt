@@ -54,7 +54,7 @@ in_lists_fit (Some f) t leaf k h l e = h t k e
 
 wraps_fit : (ws : Wraps) → wraps_built ws ≡ true → AroundFits (Some (walk_wraps form_nodes ws))
 wraps_fit no_wraps b t k h = h
-wraps_fit (wrap_grouped g ws) b t k h = absurd (no_true b)
+wraps_fit (wrap_grouped g ws) b t k h = let r : (form_type (walk_wraps form_nodes ws t k) ≡ t) × Built (walk_wraps form_nodes ws t k) = wraps_fit ws b t k h in (r.0, r)
 wraps_fit (wrap_zoned o stats ws) b t k h = absurd (no_true b)
 
 around_fits : (lists : Bool) (ws : Wraps) → wraps_built ws ≡ true → AroundFits (if lists then Some (walk_wraps form_nodes ws) else None)
@@ -103,7 +103,7 @@ mutual
   built (structured v d ws) b (binary n) = tt
   built (structured v d ws) b (list t n) = tt
   built (structured v d ws) b (extension tag t) = tt
-  built (grouped g w) b t = absurd (no_true b)
+  built (grouped g w) b t = ((fuel_is_enough w t).0, built w b t)
   built (compressed which room w) b t = absurd (no_true b)
   built (coded o c v f) b t = absurd (no_true b)
   built (zoned o w stats) b t = absurd (no_true b)

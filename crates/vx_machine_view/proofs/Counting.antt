@@ -1,27 +1,30 @@
 -- The rows of layouts that are joined were counted before.
-use Rattle.std.proofs.Common.{◌≡◌, ◌||◌, ◌&&◌, ◌==◌, ◌⊎◌, ◌∷◌, ◌++◌, ◌∙◌, ℕ, suc, Bool, true, false, cond, List, map, refl, sym, ap, subst, inl, inr, []}
+use Rattle.std.proofs.Common.{◌≡◌, ◌||◌, ◌&&◌, ◌==◌, ◌⊎◌, ◌∷◌, ◌++◌, ◌∙◌, ℕ, suc, Bool, true, false, cond, List, map, refl, sym, ap, subst, inl, inr, Some, None, []}
 use Rattle.vx_model.specs.Words.{total_by}
 use Rattle.vx_model.specs.Ty.{Ty, list}
-use Rattle.vx_model.specs.ChunkData.{ChunkData}
+use Rattle.vx_model.specs.ChunkData.{ChunkData, held}
 use Rattle.vx_layout_spec.specs.LayoutTree.{row_count}
 use Rattle.vx_path.specs.Lists.{In}
 use Rattle.vx_path.proofs.Lists.{in_left, in_right, in_cases, from_map}
+use Rattle.vx_tasks.specs.Task.{Join}
 use Rattle.vx_plan.specs.PlanData.{Setting, Item}
 use Rattle.vx_machine_turns.specs.Locals.{Local}
-use Rattle.vx_machine_turns.specs.Acts.{Seed, Act, numbers_in, gifts, shut}
+use Rattle.vx_machine_turns.specs.Acts.{Seed, Act, does, numbers_in, gifts, shut}
 use Rattle.vx_machine_turns.specs.Readings.{number_reading}
 use Rattle.vx_machine_turns.specs.Source.{source_seed}
 use Rattle.vx_machine_turns.specs.Fuels.{Fuel, less}
 use Rattle.vx_machine_steps.specs.Tree.{Head, Tree, Leaf, Work, ahead, read}
+use Rattle.vx_machine_steps.specs.Moves.{doing, due_todo, all_paths, all_over}
+use Rattle.vx_machine_steps.specs.Laws.{JoinsFree}
 use Rattle.vx_machine_promises.specs.Write.{Write, Future, Answer, unasked, came, over, depth}
-use Rattle.vx_machine_view.specs.State.{Mind, no_chunk, one_chunk, by_chunk, by_column, by_list, ending, made, Desk, Tasks, no_tasks, task_then}
-use Rattle.vx_machine_view.specs.Acts.{count, layouts_in, column_count, take_chunk, end_columns, end_lists, take_end, do_take, do_act, puts}
+use Rattle.vx_machine_view.specs.State.{shut_kids, Mind, no_chunk, one_chunk, by_chunk, by_column, by_list, by_block, by_size, as_one, ending, passing, made, Desk, Tasks, no_tasks, task_then}
+use Rattle.vx_machine_view.specs.Acts.{count, layouts_in, column_count, take_chunk, end_columns, end_lists, take_end, do_take, do_act, puts, hand_all}
 use Rattle.vx_machine_view.specs.Moves.{Step, all_made, may_act, own_step, in_kids, in_rest, steps}
-use Rattle.vx_machine_view.specs.Shows.{Counted, Stage, waits_first, waits_end, appends, splits, gathers_all, hands, hands_lists, shuts, joins_columns, Done, Shows}
+use Rattle.vx_machine_view.specs.Shows.{Counted, Stage, waits_first, waits_end, appends, splits, gathers_all, hands, hands_lists, shuts, joins_columns, regroups_rows, regroups_chunks, collects, passes_on, passed, Done, Shows}
 use Rattle.vx_machine_view.specs.Machine.{Phase, reading, giving, closing, finished, Machine, may_source, WholeStep, source_step, in_root, whole_steps}
 use Rattle.vx_machine_view.specs.Whole.{form_of, phase_acts, source_at, root_depth, ShowsMachine}
 use Rattle.vx_machine_view.proofs.Words.{and_left, numbers_in-append}
-use Rattle.vx_machine_view.proofs.Joining.{AllLaid, laid_all}
+use Rattle.vx_machine_view.proofs.Joining.{made_is, AllLaid, laid_all}
 
 -- nothing is joined where an item or the end is taken
 
@@ -31,7 +34,13 @@ chunk_joins s c ks i xs (one_chunk x) = refl
 chunk_joins s c ks i xs (by_chunk m t f e rows) = refl
 chunk_joins s c ks i xs (by_column t rows) = refl
 chunk_joins s c ks i xs (by_list t n first from rows) = refl
+chunk_joins s c ks i xs (by_block len minimum t x None rows) = refl
+chunk_joins s c ks i xs (by_block len minimum t x (Some j) rows) = refl
+chunk_joins s c ks i xs (by_size size x None rows) = refl
+chunk_joins s c ks i xs (by_size size x (Some j) rows) = refl
+chunk_joins s c ks i xs (as_one t x rows) = refl
 chunk_joins s c ks i xs ending = refl
+chunk_joins s c ks i xs passing = refl
 chunk_joins s c ks i xs (made l) = refl
 
 columns_join : (b : Bool) (t : Ty) (rows : ℕ) (c : Desk) (ks : Tasks) → (end_columns b t rows c ks).joined ≡ []
@@ -48,7 +57,13 @@ end_joins c ks (one_chunk x) = refl
 end_joins c ks (by_chunk m t f e rows) = refl
 end_joins c ks (by_column t rows) = columns_join ((count ks == 0) && (0 == column_count t)) t rows c ks
 end_joins c ks (by_list t n first from rows) = lists_join first (list t n) rows c ks
+end_joins c ks (by_block len minimum t x None rows) = refl
+end_joins c ks (by_block len minimum t x (Some j) rows) = refl
+end_joins c ks (by_size size x None rows) = refl
+end_joins c ks (by_size size x (Some j) rows) = refl
+end_joins c ks (as_one t x rows) = refl
 end_joins c ks ending = refl
+end_joins c ks passing = refl
 end_joins c ks (made l) = refl
 
 take_joins : (s : Setting) (c : Desk) (ks : Tasks) (xs : List Item) → (do_take s c ks xs).joined ≡ []
@@ -63,38 +78,54 @@ module _ (s : Setting) (number : List ℕ → ℕ) (next : ℕ) (all : List (Lis
   puts_join c ks j p [] = take_joins s c ks c.inbox
   puts_join c ks j p (x ∷ xs) = refl
 
+  hands_join : (c : Desk) (ks : Tasks) (weight : ChunkData → ℕ) (outs : List Item) → (do_act s next c ks (hand_all weight outs)).joined ≡ []
+  hands_join c ks weight [] = take_joins s c ks c.inbox
+  hands_join c ks weight (i ∷ outs) = refl
+
+  ends_join : (c : Desk) (ks : Tasks) (weight : ChunkData → ℕ) (outs : List Item) → (do_act s next c ks (hand_all weight outs ++ (shut_kids ∷ []))).joined ≡ []
+  ends_join c ks weight [] = refl
+  ends_join c ks weight (i ∷ outs) = refl
+
   nothing : (past : List Act) (ns : List ℕ) → ns ≡ [] → (n : ℕ) → In n ns → Counted past n
   nothing past ns e n i = absurd (subst (In n) e i)
 
   own_joins : (d : Fuel) (c : Desk) (ks : Tasks) (q : Seed) (past todo : List Act) (l : Local) (off : Bool) (hs : Tree) → Stage s d c.mind c.todo ks q past todo l off hs → Shows s number d q 0 ks hs
-      → may_act all c ks c.todo ≡ true → (n : ℕ) → In n (do_act s next c ks c.todo).joined → Counted past n
-  own_joins d c ks q past todo l off hs (waits_first o t k w) sh m = nothing past (do_act s next c ks c.todo).joined (idle_joins c ks w.idle)
-  own_joins d c ks q past todo l off hs (waits_end o t x b k w) sh m = nothing past (do_act s next c ks c.todo).joined (idle_joins c ks w.idle)
-  own_joins d c ks q past todo l off hs (appends x k w) sh m = nothing past (do_act s next c ks c.todo).joined (ap (λ z. (do_act s next c ks z).joined) w.left_is)
-  own_joins d c ks q past todo l off hs (splits n e nm t sp b en u w) sh m = nothing past (do_act s next c ks c.todo).joined (idle_joins c ks w.idle)
-  own_joins d c ks q past todo l off hs (gathers_all t u w) sh m = λ n i. by n (subst (In n) (ap (λ z. (do_act s next c ks z).joined) w.left_is) i)
+      → (todo ≡ does Join ∷ [] → all_over hs ≡ true → all_paths hs ≡ []) → may_act all c ks c.todo ≡ true → (n : ℕ) → In n (do_act s next c ks c.todo).joined → Counted past n
+  own_joins d c ks q past todo l off hs (waits_first o t k w) sh free m = nothing past (do_act s next c ks c.todo).joined (idle_joins c ks w.idle)
+  own_joins d c ks q past todo l off hs (waits_end o t x b k w) sh free m = nothing past (do_act s next c ks c.todo).joined (idle_joins c ks w.idle)
+  own_joins d c ks q past todo l off hs (appends x k w) sh free m = nothing past (do_act s next c ks c.todo).joined (ap (λ z. (do_act s next c ks z).joined) w.left_is)
+  own_joins d c ks q past todo l off hs (splits n e nm t sp b en u w) sh free m = nothing past (do_act s next c ks c.todo).joined (idle_joins c ks w.idle)
+  own_joins d c ks q past todo l off hs (gathers_all t u w) sh free m = λ n i. by n (subst (In n) (ap (λ z. (do_act s next c ks z).joined) w.left_is) i)
     where
+      made_all : all_made ks ≡ true
+      made_all = and_left (all_made ks) true (sym (ap (may_act all c ks) w.left_is) ∙ m)
+
       there : AllLaid s number ks hs
-      there = laid_all s number d q 0 ks hs sh (and_left (all_made ks) true (sym (ap (may_act all c ks) w.left_is) ∙ m))
+      there = laid_all s number d q 0 ks hs sh made_all (free w.rest (sym (made_is s number d q 0 ks hs sh) ∙ made_all))
 
       by : (n : ℕ) → In n (total_by row_count (layouts_in ks) ∷ []) → Counted past n
       by n (inl e) = subst (Counted past) (sym (e ∙ there.rows)) u
       by n (inr i) = absurd i
-  own_joins d c ks q past todo l off hs (hands n rows j p xs ws t v w) sh m = nothing past (do_act s next c ks c.todo).joined (ap (λ z. (do_act s next c ks z).joined) w.left_is ∙ puts_join c ks j p xs)
-  own_joins d c ks q past todo l off hs (hands_lists n first from rows j p xs ws t v w) sh m =
+  own_joins d c ks q past todo l off hs (hands n rows j p xs ws t v w) sh free m = nothing past (do_act s next c ks c.todo).joined (ap (λ z. (do_act s next c ks z).joined) w.left_is ∙ puts_join c ks j p xs)
+  own_joins d c ks q past todo l off hs (hands_lists n first from rows j p xs ws t v w) sh free m =
       nothing past (do_act s next c ks c.todo).joined (ap (λ z. (do_act s next c ks z).joined) w.left_is ∙ puts_join c ks j p xs)
-  own_joins d c ks q past todo l off hs (shuts t rows k w) sh m = nothing past (do_act s next c ks c.todo).joined (ap (λ z. (do_act s next c ks z).joined) w.left_is)
-  own_joins d c ks q past todo l off hs (joins_columns t rows k w) sh m = nothing past (do_act s next c ks c.todo).joined (ap (λ z. (do_act s next c ks z).joined) w.left_is)
+  own_joins d c ks q past todo l off hs (shuts t rows k w) sh free m = nothing past (do_act s next c ks c.todo).joined (ap (λ z. (do_act s next c ks z).joined) w.left_is)
+  own_joins d c ks q past todo l off hs (joins_columns t rows k w) sh free m = nothing past (do_act s next c ks c.todo).joined (ap (λ z. (do_act s next c ks z).joined) w.left_is)
+  own_joins d c ks q past todo l off hs (regroups_rows o n x j rows outs tj nh w) sh free m = nothing past (do_act s next c ks c.todo).joined (ap (λ z. (do_act s next c ks z).joined) w.left_is ∙ hands_join c ks (λ p. 0) outs)
+  own_joins d c ks q past todo l off hs (regroups_chunks size n x j rows outs tx tj nh w) sh free m = nothing past (do_act s next c ks c.todo).joined (ap (λ z. (do_act s next c ks z).joined) w.left_is ∙ hands_join c ks held outs)
+  own_joins d c ks q past todo l off hs (collects n x rows w) sh free m = nothing past (do_act s next c ks c.todo).joined (idle_joins c ks w.left_is)
+  own_joins d c ks q past todo l off hs (passes_on t weight outs one to w) sh free m = nothing past (do_act s next c ks c.todo).joined (ap (λ z. (do_act s next c ks z).joined) w.left_is ∙ ends_join c ks weight outs)
+  own_joins d c ks q past todo l off hs (passed t one w) sh free m = nothing past (do_act s next c ks c.todo).joined (idle_joins c ks w.left_is)
 
   -- of all tasks: what is joined is none, or is among the numbers that are read off the state
-  pub joins_counted : (d : Fuel) (q : Seed) (j : ℕ) (cs : Tasks) (t : Tree) (acts : List Act) → Shows s number d q j cs t → (w : Step) → In w (steps s all next cs) → (n : ℕ) → In n w.joined
+  pub joins_counted : (d : Fuel) (q : Seed) (j : ℕ) (cs : Tasks) (t : Tree) (acts : List Act) → Shows s number d q j cs t → JoinsFree s t → (w : Step) → In w (steps s all next cs) → (n : ℕ) → In n w.joined
       → (n ≡ 0) ⊎ In n (read s number_reading d j acts t)
-  joins_counted d q j no_tasks t acts sh w i n k = absurd i
-  joins_counted d q j (task_then c ks more) Leaf acts sh w i n k = absurd sh
-  joins_counted d q j (task_then c ks more) (Work h hs r) acts sh w i n k =
+  joins_counted d q j no_tasks t acts sh jf w i n k = absurd i
+  joins_counted d q j (task_then c ks more) Leaf acts sh jf w i n k = absurd sh
+  joins_counted d q j (task_then c ks more) (Work h hs r) acts sh jf w i n k =
       all_of (in_cases w (cond (may_act all c ks c.todo) (own_step c more (do_act s next c ks c.todo) ∷ []) [] ++ map (in_kids c more) (steps s all next ks)) (map (in_rest c ks) (steps s all next more)) i)
-      (λ v x y z. joins_counted (less d h.seed.type) h.seed 0 ks hs to_do v x y n z)
-      (λ x y z. joins_counted d q (suc j) more r acts sh.2 x y n z)
+      (λ v x y z. joins_counted (less d h.seed.type) h.seed 0 ks hs to_do v jf.1 x y n z)
+      (λ x y z. joins_counted d q (suc j) more r acts sh.2 jf.2 x y n z)
     where
       to_do : List Act
       to_do = ahead s h (gifts j acts) (h.closed || shut j acts)
@@ -123,7 +154,7 @@ module _ (s : Setting) (number : List ℕ → ℕ) (next : ℕ) (all : List (Lis
       of_own : (b : Bool) → may_act all c ks c.todo ≡ b → In w (cond b (own_step c more (do_act s next c ks c.todo) ∷ []) [])
           → (Stage s (less d h.seed.type) c.mind c.todo ks h.seed h.past h.todo h.local h.over hs × Shows s number (less d h.seed.type) h.seed 0 ks hs)
           ⊎ Done number c.mind c.todo ks h.past h.todo h.over hs → Counted h.past n
-      of_own true m (inl e) (inl (st, v)) = own_joins (less d h.seed.type) c ks h.seed h.past h.todo h.local h.over hs st v m n (subst (λ (z : Step). In n z.joined) e k)
+      of_own true m (inl e) (inl (st, v)) = own_joins (less d h.seed.type) c ks h.seed h.past h.todo h.local h.over hs st v (λ e o. jf.0 (doing h (does Join) [] h.local h.over h.inbox) (ap (due_todo s h) e) refl o) m n (subst (λ (z : Step). In n z.joined) e k)
       of_own true m (inl e) (inr f) = nothing h.past (do_act s next c ks c.todo).joined (idle_joins c ks f.idle) n (subst (λ (z : Step). In n z.joined) e k)
       of_own true m (inr x) v = absurd x
       of_own false m x v = absurd x
@@ -161,9 +192,9 @@ source_joins a closing root = refl
 source_joins a finished root = refl
 
 -- of the whole machine
-pub whole_joins : (g : Write) (number : List ℕ → ℕ) (next : ℕ) (all : List (List ℕ)) (a : Answer) (f : Future) (m : Machine) (t : Tree) → ShowsMachine g number m f t
+pub whole_joins : (g : Write) (number : List ℕ → ℕ) (next : ℕ) (all : List (List ℕ)) (a : Answer) (f : Future) (m : Machine) (t : Tree) (sh : ShowsMachine g number m f t) → JoinsFree g.setting sh.kids
     → (w : WholeStep) → In w (whole_steps g.setting all next a m) → (n : ℕ) → In n w.joined → (n ≡ 0) ⊎ In n (read g.setting number_reading (depth g) 0 [] t)
-whole_joins g number next all a f m t sh w i n k =
+whole_joins g number next all a f m t sh jf w i n k =
     subst (λ z. (n ≡ 0) ⊎ In n (read g.setting number_reading (depth g) 0 [] z)) (sym sh.tree_is)
     (all_of (in_cases w (cond (may_source m.phase m.root) (source_step a m.phase m.root ∷ []) []) (map (in_root m.phase) (steps g.setting all next m.root)) i))
   where
@@ -188,7 +219,7 @@ whole_joins g number next all a f m t sh w i n k =
     of_own false x = x
 
     of_root : (x : Step) × In x (steps g.setting all next m.root) × (w ≡ in_root m.phase x) → (n ≡ 0) ⊎ In n kid_list
-    of_root (x, y, e) = joins_counted g.setting number next all (root_depth g) (source_seed (form_of g) g.mark) 0 m.root sh.kids to_do sh.root x y n (subst (λ (z : WholeStep). In n z.joined) e k)
+    of_root (x, y, e) = joins_counted g.setting number next all (root_depth g) (source_seed (form_of g) g.mark) 0 m.root sh.kids to_do sh.root jf x y n (subst (λ (z : WholeStep). In n z.joined) e k)
 
     lift : (n ≡ 0) ⊎ In n kid_list → (n ≡ 0) ⊎ In n (own_list ++ (kid_list ++ rest_list))
     lift (inl e) = inl e

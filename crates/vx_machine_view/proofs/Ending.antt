@@ -1,10 +1,10 @@
 -- The end of the whole machine, and what it holds.
-use Rattle.std.proofs.Common.{◌≡◌, ◌&&◌, ◌||◌, ◌⊎◌, ◌∷◌, ◌++◌, ◌∙◌, ℕ, suc, Bool, true, false, List, map, length, refl, sym, ap, subst, inl, inr, arith, append-nil, Some, []}
+use Rattle.std.proofs.Common.{◌≡◌, ◌&&◌, ◌||◌, ◌⊎◌, ◌∷◌, ◌++◌, ◌∙◌, ℕ, suc, Bool, true, false, List, map, length, refl, sym, ap, subst, inl, inr, ⊎_elim, arith, append-nil, Some, []}
 use Rattle.vx_layout_spec.specs.LayoutTree.{renamed}
 use Rattle.vx_model.specs.ChunkData.{ChunkData}
 use Rattle.vx_model.specs.Ty.{Ty}
 use Rattle.vx_path.specs.Path.{Eof}
-use Rattle.vx_plan.specs.PlanData.{Setting, Item}
+use Rattle.vx_plan.specs.PlanData.{Setting}
 use Rattle.vx_machine_turns.specs.Acts.{Seed, Act, shape_in, passes}
 use Rattle.vx_machine_turns.specs.Source.{source_acts, source_seed}
 use Rattle.vx_machine_turns.specs.Readings.{shaped, unread, layout_reading}
@@ -15,12 +15,14 @@ use Rattle.vx_machine_steps.specs.Stands.{KidsHold}
 use Rattle.vx_machine_steps.proofs.Laws.{end_is_free}
 use Rattle.vx_machine_promises.specs.Write.{Future, depth}
 use Rattle.vx_machine_view.specs.State.{Tasks, no_tasks, task_then}
-use Rattle.vx_machine_view.specs.Moves.{is_made}
+use Rattle.vx_machine_view.specs.Acts.{count}
+use Rattle.vx_machine_view.specs.Moves.{is_empty}
 use Rattle.vx_machine_view.specs.Shows.{Stage, Done, Shows, laid, types_of}
-use Rattle.vx_machine_view.specs.Machine.{Phase, reading, giving, closing, finished, has_closed, is_empty, no_more, is_done, held_by}
+use Rattle.vx_machine_view.specs.Machine.{Phase, reading, giving, closing, finished, has_closed, no_more, is_alone, has_layout, is_done, held_by}
 use Rattle.vx_machine_view.specs.Whole.{form_of, phase_acts, PhaseShape, source_at, root_depth, HeldShows, FinishShows, LayoutShows}
-use Rattle.vx_machine_view.proofs.Words.{no_cons, and_left, and_right}
-use Rattle.vx_machine_view.proofs.Joining.{stage_open, stage_busy, done_over, and_last, made_is, AllLaid, laid_all}
+use Rattle.vx_machine_view.proofs.Words.{no_cons, left_nil, right_nil, no_firsts, and_left, and_right}
+use Rattle.vx_machine_view.proofs.Feeding.{count_types}
+use Rattle.vx_machine_view.proofs.Joining.{Busy, Passed, stage_parts, done_over, and_last, made_is, AllLaid, laid_all}
 use Rattle.vx_machine_view.proofs.Holding.{held_is}
 
 -- ---- what is held
@@ -51,6 +53,10 @@ and_yes : (b : Bool) → (b && true) ≡ b
 and_yes true = refl
 and_yes false = refl
 
+and_no : (b : Bool) → (b && false) ≡ false
+and_no true = refl
+and_no false = refl
+
 whole_over : (p : Phase) (f : Future) (b : Bool) → ((is_nil (phase_acts p f) && true && b) && true) ≡ (has_closed p && b)
 whole_over p f b = and_yes (is_nil (phase_acts p f) && true && b) ∙ by (is_nil (phase_acts p f)) (has_closed p) (phase_over p f)
   where
@@ -60,41 +66,61 @@ whole_over p f b = and_yes (is_nil (phase_acts p f) && true && b) ∙ by (is_nil
     by true false e = cc
     by false true e = cc
 
-no_firsts : (xs : List Item) → map (λ x. x.0) xs ≡ [] → xs ≡ []
-no_firsts [] e = refl
-no_firsts (x ∷ xs) e = cc
+one_alone : (cs : Tasks) → count cs ≡ 1 → is_alone cs ≡ true
+one_alone no_tasks e = absurd (omega (arith, e))
+one_alone (task_then c ks no_tasks) e = refl
+one_alone (task_then c ks (task_then b ls r)) e = absurd (omega (arith, e))
 
-left_nil : {A : Type 0} (xs ys : List A) → xs ++ ys ≡ [] → xs ≡ []
-left_nil [] ys e = refl
-left_nil (x ∷ xs) ys e = cc
-
-right_nil : {A : Type 0} (xs ys : List A) → xs ++ ys ≡ [] → ys ≡ []
-right_nil [] ys e = e
-right_nil (x ∷ xs) ys e = cc
-
-module _ (s : Setting) (number : List ℕ → ℕ) (d : Fuel) (q : Seed) where
-  -- the root, which stands alone
-  root_done : (t : Ty) (cs : Tasks) (ts : Tree) → types_of ts ≡ t ∷ [] → Shows s number d q 0 cs ts → (all_over ts ≡ true → all_paths ts ≡ []) → is_done cs ≡ all_over ts
-  root_done t no_tasks Leaf one w free = absurd (no_cons t [] (sym one))
-  root_done t no_tasks (Work h hs r) one w free = absurd w
-  root_done t (task_then c ks more) Leaf one w free = absurd w
-  root_done t (task_then c ks more) (Work h hs (Work k ls r)) one w free = absurd (omega (arith, ap length one))
-  root_done t (task_then c ks more) (Work h hs Leaf) one w free = by w.1
+module _ (s : Setting) (number : List ℕ → ℕ) where
+  -- the root, which stands alone, or the only child of one that has its layout
+  root_done : (d : Fuel) (q : Seed) (t : Ty) (cs : Tasks) (ts : Tree) → types_of ts ≡ t ∷ [] → Shows s number d q 0 cs ts → (all_over ts ≡ true → all_paths ts ≡ []) → is_done cs ≡ all_over ts
+  root_done d q t no_tasks Leaf one w free = absurd (no_cons t [] (sym one))
+  root_done d q t no_tasks (Work h hs r) one w free = absurd w
+  root_done d q t (task_then c ks more) Leaf one w free = absurd w
+  root_done d q t (task_then c ks more) (Work h hs (Work k ls r)) one w free = absurd (omega (arith, ap length one))
+  root_done d q t (task_then c ks more) (Work h hs Leaf) one w free = by w.1 (λ u o k f. root_done (less d h.seed.type) h.seed u ks hs o k f)
     where
+      -- where all is over
+      front : all_over (Work h hs Leaf) ≡ true → map (λ x. x.0) h.inbox ++ (holding h ++ all_paths hs) ≡ []
+      front o = left_nil (map (λ x. x.0) h.inbox ++ (holding h ++ all_paths hs)) [] (free o)
+
+      empty : all_over (Work h hs Leaf) ≡ true → c.inbox ≡ []
+      empty o = w.0.inbox ∙ no_firsts h.inbox (left_nil (map (λ x. x.0) h.inbox) (holding h ++ all_paths hs) (front o))
+
+      below : all_over (Work h hs Leaf) ≡ true → all_paths hs ≡ []
+      below o = right_nil (holding h) (all_paths hs) (right_nil (map (λ x. x.0) h.inbox) (holding h ++ all_paths hs) (front o))
+
+      now : Passed c.mind c.todo h.past h.todo h.over hs → all_over (Work h hs Leaf) ≡ all_over hs
+      now x = ap (λ z. (is_nil z && h.over && all_over hs) && true) x.ends.rest ∙ ap (λ z. (true && z && all_over hs) && true) x.ends.off ∙ and_yes (all_over hs)
+
+      of_child : (x : Passed c.mind c.todo h.past h.todo h.over hs) → Shows s number (less d h.seed.type) h.seed 0 ks hs → is_done ks ≡ all_over hs → (b : Bool) → all_over hs ≡ b
+          → ((is_alone ks && is_done ks) && is_empty c.inbox) ≡ b
+      of_child x k e true o =
+          ap (λ z. (z && is_done ks) && is_empty c.inbox) (one_alone ks (count_types s number (less d h.seed.type) h.seed 0 ks hs k ∙ ap length x.one))
+          ∙ ap (λ z. z && is_empty c.inbox) (e ∙ o) ∙ ap is_empty (empty (now x ∙ o))
+      of_child x k e false o = ap (λ z. (is_alone ks && z) && is_empty c.inbox) (e ∙ o) ∙ ap (λ z. z && is_empty c.inbox) (and_no (is_alone ks))
+
+      by_child : Passed c.mind c.todo h.past h.todo h.over hs → Shows s number (less d h.seed.type) h.seed 0 ks hs
+          → ((u : Ty) → types_of hs ≡ u ∷ [] → Shows s number (less d h.seed.type) h.seed 0 ks hs → (all_over hs ≡ true → all_paths hs ≡ []) → is_done ks ≡ all_over hs)
+          → (has_layout c.mind ks (is_done ks) && (is_empty c.todo && is_empty c.inbox)) ≡ ((is_nil h.todo && h.over && all_over hs) && true)
+      by_child x k deeper =
+          ap (λ z. has_layout z ks (is_done ks) && (is_empty c.todo && is_empty c.inbox)) x.ends.mind_is
+          ∙ ap (λ z. (is_alone ks && is_done ks) && (is_empty z && is_empty c.inbox)) x.ends.left_is
+          ∙ of_child x k (deeper x.type x.one k (λ o. below (now x ∙ o))) (all_over hs) refl ∙ sym (now x)
+
       by : (Stage s (less d h.seed.type) c.mind c.todo ks h.seed h.past h.todo h.local h.over hs × Shows s number (less d h.seed.type) h.seed 0 ks hs)
           ⊎ Done number c.mind c.todo ks h.past h.todo h.over hs
-          → (is_made c.mind && (is_empty c.todo && (is_empty c.inbox && no_more ks))) ≡ ((is_nil h.todo && h.over && all_over hs) && true)
-      by (inl (st, k)) =
-          ap (λ z. z && (is_empty c.todo && (is_empty c.inbox && no_more ks))) (stage_open s (less d h.seed.type) c.mind c.todo ks h.seed h.past h.todo h.local h.over hs st)
-          ∙ sym (ap (λ z. z && true) (stage_busy s (less d h.seed.type) c.mind c.todo ks h.seed h.past h.todo h.local h.over hs (all_over hs) st))
-      by (inr e) =
+          → ((u : Ty) → types_of hs ≡ u ∷ [] → Shows s number (less d h.seed.type) h.seed 0 ks hs → (all_over hs ≡ true → all_paths hs ≡ []) → is_done ks ≡ all_over hs)
+          → (has_layout c.mind ks (is_done ks) && (is_empty c.todo && is_empty c.inbox)) ≡ ((is_nil h.todo && h.over && all_over hs) && true)
+      by (inl (st, k)) deeper =
+          ⊎_elim (λ (b : Busy c.mind c.todo h.todo h.over). b.unlaid ks (is_done ks) (is_empty c.inbox) ∙ sym (ap (λ z. z && true) (b.goes_on (all_over hs))))
+          (λ (x : Passed c.mind c.todo h.past h.todo h.over hs). by_child x k deeper)
+          (stage_parts s (less d h.seed.type) c.mind c.todo ks h.seed h.past h.todo h.local h.over hs st)
+      by (inr e) deeper =
           let over : ((is_nil h.todo && h.over && all_over hs) && true) ≡ true = ap (λ z. z && true) (done_over number c.mind c.todo ks h.past h.todo h.over hs e) in
-          let none : map (λ x. x.0) h.inbox ≡ [] = left_nil (map (λ x. x.0) h.inbox) (holding h ++ all_paths hs)
-          (left_nil (map (λ x. x.0) h.inbox ++ (holding h ++ all_paths hs)) [] (free over)) in
-          let empty : c.inbox ≡ [] = w.0.inbox ∙ no_firsts h.inbox none in
-          ap (λ z. z && (is_empty c.todo && (is_empty c.inbox && no_more ks))) (ap is_made e.mind_is)
-          ∙ ap (λ z. is_empty z && (is_empty c.inbox && no_more ks)) e.idle
-          ∙ ap (λ z. is_empty z && no_more ks) empty ∙ ap no_more e.no_kids ∙ sym over
+          ap (λ z. has_layout z ks (is_done ks) && (is_empty c.todo && is_empty c.inbox)) e.mind_is
+          ∙ ap (λ z. no_more ks && (is_empty z && is_empty c.inbox)) e.idle
+          ∙ ap (λ z. no_more z && is_empty c.inbox) e.no_kids ∙ ap is_empty (empty over) ∙ sym over
 
 pub finish_shows : FinishShows
 finish_shows g number f m t st w = by m.phase refl ∙ sym (ap all_over w.tree_is ∙ whole_over m.phase f (all_over w.kids))
@@ -139,8 +165,10 @@ pub layout_shows : LayoutShows
 layout_shows g number f m t st w over =
     let k : (has_closed m.phase && all_over w.kids) ≡ true = sym (whole_over m.phase f (all_over w.kids)) ∙ sym (ap all_over w.tree_is) ∙ over in
     let made_all : all_over w.kids ≡ true = and_right (has_closed m.phase) (all_over w.kids) k in
+    let none : all_paths w.kids ≡ [] = right_nil (holding (source_at g w.past (phase_acts m.phase f))) (all_paths w.kids)
+    (left_nil (holding (source_at g w.past (phase_acts m.phase f)) ++ all_paths w.kids) [] (sym (ap all_paths w.tree_is) ∙ end_is_free g.setting (depth g) t st over)) in
     let there : AllLaid g.setting number m.root w.kids = laid_all g.setting number (root_depth g) (source_seed (form_of g) g.mark) 0 m.root w.kids w.root
-    (made_is g.setting number (root_depth g) (source_seed (form_of g) g.mark) 0 m.root w.kids w.root ∙ made_all) in
+    (made_is g.setting number (root_depth g) (source_seed (form_of g) g.mark) 0 m.root w.kids w.root ∙ made_all) none in
     there.layouts
     ∙ ap (map (renamed number)) (sym (append-nil (laid w.kids)) ∙ ap (λ z. shaped z (laid w.kids) ++ []) (sym (ended m.phase w.shape (and_left (has_closed m.phase) (all_over w.kids) k)))
     ∙ ap laid (sym w.tree_is) ∙ sym (read_laid g.setting (depth g) 0 t over))

@@ -4,7 +4,7 @@ use Rattle.std.proofs.lemmas.Bool.Decides.{nat_tests}
 use Rattle.vx_model.specs.Ty.{Ty}
 use Rattle.vx_tasks.specs.Task.{has}
 use Rattle.vx_plan.specs.PlanData.{Setting, Item, row_total, rows_in}
-use Rattle.vx_machine_turns.specs.Acts.{Seed, Act, for_child}
+use Rattle.vx_machine_turns.specs.Acts.{Seed, Act, for_child, gifts}
 use Rattle.vx_machine_turns.specs.Turns.{firsts}
 use Rattle.vx_machine_turns.specs.Fuels.{Fuel, spent, fuel}
 use Rattle.vx_machine_steps.specs.Tree.{Head, Tree, Leaf, Work, fresh, quiet, sprout, feed, opened}
@@ -13,8 +13,8 @@ use Rattle.vx_machine_view.specs.State.{Desk, Tasks, no_tasks, task_then}
 use Rattle.vx_machine_view.specs.Acts.{count, add, give, with_item, shut_all, shut_desk}
 use Rattle.vx_machine_view.specs.Moves.{has_room}
 use Rattle.vx_machine_view.specs.Typed.{Typed, AllTyped}
-use Rattle.vx_machine_view.specs.Shows.{Alike, Shows, rows_of, types_of, task_rows}
-use Rattle.vx_machine_view.proofs.Words.{or_nothing, or_all}
+use Rattle.vx_machine_view.specs.Shows.{Alike, Shows, rows_of, types_of, local_rows, task_rows}
+use Rattle.vx_machine_view.proofs.Words.{no_cons, or_nothing, or_all}
 
 -- ---- nothing
 
@@ -225,16 +225,38 @@ module _ (s : Setting) (number : List ℕ → ℕ) where
 
   -- and with its rows, where the child has no others
   pub rows_one_more : (g : Ty → Fuel) (q : Seed) (j c : ℕ) (a : Act) (i : Item) (seed : Seed) (cs : Tasks) (t : Tree) → Shows s number (fuel g) q j cs t → c ≡ j + count cs
-      → a.gives ≡ (c, i) ∷ [] → a.starts ≡ seed ∷ [] → task_rows false seed.local [] (i ∷ []) ≡ rows_in i.1
+      → a.gives ≡ (c, i) ∷ [] → a.starts ≡ seed ∷ [] → local_rows seed.local (0 + rows_of (sprout (g seed.type) quiet 0 (firsts seed))) ≡ 0
       → rows_of (feed (fuel g) a j t) ≡ rows_of t + rows_in i.1
   rows_one_more g q j c a i seed no_tasks Leaf w n gs st k =
+      let own : ℕ = local_rows seed.local (0 + rows_of (sprout (g seed.type) quiet 0 (firsts seed))) in
       let there : for_child j a.gives ≡ i ∷ [] = ap (for_child j) gs ∙ (let y : nat_eq c j ≡ true = grind (arith, nat_tests) in ap (λ y. cond y (i ∷ []) []) y) in
-      let e : rows_of (sprout (fuel g) a j (seed ∷ [])) ≡ task_rows false seed.local [] (i ∷ []) + 0 = ap (λ z. task_rows false seed.local [] z + 0) there in
+      let e : rows_of (sprout (fuel g) a j (seed ∷ [])) ≡ (own + (rows_in i.1 + 0)) + 0 = ap (λ z. (own + row_total z) + 0) there in
       ap (λ z. rows_of (sprout (fuel g) a j z)) st ∙ (let f : rows_of (sprout (fuel g) a j (seed ∷ [])) ≡ 0 + rows_in i.1 = omega (arith, e, k) in f)
   rows_one_more g q j c a i seed no_tasks (Work h hs r) w n gs st k = absurd w
   rows_one_more g q j c a i seed (task_then b ks more) Leaf w n gs st k = absurd w
   rows_one_more g q j c a i seed (task_then b ks more) (Work h hs r) w n gs st k =
+      let own : ℕ = task_rows h.over h.local h.past (row_total (gifts 0 h.todo) + rows_of hs) in
       let none : for_child j a.gives ≡ [] = ap (for_child j) gs ∙ (let y : nat_eq c j ≡ false = grind (arith, nat_tests) in ap (λ y. cond y (i ∷ []) []) y) in
-      let e : task_rows h.over h.local h.past (h.inbox ++ for_child j a.gives) ≡ task_rows h.over h.local h.past h.inbox = ap (λ z. task_rows h.over h.local h.past (h.inbox ++ z)) none ∙ ap (task_rows h.over h.local h.past) (append-nil h.inbox) in
+      let e : row_total (h.inbox ++ for_child j a.gives) ≡ row_total h.inbox = ap (λ z. row_total (h.inbox ++ z)) none ∙ ap row_total (append-nil h.inbox) in
       let f : rows_of (feed (fuel g) a (suc j) r) ≡ rows_of r + rows_in i.1 = rows_one_more g q (suc j) c a i seed more r w.2 (omega (arith, n)) gs st k in
-      let o : task_rows h.over h.local h.past (h.inbox ++ for_child j a.gives) + rows_of (feed (fuel g) a (suc j) r) ≡ (task_rows h.over h.local h.past h.inbox + rows_of r) + rows_in i.1 = omega (arith, e, f) in o
+      let o : (own + row_total (h.inbox ++ for_child j a.gives)) + rows_of (feed (fuel g) a (suc j) r) ≡ ((own + row_total h.inbox) + rows_of r) + rows_in i.1 = omega (arith, e, f) in o
+
+  -- ---- rows of an only child
+
+  -- where it gets an item
+  pub rows_given : (d : Fuel) (a : Act) (i : Item) (t : Ty) (hs : Tree) → types_of hs ≡ t ∷ [] → a.gives ≡ (0, i) ∷ [] → a.starts ≡ [] → rows_of (feed d a 0 hs) ≡ rows_of hs + rows_in i.1
+  rows_given d a i t Leaf one g st = absurd (no_cons t [] (sym one))
+  rows_given d a i t (Work h ks (Work k ls r)) one g st = absurd (omega (arith, ap length one))
+  rows_given d a i t (Work h ks Leaf) one g st =
+      let own : ℕ = task_rows h.over h.local h.past (row_total (gifts 0 h.todo) + rows_of ks) in
+      let e : row_total (h.inbox ++ for_child 0 a.gives) ≡ row_total h.inbox + rows_in i.1 = ap (λ z. row_total (h.inbox ++ for_child 0 z)) g ∙ rows_more h.inbox i in
+      let f : rows_of (sprout d a 1 a.starts) ≡ 0 = ap rows_of (ap (sprout d a 1) st ∙ sprout_none d a 1) in
+      let o : (own + row_total (h.inbox ++ for_child 0 a.gives)) + rows_of (sprout d a 1 a.starts) ≡ ((own + row_total h.inbox) + 0) + rows_in i.1 = omega (arith, e, f) in o
+
+-- rows of all children, where none gets an item
+pub rows_kept : (d : Fuel) (a : Act) (j : ℕ) (t : Tree) → ((i : ℕ) → for_child i a.gives ≡ []) → a.starts ≡ [] → rows_of (feed d a j t) ≡ rows_of t
+rows_kept d a j Leaf g st = ap rows_of (ap (sprout d a j) st ∙ sprout_none d a j)
+rows_kept d a j (Work h ks r) g st =
+    let own : ℕ = task_rows h.over h.local h.past (row_total (gifts 0 h.todo) + rows_of ks) in
+    ap (λ z. (own + row_total (h.inbox ++ z)) + rows_of (feed d a (suc j) r)) (g j)
+    ∙ ap (λ z. (own + row_total z) + rows_of (feed d a (suc j) r)) (append-nil h.inbox) ∙ ap (λ z. (own + row_total h.inbox) + z) (rows_kept d a (suc j) r g st)

@@ -7,7 +7,7 @@ use Rattle.vx_layout_spec.specs.LayoutTree.{LayoutData, row_count, renamed, flat
 use Rattle.vx_layout_spec.specs.Codec.{Lawful}
 use Rattle.vx_tasks.specs.Task.{Join}
 use Rattle.vx_tasks.specs.Nodes.{numbers}
-use Rattle.vx_plan.specs.PlanData.{Setting, Item}
+use Rattle.vx_plan.specs.PlanData.{Setting, Item, row_total}
 use Rattle.vx_plan.proofs.InOrderLaws.{renamed-gathered}
 use Rattle.vx_machine_turns.specs.Locals.{Local}
 use Rattle.vx_machine_turns.specs.Acts.{Seed, Act, alone, gathers, does, close_queues, shape_in}
@@ -56,7 +56,8 @@ module _ (s : Setting) (number : List ℕ → ℕ) (segment_number : ℕ) (all :
         numbers = refl;
         indices = sym (opened_none (less d q.type));
         wrote = refl;
-        untracked = (refl, refl);
+        raises = refl;
+        lowers = refl;
         after = λ f num. (
           then_done s number segment_number all d q0 j0 q places ks more hs r past m [] ks a [] l true xs closed pl sm ty (record {
             layout = flat_layout x.type x.rows s.encodings x.tree segment_number;
@@ -68,9 +69,9 @@ module _ (s : Setting) (number : List ℕ → ℕ) (segment_number : ℕ) (all :
             below = ap all_over (bare s number segment_number all d q0 j0 q places ks more hs r past law pl sm kids a none nk);
             free = ap all_paths (bare s number segment_number all d q0 j0 q places ks more hs r past law pl sm kids a none nk);
             laid_is = ap (λ z. map (renamed number) (shaped z (laid (feed (less d q.type) a 0 hs)))) kept ∙ ap (λ z. flat_layout x.type x.rows s.encodings x.tree z ∷ []) (sym (num x.id refl));
-            rows_are = sym (ap shape_rows kept);
+            rows_are = λ u. sym (ap (λ z. shape_rows z u) kept);
           }),
-          then_steady s number segment_number all d q0 j0 q places ks more hs r past (desk s number segment_number all d q0 j0 q places ks more hs r past ending (append x ∷ []) xs closed) m [] ks (head s number segment_number all d q0 j0 q places ks more hs r past past (a ∷ []) l true xs closed) a [] l true xs closed (ap shape_rows (kept ∙ sym sh)) refl,
+          then_steady s number segment_number all d q0 j0 q places ks more hs r past (desk s number segment_number all d q0 j0 q places ks more hs r past ending (append x ∷ []) xs closed) m [] ks (head s number segment_number all d q0 j0 q places ks more hs r past past (a ∷ []) l true xs closed) a [] l true xs closed (λ u v. ap (λ z. shape_rows z u + row_total xs) kept ∙ sym (ap (λ z. shape_rows z v + row_total xs) sh)) refl,
         );
       })
 
@@ -86,7 +87,7 @@ module _ (s : Setting) (number : List ℕ → ℕ) (segment_number : ℕ) (all :
       one_pair (SameStep s number segment_number d q0 j0 (task_then (desk s number segment_number all d q0 j0 q places ks more hs r past ending (join_kids (fold_chunks t) ∷ []) xs closed) ks more) (Work (head s number segment_number all d q0 j0 q places ks more hs r past past (a ∷ []) l true xs closed) hs r))
       (own_step (desk s number segment_number all d q0 j0 q places ks more hs r past ending (join_kids (fold_chunks t) ∷ []) xs closed) more (do_act s segment_number (desk s number segment_number all d q0 j0 q places ks more hs r past ending (join_kids (fold_chunks t) ∷ []) xs closed) ks (join_kids (fold_chunks t) ∷ []))) _
       (all_made ks && true) (all_over hs) (and_yes (all_made ks) ∙ made_all)
-      (λ k. let w : AllLaid s number ks hs = laid_all s number (less d q.type) q 0 ks hs kids (made_all ∙ k) in record {
+      (λ k. let w : AllLaid s number ks hs = laid_all s number (less d q.type) q 0 ks hs kids (made_all ∙ k) (free k) in record {
         name = refl;
         kind = refl;
         refusal = refl;
@@ -94,7 +95,8 @@ module _ (s : Setting) (number : List ℕ → ℕ) (segment_number : ℕ) (all :
         numbers = refl;
         indices = sym (opened_none (less d q.type));
         wrote = refl;
-        untracked = (refl, refl);
+        raises = refl;
+        lowers = refl;
         after = λ f num. (
           then_done s number segment_number all d q0 j0 q places ks more hs r past m [] no_tasks a [] l true xs closed pl sm ty (record {
             layout = gathered t (total_by row_count (layouts_in ks)) (layouts_in ks);
@@ -109,9 +111,9 @@ module _ (s : Setting) (number : List ℕ → ℕ) (segment_number : ℕ) (all :
                 ∙ ap (λ z. map (renamed number) (gathered t (rows_of hs) (laid z) ∷ [])) same
                 ∙ ap (λ z. z ∷ []) (renamed-gathered number t (rows_of hs) (laid hs)
                 ∙ ap (gathered t (rows_of hs)) (sym w.layouts) ∙ ap (λ z. gathered t z (layouts_in ks)) (sym w.rows));
-            rows_are = gathered_rows t (layouts_in ks) ∙ w.rows ∙ sym (ap shape_rows kept);
+            rows_are = λ u. gathered_rows t (layouts_in ks) ∙ w.rows ∙ sym (ap (λ z. shape_rows z u) kept);
           }),
-          then_steady s number segment_number all d q0 j0 q places ks more hs r past (desk s number segment_number all d q0 j0 q places ks more hs r past ending (join_kids (fold_chunks t) ∷ []) xs closed) m [] no_tasks (head s number segment_number all d q0 j0 q places ks more hs r past past (a ∷ []) l true xs closed) a [] l true xs closed (ap shape_rows (kept ∙ sym sh)) refl,
+          then_steady s number segment_number all d q0 j0 q places ks more hs r past (desk s number segment_number all d q0 j0 q places ks more hs r past ending (join_kids (fold_chunks t) ∷ []) xs closed) m [] no_tasks (head s number segment_number all d q0 j0 q places ks more hs r past past (a ∷ []) l true xs closed) a [] l true xs closed (λ u v. ap (λ z. shape_rows z u + row_total xs) kept ∙ sym (ap (λ z. shape_rows z v + row_total xs) sh)) refl,
         );
       })
 
@@ -128,13 +130,14 @@ module _ (s : Setting) (number : List ℕ → ℕ) (segment_number : ℕ) (all :
           numbers = refl;
           indices = sym (opened_none (less d q.type));
           wrote = refl;
-          untracked = (refl, refl);
+          raises = refl;
+          lowers = refl;
           after = λ f num. (
             then_open s number segment_number all d q0 j0 q places ks more hs r past ending (join_kids (fold_columns t rows) ∷ []) (shut_all ks) a (does Join ∷ []) l true xs closed pl sm ty
                 (joins_columns t rows (c ∙ sym (count-shut ks)) (record { mind_is = refl; left_is = refl; rest = refl; off = refl; shape_is = kept }))
                 (shut_shows s number (less d q.type) q 0 a ks hs kids (λ i. refl) (λ i x y. has_number i 0 (count ks) x y) refl),
             then_steady s number segment_number all d q0 j0 q places ks more hs r past (desk s number segment_number all d q0 j0 q places ks more hs r past ending (shut_kids ∷ join_kids (fold_columns t rows) ∷ []) xs closed) ending (join_kids (fold_columns t rows) ∷ []) (shut_all ks) (head s number segment_number all d q0 j0 q places ks more hs r past past (a ∷ does Join ∷ []) l true xs closed) a (does Join ∷ []) l true xs closed
-                (ap shape_rows (kept ∙ sym sh)) refl,
+                (λ u v. ap (λ z. shape_rows z u + row_total xs) kept ∙ ap (λ z. z + row_total xs) (columns_rows t rows u ∙ sym (columns_rows t rows v)) ∙ sym (ap (λ z. shape_rows z v + row_total xs) sh)) refl,
           );
         },
         tt,
@@ -152,7 +155,7 @@ module _ (s : Setting) (number : List ℕ → ℕ) (segment_number : ℕ) (all :
       one_pair (SameStep s number segment_number d q0 j0 (task_then (desk s number segment_number all d q0 j0 q places ks more hs r past ending (join_kids (fold_columns t rows) ∷ []) xs closed) ks more) (Work (head s number segment_number all d q0 j0 q places ks more hs r past past (a ∷ []) l true xs closed) hs r))
       (own_step (desk s number segment_number all d q0 j0 q places ks more hs r past ending (join_kids (fold_columns t rows) ∷ []) xs closed) more (do_act s segment_number (desk s number segment_number all d q0 j0 q places ks more hs r past ending (join_kids (fold_columns t rows) ∷ []) xs closed) ks (join_kids (fold_columns t rows) ∷ []))) _
       (all_made ks && (count ks == column_count t)) (all_over hs) (ap (λ z. all_made ks && z) (eq-eqb (count ks) (column_count t) (sym c)) ∙ and_yes (all_made ks) ∙ made_all)
-      (λ k. let w : AllLaid s number ks hs = laid_all s number (less d q.type) q 0 ks hs kids (made_all ∙ k) in record {
+      (λ k. let w : AllLaid s number ks hs = laid_all s number (less d q.type) q 0 ks hs kids (made_all ∙ k) (free k) in record {
         name = refl;
         kind = refl;
         refusal = refl;
@@ -160,7 +163,8 @@ module _ (s : Setting) (number : List ℕ → ℕ) (segment_number : ℕ) (all :
         numbers = refl;
         indices = sym (opened_none (less d q.type));
         wrote = refl;
-        untracked = (refl, refl);
+        raises = refl;
+        lowers = refl;
         after = λ f num. (
           then_done s number segment_number all d q0 j0 q places ks more hs r past m [] no_tasks a [] l true xs closed pl sm ty (record {
             layout = columns_layout t rows (layouts_in ks);
@@ -175,8 +179,8 @@ module _ (s : Setting) (number : List ℕ → ℕ) (segment_number : ℕ) (all :
                 ∙ ap (map (renamed number)) (shaped_columns t rows (laid (feed (less d q.type) a 0 hs)))
                 ∙ ap (λ z. map (renamed number) (columns_layout t rows (laid z) ∷ [])) same
                 ∙ ap (λ z. z ∷ []) (renamed-columns number t rows (laid hs) ∙ ap (columns_layout t rows) (sym w.layouts));
-            rows_are = rows_of_columns t rows (layouts_in ks) ∙ sym (columns_rows t rows) ∙ sym (ap shape_rows kept);
+            rows_are = λ u. rows_of_columns t rows (layouts_in ks) ∙ sym (columns_rows t rows u) ∙ sym (ap (λ z. shape_rows z u) kept);
           }),
-          then_steady s number segment_number all d q0 j0 q places ks more hs r past (desk s number segment_number all d q0 j0 q places ks more hs r past ending (join_kids (fold_columns t rows) ∷ []) xs closed) m [] no_tasks (head s number segment_number all d q0 j0 q places ks more hs r past past (a ∷ []) l true xs closed) a [] l true xs closed (ap shape_rows (kept ∙ sym sh)) refl,
+          then_steady s number segment_number all d q0 j0 q places ks more hs r past (desk s number segment_number all d q0 j0 q places ks more hs r past ending (join_kids (fold_columns t rows) ∷ []) xs closed) m [] no_tasks (head s number segment_number all d q0 j0 q places ks more hs r past past (a ∷ []) l true xs closed) a [] l true xs closed (λ u v. ap (λ z. shape_rows z u + row_total xs) kept ∙ ap (λ z. z + row_total xs) (columns_rows t rows u ∙ sym (columns_rows t rows v)) ∙ sym (ap (λ z. shape_rows z v + row_total xs) sh)) refl,
         );
       })

@@ -1,20 +1,21 @@
 -- What the program's tasks hold is what the abstract ones hold.
 use Rattle.std.proofs.Common.{◌≡◌, ◌⊎◌, ◌∷◌, ◌++◌, ◌∙◌, ℕ, suc, Bool, List, map, length, refl, sym, ap, inl, inr, arith, []}
-use Rattle.vx_model.specs.ChunkData.{ChunkData}
+use Rattle.vx_model.specs.ChunkData.{ChunkData, held}
 use Rattle.vx_path.specs.Path.{under}
-use Rattle.vx_plan.specs.PlanData.{Setting}
+use Rattle.vx_plan.specs.PlanData.{Setting, Item}
 use Rattle.vx_machine_turns.specs.Forms.{Writer}
 use Rattle.vx_machine_turns.specs.Locals.{Local}
-use Rattle.vx_machine_turns.specs.Acts.{Seed, Act}
+use Rattle.vx_machine_turns.specs.Acts.{Seed, Act, close_queues}
+use Rattle.vx_machine_turns.specs.Grouped.{weighed_puts, group_kept}
 use Rattle.vx_machine_turns.specs.Columns.{column_puts}
 use Rattle.vx_machine_turns.specs.Scripts.{all_uses, filled}
 use Rattle.vx_machine_turns.specs.Fuels.{Fuel, less}
 use Rattle.vx_machine_steps.specs.Tree.{Tree, Leaf, Work}
 use Rattle.vx_machine_steps.specs.Moves.{holding, all_paths}
 use Rattle.vx_machine_steps.specs.Stands.{kept_now, AllHold}
-use Rattle.vx_machine_view.specs.State.{Next, Mind, Tasks, no_tasks, task_then}
-use Rattle.vx_machine_view.specs.Acts.{puts}
-use Rattle.vx_machine_view.specs.Shows.{Stage, waits_first, waits_end, appends, splits, gathers_all, hands, hands_lists, shuts, joins_columns, Done, Shows}
+use Rattle.vx_machine_view.specs.State.{Next, shut_kids, Mind, Tasks, no_tasks, task_then}
+use Rattle.vx_machine_view.specs.Acts.{puts, hand_all}
+use Rattle.vx_machine_view.specs.Shows.{Stage, waits_first, waits_end, appends, splits, gathers_all, hands, hands_lists, shuts, joins_columns, regroups_rows, regroups_chunks, collects, passes_on, passed, Done, Shows}
 use Rattle.vx_machine_view.specs.Machine.{next_ids, mind_ids, held_by}
 use Rattle.vx_machine_view.proofs.Words.{carried}
 
@@ -23,6 +24,14 @@ puts_ids j p [] [] e = refl
 puts_ids j p [] (w ∷ ws) e = absurd (omega (arith, e))
 puts_ids j p (x ∷ xs) [] e = absurd (omega (arith, e))
 puts_ids j p (x ∷ xs) (w ∷ ws) e = ap (λ z. under p j ∷ z) (puts_ids (suc j) p xs ws (omega (arith, e)))
+
+hands_ids : (weight : ChunkData → ℕ) (keep : List (List ℕ)) (outs : List Item) → next_ids (hand_all weight outs) ≡ all_uses (filled keep (weighed_puts weight outs))
+hands_ids weight keep [] = refl
+hands_ids weight keep (i ∷ outs) = ap (λ z. i.0 ∷ z) (hands_ids weight keep outs)
+
+ends_ids : (weight : ChunkData → ℕ) (outs : List Item) → next_ids (hand_all weight outs ++ (shut_kids ∷ [])) ≡ all_uses (filled [] (weighed_puts weight outs ++ (close_queues (0 ∷ []) ∷ [])))
+ends_ids weight [] = refl
+ends_ids weight (i ∷ outs) = ap (λ z. i.0 ∷ z) (ends_ids weight outs)
 
 stage_holds : (s : Setting) (d : Fuel) (mind : Mind) (left : List Next) (ks : Tasks) (q : Seed) (past todo : List Act) (l : Local) (over : Bool) (hs : Tree)
     → Stage s d mind left ks q past todo l over hs → next_ids left ++ mind_ids mind ≡ all_uses todo ++ kept_now over l
@@ -37,6 +46,14 @@ stage_holds s d mind left ks q past todo l over hs (hands_lists n first from row
     (ap (λ z. z ++ []) (puts_ids j p xs ws w.same))
 stage_holds s d mind left ks q past todo l over hs (shuts t rows c w) = carried (λ m f a z o. next_ids f ++ mind_ids m ≡ all_uses a ++ kept_now o z) w.mind_is w.left_is w.rest refl w.off refl
 stage_holds s d mind left ks q past todo l over hs (joins_columns t rows c w) = carried (λ m f a z o. next_ids f ++ mind_ids m ≡ all_uses a ++ kept_now o z) w.mind_is w.left_is w.rest refl w.off refl
+stage_holds s d mind left ks q past todo l over hs (regroups_rows o n x j rows outs tj nh w) = carried (λ m f a l o. next_ids f ++ mind_ids m ≡ all_uses a ++ kept_now o l) w.mind_is w.left_is w.rest w.local_is w.on
+    (ap (λ z. z ++ group_kept j) (hands_ids (λ p. 0) (group_kept j) outs))
+stage_holds s d mind left ks q past todo l over hs (regroups_chunks size n x j rows outs tx tj nh w) = carried (λ m f a l o. next_ids f ++ mind_ids m ≡ all_uses a ++ kept_now o l) w.mind_is w.left_is w.rest w.local_is w.on
+    (ap (λ z. z ++ group_kept j) (hands_ids held (group_kept j) outs))
+stage_holds s d mind left ks q past todo l over hs (collects n x rows w) = carried (λ m f a l o. next_ids f ++ mind_ids m ≡ all_uses a ++ kept_now o l) w.mind_is w.left_is w.rest w.local_is w.on refl
+stage_holds s d mind left ks q past todo l over hs (passes_on t weight outs one to w) = carried (λ m f a z o. next_ids f ++ mind_ids m ≡ all_uses a ++ kept_now o z) w.mind_is w.left_is w.rest refl w.off
+    (ap (λ z. z ++ []) (ends_ids weight outs))
+stage_holds s d mind left ks q past todo l over hs (passed t one w) = carried (λ m f a z o. next_ids f ++ mind_ids m ≡ all_uses a ++ kept_now o z) w.mind_is w.left_is w.rest refl w.off refl
 
 done_holds : (number : List ℕ → ℕ) (mind : Mind) (left : List Next) (ks : Tasks) (past todo : List Act) (l : Local) (over : Bool) (hs : Tree) → Done number mind left ks past todo over hs
     → next_ids left ++ mind_ids mind ≡ all_uses todo ++ kept_now over l

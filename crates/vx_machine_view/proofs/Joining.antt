@@ -1,56 +1,120 @@
 -- Children that have done all, on both sides.
-use Rattle.std.proofs.Common.{◌≡◌, ◌+◌, ◌&&◌, ◌⊎◌, ◌∷◌, ◌++◌, ◌∙◌, ℕ, suc, Bool, true, false, List, map, refl, sym, ap, inl, inr, None, []}
+use Rattle.std.proofs.Common.{◌≡◌, ◌+◌, ◌&&◌, ◌⊎◌, ◌∷◌, ◌++◌, ◌∙◌, ℕ, suc, Bool, true, false, List, map, refl, sym, ap, inl, inr, arith, None, []}
 use Rattle.std.proofs.lemmas.List.{map-append}
 use Rattle.vx_model.specs.Words.{total_by}
-use Rattle.vx_layout_spec.specs.LayoutTree.{row_count, renamed}
-use Rattle.vx_plan.specs.PlanData.{Setting}
-use Rattle.vx_machine_turns.specs.Acts.{Seed, Act, shape_in}
+use Rattle.vx_model.specs.ChunkData.{ChunkData}
+use Rattle.vx_model.specs.Ty.{Ty, struct}
+use Rattle.vx_layout_spec.specs.LayoutTree.{LayoutData, row_count, renamed}
+use Rattle.vx_rules.specs.Blocks.{block_len}
+use Rattle.vx_plan.specs.PlanData.{Setting, Item, row_total, rows_in}
+use Rattle.vx_plan.specs.FlatNode.{inlined}
+use Rattle.vx_machine_turns.specs.Acts.{Seed, Act, passes, close_queues, shape_in, gifts}
+use Rattle.vx_machine_turns.specs.Grouped.{weighed_puts}
 use Rattle.vx_machine_turns.specs.Locals.{Local}
 use Rattle.vx_machine_turns.specs.Readings.{shaped}
+use Rattle.vx_machine_turns.specs.Scripts.{filled}
 use Rattle.vx_machine_turns.specs.Fuels.{Fuel, less}
 use Rattle.vx_machine_steps.specs.Tree.{Head, Tree, Leaf, Work}
-use Rattle.vx_machine_steps.specs.Moves.{due, due_todo, due_more, is_nil, all_over, tree_moves, move_own, in_kids, in_rest}
-use Rattle.vx_machine_view.specs.State.{Next, Mind, Tasks, no_tasks, task_then}
-use Rattle.vx_machine_view.specs.Acts.{layout_in, layouts_in}
-use Rattle.vx_machine_view.specs.Moves.{is_made, all_made}
-use Rattle.vx_machine_view.specs.Shows.{Stage, waits_first, waits_end, appends, splits, gathers_all, hands, hands_lists, shuts, joins_columns, Done, Shows, laid, rows_of, task_rows}
-use Rattle.vx_machine_view.proofs.Words.{true_false, and_left, and_right}
+use Rattle.vx_machine_steps.specs.Moves.{due, due_todo, due_more, holding, is_nil, all_paths, all_over, tree_moves, move_own, in_kids, in_rest}
+use Rattle.vx_machine_view.specs.State.{Next, shut_kids, Mind, no_chunk, one_chunk, by_chunk, by_column, by_list, by_block, by_size, as_one, ending, passing, Tasks, no_tasks, task_then}
+use Rattle.vx_machine_view.specs.Acts.{layout_in, layouts_in, hand_all}
+use Rattle.vx_machine_view.specs.Moves.{is_empty, is_made, all_made}
+use Rattle.vx_machine_view.specs.Machine.{has_layout}
+use Rattle.vx_machine_view.specs.Shows.{Ends, Stage, waits_first, waits_end, appends, splits, gathers_all, hands, hands_lists, shuts, joins_columns, regroups_rows, regroups_chunks, collects, passes_on, passed, Done, Shows, laid, rows_of, types_of, shape_rows, task_rows}
+use Rattle.vx_machine_view.proofs.Words.{true_false, left_nil, right_nil, no_firsts, and_left, and_right}
+
+-- ---- what hasn't done all, and what has its only child's layout
+
+-- it is neither made nor over
+pub record Busy (mind : Mind) (left : List Next) (todo : List Act) (over : Bool) : Type 0 where
+  pub unmade : (b : Bool) → is_made mind left b ≡ false
+  pub unlaid : (ks : Tasks) (b x : Bool) → (has_layout mind ks b && (is_empty left && x)) ≡ false
+  pub goes_on : (x : Bool) → (is_nil todo && over && x) ≡ false
+
+-- nothing is left to do, and its child's layout is its own
+pub record Passed (mind : Mind) (left : List Next) (past todo : List Act) (over : Bool) (hs : Tree) : Type 0 where
+  pub type : Ty
+  pub one : types_of hs ≡ type ∷ []
+  pub ends : Ends mind left past todo over passing [] [] passes
 
 off_false : (b x : Bool) → (b && false && x) ≡ false
 off_false true x = refl
 off_false false x = refl
 
--- what hasn't done all is neither made nor over
+no_and : (b : Bool) → (b && false) ≡ false
+no_and true = refl
+no_and false = refl
 
-pub stage_open : (s : Setting) (d : Fuel) (mind : Mind) (left : List Next) (ks : Tasks) (q : Seed) (past todo : List Act) (l : Local) (over : Bool) (hs : Tree)
-    → Stage s d mind left ks q past todo l over hs → is_made mind ≡ false
-stage_open s d mind left ks q past todo l over hs (waits_first o t k r) = ap is_made r.mind_is
-stage_open s d mind left ks q past todo l over hs (waits_end o t x b k r) = ap is_made r.mind_is
-stage_open s d mind left ks q past todo l over hs (appends x k r) = ap is_made r.mind_is
-stage_open s d mind left ks q past todo l over hs (splits n e a b c f g u r) = ap is_made r.mind_is
-stage_open s d mind left ks q past todo l over hs (gathers_all t u r) = ap is_made r.mind_is
-stage_open s d mind left ks q past todo l over hs (hands n rows j p xs ws t v r) = ap is_made r.mind_is
-stage_open s d mind left ks q past todo l over hs (hands_lists n first from rows j p xs ws t v r) = ap is_made r.mind_is
-stage_open s d mind left ks q past todo l over hs (shuts t rows c r) = ap is_made r.mind_is
-stage_open s d mind left ks q past todo l over hs (joins_columns t rows c r) = ap is_made r.mind_is
+on_busy : (over : Bool) (todo : List Act) → over ≡ false → (x : Bool) → (is_nil todo && over && x) ≡ false
+on_busy over todo e x = ap (λ z. is_nil todo && z && x) e ∙ off_false (is_nil todo) x
 
-on_busy : (over : Bool) (todo : List Act) (x : Bool) → over ≡ false → (is_nil todo && over && x) ≡ false
-on_busy over todo x e = ap (λ z. is_nil todo && z && x) e ∙ off_false (is_nil todo) x
+ends_busy : (over : Bool) (todo : List Act) (a : Act) (acts : List Act) → todo ≡ a ∷ acts → (x : Bool) → (is_nil todo && over && x) ≡ false
+ends_busy over todo a acts e x = ap (λ z. is_nil z && over && x) e
 
-ends_busy : (over : Bool) (todo : List Act) (x : Bool) (a : Act) (acts : List Act) → todo ≡ a ∷ acts → (is_nil todo && over && x) ≡ false
-ends_busy over todo x a acts e = ap (λ z. is_nil z && over && x) e
+busy_by : (mind m : Mind) (left : List Next) (todo : List Act) (over : Bool) → mind ≡ m → ((b : Bool) → is_made m left b ≡ false) → ((ks : Tasks) (b : Bool) → has_layout m ks b ≡ false)
+    → ((x : Bool) → (is_nil todo && over && x) ≡ false) → Busy mind left todo over
+busy_by mind m left todo over e f g h = record {
+  unmade = λ b. ap (λ z. is_made z left b) e ∙ f b;
+  unlaid = λ ks b x. ap (λ z. has_layout z ks b && (is_empty left && x)) e ∙ ap (λ z. z && (is_empty left && x)) (g ks b);
+  goes_on = h;
+}
 
-pub stage_busy : (s : Setting) (d : Fuel) (mind : Mind) (left : List Next) (ks : Tasks) (q : Seed) (past todo : List Act) (l : Local) (over : Bool) (hs : Tree) (x : Bool)
-    → Stage s d mind left ks q past todo l over hs → (is_nil todo && over && x) ≡ false
-stage_busy s d mind left ks q past todo l over hs x (waits_first o t k r) = on_busy over todo x r.on
-stage_busy s d mind left ks q past todo l over hs x (waits_end o t y b k r) = on_busy over todo x r.on
-stage_busy s d mind left ks q past todo l over hs x (appends y k r) = ends_busy over todo x _ _ r.rest
-stage_busy s d mind left ks q past todo l over hs x (splits n e a b c f g u r) = on_busy over todo x r.on
-stage_busy s d mind left ks q past todo l over hs x (gathers_all t u r) = ends_busy over todo x _ _ r.rest
-stage_busy s d mind left ks q past todo l over hs x (hands n rows j p xs ws t v r) = on_busy over todo x r.on
-stage_busy s d mind left ks q past todo l over hs x (hands_lists n first from rows j p xs ws t v r) = on_busy over todo x r.on
-stage_busy s d mind left ks q past todo l over hs x (shuts t rows c r) = ends_busy over todo x _ _ r.rest
-stage_busy s d mind left ks q past todo l over hs x (joins_columns t rows c r) = ends_busy over todo x _ _ r.rest
+-- what is left to hand on, and to close, is something
+outs_left : (weight : ChunkData → ℕ) (outs : List Item) → is_empty (hand_all weight outs ++ (shut_kids ∷ [])) ≡ false
+outs_left weight [] = refl
+outs_left weight (i ∷ outs) = refl
+
+outs_todo : (weight : ChunkData → ℕ) (outs : List Item) → is_nil (filled [] (weighed_puts weight outs ++ (close_queues (0 ∷ []) ∷ []))) ≡ false
+outs_todo weight [] = refl
+outs_todo weight (i ∷ outs) = refl
+
+pub stage_parts : (s : Setting) (d : Fuel) (mind : Mind) (left : List Next) (ks : Tasks) (q : Seed) (past todo : List Act) (l : Local) (over : Bool) (hs : Tree)
+    → Stage s d mind left ks q past todo l over hs → Busy mind left todo over ⊎ Passed mind left past todo over hs
+stage_parts s d mind left ks q past todo l over hs (waits_first o t k r) = inl (busy_by mind (no_chunk o t) left todo over r.mind_is (λ b. refl) (λ ks b. refl) (on_busy over todo r.on))
+stage_parts s d mind left ks q past todo l over hs (waits_end o t x y k r) =
+    inl (busy_by mind (one_chunk (record { id = x.0; bytes = y; tree = inlined s o x; rows = rows_in x.1; type = t })) left todo over r.mind_is (λ b. refl) (λ ks b. refl) (on_busy over todo r.on))
+stage_parts s d mind left ks q past todo l over hs (appends y k r) = inl (busy_by mind ending left todo over r.mind_is (λ b. refl) (λ ks b. refl) (ends_busy over todo _ _ r.rest))
+stage_parts s d mind left ks q past todo l over hs (splits n e a b c f g u r) =
+    inl (busy_by mind (by_chunk n.mark n.type n.child e (rows_of hs)) left todo over r.mind_is (λ b. refl) (λ ks b. refl) (on_busy over todo r.on))
+stage_parts s d mind left ks q past todo l over hs (gathers_all t u r) = inl (busy_by mind ending left todo over r.mind_is (λ b. refl) (λ ks b. refl) (ends_busy over todo _ _ r.rest))
+stage_parts s d mind left ks q past todo l over hs (hands n rows j p xs ws t v r) =
+    inl (busy_by mind (by_column (struct n.fields n.nullable) rows) left todo over r.mind_is (λ b. refl) (λ ks b. refl) (on_busy over todo r.on))
+stage_parts s d mind left ks q past todo l over hs (hands_lists n first from rows j p xs ws t v r) =
+    inl (busy_by mind (by_list n.elements n.nullable first from rows) left todo over r.mind_is (λ b. refl) (λ ks b. refl) (on_busy over todo r.on))
+stage_parts s d mind left ks q past todo l over hs (shuts t rows c r) = inl (busy_by mind ending left todo over r.mind_is (λ b. refl) (λ ks b. refl) (ends_busy over todo _ _ r.rest))
+stage_parts s d mind left ks q past todo l over hs (joins_columns t rows c r) = inl (busy_by mind ending left todo over r.mind_is (λ b. refl) (λ ks b. refl) (ends_busy over todo _ _ r.rest))
+stage_parts s d mind left ks q past todo l over hs (regroups_rows o n x j rows outs tj nh r) =
+    inl (busy_by mind (by_block (block_len o n.type) o.minimum n.type x j rows) left todo over r.mind_is (λ b. refl) (λ ks b. refl) (on_busy over todo r.on))
+stage_parts s d mind left ks q past todo l over hs (regroups_chunks size n x j rows outs tx tj nh r) =
+    inl (busy_by mind (by_size size x j rows) left todo over r.mind_is (λ b. refl) (λ ks b. refl) (on_busy over todo r.on))
+stage_parts s d mind left ks q past todo l over hs (collects n x rows r) = inl (busy_by mind (as_one n.type x rows) left todo over r.mind_is (λ b. refl) (λ ks b. refl) (on_busy over todo r.on))
+stage_parts s d mind left ks q past todo l over hs (passes_on t weight outs one ty r) =
+    let some : is_empty left ≡ false = ap is_empty r.left_is ∙ outs_left weight outs in
+    inl (record {
+      unmade = λ b. ap (λ z. is_made z left b) r.mind_is ∙ ap (λ z. z && b) some;
+      unlaid = λ ks b x. ap (λ z. has_layout mind ks b && (z && x)) some ∙ no_and (has_layout mind ks b);
+      goes_on = λ x. ap (λ z. is_nil z && over && x) r.rest ∙ ap (λ z. z && over && x) (outs_todo weight outs);
+    })
+stage_parts s d mind left ks q past todo l over hs (passed t one r) = inr (record { type = t; one = one; ends = r })
+
+-- what is made, of those that haven't a layout of their own, has its child's
+pub stage_made : (s : Setting) (d : Fuel) (mind : Mind) (left : List Next) (ks : Tasks) (q : Seed) (past todo : List Act) (l : Local) (over : Bool) (hs : Tree) (b : Bool)
+    → Stage s d mind left ks q past todo l over hs → is_made mind left b ≡ true → (b ≡ true) × Passed mind left past todo over hs
+stage_made s d mind left ks q past todo l over hs b st e = by (stage_parts s d mind left ks q past todo l over hs st)
+  where
+    by : Busy mind left todo over ⊎ Passed mind left past todo over hs → (b ≡ true) × Passed mind left past todo over hs
+    by (inl w) = absurd (true_false (sym e ∙ w.unmade b))
+    by (inr w) = (sym (ap (λ z. is_made z left b) w.ends.mind_is ∙ ap (λ z. is_empty z && b) w.ends.left_is) ∙ e, w)
+
+-- it is made where all is over below it and nothing is left to do
+pub stage_over : (s : Setting) (d : Fuel) (mind : Mind) (left : List Next) (ks : Tasks) (q : Seed) (past todo : List Act) (l : Local) (over : Bool) (hs : Tree) (b x : Bool)
+    → Stage s d mind left ks q past todo l over hs → b ≡ x → is_made mind left b ≡ (is_nil todo && over && x)
+stage_over s d mind left ks q past todo l over hs b x st e = by (stage_parts s d mind left ks q past todo l over hs st)
+  where
+    by : Busy mind left todo over ⊎ Passed mind left past todo over hs → is_made mind left b ≡ (is_nil todo && over && x)
+    by (inl w) = w.unmade b ∙ sym (w.goes_on x)
+    by (inr w) = ap (λ z. is_made z left b) w.ends.mind_is ∙ ap (λ z. is_empty z && b) w.ends.left_is ∙ e
+        ∙ sym (ap (λ z. is_nil z && over && x) w.ends.rest ∙ ap (λ z. true && z && x) w.ends.off)
 
 pub done_over : (number : List ℕ → ℕ) (mind : Mind) (left : List Next) (ks : Tasks) (past todo : List Act) (over : Bool) (hs : Tree) → Done number mind left ks past todo over hs
     → (is_nil todo && over && all_over hs) ≡ true
@@ -61,40 +125,81 @@ module _ (s : Setting) (number : List ℕ → ℕ) where
   made_is d q j no_tasks Leaf w = refl
   made_is d q j no_tasks (Work h hs r) w = absurd w
   made_is d q j (task_then c ks more) Leaf w = absurd w
-  made_is d q j (task_then c ks more) (Work h hs r) w = by w.1 (made_is d q (suc j) more r w.2)
+  made_is d q j (task_then c ks more) (Work h hs r) w = by w.1 (λ k. made_is (less d h.seed.type) h.seed 0 ks hs k) (made_is d q (suc j) more r w.2)
     where
       by : (Stage s (less d h.seed.type) c.mind c.todo ks h.seed h.past h.todo h.local h.over hs × Shows s number (less d h.seed.type) h.seed 0 ks hs)
-          ⊎ Done number c.mind c.todo ks h.past h.todo h.over hs → all_made more ≡ all_over r
-          → (is_made c.mind && all_made more) ≡ ((is_nil h.todo && h.over && all_over hs) && all_over r)
-      by (inl (st, k)) others = ap (λ z. z && all_made more) (stage_open s (less d h.seed.type) c.mind c.todo ks h.seed h.past h.todo h.local h.over hs st)
-          ∙ sym (ap (λ z. z && all_over r) (stage_busy s (less d h.seed.type) c.mind c.todo ks h.seed h.past h.todo h.local h.over hs (all_over hs) st))
-      by (inr e) others = ap (λ z. z && all_made more) (ap is_made e.mind_is) ∙ others
+          ⊎ Done number c.mind c.todo ks h.past h.todo h.over hs → (Shows s number (less d h.seed.type) h.seed 0 ks hs → all_made ks ≡ all_over hs) → all_made more ≡ all_over r
+          → (is_made c.mind c.todo (all_made ks) && all_made more) ≡ ((is_nil h.todo && h.over && all_over hs) && all_over r)
+      by (inl (st, k)) below others =
+          ap (λ z. z && all_made more) (stage_over s (less d h.seed.type) c.mind c.todo ks h.seed h.past h.todo h.local h.over hs (all_made ks) (all_over hs) st (below k))
+          ∙ ap (λ z. (is_nil h.todo && h.over && all_over hs) && z) others
+      by (inr e) below others = ap (λ z. is_made z c.todo (all_made ks) && all_made more) e.mind_is ∙ others
           ∙ sym (ap (λ z. z && all_over r) (done_over number c.mind c.todo ks h.past h.todo h.over hs e))
 
   pub record AllLaid (cs : Tasks) (t : Tree) : Type 0 where
     pub layouts : layouts_in cs ≡ map (renamed number) (laid t)
     pub rows : total_by row_count (layouts_in cs) ≡ rows_of t
 
-  pub laid_all : (d : Fuel) (q : Seed) (j : ℕ) (cs : Tasks) (t : Tree) → Shows s number d q j cs t → all_made cs ≡ true → AllLaid cs t
-  laid_all d q j no_tasks Leaf w m = record { layouts = refl; rows = refl }
-  laid_all d q j no_tasks (Work h hs r) w m = absurd w
-  laid_all d q j (task_then c ks more) Leaf w m = absurd w
-  laid_all d q j (task_then c ks more) (Work h hs r) w m = by w.1 (laid_all d q (suc j) more r w.2 (and_right (is_made c.mind) (all_made more) m))
+  row_sums : (xs ys : List (LayoutData ℕ)) → total_by row_count (xs ++ ys) ≡ total_by row_count xs + total_by row_count ys
+  row_sums [] ys = let e : total_by row_count ys ≡ 0 + total_by row_count ys = omega arith in e
+  row_sums (x ∷ xs) ys =
+      let h : total_by row_count (xs ++ ys) ≡ total_by row_count xs + total_by row_count ys = row_sums xs ys in
+      let e : row_count x + total_by row_count (xs ++ ys) ≡ (row_count x + total_by row_count xs) + total_by row_count ys = omega (arith, h) in e
+
+  -- where nothing is held below any more
+  pub laid_all : (d : Fuel) (q : Seed) (j : ℕ) (cs : Tasks) (t : Tree) → Shows s number d q j cs t → all_made cs ≡ true → all_paths t ≡ [] → AllLaid cs t
+  laid_all d q j no_tasks Leaf w m free = record { layouts = refl; rows = refl }
+  laid_all d q j no_tasks (Work h hs r) w m free = absurd w
+  laid_all d q j (task_then c ks more) Leaf w m free = absurd w
+  laid_all d q j (task_then c ks more) (Work h hs r) w m free =
+      by w.1 (λ k b f. laid_all (less d h.seed.type) h.seed 0 ks hs k b f)
+      (laid_all d q (suc j) more r w.2 (and_right (is_made c.mind c.todo (all_made ks)) (all_made more) m) (right_nil (map (λ x. x.0) h.inbox ++ (holding h ++ all_paths hs)) (all_paths r) free))
     where
-      no_true : (b : Bool) → b ≡ false → b ≡ true → ⊥
-      no_true b e f = cc
+      none_here : map (λ x. x.0) h.inbox ++ (holding h ++ all_paths hs) ≡ []
+      none_here = left_nil (map (λ x. x.0) h.inbox ++ (holding h ++ all_paths hs)) (all_paths r) free
+
+      none_below : all_paths hs ≡ []
+      none_below = right_nil (holding h) (all_paths hs) (right_nil (map (λ x. x.0) h.inbox) (holding h ++ all_paths hs) none_here)
+
+      none_in : row_total h.inbox ≡ 0
+      none_in = ap row_total (no_firsts h.inbox (left_nil (map (λ x. x.0) h.inbox) (holding h ++ all_paths hs) none_here))
+
+      sent : ℕ
+      sent = row_total (gifts 0 h.todo) + rows_of hs
 
       by : (Stage s (less d h.seed.type) c.mind c.todo ks h.seed h.past h.todo h.local h.over hs × Shows s number (less d h.seed.type) h.seed 0 ks hs)
-          ⊎ Done number c.mind c.todo ks h.past h.todo h.over hs → AllLaid more r → AllLaid (task_then c ks more) (Work h hs r)
-      by (inl (st, k)) others = absurd (no_true (is_made c.mind) (stage_open s (less d h.seed.type) c.mind c.todo ks h.seed h.past h.todo h.local h.over hs st) (and_left (is_made c.mind) (all_made more) m))
-      by (inr e) others = record {
-        layouts = ap (λ z. z ++ layouts_in more) (ap layout_in e.mind_is ∙ sym e.laid_is)
-            ∙ ap (λ z. map (renamed number) (shaped (shape_in h.past) (laid hs)) ++ z) others.layouts
-            ∙ sym (map-append (renamed number) (shaped (shape_in h.past) (laid hs)) (laid r));
-        rows = ap (λ z. total_by row_count (z ++ layouts_in more)) (ap layout_in e.mind_is)
-            ∙ ap (λ z. z + total_by row_count (layouts_in more)) (e.rows_are ∙ sym (ap (λ z. task_rows z h.local h.past h.inbox) e.off))
-            ∙ ap (λ z. task_rows h.over h.local h.past h.inbox + z) others.rows;
-      }
+          ⊎ Done number c.mind c.todo ks h.past h.todo h.over hs
+          → (Shows s number (less d h.seed.type) h.seed 0 ks hs → all_made ks ≡ true → all_paths hs ≡ [] → AllLaid ks hs) → AllLaid more r → AllLaid (task_then c ks more) (Work h hs r)
+      by (inl (st, k)) deeper others =
+          let x : (all_made ks ≡ true) × Passed c.mind c.todo h.past h.todo h.over hs =
+          stage_made s (less d h.seed.type) c.mind c.todo ks h.seed h.past h.todo h.local h.over hs (all_made ks) st (and_left (is_made c.mind c.todo (all_made ks)) (all_made more) m) in
+          let y : AllLaid ks hs = deeper k x.0 none_below in
+          let a : total_by row_count (layouts_in ks ++ layouts_in more) ≡ total_by row_count (layouts_in ks) + total_by row_count (layouts_in more) = row_sums (layouts_in ks) (layouts_in more) in
+          let b : task_rows h.over h.local h.past sent ≡ 0 + rows_of hs =
+          ap (λ z. task_rows z h.local h.past sent) x.1.ends.off ∙ ap (λ z. shape_rows z sent) x.1.ends.shape_is ∙ ap (λ z. row_total (gifts 0 z) + rows_of hs) x.1.ends.rest in
+          let c1 : total_by row_count (layouts_in ks) ≡ rows_of hs = y.rows in
+          let c2 : total_by row_count (layouts_in more) ≡ rows_of r = others.rows in
+          let c3 : row_total h.inbox ≡ 0 = none_in in
+          let all : total_by row_count (layouts_in ks ++ layouts_in more) ≡ (task_rows h.over h.local h.past sent + row_total h.inbox) + rows_of r = omega (arith, a, b, c1, c2, c3) in
+          record {
+            layouts = ap (λ z. layout_in z (layouts_in ks) ++ layouts_in more) x.1.ends.mind_is
+                ∙ ap (λ z. z ++ layouts_in more) y.layouts
+                ∙ ap (λ z. map (renamed number) (shaped z (laid hs)) ++ layouts_in more) (sym x.1.ends.shape_is)
+                ∙ ap (λ z. map (renamed number) (shaped (shape_in h.past) (laid hs)) ++ z) others.layouts
+                ∙ sym (map-append (renamed number) (shaped (shape_in h.past) (laid hs)) (laid r));
+            rows = ap (λ z. total_by row_count (layout_in z (layouts_in ks) ++ layouts_in more)) x.1.ends.mind_is ∙ all;
+          }
+      by (inr e) deeper others =
+          let b : task_rows h.over h.local h.past sent ≡ row_count e.layout = ap (λ z. task_rows z h.local h.past sent) e.off ∙ sym (e.rows_are sent) in
+          let c2 : total_by row_count (layouts_in more) ≡ rows_of r = others.rows in
+          let c3 : row_total h.inbox ≡ 0 = none_in in
+          let all : row_count e.layout + total_by row_count (layouts_in more) ≡ (task_rows h.over h.local h.past sent + row_total h.inbox) + rows_of r = omega (arith, b, c2, c3) in
+          record {
+            layouts = ap (λ z. layout_in z (layouts_in ks) ++ layouts_in more) e.mind_is ∙ ap (λ z. z ++ layouts_in more) (sym e.laid_is)
+                ∙ ap (λ z. map (renamed number) (shaped (shape_in h.past) (laid hs)) ++ z) others.layouts
+                ∙ sym (map-append (renamed number) (shaped (shape_in h.past) (laid hs)) (laid r));
+            rows = ap (λ z. total_by row_count (layout_in z (layouts_in ks) ++ layouts_in more)) e.mind_is ∙ all;
+          }
 
 -- where all is over, nothing can be done
 

@@ -4,6 +4,8 @@ pub mod Beginning
 pub mod Joining
 pub mod Acting
 pub mod Folding
+pub mod Grouping
+pub mod Regrouping
 pub mod Moving
 pub mod Holding
 pub mod Building
@@ -13,4 +15,5 @@ pub mod Ending
 pub mod Wholes
 pub mod Counting
 pub mod Underway
+pub mod Reserving
 pub mod Placing

@@ -1,14 +1,17 @@
 -- What tasks can do is what the abstract ones can, on all levels.
 use Rattle.std.proofs.Common.{◌≡◌, ◌+◌, ◌&&◌, ◌⊎◌, ◌∷◌, ◌++◌, ◌∙◌, ℕ, suc, Bool, true, false, cond, not, List, map, length, refl, sym, ap, subst, inl, inr, arith, get_or, Some, []}
-use Rattle.vx_model.specs.ChunkData.{ChunkData}
+use Rattle.vx_model.specs.ChunkData.{ChunkData, held}
 use Rattle.vx_layout_spec.specs.Codec.{Lawful}
 use Rattle.vx_tasks.specs.Task.{Join}
 use Rattle.vx_tasks.specs.Nodes.{numbers}
 use Rattle.vx_model.specs.Ty.{Ty, struct}
-use Rattle.vx_plan.specs.PlanData.{Setting, Item}
+use Rattle.vx_rules.specs.Blocks.{block_len}
+use Rattle.vx_plan.specs.PlanData.{Setting, Item, row_total}
 use Rattle.vx_machine_turns.specs.Forms.{Writer}
-use Rattle.vx_machine_turns.specs.Locals.{Local, chunked_local, struct_local, list_local}
-use Rattle.vx_machine_turns.specs.Acts.{Seed, Act, does, close_queues, gathers}
+use Rattle.vx_machine_turns.specs.Locals.{Local, chunked_local, struct_local, list_local, blocks_local, bytes_local, collect_local}
+use Rattle.vx_machine_turns.specs.Acts.{Seed, Act, does, close_queues, gathers, gifts}
+use Rattle.vx_machine_turns.specs.Grouped.{group_kept}
+use Rattle.vx_machine_turns.specs.Collected.{collect_kept}
 use Rattle.vx_machine_turns.specs.Columns.{column_puts}
 use Rattle.vx_machine_turns.specs.Scripts.{filled}
 use Rattle.vx_machine_turns.specs.Fuels.{Fuel, less}
@@ -16,18 +19,20 @@ use Rattle.vx_machine_steps.specs.Tree.{Head, Tree, Leaf, Work}
 use Rattle.vx_machine_steps.specs.Moves.{Due, doing, due, due_todo, is_nil, all_paths, all_over, TreeMove, tree_moves, move_own}
 use Rattle.vx_machine_steps.specs.Moves as abstract
 use Rattle.vx_machine_steps.specs.Laws.{JoinsFree}
-use Rattle.vx_machine_view.specs.State.{Next, Mind, by_chunk, by_column, by_list, Desk, Tasks, no_tasks, task_then}
+use Rattle.vx_machine_view.specs.State.{Next, Mind, by_chunk, by_column, by_list, by_block, by_size, as_one, passing, Desk, Tasks, no_tasks, task_then}
 use Rattle.vx_machine_view.specs.Acts.{count, do_act, puts}
 use Rattle.vx_machine_view.specs.Moves.{Step, own_step, in_kids, in_rest, steps, may_act, may_take, is_over}
 use Rattle.vx_machine_view.specs.Built.{column_types, list_types}
 use Rattle.vx_machine_view.specs.Typed.{AllTyped, EachTyped}
-use Rattle.vx_machine_view.specs.Shows.{Alike, Hands, Counted, Stage, waits_first, waits_end, appends, splits, gathers_all, hands, hands_lists, shuts, joins_columns, Done, Shows, rows_of, types_of, task_rows}
+use Rattle.vx_machine_view.specs.Shows.{Alike, Hands, Groups, Counted, Stage, waits_first, waits_end, appends, splits, gathers_all, hands, hands_lists, shuts, joins_columns, regroups_rows, regroups_chunks, collects, passes_on, passed, Done, Shows, rows_of, types_of, local_rows, task_rows}
 use Rattle.vx_machine_view.specs.Steps.{AllPairs, Steady, SameStep, StepsShow}
 use Rattle.vx_machine_view.proofs.Words.{carried, pairs_append, pairs_map}
 use Rattle.vx_machine_view.proofs.Feeding.{none_counted}
 use Rattle.vx_machine_view.proofs.Joining.{over_due, over_idle}
 use Rattle.vx_machine_view.proofs.Acting.{desk, Own, Going, first_own, one_own, chunks_own, put_own, struct_going, columns_own, lists_going, lists_own}
 use Rattle.vx_machine_view.proofs.Folding.{append_own, gather_own, shut_own, join_own}
+use Rattle.vx_machine_view.proofs.Grouping.{passes_own}
+use Rattle.vx_machine_view.proofs.Regrouping.{blocks_own, buffer_own, collect_own}
 
 -- ---- a task by itself
 
@@ -44,9 +49,9 @@ own_moves s number next all d q0 j0 q places ks more hs r past law pl sm kids mi
   where
     -- a node with columns: it puts the next one, or it takes what is next
     on_columns : (m : Mind) (x : Local) (types : List Ty) (j : ℕ) (p : List ℕ) (ps : List ChunkData) (ws : List Writer) → Hands mind left past todo l over hs m x types j p ps ws
-        → Going s number next all d q0 j0 q places ks more hs r past law pl sm kids m x types → Own s number next all d q0 j0 q places ks more hs r past m [] [] x false xs closed
+        → Going s number next all d q0 j0 q places ks more hs r past law pl sm kids m x types → ((u v : ℕ) → local_rows x u ≡ local_rows x v) → Own s number next all d q0 j0 q places ks more hs r past m [] [] x false xs closed
         → Own s number next all d q0 j0 q places ks more hs r past mind left todo l over xs closed
-    on_columns m x types j p ps ws w going idle = carried (λ m f a l o. Own s number next all d q0 j0 q places ks more hs r past m f a l o xs closed) w.mind_is w.left_is w.rest w.local_is w.on
+    on_columns m x types j p ps ws w going own idle = carried (λ m f a l o. Own s number next all d q0 j0 q places ks more hs r past m f a l o xs closed) w.mind_is w.left_is w.rest w.local_is w.on
         (go ps ws w.behind w.split w.typed w.same)
       where
         go : (ps : List ChunkData) (ws : List Writer) (behind : List Ty) → types ≡ w.before ++ behind → EachTyped behind ps → length ws ≡ length ps
@@ -56,7 +61,7 @@ own_moves s number next all d q0 j0 q places ks more hs r past law pl sm kids mi
         go (c ∷ ps) [] behind sp tps same = absurd (omega (arith, same))
         go (c ∷ ps) (y ∷ ws) [] sp tps same = absurd tps
         go (c ∷ ps) (y ∷ ws) (t ∷ ts) sp tps same =
-            put_own s number next all d q0 j0 q places ks more hs r past law pl sm kids m x types going j p c ps y ws w.before t ts w.kids sp w.place tps.0 tps.1
+            put_own s number next all d q0 j0 q places ks more hs r past law pl sm kids m x types going own j p c ps y ws w.before t ts w.kids sp w.place tps.0 tps.1
             (let z : length ws ≡ length ps = omega (arith, same) in z) w.unshaped xs closed ty
 
     by : Stage s (less d q.type) mind left ks q past todo l over hs → Own s number next all d q0 j0 q places ks more hs r past mind left todo l over xs closed
@@ -72,16 +77,29 @@ own_moves s number next all d q0 j0 q places ks more hs r past law pl sm kids mi
         (gather_own s number next all d q0 j0 q places ks more hs r past law pl sm kids t l w.shape_is (free w.rest) xs closed ty)
     by (hands n rows j p ps ws t v w) =
         on_columns (by_column (struct n.fields n.nullable) rows) (struct_local n rows) (column_types n.fields n.nullable) j p ps ws w
-        (struct_going s number next all d q0 j0 q places ks more hs r past law pl sm kids n rows t v)
+        (struct_going s number next all d q0 j0 q places ks more hs r past law pl sm kids n rows t v) (λ u v. refl)
         (columns_own s number next all d q0 j0 q places ks more hs r past law pl sm kids n rows t w.kids v w.unshaped xs closed ty)
     by (hands_lists n first from rows j p ps ws t v w) =
         on_columns (by_list n.elements n.nullable first from rows) (list_local n first from rows) (list_types n.elements n.nullable) j p ps ws w
-        (lists_going s number next all d q0 j0 q places ks more hs r past law pl sm kids n first from rows t v)
+        (lists_going s number next all d q0 j0 q places ks more hs r past law pl sm kids n first from rows t v) (λ u v. refl)
         (lists_own s number next all d q0 j0 q places ks more hs r past law pl sm kids n first from rows t w.kids v w.unshaped xs closed ty)
     by (shuts t rows c w) = carried (λ m f a z o. Own s number next all d q0 j0 q places ks more hs r past m f a z o xs closed) w.mind_is w.left_is w.rest refl w.off
         (shut_own s number next all d q0 j0 q places ks more hs r past law pl sm kids t rows l c w.shape_is xs closed ty)
     by (joins_columns t rows c w) = carried (λ m f a z o. Own s number next all d q0 j0 q places ks more hs r past m f a z o xs closed) w.mind_is w.left_is w.rest refl w.off
         (join_own s number next all d q0 j0 q places ks more hs r past law pl sm kids t rows l c w.shape_is (free w.rest) xs closed ty)
+    by (regroups_rows o n x j rows outs tj nh w) = carried (λ m f a l o. Own s number next all d q0 j0 q places ks more hs r past m f a l o xs closed) w.mind_is w.left_is w.rest w.local_is w.on
+        (blocks_own s number next all d q0 j0 q places ks more hs r past law pl sm kids o n x j rows outs tj nh w.type_is w.kids w.typed w.unshaped xs closed ty)
+    by (regroups_chunks size n x j rows outs tx tj nh w) = carried (λ m f a l o. Own s number next all d q0 j0 q places ks more hs r past m f a l o xs closed) w.mind_is w.left_is w.rest w.local_is w.on
+        (buffer_own s number next all d q0 j0 q places ks more hs r past law pl sm kids size n x j rows outs tx tj nh w.type_is w.kids w.typed w.unshaped xs closed ty)
+    by (collects n x rows w) = carried (λ m f a l o. Own s number next all d q0 j0 q places ks more hs r past m f a l o xs closed) w.mind_is w.left_is w.rest w.local_is w.on
+        (collect_own s number next all d q0 j0 q places ks more hs r past law pl sm kids n x rows w.type_is w.kids w.unshaped xs closed ty)
+    by (passes_on t weight outs one to w) = carried (λ m f a z o. Own s number next all d q0 j0 q places ks more hs r past m f a z o xs closed) w.mind_is w.left_is w.rest refl w.off
+        (passes_own s number next all d q0 j0 q places ks more hs r past law pl sm kids t weight outs l one to w.shape_is xs closed ty)
+    by (passed t one w) = carried (λ m f a z o. Own s number next all d q0 j0 q places ks more hs r past m f a z o xs closed) w.mind_is w.left_is w.rest refl w.off (nothing_own xs)
+      where
+        nothing_own : (xs : List Item) → Own s number next all d q0 j0 q places ks more hs r past passing [] [] l true xs closed
+        nothing_own [] = tt
+        nothing_own (x ∷ xs) = tt
 
 -- ---- a task whose children have moved
 
@@ -101,6 +119,20 @@ hands_on mind left past todo l over hs ts m x types j p xs ws e w = record {
   place = w.place;
   typed = w.typed;
   same = w.same;
+}
+
+groups_on : (mind : Mind) (left : List Next) (q : Seed) (past todo : List Act) (l : Local) (over : Bool) (hs ts : Tree) (m : Mind) (x : Local) (t : Ty) (weight : ChunkData → ℕ) (keep : List (List ℕ)) (outs : List Item)
+    → types_of ts ≡ types_of hs → Groups mind left q past todo l over hs m x t weight keep outs → Groups mind left q past todo l over ts m x t weight keep outs
+groups_on mind left q past todo l over hs ts m x t weight keep outs e w = record {
+  mind_is = w.mind_is;
+  local_is = w.local_is;
+  left_is = w.left_is;
+  rest = w.rest;
+  on = w.on;
+  unshaped = w.unshaped;
+  type_is = w.type_is;
+  kids = e ∙ w.kids;
+  typed = w.typed;
 }
 
 stage_on : (s : Setting) (d : Fuel) (mind : Mind) (left : List Next) (ks kids : Tasks) (q : Seed) (past todo : List Act) (l : Local) (over : Bool) (hs ts : Tree)
@@ -136,6 +168,15 @@ stage_on s d mind left ks kids q past todo l over hs ts st (shuts t rows c w) = 
   shape_is = w.shape_is;
 })
 stage_on s d mind left ks kids q past todo l over hs ts st (joins_columns t rows c w) = joins_columns t rows (c ∙ sym st.count_is) w
+stage_on s d mind left ks kids q past todo l over hs ts st (regroups_rows o n x j rows outs tj nh w) =
+    regroups_rows o n x j rows outs tj nh
+    (groups_on mind left q past todo l over hs ts (by_block (block_len o n.type) o.minimum n.type x j rows) (blocks_local o n x j rows) n.type (λ p. 0) (group_kept j) outs st.types_are w)
+stage_on s d mind left ks kids q past todo l over hs ts st (regroups_chunks size n x j rows outs tx tj nh w) =
+    regroups_chunks size n x j rows outs tx tj nh (groups_on mind left q past todo l over hs ts (by_size size x j rows) (bytes_local size n x j rows) n.type held (group_kept j) outs st.types_are w)
+stage_on s d mind left ks kids q past todo l over hs ts st (collects n x rows w) =
+    collects n x rows (groups_on mind left q past todo l over hs ts (as_one n.type x rows) (collect_local n x rows) n.type (λ p. 0) (collect_kept x) [] st.types_are w)
+stage_on s d mind left ks kids q past todo l over hs ts st (passes_on t weight outs one to w) = passes_on t weight outs (st.types_are ∙ one) to w
+stage_on s d mind left ks kids q past todo l over hs ts st (passed t one w) = passed t (st.types_are ∙ one) w
 
 -- ---- all
 
@@ -171,10 +212,11 @@ module _ (s : Setting) (number : List ℕ → ℕ) (next : ℕ) (all : List (Lis
     numbers = x.numbers;
     indices = x.indices;
     wrote = x.wrote;
-    untracked = x.untracked;
+    raises = x.raises;
+    lowers = x.lowers;
     after = λ f n. let y : Shows s number (less d h.seed.type) h.seed 0 w.after m.after × Steady ks w.after hs m.after = x.after f n in (
       (al, inl (stage_on s (less d h.seed.type) c.mind c.todo ks w.after h.seed h.past h.todo h.local h.over hs m.after y.1 st, y.0), sm),
-      record { count_is = refl; rows_are = refl; types_are = refl },
+      record { count_is = refl; rows_are = ap (λ z. (task_rows h.over h.local h.past (row_total (gifts 0 h.todo) + z) + row_total h.inbox) + rows_of r) y.1.rows_are; types_are = refl },
     );
   }
 
@@ -192,12 +234,13 @@ module _ (s : Setting) (number : List ℕ → ℕ) (next : ℕ) (all : List (Lis
     numbers = x.numbers;
     indices = x.indices;
     wrote = x.wrote;
-    untracked = x.untracked;
+    raises = x.raises;
+    lowers = x.lowers;
     after = λ f n. let y : Shows s number d q (suc j) w.after m.after × Steady more w.after r m.after = x.after f n in (
       (al, st, y.0),
       record {
         count_is = ap suc y.1.count_is;
-        rows_are = ap (λ z. task_rows h.over h.local h.past h.inbox + z) y.1.rows_are;
+        rows_are = ap (λ z. (task_rows h.over h.local h.past (row_total (gifts 0 h.todo) + rows_of hs) + row_total h.inbox) + z) y.1.rows_are;
         types_are = ap (λ z. h.seed.type ∷ z) y.1.types_are;
       },
     );

@@ -56,7 +56,7 @@ module _ (v l : StrategyData) (ws : StrategyList) (lists : Bool) (wraps : Wraps)
 
 wrapped_built : (wraps : Wraps) (w : StrategyData) → wraps_built wraps ≡ true → is_built w ≡ true → is_built (wrapped wraps w) ≡ true
 wrapped_built no_wraps w h k = k
-wrapped_built (wrap_grouped g ws) w h k = absurd (no_true h)
+wrapped_built (wrap_grouped g ws) w h k = wrapped_built ws w h k
 wrapped_built (wrap_zoned o stats ws) w h k = absurd (no_true h)
 
 lists_built : (v l : StrategyData) (lists : Bool) (wraps : Wraps) → is_built v ≡ true → is_built l ≡ true → wraps_built wraps ≡ true

@@ -34,7 +34,7 @@ use Rattle.vx_machine_view.specs.Underway.{Showing, ready_steps, ReachedStands, 
 use Rattle.vx_machine_view.proofs.Words.{none_some, same_some}
 use Rattle.vx_machine_view.proofs.Ending.{held_shows, finish_shows, layout_shows}
 use Rattle.vx_machine_view.proofs.Counting.{whole_joins}
-use Rattle.vx_machine_view.proofs.Wholes.{step_shows, ready_shows}
+use Rattle.vx_machine_view.proofs.Wholes.{free_below, step_shows, ready_shows}
 
 -- ---- the number of the next append
 
@@ -115,11 +115,11 @@ write_moves g first taken heard a f seen history tracker r m k w law o sh n ask 
     go (v, at, same) = (
       v,
       nth_in (moves_at g r.tree) k v (ap (λ z. nth z k) (sym held) ∙ at),
-      record { kind = same.kind; refusal = same.refusal; misfit = same.misfit; numbers = same.numbers; indices = same.indices },
+      record { kind = same.kind; refusal = same.refusal; misfit = same.misfit; numbers = same.numbers; indices = same.indices; raises = same.raises },
     )
 
 pub write_steps : WriteSteps
-write_steps g first taken heard a f seen history tracker r m k w law o sh n pick ask unref fit =
+write_steps g first taken heard a f seen history tracker tracker_then r m k w law o sh n pick ask unref fit counts =
     go (step_shows g (number_of (planned g taken (before a f)).pairs first) (first + length history) (machine_ids m) heard a f m r.tree k w law st o sh n ask)
   where
     st : Stands g.setting (depth g) r.tree
@@ -132,7 +132,7 @@ write_steps g first taken heard a f seen history tracker r m k w law o sh n pick
     ready = ready_shows g (number_of (planned g taken (before a f)).pairs first) (first + length history) (machine_ids m) a (before a f) m r.tree law st sh ∙ ap length held
 
     go : (v : TreeMove) × (nth (tree_moves g.setting (machine_ids m) (depth g) r.tree) k ≡ Some v) × SameWhole g (number_of (planned g taken (before a f)).pairs first) (first + length history) f w v
-        → (st : Stepped g r.tree seen (noted (length (ready_steps g first history a m)) k w.name w.kind) history (history ++ w.wrote) tracker tracker)
+        → (st : Stepped g r.tree seen (noted (length (ready_steps g first history a m)) k w.name w.kind) history (history ++ w.wrote) tracker tracker_then)
         × Showing g first (taken_by taken a) w.after f st.move.after
     go (v, at, same) =
         let i : nth (moves_at g r.tree) k ≡ Some v = ap (λ z. nth z k) (sym held) ∙ at in
@@ -146,7 +146,7 @@ write_steps g first taken heard a f seen history tracker r m k w law o sh n pick
                 ∙ ap (λ z. noted (length (moves_at g r.tree)) (pick_at g r.tree seen) z w.kind) same.name
                 ∙ ap (λ z. noted (length (moves_at g r.tree)) (pick_at g r.tree seen) v.name z) same.kind;
             wrote = ap (λ z. history ++ z) same.wrote;
-            tracked = ap (λ z. tracker + z) (same.untracked.1 ∙ sym same.untracked.0);
+            tracked = ap (λ z. tracker_then + z) (sym same.lowers) ∙ counts ∙ ap (λ z. tracker + z) same.raises;
           },
           subst (λ z. ShowsMachine g (number_of z.pairs first) w.after f v.after) (same_plan g taken a f)
               (same.after c (λ q e. sym (append_is_next g taken (before a f) seen history tracker first r v q (nth_in (moves_at g r.tree) k v i) c e))),
@@ -171,7 +171,8 @@ write_ends g first taken f seen history tracker r m sh done =
 
 pub write_joins : WriteJoins
 write_joins g first taken a f seen history tracker r m k w sh at n i =
-    by (whole_joins g (number_of (planned g taken f).pairs first) (first + length history) (machine_ids m) a f m r.tree sh w (nth_in (ready_steps g first history a m) k w at) n i)
+    by (whole_joins g (number_of (planned g taken f).pairs first) (first + length history) (machine_ids m) a f m r.tree sh
+    (free_below g m f sh.past sh.kids r.tree sh.tree_is (stands g taken f seen history tracker r)) w (nth_in (ready_steps g first history a m) k w at) n i)
   where
     by : (n ≡ 0) ⊎ In n (read g.setting number_reading (depth g) 0 [] r.tree) → (n ≡ 0) ⊎ In n (planned g taken f).numbers
     by (inl e) = inl e

@@ -123,7 +123,8 @@ module _ (g : Write) (number : List ℕ → ℕ) (next_number : ℕ) (all : List
         numbers = refl;
         indices = ap (λ z. (e.last + 1) ∷ z) (sym (opened_none (root_depth g)));
         wrote = refl;
-        untracked = (refl, refl);
+        raises = refl;
+        lowers = refl;
         after = λ n y. source_then f (giving (next e) (eof_path e, b)) cs a (still a none cs w) (feed_types (root_depth g) a 0 kids refl ∙ one) ty (shape_last past a un) refl;
       }
 
@@ -140,13 +141,14 @@ module _ (g : Write) (number : List ℕ → ℕ) (next_number : ℕ) (all : List
         numbers = refl;
         indices = sym (opened_none (root_depth g));
         wrote = refl;
-        untracked = (refl, refl);
+        raises = refl;
+        lowers = refl;
         after = λ n y. source_then f closing cs a (still a none cs w) (feed_types (root_depth g) a 0 kids refl ∙ one) tt (shape_last past a un) refl;
       }
 
   -- a batch of another type
   misfit_step : (e : Eof) (f : Future) (cs : Tasks) → SameWhole g number next_number f (read_batch unasked e cs) (moved misfit_act [])
-  misfit_step e f cs = record { name = refl; kind = refl; refusal = refl; misfit = refl; numbers = refl; indices = sym (opened_none (root_depth g)); wrote = refl; untracked = (refl, refl); after = λ n y. absurd (true_false n) }
+  misfit_step e f cs = record { name = refl; kind = refl; refusal = refl; misfit = refl; numbers = refl; indices = sym (opened_none (root_depth g)); wrote = refl; raises = refl; lowers = refl; after = λ n y. absurd (true_false n) }
 
   put_step : (e : Eof) (i : Item) (f : Future) (cs : Tasks) → Shows g.setting number (root_depth g) seed 0 cs kids → types_of kids ≡ g.type ∷ [] → shape_in past ≡ None → Typed g.type i.1
       → SameWhole g number next_number f (source_did (Put 0) (reading e) (give 0 i cs)) (moved (record (put_item 0 i) { holds = eof_path e ∷ [] }) (phase_acts (reading e) f))
@@ -159,7 +161,8 @@ module _ (g : Write) (number : List ℕ → ℕ) (next_number : ℕ) (all : List
         numbers = refl;
         indices = sym (opened_none (root_depth g));
         wrote = refl;
-        untracked = (refl, refl);
+        raises = refl;
+        lowers = refl;
         after = λ n y. source_then f (reading e) (give 0 i cs) a
             (given g.setting number (root_depth g) seed 0 0 0 a i g.type [] [] cs kids w one refl ty refl refl refl refl) (feed_types (root_depth g) a 0 kids refl ∙ one) tt (shape_last past a un) refl;
       }
@@ -176,7 +179,8 @@ module _ (g : Write) (number : List ℕ → ℕ) (next_number : ℕ) (all : List
         numbers = refl;
         indices = sym (opened_none (root_depth g));
         wrote = refl;
-        untracked = (refl, refl);
+        raises = refl;
+        lowers = refl;
         after = λ n y. source_then f finished (shut_all cs) a
             (shut_shows g.setting number (root_depth g) seed 0 a cs kids w (λ i. refl) (λ i x z. ap (λ v. v || false) (first i (count cs) c z)) refl)
             (feed_types (root_depth g) a 0 kids refl ∙ one) tt (shape_kept past a passes sh) refl;
@@ -198,7 +202,8 @@ module _ (g : Write) (number : List ℕ → ℕ) (next_number : ℕ) (all : List
     numbers = x.numbers;
     indices = x.indices;
     wrote = x.wrote;
-    untracked = x.untracked;
+    raises = x.raises;
+    lowers = x.lowers;
     after = λ n y. let z : Shows g.setting number (root_depth g) seed 0 w.after m.after × Steady cs w.after kids m.after = x.after n y in record {
       past = past;
       kids = m.after;
@@ -340,7 +345,7 @@ module _ (g : Write) (number : List ℕ → ℕ) (next_number : ℕ) (all : List
   as_many finished f cs a law w jf one ty sh h = pairs_length (SameWhole g number next_number f) (whole_steps g.setting all next_number a (record { phase = finished; root = cs }))
       (tree_moves g.setting all (depth g) (state finished f)) (all_steps finished f cs a law w jf one ty sh h (unasked_own finished f cs a refl w one ty sh))
 
-free_below : (g : Write) (m : Machine) (f : Future) (past : List Act) (kids t : Tree) → t ≡ Work (source_at g past (phase_acts m.phase f)) kids Leaf → Stands g.setting (depth g) t → JoinsFree g.setting kids
+pub free_below : (g : Write) (m : Machine) (f : Future) (past : List Act) (kids t : Tree) → t ≡ Work (source_at g past (phase_acts m.phase f)) kids Leaf → Stands g.setting (depth g) t → JoinsFree g.setting kids
 free_below g m f past kids t e st = (subst (JoinsFree g.setting) e (joins_are_free g.setting (depth g) t st)).1
 
 pub step_shows : StepShows

@@ -8,6 +8,7 @@ use Rattle.vx_layout_spec.specs.LayoutTree.{LayoutData, layout, child, lays_of, 
 use Rattle.vx_layout_spec.specs.Parts.{others_of, plain_fields, field_pieces}
 use Rattle.vx_rules.specs.Columns.{struct_columns, list_columns}
 use Rattle.vx_tasks.specs.Run.{nth}
+use Rattle.vx_plan.specs.PlanData.{Item}
 use Rattle.vx_machine_turns.specs.Locals.{Local}
 use Rattle.vx_machine_turns.specs.Acts.{Act, Shape, or_else, shape_in, numbers_in}
 use Rattle.vx_machine_view.specs.State.{Next, Mind}
@@ -29,6 +30,18 @@ true_false e = cc
 
 pub no_cons : {A : Type 0} (x : A) (xs : List A) → x ∷ xs ≡ [] → ⊥
 no_cons x xs e = cc
+
+pub left_nil : {A : Type 0} (xs ys : List A) → xs ++ ys ≡ [] → xs ≡ []
+left_nil [] ys e = refl
+left_nil (x ∷ xs) ys e = cc
+
+pub right_nil : {A : Type 0} (xs ys : List A) → xs ++ ys ≡ [] → ys ≡ []
+right_nil [] ys e = e
+right_nil (x ∷ xs) ys e = cc
+
+pub no_firsts : (xs : List Item) → map (λ x. x.0) xs ≡ [] → xs ≡ []
+no_firsts [] e = refl
+no_firsts (x ∷ xs) e = cc
 
 -- a fact on what a task has in mind and left to do, and on what the abstract one has, where these are known
 pub carried : (P : Mind → List Next → List Act → Local → Bool → Type 0) {m m' : Mind} {f f' : List Next} {a a' : List Act} {l l' : Local} {o o' : Bool}
@@ -136,14 +149,14 @@ shaped_columns (utf8 b) n ls = refl
 shaped_columns (binary b) n ls = refl
 shaped_columns (extension tag t) n ls = refl
 
-pub columns_rows : (t : Ty) (n : ℕ) → shape_rows (Some (columns_of t n)) ≡ n
-columns_rows (list t b) n = refl
-columns_rows (struct fs b) n = refl
-columns_rows (boolean b) n = refl
-columns_rows (primitive p b) n = refl
-columns_rows (utf8 b) n = refl
-columns_rows (binary b) n = refl
-columns_rows (extension tag t) n = refl
+pub columns_rows : (t : Ty) (n below : ℕ) → shape_rows (Some (columns_of t n)) below ≡ n
+columns_rows (list t b) n below = refl
+columns_rows (struct fs b) n below = refl
+columns_rows (boolean b) n below = refl
+columns_rows (primitive p b) n below = refl
+columns_rows (utf8 b) n below = refl
+columns_rows (binary b) n below = refl
+columns_rows (extension tag t) n below = refl
 
 pub rows_of_columns : (t : Ty) (n : ℕ) (ls : List (LayoutData ℕ)) → row_count (columns_layout t n ls) ≡ n
 rows_of_columns (list t b) n ls = refl

@@ -6,16 +6,21 @@ use Rattle.vx_model.specs.Ty.{Ty, struct, list, fields_in, ty_eq}
 use Rattle.vx_model.specs.ChunkData.{ChunkData, piece_type}
 use Rattle.vx_path.specs.Path.{under, inside, next}
 use Rattle.vx_layout_spec.specs.LayoutTree.{LayoutData, row_count, flat_layout, gathered, struct_layout, list_layout}
+use Rattle.vx_rules.specs.Blocks.{BlockOptions}
 use Rattle.vx_rules.specs.Columns.{struct_columns, list_columns}
+use Rattle.vx_rules.specs.Regroup.{ranked}
 use Rattle.vx_tasks.specs.Task.{Kind}
 use Rattle.vx_tasks.specs.Task.Prompt.{Close}
 use Rattle.vx_tasks.specs.Task.Kind.{Free, Take, TakeEnd, Put, Append, Join}
 use Rattle.vx_plan.specs.PlanData.{Setting, Item, Pair, What, many_chunks, empty_list, rows_in}
 use Rattle.vx_plan.specs.ColumnNodes.{elements_in}
 use Rattle.vx_plan.specs.FlatNode.{segment, inlined, length_of}
+use Rattle.vx_plan.specs.GroupNode.{left_count, rest_count}
 use Rattle.vx_machine_turns.specs.Starts.{start_fault}
 use Rattle.vx_machine_turns.specs.Flat.{forbidden}
-use Rattle.vx_machine_view.specs.State.{Fold, fold_chunks, fold_columns, Next, put, append, shut_kids, join_kids, Mind, no_chunk, one_chunk, by_chunk, by_column, by_list, ending, made, Desk, Tasks, no_tasks, task_then}
+use Rattle.vx_machine_turns.specs.Grouped.{Grouper, block_grouper, byte_grouper}
+use Rattle.vx_machine_turns.specs.Collected.{collected_so_far, collect_rest}
+use Rattle.vx_machine_view.specs.State.{Fold, fold_chunks, fold_columns, Next, put, hand_on, append, shut_kids, join_kids, Mind, no_chunk, one_chunk, by_chunk, by_column, by_list, by_block, by_size, as_one, ending, passing, made, Desk, Tasks, no_tasks, task_then}
 use Rattle.vx_machine_view.specs.Start.{first_indices, started_task}
 
 -- ---- children
@@ -46,19 +51,24 @@ abbrev pub shut_all : Tasks → Tasks
 shut_all no_tasks = no_tasks
 shut_all (task_then c ks r) = task_then (shut_desk c) ks (shut_all r)
 
-abbrev pub layout_in : Mind → List (LayoutData ℕ)
-layout_in (made l) = l ∷ []
-layout_in (no_chunk o t) = []
-layout_in (one_chunk x) = []
-layout_in (by_chunk m t f e rows) = []
-layout_in (by_column t rows) = []
-layout_in (by_list t n first from rows) = []
-layout_in ending = []
+-- a task's layout: its own, or that of its children
+abbrev pub layout_in : Mind → List (LayoutData ℕ) → List (LayoutData ℕ)
+layout_in (made l) below = l ∷ []
+layout_in passing below = below
+layout_in (no_chunk o t) below = []
+layout_in (one_chunk x) below = []
+layout_in (by_chunk m t f e rows) below = []
+layout_in (by_column t rows) below = []
+layout_in (by_list t n first from rows) below = []
+layout_in (by_block len minimum t x j rows) below = []
+layout_in (by_size size x j rows) below = []
+layout_in (as_one t x rows) below = []
+layout_in ending below = []
 
 -- the layouts of those that have done all
 abbrev pub layouts_in : Tasks → List (LayoutData ℕ)
 layouts_in no_tasks = []
-layouts_in (task_then c ks r) = layout_in c.mind ++ layouts_in r
+layouts_in (task_then c ks r) = layout_in c.mind (layouts_in ks) ++ layouts_in r
 
 -- ---- what an act does
 
@@ -74,6 +84,9 @@ pub record Did : Type 0 where
   pub wrote : List Pair
   -- the rows of the layouts that it joins, summed, where they have no other count
   pub joined : List ℕ
+  -- what it adds to the tracker, and takes from it
+  pub raises : ℕ
+  pub lowers : ℕ
   pub desk : Desk
   pub kids : Tasks
 
@@ -82,7 +95,7 @@ abbrev pub now : Desk → Mind → List Next → List Item → Desk
 now c mind todo inbox = record { name = c.name; mind = mind; todo = todo; inbox = inbox; places = c.places; closed = c.closed }
 
 abbrev pub done_as : Kind → Desk → Tasks → Did
-done_as k c ks = record { kind = k; refusal = None; misfit = false; numbers = []; indices = []; wrote = []; joined = []; desk = c; kids = ks }
+done_as k c ks = record { kind = k; refusal = None; misfit = false; numbers = []; indices = []; wrote = []; joined = []; raises = 0; lowers = 0; desk = c; kids = ks }
 
 -- of the columns' layouts
 abbrev pub columns_layout : {A : Type 0} → Ty → ℕ → List (LayoutData A) → LayoutData A
@@ -100,6 +113,7 @@ joined_rows (fold_columns t rows) ls = []
 -- Of what is left of its block: the layouts name these encodings, and an append gets this number. Joined children are given up.
 abbrev pub do_next : List EncodingId → ℕ → Desk → Tasks → Next → List Next → Did
 do_next ids number c ks (put j i) todo = done_as (Put j) (now c c.mind todo c.inbox) (give j i ks)
+do_next ids number c ks (hand_on n i) todo = record (done_as (Put 0) (now c c.mind todo c.inbox) (give 0 i ks)) { lowers = n }
 do_next ids number c ks (append x) todo = record (done_as (Append x.id) (now c (made (flat_layout x.type x.rows ids x.tree number)) todo c.inbox) ks) { wrote = (x.id, x.bytes) ∷ [] }
 do_next ids number c ks shut_kids todo = done_as (Free Close) (now c c.mind todo c.inbox) (shut_all ks)
 do_next ids number c ks (join_kids f) todo = record (done_as Join (now c (made (folded f (layouts_in ks))) todo c.inbox) no_tasks) { joined = joined_rows f (layouts_in ks) }
@@ -125,6 +139,41 @@ abbrev pub puts : ℕ → List ℕ → List ChunkData → List Next
 puts c p [] = []
 puts c p (x ∷ xs) = put c (under p c, x) ∷ puts (suc c) p xs
 
+-- ---- nodes that regroup
+
+-- options by which blocks of each type have this length
+abbrev pub of_length : ℕ → ℕ → BlockOptions
+of_length len minimum = record { minimum = minimum; multiple = len; target = None; canonicalize = false }
+
+-- to the only child, each with what it then counts no more in the tracker
+abbrev pub hand_all : (ChunkData → ℕ) → List Item → List Next
+hand_all weight [] = []
+hand_all weight (i ∷ is) = hand_on (weight i.1) i ∷ hand_all weight is
+
+-- The newest chunk is acted on where another one comes: x is held besides it, and `after` makes of what is held, the newest chunk
+-- and the rows so far what it has in mind.
+abbrev pub take_grouped : {S : Type 0} → Grouper S → (S → Option Item → ℕ → Mind) → Bool → S → Option Item → ℕ → Desk → Tasks → Item → List Item → Did
+take_grouped g after misfit x None rows c ks i xs = record (done_as Take (now c (after x (Some i) (rows + rows_in i.1)) [] xs) ks) {
+  misfit = misfit;
+  numbers = (rows + rows_in i.1) ∷ g.taken x i.1;
+  raises = g.weight i.1;
+}
+take_grouped g after misfit x (Some j) rows c ks i xs =
+    record (done_as Take (now c (after (g.rule.holds x j.1) (Some i) (rows + rows_in i.1)) (hand_all g.weight (ranked j.0 0 (g.rule.leaves x j.1))) xs) ks) {
+      misfit = misfit;
+      numbers = (rows + rows_in i.1) ∷ (g.taken (g.rule.holds x j.1) i.1 ++ g.acted x j.1);
+      indices = left_count g.rule x j.1;
+      raises = g.weight i.1;
+    }
+
+-- at the end: what is left goes to the only child, whose queue is then closed
+abbrev pub pass_on : List Next → Desk → Tasks → Did
+pass_on outs c ks = done_as TakeEnd (now c passing (outs ++ (shut_kids ∷ [])) []) ks
+
+abbrev pub end_grouped : {S : Type 0} → Grouper S → S → Option Item → Desk → Tasks → Did
+end_grouped g x None c ks = pass_on [] c ks
+end_grouped g x (Some j) c ks = record (pass_on (hand_all g.weight (ranked j.0 0 (g.rule.rest x j.1))) c ks) { numbers = g.acted x j.1; indices = rest_count g.rule x j.1 }
+
 -- takes a chunk, behind which these are left in its queue
 abbrev pub take_chunk : Setting → Desk → Tasks → Item → List Item → Mind → Did
 take_chunk s c ks i xs (no_chunk o t) = record {
@@ -135,10 +184,12 @@ take_chunk s c ks i xs (no_chunk o t) = record {
   indices = [];
   wrote = [];
   joined = [];
+  raises = 0;
+  lowers = 0;
   desk = now c (stored t i (inlined s o i) (segment s o i)) [] xs;
   kids = ks;
 }
-take_chunk s c ks i xs (one_chunk x) = record { kind = Take; refusal = Some many_chunks; misfit = false; numbers = []; indices = []; wrote = []; joined = []; desk = now c (one_chunk x) [] xs; kids = ks }
+take_chunk s c ks i xs (one_chunk x) = record (done_as Take (now c (one_chunk x) [] xs) ks) { refusal = Some many_chunks }
 take_chunk s c ks i xs (by_chunk m t f e rows) = record {
   kind = Take;
   refusal = start_fault s f m;
@@ -147,6 +198,8 @@ take_chunk s c ks i xs (by_chunk m t f e rows) = record {
   indices = (e.last + 1) ∷ first_indices f (inside e);
   wrote = [];
   joined = [];
+  raises = 0;
+  lowers = 0;
   desk = now c (by_chunk m t f (next e) (rows + rows_in i.1)) [] xs;
   kids = add ks (started_task f m (under c.name (count ks)) (inside e) (i ∷ []) true);
 }
@@ -158,6 +211,8 @@ take_chunk s c ks i xs (by_column t rows) = record {
   indices = column_count t ∷ [];
   wrote = [];
   joined = [];
+  raises = 0;
+  lowers = 0;
   desk = now c (by_column t (rows + rows_in i.1)) (puts 0 i.0 (columns_in t i.1)) xs;
   kids = ks;
 }
@@ -170,10 +225,20 @@ take_chunk s c ks i xs (by_list t n first from rows) = record {
   indices = column_count (list t n) ∷ [];
   wrote = [];
   joined = [];
+  raises = 0;
+  lowers = 0;
   desk = now c (by_list t n false (from + elements_in i.1) (rows + rows_in i.1)) (puts 0 i.0 (list_columns t n first from i.1)) xs;
   kids = ks;
 }
+take_chunk s c ks i xs (by_block len minimum t x j rows) =
+    take_grouped (block_grouper (of_length len minimum) t) (by_block len minimum t) (not (ty_eq (piece_type i.1) t)) x j rows c ks i xs
+take_chunk s c ks i xs (by_size size x j rows) = take_grouped (byte_grouper size) (by_size size) false x j rows c ks i xs
+take_chunk s c ks i xs (as_one t x rows) = record (done_as Take (now c (as_one t (Some (i.0, collected_so_far x ++ (i.1 ∷ []))) (rows + rows_in i.1)) [] xs) ks) {
+  misfit = not (ty_eq (piece_type i.1) t);
+  numbers = (rows + rows_in i.1) ∷ [];
+}
 take_chunk s c ks i xs ending = done_as Take (now c ending [] xs) ks
+take_chunk s c ks i xs passing = done_as Take (now c passing [] xs) ks
 take_chunk s c ks i xs (made l) = done_as Take (now c (made l) [] xs) ks
 
 -- a struct node without columns has its layout at once
@@ -192,7 +257,11 @@ take_end c ks (one_chunk x) = done_as TakeEnd (now c ending (append x ∷ []) []
 take_end c ks (by_chunk m t f e rows) = done_as TakeEnd (now c ending (join_kids (fold_chunks t) ∷ []) []) ks
 take_end c ks (by_column t rows) = end_columns ((count ks == 0) && (0 == column_count t)) t rows c ks
 take_end c ks (by_list t n first from rows) = end_lists first (list t n) rows c ks
+take_end c ks (by_block len minimum t x j rows) = end_grouped (block_grouper (of_length len minimum) t) x j c ks
+take_end c ks (by_size size x j rows) = end_grouped (byte_grouper size) x j c ks
+take_end c ks (as_one t x rows) = pass_on (hand_all (λ p. 0) (collect_rest t x)) c ks
 take_end c ks ending = done_as TakeEnd (now c ending [] []) ks
+take_end c ks passing = done_as TakeEnd (now c passing [] []) ks
 take_end c ks (made l) = done_as TakeEnd (now c (made l) [] []) ks
 
 abbrev pub do_take : Setting → Desk → Tasks → List Item → Did

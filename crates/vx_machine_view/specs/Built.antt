@@ -1,4 +1,4 @@
--- Which strategies and forms are built: those of flat, chunked, struct and list nodes, and tables of these.
+-- Which strategies and forms are built: those of flat, chunked, struct and list nodes, of nodes that regroup, and tables of these.
 use Rattle.std.specs.Prelude.{◌≡◌, ◌&&◌, Bool, true, false, List, [], ◌∷◌}
 use Rattle.vx_model.specs.Ty.{Ty, Tys, boolean, no_fields, field}
 use Rattle.vx_rules.specs.Columns.{offset_type}
@@ -9,7 +9,7 @@ abbrev mutual
   pub is_built : StrategyData → Bool
   is_built (flat o) = true
   is_built (chunked w) = is_built w
-  is_built (grouped g w) = false
+  is_built (grouped g w) = is_built w
   is_built (compressed which room w) = false
   is_built (coded o c v f) = false
   is_built (zoned o w stats) = false
@@ -23,7 +23,7 @@ abbrev mutual
 
   pub wraps_built : Wraps → Bool
   wraps_built no_wraps = true
-  wraps_built (wrap_grouped g ws) = false
+  wraps_built (wrap_grouped g ws) = wraps_built ws
   wraps_built (wrap_zoned o stats ws) = false
 
 -- the types of a struct's columns: validity where it is nullable, then the fields
@@ -46,10 +46,10 @@ abbrev mutual
   pub Built : Form → Type 0
   Built (flat_form o t) = Unit {0}
   Built (chunked_form t k) = (form_type k ≡ t) × Built k
+  Built (grouped_form g t k) = (form_type k ≡ t) × Built k
   Built (struct_form fs n name v ks) = (form_type v ≡ boolean false) × Built v × AllBuilt fs ks
   -- its start refuses
   Built (no_struct_form t) = Unit {0}
-  Built (grouped_form g t k) = ⊥
   Built (compressed_form which room t k) = ⊥
   Built (dict_form o t c v f) = ⊥
   Built (zoned_form o t k stats) = ⊥

@@ -7,6 +7,7 @@ pub mod Built
 pub mod Tables
 pub mod Typed
 pub mod Shows
+pub mod Reserved
 pub mod Steps
 pub mod Whole
 pub mod Underway

@@ -5,11 +5,13 @@ use Rattle.vx_tasks.specs.Task.{Kind, Free, Put, Batch, End, Close}
 use Rattle.vx_tasks.specs.Runs.{first_batch}
 use Rattle.vx_plan.specs.PlanData.{Setting, Item, Pair, What}
 use Rattle.vx_machine_turns.specs.Forms.{Form}
+use Rattle.vx_machine_turns.specs.Grouped.{group_kept}
+use Rattle.vx_machine_turns.specs.Collected.{collect_kept}
 use Rattle.vx_machine_promises.specs.Write.{Answer, unasked, came, over}
-use Rattle.vx_machine_view.specs.State.{Next, put, append, shut_kids, join_kids, Mind, no_chunk, one_chunk, by_chunk, by_column, by_list, ending, made, Tasks, no_tasks, task_then}
+use Rattle.vx_machine_view.specs.State.{Next, put, hand_on, append, shut_kids, join_kids, Mind, no_chunk, one_chunk, by_chunk, by_column, by_list, by_block, by_size, as_one, ending, passing, made, Tasks, no_tasks, task_then}
 use Rattle.vx_machine_view.specs.Start.{started_task}
 use Rattle.vx_machine_view.specs.Acts.{give, shut_all}
-use Rattle.vx_machine_view.specs.Moves.{is_made, has_room, Step, steps}
+use Rattle.vx_machine_view.specs.Moves.{is_empty, has_room, Step, steps}
 
 -- what the source does next
 pub data Phase : Type 0 where
@@ -45,10 +47,12 @@ pub record WholeStep : Type 0 where
   pub indices : List ℕ
   pub wrote : List Pair
   pub joined : List ℕ
+  pub raises : ℕ
+  pub lowers : ℕ
   pub after : Machine
 
 abbrev pub source_did : Kind → Phase → Tasks → WholeStep
-source_did k phase root = record { name = 0 ∷ []; kind = k; refusal = None; misfit = false; numbers = []; indices = []; wrote = []; joined = []; after = record { phase = phase; root = root } }
+source_did k phase root = record { name = 0 ∷ []; kind = k; refusal = None; misfit = false; numbers = []; indices = []; wrote = []; joined = []; raises = 0; lowers = 0; after = record { phase = phase; root = root } }
 
 -- what the source reads is told: a batch of the type, or the end; where nothing is told, it is of another type, and so refused
 abbrev pub read_batch : Answer → Eof → Tasks → WholeStep
@@ -63,7 +67,7 @@ source_step a closing root = source_did (Free Close) finished (shut_all root)
 source_step a finished root = source_did (Free Close) finished root
 
 abbrev pub in_root : Phase → Step → WholeStep
-in_root phase w = record { name = w.name; kind = w.kind; refusal = w.refusal; misfit = w.misfit; numbers = w.numbers; indices = w.indices; wrote = w.wrote; joined = w.joined; after = record { phase = phase; root = w.after } }
+in_root phase w = record { name = w.name; kind = w.kind; refusal = w.refusal; misfit = w.misfit; numbers = w.numbers; indices = w.indices; wrote = w.wrote; joined = w.joined; raises = w.raises; lowers = w.lowers; after = record { phase = phase; root = w.after } }
 
 -- what the ready tasks would do, the source first
 abbrev pub whole_steps : Setting → List (List ℕ) → ℕ → Answer → Machine → List WholeStep
@@ -77,18 +81,32 @@ has_closed (reading e) = false
 has_closed (giving e i) = false
 has_closed closing = false
 
-abbrev pub is_empty : {A : Type 0} → List A → Bool
-is_empty [] = true
-is_empty (x ∷ xs) = false
-
 abbrev pub no_more : Tasks → Bool
 no_more no_tasks = true
 no_more (task_then c ks r) = false
 
--- its layout is there, and nothing else
+abbrev pub is_alone : Tasks → Bool
+is_alone no_tasks = false
+is_alone (task_then c ks r) = no_more r
+
+-- whether the layout is there, where this is told of the first child
+abbrev pub has_layout : Mind → Tasks → Bool → Bool
+has_layout (made l) ks below = no_more ks
+has_layout passing ks below = is_alone ks && below
+has_layout (no_chunk o t) ks below = false
+has_layout (one_chunk x) ks below = false
+has_layout (by_chunk m t f e rows) ks below = false
+has_layout (by_column t rows) ks below = false
+has_layout (by_list t n first from rows) ks below = false
+has_layout (by_block len minimum t x j rows) ks below = false
+has_layout (by_size size x j rows) ks below = false
+has_layout (as_one t x rows) ks below = false
+has_layout ending ks below = false
+
+-- the first one's layout is there, its own or that of its only child, and nothing else
 abbrev pub is_done : Tasks → Bool
 is_done no_tasks = false
-is_done (task_then c ks r) = is_made c.mind && (is_empty c.todo && (is_empty c.inbox && no_more ks))
+is_done (task_then c ks r) = has_layout c.mind ks (is_done ks) && (is_empty c.todo && is_empty c.inbox)
 
 abbrev pub is_finished : Machine → Bool
 is_finished m = has_closed m.phase && is_done m.root
@@ -98,6 +116,7 @@ is_finished m = has_closed m.phase && is_done m.root
 abbrev pub next_ids : List Next → List (List ℕ)
 next_ids [] = []
 next_ids (put j i ∷ todo) = i.0 ∷ next_ids todo
+next_ids (hand_on n i ∷ todo) = i.0 ∷ next_ids todo
 next_ids (append x ∷ todo) = x.id ∷ next_ids todo
 next_ids (shut_kids ∷ todo) = next_ids todo
 next_ids (join_kids f ∷ todo) = next_ids todo
@@ -108,7 +127,11 @@ mind_ids (one_chunk x) = x.id ∷ []
 mind_ids (by_chunk m t f e rows) = eof_path e ∷ []
 mind_ids (by_column t rows) = []
 mind_ids (by_list t n first from rows) = []
+mind_ids (by_block len minimum t x j rows) = group_kept j
+mind_ids (by_size size x j rows) = group_kept j
+mind_ids (as_one t x rows) = collect_kept x
 mind_ids ending = []
+mind_ids passing = []
 mind_ids (made l) = []
 
 -- the paths of all ids and pointers of these tasks

@@ -3,31 +3,44 @@ use Rattle.std.specs.Prelude.{ℕ, zero, suc, ◌==◌, ◌&&◌, not, nat_lt, c
 use Rattle.vx_path.specs.Path.{is_least}
 use Rattle.vx_tasks.specs.Task.{Kind}
 use Rattle.vx_plan.specs.PlanData.{Setting, Item, Pair, What}
-use Rattle.vx_machine_view.specs.State.{Fold, fold_chunks, fold_columns, Next, put, append, shut_kids, join_kids, Mind, no_chunk, one_chunk, by_chunk, by_column, by_list, ending, made, Desk, Tasks, no_tasks, task_then}
+use Rattle.vx_machine_view.specs.State.{Fold, fold_chunks, fold_columns, Next, put, hand_on, append, shut_kids, join_kids, Mind, no_chunk, one_chunk, by_chunk, by_column, by_list, by_block, by_size, as_one, ending, passing, made, Desk, Tasks, no_tasks, task_then}
 use Rattle.vx_machine_view.specs.Acts.{count, Did, do_act, column_count}
 
-abbrev pub is_made : Mind → Bool
-is_made (made l) = true
-is_made (no_chunk o t) = false
-is_made (one_chunk x) = false
-is_made (by_chunk m t f e rows) = false
-is_made (by_column t rows) = false
-is_made (by_list t n first from rows) = false
-is_made ending = false
+abbrev pub is_empty : {A : Type 0} → List A → Bool
+is_empty [] = true
+is_empty (x ∷ xs) = false
+
+-- It has done all: its layout is there, or nothing is left to do of one that has its child's; of the children this is told.
+abbrev pub is_made : Mind → List Next → Bool → Bool
+is_made (made l) left below = true
+is_made passing left below = is_empty left && below
+is_made (no_chunk o t) left below = false
+is_made (one_chunk x) left below = false
+is_made (by_chunk m t f e rows) left below = false
+is_made (by_column t rows) left below = false
+is_made (by_list t n first from rows) left below = false
+is_made (by_block len minimum t x j rows) left below = false
+is_made (by_size size x j rows) left below = false
+is_made (as_one t x rows) left below = false
+is_made ending left below = false
 
 -- it takes no more
 abbrev pub is_over : Mind → Bool
 is_over (made l) = true
 is_over ending = true
+is_over passing = true
 is_over (no_chunk o t) = false
 is_over (one_chunk x) = false
 is_over (by_chunk m t f e rows) = false
 is_over (by_column t rows) = false
 is_over (by_list t n first from rows) = false
+is_over (by_block len minimum t x j rows) = false
+is_over (by_size size x j rows) = false
+is_over (as_one t x rows) = false
 
 abbrev pub all_made : Tasks → Bool
 all_made no_tasks = true
-all_made (task_then c ks r) = is_made c.mind && all_made r
+all_made (task_then c ks r) = is_made c.mind c.todo (all_made ks) && all_made r
 
 -- whether the queue of child j has a place
 abbrev pub has_room : ℕ → Tasks → Bool
@@ -43,6 +56,7 @@ can_fold (fold_columns t rows) n = n == column_count t
 -- where these paths are held in all
 abbrev pub may_next : List (List ℕ) → Tasks → Next → Bool
 may_next all ks (put j i) = has_room j ks
+may_next all ks (hand_on n i) = has_room 0 ks
 may_next all ks (append x) = is_least x.id all
 may_next all ks shut_kids = true
 may_next all ks (join_kids f) = all_made ks && can_fold f (count ks)
@@ -67,16 +81,18 @@ pub record Step : Type 0 where
   pub indices : List ℕ
   pub wrote : List Pair
   pub joined : List ℕ
+  pub raises : ℕ
+  pub lowers : ℕ
   pub after : Tasks
 
 abbrev pub own_step : Desk → Tasks → Did → Step
-own_step c r w = record { name = c.name; kind = w.kind; refusal = w.refusal; misfit = w.misfit; numbers = w.numbers; indices = w.indices; wrote = w.wrote; joined = w.joined; after = task_then w.desk w.kids r }
+own_step c r w = record { name = c.name; kind = w.kind; refusal = w.refusal; misfit = w.misfit; numbers = w.numbers; indices = w.indices; wrote = w.wrote; joined = w.joined; raises = w.raises; lowers = w.lowers; after = task_then w.desk w.kids r }
 
 abbrev pub in_kids : Desk → Tasks → Step → Step
-in_kids c r w = record { name = w.name; kind = w.kind; refusal = w.refusal; misfit = w.misfit; numbers = w.numbers; indices = w.indices; wrote = w.wrote; joined = w.joined; after = task_then c w.after r }
+in_kids c r w = record { name = w.name; kind = w.kind; refusal = w.refusal; misfit = w.misfit; numbers = w.numbers; indices = w.indices; wrote = w.wrote; joined = w.joined; raises = w.raises; lowers = w.lowers; after = task_then c w.after r }
 
 abbrev pub in_rest : Desk → Tasks → Step → Step
-in_rest c ks w = record { name = w.name; kind = w.kind; refusal = w.refusal; misfit = w.misfit; numbers = w.numbers; indices = w.indices; wrote = w.wrote; joined = w.joined; after = task_then c ks w.after }
+in_rest c ks w = record { name = w.name; kind = w.kind; refusal = w.refusal; misfit = w.misfit; numbers = w.numbers; indices = w.indices; wrote = w.wrote; joined = w.joined; raises = w.raises; lowers = w.lowers; after = task_then c ks w.after }
 
 -- What the ready tasks would do, in the order of their names: where these paths are held in all, and the next segment has this number.
 abbrev pub steps : Setting → List (List ℕ) → ℕ → Tasks → List Step

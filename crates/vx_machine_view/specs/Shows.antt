@@ -1,28 +1,33 @@
 -- The program's tasks against the abstract machine's.
 use Rattle.std.specs.Prelude.{◌≡◌, ◌+◌, ◌⊎◌, ℕ, suc, Bool, true, false, List, [], ◌∷◌, ◌++◌, map, length, get_or, Option, Some, None, IsTrue}
 use Rattle.vx_model.specs.Ty.{Ty, struct, list}
-use Rattle.vx_model.specs.ChunkData.{ChunkData}
+use Rattle.vx_model.specs.CellData.{CellData}
+use Rattle.vx_model.specs.ChunkData.{ChunkData, held}
 use Rattle.vx_path.specs.Lists.{In}
 use Rattle.vx_path.specs.Path.{Eof}
 use Rattle.vx_layout_spec.specs.LayoutTree.{LayoutData, row_count, renamed, flat_layout}
 use Rattle.vx_tasks.specs.Task.Kind.{Append, Join}
 use Rattle.vx_tasks.specs.Nodes.{numbers}
+use Rattle.vx_rules.specs.Blocks.{BlockOptions, block_len}
+use Rattle.vx_rules.specs.Stream.{piece_cells}
 use Rattle.vx_strategy_spec.specs.StrategyData.{FlatOptions}
 use Rattle.vx_plan.specs.PlanData.{Setting, Item, row_total, rows_in}
 use Rattle.vx_plan.specs.FlatNode.{inlined}
 use Rattle.vx_machine_turns.specs.Forms.{Writer, chunked_form}
-use Rattle.vx_machine_turns.specs.Locals.{ChunkedNode, StructNode, ListNode, Local, flat_empty, flat_full, flat_many, chunked_local, struct_local, list_local, blocks_local, bytes_local, collect_local, compressed_local, outlet_local, dict_local, fallback_local, runs_local, zoned_local, idle_local, source_local, outside_local}
-use Rattle.vx_machine_turns.specs.Acts.{Seed, Act, Shape, alone, gathers, struct_of, list_of, runs_of, zones_of, passes, does, close_queues, shape_in, numbers_in}
+use Rattle.vx_machine_turns.specs.Locals.{ChunkedNode, StructNode, ListNode, GroupedNode, Local, flat_empty, flat_full, flat_many, chunked_local, struct_local, list_local, blocks_local, bytes_local, collect_local, compressed_local, outlet_local, dict_local, fallback_local, runs_local, zoned_local, idle_local, source_local, outside_local}
+use Rattle.vx_machine_turns.specs.Acts.{Seed, Act, Shape, alone, gathers, struct_of, list_of, runs_of, zones_of, passes, does, close_queues, shape_in, gifts, numbers_in}
+use Rattle.vx_machine_turns.specs.Grouped.{weighed_puts, group_kept}
+use Rattle.vx_machine_turns.specs.Collected.{collected_so_far, collect_kept}
 use Rattle.vx_machine_turns.specs.Fuels.{Fuel, less, Enough}
 use Rattle.vx_machine_turns.specs.Columns.{column_puts}
 use Rattle.vx_machine_turns.specs.Readings.{shaped}
 use Rattle.vx_machine_turns.specs.Scripts.{filled}
 use Rattle.vx_machine_steps.specs.Tree.{Head, Tree, Leaf, Work}
 use Rattle.vx_machine_steps.specs.Moves.{all_paths, all_over}
-use Rattle.vx_machine_view.specs.State.{Stored, fold_chunks, fold_columns, Next, append, shut_kids, join_kids, Mind, no_chunk, one_chunk, by_chunk, by_column, by_list, ending, made, Desk, Tasks, no_tasks, task_then}
-use Rattle.vx_machine_view.specs.Acts.{count, column_count, puts}
+use Rattle.vx_machine_view.specs.State.{Stored, fold_chunks, fold_columns, Next, append, shut_kids, join_kids, Mind, no_chunk, one_chunk, by_chunk, by_column, by_list, by_block, by_size, as_one, ending, passing, made, Desk, Tasks, no_tasks, task_then}
+use Rattle.vx_machine_view.specs.Acts.{count, column_count, puts, hand_all}
 use Rattle.vx_machine_view.specs.Built.{Built, column_types, list_types}
-use Rattle.vx_machine_view.specs.Typed.{AllTyped, EachTyped}
+use Rattle.vx_machine_view.specs.Typed.{AllTyped, EachTyped, ChunksTyped, NewestTyped}
 
 -- ---- what is read off the abstract tree
 
@@ -35,46 +40,51 @@ abbrev pub types_of : Tree → List Ty
 types_of Leaf = []
 types_of (Work h ks r) = h.seed.type ∷ types_of r
 
--- a task's rows: once it has seen the end, by its layout's shape
+-- A task's rows, beside those in its queue: once it has seen the end, by its layout's shape. One that hands all on has what it
+-- still holds, and what stands below it.
 
-abbrev pub shape_rows : Option Shape → ℕ
-shape_rows None = 0
-shape_rows (Some (alone l)) = row_count l
-shape_rows (Some (gathers t n)) = n
-shape_rows (Some (struct_of t n)) = n
-shape_rows (Some (list_of t n)) = n
-shape_rows (Some (runs_of t n ns)) = n
-shape_rows (Some (zones_of t n zone specs)) = n
-shape_rows (Some passes) = 0
+abbrev pub shape_rows : Option Shape → ℕ → ℕ
+shape_rows None below = 0
+shape_rows (Some (alone l)) below = row_count l
+shape_rows (Some (gathers t n)) below = n
+shape_rows (Some (struct_of t n)) below = n
+shape_rows (Some (list_of t n)) below = n
+shape_rows (Some (runs_of t n ns)) below = n
+shape_rows (Some (zones_of t n zone specs)) below = n
+shape_rows (Some passes) below = below
 
-abbrev pub local_rows : Local → ℕ
-local_rows (flat_empty o t) = 0
-local_rows (flat_full o t i b) = rows_in i.1
-local_rows (chunked_local n j e rows) = rows
-local_rows (struct_local n rows) = rows
-local_rows flat_many = 0
-local_rows (list_local n first from rows) = rows
-local_rows (blocks_local o n x j rows) = rows
-local_rows (bytes_local size n x j rows) = rows
-local_rows (collect_local n x rows) = rows
-local_rows (compressed_local n) = 0
-local_rows (outlet_local n) = 0
-local_rows (dict_local n) = 0
-local_rows fallback_local = 0
-local_rows (runs_local n r j rows) = rows
-local_rows (zoned_local n records last zones rows) = rows
-local_rows idle_local = 0
-local_rows (source_local f m) = 0
-local_rows outside_local = 0
+abbrev pub newest_rows : Option Item → ℕ
+newest_rows None = 0
+newest_rows (Some j) = rows_in j.1
 
-abbrev pub task_rows : Bool → Local → List Act → List Item → ℕ
-task_rows true l past xs = shape_rows (shape_in past)
-task_rows false l past xs = local_rows l + row_total xs
+abbrev pub local_rows : Local → ℕ → ℕ
+local_rows (flat_empty o t) below = 0
+local_rows (flat_full o t i b) below = rows_in i.1
+local_rows (chunked_local n j e rows) below = rows
+local_rows (struct_local n rows) below = rows
+local_rows flat_many below = 0
+local_rows (list_local n first from rows) below = rows
+local_rows (blocks_local o n x j rows) below = (length x + newest_rows j) + below
+local_rows (bytes_local size n x j rows) below = (length (piece_cells x) + newest_rows j) + below
+local_rows (collect_local n x rows) below = length (piece_cells (collected_so_far x)) + below
+local_rows (compressed_local n) below = below
+local_rows (outlet_local n) below = below
+local_rows (dict_local n) below = 0
+local_rows fallback_local below = below
+local_rows (runs_local n r j rows) below = rows
+local_rows (zoned_local n records last zones rows) below = rows
+local_rows idle_local below = 0
+local_rows (source_local f m) below = 0
+local_rows outside_local below = 0
 
--- of all these tasks, before the end also those in their queues
+abbrev pub task_rows : Bool → Local → List Act → ℕ → ℕ
+task_rows true l past below = shape_rows (shape_in past) below
+task_rows false l past below = local_rows l below
+
+-- of all these tasks, with those in their queues; a task that hands all on puts what it still puts on its first child's queue
 abbrev pub rows_of : Tree → ℕ
 rows_of Leaf = 0
-rows_of (Work h ks r) = task_rows h.over h.local h.past h.inbox + rows_of r
+rows_of (Work h ks r) = (task_rows h.over h.local h.past (row_total (gifts 0 h.todo) + rows_of ks) + row_total h.inbox) + rows_of r
 
 -- ---- a task by itself
 
@@ -95,9 +105,9 @@ pub record Rests (mind : Mind) (left : List Next) (past todo : List Act) (l : Lo
   pub on : over ≡ false
   pub unshaped : shape_in past ≡ None
 
--- it has seen the end, and has this left to do
-pub record Ends (mind : Mind) (left : List Next) (past todo : List Act) (over : Bool) (left_now : List Next) (acts : List Act) (shape : Shape) : Type 0 where
-  pub mind_is : mind ≡ ending
+-- it has seen the end, with this in mind, and has this left to do
+pub record Ends (mind : Mind) (left : List Next) (past todo : List Act) (over : Bool) (mind_now : Mind) (left_now : List Next) (acts : List Act) (shape : Shape) : Type 0 where
+  pub mind_is : mind ≡ mind_now
   pub left_is : left ≡ left_now
   pub rest : todo ≡ acts
   pub off : over ≡ true
@@ -120,6 +130,24 @@ pub record Hands (mind : Mind) (left : List Next) (past todo : List Act) (l : Lo
   pub typed : EachTyped behind xs
   pub same : length ws ≡ length xs
 
+-- before a chunk came nothing is held
+abbrev pub NoneHeld : {A : Type 0} → List A → Option Item → Type 0
+NoneHeld x None = x ≡ []
+NoneHeld x (Some j) = Unit {0}
+
+-- a node that regroups chunks of this type has these in mind, and hands these on next
+pub record Groups (mind : Mind) (left : List Next) (q : Seed) (past todo : List Act) (l : Local) (over : Bool) (hs : Tree) (mind_now : Mind) (local_now : Local) (t : Ty) (weight : ChunkData → ℕ) (keep : List (List ℕ)) (outs : List Item) : Type 0 where
+  pub mind_is : mind ≡ mind_now
+  pub local_is : l ≡ local_now
+  pub left_is : left ≡ hand_all weight outs
+  pub rest : todo ≡ filled keep (weighed_puts weight outs)
+  pub on : over ≡ false
+  pub unshaped : shape_in past ≡ None
+  pub type_is : q.type ≡ t
+  -- it has one child
+  pub kids : types_of hs ≡ t ∷ []
+  pub typed : AllTyped t outs
+
 -- the shape of a node with columns of this type
 abbrev pub columns_of : Ty → ℕ → Shape
 columns_of (list t n) rows = list_of (list t n) rows
@@ -132,7 +160,7 @@ append_of x = record (does (Append x.id)) { uses = x.id ∷ []; bytes = x.bytes 
 abbrev pub Counted : List Act → ℕ → Type 0
 Counted past n = (n ≡ 0) ⊎ In n (numbers_in past)
 
--- A task that hasn't done all: what the program's has in mind and left to do, with its children, against the abstract one's past,
+-- A task that hasn't done all, or has its only child's layout: what the program's has in mind and left to do, with its children, against the abstract one's past,
 -- what that has left and its local, with its children, which may go as deep as d.
 pub data Stage (s : Setting) (d : Fuel) (mind : Mind) (left : List Next) (ks : Tasks) (q : Seed) (past todo : List Act) (l : Local) (over : Bool) (hs : Tree) : Type 0 where
   waits_first : (o : FlatOptions) (t : Ty) → ks ≡ no_tasks → Rests mind left past todo l over (no_chunk o t) (flat_empty o t)
@@ -140,13 +168,13 @@ pub data Stage (s : Setting) (d : Fuel) (mind : Mind) (left : List Next) (ks : T
   waits_end : (o : FlatOptions) (t : Ty) (i : Item) (bytes : List ℕ) → ks ≡ no_tasks
       → Rests mind left past todo l over (one_chunk (record { id = i.0; bytes = bytes; tree = inlined s o i; rows = rows_in i.1; type = t })) (flat_full o t i (Some bytes))
       → Stage s d mind left ks q past todo l over hs
-  appends : (x : Stored) → ks ≡ no_tasks → Ends mind left past todo over (append x ∷ []) (append_of x ∷ []) (alone (flat_layout x.type x.rows s.encodings x.tree x.id))
+  appends : (x : Stored) → ks ≡ no_tasks → Ends mind left past todo over ending (append x ∷ []) (append_of x ∷ []) (alone (flat_layout x.type x.rows s.encodings x.tree x.id))
       → Stage s d mind left ks q past todo l over hs
   -- the children have all rows so far
   splits : (n : ChunkedNode) (e : Eof) → n.name ≡ q.name → q.type ≡ n.type → q.spare ≡ [] → Built (chunked_form n.type n.child) → Enough d (chunked_form n.type n.child)
       → Counted past (rows_of hs) → Rests mind left past todo l over (by_chunk n.mark n.type n.child e (rows_of hs)) (chunked_local n (count ks) e (rows_of hs))
       → Stage s d mind left ks q past todo l over hs
-  gathers_all : (t : Ty) → Counted past (rows_of hs) → Ends mind left past todo over (join_kids (fold_chunks t) ∷ []) (does Join ∷ []) (gathers t (rows_of hs))
+  gathers_all : (t : Ty) → Counted past (rows_of hs) → Ends mind left past todo over ending (join_kids (fold_chunks t) ∷ []) (does Join ∷ []) (gathers t (rows_of hs))
       → Stage s d mind left ks q past todo l over hs
   hands : (n : StructNode) (rows j : ℕ) (p : List ℕ) (xs : List ChunkData) (ws : List Writer) → q.type ≡ struct n.fields n.nullable → length n.writers ≡ length (column_types n.fields n.nullable)
       → Hands mind left past todo l over hs (by_column (struct n.fields n.nullable) rows) (struct_local n rows) (column_types n.fields n.nullable) j p xs ws
@@ -156,12 +184,27 @@ pub data Stage (s : Setting) (d : Fuel) (mind : Mind) (left : List Next) (ks : T
       → Hands mind left past todo l over hs (by_list n.elements n.nullable first from rows) (list_local n first from rows) (list_types n.elements n.nullable) j p xs ws
       → Stage s d mind left ks q past todo l over hs
   shuts : (t : Ty) (rows : ℕ) → column_count t ≡ count ks
-      → Ends mind left past todo over (shut_kids ∷ join_kids (fold_columns t rows) ∷ []) (close_queues (numbers 0 (count ks)) ∷ does Join ∷ []) (columns_of t rows)
+      → Ends mind left past todo over ending (shut_kids ∷ join_kids (fold_columns t rows) ∷ []) (close_queues (numbers 0 (count ks)) ∷ does Join ∷ []) (columns_of t rows)
       → Stage s d mind left ks q past todo l over hs
-  joins_columns : (t : Ty) (rows : ℕ) → column_count t ≡ count ks → Ends mind left past todo over (join_kids (fold_columns t rows) ∷ []) (does Join ∷ []) (columns_of t rows)
+  joins_columns : (t : Ty) (rows : ℕ) → column_count t ≡ count ks → Ends mind left past todo over ending (join_kids (fold_columns t rows) ∷ []) (does Join ∷ []) (columns_of t rows)
       → Stage s d mind left ks q past todo l over hs
+  regroups_rows : (o : BlockOptions) (n : GroupedNode) (x : List CellData) (j : Option Item) (rows : ℕ) (outs : List Item) → NewestTyped n.type j → NoneHeld x j
+      → Groups mind left q past todo l over hs (by_block (block_len o n.type) o.minimum n.type x j rows) (blocks_local o n x j rows) n.type (λ p. 0) (group_kept j) outs
+      → Stage s d mind left ks q past todo l over hs
+  regroups_chunks : (size : ℕ) (n : GroupedNode) (x : List ChunkData) (j : Option Item) (rows : ℕ) (outs : List Item) → ChunksTyped n.type x → NewestTyped n.type j → NoneHeld x j
+      → Groups mind left q past todo l over hs (by_size size x j rows) (bytes_local size n x j rows) n.type held (group_kept j) outs
+      → Stage s d mind left ks q past todo l over hs
+  collects : (n : GroupedNode) (x : Option (List ℕ × List ChunkData)) (rows : ℕ)
+      → Groups mind left q past todo l over hs (as_one n.type x rows) (collect_local n x rows) n.type (λ p. 0) (collect_kept x) []
+      → Stage s d mind left ks q past todo l over hs
+  -- behind the end: these are left to hand on, then the queue of its only child is closed; or nothing is left
+  passes_on : (t : Ty) (weight : ChunkData → ℕ) (outs : List Item) → types_of hs ≡ t ∷ [] → AllTyped t outs
+      → Ends mind left past todo over passing (hand_all weight outs ++ (shut_kids ∷ [])) (filled [] (weighed_puts weight outs ++ (close_queues (0 ∷ []) ∷ []))) passes
+      → Stage s d mind left ks q past todo l over hs
+  passed : (t : Ty) → types_of hs ≡ t ∷ [] → Ends mind left past todo over passing [] [] passes → Stage s d mind left ks q past todo l over hs
 
--- A task that has done all: its children are given up, and the layout is theirs, where `number` tells each segment's.
+-- A task that has done all and has a layout of its own: its children are given up, and it is theirs, where `number` tells each
+-- segment's.
 pub record Done (number : List ℕ → ℕ) (mind : Mind) (left : List Next) (ks : Tasks) (past todo : List Act) (over : Bool) (hs : Tree) : Type 0 where
   pub layout : LayoutData ℕ
   pub mind_is : mind ≡ made layout
@@ -172,7 +215,7 @@ pub record Done (number : List ℕ → ℕ) (mind : Mind) (left : List Next) (ks
   pub below : IsTrue (all_over hs)
   pub free : all_paths hs ≡ []
   pub laid_is : map (renamed number) (shaped (shape_in past) (laid hs)) ≡ layout ∷ []
-  pub rows_are : row_count layout ≡ shape_rows (shape_in past)
+  pub rows_are : (below : ℕ) → row_count layout ≡ shape_rows (shape_in past) below
 
 -- The tasks show the abstract ones: those from number j on of a seed, and all below them.
 abbrev pub Shows : Setting → (List ℕ → ℕ) → Fuel → Seed → ℕ → Tasks → Tree → Type 0

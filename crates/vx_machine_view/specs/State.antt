@@ -1,6 +1,8 @@
 -- The step machine as the program keeps it, in plain data: ids and pointers by their paths, chunks and layouts by their data.
 use Rattle.std.specs.Prelude.{ℕ, Bool, List, Option}
 use Rattle.vx_model.specs.Ty.{Ty}
+use Rattle.vx_model.specs.CellData.{CellData}
+use Rattle.vx_model.specs.ChunkData.{ChunkData}
 use Rattle.vx_path.specs.Path.{Eof}
 use Rattle.vx_layout_spec.specs.LayoutTree.{LayoutData}
 use Rattle.vx_strategy_spec.specs.StrategyData.{FlatOptions}
@@ -25,6 +27,8 @@ pub data Fold : Type 0 where
 -- what is left of a task's present block
 pub data Next : Type 0 where
   put : ℕ → Item → Next
+  -- on the queue of its only child; so many bytes are then taken from the tracker
+  hand_on : ℕ → Item → Next
   append : Stored → Next
   -- the queues of all children
   shut_kids : Next
@@ -41,8 +45,16 @@ pub data Mind : Type 0 where
   by_column : Ty → ℕ → Mind
   -- a list node's: elements' type, nullable, whether no chunk came, the elements and the rows so far
   by_list : Ty → Bool → Bool → ℕ → ℕ → Mind
+  -- a repartition's: block length, least bytes of a block, type; the rows held besides the newest chunk, that one, rows so far
+  by_block : ℕ → ℕ → Ty → List CellData → Option Item → ℕ → Mind
+  -- a buffer's: size in bytes; the chunks held besides the newest one, that one, rows so far
+  by_size : ℕ → List ChunkData → Option Item → ℕ → Mind
+  -- a collection's: type; the last path and the chunks so far, and their rows
+  as_one : Ty → Option (List ℕ × List ChunkData) → ℕ → Mind
   -- it has seen the end of its stream
   ending : Mind
+  -- so it has, and its layout is its only child's
+  passing : Mind
   -- it has done all
   made : LayoutData ℕ → Mind
 

@@ -36,7 +36,8 @@ pub record SameStep (s : Setting) (number : List ℕ → ℕ) (next : ℕ) (d : 
   pub numbers : w.numbers ≡ m.act.numbers
   pub indices : w.indices ≡ m.act.indices ++ opened m.room m.act.starts
   pub wrote : w.wrote ≡ written_by m.act.kind m.act.bytes
-  pub untracked : (m.act.raises ≡ 0) × (m.act.lowers ≡ 0)
+  pub raises : w.raises ≡ m.act.raises
+  pub lowers : w.lowers ≡ m.act.lowers
   pub after : IsFalse (refuses m.act) → ((p : List ℕ) → m.act.kind ≡ Append p → next ≡ number p)
       → Shows s number d q j w.after m.after × Steady cs w.after t m.after
 

@@ -1,5 +1,5 @@
 -- Chunks that are of a type through and through: the parts of a struct have the types of its fields.
-use Rattle.std.specs.Prelude.{◌≡◌, List, [], ◌∷◌}
+use Rattle.std.specs.Prelude.{◌≡◌, List, [], ◌∷◌, Option, Some, None}
 use Rattle.vx_model.specs.Ty.{Ty, Tys, boolean, primitive, utf8, binary, list, struct, extension, no_fields, field}
 use Rattle.vx_model.specs.ChunkData.{ChunkData, ChunkList, plain_piece, constant_piece, dict_piece, chunked_piece, list_piece, struct_piece, extension_piece, no_pieces, part, piece_type}
 use Rattle.vx_plan.specs.PlanData.{Item}
@@ -33,6 +33,15 @@ abbrev mutual
 abbrev pub AllTyped : Ty → List Item → Type 0
 AllTyped t [] = Unit {0}
 AllTyped t (i ∷ is) = Typed t i.1 × AllTyped t is
+
+-- each chunk of a list
+abbrev pub ChunksTyped : Ty → List ChunkData → Type 0
+ChunksTyped t [] = Unit {0}
+ChunksTyped t (p ∷ ps) = Typed t p × ChunksTyped t ps
+
+abbrev pub NewestTyped : Ty → Option Item → Type 0
+NewestTyped t None = Unit {0}
+NewestTyped t (Some j) = Typed t j.1
 
 -- one of each type
 abbrev pub EachTyped : List Ty → List ChunkData → Type 0

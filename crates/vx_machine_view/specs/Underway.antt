@@ -47,6 +47,7 @@ pub record IsMove (w : WholeStep) (v : TreeMove) : Type 0 where
   pub misfit : w.misfit ≡ v.act.misfit
   pub numbers : w.numbers ≡ v.act.numbers
   pub indices : w.indices ≡ v.act.indices ++ opened v.room v.act.starts
+  pub raises : w.raises ≡ v.act.raises
 
 abbrev pub WriteMoves : Type 0
 WriteMoves = (g : Write) (first : ℕ) (taken : List ChunkData) (heard : Bool) (a : Answer) (f : Future) (seen : List Note) (history : List Pair) (tracker : ℕ)
@@ -56,12 +57,12 @@ WriteMoves = (g : Write) (first : ℕ) (taken : List ChunkData) (heard : Bool) (
 
 -- A step that is picked and not refused is a step of the write; what the machine then shows is where the write has then come.
 abbrev pub WriteSteps : Type 0
-WriteSteps = (g : Write) (first : ℕ) (taken : List ChunkData) (heard : Bool) (a : Answer) (f : Future) (seen : List Note) (history : List Pair) (tracker : ℕ)
+WriteSteps = (g : Write) (first : ℕ) (taken : List ChunkData) (heard : Bool) (a : Answer) (f : Future) (seen : List Note) (history : List Pair) (tracker tracker_then : ℕ)
     (r : Reached g taken (before a f) seen history tracker) (m : Machine) (k : ℕ) (w : WholeStep)
     → Lawful g.setting.codec g.setting.encodings → Open (heard_by heard a) f → Showing g first taken m (before a f) r.tree
     → nth (ready_steps g first history a m) k ≡ Some w → k ≡ first_pick (picks_after (length seen) g.schedule) % length (ready_steps g first history a m)
-    → Asks g.type f m.phase k a → w.refusal ≡ None → IsFalse w.misfit
-    → (st : Stepped g r.tree seen (noted (length (ready_steps g first history a m)) k w.name w.kind) history (history ++ w.wrote) tracker tracker)
+    → Asks g.type f m.phase k a → w.refusal ≡ None → IsFalse w.misfit → tracker_then + w.lowers ≡ tracker + w.raises
+    → (st : Stepped g r.tree seen (noted (length (ready_steps g first history a m)) k w.name w.kind) history (history ++ w.wrote) tracker tracker_then)
     × Showing g first (taken_by taken a) w.after f st.move.after
 
 -- something is ready until the machine has finished

@@ -109,7 +109,8 @@ pub record SameWhole (g : Write) (number : List ℕ → ℕ) (next : ℕ) (f : F
   pub numbers : w.numbers ≡ m.act.numbers
   pub indices : w.indices ≡ m.act.indices ++ opened m.room m.act.starts
   pub wrote : w.wrote ≡ written_by m.act.kind m.act.bytes
-  pub untracked : (m.act.raises ≡ 0) × (m.act.lowers ≡ 0)
+  pub raises : w.raises ≡ m.act.raises
+  pub lowers : w.lowers ≡ m.act.lowers
   pub after : IsFalse (refuses m.act) → ((p : List ℕ) → m.act.kind ≡ Append p → next ≡ number p) → ShowsMachine g number w.after f m.after
 
 -- so it is of the step at each place

@@ -4,6 +4,7 @@
 #![tactic(auto)]
 
 ghost use Rattle.vx_machine_view.specs.Steps.{StepsShow};
+ghost use Rattle.vx_machine_view.specs.Reserved.{StepsReserve, StartReserves, WholeReserves, FinishReserves};
 ghost use Rattle.vx_machine_view.specs.Tables.{TablesAreBuilt};
 ghost use Rattle.vx_machine_view.specs.Places.{StepsAreReady, OwnPlace, KidPlace, RestPlace, WholeIsReady, SourcePlace, RootPlace};
 ghost use Rattle.vx_machine_view.specs.Underway.{ReachedStands, AppendIsNext, WriteMoves, WriteSteps, WriteReady, WriteEnds, WriteJoins};
@@ -37,6 +38,14 @@ pub fn ends()
     ensures held { HeldShows }
     ensures finish { FinishShows }
     ensures layout { LayoutShows }
+{}
+
+/// What tasks have reserved in the tracker: each step changes it by what it adds to the tracker and takes from it.
+pub fn reserves()
+    ensures start { StartReserves }
+    ensures steps { StepsReserve }
+    ensures whole { WholeReserves }
+    ensures finish { FinishReserves }
 {}
 
 /// In a write that is under way: each step of the machine, as its schedule picks it, is a step of the write.

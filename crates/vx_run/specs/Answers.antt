@@ -95,7 +95,7 @@ IsLet j asked appended e = Unit {0}
 pub record IsRefused (j : JobData) (e : WriteError) (stand : List (List ℕ)) (steps : List Step) : Type 0 where
   -- the batches that weren't taken
   pub later : List ChunkData
-  pub halted : Halted (job_setting j) j.strategy j.schema j.options.marked j.options.next (j.options.next + length stand) (Some j.batches) (Some later) (Some []) (Some stand)
+  pub halted : Halted (job_setting j) j.strategy j.schema j.options.marked 0 j.options.next (j.options.next + length stand) (Some j.batches) (Some later) (Some []) (Some stand)
       j.options.schedule steps e
   -- a segment each append
   pub appended : length stand ≡ appends_in steps

@@ -1,12 +1,12 @@
 -- What a write's answer tells of its calls.
-use Rattle.std.specs.Prelude.{ℕ, ◌⊎◌, List, Option, Result, Ok, Err, MatchResult}
+use Rattle.std.specs.Prelude.{◌≡◌, ℕ, ◌⊎◌, List, Option, Result, Ok, Err, MatchResult}
 use Rattle.vx_model.specs.Ty.{Ty}
 use Rattle.vx_model.specs.ChunkData.{ChunkData}
 use Rattle.vx_strategy_spec.specs.StrategyData.{StrategyData}
 use Rattle.vx_layout_tree.specs.declared.layout.Layout.{Layout}
 use Rattle.vx_order.specs.Outlet.{Outlet}
 use Rattle.vx_sink.specs.declared.context.LayoutWriterContext.{LayoutWriterContext}
-use Rattle.vx_sink.specs.ContextView.{is_marked}
+use Rattle.vx_sink.specs.ContextView.{listed, allowed_in, is_marked, counted}
 use Rattle.vx_write_answer.specs.declared.error.WriteError.{WriteError}
 use Rattle.vx_machine.specs.Run.{RunTold}
 use Rattle.vx_machine_ran.specs.Answered.{IsStarted, Unstarted, begun, HasRun}
@@ -35,3 +35,10 @@ StoppedTold ctx w t schedule to_come before steps to_come_now after must e =
 abbrev pub AnsweredTold : LayoutWriterContext → StrategyData → Ty → List ℕ → Option (List ChunkData) → Outlet → List Step → Option (List ChunkData) → Outlet → (ℕ → Type 0) → Result (Option Layout) WriteError → Type 0
 AnsweredTold ctx w t schedule to_come before steps to_come_now after must r =
     MatchResult r (HasRun ctx w t schedule to_come before steps to_come_now after) (StoppedTold ctx w t schedule to_come before steps to_come_now after must)
+
+-- a context that tells the same: what it lists and allows, its mark, and what its tracker counts
+pub record SameContext (before after : LayoutWriterContext) : Type 0 where
+  pub listed_is : listed after ≡ listed before
+  pub allowed_is : allowed_in after ≡ allowed_in before
+  pub marked_is : is_marked after ≡ is_marked before
+  pub counted_is : counted after ≡ counted before

@@ -19,7 +19,7 @@ ghost use Rattle.vx_machine_ran.specs.Built.{is_built};
 ghost use Rattle.vx_machine.specs.Context.{setting_of};
 ghost use Rattle.vx_machine_ran.specs.Traced.{Traced};
 ghost use Rattle.vx_machine_ran.specs.Written.{Planned, Wrote, Halted};
-ghost use Rattle.vx_write.specs.Answer.{AnsweredTold};
+ghost use Rattle.vx_write.specs.Answer.{SameContext, AnsweredTold};
 
 use std::alloc::Global;
 use vx_layout_tree::Layout;
@@ -51,7 +51,7 @@ pub(crate) fn write_tasks<B: BatchSource, S: SegmentSink, C: CompressorPlugin>(
     ensures trace { OnOk result.0 (Traced (setting_of ctx.old (C.image (C.kind compressor.old))) (strategy_data strategy.now) (B.kind source.old)
         (is_marked ctx.old) (B.to_come source.old) schedule.now steps.new.items) }
     ensures halted { IfErr result.0 (Halted (setting_of ctx.old (C.image (C.kind compressor.old))) (strategy_data strategy.now) (B.kind source.old)
-        (is_marked ctx.old) (S.next sink) (S.next result.1) (B.to_come source.old) (B.to_come source.new) (S.segments sink) (S.segments result.1)
+        (is_marked ctx.old) (counted ctx.old) (S.next sink) (S.next result.1) (B.to_come source.old) (B.to_come source.new) (S.segments sink) (S.segments result.1)
         schedule.now steps.new.items) }
     ensures appended { S.next result.1 ≡ S.next sink + appends_in steps.new.items }
     ensures last { S.next result.1 ≤ max (S.next sink) (2 ^ 32) }
@@ -65,7 +65,7 @@ pub(crate) fn write_tasks<B: BatchSource, S: SegmentSink, C: CompressorPlugin>(
         → IsCalm (B.faults source.old) (B.faults source.new) → IsCalm (S.faults sink) (S.faults result.1)
         → IfErr result.0 (λ e. e ≡ OutOfMemory) }
     ensures borrow { S.borrow result.1 ≡ S.borrow sink }
-    ensures same { (ctx.new ≡ ctx.old) × (B.kind source.new ≡ B.kind source.old) × (compressor.new ≡ compressor.old) }
+    ensures same { SameContext ctx.old ctx.new × (B.kind source.new ≡ B.kind source.old) × (compressor.new ≡ compressor.old) }
 {
     vx_machine_ran::answers();
     vx_setting::real_settings_keep();
@@ -119,7 +119,7 @@ fn write_in<B: BatchSource, O: Order, C: CompressorPlugin>(
     ensures ran { eof ≡ root → Exact (O.active order.old) (end_stock eof)
         → AnsweredTold ctx.old (strategy_data strategy.now) (B.kind source.old) schedule.now (B.to_come source.old) (O.outlet order.old) steps.new.items (B.to_come source.new)
         (O.outlet order.new) (B.must_fail source.old) result }
-    ensures same { (ctx.new ≡ ctx.old) × (B.kind source.new ≡ B.kind source.old) × (compressor.new ≡ compressor.old) }
+    ensures same { SameContext ctx.old ctx.new × (B.kind source.new ≡ B.kind source.old) × (compressor.new ≡ compressor.old) }
 {
     let stream = match take_below(order, &mut eof) {
         Ok(stream) => stream,

@@ -16,7 +16,7 @@ ghost use Rattle.vx_machine_ran.specs.Built.{is_built};
 ghost use Rattle.vx_machine.specs.Context.{setting_of};
 ghost use Rattle.vx_machine_ran.specs.Traced.{Traced};
 ghost use Rattle.vx_machine_ran.specs.Written.{Planned, Wrote, Halted};
-ghost use Rattle.vx_write.specs.Answer.{steps_of, asked};
+ghost use Rattle.vx_write.specs.Answer.{SameContext, steps_of, asked};
 
 use crate::lent::Lent;
 use crate::tasks::write_tasks;
@@ -70,7 +70,7 @@ pub fn write_stream<B: BatchSource, S: SegmentSink, C: CompressorPlugin>(
     // After a refusal the segments appended are the first of the plan of the batches taken, the error has its cause there, the
     // steps are the first that the schedule picks, and the error is that of the act that it picks next.
     ensures halted { IfErr result (λ r. Halted (setting_of ctx.old (C.image (C.kind compressor.old))) (strategy_data strategy.now) (B.kind source.old)
-        (is_marked ctx.old) (S.next sink.old) (S.next sink.new) (B.to_come source.old) (B.to_come source.new) (S.segments sink.old) (S.segments sink.new)
+        (is_marked ctx.old) (counted ctx.old) (S.next sink.old) (S.next sink.new) (B.to_come source.old) (B.to_come source.new) (S.segments sink.old) (S.segments sink.new)
         schedule.now r.trace.items r.error) }
     ensures appended { S.next sink.new ≡ S.next sink.old + appends_in (steps_of result) }
     // No segment has a number past the last.
@@ -89,7 +89,8 @@ pub fn write_stream<B: BatchSource, S: SegmentSink, C: CompressorPlugin>(
         (S.next sink.old) (counted ctx.old) xs
         → IsCalm (B.faults source.old) (B.faults source.new) → IsCalm (S.faults sink.old) (S.faults sink.new)
         → IfErr result (λ r. r.error ≡ OutOfMemory) }
-    ensures same { (ctx.new ≡ ctx.old) × (B.kind source.new ≡ B.kind source.old) × (S.borrow sink.new ≡ S.borrow sink.old) × (compressor.new ≡ compressor.old) }
+    // Ok or refused, nothing is held back any more.
+    ensures same { SameContext ctx.old ctx.new × (B.kind source.new ≡ B.kind source.old) × (S.borrow sink.new ≡ S.borrow sink.old) × (compressor.new ≡ compressor.old) }
 {
     let mut trace = Vec::new(alloc);
     if !is_built(strategy) {

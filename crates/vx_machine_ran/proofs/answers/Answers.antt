@@ -12,7 +12,7 @@ returns-clause-sink c =
 
 pub returns-clause-complete : goal.returns-clause-complete
 returns-clause-complete c =
-    answers_are_complete c.writes.ensures.done c.writes.ensures.stopped c.writes.ensures.left c.start_faults_stand.ensures.stands c.start_faults_agree.ensures c.stands.ensures.start
+    answers_are_complete c.writes.ensures.done c.writes.ensures.stopped c.writes.ensures.left c.start_faults_stand.ensures.stands c.start_faults_agree.ensures c.stands.ensures.start c.tracks.ensures.fits
 
 pub returns-clause-misfit : goal.returns-clause-misfit
 returns-clause-misfit c = misfits_are_read c.runs.ensures.run c.start_faults_agree.ensures

@@ -8,7 +8,7 @@ returns-clause-done c =
 
 pub returns-clause-stopped : goal.returns-clause-stopped
 returns-clause-stopped c =
-    stopped_halts c.runs.ensures.run c.runs.ensures.by c.stands.ensures.front c.ends.ensures.causes c.stands.ensures.append c.traces.ensures.first c.traces.ensures.refused c.traces.ensures.misfit c.picks.ensures.all c.traces.ensures.next c.traces.ensures.more c.ends.ensures.ready
+    stopped_halts c.runs.ensures.run c.runs.ensures.by c.stands.ensures.front c.ends.ensures.causes c.stands.ensures.append c.traces.ensures.first c.traces.ensures.refused c.traces.ensures.misfit c.picks.ensures.all c.traces.ensures.next c.traces.ensures.more c.ends.ensures.ready c.tracks.ensures.comes
 
 pub returns-clause-left : goal.returns-clause-left
 returns-clause-left c = runs_leave_sinks c.runs.ensures.run

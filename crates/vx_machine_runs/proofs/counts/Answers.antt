@@ -1,5 +1,4 @@
 use Rattle.vx_machine_runs.proofs.Bounding.{numbers_are_counted, numbers_fit}
-use Rattle.vx_machine_runs.proofs.Reserving.{nothing_reserved}
 use Rattle.vx_machine_runs.proofs.counts.Goals as goal
 
 pub returns-clause-counted : goal.returns-clause-counted
@@ -7,6 +6,3 @@ returns-clause-counted c = numbers_are_counted c.steps.ensures.start c.steps.ens
 
 pub returns-clause-fit : goal.returns-clause-fit
 returns-clause-fit c = numbers_fit c.steps.ensures.start c.steps.ensures.step c.ends.ensures
-
-pub returns-clause-reserved : goal.returns-clause-reserved
-returns-clause-reserved c = nothing_reserved

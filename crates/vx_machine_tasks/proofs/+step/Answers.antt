@@ -12,6 +12,9 @@ use Rattle.vx_machine_tasks.specs.declared.task.Task.TheOpen.{Task-F}
 use Rattle.vx_machine_tasks.specs.declared.task.Task.TheViews.{roll-Task, the_lemmas}
 use Rattle.vx_machine_view.specs.State.{no_tasks}
 use Rattle.vx_machine_tasks.specs.View.{desk_of, task_row, row}
+use Rattle.vx_sink.specs.ContextView.{counted as counted_bytes}
+use Rattle.vx_machine_tasks.specs.Ledger.{task_reserved, tasks_reserved}
+use Rattle.vx_machine_tasks.proofs.PaidSteps.{slice_paid, slice_within, at_within, at_paid}
 use Rattle.vx_machine_tasks.proofs.ReadyViews.{none_before, behind_own}
 use Rattle.vx_machine_tasks.proofs.StepLifts.{own_done, own_fails, below_done, below_fails, kid_done, kid_fails}
 use Rattle.vx_machine_tasks.proofs.TaskParts.{out_roll, roll_out, task_count_out, head_owned, kids_owned, slice_moved, kids_of_roll, count_at}
@@ -66,7 +69,8 @@ task::Task::step-step_kids-requires g t c κs within =
     let may : AllMay (g.O.Order.may_write c.args.order.now) (tasks_pairs c.deref_mut.result.now) =
     subst (λ z. AllMay (g.O.Order.may_write c.args.order.now) (tasks_pairs z)) (sym kv) (kids_may (g.O.Order.may_write c.args.order.now) c.args.self.now c.requires.allowed) in
     let fresh : Fresh (fin.keys u) c.args.counts.now (row c.deref_mut.result.now) = subst (λ z. Fresh (fin.keys u) c.args.counts.now (row z)) (sym kv) c.requires.fresh in
-    search (rules, arith, o, falls, there, may, fresh)
+    let reserved : tasks_reserved c.deref_mut.result.now ≤ counted_bytes c.args.ctx.now = slice_within (counted_bytes c.args.ctx.now) c.args.self.now c.deref_mut.result.now kv c.requires.reserved in
+    search (rules, arith, o, falls, there, may, fresh, reserved)
 
 pub task::Task::step-returns-clause-moved : goal.task::Task::step-returns-clause-moved
 task::Task::step-returns-clause-moved g t c =
@@ -74,6 +78,13 @@ task::Task::step-returns-clause-moved g t c =
     let kv : c.deref_mut.result.now ≡ (out-Task c.args.self.now).kids.items = c.deref_mut.ensures.value ∙ ap (λ (z : Task-F Task). z.kids.items) v in
     slice_moved (g.O.Order.active c.args.order.now) (g.O.Order.active c.step_kids.new.order) c.args.self.now _ c.requires.owned c.deref_mut.result.now c.step_kids.new.kids kv
     (simp the_lemmas refl) (kids_of_roll _ _ c.step_kids.new.kids (omega (arith, c.deref_mut.ensures.len))) c.step_kids.ensures.moved
+
+pub task::Task::step-returns-clause-tracked : goal.task::Task::step-returns-clause-tracked
+task::Task::step-returns-clause-tracked g t c =
+    let v : out-Task (roll-Task (out-Task c.args.self.now)) ≡ out-Task c.args.self.now = out_roll (out-Task c.args.self.now) in
+    let kv : c.deref_mut.result.now ≡ (out-Task c.args.self.now).kids.items = c.deref_mut.ensures.value ∙ ap (λ (z : Task-F Task). z.kids.items) v in
+    slice_paid c.args.ctx.now c.step_kids.new.ctx c.args.self.now _ c.deref_mut.result.now c.step_kids.new.kids kv
+    (simp the_lemmas refl) (kids_of_roll _ _ c.step_kids.new.kids (omega (arith, c.deref_mut.ensures.len))) c.step_kids.ensures.tracked
 
 pub task::Task::step-returns-clause-known : goal.task::Task::step-returns-clause-known
 task::Task::step-returns-clause-known g t c =
@@ -172,7 +183,8 @@ step::step_kids-step-requires g t c κs within =
     let may : AllMay (g.O.Order.may_write c.args.order.now) (task_pairs x) = kid_may (g.O.Order.may_write c.args.order.now) ts i x w.place is c.requires.allowed in
     let fresh : Fresh (fin.keys u) c.index_mut.result.now (row (out-Task x).kids.items) =
     fresh_kid (fin.keys u) (asked_of y) i (desk_of (out-Task x).head) (row (out-Task x).kids.items) 0 (ready_of y) (kids_in y) (row ts) c.index_mut.result.now (kid_is ts i x w.place is) c.requires.fresh (sym c.index_mut.ensures.value) in
-    search (rules, arith, o, falls, there, may, fresh)
+    let reserved : task_reserved x ≤ counted_bytes c.args.ctx.now = at_within (counted_bytes c.args.ctx.now) ts i x w.place is c.requires.reserved in
+    search (rules, arith, o, falls, there, may, fresh, reserved)
 
 pub step::step_kids-returns-in-Ok-clause-moved : goal.step::step_kids-returns-in-Ok-clause-moved
 step::step_kids-returns-in-Ok-clause-moved g t c =
@@ -233,3 +245,27 @@ step::step_kids-returns-in-Err-clause-refused g t c =
     let x : Task = get_or ts i c.index-kids-place.result in
     let is : get_or ts i x ≡ x = ap (λ z. get_or ts i z) (sym c.index-kids-place.is) in
     kid_fails c.args.ctx.now u (g.O.Order.outlet c.args.order.now) (g.O.Order.outlet c.step.new.order) (Err c.in-Err.error) ts i x c.args.k c.find-place.result.1 w.passed w.place is c.in-Err.ensures.refused
+
+pub step::step_kids-returns-in-Ok-clause-tracked : goal.step::step_kids-returns-in-Ok-clause-tracked
+step::step_kids-returns-in-Ok-clause-tracked g t c =
+    let u : Active = g.O.Order.active c.args.order.now in
+    let y = c.args.counts.now in
+    let ts = c.args.kids.now in
+    let i = c.find-place.result.0 in
+    let w : Found u ts (ready_of y) (kids_in y) i c.find-place.result.1 c.args.k =
+    found u ts (asked_of y) (ready_of y) (kids_in y) c.requires.fresh i c.find-place.result.1 c.args.k c.find-place.ensures.within c.find-place.ensures.place c.find-place.ensures.inside c.requires.there in
+    let x : Task = get_or ts i c.index-kids-place.result in
+    let is : get_or ts i x ≡ x = ap (λ z. get_or ts i z) (sym c.index-kids-place.is) in
+    at_paid c.args.ctx.now c.step.new.ctx ts i x c.step.new.self w.place is c.step.ensures.tracked
+
+pub step::step_kids-returns-in-Err-clause-tracked : goal.step::step_kids-returns-in-Err-clause-tracked
+step::step_kids-returns-in-Err-clause-tracked g t c =
+    let u : Active = g.O.Order.active c.args.order.now in
+    let y = c.args.counts.now in
+    let ts = c.args.kids.now in
+    let i = c.find-place.result.0 in
+    let w : Found u ts (ready_of y) (kids_in y) i c.find-place.result.1 c.args.k =
+    found u ts (asked_of y) (ready_of y) (kids_in y) c.requires.fresh i c.find-place.result.1 c.args.k c.find-place.ensures.within c.find-place.ensures.place c.find-place.ensures.inside c.requires.there in
+    let x : Task = get_or ts i c.index-kids-place.result in
+    let is : get_or ts i x ≡ x = ap (λ z. get_or ts i z) (sym c.index-kids-place.is) in
+    at_paid c.args.ctx.now c.step.new.ctx ts i x c.step.new.self w.place is c.step.ensures.tracked

@@ -1,20 +1,22 @@
-use Rattle.std.proofs.Common.{◌≡◌, List, length, true, sym, ap, subst, ◌∙◌, refl}
+use Rattle.std.proofs.Common.{◌≡◌, ◌+◌, List, length, true, sym, ap, subst, ◌∙◌, refl, arith}
 use Rattle.std.proofs.lemmas.Bool.{and_parts}
 use Rattle.vx_sequence.specs.Universe.{Active}
 use Rattle.vx_machine_ids.specs.Stock.{both}
 use Rattle.vx_write_answer.specs.declared.step.ActionKind.TheVariants as actions
 use Rattle.vx_machine_tasks.specs.Pairs.{due_pairs, AllMay}
 use Rattle.vx_machine_tasks.specs.Ready.{Kid, may_due, kids_of, all_made, can_join}
-use Rattle.vx_machine_tasks.specs.Stocks.{item_stock, stored_stock, due_stock, local_stock, tasks_stock}
-use Rattle.vx_machine_tasks.specs.declared.item.Due.{Due}
-use Rattle.vx_machine_tasks.specs.declared.item.Due.TheVariants.{Put, Append, Join}
-use Rattle.vx_machine_tasks.specs.declared.node.Shape.{Shape}
+use Rattle.vx_machine_nodes.specs.Ledger.{some_bytes, due_reserved}
+use Rattle.vx_machine_nodes.specs.Stocks.{item_stock, stored_stock, due_stock, local_stock}
+use Rattle.vx_machine_tasks.specs.Stocks.{tasks_stock}
+use Rattle.vx_machine_nodes.specs.declared.item.Due.{Due}
+use Rattle.vx_machine_nodes.specs.declared.item.Due.TheVariants.{Put, HandOn, Append, Join}
+use Rattle.vx_machine_nodes.specs.declared.node.Shape.{Shape}
 use Rattle.vx_machine_tasks.proofs.ActMoves.{put_owned, put_moved, append_owned, append_moved, join_owned, join_moved, close_moved}
-use Rattle.vx_machine_tasks.proofs.ActCauses.{memory_may, all_wider}
-use Rattle.vx_machine_tasks.proofs.CallSteps.{unasked_self, quiet_told}
+use Rattle.vx_machine_nodes.proofs.ActCauses.{memory_may, all_wider}
+use Rattle.vx_machine_nodes.proofs.CallSteps.{unasked_self, quiet_told}
 use Rattle.vx_machine_tasks.proofs.Readiness.{least_means}
 use Rattle.vx_sink.specs.ContextView.{listed}
-use Rattle.vx_machine_tasks.proofs.ActShows.{err_kept, put_does, put_says, append_does, append_says, close_does, join_does, join_says, join_kind}
+use Rattle.vx_machine_tasks.proofs.ActShows.{err_kept, put_does, put_says, hand_does, hand_says, append_does, append_says, close_does, join_does, join_says, join_kind}
 use Rattle.vx_machine_tasks.proofs.advance.act.Goals as goal
 
 by_case : (u : Active) (ks : List Kid) (d e : Due) → d ≡ e → may_due u d ks ≡ true → may_due u e ks ≡ true
@@ -71,9 +73,6 @@ may_join u ks d h is m = and_parts (all_made ks) (can_join h (length ks)) (by_ca
 pub join_due-requires-clause-made : goal.join_due-requires-clause-made
 join_due-requires-clause-made g c = (may_join (g.O.Order.active c.args.order.now) (kids_of c.args.kids.now.items) c.args.due c.in-Join.shape c.in-Join.is c.requires.ready).0
 
-pub join_due-requires-clause-fits : goal.join_due-requires-clause-fits
-join_due-requires-clause-fits g c = (may_join (g.O.Order.active c.args.order.now) (kids_of c.args.kids.now.items) c.args.due c.in-Join.shape c.in-Join.is c.requires.ready).1
-
 pub returns-in-Join-clause-moved : goal.returns-in-Join-clause-moved
 returns-in-Join-clause-moved g c =
     join_moved (g.O.Order.active c.args.order.now) (local_stock c.args.local.now) (tasks_stock c.args.kids.now.items) (due_stock c.args.due) (ap due_stock c.in-Join.is) c.requires.owned
@@ -128,3 +127,62 @@ returns-in-Join-clause-refused g c =
 
 pub returns-in-Join-clause-kept : goal.returns-in-Join-clause-kept
 returns-in-Join-clause-kept g c = err_kept c.join_due.result (g.O.Order.outlet c.args.order.now) (g.O.Order.outlet c.join_due.new.order) c.join_due.ensures.outlet
+
+pub hand_over-requires-clause-owned : goal.hand_over-requires-clause-owned
+hand_over-requires-clause-owned g c =
+    put_owned (g.O.Order.active c.args.order.now) (local_stock c.args.local.now) (tasks_stock c.args.kids.now.items) (due_stock c.args.due) (item_stock c.in-HandOn.item) (ap due_stock c.in-HandOn.is) c.requires.owned
+
+pub hand_over-requires-clause-room : goal.hand_over-requires-clause-room
+hand_over-requires-clause-room g c = by_case (g.O.Order.active c.args.order.now) (kids_of c.args.kids.now.items) c.args.due (HandOn c.in-HandOn.item c.in-HandOn.reservation) c.in-HandOn.is c.requires.ready
+
+pub returns-in-HandOn-clause-moved : goal.returns-in-HandOn-clause-moved
+returns-in-HandOn-clause-moved g c =
+    put_moved (g.O.Order.active c.args.order.now) (local_stock c.args.local.now) (tasks_stock c.args.kids.now.items) (due_stock c.args.due) (item_stock c.in-HandOn.item) (ap due_stock c.in-HandOn.is) c.requires.owned
+    (g.O.Order.active c.hand_over.new.order) (tasks_stock c.hand_over.new.kids.items) c.hand_over.ensures.moved
+
+pub returns-in-HandOn-clause-told : goal.returns-in-HandOn-clause-told
+returns-in-HandOn-clause-told g c =
+    quiet_told g.O.Sink.Fallible.faults g.O.Sink.Fallible.may_fail g.O.Sink.Fallible.must_fail (g.O.Order.sink c.args.order.now) (g.O.Order.sink c.hand_over.new.order) c.hand_over.ensures.sink actions.Put refl refl c.hand_over.result c.hand_over.ensures.kind (memory_may c.hand_over.result c.hand_over.ensures.memory)
+
+pub returns-in-HandOn-clause-cause : goal.returns-in-HandOn-clause-cause
+returns-in-HandOn-clause-cause g c = all_wider c.hand_over.result (memory_may c.hand_over.result c.hand_over.ensures.memory)
+
+pub returns-in-HandOn-clause-done : goal.returns-in-HandOn-clause-done
+returns-in-HandOn-clause-done g c =
+    hand_does (listed c.args.ctx.now) c.args.local.now c.args.kids.now.items c.args.due (g.O.Order.outlet c.args.order.now) (g.O.Order.outlet c.hand_over.new.order) c.in-HandOn.item c.in-HandOn.reservation c.hand_over.new.kids.items c.hand_over.result
+    c.in-HandOn.is c.hand_over.ensures.kind c.hand_over.ensures.kids c.hand_over.ensures.outlet
+
+pub returns-in-HandOn-clause-refused : goal.returns-in-HandOn-clause-refused
+returns-in-HandOn-clause-refused g c =
+    hand_says (listed c.args.ctx.now) c.args.local.now c.args.kids.now.items c.args.due (g.O.Order.outlet c.args.order.now) (g.O.Order.outlet c.hand_over.new.order) c.in-HandOn.item c.in-HandOn.reservation c.hand_over.result c.in-HandOn.is c.hand_over.ensures.memory
+
+pub returns-in-HandOn-clause-kept : goal.returns-in-HandOn-clause-kept
+returns-in-HandOn-clause-kept g c = err_kept c.hand_over.result (g.O.Order.outlet c.args.order.now) (g.O.Order.outlet c.hand_over.new.order) c.hand_over.ensures.outlet
+
+-- ---- what is reserved
+
+pub returns-in-Put-clause-tracked : goal.returns-in-Put-clause-tracked
+returns-in-Put-clause-tracked g c = let d : due_reserved c.args.due ≡ 0 = ap due_reserved c.in-Put.is in omega (arith, d, c.put.ensures.same)
+
+pub hand_over-requires-clause-reserved : goal.hand_over-requires-clause-reserved
+hand_over-requires-clause-reserved g c = let d : due_reserved c.args.due ≡ some_bytes c.in-HandOn.reservation = ap due_reserved c.in-HandOn.is in omega (arith, d, c.requires.reserved)
+
+pub returns-in-HandOn-clause-tracked : goal.returns-in-HandOn-clause-tracked
+returns-in-HandOn-clause-tracked g c =
+    let d : due_reserved c.args.due ≡ some_bytes c.in-HandOn.reservation = ap due_reserved c.in-HandOn.is in
+    omega (arith, d, c.hand_over.ensures.same, c.hand_over.ensures.tracked)
+
+pub append_due-requires-clause-reserved : goal.append_due-requires-clause-reserved
+append_due-requires-clause-reserved g c = omega (arith, c.requires.reserved)
+
+pub returns-in-Append-clause-tracked : goal.returns-in-Append-clause-tracked
+returns-in-Append-clause-tracked g c = let d : due_reserved c.args.due ≡ 0 = ap due_reserved c.in-Append.is in omega (arith, d, c.append_due.ensures.tracked)
+
+pub returns-in-Close-clause-tracked : goal.returns-in-Close-clause-tracked
+returns-in-Close-clause-tracked g c = let d : due_reserved c.args.due ≡ 0 = ap due_reserved c.in-Close.is in omega (arith, d, c.close_all.ensures.reserved)
+
+pub join_due-requires-clause-reserved : goal.join_due-requires-clause-reserved
+join_due-requires-clause-reserved g c = omega (arith, c.requires.reserved)
+
+pub returns-in-Join-clause-tracked : goal.returns-in-Join-clause-tracked
+returns-in-Join-clause-tracked g c = let d : due_reserved c.args.due ≡ 0 = ap due_reserved c.in-Join.is in omega (arith, d, c.join_due.ensures.tracked)

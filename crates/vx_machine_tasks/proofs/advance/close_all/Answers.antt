@@ -1,6 +1,7 @@
 use Rattle.std.proofs.Common.{◌<◌, length, sym, ◌∙◌, arith, ◌≡◌}
 use Rattle.vx_machine_ids.proofs.Lists.{set_same}
 use Rattle.vx_machine_tasks.specs.Stocks.{task_stock}
+use Rattle.vx_machine_tasks.proofs.PaidSteps.{at_same}
 use Rattle.vx_machine_tasks.proofs.RowSteps.{shut_more, shut_done}
 use Rattle.vx_machine_tasks.proofs.advance.close_all.Goals as goal
 
@@ -9,6 +10,7 @@ kids-preserved c =
     let h : c.kids.i < length c.kids.kids.items = omega (arith, c.kids.kids.ok.0, c.kids.invariant.count) in
     record {
       stock = set_same task_stock c.kids.kids.items c.kids.i c.index_mut.result.now c.shut.new.self h (sym c.index_mut.ensures.value) c.shut.ensures.held ∙ c.kids.invariant.stock;
+      reserved = at_same c.kids.kids.items c.kids.i c.index_mut.result.now c.shut.new.self h (sym c.index_mut.ensures.value) c.shut.ensures.reserved ∙ c.kids.invariant.reserved;
       shut = shut_more c.kids.kids.items c.args.kids.now.items c.kids.i c.index_mut.result.now c.shut.new.self h (sym c.index_mut.ensures.value) c.shut.ensures.shows c.kids.invariant.shut;
       count = c.kids.invariant.count;
     }

@@ -1,4 +1,5 @@
 use Rattle.std.proofs.Common.{◌≡◌, vec_len}
+use Rattle.vx_machine_tasks.specs.Ledger.{tasks_reserved}
 use Rattle.vx_machine_tasks.specs.Stocks.{tasks_stock}
 use Rattle.vx_machine_tasks.specs.View.{row}
 use Rattle.vx_machine_tasks.proofs.RowSteps.{shut_first}
@@ -7,6 +8,7 @@ use Rattle.vx_machine_tasks.proofs.advance.close_all.Given as goal
 abbrev pub invariant-kids : goal.invariant-kids
 invariant-kids l = record {
   stock : tasks_stock l.kids.items ≡ tasks_stock l.initial.kids.items;
+  reserved : tasks_reserved l.kids.items ≡ tasks_reserved l.initial.kids.items;
   shut : row l.kids.items ≡ shut_first l.i (row l.initial.kids.items);
   count : vec_len l.kids ≡ vec_len l.initial.kids;
 }

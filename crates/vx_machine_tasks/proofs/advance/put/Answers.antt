@@ -3,10 +3,12 @@ use Rattle.vx_sequence.specs.Universe.{Active}
 use Rattle.vx_machine_ids.specs.Stock.{none}
 use Rattle.vx_machine_ids.specs.Balance.{Owned, Moved}
 use Rattle.vx_machine_ids.proofs.MoveLaws.{owned_right}
-use Rattle.vx_machine_tasks.specs.Stocks.{item_stock, tasks_stock}
+use Rattle.vx_machine_nodes.specs.Stocks.{item_stock}
+use Rattle.vx_machine_tasks.specs.Stocks.{tasks_stock}
 use Rattle.vx_machine_tasks.proofs.ActMoves.{given_moved, back_moved}
 use Rattle.vx_machine_tasks.proofs.Readiness.{room_within}
-use Rattle.vx_machine_tasks.specs.View.{item_of}
+use Rattle.vx_machine_nodes.specs.View.{item_of}
+use Rattle.vx_machine_tasks.proofs.PaidSteps.{at_same}
 use Rattle.vx_machine_tasks.proofs.RowSteps.{put_row}
 use Rattle.vx_machine_tasks.proofs.advance.put.Goals as goal
 
@@ -37,3 +39,11 @@ pub returns-in-Ok-clause-kids : goal.returns-in-Ok-clause-kids
 returns-in-Ok-clause-kids g c =
     put_row c.args.kids.now.items c.args.child c.index_mut.result.now c.give.new.self (item_of c.args.item)
     (room_within c.args.kids.now.items c.args.child c.requires.room) (sym c.index_mut.ensures.value) c.in-Ok.ensures.shows
+
+pub returns-in-Ok-clause-same : goal.returns-in-Ok-clause-same
+returns-in-Ok-clause-same g c =
+    at_same c.args.kids.now.items c.args.child c.index_mut.result.now c.give.new.self (room_within c.args.kids.now.items c.args.child c.requires.room) (sym c.index_mut.ensures.value) c.give.ensures.reserved
+
+pub returns-in-Err-clause-same : goal.returns-in-Err-clause-same
+returns-in-Err-clause-same g c =
+    at_same c.args.kids.now.items c.args.child c.index_mut.result.now c.give.new.self (room_within c.args.kids.now.items c.args.child c.requires.room) (sym c.index_mut.ensures.value) c.give.ensures.reserved

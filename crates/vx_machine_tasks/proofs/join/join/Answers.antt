@@ -1,7 +1,8 @@
 use Rattle.std.proofs.Common.{map}
 use Rattle.vx_layout_tree.specs.LayoutView.{layout_data}
 use Rattle.vx_machine_view.specs.Acts.{layouts_in, joined_rows}
-use Rattle.vx_machine_tasks.specs.View.{fold_of, row}
+use Rattle.vx_machine_nodes.specs.View.{fold_of}
+use Rattle.vx_machine_tasks.specs.View.{row}
 use Rattle.vx_machine_tasks.proofs.ActShows.{on_ok}
 use Rattle.vx_machine_tasks.proofs.JoinSteps.{shape_chunks, chunks_refused, shape_columns, shape_lists, columns_refused}
 use Rattle.vx_machine_tasks.proofs.join.join.Goals as goal
@@ -21,22 +22,22 @@ returns-in-Chunks-clause-refused g c =
 
 pub returns-in-Columns-clause-layout : goal.returns-in-Columns-clause-layout
 returns-in-Columns-clause-layout g c =
-    shape_columns c.args.shape c.in-Columns.node c.in-Columns.rows (map layout_data c.in-Ok.layouts.items) (layouts_in (row c.args.kids.now.items)) c.join_columns-layout.result
-    c.in-Columns.is c.in-Ok.ensures.layouts c.join_columns-layout.ensures.layout
+    shape_columns c.args.shape c.in-Columns.node c.in-Columns.rows (map layout_data c.in-Ok.layouts.items) (layouts_in (row c.args.kids.now.items)) c.join_all-layout.result
+    c.in-Columns.is c.in-Ok.ensures.layouts c.join_all-layout.ensures.layout
 
 pub returns-in-Columns-clause-no_kids : goal.returns-in-Columns-clause-no_kids
-returns-in-Columns-clause-no_kids g c = on_ok c.join_columns-layout.result c.in-Ok.ensures.no_kids
+returns-in-Columns-clause-no_kids g c = on_ok c.join_all-layout.result c.in-Ok.ensures.no_kids
 
 pub returns-in-Columns-clause-refused : goal.returns-in-Columns-clause-refused
-returns-in-Columns-clause-refused g c = columns_refused (joined_rows (fold_of c.args.shape) (layouts_in (row c.args.kids.now.items))) c.join_columns-layout.result c.join_columns-layout.ensures.memory
+returns-in-Columns-clause-refused g c = columns_refused (joined_rows (fold_of c.args.shape) (layouts_in (row c.args.kids.now.items))) c.join_all-layout.result c.join_all-layout.ensures.memory
 
 pub returns-in-Lists-clause-layout : goal.returns-in-Lists-clause-layout
 returns-in-Lists-clause-layout g c =
-    shape_lists c.args.shape c.in-Lists.node c.in-Lists.rows (map layout_data c.in-Ok.layouts.items) (layouts_in (row c.args.kids.now.items)) c.join_lists-layout.result
-    c.in-Lists.is c.in-Ok.ensures.layouts c.join_lists-layout.ensures.layout
+    shape_lists c.args.shape c.in-Lists.node c.in-Lists.rows (map layout_data c.in-Ok.layouts.items) (layouts_in (row c.args.kids.now.items)) c.join_parts-layout.result
+    c.in-Lists.is c.in-Ok.ensures.layouts c.join_parts-layout.ensures.layout
 
 pub returns-in-Lists-clause-no_kids : goal.returns-in-Lists-clause-no_kids
-returns-in-Lists-clause-no_kids g c = on_ok c.join_lists-layout.result c.in-Ok.ensures.no_kids
+returns-in-Lists-clause-no_kids g c = on_ok c.join_parts-layout.result c.in-Ok.ensures.no_kids
 
 pub returns-in-Lists-clause-refused : goal.returns-in-Lists-clause-refused
-returns-in-Lists-clause-refused g c = columns_refused (joined_rows (fold_of c.args.shape) (layouts_in (row c.args.kids.now.items))) c.join_lists-layout.result c.join_lists-layout.ensures.memory
+returns-in-Lists-clause-refused g c = columns_refused (joined_rows (fold_of c.args.shape) (layouts_in (row c.args.kids.now.items))) c.join_parts-layout.result c.join_parts-layout.ensures.memory

@@ -1,6 +1,9 @@
 use Rattle.std.proofs.Common.{◌≡◌, ◌+◌, ◌*◌, ◌≤◌, vec_len}
 use Rattle.vx_machine_ids.specs.Balance.{Owned, Moved}
 use Rattle.vx_machine_tasks.specs.Sizes.{task_count, count_of_all}
+use Rattle.vx_sink.specs.ContextView.{counted}
+use Rattle.vx_machine_nodes.specs.Ledger.{Paid, told_by}
+use Rattle.vx_machine_tasks.specs.Ledger.{tasks_reserved}
 use Rattle.vx_machine_tasks.specs.Stocks.{tasks_stock}
 use Rattle.vx_machine_tasks.proofs.task.+refuse.Given as goal
 
@@ -15,6 +18,9 @@ invariant-refuse_all-kids g l = record {
   owned : Owned (g.O.Order.active l.order) (tasks_stock l.kids.items);
   moved : Moved (g.O.Order.active l.initial.order) (g.O.Order.active l.order) (tasks_stock l.initial.kids.items) (tasks_stock l.kids.items);
   fewer : count_of_all l.kids.items ≤ count_of_all l.initial.kids.items;
+  reserved : tasks_reserved l.kids.items ≤ counted l.ctx;
+  tracked : Paid l.initial.ctx l.ctx (tasks_reserved l.initial.kids.items) (tasks_reserved l.kids.items);
+  context : told_by l.ctx ≡ told_by l.initial.ctx;
   outlet : g.O.Order.outlet l.order ≡ g.O.Order.outlet l.initial.order;
   sink : g.O.Order.sink l.order ≡ g.O.Order.sink l.initial.order;
 }

@@ -1,22 +1,25 @@
 use Rattle.std.proofs.Common.{inl}
 use Rattle.std.proofs.lemmas.Result.{err_from_is_err_and}
 use Rattle.vx_sequence.specs.Universe.{Active}
+use Rattle.vx_sink.specs.ContextView.{counted as counted_bytes}
 use Rattle.vx_write_answer.specs.declared.error.WriteError.TheVariants.{OutOfMemory}
 use Rattle.vx_machine_ids.specs.Stock.{Stock, both}
 use Rattle.vx_machine_tasks.specs.Stocks.{head_stock, tasks_stock}
 use Rattle.vx_machine_tasks.specs.declared.task.Task.{out-Task}
 use Rattle.vx_machine_tasks.specs.declared.task.Task.TheViews.{roll-Task}
 use Rattle.vx_machine_tasks.proofs.TaskParts.{parts_owned, parts_moved, rolled}
-use Rattle.vx_machine_tasks.specs.Context.{setting_of}
-use Rattle.vx_machine_tasks.proofs.CallSteps.{unasked_self}
+use Rattle.vx_machine_nodes.specs.Context.{setting_of}
+use Rattle.vx_machine_nodes.proofs.CallSteps.{unasked_self}
 use Rattle.vx_machine_tasks.proofs.StepShows.{own_stepped, own_refused}
-use Rattle.std.proofs.Common.{sym, subst}
+use Rattle.std.proofs.Common.{◌≡◌, ◌+◌, sym, subst, arith}
 use Rattle.vx_kept.specs.Kept.{Knows}
 use Rattle.vx_machine_tasks.specs.View.{row}
 use Rattle.vx_machine_tasks.specs.declared.task.Task.{Task}
 use Rattle.vx_machine_tasks.specs.declared.task.Task.TheOpen.{Task-F}
 use Rattle.vx_machine_tasks.proofs.TaskParts.{out_roll}
 use Rattle.vx_machine_tasks.proofs.Counting.{act_touches}
+use Rattle.vx_machine_tasks.specs.Ledger.{head_reserved, task_reserved, tasks_reserved}
+use Rattle.vx_machine_tasks.proofs.ReservedSteps.{task_reserved_out, task_reserved_roll}
 use Rattle.vx_machine_tasks.proofs.task.Task.act.Goals as goal
 
 pub advance-requires-clause-owned : goal.advance-requires-clause-owned
@@ -52,12 +55,12 @@ returns-in-Ok-clause-done g c = λ image.
 
 pub returns-in-Err-clause-refused : goal.returns-in-Err-clause-refused
 returns-in-Err-clause-refused g c = λ image number.
-    own_refused (setting_of c.args.ctx.now image) (g.O.Order.active c.args.order.now) number (g.O.Order.outlet c.args.order.now) c.args.self.now c.requires.ready c.in-Err.error (c.in-Err.ensures.refused image number)
+    own_refused (setting_of c.args.ctx.now image) (g.O.Order.active c.args.order.now) number (g.O.Order.outlet c.args.order.now) c.args.self.now c.requires.ready (counted_bytes c.args.ctx.now) c.in-Err.error (c.in-Err.ensures.refused image number)
 
 pub returns-in_err-task-clause-refused : goal.returns-in_err-task-clause-refused
 returns-in_err-task-clause-refused g c =
     let p = err_from_is_err_and c.from_residual.result c.from_residual.ensures.1 in
-    rw (p.1, p.2) (λ image number. own_refused (setting_of c.args.ctx.now image) (g.O.Order.active c.args.order.now) number (g.O.Order.outlet c.args.order.now) c.args.self.now c.requires.ready OutOfMemory tt)
+    rw (p.1, p.2) (λ image number. own_refused (setting_of c.args.ctx.now image) (g.O.Order.active c.args.order.now) number (g.O.Order.outlet c.args.order.now) c.args.self.now c.requires.ready (counted_bytes c.args.ctx.now) OutOfMemory tt)
 
 pub returns-in_err-task-clause-told : goal.returns-in_err-task-clause-told
 returns-in_err-task-clause-told g c =
@@ -72,3 +75,22 @@ returns-in-Ok-clause-known g c =
     let w = c.in-Ok.ensures.done (λ n p. p) in
     subst (λ (z : Task-F Task). Knows c.follow.new.self (row z.kids.items)) (sym (out_roll (record { head = c.advance.new.head; kids = c.advance.new.kids })))
     (c.follow.ensures (row ks) (row js) (act_touches (setting_of c.args.ctx.now (λ n p. p)) w.0 h ks js c.touched-touched.result c.touched-touched.ensures w.1.kids_are) c.requires.known)
+
+pub advance-requires-clause-reserved : goal.advance-requires-clause-reserved
+advance-requires-clause-reserved g c =
+    let x : task_reserved c.args.self.now ≡ head_reserved (out-Task c.args.self.now).head + tasks_reserved (out-Task c.args.self.now).kids.items = task_reserved_out c.args.self.now in
+    omega (arith, x, c.requires.reserved)
+
+pub returns-in-Ok-clause-tracked : goal.returns-in-Ok-clause-tracked
+returns-in-Ok-clause-tracked g c =
+    let x : task_reserved c.args.self.now ≡ head_reserved (out-Task c.args.self.now).head + tasks_reserved (out-Task c.args.self.now).kids.items = task_reserved_out c.args.self.now in
+    let y : task_reserved (roll-Task (record { head = c.advance.new.head; kids = c.advance.new.kids })) ≡ head_reserved c.advance.new.head + tasks_reserved c.advance.new.kids.items =
+    task_reserved_roll (record { head = c.advance.new.head; kids = c.advance.new.kids }) in
+    omega (arith, x, y, c.advance.ensures.tracked)
+
+pub returns-in-Err-clause-tracked : goal.returns-in-Err-clause-tracked
+returns-in-Err-clause-tracked g c =
+    let x : task_reserved c.args.self.now ≡ head_reserved (out-Task c.args.self.now).head + tasks_reserved (out-Task c.args.self.now).kids.items = task_reserved_out c.args.self.now in
+    let y : task_reserved (roll-Task (record { head = c.advance.new.head; kids = c.advance.new.kids })) ≡ head_reserved c.advance.new.head + tasks_reserved c.advance.new.kids.items =
+    task_reserved_roll (record { head = c.advance.new.head; kids = c.advance.new.kids }) in
+    omega (arith, x, y, c.advance.ensures.tracked)

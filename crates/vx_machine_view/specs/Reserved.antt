@@ -1,0 +1,67 @@
+-- What tasks have reserved in the tracker.
+use Rattle.std.specs.Prelude.{◌≡◌, ◌+◌, ℕ, Bool, List, [], ◌∷◌, Option, Some, None, IsTrue}
+use Rattle.vx_model.specs.Words.{total_by}
+use Rattle.vx_model.specs.ChunkData.{held}
+use Rattle.vx_path.specs.Lists.{In}
+use Rattle.vx_plan.specs.PlanData.{Setting, Item}
+use Rattle.vx_machine_turns.specs.Forms.{Form}
+use Rattle.vx_machine_turns.specs.Acts.{Seed}
+use Rattle.vx_machine_turns.specs.Fuels.{Fuel}
+use Rattle.vx_machine_steps.specs.Tree.{Tree}
+use Rattle.vx_machine_promises.specs.Write.{Write, Future, Answer}
+use Rattle.vx_machine_view.specs.State.{Next, put, hand_on, append, shut_kids, join_kids, Mind, no_chunk, one_chunk, by_chunk, by_column, by_list, by_block, by_size, as_one, ending, passing, made, Tasks, no_tasks, task_then}
+use Rattle.vx_machine_view.specs.Moves.{Step, steps}
+use Rattle.vx_machine_view.specs.Shows.{Shows}
+use Rattle.vx_machine_view.specs.Machine.{Machine, start, WholeStep, whole_steps, is_finished}
+use Rattle.vx_machine_view.specs.Whole.{ShowsMachine}
+
+-- what a task is about to hand on
+abbrev pub next_reserved : List Next → ℕ
+next_reserved [] = 0
+next_reserved (put j i ∷ todo) = next_reserved todo
+next_reserved (hand_on n i ∷ todo) = n + next_reserved todo
+next_reserved (append x ∷ todo) = next_reserved todo
+next_reserved (shut_kids ∷ todo) = next_reserved todo
+next_reserved (join_kids f ∷ todo) = next_reserved todo
+
+abbrev pub newest_held : Option Item → ℕ
+newest_held None = 0
+newest_held (Some j) = held j.1
+
+-- what a buffer holds, with the newest chunk
+abbrev pub mind_reserved : Mind → ℕ
+mind_reserved (by_size size x j rows) = total_by held x + newest_held j
+mind_reserved (no_chunk o t) = 0
+mind_reserved (one_chunk x) = 0
+mind_reserved (by_chunk m t f e rows) = 0
+mind_reserved (by_column t rows) = 0
+mind_reserved (by_list t n first from rows) = 0
+mind_reserved (by_block len minimum t x j rows) = 0
+mind_reserved (as_one t x rows) = 0
+mind_reserved ending = 0
+mind_reserved passing = 0
+mind_reserved (made l) = 0
+
+-- of these tasks and all below them
+abbrev pub reserved_by : Tasks → ℕ
+reserved_by no_tasks = 0
+reserved_by (task_then c ks r) = ((next_reserved c.todo + mind_reserved c.mind) + reserved_by ks) + reserved_by r
+
+-- each step of tasks that show a state changes it by what it adds to the tracker and takes from it
+abbrev pub StepsReserve : Type 0
+StepsReserve = (s : Setting) (number : List ℕ → ℕ) (next : ℕ) (all : List (List ℕ)) (d : Fuel) (q : Seed) (j : ℕ) (cs : Tasks) (t : Tree) (w : Step)
+    → Shows s number d q j cs t → In w (steps s all next cs) → reserved_by w.after + w.lowers ≡ reserved_by cs + w.raises
+
+-- ---- of the whole machine
+
+-- nothing at the start
+abbrev pub StartReserves : Type 0
+StartReserves = (f : Form) (m : Bool) → reserved_by (start f m).root ≡ 0
+
+abbrev pub WholeReserves : Type 0
+WholeReserves = (g : Write) (number : List ℕ → ℕ) (next : ℕ) (all : List (List ℕ)) (a : Answer) (f : Future) (m : Machine) (t : Tree) (w : WholeStep) → ShowsMachine g number m f t
+    → In w (whole_steps g.setting all next a m) → reserved_by w.after.root + w.lowers ≡ reserved_by m.root + w.raises
+
+-- nor once it has finished
+abbrev pub FinishReserves : Type 0
+FinishReserves = (g : Write) (number : List ℕ → ℕ) (f : Future) (m : Machine) (t : Tree) → ShowsMachine g number m f t → IsTrue (is_finished m) → reserved_by m.root ≡ 0
