@@ -52,7 +52,7 @@ group_ended (Collect h) (Some j) rows ks todo before n f e = record {
 -- ---- refusals
 
 -- by some of the numbers
-some_numbers : (misfit : Bool) (ns ms is : List ℕ) (e : WriteError) → ((n : ℕ) → In n ns → In n ms) → ListRefused false ns e → Refused None misfit ms is [] none_past ⊥ [] e
+pub some_numbers : (misfit : Bool) (ns ms is : List ℕ) (e : WriteError) → ((n : ℕ) → In n ns → In n ms) → ListRefused false ns e → Refused None misfit ms is [] none_past ⊥ [] e
 some_numbers misfit ns ms is e within = wider [] [] None None false misfit ns ms [] is none_past none_past ⊥ ⊥ (λ x h. h) (λ h. absurd (true≢false (sym h))) within (not_in is) (λ n h. h) (λ h. h) e
 
 pub rest_refused : (r : Regroup) (j : Option Item) (rows : ℕ) (ks : Tasks) (e : WriteError) → ListRefused false (acted_numbers r j) e → TakeRefused (take_end (bare (mind_in r j rows)) ks (mind_in r j rows)) e

@@ -1,12 +1,14 @@
 -- Sizes of what is held and of what leaves.
-use Rattle.std.proofs.Common.{◌≡◌, ℕ, ◌+◌, Bool, List, [], ◌∷◌, ◌++◌, map, length, refl, sym, ap, ◌∙◌, ⊎_elim, arith, append_assoc, append-nil, length-append}
+use Rattle.std.proofs.Common.{◌≡◌, ℕ, ◌+◌, Bool, List, [], ◌∷◌, ◌++◌, map, length, take, drop, Option, Some, None, refl, sym, ap, ◌∙◌, ⊎_elim, arith, append_assoc, append-nil, length-append}
 use Rattle.std.specs.Prelude.{nat_le, if◌then◌else◌}
 use Rattle.std.proofs.lemmas.Bool.{cases_Bool}
-use Rattle.std.proofs.lemmas.List.{map-append}
+use Rattle.std.proofs.lemmas.List.{map-append, take-append-drop}
 use Rattle.vx_model.specs.Words.{total_by}
 use Rattle.vx_model.specs.ChunkData.{ChunkData, cells, held, pieces_of, joined_cells}
 use Rattle.vx_rules.specs.Flushes.{flushed, still_held, is_full, flushes}
 use Rattle.vx_regroup.specs.Rules.{row_count}
+use Rattle.vx_machine_nodes.specs.Ledger.{some_bytes}
+use Rattle.vx_machine_nodes.specs.Regrouped.{handed}
 use Rattle.vx_machine_nodes.specs.Sizes.{sum_of}
 
 -- ---- sums
@@ -20,6 +22,19 @@ sum_push xs n = let r : sum_of (xs ++ (n ∷ [])) ≡ sum_of xs + (n + 0) = sum_
 
 pub sum_is : (all xs : List ℕ) (n : ℕ) → all ≡ xs ++ (n ∷ []) → sum_of all ≡ sum_of xs + n
 sum_is all xs n e = ap sum_of e ∙ sum_push xs n
+
+-- with what is reserved now
+pub sum_kept : (all xs : List ℕ) (r : Option ℕ) → all ≡ xs ++ handed r → sum_of all ≡ sum_of xs + some_bytes r
+sum_kept all xs None e = ap sum_of (e ∙ append-nil xs) ∙ omega arith
+sum_kept all xs (Some n) e = sum_is all xs n e
+
+-- the first ones behind the others
+pub sum_turned : (n : ℕ) (all : List ℕ) → sum_of (drop n all ++ take n all) ≡ sum_of all
+sum_turned n all =
+    let a : sum_of (drop n all ++ take n all) ≡ sum_of (drop n all) + sum_of (take n all) = sum_more (drop n all) (take n all) in
+    let b : sum_of (take n all ++ drop n all) ≡ sum_of (take n all) + sum_of (drop n all) = sum_more (take n all) (drop n all) in
+    let c : sum_of (take n all ++ drop n all) ≡ sum_of all = ap sum_of (take-append-drop n all) in
+    omega (arith, a, b, c)
 
 pub held_sum : (cs : List ChunkData) → total_by held cs ≡ sum_of (map held cs)
 held_sum [] = refl

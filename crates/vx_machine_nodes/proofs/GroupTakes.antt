@@ -16,7 +16,7 @@ use Rattle.vx_machine_nodes.specs.View.{item_of}
 use Rattle.vx_machine_nodes.proofs.Fitting.{then_fit, one_fits, both_fit}
 use Rattle.vx_machine_nodes.proofs.GroupSizes.{held_push, rows_more}
 
-none_held : (cs : List ChunkData) → are_none cs ≡ true → cs ≡ []
+pub none_held : (cs : List ChunkData) → are_none cs ≡ true → cs ≡ []
 none_held [] h = refl
 none_held (c ∷ cs) h = absurd cc
 

@@ -9,6 +9,7 @@ pub mod GroupNumbers
 pub mod GroupSizes
 pub mod GroupHands
 pub mod GroupTakes
+pub mod GroupActs
 pub mod GroupEnds
 pub mod ReservedSteps
 pub mod LedgerSteps
@@ -18,3 +19,4 @@ pub mod ListSteps
 pub mod PutSteps
 pub mod TakeShows
 pub mod ListParts
+pub mod FreshSteps

@@ -11,7 +11,7 @@ use Rattle.vx_machine_nodes.specs.View.{todo_of}
 use Rattle.vx_machine_nodes.proofs.ListParts.{none_is}
 
 -- a list with a last element, in two ways
-same_last : (xs ys : List (List ℕ)) (x y : List ℕ) → xs ++ (x ∷ []) ≡ ys ++ (y ∷ []) → (xs ≡ ys) × (x ≡ y)
+pub same_last : {A : Type 0} (xs ys : List A) (x y : A) → xs ++ (x ∷ []) ≡ ys ++ (y ∷ []) → (xs ≡ ys) × (x ≡ y)
 same_last [] [] x y e = (refl, cc)
 same_last [] (b ∷ ys) x y e = absurd (omega (arith, ap length e, length-append ys (y ∷ [])))
 same_last (a ∷ xs) [] x y e = absurd (omega (arith, ap length e, length-append xs (x ∷ [])))
@@ -22,7 +22,7 @@ same_last (a ∷ xs) (b ∷ ys) x y e =
     ((λ j. h j ∷ r.0 j), r.1)
 
 -- the last of the first children of a path
-last_child : (p : List ℕ) (n m : ℕ) (rest : List (List ℕ)) (id : List ℕ) → m + 1 ≡ n → rest ++ (id ∷ []) ≡ children p n → (rest ≡ children p m) × (id ≡ under p m)
+pub last_child : (p : List ℕ) (n m : ℕ) (rest : List (List ℕ)) (id : List ℕ) → m + 1 ≡ n → rest ++ (id ∷ []) ≡ children p n → (rest ≡ children p m) × (id ≡ under p m)
 last_child p zero m rest id e h = absurd (omega (arith, e))
 last_child p (suc n) m rest id e h =
     let k : n ≡ m = omega (arith, e) in

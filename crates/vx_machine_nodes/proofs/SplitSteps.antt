@@ -71,5 +71,10 @@ misfit t v false h n = refl
 pub misfit_eq : (t u v : Ty) (b : Bool) → ((b ≡ true) ↔ (t ≡ u)) → u ≡ v → b ≡ false → not (ty_eq t v) ≡ true
 misfit_eq t u v b w is h = misfit t v (ty_eq t v) refl (λ e. true≢false (sym (w.1 (e ∙ sym is)) ∙ h))
 
+-- a test against one type, where another is the same
+pub misfit_told : (t u v : Ty) (b : Bool) → ((b ≡ true) ↔ (t ≡ u)) → ty_eq v u ≡ true → not b ≡ not (ty_eq t v)
+misfit_told t u v true w e = ap not (sym ((ty_eq_decides t v).1 (w.0 refl ∙ sym ((ty_eq_decides v u).0 e))))
+misfit_told t u v false w e = sym (misfit_eq t u v false w (sym ((ty_eq_decides v u).0 e)) refl)
+
 pub split_memory : (P : WriteError → Type 0) (e : SplitError) → P OutOfMemory → e ≡ split.OutOfMemory → P (of_split e)
 split_memory P e p is = subst (λ x. P (of_split x)) (sym is) p

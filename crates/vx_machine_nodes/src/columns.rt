@@ -15,6 +15,7 @@ ghost use Rattle.vx_machine_view.specs.State.{Tasks, by_column, put};
 ghost use Rattle.vx_machine_view.specs.Acts.{columns_in, column_count, puts};
 ghost use Rattle.vx_machine_nodes.specs.Acting.{SplitRefused, taken, Took, TakeRefused};
 ghost use Rattle.vx_machine_nodes.specs.Causes.{MayCome};
+ghost use Rattle.vx_machine_nodes.specs.Ledger.{dues_reserved};
 ghost use Rattle.vx_machine_nodes.specs.Stocks.{item_stock, dues_stock};
 ghost use Rattle.vx_machine_nodes.specs.View.{item_of, todo_of};
 
@@ -93,6 +94,7 @@ fn add_put(todo: &mut VecDeque<Due>, ids: &mut Vec<SequenceId>, chunk: Chunk)
     requires some { 0 < vec_len ids.old }
     requires room { deque_len todo.old < deque_capacity todo.old }
     ensures stock { both (all_ids ids.new) (dues_stock todo.new.items) ≡ both (all_ids ids.old) (dues_stock todo.old.items) }
+    ensures reserved { dues_reserved todo.new.items ≡ dues_reserved todo.old.items }
     ensures next { (p : List ℕ) → ids.old.items ≡ children p (vec_len ids.old) → (ids.new.items ≡ children p (vec_len ids.new))
         × (todo_of todo.new.items ≡ put (vec_len ids.new) (under p (vec_len ids.new), chunk) ∷ todo_of todo.old.items) }
     ensures ids { vec_len ids.new + 1 ≡ vec_len ids.old }
@@ -113,6 +115,7 @@ pub(crate) fn add_puts(todo: &mut VecDeque<Due>, mut ids: Vec<SequenceId>, mut c
     requires same { vec_len ids ≡ vec_len columns }
     requires room { deque_len todo.old + vec_len columns ≤ deque_capacity todo.old }
     ensures stock { dues_stock todo.new.items ≡ both (all_ids ids) (dues_stock todo.old.items) }
+    ensures reserved { dues_reserved todo.new.items ≡ dues_reserved todo.old.items }
     ensures all { (p : List ℕ) → ids.items ≡ children p (vec_len ids) → todo_of todo.new.items ≡ puts 0 p columns.items ++ todo_of todo.old.items }
 {
     'puts: while let Some(chunk) = columns.pop() {
@@ -133,6 +136,7 @@ pub fn take_columns<O: Order>(
 ) -> Result<(), WriteError>
     requires { Owned (O.active order.old) (both (dues_stock todo.old.items) (item_stock item)) }
     ensures moved { Moved (O.active order.old) (O.active order.new) (both (dues_stock todo.old.items) (item_stock item)) (dues_stock todo.new.items) }
+    ensures reserved { dues_reserved todo.new.items ≡ dues_reserved todo.old.items }
     ensures done { OnOk result ((s : Setting) (name : List ℕ) (ks : Tasks)
         → Took (taken s name ks (item_of item) (by_column (ty (arc_value node.now.dtype)) rows.old)) (by_column (ty (arc_value node.now.dtype)) rows.new)
         (todo_of todo.new.items) (todo_of todo.old.items) ks) }

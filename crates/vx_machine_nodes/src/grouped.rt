@@ -203,6 +203,7 @@ fn add_hand(
     ensures ids { vec_len ids.new + 1 ≡ vec_len ids.old }
     ensures todo { deque_len todo.new ≡ deque_len todo.old + 1 }
     ensures capacity { deque_capacity todo.new ≡ deque_capacity todo.old }
+    ensures room { deque_len reserved.old < deque_capacity reserved.old → deque_len reserved.new < deque_capacity reserved.new }
 {
     match ids.pop() {
         Some(id) => {
@@ -225,6 +226,7 @@ fn add_hands(
     requires room { deque_len todo.old + vec_len chunks ≤ deque_capacity todo.old }
     ensures stock { dues_stock todo.new.items ≡ both (all_ids ids) (dues_stock todo.old.items) }
     ensures balance { dues_reserved todo.new.items + sum_of reserved.new.items ≡ dues_reserved todo.old.items + sum_of reserved.old.items }
+    ensures room { deque_len reserved.old < deque_capacity reserved.old → deque_len reserved.new < deque_capacity reserved.new }
     ensures weighed { (p : List ℕ) (rest : List ℕ) → ids.items ≡ children p (vec_len ids) → reserved.old.items ≡ rest ++ map held chunks.items
         → (reserved.new.items ≡ rest) × (todo_of todo.new.items ≡ hand_all held (ranked p 0 chunks.items) ++ todo_of todo.old.items) }
     ensures unweighed { (p : List ℕ) → ids.items ≡ children p (vec_len ids) → reserved.old.items ≡ []
@@ -242,6 +244,7 @@ fn turn(reserved: &mut VecDeque<BufferedBytesReservation>, count: usize)
     ensures turned { (xs ys : List ℕ) → reserved.old.items ≡ xs ++ ys → length xs ≡ count → reserved.new.items ≡ ys ++ xs }
     ensures none { reserved.old.items ≡ [] → reserved.new.items ≡ [] }
     ensures sum { sum_of reserved.new.items ≡ sum_of reserved.old.items }
+    ensures room { deque_len reserved.old < deque_capacity reserved.old → deque_len reserved.new < deque_capacity reserved.new }
 {
     if count <= reserved.len() {
         reserved.rotate_left(count);
@@ -260,6 +263,7 @@ fn hand<O: Order>(
     requires { Owned (O.active order.old) (both (id_stock id) (dues_stock todo.old.items)) }
     ensures moved { Moved (O.active order.old) (O.active order.new) (both (id_stock id) (dues_stock todo.old.items)) (dues_stock todo.new.items) }
     ensures balance { dues_reserved todo.new.items + sum_of reserved.new.items ≡ dues_reserved todo.old.items + sum_of reserved.old.items }
+    ensures room { deque_len reserved.old < deque_capacity reserved.old → deque_len reserved.new < deque_capacity reserved.new }
     ensures weighed { OnOk result ((rest : List ℕ) → reserved.old.items ≡ map held chunks.items ++ rest
         → (reserved.new.items ≡ rest) × (todo_of todo.new.items ≡ hand_all held (ranked id 0 chunks.items) ++ todo_of todo.old.items)) }
     ensures unweighed { OnOk result (reserved.old.items ≡ []
@@ -304,6 +308,7 @@ fn act_on<O: Order>(
     requires few { sum_of reserved.old.items < 2 ^ 64 }
     ensures moved { Moved (O.active order.old) (O.active order.new) (both (some_stock item_stock newest) (dues_stock todo.old.items)) (dues_stock todo.new.items) }
     ensures balance { dues_reserved todo.new.items + sum_of reserved.new.items ≡ dues_reserved todo.old.items + sum_of reserved.old.items }
+    ensures room { deque_len reserved.old < deque_capacity reserved.old → deque_len reserved.new < deque_capacity reserved.new }
     ensures done { IfOk result (λ r. ActedOn rule newest r reserved.new.items (todo_of todo.new.items) (todo_of todo.old.items)) }
     ensures refused { IfErr result (ListRefused false (acted_numbers rule newest)) }
     ensures cause { IfErr result MayCome }
@@ -486,8 +491,8 @@ fn hand_rest<O: Order>(
         drop(rule);
         return Ok(());
     };
-    let rest = rule.react(alloc, chunk, true);
     let whole = collects(&rule);
+    let rest = rule.react(alloc, chunk, true);
     drop(rule);
     match rest {
         Ok(chunks) => {

@@ -16,6 +16,7 @@ ghost use Rattle.vx_plan.specs.PlanData.{Setting};
 ghost use Rattle.vx_machine_view.specs.State.{Tasks};
 ghost use Rattle.vx_machine_nodes.specs.Acting.{ListRefused, taken, Took, TakeRefused, EndTaken, EndRefused};
 ghost use Rattle.vx_machine_nodes.specs.Causes.{MayCome};
+ghost use Rattle.vx_machine_nodes.specs.Ledger.{dues_reserved, local_reserved};
 ghost use Rattle.vx_machine_nodes.specs.Stocks.{item_stock, dues_stock, local_stock};
 ghost use Rattle.vx_machine_nodes.specs.View.{item_of, todo_of, mind_of};
 
@@ -113,6 +114,7 @@ pub fn take_lists<O: Order>(
 ) -> Result<(), WriteError>
     requires { Owned (O.active order.old) (both (dues_stock todo.old.items) (item_stock item)) }
     ensures moved { Moved (O.active order.old) (O.active order.new) (both (dues_stock todo.old.items) (item_stock item)) (dues_stock todo.new.items) }
+    ensures reserved { dues_reserved todo.new.items ≡ dues_reserved todo.old.items }
     ensures done { OnOk result ((s : Setting) (name : List ℕ) (ks : Tasks)
         → Took (taken s name ks (item_of item) (mind_of (Local.Lists node.old rows.old))) (mind_of (Local.Lists node.new rows.new))
         (todo_of todo.new.items) (todo_of todo.old.items) ks) }
@@ -152,6 +154,8 @@ pub fn end_lists(
     requires { deque_len todo.old + 2 ≤ deque_capacity todo.old }
     ensures todo { dues_stock todo.new.items ≡ dues_stock todo.old.items }
     ensures local { IfOk result (λ l. local_stock l ≡ none) }
+    ensures reserved { dues_reserved todo.new.items ≡ dues_reserved todo.old.items }
+    ensures unreserved { IfOk result (λ l. local_reserved l ≡ 0) }
     ensures done { IfOk result (λ l. EndTaken (Local.Lists node rows) kids l (todo_of todo.new.items) (todo_of todo.old.items)) }
     ensures refused { IfErr result (EndRefused (Local.Lists node rows) kids) }
     ensures cause { IfErr result MayCome }

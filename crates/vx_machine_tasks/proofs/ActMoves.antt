@@ -145,6 +145,15 @@ module _ (u : Active) (l d k i : Stock) (o : Owned u (both (both (both l d) k) i
   take_flat_moved v t m = moved_as u v (both (both l i) (both d k)) (both (both (both l d) k) i) (both t (both d k)) (both (both t d) k) (sym flat_is) (sym (both_assoc t d k))
       (moved_beside u v (both l i) t (both d k) flat_owned m)
 
+  -- by a node that regroups
+  pub take_group_owned : Owned u (both (both l d) i)
+  take_group_owned = owned_left u (both (both l d) i) k (owned_as u (both (both (both l d) k) i) (both (both (both l d) i) k) (both_turn (both l d) k i) o)
+
+  pub take_group_moved : (v : Active) (r : Stock) → Moved u v (both (both l d) i) r → Moved u v (both (both (both l d) k) i) (both r k)
+  take_group_moved v r m =
+      moved_as u v (both (both (both l d) i) k) (both (both (both l d) k) i) (both r k) (both r k) (sym (both_turn (both l d) k i)) refl
+      (moved_beside u v (both (both l d) i) r k (owned_as u (both (both (both l d) k) i) (both (both (both l d) i) k) (both_turn (both l d) k i) o) m)
+
 -- ---- the end of a stream
 
 pub ok_none : (r : Result Local WriteError) → IfOk r (λ l. local_stock l ≡ none) → ok_stock local_stock r ≡ none

@@ -4,6 +4,7 @@ pub mod StartWeights
 pub mod Finishing
 pub mod PairSteps
 pub mod CauseSteps
+pub mod GatherSteps
 pub mod StartMoves
 pub mod JoinSteps
 pub mod ActMoves

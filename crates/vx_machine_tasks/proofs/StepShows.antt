@@ -1,5 +1,5 @@
 -- A task's act is its own step; a child's step is one of its parent's.
-use Rattle.std.proofs.Common.{◌≡◌, ℕ, ◌+◌, ◌<◌, true, List, length, get_or, set, take, Some, sym, ap, subst, ◌∙◌}
+use Rattle.std.proofs.Common.{◌≡◌, ℕ, ◌+◌, ◌<◌, true, List, ◌∷◌, length, get_or, set, take, Some, sym, ap, subst, ◌∙◌}
 use Rattle.std.specs.FinMap as fin
 use Rattle.vx_tasks.specs.Run.{nth}
 use Rattle.vx_sequence.specs.Universe.{Active}
@@ -56,8 +56,9 @@ module _ (s : Setting) (u : Active) (number : ℕ) (before : Outlet) (t : Task) 
     outlet = w.outlet;
   }
 
-  pub own_refused : (e : WriteError) → Refused did.refusal did.misfit did.numbers did.indices did.wrote (IsPast before) (IsShared before) did.joined e → TaskRefused s (fin.keys u) 0 before number (task_row t no_tasks) e
-  own_refused e h = record { step = own_step desk no_tasks did; place = own_first; cause = h }
+  pub own_refused : (counts : ℕ) (e : WriteError) → Refused did.refusal did.misfit ((counts + did.raises) ∷ did.numbers) did.indices did.wrote (IsPast before) (IsShared before) did.joined e
+      → TaskRefused s (fin.keys u) 0 counts before number (task_row t no_tasks) e
+  own_refused counts e h = record { step = own_step desk no_tasks did; place = own_first; cause = h }
 
 -- ---- a step of the children, behind the task's own
 
@@ -83,8 +84,8 @@ module _ (s : Setting) (u : Active) (number : ℕ) (before : Outlet) (t : Task) 
     outlet = w.outlet;
   }
 
-  pub below_refused : (e : WriteError) → TaskRefused s (fin.keys u) j before number (row (out-Task t).kids.items) e → TaskRefused s (fin.keys u) k before number (task_row t no_tasks) e
-  below_refused e w = record { step = with_after w.step (task_then (desk_of (out-Task t).head) w.step.after no_tasks); place = placed w.step w.place; cause = w.cause }
+  pub below_refused : (counts : ℕ) (e : WriteError) → TaskRefused s (fin.keys u) j counts before number (row (out-Task t).kids.items) e → TaskRefused s (fin.keys u) k counts before number (task_row t no_tasks) e
+  below_refused counts e w = record { step = with_after w.step (task_then (desk_of (out-Task t).head) w.step.after no_tasks); place = placed w.step w.place; cause = w.cause }
 
 -- ---- a step of one of the children
 
@@ -106,5 +107,5 @@ module _ (s : Setting) (u : Active) (number : ℕ) (before : Outlet) (ks : List 
     outlet = w.outlet;
   }
 
-  pub kid_refused : (e : WriteError) → TaskRefused s (fin.keys u) j before number (task_row x no_tasks) e → TaskRefused s (fin.keys u) k before number (row ks) e
-  kid_refused e w = record { step = with_after w.step (kid_after ks i w.step.after); place = stands w.step w.place; cause = w.cause }
+  pub kid_refused : (counts : ℕ) (e : WriteError) → TaskRefused s (fin.keys u) j counts before number (task_row x no_tasks) e → TaskRefused s (fin.keys u) k counts before number (row ks) e
+  kid_refused counts e w = record { step = with_after w.step (kid_after ks i w.step.after); place = stands w.step w.place; cause = w.cause }

@@ -18,7 +18,7 @@ use Rattle.vx_machine_tasks.proofs.ReadyViews.{task_ready}
 
 -- the same step, after which these tasks stand
 abbrev pub with_after : Step → Tasks → Step
-with_after w cs = record { name = w.name; kind = w.kind; refusal = w.refusal; misfit = w.misfit; numbers = w.numbers; indices = w.indices; wrote = w.wrote; joined = w.joined; after = cs }
+with_after w cs = record { name = w.name; kind = w.kind; refusal = w.refusal; misfit = w.misfit; numbers = w.numbers; indices = w.indices; wrote = w.wrote; joined = w.joined; raises = w.raises; lowers = w.lowers; after = cs }
 
 -- with these tasks behind
 abbrev behind : Tasks → Step → Step

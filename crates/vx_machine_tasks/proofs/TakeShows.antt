@@ -193,6 +193,10 @@ pub ended_lists : (l : Local) (n : ListsNode) (rows kids : ℕ) (todo before : L
     → IfOk r (λ m. EndTaken (Lists n rows) kids m todo before) → IfOk r (λ m. EndTaken l kids m todo before)
 ended_lists l n rows kids todo before r is h = subst (λ w. IfOk r (λ m. EndTaken w kids m todo before)) (sym is) h
 
+pub ended_grouped : (l : Local) (n : GroupedNode) (kids : ℕ) (todo before : List Next) (r : Result Local WriteError) → l ≡ Grouped n
+    → IfOk r (λ m. EndTaken (Grouped n) kids m todo before) → IfOk r (λ m. EndTaken l kids m todo before)
+ended_grouped l n kids todo before r is h = subst (λ w. IfOk r (λ m. EndTaken w kids m todo before)) (sym is) h
+
 pub unended_as : {A : Type 0} (l k : Local) (kids : ℕ) (r : Result A WriteError) → l ≡ k → IfErr r (EndRefused k kids) → IfErr r (EndRefused l kids)
 unended_as l k kids r is h = subst (λ w. IfErr r (EndRefused w kids)) (sym is) h
 

@@ -274,6 +274,7 @@ fn regroup<O: Order>(
 /// What a flat node's task has in mind at the end of a stream without chunks: its layout.
 fn end_empty(alloc: Global, node: &FlatNode) -> Result<Local, WriteError>
     ensures local { IfOk result (λ l. local_stock l ≡ none) }
+    ensures unreserved { IfOk result (λ l. local_reserved l ≡ 0) }
     ensures layout { IfOk result (λ l. mind_of l ≡ has_layout (gathered (ty (arc_value node.now.dtype)) 0 [])) }
     ensures memory { IfErr result (λ e. e ≡ WriteError.OutOfMemory) }
     ensures cause { IfErr result MayCome }
@@ -299,7 +300,9 @@ fn end_columns(
 ) -> Result<Local, WriteError>
     requires { deque_len todo.old + 2 ≤ deque_capacity todo.old }
     ensures todo { dues_stock todo.new.items ≡ dues_stock todo.old.items }
+    ensures reserved { dues_reserved todo.new.items ≡ dues_reserved todo.old.items }
     ensures local { IfOk result (λ l. local_stock l ≡ none) }
+    ensures unreserved { IfOk result (λ l. local_reserved l ≡ 0) }
     ensures done { IfOk result (λ l. EndTaken (Local.Columns node rows) kids l (todo_of todo.new.items) (todo_of todo.old.items)) }
     ensures memory { IfErr result (λ e. e ≡ WriteError.OutOfMemory) }
     ensures cause { IfErr result MayCome }

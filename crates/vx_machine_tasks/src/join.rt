@@ -183,13 +183,18 @@ fn add_layout<O: Order>(
     } = head;
     give_up_dues(ctx, order, todo);
     give_up_items(order, inbox);
-    let added = match local {
-        Local::Made(layout) => add_one(layouts, layout),
-        Local::Passing => add_layouts(ctx, order, &mut kids, layouts),
+    match local {
+        Local::Made(layout) => {
+            refuse_all(kids, ctx, order);
+            add_one(layouts, layout)
+        }
+        Local::Passing => {
+            let added = add_layouts(ctx, order, &mut kids, layouts);
+            refuse_all(kids, ctx, order);
+            added
+        }
         _ => unreachable!(),
-    };
-    refuse_all(kids, ctx, order);
-    added
+    }
 }
 
 fn add_one(layouts: &mut Vec<Layout>, layout: Layout) -> Result<(), WriteError>

@@ -22,6 +22,7 @@ puts-preserved c = record {
   same = search (rules, arith);
   room = search (rules, arith);
   stock = c.add_put.ensures.stock ∙ c.puts.invariant.stock;
+  reserved = c.add_put.ensures.reserved ∙ c.puts.invariant.reserved;
   order = λ p is.
       let o = c.puts.invariant.order p is in
       let a = c.add_put.ensures.next p o.0 in (

@@ -5,6 +5,7 @@ use Rattle.vx_order.specs.Ids.{children}
 use Rattle.vx_machine_view.specs.State.{by_column}
 use Rattle.vx_machine_view.specs.Acts.{puts}
 use Rattle.vx_machine_nodes.specs.Acting.{taken, TakeRefused}
+use Rattle.vx_machine_nodes.specs.Ledger.{dues_reserved}
 use Rattle.vx_machine_nodes.specs.View.{item_of, todo_of}
 use Rattle.vx_machine_nodes.proofs.ActCauses.{order_memory}
 use Rattle.vx_machine_nodes.proofs.TakeShows.{columns_took, columns_why}
@@ -24,3 +25,12 @@ returns-in-Err-take_children-clause-refused g c = λ s name ks.
 
 pub returns-in-Err-clause-refused : goal.returns-in-Err-clause-refused
 returns-in-Err-clause-refused g c = λ s name ks. columns_why s name ks c.args.item (ty (arc_value c.args.node.now.dtype)) c.args.rows.now c.in-Err.error c.in-Err.ensures.refused
+
+pub returns-in-Ok-take_children-clause-reserved : goal.returns-in-Ok-take_children-clause-reserved
+returns-in-Ok-take_children-clause-reserved g c = c.add_puts.ensures.reserved ∙ ap dues_reserved c.split_chunk.ensures.todo
+
+pub returns-in-Err-take_children-clause-reserved : goal.returns-in-Err-take_children-clause-reserved
+returns-in-Err-take_children-clause-reserved g c = ap dues_reserved c.split_chunk.ensures.todo
+
+pub returns-in-Err-clause-reserved : goal.returns-in-Err-clause-reserved
+returns-in-Err-clause-reserved g c = ap dues_reserved c.split_chunk.ensures.todo

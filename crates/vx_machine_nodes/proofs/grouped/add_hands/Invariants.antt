@@ -1,4 +1,4 @@
-use Rattle.std.proofs.Common.{◌≡◌, ◌≤◌, ◌+◌, ◌++◌, [], ℕ, List, map, vec_len}
+use Rattle.std.proofs.Common.{◌≡◌, ◌≤◌, ◌<◌, ◌+◌, ◌++◌, [], ℕ, List, map, vec_len}
 use Rattle.std.specs.VecDeque.{deque_len, deque_capacity}
 use Rattle.vx_model.specs.ChunkData.{held}
 use Rattle.vx_order.specs.Ids.{children}
@@ -17,6 +17,7 @@ invariant-hands l = record {
   room : deque_len l.todo + vec_len l.chunks ≤ deque_capacity l.todo;
   stock : both (all_ids l.ids) (dues_stock l.todo.items) ≡ both (all_ids l.initial.ids) (dues_stock l.initial.todo.items);
   balance : dues_reserved l.todo.items + sum_of l.reserved.items ≡ dues_reserved l.initial.todo.items + sum_of l.initial.reserved.items;
+  space : deque_len l.initial.reserved < deque_capacity l.initial.reserved → deque_len l.reserved < deque_capacity l.reserved;
   ids : (p : List ℕ) → l.initial.ids.items ≡ children p (vec_len l.initial.ids) → l.ids.items ≡ children p (vec_len l.ids);
   weighed : (p rest : List ℕ) → l.initial.ids.items ≡ children p (vec_len l.initial.ids) → l.initial.reserved.items ≡ rest ++ map held l.initial.chunks.items
       → (l.reserved.items ≡ rest ++ map held l.chunks.items) × (hand_all held (ranked p 0 l.chunks.items) ++ todo_of l.todo.items ≡ hand_all held (ranked p 0 l.initial.chunks.items) ++ todo_of l.initial.todo.items);

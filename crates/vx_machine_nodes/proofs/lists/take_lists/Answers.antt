@@ -3,6 +3,7 @@ use Rattle.vx_order.specs.Ids.{children}
 use Rattle.vx_machine_view.specs.Acts.{puts}
 use Rattle.vx_machine_nodes.specs.declared.node.Local.TheVariants.{Lists}
 use Rattle.vx_machine_nodes.specs.Acting.{taken, TakeRefused}
+use Rattle.vx_machine_nodes.specs.Ledger.{dues_reserved}
 use Rattle.vx_machine_nodes.specs.View.{item_of, todo_of, mind_of}
 use Rattle.vx_machine_nodes.proofs.ActCauses.{order_memory}
 use Rattle.vx_machine_nodes.proofs.TakeShows.{lists_took, lists_why}
@@ -22,3 +23,12 @@ returns-in-Err-take_children-clause-refused g c = λ s name ks.
 
 pub returns-in-Err-clause-refused : goal.returns-in-Err-clause-refused
 returns-in-Err-clause-refused g c = λ s name ks. lists_why s name ks c.args.item c.args.node.now c.args.rows.now c.in-Err.error c.in-Err.ensures.refused
+
+pub returns-in-Ok-take_children-clause-reserved : goal.returns-in-Ok-take_children-clause-reserved
+returns-in-Ok-take_children-clause-reserved g c = c.add_puts.ensures.reserved ∙ ap dues_reserved c.split_lists.ensures.todo
+
+pub returns-in-Err-take_children-clause-reserved : goal.returns-in-Err-take_children-clause-reserved
+returns-in-Err-take_children-clause-reserved g c = ap dues_reserved c.split_lists.ensures.todo
+
+pub returns-in-Err-clause-reserved : goal.returns-in-Err-clause-reserved
+returns-in-Err-clause-reserved g c = ap dues_reserved c.split_lists.ensures.todo

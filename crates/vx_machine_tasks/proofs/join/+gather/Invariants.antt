@@ -15,7 +15,7 @@ abbrev pub decreases-add_layout : goal.decreases-add_layout
 decreases-add_layout g l = 2 * task_count l.kid
 
 abbrev pub decreases-add_layouts : goal.decreases-add_layouts
-decreases-add_layouts g l = 2 * count_of_all l.kids.items + 1
+decreases-add_layouts g l = 2 * count_of_all l.kids.now.items + 1
 
 abbrev pub invariant-add_layouts-kids : goal.invariant-add_layouts-kids
 invariant-add_layouts-kids g l = record {
