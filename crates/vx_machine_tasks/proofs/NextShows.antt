@@ -9,7 +9,7 @@ use Rattle.vx_order.specs.Answers.{IsPast, IsShared}
 use Rattle.vx_sink.specs.declared.context.LayoutWriterContext.{LayoutWriterContext}
 use Rattle.vx_sink.specs.ContextView.{listed, counted}
 use Rattle.vx_machine_view.specs.State.{Next, Desk}
-use Rattle.vx_machine_view.specs.Acts.{Did, now, do_take, do_act}
+use Rattle.vx_machine_view.specs.Acts.{Did, now, do_next, take_end, do_take, do_act}
 use Rattle.vx_write_answer.specs.declared.step.ActionKind.{ActionKind}
 use Rattle.vx_write_answer.specs.declared.step.ActionKind.TheVariants as actions
 use Rattle.vx_write_answer.specs.declared.error.WriteError.{WriteError}
@@ -63,7 +63,7 @@ module _ {A : Type 0} (ctx : LayoutWriterContext) (h : Head) (ks : List Task) wh
     end_refused n (Ok x) same f = tt
     end_refused n (Err e) same f = λ image.
         subst (λ xs. TakeStopped (counted ctx) (Takes ctx h ks xs image) e) (sym (is ∙ none))
-        (take_stops (counted ctx) _ e (end_fails (desk_of h) (row ks) e (mind_of h.local) (f (row ks) (count_row ks ∙ sym same))))
+        (take_stops (counted ctx) (take_end (desk_of h) (row ks) (mind_of h.local)) e (end_fails (desk_of h) (row ks) e (mind_of h.local) (f (row ks) (count_row ks ∙ sym same))))
 
 -- ---- of a block
 
@@ -81,7 +81,7 @@ module _ (ctx : LayoutWriterContext) (h : Head) (ks : List Task) (d : Due) (es :
   due_refused o (Ok a) f = tt
   due_refused o (Err e) f = λ image n.
       subst (λ zs. ActStopped (counted ctx) (do_act (setting_of ctx image) n (desk_of h) (row ks) (todo_of zs)) o e) (sym is)
-      (act_stops (counted ctx) _ o e (act_refused (listed ctx) n (desk_of h) (row ks) (next_of d) (todo_of es) o e (f n)))
+      (act_stops (counted ctx) (do_next (listed ctx) n (desk_of h) (row ks) (next_of d) (todo_of es)) o e (act_refused (listed ctx) n (desk_of h) (row ks) (next_of d) (todo_of es) o e (f n)))
 
 -- ---- where nothing is left of a block
 

@@ -152,6 +152,10 @@ made_cases Over b c h m p = true≢false (sym h)
 pub not_made : (t : Task) → made_of t ≡ true → ((x : Layout) → (out-Task t).head.local ≡ Made x → ⊥) → ((out-Task t).head.local ≡ Passing → ⊥) → ⊥
 not_made t h m p = made_cases (out-Task t).head.local (deque_len (out-Task t).head.todo == 0) (all_made (kids_of (out-Task t).kids.items)) (sym (made_out t) ∙ h) m p
 
+-- and does, where they have done all
+pub made_passing : (t : Task) (b : Bool) → (out-Task t).head.local ≡ Passing → (deque_len (out-Task t).head.todo == 0) ≡ true → b ≡ all_made (kids_of (out-Task t).kids.items) → b ≡ made_of t
+made_passing t b e h k = k ∙ sym (made_out t ∙ (λ j. is_made (e j) (h j) (all_made (kids_of (out-Task t).kids.items))))
+
 pub made_kids : (t : Task) → made_of t ≡ true → (out-Task t).head.local ≡ Passing → all_made (kids_of (out-Task t).kids.items) ≡ true
 made_kids t h e =
     let idle : Bool = deque_len (out-Task t).head.todo == 0 in

@@ -803,15 +803,15 @@ start_settled-returns-in-Buffered-clause-refused g t c =
 
 -- of one chunk for all
 
-pub start_settled-start_grouped-requires-in-Collect : goal.start_settled-start_grouped-requires-in-Collect
-start_settled-start_grouped-requires-in-Collect g t c κs within =
+pub start_settled-start_grouped-requires-in-Ok-collect_node : goal.start_settled-start_grouped-requires-in-Ok-collect_node
+start_settled-start_grouped-requires-in-Ok-collect_node g t c κs within =
     let by = c.in-Collect.into in
     let w : StrategyData = strategy_data c.args.strategy.now in
     let u : Ty = ty (arc_value c.args.dtype) in
     let n = c.in-Ok-collect_node.node in
-    let k : StrategyData = c.child-in-Collect.result.now.item in
+    let k : StrategyData = c.child-in-Ok-collect_node.result.now.item in
     let a : w ≡ grouped into_one by.child.item = ap strategy_data c.in-Collect.is in
-    let d : k ≡ by.child.item = ap (λ x. x.item) c.child-in-Collect.ensures in
+    let d : k ≡ by.child.item = ap (λ x. x.item) c.child-in-Ok-collect_node.ensures in
     let e : ty (arc_value n.dtype) ≡ u = ap (λ z. ty (arc_value z)) c.in-Ok-collect_node.ensures.dtype in
     let b : IsTrue (is_built k) = ap is_built d ∙ sym (ap is_built a) ∙ c.requires.built in
     let f : 2 + weight (form_at k (ty (arc_value n.dtype))) ≡ weight (form_at w u) = ap weight (grouped_at w by.child.item k into_one u (ty (arc_value n.dtype)) a d e) in
@@ -824,11 +824,11 @@ start_settled-returns-in-Ok-collect_node-clause-shows g t c =
     let w : StrategyData = strategy_data c.args.strategy.now in
     let u : Ty = ty (arc_value c.args.dtype) in
     let n = c.in-Ok-collect_node.node in
-    let k : StrategyData = c.child-in-Collect.result.now.item in
+    let k : StrategyData = c.child-in-Ok-collect_node.result.now.item in
     let e : ty (arc_value n.dtype) ≡ u = ap (λ z. ty (arc_value z)) c.in-Ok-collect_node.ensures.dtype in
-    subst (λ z. IfOk c.start_grouped-in-Collect.result (Started z c.args.marked c.args.name c.args.eof))
-    (grouped_at w by.child.item k into_one u (ty (arc_value n.dtype)) (ap strategy_data c.in-Collect.is) (ap (λ x. x.item) c.child-in-Collect.ensures) e)
-    (c.start_grouped-in-Collect.ensures.shows into_one (subst (λ z. Begins into_one z n) (sym e) c.in-Ok-collect_node.ensures.begins))
+    subst (λ z. IfOk c.start_grouped-in-Ok-collect_node.result (Started z c.args.marked c.args.name c.args.eof))
+    (grouped_at w by.child.item k into_one u (ty (arc_value n.dtype)) (ap strategy_data c.in-Collect.is) (ap (λ x. x.item) c.child-in-Ok-collect_node.ensures) e)
+    (c.start_grouped-in-Ok-collect_node.ensures.shows into_one (subst (λ z. Begins into_one z n) (sym e) c.in-Ok-collect_node.ensures.begins))
 
 pub start_settled-returns-in-Ok-collect_node-clause-refused : goal.start_settled-returns-in-Ok-collect_node-clause-refused
 start_settled-returns-in-Ok-collect_node-clause-refused g t c =
@@ -836,8 +836,8 @@ start_settled-returns-in-Ok-collect_node-clause-refused g t c =
     let w : StrategyData = strategy_data c.args.strategy.now in
     let u : Ty = ty (arc_value c.args.dtype) in
     let n = c.in-Ok-collect_node.node in
-    let k : StrategyData = c.child-in-Collect.result.now.item in
+    let k : StrategyData = c.child-in-Ok-collect_node.result.now.item in
     let e : ty (arc_value n.dtype) ≡ u = ap (λ z. ty (arc_value z)) c.in-Ok-collect_node.ensures.dtype in
-    subst (λ z. IfErr c.start_grouped-in-Collect.result (StartRefused (λ s. start_fault s z c.args.marked) (first_indices z c.args.eof)))
-    (grouped_at w by.child.item k into_one u (ty (arc_value n.dtype)) (ap strategy_data c.in-Collect.is) (ap (λ x. x.item) c.child-in-Collect.ensures) e)
-    c.start_grouped-in-Collect.ensures.refused
+    subst (λ z. IfErr c.start_grouped-in-Ok-collect_node.result (StartRefused (λ s. start_fault s z c.args.marked) (first_indices z c.args.eof)))
+    (grouped_at w by.child.item k into_one u (ty (arc_value n.dtype)) (ap strategy_data c.in-Collect.is) (ap (λ x. x.item) c.child-in-Ok-collect_node.ensures) e)
+    c.start_grouped-in-Ok-collect_node.ensures.refused

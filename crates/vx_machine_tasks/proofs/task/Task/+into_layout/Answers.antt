@@ -30,7 +30,7 @@ destroy_empty-requires-in-Some t c =
     c.pop.new.self.ok.0 ∙ ap length (only_child c.args.self c.in-Some.kid c.pop.new.self.items c.requires c.in-Passing.is c.in-Some.ensures.items).0
 
 pub into_layout-requires : goal.into_layout-requires
-into_layout-requires t c κs within =
+into_layout-requires t c =
     let d : is_done c.in-Some.kid ≡ true = (only_child c.args.self c.in-Some.kid c.pop.new.self.items c.requires c.in-Passing.is c.in-Some.ensures.items).1 in
     let n : count_of_all (out-Task c.args.self).kids.items ≡ count_of_all c.pop.new.self.items + task_count c.in-Some.kid = popped_count (out-Task c.args.self).kids.items c.pop.new.self.items c.in-Some.kid c.in-Some.ensures.items in
     let falls : task_count c.in-Some.kid < task_count c.args.self = omega (arith, n, task_count_out c.args.self) in
