@@ -1,14 +1,14 @@
 -- What leaves a node that regroups at the newest chunk, and why its rule can't act on it.
-use Rattle.std.proofs.Common.{◌≡◌, ℕ, ◌+◌, ◌<◌, ◌≤◌, ◌^◌, not, Bool, true, false, List, [], ◌∷◌, ◌++◌, map, length, Option, Some, None, Result, Ok, Err, OnOk, refl, sym, ap, subst, ◌∙◌, arith, append-nil}
+use Rattle.std.proofs.Common.{◌≡◌, ◌↔◌, ℕ, ◌+◌, ◌<◌, ◌^◌, not, Bool, true, false, List, [], ◌∷◌, ◌++◌, map, length, Option, Some, None, Result, Ok, Err, OnOk, refl, sym, ap, subst, ◌∙◌, arith, append-nil}
 use Rattle.std.proofs.lemmas.Bool.{true≢false}
-use Rattle.vx_model.specs.Ty.{ty_eq}
+use Rattle.vx_model.specs.Ty.{Ty, ty_eq}
 use Rattle.vx_model.specs.TyLaws.{ty_eq_decides}
 use Rattle.vx_model.specs.ChunkData.{ChunkData, piece_type, held}
 use Rattle.vx_model.specs.Words.{total_by}
 use Rattle.vx_chunk.specs.declared.error.ChunkError.{ChunkError}
 use Rattle.vx_rules.specs.Regroup.{ranked}
 use Rattle.vx_rules.specs.Flushes.{flushes, concatenated}
-use Rattle.vx_regroup.specs.Held.{ChunksHeld}
+use Rattle.vx_regroup.specs.Held.{RowsHeld, ChunksHeld, AllHeld}
 use Rattle.vx_regroup.specs.Refusals.{first_past, Refuses}
 use Rattle.vx_regroup.specs.Rules.{tested_at, weights, row_count}
 use Rattle.vx_regroup.specs.Regrouping.{Takes, given_by, after, numbers_at}
@@ -16,21 +16,19 @@ use Rattle.vx_regroup.specs.declared.regroup.Regroup.{Regroup}
 use Rattle.vx_regroup.specs.declared.regroup.Regroup.TheVariants.{Repartition, Buffered, Collect}
 use Rattle.vx_machine_view.specs.State.{Next, hand_on}
 use Rattle.vx_machine_view.specs.Acts.{hand_all}
-use Rattle.vx_write_answer.specs.declared.error.WriteError.{WriteError}
 use Rattle.vx_machine_nodes.specs.declared.item.Item.{Item}
-use Rattle.vx_machine_nodes.specs.Acting.{ListRefused}
 use Rattle.vx_machine_nodes.specs.Outcome.{AllFit}
-use Rattle.vx_machine_nodes.specs.Regrouped.{misfits, is_collection, sizes_of, chunks_held, sizes_in, is_idle, rows_counted, Weighs, numbers_of, Left, rest_hands, RestFits}
+use Rattle.vx_machine_nodes.specs.Regrouped.{is_of, misfits, is_collection, sizes_of, chunks_held, sizes_in, rows_counted, numbers_of, Left, rest_hands, RestFits}
 use Rattle.vx_machine_nodes.specs.Sizes.{sum_of}
 use Rattle.vx_machine_nodes.proofs.Fitting.{none_fit, then_fit, one_fits}
 use Rattle.vx_machine_nodes.proofs.GroupNumbers.{past_none, fit_none, none_refuses}
 use Rattle.vx_machine_nodes.proofs.GroupSizes.{held_sum, held_push, sizes_apart}
-use Rattle.vx_machine_nodes.proofs.GroupTakes.{none_held}
+use Rattle.vx_machine_nodes.proofs.SplitSteps.{misfit_told}
 
 -- ---- what the rule may be given
 
 not_false : (b : Bool) → not b ≡ false → b ≡ true
-not_false true h = absurd (true≢false (sym h))
+not_false true h = refl
 not_false false h = absurd (true≢false h)
 
 pub takes_fitting : (r : Regroup) (c : ChunkData) → misfits r c ≡ false → Takes r c
@@ -38,11 +36,13 @@ takes_fitting (Repartition h) c m = (ty_eq_decides (piece_type c) h.typed).0 (no
 takes_fitting (Buffered h) c m = tt
 takes_fitting (Collect h) c m = (ty_eq_decides (piece_type c) h.typed).0 (not_false (ty_eq (piece_type c) h.typed) m)
 
--- what is reserved, with a chunk that the tracker can count
-pub few_reserved : (counts : ℕ) (r : Regroup) (j : Option Item) (c : ChunkData) → Weighs counts r c → sum_of (sizes_in r j) ≤ counts → sum_of (sizes_in r j) < 2 ^ 64
-few_reserved counts (Repartition h) j c w l = omega arith
-few_reserved counts (Buffered h) j c w l = omega (arith, w, l)
-few_reserved counts (Collect h) j c w l = omega arith
+-- a chunk's type is tested against the one that the rule has, of whichever kind it is
+
+pub misfit_rows : (r : Regroup) (h : RowsHeld) (t : Ty) (c : ChunkData) (b : Bool) → r ≡ Repartition h → is_of r t ≡ true → ((b ≡ true) ↔ (piece_type c ≡ t)) → not b ≡ misfits r c
+misfit_rows r h t c b e typed w = misfit_told (piece_type c) t h.typed b w (ap (λ z. is_of z t) (sym e) ∙ typed) ∙ ap (λ z. misfits z c) (sym e)
+
+pub misfit_all : (r : Regroup) (h : AllHeld) (t : Ty) (c : ChunkData) (b : Bool) → r ≡ Collect h → is_of r t ≡ true → ((b ≡ true) ↔ (piece_type c ≡ t)) → not b ≡ misfits r c
+misfit_all r h t c b e typed w = misfit_told (piece_type c) t h.typed b w (ap (λ z. is_of z t) (sym e) ∙ typed) ∙ ap (λ z. misfits z c) (sym e)
 
 -- ---- acts on the newest chunk
 
@@ -111,12 +111,6 @@ rest_cause P (Collect h) j rows e f c few k =
     k [] (none_refuses ns e (fit_none ns (one_fits (row_count (h.chunks ++ (j.chunk ∷ []))) (subst (λ n. n < 2 ^ 64) (sym c) few))) f)
 
 -- ---- what is left at the end
-
--- nothing is reserved before the first chunk
-pub idle_unreserved : (r : Regroup) → is_idle r None ≡ true → sizes_in r None ≡ []
-idle_unreserved (Repartition h) i = refl
-idle_unreserved (Buffered h) i = ap (map held) (none_held h.chunks i)
-idle_unreserved (Collect h) i = refl
 
 pub rest_fits : (r : Regroup) (j : Item) (chunks : List ChunkData) → chunks ≡ given_by r j.chunk true → first_past (numbers_at r j.chunk true) ≡ None → length chunks < 2 ^ 64 → RestFits r (Some j)
 rest_fits (Repartition h) j chunks g f few = (past_none (tested_at h j.chunk) f, subst (λ z. length z < 2 ^ 64) g few)

@@ -8,7 +8,7 @@ use Rattle.vx_chunk.specs.Conditions.{IsFarPast}
 use Rattle.vx_chunk.specs.declared.error.ChunkError.{ChunkError}
 use Rattle.vx_chunk.specs.declared.error.ChunkError.TheVariants as chunk
 use Rattle.vx_regroup.specs.Refusals.{first_past, IsTold, Refuses}
-use Rattle.vx_write_answer.specs.declared.error.WriteError.TheVariants.{TooLarge, OutOfMemory}
+use Rattle.vx_write_answer.specs.declared.error.WriteError.TheVariants.{TooLarge}
 use Rattle.vx_machine_nodes.specs.Acting.{ListRefused}
 use Rattle.vx_machine_nodes.specs.Causes.{MayCome}
 use Rattle.vx_machine_nodes.specs.Outcome.{AllFit}

@@ -3,6 +3,7 @@ use Rattle.std.proofs.Common.{◌≡◌, ℕ, ◌+◌, ◌<◌, ◌≤◌, ◌^�
 use Rattle.std.proofs.lemmas.List.{map-append}
 use Rattle.vx_model.specs.Ty.{Ty}
 use Rattle.vx_model.specs.ChunkData.{ChunkData, cells, held}
+use Rattle.vx_model.specs.Words.{total_by}
 use Rattle.vx_plan.specs.PlanData.{Setting}
 use Rattle.vx_regroup.specs.Regrouping.{given_by, after}
 use Rattle.vx_regroup.specs.declared.regroup.Regroup.{Regroup}
@@ -104,18 +105,20 @@ module _ (s : Setting) (name : List ℕ) (ks : Tasks) (i : Item) (rows total : �
       record {
         unrefused = refl;
         fits = refl;
-        counted = then_fit (rows + length (cells i.chunk)) _ few (then_fit (held i.chunk) _ f.0 (one_fits _ (subst (λ n. n < 2 ^ 64) (sym (held_push h.chunks i.chunk)) f.1)));
+        counted = then_fit (rows + length (cells i.chunk)) (held i.chunk ∷ total_by held (h.chunks ++ (i.chunk ∷ [])) ∷ []) few (then_fit (held i.chunk) (total_by held (h.chunks ++ (i.chunk ∷ [])) ∷ []) f.0 (one_fits (total_by held (h.chunks ++ (i.chunk ∷ []))) (subst (λ n. n < 2 ^ 64) (sym (held_push h.chunks i.chunk)) f.1)));
         mind_is = λ k. mind_in (a.0 k) (Some i) (sum k);
         todo_is = a.2;
         kids_are = refl;
       }
   group_took (Buffered h) (Some j) m idle a w =
       let cs : List ChunkData = chunks_held (after (Buffered h) j.chunk) in
+      let size : ℕ = total_by held (cs ++ (i.chunk ∷ [])) in
+      let left : ℕ = length (given_by (Buffered h) j.chunk false) in
       let f = sizes_fit cs (a.sizes ∙ ap (λ x. sizes_of x (chunks_held x)) a.next_is) w in
       record {
         unrefused = refl;
         fits = refl;
-        counted = then_fit (rows + length (cells i.chunk)) _ few (then_fit (held i.chunk) _ f.0 (then_fit _ _ (subst (λ n. n < 2 ^ 64) (sym (held_push cs i.chunk)) f.1) (one_fits (length (given_by (Buffered h) j.chunk false)) a.count)));
+        counted = then_fit (rows + length (cells i.chunk)) (held i.chunk ∷ size ∷ left ∷ []) few (then_fit (held i.chunk) (size ∷ left ∷ []) f.0 (then_fit size (left ∷ []) (subst (λ n. n < 2 ^ 64) (sym (held_push cs i.chunk)) f.1) (one_fits left a.count)));
         mind_is = λ k. mind_in (a.next_is k) (Some i) (sum k);
         todo_is = a.todo_is;
         kids_are = refl;

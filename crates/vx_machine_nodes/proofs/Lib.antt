@@ -19,4 +19,3 @@ pub mod ListSteps
 pub mod PutSteps
 pub mod TakeShows
 pub mod ListParts
-pub mod FreshSteps

@@ -1,5 +1,5 @@
 -- Counts of what is ready, and walks over children.
-use Rattle.std.proofs.Common.{◌≡◌, ◌-◌, List, [], ◌∷◌, length, refl, arith}
+use Rattle.std.proofs.Common.{◌≡◌, List, [], ◌∷◌, length, refl, arith}
 
 -- ---- walks
 

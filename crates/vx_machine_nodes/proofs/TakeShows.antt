@@ -3,7 +3,7 @@ use Rattle.std.proofs.Common.{◌≡◌, ◌+◌, ◌^◌, ◌<◌, not, if◌th
 use Rattle.std.proofs.lemmas.Bool.{true≢false}
 use Rattle.std.proofs.lemmas.List.{map_push}
 use Rattle.std.specs.Arc.{arc_value}
-use Rattle.vx_path.specs.Path.{under, next}
+use Rattle.vx_path.specs.Path.{next}
 use Rattle.vx_model.specs.declared.encoding.EncodingId.{EncodingId}
 use Rattle.vx_model.specs.Ty.{Ty, boolean, primitive, utf8, binary, list, struct, extension, nullable, is_list, ty_eq}
 use Rattle.vx_model.specs.TyLaws.{ty_eq_decides}
@@ -26,7 +26,7 @@ use Rattle.vx_machine_view.specs.State.{Next, shut_kids, join_kids, one_chunk, b
 use Rattle.vx_machine_view.specs.Acts.{Did, stored, columns_in, column_count, puts, end_lists}
 use Rattle.vx_write_answer.specs.Causes.{of_encode}
 use Rattle.vx_write_answer.specs.declared.error.WriteError.{WriteError}
-use Rattle.vx_write_answer.specs.declared.error.WriteError.TheVariants.{ManyChunks, EmptyList, OutOfMemory}
+use Rattle.vx_write_answer.specs.declared.error.WriteError.TheVariants.{ManyChunks, EmptyList}
 use Rattle.vx_machine_nodes.specs.declared.item.Due.{Due}
 use Rattle.vx_machine_nodes.specs.declared.item.Item.{Item}
 use Rattle.vx_machine_nodes.specs.declared.item.Segment.{Segment}

@@ -1,4 +1,4 @@
-use Rattle.std.proofs.Common.{◌<◌, ◌^◌, ℕ, List, Option, false, refl, sym, ap, subst, ◌∙◌}
+use Rattle.std.proofs.Common.{◌<◌, ◌^◌, Option, false, refl, sym, ap, subst, ◌∙◌}
 use Rattle.vx_machine_nodes.specs.declared.item.Item.{Item}
 use Rattle.vx_machine_nodes.specs.Acting.{ListRefused}
 use Rattle.vx_machine_nodes.specs.Causes.{MayCome}

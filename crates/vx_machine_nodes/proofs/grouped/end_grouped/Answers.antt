@@ -24,8 +24,13 @@ returns-in_ok-reserve-in-Ok-clause-moved g c =
 
 pub returns-in_ok-reserve-in-Ok-clause-tracked : goal.returns-in_ok-reserve-in-Ok-clause-tracked
 returns-in_ok-reserve-in-Ok-clause-tracked g c =
-    omega (arith, c.hand_rest.ensures.balance, ap sum_of c.in-Ok.ensures.none, ap dues_reserved c.reserve.ensures.items,
-    dues_push c.push_back_reserved.new.self.items c.reserve.new.self.items Close c.push_back_reserved.ensures.items)
+    omega (
+      arith,
+      c.hand_rest.ensures.balance,
+      ap sum_of c.in-Ok.ensures.none,
+      ap dues_reserved c.reserve.ensures.items,
+      dues_push c.push_back_reserved.new.self.items c.reserve.new.self.items Close c.push_back_reserved.ensures.items,
+    )
 
 pub returns-in_ok-reserve-in-Ok-clause-done : goal.returns-in_ok-reserve-in-Ok-clause-done
 returns-in_ok-reserve-in-Ok-clause-done g c = λ idle kids ks same.
