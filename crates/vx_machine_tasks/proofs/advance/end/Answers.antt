@@ -1,4 +1,4 @@
-use Rattle.std.proofs.Common.{◌≡◌, ◌+◌, ap, subst, sym, ◌∙◌, arith}
+use Rattle.std.proofs.Common.{◌≡◌, ap, subst, sym, ◌∙◌, arith}
 use Rattle.vx_machine_ids.specs.Stock.{none, both}
 use Rattle.vx_machine_ids.specs.Balance.{Moved}
 use Rattle.vx_machine_nodes.specs.Ledger.{dues_reserved, local_reserved}

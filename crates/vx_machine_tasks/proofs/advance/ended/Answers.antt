@@ -1,7 +1,7 @@
-use Rattle.std.proofs.Common.{◌≡◌, ◌+◌, ap, refl, append-nil, sym, ◌∙◌, arith}
+use Rattle.std.proofs.Common.{◌≡◌, ap, refl, append-nil, sym, ◌∙◌, arith}
 use Rattle.vx_machine_ids.specs.Stock.{none, both, end_stock, ok_stock}
 use Rattle.vx_machine_ids.proofs.MoveLaws.{owned_as, moved_as}
-use Rattle.vx_machine_nodes.specs.Ledger.{ok_bytes, dues_reserved, local_reserved, node_reserved}
+use Rattle.vx_machine_nodes.specs.Ledger.{local_reserved, node_reserved}
 use Rattle.vx_machine_nodes.specs.Stocks.{stored_stock, dues_stock, node_stock, local_stock}
 use Rattle.vx_machine_tasks.proofs.ActMoves.{ok_none, ended_none, ended_full, ended_owned, ended_chunked}
 use Rattle.vx_machine_nodes.proofs.DueSteps.{one_more, one_free}

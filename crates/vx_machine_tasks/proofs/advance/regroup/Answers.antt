@@ -1,6 +1,6 @@
-use Rattle.std.proofs.Common.{◌≡◌, ◌+◌, refl, sym, ap, subst, ◌∙◌, arith}
+use Rattle.std.proofs.Common.{◌≡◌, refl, sym, ap, subst, ◌∙◌, arith}
 use Rattle.vx_sink.specs.ContextView.{counted}
-use Rattle.vx_machine_ids.specs.Stock.{none, both}
+use Rattle.vx_machine_ids.specs.Stock.{both}
 use Rattle.vx_machine_ids.specs.Balance.{Moved}
 use Rattle.vx_machine_ids.proofs.MoveLaws.{owned_as}
 use Rattle.vx_machine_nodes.specs.Acting.{is_grouped}

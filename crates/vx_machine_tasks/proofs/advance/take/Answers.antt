@@ -1,4 +1,4 @@
-use Rattle.std.proofs.Common.{◌≡◌, ◌+◌, ap, sym, arith}
+use Rattle.std.proofs.Common.{◌≡◌, ap, sym, arith}
 use Rattle.vx_machine_ids.specs.Stock.{none, both, end_stock}
 use Rattle.vx_machine_nodes.specs.Acting.{is_grouped}
 use Rattle.vx_machine_nodes.specs.Ledger.{local_reserved}

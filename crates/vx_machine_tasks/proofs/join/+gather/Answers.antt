@@ -5,11 +5,11 @@ use Rattle.vx_sequence.specs.Universe.{Active}
 use Rattle.vx_layout_tree.specs.LayoutView.{layout_data}
 use Rattle.vx_sink.specs.ContextView.{counted}
 use Rattle.vx_machine_ids.specs.Stock.{none}
-use Rattle.vx_machine_ids.specs.Balance.{Owned, Moved}
+use Rattle.vx_machine_ids.specs.Balance.{Owned}
 use Rattle.vx_machine_ids.proofs.MoveLaws.{moved_none, moved_then, owned_now}
 use Rattle.vx_machine_ids.proofs.Lists.{pop_owned, pop_moved, pop_rest}
 use Rattle.vx_machine_view.specs.Acts.{layouts_in}
-use Rattle.vx_machine_nodes.specs.Ledger.{dues_reserved, local_reserved}
+use Rattle.vx_machine_nodes.specs.Ledger.{local_reserved}
 use Rattle.vx_machine_nodes.specs.Stocks.{local_stock}
 use Rattle.vx_machine_tasks.specs.Ledger.{task_reserved, tasks_reserved}
 use Rattle.vx_machine_tasks.specs.Ready.{made_of, all_made, kids_of}
