@@ -75,7 +75,7 @@ fn start_root<O: Order>(
     alloc: Global,
     strategy: &Strategy,
     dtype: &DType,
-    marked: bool,
+    ctx: &LayoutWriterContext,
     order: &mut O,
     eof: SequencePointer,
 ) -> Result<Task, WriteError>
@@ -85,11 +85,14 @@ fn start_root<O: Order>(
     ensures outlet { O.outlet order.new ≡ O.outlet order.old }
     ensures sink { O.sink order.new ≡ O.sink order.old }
     ensures cause { IfErr result StartMay }
-    ensures shows { IfOk result (Started (form_of strategy.now dtype.now) marked (1 ∷ []) eof) }
-    ensures refused { IfErr result (FormRefused (form_of strategy.now dtype.now) marked eof) }
+    ensures shows { IfOk result (Started (form_of strategy.now dtype.now) (is_marked ctx.now) (1 ∷ []) eof) }
+    ensures refused { IfErr result (FormRefused (form_of strategy.now dtype.now) (is_marked ctx.now) eof) }
 {
     match root_parts(alloc, dtype) {
-        Ok((name, dtype)) => start_task(alloc, order, strategy, dtype, marked, name, eof),
+        Ok((name, dtype)) => {
+            let marked = ctx.has_nullable_ancestor();
+            start_task(alloc, ctx, order, strategy, dtype, marked, name, eof)
+        }
         Err(error) => {
             give_up_pointer(order, eof);
             Err(error)
@@ -148,14 +151,7 @@ impl Machine {
             give_up_pointer(order, eof);
             return Err(WriteError::Unbuilt);
         }
-        match start_root(
-            alloc,
-            strategy,
-            dtype,
-            ctx.has_nullable_ancestor(),
-            order,
-            eof,
-        ) {
+        match start_root(alloc, strategy, dtype, ctx, order, eof) {
             Ok(root) => Ok(Machine {
                 alloc,
                 phase: Phase::Reading(stream),

@@ -26,12 +26,12 @@ use Rattle.vx_machine_tasks.specs.declared.item.Segment.{Segment}
 use Rattle.vx_machine_tasks.specs.declared.kinds.ChunkedNode.{ChunkedNode}
 use Rattle.vx_machine_tasks.specs.declared.kinds.FlatNode.{FlatNode}
 use Rattle.vx_machine_tasks.specs.declared.node.Local.{Local}
-use Rattle.vx_machine_tasks.specs.declared.node.Local.TheVariants.{Empty, Full, Chunked, Columns, Lists, Grouped, Over, Passing, Made}
+use Rattle.vx_machine_tasks.specs.declared.node.Local.TheVariants.{Empty, Full, Chunked, Columns, Lists, Grouped, Zoned, Over, Passing, Made}
 use Rattle.vx_machine_tasks.specs.declared.task.Head.{Head}
 use Rattle.vx_machine_tasks.specs.declared.task.Task.{Task}
 use Rattle.vx_machine_tasks.specs.Context.{setting_of}
 use Rattle.vx_machine_tasks.specs.Outcome.{action_of, AllFit, Refused, none_past}
-use Rattle.vx_machine_tasks.specs.Starting.{StartRefused}
+use Rattle.vx_machine_tasks.specs.Starting.{Allowed, StartRefused}
 use Rattle.vx_machine_tasks.specs.View.{item_of, items_of, next_of, todo_of, child_form, mind_of, desk_of, row}
 
 -- ---- what a sink is told
@@ -63,17 +63,18 @@ AppendRefused o x e = Refused None false [] [] (x ∷ []) (IsPast o) (IsShared o
 
 -- ---- acts of a block
 
--- Of a task of which only this is told: what it has in mind.
-abbrev pub bare : Mind → Desk
-bare mind = waiting [] mind [] false
+-- Of a task of which only this is told: its name, and what it has in mind.
+abbrev pub bare : List ℕ → Mind → Desk
+bare name mind = waiting name mind [] false
 
-abbrev pub acted : List EncodingId → ℕ → Mind → Tasks → Next → Did
-acted ids number mind ks x = do_next ids number (bare mind) ks x []
+abbrev pub acted : Setting → List ℕ → ℕ → Mind → Tasks → Next → Did
+acted s name number mind ks x = do_next s number (bare name mind) ks x []
 
 -- an act was done, with this in mind then and these children
 pub record ActDone (w : Did) (before : Outlet) (number : ℕ) (after : Outlet) (mind : Mind) (kids : Tasks) (a : ActionKind) : Type 0 where
   pub unrefused : w.refusal ≡ None
   pub fits : w.misfit ≡ false
+  pub counted : AllFit (w.numbers ++ w.indices)
   pub mind_is : mind ≡ w.desk.mind
   pub kids_are : kids ≡ w.kids
   pub kind : a ≡ action_of w.kind
@@ -81,11 +82,11 @@ pub record ActDone (w : Did) (before : Outlet) (number : ℕ) (after : Outlet) (
 
 -- what is due to a task was done, and an append got some number; or it is refused, whatever number that would be
 
-abbrev pub DueDone : List EncodingId → Local → List Task → Due → Outlet → Outlet → Local → List Task → ActionKind → Type 0
-DueDone ids l ks d before after m kids a = (n : ℕ) × ActDone (acted ids n (mind_of l) (row ks) (next_of d)) before n after (mind_of m) (row kids) a
+abbrev pub DueDone : LayoutWriterContext → List ℕ → Local → List Task → Due → Outlet → Outlet → Local → List Task → ActionKind → Type 0
+DueDone ctx name l ks d before after m kids a = (image : ℕ → ChunkData → ChunkData) → (n : ℕ) × ActDone (acted (setting_of ctx image) name n (mind_of l) (row ks) (next_of d)) before n after (mind_of m) (row kids) a
 
-abbrev pub DueRefused : List EncodingId → Local → List Task → Due → Outlet → WriteError → Type 0
-DueRefused ids l ks d o e = (n : ℕ) → ActRefused (acted ids n (mind_of l) (row ks) (next_of d)) o e
+abbrev pub DueRefused : LayoutWriterContext → List ℕ → Local → List Task → Due → Outlet → WriteError → Type 0
+DueRefused ctx name l ks d o e = (image : ℕ → ChunkData → ChunkData) (n : ℕ) → ActRefused (acted (setting_of ctx image) name n (mind_of l) (row ks) (next_of d)) o e
 
 -- layouts of so many rows aren't joined
 abbrev pub JoinRefused : List ℕ → WriteError → Type 0
@@ -152,6 +153,7 @@ first_word first (Chunked n eof rows) = Some many_chunks
 first_word first (Columns n rows) = Some many_chunks
 first_word first (Lists n rows) = Some many_chunks
 first_word first (Grouped n) = Some many_chunks
+first_word first (Zoned n) = Some many_chunks
 first_word first Over = Some many_chunks
 first_word first Passing = Some many_chunks
 first_word first (Made l) = Some many_chunks
@@ -164,6 +166,7 @@ is_flat (Chunked n eof rows) = false
 is_flat (Columns n rows) = false
 is_flat (Lists n rows) = false
 is_flat (Grouped n) = false
+is_flat (Zoned n) = false
 is_flat Over = false
 is_flat Passing = false
 is_flat (Made l) = false
@@ -176,6 +179,7 @@ is_grouped (Full x) = false
 is_grouped (Chunked n eof rows) = false
 is_grouped (Columns n rows) = false
 is_grouped (Lists n rows) = false
+is_grouped (Zoned n) = false
 is_grouped Over = false
 is_grouped Passing = false
 is_grouped (Made l) = false
@@ -184,13 +188,17 @@ is_grouped (Made l) = false
 abbrev pub SplitRefused : Bool → ℕ → WriteError → Type 0
 SplitRefused misfit rows e = Refused None misfit (rows ∷ []) [] [] none_past ⊥ [] e
 
+-- why a zoned node doesn't record a chunk: it makes no zone, it is of another type, or the rows with it are too many
+abbrev pub ZoneRefused : Option What → Bool → ℕ → WriteError → Type 0
+ZoneRefused word misfit rows e = Refused word misfit (rows ∷ []) [] [] none_past ⊥ [] e
+
 -- why a chunk of lists isn't split: it is of another type, or one of these is too many
 abbrev pub ListRefused : Bool → List ℕ → WriteError → Type 0
 ListRefused misfit ns e = Refused None misfit ns [] [] none_past ⊥ [] e
 
 -- the next child of a chunked node, whose pointer is this one, isn't started
-abbrev pub ChildRefused : ChunkedNode → Eof → WriteError → Type 0
-ChildRefused n eof e = StartRefused (λ s. start_fault s (child_form n) n.marked) ((eof.last + 1) ∷ first_indices (child_form n) (inside eof)) e
+abbrev pub ChildRefused : Allowed → ChunkedNode → Eof → WriteError → Type 0
+ChildRefused allowed n eof e = StartRefused allowed (λ s. start_fault s (child_form n) n.marked) ((eof.last + 1) ∷ first_indices (child_form n) n.marked (inside eof)) e
 
 -- ---- the end of a stream
 
@@ -204,11 +212,11 @@ pub record Ended (w : Did) (mind : Mind) (todo before : List Next) : Type 0 wher
 
 -- by a task with so many children, of which only this is told: what it had in mind
 abbrev pub EndTaken : Local → ℕ → Local → List Next → List Next → Type 0
-EndTaken l n m todo before = (ks : Tasks) → count ks ≡ n → Ended (take_end (bare (mind_of l)) ks (mind_of l)) (mind_of m) todo before
+EndTaken l n m todo before = (ks : Tasks) → count ks ≡ n → Ended (take_end (bare [] (mind_of l)) ks (mind_of l)) (mind_of m) todo before
 
 -- or it is refused
 abbrev pub EndRefused : Local → ℕ → WriteError → Type 0
-EndRefused l n e = (ks : Tasks) → count ks ≡ n → TakeRefused (take_end (bare (mind_of l)) ks (mind_of l)) e
+EndRefused l n e = (ks : Tasks) → count ks ≡ n → TakeRefused (take_end (bare [] (mind_of l)) ks (mind_of l)) e
 
 -- ---- the next act of a task
 

@@ -2,7 +2,9 @@
 use Rattle.std.specs.Prelude.{◌≡◌, ℕ, ◌+◌, ◌^◌, ◌<◌, ◌≤◌, Bool, true, false, List, [], ◌∷◌, length, Option, Some, None}
 use Rattle.vx_model.specs.Ty.{Ty, Named, boolean, nullable, is_struct}
 use Rattle.vx_path.specs.Lists.{In}
-use Rattle.vx_path.specs.Path.{Eof, under}
+use Rattle.std.specs.Arc.{arc_value}
+use Rattle.vx_model.specs.TyView.{ty}
+use Rattle.vx_path.specs.Path.{Eof, under, inside}
 use Rattle.vx_rules.specs.Columns.{offset_type}
 use Rattle.vx_chunk_cells.specs.Parts.{element_type, struct_fields}
 use Rattle.vx_layout_tree.specs.Children.{fields_of}
@@ -12,19 +14,26 @@ use Rattle.vx_strategy_spec.specs.Dispatch.{override, given_or}
 use Rattle.vx_strategy.specs.FieldWays.{field_ways}
 use Rattle.vx_strategy.specs.declared.list.ListLayoutStrategy.{ListLayoutStrategy}
 use Rattle.vx_strategy.specs.declared.structs.StructStrategy.{StructStrategy}
-use Rattle.vx_plan.specs.PlanData.{Setting, What, not_struct, duplicate_field}
+use Rattle.vx_strategy_options.specs.RuleViews.{zone_rule}
+use Rattle.vx_strategy.specs.declared.zoned.ZonedStrategy.{ZonedStrategy}
+use Rattle.vx_plan.specs.SourcePlan.{first_what}
+use Rattle.vx_aggregate_spec.specs.Aggregate.{Column}
+use Rattle.vx_plan.specs.ZonedNode.{recorded, forbidden_faults}
+use Rattle.vx_plan.specs.PlanData.{Setting, What, not_struct, duplicate_field, forbidden_aggregate}
 use Rattle.vx_machine_turns.specs.Forms.{Form, Forms, grouped_form, struct_form, list_form, no_forms, form_then}
 use Rattle.vx_machine_turns.specs.Starts.{start_fault, start_faults}
 use Rattle.vx_machine_view.specs.State.{Tasks, no_tasks, task_then}
-use Rattle.vx_machine_view.specs.Start.{waiting, first_mind, first_kids, field_tasks, form_count, first_indices, field_indices}
+use Rattle.vx_machine_view.specs.Start.{waiting, roomy, first_mind, first_kids, field_tasks, form_count, first_indices, field_indices}
+use Rattle.vx_machine_view.specs.Zoned.{zoner, no_zones}
 use Rattle.vx_machine_view.specs.Acts.{add}
 use Rattle.vx_write_answer.specs.declared.error.WriteError.{WriteError}
 use Rattle.vx_write_answer.specs.declared.error.WriteError.TheVariants.{SourceFault, SinkFault, CompressFault, BatchType, NotStruct, DuplicateField, ManyChunks, EmptyList, ZoneCut, ForbiddenAggregate, ForbiddenEncoding, TooLarge, OutOfMemory, Unbuilt, Stopped}
 use Rattle.vx_machine_tasks.specs.declared.grouped_node.GroupedNode.{GroupedNode}
 use Rattle.vx_machine_tasks.specs.declared.node.Local.TheVariants.{Grouped}
+use Rattle.vx_machine_tasks.specs.declared.zoned_node.ZonedNode.{ZonedNode}
 use Rattle.vx_machine_tasks.specs.declared.task.Task.{Task}
 use Rattle.vx_machine_tasks.specs.Outcome.{AllFit}
-use Rattle.vx_machine_tasks.specs.View.{form_at, mind_of, task_row, row}
+use Rattle.vx_machine_tasks.specs.View.{form_at, mind_of, zoner_in, zones_in, task_row, row}
 
 -- ---- the forms of a struct's columns
 
@@ -60,41 +69,45 @@ lists_form s t = list_form (element_type t) (nullable t) (form_at s.elements.ite
 
 -- ---- what is started
 
--- the plan refuses nothing of a form before a chunk comes, whatever else the write is given
-abbrev pub IsAllowed : Form → Bool → Type 0
-IsAllowed f m = (s : Setting) → start_fault s f m ≡ None
+-- the ids of the aggregates that may be recorded; all where none are given
+abbrev pub Allowed : Type 0
+Allowed = Option (List (List ℕ))
+
+-- the plan refuses nothing of a form before a chunk comes, where these may be recorded, whatever else the write is given
+abbrev pub IsAllowed : Allowed → Form → Bool → Type 0
+IsAllowed a f m = (s : Setting) → s.allowed ≡ a → start_fault s f m ≡ None
 
 -- these fit 64 bits, where the pointer's last index does
 abbrev pub Counted : Eof → List ℕ → Type 0
 Counted e ns = e.last < 2 ^ 64 → AllFit ns
 
 -- how far pointers come behind the last of these columns, and below each
-abbrev pub many_indices : Forms → Eof → List ℕ
-many_indices fs e = (e.last + form_count fs) ∷ field_indices fs e
+abbrev pub many_indices : Forms → Bool → Eof → List ℕ
+many_indices fs m e = (e.last + form_count fs) ∷ field_indices fs m e
 
 -- the task is what the form starts, before whatever stands behind it
-pub record Started (f : Form) (m : Bool) (name : List ℕ) (e : Eof) (t : Task) : Type 0 where
-  pub allowed : IsAllowed f m
-  pub counted : Counted e (first_indices f e)
+pub record Started (a : Allowed) (f : Form) (m : Bool) (name : List ℕ) (e : Eof) (t : Task) : Type 0 where
+  pub allowed : IsAllowed a f m
+  pub counted : Counted e (first_indices f m e)
   pub tasks : (r : Tasks) → task_row t r ≡ task_then (waiting name (first_mind f m e) [] false) (first_kids f m name e) r
 
 -- the children are those that were there and then these columns', each under the next name; the pointer went on by as many
-pub record ManyStarted (fs : Forms) (m : Bool) (at : List ℕ) (e : Eof) (ks : List Task) (d : Eof) (more : List Task) : Type 0 where
-  pub allowed : (s : Setting) → start_faults s fs m ≡ None
-  pub counted : Counted e (many_indices fs e)
+pub record ManyStarted (a : Allowed) (fs : Forms) (m : Bool) (at : List ℕ) (e : Eof) (ks : List Task) (d : Eof) (more : List Task) : Type 0 where
+  pub allowed : (s : Setting) → s.allowed ≡ a → start_faults s fs m ≡ None
+  pub counted : Counted e (many_indices fs m e)
   pub tasks : row more ≡ add (row ks) (field_tasks fs m at (length ks) e)
   pub count : length more ≡ length ks + form_count fs
   pub stem : d.stem ≡ e.stem
   pub last : d.last ≡ e.last + form_count fs
 
 -- one more child
-abbrev pub OneStarted : Form → Bool → List ℕ → Eof → List Task → Eof → List Task → Type 0
-OneStarted f m at e ks d more = ManyStarted (form_then f no_forms) m at e ks d more
+abbrev pub OneStarted : Allowed → Form → Bool → List ℕ → Eof → List Task → Eof → List Task → Type 0
+OneStarted a f m at e ks d more = ManyStarted a (form_then f no_forms) m at e ks d more
 
 -- the children are those that a struct's form starts
-pub record AllStarted (f : Form) (m : Bool) (at : List ℕ) (e : Eof) (ks : List Task) : Type 0 where
-  pub allowed : IsAllowed f m
-  pub counted : Counted e (first_indices f e)
+pub record AllStarted (a : Allowed) (f : Form) (m : Bool) (at : List ℕ) (e : Eof) (ks : List Task) : Type 0 where
+  pub allowed : IsAllowed a f m
+  pub counted : Counted e (first_indices f m e)
   pub tasks : row ks ≡ first_kids f m at e
 
 -- ---- refusals
@@ -104,38 +117,38 @@ abbrev pub TooFar : List ℕ → Type 0
 TooFar indices = (k : ℕ) × In k indices × (2 ^ 64 ≤ k)
 
 -- The error is the plan's fault by name, or a pointer would have come past 64 bits; or there was no memory.
-abbrev pub StartRefused : (Setting → Option What) → List ℕ → WriteError → Type 0
-StartRefused fault indices NotStruct = (s : Setting) → fault s ≡ Some not_struct
-StartRefused fault indices (DuplicateField name) = (s : Setting) → fault s ≡ Some (duplicate_field name)
-StartRefused fault indices (TooLarge n) = (n ≡ 2 ^ 64) × TooFar indices
-StartRefused fault indices OutOfMemory = Unit {0}
-StartRefused fault indices SourceFault = ⊥
-StartRefused fault indices SinkFault = ⊥
-StartRefused fault indices CompressFault = ⊥
-StartRefused fault indices (BatchType c) = ⊥
-StartRefused fault indices ManyChunks = ⊥
-StartRefused fault indices EmptyList = ⊥
-StartRefused fault indices (ZoneCut n) = ⊥
-StartRefused fault indices (ForbiddenAggregate id) = ⊥
-StartRefused fault indices (ForbiddenEncoding id) = ⊥
-StartRefused fault indices Unbuilt = ⊥
-StartRefused fault indices (Stopped by name) = ⊥
+abbrev pub StartRefused : Allowed → (Setting → Option What) → List ℕ → WriteError → Type 0
+StartRefused a fault indices NotStruct = (s : Setting) → s.allowed ≡ a → fault s ≡ Some not_struct
+StartRefused a fault indices (DuplicateField name) = (s : Setting) → s.allowed ≡ a → fault s ≡ Some (duplicate_field name)
+StartRefused a fault indices (TooLarge n) = (n ≡ 2 ^ 64) × TooFar indices
+StartRefused a fault indices OutOfMemory = Unit {0}
+StartRefused a fault indices SourceFault = ⊥
+StartRefused a fault indices SinkFault = ⊥
+StartRefused a fault indices CompressFault = ⊥
+StartRefused a fault indices (BatchType c) = ⊥
+StartRefused a fault indices ManyChunks = ⊥
+StartRefused a fault indices EmptyList = ⊥
+StartRefused a fault indices (ZoneCut n) = ⊥
+StartRefused a fault indices (ForbiddenAggregate id) = (s : Setting) → s.allowed ≡ a → fault s ≡ Some (forbidden_aggregate id)
+StartRefused a fault indices (ForbiddenEncoding id) = ⊥
+StartRefused a fault indices Unbuilt = ⊥
+StartRefused a fault indices (Stopped by name) = ⊥
 
 -- a form's start is refused
-abbrev pub FormRefused : Form → Bool → Eof → WriteError → Type 0
-FormRefused f m e x = StartRefused (λ s. start_fault s f m) (first_indices f e) x
+abbrev pub FormRefused : Allowed → Form → Bool → Eof → WriteError → Type 0
+FormRefused a f m e x = StartRefused a (λ s. start_fault s f m) (first_indices f m e) x
 
 -- one of these columns is refused
-abbrev pub ManyRefused : Forms → Bool → Eof → WriteError → Type 0
-ManyRefused fs m e x = StartRefused (λ s. start_faults s fs m) (many_indices fs e) x
+abbrev pub ManyRefused : Allowed → Forms → Bool → Eof → WriteError → Type 0
+ManyRefused a fs m e x = StartRefused a (λ s. start_faults s fs m) (many_indices fs m e) x
 
 -- one more child is refused
-abbrev pub OneRefused : Form → Bool → Eof → WriteError → Type 0
-OneRefused f m e x = ManyRefused (form_then f no_forms) m e x
+abbrev pub OneRefused : Allowed → Form → Bool → Eof → WriteError → Type 0
+OneRefused a f m e x = ManyRefused a (form_then f no_forms) m e x
 
 -- a pointer with this last index can't go on
 abbrev pub PointerRefused : ℕ → WriteError → Type 0
-PointerRefused last x = StartRefused (λ s. None) ((last + 1) ∷ []) x
+PointerRefused last x = StartRefused None (λ s. None) ((last + 1) ∷ []) x
 
 -- a struct node at a type is refused
 abbrev pub NodeRefused : Ty → WriteError → Type 0
@@ -167,7 +180,26 @@ abbrev pub Begins : Grouping → Ty → GroupedNode → Type 0
 Begins g t n = (k : Form) (m : Bool) (e : Eof) → mind_of (Grouped n) ≡ first_mind (grouped_form g t k) m e
 
 -- the only child is what the form starts, with this pointer
-pub record OnlyStarted (f : Form) (m : Bool) (at : List ℕ) (e : Eof) (ks : List Task) : Type 0 where
-  pub allowed : IsAllowed f m
-  pub counted : Counted e (first_indices f e)
+pub record OnlyStarted (a : Allowed) (f : Form) (m : Bool) (at : List ℕ) (e : Eof) (ks : List Task) : Type 0 where
+  pub allowed : IsAllowed a f m
+  pub counted : Counted e (first_indices f m e)
   pub tasks : row ks ≡ task_then (waiting (under at 0) (first_mind f m e) [] false) (first_kids f m (under at 0) e) no_tasks
+
+-- ---- of a zoned node
+
+-- it has recorded nothing, and what it would record may be recorded
+pub record BeginsZones (a : Allowed) (w : ZonedStrategy) (n : ZonedNode) : Type 0 where
+  pub stats : n.stats ≡ w.stats
+  pub zoner : zoner_in n ≡ zoner (zone_rule w.rule) (ty (arc_value n.dtype)) (λ u. form_at w.stats.item u)
+  pub zones : zones_in n ≡ no_zones (zoner_in n)
+  pub allowed : forbidden_faults a (recorded (zone_rule w.rule) (ty (arc_value n.dtype))) ≡ []
+
+-- the data child is what its form starts, with a pointer inside this one, and with so many places
+pub record DataStarted (a : Allowed) (room : ℕ) (f : Form) (at : List ℕ) (e : Eof) (ks : List Task) : Type 0 where
+  pub allowed : IsAllowed a f false
+  pub counted : Counted e ((e.last + 1) ∷ first_indices f false (inside e))
+  pub tasks : row ks ≡ task_then (roomy room (under at 0) (first_mind f false (inside e))) (first_kids f false (under at 0) (inside e)) no_tasks
+
+-- what these columns record may not be recorded
+abbrev pub ZonesRefused : Allowed → List Column → WriteError → Type 0
+ZonesRefused a columns e = StartRefused a (λ s. first_what (forbidden_faults a columns)) [] e

@@ -23,6 +23,7 @@ use crate::kinds::{ColumnsNode, ListsNode};
 use crate::node::{Local, Shape};
 use crate::ready::{columns_fit, lists_fit};
 use crate::task::{Head, Task, refuse_all};
+use crate::zoned_node::Zones;
 use std::alloc::Global;
 use vx_layout_tree::{
     ChunkedLayout, KindParts, Layout, LayoutHead, StructLayout, layout_children, total_rows,
@@ -150,6 +151,32 @@ fn join_lists(
         segment_ids: Vec::new(alloc),
     };
     Ok(Layout::from_parts(alloc, KindParts::List(head, layouts)))
+}
+
+/// A zoned layout of the data's and the table's.
+fn join_zones(alloc: Global, zones: Zones, layouts: Vec<Layout>) -> Result<Layout, WriteError> {
+    if layouts.len() != 2 {
+        drop((zones, layouts));
+        return Err(WriteError::OutOfMemory);
+    }
+    let Zones {
+        dtype,
+        rows,
+        zone_len,
+        aggregates,
+    } = zones;
+    let Ok(copy) = DType::clone(&dtype) else {
+        drop((dtype, aggregates, layouts));
+        return Err(WriteError::OutOfMemory);
+    };
+    drop(dtype);
+    let head = LayoutHead {
+        row_count: rows,
+        dtype: copy,
+        segment_ids: Vec::new(alloc),
+    };
+    let parts = KindParts::Zoned(head, layouts, zone_len.get(), aggregates);
+    Ok(Layout::from_parts(alloc, parts))
 }
 
 /// The layout of a task that has done all, or those of its children where it passes them on, behind the others. What else it
@@ -307,6 +334,7 @@ pub(crate) fn join<O: Order>(
                 drop(node);
                 layout
             }
+            Shape::Zones(zones) => join_zones(alloc, zones, layouts),
         },
         Err(error) => {
             drop(shape);

@@ -1,6 +1,6 @@
 //! Tasks of the step machine, which own their queues and what they have in mind: they take chunks from queues, put parts of
 //! them on others, and append segments in the order of their paths, a step at a time. So far there are the nodes that need
-//! no compressor: flat, chunked, struct and list nodes, nodes that regroup, and tables.
+//! no compressor: flat, chunked, struct, list and zoned nodes, nodes that regroup, and tables.
 #![tactic(auto)]
 
 mod advance;
@@ -21,6 +21,9 @@ mod ready;
 mod start;
 mod step;
 mod task;
+mod zoned;
+mod zoned_node;
+mod zoned_start;
 
 pub use columns::has_type;
 pub use grouped_node::GroupedNode;
@@ -31,3 +34,4 @@ pub use ready::one;
 pub use start::start_task;
 pub use step::Did;
 pub use task::{Head, Task};
+pub use zoned_node::{TableStart, ZonedNode, Zones};

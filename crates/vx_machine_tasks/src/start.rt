@@ -9,7 +9,9 @@ ghost use Rattle.vx_split.specs.ListState.{state_at};
 ghost use Rattle.vx_strategy_spec.specs.StrategyData.{Grouping};
 ghost use Rattle.vx_machine_turns.specs.Forms.{grouped_form};
 ghost use Rattle.vx_table_dispatch.specs.Settled.{passes_on as has_next};
-ghost use Rattle.vx_strategy.specs.NodeViews.{chunked_way, struct_way, list_way};
+ghost use Rattle.vx_sink.specs.ContextView.{allowed_in};
+ghost use Rattle.vx_strategy_options.specs.RuleViews.{zone_rule};
+ghost use Rattle.vx_strategy.specs.NodeViews.{chunked_way, struct_way, list_way, zoned_way};
 ghost use Rattle.vx_strategy.specs.StrategyView.{strategy_data};
 ghost use Rattle.vx_machine_ids.specs.Stock.{none, both, end_stock, ok_stock};
 ghost use Rattle.vx_machine_ids.specs.Balance.{Owned, Moved};
@@ -18,8 +20,8 @@ ghost use Rattle.vx_machine_view.specs.Start.{waiting};
 ghost use Rattle.vx_machine_view.specs.Built.{is_built};
 ghost use Rattle.vx_machine_tasks.specs.Causes.{StartMay};
 ghost use Rattle.vx_machine_tasks.specs.Ledger.{tasks_reserved};
-ghost use Rattle.vx_machine_tasks.specs.Starting.{OnlyStarted, IsFresh, Begins, lists_form, validity_forms, field_form, columns_form, Started, ManyStarted, OneStarted, AllStarted, FormRefused, ManyRefused, OneRefused, PointerRefused};
-ghost use Rattle.vx_machine_tasks.specs.Stocks.{local_stock, task_stock, tasks_stock};
+ghost use Rattle.vx_machine_tasks.specs.Starting.{Allowed, DataStarted, BeginsZones, OnlyStarted, IsFresh, Begins, lists_form, validity_forms, field_form, columns_form, Started, ManyStarted, OneStarted, AllStarted, FormRefused, ManyRefused, OneRefused, PointerRefused};
+ghost use Rattle.vx_machine_tasks.specs.Stocks.{local_stock, zoned_stock, task_stock, tasks_stock};
 ghost use Rattle.vx_machine_tasks.specs.View.{form_at, form_of, mind_of, task_row, row};
 
 use crate::grouped_node::GroupedNode;
@@ -28,6 +30,9 @@ use crate::kinds::{ColumnsNode, FlatNode, ListsNode};
 use crate::node::Local;
 use crate::nodes::{chunked_node, columns_node, element_copy, lists_node};
 use crate::task::{Head, Task, refuse_started};
+use crate::zoned::give_up_zoned;
+use crate::zoned_node::ZonedNode;
+use crate::zoned_start::zoned_node;
 use std::alloc::{AllocError, Global};
 use std::collections::VecDeque;
 use std::sync::Arc;
@@ -37,8 +42,10 @@ use vx_model::{DType, Nullability, PType, StructField};
 use vx_order::Order;
 use vx_path::owned::Path;
 use vx_sequence::SequencePointer;
+use vx_sink::LayoutWriterContext;
 use vx_strategy::{
     ChildStrategy, ChunkedLayoutStrategy, ListLayoutStrategy, Strategy, StructStrategy,
+    ZonedStrategy,
 };
 use vx_table_dispatch::{passes_on, settled};
 use vx_write_answer::WriteError;
@@ -78,11 +85,12 @@ pub(crate) fn next_name(
 
 /// The task of a strategy that is built, at a type. Refused, it gives up the pointer and all that was made of it.
 ///
-/// It refuses a struct node of another type, and repeated names of fields, of all nodes that start with it. A table, and a
+/// It refuses a struct node of another type, repeated names of fields, and aggregates that may not be recorded, of all nodes that start with it. A table, and a
 /// list node of another type, give way to what stands for them.
 #[cycle(start)]
 pub fn start_task<O: Order>(
     alloc: Global,
+    ctx: &LayoutWriterContext,
     order: &mut O,
     strategy: &Strategy,
     dtype: Arc<DType>,
@@ -96,18 +104,18 @@ pub fn start_task<O: Order>(
     ensures outlet { O.outlet order.new ≡ O.outlet order.old }
     ensures sink { O.sink order.new ≡ O.sink order.old }
     ensures cause { IfErr result StartMay }
-    ensures shows { IfOk result (Started (form_of strategy.now (arc_value dtype)) marked name eof) }
-    ensures refused { IfErr result (FormRefused (form_of strategy.now (arc_value dtype)) marked eof) }
+    ensures shows { IfOk result (Started (allowed_in ctx.now) (form_of strategy.now (arc_value dtype)) marked name eof) }
+    ensures refused { IfErr result (FormRefused (allowed_in ctx.now) (form_of strategy.now (arc_value dtype)) marked eof) }
 {
     if !passes_on(strategy, &dtype) {
-        return start_settled(alloc, order, strategy, dtype, marked, name, eof);
+        return start_settled(alloc, ctx, order, strategy, dtype, marked, name, eof);
     }
     let Ok(found) = settled(strategy, &dtype) else {
         drop((dtype, name));
         give_up_pointer(order, eof);
         return Err(WriteError::OutOfMemory);
     };
-    let task = start_settled(alloc, order, &found, dtype, marked, name, eof);
+    let task = start_settled(alloc, ctx, order, &found, dtype, marked, name, eof);
     drop(found);
     task
 }
@@ -116,6 +124,7 @@ pub fn start_task<O: Order>(
 #[cycle(start)]
 fn start_settled<O: Order>(
     alloc: Global,
+    ctx: &LayoutWriterContext,
     order: &mut O,
     strategy: &Strategy,
     dtype: Arc<DType>,
@@ -130,8 +139,8 @@ fn start_settled<O: Order>(
     ensures outlet { O.outlet order.new ≡ O.outlet order.old }
     ensures sink { O.sink order.new ≡ O.sink order.old }
     ensures cause { IfErr result StartMay }
-    ensures shows { IfOk result (Started (form_of strategy.now (arc_value dtype)) marked name eof) }
-    ensures refused { IfErr result (FormRefused (form_of strategy.now (arc_value dtype)) marked eof) }
+    ensures shows { IfOk result (Started (allowed_in ctx.now) (form_of strategy.now (arc_value dtype)) marked name eof) }
+    ensures refused { IfErr result (FormRefused (allowed_in ctx.now) (form_of strategy.now (arc_value dtype)) marked eof) }
 {
     match strategy {
         Strategy::Flat(options) => {
@@ -146,22 +155,29 @@ fn start_settled<O: Order>(
             start_chunked(alloc, order, chunked, dtype, marked, name, eof)
         }
         Strategy::Struct(fields) => match columns_node(alloc, dtype) {
-            Ok(node) => start_columns(alloc, order, fields, node, marked, name, eof),
+            Ok(node) => start_columns(alloc, ctx, order, fields, node, marked, name, eof),
             Err(error) => {
                 give_up_pointer(order, eof);
                 Err(error)
             }
         },
         Strategy::List(lists) => match lists_node(dtype) {
-            Ok(node) => start_lists(alloc, order, lists, node, marked, name, eof),
+            Ok(node) => start_lists(alloc, ctx, order, lists, node, marked, name, eof),
             Err(error) => {
                 give_up_pointer(order, eof);
                 Err(error)
             }
         },
-        Strategy::Dict(_) | Strategy::Zoned(_) => unreachable!(),
+        Strategy::Dict(_) => unreachable!(),
+        Strategy::Zoned(zoned) => {
+            if marked {
+                let child = zoned.child().strategy();
+                return start_task(alloc, ctx, order, child, dtype, marked, name, eof);
+            }
+            start_zoned(alloc, ctx, order, zoned, dtype, name, eof)
+        }
         Strategy::Repartition(by) => match blocks_node(alloc, by, dtype) {
-            Ok(node) => start_grouped(alloc, order, by.child(), node, marked, name, eof),
+            Ok(node) => start_grouped(alloc, ctx, order, by.child(), node, marked, name, eof),
             Err(error) => {
                 give_up_pointer(order, eof);
                 Err(error)
@@ -169,10 +185,10 @@ fn start_settled<O: Order>(
         },
         Strategy::Buffered(by) => {
             let node = buffer_node(alloc, by, dtype);
-            start_grouped(alloc, order, by.child(), node, marked, name, eof)
+            start_grouped(alloc, ctx, order, by.child(), node, marked, name, eof)
         }
         Strategy::Collect(into) => match collect_node(alloc, dtype) {
-            Ok(node) => start_grouped(alloc, order, into.child(), node, marked, name, eof),
+            Ok(node) => start_grouped(alloc, ctx, order, into.child(), node, marked, name, eof),
             Err(error) => {
                 give_up_pointer(order, eof);
                 Err(error)
@@ -199,7 +215,7 @@ fn start_chunked<O: Order>(
     ensures outlet { O.outlet order.new ≡ O.outlet order.old }
     ensures sink { O.sink order.new ≡ O.sink order.old }
     ensures cause { IfErr result StartMay }
-    ensures shows { IfOk result (Started (form_at (chunked_way chunked.now) (ty (arc_value dtype))) marked name eof) }
+    ensures shows { (allowed : Allowed) → IfOk result (Started allowed (form_at (chunked_way chunked.now) (ty (arc_value dtype))) marked name eof) }
     ensures memory { IfErr result (λ e. e ≡ WriteError.OutOfMemory) }
 {
     match chunked_node(chunked, dtype, marked) {
@@ -218,6 +234,7 @@ fn start_chunked<O: Order>(
 #[cycle(start)]
 fn start_columns<O: Order>(
     alloc: Global,
+    ctx: &LayoutWriterContext,
     order: &mut O,
     fields: &StructStrategy,
     node: ColumnsNode,
@@ -231,12 +248,13 @@ fn start_columns<O: Order>(
     ensures outlet { O.outlet order.new ≡ O.outlet order.old }
     ensures sink { O.sink order.new ≡ O.sink order.old }
     ensures cause { IfErr result StartMay }
-    ensures shows { IfOk result (Started (columns_form fields.now (ty (arc_value node.dtype))) marked name eof) }
-    ensures refused { IfErr result (FormRefused (columns_form fields.now (ty (arc_value node.dtype))) marked eof) }
+    ensures shows { IfOk result (Started (allowed_in ctx.now) (columns_form fields.now (ty (arc_value node.dtype))) marked name eof) }
+    ensures refused { IfErr result (FormRefused (allowed_in ctx.now) (columns_form fields.now (ty (arc_value node.dtype))) marked eof) }
 {
     let mut kids = Vec::new(alloc);
     let started = start_each(
         alloc,
+        ctx,
         order,
         fields,
         &node.dtype,
@@ -260,6 +278,7 @@ fn start_columns<O: Order>(
 #[cycle(start)]
 fn start_each<O: Order>(
     alloc: Global,
+    ctx: &LayoutWriterContext,
     order: &mut O,
     fields: &StructStrategy,
     dtype: &DType,
@@ -275,16 +294,16 @@ fn start_each<O: Order>(
     ensures outlet { O.outlet order.new ≡ O.outlet order.old }
     ensures sink { O.sink order.new ≡ O.sink order.old }
     ensures cause { IfErr result StartMay }
-    ensures shows { OnOk result (kids.old.items ≡ [] → AllStarted (columns_form fields.now (ty dtype.now)) marked name.now eof.old kids.new.items) }
-    ensures refused { IfErr result (FormRefused (columns_form fields.now (ty dtype.now)) marked eof.old) }
+    ensures shows { OnOk result (kids.old.items ≡ [] → AllStarted (allowed_in ctx.now) (columns_form fields.now (ty dtype.now)) marked name.now eof.old kids.new.items) }
+    ensures refused { IfErr result (FormRefused (allowed_in ctx.now) (columns_form fields.now (ty dtype.now)) marked eof.old) }
 {
     let nullable = dtype.is_nullable();
     let validity = fields.validity();
-    start_validity(alloc, order, validity, nullable, marked, name, eof, kids)?;
+    start_validity(alloc, ctx, order, validity, nullable, marked, name, eof, kids)?;
     let below = marked || nullable;
     let columns = fields_in(dtype);
     'fields: for field in columns {
-        start_field(alloc, order, fields, field, below, name, eof, kids)?;
+        start_field(alloc, ctx, order, fields, field, below, name, eof, kids)?;
     }
     Ok(())
 }
@@ -293,6 +312,7 @@ fn start_each<O: Order>(
 #[cycle(start)]
 fn start_lists<O: Order>(
     alloc: Global,
+    ctx: &LayoutWriterContext,
     order: &mut O,
     lists: &ListLayoutStrategy,
     node: ListsNode,
@@ -307,12 +327,13 @@ fn start_lists<O: Order>(
     ensures outlet { O.outlet order.new ≡ O.outlet order.old }
     ensures sink { O.sink order.new ≡ O.sink order.old }
     ensures cause { IfErr result StartMay }
-    ensures shows { IfOk result (Started (lists_form lists.now (ty (arc_value node.dtype))) marked name eof) }
-    ensures refused { IfErr result (FormRefused (lists_form lists.now (ty (arc_value node.dtype))) marked eof) }
+    ensures shows { IfOk result (Started (allowed_in ctx.now) (lists_form lists.now (ty (arc_value node.dtype))) marked name eof) }
+    ensures refused { IfErr result (FormRefused (allowed_in ctx.now) (lists_form lists.now (ty (arc_value node.dtype))) marked eof) }
 {
     let mut kids = Vec::new(alloc);
     let started = start_parts(
         alloc,
+        ctx,
         order,
         lists,
         &node.dtype,
@@ -336,6 +357,7 @@ fn start_lists<O: Order>(
 #[cycle(start)]
 fn start_grouped<O: Order>(
     alloc: Global,
+    ctx: &LayoutWriterContext,
     order: &mut O,
     child: &ChildStrategy,
     node: GroupedNode,
@@ -351,12 +373,13 @@ fn start_grouped<O: Order>(
     ensures sink { O.sink order.new ≡ O.sink order.old }
     ensures cause { IfErr result StartMay }
     ensures shows { (g : Grouping) → Begins g (ty (arc_value node.dtype)) node
-        → IfOk result (Started (grouped_form g (ty (arc_value node.dtype)) (form_at child.now.item (ty (arc_value node.dtype)))) marked name eof) }
-    ensures refused { IfErr result (FormRefused (form_at child.now.item (ty (arc_value node.dtype))) marked eof) }
+        → IfOk result (Started (allowed_in ctx.now) (grouped_form g (ty (arc_value node.dtype)) (form_at child.now.item (ty (arc_value node.dtype)))) marked name eof) }
+    ensures refused { IfErr result (FormRefused (allowed_in ctx.now) (form_at child.now.item (ty (arc_value node.dtype))) marked eof) }
 {
     let mut kids = Vec::new(alloc);
     match start_only(
         alloc,
+        ctx,
         order,
         child,
         &node.dtype,
@@ -374,10 +397,102 @@ fn start_grouped<O: Order>(
     }
 }
 
+/// A zoned node's task with its data child, whose pointer is split off.
+#[cycle(start)]
+fn start_zoned<O: Order>(
+    alloc: Global,
+    ctx: &LayoutWriterContext,
+    order: &mut O,
+    zoned: &ZonedStrategy,
+    dtype: Arc<DType>,
+    name: Path,
+    eof: SequencePointer,
+) -> Result<Task, WriteError>
+    requires owned { Owned (O.active order.old) (end_stock eof) }
+    requires built { IsTrue (is_built (zoned_way zoned.now)) }
+    ensures moved { Moved (O.active order.old) (O.active order.new) (end_stock eof) (ok_stock task_stock result) }
+    ensures outlet { O.outlet order.new ≡ O.outlet order.old }
+    ensures sink { O.sink order.new ≡ O.sink order.old }
+    ensures cause { IfErr result StartMay }
+    ensures shows { IfOk result (Started (allowed_in ctx.now) (form_at (zoned_way zoned.now) (ty (arc_value dtype))) false name eof) }
+    ensures refused { IfErr result (FormRefused (allowed_in ctx.now) (form_at (zoned_way zoned.now) (ty (arc_value dtype))) false eof) }
+{
+    match zoned_node(alloc, ctx, zoned, dtype, eof) {
+        Ok(node) => start_data(alloc, ctx, order, zoned, node, name),
+        Err((error, eof)) => {
+            give_up_pointer(order, eof);
+            Err(error)
+        }
+    }
+}
+
+/// The same of a node that has recorded nothing.
+#[cycle(start)]
+fn start_data<O: Order>(
+    alloc: Global,
+    ctx: &LayoutWriterContext,
+    order: &mut O,
+    zoned: &ZonedStrategy,
+    mut node: ZonedNode,
+    name: Path,
+) -> Result<Task, WriteError>
+    requires owned { Owned (O.active order.old) (zoned_stock node) }
+    requires built { IsTrue (is_built (zoned_way zoned.now)) }
+    requires fresh { BeginsZones (allowed_in ctx.now) zoned.now node }
+    ensures moved { Moved (O.active order.old) (O.active order.new) (zoned_stock node) (ok_stock task_stock result) }
+    ensures outlet { O.outlet order.new ≡ O.outlet order.old }
+    ensures sink { O.sink order.new ≡ O.sink order.old }
+    ensures cause { IfErr result StartMay }
+    ensures shows { IfOk result (Started (allowed_in ctx.now) (form_at (zoned_way zoned.now) (ty (arc_value node.dtype))) false name node.eof) }
+    ensures refused { IfErr result (FormRefused (allowed_in ctx.now) (form_at (zoned_way zoned.now) (ty (arc_value node.dtype))) false node.eof) }
+{
+    let mut kids = Vec::new(alloc);
+    match data_kid(alloc, ctx, order, zoned, &mut node, &name, &mut kids) {
+        Ok(()) => Ok(waiting(alloc, name, Local::Zoned(node), kids)),
+        Err(error) => {
+            give_up_zoned(order, node);
+            refuse_started(alloc, kids, order);
+            Err(error)
+        }
+    }
+}
+
+/// Starts the data child, behind which as many chunks may wait as the strategy says.
+#[cycle(start)]
+fn data_kid<O: Order>(
+    alloc: Global,
+    ctx: &LayoutWriterContext,
+    order: &mut O,
+    zoned: &ZonedStrategy,
+    node: &mut ZonedNode,
+    name: &Path,
+    kids: &mut Vec<Task>,
+) -> Result<(), WriteError>
+    requires owned { Owned (O.active order.old) (zoned_stock node.old) }
+    requires built { IsTrue (is_built zoned.now.child.item) }
+    requires none { kids.old.items ≡ [] }
+    ensures moved { Moved (O.active order.old) (O.active order.new) (zoned_stock node.old) (both (zoned_stock node.new) (tasks_stock kids.new.items)) }
+    ensures reserved { tasks_reserved kids.new.items ≡ 0 }
+    ensures node { OnOk result (node.new ≡ record node.old { eof = next node.old.eof }) }
+    ensures outlet { O.outlet order.new ≡ O.outlet order.old }
+    ensures sink { O.sink order.new ≡ O.sink order.old }
+    ensures cause { IfErr result StartMay }
+    ensures shows { OnOk result (DataStarted (allowed_in ctx.now) (zone_rule zoned.now.rule).concurrency (form_at zoned.now.child.item (ty (arc_value node.old.dtype))) name.now node.old.eof kids.new.items) }
+    ensures refused { IfErr result (OneRefused (allowed_in ctx.now) (form_at zoned.now.child.item (ty (arc_value node.old.dtype))) false node.old.eof) }
+{
+    let (name, dtype) = child_parts(alloc, name, &node.dtype, kids)?;
+    let child = zoned.child();
+    let mut kid = start_under(alloc, ctx, order, child, dtype, false, name, &mut node.eof)?;
+    kid.head.places = zoned.concurrency().get() as usize;
+    kids.push_reserved(kid);
+    Ok(())
+}
+
 /// Starts the only child, with the pointer itself.
 #[cycle(start)]
 fn start_only<O: Order>(
     alloc: Global,
+    ctx: &LayoutWriterContext,
     order: &mut O,
     child: &ChildStrategy,
     dtype: &Arc<DType>,
@@ -394,12 +509,12 @@ fn start_only<O: Order>(
     ensures outlet { O.outlet order.new ≡ O.outlet order.old }
     ensures sink { O.sink order.new ≡ O.sink order.old }
     ensures cause { IfErr result StartMay }
-    ensures shows { OnOk result (OnlyStarted (form_at child.now.item (ty (arc_value dtype.now))) marked name.now eof kids.new.items) }
-    ensures refused { IfErr result (FormRefused (form_at child.now.item (ty (arc_value dtype.now))) marked eof) }
+    ensures shows { OnOk result (OnlyStarted (allowed_in ctx.now) (form_at child.now.item (ty (arc_value dtype.now))) marked name.now eof kids.new.items) }
+    ensures refused { IfErr result (FormRefused (allowed_in ctx.now) (form_at child.now.item (ty (arc_value dtype.now))) marked eof) }
 {
     match child_parts(alloc, name, dtype, kids) {
         Ok((name, dtype)) => {
-            let kid = start_task(alloc, order, child.strategy(), dtype, marked, name, eof)?;
+            let kid = start_task(alloc, ctx, order, child.strategy(), dtype, marked, name, eof)?;
             kids.push_reserved(kid);
             Ok(())
         }
@@ -414,6 +529,7 @@ fn start_only<O: Order>(
 #[cycle(start)]
 fn start_parts<O: Order>(
     alloc: Global,
+    ctx: &LayoutWriterContext,
     order: &mut O,
     lists: &ListLayoutStrategy,
     dtype: &DType,
@@ -430,25 +546,26 @@ fn start_parts<O: Order>(
     ensures outlet { O.outlet order.new ≡ O.outlet order.old }
     ensures sink { O.sink order.new ≡ O.sink order.old }
     ensures cause { IfErr result StartMay }
-    ensures shows { OnOk result (kids.old.items ≡ [] → AllStarted (lists_form lists.now (ty dtype.now)) marked name.now eof.old kids.new.items) }
-    ensures refused { IfErr result (FormRefused (lists_form lists.now (ty dtype.now)) marked eof.old) }
+    ensures shows { OnOk result (kids.old.items ≡ [] → AllStarted (allowed_in ctx.now) (lists_form lists.now (ty dtype.now)) marked name.now eof.old kids.new.items) }
+    ensures refused { IfErr result (FormRefused (allowed_in ctx.now) (lists_form lists.now (ty dtype.now)) marked eof.old) }
 {
     let elements = Arc::new(alloc, element_copy(dtype)?)?;
     let first = &lists.elements;
-    start_column(alloc, order, first, elements, marked, name, eof, kids)?;
+    start_column(alloc, ctx, order, first, elements, marked, name, eof, kids)?;
     let numbers = DType::Primitive(PType::U64, Nullability::NonNullable);
     let offsets = Arc::new(alloc, numbers)?;
     let second = &lists.offsets;
-    start_column(alloc, order, second, offsets, marked, name, eof, kids)?;
+    start_column(alloc, ctx, order, second, offsets, marked, name, eof, kids)?;
     let nullable = dtype.is_nullable();
     let validity = &lists.validity;
-    start_validity(alloc, order, validity, nullable, marked, name, eof, kids)
+    start_validity(alloc, ctx, order, validity, nullable, marked, name, eof, kids)
 }
 
 /// Starts the validity, where there is one.
 #[cycle(start)]
 fn start_validity<O: Order>(
     alloc: Global,
+    ctx: &LayoutWriterContext,
     order: &mut O,
     validity: &ChildStrategy,
     nullable: bool,
@@ -464,20 +581,21 @@ fn start_validity<O: Order>(
     ensures outlet { O.outlet order.new ≡ O.outlet order.old }
     ensures sink { O.sink order.new ≡ O.sink order.old }
     ensures cause { IfErr result StartMay }
-    ensures shows { OnOk result (ManyStarted (validity_forms validity.now.item nullable) marked name.now eof.old kids.old.items eof.new kids.new.items) }
-    ensures refused { IfErr result (ManyRefused (validity_forms validity.now.item nullable) marked eof.old) }
+    ensures shows { OnOk result (ManyStarted (allowed_in ctx.now) (validity_forms validity.now.item nullable) marked name.now eof.old kids.old.items eof.new kids.new.items) }
+    ensures refused { IfErr result (ManyRefused (allowed_in ctx.now) (validity_forms validity.now.item nullable) marked eof.old) }
 {
     if !nullable {
         return Ok(());
     }
     let flags = Arc::new(alloc, DType::Bool(Nullability::NonNullable))?;
-    start_column(alloc, order, validity, flags, marked, name, eof, kids)
+    start_column(alloc, ctx, order, validity, flags, marked, name, eof, kids)
 }
 
 /// Starts a field's column, by the writer of its name.
 #[cycle(start)]
 fn start_field<O: Order>(
     alloc: Global,
+    ctx: &LayoutWriterContext,
     order: &mut O,
     fields: &StructStrategy,
     field: &StructField,
@@ -493,18 +611,19 @@ fn start_field<O: Order>(
     ensures outlet { O.outlet order.new ≡ O.outlet order.old }
     ensures sink { O.sink order.new ≡ O.sink order.old }
     ensures cause { IfErr result StartMay }
-    ensures shows { OnOk result (OneStarted (field_form fields.now (field_ty field.now)) marked name.now eof.old kids.old.items eof.new kids.new.items) }
-    ensures refused { IfErr result (OneRefused (field_form fields.now (field_ty field.now)) marked eof.old) }
+    ensures shows { OnOk result (OneStarted (allowed_in ctx.now) (field_form fields.now (field_ty field.now)) marked name.now eof.old kids.old.items eof.new kids.new.items) }
+    ensures refused { IfErr result (OneRefused (allowed_in ctx.now) (field_form fields.now (field_ty field.now)) marked eof.old) }
 {
     let dtype = Arc::new(alloc, field.dtype.clone()?)?;
     let writer = fields.writer(&field.name);
-    start_column(alloc, order, writer, dtype, marked, name, eof, kids)
+    start_column(alloc, ctx, order, writer, dtype, marked, name, eof, kids)
 }
 
 /// Starts one more child.
 #[cycle(start)]
 fn start_column<O: Order>(
     alloc: Global,
+    ctx: &LayoutWriterContext,
     order: &mut O,
     writer: &ChildStrategy,
     dtype: Arc<DType>,
@@ -520,14 +639,14 @@ fn start_column<O: Order>(
     ensures outlet { O.outlet order.new ≡ O.outlet order.old }
     ensures sink { O.sink order.new ≡ O.sink order.old }
     ensures cause { IfErr result StartMay }
-    ensures shows { OnOk result (OneStarted (form_at writer.now.item (ty (arc_value dtype))) marked name.now eof.old kids.old.items eof.new kids.new.items) }
-    ensures refused { IfErr result (OneRefused (form_at writer.now.item (ty (arc_value dtype))) marked eof.old) }
+    ensures shows { OnOk result (OneStarted (allowed_in ctx.now) (form_at writer.now.item (ty (arc_value dtype))) marked name.now eof.old kids.old.items eof.new kids.new.items) }
+    ensures refused { IfErr result (OneRefused (allowed_in ctx.now) (form_at writer.now.item (ty (arc_value dtype))) marked eof.old) }
 {
     let Ok(name) = next_name(alloc, name, kids) else {
         drop(dtype);
         return Err(WriteError::OutOfMemory);
     };
-    let kid = start_under(alloc, order, writer, dtype, marked, name, eof)?;
+    let kid = start_under(alloc, ctx, order, writer, dtype, marked, name, eof)?;
     kids.push_reserved(kid);
     Ok(())
 }
@@ -536,6 +655,7 @@ fn start_column<O: Order>(
 #[cycle(start)]
 pub(crate) fn start_under<O: Order>(
     alloc: Global,
+    ctx: &LayoutWriterContext,
     order: &mut O,
     writer: &ChildStrategy,
     dtype: Arc<DType>,
@@ -549,13 +669,13 @@ pub(crate) fn start_under<O: Order>(
     ensures outlet { O.outlet order.new ≡ O.outlet order.old }
     ensures sink { O.sink order.new ≡ O.sink order.old }
     ensures cause { IfErr result StartMay }
-    ensures shows { IfOk result (Started (form_at writer.now.item (ty (arc_value dtype))) marked name (inside eof.old)) }
+    ensures shows { IfOk result (Started (allowed_in ctx.now) (form_at writer.now.item (ty (arc_value dtype))) marked name (inside eof.old)) }
     ensures next { OnOk result (eof.new ≡ next eof.old) }
     ensures fits { OnOk result (eof.old.last + 1 < 2 ^ 64) }
-    ensures refused { IfErr result (OneRefused (form_at writer.now.item (ty (arc_value dtype))) marked eof.old) }
+    ensures refused { IfErr result (OneRefused (allowed_in ctx.now) (form_at writer.now.item (ty (arc_value dtype))) marked eof.old) }
 {
     match split_below(order, eof) {
-        Ok(below) => start_task(alloc, order, writer.strategy(), dtype, marked, name, below),
+        Ok(below) => start_task(alloc, ctx, order, writer.strategy(), dtype, marked, name, below),
         Err(error) => {
             drop((dtype, name));
             Err(error)
