@@ -14,7 +14,7 @@ ghost use Rattle.vx_machine_view.specs.Start.{first_indices};
 ghost use Rattle.vx_machine_view.specs.Acts.{layouts_in};
 ghost use Rattle.vx_machine_view.specs.Machine.{is_finished as has_finished};
 ghost use Rattle.vx_machine_view.specs.Places.{whole_ready};
-ghost use Rattle.vx_sink.specs.ContextView.{is_marked, counted as counted_bytes};
+ghost use Rattle.vx_sink.specs.ContextView.{allowed_in, is_marked, counted as counted_bytes};
 ghost use Rattle.vx_machine_tasks.specs.Ledger.{Paid, told_by};
 ghost use Rattle.vx_machine_view.specs.Built.{is_built};
 ghost use Rattle.vx_machine_tasks.specs.Calls.{SinkTold};
@@ -85,8 +85,8 @@ fn start_root<O: Order>(
     ensures outlet { O.outlet order.new ≡ O.outlet order.old }
     ensures sink { O.sink order.new ≡ O.sink order.old }
     ensures cause { IfErr result StartMay }
-    ensures shows { IfOk result (Started (form_of strategy.now dtype.now) (is_marked ctx.now) (1 ∷ []) eof) }
-    ensures refused { IfErr result (FormRefused (form_of strategy.now dtype.now) (is_marked ctx.now) eof) }
+    ensures shows { IfOk result (Started (allowed_in ctx.now) (form_of strategy.now dtype.now) (is_marked ctx.now) (1 ∷ []) eof) }
+    ensures refused { IfErr result (FormRefused (allowed_in ctx.now) (form_of strategy.now dtype.now) (is_marked ctx.now) eof) }
 {
     match root_parts(alloc, dtype) {
         Ok((name, dtype)) => {
@@ -123,8 +123,8 @@ impl Machine {
     /// The machine before its first step. The batches get paths from `stream` on; what is written behind all of them goes on
     /// from `eof`.
     ///
-    /// `Unbuilt` comes where the strategy names a node or a wrapper that isn't built. `NotStruct` and `DuplicateField` come of the nodes that
-    /// start with the root, `TooLarge(2^64)` where a path index has no next one. Refused, both pointers are given up.
+    /// `Unbuilt` comes where the strategy names a node or a wrapper that isn't built. `NotStruct`, `DuplicateField` and `ForbiddenAggregate` come of the nodes
+    /// that start with the root, `TooLarge(2^64)` where a path index has no next one. Refused, both pointers are given up.
     pub fn start<O: Order>(
         alloc: Global,
         strategy: &Strategy,
@@ -141,10 +141,10 @@ impl Machine {
         ensures outlet { O.outlet order.new ≡ O.outlet order.old }
         ensures sink { O.sink order.new ≡ O.sink order.old }
         ensures cause { IfErr result (WholeStartMay (is_built (strategy_data strategy.now))) }
-        ensures allowed { OnOk result (IsAllowed (form_of strategy.now dtype.now) (is_marked ctx.now)) }
-        ensures counted { OnOk result (Counted eof (first_indices (form_of strategy.now dtype.now) eof)) }
+        ensures allowed { OnOk result (IsAllowed (allowed_in ctx.now) (form_of strategy.now dtype.now) (is_marked ctx.now)) }
+        ensures counted { OnOk result (Counted eof (first_indices (form_of strategy.now dtype.now) (is_marked ctx.now) eof)) }
         ensures shows { IfOk result (λ m. machine_of m ≡ machine_at stream (form_of strategy.now dtype.now) (is_marked ctx.now) eof) }
-        ensures refused { IfErr result (WholeRefused (is_built (strategy_data strategy.now)) (form_of strategy.now dtype.now) (is_marked ctx.now) eof) }
+        ensures refused { IfErr result (WholeRefused (is_built (strategy_data strategy.now)) (allowed_in ctx.now) (form_of strategy.now dtype.now) (is_marked ctx.now) eof) }
     {
         if !is_built(strategy) {
             give_up_pointer(order, stream);
