@@ -4,8 +4,7 @@ ghost use Rattle.std.specs.Prelude.{◌≡◌};
 ghost use Rattle.vx_strategy.specs.FieldWays.{field_ways};
 ghost use Rattle.vx_strategy.specs.PathWays.{path_ways};
 ghost use Rattle.vx_strategy.specs.StrategyView.{strategy_data};
-ghost use Rattle.vx_strategy.specs.WrapViews.{wrap, wraps};
-ghost use Rattle.vx_strategy_spec.specs.StrategyData.{no_wraps};
+ghost use Rattle.vx_strategy.specs.WrapViews.{wraps};
 ghost use Rattle.vx_machine_view.specs.Built.{is_built, are_built, wraps_built};
 
 use vx_strategy::{FieldWriter, Overrides, PathWriter, Strategy, Wrapper};
@@ -90,20 +89,13 @@ fn wrappers_built(wrappers: &[Wrapper]) -> bool
     ensures { result ≡ wraps_built (wraps wrappers.now) }
 {
     'wrappers: for wrapper in wrappers {
-        let built = wrapper_built(wrapper);
+        let built = match wrapper {
+            Wrapper::Zoned(stats, _) => is_built(stats.strategy()),
+            Wrapper::Repartition(_) | Wrapper::Buffered(_) => true,
+        };
         if !built {
             return false;
         }
     }
     true
-}
-
-#[cycle(built)]
-fn wrapper_built(wrapper: &Wrapper) -> bool
-    ensures { result ≡ wraps_built (wrap wrapper.now no_wraps) }
-{
-    match wrapper {
-        Wrapper::Zoned(stats, _) => is_built(stats.strategy()),
-        Wrapper::Repartition(_) | Wrapper::Buffered(_) => true,
-    }
 }
