@@ -17,7 +17,6 @@ use Rattle.vx_machine_turns.specs.Locals.{ZonedNode, zoned_local}
 use Rattle.vx_machine_turns.specs.Acts.{Act, numbers_in, indices_in}
 use Rattle.vx_machine_turns.specs.Zoned.{zone_columns, zoned_end, zoned_ends}
 use Rattle.vx_machine_turns.specs.Scripts.{as_kind, filled, script}
-use Rattle.vx_machine_turns.specs.Turns.{start_indices}
 use Rattle.vx_machine_turns.specs.Fuels.{Fuel, spent, fuel, Enough}
 use Rattle.vx_machine_turns.specs.Duties.{Duty, duty_of, duty_script, below, grown}
 use Rattle.vx_machine_turns.specs.Planned.{AtMost}
@@ -76,8 +75,8 @@ zoned_covers s o t k f stats forms h hs = record { covers = go }
         c : Duty
         c = duty_of s (zoned_form o t f forms) false name items ended e
 
-        data : Duty
-        data = duty_of s f false (under name 0) items ended (inside e)
+        inner : Duty
+        inner = duty_of s f false (under name 0) items ended (inside e)
 
         told : List ℕ
         told = numbers_in (duty_script s c)
@@ -107,8 +106,8 @@ zoned_covers s o t k f stats forms h hs = record { covers = go }
         at_rows y j = at_told y (rows_told s n y items [] o.zone_len 0 0 ended j)
 
         at_data : (y : ℕ) → In y (k false items ended (inside e)).numbers → AtMost y (e.last ∷ (mine ++ kids))
-        at_data y j = most_over y 0 e.last (all_counted s (g (form_type f)) data) (mine ++ kids) (omega arith)
-            (λ v z. in_right v mine kids (subst (λ w. In v w) (sym kids_are) (first_kid s g data _ v z)))
+        at_data y j = most_over y 0 e.last (all_counted s (g (form_type f)) inner) (mine ++ kids) (omega arith)
+            (λ v z. in_right v mine kids (subst (λ w. In v w) (sym kids_are) (first_kid s g inner _ v z)))
             (h.covers false (under name 0) items ended (inside e) (g (form_type f)) enough.1 y j)
 
         at : (table : Option (List Filled)) → table_of s o t items ended ≡ table → In x (with_table s o t stats false items e (k false items ended (inside e)) table).numbers → AtMost x (e.last ∷ (mine ++ kids))
@@ -157,9 +156,12 @@ zoned_covers s o t k f stats forms h hs = record { covers = go }
 
                     by : AtMost x ((next (next e)).last ∷ all_counted s (g (form_type (forms (table_type cs)))) table_duty) → AtMost x (e.last ∷ (mine ++ kids))
                     by (m, inl a, l) = let w = at_moves (e.last + 2) counted.1 in (w.0, w.1, omega (arith, l, a, two, w.2))
-                    by (m, inr a, l) =
-                        (m, inr (in_right m mine kids (subst (λ w. In m w) (sym (kids_are ∙ ap (λ z. grown s count_reading g (zoned_duties s n items ended z)) q))
-                        (other_kid s g data (table_duty ∷ []) m (first_kid s g table_duty [] m a)))), l)
+                    by (m, inr a, l) = (
+                      m,
+                      inr (in_right m mine kids (subst (λ w. In m w) (sym (kids_are ∙ ap (λ z. grown s count_reading g (zoned_duties s n items ended z)) q))
+                          (other_kid s g inner (table_duty ∷ []) m (first_kid s g table_duty [] m a)))),
+                      l,
+                    )
 
     go : (m : Bool) (name : List ℕ) (items : List Item) (ended : Bool) (e : Eof) (d : Fuel) → Enough d (zoned_form o t f forms) → (x : ℕ) → In x (zoned_node s o t k stats m items ended e).numbers
         → AtMost x (e.last ∷ all_counted s d (duty_of s (zoned_form o t f forms) m name items ended e))

@@ -299,7 +299,9 @@ fn start_each<O: Order>(
 {
     let nullable = dtype.is_nullable();
     let validity = fields.validity();
-    start_validity(alloc, ctx, order, validity, nullable, marked, name, eof, kids)?;
+    start_validity(
+        alloc, ctx, order, validity, nullable, marked, name, eof, kids,
+    )?;
     let below = marked || nullable;
     let columns = fields_in(dtype);
     'fields: for field in columns {
@@ -514,7 +516,16 @@ fn start_only<O: Order>(
 {
     match child_parts(alloc, name, dtype, kids) {
         Ok((name, dtype)) => {
-            let kid = start_task(alloc, ctx, order, child.strategy(), dtype, marked, name, eof)?;
+            let kid = start_task(
+                alloc,
+                ctx,
+                order,
+                child.strategy(),
+                dtype,
+                marked,
+                name,
+                eof,
+            )?;
             kids.push_reserved(kid);
             Ok(())
         }
@@ -558,7 +569,9 @@ fn start_parts<O: Order>(
     start_column(alloc, ctx, order, second, offsets, marked, name, eof, kids)?;
     let nullable = dtype.is_nullable();
     let validity = &lists.validity;
-    start_validity(alloc, ctx, order, validity, nullable, marked, name, eof, kids)
+    start_validity(
+        alloc, ctx, order, validity, nullable, marked, name, eof, kids,
+    )
 }
 
 /// Starts the validity, where there is one.
@@ -675,7 +688,16 @@ pub(crate) fn start_under<O: Order>(
     ensures refused { IfErr result (OneRefused (allowed_in ctx.now) (form_at writer.now.item (ty (arc_value dtype))) marked eof.old) }
 {
     match split_below(order, eof) {
-        Ok(below) => start_task(alloc, ctx, order, writer.strategy(), dtype, marked, name, below),
+        Ok(below) => start_task(
+            alloc,
+            ctx,
+            order,
+            writer.strategy(),
+            dtype,
+            marked,
+            name,
+            below,
+        ),
         Err(error) => {
             drop((dtype, name));
             Err(error)

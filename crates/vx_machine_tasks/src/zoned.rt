@@ -94,11 +94,7 @@ fn guard_refusal(error: GuardError) -> WriteError
 }
 
 /// Records the chunk, and counts its rows. A chunk of which nothing is recorded has an empty record.
-fn record_chunk(
-    alloc: Global,
-    node: &mut ZonedNode,
-    chunk: &Chunk,
-) -> Result<(), WriteError>
+fn record_chunk(alloc: Global, node: &mut ZonedNode, chunk: &Chunk) -> Result<(), WriteError>
     requires typed { piece_type chunk.now ≡ ty (arc_value node.old.dtype) }
     ensures held { node.new.eof ≡ node.old.eof }
     ensures zoner { zoner_in node.new ≡ zoner_in node.old }
@@ -212,10 +208,7 @@ pub(crate) fn end_zoned<O: Order>(
 }
 
 /// The id of the first path below the pointer's, which goes on.
-fn take_first<O: Order>(
-    order: &mut O,
-    eof: &mut SequencePointer,
-) -> Result<SequenceId, WriteError>
+fn take_first<O: Order>(order: &mut O, eof: &mut SequencePointer) -> Result<SequenceId, WriteError>
     requires { Owned (O.active order.old) (end_stock eof.old) }
     ensures moved { Moved (O.active order.old) (O.active order.new) (end_stock eof.old) (both (end_stock eof.new) (ok_stock id_stock result)) }
     ensures id { IfOk result (λ id. id ≡ under (eof_path eof.old) 0) }
@@ -256,7 +249,11 @@ pub(crate) fn start_table<O: Order>(
     ensures sink { O.sink order.new ≡ O.sink order.old }
     ensures cause { IfErr result MayCome }
 {
-    let TableStart { stats, chunk, mut eof } = table;
+    let TableStart {
+        stats,
+        chunk,
+        mut eof,
+    } = table;
     match take_first(order, &mut eof) {
         Ok(id) => {
             let item = Item { id, chunk };

@@ -59,7 +59,10 @@ fn all_allowed(
 {
     'aggregates: for aggregate in aggregates {
         if !ctx.allows_aggregate(aggregate.id()) {
-            return Err(WriteError::ForbiddenAggregate(Text::from(format!(in alloc; "{}", aggregate.id())?)));
+            return Err(WriteError::ForbiddenAggregate(Text::from(format!(in alloc;
+                "{}",
+                aggregate.id()
+            )?)));
         }
     }
     Ok(())

@@ -4,7 +4,7 @@ use Rattle.vx_model.specs.ChunkData.{ChunkData, held}
 use Rattle.vx_path.specs.Path.{under}
 use Rattle.vx_plan.specs.PlanData.{Setting, Item}
 use Rattle.vx_machine_turns.specs.Forms.{Writer}
-use Rattle.vx_machine_turns.specs.Locals.{Local, zoned_local}
+use Rattle.vx_machine_turns.specs.Locals.{Local}
 use Rattle.vx_zone_spec.specs.ZoneTable.{Filled}
 use Rattle.vx_machine_turns.specs.Locals.{ZonedNode}
 use Rattle.vx_machine_turns.specs.Zoned.{zoned_joins, zoned_ends, zoned_kept}

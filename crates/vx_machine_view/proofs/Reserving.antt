@@ -263,7 +263,6 @@ act_even s all number c ks (append x ∷ todo) f k m = ap (λ z. ((next_reserved
 act_even s all number c ks (shut_kids ∷ todo) f k m = ap (λ z. ((next_reserved todo + mind_reserved c.mind) + z) + 0) (shut_reserved ks)
 act_even s all number c ks (join_kids f ∷ todo) o k m =
     ap (λ z. ((next_reserved todo + z) + 0) + 0) (sym o) ∙ ap (λ z. ((next_reserved todo + mind_reserved c.mind) + z) + 0) (sym (k (and_left (all_made ks) _ m)))
-
 act_even s all number c ks (start_table f e p ∷ todo) o k m =
     let new : Tasks = started_task f false (under c.name 1) (next e) (table_item e p ∷ []) true in
     let h : reserved_by (add ks new) ≡ reserved_by ks + reserved_by new = add_reserved ks new in

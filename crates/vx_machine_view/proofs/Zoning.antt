@@ -1,20 +1,19 @@
 -- What a zoned node's task can do is what the abstract one can.
 use Rattle.std.proofs.Common.{◌≡◌, ◌+◌, ◌<◌, ◌||◌, ◌&&◌, ◌==◌, ◌⊎◌, ◌∷◌, ◌++◌, ◌∙◌, ℕ, suc, Bool, true, false, not, nat_eq, List, map, length, refl, sym, ap, subst, inl, inr, arith, get_or, eq-eqb, append-nil, length-append, Option, Some, None, []}
 use Rattle.std.proofs.lemmas.Bool.Decides.{nat_tests}
-use Rattle.vx_model.specs.Ty.{Ty, Tys}
-use Rattle.vx_model.specs.ChunkData.{ChunkData, pieces_of}
-use Rattle.vx_path.specs.Path.{Eof, under, next}
+use Rattle.vx_model.specs.Ty.{Ty}
+use Rattle.vx_model.specs.ChunkData.{pieces_of}
+use Rattle.vx_path.specs.Path.{under, next}
 use Rattle.vx_layout_spec.specs.LayoutTree.{LayoutData, Spec, row_count, renamed}
 use Rattle.vx_layout_spec.specs.Codec.{Lawful}
 use Rattle.vx_zone_spec.specs.ZoneTable.{Filled, kept_columns, table_fields, table_type, table_columns, table_specs, table_piece}
 use Rattle.vx_tasks.specs.Task.{Join, TakeEnd}
-use Rattle.vx_tasks.specs.Task.Kind.{Free}
 use Rattle.vx_plan.specs.PlanData.{Setting, Item, row_total, rows_in}
-use Rattle.vx_machine_turns.specs.Forms.{Form, zoned_form, form_type}
+use Rattle.vx_machine_turns.specs.Forms.{Form, form_type}
 use Rattle.vx_machine_turns.specs.Locals.{ZonedNode, Local, zoned_local}
-use Rattle.vx_machine_turns.specs.Acts.{Seed, Act, Shape, zones_of, passes, does, put_item, put_all, close_queues, born, gifts, shape_in}
+use Rattle.vx_machine_turns.specs.Acts.{Seed, Act, zones_of, passes, does, put_item, put_all, close_queues, born, gifts, shape_in}
 use Rattle.vx_machine_turns.specs.Zoned.{zone_columns, zoned_end, zoned_joins, zoned_ends, zoned_kept, table_seed}
-use Rattle.vx_machine_turns.specs.Starts.{start_fault, local_of, seed_of}
+use Rattle.vx_machine_turns.specs.Starts.{start_fault, local_of}
 use Rattle.vx_machine_turns.specs.Scripts.{as_kind, with_holds, all_uses, filled}
 use Rattle.vx_machine_turns.specs.Readings.{shaped}
 use Rattle.vx_machine_turns.specs.Turns.{firsts, start_indices}
@@ -22,7 +21,7 @@ use Rattle.vx_machine_turns.specs.Fuels.{Fuel, spent, fuel, less}
 use Rattle.vx_machine_steps.specs.Tree.{Head, Tree, Leaf, Work, feed, sprout, opened}
 use Rattle.vx_machine_steps.specs.Moves.{take_first, take_more, all_paths, all_over, is_full}
 use Rattle.vx_machine_view.specs.Zoned.{Zones, one_zone, table_item}
-use Rattle.vx_machine_view.specs.State.{fold_zones, Next, put, shut_kids, join_kids, start_table, leave_kid, Mind, by_zone, ending, passing, made, Desk, Tasks, no_tasks, task_then}
+use Rattle.vx_machine_view.specs.State.{Next, put, shut_kids, Mind, by_zone, ending, passing, made, Desk, Tasks, no_tasks, task_then}
 use Rattle.vx_machine_view.specs.Start.{first_indices, started_task}
 use Rattle.vx_machine_view.specs.Acts.{count, add, give, shut_all, layouts_in, do_act, zones_layout, end_zones}
 use Rattle.vx_machine_view.specs.Moves.{has_room, all_made, own_step}
@@ -30,7 +29,7 @@ use Rattle.vx_machine_view.specs.Typed.{Typed, PartsTyped, AllTyped}
 use Rattle.vx_machine_view.specs.Zoning.{zoner_of, put_each, IsZoned, zones_mind, lay_zones, zones_left, zones_shape}
 use Rattle.vx_machine_view.specs.Shows.{Stage, passed, records_zones, closes_zones, joins_data, joins_zones, Done, Shows, laid, rows_of, types_of, shape_rows}
 use Rattle.vx_machine_view.specs.Steps.{SameStep}
-use Rattle.vx_machine_view.proofs.Words.{no_cons, and_left, and_right, shape_last, shape_kept, type_fits}
+use Rattle.vx_machine_view.proofs.Words.{and_left, and_right, shape_last, shape_kept, type_fits}
 use Rattle.vx_machine_view.proofs.Feeding.{opened_none, Leaves, feed_none, feed_types, count_types, room_is, given, shut_shows, one_more, rows_given, rows_kept}
 use Rattle.vx_machine_view.proofs.Beginning.{task_begun, opened_is}
 use Rattle.vx_machine_view.proofs.Joining.{Passed, stage_made, made_is, AllLaid, laid_all}

@@ -1,5 +1,5 @@
 -- A zoned node's task against the abstract one's.
-use Rattle.std.specs.Prelude.{◌≡◌, ◌-◌, ℕ, Bool, true, false, List, [], ◌∷◌, Option, Some, None}
+use Rattle.std.specs.Prelude.{◌≡◌, ◌-◌, ℕ, Bool, false, List, [], ◌∷◌, Option, Some, None}
 use Rattle.vx_path.specs.Path.{next}
 use Rattle.vx_zone_spec.specs.ZoneTable.{Filled, table_type, table_specs, table_piece}
 use Rattle.vx_plan.specs.PlanData.{Item}
