@@ -2,14 +2,17 @@
 
 ghost use Rattle.std.specs.Prelude.{◌≡◌, ◌≤◌, ◌+◌, ◌++◌, [], ◌∷◌, IsTrue, length, map, reverse, vec_len, IfOk, IfErr, OnOk};
 ghost use Rattle.std.specs.Arc.{arc_value};
+ghost use Rattle.std.specs.Int.NonZero.{non_zero_u32_get};
 ghost use Rattle.vx_model.specs.Words.{total_by};
 ghost use Rattle.vx_model.specs.TyView.{ty};
 ghost use Rattle.vx_layout_spec.specs.LayoutTree.{row_count, chunked_layout, gathered, struct_layout, list_layout};
+ghost use Rattle.vx_aggregate_spec.specs.Aggregate.{spec};
+ghost use Rattle.vx_aggregate.specs.AggregateView.{aggregate};
 ghost use Rattle.vx_layout_tree.specs.LayoutView.{layout_data};
 ghost use Rattle.vx_machine_ids.specs.Stock.{none};
 ghost use Rattle.vx_machine_ids.specs.Balance.{Owned, Moved};
 ghost use Rattle.vx_machine_view.specs.State.{no_tasks};
-ghost use Rattle.vx_machine_view.specs.Acts.{layouts_in, folded, joined_rows};
+ghost use Rattle.vx_machine_view.specs.Acts.{layouts_in, folded, joined_rows, zones_layout};
 ghost use Rattle.vx_machine_tasks.specs.Acting.{JoinRefused};
 ghost use Rattle.vx_machine_tasks.specs.Causes.{MayCome};
 ghost use Rattle.vx_sink.specs.ContextView.{counted};
@@ -153,15 +156,19 @@ fn join_lists(
     Ok(Layout::from_parts(alloc, KindParts::List(head, layouts)))
 }
 
-/// A zoned layout of the data's and the table's.
-fn join_zones(alloc: Global, zones: Zones, layouts: Vec<Layout>) -> Result<Layout, WriteError> {
+/// A zoned layout of the data's and the table's; of another number there is none.
+fn join_zones(alloc: Global, zones: Zones, layouts: Vec<Layout>) -> Result<Layout, WriteError>
+    ensures layout { IfOk result (λ l. layout_data l ≡ zones_layout (ty (arc_value zones.dtype)) zones.rows (non_zero_u32_get zones.zone_len) (map (λ a. spec (aggregate a)) zones.aggregates.items) (map layout_data layouts.items)) }
+    ensures memory { IfErr result (λ e. e ≡ WriteError.OutOfMemory) }
+    ensures cause { IfErr result MayCome }
+{
     if layouts.len() != 2 {
         drop((zones, layouts));
         return Err(WriteError::OutOfMemory);
     }
     let Zones {
         dtype,
-        rows,
+        rows: row_count,
         zone_len,
         aggregates,
     } = zones;
@@ -171,7 +178,7 @@ fn join_zones(alloc: Global, zones: Zones, layouts: Vec<Layout>) -> Result<Layou
     };
     drop(dtype);
     let head = LayoutHead {
-        row_count: rows,
+        row_count,
         dtype: copy,
         segment_ids: Vec::new(alloc),
     };
