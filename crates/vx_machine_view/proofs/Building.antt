@@ -137,7 +137,7 @@ mutual
   wraps_fit (wrap_grouped g ws) b t k h = let r : (form_type (walk_wraps form_nodes ws t k) ≡ t) × Built (walk_wraps form_nodes ws t k) = wraps_fit ws b t k h in (r.0, r)
   wraps_fit (wrap_zoned o stats ws) b t k h =
       let r : (form_type (walk_wraps form_nodes ws t k) ≡ t) × Built (walk_wraps form_nodes ws t k) = wraps_fit ws (and_right (is_built stats) (wraps_built ws) b) t k h in
-      (r.0, r.0, r.1, λ u. ((fuel_is_enough stats u).0, built stats (and_left (is_built stats) (wraps_built ws) b) u))
+      (r.0, (r.0, r.1, λ u. ((fuel_is_enough stats u).0, built stats (and_left (is_built stats) (wraps_built ws) b) u)))
 
 pub built_is_built : BuiltIsBuilt
 built_is_built w t b = built w b t

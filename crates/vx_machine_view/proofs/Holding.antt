@@ -1,5 +1,5 @@
 -- What the program's tasks hold is what the abstract ones hold.
-use Rattle.std.proofs.Common.{◌≡◌, ◌⊎◌, ◌∷◌, ◌++◌, ◌∙◌, ℕ, suc, Bool, List, map, length, refl, sym, ap, inl, inr, arith, Option, Some, None, []}
+use Rattle.std.proofs.Common.{◌≡◌, ◌⊎◌, ◌∷◌, ◌++◌, ◌∙◌, ℕ, suc, Bool, true, List, map, length, refl, sym, ap, inl, inr, arith, Option, Some, None, []}
 use Rattle.vx_model.specs.ChunkData.{ChunkData, held}
 use Rattle.vx_path.specs.Path.{under}
 use Rattle.vx_plan.specs.PlanData.{Setting, Item}
