@@ -3,7 +3,7 @@ use Rattle.std.proofs.Common.{◌≡◌, ℕ, ◌==◌, ◌&&◌, ◌+◌, Bool,
 use Rattle.vx_model.specs.Ty.{list}
 use Rattle.vx_plan.specs.PlanData.{Setting, Item}
 use Rattle.vx_path.specs.Path.{under, inside}
-use Rattle.vx_machine_view.specs.State.{Next, put, hand_on, append, shut_kids, join_kids, Mind, no_chunk, one_chunk, by_chunk, by_column, by_list, by_block, by_size, as_one, ending, passing, made, Desk, Tasks, no_tasks, task_then}
+use Rattle.vx_machine_view.specs.State.{Next, put, hand_on, press, append, shut_kids, join_kids, Mind, no_chunk, one_chunk, by_chunk, by_column, by_list, by_block, by_size, as_one, by_image, as_is, ending, passing, made, Desk, Tasks, no_tasks, task_then}
 use Rattle.vx_machine_view.specs.Start.{started_task}
 use Rattle.vx_machine_view.specs.Acts.{count, give, add, column_count, take_chunk, end_columns, end_lists, take_end, do_take, do_act}
 use Rattle.vx_kept.specs.Kept.{KnowsFrom, Knows, asked_of, ready_of, kids_of}
@@ -42,6 +42,8 @@ end_grown c ks (by_block len minimum t x (Some j) rows) = same ks
 end_grown c ks (by_size size x None rows) = same ks
 end_grown c ks (by_size size x (Some j) rows) = same ks
 end_grown c ks (as_one t x rows) = same ks
+end_grown c ks (by_image which) = same ks
+end_grown c ks as_is = same ks
 end_grown c ks ending = same ks
 end_grown c ks passing = same ks
 end_grown c ks (made l) = same ks
@@ -57,6 +59,8 @@ chunk_grown s c ks i xs (by_block len minimum t x (Some j) rows) = same ks
 chunk_grown s c ks i xs (by_size size x None rows) = same ks
 chunk_grown s c ks i xs (by_size size x (Some j) rows) = same ks
 chunk_grown s c ks i xs (as_one t x rows) = same ks
+chunk_grown s c ks i xs (by_image which) = same ks
+chunk_grown s c ks i xs as_is = same ks
 chunk_grown s c ks i xs ending = same ks
 chunk_grown s c ks i xs passing = same ks
 chunk_grown s c ks i xs (made l) = same ks
@@ -69,6 +73,7 @@ pub act_follows : (s : Setting) (number : ℕ) (c : Desk) (ks : Tasks) (todo : L
 act_follows s number c ks [] = take_grown s c ks c.inbox
 act_follows s number c ks (put j i ∷ todo) = (i, refl)
 act_follows s number c ks (hand_on n i ∷ todo) = (i, refl)
+act_follows s number c ks (press which i ∷ todo) = same ks
 act_follows s number c ks (append x ∷ todo) = same ks
 act_follows s number c ks (shut_kids ∷ todo) = tt
 act_follows s number c ks (join_kids f ∷ todo) = tt

@@ -1,7 +1,7 @@
 -- What an act may change of the counts of its task's children.
 use Rattle.std.specs.Prelude.{◌≡◌, ℕ, zero, suc, Bool, true, false, List, [], ◌∷◌}
 use Rattle.vx_plan.specs.PlanData.{Item}
-use Rattle.vx_machine_view.specs.State.{Next, put, hand_on, append, shut_kids, join_kids, Desk, Tasks, no_tasks, task_then}
+use Rattle.vx_machine_view.specs.State.{Next, put, hand_on, press, append, shut_kids, join_kids, Desk, Tasks, no_tasks, task_then}
 use Rattle.vx_machine_view.specs.Acts.{give, add}
 use Rattle.vx_kept.specs.declared.counts.Touched.{Touched}
 use Rattle.vx_kept.specs.declared.counts.Touched.TheVariants.{Child, All, Nothing}
@@ -11,6 +11,7 @@ abbrev pub touched_by : List Next → Touched
 touched_by [] = Nothing
 touched_by (put j i ∷ todo) = Child j
 touched_by (hand_on n i ∷ todo) = Child 0
+touched_by (press which i ∷ todo) = Nothing
 touched_by (append x ∷ todo) = Nothing
 touched_by (shut_kids ∷ todo) = All
 touched_by (join_kids f ∷ todo) = All
@@ -38,6 +39,7 @@ abbrev pub waits : List Next → Bool
 waits [] = false
 waits (put j i ∷ todo) = false
 waits (hand_on n i ∷ todo) = false
+waits (press which i ∷ todo) = false
 waits (append x ∷ todo) = true
 waits (shut_kids ∷ todo) = false
 waits (join_kids f ∷ todo) = false

@@ -15,7 +15,7 @@ use Rattle.vx_plan.specs.SourcePlan.{of_schema}
 use Rattle.vx_layout_spec.specs.Real.{Of}
 use Rattle.vx_plan.specs.Valid.{OfSchema, AllOf}
 use Rattle.vx_machine_promises.specs.Write.{Write, Answer, unasked, came, over, taken_by, heard_by}
-use Rattle.vx_machine_view.specs.State.{Next, put, hand_on, append, shut_kids, join_kids, Mind, no_chunk, one_chunk, by_chunk, by_column, by_list, by_block, by_size, as_one, ending, passing, made, Desk, Tasks, no_tasks, task_then}
+use Rattle.vx_machine_view.specs.State.{Next, put, hand_on, press, append, shut_kids, join_kids, Mind, no_chunk, one_chunk, by_chunk, by_column, by_list, by_block, by_size, as_one, by_image, as_is, ending, passing, made, Desk, Tasks, no_tasks, task_then}
 use Rattle.vx_machine_view.specs.Acts.{count, column_count, take_chunk, end_columns, end_lists, take_end, do_take, do_act}
 use Rattle.vx_machine_view.specs.Moves.{has_room, Step, may_act, own_step, in_kids, in_rest, steps}
 use Rattle.vx_machine_view.specs.Machine.{Phase, reading, giving, closing, finished, may_source, WholeStep, source_step, in_root, machine_ids}
@@ -51,6 +51,8 @@ module _ (s : Setting) (next : ℕ) where
   end_quiet c ks (by_size size x None rows) = (refl, refl)
   end_quiet c ks (by_size size x (Some j) rows) = (refl, refl)
   end_quiet c ks (as_one t x rows) = (refl, refl)
+  end_quiet c ks (by_image which) = (refl, refl)
+  end_quiet c ks as_is = (refl, refl)
   end_quiet c ks ending = (refl, refl)
   end_quiet c ks passing = (refl, refl)
   end_quiet c ks (made l) = (refl, refl)
@@ -66,6 +68,8 @@ module _ (s : Setting) (next : ℕ) where
   take_quiet c ks i xs (by_size size x None rows) = (refl, refl)
   take_quiet c ks i xs (by_size size x (Some j) rows) = (refl, refl)
   take_quiet c ks i xs (as_one t x rows) = (refl, refl)
+  take_quiet c ks i xs (by_image which) = (refl, refl)
+  take_quiet c ks i xs as_is = (refl, refl)
   take_quiet c ks i xs ending = (refl, refl)
   take_quiet c ks i xs passing = (refl, refl)
   take_quiet c ks i xs (made l) = (refl, refl)
@@ -78,6 +82,7 @@ module _ (s : Setting) (next : ℕ) where
   act_quiet c ks [] = taken_quiet c ks c.inbox
   act_quiet c ks (put j i ∷ todo) = (refl, refl)
   act_quiet c ks (hand_on n i ∷ todo) = (refl, refl)
+  act_quiet c ks (press which i ∷ todo) = (refl, refl)
   act_quiet c ks (append x ∷ todo) = (refl, refl)
   act_quiet c ks (shut_kids ∷ todo) = (refl, refl)
   act_quiet c ks (join_kids f ∷ todo) = (refl, refl)

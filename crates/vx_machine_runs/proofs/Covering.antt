@@ -42,6 +42,7 @@ use Rattle.vx_machine_view.proofs.Building.{built_is_built}
 use Rattle.vx_machine_view.proofs.Words.{no_cons}
 use Rattle.vx_machine_runs.proofs.Covers.{counted_by, count_reading, all_counted, Covers, most_over, most_in}
 use Rattle.vx_machine_runs.proofs.GroupCovering.{group_covers}
+use Rattle.vx_machine_runs.proofs.PressCovering.{compressed_covers}
 
 -- ---- several duties
 
@@ -352,7 +353,7 @@ all_covers s = record {
   at_flat = λ o t b. flat_covers s o t;
   at_chunked = λ t k l h b. chunked_covers s t k l (h b.1);
   at_grouped = λ g r t k l h b. group_covers s g t k l (h b.1);
-  at_compressed = λ which room r t k l h b. absurd b;
+  at_compressed = λ which room t k l h b. compressed_covers s which room t k l (h b.1);
   at_dict = λ o t is c v f d w g h i j b. absurd b;
   at_zoned = λ o r t k l f g h i b. absurd b;
   at_not_struct = λ t b. record { covers = λ m name items ended e d enough n i. absurd i };

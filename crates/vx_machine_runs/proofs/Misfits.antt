@@ -19,11 +19,11 @@ use Rattle.vx_machine_turns.specs.Source.{source_seed}
 use Rattle.vx_machine_steps.specs.Tree.{Tree, Leaf, Work}
 use Rattle.vx_machine_promises.specs.Write.{Answer, unasked, came, over, planned}
 use Rattle.vx_machine_promises.specs.Reached.{Reached}
-use Rattle.vx_machine_view.specs.State.{shut_kids, Mind, no_chunk, one_chunk, by_chunk, by_column, by_list, by_block, by_size, as_one, ending, passing, made, Desk, Tasks, no_tasks, task_then}
+use Rattle.vx_machine_view.specs.State.{shut_kids, Mind, no_chunk, one_chunk, by_chunk, by_column, by_list, by_block, by_size, as_one, by_image, as_is, ending, passing, made, Desk, Tasks, no_tasks, task_then}
 use Rattle.vx_machine_view.specs.Acts.{count, column_count, take_chunk, end_columns, end_lists, take_end, do_take, do_act, puts, hand_all}
 use Rattle.vx_machine_view.specs.Moves.{Step, may_act, own_step, in_kids, in_rest, steps}
 use Rattle.vx_machine_view.specs.Typed.{AllTyped}
-use Rattle.vx_machine_view.specs.Shows.{Stage, waits_first, waits_end, appends, splits, gathers_all, hands, hands_lists, shuts, joins_columns, regroups_rows, regroups_chunks, collects, passes_on, passed, Done, Shows}
+use Rattle.vx_machine_view.specs.Shows.{Stage, waits_first, waits_end, appends, splits, gathers_all, hands, hands_lists, shuts, joins_columns, regroups_rows, regroups_chunks, collects, presses, pressed, lets_out, passes_on, passed, Done, Shows}
 use Rattle.vx_machine_view.specs.Machine.{Phase, reading, giving, closing, finished, may_source, WholeStep, source_step, in_root, machine_ids}
 use Rattle.vx_machine_view.specs.Whole.{form_of, root_depth}
 use Rattle.vx_machine_view.specs.Underway.{Showing}
@@ -54,6 +54,8 @@ ends_fit c ks (by_block len minimum t x (Some j) rows) = refl
 ends_fit c ks (by_size size x None rows) = refl
 ends_fit c ks (by_size size x (Some j) rows) = refl
 ends_fit c ks (as_one t x rows) = refl
+ends_fit c ks (by_image which) = refl
+ends_fit c ks as_is = refl
 ends_fit c ks ending = refl
 ends_fit c ks passing = refl
 ends_fit c ks (made l) = refl
@@ -132,6 +134,11 @@ module _ (s : Setting) (number : List ℕ → ℕ) (next : ℕ) (all : List (Lis
   own_fits d c ks q past todo l off hs ty (regroups_chunks size n x j rows outs tx tj nh w) =
       ap (λ z. (do_act s next c ks z).misfit) w.left_is ∙ hands_fit c ks held outs (takes_sizes c ks c.inbox size x j rows w.mind_is)
   own_fits d c ks q past todo l off hs ty (collects n x rows w) = idle_fits c ks w.left_is (takes_all c ks c.inbox n.type x rows w.mind_is (subst (λ z. AllTyped z c.inbox) w.type_is ty))
+  own_fits d c ks q past todo l off hs ty (presses n t i ti w) = ap (λ z. (do_act s next c ks z).misfit) w.left_is
+  own_fits d c ks q past todo l off hs ty (pressed n t outs w) =
+      ap (λ z. (do_act s next c ks z).misfit) w.left_is ∙ hands_fit c ks (λ p. 0) outs (takes_first c ks c.inbox (by_image n.which) (λ i xs. refl) w.mind_is)
+  own_fits d c ks q past todo l off hs ty (lets_out n t outs w) =
+      ap (λ z. (do_act s next c ks z).misfit) w.left_is ∙ hands_fit c ks (λ p. 0) outs (takes_first c ks c.inbox as_is (λ i xs. refl) w.mind_is)
   own_fits d c ks q past todo l off hs ty (passes_on t weight outs one to w) = ap (λ z. (do_act s next c ks z).misfit) w.left_is ∙ passes_fit c ks weight outs
   own_fits d c ks q past todo l off hs ty (passed t one w) = idle_fits c ks w.left_is (takes_first c ks c.inbox passing (λ i xs. refl) w.mind_is)
 

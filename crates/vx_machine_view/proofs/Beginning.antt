@@ -8,20 +8,21 @@ use Rattle.vx_rules.specs.Columns.{offset_type}
 use Rattle.vx_strategy_spec.specs.StrategyData.{Grouping, by_blocks, by_bytes, into_one}
 use Rattle.vx_plan.specs.PlanData.{Setting, Item, not_struct, duplicate_field}
 use Rattle.vx_machine_turns.specs.Forms.{Form, Forms, flat_form, chunked_form, grouped_form, compressed_form, dict_form, zoned_form, no_struct_form, struct_form, list_form, no_forms, form_then, form_type, Writer}
-use Rattle.vx_machine_turns.specs.Locals.{GroupedNode, Local, struct_local, list_local, blocks_local, bytes_local, collect_local}
+use Rattle.vx_machine_turns.specs.Locals.{GroupedNode, CompressedNode, Local, struct_local, list_local, blocks_local, bytes_local, collect_local, compressed_local}
 use Rattle.vx_machine_turns.specs.Acts.{Seed, or_else}
 use Rattle.vx_machine_turns.specs.Columns.{column_seeds}
 use Rattle.vx_machine_turns.specs.Starts.{start_fault, start_faults, marked_forms, local_of, seed_of}
 use Rattle.vx_machine_turns.specs.Turns.{firsts, start_indices}
 use Rattle.vx_machine_turns.specs.Fuels.{Fuel, spent, fuel, Enough, AllEnough}
 use Rattle.vx_machine_steps.specs.Tree.{Tree, Leaf, Work, fresh, quiet, sprout, opened}
-use Rattle.vx_machine_view.specs.State.{Mind, by_column, by_list, by_block, by_size, as_one, Tasks, no_tasks, task_then}
+use Rattle.vx_machine_view.specs.State.{Mind, by_column, by_list, by_block, by_size, as_one, by_image, Tasks, no_tasks, task_then}
 use Rattle.vx_machine_view.specs.Start.{first_mind, first_kids, field_tasks, waiting, form_count, first_indices, field_indices, started_task}
 use Rattle.vx_machine_view.specs.Built.{Built, AllBuilt, field_types, column_types, list_types}
 use Rattle.vx_machine_view.specs.Typed.{AllTyped}
-use Rattle.vx_machine_view.specs.Shows.{Alike, Groups, Stage, waits_first, splits, hands, hands_lists, regroups_rows, regroups_chunks, collects, Shows, rows_of, types_of, local_rows}
+use Rattle.vx_machine_view.specs.Shows.{Alike, Groups, Stage, waits_first, splits, hands, hands_lists, regroups_rows, regroups_chunks, collects, pressed, Shows, rows_of, types_of, local_rows}
 use Rattle.vx_machine_view.proofs.Words.{none_some, or_none}
 use Rattle.vx_machine_view.proofs.Feeding.{sprout_none, opened_none}
+use Rattle.vx_machine_view.proofs.Outlets.{outlet_kids, outlet_begun, outlet_rows, outlet_opened}
 
 module _ (s : Setting) (number : List ℕ → ℕ) where
   none_begun : (d : Fuel) (q : Seed) → Shows s number d q 0 no_tasks (sprout d quiet 0 [])
@@ -155,7 +156,17 @@ module _ (s : Setting) (number : List ℕ → ℕ) where
           groups_stage r t k m name e (fuel g) (sprout (fuel g) quiet 0 (seed_of k m (under name 0) e ∷ [])) (first_kids (grouped_form r t k) m name e) b.0 refl,
           (alike q 0 k m (under name 0) e [] false refl tt, inl (begun k m (under name 0) e (g (form_type k)) b.1 f n), tt),
         )
-    begun (compressed_form which room t k) m name e d b f n = absurd b
+    begun (compressed_form which room t k) m name e spent b f n = absurd n
+    begun (compressed_form which room t k) m name e (fuel g) b f n =
+        let node : CompressedNode = record { name = name; mark = m; which = which; room = room; child = k; eof = e } in
+        let q : Seed = seed_of (compressed_form which room t k) m name e in (
+          pressed node (form_type k) [] (groups_begun q (sprout (fuel g) quiet 0 (firsts q)) (by_image which) (compressed_local node) (form_type k) (λ p. 0) refl refl),
+          (
+            record { name = refl; inbox = refl; closed = refl; places = refl; typed = tt },
+            inl (outlet_begun s number node (g (form_type k)) n (λ x h. begun k m (under name 1) e x b.1 f h)),
+            tt,
+          ),
+        )
     begun (dict_form o t c v w) m name e d b f n = absurd b
     begun (zoned_form o t k stats) m name e d b f n = absurd b
     begun (list_form t n es os v) m name e spent b f h = absurd h
@@ -225,7 +236,9 @@ fresh_rows (grouped_form (by_bytes size) t k) m name e (fuel g) b = only_zero (l
     (fresh_rows k m (under name 0) e (g (form_type k)) b.1)
 fresh_rows (grouped_form into_one t k) m name e (fuel g) b = one_zero (local_rows (local_of k m (under name 0) e) (0 + rows_of (sprout (g (form_type k)) quiet 0 (firsts (seed_of k m (under name 0) e)))))
     (fresh_rows k m (under name 0) e (g (form_type k)) b.1)
-fresh_rows (compressed_form which room t k) m name e d b = absurd b
+fresh_rows (compressed_form which room t k) m name e spent b = refl
+fresh_rows (compressed_form which room t k) m name e (fuel g) b =
+    ap (λ z. 0 + (((0 + z) + 0) + 0)) (outlet_rows (record { name = name; mark = m; which = which; room = room; child = k; eof = e }) (g (form_type k)) (λ x. fresh_rows k m (under name 1) e x b.1))
 fresh_rows (dict_form o t c v w) m name e d b = absurd b
 fresh_rows (zoned_form o t k stats) m name e d b = absurd b
 fresh_rows (list_form t n es os v) m name e d b = refl
@@ -273,7 +286,10 @@ mutual
   opened_is (grouped_form (by_blocks o) t k) m name e (fuel g) b n = kid_opened k m name e g (opened_is k m (under name 0) e (g (form_type k)) b.1 n)
   opened_is (grouped_form (by_bytes size) t k) m name e (fuel g) b n = kid_opened k m name e g (opened_is k m (under name 0) e (g (form_type k)) b.1 n)
   opened_is (grouped_form into_one t k) m name e (fuel g) b n = kid_opened k m name e g (opened_is k m (under name 0) e (g (form_type k)) b.1 n)
-  opened_is (compressed_form which room t k) m name e d b n = absurd b
+  opened_is (compressed_form which room t k) m name e spent b n = absurd n
+  opened_is (compressed_form which room t k) m name e (fuel g) b n =
+      append-nil (opened (g (form_type k)) (seed_of k m (under name 1) e ∷ []))
+      ∙ outlet_opened (record { name = name; mark = m; which = which; room = room; child = k; eof = e }) (g (form_type k)) n (λ x h. opened_is k m (under name 1) e x b.1 h)
   opened_is (dict_form o t c v w) m name e d b n = absurd b
   opened_is (zoned_form o t k stats) m name e d b n = absurd b
   opened_is (list_form t n es os v) m name e spent b h = absurd h

@@ -104,7 +104,7 @@ mutual
   built (structured v d ws) b (list t n) = tt
   built (structured v d ws) b (extension tag t) = tt
   built (grouped g w) b t = ((fuel_is_enough w t).0, built w b t)
-  built (compressed which room w) b t = absurd (no_true b)
+  built (compressed which room w) b t = ((fuel_is_enough w t).0, built w b t)
   built (coded o c v f) b t = absurd (no_true b)
   built (zoned o w stats) b t = absurd (no_true b)
   built (listed e o v f) b (list t n) = (

@@ -17,10 +17,10 @@ use Rattle.vx_machine_steps.specs.Tree.{Head, Tree, Leaf, Work, ahead, read}
 use Rattle.vx_machine_steps.specs.Moves.{doing, due_todo, all_paths, all_over}
 use Rattle.vx_machine_steps.specs.Laws.{JoinsFree}
 use Rattle.vx_machine_promises.specs.Write.{Write, Future, Answer, unasked, came, over, depth}
-use Rattle.vx_machine_view.specs.State.{shut_kids, Mind, no_chunk, one_chunk, by_chunk, by_column, by_list, by_block, by_size, as_one, ending, passing, made, Desk, Tasks, no_tasks, task_then}
+use Rattle.vx_machine_view.specs.State.{shut_kids, Mind, no_chunk, one_chunk, by_chunk, by_column, by_list, by_block, by_size, as_one, by_image, as_is, ending, passing, made, Desk, Tasks, no_tasks, task_then}
 use Rattle.vx_machine_view.specs.Acts.{count, layouts_in, column_count, take_chunk, end_columns, end_lists, take_end, do_take, do_act, puts, hand_all}
 use Rattle.vx_machine_view.specs.Moves.{Step, all_made, may_act, own_step, in_kids, in_rest, steps}
-use Rattle.vx_machine_view.specs.Shows.{Counted, Stage, waits_first, waits_end, appends, splits, gathers_all, hands, hands_lists, shuts, joins_columns, regroups_rows, regroups_chunks, collects, passes_on, passed, Done, Shows}
+use Rattle.vx_machine_view.specs.Shows.{Counted, Stage, waits_first, waits_end, appends, splits, gathers_all, hands, hands_lists, shuts, joins_columns, regroups_rows, regroups_chunks, collects, presses, pressed, lets_out, passes_on, passed, Done, Shows}
 use Rattle.vx_machine_view.specs.Machine.{Phase, reading, giving, closing, finished, Machine, may_source, WholeStep, source_step, in_root, whole_steps}
 use Rattle.vx_machine_view.specs.Whole.{form_of, phase_acts, source_at, root_depth, ShowsMachine}
 use Rattle.vx_machine_view.proofs.Words.{and_left, numbers_in-append}
@@ -39,6 +39,8 @@ chunk_joins s c ks i xs (by_block len minimum t x (Some j) rows) = refl
 chunk_joins s c ks i xs (by_size size x None rows) = refl
 chunk_joins s c ks i xs (by_size size x (Some j) rows) = refl
 chunk_joins s c ks i xs (as_one t x rows) = refl
+chunk_joins s c ks i xs (by_image which) = refl
+chunk_joins s c ks i xs as_is = refl
 chunk_joins s c ks i xs ending = refl
 chunk_joins s c ks i xs passing = refl
 chunk_joins s c ks i xs (made l) = refl
@@ -62,6 +64,8 @@ end_joins c ks (by_block len minimum t x (Some j) rows) = refl
 end_joins c ks (by_size size x None rows) = refl
 end_joins c ks (by_size size x (Some j) rows) = refl
 end_joins c ks (as_one t x rows) = refl
+end_joins c ks (by_image which) = refl
+end_joins c ks as_is = refl
 end_joins c ks ending = refl
 end_joins c ks passing = refl
 end_joins c ks (made l) = refl
@@ -114,6 +118,9 @@ module _ (s : Setting) (number : List ℕ → ℕ) (next : ℕ) (all : List (Lis
   own_joins d c ks q past todo l off hs (regroups_rows o n x j rows outs tj nh w) sh free m = nothing past (do_act s next c ks c.todo).joined (ap (λ z. (do_act s next c ks z).joined) w.left_is ∙ hands_join c ks (λ p. 0) outs)
   own_joins d c ks q past todo l off hs (regroups_chunks size n x j rows outs tx tj nh w) sh free m = nothing past (do_act s next c ks c.todo).joined (ap (λ z. (do_act s next c ks z).joined) w.left_is ∙ hands_join c ks held outs)
   own_joins d c ks q past todo l off hs (collects n x rows w) sh free m = nothing past (do_act s next c ks c.todo).joined (idle_joins c ks w.left_is)
+  own_joins d c ks q past todo l off hs (presses n t i ti w) sh free m = nothing past (do_act s next c ks c.todo).joined (ap (λ z. (do_act s next c ks z).joined) w.left_is)
+  own_joins d c ks q past todo l off hs (pressed n t outs w) sh free m = nothing past (do_act s next c ks c.todo).joined (ap (λ z. (do_act s next c ks z).joined) w.left_is ∙ hands_join c ks (λ p. 0) outs)
+  own_joins d c ks q past todo l off hs (lets_out n t outs w) sh free m = nothing past (do_act s next c ks c.todo).joined (ap (λ z. (do_act s next c ks z).joined) w.left_is ∙ hands_join c ks (λ p. 0) outs)
   own_joins d c ks q past todo l off hs (passes_on t weight outs one to w) sh free m = nothing past (do_act s next c ks c.todo).joined (ap (λ z. (do_act s next c ks z).joined) w.left_is ∙ ends_join c ks weight outs)
   own_joins d c ks q past todo l off hs (passed t one w) sh free m = nothing past (do_act s next c ks c.todo).joined (idle_joins c ks w.left_is)
 

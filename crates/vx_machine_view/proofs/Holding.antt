@@ -15,7 +15,7 @@ use Rattle.vx_machine_steps.specs.Moves.{holding, all_paths}
 use Rattle.vx_machine_steps.specs.Stands.{kept_now, AllHold}
 use Rattle.vx_machine_view.specs.State.{Next, shut_kids, Mind, Tasks, no_tasks, task_then}
 use Rattle.vx_machine_view.specs.Acts.{puts, hand_all}
-use Rattle.vx_machine_view.specs.Shows.{Stage, waits_first, waits_end, appends, splits, gathers_all, hands, hands_lists, shuts, joins_columns, regroups_rows, regroups_chunks, collects, passes_on, passed, Done, Shows}
+use Rattle.vx_machine_view.specs.Shows.{Stage, waits_first, waits_end, appends, splits, gathers_all, hands, hands_lists, shuts, joins_columns, regroups_rows, regroups_chunks, collects, presses, pressed, lets_out, passes_on, passed, Done, Shows}
 use Rattle.vx_machine_view.specs.Machine.{next_ids, mind_ids, held_by}
 use Rattle.vx_machine_view.proofs.Words.{carried}
 
@@ -51,6 +51,11 @@ stage_holds s d mind left ks q past todo l over hs (regroups_rows o n x j rows o
 stage_holds s d mind left ks q past todo l over hs (regroups_chunks size n x j rows outs tx tj nh w) = carried (λ m f a l o. next_ids f ++ mind_ids m ≡ all_uses a ++ kept_now o l) w.mind_is w.left_is w.rest w.local_is w.on
     (ap (λ z. z ++ group_kept j) (hands_ids held (group_kept j) outs))
 stage_holds s d mind left ks q past todo l over hs (collects n x rows w) = carried (λ m f a l o. next_ids f ++ mind_ids m ≡ all_uses a ++ kept_now o l) w.mind_is w.left_is w.rest w.local_is w.on refl
+stage_holds s d mind left ks q past todo l over hs (presses n t i ti w) = carried (λ m f a l o. next_ids f ++ mind_ids m ≡ all_uses a ++ kept_now o l) w.mind_is w.left_is w.rest w.local_is w.on refl
+stage_holds s d mind left ks q past todo l over hs (pressed n t outs w) = carried (λ m f a l o. next_ids f ++ mind_ids m ≡ all_uses a ++ kept_now o l) w.mind_is w.left_is w.rest w.local_is w.on
+    (ap (λ z. z ++ []) (hands_ids (λ p. 0) [] outs))
+stage_holds s d mind left ks q past todo l over hs (lets_out n t outs w) = carried (λ m f a l o. next_ids f ++ mind_ids m ≡ all_uses a ++ kept_now o l) w.mind_is w.left_is w.rest w.local_is w.on
+    (ap (λ z. z ++ []) (hands_ids (λ p. 0) [] outs))
 stage_holds s d mind left ks q past todo l over hs (passes_on t weight outs one to w) = carried (λ m f a z o. next_ids f ++ mind_ids m ≡ all_uses a ++ kept_now o z) w.mind_is w.left_is w.rest refl w.off
     (ap (λ z. z ++ []) (ends_ids weight outs))
 stage_holds s d mind left ks q past todo l over hs (passed t one w) = carried (λ m f a z o. next_ids f ++ mind_ids m ≡ all_uses a ++ kept_now o z) w.mind_is w.left_is w.rest refl w.off refl

@@ -16,11 +16,11 @@ use Rattle.vx_machine_turns.specs.Scripts.{filled}
 use Rattle.vx_machine_turns.specs.Fuels.{Fuel, less}
 use Rattle.vx_machine_steps.specs.Tree.{Head, Tree, Leaf, Work}
 use Rattle.vx_machine_steps.specs.Moves.{due, due_todo, due_more, holding, is_nil, all_paths, all_over, tree_moves, move_own, in_kids, in_rest}
-use Rattle.vx_machine_view.specs.State.{Next, shut_kids, Mind, no_chunk, one_chunk, by_chunk, by_column, by_list, by_block, by_size, as_one, ending, passing, Tasks, no_tasks, task_then}
+use Rattle.vx_machine_view.specs.State.{Next, shut_kids, Mind, no_chunk, one_chunk, by_chunk, by_column, by_list, by_block, by_size, as_one, by_image, as_is, ending, passing, Tasks, no_tasks, task_then}
 use Rattle.vx_machine_view.specs.Acts.{layout_in, layouts_in, hand_all}
 use Rattle.vx_machine_view.specs.Moves.{is_empty, is_made, all_made}
 use Rattle.vx_machine_view.specs.Machine.{has_layout}
-use Rattle.vx_machine_view.specs.Shows.{Ends, Stage, waits_first, waits_end, appends, splits, gathers_all, hands, hands_lists, shuts, joins_columns, regroups_rows, regroups_chunks, collects, passes_on, passed, Done, Shows, laid, rows_of, types_of, shape_rows, task_rows}
+use Rattle.vx_machine_view.specs.Shows.{Ends, Stage, waits_first, waits_end, appends, splits, gathers_all, hands, hands_lists, shuts, joins_columns, regroups_rows, regroups_chunks, collects, presses, pressed, lets_out, passes_on, passed, Done, Shows, laid, rows_of, types_of, shape_rows, task_rows}
 use Rattle.vx_machine_view.proofs.Words.{true_false, left_nil, right_nil, no_firsts, and_left, and_right}
 
 -- ---- what hasn't done all, and what has its only child's layout
@@ -88,6 +88,9 @@ stage_parts s d mind left ks q past todo l over hs (regroups_rows o n x j rows o
 stage_parts s d mind left ks q past todo l over hs (regroups_chunks size n x j rows outs tx tj nh r) =
     inl (busy_by mind (by_size size x j rows) left todo over r.mind_is (λ b. refl) (λ ks b. refl) (on_busy over todo r.on))
 stage_parts s d mind left ks q past todo l over hs (collects n x rows r) = inl (busy_by mind (as_one n.type x rows) left todo over r.mind_is (λ b. refl) (λ ks b. refl) (on_busy over todo r.on))
+stage_parts s d mind left ks q past todo l over hs (presses n t i ti r) = inl (busy_by mind (by_image n.which) left todo over r.mind_is (λ b. refl) (λ ks b. refl) (on_busy over todo r.on))
+stage_parts s d mind left ks q past todo l over hs (pressed n t outs r) = inl (busy_by mind (by_image n.which) left todo over r.mind_is (λ b. refl) (λ ks b. refl) (on_busy over todo r.on))
+stage_parts s d mind left ks q past todo l over hs (lets_out n t outs r) = inl (busy_by mind as_is left todo over r.mind_is (λ b. refl) (λ ks b. refl) (on_busy over todo r.on))
 stage_parts s d mind left ks q past todo l over hs (passes_on t weight outs one ty r) =
     let some : is_empty left ≡ false = ap is_empty r.left_is ∙ outs_left weight outs in
     inl (record {

@@ -17,3 +17,6 @@ pub mod Counting
 pub mod Underway
 pub mod Reserving
 pub mod Placing
+pub mod Outlets
+pub mod Pressing
+pub mod Imaging

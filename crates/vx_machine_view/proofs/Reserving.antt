@@ -23,12 +23,12 @@ use Rattle.vx_machine_turns.specs.Source.{source_seed}
 use Rattle.vx_machine_turns.specs.Fuels.{Fuel, less}
 use Rattle.vx_machine_steps.specs.Tree.{Tree, Leaf, Work}
 use Rattle.vx_machine_promises.specs.Write.{Answer, unasked, came, over}
-use Rattle.vx_machine_view.specs.State.{Next, put, hand_on, append, shut_kids, join_kids, Mind, no_chunk, one_chunk, by_chunk, by_column, by_list, by_block, by_size, as_one, ending, passing, made, Desk, Tasks, no_tasks, task_then}
+use Rattle.vx_machine_view.specs.State.{Next, put, hand_on, press, append, shut_kids, join_kids, Mind, no_chunk, one_chunk, by_chunk, by_column, by_list, by_block, by_size, as_one, by_image, as_is, ending, passing, made, Desk, Tasks, no_tasks, task_then}
 use Rattle.vx_machine_view.specs.Start.{first_mind, first_kids, field_tasks, started_task}
 use Rattle.vx_machine_view.specs.Acts.{count, add, give, shut_all, Did, column_count, columns_in, puts, stored, of_length, hand_all, take_chunk, end_columns, end_lists, take_end, do_take, do_act}
 use Rattle.vx_machine_view.specs.Moves.{is_empty, all_made, Step, may_act, own_step, in_kids, in_rest, steps}
 use Rattle.vx_machine_view.specs.Machine.{Phase, reading, giving, closing, finished, no_more, is_alone, has_layout, is_done, has_closed, WholeStep, may_source, source_step, in_root}
-use Rattle.vx_machine_view.specs.Shows.{NoneHeld, Stage, waits_first, waits_end, appends, splits, gathers_all, hands, hands_lists, shuts, joins_columns, regroups_rows, regroups_chunks, collects, passes_on, passed, Done, Shows, types_of}
+use Rattle.vx_machine_view.specs.Shows.{NoneHeld, Stage, waits_first, waits_end, appends, splits, gathers_all, hands, hands_lists, shuts, joins_columns, regroups_rows, regroups_chunks, collects, presses, pressed, lets_out, passes_on, passed, Done, Shows, types_of}
 use Rattle.vx_machine_view.specs.Whole.{form_of, root_depth}
 use Rattle.vx_machine_view.specs.Reserved.{next_reserved, mind_reserved, reserved_by, StepsReserve, StartReserves, WholeReserves, FinishReserves}
 use Rattle.vx_machine_view.proofs.Words.{and_left, and_right}
@@ -122,7 +122,9 @@ mutual
   kids_reserved (flat_form o t) m at e = refl
   kids_reserved (chunked_form t k) m at e = refl
   kids_reserved (grouped_form g t k) m at e = one_none (mind_reserved (first_mind k m e)) (reserved_by (first_kids k m (under at 0) e)) 0 (first_reserved k m e) (kids_reserved k m (under at 0) e) refl
-  kids_reserved (compressed_form which room t k) m at e = refl
+  kids_reserved (compressed_form which room t k) m at e =
+      one_none 0 (((0 + mind_reserved (first_mind k m e)) + reserved_by (first_kids k m (under at 1) e)) + 0) 0 refl
+      (one_none (mind_reserved (first_mind k m e)) (reserved_by (first_kids k m (under at 1) e)) 0 (first_reserved k m e) (kids_reserved k m (under at 1) e) refl) refl
   kids_reserved (dict_form o t c v f) m at e = refl
   kids_reserved (zoned_form o t k stats) m at e = refl
   kids_reserved (no_struct_form t) m at e = refl
@@ -176,6 +178,8 @@ chunk_even s c ks i xs (by_size size x (Some j) rows) =
     let k : total_by held ((flushes size).leaves x j.1) + total_by held ((flushes size).holds x j.1) ≡ total_by held x + held j.1 = leaves_held size x j.1 in
     let e : ((out + (total_by held ((flushes size).holds x j.1) + held i.1)) + reserved_by ks) + 0 ≡ ((0 + (total_by held x + held j.1)) + reserved_by ks) + held i.1 = omega (arith, h, k) in e
 chunk_even s c ks i xs (as_one t x rows) = refl
+chunk_even s c ks i xs (by_image which) = refl
+chunk_even s c ks i xs as_is = refl
 chunk_even s c ks i xs ending = refl
 chunk_even s c ks i xs passing = refl
 chunk_even s c ks i xs (made l) = refl
@@ -190,6 +194,8 @@ Begun (by_column t rows) = Unit {0}
 Begun (by_list t n first from rows) = Unit {0}
 Begun (by_block len minimum t x j rows) = Unit {0}
 Begun (as_one t x rows) = Unit {0}
+Begun (by_image which) = Unit {0}
+Begun as_is = Unit {0}
 Begun ending = Unit {0}
 Begun passing = Unit {0}
 Begun (made l) = Unit {0}
@@ -220,6 +226,8 @@ end_even c ks (by_size size x (Some j) rows) b =
     let k : total_by held (x ++ (j.1 ∷ [])) ≡ total_by held x + held j.1 = with_one x j.1 in
     let e : ((out + 0) + reserved_by ks) + 0 ≡ ((0 + (total_by held x + held j.1)) + reserved_by ks) + 0 = omega (arith, h, k) in e
 end_even c ks (as_one t x rows) b = ap (λ z. ((z + 0) + reserved_by ks) + 0) (ends_reserved (λ p. 0) (collect_rest t x) ∙ none_reserved (collect_rest t x))
+end_even c ks (by_image which) b = refl
+end_even c ks as_is b = refl
 end_even c ks ending b = refl
 end_even c ks passing b = refl
 end_even c ks (made l) b = refl
@@ -229,6 +237,7 @@ abbrev Fine : Mind → List Next → Type 0
 Fine mind [] = Begun mind
 Fine mind (put j i ∷ todo) = Unit {0}
 Fine mind (hand_on n i ∷ todo) = Unit {0}
+Fine mind (press which i ∷ todo) = Unit {0}
 Fine mind (append x ∷ todo) = mind_reserved mind ≡ 0
 Fine mind (shut_kids ∷ todo) = Unit {0}
 Fine mind (join_kids f ∷ todo) = mind_reserved mind ≡ 0
@@ -244,6 +253,8 @@ act_even s all next c ks (put j i ∷ todo) f k m = ap (λ z. ((next_reserved to
 act_even s all next c ks (hand_on n i ∷ todo) f k m =
     let h : reserved_by (give 0 i ks) ≡ reserved_by ks = give_reserved 0 i ks in
     let e : ((next_reserved todo + mind_reserved c.mind) + reserved_by (give 0 i ks)) + n ≡ (((n + next_reserved todo) + mind_reserved c.mind) + reserved_by ks) + 0 = omega (arith, h) in e
+act_even s all next c ks (press which i ∷ todo) f k m =
+    let e : (((0 + next_reserved todo) + mind_reserved c.mind) + reserved_by ks) + 0 ≡ ((next_reserved todo + mind_reserved c.mind) + reserved_by ks) + 0 = omega arith in e
 act_even s all next c ks (append x ∷ todo) f k m = ap (λ z. ((next_reserved todo + z) + reserved_by ks) + 0) (sym f)
 act_even s all next c ks (shut_kids ∷ todo) f k m = ap (λ z. ((next_reserved todo + mind_reserved c.mind) + z) + 0) (shut_reserved ks)
 act_even s all next c ks (join_kids f ∷ todo) o k m =
@@ -280,6 +291,9 @@ stage_fine s d mind left ks q past todo l off hs (joins_columns t rows k w) = ca
 stage_fine s d mind left ks q past todo l off hs (regroups_rows o n x j rows outs tj nh w) = carry w.mind_is w.left_is (hands_fine (by_block (block_len o n.type) o.minimum n.type x j rows) tt (λ p. 0) outs)
 stage_fine s d mind left ks q past todo l off hs (regroups_chunks size n x j rows outs tx tj nh w) = carry w.mind_is w.left_is (hands_fine (by_size size x j rows) nh held outs)
 stage_fine s d mind left ks q past todo l off hs (collects n x rows w) = carry w.mind_is w.left_is tt
+stage_fine s d mind left ks q past todo l off hs (presses n t i ti w) = carry w.mind_is w.left_is tt
+stage_fine s d mind left ks q past todo l off hs (pressed n t outs w) = carry w.mind_is w.left_is (hands_fine (by_image n.which) tt (λ p. 0) outs)
+stage_fine s d mind left ks q past todo l off hs (lets_out n t outs w) = carry w.mind_is w.left_is (hands_fine as_is tt (λ p. 0) outs)
 stage_fine s d mind left ks q past todo l off hs (passes_on t weight outs one to w) = carry w.mind_is w.left_is (ends_fine passing weight outs)
 stage_fine s d mind left ks q past todo l off hs (passed t one w) = carry w.mind_is w.left_is tt
 
@@ -437,6 +451,8 @@ done_reserved (task_then c ks r) e k = by c.mind refl (λ a b. done_reserved ks 
     by (by_block len minimum t x j rows) h deeper = absurd (no_true (there (by_block len minimum t x j rows) h))
     by (by_size size x j rows) h deeper = absurd (no_true (there (by_size size x j rows) h))
     by (as_one t x rows) h deeper = absurd (no_true (there (as_one t x rows) h))
+    by (by_image which) h deeper = absurd (no_true (there (by_image which) h))
+    by as_is h deeper = absurd (no_true (there as_is h))
     by ending h deeper = absurd (no_true (there ending h))
 
 root_alone : (t : Ty) (cs : Tasks) (n : ℕ) → count cs ≡ n → n ≡ 1 → is_alone cs ≡ true

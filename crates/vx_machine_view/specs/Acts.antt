@@ -1,6 +1,5 @@
 -- What a task's next act does to it and to its children.
 use Rattle.std.specs.Prelude.{ℕ, zero, suc, ◌+◌, ◌==◌, ◌&&◌, not, if◌then◌else◌, Bool, true, false, List, [], ◌∷◌, ◌++◌, length, Option, Some, None}
-use Rattle.vx_model.specs.declared.encoding.EncodingId.{EncodingId}
 use Rattle.vx_model.specs.Words.{total_by}
 use Rattle.vx_model.specs.Ty.{Ty, struct, list, fields_in, ty_eq}
 use Rattle.vx_model.specs.ChunkData.{ChunkData, piece_type}
@@ -10,7 +9,7 @@ use Rattle.vx_rules.specs.Blocks.{BlockOptions}
 use Rattle.vx_rules.specs.Columns.{struct_columns, list_columns}
 use Rattle.vx_rules.specs.Regroup.{ranked}
 use Rattle.vx_tasks.specs.Task.{Kind}
-use Rattle.vx_tasks.specs.Task.Prompt.{Close}
+use Rattle.vx_tasks.specs.Task.Prompt.{Call, Close}
 use Rattle.vx_tasks.specs.Task.Kind.{Free, Take, TakeEnd, Put, Append, Join}
 use Rattle.vx_plan.specs.PlanData.{Setting, Item, Pair, What, many_chunks, empty_list, rows_in}
 use Rattle.vx_plan.specs.ColumnNodes.{elements_in}
@@ -20,7 +19,7 @@ use Rattle.vx_machine_turns.specs.Starts.{start_fault}
 use Rattle.vx_machine_turns.specs.Flat.{forbidden}
 use Rattle.vx_machine_turns.specs.Grouped.{Grouper, block_grouper, byte_grouper}
 use Rattle.vx_machine_turns.specs.Collected.{collected_so_far, collect_rest}
-use Rattle.vx_machine_view.specs.State.{Fold, fold_chunks, fold_columns, Next, put, hand_on, append, shut_kids, join_kids, Mind, no_chunk, one_chunk, by_chunk, by_column, by_list, by_block, by_size, as_one, ending, passing, made, Desk, Tasks, no_tasks, task_then}
+use Rattle.vx_machine_view.specs.State.{Fold, fold_chunks, fold_columns, Next, put, hand_on, press, append, shut_kids, join_kids, Mind, no_chunk, one_chunk, by_chunk, by_column, by_list, by_block, by_size, as_one, by_image, as_is, ending, passing, made, Desk, Tasks, no_tasks, task_then}
 use Rattle.vx_machine_view.specs.Start.{first_indices, started_task}
 
 -- ---- children
@@ -63,6 +62,8 @@ layout_in (by_list t n first from rows) below = []
 layout_in (by_block len minimum t x j rows) below = []
 layout_in (by_size size x j rows) below = []
 layout_in (as_one t x rows) below = []
+layout_in (by_image which) below = []
+layout_in as_is below = []
 layout_in ending below = []
 
 -- the layouts of those that have done all
@@ -110,13 +111,14 @@ abbrev pub joined_rows : Fold → List (LayoutData ℕ) → List ℕ
 joined_rows (fold_chunks t) ls = total_by row_count ls ∷ []
 joined_rows (fold_columns t rows) ls = []
 
--- Of what is left of its block: the layouts name these encodings, and an append gets this number. Joined children are given up.
-abbrev pub do_next : List EncodingId → ℕ → Desk → Tasks → Next → List Next → Did
-do_next ids number c ks (put j i) todo = done_as (Put j) (now c c.mind todo c.inbox) (give j i ks)
-do_next ids number c ks (hand_on n i) todo = record (done_as (Put 0) (now c c.mind todo c.inbox) (give 0 i ks)) { lowers = n }
-do_next ids number c ks (append x) todo = record (done_as (Append x.id) (now c (made (flat_layout x.type x.rows ids x.tree number)) todo c.inbox) ks) { wrote = (x.id, x.bytes) ∷ [] }
-do_next ids number c ks shut_kids todo = done_as (Free Close) (now c c.mind todo c.inbox) (shut_all ks)
-do_next ids number c ks (join_kids f) todo = record (done_as Join (now c (made (folded f (layouts_in ks))) todo c.inbox) no_tasks) { joined = joined_rows f (layouts_in ks) }
+-- Of what is left of its block: an append gets this number. Joined children are given up.
+abbrev pub do_next : Setting → ℕ → Desk → Tasks → Next → List Next → Did
+do_next s number c ks (put j i) todo = done_as (Put j) (now c c.mind todo c.inbox) (give j i ks)
+do_next s number c ks (hand_on n i) todo = record (done_as (Put 0) (now c c.mind todo c.inbox) (give 0 i ks)) { lowers = n }
+do_next s number c ks (press which i) todo = done_as (Free Call) (now c c.mind (hand_on 0 (i.0, s.image which i.1) ∷ todo) c.inbox) ks
+do_next s number c ks (append x) todo = record (done_as (Append x.id) (now c (made (flat_layout x.type x.rows s.encodings x.tree number)) todo c.inbox) ks) { wrote = (x.id, x.bytes) ∷ [] }
+do_next s number c ks shut_kids todo = done_as (Free Close) (now c c.mind todo c.inbox) (shut_all ks)
+do_next s number c ks (join_kids f) todo = record (done_as Join (now c (made (folded f (layouts_in ks))) todo c.inbox) no_tasks) { joined = joined_rows f (layouts_in ks) }
 
 -- a chunk's segment, where it can be encoded, with the tree that its layout keeps
 abbrev pub stored : Ty → Item → Option (List ℕ) → Option (List ℕ) → Mind
@@ -237,6 +239,8 @@ take_chunk s c ks i xs (as_one t x rows) = record (done_as Take (now c (as_one t
   misfit = not (ty_eq (piece_type i.1) t);
   numbers = (rows + rows_in i.1) ∷ [];
 }
+take_chunk s c ks i xs (by_image which) = done_as Take (now c (by_image which) (press which i ∷ []) xs) ks
+take_chunk s c ks i xs as_is = done_as Take (now c as_is (hand_on 0 i ∷ []) xs) ks
 take_chunk s c ks i xs ending = done_as Take (now c ending [] xs) ks
 take_chunk s c ks i xs passing = done_as Take (now c passing [] xs) ks
 take_chunk s c ks i xs (made l) = done_as Take (now c (made l) [] xs) ks
@@ -260,6 +264,8 @@ take_end c ks (by_list t n first from rows) = end_lists first (list t n) rows c 
 take_end c ks (by_block len minimum t x j rows) = end_grouped (block_grouper (of_length len minimum) t) x j c ks
 take_end c ks (by_size size x j rows) = end_grouped (byte_grouper size) x j c ks
 take_end c ks (as_one t x rows) = pass_on (hand_all (λ p. 0) (collect_rest t x)) c ks
+take_end c ks (by_image which) = pass_on [] c ks
+take_end c ks as_is = pass_on [] c ks
 take_end c ks ending = done_as TakeEnd (now c ending [] []) ks
 take_end c ks passing = done_as TakeEnd (now c passing [] []) ks
 take_end c ks (made l) = done_as TakeEnd (now c (made l) [] []) ks
@@ -269,5 +275,5 @@ do_take s c ks (i ∷ xs) = take_chunk s c ks i xs c.mind
 do_take s c ks [] = take_end c ks c.mind
 
 abbrev pub do_act : Setting → ℕ → Desk → Tasks → List Next → Did
-do_act s number c ks (x ∷ todo) = do_next s.encodings number c ks x todo
+do_act s number c ks (x ∷ todo) = do_next s number c ks x todo
 do_act s number c ks [] = do_take s c ks c.inbox

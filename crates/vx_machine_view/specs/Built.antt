@@ -1,4 +1,4 @@
--- Which strategies and forms are built: those of flat, chunked, struct and list nodes, of nodes that regroup, and tables of these.
+-- Which strategies and forms are built: those of flat, chunked, struct and list nodes, of nodes that regroup or compress, and tables of these.
 use Rattle.std.specs.Prelude.{◌≡◌, ◌&&◌, Bool, true, false, List, [], ◌∷◌}
 use Rattle.vx_model.specs.Ty.{Ty, Tys, boolean, no_fields, field}
 use Rattle.vx_rules.specs.Columns.{offset_type}
@@ -10,7 +10,7 @@ abbrev mutual
   is_built (flat o) = true
   is_built (chunked w) = is_built w
   is_built (grouped g w) = is_built w
-  is_built (compressed which room w) = false
+  is_built (compressed which room w) = is_built w
   is_built (coded o c v f) = false
   is_built (zoned o w stats) = false
   is_built (structured v d ws) = is_built v && (is_built d && are_built ws)
@@ -50,7 +50,7 @@ abbrev mutual
   Built (struct_form fs n name v ks) = (form_type v ≡ boolean false) × Built v × AllBuilt fs ks
   -- its start refuses
   Built (no_struct_form t) = Unit {0}
-  Built (compressed_form which room t k) = ⊥
+  Built (compressed_form which room t k) = (form_type k ≡ t) × Built k
   Built (dict_form o t c v f) = ⊥
   Built (zoned_form o t k stats) = ⊥
   Built (list_form t n es os v) = (form_type es ≡ t) × Built es × (form_type os ≡ offset_type) × Built os × (form_type v ≡ boolean false) × Built v

@@ -4,6 +4,7 @@ pub mod Acts
 pub mod Moves
 pub mod Machine
 pub mod Built
+pub mod Images
 pub mod Tables
 pub mod Typed
 pub mod Shows

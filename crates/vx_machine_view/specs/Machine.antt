@@ -8,7 +8,7 @@ use Rattle.vx_machine_turns.specs.Forms.{Form}
 use Rattle.vx_machine_turns.specs.Grouped.{group_kept}
 use Rattle.vx_machine_turns.specs.Collected.{collect_kept}
 use Rattle.vx_machine_promises.specs.Write.{Answer, unasked, came, over}
-use Rattle.vx_machine_view.specs.State.{Next, put, hand_on, append, shut_kids, join_kids, Mind, no_chunk, one_chunk, by_chunk, by_column, by_list, by_block, by_size, as_one, ending, passing, made, Tasks, no_tasks, task_then}
+use Rattle.vx_machine_view.specs.State.{Next, put, hand_on, press, append, shut_kids, join_kids, Mind, no_chunk, one_chunk, by_chunk, by_column, by_list, by_block, by_size, as_one, by_image, as_is, ending, passing, made, Tasks, no_tasks, task_then}
 use Rattle.vx_machine_view.specs.Start.{started_task}
 use Rattle.vx_machine_view.specs.Acts.{give, shut_all}
 use Rattle.vx_machine_view.specs.Moves.{is_empty, has_room, Step, steps}
@@ -101,6 +101,8 @@ has_layout (by_list t n first from rows) ks below = false
 has_layout (by_block len minimum t x j rows) ks below = false
 has_layout (by_size size x j rows) ks below = false
 has_layout (as_one t x rows) ks below = false
+has_layout (by_image which) ks below = false
+has_layout as_is ks below = false
 has_layout ending ks below = false
 
 -- the first one's layout is there, its own or that of its only child, and nothing else
@@ -117,6 +119,7 @@ abbrev pub next_ids : List Next → List (List ℕ)
 next_ids [] = []
 next_ids (put j i ∷ todo) = i.0 ∷ next_ids todo
 next_ids (hand_on n i ∷ todo) = i.0 ∷ next_ids todo
+next_ids (press which i ∷ todo) = i.0 ∷ next_ids todo
 next_ids (append x ∷ todo) = x.id ∷ next_ids todo
 next_ids (shut_kids ∷ todo) = next_ids todo
 next_ids (join_kids f ∷ todo) = next_ids todo
@@ -130,6 +133,8 @@ mind_ids (by_list t n first from rows) = []
 mind_ids (by_block len minimum t x j rows) = group_kept j
 mind_ids (by_size size x j rows) = group_kept j
 mind_ids (as_one t x rows) = collect_kept x
+mind_ids (by_image which) = []
+mind_ids as_is = []
 mind_ids ending = []
 mind_ids passing = []
 mind_ids (made l) = []

@@ -3,7 +3,7 @@ use Rattle.std.specs.Prelude.{ℕ, zero, suc, ◌==◌, ◌&&◌, not, nat_lt, c
 use Rattle.vx_path.specs.Path.{is_least}
 use Rattle.vx_tasks.specs.Task.{Kind}
 use Rattle.vx_plan.specs.PlanData.{Setting, Item, Pair, What}
-use Rattle.vx_machine_view.specs.State.{Fold, fold_chunks, fold_columns, Next, put, hand_on, append, shut_kids, join_kids, Mind, no_chunk, one_chunk, by_chunk, by_column, by_list, by_block, by_size, as_one, ending, passing, made, Desk, Tasks, no_tasks, task_then}
+use Rattle.vx_machine_view.specs.State.{Fold, fold_chunks, fold_columns, Next, put, hand_on, press, append, shut_kids, join_kids, Mind, no_chunk, one_chunk, by_chunk, by_column, by_list, by_block, by_size, as_one, by_image, as_is, ending, passing, made, Desk, Tasks, no_tasks, task_then}
 use Rattle.vx_machine_view.specs.Acts.{count, Did, do_act, column_count}
 
 abbrev pub is_empty : {A : Type 0} → List A → Bool
@@ -22,6 +22,8 @@ is_made (by_list t n first from rows) left below = false
 is_made (by_block len minimum t x j rows) left below = false
 is_made (by_size size x j rows) left below = false
 is_made (as_one t x rows) left below = false
+is_made (by_image which) left below = false
+is_made as_is left below = false
 is_made ending left below = false
 
 -- it takes no more
@@ -37,6 +39,8 @@ is_over (by_list t n first from rows) = false
 is_over (by_block len minimum t x j rows) = false
 is_over (by_size size x j rows) = false
 is_over (as_one t x rows) = false
+is_over (by_image which) = false
+is_over as_is = false
 
 abbrev pub all_made : Tasks → Bool
 all_made no_tasks = true
@@ -57,6 +61,7 @@ can_fold (fold_columns t rows) n = n == column_count t
 abbrev pub may_next : List (List ℕ) → Tasks → Next → Bool
 may_next all ks (put j i) = has_room j ks
 may_next all ks (hand_on n i) = has_room 0 ks
+may_next all ks (press which i) = true
 may_next all ks (append x) = is_least x.id all
 may_next all ks shut_kids = true
 may_next all ks (join_kids f) = all_made ks && can_fold f (count ks)

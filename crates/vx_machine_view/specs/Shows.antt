@@ -6,7 +6,8 @@ use Rattle.vx_model.specs.ChunkData.{ChunkData, held}
 use Rattle.vx_path.specs.Lists.{In}
 use Rattle.vx_path.specs.Path.{Eof}
 use Rattle.vx_layout_spec.specs.LayoutTree.{LayoutData, row_count, renamed, flat_layout}
-use Rattle.vx_tasks.specs.Task.Kind.{Append, Join}
+use Rattle.vx_tasks.specs.Task.Prompt.{Call}
+use Rattle.vx_tasks.specs.Task.Kind.{Free, Append, Join}
 use Rattle.vx_tasks.specs.Nodes.{numbers}
 use Rattle.vx_rules.specs.Blocks.{BlockOptions, block_len}
 use Rattle.vx_rules.specs.Stream.{piece_cells}
@@ -14,8 +15,8 @@ use Rattle.vx_strategy_spec.specs.StrategyData.{FlatOptions}
 use Rattle.vx_plan.specs.PlanData.{Setting, Item, row_total, rows_in}
 use Rattle.vx_plan.specs.FlatNode.{inlined}
 use Rattle.vx_machine_turns.specs.Forms.{Writer, chunked_form}
-use Rattle.vx_machine_turns.specs.Locals.{ChunkedNode, StructNode, ListNode, GroupedNode, Local, flat_empty, flat_full, flat_many, chunked_local, struct_local, list_local, blocks_local, bytes_local, collect_local, compressed_local, outlet_local, dict_local, fallback_local, runs_local, zoned_local, idle_local, source_local, outside_local}
-use Rattle.vx_machine_turns.specs.Acts.{Seed, Act, Shape, alone, gathers, struct_of, list_of, runs_of, zones_of, passes, does, close_queues, shape_in, gifts, numbers_in}
+use Rattle.vx_machine_turns.specs.Locals.{ChunkedNode, StructNode, ListNode, GroupedNode, CompressedNode, Local, flat_empty, flat_full, flat_many, chunked_local, struct_local, list_local, blocks_local, bytes_local, collect_local, compressed_local, outlet_local, dict_local, fallback_local, runs_local, zoned_local, idle_local, source_local, outside_local}
+use Rattle.vx_machine_turns.specs.Acts.{Seed, Act, Shape, alone, gathers, struct_of, list_of, runs_of, zones_of, passes, does, put_item, close_queues, shape_in, gifts, numbers_in}
 use Rattle.vx_machine_turns.specs.Grouped.{weighed_puts, group_kept}
 use Rattle.vx_machine_turns.specs.Collected.{collected_so_far, collect_kept}
 use Rattle.vx_machine_turns.specs.Fuels.{Fuel, less, Enough}
@@ -24,10 +25,10 @@ use Rattle.vx_machine_turns.specs.Readings.{shaped}
 use Rattle.vx_machine_turns.specs.Scripts.{filled}
 use Rattle.vx_machine_steps.specs.Tree.{Head, Tree, Leaf, Work}
 use Rattle.vx_machine_steps.specs.Moves.{all_paths, all_over}
-use Rattle.vx_machine_view.specs.State.{Stored, fold_chunks, fold_columns, Next, append, shut_kids, join_kids, Mind, no_chunk, one_chunk, by_chunk, by_column, by_list, by_block, by_size, as_one, ending, passing, made, Desk, Tasks, no_tasks, task_then}
+use Rattle.vx_machine_view.specs.State.{Stored, fold_chunks, fold_columns, Next, press, append, shut_kids, join_kids, Mind, no_chunk, one_chunk, by_chunk, by_column, by_list, by_block, by_size, as_one, by_image, as_is, ending, passing, made, Desk, Tasks, no_tasks, task_then}
 use Rattle.vx_machine_view.specs.Acts.{count, column_count, puts, hand_all}
 use Rattle.vx_machine_view.specs.Built.{Built, column_types, list_types}
-use Rattle.vx_machine_view.specs.Typed.{AllTyped, EachTyped, ChunksTyped, NewestTyped}
+use Rattle.vx_machine_view.specs.Typed.{Typed, AllTyped, EachTyped, ChunksTyped, NewestTyped}
 
 -- ---- what is read off the abstract tree
 
@@ -148,6 +149,18 @@ pub record Groups (mind : Mind) (left : List Next) (q : Seed) (past todo : List 
   pub kids : types_of hs ≡ t ∷ []
   pub typed : AllTyped t outs
 
+-- It has this in mind and calls the compressor next, as these acts tell. Its chunks are of this type.
+pub record Calls (mind : Mind) (left : List Next) (q : Seed) (past todo : List Act) (l : Local) (over : Bool) (hs : Tree) (mind_now : Mind) (left_now : List Next) (acts : List Act) (local_now : Local) (t : Ty) : Type 0 where
+  pub mind_is : mind ≡ mind_now
+  pub local_is : l ≡ local_now
+  pub left_is : left ≡ left_now
+  pub rest : todo ≡ acts
+  pub on : over ≡ false
+  pub unshaped : shape_in past ≡ None
+  pub type_is : q.type ≡ t
+  -- it has one child
+  pub kids : types_of hs ≡ t ∷ []
+
 -- the shape of a node with columns of this type
 abbrev pub columns_of : Ty → ℕ → Shape
 columns_of (list t n) rows = list_of (list t n) rows
@@ -196,6 +209,14 @@ pub data Stage (s : Setting) (d : Fuel) (mind : Mind) (left : List Next) (ks : T
       → Stage s d mind left ks q past todo l over hs
   collects : (n : GroupedNode) (x : Option (List ℕ × List ChunkData)) (rows : ℕ)
       → Groups mind left q past todo l over hs (as_one n.type x rows) (collect_local n x rows) n.type (λ p. 0) (collect_kept x) []
+      → Stage s d mind left ks q past todo l over hs
+  -- a compressing node, before a chunk's image, and behind it
+  presses : (n : CompressedNode) (t : Ty) (i : Item) → Typed t i.1
+      → Calls mind left q past todo l over hs (by_image n.which) (press n.which i ∷ []) (filled [] (does (Free Call) ∷ put_item 0 (i.0, s.image n.which i.1) ∷ [])) (compressed_local n) t
+      → Stage s d mind left ks q past todo l over hs
+  pressed : (n : CompressedNode) (t : Ty) (outs : List Item) → Groups mind left q past todo l over hs (by_image n.which) (compressed_local n) t (λ p. 0) [] outs
+      → Stage s d mind left ks q past todo l over hs
+  lets_out : (n : CompressedNode) (t : Ty) (outs : List Item) → Groups mind left q past todo l over hs as_is (outlet_local n) t (λ p. 0) [] outs
       → Stage s d mind left ks q past todo l over hs
   -- behind the end: these are left to hand on, then the queue of its only child is closed; or nothing is left
   passes_on : (t : Ty) (weight : ChunkData → ℕ) (outs : List Item) → types_of hs ≡ t ∷ [] → AllTyped t outs

@@ -1,12 +1,12 @@
 -- The task of a form, with all that is started with it.
-use Rattle.std.specs.Prelude.{ℕ, suc, ◌+◌, ◌||◌, if◌then◌else◌, Bool, true, false, List, [], ◌∷◌, ◌++◌, Some, None}
+use Rattle.std.specs.Prelude.{ℕ, suc, ◌+◌, ◌-◌, ◌||◌, if◌then◌else◌, Bool, true, false, List, [], ◌∷◌, ◌++◌, Some, None}
 use Rattle.vx_model.specs.Ty.{struct}
 use Rattle.vx_rules.specs.Blocks.{block_len}
 use Rattle.vx_strategy_spec.specs.StrategyData.{by_blocks, by_bytes, into_one}
 use Rattle.vx_path.specs.Path.{Eof, under, inside, next}
 use Rattle.vx_plan.specs.PlanData.{Item}
 use Rattle.vx_machine_turns.specs.Forms.{Form, Forms, flat_form, chunked_form, grouped_form, compressed_form, dict_form, zoned_form, no_struct_form, struct_form, list_form, no_forms, form_then}
-use Rattle.vx_machine_view.specs.State.{Mind, no_chunk, by_chunk, by_column, by_list, by_block, by_size, as_one, ending, Desk, Tasks, no_tasks, task_then}
+use Rattle.vx_machine_view.specs.State.{Mind, no_chunk, by_chunk, by_column, by_list, by_block, by_size, as_one, by_image, as_is, ending, Desk, Tasks, no_tasks, task_then}
 
 -- what it has in mind before a chunk comes: its mark and its pointer; kinds that aren't built start nothing
 abbrev pub first_mind : Form → Bool → Eof → Mind
@@ -16,7 +16,7 @@ first_mind (struct_form fs n name v ks) m e = by_column (struct fs n) 0
 first_mind (grouped_form (by_blocks o) t k) m e = by_block (block_len o t) o.minimum t [] None 0
 first_mind (grouped_form (by_bytes size) t k) m e = by_size size [] None 0
 first_mind (grouped_form into_one t k) m e = as_one t None 0
-first_mind (compressed_form which room t k) m e = ending
+first_mind (compressed_form which room t k) m e = by_image which
 first_mind (dict_form o t c v f) m e = ending
 first_mind (zoned_form o t k stats) m e = ending
 first_mind (no_struct_form t) m e = ending
@@ -26,9 +26,14 @@ first_mind (list_form t n es os v) m e = by_list t n true 0 0
 abbrev pub waiting : List ℕ → Mind → List Item → Bool → Desk
 waiting name mind inbox closed = record { name = name; mind = mind; todo = []; inbox = inbox; places = 1; closed = closed }
 
+-- What stands between a compressing node and its child: it hands on each image, and its queue has so many places.
+abbrev pub outlet_desk : ℕ → List ℕ → Desk
+outlet_desk room name = record { name = name; mind = as_is; todo = []; inbox = []; places = 1 + (room - 1); closed = false }
+
 -- A struct's columns start with it: validity where it is nullable, then the fields. So do a list's: elements, offsets, and
 -- validity where it is nullable. Column c has the c-th name below, and a pointer inside the c-th path from e on. So does the only
--- child of a node that regroups, which gets the pointer itself.
+-- child of a node that regroups, which gets the pointer itself. A compressing node has its outlet for
+-- a child, and that the node's child, whose name comes next beside the outlet's.
 abbrev mutual
   pub first_kids : Form → Bool → List ℕ → Eof → Tasks
   first_kids (struct_form fs n name v ks) m at e =
@@ -38,7 +43,8 @@ abbrev mutual
   first_kids (flat_form o t) m at e = no_tasks
   first_kids (chunked_form t k) m at e = no_tasks
   first_kids (grouped_form g t k) m at e = task_then (waiting (under at 0) (first_mind k m e) [] false) (first_kids k m (under at 0) e) no_tasks
-  first_kids (compressed_form which room t k) m at e = no_tasks
+  first_kids (compressed_form which room t k) m at e =
+      task_then (outlet_desk room (under at 0)) (task_then (waiting (under at 1) (first_mind k m e) [] false) (first_kids k m (under at 1) e) no_tasks) no_tasks
   first_kids (dict_form o t c v f) m at e = no_tasks
   first_kids (zoned_form o t k stats) m at e = no_tasks
   first_kids (no_struct_form t) m at e = no_tasks
@@ -65,7 +71,7 @@ abbrev mutual
   first_indices (flat_form o t) e = []
   first_indices (chunked_form t k) e = []
   first_indices (grouped_form g t k) e = first_indices k e
-  first_indices (compressed_form which room t k) e = []
+  first_indices (compressed_form which room t k) e = first_indices k e
   first_indices (dict_form o t c v f) e = []
   first_indices (zoned_form o t k stats) e = []
   first_indices (no_struct_form t) e = []

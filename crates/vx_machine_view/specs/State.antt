@@ -29,6 +29,8 @@ pub data Next : Type 0 where
   put : ℕ → Item → Next
   -- on the queue of its only child; so many bytes are then taken from the tracker
   hand_on : ℕ → Item → Next
+  -- it calls the compressor under this number for the item's chunk; the image is then handed on in its place
+  press : ℕ → Item → Next
   append : Stored → Next
   -- the queues of all children
   shut_kids : Next
@@ -51,6 +53,10 @@ pub data Mind : Type 0 where
   by_size : ℕ → List ChunkData → Option Item → ℕ → Mind
   -- a collection's: type; the last path and the chunks so far, and their rows
   as_one : Ty → Option (List ℕ × List ChunkData) → ℕ → Mind
+  -- a compressing node's: the compressor's number
+  by_image : ℕ → Mind
+  -- of one that hands on each chunk as it is
+  as_is : Mind
   -- it has seen the end of its stream
   ending : Mind
   -- so it has, and its layout is its only child's
