@@ -41,7 +41,8 @@ pub fn is_built(strategy: &Strategy) -> bool
         Strategy::Repartition(by) => is_built(by.child().strategy()),
         Strategy::Buffered(by) => is_built(by.child().strategy()),
         Strategy::Collect(into) => is_built(into.child().strategy()),
-        Strategy::Dict(_) | Strategy::Zoned(_) | Strategy::Compressing(_) => false,
+        Strategy::Compressing(by) => is_built(by.child().strategy()),
+        Strategy::Dict(_) | Strategy::Zoned(_) => false,
     }
 }
 

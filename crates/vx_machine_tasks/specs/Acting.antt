@@ -13,7 +13,8 @@ use Rattle.vx_order.specs.declared.attempt.Attempt.TheVariants.{Written}
 use Rattle.vx_plan.specs.PlanData.{Setting, Pair, What, many_chunks, Item as Piece}
 use Rattle.vx_machine_turns.specs.Flat.{forbidden}
 use Rattle.vx_machine_turns.specs.Starts.{start_fault}
-use Rattle.vx_machine_view.specs.State.{Next, Mind, ending, Desk, Tasks}
+use Rattle.vx_machine_view.specs.State.{Next, hand_on, Mind, ending, Desk, Tasks}
+use Rattle.vx_machine_view.specs.Images.{images_of}
 use Rattle.vx_machine_view.specs.Start.{waiting, first_indices}
 use Rattle.vx_sink.specs.declared.context.LayoutWriterContext.{LayoutWriterContext}
 use Rattle.vx_sink.specs.ContextView.{counted as bytes_counted}
@@ -26,7 +27,7 @@ use Rattle.vx_machine_tasks.specs.declared.item.Segment.{Segment}
 use Rattle.vx_machine_tasks.specs.declared.kinds.ChunkedNode.{ChunkedNode}
 use Rattle.vx_machine_tasks.specs.declared.kinds.FlatNode.{FlatNode}
 use Rattle.vx_machine_tasks.specs.declared.node.Local.{Local}
-use Rattle.vx_machine_tasks.specs.declared.node.Local.TheVariants.{Empty, Full, Chunked, Columns, Lists, Grouped, Over, Passing, Made}
+use Rattle.vx_machine_tasks.specs.declared.node.Local.TheVariants.{Empty, Full, Chunked, Columns, Lists, Grouped, Pressing, AsIs, Over, Passing, Made}
 use Rattle.vx_machine_tasks.specs.declared.task.Head.{Head}
 use Rattle.vx_machine_tasks.specs.declared.task.Task.{Task}
 use Rattle.vx_machine_tasks.specs.Context.{setting_of}
@@ -67,13 +68,14 @@ AppendRefused o x e = Refused None false [] [] (x ∷ []) (IsPast o) (IsShared o
 abbrev pub bare : Mind → Desk
 bare mind = waiting [] mind [] false
 
-abbrev pub acted : List EncodingId → ℕ → Mind → Tasks → Next → Did
-acted ids number mind ks x = do_next ids number (bare mind) ks x []
+abbrev pub acted : Setting → ℕ → Mind → Tasks → Next → Did
+acted s number mind ks x = do_next s number (bare mind) ks x []
 
--- an act was done, with this in mind then and these children
-pub record ActDone (w : Did) (before : Outlet) (number : ℕ) (after : Outlet) (mind : Mind) (kids : Tasks) (a : ActionKind) : Type 0 where
+-- an act was done, with this in mind then, this left to do before what was, and these children
+pub record ActDone (w : Did) (before : Outlet) (number : ℕ) (after : Outlet) (mind : Mind) (todo left : List Next) (kids : Tasks) (a : ActionKind) : Type 0 where
   pub unrefused : w.refusal ≡ None
   pub fits : w.misfit ≡ false
+  pub todo_is : todo ≡ w.desk.todo ++ left
   pub mind_is : mind ≡ w.desk.mind
   pub kids_are : kids ≡ w.kids
   pub kind : a ≡ action_of w.kind
@@ -81,11 +83,16 @@ pub record ActDone (w : Did) (before : Outlet) (number : ℕ) (after : Outlet) (
 
 -- what is due to a task was done, and an append got some number; or it is refused, whatever number that would be
 
-abbrev pub DueDone : List EncodingId → Local → List Task → Due → Outlet → Outlet → Local → List Task → ActionKind → Type 0
-DueDone ids l ks d before after m kids a = (n : ℕ) × ActDone (acted ids n (mind_of l) (row ks) (next_of d)) before n after (mind_of m) (row kids) a
+abbrev pub DueDone : LayoutWriterContext → (ℕ → ChunkData → ChunkData) → Local → List Task → Due → Outlet → Outlet → Local → List Next → List Next → List Task → ActionKind → Type 0
+DueDone ctx image l ks d before after m todo left kids a = (n : ℕ) × ActDone (acted (setting_of ctx image) n (mind_of l) (row ks) (next_of d)) before n after (mind_of m) todo left (row kids) a
 
-abbrev pub DueRefused : List EncodingId → Local → List Task → Due → Outlet → WriteError → Type 0
-DueRefused ids l ks d o e = (n : ℕ) → ActRefused (acted ids n (mind_of l) (row ks) (next_of d)) o e
+abbrev pub DueRefused : LayoutWriterContext → (ℕ → ChunkData → ChunkData) → Local → List Task → Due → Outlet → WriteError → Type 0
+DueRefused ctx image l ks d o e = (n : ℕ) → ActRefused (acted (setting_of ctx image) n (mind_of l) (row ks) (next_of d)) o e
+
+-- The compressor was called under this number, and the image is to be handed on before what was. A compressor's images are known of
+-- chunks that can be in memory.
+abbrev pub Pressed : (ℕ → ChunkData → ChunkData) → ℕ → Piece → List Next → List Next → Type 0
+Pressed image which i todo before = todo ≡ hand_on 0 (i.0, images_of image which i.1) ∷ before
 
 -- layouts of so many rows aren't joined
 abbrev pub JoinRefused : List ℕ → WriteError → Type 0
@@ -116,7 +123,7 @@ TakeRefused w e = Refused w.refusal w.misfit w.numbers w.indices w.wrote none_pa
 abbrev pub TakeStopped : ℕ → Did → WriteError → Type 0
 TakeStopped counts w e = Refused w.refusal w.misfit ((counts + w.raises) ∷ w.numbers) w.indices w.wrote none_past ⊥ w.joined e
 
--- the same whatever images there are, of which no act here asks
+-- the same whatever images there are, of which no take asks
 
 abbrev pub ChunkTaken : LayoutWriterContext → List ℕ → Tasks → Item → Local → Local → List Next → List Next → Tasks → Type 0
 ChunkTaken ctx name ks i l m todo before kids = (image : ℕ → ChunkData → ChunkData) → Took (taken (setting_of ctx image) name ks (item_of i) (mind_of l)) (mind_of m) todo before kids
@@ -152,6 +159,8 @@ first_word first (Chunked n eof rows) = Some many_chunks
 first_word first (Columns n rows) = Some many_chunks
 first_word first (Lists n rows) = Some many_chunks
 first_word first (Grouped n) = Some many_chunks
+first_word first (Pressing which) = Some many_chunks
+first_word first AsIs = Some many_chunks
 first_word first Over = Some many_chunks
 first_word first Passing = Some many_chunks
 first_word first (Made l) = Some many_chunks
@@ -164,6 +173,8 @@ is_flat (Chunked n eof rows) = false
 is_flat (Columns n rows) = false
 is_flat (Lists n rows) = false
 is_flat (Grouped n) = false
+is_flat (Pressing which) = false
+is_flat AsIs = false
 is_flat Over = false
 is_flat Passing = false
 is_flat (Made l) = false
@@ -176,6 +187,8 @@ is_grouped (Full x) = false
 is_grouped (Chunked n eof rows) = false
 is_grouped (Columns n rows) = false
 is_grouped (Lists n rows) = false
+is_grouped (Pressing which) = false
+is_grouped AsIs = false
 is_grouped Over = false
 is_grouped Passing = false
 is_grouped (Made l) = false
@@ -242,8 +255,8 @@ pub record Acted (w : Did) (before : Outlet) (number : ℕ) (after : Outlet) (he
 abbrev pub act_next : LayoutWriterContext → (ℕ → ChunkData → ChunkData) → ℕ → Head → List Task → Did
 act_next ctx image n h ks = do_act (setting_of ctx image) n (desk_of h) (row ks) (todo_of h.todo.items)
 
-abbrev pub NextDone : LayoutWriterContext → Head → List Task → Outlet → Outlet → Head → List Task → ActionKind → Type 0
-NextDone ctx h ks before after head kids a = (image : ℕ → ChunkData → ChunkData) → (n : ℕ) × Acted (act_next ctx image n h ks) before n after head kids a
+abbrev pub NextDone : LayoutWriterContext → (ℕ → ChunkData → ChunkData) → Head → List Task → Outlet → Outlet → Head → List Task → ActionKind → Type 0
+NextDone ctx image h ks before after head kids a = (n : ℕ) × Acted (act_next ctx image n h ks) before n after head kids a
 
-abbrev pub NextRefused : LayoutWriterContext → Head → List Task → Outlet → WriteError → Type 0
-NextRefused ctx h ks o e = (image : ℕ → ChunkData → ChunkData) (n : ℕ) → ActStopped (bytes_counted ctx) (act_next ctx image n h ks) o e
+abbrev pub NextRefused : LayoutWriterContext → (ℕ → ChunkData → ChunkData) → Head → List Task → Outlet → WriteError → Type 0
+NextRefused ctx image h ks o e = (n : ℕ) → ActStopped (bytes_counted ctx) (act_next ctx image n h ks) o e

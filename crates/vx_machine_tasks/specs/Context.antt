@@ -2,10 +2,11 @@
 use Rattle.std.specs.Prelude.{ℕ}
 use Rattle.vx_model.specs.ChunkData.{ChunkData}
 use Rattle.vx_plan.specs.PlanData.{Setting}
+use Rattle.vx_machine_view.specs.Images.{images_of}
 use Rattle.vx_setting.specs.Setting.{real}
 use Rattle.vx_sink.specs.declared.context.LayoutWriterContext.{LayoutWriterContext}
 use Rattle.vx_sink.specs.ContextView.{listed, allowed_in}
 
--- what it lists and allows, and a compressor's images, of which no act here asks
+-- what it lists and allows, and a compressor's images, as it gives them of chunks that can be in memory
 abbrev pub setting_of : LayoutWriterContext → (ℕ → ChunkData → ChunkData) → Setting
-setting_of ctx image = real (listed ctx) (allowed_in ctx) image
+setting_of ctx image = real (listed ctx) (allowed_in ctx) (images_of image)

@@ -16,7 +16,7 @@ use Rattle.vx_plan.specs.PlanData.{Setting, What, not_struct, duplicate_field}
 use Rattle.vx_machine_turns.specs.Forms.{Form, Forms, grouped_form, struct_form, list_form, no_forms, form_then}
 use Rattle.vx_machine_turns.specs.Starts.{start_fault, start_faults}
 use Rattle.vx_machine_view.specs.State.{Tasks, no_tasks, task_then}
-use Rattle.vx_machine_view.specs.Start.{waiting, first_mind, first_kids, field_tasks, form_count, first_indices, field_indices}
+use Rattle.vx_machine_view.specs.Start.{waiting, outlet_desk, first_mind, first_kids, field_tasks, form_count, first_indices, field_indices}
 use Rattle.vx_machine_view.specs.Acts.{add}
 use Rattle.vx_write_answer.specs.declared.error.WriteError.{WriteError}
 use Rattle.vx_write_answer.specs.declared.error.WriteError.TheVariants.{SourceFault, SinkFault, CompressFault, BatchType, NotStruct, DuplicateField, ManyChunks, EmptyList, ZoneCut, ForbiddenAggregate, ForbiddenEncoding, TooLarge, OutOfMemory, Unbuilt, Stopped}
@@ -165,6 +165,12 @@ pub record IsFresh (n : GroupedNode) : Type 0 where
 -- it is what such a form begins with
 abbrev pub Begins : Grouping → Ty → GroupedNode → Type 0
 Begins g t n = (k : Form) (m : Bool) (e : Eof) → mind_of (Grouped n) ≡ first_mind (grouped_form g t k) m e
+
+-- the outlet of so many places, with what the form starts below it
+pub record OutletStarted (room : ℕ) (f : Form) (m : Bool) (at : List ℕ) (e : Eof) (ks : List Task) : Type 0 where
+  pub allowed : IsAllowed f m
+  pub counted : Counted e (first_indices f e)
+  pub tasks : row ks ≡ task_then (outlet_desk room (under at 0)) (task_then (waiting (under at 1) (first_mind f m e) [] false) (first_kids f m (under at 1) e) no_tasks) no_tasks
 
 -- the only child is what the form starts, with this pointer
 pub record OnlyStarted (f : Form) (m : Bool) (at : List ℕ) (e : Eof) (ks : List Task) : Type 0 where

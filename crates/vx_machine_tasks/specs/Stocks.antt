@@ -5,9 +5,9 @@ use Rattle.vx_machine_tasks.specs.declared.grouped_node.GroupedNode.{GroupedNode
 use Rattle.vx_machine_tasks.specs.declared.item.Item.{Item}
 use Rattle.vx_machine_tasks.specs.declared.item.Stored.{Stored}
 use Rattle.vx_machine_tasks.specs.declared.item.Due.{Due}
-use Rattle.vx_machine_tasks.specs.declared.item.Due.TheVariants.{Put, HandOn, Append, Close, Join}
+use Rattle.vx_machine_tasks.specs.declared.item.Due.TheVariants.{Put, HandOn, Press, Append, Close, Join}
 use Rattle.vx_machine_tasks.specs.declared.node.Local.{Local}
-use Rattle.vx_machine_tasks.specs.declared.node.Local.TheVariants.{Empty, Full, Chunked, Columns, Lists, Grouped, Over, Passing, Made}
+use Rattle.vx_machine_tasks.specs.declared.node.Local.TheVariants.{Empty, Full, Chunked, Columns, Lists, Grouped, Pressing, AsIs, Over, Passing, Made}
 use Rattle.vx_machine_tasks.specs.declared.task.Head.{Head}
 use Rattle.vx_machine_tasks.specs.declared.task.Task.{Task}
 use Rattle.vx_machine_tasks.specs.declared.task.Task.TheOpen.{Task-F}
@@ -25,6 +25,7 @@ stored_stock s = id_stock s.id
 abbrev pub due_stock : Due → Stock
 due_stock (Put child i) = item_stock i
 due_stock (HandOn i r) = item_stock i
+due_stock (Press which i) = item_stock i
 due_stock (Append s) = stored_stock s
 due_stock Close = none
 due_stock (Join h) = none
@@ -42,6 +43,8 @@ local_stock (Chunked n eof rows) = end_stock eof
 local_stock (Columns n rows) = none
 local_stock (Lists n rows) = none
 local_stock (Grouped n) = node_stock n
+local_stock (Pressing which) = none
+local_stock AsIs = none
 local_stock Over = none
 local_stock Passing = none
 local_stock (Made l) = none

@@ -31,6 +31,10 @@ pub enum Local {
     /// With the rows so far.
     Lists(ListsNode, u64),
     Grouped(GroupedNode),
+    /// A compressing node's: the compressor's number.
+    Pressing(u32),
+    /// It hands on each chunk as it is.
+    AsIs,
     /// It has seen the end of its stream.
     Over,
     /// So it has, and its layout is its only child's.
@@ -68,6 +72,8 @@ pub(crate) fn give_up_local<O: Order>(ctx: &mut LayoutWriterContext, order: &mut
         Local::Columns(node, _) => drop(node),
         Local::Lists(node, _) => drop(node),
         Local::Grouped(node) => give_up_grouped(ctx, order, node),
+        Local::Pressing(_) => {}
+        Local::AsIs => {}
         Local::Over => {}
         Local::Passing => {}
         Local::Made(layout) => drop(layout),
