@@ -2,10 +2,12 @@
 use Rattle.std.proofs.Common.{◌≡◌, ℕ, ◌==◌, ◌&&◌, ◌+◌, Bool, true, false, List, [], ◌∷◌, Some, None, refl, sym, ap, subst, arith}
 use Rattle.vx_model.specs.Ty.{list}
 use Rattle.vx_plan.specs.PlanData.{Setting, Item}
-use Rattle.vx_path.specs.Path.{under, inside}
-use Rattle.vx_machine_view.specs.State.{Next, put, hand_on, press, append, shut_kids, join_kids, Mind, no_chunk, one_chunk, by_chunk, by_column, by_list, by_block, by_size, as_one, by_image, as_is, ending, passing, made, Desk, Tasks, no_tasks, task_then}
+use Rattle.vx_plan.specs.DictNode.{is_dictionary}
+use Rattle.vx_path.specs.Path.{Eof, under, inside}
+use Rattle.vx_machine_view.specs.State.{Next, put, hand_on, press, probe, open_run, end_run, append, shut_kids, join_kids, Mind, no_chunk, one_chunk, by_chunk, by_column, by_list, by_block, by_size, as_one, by_image, as_is, by_probe, asking, by_run, ending, passing, made, Desk, Tasks, no_tasks, task_then}
+use Rattle.vx_machine_view.specs.Coder.{Coder}
 use Rattle.vx_machine_view.specs.Start.{started_task}
-use Rattle.vx_machine_view.specs.Acts.{count, give, add, column_count, take_chunk, end_columns, end_lists, take_end, do_take, do_act}
+use Rattle.vx_machine_view.specs.Acts.{count, give, add, end_at, probed, run_tasks, column_count, take_chunk, end_columns, end_lists, take_end, do_take, do_act}
 use Rattle.vx_kept.specs.Kept.{KnowsFrom, Knows, asked_of, ready_of, kids_of}
 use Rattle.vx_kept.specs.Follow.{touched_by, Follows}
 use Rattle.vx_kept.specs.declared.counts.Counts.{Counts}
@@ -23,30 +25,33 @@ add_none (task_then c ks r) = ap (task_then c ks) (add_none r)
 same : (ks : Tasks) → Grown ks ks
 same ks = (no_tasks, add_none ks)
 
-end_grown : (c : Desk) (ks : Tasks) (m : Mind) → Grown ks (take_end c ks m).kids
-end_grown c ks (no_chunk o t) = same ks
-end_grown c ks (one_chunk x) = same ks
-end_grown c ks (by_chunk m t f e rows) = same ks
-end_grown c ks (by_column t rows) = by ((count ks == 0) && (0 == column_count t))
+end_grown : (s : Setting) (c : Desk) (ks : Tasks) (m : Mind) → Grown ks (take_end s c ks m).kids
+end_grown s c ks (no_chunk o t) = same ks
+end_grown s c ks (one_chunk x) = same ks
+end_grown s c ks (by_chunk m t f e rows) = same ks
+end_grown s c ks (by_column t rows) = by ((count ks == 0) && (0 == column_count t))
   where
     by : (z : Bool) → Grown ks (end_columns z t rows c ks).kids
     by true = same ks
     by false = same ks
-end_grown c ks (by_list t n first from rows) = by first
+end_grown s c ks (by_list t n first from rows) = by first
   where
     by : (z : Bool) → Grown ks (end_lists z (list t n) rows c ks).kids
     by true = same ks
     by false = same ks
-end_grown c ks (by_block len minimum t x None rows) = same ks
-end_grown c ks (by_block len minimum t x (Some j) rows) = same ks
-end_grown c ks (by_size size x None rows) = same ks
-end_grown c ks (by_size size x (Some j) rows) = same ks
-end_grown c ks (as_one t x rows) = same ks
-end_grown c ks (by_image which) = same ks
-end_grown c ks as_is = same ks
-end_grown c ks ending = same ks
-end_grown c ks passing = same ks
-end_grown c ks (made l) = same ks
+end_grown s c ks (by_block len minimum t x None rows) = same ks
+end_grown s c ks (by_block len minimum t x (Some j) rows) = same ks
+end_grown s c ks (by_size size x None rows) = same ks
+end_grown s c ks (by_size size x (Some j) rows) = same ks
+end_grown s c ks (as_one t x rows) = same ks
+end_grown s c ks (by_image which) = same ks
+end_grown s c ks as_is = same ks
+end_grown s c ks (by_probe n e) = (started_task n.fallback n.mark (under c.name (count ks)) e [] false, refl)
+end_grown s c ks asking = same ks
+end_grown s c ks (by_run n r j rows) = same ks
+end_grown s c ks ending = same ks
+end_grown s c ks passing = same ks
+end_grown s c ks (made l) = same ks
 
 chunk_grown : (s : Setting) (c : Desk) (ks : Tasks) (i : Item) (xs : List Item) (m : Mind) → Grown ks (take_chunk s c ks i xs m).kids
 chunk_grown s c ks i xs (no_chunk o t) = same ks
@@ -61,19 +66,29 @@ chunk_grown s c ks i xs (by_size size x (Some j) rows) = same ks
 chunk_grown s c ks i xs (as_one t x rows) = same ks
 chunk_grown s c ks i xs (by_image which) = same ks
 chunk_grown s c ks i xs as_is = same ks
+chunk_grown s c ks i xs (by_probe n e) = same ks
+chunk_grown s c ks i xs asking = same ks
+chunk_grown s c ks i xs (by_run n r j rows) = same ks
 chunk_grown s c ks i xs ending = same ks
 chunk_grown s c ks i xs passing = same ks
 chunk_grown s c ks i xs (made l) = same ks
 
 take_grown : (s : Setting) (c : Desk) (ks : Tasks) (inbox : List Item) → Grown ks (do_take s c ks inbox).kids
-take_grown s c ks [] = end_grown c ks c.mind
+take_grown s c ks [] = end_grown s c ks c.mind
 take_grown s c ks (i ∷ xs) = chunk_grown s c ks i xs c.mind
+
+probe_grown : (s : Setting) (c : Desk) (ks : Tasks) (n : Coder) (e : Eof) (i : Item) (todo : List Next) (b : Bool) → Grown ks (probed s b n e i todo c ks).kids
+probe_grown s c ks n e i todo true = same ks
+probe_grown s c ks n e i todo false = (started_task n.fallback n.mark (under c.name (count ks)) e [] false, refl)
 
 pub act_follows : (s : Setting) (number : ℕ) (c : Desk) (ks : Tasks) (todo : List Next) → Follows (touched_by todo) ks (do_act s number c ks todo).kids
 act_follows s number c ks [] = take_grown s c ks c.inbox
 act_follows s number c ks (put j i ∷ todo) = (i, refl)
 act_follows s number c ks (hand_on n i ∷ todo) = (i, refl)
 act_follows s number c ks (press which i ∷ todo) = same ks
+act_follows s number c ks (probe n e i ∷ todo) = probe_grown s c ks n e i todo (is_dictionary (s.image n.options.probe i.1))
+act_follows s number c ks (open_run n j e i ∷ todo) = (run_tasks n c.name j e i, refl)
+act_follows s number c ks (end_run j i ∷ todo) = (i, refl)
 act_follows s number c ks (append x ∷ todo) = same ks
 act_follows s number c ks (shut_kids ∷ todo) = tt
 act_follows s number c ks (join_kids f ∷ todo) = tt

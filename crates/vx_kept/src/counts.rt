@@ -23,6 +23,8 @@ pub struct Counts {
 pub enum Touched {
     /// A child's queue.
     Child(usize),
+    /// This child's queue and the next one's.
+    Both(usize),
     All,
     /// There may be one child more.
     Nothing,
@@ -58,6 +60,10 @@ impl Counts {
     {
         match touched {
             Touched::Child(child) => self.mark(alloc, child),
+            Touched::Both(first) => {
+                self.mark(alloc, first);
+                self.mark(alloc, first.saturating_add(1));
+            }
             Touched::All => *self = Counts::new(alloc),
             Touched::Nothing => {}
         }

@@ -19,7 +19,7 @@ use Rattle.vx_machine_turns.specs.Source.{source_seed}
 use Rattle.vx_machine_steps.specs.Tree.{Tree, Leaf, Work}
 use Rattle.vx_machine_promises.specs.Write.{Answer, unasked, came, over, planned}
 use Rattle.vx_machine_promises.specs.Reached.{Reached}
-use Rattle.vx_machine_view.specs.State.{shut_kids, Mind, no_chunk, one_chunk, by_chunk, by_column, by_list, by_block, by_size, as_one, by_image, as_is, ending, passing, made, Desk, Tasks, no_tasks, task_then}
+use Rattle.vx_machine_view.specs.State.{shut_kids, Mind, no_chunk, one_chunk, by_chunk, by_column, by_list, by_block, by_size, as_one, by_image, as_is, by_probe, asking, by_run, ending, passing, made, Desk, Tasks, no_tasks, task_then}
 use Rattle.vx_machine_view.specs.Acts.{count, column_count, take_chunk, end_columns, end_lists, take_end, do_take, do_act, puts, hand_all}
 use Rattle.vx_machine_view.specs.Moves.{Step, may_act, own_step, in_kids, in_rest, steps}
 use Rattle.vx_machine_view.specs.Typed.{AllTyped}
@@ -43,22 +43,25 @@ lists_end : (b : Bool) (t : Ty) (rows : ℕ) (c : Desk) (ks : Tasks) → (end_li
 lists_end true t rows c ks = refl
 lists_end false t rows c ks = refl
 
-ends_fit : (c : Desk) (ks : Tasks) (mind : Mind) → (take_end c ks mind).misfit ≡ false
-ends_fit c ks (no_chunk o t) = refl
-ends_fit c ks (one_chunk x) = refl
-ends_fit c ks (by_chunk m t f e rows) = refl
-ends_fit c ks (by_column t rows) = columns_end ((count ks == 0) && (0 == column_count t)) t rows c ks
-ends_fit c ks (by_list t n first from rows) = lists_end first (list t n) rows c ks
-ends_fit c ks (by_block len minimum t x None rows) = refl
-ends_fit c ks (by_block len minimum t x (Some j) rows) = refl
-ends_fit c ks (by_size size x None rows) = refl
-ends_fit c ks (by_size size x (Some j) rows) = refl
-ends_fit c ks (as_one t x rows) = refl
-ends_fit c ks (by_image which) = refl
-ends_fit c ks as_is = refl
-ends_fit c ks ending = refl
-ends_fit c ks passing = refl
-ends_fit c ks (made l) = refl
+ends_fit : (s : Setting) (c : Desk) (ks : Tasks) (mind : Mind) → (take_end s c ks mind).misfit ≡ false
+ends_fit s c ks (no_chunk o t) = refl
+ends_fit s c ks (one_chunk x) = refl
+ends_fit s c ks (by_chunk m t f e rows) = refl
+ends_fit s c ks (by_column t rows) = columns_end ((count ks == 0) && (0 == column_count t)) t rows c ks
+ends_fit s c ks (by_list t n first from rows) = lists_end first (list t n) rows c ks
+ends_fit s c ks (by_block len minimum t x None rows) = refl
+ends_fit s c ks (by_block len minimum t x (Some j) rows) = refl
+ends_fit s c ks (by_size size x None rows) = refl
+ends_fit s c ks (by_size size x (Some j) rows) = refl
+ends_fit s c ks (as_one t x rows) = refl
+ends_fit s c ks (by_image which) = refl
+ends_fit s c ks as_is = refl
+ends_fit s c ks (by_probe n e) = refl
+ends_fit s c ks asking = refl
+ends_fit s c ks (by_run n r j rows) = refl
+ends_fit s c ks ending = refl
+ends_fit s c ks passing = refl
+ends_fit s c ks (made l) = refl
 
 module _ (s : Setting) (number : List ℕ → ℕ) (next : ℕ) (all : List (List ℕ)) where
   -- each chunk in these queues is one that the mind takes
@@ -67,7 +70,7 @@ module _ (s : Setting) (number : List ℕ → ℕ) (next : ℕ) (all : List (Lis
   Takes c ks (i ∷ xs) mind = (take_chunk s c ks i xs mind).misfit ≡ false
 
   take_fits : (c : Desk) (ks : Tasks) (xs : List Item) → Takes c ks xs c.mind → (do_take s c ks xs).misfit ≡ false
-  take_fits c ks [] t = ends_fit c ks c.mind
+  take_fits c ks [] t = ends_fit s c ks c.mind
   take_fits c ks (i ∷ xs) t = t
 
   idle_fits : (c : Desk) (ks : Tasks) → c.todo ≡ [] → Takes c ks c.inbox c.mind → (do_act s next c ks c.todo).misfit ≡ false

@@ -19,7 +19,7 @@ use Rattle.vx_machine_promises.specs.Reached.{Reached, moves_at}
 use Rattle.vx_machine_view.specs.Machine.{Machine, WholeStep, machine_ids}
 use Rattle.vx_machine_view.specs.Whole.{Asks, SameWhole}
 use Rattle.vx_machine_view.specs.Underway.{Showing, ready_steps}
-use Rattle.vx_machine_view.proofs.Ending.{held_shows}
+use Rattle.vx_machine_view.proofs.Ending.{moves_shows}
 use Rattle.vx_machine_view.proofs.Wholes.{step_shows, ready_shows}
 
 module _ (g : Write) (taken : List ChunkData) (f : Future) (seen : List Note) (history : List Pair) (tracker : ℕ) (r : Reached g taken f seen history tracker) where
@@ -39,7 +39,7 @@ module _ (g : Write) (taken : List ChunkData) (f : Future) (seen : List Note) (h
 
   module _ (first : ℕ) (m : Machine) (shown : Showing g first taken m f r.tree) where
     pub same_moves : tree_moves g.setting (machine_ids m) (depth g) r.tree ≡ moves_at g r.tree
-    same_moves = ap (λ z. tree_moves g.setting z (depth g) r.tree) (held_shows g (number_of (planned g taken f).pairs first) f m r.tree leads.2 shown)
+    same_moves = moves_shows g (number_of (planned g taken f).pairs first) f m r.tree leads.2 shown
 
     -- as many steps are ready as moves can be done
     pub as_ready : (a : Answer) → Careful g.setting → length (ready_steps g first history a m) ≡ length (moves_at g r.tree)

@@ -52,7 +52,7 @@ no_forbidden : (x : Option EncodingId) → is_some (forbidden x) ≡ false → x
 no_forbidden None e = refl
 no_forbidden (Some id) e = cc
 
-no_refusal : {A : Type 0} (x : Option A) → is_some x ≡ false → x ≡ None
+pub no_refusal : {A : Type 0} (x : Option A) → is_some x ≡ false → x ≡ None
 no_refusal None e = refl
 no_refusal (Some y) e = cc
 
@@ -110,11 +110,11 @@ chunk_fed s number (fuel g) q n e x a ks hs en b sp f ty k nm gs sh st =
     )
 
 -- rows that were counted before an act or by it
-counted_before : (past : List Act) (a : Act) (n : ℕ) → Counted past n → Counted (past ++ (a ∷ [])) n
+pub counted_before : (past : List Act) (a : Act) (n : ℕ) → Counted past n → Counted (past ++ (a ∷ [])) n
 counted_before past a n (inl e) = inl e
 counted_before past a n (inr i) = inr (subst (In n) (sym (numbers_in-append past (a ∷ []))) (in_left n (numbers_in past) (numbers_in (a ∷ [])) i))
 
-counted_now : (past : List Act) (a : Act) (n : ℕ) → In n (a.numbers ++ []) → Counted (past ++ (a ∷ [])) n
+pub counted_now : (past : List Act) (a : Act) (n : ℕ) → In n (a.numbers ++ []) → Counted (past ++ (a ∷ [])) n
 counted_now past a n i = inr (subst (In n) (sym (numbers_in-append past (a ∷ []))) (in_right n (numbers_in past) (a.numbers ++ []) i))
 
 module _ (s : Setting) (number : List ℕ → ℕ) (segment_number : ℕ) (all : List (List ℕ)) (d : Fuel) (q0 : Seed) (j0 : ℕ) (q : Seed) (places : ℕ) (ks more : Tasks) (hs r : Tree) (past : List Act) where

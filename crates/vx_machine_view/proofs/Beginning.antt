@@ -19,7 +19,7 @@ use Rattle.vx_machine_view.specs.State.{Mind, by_column, by_list, by_block, by_s
 use Rattle.vx_machine_view.specs.Start.{first_mind, first_kids, field_tasks, waiting, form_count, first_indices, field_indices, started_task}
 use Rattle.vx_machine_view.specs.Built.{Built, AllBuilt, field_types, column_types, list_types}
 use Rattle.vx_machine_view.specs.Typed.{AllTyped}
-use Rattle.vx_machine_view.specs.Shows.{Alike, Groups, Stage, waits_first, splits, hands, hands_lists, regroups_rows, regroups_chunks, collects, pressed, Shows, rows_of, types_of, local_rows}
+use Rattle.vx_machine_view.specs.Shows.{Alike, Groups, Stage, waits_first, splits, hands, hands_lists, regroups_rows, regroups_chunks, collects, pressed, asks_first, Shows, rows_of, types_of, local_rows}
 use Rattle.vx_machine_view.proofs.Words.{none_some, or_none}
 use Rattle.vx_machine_view.proofs.Feeding.{sprout_none, opened_none}
 use Rattle.vx_machine_view.proofs.Outlets.{outlet_kids, outlet_begun, outlet_rows, outlet_opened}
@@ -167,7 +167,11 @@ module _ (s : Setting) (number : List ℕ → ℕ) where
             tt,
           ),
         )
-    begun (dict_form o t c v w) m name e d b f n = absurd b
+    begun (dict_form o t c v w) m name e d b f n = (
+      asks_first (record { name = name; mark = m; options = o; type = t; codes = c; values = v; fallback = w; eof = e })
+          (record { name_is = refl; type_is = refl; spare = refl; built = b; enough = n }) refl (record { mind_is = refl; local_is = refl; idle = refl; rest = refl; on = refl; unshaped = refl }),
+      none_begun d (seed_of (dict_form o t c v w) m name e),
+    )
     begun (zoned_form o t k stats) m name e d b f n = absurd b
     begun (list_form t n es os v) m name e spent b f h = absurd h
     begun (list_form t true es os v) m name e (fuel g) b f h =
@@ -239,7 +243,7 @@ fresh_rows (grouped_form into_one t k) m name e (fuel g) b = one_zero (local_row
 fresh_rows (compressed_form which room t k) m name e spent b = refl
 fresh_rows (compressed_form which room t k) m name e (fuel g) b =
     ap (λ z. 0 + (((0 + z) + 0) + 0)) (outlet_rows (record { name = name; mark = m; which = which; room = room; child = k; eof = e }) (g (form_type k)) (λ x. fresh_rows k m (under name 1) e x b.1))
-fresh_rows (dict_form o t c v w) m name e d b = absurd b
+fresh_rows (dict_form o t c v w) m name e d b = refl
 fresh_rows (zoned_form o t k stats) m name e d b = absurd b
 fresh_rows (list_form t n es os v) m name e d b = refl
 
@@ -250,7 +254,7 @@ column_length no_forms m = refl
 column_length (form_then k ks) m = ap suc (column_length ks m)
 
 -- one more column
-one_opened : (f : Form) (m : Bool) (name : List ℕ) (c : ℕ) (e : Eof) (g : Ty → Fuel) (qs : List Seed) (xs ys : List ℕ)
+pub one_opened : (f : Form) (m : Bool) (name : List ℕ) (c : ℕ) (e : Eof) (g : Ty → Fuel) (qs : List Seed) (xs ys : List ℕ)
     → start_indices (local_of f m (under name c) (inside e)) ++ opened (g (form_type f)) (firsts (seed_of f m (under name c) (inside e))) ≡ xs → opened (fuel g) qs ≡ ys
     → opened (fuel g) (seed_of f m (under name c) (inside e) ∷ qs) ≡ xs ++ ys
 one_opened f m name c e g qs xs ys h k =
@@ -290,7 +294,7 @@ mutual
   opened_is (compressed_form which room t k) m name e (fuel g) b n =
       append-nil (opened (g (form_type k)) (seed_of k m (under name 1) e ∷ []))
       ∙ outlet_opened (record { name = name; mark = m; which = which; room = room; child = k; eof = e }) (g (form_type k)) n (λ x h. opened_is k m (under name 1) e x b.1 h)
-  opened_is (dict_form o t c v w) m name e d b n = absurd b
+  opened_is (dict_form o t c v w) m name e d b n = opened_none d
   opened_is (zoned_form o t k stats) m name e d b n = absurd b
   opened_is (list_form t n es os v) m name e spent b h = absurd h
   opened_is (list_form t true es os v) m name e (fuel g) b h =

@@ -27,12 +27,12 @@ use Rattle.vx_machine_view.proofs.Feeding.{opened_none, Leaves, feed_none, count
 use Rattle.vx_machine_view.proofs.Acting.{desk, head, Own, then_open, then_done, then_steady, bare, one_pair}
 use Rattle.vx_machine_view.proofs.Joining.{made_is, AllLaid, laid_all}
 
-gathered_rows : (t : Ty) (ls : List (LayoutData ℕ)) → row_count (gathered t (total_by row_count ls) ls) ≡ total_by row_count ls
+pub gathered_rows : (t : Ty) (ls : List (LayoutData ℕ)) → row_count (gathered t (total_by row_count ls) ls) ≡ total_by row_count ls
 gathered_rows t [] = refl
 gathered_rows t (l ∷ []) = let h : row_count l ≡ row_count l + 0 = omega arith in h
 gathered_rows t (l ∷ k ∷ ls) = refl
 
-and_yes : (b : Bool) → (b && true) ≡ b
+pub and_yes : (b : Bool) → (b && true) ≡ b
 and_yes true = refl
 and_yes false = refl
 

@@ -20,3 +20,9 @@ pub mod Placing
 pub mod Outlets
 pub mod Pressing
 pub mod Imaging
+pub mod Deeding
+pub mod Sprouting
+pub mod Probing
+pub mod Cutting
+pub mod Laying
+pub mod Agreeing

@@ -9,7 +9,7 @@ use Rattle.vx_model.specs.Ty.{Ty, struct}
 use Rattle.vx_rules.specs.Blocks.{block_len}
 use Rattle.vx_plan.specs.PlanData.{Setting, Item, row_total}
 use Rattle.vx_machine_turns.specs.Forms.{Writer}
-use Rattle.vx_machine_turns.specs.Locals.{Local, chunked_local, struct_local, list_local, blocks_local, bytes_local, collect_local, compressed_local, outlet_local}
+use Rattle.vx_machine_turns.specs.Locals.{Local, chunked_local, struct_local, list_local, blocks_local, bytes_local, collect_local, compressed_local, outlet_local, fallback_local}
 use Rattle.vx_machine_turns.specs.Acts.{Seed, Act, does, put_item, close_queues, gathers, gifts}
 use Rattle.vx_machine_turns.specs.Grouped.{group_kept}
 use Rattle.vx_machine_turns.specs.Collected.{collect_kept}
@@ -25,15 +25,17 @@ use Rattle.vx_machine_view.specs.Acts.{count, do_act, puts}
 use Rattle.vx_machine_view.specs.Moves.{Step, own_step, in_kids, in_rest, steps, may_act, may_take, is_over}
 use Rattle.vx_machine_view.specs.Built.{column_types, list_types}
 use Rattle.vx_machine_view.specs.Typed.{AllTyped, EachTyped}
-use Rattle.vx_machine_view.specs.Shows.{Alike, Hands, Groups, Calls, Counted, Stage, waits_first, waits_end, appends, splits, gathers_all, hands, hands_lists, shuts, joins_columns, regroups_rows, regroups_chunks, collects, presses, pressed, lets_out, passes_on, passed, Done, Shows, rows_of, types_of, local_rows, task_rows}
+use Rattle.vx_machine_view.specs.Shows.{Alike, Hands, Groups, Calls, Counted, Stage, waits_first, waits_end, appends, splits, gathers_all, hands, hands_lists, shuts, joins_columns, regroups_rows, regroups_chunks, collects, presses, pressed, lets_out, asks_first, probes, falls_back, cuts, last_cuts, passes_on, passed, Done, Shows, rows_of, types_of, local_rows, task_rows}
 use Rattle.vx_machine_view.specs.Steps.{AllPairs, Steady, SameStep, StepsShow}
 use Rattle.vx_machine_view.proofs.Words.{carried, pairs_append, pairs_map}
-use Rattle.vx_machine_view.proofs.Feeding.{none_counted}
+use Rattle.vx_machine_view.proofs.Feeding.{none_counted, no_tree}
 use Rattle.vx_machine_view.proofs.Joining.{over_due, over_idle}
 use Rattle.vx_machine_view.proofs.Acting.{desk, Own, Going, first_own, one_own, chunks_own, put_own, struct_going, columns_own, lists_going, lists_own}
 use Rattle.vx_machine_view.proofs.Folding.{append_own, gather_own, shut_own, join_own}
 use Rattle.vx_machine_view.proofs.Grouping.{passes_own}
-use Rattle.vx_machine_view.proofs.Pressing.{press_own, pressed_own, out_own}
+use Rattle.vx_machine_view.proofs.Pressing.{press_own, pressed_own, out_own, back_own}
+use Rattle.vx_machine_view.proofs.Probing.{asks_own, probes_own}
+use Rattle.vx_machine_view.proofs.Cutting.{cuts_own, last_own}
 use Rattle.vx_machine_view.proofs.Regrouping.{blocks_own, buffer_own, collect_own}
 
 -- ---- a task by itself
@@ -65,6 +67,14 @@ own_moves s number next all d q0 j0 q places ks more hs r past law pl sm kids mi
         go (c ∷ ps) (y ∷ ws) (t ∷ ts) sp tps same =
             put_own s number next all d q0 j0 q places ks more hs r past law pl sm kids m x types going own j p c ps y ws w.before t ts w.kids sp w.place tps.0 tps.1
             (let z : length ws ≡ length ps = omega (arith, same) in z) w.unshaped xs closed ty
+
+    -- one without children
+    childless : ks ≡ no_tasks → {m : Mind} {f : List Next} {a : List Act} {x : Local} {o : Bool}
+        → ((z : Tasks) (y : Tree) → Own s number next all d q0 j0 q places z more y r past m f a x o xs closed → Own s number next all d q0 j0 q places z more y r past mind left todo l over xs closed)
+        → Own s number next all d q0 j0 q places no_tasks more Leaf r past m f a x o xs closed → Own s number next all d q0 j0 q places ks more hs r past mind left todo l over xs closed
+    childless nk carry own =
+        subst (λ z. Own s number next all d q0 j0 q places z more hs r past mind left todo l over xs closed) (sym nk)
+        (subst (λ y. Own s number next all d q0 j0 q places no_tasks more y r past mind left todo l over xs closed) (sym (no_tree s number (less d q.type) q 0 ks hs nk kids)) (carry no_tasks Leaf own))
 
     by : Stage s (less d q.type) mind left ks q past todo l over hs → Own s number next all d q0 j0 q places ks more hs r past mind left todo l over xs closed
     by (waits_first o t nk w) = carried (λ m f a l o. Own s number next all d q0 j0 q places ks more hs r past m f a l o xs closed) w.mind_is w.idle w.rest w.local_is w.on
@@ -101,6 +111,18 @@ own_moves s number next all d q0 j0 q places ks more hs r past law pl sm kids mi
         (pressed_own s number next all d q0 j0 q places ks more hs r past law pl sm kids n t outs w.type_is w.kids w.typed w.unshaped xs closed ty)
     by (lets_out n t outs w) = carried (λ m f a l o. Own s number next all d q0 j0 q places ks more hs r past m f a l o xs closed) w.mind_is w.left_is w.rest w.local_is w.on
         (out_own s number next all d q0 j0 q places ks more hs r past law pl sm kids n t outs w.type_is w.kids w.typed w.unshaped xs closed ty)
+    by (asks_first n k nk w) =
+        childless nk (λ z y. carried (λ m f a l o. Own s number next all d q0 j0 q places z more y r past m f a l o xs closed) w.mind_is w.idle w.rest w.local_is w.on)
+        (asks_own s number next all d q0 j0 q places more r past law pl sm n k w.unshaped xs closed ty)
+    by (probes n i k nk w) =
+        childless nk (λ z y. carried (λ m f a l o. Own s number next all d q0 j0 q places z more y r past m f a l o xs closed) w.mind_is w.left_is w.rest w.local_is w.on)
+        (probes_own s number next all d q0 j0 q places more r past law pl sm n k i w.typed w.counted w.unshaped xs closed ty)
+    by (falls_back t outs w) = carried (λ m f a l o. Own s number next all d q0 j0 q places ks more hs r past m f a l o xs closed) w.mind_is w.left_is w.rest w.local_is w.on
+        (back_own s number next all d q0 j0 q places ks more hs r past law pl sm kids t outs w.type_is w.kids w.typed w.unshaped xs closed ty)
+    by (cuts n so_far i rows c ds k u w) = carried (λ m f a l o. Own s number next all d q0 j0 q places ks more hs r past m f a l o xs closed) w.mind_is w.left_is w.rest w.local_is w.on
+        (cuts_own s number next all d q0 j0 q places ks more hs r past law pl sm kids n k so_far i rows c ds u w.typed w.kids w.going w.cutting w.unshaped xs closed ty)
+    by (last_cuts n rows ns c ds k u sum is go w) = carried (λ m f a z o. Own s number next all d q0 j0 q places ks more hs r past m f a z o xs closed) w.mind_is w.left_is w.rest refl w.off
+        (last_own s number next all d q0 j0 q places ks more hs r past law pl sm kids n k rows ns c ds l u sum is go w.shape_is (λ e. free (w.rest ∙ e)) xs closed ty)
     by (passes_on t weight outs one to w) = carried (λ m f a z o. Own s number next all d q0 j0 q places ks more hs r past m f a z o xs closed) w.mind_is w.left_is w.rest refl w.off
         (passes_own s number next all d q0 j0 q places ks more hs r past law pl sm kids t weight outs l one to w.shape_is xs closed ty)
     by (passed t one w) = carried (λ m f a z o. Own s number next all d q0 j0 q places ks more hs r past m f a z o xs closed) w.mind_is w.left_is w.rest refl w.off (nothing_own xs)
@@ -203,6 +225,23 @@ stage_on s d mind left ks kids q past todo l over hs ts st (pressed n t outs w) 
     pressed n t outs (groups_on mind left q past todo l over hs ts (by_image n.which) (compressed_local n) t (λ p. 0) [] outs st.types_are w)
 stage_on s d mind left ks kids q past todo l over hs ts st (lets_out n t outs w) =
     lets_out n t outs (groups_on mind left q past todo l over hs ts as_is (outlet_local n) t (λ p. 0) [] outs st.types_are w)
+stage_on s d mind left ks kids q past todo l over hs ts st (asks_first n k nk w) = asks_first n k (none_counted kids (st.count_is ∙ ap count nk)) w
+stage_on s d mind left ks kids q past todo l over hs ts st (probes n i k nk w) = probes n i k (none_counted kids (st.count_is ∙ ap count nk)) w
+stage_on s d mind left ks kids q past todo l over hs ts st (falls_back t outs w) =
+    falls_back t outs (groups_on mind left q past todo l over hs ts as_is fallback_local t (λ p. 0) [] outs st.types_are w)
+stage_on s d mind left ks kids q past todo l over hs ts st (cuts n r i rows c ds k u w) = cuts n r i rows c ds k u (record {
+  mind_is = w.mind_is;
+  local_is = w.local_is;
+  left_is = w.left_is;
+  rest = w.rest;
+  on = w.on;
+  unshaped = w.unshaped;
+  typed = w.typed;
+  kids = st.types_are ∙ w.kids;
+  going = w.going;
+  cutting = w.cutting;
+})
+stage_on s d mind left ks kids q past todo l over hs ts st (last_cuts n rows ns c ds k u sum is go w) = last_cuts n rows ns c ds k u sum (st.types_are ∙ is) go w
 stage_on s d mind left ks kids q past todo l over hs ts st (passes_on t weight outs one to w) = passes_on t weight outs (st.types_are ∙ one) to w
 stage_on s d mind left ks kids q past todo l over hs ts st (passed t one w) = passed t (st.types_are ∙ one) w
 

@@ -1,5 +1,7 @@
+pub mod Coder
 pub mod State
 pub mod Start
+pub mod Coding
 pub mod Acts
 pub mod Moves
 pub mod Machine
@@ -7,6 +9,7 @@ pub mod Built
 pub mod Images
 pub mod Tables
 pub mod Typed
+pub mod Deeds
 pub mod Shows
 pub mod Reserved
 pub mod Steps

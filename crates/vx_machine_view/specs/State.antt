@@ -8,6 +8,8 @@ use Rattle.vx_layout_spec.specs.LayoutTree.{LayoutData}
 use Rattle.vx_strategy_spec.specs.StrategyData.{FlatOptions}
 use Rattle.vx_plan.specs.PlanData.{Item}
 use Rattle.vx_machine_turns.specs.Forms.{Form}
+use Rattle.vx_machine_turns.specs.Locals.{RunsSoFar}
+use Rattle.vx_machine_view.specs.Coder.{Coder}
 
 -- a chunk's segment that is to be appended: its path, its bytes, and what its layout needs
 pub record Stored : Type 0 where
@@ -23,6 +25,8 @@ pub data Fold : Type 0 where
   fold_chunks : Ty → Fold
   -- of a struct's or a list's columns, with the rows
   fold_columns : Ty → ℕ → Fold
+  -- of runs, each with its rows
+  fold_runs : Ty → List ℕ → Fold
 
 -- what is left of a task's present block
 pub data Next : Type 0 where
@@ -31,6 +35,12 @@ pub data Next : Type 0 where
   hand_on : ℕ → Item → Next
   -- it calls the compressor under this number for the item's chunk; the image is then handed on in its place
   press : ℕ → Item → Next
+  -- it calls the compressor for the first chunk, and goes on by the image: it cuts runs, or it starts the fallback at the pointer
+  probe : Coder → Eof → Item → Next
+  -- it starts codes and values of a run, from number j on, at the pointer, and puts the item on the codes' queue
+  open_run : Coder → ℕ → Eof → Item → Next
+  -- it puts the item on the queue of child j + 1, and closes that and child j's
+  end_run : ℕ → Item → Next
   append : Stored → Next
   -- the queues of all children
   shut_kids : Next
@@ -57,6 +67,10 @@ pub data Mind : Type 0 where
   by_image : ℕ → Mind
   -- of one that hands on each chunk as it is
   as_is : Mind
+  -- a dictionary node's: no chunk came, and its pointer; the first one is probed; it cuts runs: how far it came, the newest chunk, rows so far
+  by_probe : Coder → Eof → Mind
+  asking : Mind
+  by_run : Coder → RunsSoFar → Item → ℕ → Mind
   -- it has seen the end of its stream
   ending : Mind
   -- so it has, and its layout is its only child's

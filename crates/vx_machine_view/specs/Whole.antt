@@ -127,8 +127,12 @@ ReadyShows = (g : Write) (number : List ℕ → ℕ) (next : ℕ) (all : List (L
 
 -- ---- what is held, and the end
 
+-- the same paths, in any order
+abbrev pub SameHeld : List (List ℕ) → List (List ℕ) → Type 0
+SameHeld xs ys = ((p : List ℕ) → In p xs → In p ys) × ((p : List ℕ) → In p ys → In p xs)
+
 abbrev pub HeldShows : Type 0
-HeldShows = (g : Write) (number : List ℕ → ℕ) (f : Future) (m : Machine) (t : Tree) → Stands g.setting (depth g) t → ShowsMachine g number m f t → machine_ids m ≡ all_paths t
+HeldShows = (g : Write) (number : List ℕ → ℕ) (f : Future) (m : Machine) (t : Tree) → Stands g.setting (depth g) t → ShowsMachine g number m f t → SameHeld (machine_ids m) (all_paths t)
 
 abbrev pub FinishShows : Type 0
 FinishShows = (g : Write) (number : List ℕ → ℕ) (f : Future) (m : Machine) (t : Tree) → Stands g.setting (depth g) t → ShowsMachine g number m f t → is_finished m ≡ all_over t
