@@ -12,6 +12,7 @@ pub mod Tracking
 pub mod Covers
 pub mod GroupCovering
 pub mod PressCovering
+pub mod DictCovering
 pub mod Covering
 pub mod Doing
 pub mod Bounding
