@@ -1,5 +1,5 @@
 -- What a task's own act changes below it.
-use Rattle.std.proofs.Common.{◌≡◌, ℕ, ◌==◌, ◌&&◌, ◌+◌, Bool, true, false, List, [], ◌∷◌, Some, None, refl, sym, ap, subst, arith}
+use Rattle.std.proofs.Common.{◌≡◌, ℕ, suc, inl, ◌==◌, ◌&&◌, ◌+◌, Bool, true, false, List, [], ◌∷◌, Some, None, refl, sym, ap, subst, arith}
 use Rattle.vx_model.specs.Ty.{list}
 use Rattle.vx_plan.specs.PlanData.{Setting, Item}
 use Rattle.vx_plan.specs.DictNode.{is_dictionary}
@@ -7,12 +7,12 @@ use Rattle.vx_path.specs.Path.{Eof, under, inside}
 use Rattle.vx_machine_view.specs.State.{Next, put, hand_on, press, probe, open_run, end_run, append, shut_kids, join_kids, Mind, no_chunk, one_chunk, by_chunk, by_column, by_list, by_block, by_size, as_one, by_image, as_is, by_probe, asking, by_run, ending, passing, made, Desk, Tasks, no_tasks, task_then}
 use Rattle.vx_machine_view.specs.Coder.{Coder}
 use Rattle.vx_machine_view.specs.Start.{started_task}
-use Rattle.vx_machine_view.specs.Acts.{count, give, add, end_at, probed, run_tasks, column_count, take_chunk, end_columns, end_lists, take_end, do_take, do_act}
+use Rattle.vx_machine_view.specs.Acts.{count, give, add, shut_at, end_at, probed, run_tasks, column_count, take_chunk, end_columns, end_lists, take_end, do_take, do_act}
 use Rattle.vx_kept.specs.Kept.{KnowsFrom, Knows, asked_of, ready_of, kids_of}
 use Rattle.vx_kept.specs.Follow.{touched_by, Follows}
 use Rattle.vx_kept.specs.declared.counts.Counts.{Counts}
-use Rattle.vx_kept.specs.declared.counts.Touched.TheVariants.{Child, Nothing}
-use Rattle.vx_kept.proofs.Keeping.{add_leaves, give_leaves}
+use Rattle.vx_kept.specs.declared.counts.Touched.TheVariants.{Child, Both, Nothing}
+use Rattle.vx_kept.proofs.Keeping.{add_leaves, give_leaves, shut_leaves, knows_more, there_within}
 
 -- none, or one more
 abbrev Grown : Tasks → Tasks → Type 0
@@ -99,6 +99,21 @@ child_known x j ks js f k =
     let e : 0 + j ≡ j = omega arith in
     subst (λ z. KnowsFrom (j ∷ asked_of x) 0 (ready_of x) (kids_of x) z) (sym f.1)
     (subst (λ z. KnowsFrom (z ∷ asked_of x) 0 (ready_of x) (kids_of x) (give j f.0 ks)) e (give_leaves j f.0 (asked_of x) 0 (ready_of x) (kids_of x) ks k))
+
+-- of two: first the one's queue is closed, then the other's gets the item, and is closed
+pub first_known : (x : Counts) (j : ℕ) (ks : Tasks) → Knows x ks → KnowsFrom (j ∷ asked_of x) 0 (ready_of x) (kids_of x) (shut_at j ks)
+first_known x j ks k =
+    let e : 0 + j ≡ j = omega arith in
+    subst (λ z. KnowsFrom (z ∷ asked_of x) 0 (ready_of x) (kids_of x) (shut_at j ks)) e (shut_leaves j (asked_of x) 0 (ready_of x) (kids_of x) ks k)
+
+pub second_known : (x : Counts) (j : ℕ) (ks js : Tasks) → Follows (Both j) ks js → Knows x (shut_at j ks) → KnowsFrom (suc j ∷ asked_of x) 0 (ready_of x) (kids_of x) js
+second_known x j ks js f k =
+    let e : 0 + suc j ≡ suc j = omega arith in
+    let given : KnowsFrom ((0 + suc j) ∷ asked_of x) 0 (ready_of x) (kids_of x) (give (suc j) f.0 (shut_at j ks)) = give_leaves (suc j) f.0 (asked_of x) 0 (ready_of x) (kids_of x) (shut_at j ks) k in
+    let twice = shut_leaves (suc j) ((0 + suc j) ∷ asked_of x) 0 (ready_of x) (kids_of x) (give (suc j) f.0 (shut_at j ks)) given in
+    subst (λ z. KnowsFrom (suc j ∷ asked_of x) 0 (ready_of x) (kids_of x) z) (sym f.1)
+    (subst (λ z. KnowsFrom (z ∷ asked_of x) 0 (ready_of x) (kids_of x) (end_at j f.0 ks)) e
+    (knows_more ((0 + suc j) ∷ (0 + suc j) ∷ asked_of x) ((0 + suc j) ∷ asked_of x) 0 (ready_of x) (kids_of x) (end_at j f.0 ks) (there_within (0 + suc j) ((0 + suc j) ∷ asked_of x) (inl refl)) twice))
 
 pub nothing_known : (x : Counts) (ks js : Tasks) → Follows Nothing ks js → Knows x ks → Knows x js
 nothing_known x ks js f k = subst (λ z. Knows x z) (sym f.1) (add_leaves f.0 (asked_of x) 0 (ready_of x) (kids_of x) ks k)

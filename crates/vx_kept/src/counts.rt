@@ -62,7 +62,10 @@ impl Counts {
             Touched::Child(child) => self.mark(alloc, child),
             Touched::Both(first) => {
                 self.mark(alloc, first);
-                self.mark(alloc, first.saturating_add(1));
+                match first.checked_add(1) {
+                    Some(second) => self.mark(alloc, second),
+                    None => *self = Counts::new(alloc),
+                }
             }
             Touched::All => *self = Counts::new(alloc),
             Touched::Nothing => {}
