@@ -10,23 +10,23 @@ use Rattle.vx_rules.specs.Columns.{Split, column, other_columns, struct_splits, 
 use Rattle.vx_strategy_spec.specs.StrategyData.{StrategyData, FlatOptions}
 use Rattle.vx_strategy_spec.specs.Walk.{walk}
 use Rattle.vx_tasks.specs.Runs.{first_batch}
-use Rattle.vx_plan.specs.PlanData.{Setting, Item, Node, Plan, rows_in, totals, row_totals}
+use Rattle.vx_plan.specs.PlanData.{Setting, Item, Node, rows_in, totals, row_totals}
 use Rattle.vx_plan.specs.FlatNode.{flat_node, segment, length_of}
-use Rattle.vx_plan.specs.ChunkedNode.{all_numbers, chunked_node, chunk_plans, chunked_numbers}
+use Rattle.vx_plan.specs.ChunkedNode.{chunked_node, chunk_plans, chunked_numbers}
 use Rattle.vx_plan.specs.ColumnNodes.{Column, marked, column_plans, column_numbers, struct_writers, struct_plans, struct_node, elements_in, list_writers, list_numbers, list_plans, list_columns_plan, list_node}
 use Rattle.vx_plan.specs.SourcePlan.{plan_nodes, plan, batch_items, source_plan}
 use Rattle.vx_plan.proofs.Relate.{Agree, relate, Both}
 use Rattle.vx_machine_turns.specs.Forms.{Form, flat_form, chunked_form, struct_form, list_form, forms_of, form_nodes, form_type, Writer}
-use Rattle.vx_machine_turns.specs.Acts.{Act, births, gifts, shut, numbers_in, indices_in}
+use Rattle.vx_machine_turns.specs.Acts.{Act, gifts, shut, numbers_in, indices_in}
 use Rattle.vx_machine_turns.specs.Locals.{ChunkedNode, StructNode, ListNode, chunked_local, struct_local, list_local}
 use Rattle.vx_machine_turns.specs.Turns.{firsts, start_indices}
 use Rattle.vx_machine_turns.specs.Scripts.{script}
 use Rattle.vx_machine_turns.specs.Starts.{struct_columns_of, list_columns_of, marked_forms}
 use Rattle.vx_machine_turns.specs.Source.{source_acts, source_seed}
 use Rattle.vx_machine_turns.specs.Fuels.{Fuel, spent, fuel, fuel_of, Enough, AllEnough}
-use Rattle.vx_machine_turns.specs.Duties.{Duty, duty_of, seeds, duty_script, below, Given, grown}
+use Rattle.vx_machine_turns.specs.Duties.{Duty, duty_of, seeds, duty_script, below}
 use Rattle.vx_machine_turns.specs.Planned.{AtMost}
-use Rattle.vx_machine_turns.proofs.DutyLaws.{row_is, below_is, unread_same}
+use Rattle.vx_machine_turns.proofs.DutyLaws.{row_is, unread_same}
 use Rattle.vx_machine_turns.proofs.ChunkedLaws.{chunk_duties, all_seeds, all_given}
 use Rattle.vx_machine_turns.proofs.ColumnLaws.{column_duties, puts_add, ends_last}
 use Rattle.vx_machine_turns.proofs.StructLaws.{struct_streams}

@@ -6,7 +6,7 @@ use Rattle.vx_path.specs.Lists.{In}
 use Rattle.vx_path.specs.Path.{Eof, under, inside, next}
 use Rattle.vx_path.proofs.Lists.{in_left, in_right, in_cases}
 use Rattle.vx_rules.specs.Runs.{DictOptions, Run, ended_runs, next_codes, runs}
-use Rattle.vx_plan.specs.PlanData.{Setting, Item, Node, Plan, rows_in, row_totals}
+use Rattle.vx_plan.specs.PlanData.{Setting, Item, Node, rows_in, row_totals}
 use Rattle.vx_plan.specs.ChunkedNode.{all_numbers}
 use Rattle.vx_plan.specs.DictNode.{is_dictionary, made_counts, dict_numbers, run_plans, runs_node, dict_node}
 use Rattle.vx_machine_turns.specs.Forms.{Form, dict_form, form_type}

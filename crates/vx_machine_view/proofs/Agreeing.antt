@@ -1,5 +1,5 @@
 -- What the abstract machine can do depends on which paths are held, and on no order of them.
-use Rattle.std.proofs.Common.{◌≡◌, ◌∷◌, ◌++◌, ◌∙◌, ◌⊎◌, ℕ, suc, cond, List, map, refl, sym, ap, subst, inl, inr, Option, Some, None, []}
+use Rattle.std.proofs.Common.{◌≡◌, ◌∷◌, ◌++◌, ◌∙◌, ◌⊎◌, ℕ, cond, List, map, refl, sym, ap, subst, inl, inr, Option, Some, None, []}
 use Rattle.vx_path.specs.Lists.{In}
 use Rattle.vx_path.proofs.Lists.{in_left, in_right, in_cases}
 use Rattle.vx_path.specs.Path.{is_least}

@@ -22,7 +22,7 @@ use Rattle.vx_machine_view.specs.Typed.{AllTyped}
 use Rattle.vx_machine_view.specs.Shows.{Alike, Groups, Stage, waits_first, splits, hands, hands_lists, regroups_rows, regroups_chunks, collects, pressed, asks_first, Shows, rows_of, types_of, local_rows}
 use Rattle.vx_machine_view.proofs.Words.{none_some, or_none}
 use Rattle.vx_machine_view.proofs.Feeding.{sprout_none, opened_none}
-use Rattle.vx_machine_view.proofs.Outlets.{outlet_kids, outlet_begun, outlet_rows, outlet_opened}
+use Rattle.vx_machine_view.proofs.Outlets.{outlet_begun, outlet_rows, outlet_opened}
 
 module _ (s : Setting) (number : List ℕ → ℕ) where
   none_begun : (d : Fuel) (q : Seed) → Shows s number d q 0 no_tasks (sprout d quiet 0 [])

@@ -1,21 +1,20 @@
 -- What a dictionary node can do that cuts runs is what the abstract one can.
-use Rattle.std.proofs.Common.{◌≡◌, ◌+◌, ◌*◌, ◌<◌, ◌≤◌, ◌&&◌, ◌==◌, ◌∷◌, ◌++◌, ◌∙◌, ℕ, suc, Bool, true, false, not, List, map, length, refl, sym, ap, subst, arith, get_or, eq-eqb, append-nil, Option, Some, None, []}
+use Rattle.std.proofs.Common.{◌≡◌, ◌+◌, ◌*◌, ◌<◌, ◌≤◌, ◌&&◌, ◌==◌, ◌∷◌, ◌++◌, ◌∙◌, ℕ, suc, Bool, true, false, not, List, map, length, refl, sym, ap, subst, arith, get_or, eq-eqb, Some, None, []}
 use Rattle.vx_model.specs.Words.{total_by}
 use Rattle.vx_model.specs.Ty.{Ty}
-use Rattle.vx_model.specs.ChunkData.{ChunkData}
 use Rattle.vx_layout_spec.specs.LayoutTree.{LayoutData, row_count, renamed, gathered}
 use Rattle.vx_rules.specs.Runs.{code_type}
-use Rattle.vx_tasks.specs.Task.{Join, Take, TakeEnd}
+use Rattle.vx_tasks.specs.Task.{Join}
 use Rattle.vx_plan.specs.PlanData.{Setting, Item, row_total, rows_in}
 use Rattle.vx_plan.proofs.InOrderLaws.{renamed-gathered}
 use Rattle.vx_machine_turns.specs.Locals.{DictNode, RunsSoFar, Local, runs_local}
 use Rattle.vx_machine_turns.specs.Acts.{Seed, Act, runs_of, does, shape_in}
-use Rattle.vx_machine_turns.specs.Dict.{cut_puts, ended_puts, next_cut, after_cut, last_stretches, runs_kept, runs_turn, runs_end, runs_ends}
+use Rattle.vx_machine_turns.specs.Dict.{cut_puts, next_cut, after_cut, runs_kept, runs_end, runs_ends}
 use Rattle.vx_machine_turns.specs.Readings.{run_layouts, shaped}
-use Rattle.vx_machine_turns.specs.Scripts.{as_kind, with_holds, all_uses, filled}
+use Rattle.vx_machine_turns.specs.Scripts.{with_holds, all_uses, filled}
 use Rattle.vx_machine_turns.specs.Fuels.{Fuel, less}
 use Rattle.vx_machine_steps.specs.Tree.{Head, Tree, Work, feed}
-use Rattle.vx_machine_steps.specs.Moves.{doing, is_full, all_paths, all_over, take_first, end_first, move_own}
+use Rattle.vx_machine_steps.specs.Moves.{is_full, all_paths, all_over, take_first, end_first}
 use Rattle.vx_machine_view.specs.State.{fold_runs, Next, join_kids, Mind, by_run, ending, made, Desk, Tasks, no_tasks, task_then}
 use Rattle.vx_machine_view.specs.Coder.{coder_of}
 use Rattle.vx_machine_view.specs.Coding.{Deed, puts_codes, puts_values, run_rows, deeds_at, last_deeds, deed_next, deed_nexts, runs_laid}
@@ -24,7 +23,7 @@ use Rattle.vx_machine_view.specs.Moves.{has_room, all_made, own_step}
 use Rattle.vx_machine_view.specs.Images.{Careful}
 use Rattle.vx_machine_view.specs.Typed.{Typed, AllTyped}
 use Rattle.vx_machine_view.specs.Deeds.{deed_act, deed_acts, run_types, Going, run_count, summed, Cutting, Coded}
-use Rattle.vx_machine_view.specs.Shows.{Counted, Stage, cuts, last_cuts, Shows, laid, rows_of, types_of, local_rows, task_rows, shape_rows}
+use Rattle.vx_machine_view.specs.Shows.{Counted, Stage, cuts, last_cuts, Shows, laid, types_of, task_rows, shape_rows}
 use Rattle.vx_machine_view.specs.Steps.{SameStep}
 use Rattle.vx_machine_view.proofs.Words.{shape_last, shape_kept, type_fits}
 use Rattle.vx_machine_view.proofs.Feeding.{opened_none, Leaves, feed_none, feed_types, count_types, room_is, given}

@@ -17,7 +17,7 @@ use Rattle.vx_machine_turns.specs.Columns.{column_puts}
 use Rattle.vx_machine_turns.specs.Scripts.{filled}
 use Rattle.vx_machine_turns.specs.Fuels.{Fuel, less}
 use Rattle.vx_machine_steps.specs.Tree.{Head, Tree, Leaf, Work}
-use Rattle.vx_machine_steps.specs.Moves.{Due, doing, due, due_todo, is_nil, all_paths, all_over, TreeMove, tree_moves, move_own}
+use Rattle.vx_machine_steps.specs.Moves.{doing, due, due_todo, is_nil, all_paths, all_over, TreeMove, tree_moves, move_own}
 use Rattle.vx_machine_steps.specs.Moves as abstract
 use Rattle.vx_machine_steps.specs.Laws.{JoinsFree}
 use Rattle.vx_machine_view.specs.State.{Next, press, Mind, by_chunk, by_column, by_list, by_block, by_size, as_one, by_image, as_is, passing, Desk, Tasks, no_tasks, task_then}

@@ -5,7 +5,7 @@ use Rattle.vx_tasks.specs.Task.Prompt.{Call}
 use Rattle.vx_tasks.specs.Task.{Free, Take, TakeEnd}
 use Rattle.vx_plan.specs.PlanData.{Setting, Item, row_total, rows_in}
 use Rattle.vx_machine_turns.specs.Locals.{CompressedNode, Local, compressed_local, outlet_local, fallback_local}
-use Rattle.vx_machine_turns.specs.Acts.{Seed, Act, passes, does, put_item, close_queues, ends_as, gifts, shape_in}
+use Rattle.vx_machine_turns.specs.Acts.{Seed, Act, passes, does, put_item, close_queues, ends_as, shape_in}
 use Rattle.vx_machine_turns.specs.Grouped.{weighed_puts}
 use Rattle.vx_machine_turns.specs.Scripts.{as_kind, with_holds, all_uses, filled}
 use Rattle.vx_machine_turns.specs.Fuels.{Fuel, less}

@@ -1,14 +1,13 @@
 -- What a dictionary node can do before its first chunk, at it, and once it hands all to its fallback.
-use Rattle.std.proofs.Common.{◌≡◌, ◌+◌, ◌∷◌, ◌++◌, ◌∙◌, ℕ, suc, Bool, true, false, not, if◌then◌else◌, List, refl, sym, ap, subst, inr, inl, arith, get_or, Option, Some, None, is_some, []}
+use Rattle.std.proofs.Common.{◌≡◌, ◌+◌, ◌∷◌, ◌++◌, ◌∙◌, ℕ, suc, Bool, true, false, not, if◌then◌else◌, List, refl, sym, ap, subst, inl, arith, get_or, Some, None, []}
 use Rattle.vx_model.specs.Ty.{Ty}
-use Rattle.vx_path.specs.Path.{under, eof_path}
+use Rattle.vx_path.specs.Path.{under}
 use Rattle.vx_tasks.specs.Task.Prompt.{Call}
 use Rattle.vx_tasks.specs.Task.{Free, Take, TakeEnd}
 use Rattle.vx_plan.specs.PlanData.{Setting, Item, row_total, rows_in}
 use Rattle.vx_plan.specs.DictNode.{is_dictionary}
 use Rattle.vx_machine_turns.specs.Locals.{DictNode, RunsSoFar, Local, dict_local, fallback_local, runs_local}
-use Rattle.vx_machine_turns.specs.Acts.{Seed, Act, Turn, passes, does, put_item, close_queues, ends_as, gifts, shape_in}
-use Rattle.vx_machine_turns.specs.Grouped.{weighed_puts}
+use Rattle.vx_machine_turns.specs.Acts.{Seed, Act, Turn, passes, does, put_item, close_queues, shape_in}
 use Rattle.vx_machine_turns.specs.Dict.{fallback_seed, starts_fallback, dict_empty_end, runs_first, fallback_first, dict_turn, runs_kept}
 use Rattle.vx_machine_turns.specs.Starts.{start_fault}
 use Rattle.vx_machine_turns.specs.Turns.{kept}
@@ -16,23 +15,21 @@ use Rattle.vx_machine_turns.specs.Scripts.{as_kind, with_holds, all_uses, filled
 use Rattle.vx_machine_turns.specs.Fuels.{Fuel, less}
 use Rattle.vx_machine_steps.specs.Tree.{Head, Tree, Leaf, Work, feed, opened}
 use Rattle.vx_machine_steps.specs.Moves.{doing, due, move_own}
-use Rattle.vx_machine_view.specs.State.{Next, hand_on, probe, shut_kids, Mind, as_is, by_probe, asking, by_run, passing, Desk, Tasks, no_tasks, task_then}
+use Rattle.vx_machine_view.specs.State.{Next, probe, shut_kids, Mind, as_is, by_probe, asking, by_run, passing, Desk, Tasks, no_tasks, task_then}
 use Rattle.vx_machine_view.specs.Start.{first_indices, started_task}
-use Rattle.vx_machine_view.specs.Coder.{Coder, coder_of}
+use Rattle.vx_machine_view.specs.Coder.{coder_of}
 use Rattle.vx_machine_view.specs.Coding.{no_runs}
 use Rattle.vx_machine_view.specs.Acts.{hand_all, probed, do_act}
 use Rattle.vx_machine_view.specs.Moves.{own_step}
 use Rattle.vx_machine_view.specs.Images.{Careful}
 use Rattle.vx_machine_view.specs.Typed.{Typed, AllTyped}
 use Rattle.vx_machine_view.specs.Deeds.{Coded}
-use Rattle.vx_machine_view.specs.Shows.{Groups, Counted, Stage, asks_first, probes, falls_back, cuts, passes_on, Shows, rows_of, types_of, shape_rows}
+use Rattle.vx_machine_view.specs.Shows.{Counted, probes, falls_back, cuts, passes_on, Shows, rows_of, types_of, shape_rows}
 use Rattle.vx_machine_view.specs.Steps.{AllPairs, SameStep}
 use Rattle.vx_machine_view.proofs.Words.{true_false, shape_last, type_fits}
-use Rattle.vx_machine_view.proofs.Feeding.{opened_none, Leaves, feed_none, feed_types}
+use Rattle.vx_machine_view.proofs.Feeding.{opened_none, Leaves, feed_none}
 use Rattle.vx_machine_view.proofs.Sprouting.{back_opened, back_shows}
 use Rattle.vx_machine_view.proofs.Acting.{desk, head, Own, then_open, then_same, then_steady, still, counted_before, counted_now, no_refusal}
-use Rattle.vx_machine_view.proofs.Grouping.{hand_own}
-use Rattle.vx_machine_view.proofs.Pressing.{end_own}
 
 -- ---- before a child is started
 

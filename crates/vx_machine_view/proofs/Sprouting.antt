@@ -1,5 +1,5 @@
 -- Children that an act starts behind the others, and what one gets that is there.
-use Rattle.std.proofs.Common.{◌≡◌, ◌+◌, ◌≤◌, ◌<◌, ◌||◌, ◌∷◌, ◌++◌, ◌∙◌, ℕ, zero, suc, Bool, true, false, cond, nat_eq, List, length, refl, sym, ap, subst, inl, arith, append-nil, get_or, []}
+use Rattle.std.proofs.Common.{◌≡◌, ◌+◌, ◌≤◌, ◌<◌, ◌||◌, ◌∷◌, ◌++◌, ◌∙◌, ℕ, zero, suc, Bool, true, false, cond, nat_eq, List, length, refl, sym, ap, subst, arith, append-nil, []}
 use Rattle.std.proofs.lemmas.Bool.Decides.{nat_tests}
 use Rattle.vx_model.specs.Ty.{Ty}
 use Rattle.vx_path.specs.Path.{under, inside, next, Eof}
@@ -13,17 +13,17 @@ use Rattle.vx_machine_turns.specs.Starts.{start_fault, seed_of}
 use Rattle.vx_machine_turns.specs.Dict.{fallback_seed, run_seeds}
 use Rattle.vx_machine_turns.specs.Turns.{firsts}
 use Rattle.vx_machine_turns.specs.Fuels.{Fuel, spent, fuel}
-use Rattle.vx_machine_steps.specs.Tree.{Head, Tree, Leaf, Work, fresh, quiet, sprout, feed, opened}
+use Rattle.vx_machine_steps.specs.Tree.{Tree, Leaf, Work, fresh, quiet, sprout, feed, opened}
 use Rattle.vx_machine_steps.specs.Moves.{is_full}
-use Rattle.vx_machine_view.specs.State.{Desk, Tasks, no_tasks, task_then}
+use Rattle.vx_machine_view.specs.State.{Tasks, no_tasks, task_then}
 use Rattle.vx_machine_view.specs.Start.{first_indices, started_task}
 use Rattle.vx_machine_view.specs.Coder.{coder_of}
 use Rattle.vx_machine_view.specs.Acts.{count, add, give, with_item, shut_desk, shut_at, end_at, run_tasks}
 use Rattle.vx_machine_view.specs.Typed.{Typed, AllTyped}
 use Rattle.vx_machine_view.specs.Shows.{Shows, rows_of, types_of}
 use Rattle.vx_machine_view.specs.Deeds.{Coded}
-use Rattle.vx_machine_view.proofs.Words.{none_some, or_none, or_nothing, or_all}
-use Rattle.vx_machine_view.proofs.Feeding.{sprout_none, fed, fed_none, Leaves, feed_none, typed_more}
+use Rattle.vx_machine_view.proofs.Words.{or_none, or_all}
+use Rattle.vx_machine_view.proofs.Feeding.{sprout_none, fed, fed_none, typed_more}
 use Rattle.vx_machine_view.proofs.Beginning.{task_begun, fresh_rows, opened_is, one_opened}
 
 pub types_behind : (d : Fuel) (a : Act) (j c : ℕ) (t : Tree) → c ≡ j + length (types_of t) → types_of (feed d a j t) ≡ types_of t ++ types_of (sprout d a c a.starts)

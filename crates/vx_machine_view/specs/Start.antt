@@ -6,7 +6,7 @@ use Rattle.vx_strategy_spec.specs.StrategyData.{by_blocks, by_bytes, into_one}
 use Rattle.vx_path.specs.Path.{Eof, under, inside, next}
 use Rattle.vx_plan.specs.PlanData.{Item}
 use Rattle.vx_machine_turns.specs.Forms.{Form, Forms, flat_form, chunked_form, grouped_form, compressed_form, dict_form, zoned_form, no_struct_form, struct_form, list_form, no_forms, form_then}
-use Rattle.vx_machine_view.specs.State.{Mind, no_chunk, by_chunk, by_column, by_list, by_block, by_size, as_one, by_image, as_is, by_probe, asking, by_run, ending, Desk, Tasks, no_tasks, task_then}
+use Rattle.vx_machine_view.specs.State.{Mind, no_chunk, by_chunk, by_column, by_list, by_block, by_size, as_one, by_image, as_is, by_probe, ending, Desk, Tasks, no_tasks, task_then}
 
 -- what it has in mind before a chunk comes: its mark and its pointer; kinds that aren't built start nothing
 abbrev pub first_mind : Form → Bool → Eof → Mind
