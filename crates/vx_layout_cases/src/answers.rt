@@ -5,7 +5,7 @@ use crate::own::{own, with};
 use crate::segments::{lengths, rows, tree};
 use crate::sessions::{copied_scope, known, registered};
 use crate::shown::{as_kinds, names, slots};
-use crate::spelling::{again, codes, metadata, node};
+use crate::spelling::{again, codes, metadata, node, viewed};
 use crate::walks::{in_slot, present, walk};
 use anyhow::{Result, bail};
 use std::alloc::Global;
@@ -29,6 +29,7 @@ pub(crate) fn layout_answer(
         "tree" => tree(alloc, layout),
         "lengths" => lengths(alloc, layout, args),
         "rows" => rows(alloc, layout, args),
+        "viewed" => viewed(alloc, layout),
         "again" => again(alloc, layout),
         _ => bail!("no such word"),
     }

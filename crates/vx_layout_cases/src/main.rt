@@ -19,6 +19,8 @@
 //! - `tree`: the plain text
 //! - `lengths FIRST SEGMENT..`: the text with the lengths of buffers, or the fault of a segment
 //! - `rows FIRST SEGMENT..`: the rows, or the fault
+//! - `viewed`: of a chunked layout that is read from its bytes, what `children` prints, then the places of the children in
+//!   the bytes, and of none
 //! - `again`: the slots of what is read from its bytes, where that has the same bytes
 //!
 //! Without a layout:
