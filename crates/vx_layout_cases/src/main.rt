@@ -35,6 +35,7 @@
 //!   aggregates are known, and whether unknown kinds and aggregates are kept
 //! - `node NODE`: its bytes; then the place of its id, the rows, the segments and how many children are read from them
 //! - `metadata ID BYTES`: the bytes of what the kind reads from them
+//! - `opened CHUNKS ASKED`: the rows of the first so many chunks of a layout of so many chunks of one row, read from its bytes
 //! - `codes TYPE`: the bytes of new metadata of a dictionary whose codes are `u8`, `u16` or `u32`
 //!
 //! A leaf is `TYPE:ROWS:SEGMENT`, a flat layout of so many rows in the segment. The types are `u8`, `i8?`, `bool` and
@@ -57,6 +58,7 @@ mod answers;
 mod case;
 mod children;
 mod layouts;
+mod opened;
 mod own;
 mod parts;
 mod segments;

@@ -27,9 +27,14 @@ pub(crate) fn again(alloc: Global, layout: &Layout) -> Result<String> {
 
 /// What the children of a chunked layout are that is read from the layout's bytes.
 pub(crate) fn viewed(alloc: Global, layout: &Layout) -> Result<String> {
-    let bytes = spelled(alloc, layout)?;
-    let read = boxed(alloc, parsed(alloc, layout.dtype(), &bytes)?)?;
+    let read = boxed(alloc, reread(alloc, layout)?)?;
     chunks_of(alloc, &read)
+}
+
+/// What is read from the layout's bytes.
+pub(crate) fn reread(alloc: Global, layout: &Layout) -> Result<Layout> {
+    let bytes = spelled(alloc, layout)?;
+    parsed(alloc, layout.dtype(), &bytes)
 }
 
 fn chunks_of(alloc: Global, layout: &Layout) -> Result<String> {
