@@ -11,7 +11,7 @@ use Rattle.vx_layout_bytes.specs.Views.{Fails}
 use Rattle.vx_layout_bytes.proofs.Loops.{too_deep_at, too_many_at, node_done, own_fails, children_fail}
 
 abbrev again : {A : Type 0} → A → ℕ × List ℕ → Result (A × ℕ × List ℕ) Fault
-again x y = Ok (x, y)
+again x y = Ok (x, y.0, y.1)
 
 -- the value that was left out
 pub behind_ok : {A : Type 0} (r : Result (A × ℕ × List ℕ) Fault) (left : ℕ) (rest : List ℕ) → behind r ≡ Ok (left, rest) → (x : A) × (r ≡ Ok (x, left, rest))
@@ -46,22 +46,22 @@ only_fails errors.OutOfMemory r h = tt
 
 -- ---- a node
 
-node_behind : (depth stop left : ℕ) (bytes : List ℕ) (o : Own) (count : ℕ) (rest : List ℕ) (fewer : ℕ) (after : List ℕ) → 0 < depth → 0 < left → own_at stop bytes ≡ Ok (o, count, rest)
+pub node_behind : (depth stop left : ℕ) (bytes : List ℕ) (o : Own) (count : ℕ) (rest : List ℕ) (fewer : ℕ) (after : List ℕ) → 0 < depth → 0 < left → own_at stop bytes ≡ Ok (o, count, rest)
     → behind (many_nodes (node_at (depth - 1) stop) count (left - 1) rest) ≡ Ok (fewer, after) → behind (node_at depth stop left bytes) ≡ Ok (fewer, after)
 node_behind depth stop left bytes o count rest fewer after lt some h i =
     let x = behind_ok (many_nodes (node_at (depth - 1) stop) count (left - 1) rest) fewer after i in
     rw (node_done depth stop left bytes o count rest x.0 fewer after lt some h x.1) refl
 
-deep_behind : (depth stop left : ℕ) (bytes : List ℕ) → depth ≡ 0 → behind (node_at depth stop left bytes) ≡ Err (too_deep (stop - length bytes))
+pub deep_behind : (depth stop left : ℕ) (bytes : List ℕ) → depth ≡ 0 → behind (node_at depth stop left bytes) ≡ Err (too_deep (stop - length bytes))
 deep_behind depth stop left bytes e = rw (too_deep_at depth stop left bytes e) refl
 
-many_behind : (depth stop left : ℕ) (bytes : List ℕ) → 0 < depth → left ≡ 0 → behind (node_at depth stop left bytes) ≡ Err (too_many (stop - length bytes))
+pub many_behind : (depth stop left : ℕ) (bytes : List ℕ) → 0 < depth → left ≡ 0 → behind (node_at depth stop left bytes) ≡ Err (too_many (stop - length bytes))
 many_behind depth stop left bytes lt e = rw (too_many_at depth stop left bytes lt e) refl
 
-own_behind : (e : GrammarError) (depth stop left : ℕ) (bytes : List ℕ) → 0 < depth → 0 < left → Fails e (own_at stop bytes) → Fails e (behind (node_at depth stop left bytes))
+pub own_behind : (e : GrammarError) (depth stop left : ℕ) (bytes : List ℕ) → 0 < depth → 0 < left → Fails e (own_at stop bytes) → Fails e (behind (node_at depth stop left bytes))
 own_behind e depth stop left bytes lt some h = behind_fails e (node_at depth stop left bytes) (own_fails e depth stop left bytes lt some h)
 
-children_behind : (e : GrammarError) (depth stop left : ℕ) (bytes : List ℕ) (o : Own) (count : ℕ) (rest : List ℕ) → 0 < depth → 0 < left → own_at stop bytes ≡ Ok (o, count, rest)
+pub children_behind : (e : GrammarError) (depth stop left : ℕ) (bytes : List ℕ) (o : Own) (count : ℕ) (rest : List ℕ) → 0 < depth → 0 < left → own_at stop bytes ≡ Ok (o, count, rest)
     → Fails e (behind (many_nodes (node_at (depth - 1) stop) count (left - 1) rest)) → Fails e (behind (node_at depth stop left bytes))
 children_behind e depth stop left bytes o count rest lt some h i =
     behind_fails e (node_at depth stop left bytes) (children_fail e depth stop left bytes o count rest lt some h (fails_behind e (many_nodes (node_at (depth - 1) stop) count (left - 1) rest) i))

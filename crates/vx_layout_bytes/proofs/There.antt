@@ -1,12 +1,12 @@
 -- A node that is read within limits is the node that stands at its place.
-use Rattle.std.proofs.Common.{◌≡◌, ℕ, zero, suc, ◌+◌, ◌-◌, ◌<◌, ◌≤◌, true, false, List, [], ◌∷◌, ◌++◌, length, get_or, drop, Some, Result, Ok, Err, refl, sym, ap, subst, ◌∙◌, arith, IsTrue}
+use Rattle.std.proofs.Common.{◌≡◌, ℕ, zero, suc, ◌+◌, ◌-◌, ◌<◌, ◌≤◌, true, false, List, [], ◌∷◌, ◌++◌, length, get_or, drop, Option, Some, None, Result, Ok, Err, refl, sym, ap, subst, ◌∙◌, arith, IsTrue}
 use Rattle.std.specs.Prelude.{◌==◌}
 use Rattle.std.specs.Int.{w16, w64, to_le_bytes}
 use Rattle.std.proofs.lemmas.List.{length-append, length-drop, drop-drop, drop_at}
 use Rattle.vx_model.specs.CellData.{u64_bytes}
 use Rattle.vx_byte_reader.specs.Fields as fields
 use Rattle.vx_byte_reader.specs.Places.{◌>>=◌}
-use Rattle.vx_byte_reader.proofs.FieldLaws.{IsBytes-drop, halves, both_true}
+use Rattle.vx_byte_reader.proofs.FieldLaws.{IsBytes-drop, halves, both_true, some_is}
 use Rattle.vx_byte_reader.proofs.PlaceLaws.{bind_ok, ok_is, found}
 use Rattle.vx_layout_bytes.specs.declared.error.GrammarError.{GrammarError}
 use Rattle.vx_layout_bytes.specs.Node.{Own, Node, Nodes, node, no_nodes, first, number_of, own_of}
@@ -106,6 +106,11 @@ standing bytes place h =
       is = ap node_read x.1 ∙ p.4;
     }
 
+pub some_bytes : (bytes : List ℕ) (place : ℕ) → IsTrue (is_node_at bytes place) → 1 ≤ length bytes
+unfolding is_node_at none_at
+some_bytes [] place h = absurd cc
+some_bytes (b ∷ bytes) place h = omega arith
+
 -- ---- a place is within the bytes
 
 some_size : (n : Node) → 1 ≤ size n
@@ -155,6 +160,12 @@ own_head stop bytes x e =
     } in
     subst (λ (y : Own × ℕ × List ℕ). Head bytes y.0) (ok_is made x f.2) seen
 
+abbrev given : ℕ × List ℕ → Option (ℕ × List ℕ)
+given x = Some x
+
+abbrev none_of : Option (ℕ × List ℕ)
+none_of = None
+
 -- what the reader of a number gave, where a node stands there
 given_index : (bytes : List ℕ) (place : ℕ) → IsTrue (is_node_at bytes place)
     → (rest : List ℕ) × (fields.number_at w16 (drop place bytes) ≡ Some ((own_of (node_there bytes place)).index, rest)) × (after : List ℕ) × (fields.number_at w64 rest ≡ Some ((own_of (node_there bytes place)).rows, after))
@@ -163,6 +174,47 @@ given_index bytes place h =
     let f = own_head (length bytes) (drop place bytes) (s.own, s.count, s.rest) s.own_read in
     let o : s.own ≡ own_of (node_there bytes place) = sym (ap own_of s.is) in
     (f.after_index, subst (λ (o : Own). fields.number_at w16 (drop place bytes) ≡ Some (o.index, f.after_index)) o f.index, f.after_rows, subst (λ (o : Own). fields.number_at w64 f.after_index ≡ Some (o.rows, f.after_rows)) o f.rows)
+
+pub index_found : (bytes rest : List ℕ) (place index : ℕ) (after : List ℕ) → IsTrue (is_node_at bytes place) → rest ≡ drop place bytes → Some (index, after) ≡ fields.number_at w16 rest → index ≡ (own_of (node_there bytes place)).index
+index_found bytes rest place index after h same e =
+    let g = given_index bytes place h in
+    let mine : ℕ × List ℕ = (index, after) in
+    let yours : ℕ × List ℕ = ((own_of (node_there bytes place)).index, g.0) in
+    ap (λ (y : ℕ × List ℕ). y.0) (some_is mine yours (e ∙ ap (fields.number_at w16) same ∙ g.1))
+
+pub rows_found : (bytes rest : List ℕ) (place index : ℕ) (after : List ℕ) (rows : ℕ) (more : List ℕ) → IsTrue (is_node_at bytes place) → rest ≡ drop place bytes → Some (index, after) ≡ fields.number_at w16 rest → Some (rows, more) ≡ fields.number_at w64 after → rows ≡ (own_of (node_there bytes place)).rows
+rows_found bytes rest place index after rows more h same e f =
+    let g = given_index bytes place h in
+    let mine : ℕ × List ℕ = (index, after) in
+    let yours : ℕ × List ℕ = ((own_of (node_there bytes place)).index, g.0) in
+    let behind_index : after ≡ g.0 = ap (λ (y : ℕ × List ℕ). y.1) (some_is mine yours (e ∙ ap (fields.number_at w16) same ∙ g.1)) in
+    let our_rows : ℕ × List ℕ = (rows, more) in
+    let its_rows : ℕ × List ℕ = ((own_of (node_there bytes place)).rows, g.2) in
+    ap (λ (y : ℕ × List ℕ). y.0) (some_is our_rows its_rows (f ∙ ap (fields.number_at w64) behind_index ∙ g.3))
+
+-- the readers give something there
+no_index : (bytes rest : List ℕ) (place : ℕ) → IsTrue (is_node_at bytes place) → rest ≡ drop place bytes → None ≡ fields.number_at w16 rest → ⊥
+no_index bytes rest place h same e = let g = given_index bytes place h in let no : none_of ≡ given ((own_of (node_there bytes place)).index, g.0) = e ∙ ap (fields.number_at w16) same ∙ g.1 in absurd cc
+
+no_rows : (bytes rest : List ℕ) (place index : ℕ) (after : List ℕ) → IsTrue (is_node_at bytes place) → rest ≡ drop place bytes → Some (index, after) ≡ fields.number_at w16 rest → None ≡ fields.number_at w64 after → ⊥
+no_rows bytes rest place index after h same e f =
+    let g = given_index bytes place h in
+    let mine : ℕ × List ℕ = (index, after) in
+    let yours : ℕ × List ℕ = ((own_of (node_there bytes place)).index, g.0) in
+    let behind_index : after ≡ g.0 = ap (λ (y : ℕ × List ℕ). y.1) (some_is mine yours (e ∙ ap (fields.number_at w16) same ∙ g.1)) in
+    let no : none_of ≡ given ((own_of (node_there bytes place)).rows, g.2) = f ∙ ap (fields.number_at w64) behind_index ∙ g.3 in
+    absurd cc
+
+pub index_there : (bytes rest : List ℕ) (place : ℕ) → IsTrue (is_node_at bytes place) → rest ≡ drop place bytes → None ≡ fields.number_at w16 rest → 0 ≡ (own_of (node_there bytes place)).index
+index_there bytes rest place h same e = absurd (no_index bytes rest place h same e)
+
+pub index_before_rows : (bytes rest : List ℕ) (place : ℕ) → IsTrue (is_node_at bytes place) → rest ≡ drop place bytes → None ≡ fields.number_at w16 rest → 0 ≡ (own_of (node_there bytes place)).rows
+index_before_rows bytes rest place h same e = absurd (no_index bytes rest place h same e)
+
+pub rows_there : (bytes rest : List ℕ) (place index : ℕ) (after : List ℕ) → IsTrue (is_node_at bytes place) → rest ≡ drop place bytes → Some (index, after) ≡ fields.number_at w16 rest → None ≡ fields.number_at w64 after → 0 ≡ (own_of (node_there bytes place)).rows
+rows_there bytes rest place index after h same e f = absurd (no_rows bytes rest place index after h same e f)
+
+pub ruleset head_rules = (index_found, rows_found, index_there, index_before_rows, rows_there)
 
 -- what is behind a part is the end of the bytes
 behind_part : (bytes s rest : List ℕ) (place : ℕ) → place ≤ length bytes → drop place bytes ≡ s ++ rest → drop (length bytes - length rest) bytes ≡ rest

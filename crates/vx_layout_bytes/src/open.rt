@@ -98,7 +98,7 @@ impl NodeView {
     }
 }
 
-/// The bytes from the place on.
+/// The same as a part of the same memory.
 #[tactic(auto, using(crate::proofs::There::within))]
 fn rest_at(bytes: &Bytes, place: u64) -> Result<Bytes, AllocError>
     requires { IsTrue (is_node_at bytes.now place) }
@@ -109,13 +109,23 @@ fn rest_at(bytes: &Bytes, place: u64) -> Result<Bytes, AllocError>
     Ok(rest)
 }
 
+/// The bytes from the place on.
+#[tactic(auto, using(crate::proofs::There::within))]
+fn from_place(bytes: &[u8], place: u64) -> &[u8]
+    requires { IsTrue (is_node_at bytes.now place) }
+    ensures { result.now ≡ drop place bytes.now }
+{
+    bytes.split_at(place as usize).1
+}
+
 /// The index and the rows of the node at the place.
+#[tactic(auto, using(crate::proofs::There::head_rules))]
 pub(crate) fn head_at(bytes: &[u8], place: u64) -> (u16, u64)
     requires { IsTrue (is_node_at bytes.now place) }
     ensures index { result.0 ≡ (own_of (node_there bytes.now place)).index }
     ensures rows { result.1 ≡ (own_of (node_there bytes.now place)).rows }
 {
-    let rest = &bytes[place as usize..];
+    let rest = from_place(bytes, place);
     match u16_at(rest) {
         Some((index, rest)) => match u64_at(rest) {
             Some((rows, _)) => (index, rows),
@@ -143,6 +153,7 @@ fn open_at(alloc: Global, bytes: Bytes, place: u64) -> Result<OpenNode, GrammarE
 }
 
 /// The places of so many nodes, which stand one behind the other where the rest of the bytes begins.
+#[tactic(auto, using(crate::proofs::Loops::with_none))]
 fn places_of(
     alloc: Global,
     stop: u64,
@@ -151,6 +162,7 @@ fn places_of(
     rest: Bytes,
 ) -> Result<Vec<u64>, GrammarError>
     requires stop { stop ≡ length bytes.now }
+    requires some { 1 ≤ stop }
     requires octets { AreBytes bytes.now }
     requires rest { drop (length bytes.now - length rest) bytes.now ≡ rest }
     ensures there { IfOk result (λ v. IsTrue (are_nodes_at bytes.now v.items)) }

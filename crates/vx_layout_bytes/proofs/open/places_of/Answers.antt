@@ -3,17 +3,10 @@ use Rattle.std.proofs.lemmas.List.{map_push}
 use Rattle.std.proofs.lemmas.Result.{err_from_is_err_and}
 use Rattle.vx_layout_bytes.specs.Reading.{node_at, many_nodes}
 use Rattle.vx_layout_bytes.specs.There.{is_node_at, are_nodes_at, node_there, only_value}
-use Rattle.vx_layout_bytes.proofs.Loops.{with_none, nodes_go_on, nodes_end, nodes_done}
+use Rattle.vx_layout_bytes.proofs.Loops.{nodes_go_on, nodes_end, nodes_done}
 use Rattle.vx_layout_bytes.proofs.Skips.{fails_behind, only_fails}
 use Rattle.vx_layout_bytes.proofs.There.{are_push, went_behind}
 use Rattle.vx_layout_bytes.proofs.open.places_of.Goals as goal
-
-pub loop-init : goal.loop-init
-loop-init c = record {
-  so_far = with_none (many_nodes (node_at (c.args.stop - 1) c.args.stop) c.args.count (c.args.stop - 1) c.args.rest);
-  there = refl;
-  ends = c.requires.rest;
-}
 
 pub returns-in_err-fewer-clause-nodes : goal.returns-in_err-fewer-clause-nodes
 returns-in_err-fewer-clause-nodes c =
