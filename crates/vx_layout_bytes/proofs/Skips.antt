@@ -1,10 +1,10 @@
 -- Going behind nodes one after the other, as a loop does.
-use Rattle.std.proofs.Common.{◌≡◌, ℕ, zero, suc, ◌-◌, ◌+◌, ◌≤◌, ◌<◌, List, [], ◌∷◌, length, Result, Ok, Err, refl, sym, ap, ◌∙◌, arith}
+use Rattle.std.proofs.Common.{◌≡◌, ℕ, suc, ◌-◌, ◌+◌, ◌≤◌, ◌<◌, List, length, Result, Ok, Err, refl, sym, ap, ◌∙◌, arith}
 use Rattle.vx_byte_reader.specs.Places.{◌>>=◌}
 use Rattle.vx_byte_reader.proofs.PlaceLaws.{ok_is}
 use Rattle.vx_layout_bytes.specs.declared.error.GrammarError.{GrammarError}
 use Rattle.vx_layout_bytes.specs.declared.error.GrammarError.TheVariants as errors
-use Rattle.vx_layout_bytes.specs.Node.{Own, Node, Nodes, node, first}
+use Rattle.vx_layout_bytes.specs.Node.{Own, Node, Nodes, first}
 use Rattle.vx_layout_bytes.specs.Reading.{Fault, bad_grammar, too_deep, too_many, own_at, ReaderOf, many_nodes, node_at}
 use Rattle.vx_layout_bytes.specs.There.{behind, only_value}
 use Rattle.vx_layout_bytes.specs.Views.{Fails}

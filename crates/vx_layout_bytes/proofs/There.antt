@@ -86,7 +86,7 @@ parts_read (suc d) stop (suc l) bytes x e =
     let ll : suc l - 1 ≡ l = omega arith in
     let made : Node × ℕ × List ℕ = (node a.0.0 b.0.0, b.0.1, b.0.2) in
     let j : many_nodes (node_at (suc d - 1) stop) a.0.1 (suc l - 1) a.0.2 ≡ Ok b.0 =
-        subst (λ (k : ℕ). many_nodes (node_at (suc d - 1) stop) a.0.1 k a.0.2 ≡ Ok b.0) (sym ll) (subst (λ (k : ℕ). many_nodes (node_at k stop) a.0.1 l a.0.2 ≡ Ok b.0) (sym dd) b.1) in
+    subst (λ (k : ℕ). many_nodes (node_at (suc d - 1) stop) a.0.1 k a.0.2 ≡ Ok b.0) (sym ll) (subst (λ (k : ℕ). many_nodes (node_at k stop) a.0.1 l a.0.2 ≡ Ok b.0) (sym dd) b.1) in
     (a.0, b.0, a.1, j, ap (λ (y : Node × ℕ × List ℕ). y.0) (sym (ok_is made x b.2)))
 
 pub standing : (bytes : List ℕ) (place : ℕ) → IsTrue (is_node_at bytes place) → Standing bytes place
@@ -242,7 +242,7 @@ opened_is bytes copy place stop o count rest ns h whole same e f =
     let x : mine ≡ yours = ok_is mine yours (sym s.own_read ∙ e1) in
     let f1 : only_value (many_nodes (node_at (length bytes - 1) (length bytes)) count (length bytes - 1) rest) ≡ Ok ns = subst (λ (k : ℕ). only_value (many_nodes (node_at (k - 1) k) count (k - 1) rest) ≡ Ok ns) whole f in
     let r1 : many_nodes (node_at (length bytes - 1) (length bytes)) count (length bytes - 1) rest ≡ Ok (s.nodes, s.left, s.after) =
-        subst (λ (y : Own × ℕ × List ℕ). many_nodes (node_at (length bytes - 1) (length bytes)) y.1 (length bytes - 1) y.2 ≡ Ok (s.nodes, s.left, s.after)) x s.nodes_read in
+    subst (λ (y : Own × ℕ × List ℕ). many_nodes (node_at (length bytes - 1) (length bytes)) y.1 (length bytes - 1) y.2 ≡ Ok (s.nodes, s.left, s.after)) x s.nodes_read in
     let n : s.nodes ≡ ns = ok_is s.nodes ns (sym (ap only_value r1) ∙ f1) in
     let o1 : s.own ≡ o = ap (λ (y : Own × ℕ × List ℕ). y.0) x in
     sym (s.is ∙ ap (λ (m : Nodes). node s.own m) n ∙ ap (λ (m : Own). node m ns) o1)

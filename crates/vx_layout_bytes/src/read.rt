@@ -66,7 +66,11 @@ fn read_root(
 }
 
 #[tactic(auto, unfolding(crate::specs::Reading::own_at))]
-pub(crate) fn own_at(alloc: Global, stop: u64, bytes: &mut Bytes) -> Result<(Own, u64), GrammarError>
+pub(crate) fn own_at(
+    alloc: Global,
+    stop: u64,
+    bytes: &mut Bytes,
+) -> Result<(Own, u64), GrammarError>
     ensures { Gives (λ x. (own x.0, x.1, bytes.new)) result (own_read stop bytes.old) }
 {
     let index = u16_at(stop, bytes)?;

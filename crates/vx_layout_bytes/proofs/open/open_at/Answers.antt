@@ -1,4 +1,4 @@
-use Rattle.std.proofs.Common.{◌≡◌, ◌≤◌, List, ℕ, length, map, ap, subst, ◌∙◌, arith}
+use Rattle.std.proofs.Common.{◌≡◌, List, ℕ, length, map, ap, subst, ◌∙◌, arith}
 use Rattle.vx_layout_bytes.specs.Node.{nodes_of}
 use Rattle.vx_layout_bytes.specs.There.{node_there}
 use Rattle.vx_layout_bytes.specs.Values.{AreBytes}

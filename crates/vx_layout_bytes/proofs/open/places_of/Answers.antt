@@ -1,8 +1,8 @@
-use Rattle.std.proofs.Common.{◌≡◌, ◌-◌, ◌∷◌, [], ◌++◌, ℕ, length, map, ap, refl, sym, subst, ◌∙◌, IsTrue, arith}
+use Rattle.std.proofs.Common.{◌≡◌, ◌-◌, ◌∷◌, [], ◌++◌, ℕ, length, map, ap, ◌∙◌}
 use Rattle.std.proofs.lemmas.List.{map_push}
 use Rattle.std.proofs.lemmas.Result.{err_from_is_err_and}
 use Rattle.vx_layout_bytes.specs.Reading.{node_at, many_nodes}
-use Rattle.vx_layout_bytes.specs.There.{is_node_at, are_nodes_at, node_there, only_value}
+use Rattle.vx_layout_bytes.specs.There.{node_there, only_value}
 use Rattle.vx_layout_bytes.proofs.Loops.{nodes_go_on, nodes_end, nodes_done}
 use Rattle.vx_layout_bytes.proofs.Skips.{fails_behind, only_fails}
 use Rattle.vx_layout_bytes.proofs.There.{are_push, went_behind}

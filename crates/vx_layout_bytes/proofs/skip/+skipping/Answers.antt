@@ -1,4 +1,3 @@
-use Rattle.std.proofs.Common.{◌≡◌}
 use Rattle.std.proofs.lemmas.Result.{err_from_is_err_and}
 use Rattle.vx_layout_bytes.specs.Reading.{node_at, many_nodes}
 use Rattle.vx_layout_bytes.specs.There.{behind}
