@@ -1,8 +1,8 @@
 -- A source with named batches on top of a good root makes a tree that keeps the rules.
-use Rattle.std.proofs.Common.{◌≡◌, ℕ, zero, suc, ◌+◌, ◌≤◌, Bool, true, false, not, List, [], ◌∷◌, ◌++◌, length, take, drop, refl, sym, ap, ◌∙◌, subst, inl, inr, ⊎_elim, arith, append-nil}
+use Rattle.std.proofs.Common.{◌≡◌, ℕ, zero, suc, ◌+◌, ◌<◌, ◌≤◌, nat_eq, Bool, true, false, not, List, [], ◌∷◌, ◌++◌, length, take, drop, refl, sym, ap, ◌∙◌, subst, inl, inr, ⊎_elim, arith, append-nil}
 use Rattle.std.proofs.lemmas.Bool.Decides.{nat_tests}
 use Rattle.vx_path.specs.Lists.{In}
-use Rattle.vx_path.specs.Path.{path_le, path_lt, meets, Scattered, Before, Eof, eof_path, next, under, raised, root_eof}
+use Rattle.vx_path.specs.Path.{path_le, path_lt, meets, Scattered, Before, Eof, eof_path, next, inside, under, raised, root_eof}
 use Rattle.vx_path.proofs.Lists.{in_left}
 use Rattle.vx_path.proofs.Path.{path_le-refl, path_le-trans, under_le, under_apart, apart_lt}
 use Rattle.vx_tasks.specs.Task.{takes_in, Action, Task, Forest, given, taken, holds, shuts_in, refuses_in, appends_in, holds_after, is_still, any_kind}
@@ -15,8 +15,8 @@ use Rattle.vx_tasks.specs.Nodes.{acts, puts, source_script, batch_paths, machine
 use Rattle.vx_tasks.specs.Good.{Good}
 use Rattle.vx_tasks.proofs.Scripts.{given_rest, no_true, kind_some_time, all_whole}
 use Rattle.vx_tasks.proofs.Fit.{Feeds, child_rules, child_order, no_append_keeps, no_append_own, no_join_apart}
-use Rattle.vx_named_tasks.specs.Names.{Names, onward, handed, next_name, later_names, held_names, CanName, paths_from, named_script, named_source, named_machine, root_outset, CanBegin}
-use Rattle.vx_named_tasks.specs.Statements.{NamedSourcesKeep, OnwardIsSource, RootBegins}
+use Rattle.vx_named_tasks.specs.Names.{Names, onward, handed, next_name, later_names, held_names, CanName, paths_from, named_script, named_source, named_machine, root_outset, column_names, column_outset, CanBegin}
+use Rattle.vx_named_tasks.specs.Statements.{NamedSourcesKeep, OnwardIsSource, RootBegins, ColumnBegins}
 
 -- What the source does.
 
@@ -212,4 +212,46 @@ root_begins n = record {
   apart = root_scattered 0 n;
   before = λ p h k. let r : (j : ℕ) × (0 ≤ j) × (p ≡ under (0 ∷ []) j) = root_path 0 n p h in
       subst (λ z. (path_lt z (raised root_eof k) ≡ true) × (meets z (raised root_eof k) ≡ false)) (sym r.2) (below_root r.0 k);
+}
+
+-- ---- a column
+
+column_path : (c i n : ℕ) (p : List ℕ) → In p (column_names c i n) → (j : ℕ) × (i ≤ j) × (p ≡ 0 ∷ j ∷ c ∷ [])
+column_path c i zero p h = absurd h
+column_path c i (suc n) p h = ⊎_elim (λ e. (i, omega arith, e))
+    (λ t. let r : (j : ℕ) × (suc i ≤ j) × (p ≡ 0 ∷ j ∷ c ∷ []) = column_path c (suc i) n p t in (r.0, (let l : suc i ≤ r.0 = r.1 in omega (arith, l)), r.2)) h
+
+other_batch : (c i j : ℕ) → i < j → meets (0 ∷ i ∷ c ∷ []) (0 ∷ j ∷ c ∷ []) ≡ false
+other_batch c i j l =
+    let a : nat_eq i j ≡ false = grind (arith, nat_tests) in
+    let b : nat_eq j i ≡ false = grind (arith, nat_tests) in
+    rw (a, b) refl
+
+column_scattered : (c i n : ℕ) → Scattered (column_names c i n)
+column_scattered c i zero = tt
+column_scattered c i (suc n) = (
+  λ q h. let r : (j : ℕ) × (suc i ≤ j) × (q ≡ 0 ∷ j ∷ c ∷ []) = column_path c (suc i) n q h in
+      let l : suc i ≤ r.0 = r.1 in
+      subst (λ z. meets (0 ∷ i ∷ c ∷ []) z ≡ false) (sym r.2) (other_batch c i r.0 (omega (arith, l))),
+  column_scattered c (suc i) n,
+)
+
+column_paths : (c i n : ℕ) → paths_from (handed (column_names c i n)) n ≡ column_names c i n
+column_paths c i zero = refl
+column_paths c i (suc n) = ap (λ z. (0 ∷ i ∷ c ∷ []) ∷ z) (column_paths c (suc i) n)
+
+column_count : (c i n : ℕ) → length (column_names c i n) ≡ n
+column_count c i zero = refl
+column_count c i (suc n) = ap suc (column_count c (suc i) n)
+
+below_column : (c j k : ℕ) → (path_lt (0 ∷ j ∷ c ∷ []) ((1 + c) ∷ (0 + k) ∷ []) ≡ true) × (meets (0 ∷ j ∷ c ∷ []) ((1 + c) ∷ (0 + k) ∷ []) ≡ false)
+below_column c j k = (grind (arith, nat_tests), grind (arith, nat_tests))
+
+pub column_begins : ColumnBegins
+column_begins c n = record {
+  can = omega (arith, column_count c 0 n);
+  apart = subst (λ z. Scattered z) (sym (column_paths c 0 n)) (column_scattered c 0 n);
+  before = subst (λ z. Before z (inside (record { stem = []; last = 1 + c }))) (sym (column_paths c 0 n))
+      (λ p h k. let r : (j : ℕ) × (0 ≤ j) × (p ≡ 0 ∷ j ∷ c ∷ []) = column_path c 0 n p h in
+      subst (λ z. (path_lt z (raised (inside (record { stem = []; last = 1 + c })) k) ≡ true) × (meets z (raised (inside (record { stem = []; last = 1 + c })) k) ≡ false)) (sym r.2) (below_column c r.0 k));
 }

@@ -1,6 +1,6 @@
 -- A source on top of a root's task, whose batches get their paths from a pointer on, or are handed them.
 use Rattle.std.specs.Prelude.{ℕ, zero, suc, ◌+◌, ◌≤◌, Bool, true, false, List, [], ◌∷◌, length}
-use Rattle.vx_path.specs.Path.{Eof, eof_path, next, root_eof, Scattered, Before}
+use Rattle.vx_path.specs.Path.{Eof, eof_path, inside, next, root_eof, Scattered, Before}
 use Rattle.vx_tasks.specs.Task.{Action, Task, Forest}
 use Rattle.vx_tasks.specs.Task.Prompt.{Batch, End}
 use Rattle.vx_tasks.specs.Task.Kind.{Free}
@@ -56,6 +56,14 @@ pub record Outset : Type 0 where
 -- the root's: [0, 0], [0, 1], .. and [1]
 abbrev pub root_outset : Outset
 root_outset = record { names = onward first_batch; eof = root_eof }
+
+-- a column's of so many batches: [0, 0, c], [0, 1, c], .. and [1 + c, 0]
+abbrev pub column_names : ℕ → ℕ → ℕ → List (List ℕ)
+column_names c i zero = []
+column_names c i (suc n) = (0 ∷ i ∷ c ∷ []) ∷ column_names c (suc i) n
+
+abbrev pub column_outset : ℕ → ℕ → Outset
+column_outset c n = record { names = handed (column_names c 0 n); eof = inside (record { stem = []; last = 1 + c }) }
 
 -- A machine can begin there with so many batches: each has a path, of which none is a prefix of another's, and all are before
 -- the eof path.

@@ -5,7 +5,7 @@ use Rattle.vx_tasks.specs.Task.{Task, Forest}
 use Rattle.vx_tasks.specs.Rules.{KeepsRules, KeepsOrder, Rises, names}
 use Rattle.vx_tasks.specs.Nodes.{batch_paths, machine}
 use Rattle.vx_tasks.specs.Good.{Good}
-use Rattle.vx_named_tasks.specs.Names.{Names, onward, CanName, paths_from, named_machine, root_outset, CanBegin}
+use Rattle.vx_named_tasks.specs.Names.{Names, onward, CanName, paths_from, named_machine, root_outset, column_outset, CanBegin}
 
 -- where each batch has a path: whatever the order of the ids, since all that are left are held
 abbrev pub NamedSourcesKeep : Type 0
@@ -20,3 +20,7 @@ OnwardIsSource = (here : Eof) (n : ℕ) (fits : Bool) (root : Task) (kids : Fore
 -- the root's machine can begin with any number of batches
 abbrev pub RootBegins : Type 0
 RootBegins = (n : ℕ) → CanBegin root_outset n
+
+-- and a column's with all of its batches
+abbrev pub ColumnBegins : Type 0
+ColumnBegins = (c n : ℕ) → CanBegin (column_outset c n) n

@@ -1,4 +1,4 @@
-use Rattle.vx_named_tasks.proofs.NamedLaws.{named_sources_keep, onward_is_source, root_begins}
+use Rattle.vx_named_tasks.proofs.NamedLaws.{named_sources_keep, onward_is_source, root_begins, column_begins}
 use Rattle.vx_named_tasks.proofs.named_sources.Goals as goal
 
 pub returns-clause-keep : goal.returns-clause-keep
@@ -9,3 +9,6 @@ returns-clause-onward c = onward_is_source
 
 pub returns-clause-root : goal.returns-clause-root
 returns-clause-root c = root_begins
+
+pub returns-clause-column : goal.returns-clause-column
+returns-clause-column c = column_begins
