@@ -8,6 +8,7 @@ use Rattle.vx_model.specs.ChunkData.{ChunkData}
 use Rattle.vx_plan.specs.PlanData.{Setting, Pair}
 use Rattle.vx_machine_turns.specs.Fuels.{Fuel}
 use Rattle.vx_machine_turns.specs.Readings.{Reading}
+use Rattle.vx_named_tasks.specs.Names.{root_outset}
 use Rattle.vx_machine_steps.specs.Tree.{Tree, read, forest, counts}
 use Rattle.vx_machine_steps.specs.Moves.{TreeMove, machine_moves, all_over, view}
 use Rattle.vx_machine_steps.specs.Runs.{Runs, RunsBy, notes}
@@ -16,8 +17,8 @@ use Rattle.vx_machine_steps.specs.StartPlanned.{IsPlanned}
 use Rattle.vx_machine_steps.proofs.Laws.{runs_lead, runs_read}
 use Rattle.vx_machine_steps.proofs.Noted.{notes_agree}
 use Rattle.vx_machine_steps.proofs.Ready.{some_move, moves_lower, runs_count}
-use Rattle.vx_machine_steps.proofs.StartPlanned.{start_is_planned}
-use Rattle.vx_machine_promises.specs.Write.{Write, Future, depth, begin, scripts}
+use Rattle.vx_machine_steps.proofs.StartPlanned.{root_is_planned}
+use Rattle.vx_machine_promises.specs.Write.{Write, Future, depth, begin, scripts, planned}
 use Rattle.vx_machine_promises.specs.Reached.{Reached, moves_at}
 use Rattle.vx_machine_promises.specs.Promises.{SomethingIsReady, WorkFalls, WorkIsShared}
 
@@ -26,8 +27,8 @@ notes_length s d t picks [] = refl
 notes_length s d t picks (m ∷ ms) = ap suc (notes_length s d m.after (later_picks picks) ms)
 
 module _ (g : Write) (taken : List ChunkData) (f : Future) (seen : List Note) (history : List Pair) (tracker : ℕ) (r : Reached g taken f seen history tracker) where
-  pub at_start : IsPlanned g.setting g.way g.type g.mark (taken ++ f.later) f.fits
-  at_start = start_is_planned g.setting g.way g.type g.mark (taken ++ f.later) f.fits
+  pub at_start : IsPlanned g.setting g.way g.type g.mark root_outset (taken ++ f.later) f.fits (planned g taken f)
+  at_start = root_is_planned g.setting g.way g.type g.mark (taken ++ f.later) f.fits
 
   pub as_many : length seen ≡ length r.moves
   as_many = ap length r.seen_is ∙ notes_length g.setting (depth g) (begin g taken f) g.schedule r.moves

@@ -16,6 +16,7 @@ use Rattle.vx_plan.specs.ChunkedNode.{all_numbers, chunked_node, chunk_plans, ch
 use Rattle.vx_plan.specs.ColumnNodes.{Column, marked, column_plans, column_numbers, struct_writers, struct_plans, struct_node, elements_in, list_writers, list_numbers, list_plans, list_columns_plan, list_node}
 use Rattle.vx_plan.specs.SourcePlan.{plan_nodes, plan, batch_items, source_plan}
 use Rattle.vx_plan.proofs.Relate.{Agree, relate, Both}
+use Rattle.vx_named_tasks.specs.Names.{root_outset}
 use Rattle.vx_machine_turns.specs.Forms.{Form, flat_form, chunked_form, struct_form, list_form, forms_of, form_nodes, form_type, Writer}
 use Rattle.vx_machine_turns.specs.Acts.{Seed, Act, births, gifts, shut, numbers_in, indices_in}
 use Rattle.vx_machine_turns.specs.Locals.{ChunkedNode, StructNode, ListNode, chunked_local, struct_local, list_local}
@@ -427,7 +428,7 @@ start_covered g bs fits b n i = subst (λ z. AtMost n (1 ∷ z)) (sym is) (by i)
     kids = below g.setting count_reading (fuel_of (form_of g)) c
 
     is : read g.setting count_reading (depth g) 0 [] (started g.way g.type g.mark bs fits) ≡ mine ++ ((own ++ (kids ++ [])) ++ [])
-    is = start_reads count_reading g.setting (depth g) (form_of g) g.mark bs fits
+    is = start_reads count_reading g.setting (depth g) (form_of g) g.mark root_outset bs fits
         ∙ ap (λ z. mine ++ (z ++ [])) (row_is g.setting count_reading (λ u. fuel_of (form_of g)) 0 acts (c ∷ []) (gives_batches 0 bs fits, closes_root first_batch bs fits, tt))
 
     from_root : (k : ℕ) → In k (own ++ kids) → In k (mine ++ ((own ++ (kids ++ [])) ++ []))

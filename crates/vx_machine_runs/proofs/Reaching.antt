@@ -5,6 +5,7 @@ use Rattle.vx_layout_spec.specs.Codec.{Lawful}
 use Rattle.vx_tasks.specs.Run.{Note, nth, Leads}
 use Rattle.vx_plan.specs.PlanData.{Pair}
 use Rattle.vx_plan.specs.Number.{number_of}
+use Rattle.vx_named_tasks.specs.Names.{root_outset}
 use Rattle.vx_machine_turns.specs.Readings.{Reading}
 use Rattle.vx_machine_steps.specs.Tree.{read, forest, counts}
 use Rattle.vx_machine_steps.specs.Moves.{TreeMove, tree_moves, view}
@@ -13,7 +14,7 @@ use Rattle.vx_machine_steps.specs.Stands.{Stands}
 use Rattle.vx_machine_steps.specs.StartPlanned.{IsPlanned}
 use Rattle.vx_machine_steps.proofs.Laws.{runs_lead, runs_read}
 use Rattle.vx_machine_steps.proofs.Noted.{notes_agree}
-use Rattle.vx_machine_steps.proofs.StartPlanned.{start_is_planned}
+use Rattle.vx_machine_steps.proofs.StartPlanned.{root_is_planned}
 use Rattle.vx_machine_promises.specs.Write.{Write, Future, Open, Answer, depth, begin, scripts, planned, heard_by, before}
 use Rattle.vx_machine_promises.specs.Reached.{Reached, moves_at}
 use Rattle.vx_machine_view.specs.Machine.{Machine, WholeStep, machine_ids}
@@ -23,8 +24,8 @@ use Rattle.vx_machine_view.proofs.Ending.{held_shows}
 use Rattle.vx_machine_view.proofs.Wholes.{step_shows, ready_shows}
 
 module _ (g : Write) (taken : List ChunkData) (f : Future) (seen : List Note) (history : List Pair) (tracker : ℕ) (r : Reached g taken f seen history tracker) where
-  pub at_start : IsPlanned g.setting g.way g.type g.mark (taken ++ f.later) f.fits
-  at_start = start_is_planned g.setting g.way g.type g.mark (taken ++ f.later) f.fits
+  pub at_start : IsPlanned g.setting g.way g.type g.mark root_outset (taken ++ f.later) f.fits (planned g taken f)
+  at_start = root_is_planned g.setting g.way g.type g.mark (taken ++ f.later) f.fits
 
   runs : Runs g.setting (depth g) (begin g taken f) r.moves r.tree
   runs = (notes_agree g.setting (depth g) (begin g taken f) r.tree g.schedule r.moves at_start.stands r.runs).0

@@ -16,6 +16,7 @@ use Rattle.vx_cut_laws.proofs.Runs.{same_runs}
 use Rattle.vx_plan.specs.PlanData.{Setting, paths}
 use Rattle.vx_plan.specs.Number.{number_of}
 use Rattle.vx_plan.proofs.ChunkedLaws.{paths-append}
+use Rattle.vx_named_tasks.specs.Names.{root_outset}
 use Rattle.vx_machine_turns.specs.Acts.{refuses, written_by}
 use Rattle.vx_machine_turns.specs.Fuels.{Fuel}
 use Rattle.vx_machine_steps.specs.Tree.{Tree, forest, counts}
@@ -63,7 +64,7 @@ next_is_within_work g first seen x a f law u o = on (u f o)
     on : At g first seen x f → length (ready_steps g first x.history a x.machine) ≤ work (cut (scripts g x.taken f))
     on (r, shown) =
         let l = leads g x.taken f seen x.history g.tracker r in
-        let s : IsPlanned g.setting g.way g.type g.mark (x.taken ++ f.later) f.fits = at_start g x.taken f seen x.history g.tracker r in
+        let s : IsPlanned g.setting g.way g.type g.mark root_outset (x.taken ++ f.later) f.fits (planned g x.taken f) = at_start g x.taken f seen x.history g.tracker r in
         let b : length (ready_steps g first x.history a x.machine) ≡ length (moves_at g r.tree) = as_ready g x.taken f seen x.history g.tracker r first x.machine shown a law in
         let c : ready (forest g.setting (depth g) r.tree) (counts r.tree) ≡ length (moves_at g r.tree) = ready_is g.setting (depth g) r.tree l.2 in
         let e : ready (forest g.setting (depth g) r.tree) (counts r.tree) ≡ ready (scripts g x.taken f) (counts r.tree) = ap (λ z. ready z (counts r.tree)) l.1 in

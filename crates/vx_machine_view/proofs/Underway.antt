@@ -14,6 +14,7 @@ use Rattle.vx_plan.specs.SourcePlan.{source_plan}
 use Rattle.vx_plan.proofs.Numbering.{in_paths, clash}
 use Rattle.vx_plan.proofs.Fronts.{scattered_sorted}
 use Rattle.vx_plan.proofs.SourceLaws.{paths_distinct}
+use Rattle.vx_named_tasks.specs.Names.{root_outset}
 use Rattle.vx_machine_turns.specs.Acts.{refuses, written_by}
 use Rattle.vx_machine_turns.specs.Readings.{number_reading}
 use Rattle.vx_machine_steps.specs.Tree.{Tree, read}
@@ -25,7 +26,7 @@ use Rattle.vx_machine_steps.proofs.Laws.{runs_lead, runs_read}
 use Rattle.vx_machine_steps.proofs.Noted.{notes_agree}
 use Rattle.vx_machine_steps.proofs.Ready.{some_move}
 use Rattle.vx_machine_steps.proofs.Sorted.{appended_first}
-use Rattle.vx_machine_steps.proofs.StartPlanned.{start_is_planned}
+use Rattle.vx_machine_steps.proofs.StartPlanned.{root_is_planned}
 use Rattle.vx_machine_promises.specs.Write.{Write, Future, Answer, unasked, came, over, depth, begin, planned, taken_by, before}
 use Rattle.vx_machine_promises.specs.Reached.{Reached, moves_at, pick_at, Stepped}
 use Rattle.vx_machine_view.specs.Machine.{WholeStep, machine_ids}
@@ -59,8 +60,8 @@ runs_more g t e [] m w i c = (subst (λ z. In m (moves_at g z)) (sym w) i, c, re
 runs_more g t e (x ∷ ms) m (k, n, w) i c = (k, n, runs_more g x.after e ms m w i c)
 
 module _ (g : Write) (taken : List ChunkData) (f : Future) (seen : List Note) (history : List Pair) (tracker : ℕ) (r : Reached g taken f seen history tracker) where
-  at_start : IsPlanned g.setting g.way g.type g.mark (taken ++ f.later) f.fits
-  at_start = start_is_planned g.setting g.way g.type g.mark (taken ++ f.later) f.fits
+  at_start : IsPlanned g.setting g.way g.type g.mark root_outset (taken ++ f.later) f.fits (planned g taken f)
+  at_start = root_is_planned g.setting g.way g.type g.mark (taken ++ f.later) f.fits
 
   runs : Runs g.setting (depth g) (begin g taken f) r.moves r.tree
   runs = (notes_agree g.setting (depth g) (begin g taken f) r.tree g.schedule r.moves at_start.stands r.runs).0

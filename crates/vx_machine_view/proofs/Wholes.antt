@@ -7,6 +7,7 @@ use Rattle.vx_layout_spec.specs.Codec.{Lawful}
 use Rattle.vx_tasks.specs.Task.{Free, Put, Batch, End, Close}
 use Rattle.vx_tasks.specs.Run.{nth}
 use Rattle.vx_plan.specs.PlanData.{Item}
+use Rattle.vx_named_tasks.specs.Names.{root_outset}
 use Rattle.vx_machine_turns.specs.Acts.{Seed, Act, does, put_item, close_queues, passes, born, shape_in}
 use Rattle.vx_machine_turns.specs.Source.{source_acts, source_seed, source_kept}
 use Rattle.vx_machine_turns.specs.Turns.{firsts}
@@ -106,7 +107,7 @@ module _ (g : Write) (number : List ℕ → ℕ) (next_number : ℕ) (all : List
     one = one;
     typed = ty;
     shape = sh;
-    held = held_last source_kept past a ∙ h;
+    held = held_last (source_kept root_outset) past a ∙ h;
   }
 
   -- a batch of the type

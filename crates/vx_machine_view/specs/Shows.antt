@@ -64,7 +64,7 @@ local_rows fallback_local = 0
 local_rows (runs_local n r j rows) = rows
 local_rows (zoned_local n records last zones rows) = rows
 local_rows idle_local = 0
-local_rows (source_local f m) = 0
+local_rows (source_local f m o) = 0
 local_rows outside_local = 0
 
 abbrev pub task_rows : Bool → Local → List Act → List Item → ℕ

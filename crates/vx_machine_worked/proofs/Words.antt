@@ -21,6 +21,7 @@ use Rattle.vx_strategy_spec.specs.StrategyData.{StrategyData, flat, chunked, gro
 use Rattle.vx_strategy_spec.specs.Walk.{walk}
 use Rattle.vx_plan.specs.PlanData.{Setting, What}
 use Rattle.vx_plan.specs.SourcePlan.{batch_items}
+use Rattle.vx_named_tasks.specs.Names.{root_outset}
 use Rattle.vx_machine_turns.specs.Forms.{Form, form_nodes}
 use Rattle.vx_machine_turns.specs.Fuels.{fuel, fuel_of}
 use Rattle.vx_machine_turns.specs.Acts.{Act}
@@ -48,7 +49,7 @@ setting refused allowed = record {
 -- the whole tree of scripts
 abbrev pub tree_of : Setting → Form → Bool → List ChunkData → Bool → Forest
 tree_of s f m bs fits = Node (task_of (source_seed f m) (source_acts first_batch bs fits))
-    (unread s script_reading (fuel (λ u. fuel_of f)) 0 (source_firsts f m) (source_acts first_batch bs fits)) Bare
+    (unread s script_reading (fuel (λ u. fuel_of f)) 0 (source_firsts f m root_outset) (source_acts first_batch bs fits)) Bare
 
 abbrev pub tasks : Setting → StrategyData → Ty → List ChunkData → Forest
 tasks s w t bs = tree_of s (walk form_nodes w t) false bs true
