@@ -44,7 +44,7 @@ part_leaves u (p ∷ ps) e o =
 -- ---- the part
 
 -- how often a path stands in a list
-count : List (List ℕ) → List ℕ → ℕ
+abbrev count : List (List ℕ) → List ℕ → ℕ
 count [] p = 0
 count (q ∷ qs) p = one (same p q) + count qs p
 
@@ -98,7 +98,7 @@ eof_open u ids e o =
 
 no_ends : (ids : List (List ℕ)) (p : List ℕ) → (ids_stock ids).ends p ≡ 0
 no_ends [] p = refl
-no_ends (q ∷ qs) p = no_ends qs p
+no_ends (q ∷ qs) p = let h : (ids_stock qs).ends p ≡ 0 = no_ends qs p in omega (arith, h)
 
 is_eof : (ids : List (List ℕ)) (e : Eof) (p : List ℕ) → 1 ≤ (stock_of ids e).ends p → p ≡ eof_path e
 is_eof ids e p h = ⊎_elim (λ g. g) (λ n. absurd (omega (arith, h, no_ends ids p, one_other p (eof_path e) n))) (one_path p (eof_path e))
