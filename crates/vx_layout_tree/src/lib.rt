@@ -16,6 +16,7 @@ mod list;
 mod own;
 mod parts;
 mod rebuilt;
+mod renumber;
 mod shape;
 mod stats;
 mod structs;

@@ -1,21 +1,32 @@
 -- The source's task.
-use Rattle.std.specs.Prelude.{◌≡◌, ◌^◌, List, ◌∷◌, Option, Some, None, option_map, Result, Ok, Err}
+use Rattle.std.specs.Prelude.{◌≡◌, ◌≤◌, ◌^◌, ℕ, List, ◌∷◌, length, Option, Some, None, option_map, Result, Ok, Err}
 use Rattle.vx_model.specs.Ty.{Ty}
 use Rattle.vx_model.specs.ChunkData.{ChunkData, piece_type}
 use Rattle.vx_layout_spec.specs.Real.{Whole}
 use Rattle.vx_fault.specs.Told.{NoneTold}
-use Rattle.vx_machine_ids.specs.Stock.{Stock, none, both, end_stock}
+use Rattle.vx_machine_ids.specs.Stock.{Stock, none, both, ids_stock, end_stock}
 use Rattle.vx_write_answer.specs.declared.error.WriteError.{WriteError}
 use Rattle.vx_write_answer.specs.declared.error.WriteError.TheVariants.{SourceFault, SinkFault, CompressFault, BatchType, NotStruct, DuplicateField, ManyChunks, EmptyList, ZoneCut, ForbiddenAggregate, ForbiddenEncoding, TooLarge, OutOfMemory, Unbuilt, Stopped}
+use Rattle.vx_machine.specs.declared.source.Names.{Names}
+use Rattle.vx_machine.specs.declared.source.Names.TheVariants.{Onward, Handed}
 use Rattle.vx_machine.specs.declared.source.Phase.{Phase}
 use Rattle.vx_machine.specs.declared.source.Phase.TheVariants.{Reading, Giving, Closing, Finished}
 use Rattle.vx_machine_nodes.specs.Stocks.{item_stock}
 
+abbrev pub names_stock : Names → Stock
+names_stock (Onward e) = end_stock e
+names_stock (Handed ids) = ids_stock ids.items
+
 abbrev pub phase_stock : Phase → Stock
-phase_stock (Reading e) = end_stock e
-phase_stock (Giving e i) = both (end_stock e) (item_stock i)
+phase_stock (Reading n) = names_stock n
+phase_stock (Giving n i) = both (names_stock n) (item_stock i)
 phase_stock Closing = none
 phase_stock Finished = none
+
+-- there are ids for all batches that are left, which the source tells
+abbrev pub HasIds : ℕ → Option (List ChunkData) → Type 0
+HasIds n None = ⊥
+HasIds n (Some cs) = length cs ≤ n
 
 -- a batch is of the type
 abbrev pub IsTyped : Ty → Option ChunkData → Type 0

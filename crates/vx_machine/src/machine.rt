@@ -7,7 +7,7 @@ ghost use Rattle.vx_model.specs.TyView.{ty};
 ghost use Rattle.vx_kept.specs.Kept.{Fresh, Knows};
 ghost use Rattle.vx_layout_tree.specs.LayoutView.{layout_data};
 ghost use Rattle.vx_strategy.specs.StrategyView.{strategy_data};
-ghost use Rattle.vx_machine_ids.specs.Stock.{none, both, end_stock, ok_stock};
+ghost use Rattle.vx_machine_ids.specs.Stock.{none, both, end_stock, ids_stock, ok_stock};
 ghost use Rattle.vx_machine_ids.specs.Balance.{Owned, Moved, Exact, IsNone};
 ghost use Rattle.vx_machine_view.specs.State.{no_tasks};
 ghost use Rattle.vx_machine_view.specs.Start.{first_indices};
@@ -36,18 +36,19 @@ ghost use Rattle.vx_machine_tasks.specs.declared.task.Task.{out-Task};
 ghost use Rattle.vx_machine.specs.Whole.{machine_stock, machine_reserved, machine_ready, may_source as may_act, has_closed as is_closed, is_finished, StepMay, WholeStartMay};
 
 use crate::built::is_built;
-use crate::source::{Phase, act_source, give_up_phase};
+use crate::source::{Names, Phase, act_source, give_up_ids, give_up_phase};
 use std::alloc::{AllocError, Global};
 use std::mem;
 use std::sync::Arc;
 use vx_kept::Counts;
 use vx_layout_tree::Layout;
 use vx_machine_ids::give_up_pointer;
+use vx_machine_nodes::Made;
 use vx_machine_tasks::{Task, one, start_task};
 use vx_model::DType;
 use vx_order::Order;
 use vx_path::owned::Path;
-use vx_sequence::SequencePointer;
+use vx_sequence::{SequenceId, SequencePointer};
 use vx_sink::{BatchSource, CompressorPlugin, LayoutWriterContext};
 use vx_strategy::Strategy;
 use vx_write_answer::{ActionKind, Step, WriteError};
@@ -159,11 +160,57 @@ impl Machine {
         ) {
             Ok(root) => Ok(Machine {
                 alloc,
-                phase: Phase::Reading(stream),
+                phase: Phase::Reading(Names::Onward(stream)),
                 root,
             }),
             Err(error) => {
                 give_up_pointer(order, stream);
+                Err(error)
+            }
+        }
+    }
+
+    /// The same, of a source whose batches get these ids, in order. Those that are left at the end are given up.
+    pub fn start_at<O: Order>(
+        alloc: Global,
+        strategy: &Strategy,
+        dtype: &DType,
+        ctx: &LayoutWriterContext,
+        order: &mut O,
+        mut ids: Vec<SequenceId>,
+        eof: SequencePointer,
+    ) -> Result<Machine, WriteError>
+        requires { Owned (O.active order.old) (both (ids_stock ids.items) (end_stock eof)) }
+        ensures moved { Moved (O.active order.old) (O.active order.new) (both (ids_stock ids.items) (end_stock eof)) (ok_stock machine_stock result) }
+        ensures unreserved { IfOk result (λ m. machine_reserved m ≡ 0) }
+        ensures built { OnOk result (IsTrue (is_built (strategy_data strategy.now))) }
+        ensures outlet { O.outlet order.new ≡ O.outlet order.old }
+        ensures sink { O.sink order.new ≡ O.sink order.old }
+        ensures cause { IfErr result (WholeStartMay (is_built (strategy_data strategy.now))) }
+        ensures allowed { OnOk result (IsAllowed (form_of strategy.now dtype.now) (is_marked ctx.now)) }
+        ensures counted { OnOk result (Counted eof (first_indices (form_of strategy.now dtype.now) eof)) }
+    {
+        ids.reverse();
+        if !is_built(strategy) {
+            give_up_ids(order, ids);
+            give_up_pointer(order, eof);
+            return Err(WriteError::Unbuilt);
+        }
+        match start_root(
+            alloc,
+            strategy,
+            dtype,
+            ctx.has_nullable_ancestor(),
+            order,
+            eof,
+        ) {
+            Ok(root) => Ok(Machine {
+                alloc,
+                phase: Phase::Reading(Names::Handed(ids)),
+                root,
+            }),
+            Err(error) => {
+                give_up_ids(order, ids);
                 Err(error)
             }
         }
@@ -348,14 +395,24 @@ impl Machine {
         ensures unreserved { machine_reserved self ≡ 0 }
         ensures layout { layouts_in (machine_of self).root ≡ layout_data result ∷ [] }
     {
+        self.finish_with_paths().0
+    }
+
+    /// The same, with the paths of the layout's segments, in the order in which a walk finds them.
+    pub fn finish_with_paths(self) -> (Layout, Vec<Path>)
+        requires { IsTrue (is_finished self) }
+        ensures free { machine_stock self ≡ none }
+        ensures unreserved { machine_reserved self ≡ 0 }
+        ensures layout { layouts_in (machine_of self).root ≡ layout_data result.0 ∷ [] }
+    {
         let Machine {
             alloc: _,
             phase,
             root,
         } = self;
-        let layout = root.into_layout();
+        let Made { layout, paths } = root.into_made();
         match phase {
-            Phase::Finished => layout,
+            Phase::Finished => (layout, paths),
             _ => unreachable!(),
         }
     }

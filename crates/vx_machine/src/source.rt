@@ -1,15 +1,15 @@
 //! The source's task: it reads batches and puts them on the root's queue.
 
-ghost use Rattle.std.specs.Prelude.{◌≡◌, ◌+◌, ◌<◌, ◌^◌, true, IfOk, IfErr};
+ghost use Rattle.std.specs.Prelude.{◌≡◌, ◌+◌, ◌<◌, ◌^◌, true, vec_len, IfOk, IfErr};
 ghost use Rattle.vx_path.specs.Path.{Eof, eof_path, next};
 ghost use Rattle.vx_model.specs.ChunkData.{piece_type};
 ghost use Rattle.vx_order.specs.Answers.{FullAt};
-ghost use Rattle.vx_machine_ids.specs.Stock.{none, both, id_stock, end_stock};
+ghost use Rattle.vx_machine_ids.specs.Stock.{none, both, id_stock, ids_stock, end_stock};
 ghost use Rattle.vx_machine_ids.specs.Balance.{Owned, Moved};
 ghost use Rattle.vx_machine_view.specs.State.{no_tasks};
 ghost use Rattle.vx_write_answer.specs.Causes.{of_order};
 ghost use Rattle.vx_machine.specs.Calls.{ReadTold, SourceTold, reads_at};
-ghost use Rattle.vx_machine.specs.Source.{phase_stock, Reads, IsTyped, IsWhole, SourceMay, NoNumber};
+ghost use Rattle.vx_machine.specs.Source.{phase_stock, names_stock, HasIds, Reads, IsTyped, IsWhole, SourceMay, NoNumber};
 ghost use Rattle.vx_machine.specs.SourceActs.{IsLate, SourceActed, SourceRefused, ReadActed, ReadRefused};
 ghost use Rattle.vx_machine_tasks.specs.Ledger.{task_reserved};
 ghost use Rattle.vx_machine_tasks.specs.Stocks.{task_stock};
@@ -25,15 +25,48 @@ use vx_sequence::{SequenceId, SequencePointer};
 use vx_sink::BatchSource;
 use vx_write_answer::{ActionKind, WriteError};
 
+/// Where the next batches get their paths.
+pub(crate) enum Names {
+    /// From this pointer on.
+    Onward(SequencePointer),
+    /// These, the next one last.
+    Handed(Vec<SequenceId>),
+}
+
 /// What the source does next.
 pub(crate) enum Phase {
-    /// It reads the batch of this path.
-    Reading(SequencePointer),
+    /// It reads the next batch.
+    Reading(Names),
     /// It puts this batch on the root's queue.
-    Giving(SequencePointer, Item),
+    Giving(Names, Item),
     /// It closes the root's queue.
     Closing,
     Finished,
+}
+
+/// Gives up ids.
+pub(crate) fn give_up_ids<O: Order>(order: &mut O, mut ids: Vec<SequenceId>)
+    requires { Owned (O.active order.old) (ids_stock ids.items) }
+    ensures moved { Moved (O.active order.old) (O.active order.new) (ids_stock ids.items) none }
+    ensures outlet { O.outlet order.new ≡ O.outlet order.old }
+    ensures sink { O.sink order.new ≡ O.sink order.old }
+{
+    'ids: while let Some(id) = ids.pop() {
+        give_up_id(order, id);
+    }
+    ids.destroy_empty();
+}
+
+fn give_up_names<O: Order>(order: &mut O, names: Names)
+    requires { Owned (O.active order.old) (names_stock names) }
+    ensures moved { Moved (O.active order.old) (O.active order.new) (names_stock names) none }
+    ensures outlet { O.outlet order.new ≡ O.outlet order.old }
+    ensures sink { O.sink order.new ≡ O.sink order.old }
+{
+    match names {
+        Names::Onward(pointer) => give_up_pointer(order, pointer),
+        Names::Handed(ids) => give_up_ids(order, ids),
+    }
 }
 
 pub(crate) fn give_up_phase<O: Order>(order: &mut O, phase: Phase)
@@ -43,9 +76,9 @@ pub(crate) fn give_up_phase<O: Order>(order: &mut O, phase: Phase)
     ensures sink { O.sink order.new ≡ O.sink order.old }
 {
     match phase {
-        Phase::Reading(pointer) => give_up_pointer(order, pointer),
-        Phase::Giving(pointer, item) => {
-            give_up_pointer(order, pointer);
+        Phase::Reading(names) => give_up_names(order, names),
+        Phase::Giving(names, item) => {
+            give_up_names(order, names);
             give_up_item(order, item);
         }
         Phase::Closing => {}
@@ -98,7 +131,7 @@ fn read_at<O: Order, B: BatchSource>(
 {
     match next_batch(source) {
         Ok(Some(chunk)) => (
-            Phase::Giving(pointer, Item { id, chunk }),
+            Phase::Giving(Names::Onward(pointer), Item { id, chunk }),
             Ok(ActionKind::Batch),
         ),
         Ok(None) => {
@@ -108,7 +141,7 @@ fn read_at<O: Order, B: BatchSource>(
         }
         Err(error) => {
             give_up_id(order, id);
-            (Phase::Reading(pointer), Err(error))
+            (Phase::Reading(Names::Onward(pointer)), Err(error))
         }
     }
 }
@@ -136,13 +169,13 @@ fn read_none<O: Order, B: BatchSource>(
     match next_batch(source) {
         Ok(Some(batch)) => {
             drop(batch);
-            (Phase::Reading(pointer), Err(full.into()))
+            (Phase::Reading(Names::Onward(pointer)), Err(full.into()))
         }
         Ok(None) => {
             give_up_pointer(order, pointer);
             (Phase::Closing, Ok(ActionKind::End))
         }
-        Err(error) => (Phase::Reading(pointer), Err(error)),
+        Err(error) => (Phase::Reading(Names::Onward(pointer)), Err(error)),
     }
 }
 
@@ -165,8 +198,41 @@ fn read<O: Order, B: BatchSource>(
 {
     match take_id(order, &mut pointer) {
         Ok(id) => read_at(order, source, pointer, id),
-        Err(OrderError::OutOfMemory) => (Phase::Reading(pointer), Err(WriteError::OutOfMemory)),
+        Err(OrderError::OutOfMemory) => (
+            Phase::Reading(Names::Onward(pointer)),
+            Err(WriteError::OutOfMemory),
+        ),
         Err(full) => read_none(order, source, pointer, full),
+    }
+}
+
+/// The source's answer, where its batch gets the last of these ids. There is one for each batch that is left.
+fn read_handed<O: Order, B: BatchSource>(
+    order: &mut O,
+    source: &mut B,
+    mut ids: Vec<SequenceId>,
+) -> (Phase, Result<ActionKind, WriteError>)
+    requires owned { Owned (O.active order.old) (ids_stock ids.items) }
+    requires named { HasIds (vec_len ids) (B.to_come source.old) }
+    ensures moved { Moved (O.active order.old) (O.active order.new) (ids_stock ids.items) (phase_stock result.0) }
+    ensures outlet { O.outlet order.new ≡ O.outlet order.old }
+    ensures sink { O.sink order.new ≡ O.sink order.old }
+    ensures kind { B.kind source.new ≡ B.kind source.old }
+    ensures cause { IfErr result.1 (SourceMay (B.kind source.old)) }
+{
+    match next_batch(source) {
+        Ok(Some(chunk)) => match ids.pop() {
+            Some(id) => (
+                Phase::Giving(Names::Handed(ids), Item { id, chunk }),
+                Ok(ActionKind::Batch),
+            ),
+            None => unreachable!(),
+        },
+        Ok(None) => {
+            give_up_ids(order, ids);
+            (Phase::Closing, Ok(ActionKind::End))
+        }
+        Err(error) => (Phase::Reading(Names::Handed(ids)), Err(error)),
     }
 }
 
@@ -191,12 +257,13 @@ pub(crate) fn act_source<O: Order, B: BatchSource>(
     ensures refused { IfErr result.1 (SourceRefused (B.kind source.old) (B.to_come source.old) (B.to_come source.new) (phase_of phase) (task_row root.old no_tasks)) }
 {
     match phase {
-        Phase::Reading(pointer) => read(order, source, pointer),
-        Phase::Giving(pointer, item) => match root.give(item) {
-            Ok(()) => (Phase::Reading(pointer), Ok(ActionKind::Put)),
+        Phase::Reading(Names::Onward(pointer)) => read(order, source, pointer),
+        Phase::Reading(Names::Handed(ids)) => read_handed(order, source, ids),
+        Phase::Giving(names, item) => match root.give(item) {
+            Ok(()) => (Phase::Reading(names), Ok(ActionKind::Put)),
             Err(item) => {
                 give_up_item(order, item);
-                (Phase::Reading(pointer), Err(WriteError::OutOfMemory))
+                (Phase::Reading(names), Err(WriteError::OutOfMemory))
             }
         },
         Phase::Closing => {

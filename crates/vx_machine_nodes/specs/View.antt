@@ -6,6 +6,7 @@ use Rattle.vx_chunk_cells.specs.Parts.{element_type}
 use Rattle.vx_model.specs.TyView.{ty}
 use Rattle.vx_model.specs.declared.dtype.DType.{DType}
 use Rattle.vx_layout_tree.specs.LayoutView.{layout_data}
+use Rattle.vx_layout_spec.specs.LayoutTree.{LayoutData}
 use Rattle.vx_strategy.specs.FlatViews.{flat_options}
 use Rattle.vx_strategy.specs.StrategyView.{strategy_data}
 use Rattle.vx_strategy.specs.declared.strategy.Strategy.{Strategy}
@@ -20,6 +21,7 @@ use Rattle.vx_machine_nodes.specs.declared.item.Due.{Due}
 use Rattle.vx_machine_nodes.specs.declared.item.Due.TheVariants.{Put, HandOn, Append, Close, Join}
 use Rattle.vx_machine_nodes.specs.declared.kinds.ChunkedNode.{ChunkedNode}
 use Rattle.vx_machine_nodes.specs.declared.node.Local.{Local}
+use Rattle.vx_machine_nodes.specs.declared.node.Made.{Made}
 use Rattle.vx_machine_nodes.specs.declared.node.Local.TheVariants.{Empty, Full, Chunked, Columns, Lists, Grouped, Over, Passing, Made}
 use Rattle.vx_machine_nodes.specs.declared.node.Shape.{Shape}
 use Rattle.vx_machine_nodes.specs.declared.node.Shape.TheVariants as shapes
@@ -63,6 +65,10 @@ todo_of ds = map next_of ds
 abbrev pub child_form : ChunkedNode → Form
 child_form n = form_at n.child.item (ty (arc_value n.dtype))
 
+-- the layout that a task has made
+abbrev pub made_data : Made → LayoutData ℕ
+made_data m = layout_data m.layout
+
 abbrev pub mind_of : Local → view.Mind
 mind_of (Empty n) = view.no_chunk (flat_options n.options) (ty (arc_value n.dtype))
 mind_of (Full x) = view.one_chunk (stored_of x)
@@ -72,4 +78,4 @@ mind_of (Lists n rows) = view.by_list (element_type (ty (arc_value n.dtype))) (n
 mind_of (Grouped n) = mind_in n.rule n.newest n.rows
 mind_of Over = view.ending
 mind_of Passing = view.passing
-mind_of (Made l) = view.made (layout_data l)
+mind_of (Made l) = view.made (made_data l)

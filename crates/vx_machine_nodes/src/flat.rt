@@ -24,7 +24,7 @@ ghost use Rattle.vx_machine_nodes.specs.Stocks.{item_stock, local_stock, stored_
 
 use crate::item::{Item, Segment, Stored};
 use crate::kinds::FlatNode;
-use crate::node::{Local, give_up_local};
+use crate::node::{Local, Made, give_up_local};
 use std::alloc::{AllocError, Global};
 use std::mem;
 use std::sync::Arc;
@@ -34,6 +34,8 @@ use vx_layout_tree::{FlatLayout, Layout};
 use vx_machine_ids::give_up_id;
 use vx_model::{ArrayContext, Blob, DType, SegmentId};
 use vx_order::{Attempt, Order};
+use vx_order_answer::Receipt;
+use vx_path::owned::Path;
 use vx_segment_writer::encode_segment;
 use vx_sequence::SequenceId;
 use vx_sink::LayoutWriterContext;
@@ -144,12 +146,12 @@ pub fn take_flat<O: Order>(
 }
 
 /// Appends the bytes at the least path.
-fn write<O: Order>(order: &mut O, id: SequenceId, bytes: &[u8]) -> Result<u32, WriteError>
+fn write<O: Order>(order: &mut O, id: SequenceId, bytes: &[u8]) -> Result<Receipt, WriteError>
     requires owned { Owned (O.active order.old) (id_stock id) }
     requires least { IsLeast (O.active order.old) id }
     requires allowed { O.may_write order.old id bytes.now }
     ensures moved { Moved (O.active order.old) (O.active order.new) (id_stock id) none }
-    ensures appended { IfOk result (λ n. IsAppended (O.outlet order.old) n (id, bytes.now) (O.outlet order.new)) }
+    ensures appended { IfOk result (λ r. IsAppended (O.outlet order.old) r.number (id, bytes.now) (O.outlet order.new) × (r.path ≡ id)) }
     ensures refused { IfErr result (AppendRefused (O.outlet order.old) (id, bytes.now)) }
     ensures kept { OnErr result (Kept (O.outlet order.old) (O.outlet order.new)) }
     ensures told { AppendTold (O.Sink.faults (O.sink order.old)) (O.Sink.faults (O.sink order.new)) (O.Sink.may_fail (O.sink order.old)) (O.Sink.may_fail (O.sink order.new))
@@ -157,7 +159,7 @@ fn write<O: Order>(order: &mut O, id: SequenceId, bytes: &[u8]) -> Result<u32, W
     ensures cause { IfErr result ActMay }
 {
     match order.try_write(id, bytes) {
-        Ok(Attempt::Written(receipt)) => Ok(receipt.number),
+        Ok(Attempt::Written(receipt)) => Ok(receipt),
         Ok(
             Attempt::Waiting {
                 id,
@@ -175,21 +177,19 @@ fn write<O: Order>(order: &mut O, id: SequenceId, bytes: &[u8]) -> Result<u32, W
     }
 }
 
+/// What the layout needs besides its number, with room for its path.
 fn layout_parts(
     ctx: &LayoutWriterContext,
-    dtype: &DType,
-) -> Result<(DType, ArrayContext), AllocError>
-    ensures dtype { IfOk result (λ p. ty p.0 ≡ ty dtype.now) }
+    segment: &Segment,
+) -> Result<(DType, ArrayContext, Vec<Path>), AllocError>
+    ensures dtype { IfOk result (λ p. ty p.0 ≡ ty (arc_value segment.now.dtype)) }
     ensures encodings { IfOk result (λ p. p.1 ≡ listed ctx.now) }
+    ensures paths { IfOk result (λ p. (p.2.items ≡ []) × (0 < vec_capacity p.2)) }
 {
+    let paths = Vec::with_capacity(*segment.bytes.allocator(), 1)?;
     let encodings = ctx.array_ctx().clone()?;
-    match dtype.clone() {
-        Ok(dtype) => Ok((dtype, encodings)),
-        Err(error) => {
-            drop(encodings);
-            Err(error)
-        }
-    }
+    let dtype = DType::clone(&segment.dtype)?;
+    Ok((dtype, encodings, paths))
 }
 
 /// Appends the segment. All memory is taken before the sink is called.
@@ -197,13 +197,13 @@ pub fn append<O: Order>(
     ctx: &LayoutWriterContext,
     order: &mut O,
     stored: Stored,
-) -> Result<Layout, WriteError>
+) -> Result<Made, WriteError>
     requires owned { Owned (O.active order.old) (stored_stock stored) }
     requires least { IsLeast (O.active order.old) stored.id }
     requires allowed { O.may_write order.old stored.id stored.segment.bytes.items }
     ensures moved { Moved (O.active order.old) (O.active order.new) (stored_stock stored) none }
     ensures appended { IfOk result (λ l. (n : ℕ) × IsAppended (O.outlet order.old) n (stored.id, stored.segment.bytes.items) (O.outlet order.new)
-        × (layout_data l ≡ flat_layout (ty (arc_value stored.segment.dtype)) stored.segment.rows (listed ctx.now) stored.segment.tree n)) }
+        × (l.paths.items ≡ stored.id ∷ []) × (layout_data l.layout ≡ flat_layout (ty (arc_value stored.segment.dtype)) stored.segment.rows (listed ctx.now) stored.segment.tree n)) }
     ensures refused { IfErr result (AppendRefused (O.outlet order.old) (stored.id, stored.segment.bytes.items)) }
     ensures kept { OnErr result (Kept (O.outlet order.old) (O.outlet order.new)) }
     ensures told { AppendTold (O.Sink.faults (O.sink order.old)) (O.Sink.faults (O.sink order.new)) (O.Sink.may_fail (O.sink order.old)) (O.Sink.may_fail (O.sink order.new))
@@ -211,8 +211,8 @@ pub fn append<O: Order>(
     ensures cause { IfErr result ActMay }
 {
     let Stored { id, segment } = stored;
-    match layout_parts(ctx, &segment.dtype) {
-        Ok((dtype, encodings)) => {
+    match layout_parts(ctx, &segment) {
+        Ok((dtype, encodings, mut paths)) => {
             let written = write(order, id, &segment.bytes);
             let Segment {
                 bytes,
@@ -222,13 +222,17 @@ pub fn append<O: Order>(
             } = segment;
             drop((bytes, held));
             match written {
-                Ok(number) => {
+                Ok(Receipt { path, number }) => {
                     let id = SegmentId(number);
                     let flat = FlatLayout::new_with_metadata(rows, dtype, id, encodings, tree);
-                    Ok(Layout::Flat(flat))
+                    paths.push_reserved(path);
+                    Ok(Made {
+                        layout: Layout::Flat(flat),
+                        paths,
+                    })
                 }
                 Err(error) => {
-                    drop((dtype, encodings, tree));
+                    drop((dtype, encodings, tree, paths));
                     Err(error)
                 }
             }

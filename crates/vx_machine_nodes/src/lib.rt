@@ -21,5 +21,5 @@ pub use grouped_node::GroupedNode;
 pub use item::{Due, Item, Segment, Stored, give_up_dues, give_up_item, give_up_items, release};
 pub use kinds::{ChunkedNode, ColumnsNode, FlatNode, ListsNode};
 pub use lists::{end_lists, take_lists};
-pub use node::{Local, Shape, give_up_local};
+pub use node::{Local, Made, Shape, give_up_local};
 pub use nodes::{chunked_node, columns_node, element_copy, lists_node};

@@ -16,6 +16,7 @@ use vx_layout_tree::Layout;
 use vx_machine_ids::give_up_pointer;
 use vx_model::DType;
 use vx_order::Order;
+use vx_path::owned::Path;
 use vx_sequence::SequencePointer;
 use vx_sink::LayoutWriterContext;
 
@@ -36,7 +37,14 @@ pub enum Local {
     /// So it has, and its layout is its only child's.
     Passing,
     /// It has done all.
-    Made(Layout),
+    Made(Made),
+}
+
+/// A layout, and the paths of its segments, in the order in which a walk finds them.
+#[derive(Drop)]
+pub struct Made {
+    pub layout: Layout,
+    pub paths: Vec<Path>,
 }
 
 /// How a layout is made of the children's.
@@ -71,6 +79,6 @@ pub fn give_up_local<O: Order>(ctx: &mut LayoutWriterContext, order: &mut O, loc
         Local::Grouped(node) => give_up_grouped(ctx, order, node),
         Local::Over => {}
         Local::Passing => {}
-        Local::Made(layout) => drop(layout),
+        Local::Made(made) => drop(made),
     }
 }

@@ -36,7 +36,7 @@ use std::collections::VecDeque;
 use std::mem;
 use vx_machine_ids::give_up_pointer;
 use vx_machine_nodes::{
-    ChunkedNode, ColumnsNode, Due, FlatNode, Item, Local, Shape, Stored, append, end_grouped,
+    ChunkedNode, ColumnsNode, Due, FlatNode, Item, Local, Made, Shape, Stored, append, end_grouped,
     end_lists, give_up_item, release, set_local, take_columns, take_flat, take_grouped, take_lists,
 };
 use vx_order::Order;
@@ -130,8 +130,8 @@ fn append_due<O: Order>(
     ensures cause { IfErr result ActMay }
 {
     match append(ctx, order, stored) {
-        Ok(layout) => {
-            set_local(ctx, order, local, Local::Made(layout));
+        Ok(made) => {
+            set_local(ctx, order, local, Local::Made(made));
             Ok(ActionKind::Append)
         }
         Err(error) => Err(error),
@@ -161,8 +161,8 @@ fn join_due<O: Order>(
     ensures cause { IfErr result MayCome }
 {
     match join(alloc, ctx, order, kids, shape) {
-        Ok(layout) => {
-            set_local(ctx, order, local, Local::Made(layout));
+        Ok(made) => {
+            set_local(ctx, order, local, Local::Made(made));
             Ok(ActionKind::Join)
         }
         Err(error) => Err(error),
@@ -279,7 +279,8 @@ fn end_empty(alloc: Global, node: &FlatNode) -> Result<Local, WriteError>
     ensures cause { IfErr result MayCome }
 {
     let layout = gather(&node.dtype, Vec::new(alloc))?;
-    Ok(Local::Made(layout))
+    let paths = Vec::new(alloc);
+    Ok(Local::Made(Made { layout, paths }))
 }
 
 /// Whether there are no children, and the type has no columns.
@@ -308,7 +309,10 @@ fn end_columns(
         let layout = join_columns(&node, rows, Vec::new(*todo.allocator()));
         drop(node);
         return match layout {
-            Ok(layout) => Ok(Local::Made(layout)),
+            Ok(layout) => Ok(Local::Made(Made {
+                layout,
+                paths: Vec::new(*todo.allocator()),
+            })),
             Err(error) => Err(error),
         };
     }
@@ -360,7 +364,7 @@ fn ended<O: Order>(
         Local::Grouped(node) => end_grouped(alloc, ctx, order, todo, node),
         Local::Over => Ok(Local::Over),
         Local::Passing => Ok(Local::Passing),
-        Local::Made(layout) => Ok(Local::Made(layout)),
+        Local::Made(made) => Ok(Local::Made(made)),
     }
 }
 

@@ -17,18 +17,19 @@ ghost use Rattle.vx_machine_nodes.specs.Ledger.{Paid, told_by};
 ghost use Rattle.vx_machine_tasks.specs.Ledger.{task_reserved, tasks_reserved};
 ghost use Rattle.vx_machine_tasks.specs.Ready.{made_of, all_made, columns_fit as are_columns, lists_fit as are_parts, kids_of};
 ghost use Rattle.vx_machine_tasks.specs.Stocks.{task_stock, tasks_stock};
-ghost use Rattle.vx_machine_nodes.specs.View.{fold_of};
+ghost use Rattle.vx_machine_nodes.specs.View.{fold_of, made_data};
 ghost use Rattle.vx_machine_tasks.specs.View.{task_row, row};
 
 use crate::ready::{columns_fit, lists_fit};
 use crate::task::{Head, Task, refuse_all};
-use std::alloc::Global;
+use std::alloc::{AllocError, Global};
 use vx_layout_tree::{
     ChunkedLayout, KindParts, Layout, LayoutHead, StructLayout, layout_children, total_rows,
 };
-use vx_machine_nodes::{ColumnsNode, ListsNode, Local, Shape, give_up_dues, give_up_items};
+use vx_machine_nodes::{ColumnsNode, ListsNode, Local, Made, Shape, give_up_dues, give_up_items};
 use vx_model::DType;
 use vx_order::Order;
+use vx_path::owned::Path;
 use vx_sink::LayoutWriterContext;
 use vx_write_answer::WriteError;
 
@@ -159,12 +160,12 @@ fn add_layout<O: Order>(
     ctx: &mut LayoutWriterContext,
     order: &mut O,
     kid: Task,
-    layouts: &mut Vec<Layout>,
+    layouts: &mut Vec<Made>,
 ) -> Result<(), WriteError>
     requires owned { Owned (O.active order.old) (task_stock kid) }
     requires reserved { task_reserved kid ≤ counted ctx.old }
     requires made { IsTrue (made_of kid) }
-    ensures layouts { OnOk result (map layout_data (reverse layouts.new.items) ≡ layouts_in (task_row kid no_tasks) ++ map layout_data (reverse layouts.old.items)) }
+    ensures layouts { OnOk result (map made_data (reverse layouts.new.items) ≡ layouts_in (task_row kid no_tasks) ++ map made_data (reverse layouts.old.items)) }
     ensures moved { Moved (O.active order.old) (O.active order.new) (task_stock kid) none }
     ensures tracked { Paid ctx.old ctx.new (task_reserved kid) 0 }
     ensures context { told_by ctx.new ≡ told_by ctx.old }
@@ -184,7 +185,7 @@ fn add_layout<O: Order>(
     give_up_dues(ctx, order, todo);
     give_up_items(order, inbox);
     let added = match local {
-        Local::Made(layout) => add_one(layouts, layout),
+        Local::Made(made) => add_one(layouts, made),
         Local::Passing => add_layouts(ctx, order, &mut kids, layouts),
         _ => unreachable!(),
     };
@@ -192,11 +193,11 @@ fn add_layout<O: Order>(
     added
 }
 
-fn add_one(layouts: &mut Vec<Layout>, layout: Layout) -> Result<(), WriteError>
-    ensures added { OnOk result (layouts.new.items ≡ layouts.old.items ++ (layout ∷ [])) }
+fn add_one(layouts: &mut Vec<Made>, made: Made) -> Result<(), WriteError>
+    ensures added { OnOk result (layouts.new.items ≡ layouts.old.items ++ (made ∷ [])) }
     ensures memory { IfErr result (λ e. e ≡ WriteError.OutOfMemory) }
 {
-    match layouts.push(layout) {
+    match layouts.push(made) {
         Ok(()) => Ok(()),
         Err(error) => {
             drop(error);
@@ -211,12 +212,12 @@ fn add_layouts<O: Order>(
     ctx: &mut LayoutWriterContext,
     order: &mut O,
     kids: &mut Vec<Task>,
-    layouts: &mut Vec<Layout>,
+    layouts: &mut Vec<Made>,
 ) -> Result<(), WriteError>
     requires owned { Owned (O.active order.old) (tasks_stock kids.old.items) }
     requires reserved { tasks_reserved kids.old.items ≤ counted ctx.old }
     requires made { IsTrue (all_made (kids_of kids.old.items)) }
-    ensures layouts { OnOk result (map layout_data (reverse layouts.new.items) ≡ layouts_in (row kids.old.items) ++ map layout_data (reverse layouts.old.items)) }
+    ensures layouts { OnOk result (map made_data (reverse layouts.new.items) ≡ layouts_in (row kids.old.items) ++ map made_data (reverse layouts.old.items)) }
     ensures no_kids { OnOk result (kids.new.items ≡ []) }
     ensures moved { Moved (O.active order.old) (O.active order.new) (tasks_stock kids.old.items) (tasks_stock kids.new.items) }
     ensures tracked { Paid ctx.old ctx.new (tasks_reserved kids.old.items) (tasks_reserved kids.new.items) }
@@ -232,7 +233,7 @@ fn add_layouts<O: Order>(
 }
 
 /// The layouts, the last one first.
-fn in_order(mut layouts: Vec<Layout>) -> Vec<Layout>
+fn in_order(mut layouts: Vec<Made>) -> Vec<Made>
     ensures items { result.items ≡ reverse layouts.items }
     ensures len { vec_len result ≡ vec_len layouts }
 {
@@ -246,14 +247,14 @@ fn take_layouts<O: Order>(
     ctx: &mut LayoutWriterContext,
     order: &mut O,
     kids: &mut Vec<Task>,
-) -> Result<Vec<Layout>, WriteError>
+) -> Result<Vec<Made>, WriteError>
     requires owned { Owned (O.active order.old) (tasks_stock kids.old.items) }
     requires reserved { tasks_reserved kids.old.items ≤ counted ctx.old }
     requires made { IsTrue (all_made (kids_of kids.old.items)) }
     ensures moved { Moved (O.active order.old) (O.active order.new) (tasks_stock kids.old.items) (tasks_stock kids.new.items) }
     ensures tracked { Paid ctx.old ctx.new (tasks_reserved kids.old.items) (tasks_reserved kids.new.items) }
     ensures context { told_by ctx.new ≡ told_by ctx.old }
-    ensures layouts { IfOk result (λ v. map layout_data v.items ≡ layouts_in (row kids.old.items)) }
+    ensures layouts { IfOk result (λ v. map made_data v.items ≡ layouts_in (row kids.old.items)) }
     ensures no_kids { OnOk result (kids.new.items ≡ []) }
     ensures outlet { O.outlet order.new ≡ O.outlet order.old }
     ensures sink { O.sink order.new ≡ O.sink order.old }
@@ -269,6 +270,26 @@ fn take_layouts<O: Order>(
     }
 }
 
+/// Layouts apart from their paths, these one behind the other.
+fn apart(alloc: Global, mut made: Vec<Made>) -> Result<(Vec<Layout>, Vec<Path>), AllocError>
+    ensures layouts { IfOk result (λ r. map layout_data r.0.items ≡ map made_data made.items) }
+{
+    let mut layouts = Vec::with_capacity(alloc, made.len())?;
+    let mut paths = Vec::new(alloc);
+    made.reverse();
+    'made: while let Some(next) = made.pop() {
+        let Made {
+            layout,
+            paths: more,
+        } = next;
+        layouts.push(layout)?;
+        for path in more {
+            paths.push(path)?;
+        }
+    }
+    Ok((layouts, paths))
+}
+
 /// The layout of this shape. None of the children is left, but after an error.
 pub(crate) fn join<O: Order>(
     alloc: Global,
@@ -276,11 +297,11 @@ pub(crate) fn join<O: Order>(
     order: &mut O,
     kids: &mut Vec<Task>,
     shape: Shape,
-) -> Result<Layout, WriteError>
+) -> Result<Made, WriteError>
     requires owned { Owned (O.active order.old) (tasks_stock kids.old.items) }
     requires reserved { tasks_reserved kids.old.items ≤ counted ctx.old }
     requires made { IsTrue (all_made (kids_of kids.old.items)) }
-    ensures layout { IfOk result (λ l. layout_data l ≡ folded (fold_of shape) (layouts_in (row kids.old.items))) }
+    ensures layout { IfOk result (λ l. made_data l ≡ folded (fold_of shape) (layouts_in (row kids.old.items))) }
     ensures no_kids { OnOk result (kids.new.items ≡ []) }
     ensures refused { IfErr result (JoinRefused (joined_rows (fold_of shape) (layouts_in (row kids.old.items)))) }
     ensures moved { Moved (O.active order.old) (O.active order.new) (tasks_stock kids.old.items) (tasks_stock kids.new.items) }
@@ -290,27 +311,42 @@ pub(crate) fn join<O: Order>(
     ensures sink { O.sink order.new ≡ O.sink order.old }
     ensures cause { IfErr result MayCome }
 {
-    match take_layouts(alloc, ctx, order, kids) {
-        Ok(layouts) => match shape {
-            Shape::Chunks(dtype) => {
-                let layout = gather(&dtype, layouts);
-                drop(dtype);
-                layout
-            }
-            Shape::Columns(node, rows) => {
-                let layout = join_all(&node, rows, layouts);
-                drop(node);
-                layout
-            }
-            Shape::Lists(node, rows) => {
-                let layout = join_parts(alloc, &node, rows, layouts);
-                drop(node);
-                layout
-            }
-        },
+    let parts = match take_layouts(alloc, ctx, order, kids) {
+        Ok(made) => apart(alloc, made),
         Err(error) => {
             drop(shape);
-            Err(error)
+            return Err(error);
+        }
+    };
+    let Ok((layouts, paths)) = parts else {
+        drop(shape);
+        return Err(WriteError::OutOfMemory);
+    };
+    let layout = shaped(alloc, shape, layouts)?;
+    Ok(Made { layout, paths })
+}
+
+/// The layout of this shape.
+fn shaped(alloc: Global, shape: Shape, layouts: Vec<Layout>) -> Result<Layout, WriteError>
+    ensures layout { IfOk result (λ l. layout_data l ≡ folded (fold_of shape) (map layout_data layouts.items)) }
+    ensures refused { IfErr result (JoinRefused (joined_rows (fold_of shape) (map layout_data layouts.items))) }
+    ensures cause { IfErr result MayCome }
+{
+    match shape {
+        Shape::Chunks(dtype) => {
+            let layout = gather(&dtype, layouts);
+            drop(dtype);
+            layout
+        }
+        Shape::Columns(node, rows) => {
+            let layout = join_all(&node, rows, layouts);
+            drop(node);
+            layout
+        }
+        Shape::Lists(node, rows) => {
+            let layout = join_parts(alloc, &node, rows, layouts);
+            drop(node);
+            layout
         }
     }
 }

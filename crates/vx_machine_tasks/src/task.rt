@@ -18,8 +18,7 @@ ghost use Rattle.vx_machine_tasks.specs.declared.task.Task.{out-Task};
 
 use std::alloc::{AllocFailed, Global};
 use std::collections::VecDeque;
-use vx_layout_tree::Layout;
-use vx_machine_nodes::{Due, Item, Local, give_up_dues, give_up_items, give_up_local};
+use vx_machine_nodes::{Due, Item, Local, Made, give_up_dues, give_up_items, give_up_local};
 use vx_model::ArrayContext;
 use vx_order::Order;
 use vx_path::owned::Path;
@@ -96,12 +95,12 @@ impl Task {
         refuse_all(kids, ctx, order);
     }
 
-    /// The layout of a task that has done all: its own, or its only child's.
-    pub fn into_layout(self) -> Layout
+    /// The layout of a task that has done all, with the paths of its segments: its own, or its only child's.
+    pub fn into_made(self) -> Made
         requires { IsTrue (is_done_task self) }
         ensures free { task_stock self ≡ none }
         ensures unreserved { task_reserved self ≡ 0 }
-        ensures layout { layouts_in (task_row self no_tasks) ≡ layout_data result ∷ [] }
+        ensures layout { layouts_in (task_row self no_tasks) ≡ layout_data result.layout ∷ [] }
     {
         let Task { head, mut kids } = self;
         let Head {
@@ -115,14 +114,14 @@ impl Task {
         todo.destroy_empty();
         inbox.destroy_empty();
         match local {
-            Local::Made(layout) => {
+            Local::Made(made) => {
                 kids.destroy_empty();
-                layout
+                made
             }
             Local::Passing => match kids.pop() {
                 Some(kid) => {
                     kids.destroy_empty();
-                    kid.into_layout()
+                    kid.into_made()
                 }
                 None => unreachable!(),
             },

@@ -1,0 +1,427 @@
+//! The write by columns.
+
+use crate::gate::{Gate, Gated};
+use crate::ids::{Part, column_ids, give_up_parts, parts};
+use crate::numbers::renumbered;
+use crate::shares::{column_types, read_all, source_of, split_all, writers};
+use crate::worker::{Outcome, Worker, first_front};
+use std::alloc::Global;
+use std::marker::Brand;
+use std::sync::Wait;
+use std::sync::ledger::{Blank, Ledger};
+use std::thread;
+use std::thread::Threads;
+use vx_column_order::ColumnOrder;
+use vx_layout_tree::{Layout, StructLayout};
+use vx_model::DType;
+use vx_order_answer::Receipt;
+use vx_path::owned::Path;
+use vx_seats::{Pairs, Seat};
+use vx_sequence::SequenceId;
+use vx_shared::{BytesSeat, OrderedSink, SharedBytesTracker};
+use vx_sink::{BatchSource, CompressorPlugin, LayoutWriterContext, ListSource, SegmentSink};
+use vx_strategy::{Strategy, StructStrategy};
+use vx_table_dispatch::dispatch;
+use vx_write_answer::WriteError;
+
+/// What the columns' workers are given.
+struct Columns {
+    parts: Vec<Part>,
+    fronts: Vec<Path>,
+    types: Vec<DType>,
+    sources: Vec<ListSource>,
+    contexts: Vec<LayoutWriterContext>,
+    rows: u64,
+}
+
+/// Reads the source to its end, splits its batches and makes the columns' ids.
+fn prepared<B: BatchSource>(
+    alloc: Global,
+    ctx: &LayoutWriterContext,
+    source: &mut B,
+    count: usize,
+) -> Result<Columns, WriteError> {
+    let batches = read_all(alloc, source)?;
+    let mut rows = 0u128;
+    for batch in batches.as_slice() {
+        rows += u128::from(batch.len());
+    }
+    if rows > u128::from(u64::MAX) {
+        return Err(WriteError::TooLarge(rows));
+    }
+    let number = batches.len();
+    let types = column_types(alloc, source.dtype())?;
+    let split = split_all(alloc, source.dtype(), batches, count)?;
+    let mut sources = Vec::with_capacity(alloc, count)?;
+    let mut contexts = Vec::with_capacity(alloc, count)?;
+    let mut c = 0usize;
+    for chunks in split {
+        sources.push(source_of(alloc, types[c].clone()?, chunks))?;
+        contexts.push(ctx.for_worker()?)?;
+        c += 1;
+    }
+    let (mut universe, eof) = match SequenceId::root(alloc) {
+        Ok(root) => root,
+        Err(_) => return Err(WriteError::OutOfMemory),
+    };
+    let ids = column_ids(alloc, &mut universe, eof, number, count)?;
+    let parts = parts(alloc, &mut universe, ids)?;
+    match fronts_of(alloc, parts.as_slice()) {
+        Ok(fronts) => Ok(Columns {
+            parts,
+            fronts,
+            types,
+            sources,
+            contexts,
+            rows: rows as u64,
+        }),
+        Err(error) => {
+            give_up_parts(parts);
+            Err(error)
+        }
+    }
+}
+
+fn fronts_of(alloc: Global, parts: &[Part]) -> Result<Vec<Path>, WriteError> {
+    let mut fronts = Vec::with_capacity(alloc, parts.len())?;
+    for part in parts {
+        fronts.push(first_front(alloc, part)?)?;
+    }
+    Ok(fronts)
+}
+
+/// Writes a struct's columns, each in a thread.
+pub fn write_columns<
+    B: BatchSource,
+    S: SegmentSink + Send,
+    C: CompressorPlugin + Send,
+    G: Gate + Sync,
+    R: Threads + Wait + Sync,
+>(
+    alloc: Global,
+    rt: &R,
+    strategy: &Strategy,
+    ctx: &mut LayoutWriterContext,
+    source: &mut B,
+    sink: S,
+    compressors: Vec<C>,
+    gate: &G,
+) -> Result<(Layout, S, Vec<C>), (WriteError, S, Vec<C>)> {
+    match strategy {
+        Strategy::Struct(fields) => {
+            write_fields(alloc, rt, fields, ctx, source, sink, compressors, gate)
+        }
+        Strategy::Table(table) => match dispatch(table, source.dtype()) {
+            Ok(Strategy::Struct(fields)) => {
+                write_fields(alloc, rt, &fields, ctx, source, sink, compressors, gate)
+            }
+            Ok(_) => Err((WriteError::NotStruct, sink, compressors)),
+            Err(_) => Err((WriteError::OutOfMemory, sink, compressors)),
+        },
+        _ => Err((WriteError::NotStruct, sink, compressors)),
+    }
+}
+
+fn write_fields<
+    B: BatchSource,
+    S: SegmentSink + Send,
+    C: CompressorPlugin + Send,
+    G: Gate + Sync,
+    R: Threads + Wait + Sync,
+>(
+    alloc: Global,
+    rt: &R,
+    fields: &StructStrategy,
+    ctx: &LayoutWriterContext,
+    source: &mut B,
+    sink: S,
+    compressors: Vec<C>,
+    gate: &G,
+) -> Result<(Layout, S, Vec<C>), (WriteError, S, Vec<C>)> {
+    let count = compressors.len();
+    let columns = match prepared(alloc, ctx, source, count) {
+        Ok(columns) => columns,
+        Err(error) => return Err((error, sink, compressors)),
+    };
+    let ways = match writers(alloc, fields, source.dtype()) {
+        Ok(ways) => ways,
+        Err(_) => {
+            give_up_parts(columns.parts);
+            return Err((WriteError::OutOfMemory, sink, compressors));
+        }
+    };
+    let dtype = match source.dtype().clone() {
+        Ok(dtype) => dtype,
+        Err(_) => {
+            give_up_parts(columns.parts);
+            return Err((WriteError::OutOfMemory, sink, compressors));
+        }
+    };
+    let blanks = Blanks {
+        writes: Blank::new(count as u64),
+        faults: Blank::new(count as u64),
+        made: Blank::new(count as u64),
+        seen: Blank::new(count as u64),
+        bytes: Blank::new(count as u64),
+    };
+    write_shared::<S, C, G, R, Brand, Brand, Brand, Brand, Brand, Brand>(
+        alloc,
+        rt,
+        ways,
+        dtype,
+        columns,
+        sink,
+        compressors,
+        gate,
+        blanks,
+    )
+}
+
+/// The ledgers' blanks.
+struct Blanks {
+    writes: Blank,
+    faults: Blank,
+    made: Blank,
+    seen: Blank,
+    bytes: Blank,
+}
+
+fn write_shared<
+    S: SegmentSink + Send,
+    C: CompressorPlugin + Send,
+    G: Gate + Sync,
+    R: Threads + Wait + Sync,
+    W: Ledger + Send + Sync,
+    F: Ledger + Send + Sync,
+    M: Ledger + Send + Sync,
+    N: Ledger + Send + Sync,
+    L: Ledger + Send + Sync,
+    P: Pairs + Send + Sync,
+>(
+    alloc: Global,
+    rt: &R,
+    ways: Vec<&Strategy>,
+    dtype: DType,
+    columns: Columns,
+    sink: S,
+    compressors: Vec<C>,
+    gate: &G,
+    blanks: Blanks,
+) -> Result<(Layout, S, Vec<C>), (WriteError, S, Vec<C>)> {
+    let Columns {
+        parts,
+        fronts,
+        types,
+        sources,
+        contexts,
+        rows,
+    } = columns;
+    let count = parts.len();
+    let (tracker, bytes) = match SharedBytesTracker::<L>::new(alloc, count, blanks.bytes) {
+        Ok(made) => made,
+        Err(_) => {
+            give_up_parts(parts);
+            return Err((WriteError::OutOfMemory, sink, compressors));
+        }
+    };
+    let (shared, seats) = match OrderedSink::<S, W, F, M, N, P>::new(
+        sink,
+        fronts,
+        blanks.writes,
+        blanks.faults,
+        blanks.made,
+        blanks.seen,
+    ) {
+        Ok(made) => made,
+        Err((sink, _)) => {
+            give_up_parts(parts);
+            let _total = tracker.close(bytes);
+            return Err((WriteError::OutOfMemory, sink, compressors));
+        }
+    };
+    let hired = hire(
+        alloc,
+        rt,
+        ways,
+        types,
+        sources,
+        contexts,
+        compressors,
+        gate,
+        &shared,
+        &tracker,
+        parts,
+        seats,
+        bytes,
+    );
+    let mut workers = hired;
+    thread::for_each_mut(rt, workers.as_mut_slice(), count, &|_, worker| worker.run());
+    let dismissed = dismiss(alloc, workers);
+    let _total = tracker.close(dismissed.bytes);
+    let (sink, history) = shared.close(dismissed.seats);
+    match joined(alloc, dtype, rows, dismissed.outcomes, history) {
+        Ok(layout) => Ok((layout, sink, dismissed.compressors)),
+        Err(error) => Err((error, sink, dismissed.compressors)),
+    }
+}
+
+fn hire<
+    'a,
+    S: SegmentSink,
+    C: CompressorPlugin,
+    G: Gate,
+    R: Wait,
+    W: Ledger,
+    F: Ledger,
+    M: Ledger,
+    N: Ledger,
+    L: Ledger,
+    P: Pairs,
+>(
+    alloc: Global,
+    rt: &'a R,
+    mut ways: Vec<&'a Strategy>,
+    mut types: Vec<DType>,
+    mut sources: Vec<ListSource>,
+    mut contexts: Vec<LayoutWriterContext>,
+    mut compressors: Vec<C>,
+    gate: &'a G,
+    shared: &'a OrderedSink<S, W, F, M, N, P>,
+    tracker: &'a SharedBytesTracker<L>,
+    mut parts: Vec<Part>,
+    mut seats: Vec<Seat<W, F, M, N, P>>,
+    mut bytes: Vec<BytesSeat<L>>,
+) -> Vec<Worker<'a, S, R, W, F, M, N, L, P, C, G>> {
+    let mut workers = Vec::new(alloc);
+    let Ok(()) = workers.reserve(parts.len()) else {
+        unreachable!()
+    };
+    while let Some(part) = parts.pop() {
+        let Part { universe, ids, eof } = part;
+        let (Some(seat), Some(bytes)) = (seats.pop(), bytes.pop()) else {
+            unreachable!()
+        };
+        let (Some(strategy), Some(dtype)) = (ways.pop(), types.pop()) else {
+            unreachable!()
+        };
+        let (Some(source), Some(ctx)) = (sources.pop(), contexts.pop()) else {
+            unreachable!()
+        };
+        let Some(compressor) = compressors.pop() else {
+            unreachable!()
+        };
+        workers.push_reserved(Worker {
+            alloc,
+            order: ColumnOrder {
+                sink: shared,
+                seat,
+                universe,
+                rt,
+            },
+            ids,
+            eof: Some(eof),
+            strategy,
+            dtype,
+            source,
+            ctx,
+            compressor: Gated {
+                compressor,
+                gate,
+                column: parts.len() as u64,
+            },
+            tracker,
+            bytes,
+            outcome: None,
+        });
+    }
+    parts.destroy_empty();
+    seats.destroy_empty();
+    bytes.destroy_empty();
+    compressors.destroy_empty();
+    workers.reverse();
+    workers
+}
+
+/// What comes back from the workers, in order of the columns.
+struct Dismissed<W: Ledger, F: Ledger, M: Ledger, N: Ledger, L: Ledger, P: Pairs, C> {
+    seats: Vec<Seat<W, F, M, N, P>>,
+    bytes: Vec<BytesSeat<L>>,
+    compressors: Vec<C>,
+    outcomes: Vec<Outcome>,
+}
+
+fn joined(
+    alloc: Global,
+    dtype: DType,
+    rows: u64,
+    outcomes: Vec<Outcome>,
+    history: Vec<Receipt>,
+) -> Result<Layout, WriteError> {
+    let mut layouts = Vec::with_capacity(alloc, outcomes.len())?;
+    let mut refused = None;
+    for outcome in outcomes {
+        match outcome {
+            Ok((layout, paths)) => {
+                let layout = renumbered(alloc, layout, paths.as_slice(), history.as_slice())?;
+                layouts.push(layout)?;
+            }
+            Err(WriteError::Stopped(..)) => {}
+            Err(error) => {
+                if refused.is_none() {
+                    refused = Some(error);
+                }
+            }
+        }
+    }
+    if let Some(error) = refused {
+        return Err(error);
+    }
+    match StructLayout::new(rows, dtype, layouts) {
+        Ok(fields) => Ok(Layout::Struct(fields)),
+        Err(_refusal) => Err(WriteError::OutOfMemory),
+    }
+}
+
+fn dismiss<
+    'a,
+    S: SegmentSink,
+    C: CompressorPlugin,
+    G: Gate,
+    R: Wait,
+    W: Ledger,
+    F: Ledger,
+    M: Ledger,
+    N: Ledger,
+    L: Ledger,
+    P: Pairs,
+>(
+    alloc: Global,
+    mut workers: Vec<Worker<'a, S, R, W, F, M, N, L, P, C, G>>,
+) -> Dismissed<W, F, M, N, L, P, C> {
+    let mut dismissed = Dismissed {
+        seats: Vec::new(alloc),
+        bytes: Vec::new(alloc),
+        compressors: Vec::new(alloc),
+        outcomes: Vec::new(alloc),
+    };
+    workers.reverse();
+    while let Some(worker) = workers.pop() {
+        let (seat, bytes, compressor, outcome) = worker.into_parts();
+        if let Err(failed) = dismissed.seats.push(seat) {
+            failed.value.spend();
+        }
+        if let Err(_) = dismissed.bytes.push(bytes) {
+            unreachable!()
+        }
+        if let Err(_) = dismissed.compressors.push(compressor) {
+            unreachable!()
+        }
+        if let Some(outcome) = outcome {
+            if let Err(_) = dismissed.outcomes.push(outcome) {
+                unreachable!()
+            }
+        }
+    }
+    workers.destroy_empty();
+    dismissed
+}
