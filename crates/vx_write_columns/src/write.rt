@@ -34,6 +34,18 @@ struct Columns {
     rows: u64,
 }
 
+fn give_up(columns: Columns) {
+    let Columns {
+        parts,
+        fronts: _fronts,
+        types: _types,
+        sources: _sources,
+        contexts: _contexts,
+        rows: _,
+    } = columns;
+    give_up_parts(parts);
+}
+
 /// Reads the source to its end, splits its batches and makes the columns' ids.
 fn prepared<B: BatchSource>(
     alloc: Global,
@@ -146,14 +158,14 @@ fn write_fields<
     let ways = match writers(alloc, fields, source.dtype()) {
         Ok(ways) => ways,
         Err(_) => {
-            give_up_parts(columns.parts);
+            give_up(columns);
             return Err((WriteError::OutOfMemory, sink, compressors));
         }
     };
     let dtype = match source.dtype().clone() {
         Ok(dtype) => dtype,
         Err(_) => {
-            give_up_parts(columns.parts);
+            give_up(columns);
             return Err((WriteError::OutOfMemory, sink, compressors));
         }
     };
@@ -178,6 +190,7 @@ fn write_fields<
 }
 
 /// The ledgers' blanks.
+#[derive(Drop)]
 struct Blanks {
     writes: Blank,
     faults: Blank,
@@ -217,14 +230,20 @@ fn write_shared<
         rows,
     } = columns;
     let count = parts.len();
-    let (tracker, bytes) = match SharedBytesTracker::<L>::new(alloc, count, blanks.bytes) {
+    // What comes back from the workers has its place before they are hired.
+    let mut outcomes = Vec::new(alloc);
+    if outcomes.reserve(count).is_err() {
+        give_up_parts(parts);
+        return Err((WriteError::OutOfMemory, sink, compressors));
+    }
+    let (tracker, mut bytes) = match SharedBytesTracker::<L>::new(alloc, count, blanks.bytes) {
         Ok(made) => made,
         Err(_) => {
             give_up_parts(parts);
             return Err((WriteError::OutOfMemory, sink, compressors));
         }
     };
-    let (shared, seats) = match OrderedSink::<S, W, F, M, N, P>::new(
+    let (shared, mut seats) = match OrderedSink::<S, W, F, M, N, P>::new(
         sink,
         fronts,
         blanks.writes,
@@ -239,29 +258,44 @@ fn write_shared<
             return Err((WriteError::OutOfMemory, sink, compressors));
         }
     };
-    let hired = hire(
+    let mut compressors = compressors;
+    let mut workers = Vec::new(alloc);
+    if workers.reserve(count).is_err() {
+        workers.destroy_empty();
+        give_up_parts(parts);
+        let _total = tracker.close(bytes);
+        let (sink, _history) = shared.close(seats);
+        return Err((WriteError::OutOfMemory, sink, compressors));
+    }
+    hire(
         alloc,
         rt,
         ways,
         types,
         sources,
         contexts,
-        compressors,
+        &mut compressors,
         gate,
         &shared,
         &tracker,
         parts,
-        seats,
-        bytes,
+        &mut seats,
+        &mut bytes,
+        &mut workers,
     );
-    let mut workers = hired;
     thread::for_each_mut(rt, workers.as_mut_slice(), count, &|_, worker| worker.run());
-    let dismissed = dismiss(alloc, workers);
-    let _total = tracker.close(dismissed.bytes);
-    let (sink, history) = shared.close(dismissed.seats);
-    match joined(alloc, dtype, rows, dismissed.outcomes, history) {
-        Ok(layout) => Ok((layout, sink, dismissed.compressors)),
-        Err(error) => Err((error, sink, dismissed.compressors)),
+    dismiss(
+        workers,
+        &mut seats,
+        &mut bytes,
+        &mut compressors,
+        &mut outcomes,
+    );
+    let _total = tracker.close(bytes);
+    let (sink, history) = shared.close(seats);
+    match joined(alloc, dtype, rows, outcomes, history) {
+        Ok(layout) => Ok((layout, sink, compressors)),
+        Err(error) => Err((error, sink, compressors)),
     }
 }
 
@@ -284,21 +318,21 @@ fn hire<
     mut types: Vec<DType>,
     mut sources: Vec<ListSource>,
     mut contexts: Vec<LayoutWriterContext>,
-    mut compressors: Vec<C>,
+    compressors: &mut Vec<C>,
     gate: &'a G,
     shared: &'a OrderedSink<S, W, F, M, N, P>,
     tracker: &'a SharedBytesTracker<L>,
     mut parts: Vec<Part>,
-    mut seats: Vec<Seat<W, F, M, N, P>>,
-    mut bytes: Vec<BytesSeat<L>>,
-) -> Vec<Worker<'a, S, R, W, F, M, N, L, P, C, G>> {
-    let mut workers = Vec::new(alloc);
-    let Ok(()) = workers.reserve(parts.len()) else {
-        unreachable!()
-    };
+    seats: &mut Vec<Seat<W, F, M, N, P>>,
+    bytes: &mut Vec<BytesSeat<L>>,
+    workers: &mut Vec<Worker<'a, S, R, W, F, M, N, L, P, C, G>>,
+) {
     while let Some(part) = parts.pop() {
         let Part { universe, ids, eof } = part;
-        let (Some(seat), Some(bytes)) = (seats.pop(), bytes.pop()) else {
+        let Some(seat) = seats.pop() else {
+            unreachable!()
+        };
+        let Some(bytes) = bytes.pop() else {
             unreachable!()
         };
         let (Some(strategy), Some(dtype)) = (ways.pop(), types.pop()) else {
@@ -335,19 +369,7 @@ fn hire<
         });
     }
     parts.destroy_empty();
-    seats.destroy_empty();
-    bytes.destroy_empty();
-    compressors.destroy_empty();
     workers.reverse();
-    workers
-}
-
-/// What comes back from the workers, in order of the columns.
-struct Dismissed<W: Ledger, F: Ledger, M: Ledger, N: Ledger, L: Ledger, P: Pairs, C> {
-    seats: Vec<Seat<W, F, M, N, P>>,
-    bytes: Vec<BytesSeat<L>>,
-    compressors: Vec<C>,
-    outcomes: Vec<Outcome>,
 }
 
 fn joined(
@@ -382,6 +404,7 @@ fn joined(
     }
 }
 
+/// Seats and compressors come back in order of the columns, and what came of each.
 fn dismiss<
     'a,
     S: SegmentSink,
@@ -395,33 +418,21 @@ fn dismiss<
     L: Ledger,
     P: Pairs,
 >(
-    alloc: Global,
     mut workers: Vec<Worker<'a, S, R, W, F, M, N, L, P, C, G>>,
-) -> Dismissed<W, F, M, N, L, P, C> {
-    let mut dismissed = Dismissed {
-        seats: Vec::new(alloc),
-        bytes: Vec::new(alloc),
-        compressors: Vec::new(alloc),
-        outcomes: Vec::new(alloc),
-    };
+    seats: &mut Vec<Seat<W, F, M, N, P>>,
+    bytes: &mut Vec<BytesSeat<L>>,
+    compressors: &mut Vec<C>,
+    outcomes: &mut Vec<Outcome>,
+) {
     workers.reverse();
     while let Some(worker) = workers.pop() {
-        let (seat, bytes, compressor, outcome) = worker.into_parts();
-        if let Err(failed) = dismissed.seats.push(seat) {
-            failed.value.spend();
-        }
-        if let Err(_) = dismissed.bytes.push(bytes) {
-            unreachable!()
-        }
-        if let Err(_) = dismissed.compressors.push(compressor) {
-            unreachable!()
-        }
+        let (seat, held, compressor, outcome) = worker.into_parts();
+        seats.push_reserved(seat);
+        bytes.push_reserved(held);
+        compressors.push_reserved(compressor);
         if let Some(outcome) = outcome {
-            if let Err(_) = dismissed.outcomes.push(outcome) {
-                unreachable!()
-            }
+            outcomes.push_reserved(outcome);
         }
     }
     workers.destroy_empty();
-    dismissed
 }
