@@ -23,7 +23,7 @@ pub fn ids(alloc: Global) -> Result<LayoutContext> {
     if !LayoutContext::is_context(alloc, &ids)? {
         return Err(Error::msg("an id is there twice"));
     }
-    Ok(LayoutContext::new(ids))
+    Ok(LayoutContext::new(ids)?)
 }
 
 /// All kinds and the maximum.

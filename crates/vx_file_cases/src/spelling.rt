@@ -17,7 +17,7 @@ fn ids(alloc: Global) -> anyhow::Result<LayoutContext> {
     let chunked = Text::from_str(alloc, "vortex.chunked")?;
     let ids = vec![in alloc; chunked, Text::from_str(alloc, "vortex.flat")?]?;
     ensure!(LayoutContext::is_context(alloc, &ids)?, "no context");
-    Ok(LayoutContext::new(ids))
+    Ok(LayoutContext::new(ids)?)
 }
 
 /// All kinds, and no aggregates.

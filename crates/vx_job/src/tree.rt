@@ -154,5 +154,5 @@ fn in_context(alloc: Global, ids: Vec<Text>) -> Result<LayoutContext, JsonError>
     if !LayoutContext::is_context(alloc, &ids)? {
         return Err(JsonError::Wrong);
     }
-    Ok(LayoutContext::new(ids))
+    Ok(LayoutContext::new(ids)?)
 }

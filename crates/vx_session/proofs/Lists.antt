@@ -4,13 +4,16 @@ use Rattle.std.specs.declared.cmp.Ordering.{Ordering}
 use Rattle.std.specs.Ordering.{nat_cmp}
 use Rattle.std.specs.Cmp.Lexicographic.{slice_cmp}
 use Rattle.std.specs.BTreeSet.{BTreeSet, contains, contains_by, Updates}
+use Rattle.std.specs.BTreeMap.{BTreeMap, UpdatesBy}
+use Rattle.std.specs.Prelude.{String, string_bytes}
 use denote.Ref.{Bor}
-use Rattle.std.proofs.lemmas.List.{drop_more, take_more, take_all, drop_all}
+use Rattle.std.proofs.lemmas.List.{drop_more, take_more, take_all, drop_all, length-take-le}
 use Rattle.std.proofs.lemmas.Slice.Eq.{bytes_eq-Decides}
-use Rattle.std.proofs.lemmas.Map.Text.{is_eq-slice_cmp}
+use Rattle.std.proofs.lemmas.Map.Text.{is_eq-slice_cmp, btree_map_updates_text}
 use Rattle.vx_session.specs.declared.encoding.LayoutEncoding.{LayoutEncoding}
 use Rattle.vx_session.specs.Encodings.{layout_id, kind_of, with_kind, with_kinds}
 use Rattle.vx_session.specs.Ids.{is_listed, are_distinct, id_at, place_of, further}
+use Rattle.vx_session.specs.Places.{TellsPlaces}
 
 pub drop_kind : (ks : List LayoutEncoding) (id : List ℕ) (i : ℕ) (k : LayoutEncoding) → i < length ks → k ≡ get_or ks i k
     → kind_of id (drop i ks) ≡ cond (bytes_eq (layout_id k) id) (Some k) (kind_of id (drop (i + 1) ks))
@@ -116,21 +119,55 @@ had s k id added b text is was = rw (← text) (same (has s k.now) b (sym is ∙
     same false true h = sym h
     same false false h = refl
 
--- so many places further on
-abbrev pub moved : ℕ → Option ℕ → Option ℕ
-moved i None = None
-moved i (Some n) = Some (i + n)
+-- ---- the places of the ids before, as a map
 
-more_cases : (same : Bool) (i : ℕ) (o : Option ℕ) → moved i (cond same (Some 0) (further o)) ≡ cond same (Some i) (moved (i + 1) o)
-more_cases true i o = ap (λ (k : ℕ). Some k) (omega arith)
-more_cases false i None = refl
-more_cases false i (Some n) = ap (λ (k : ℕ). Some k) (omega arith)
+place_append : (ids : List (List ℕ)) (id q : List ℕ)
+    → place_of q (ids ++ id ∷ []) ≡ cond (is_listed q ids) (place_of q ids) (cond (bytes_eq id q) (Some (length ids)) None)
+place_append [] id q = refl
+place_append (x ∷ ids) id q = rw (place_append ids id q) (joined (bytes_eq x q) (is_listed q ids) (bytes_eq id q) (place_of q ids) (length ids))
+  where
+    joined : (a b c : Bool) (o : Option ℕ) (n : ℕ)
+        → cond a (Some 0) (further (cond b o (cond c (Some n) None))) ≡ cond (a || b) (cond a (Some 0) (further o)) (cond c (Some (suc n)) None)
+    joined true b c o n = refl
+    joined false true c o n = refl
+    joined false false true o n = refl
+    joined false false false o n = refl
 
-pub drop_place : (ids : List (List ℕ)) (id : List ℕ) (i : ℕ) (other : List ℕ) → i < length ids → other ≡ get_or ids i other
-    → moved i (place_of id (drop i ids)) ≡ cond (bytes_eq other id) (Some i) (moved (i + 1) (place_of id (drop (i + 1) ids)))
-drop_place ids id i other lt is = rw (drop_more ids i other lt, ← is) (more_cases (bytes_eq other id) i (place_of id (drop (i + 1) ids)))
+unlisted : (ids : List (List ℕ)) (q : List ℕ) → is_listed q ids ≡ false → place_of q ids ≡ None
+unlisted [] q h = refl
+unlisted (x ∷ ids) q h = parted (bytes_eq x q) (is_listed q ids) (place_of q ids) (unlisted ids q) h
+  where
+    parted : (a b : Bool) (o : Option ℕ) → (b ≡ false → o ≡ None) → (a || b) ≡ false → cond a (Some 0) (further o) ≡ None
+    parted true b o f h = cc h
+    parted false b o f h = ap further (f h)
 
-pub ruleset place_rules = (drop_place, drop_all)
+-- the places with one id more, which isn't among those before it
+pub place_more : (ids : List (List ℕ)) (i : ℕ) (id : List ℕ) → i < length ids → id ≡ get_or ids i id → are_distinct ids ≡ true → (q : List ℕ)
+    → place_of q (take (i + 1) ids) ≡ cond (bytes_eq id q) (Some i) (place_of q (take i ids))
+place_more ids i id lt is apart q =
+    ap (place_of q) (take_more ids i id lt ∙ ap (λ (x : List ℕ). take i ids ++ x ∷ []) (sym is))
+    ∙ place_append (take i ids) id q
+    ∙ ap (λ (n : ℕ). cond (is_listed q (take i ids)) (place_of q (take i ids)) (cond (bytes_eq id q) (Some n) None)) (length-take-le i ids (omega arith))
+    ∙ parted (bytes_eq id q) (is_listed q (take i ids)) refl refl
+  where
+    parted : (same listed : Bool) → bytes_eq id q ≡ same → is_listed q (take i ids) ≡ listed
+        → cond listed (place_of q (take i ids)) (cond same (Some i) None) ≡ cond same (Some i) (place_of q (take i ids))
+    parted true true h g =
+        let again : is_listed id (take i ids) ≡ true = ap (λ (x : List ℕ). is_listed x (take i ids)) ((bytes_eq-Decides id q).0 h) ∙ g in
+        cc (repeat_found ids i id lt is again, apart)
+    parted true false h g = refl
+    parted false true h g = refl
+    parted false false h g = sym (unlisted (take i ids) q g)
+
+-- the map with one id more
+pub map_more : {Y : Type 0} (ids : List (List ℕ)) (i : ℕ) (id : List ℕ) → i < length ids → id ≡ get_or ids i id → are_distinct ids ≡ true
+    → (m n : BTreeMap (String Y) ℕ) (k : String Y) → string_bytes k ≡ id → UpdatesBy string_cmp (λ (o : String Y). slice_cmp nat_cmp (string_bytes k) (string_bytes o)) m n (Some i)
+    → TellsPlaces m (take i ids) → TellsPlaces n (take (i + 1) ids)
+map_more ids i id lt is apart m n k text more before q =
+    btree_map_updates_text (string_bytes k) m n (Some i) more q
+    ∙ ap (λ (o : Option ℕ). cond (bytes_eq (string_bytes k) q) (Some i) o) (before q)
+    ∙ ap (λ (bs : List ℕ). cond (bytes_eq bs q) (Some i) (place_of q (take i ids))) text
+    ∙ sym (place_more ids i id lt is apart q)
 
 pub ruleset copy_rules = (take_more)
 

@@ -1,4 +1,5 @@
 pub mod Ids
+pub mod Places
 pub mod Encodings
 pub mod Scope
 pub mod Made

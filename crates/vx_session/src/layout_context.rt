@@ -1,10 +1,11 @@
 //! The ids that nodes name by their places.
 
-ghost use Rattle.std.specs.Prelude.{◌≡◌, ◌≤◌, length, IfOk};
-ghost use Rattle.vx_session.specs.Ids.{is_listed as listed, are_distinct as distinct, place_of};
+ghost use Rattle.std.specs.Prelude.{◌≡◌, IfOk, IsTrue};
+ghost use Rattle.vx_session.specs.Ids.{is_context, is_listed as listed, are_distinct as distinct};
+ghost use Rattle.vx_session.specs.Places.{TellsPlaces};
 
 use std::alloc::{AllocError, Global};
-use std::collections::BTreeSet;
+use std::collections::{BTreeMap, BTreeSet};
 use std::marker::Model;
 use vx_model::Text;
 
@@ -12,17 +13,19 @@ use vx_model::Text;
 #[derive(Debug, Drop)]
 pub struct LayoutContext {
     ids: Vec<Text>,
+    places: BTreeMap<String, u16>,
 }
 
 impl Model for LayoutContext {
     ghost use Rattle.std.specs.Prelude.{ℕ, List, IsTrue};
     ghost use Rattle.vx_session.specs.Ids.{is_context};
+    ghost use Rattle.vx_session.specs.Places.{TellsPlaces};
 
     ghost Value = { List (List ℕ) };
 
     ghost view = { λ c. c.ids.items };
 
-    ghost invariant = { λ c. IsTrue (is_context c.ids.items) };
+    ghost invariant = { λ c. IsTrue (is_context c.ids.items) × TellsPlaces c.places c.ids.items };
 }
 
 impl LayoutContext {
@@ -36,12 +39,13 @@ impl LayoutContext {
         Ok(ids.len() <= 65_536 && are_distinct(alloc, ids)?)
     }
 
-    /// `is_context` tests the condition. Takes no memory.
-    pub fn new(ids: Vec<Text>) -> LayoutContext
+    /// `is_context` tests the condition. Takes time by `n log n`, and memory for a map of the ids.
+    pub fn new(ids: Vec<Text>) -> Result<LayoutContext, AllocError>
         requires { IsTrue (is_context ids.items) }
-        ensures { result ≡ ids.items }
+        ensures { IfOk result (λ c. c ≡ ids.items) }
     {
-        LayoutContext { ids }
+        let places = places_of(&ids)?;
+        Ok(LayoutContext { ids, places })
     }
 
     /// In their order.
@@ -64,11 +68,11 @@ impl LayoutContext {
         }
     }
 
-    /// The place of an id, where it is listed.
+    /// The place of an id, where it is listed. Takes time by `log n`.
     pub fn place(&self, id: &str) -> Option<u16>
         ensures { result ≡ place_of id.now self.now }
     {
-        find_place(&self.ids, id)
+        self.places.get(id).copied()
     }
 }
 
@@ -76,9 +80,7 @@ impl Clone for LayoutContext {
     ghost is_clone = { λ c copy. copy ≡ c };
 
     fn clone(&self) -> Result<LayoutContext, AllocError> {
-        Ok(LayoutContext {
-            ids: copy_ids(&self.ids)?,
-        })
+        LayoutContext::new(copy_ids(&self.ids)?)
     }
 }
 
@@ -118,16 +120,16 @@ pub(crate) fn is_listed(ids: &[Text], id: &Text) -> bool
     false
 }
 
-/// There are at most 65,536 ids.
-#[tactic(auto, using(crate::proofs::Lists::place_rules))]
-fn find_place(ids: &[Text], id: &str) -> Option<u16>
-    requires { length ids.now ≤ 65536 }
-    ensures { result ≡ place_of id.now ids.now }
+/// The place of each id.
+fn places_of(ids: &Vec<Text>) -> Result<BTreeMap<String, u16>, AllocError>
+    requires { IsTrue (is_context ids.now.items) }
+    ensures { IfOk result (λ m. TellsPlaces m ids.now.items) }
 {
+    let alloc = *ids.allocator();
+    let mut places = BTreeMap::new(alloc);
     for i in 0..ids.len() {
-        if ids[i].as_str() == id {
-            return Some(i as u16);
-        }
+        let id = String::from_str(alloc, ids[i].as_str())?;
+        places.insert(id, i as u16)?;
     }
-    None
+    Ok(places)
 }
