@@ -73,6 +73,9 @@ node_is s (node o ns) t = by_id s o (kids s ns) (build_foreign s.ids (node o ns)
 pub node_kind_fails : (e : LayoutError) (s : Scope) (n : Node) (t : Ty) → Fails e (node_kind s (own_of n).index) → Fails e (builder s n t)
 node_kind_fails e s n t h = fails_by e (node_kind s (own_of n).index) (builder s n t) (λ x made. node_is s n t ∙ rw made refl) h
 
+own_parts_are : (s : Scope) (n : Node) (t : Ty) → own_parts (own_of n) (node_parts s t n).kids t ≡ node_parts s t n
+own_parts_are s (node o ns) t = refl
+
 pub node_foreign : (s : Scope) (n : Node) (t : Ty) → node_kind s (own_of n).index ≡ Ok None → builder s n t ≡ build_foreign s.ids n t
 node_foreign s n t is = node_is s n t ∙ rw is refl
 
