@@ -17,7 +17,7 @@ pub(crate) struct IndexedContext<'a> {
     places: BTreeMap<&'a str, u16>,
 }
 
-impl Model for IndexedContext<'_> {
+impl<'a> Model for IndexedContext<'a> {
     ghost use Rattle.std.specs.Prelude.{ℕ, List};
     ghost use Rattle.vx_layout_codec.specs.Places.{TellsPlaces};
 
