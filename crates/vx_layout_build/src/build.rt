@@ -52,10 +52,7 @@ pub fn build_node(
 
 /// The kind that the scope registers for the node. None where it registers none, and such nodes are kept.
 #[tactic(auto, using(crate::proofs::BuildSteps::found_rules))]
-fn kind_of_node(
-    scope: &Arc<Scope>,
-    node: &NodeView,
-) -> Result<Option<LayoutEncoding>, LayoutError>
+fn kind_of_node(scope: &Arc<Scope>, node: &NodeView) -> Result<Option<LayoutEncoding>, LayoutError>
     ensures { Gives the_kind result (node_kind (scope_of scope.now.value) (own_of (seen_node node.now)).index) }
 {
     let index = node.index();

@@ -1,11 +1,11 @@
 //! What each word prints.
 
 use crate::children::asked_of;
+use crate::opened::opened;
 use crate::own::{own, with};
 use crate::segments::{lengths, rows, tree};
 use crate::sessions::{copied_scope, known, registered};
 use crate::shown::{as_kinds, names, slots};
-use crate::opened::opened;
 use crate::spelling::{again, codes, metadata, node, viewed};
 use crate::walks::{in_slot, present, walk};
 use anyhow::{Result, bail};
