@@ -31,17 +31,10 @@ pub(crate) fn viewed(alloc: Global, layout: &Layout) -> Result<String> {
     chunks_of(alloc, &read)
 }
 
-/// What is read from the layout's bytes, as a value that another thread may take.
+/// What is read from the layout's bytes.
 pub(crate) fn reread(alloc: Global, layout: &Layout) -> Result<Layout> {
     let bytes = spelled(alloc, layout)?;
-    Ok(sendable(parsed(alloc, layout.dtype(), &bytes)?))
-}
-
-/// The value, whose type may go to another thread.
-fn sendable<T: Send>(value: T) -> T
-    ensures { result ≡ value }
-{
-    value
+    parsed(alloc, layout.dtype(), &bytes)
 }
 
 fn chunks_of(alloc: Global, layout: &Layout) -> Result<String> {
