@@ -1,83 +1,118 @@
 //! Predicates, and what a zone map answers.
 
-use crate::given::items_in;
 use anyhow::{Context, bail};
 use serde_json::Value as Json;
-use std::alloc::{AllocError, Global};
+use std::alloc::Global;
+use vx_case_lines::Answer;
+use vx_case_objects::{Case, list_in};
 use vx_model::{Blob, Text, Value};
-use vx_zone_map::{Predicate, ZoneMap};
+use vx_zone_map::{Predicate, ZoneError, ZoneMap};
 
 /// A line a predicate.
-pub(crate) fn answers(
-    alloc: Global,
-    name: &str,
-    map: &ZoneMap,
-    object: &Json,
-) -> anyhow::Result<String> {
-    let asked = items_in(object, "ask")?;
-    let mut out = String::new(alloc);
+pub(crate) fn tell_asked(alloc: Global, answer: &mut Answer, case: Case, map: &ZoneMap) {
+    match list_in(case.object, "ask") {
+        Ok(asked) => tell_each(alloc, answer, case.name, map, asked),
+        Err(error) => answer.push_refusal(case.name, error),
+    }
+}
+
+fn tell_each(alloc: Global, answer: &mut Answer, name: &str, map: &ZoneMap, asked: &[Json]) {
     for i in 0..asked.len() {
-        write!(out, "{name} {i}: ")?;
-        push_answer(alloc, &mut out, map, &asked[i])?;
-        out.push_str("\n")?;
-    }
-    Ok(out)
-}
-
-fn push_answer(alloc: Global, out: &mut String, map: &ZoneMap, asked: &Json) -> anyhow::Result<()> {
-    let predicate = read_predicate(alloc, asked)?;
-    let answer = map.prune(alloc, &predicate);
-    drop(predicate);
-    match answer {
-        Ok(flags) => Ok(push_flags(out, &flags)?),
-        Err(error) => Ok(write!(out, "{error}")?),
+        write!(answer, "{name} {i}: ");
+        tell_one(alloc, answer, map, &asked[i]);
+        answer.push_str("\n");
     }
 }
 
-fn push_flags(out: &mut String, flags: &[bool]) -> Result<(), AllocError> {
+fn tell_one(alloc: Global, answer: &mut Answer, map: &ZoneMap, asked: &Json) {
+    match read_predicate(alloc, asked) {
+        Ok(predicate) => {
+            push_pruned(answer, map.prune(alloc, &predicate));
+            drop(predicate);
+        }
+        Err(error) => answer.push(error),
+    }
+}
+
+fn push_pruned(answer: &mut Answer, pruned: Result<Vec<bool>, ZoneError>) {
+    match pruned {
+        Ok(flags) => push_flags(answer, &flags),
+        Err(error) => answer.push(error),
+    }
+}
+
+fn push_flags(answer: &mut Answer, flags: &[bool]) {
     for i in 0..flags.len() {
         if i > 0 {
-            out.push_str(", ")?;
+            answer.push_str(", ");
         }
-        write!(out, "{}", flags[i])?;
+        write!(answer, "{}", flags[i]);
     }
-    Ok(())
 }
 
 /// The predicate of these parts, each behind those that it joins.
 fn read_predicate(alloc: Global, asked: &Json) -> anyhow::Result<Predicate> {
     let parts = asked.as_array().context("no list of parts")?;
     let mut stack = Vec::new(alloc);
-    for part in parts {
-        push_part(alloc, &mut stack, part)?;
+    match push_parts(alloc, &mut stack, parts) {
+        Ok(()) => last_of(stack),
+        Err(error) => {
+            drop(stack);
+            Err(error)
+        }
     }
-    stack.pop().context("no predicate")
 }
 
-fn push_part(alloc: Global, stack: &mut Vec<Predicate>, part: &Json) -> anyhow::Result<()> {
-    let made = match part.as_str() {
-        Some("and") => {
-            let right = taken(alloc, stack)?;
-            Predicate::And(taken(alloc, stack)?, right)
-        }
-        Some("or") => {
-            let right = taken(alloc, stack)?;
-            Predicate::Or(taken(alloc, stack)?, right)
-        }
-        Some("not") => Predicate::Not(taken(alloc, stack)?),
-        Some("is_null") => Predicate::IsNull,
-        Some("is_not_null") => Predicate::IsNotNull,
-        Some(word) => bail!("no predicate {word}"),
-        None => compared(alloc, part)?,
-    };
-    stack.push(made)?;
+fn last_of(mut stack: Vec<Predicate>) -> anyhow::Result<Predicate> {
+    let last = stack.pop();
+    drop(stack);
+    last.context("no predicate")
+}
+
+fn push_parts(alloc: Global, stack: &mut Vec<Predicate>, parts: &[Json]) -> anyhow::Result<()> {
+    for part in parts {
+        let made = read_part(alloc, stack, part)?;
+        stack.push(made)?;
+    }
     Ok(())
+}
+
+fn read_part(alloc: Global, stack: &mut Vec<Predicate>, part: &Json) -> anyhow::Result<Predicate> {
+    match part.as_str() {
+        Some("not") => Ok(Predicate::Not(taken(alloc, stack)?)),
+        Some("is_null") => Ok(Predicate::IsNull),
+        Some("is_not_null") => Ok(Predicate::IsNotNull),
+        Some(word) => joined(alloc, stack, word),
+        None => compared(alloc, part),
+    }
+}
+
+/// Of the words `and` and `or`.
+fn joined(alloc: Global, stack: &mut Vec<Predicate>, word: &str) -> anyhow::Result<Predicate> {
+    let right = taken(alloc, stack)?;
+    match taken(alloc, stack) {
+        Ok(left) => Ok(join(word, left, right)),
+        Err(error) => {
+            drop(right);
+            Err(error)
+        }
+    }
+}
+
+fn join(word: &str, left: Box<Predicate>, right: Box<Predicate>) -> Predicate {
+    if word == "and" {
+        Predicate::And(left, right)
+    } else {
+        Predicate::Or(left, right)
+    }
 }
 
 /// The last predicate that no other has taken.
 fn taken(alloc: Global, stack: &mut Vec<Predicate>) -> anyhow::Result<Box<Predicate>> {
-    let last = stack.pop().context("nothing to join")?;
-    Ok(Box::new(alloc, last)?)
+    match stack.pop() {
+        Some(last) => Ok(Box::new(alloc, last)?),
+        None => bail!("nothing to join"),
+    }
 }
 
 /// A pair of a comparison and a literal.
@@ -85,18 +120,19 @@ fn compared(alloc: Global, part: &Json) -> anyhow::Result<Predicate> {
     let [word, literal] = part.as_array().context("no pair")?.as_slice() else {
         bail!("no pair");
     };
-    let literal = read_literal(alloc, literal)?;
-    match word.as_str() {
-        Some("eq") => Ok(Predicate::Eq(literal)),
-        Some("not_eq") => Ok(Predicate::NotEq(literal)),
-        Some("lt") => Ok(Predicate::Lt(literal)),
-        Some("lt_eq") => Ok(Predicate::LtEq(literal)),
-        Some("gt") => Ok(Predicate::Gt(literal)),
-        Some("gt_eq") => Ok(Predicate::GtEq(literal)),
-        _ => {
-            drop(literal);
-            bail!("no comparison")
-        }
+    let word = word.as_str().context("no comparison")?;
+    Ok(comparison(word, read_literal(alloc, literal)?))
+}
+
+/// `gt_eq` is the one that is left.
+fn comparison(word: &str, literal: Value) -> Predicate {
+    match word {
+        "eq" => Predicate::Eq(literal),
+        "not_eq" => Predicate::NotEq(literal),
+        "lt" => Predicate::Lt(literal),
+        "lt_eq" => Predicate::LtEq(literal),
+        "gt" => Predicate::Gt(literal),
+        _ => Predicate::GtEq(literal),
     }
 }
 

@@ -17,18 +17,17 @@
 
 mod ask;
 mod case;
-mod given;
 mod maps;
 mod zones;
 
+use crate::case::ZoneCases;
 use std::io;
+use vx_case_lines::answers;
 
 fn main(rt: HostRuntime) -> anyhow::Result<()> {
     let alloc = rt.alloc();
     let cases = io::read_to_string(alloc, rt.stdin())?;
-    for line in cases.lines() {
-        let text = case::answer(alloc, line)?;
-        print!(rt; "{text}")?;
-    }
+    let text = answers::<ZoneCases>(alloc, &cases)?;
+    print!(rt; "{text}")?;
     Ok(())
 }

@@ -8,12 +8,14 @@ ghost use Rattle.vx_aggregate.specs.AggregateView.{aggregate as aggregate_of};
 ghost use Rattle.vx_zone_record_spec.specs.Held.{record_fits};
 ghost use Rattle.vx_zone_table.specs.BuilderView.{gathered};
 
-use crate::given::{aggregates_in, items_in};
-use crate::maps::asked;
+use crate::maps::tell_map;
 use anyhow::bail;
 use serde_json::Value as Json;
-use std::alloc::Global;
+use std::alloc::{AllocError, Global};
 use vx_aggregate::AggregateFn;
+use vx_case_lines::Answer;
+use vx_case_objects::{Case, aggregates_in, list_in};
+use vx_chunk::Chunk;
 use vx_chunk_json::read_batch;
 use vx_model::{Cell, DType, Value, fits};
 use vx_zone_record::{cells_record, held_aggregates};
@@ -26,24 +28,68 @@ struct BatchRecord {
     values: Vec<Value>,
 }
 
-/// What is told of the table of the batches' records.
-pub(crate) fn told(
+/// Of the table of the batches' records.
+pub(crate) fn tell(alloc: Global, answer: &mut Answer, case: Case) {
+    match aggregates_in(alloc, case.object, case.dtype) {
+        Ok(aggregates) => tell_of(alloc, answer, case, &aggregates),
+        Err(error) => answer.push_refusal(case.name, error),
+    }
+}
+
+fn tell_of(alloc: Global, answer: &mut Answer, case: Case, aggregates: &[AggregateFn]) {
+    match ZoneTableBuilder::new(alloc, case.dtype, aggregates) {
+        Ok(builder) => tell_zones(alloc, answer, case, aggregates, builder),
+        Err(error) => answer.push_refusal(case.name, error),
+    }
+}
+
+fn tell_zones(
     alloc: Global,
-    name: &str,
-    object: &Json,
-    dtype: &DType,
-) -> anyhow::Result<String> {
-    let aggregates = aggregates_in(alloc, object, dtype)?;
-    let batches = items_in(object, "batches")?;
-    let mut builder = ZoneTableBuilder::new(alloc, dtype, &aggregates)?;
+    answer: &mut Answer,
+    case: Case,
+    aggregates: &[AggregateFn],
+    mut builder: ZoneTableBuilder,
+)
+    requires { (gathered builder).columns ≡ columns_held (map aggregate_of aggregates.now) (ty case.dtype.now) }
+{
+    match push_zones(alloc, &mut builder, case, aggregates) {
+        Ok(rows) => tell_table(alloc, answer, case, builder.finish(alloc), rows),
+        Err(error) => {
+            drop(builder);
+            answer.push_refusal(case.name, error);
+        }
+    }
+}
+
+fn tell_table(
+    alloc: Global,
+    answer: &mut Answer,
+    case: Case,
+    table: Result<Option<(Chunk, Vec<AggregateFn>)>, AllocError>,
+    rows: u64,
+) {
+    match table {
+        Ok(Some((table, kept))) => tell_map(alloc, answer, case, table, kept, rows),
+        Ok(None) => write!(answer, "{}: no table\n", case.name),
+        Err(error) => answer.push_refusal(case.name, error),
+    }
+}
+
+/// The builder takes the record of each batch. Gives the rows of all.
+fn push_zones(
+    alloc: Global,
+    builder: &mut ZoneTableBuilder,
+    case: Case,
+    aggregates: &[AggregateFn],
+) -> anyhow::Result<u64>
+    requires { (gathered builder.old).columns ≡ columns_held (map aggregate_of aggregates.now) (ty case.dtype.now) }
+{
+    let batches = list_in(case.object, "batches")?;
     let mut rows = 0;
     for batch in batches {
-        rows = push_zone(alloc, &mut builder, dtype, &aggregates, batch, rows)?;
+        rows = push_zone(alloc, builder, case.dtype, aggregates, batch, rows)?;
     }
-    match builder.finish(alloc)? {
-        Some((table, kept)) => asked(alloc, name, object, dtype, table, kept, rows),
-        None => Ok(format!(in alloc; "{name}: no table\n")?),
-    }
+    Ok(rows)
 }
 
 /// The builder takes the batch's record. Gives the rows with those of the batch.
