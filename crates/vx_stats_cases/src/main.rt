@@ -13,16 +13,15 @@ mod case;
 mod files;
 mod given;
 mod legacy;
-mod shown;
 
+use crate::case::StatsCases;
 use std::io;
+use vx_case_lines::answers;
 
 fn main(rt: HostRuntime) -> anyhow::Result<()> {
     let alloc = rt.alloc();
     let cases = io::read_to_string(alloc, rt.stdin())?;
-    for line in cases.lines() {
-        let text = case::answer(alloc, line)?;
-        print!(rt; "{text}")?;
-    }
+    let text = answers::<StatsCases>(alloc, &cases)?;
+    print!(rt; "{text}")?;
     Ok(())
 }
