@@ -8,8 +8,22 @@ ghost use Rattle.vx_model.specs.TreeView.{val};
 use crate::filters::{Partial, filter};
 use std::alloc::{AllocError, Global};
 use vx_bloom::{BloomFilter, BloomOptions, Unsupported};
-use vx_case_lines::cut;
+use vx_case_lines::{Answer, cut};
 use vx_model::{DType, Nullability, Value};
+
+/// Of the words `accumulate`, `insert_list` and `state`.
+pub(crate) fn tell(
+    alloc: Global,
+    answer: &mut Answer,
+    word: &str,
+    given: &str,
+) -> anyhow::Result<()> {
+    match word {
+        "accumulate" => push_accumulated(alloc, answer, given),
+        "insert_list" => Ok(push_inserted(alloc, answer, given)?),
+        _ => Ok(push_state(alloc, answer, given)?),
+    }
+}
 
 /// A boolean, or null.
 fn value(word: &str) -> Value
@@ -33,11 +47,6 @@ fn insert_pair(partial: &mut Partial, pair: &str) -> Result<(), Unsupported> {
     inserted
 }
 
-pub(crate) fn accumulated(alloc: Global, given: &str) -> anyhow::Result<String> {
-    let partial = filter_of(alloc, given)?;
-    told(alloc, &partial)
-}
-
 /// The filter of the pairs.
 fn filter_of(alloc: Global, given: &str) -> anyhow::Result<Partial> {
     let mut partial = BloomFilter.empty_partial(alloc, &BloomOptions::default())?;
@@ -48,12 +57,20 @@ fn filter_of(alloc: Global, given: &str) -> anyhow::Result<Partial> {
 }
 
 /// Whether the filter is empty, and which of the three values it contains.
-fn told(alloc: Global, partial: &Partial) -> anyhow::Result<String> {
-    let empty = *partial == filter(alloc, "256")?;
-    let one = contains(partial, "true")?;
-    let other = contains(partial, "false")?;
-    let null = contains(partial, "null")?;
-    Ok(format!(in alloc; "empty {empty}, true {one}, false {other}, null {null}")?)
+fn push_accumulated(alloc: Global, answer: &mut Answer, given: &str) -> anyhow::Result<()> {
+    let partial = filter_of(alloc, given)?;
+    write!(answer, "empty {}", partial == filter(alloc, "256")?);
+    for word in ["true", "false", "null"] {
+        push_contains(answer, &partial, word);
+    }
+    Ok(())
+}
+
+fn push_contains(answer: &mut Answer, partial: &Partial, word: &str) {
+    match contains(partial, word) {
+        Ok(contains) => write!(answer, ", {word} {contains}"),
+        Err(error) => write!(answer, "{error:?}"),
+    }
 }
 
 fn contains(partial: &Partial, word: &str) -> Result<bool, Unsupported> {
@@ -98,34 +115,26 @@ fn insert_list(
     }
 }
 
-pub(crate) fn inserted_list(alloc: Global, given: &str) -> anyhow::Result<String> {
+fn push_inserted(alloc: Global, answer: &mut Answer, given: &str) -> Result<(), AllocError> {
     let mut partial = BloomFilter.empty_partial(alloc, &BloomOptions::default())?;
     match insert_list(alloc, &mut partial, given == "null")? {
-        Ok(()) => Ok(String::from_str(alloc, "Ok")?),
-        Err(error) => Ok(format!(in alloc; "{error:?}")?),
+        Ok(()) => answer.push_str("Ok"),
+        Err(error) => write!(answer, "{error:?}"),
     }
+    Ok(())
 }
 
-/// The state's type on lists of booleans, or on booleans.
-fn state_of(alloc: Global, list: bool) -> Result<Option<DType>, AllocError> {
-    let dtype = dtype_of(alloc, list)?;
+/// Of the state on lists of booleans, or on booleans.
+fn push_state(alloc: Global, answer: &mut Answer, given: &str) -> Result<(), AllocError> {
+    let dtype = dtype_of(alloc, given == "list")?;
     let state = BloomFilter.state_dtype(&dtype);
     drop(dtype);
-    state
-}
-
-pub(crate) fn state(alloc: Global, given: &str) -> anyhow::Result<String> {
-    let state = state_of(alloc, given == "list")?;
-    Ok(shown(alloc, state)?)
-}
-
-fn shown(alloc: Global, state: Option<DType>) -> Result<String, AllocError> {
-    match state {
+    match state? {
         Some(dtype) => {
-            let text = format!(in alloc; "{dtype}");
+            write!(answer, "{dtype}");
             drop(dtype);
-            text
         }
-        None => String::from_str(alloc, "none"),
+        None => answer.push_str("none"),
     }
+    Ok(())
 }

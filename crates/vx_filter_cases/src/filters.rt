@@ -1,10 +1,10 @@
 //! Filters, and their bytes.
 
-use crate::given::bytes;
+use crate::given::{bytes, count};
 use std::alloc::{AllocError, Global};
 use std::num::NonZeroU32;
 use vx_bloom::{BlockCount, BloomFilter, BloomOptions, BloomPartial, HashFn};
-use vx_case_lines::{cut, parts};
+use vx_case_lines::{Answer, cut, halves};
 use vx_hash::{ByteHash, XxHash3_64};
 
 pub(crate) type Partial = BloomPartial<XxHash3_64>;
@@ -27,72 +27,87 @@ fn filter_of<H: ByteHash>(
     Ok(partial)
 }
 
-pub(crate) fn filter(alloc: Global, given: &str) -> anyhow::Result<Partial> {
+pub(crate) fn filter(alloc: Global, given: &str) -> Result<Partial, AllocError> {
     let (blocks, words) = cut(given);
-    Ok(filter_of(alloc, blocks.parse::<u32>()?, words)?)
+    filter_of(alloc, count(blocks), words)
 }
 
-pub(crate) fn shown(alloc: Global, given: &str) -> anyhow::Result<String> {
-    let bytes = filter(alloc, given)?.serialize(alloc)?;
-    let count = bytes.iter().filter(|b| **b != 0).count();
-    let mut text = format!(in alloc; "{} bytes, {count} not 0", bytes.len())?;
-    push_blocks(alloc, &mut text, &bytes)?;
-    Ok(text)
-}
-
-/// The blocks that aren't 0.
-fn push_blocks(alloc: Global, text: &mut String, bytes: &[u8]) -> Result<(), AllocError> {
-    for (number, block) in bytes.chunks(32).enumerate() {
-        if block.iter().any(|b| *b != 0) {
-            let block = hex::encode(alloc, block)?;
-            write!(text, ", block {number} {block}")?;
+/// Of the words `filter`, `contains`, `read`, `saturated`, `union` and `merge`.
+pub(crate) fn tell(
+    alloc: Global,
+    answer: &mut Answer,
+    word: &str,
+    given: &str,
+) -> anyhow::Result<()> {
+    let (first, rest) = halves(given);
+    match word {
+        "filter" => push_bytes(alloc, answer, &filter(alloc, first)?.serialize(alloc)?),
+        "contains" => {
+            let contains = filter(alloc, first)?.contains(rest.as_bytes());
+            write!(answer, "{contains}");
         }
+        "read" => push_read(alloc, answer, &bytes(alloc, first)?, rest)?,
+        "saturated" => push_saturated(answer, &Partial::deserialize(alloc, &bytes(alloc, first)?)?),
+        _ => push_union(alloc, answer, word, first, rest)?,
     }
     Ok(())
 }
 
-pub(crate) fn contained(alloc: Global, given: &str) -> anyhow::Result<String> {
-    let (given, word) = parts(given)?;
-    let contains = filter(alloc, given)?.contains(word.as_bytes());
-    Ok(format!(in alloc; "{contains}")?)
-}
-
-pub(crate) fn read(alloc: Global, given: &str) -> anyhow::Result<String> {
-    let (given, wanted) = parts(given)?;
-    let bytes = bytes(alloc, given)?;
-    let wanted = filter(alloc, wanted)?;
-    Ok(read_as(alloc, &bytes, &wanted)?)
-}
-
-fn read_as(alloc: Global, bytes: &[u8], wanted: &Partial) -> Result<String, AllocError> {
-    match Partial::deserialize(alloc, bytes) {
-        Ok(filter) => format!(in alloc; "equal {}", filter == *wanted),
-        Err(error) => format!(in alloc; "{error:?}"),
+fn push_bytes(alloc: Global, answer: &mut Answer, bytes: &[u8]) {
+    let count = bytes.iter().filter(|b| **b != 0).count();
+    write!(answer, "{} bytes, {count} not 0", bytes.len());
+    for (number, block) in bytes.chunks(32).enumerate() {
+        push_block(alloc, answer, number, block);
     }
 }
 
-pub(crate) fn saturated(alloc: Global, given: &str) -> anyhow::Result<String> {
-    let filter = Partial::deserialize(alloc, &bytes(alloc, given)?)?;
-    let one = BloomFilter.is_saturated(&filter);
-    let other = filter.is_saturated();
-    Ok(format!(in alloc; "{one} {other}")?)
+/// The block, where it isn't 0.
+fn push_block(alloc: Global, answer: &mut Answer, number: usize, block: &[u8]) {
+    if block.iter().any(|b| *b != 0) {
+        match hex::encode(alloc, block) {
+            Ok(digits) => write!(answer, ", block {number} {digits}"),
+            Err(error) => write!(answer, "{error}"),
+        }
+    }
 }
 
-/// Of the words `union` and `merge`.
-pub(crate) fn union(alloc: Global, word: &str, given: &str) -> anyhow::Result<String> {
-    let (first, rest) = parts(given)?;
-    let mut filter = filter(alloc, first)?;
-    united_with(alloc, word, &mut filter, rest)
+fn push_read(
+    alloc: Global,
+    answer: &mut Answer,
+    bytes: &[u8],
+    wanted: &str,
+) -> Result<(), AllocError> {
+    let wanted = filter(alloc, wanted)?;
+    match Partial::deserialize(alloc, bytes) {
+        Ok(filter) => write!(answer, "equal {}", filter == wanted),
+        Err(error) => write!(answer, "{error:?}"),
+    }
+    Ok(())
+}
+
+fn push_saturated(answer: &mut Answer, filter: &Partial) {
+    let one = BloomFilter.is_saturated(filter);
+    let other = filter.is_saturated();
+    write!(answer, "{one} {other}");
 }
 
 /// The filter with a second one, and a third that both together are to be.
-fn united_with(alloc: Global, word: &str, a: &mut Partial, given: &str) -> anyhow::Result<String> {
-    let (second, third) = parts(given)?;
+fn push_union(
+    alloc: Global,
+    answer: &mut Answer,
+    word: &str,
+    first: &str,
+    rest: &str,
+) -> Result<(), AllocError> {
+    let (second, third) = halves(rest);
+    let mut a = filter(alloc, first)?;
     let b = filter(alloc, second)?;
-    let equal = *a == b;
-    let answer = unite(word, a, &b);
-    let third = filter(alloc, third)?;
-    Ok(united(alloc, equal, answer, *a == third)?)
+    write!(answer, "equal {}, then ", a == b);
+    match unite(word, &mut a, &b) {
+        Ok(()) => write!(answer, "{}", a == filter(alloc, third)?),
+        Err(error) => write!(answer, "{error:?}"),
+    }
+    Ok(())
 }
 
 fn unite(word: &str, a: &mut Partial, b: &Partial) -> Result<(), BlockCount> {
@@ -100,17 +115,5 @@ fn unite(word: &str, a: &mut Partial, b: &Partial) -> Result<(), BlockCount> {
         a.union(b)
     } else {
         BloomFilter.merge_partials(a, b)
-    }
-}
-
-fn united(
-    alloc: Global,
-    equal: bool,
-    answer: Result<(), BlockCount>,
-    third: bool,
-) -> Result<String, AllocError> {
-    match answer {
-        Ok(()) => format!(in alloc; "equal {equal}, then {third}"),
-        Err(error) => format!(in alloc; "equal {equal}, then {error:?}"),
     }
 }
