@@ -64,10 +64,20 @@ pub fn leaf(alloc: Global, word: &str) -> Result<Layout> {
 
 pub fn leaves(alloc: Global, text: &str) -> Result<Vec<Layout>> {
     let mut leaves = Vec::new(alloc);
-    for word in text.split_whitespace() {
-        push(&mut leaves, leaf(alloc, word)?)?;
+    match push_leaves(alloc, &mut leaves, text) {
+        Ok(()) => Ok(leaves),
+        Err(error) => {
+            drop(leaves);
+            Err(error)
+        }
     }
-    Ok(leaves)
+}
+
+fn push_leaves(alloc: Global, leaves: &mut Vec<Layout>, text: &str) -> Result<()> {
+    for word in text.split_whitespace() {
+        push(leaves, leaf(alloc, word)?)?;
+    }
+    Ok(())
 }
 
 /// Puts the item behind the others.

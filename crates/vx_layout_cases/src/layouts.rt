@@ -10,7 +10,7 @@ use std::num::NonZeroU32;
 use vx_case_layouts::{
     NUMBERS, TEXTS, children_in, dtype_in, encodings, leaf, leaf_with, leaves, place, push,
 };
-use vx_case_lines::{boxed, cut};
+use vx_case_lines::cut;
 use vx_layout::{
     AggregateFn, ChunkedLayout, DictLayout, FlatLayout, ForeignLayout, Layout, LegacyStatsLayout,
     ListLayout, Stat, StructLayout, ZonedLayout, aggregate_stats_table_dtype, are_in_order,
@@ -57,9 +57,14 @@ fn fields(alloc: Global, nullability: Nullability, text: &str) -> Result<Layout>
     let (rows, rest) = cut(text);
     let (field, rest) = cut(rest);
     let rows = rows.parse::<u64>()?;
-    let leaves = leaves(alloc, rest)?;
     let dtype = record_of(alloc, field, nullability)?;
-    Ok(StructLayout::new(rows, dtype, leaves)?.into_layout())
+    match leaves(alloc, rest) {
+        Ok(leaves) => Ok(StructLayout::new(rows, dtype, leaves)?.into_layout()),
+        Err(error) => {
+            drop(dtype);
+            Err(error)
+        }
+    }
 }
 
 /// A struct with the field a of the type.
@@ -72,12 +77,14 @@ fn record_of(alloc: Global, word: &str, nullability: Nullability) -> Result<DTyp
 
 fn list(alloc: Global, nullability: Nullability, text: &str) -> Result<Layout> {
     let (elements, rest) = cut(text);
-    let leaves = leaves(alloc, rest)?;
-    if leaves.len() < 2 {
-        bail!("a list without offsets");
-    }
     let dtype = list_of(alloc, elements, nullability)?;
-    list_above(alloc, dtype, leaves)
+    match leaves(alloc, rest) {
+        Ok(leaves) => list_above(alloc, dtype, leaves),
+        Err(error) => {
+            drop(dtype);
+            Err(error)
+        }
+    }
 }
 
 fn list_of(alloc: Global, elements: &str, nullability: Nullability) -> Result<DType> {
@@ -86,22 +93,33 @@ fn list_of(alloc: Global, elements: &str, nullability: Nullability) -> Result<DT
 }
 
 /// The list of elements, offsets and, where there is a third leaf, a validity.
-fn list_above(alloc: Global, dtype: DType, mut leaves: Vec<Layout>) -> Result<Layout>
-    requires { 2 ≤ length leaves.items }
-{
+fn list_above(alloc: Global, dtype: DType, mut leaves: Vec<Layout>) -> Result<Layout> {
+    if leaves.len() < 2 {
+        drop(leaves);
+        drop(dtype);
+        bail!("a list without offsets");
+    }
     let elements = leaves.remove(0);
     let offsets = leaves.remove(0);
     let validity = leaves.pop();
+    drop(leaves);
     Ok(ListLayout::new(alloc, dtype, elements, offsets, validity)?.into_layout())
 }
 
 fn dict(alloc: Global, text: &str) -> Result<Layout> {
-    let mut leaves = leaves(alloc, text)?;
+    let leaves = leaves(alloc, text)?;
+    dict_above(alloc, leaves)
+}
+
+/// The dictionary of values and codes.
+fn dict_above(alloc: Global, mut leaves: Vec<Layout>) -> Result<Layout> {
     if leaves.len() < 2 {
+        drop(leaves);
         bail!("a dictionary without codes");
     }
     let values = leaves.remove(0);
     let codes = leaves.remove(0);
+    drop(leaves);
     Ok(DictLayout::new(alloc, values, codes)?.into_layout())
 }
 
@@ -109,21 +127,16 @@ fn zoned(alloc: Global, text: &str) -> Result<Layout> {
     let (column, rest) = cut(text);
     let (zones, aggregate) = cut(rest);
     let maxima = maxima(alloc, aggregate)?;
-    let column = boxed(alloc, leaf(alloc, column)?)?;
-    let zones = zones_of(alloc, column.dtype(), &maxima, zones)?;
-    zoned_of(alloc, column, zones, maxima)
-}
-
-fn zoned_of(
-    alloc: Global,
-    column: Box<Layout>,
-    zones: Layout,
-    maxima: Vec<AggregateFn>,
-) -> Result<Layout>
-    requires { length maxima.items ≤ 1 }
-{
-    let column = Box::into_inner(column);
-    Ok(ZonedLayout::try_new(alloc, column, zones, NonZeroU32::MIN, maxima)?.into_layout())
+    let column = leaf(alloc, column)?;
+    match zones_of(alloc, column.dtype(), &maxima, zones) {
+        Ok(zones) => {
+            Ok(ZonedLayout::try_new(alloc, column, zones, NonZeroU32::MIN, maxima)?.into_layout())
+        }
+        Err(error) => {
+            drop(column);
+            Err(error)
+        }
+    }
 }
 
 fn maxima(alloc: Global, word: &str) -> Result<Vec<AggregateFn>, AllocError>
@@ -147,21 +160,14 @@ fn statistics(alloc: Global, text: &str) -> Result<Layout> {
     let (column, rest) = cut(text);
     let (zones, stat) = cut(rest);
     let maxima = older_maxima(alloc, stat)?;
-    let column = boxed(alloc, leaf(alloc, column)?)?;
-    let zones = older_zones_of(alloc, column.dtype(), &maxima, zones)?;
-    statistics_of(alloc, column, zones, maxima)
-}
-
-fn statistics_of(
-    alloc: Global,
-    column: Box<Layout>,
-    zones: Layout,
-    maxima: Vec<Stat>,
-) -> Result<Layout>
-    requires { IsTrue (are_in_order maxima.items) }
-{
-    let column = Box::into_inner(column);
-    Ok(LegacyStatsLayout::new(alloc, column, zones, 2, maxima)?.into_layout())
+    let column = leaf(alloc, column)?;
+    match older_zones_of(alloc, column.dtype(), &maxima, zones) {
+        Ok(zones) => Ok(LegacyStatsLayout::new(alloc, column, zones, 2, maxima)?.into_layout()),
+        Err(error) => {
+            drop(column);
+            Err(error)
+        }
+    }
 }
 
 fn older_maxima(alloc: Global, word: &str) -> Result<Vec<Stat>>
@@ -194,13 +200,23 @@ fn foreign(alloc: Global, text: &str) -> Result<Layout> {
 
 fn below(alloc: Global, text: &str) -> Result<Vec<Layout>> {
     let mut layouts = Vec::new(alloc);
+    match push_below(alloc, &mut layouts, text) {
+        Ok(()) => Ok(layouts),
+        Err(error) => {
+            drop(layouts);
+            Err(error)
+        }
+    }
+}
+
+fn push_below(alloc: Global, layouts: &mut Vec<Layout>, text: &str) -> Result<()> {
     if text.is_empty() {
-        return Ok(layouts);
+        return Ok(());
     }
     for text in text.split(" / ") {
-        push(&mut layouts, alone(alloc, text)?)?;
+        push(layouts, alone(alloc, text)?)?;
     }
-    Ok(layouts)
+    Ok(())
 }
 
 fn alone(alloc: Global, text: &str) -> Result<Layout> {
