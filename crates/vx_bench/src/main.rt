@@ -1,45 +1,164 @@
 //! Times of filters and of the hash that they store. Without an argument a short run that prints no times; with a
-//! count, as 10000000, the nanoseconds of an insert and of a lookup, and the bytes that are hashed in a second.
+//! count, as 1000000, the nanoseconds of an insert and of a lookup, by vectors and in the plain form, and of a hash.
+//! Each is the least of many short rounds, so that other work on the machine tells little.
 #![tactic(auto)]
+
+ghost use Rattle.std.specs.Prelude.{◌+◌, ◌≤◌, length};
 
 use anyhow::Result;
 use std::env;
-use std::time::{Duration, Instant};
+use std::time::Instant;
 use vx_bloom::{BloomOptions, BloomPartial};
+use vx_bloom_plain::PlainFilter;
 use vx_hash::{ByteHash, XxHash3_64};
 
-const BUFFER_LEN: usize = 65536;
+const BLOCKS: u32 = 256;
+
+/// Inserts, lookups and hashes of a round.
+const ROUND: u64 = 1000;
+
+const BUFFER_LEN: usize = 65600;
 
 type Partial = BloomPartial<XxHash3_64>;
 
-fn insert_all(partial: &mut Partial, count: u64) {
-    for i in 0..count {
-        partial.insert(&i.to_le_bytes());
+/// A filter in both forms.
+#[derive(Drop)]
+struct Filters {
+    lanes: Partial,
+    plain: PlainFilter,
+}
+
+/// The least nanoseconds of a round.
+#[derive(Clone, Copy)]
+struct Times {
+    insert: u128,
+    insert_plain: u128,
+    lookup: u128,
+    lookup_plain: u128,
+}
+
+fn insert_all(lanes: &mut Partial, from: u64) {
+    for i in 0..ROUND {
+        lanes.insert(&from.wrapping_add(i).to_le_bytes());
     }
 }
 
-// How many of the numbers below `count` the filter may contain.
-fn found_of(partial: &Partial, count: u64) -> u64 {
+fn insert_all_plain(plain: &mut PlainFilter, from: u64) {
+    for i in 0..ROUND {
+        plain.insert_hash(XxHash3_64::oneshot(&from.wrapping_add(i).to_le_bytes()));
+    }
+}
+
+fn found_of(lanes: &Partial, from: u64) -> u64 {
     let mut found = 0u64;
-    for i in 0..count {
-        if partial.contains(&i.to_le_bytes()) {
-            found = found.wrapping_add(1);
-        }
+    for i in 0..ROUND {
+        found = found.wrapping_add(u64::from(lanes.contains(&from.wrapping_add(i).to_le_bytes())));
     }
     found
 }
 
-// The hashes of the buffer from the first few places on, by exclusive or.
-fn hash_all(buffer: &[u8; BUFFER_LEN], rounds: u64) -> u64 {
+fn found_of_plain(plain: &PlainFilter, from: u64) -> u64 {
+    let mut found = 0u64;
+    for i in 0..ROUND {
+        let hash = XxHash3_64::oneshot(&from.wrapping_add(i).to_le_bytes());
+        found = found.wrapping_add(u64::from(plain.contains_hash(hash)));
+    }
+    found
+}
+
+/// The hashes of so many bytes from the first few places of the buffer on, by exclusive or.
+fn hash_all(buffer: &[u8], len: usize, rounds: u64) -> u64
+    requires { len + 64 ≤ length buffer.now }
+{
     let mut all = 0;
     for round in 0..rounds {
-        all ^= XxHash3_64::oneshot(&buffer[(round % 64) as usize..]);
+        let at = (round % 64) as usize;
+        all ^= XxHash3_64::oneshot(&buffer[at..at + len]);
     }
     all
 }
 
-fn nanos_each(time: Duration, count: u64) -> u128 {
-    time.as_nanos() / u128::from(count.max(1))
+/// One round of each, from a number on; the numbers found in both forms.
+fn filter_round(
+    rt: &HostRuntime,
+    filters: &mut Filters,
+    from: u64,
+    least: &mut Times,
+) -> Result<(u64, u64)> {
+    let start = Instant::now(rt)?;
+    insert_all(&mut filters.lanes, from);
+    least.insert = least.insert.min(start.elapsed(rt)?.as_nanos());
+    let start = Instant::now(rt)?;
+    insert_all_plain(&mut filters.plain, from);
+    least.insert_plain = least.insert_plain.min(start.elapsed(rt)?.as_nanos());
+    let start = Instant::now(rt)?;
+    let found = found_of(&filters.lanes, from);
+    least.lookup = least.lookup.min(start.elapsed(rt)?.as_nanos());
+    let start = Instant::now(rt)?;
+    let found_plain = found_of_plain(&filters.plain, from);
+    least.lookup_plain = least.lookup_plain.min(start.elapsed(rt)?.as_nanos());
+    Ok((found, found_plain))
+}
+
+/// The least nanoseconds of a hash, times 1,000, and what the hashes give.
+fn hash_rounds(rt: &HostRuntime, buffer: &[u8], len: usize, rounds: u64) -> Result<(u128, u64)>
+    requires { len + 64 ≤ length buffer.now }
+{
+    let each = if len < 10_000 { ROUND } else { 10 };
+    let mut least = u128::MAX;
+    let mut all = 0;
+    for _ in 0..rounds {
+        let start = Instant::now(rt)?;
+        all ^= hash_all(buffer, len, each);
+        least = least.min(start.elapsed(rt)?.as_nanos());
+    }
+    Ok((least.wrapping_mul(1000) / u128::from(each.max(1)), all))
+}
+
+fn print_hash(rt: &HostRuntime, buffer: &[u8], len: usize, rounds: u64, timed: bool) -> Result<()>
+    requires { len + 64 ≤ length buffer.now }
+{
+    let (picos, hash) = hash_rounds(rt, buffer, len, rounds)?;
+    if timed {
+        println!(rt;
+            "hash of {len}: {} ps, {} MB/s",
+            picos,
+            (len as u128).wrapping_mul(1_000_000) / picos.max(1)
+        )?;
+    } else {
+        println!(rt; "hash of {len}: {hash:016x}")?;
+    }
+    Ok(())
+}
+
+fn print_filters(rt: &HostRuntime, rounds: u64, timed: bool) -> Result<()> {
+    let mut filters = Filters {
+        lanes: Partial::from(rt.alloc(), &BloomOptions::default())?,
+        plain: PlainFilter::new(rt.alloc(), BLOCKS)?,
+    };
+    let mut least = Times {
+        insert: u128::MAX,
+        insert_plain: u128::MAX,
+        lookup: u128::MAX,
+        lookup_plain: u128::MAX,
+    };
+    let mut found = (0u64, 0u64);
+    for round in 0..rounds {
+        let more = filter_round(rt, &mut filters, round.wrapping_mul(ROUND), &mut least)?;
+        found = (found.0.wrapping_add(more.0), found.1.wrapping_add(more.1));
+    }
+    println!(rt; "{} found, {} in the plain form", found.0, found.1)?;
+    if timed {
+        println!(rt;
+            "insert: {} ps, plain {} ps",
+            least.insert, least.insert_plain
+        )?;
+        println!(rt;
+            "lookup: {} ps, plain {} ps",
+            least.lookup, least.lookup_plain
+        )?;
+    }
+    Ok(())
 }
 
 fn main(rt: HostRuntime) -> Result<()> {
@@ -47,28 +166,14 @@ fn main(rt: HostRuntime) -> Result<()> {
         Some(count) => Some(count.as_str().parse::<u64>()?),
         None => None,
     };
-    let count = timed.unwrap_or(1000);
-    let rounds = count / 1000;
-    let mut partial = Partial::from(rt.alloc(), &BloomOptions::default())?;
-    let buffer = [7; BUFFER_LEN];
-
-    let start = Instant::now(&rt)?;
-    insert_all(&mut partial, count);
-    let inserts = start.elapsed(&rt)?;
-    let start = Instant::now(&rt)?;
-    let found = found_of(&partial, count);
-    let lookups = start.elapsed(&rt)?;
-    let start = Instant::now(&rt)?;
-    let hash = hash_all(&buffer, rounds);
-    let hashes = start.elapsed(&rt)?;
-
-    println!(rt; "{found} of {count} found, hashes {hash:016x}")?;
-    if timed.is_some() {
-        println!(rt; "insert: {} ns", nanos_each(inserts, count))?;
-        println!(rt; "lookup: {} ns", nanos_each(lookups, count))?;
-        let micros = (hashes.as_nanos() / 1000).max(1);
-        let hashed = u128::from(rounds) * 65536;
-        println!(rt; "hash: {} MB/s", hashed / micros)?;
+    let rounds = timed.unwrap_or(1000) / ROUND;
+    let mut buffer = [0u8; BUFFER_LEN];
+    for i in 0..BUFFER_LEN {
+        buffer[i] = (i % 251) as u8;
     }
+    print_filters(&rt, rounds, timed.is_some())?;
+    print_hash(&rt, &buffer, 64, rounds, timed.is_some())?;
+    print_hash(&rt, &buffer, 1024, rounds, timed.is_some())?;
+    print_hash(&rt, &buffer, 65536, rounds, timed.is_some())?;
     Ok(())
 }

@@ -1,15 +1,13 @@
-// Blocks of eight lanes.
+// Blocks of eight lanes, each one vector.
 
-ghost use Rattle.std.specs.Prelude.{◌≡◌, ◌==◌, ◌↔◌, ◌<◌, ◌≤◌, ◌^◌, IsTrue, length, bit_and};
+ghost use Rattle.std.specs.Prelude.{◌≡◌, ◌↔◌, ◌<◌, ◌≤◌, ◌^◌, IsTrue, length, nat_eq};
+ghost use lib.Pointwise.{pointwise};
 ghost use Rattle.vx_bloom_spec.specs.Filter.{block_of, or_blocks};
-ghost use Rattle.vx_bloom_spec.specs.Blocks.{chosen_bit, mask, no_lanes, full_lanes, or_lanes, covers};
+ghost use Rattle.vx_bloom_spec.specs.Blocks.{mask, no_lanes, full_lanes, or_lanes, covers};
 
-/// The lanes of a block.
-pub(crate) const LANES: usize = 8;
+use std::simd::prelude::*;
 
-pub(crate) type Block = [u32; LANES];
-
-const SALTS: Block = [
+const SALTS: [u32; 8] = [
     0x47b6_137b,
     0x4497_4d91,
     0x8824_ad5b,
@@ -20,86 +18,51 @@ const SALTS: Block = [
     0x5c6b_fb31,
 ];
 
+/// The mask of a hash: in each lane the bit that the hash's low half and the lane's salt choose.
 #[inline(always)]
-#[tactic(auto, unfolding(vx_bloom_spec::specs::Blocks::chosen_bit))]
-fn chosen_bit(hash: u64, salt: u32) -> u32
-    ensures { result ≡ chosen_bit hash salt }
-{
-    let low = (hash % 0x1_0000_0000) as u32;
-    1 << (low.wrapping_mul(salt) / 0x800_0000)
-}
-
-#[inline(always)]
-#[tactic(auto, unfolding(vx_bloom_spec::specs::Blocks::mask))]
-pub(crate) fn mask(hash: u64) -> Block
+pub(crate) fn mask(hash: u64) -> u32x8
     ensures { result ≡ mask hash }
 {
-    [
-        chosen_bit(hash, SALTS[0]),
-        chosen_bit(hash, SALTS[1]),
-        chosen_bit(hash, SALTS[2]),
-        chosen_bit(hash, SALTS[3]),
-        chosen_bit(hash, SALTS[4]),
-        chosen_bit(hash, SALTS[5]),
-        chosen_bit(hash, SALTS[6]),
-        chosen_bit(hash, SALTS[7]),
-    ]
+    let low = u32x8::splat((hash % 0x1_0000_0000) as u32);
+    u32x8::splat(1) << ((low * u32x8::from_array(SALTS)) >> 27)
 }
 
 #[tactic(auto, unfolding(vx_bloom_spec::specs::Blocks::no_lanes))]
-pub(crate) fn no_lanes() -> Block
+pub(crate) fn no_lanes() -> u32x8
     ensures { result ≡ no_lanes }
 {
-    [0; LANES]
+    u32x8::splat(0)
 }
 
 #[inline(always)]
-#[tactic(auto, unfolding(vx_bloom_spec::specs::Blocks::or_lanes))]
-pub(crate) fn or_lanes(a: &Block, b: &Block) -> Block
-    ensures { result ≡ or_lanes a.now b.now }
+pub(crate) fn or_lanes(a: u32x8, b: u32x8) -> u32x8
+    ensures { result ≡ or_lanes a b }
 {
-    [
-        a[0] | b[0],
-        a[1] | b[1],
-        a[2] | b[2],
-        a[3] | b[3],
-        a[4] | b[4],
-        a[5] | b[5],
-        a[6] | b[6],
-        a[7] | b[7],
-    ]
+    a | b
 }
 
 #[inline(always)]
-fn lane_covers(lane: u32, bits: u32) -> bool
-    ensures { result ≡ (bit_and lane bits == bits) }
+fn are_same(a: u32x8, b: u32x8) -> bool
+    ensures { result ≡ pointwise nat_eq a b }
 {
-    lane & bits == bits
+    a.simd_ne(b).to_bitmask() == 0
 }
 
 /// Whether each bit of `bits` is in the block.
 #[inline(always)]
-#[tactic(auto, unfolding(vx_bloom_spec::specs::Blocks::covers))]
-pub(crate) fn covers(block: &Block, bits: &Block) -> bool
-    ensures { result ≡ covers block.now bits.now }
+pub(crate) fn covers(block: u32x8, bits: u32x8) -> bool
+    ensures { result ≡ covers block bits }
 {
-    lane_covers(block[0], bits[0])
-        & lane_covers(block[1], bits[1])
-        & lane_covers(block[2], bits[2])
-        & lane_covers(block[3], bits[3])
-        & lane_covers(block[4], bits[4])
-        & lane_covers(block[5], bits[5])
-        & lane_covers(block[6], bits[6])
-        & lane_covers(block[7], bits[7])
+    are_same(block & bits, bits)
 }
 
 /// Whether each bit of the block is set.
 #[inline(always)]
 #[tactic(auto, unfolding(vx_bloom_spec::specs::Blocks::full_lanes))]
-pub(crate) fn is_full(block: &Block) -> bool
-    ensures { IsTrue result ↔ (block.now ≡ full_lanes) }
+pub(crate) fn is_full(block: u32x8) -> bool
+    ensures { IsTrue result ↔ (block ≡ full_lanes) }
 {
-    *block == [u32::MAX; LANES]
+    are_same(block, u32x8::splat(u32::MAX))
 }
 
 /// The block that a hash falls into, of so many.
@@ -116,11 +79,11 @@ pub(crate) fn block_of(hash: u64, blocks: usize) -> usize
 
 /// Lays the other blocks over these, one by one.
 #[tactic(auto, using(vx_bloom_spec::proofs::Places::or_rules))]
-pub(crate) fn or_into(blocks: &mut Vec<Block>, others: &[Block])
+pub(crate) fn or_into(blocks: &mut Vec<u32x8>, others: &[u32x8])
     requires { length blocks.old.items ≡ length others.now }
     ensures { blocks.new.items ≡ or_blocks blocks.old.items others.now }
 {
     'places: for place in 0..others.len() {
-        blocks[place] = or_lanes(&blocks[place], &others[place]);
+        blocks[place] = or_lanes(blocks[place], others[place]);
     }
 }

@@ -3,15 +3,15 @@
 ghost use Rattle.std.specs.Prelude.{◌≡◌, ◌+◌, ◌*◌, ◌≤◌, ◌++◌, length, OnOk, IfOk};
 ghost use Rattle.vx_bloom_spec.specs.Bytes.{block_bytes, block_at, filter_bytes, filter_at, AreBlocks};
 
-use crate::block::Block;
 use std::alloc::{AllocError, Global};
+use std::simd::prelude::*;
 use vx_bloom_options::{number_at, push_number};
 
 /// Bytes of a block.
 pub(crate) const BLOCK_LEN: usize = 32;
 
 #[tactic(auto, using(vx_bloom_spec::proofs::ReadBack::block_rules), unfolding(vx_bloom_spec::specs::Bytes::block_bytes))]
-pub(crate) fn push_block(out: &mut Vec<u8>, block: &Block) -> Result<(), AllocError>
+pub(crate) fn push_block(out: &mut Vec<u8>, block: &[u32; 8]) -> Result<(), AllocError>
     ensures { OnOk result (out.new.items ≡ out.old.items ++ block_bytes block.now) }
 {
     'lanes: for lane in block {
@@ -21,11 +21,11 @@ pub(crate) fn push_block(out: &mut Vec<u8>, block: &Block) -> Result<(), AllocEr
 }
 
 #[tactic(auto, unfolding(vx_bloom_spec::specs::Bytes::block_at))]
-pub(crate) fn block_at(bytes: &[u8], at: usize) -> Block
+pub(crate) fn block_at(bytes: &[u8], at: usize) -> u32x8
     requires { at + 32 ≤ length bytes.now }
     ensures { result ≡ block_at bytes.now at }
 {
-    [
+    u32x8::from_array([
         number_at(bytes, at),
         number_at(bytes, at + 4),
         number_at(bytes, at + 8),
@@ -34,12 +34,12 @@ pub(crate) fn block_at(bytes: &[u8], at: usize) -> Block
         number_at(bytes, at + 20),
         number_at(bytes, at + 24),
         number_at(bytes, at + 28),
-    ]
+    ])
 }
 
 // The blocks that the bytes spell.
 #[tactic(auto, using(vx_bloom_spec::proofs::ReadBack::blocks_rules))]
-pub(crate) fn blocks_at(alloc: Global, bytes: &[u8], count: usize) -> Result<Vec<Block>, AllocError>
+pub(crate) fn blocks_at(alloc: Global, bytes: &[u8], count: usize) -> Result<Vec<u32x8>, AllocError>
     requires { length bytes.now ≡ 32 * count }
     ensures bytes { IfOk result (λ v. filter_bytes v.items ≡ bytes.now) }
     ensures spelled { IfOk result (λ v. v.items ≡ filter_at bytes.now) }

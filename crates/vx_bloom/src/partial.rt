@@ -1,6 +1,6 @@
 //! Filters.
 
-ghost use Rattle.std.specs.Prelude.{nat_eq, ◌≡◌, ◌<◌, ◌≢◌, ◌↔◌, ◌++◌, ◌∷◌, [], List, ℕ, IsTrue, All, Contains, length, replicate, IfOk, OnOk, OnErr, IsErr};
+ghost use Rattle.std.specs.Prelude.{nat_eq, ◌≡◌, ◌<◌, ◌≢◌, ◌↔◌, ◌++◌, ◌∷◌, [], List, ℕ, IsTrue, All, Contains, length, replicate, IfOk, OnOk, OnErr, IsErr, Some, slice_get};
 ghost use lib.Pointwise.{pointwise};
 ghost use Rattle.vx_bloom_spec.specs.Blocks.{Block, no_lanes, full_lanes};
 ghost use Rattle.vx_bloom_spec.specs.Bytes.{filter_bytes, filter_at, AreBlocks};
@@ -8,10 +8,11 @@ ghost use Rattle.vx_bloom.specs.Partial.{ReadsFilter};
 ghost use Rattle.vx_bloom_spec.specs.Filter.{block_of, inserted, may_contain, or_blocks, filter_of, SameElements};
 ghost use Rattle.vx_bloom_options.specs.Options.{blocks_in};
 
-use crate::block::{Block, block_of, covers, is_full, mask, no_lanes, or_into, or_lanes};
+use crate::block::{block_of, covers, is_full, mask, no_lanes, or_into, or_lanes};
 use crate::bytes::{BLOCK_LEN, blocks_at, push_block};
 use std::alloc::{AllocError, Global};
 use std::marker::{Model, PhantomData};
+use std::simd::Simd;
 use thiserror::Error;
 use vx_bloom_options::BloomOptions;
 use vx_hash::ByteHash;
@@ -47,7 +48,7 @@ impl From<AllocError> for PartialError {
 
 /// A filter by the hash function `H`. Contracts see its blocks.
 pub struct BloomPartial<H: ByteHash> {
-    blocks: Vec<Block>,
+    blocks: Vec<Simd<u32, 8>>,
     hash: PhantomData<H>,
 }
 
@@ -91,12 +92,20 @@ impl<H: ByteHash> BloomPartial<H> {
         self.blocks.len() as u32
     }
 
+    /// The lanes of block `i`.
+    pub fn block(&self, i: u64) -> Simd<u32, 8>
+        requires { i < length self.now }
+        ensures { slice_get self.now i ≡ Some result }
+    {
+        self.blocks[i as usize]
+    }
+
     #[tactic(auto, unfolding(vx_bloom_spec::specs::Filter::inserted))]
     pub(crate) fn insert_hash(&mut self, hash: u64)
         ensures { self.new ≡ inserted self.old hash }
     {
         let place = block_of(hash, self.blocks.len());
-        self.blocks[place] = or_lanes(&self.blocks[place], &mask(hash));
+        self.blocks[place] = or_lanes(self.blocks[place], mask(hash));
     }
 
     #[tactic(auto, unfolding(vx_bloom_spec::specs::Filter::may_contain))]
@@ -105,7 +114,7 @@ impl<H: ByteHash> BloomPartial<H> {
         ensures within { block_of (length self.now) hash < length self.now }
     {
         let place = block_of(hash, self.blocks.len());
-        covers(&self.blocks[place], &mask(hash))
+        covers(self.blocks[place], mask(hash))
     }
 
     /// Sets the value's mask.
@@ -148,7 +157,7 @@ impl<H: ByteHash> BloomPartial<H> {
     pub fn is_saturated(&self) -> bool
         ensures { IsTrue result ↔ All (λ block. block ≡ full_lanes) self.now }
     {
-        self.blocks.iter().all(|block| is_full(block))
+        self.blocks.iter().all(|block| is_full(*block))
     }
 
     /// The lanes, block after block, each as four bytes, low byte first.
@@ -158,7 +167,7 @@ impl<H: ByteHash> BloomPartial<H> {
     {
         let mut bytes = Vec::with_capacity(alloc, BLOCK_LEN * self.blocks.len())?;
         'places: for block in &self.blocks {
-            push_block(&mut bytes, block)?;
+            push_block(&mut bytes, block.as_array())?;
         }
         Ok(bytes)
     }

@@ -59,5 +59,5 @@ fn contains_at(bytes: &[u8], count: usize, hash: u64) -> bool
     ensures { result ≡ may_contain (filter_at bytes.now) hash }
 {
     let place = block_of(hash, count);
-    covers(&block_at(bytes, BLOCK_LEN * place), &mask(hash))
+    covers(block_at(bytes, BLOCK_LEN * place), mask(hash))
 }

@@ -87,5 +87,8 @@ fn contexts_allow_aggregates(rt: HostRuntime) -> Result<(), Fail> {
         .with_nullable_ancestor();
     assert!(rt; ctx.allows_aggregate("vortex.min") && !ctx.allows_aggregate("vortex.max"));
     assert!(rt; ctx.has_nullable_ancestor());
+    let worker = ctx.for_worker()?;
+    assert!(rt; worker.allows_aggregate("vortex.min") && !worker.allows_aggregate("vortex.max"));
+    assert!(rt; worker.has_nullable_ancestor() && worker.buffered_bytes() == 0);
     Ok(())
 }

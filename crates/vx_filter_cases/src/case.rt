@@ -1,6 +1,6 @@
 //! A case and its answer.
 
-use crate::{booleans, filters, hashes, options, scalars, stored};
+use crate::{booleans, filters, hashes, lanes, options, scalars, stored};
 use anyhow::{Context, bail};
 use std::alloc::Global;
 use vx_case_lines::{cut, is_case};
@@ -24,6 +24,7 @@ fn answer_to(alloc: Global, word: &str, given: &str) -> anyhow::Result<String> {
         "read" => filters::read(alloc, given),
         "saturated" => filters::saturated(alloc, given),
         "union" | "merge" => filters::union(alloc, word, given),
+        "lanes" => lanes::compared(alloc, given),
         "options" => options::read(alloc, given),
         "default_options" => options::default_bytes(alloc),
         "scalar" => scalars::scalar_answer(alloc, given),

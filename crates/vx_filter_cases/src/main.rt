@@ -12,6 +12,7 @@
 //! | `read` | bytes, a filter | whether the filter that the bytes are is this one, or why they are none |
 //! | `saturated` | bytes | whether the filter that the bytes are is saturated, as the aggregate and as itself says |
 //! | `union`, `merge` | three filters | whether the first two are equal, and whether both together are the third |
+//! | `lanes` | a number of blocks, a count n | of the filters by vectors and the plain ones of the numbers below n: whether their blocks are equal, and those of their halves together; how many numbers below 2 n each may contain; whether each is saturated |
 //! | `options` | bytes | the options that the bytes are, or why they are none |
 //! | `default_options` | | the bytes of the options by default |
 //! | `scalar` | a type, a value and bytes | whether the value goes into a filter as the bytes, and is then contained |
@@ -28,6 +29,7 @@ mod case;
 mod filters;
 mod given;
 mod hashes;
+mod lanes;
 mod options;
 mod scalars;
 mod stored;

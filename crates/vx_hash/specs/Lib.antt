@@ -1,2 +1,3 @@
+pub mod Lanes
 pub mod Words
 pub mod XxHash3

@@ -1,12 +1,15 @@
-// The hash of more than 240 bytes, by eight lanes.
+// The hash of more than 240 bytes, by eight lanes in one vector.
 
-ghost use Rattle.std.specs.Prelude.{◌≡◌, ◌+◌, ◌-◌, ◌*◌, ◌/◌, ◌<◌, ◌≤◌, length};
-ghost use Rattle.vx_hash.specs.XxHash3.{lane_after, after_stripe, after_stripes, scrambled_lane, scrambled, after_blocks, after_all, folded_lanes, hash_above_240};
+ghost use Rattle.std.specs.Prelude.{◌≡◌, ◌+◌, ◌-◌, ◌*◌, ◌/◌, ◌<◌, ◌≤◌, length, map};
+ghost use Rattle.vx_hash.specs.Words.{half_product, key};
+ghost use Rattle.vx_hash.specs.Lanes.{words};
+ghost use Rattle.vx_hash.specs.XxHash3.{after_stripe, after_stripes, scrambled, after_blocks, after_all, folded_lanes, hash_above_240};
 
 use crate::words::{
     HALF_PRIME_1, HALF_PRIME_2, HALF_PRIME_3, PRIME_1, PRIME_2, PRIME_3, PRIME_4, PRIME_5,
-    avalanche_short, fold, half_product, key_word, word, xorshift,
+    avalanche_short, fold, key, key_word,
 };
+use std::simd::prelude::*;
 
 const STRIPE_LEN: usize = 64;
 
@@ -25,105 +28,81 @@ const FIRST_LANES: [u64; 8] = [
     HALF_PRIME_1,
 ];
 
-// A lane after the stripe from place `at`, with the key from place `key`.
+// The eight words from place `at`.
 #[inline(always)]
-#[tactic(auto, unfolding(crate::specs::XxHash3::lane_after))]
-fn lane_after(
-    lanes: &[u64; 8],
-    bytes: &[u8],
-    at: usize,
-    key: usize,
-    lane: usize,
-    neighbour: usize,
-) -> u64
-    requires inside { at + 64 ≤ length bytes.now }
-    requires keyed { key + 64 ≤ 192 }
-    requires lane { lane < 8 }
-    requires neighbour { neighbour < 8 }
-    ensures { result ≡ lane_after lanes.now bytes.now at key lane neighbour }
+fn words(bytes: &[u8], at: usize) -> u64x8
+    requires { at + 64 ≤ length bytes.now }
+    ensures { result ≡ words bytes.now at }
 {
-    let own = word(bytes, at + 8 * lane) ^ key_word(key + 8 * lane);
-    lanes[lane]
-        .wrapping_add(word(bytes, at + 8 * neighbour))
-        .wrapping_add(half_product(own))
+    u64x8::from_le_bytes(u8x64::from_slice(&bytes[at..]))
 }
 
+// The key's eight words from place `at`.
 #[inline(always)]
-#[tactic(auto, unfolding(crate::specs::XxHash3::after_stripe))]
-fn after_stripe(lanes: &[u64; 8], bytes: &[u8], at: usize, key: usize) -> [u64; 8]
+fn key_words(at: usize) -> u64x8
+    requires { at + 64 ≤ 192 }
+    ensures { result ≡ words key at }
+{
+    words(key(), at)
+}
+
+// Of each lane the product of its halves.
+#[inline(always)]
+fn half_products(x: u64x8) -> u64x8
+    ensures { result ≡ map half_product x }
+{
+    (x & u64x8::splat(0xffff_ffff)) * (x >> 32)
+}
+
+// The lanes after the stripe from place `at`, with the key from place `key`.
+#[inline(always)]
+fn after_stripe(lanes: u64x8, bytes: &[u8], at: usize, key: usize) -> u64x8
     requires inside { at + 64 ≤ length bytes.now }
     requires keyed { key + 64 ≤ 192 }
-    ensures { result ≡ after_stripe lanes.now bytes.now at key }
+    ensures { result ≡ after_stripe lanes bytes.now at key }
 {
-    [
-        lane_after(lanes, bytes, at, key, 0, 1),
-        lane_after(lanes, bytes, at, key, 1, 0),
-        lane_after(lanes, bytes, at, key, 2, 3),
-        lane_after(lanes, bytes, at, key, 3, 2),
-        lane_after(lanes, bytes, at, key, 4, 5),
-        lane_after(lanes, bytes, at, key, 5, 4),
-        lane_after(lanes, bytes, at, key, 6, 7),
-        lane_after(lanes, bytes, at, key, 7, 6),
-    ]
+    let own = words(bytes, at);
+    let neighbours = own.swizzle([1, 0, 3, 2, 5, 4, 7, 6]);
+    lanes + neighbours + half_products(own ^ key_words(key))
 }
 
 // The lanes after `count` stripes from place `at`.
 #[inline(always)]
 #[tactic(auto, using(crate::proofs::Adding::stripes))]
-fn after_stripes(lanes: [u64; 8], bytes: &[u8], at: usize, count: usize) -> [u64; 8]
+fn after_stripes(lanes: u64x8, bytes: &[u8], at: usize, count: usize) -> u64x8
     requires inside { at + 64 * count ≤ length bytes.now }
     requires keyed { count ≤ 16 }
     ensures { result ≡ after_stripes lanes bytes.now at count }
 {
     let mut after = lanes;
     'stripes: for i in 0..count {
-        after = after_stripe(&after, bytes, at + STRIPE_LEN * i, 8 * i);
+        after = after_stripe(after, bytes, at + STRIPE_LEN * i, 8 * i);
     }
     after
 }
 
 #[inline(always)]
-#[tactic(auto, unfolding(crate::specs::XxHash3::scrambled_lane))]
-fn scrambled_lane(lanes: &[u64; 8], lane: usize) -> u64
-    requires { lane < 8 }
-    ensures { result ≡ scrambled_lane lanes.now lane }
+fn scrambled(lanes: u64x8) -> u64x8
+    ensures { result ≡ scrambled lanes }
 {
-    (xorshift(lanes[lane], 47) ^ key_word(128 + 8 * lane)).wrapping_mul(HALF_PRIME_1)
-}
-
-#[inline(always)]
-#[tactic(auto, unfolding(crate::specs::XxHash3::scrambled))]
-fn scrambled(lanes: &[u64; 8]) -> [u64; 8]
-    ensures { result ≡ scrambled lanes.now }
-{
-    [
-        scrambled_lane(lanes, 0),
-        scrambled_lane(lanes, 1),
-        scrambled_lane(lanes, 2),
-        scrambled_lane(lanes, 3),
-        scrambled_lane(lanes, 4),
-        scrambled_lane(lanes, 5),
-        scrambled_lane(lanes, 6),
-        scrambled_lane(lanes, 7),
-    ]
+    (lanes ^ (lanes >> 47) ^ key_words(128)) * u64x8::splat(HALF_PRIME_1)
 }
 
 // The lanes after `count` whole blocks.
 #[tactic(auto, using(crate::proofs::Adding::blocks))]
-fn after_blocks(bytes: &[u8], count: usize) -> [u64; 8]
+fn after_blocks(bytes: &[u8], count: usize) -> u64x8
     requires { 1024 * count ≤ length bytes.now }
     ensures { result ≡ after_blocks bytes.now count }
 {
-    let mut lanes = FIRST_LANES;
+    let mut lanes = u64x8::from_array(FIRST_LANES);
     'count: for i in 0..count {
-        let after = after_stripes(lanes, bytes, BLOCK_LEN * i, STRIPES_PER_BLOCK);
-        lanes = scrambled(&after);
+        lanes = scrambled(after_stripes(lanes, bytes, BLOCK_LEN * i, STRIPES_PER_BLOCK));
     }
     lanes
 }
 
 #[tactic(auto, unfolding(crate::specs::XxHash3::after_all))]
-fn after_all(bytes: &[u8]) -> [u64; 8]
+fn after_all(bytes: &[u8]) -> u64x8
     requires { 64 ≤ length bytes.now }
     ensures { result ≡ after_all bytes.now }
 {
@@ -132,7 +111,7 @@ fn after_all(bytes: &[u8]) -> [u64; 8]
     let stripes = (len - 1 - BLOCK_LEN * blocks) / STRIPE_LEN;
     let lanes = after_blocks(bytes, blocks);
     let lanes = after_stripes(lanes, bytes, BLOCK_LEN * blocks, stripes);
-    after_stripe(&lanes, bytes, len - STRIPE_LEN, 121)
+    after_stripe(lanes, bytes, len - STRIPE_LEN, 121)
 }
 
 #[inline(always)]
@@ -151,7 +130,7 @@ pub(crate) fn hash_above_240(bytes: &[u8]) -> u64
     requires { 240 < length bytes.now }
     ensures { result ≡ hash_above_240 bytes.now }
 {
-    let lanes = after_all(bytes);
+    let lanes = after_all(bytes).to_array();
     let mut sum = (bytes.len() as u64).wrapping_mul(PRIME_1);
     'pairs: for pair in 0..4 {
         sum = sum.wrapping_add(folded_lanes(&lanes, pair));

@@ -1,7 +1,7 @@
 // Words: reading them, and the steps that the hash makes of them.
 
 ghost use Rattle.std.specs.Prelude.{◌≡◌, ◌+◌, ◌<◌, ◌≤◌, length};
-ghost use Rattle.vx_hash.specs.Words.{word, half, joined, xorshift, fold, half_product, key, avalanche, avalanche_short};
+ghost use Rattle.vx_hash.specs.Words.{word, half, joined, xorshift, fold, key, avalanche, avalanche_short};
 
 pub(crate) const HALF_PRIME_1: u64 = 0x9e37_79b1;
 
@@ -41,7 +41,7 @@ static KEY: [u8; KEY_LEN] = [
 ];
 
 #[tactic(auto, unfolding(crate::specs::Words::key))]
-fn key() -> &'static [u8; KEY_LEN]
+pub(crate) fn key() -> &'static [u8; KEY_LEN]
     ensures { result.now ≡ key }
 {
     &KEY
@@ -118,14 +118,6 @@ pub(crate) fn fold(a: u64, b: u64) -> u64
 {
     let product = u128::from(a) * u128::from(b);
     (product % 0x1_0000_0000_0000_0000) as u64 ^ (product / 0x1_0000_0000_0000_0000) as u64
-}
-
-#[inline(always)]
-#[tactic(auto, unfolding(crate::specs::Words::half_product))]
-pub(crate) fn half_product(x: u64) -> u64
-    ensures { result ≡ half_product x }
-{
-    (x % 0x1_0000_0000) * (x / 0x1_0000_0000)
 }
 
 #[inline(always)]

@@ -3,7 +3,7 @@ use Rattle.std.proofs.Common.{arith}
 use Rattle.vx_model.specs.Ty.{Ty}
 use Rattle.vx_write_answer.specs.declared.error.WriteError.{WriteError}
 use Rattle.vx_write_answer.specs.declared.error.WriteError.TheVariants.{SourceFault, SinkFault, CompressFault, BatchType, NotStruct, DuplicateField, ManyChunks, EmptyList, ZoneCut, ForbiddenAggregate, ForbiddenEncoding, TooLarge, OutOfMemory, Unbuilt, Stopped}
-use Rattle.vx_machine_tasks.specs.Causes.{ActMay}
+use Rattle.vx_machine_nodes.specs.Causes.{ActMay}
 use Rattle.vx_machine.specs.Source.{SourceMay}
 use Rattle.vx_machine.specs.SourceActs.{IsElsewhere}
 use Rattle.vx_machine.specs.Whole.{StepMay}

@@ -17,13 +17,13 @@ use Rattle.vx_write_answer.specs.Causes.{of_source, of_order}
 use Rattle.vx_write_answer.specs.declared.step.ActionKind.{ActionKind}
 use Rattle.vx_write_answer.specs.declared.error.WriteError.{WriteError}
 use Rattle.vx_write_answer.specs.declared.error.WriteError.TheVariants.{SourceFault, SinkFault, CompressFault, BatchType, NotStruct, DuplicateField, ManyChunks, EmptyList, ZoneCut, ForbiddenAggregate, ForbiddenEncoding, TooLarge, OutOfMemory, Unbuilt, Stopped}
-use Rattle.vx_machine_tasks.specs.Calls.{reads_action, append_action, CalledTimes, SinkStops}
+use Rattle.vx_machine_nodes.specs.Calls.{reads_action, append_action, CalledTimes, SinkStops}
 use Rattle.vx_machine.specs.Calls.{reads_at, SourceStops, SourceTold}
-use Rattle.vx_machine_tasks.specs.Causes.{ActMay}
-use Rattle.vx_machine_tasks.specs.Outcome.{action_of}
+use Rattle.vx_machine_nodes.specs.Causes.{ActMay}
+use Rattle.vx_machine_nodes.specs.Outcome.{action_of}
 use Rattle.vx_machine.specs.Source.{SourceMay}
 use Rattle.vx_machine.specs.SourceActs.{SourceActed}
-use Rattle.vx_machine_tasks.proofs.CallSteps.{unasked_by, unasked_self}
+use Rattle.vx_machine_nodes.proofs.CallSteps.{unasked_by, unasked_self}
 
 -- what tells of faults is as before: so behind the source's act, which asks no sink
 module _ {S : Type 0} (faults : S → ℕ) (may must : S → ℕ → Type 0) (a b : S) (same : b ≡ a) where

@@ -1,14 +1,14 @@
--- A machine that has finished holds nothing.
+-- A machine that has finished holds nothing, and has reserved nothing.
 use Rattle.std.proofs.Common.{◌≡◌, true, refl, sym}
 use Rattle.std.proofs.lemmas.Bool.{and_parts, true≢false}
 use Rattle.vx_machine_ids.specs.Stock.{none, both}
 use Rattle.vx_machine.specs.Source.{phase_stock}
 use Rattle.vx_machine_tasks.specs.Ready.{is_done}
-use Rattle.vx_machine.specs.Whole.{machine_stock, has_closed, is_finished}
+use Rattle.vx_machine.specs.Whole.{machine_stock, machine_reserved, has_closed, is_finished}
 use Rattle.vx_machine.specs.declared.source.Phase.{Phase}
 use Rattle.vx_machine.specs.declared.source.Phase.TheVariants.{Reading, Giving, Closing, Finished}
 use Rattle.vx_machine.specs.declared.machine.Machine.{Machine}
-use Rattle.vx_machine_tasks.proofs.Finishing.{done_none}
+use Rattle.vx_machine_tasks.proofs.Finishing.{done_none, done_unreserved}
 
 closed_none : (p : Phase) → has_closed p ≡ true → phase_stock p ≡ none
 closed_none Finished h = refl
@@ -29,3 +29,6 @@ pub finished_none : (m : Machine) → is_finished m ≡ true → machine_stock m
 finished_none m h =
     let a = and_parts (has_closed m.phase) (is_done m.root) h in
     λ i. both (closed_none m.phase a.0 i) (done_none m.root a.1 i)
+
+pub finished_unreserved : (m : Machine) → is_finished m ≡ true → machine_reserved m ≡ 0
+finished_unreserved m h = done_unreserved m.root (finished_parts m h).1

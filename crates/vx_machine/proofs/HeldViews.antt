@@ -1,5 +1,5 @@
 -- Where all that is active is held, the active paths are those that the machine in plain data holds.
-use Rattle.std.proofs.Common.{◌≡◌, ℕ, zero, suc, ◌+◌, ◌≤◌, ◌||◌, Bool, true, false, cond, List, [], ◌∷◌, ◌++◌, map, refl, sym, ap, subst, ◌∙◌, arith, inl, inr, ⊎_elim}
+use Rattle.std.proofs.Common.{◌≡◌, ℕ, zero, suc, ◌+◌, ◌≤◌, ◌||◌, Bool, true, false, cond, List, [], ◌∷◌, ◌++◌, map, Option, Some, None, refl, sym, ap, subst, ◌∙◌, arith, inl, inr, ⊎_elim}
 use Rattle.std.proofs.lemmas.Bool.{cases_Bool, true≢false}
 use Rattle.std.specs.FinMap as fin
 use Rattle.std.specs.List.{list_any}
@@ -8,26 +8,31 @@ use Rattle.vx_path.specs.Lists.{In}
 use Rattle.vx_sequence.specs.Universe.{path_cmp, Active}
 use Rattle.vx_sequence.proofs.Sets.{same_refl, same_true}
 use Rattle.vx_plan.specs.PlanData.{Setting}
-use Rattle.vx_machine_ids.specs.Stock.{Stock, held, both, same, one}
+use Rattle.vx_regroup.specs.declared.regroup.Regroup.{Regroup}
+use Rattle.vx_regroup.specs.declared.regroup.Regroup.TheVariants.{Repartition, Buffered, Collect}
+use Rattle.vx_machine_ids.specs.Stock.{Stock, held, both, same, one, some_stock}
 use Rattle.vx_machine_ids.specs.Balance.{active_at, Exact, Moved}
 use Rattle.vx_machine_promises.specs.Write.{Answer}
 use Rattle.vx_machine_view.specs.State.{Tasks, no_tasks}
 use Rattle.vx_machine_view.specs.Machine as whole
 use Rattle.vx_machine_view.proofs.Sounding.{least_agrees}
-use Rattle.vx_machine_tasks.specs.declared.item.Item.{Item}
-use Rattle.vx_machine_tasks.specs.declared.item.Due.{Due}
-use Rattle.vx_machine_tasks.specs.declared.item.Due.TheVariants.{Put, Append, Close, Join}
-use Rattle.vx_machine_tasks.specs.declared.node.Local.{Local}
-use Rattle.vx_machine_tasks.specs.declared.node.Local.TheVariants.{Empty, Full, Chunked, Columns, Lists, Over, Made}
+use Rattle.vx_machine_nodes.specs.declared.item.Item.{Item}
+use Rattle.vx_machine_nodes.specs.declared.item.Due.{Due}
+use Rattle.vx_machine_nodes.specs.declared.item.Due.TheVariants.{Put, HandOn, Append, Close, Join}
+use Rattle.vx_machine_nodes.specs.declared.node.Local.{Local}
+use Rattle.vx_machine_nodes.specs.declared.node.Local.TheVariants.{Empty, Full, Chunked, Columns, Lists, Grouped, Over, Passing, Made}
 use Rattle.vx_machine.specs.declared.source.Phase.{Phase}
 use Rattle.vx_machine.specs.declared.source.Phase.TheVariants.{Reading, Giving, Closing, Finished}
 use Rattle.vx_machine.specs.declared.machine.Machine.{Machine}
 use Rattle.vx_machine_tasks.specs.declared.task.Task.{Task, out-Task}
 use Rattle.vx_machine_tasks.specs.Sizes.{task_count, count_of_all}
 use Rattle.vx_machine.specs.Source.{phase_stock}
-use Rattle.vx_machine_tasks.specs.Stocks.{items_stock, dues_stock, local_stock, head_stock, task_stock, tasks_stock}
+use Rattle.vx_machine_nodes.specs.Regrouped.{mind_in}
+use Rattle.vx_machine_nodes.specs.Stocks.{item_stock, items_stock, dues_stock, local_stock}
+use Rattle.vx_machine_tasks.specs.Stocks.{head_stock, task_stock, tasks_stock}
 use Rattle.vx_machine.specs.Whole.{machine_stock}
-use Rattle.vx_machine_tasks.specs.View.{items_of, todo_of, mind_of, task_row, row}
+use Rattle.vx_machine_nodes.specs.View.{items_of, todo_of, mind_of}
+use Rattle.vx_machine_tasks.specs.View.{task_row, row}
 use Rattle.vx_machine.specs.View.{phase_of, machine_of}
 use Rattle.vx_machine_tasks.proofs.TaskParts.{task_count_out, task_stock_out}
 use Rattle.vx_machine_tasks.proofs.ViewParts.{row_out}
@@ -79,9 +84,19 @@ items_held p (x ∷ xs) = let e : count p (map (λ i. i.0) (items_of xs)) ≡ he
 dues_held : (p : List ℕ) (ds : List Due) → count p (whole.next_ids (todo_of ds)) ≡ held (dues_stock ds) p
 dues_held p [] = refl
 dues_held p (Put c i ∷ ds) = let e : count p (whole.next_ids (todo_of ds)) ≡ held (dues_stock ds) p = dues_held p ds in omega (arith, e)
+dues_held p (HandOn i r ∷ ds) = let e : count p (whole.next_ids (todo_of ds)) ≡ held (dues_stock ds) p = dues_held p ds in omega (arith, e)
 dues_held p (Append x ∷ ds) = let e : count p (whole.next_ids (todo_of ds)) ≡ held (dues_stock ds) p = dues_held p ds in omega (arith, e)
 dues_held p (Close ∷ ds) = let e : count p (whole.next_ids (todo_of ds)) ≡ held (dues_stock ds) p = dues_held p ds in omega (arith, e)
 dues_held p (Join f ∷ ds) = let e : count p (whole.next_ids (todo_of ds)) ≡ held (dues_stock ds) p = dues_held p ds in omega (arith, e)
+
+-- of a node that regroups
+newest_held : (p : List ℕ) (r : Regroup) (j : Option Item) (rows : ℕ) → count p (whole.mind_ids (mind_in r j rows)) ≡ held (some_stock item_stock j) p
+newest_held p (Repartition h) None rows = refl
+newest_held p (Repartition h) (Some j) rows = omega arith
+newest_held p (Buffered h) None rows = refl
+newest_held p (Buffered h) (Some j) rows = omega arith
+newest_held p (Collect h) None rows = refl
+newest_held p (Collect h) (Some j) rows = omega arith
 
 mind_held : (p : List ℕ) (l : Local) → count p (whole.mind_ids (mind_of l)) ≡ held (local_stock l) p
 mind_held p (Empty n) = refl
@@ -89,7 +104,9 @@ mind_held p (Full x) = omega arith
 mind_held p (Chunked n e rows) = omega arith
 mind_held p (Columns n rows) = refl
 mind_held p (Lists n rows) = refl
+mind_held p (Grouped n) = newest_held p n.rule n.newest n.rows
 mind_held p Over = refl
+mind_held p Passing = refl
 mind_held p (Made l) = refl
 
 phase_held : (p : List ℕ) (x : Phase) → count p (whole.phase_ids (phase_of x)) ≡ held (phase_stock x) p

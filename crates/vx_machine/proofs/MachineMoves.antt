@@ -9,7 +9,7 @@ use Rattle.vx_write_answer.specs.declared.error.WriteError.{WriteError}
 use Rattle.vx_write_answer.specs.declared.error.WriteError.TheVariants.{Unbuilt}
 use Rattle.vx_path.specs.Path.{Eof}
 use Rattle.vx_machine_turns.specs.Forms.{Form}
-use Rattle.vx_machine_tasks.specs.Causes.{StartMay}
+use Rattle.vx_machine_nodes.specs.Causes.{StartMay}
 use Rattle.vx_machine_tasks.specs.Starting.{FormRefused}
 use Rattle.vx_machine.specs.Starting.{WholeRefused}
 use Rattle.vx_machine.specs.Whole.{WholeStartMay}

@@ -26,9 +26,9 @@ nth_there (x ∷ xs) zero h = (x, refl)
 nth_there (x ∷ xs) (suc k) h = nth_there xs k (omega (arith, h))
 
 -- whatever step it would have been
-pub memory_first : (s : Setting) (u : Active) (number : ℕ) (t : Ty) (before : Outlet) (m : Machine) (pick : ℕ) (to_come : Option (List ChunkData)) → 0 < machine_ready u m
-    → StepRefused s (fin.keys u) (pick % counted (machine_ready u m)) t to_come to_come before number (machine_of m) OutOfMemory
-memory_first s u number t before m pick to_come some =
+pub memory_first : (s : Setting) (u : Active) (number : ℕ) (t : Ty) (before : Outlet) (m : Machine) (pick counts : ℕ) (to_come : Option (List ChunkData)) → 0 < machine_ready u m
+    → StepRefused s (fin.keys u) (pick % counted (machine_ready u m)) counts t to_come to_come before number (machine_of m) OutOfMemory
+memory_first s u number t before m pick counts to_come some =
     let k : ℕ = pick % counted (machine_ready u m) in
     let less : k < counted (machine_ready u m) = mod-lt pick (omega (arith, some)) in
     let are : length (whole.whole_steps s (fin.keys u) number unasked (machine_of m)) ≡ machine_ready u m = whole_is_ready s (fin.keys u) number unasked (machine_of m) ∙ machine_view u m in

@@ -10,7 +10,7 @@ use Rattle.vx_write_answer.specs.declared.step.ActionKind.{ActionKind}
 use Rattle.vx_write_answer.specs.declared.step.ActionKind.TheVariants as actions
 use Rattle.vx_write_answer.specs.declared.error.WriteError.{WriteError}
 use Rattle.vx_write_answer.specs.declared.error.WriteError.TheVariants.{SourceFault, SinkFault, CompressFault, BatchType, NotStruct, DuplicateField, ManyChunks, EmptyList, ZoneCut, ForbiddenAggregate, ForbiddenEncoding, TooLarge, OutOfMemory, Unbuilt, Stopped}
-use Rattle.vx_machine_tasks.specs.Calls.{reads_action, append_action, CalledTimes, MaybeCalled, SinkStops}
+use Rattle.vx_machine_nodes.specs.Calls.{reads_action, append_action, CalledTimes, MaybeCalled, SinkStops}
 use Rattle.vx_machine.specs.Calls.{reads_in, appends_in, MisfitTold, SourceStops}
 use Rattle.vx_machine.specs.Run.{OfMisfit}
 

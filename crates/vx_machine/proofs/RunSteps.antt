@@ -8,7 +8,9 @@ use Rattle.vx_sequence.specs.Universe.{Active}
 use Rattle.vx_tasks.specs.Run.{nth}
 use Rattle.vx_order.specs.Outlet.{Outlet}
 use Rattle.vx_plan.specs.PlanData.{Setting}
+use Rattle.vx_setting.specs.Setting.{real}
 use Rattle.vx_sink.specs.declared.context.LayoutWriterContext.{LayoutWriterContext}
+use Rattle.vx_sink.specs.ContextView.{counted as counted_bytes}
 use Rattle.vx_write_answer.specs.declared.step.Step.{Step}
 use Rattle.vx_write_answer.specs.declared.step.ActionKind.{ActionKind}
 use Rattle.vx_write_answer.specs.declared.error.WriteError.{WriteError}
@@ -18,10 +20,12 @@ use Rattle.vx_machine_view.specs.Machine as whole
 use Rattle.vx_machine_view.proofs.Placing.{whole_is_ready}
 use Rattle.vx_machine.specs.declared.machine.Machine.{Machine}
 use Rattle.vx_machine.specs.Calls.{reads_at}
-use Rattle.vx_machine_tasks.specs.Context.{setting_of}
+use Rattle.vx_machine_nodes.specs.Context.{setting_of}
+use Rattle.vx_machine_nodes.specs.Ledger.{told_by}
+use Rattle.vx_machine_nodes.proofs.LedgerSteps.{told_listed, told_allowed}
 use Rattle.vx_machine_tasks.specs.Ready.{counted}
 use Rattle.vx_machine.specs.Steps.{WholeStepped, StepRefused, StepDone, StepFails}
-use Rattle.vx_machine.specs.Run.{At, at, ready_at, RunStep, Ran, picked_at, Stops}
+use Rattle.vx_machine.specs.Run.{At, at, ready_at, RunStep, Ran, picked_at, tracker_by, Stops}
 use Rattle.vx_machine.specs.View.{phase_of, machine_of}
 use Rattle.vx_machine.specs.Whole.{machine_stock, machine_ready}
 use Rattle.vx_machine.proofs.ReadyViews.{machine_view}
@@ -69,9 +73,9 @@ module _ (u : Active) (m : Machine) (exact : Exact u (machine_stock m)) where
           },
         )
 
-    pub fails_held : (e : WriteError) → StepFails ctx (fin.keys u) picked t before now o (machine_of m) e → StepFails ctx (whole.machine_ids (machine_of m)) picked t before now o (machine_of m) e
-    fails_held e d = λ image n.
-        let w : StepRefused (setting_of ctx image) (fin.keys u) picked t before now o n (machine_of m) e = d image n in
+    pub fails_held : (counts : ℕ) (e : WriteError) → StepFails ctx counts (fin.keys u) picked t before now o (machine_of m) e → StepFails ctx counts (whole.machine_ids (machine_of m)) picked t before now o (machine_of m) e
+    fails_held counts e d = λ image n.
+        let w : StepRefused (setting_of ctx image) (fin.keys u) picked counts t before now o n (machine_of m) e = d image n in
         record {
           told = w.told;
           step = w.step;
@@ -88,8 +92,8 @@ run_grows ctx t schedule x y z ss ts s is r n =
     let e : length ss ≡ 0 + length ss = omega arith in
     subst (λ us. Ran ctx t schedule 0 x us z) (sym is) (ran_more ctx t schedule 0 x y z ss s r (subst (λ k. RunStep ctx t schedule k y z s) e n))
 
--- a step by the pick of its place, of the context and the source as they were
-module _ (ctx now : LayoutWriterContext) (same : now ≡ ctx) (t kind : Ty) (typed : kind ≡ t) (schedule : List ℕ) (u : Active) (m : Machine) (exact : Exact u (machine_stock m))
+-- a step by the pick of its place, of a context that tells the same, and the source as it was
+module _ (ctx now : LayoutWriterContext) (same : told_by now ≡ told_by ctx) (t kind : Ty) (typed : kind ≡ t) (schedule : List ℕ) (u : Active) (m : Machine) (exact : Exact u (machine_stock m))
     (some : 0 < machine_ready u m) (place pick : ℕ) (is : pick ≡ slice_index schedule place) where
   ready_counted : ready_at (machine_of m) ≡ machine_ready u m
   ready_counted = ready_held u m exact (setting_of ctx (λ w p. p))
@@ -97,11 +101,15 @@ module _ (ctx now : LayoutWriterContext) (same : now ≡ ctx) (t kind : Ty) (typ
   some_ready : 0 < ready_at (machine_of m)
   some_ready = subst (λ n. 0 < n) (sym ready_counted) some
 
+  setting_same : (image : ℕ → ChunkData → ChunkData) → setting_of now image ≡ setting_of ctx image
+  setting_same image = λ j. real (told_listed ctx now same j) (told_allowed ctx now same j) image
+
   -- done
   pub run_step : (x y : Option (List ChunkData)) (o v : Outlet) (new : whole.Machine) (s : Step) → (s.ready ≡ counted (machine_ready u m)) × (s.picked ≡ pick % s.ready)
       → StepDone now (fin.keys u) s.picked kind x y o v (machine_of m) new s.task s.action → RunStep ctx t schedule place (at (machine_of m) x o) (at new y v) s
   run_step x y o v new s told d =
-      let b : StepDone ctx (fin.keys u) s.picked kind x y o v (machine_of m) new s.task s.action = subst (λ z. StepDone z (fin.keys u) s.picked kind x y o v (machine_of m) new s.task s.action) same d in
+      let b : StepDone ctx (fin.keys u) s.picked kind x y o v (machine_of m) new s.task s.action =
+      λ image. ((d image).0, subst (λ z. WholeStepped z (fin.keys u) s.picked kind x y o (d image).0 v (machine_of m) new s.task s.action) (setting_same image) (d image).1) in
       let e : StepDone ctx (fin.keys u) s.picked t x y o v (machine_of m) new s.task s.action = subst (λ z. StepDone ctx (fin.keys u) s.picked z x y o v (machine_of m) new s.task s.action) typed b in
       record {
         some = some_ready;
@@ -110,15 +118,18 @@ module _ (ctx now : LayoutWriterContext) (same : now ≡ ctx) (t kind : Ty) (typ
         done = done_held u m exact ctx s.picked t x y o v new s.task s.action e;
       }
 
-  -- refused
-  pub run_refused : (x y : Option (List ChunkData)) (o : Outlet) (e : WriteError) → StepFails now (fin.keys u) (pick % counted (machine_ready u m)) kind x y o (machine_of m) e
-      → Stops ctx t schedule place (at (machine_of m) x o) y e
-  run_refused x y o e d =
+  -- refused, where the tracker counts what the machine has reserved
+  pub run_refused : (x y : Option (List ChunkData)) (o : Outlet) (e : WriteError) → counted_bytes now ≡ tracker_by ctx (machine_of m)
+      → StepFails now (counted_bytes now) (fin.keys u) (pick % counted (machine_ready u m)) kind x y o (machine_of m) e → Stops ctx t schedule place (at (machine_of m) x o) y e
+  run_refused x y o e counts d =
       let k : ℕ = pick % counted (machine_ready u m) in
-      let b : StepFails ctx (fin.keys u) k kind x y o (machine_of m) e = subst (λ z. StepFails z (fin.keys u) k kind x y o (machine_of m) e) same d in
-      let f : StepFails ctx (fin.keys u) k t x y o (machine_of m) e = subst (λ z. StepFails ctx (fin.keys u) k z x y o (machine_of m) e) typed b in
+      let n : ℕ = tracker_by ctx (machine_of m) in
+      let b : StepFails ctx n (fin.keys u) k kind x y o (machine_of m) e = λ image number.
+      subst (λ z. StepRefused (setting_of ctx image) (fin.keys u) k z kind x y o number (machine_of m) e) counts
+      (subst (λ z. StepRefused z (fin.keys u) k (counted_bytes now) kind x y o number (machine_of m) e) (setting_same image) (d image number)) in
+      let f : StepFails ctx n (fin.keys u) k t x y o (machine_of m) e = subst (λ z. StepFails ctx n (fin.keys u) k z x y o (machine_of m) e) typed b in
       let p : k ≡ picked_at schedule place (machine_of m) = λ j. is j % counted (sym ready_counted j) in
-      inr (some_ready, subst (λ z. StepFails ctx (whole.machine_ids (machine_of m)) z t x y o (machine_of m) e) p (fails_held u m exact ctx k t x y o e f))
+      inr (some_ready, subst (λ z. StepFails ctx n (whole.machine_ids (machine_of m)) z t x y o (machine_of m) e) p (fails_held u m exact ctx k t x y o n e f))
 
   -- whether the source reads in it
   pub reads_same : reads_at (phase_of m.phase) (picked_at schedule place (machine_of m)) ≡ reads_at (phase_of m.phase) (pick % counted (machine_ready u m))

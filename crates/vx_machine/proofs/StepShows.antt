@@ -1,11 +1,11 @@
 -- The source's act is a step of the machine, and so is each step of the root.
-use Rattle.std.proofs.Common.{◌≡◌, ℕ, zero, suc, ◌+◌, true, List, [], ◌∷◌, Option, Some, None, option_map, refl, sym, ap, subst, ◌∙◌, arith}
+use Rattle.std.proofs.Common.{◌≡◌, ℕ, zero, suc, ◌+◌, Bool, true, List, [], ◌∷◌, inr, Option, Some, None, option_map, refl, sym, ap, subst, ◌∙◌, arith}
 use Rattle.vx_model.specs.Ty.{Ty}
 use Rattle.vx_model.specs.ChunkData.{ChunkData}
 use Rattle.vx_tasks.specs.Run.{nth}
 use Rattle.vx_order.specs.Outlet.{Outlet}
 use Rattle.vx_order.specs.Answers.{IsPast, IsShared}
-use Rattle.vx_plan.specs.PlanData.{Setting}
+use Rattle.vx_plan.specs.PlanData.{Setting, Pair, What}
 use Rattle.vx_write_answer.specs.declared.step.ActionKind.{ActionKind}
 use Rattle.vx_write_answer.specs.declared.error.WriteError.{WriteError}
 use Rattle.vx_write_answer.specs.declared.error.WriteError.TheVariants.{OutOfMemory}
@@ -15,11 +15,12 @@ use Rattle.vx_machine_view.specs.Moves.{Step, steps}
 use Rattle.vx_machine_view.specs.Machine as whole
 use Rattle.vx_machine_view.specs.Places.{one_if}
 use Rattle.vx_machine_view.proofs.Placing.{source_place, root_place}
-use Rattle.vx_machine_tasks.specs.Acting.{Behind}
+use Rattle.vx_machine_nodes.specs.Acting.{Behind}
 use Rattle.vx_machine.specs.SourceActs.{AsksAt, IsElsewhere, TellsNothing, TellsRefused, whole_at, SourceActed, SourceRefused}
 use Rattle.vx_machine_tasks.specs.Steps.{TaskStepped, TaskRefused}
 use Rattle.vx_machine.specs.Steps.{WholeStepped, StepRefused}
-use Rattle.vx_machine_tasks.proofs.RefusalSteps.{any_past}
+use Rattle.vx_machine_nodes.specs.Outcome.{Refused, none_past}
+use Rattle.vx_machine_nodes.proofs.RefusalSteps.{wider}
 
 pub asks_not : (p : whole.Phase) (k : ℕ) → AsksAt p k unasked
 asks_not (whole.reading e) zero = tt
@@ -41,6 +42,10 @@ tells_memory (whole.reading d) (suc k) t before now h = (h, tt)
 tells_memory (whole.giving d i) k t before now h = (h, tt)
 tells_memory whole.closing k t before now h = (h, tt)
 tells_memory whole.finished k t before now h = (h, tt)
+
+-- whatever numbers of segments don't fit, and whatever else is counted
+any_count : (r : Option What) (b : Bool) (k : ℕ) (ns is : List ℕ) (w : List Pair) (past : ℕ → Type 0) (stopped : Type 0) (hs : List ℕ) (e : WriteError) → Refused r b ns is w none_past ⊥ hs e → Refused r b (k ∷ ns) is w past stopped hs e
+any_count r b k ns is w past stopped hs = wider w hs r r b b ns (k ∷ ns) is is none_past past ⊥ stopped (λ x h. h) (λ h. h) (λ n h. inr h) (λ n h. h) (λ n h. absurd h) (λ h. absurd h)
 
 -- what never changes of the source's steps
 record Fixed (w : whole.WholeStep) : Type 0 where
@@ -81,8 +86,8 @@ module _ (s : Setting) (all : List (List ℕ)) (number : ℕ) (t : Ty) (before :
           outlet = subst (λ ps. Behind before number ps after) (sym f.silent) o;
         }
 
-    pub source_refused : (e : WriteError) → SourceRefused t to_come to_come_then phase root e → StepRefused s all picked t to_come to_come_then before number (whole_at phase root) e
-    source_refused e w =
+    pub source_refused : (counts : ℕ) (e : WriteError) → SourceRefused t to_come to_come_then phase root e → StepRefused s all picked counts t to_come to_come_then before number (whole_at phase root) e
+    source_refused counts e w =
         let q : whole.WholeStep = whole.source_step w.told phase root in
         record {
           told = w.told;
@@ -90,12 +95,12 @@ module _ (s : Setting) (all : List (List ℕ)) (number : ℕ) (t : Ty) (before :
           place = source_at w.told;
           asks = subst (λ k. AsksAt phase k w.told) (sym first) w.asks;
           tells = subst (λ k. TellsRefused phase k t to_come to_come_then e w.told) (sym first) w.tells;
-          cause = any_past q.refusal q.misfit q.numbers q.indices q.wrote (IsPast before) (IsShared before) q.joined e w.cause;
+          cause = any_count q.refusal q.misfit (counts + q.raises) q.numbers q.indices q.wrote (IsPast before) (IsShared before) q.joined e w.cause;
         }
 
     -- memory ran out before it
-    pub source_memory : to_come_then ≡ to_come → StepRefused s all picked t to_come to_come_then before number (whole_at phase root) OutOfMemory
-    source_memory h = record { told = unasked; step = whole.source_step unasked phase root; place = source_at unasked; asks = asks_not phase picked; tells = tells_memory phase picked t to_come to_come_then h; cause = tt }
+    pub source_memory : (counts : ℕ) → to_come_then ≡ to_come → StepRefused s all picked counts t to_come to_come_then before number (whole_at phase root) OutOfMemory
+    source_memory counts h = record { told = unasked; step = whole.source_step unasked phase root; place = source_at unasked; asks = asks_not phase picked; tells = tells_memory phase picked t to_come to_come_then h; cause = tt }
 
   -- one of the root, or below it
   module _ (picked j : ℕ) (is : picked ≡ one_if (whole.may_source phase root) + j) (to_come to_come_then : Option (List ChunkData)) (silent : to_come_then ≡ to_come) where
@@ -122,8 +127,8 @@ module _ (s : Setting) (all : List (List ℕ)) (number : ℕ) (t : Ty) (before :
       outlet = w.outlet;
     }
 
-    pub root_refused : (e : WriteError) → IsElsewhere e → TaskRefused s all j before number root e → StepRefused s all picked t to_come to_come_then before number (whole_at phase root) e
-    root_refused e elsewhere w = record {
+    pub root_refused : (counts : ℕ) (e : WriteError) → IsElsewhere e → TaskRefused s all j counts before number root e → StepRefused s all picked counts t to_come to_come_then before number (whole_at phase root) e
+    root_refused counts e elsewhere w = record {
       told = unasked;
       step = whole.in_root phase w.step;
       place = root_at w.step w.place;

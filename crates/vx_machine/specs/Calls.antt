@@ -7,7 +7,7 @@ use Rattle.vx_write_answer.specs.declared.step.ActionKind.TheVariants as actions
 use Rattle.vx_write_answer.specs.declared.step.Step.{Step}
 use Rattle.vx_write_answer.specs.declared.error.WriteError.{WriteError}
 use Rattle.vx_write_answer.specs.declared.error.WriteError.TheVariants.{SourceFault, BatchType}
-use Rattle.vx_machine_tasks.specs.Calls.{reads_action, append_action, CalledTimes, MaybeCalled}
+use Rattle.vx_machine_nodes.specs.Calls.{reads_action, append_action, CalledTimes, MaybeCalled}
 
 -- ---- how often
 

@@ -7,10 +7,10 @@ pub mod SourceActs
 pub mod Steps
 pub mod Run
 pub mod Starting
-pub use Rattle.vx_machine_tasks.specs.Acting
-pub use Rattle.vx_machine_tasks.specs.Calls as TaskCalls
-pub use Rattle.vx_machine_tasks.specs.Context
-pub use Rattle.vx_machine_tasks.specs.Outcome
+pub use Rattle.vx_machine_nodes.specs.Acting
+pub use Rattle.vx_machine_nodes.specs.Calls as TaskCalls
+pub use Rattle.vx_machine_nodes.specs.Context
+pub use Rattle.vx_machine_nodes.specs.Outcome
 pub use Rattle.vx_machine_tasks.specs.Ready
 pub use Rattle.vx_machine_tasks.specs.Starting as TaskStarting
-pub use Rattle.vx_machine_tasks.specs.View as TaskView
+pub use Rattle.vx_machine_nodes.specs.View as TaskView

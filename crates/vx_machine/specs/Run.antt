@@ -16,7 +16,7 @@ use Rattle.vx_machine_view.specs.Machine.{Machine, is_finished, machine_ids}
 use Rattle.vx_machine_view.specs.Places.{whole_ready}
 use Rattle.vx_machine.specs.Calls.{reads_in, reads_at}
 use Rattle.vx_machine_tasks.specs.Ready.{counted}
-use Rattle.vx_machine_tasks.specs.Outcome.{Kept}
+use Rattle.vx_machine_nodes.specs.Outcome.{Kept}
 use Rattle.vx_machine.specs.Steps.{StepDone, StepFails}
 
 -- where it stands: the machine, what the source still tells, and what the order tells of its sink

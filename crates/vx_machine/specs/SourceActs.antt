@@ -11,7 +11,7 @@ use Rattle.vx_write_answer.specs.declared.error.WriteError.TheVariants.{SourceFa
 use Rattle.vx_machine_promises.specs.Write.{Answer, unasked, came, over}
 use Rattle.vx_machine_view.specs.State.{Tasks}
 use Rattle.vx_machine_view.specs.Machine.{Phase, reading, giving, closing, finished, Machine, source_step}
-use Rattle.vx_machine_tasks.specs.Outcome.{action_of, AllFit, Refused, none_past}
+use Rattle.vx_machine_nodes.specs.Outcome.{action_of, AllFit, Refused, none_past}
 use Rattle.vx_machine.specs.Source.{ReadsNone, SourceMay, NoNumber}
 
 -- what it tells, where it is asked: a whole batch of the type, or the end

@@ -8,7 +8,7 @@ use Rattle.vx_machine.specs.declared.source.Phase.{Phase}
 use Rattle.vx_machine.specs.declared.source.Phase.TheVariants.{Reading, Giving, Closing, Finished}
 use Rattle.vx_machine.specs.declared.machine.Machine.{Machine}
 use Rattle.vx_machine_tasks.specs.declared.task.Task.{Task}
-use Rattle.vx_machine_tasks.specs.Causes.{StartMay}
+use Rattle.vx_machine_nodes.specs.Causes.{StartMay}
 use Rattle.vx_machine_tasks.specs.Ledger.{task_reserved}
 use Rattle.vx_machine_tasks.specs.Stocks.{task_stock}
 use Rattle.vx_machine.specs.Source.{phase_stock}

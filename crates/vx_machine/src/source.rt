@@ -18,7 +18,8 @@ ghost use Rattle.vx_machine.specs.View.{phase_of};
 
 use vx_chunk::Chunk;
 use vx_machine_ids::{give_up_id, give_up_pointer, take_id};
-use vx_machine_tasks::{Item, Task, give_up_item, has_type};
+use vx_machine_nodes::{Item, give_up_item, has_type};
+use vx_machine_tasks::Task;
 use vx_order::{Order, OrderError};
 use vx_sequence::{SequenceId, SequencePointer};
 use vx_sink::BatchSource;

@@ -1,13 +1,15 @@
 -- A step appends one pair at most, and then it isn't refused.
-use Rattle.std.proofs.Common.{◌≡◌, ◌⊎◌, ◌&&◌, ◌==◌, ◌∷◌, ◌++◌, ℕ, Bool, true, false, cond, List, map, refl, sym, subst, inl, inr, Some, None, Option, []}
-use Rattle.vx_model.specs.Ty.{Ty, list}
+use Rattle.std.proofs.Common.{◌≡◌, ◌⊎◌, ◌&&◌, ◌==◌, ◌∷◌, ◌++◌, ℕ, Bool, true, false, cond, not, List, map, refl, sym, subst, inl, inr, Some, None, Option, []}
+use Rattle.vx_model.specs.Ty.{Ty, list, ty_eq}
+use Rattle.vx_model.specs.ChunkData.{piece_type}
 use Rattle.vx_path.specs.Lists.{In}
 use Rattle.vx_path.proofs.Lists.{in_cases, from_map}
 use Rattle.vx_tasks.specs.Run.{nth}
 use Rattle.vx_plan.specs.PlanData.{Setting, Item, Pair, What}
+use Rattle.vx_machine_turns.specs.Grouped.{Grouper, block_grouper, byte_grouper}
 use Rattle.vx_machine_promises.specs.Write.{Answer, unasked, came, over}
-use Rattle.vx_machine_view.specs.State.{Next, put, append, shut_kids, join_kids, Mind, no_chunk, one_chunk, by_chunk, by_column, by_list, ending, made, Desk, Tasks, no_tasks, task_then}
-use Rattle.vx_machine_view.specs.Acts.{count, column_count, take_chunk, end_columns, end_lists, take_end, do_take, do_act}
+use Rattle.vx_machine_view.specs.State.{Next, put, hand_on, append, shut_kids, join_kids, Mind, no_chunk, one_chunk, by_chunk, by_column, by_list, by_block, by_size, as_one, ending, passing, made, Desk, Tasks, no_tasks, task_then}
+use Rattle.vx_machine_view.specs.Acts.{count, column_count, of_length, take_grouped, take_chunk, end_columns, end_lists, end_grouped, take_end, do_take, do_act}
 use Rattle.vx_machine_view.specs.Moves.{Step, may_act, own_step, in_kids, in_rest, steps}
 use Rattle.vx_machine_view.specs.Machine.{Phase, reading, giving, closing, finished, Machine, may_source, WholeStep, source_step, in_root, whole_steps}
 use Rattle.vx_machine_runs.proofs.Misfits.{at_place}
@@ -24,13 +26,26 @@ module _ (s : Setting) (next : ℕ) where
   lists_few true t rows c ks = inl refl
   lists_few false t rows c ks = inl refl
 
+  grouped_end : {S : Type 0} (g : Grouper S) (x : S) (j : Option Item) (c : Desk) (ks : Tasks) → Few (end_grouped g x j c ks).wrote (end_grouped g x j c ks).refusal
+  grouped_end g x None c ks = inl refl
+  grouped_end g x (Some j) c ks = inl refl
+
+  grouped_take : {S : Type 0} (g : Grouper S) (after : S → Option Item → ℕ → Mind) (b : Bool) (x : S) (j : Option Item) (rows : ℕ) (c : Desk) (ks : Tasks) (i : Item) (xs : List Item)
+      → Few (take_grouped g after b x j rows c ks i xs).wrote (take_grouped g after b x j rows c ks i xs).refusal
+  grouped_take g after b x None rows c ks i xs = inl refl
+  grouped_take g after b x (Some j) rows c ks i xs = inl refl
+
   end_few : (c : Desk) (ks : Tasks) (mind : Mind) → Few (take_end c ks mind).wrote (take_end c ks mind).refusal
   end_few c ks (no_chunk o t) = inl refl
   end_few c ks (one_chunk x) = inl refl
   end_few c ks (by_chunk m t f e rows) = inl refl
   end_few c ks (by_column t rows) = columns_few ((count ks == 0) && (0 == column_count t)) t rows c ks
   end_few c ks (by_list t n first from rows) = lists_few first (list t n) rows c ks
+  end_few c ks (by_block len minimum t x j rows) = grouped_end (block_grouper (of_length len minimum) t) x j c ks
+  end_few c ks (by_size size x j rows) = grouped_end (byte_grouper size) x j c ks
+  end_few c ks (as_one t x rows) = inl refl
   end_few c ks ending = inl refl
+  end_few c ks passing = inl refl
   end_few c ks (made l) = inl refl
 
   take_few : (c : Desk) (ks : Tasks) (i : Item) (xs : List Item) (mind : Mind) → Few (take_chunk s c ks i xs mind).wrote (take_chunk s c ks i xs mind).refusal
@@ -39,7 +54,11 @@ module _ (s : Setting) (next : ℕ) where
   take_few c ks i xs (by_chunk m t f e rows) = inl refl
   take_few c ks i xs (by_column t rows) = inl refl
   take_few c ks i xs (by_list t n first from rows) = inl refl
+  take_few c ks i xs (by_block len minimum t x j rows) = grouped_take (block_grouper (of_length len minimum) t) (by_block len minimum t) (not (ty_eq (piece_type i.1) t)) x j rows c ks i xs
+  take_few c ks i xs (by_size size x j rows) = grouped_take (byte_grouper size) (by_size size) false x j rows c ks i xs
+  take_few c ks i xs (as_one t x rows) = inl refl
   take_few c ks i xs ending = inl refl
+  take_few c ks i xs passing = inl refl
   take_few c ks i xs (made l) = inl refl
 
   taken_few : (c : Desk) (ks : Tasks) (xs : List Item) → Few (do_take s c ks xs).wrote (do_take s c ks xs).refusal
@@ -49,6 +68,7 @@ module _ (s : Setting) (next : ℕ) where
   act_few : (c : Desk) (ks : Tasks) (todo : List Next) → Few (do_act s next c ks todo).wrote (do_act s next c ks todo).refusal
   act_few c ks [] = taken_few c ks c.inbox
   act_few c ks (put j i ∷ todo) = inl refl
+  act_few c ks (hand_on n i ∷ todo) = inl refl
   act_few c ks (append x ∷ todo) = inr ((x.id, x.bytes), refl, refl)
   act_few c ks (shut_kids ∷ todo) = inl refl
   act_few c ks (join_kids f ∷ todo) = inl refl

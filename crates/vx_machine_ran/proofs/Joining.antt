@@ -1,14 +1,16 @@
 -- What a step joins, it joins in a join.
-use Rattle.std.proofs.Common.{◌≡◌, ◌⊎◌, ◌&&◌, ◌==◌, ◌∷◌, ◌++◌, ℕ, Bool, true, false, cond, List, map, refl, sym, subst, inl, inr, Some, []}
-use Rattle.vx_model.specs.Ty.{Ty, list}
+use Rattle.std.proofs.Common.{◌≡◌, ◌⊎◌, ◌&&◌, ◌==◌, ◌∷◌, ◌++◌, ℕ, Bool, true, false, cond, not, List, map, refl, sym, subst, inl, inr, Option, Some, None, []}
+use Rattle.vx_model.specs.Ty.{Ty, list, ty_eq}
+use Rattle.vx_model.specs.ChunkData.{piece_type}
 use Rattle.vx_path.specs.Lists.{In}
 use Rattle.vx_path.proofs.Lists.{in_cases, from_map}
 use Rattle.vx_tasks.specs.Task.{Kind, Join}
 use Rattle.vx_tasks.specs.Run.{nth}
 use Rattle.vx_plan.specs.PlanData.{Setting, Item}
+use Rattle.vx_machine_turns.specs.Grouped.{Grouper, block_grouper, byte_grouper}
 use Rattle.vx_machine_promises.specs.Write.{Answer, unasked, came, over}
-use Rattle.vx_machine_view.specs.State.{Next, put, append, shut_kids, join_kids, Mind, by_column, by_list, made, Desk, Tasks, no_tasks, task_then}
-use Rattle.vx_machine_view.specs.Acts.{count, column_count, take_chunk, end_columns, end_lists, take_end, do_take, do_act}
+use Rattle.vx_machine_view.specs.State.{Next, put, hand_on, append, shut_kids, join_kids, Mind, by_column, by_list, by_block, by_size, made, Desk, Tasks, no_tasks, task_then}
+use Rattle.vx_machine_view.specs.Acts.{count, column_count, of_length, take_grouped, take_chunk, end_columns, end_lists, end_grouped, take_end, do_take, do_act}
 use Rattle.vx_machine_view.specs.Moves.{Step, may_act, own_step, in_kids, in_rest, steps}
 use Rattle.vx_machine_view.specs.Machine.{Phase, reading, giving, closing, finished, Machine, may_source, WholeStep, source_step, in_root, whole_steps}
 use Rattle.vx_machine_runs.proofs.Misfits.{at_place}
@@ -26,12 +28,25 @@ module _ (s : Setting) (next : ℕ) where
   lists_join true t rows c ks = λ n i. absurd i
   lists_join false t rows c ks = λ n i. absurd i
 
+  grouped_end : {S : Type 0} (g : Grouper S) (x : S) (j : Option Item) (c : Desk) (ks : Tasks) → Joins (end_grouped g x j c ks).kind (end_grouped g x j c ks).joined
+  grouped_end g x None c ks = λ n k. absurd k
+  grouped_end g x (Some j) c ks = λ n k. absurd k
+
+  grouped_take : {S : Type 0} (g : Grouper S) (after : S → Option Item → ℕ → Mind) (b : Bool) (x : S) (j : Option Item) (rows : ℕ) (c : Desk) (ks : Tasks) (i : Item) (xs : List Item)
+      → Joins (take_grouped g after b x j rows c ks i xs).kind (take_grouped g after b x j rows c ks i xs).joined
+  grouped_take g after b x None rows c ks i xs = λ n k. absurd k
+  grouped_take g after b x (Some j) rows c ks i xs = λ n k. absurd k
+
   end_join : (c : Desk) (ks : Tasks) (mind : Mind) → Joins (take_end c ks mind).kind (take_end c ks mind).joined
   end_join c ks (by_column t rows) = columns_join ((count ks == 0) && (0 == column_count t)) t rows c ks
   end_join c ks (by_list t n first from rows) = lists_join first (list t n) rows c ks
+  end_join c ks (by_block len minimum t x j rows) = grouped_end (block_grouper (of_length len minimum) t) x j c ks
+  end_join c ks (by_size size x j rows) = grouped_end (byte_grouper size) x j c ks
   end_join c ks mind = λ n i. absurd i
 
   take_join : (c : Desk) (ks : Tasks) (i : Item) (xs : List Item) (mind : Mind) → Joins (take_chunk s c ks i xs mind).kind (take_chunk s c ks i xs mind).joined
+  take_join c ks i xs (by_block len minimum t x j rows) = grouped_take (block_grouper (of_length len minimum) t) (by_block len minimum t) (not (ty_eq (piece_type i.1) t)) x j rows c ks i xs
+  take_join c ks i xs (by_size size x j rows) = grouped_take (byte_grouper size) (by_size size) false x j rows c ks i xs
   take_join c ks i xs (made l) = λ n j. absurd j
   take_join c ks i xs mind = λ n j. absurd j
 
@@ -42,6 +57,7 @@ module _ (s : Setting) (next : ℕ) where
   act_join : (c : Desk) (ks : Tasks) (todo : List Next) → Joins (do_act s next c ks todo).kind (do_act s next c ks todo).joined
   act_join c ks [] = taken_join c ks c.inbox
   act_join c ks (put j i ∷ todo) = λ n x. absurd x
+  act_join c ks (hand_on n i ∷ todo) = λ m x. absurd x
   act_join c ks (append x ∷ todo) = λ n i. absurd i
   act_join c ks (shut_kids ∷ todo) = λ n i. absurd i
   act_join c ks (join_kids f ∷ todo) = λ n i. refl

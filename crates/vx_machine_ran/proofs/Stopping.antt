@@ -371,7 +371,7 @@ module _ (ctx : LayoutWriterContext) (image : ℕ → ChunkData → ChunkData) (
     -- where it reads and nothing more of the type comes, that is the act
     read_there : (w : WholeStep) (d : Eof) → k ≡ 0 → nth (ready_steps h first x.history unasked x.machine) 0 ≡ Some w → x.machine.phase ≡ reading d → w ≡ source_step unasked (reading d) x.machine.root → (e : WriteError)
         → ((m : TreeMove) (n : ℕ) → IsRead m.act x.heard → IsOwn m n x.heard next e) → There x.taken x.heard e
-    read_there w d z at p is e whose = inr (n.0, whose n.0.move n.0.counts (own_read w n.0.move n.1.1 y.outlet mine x.heard next d x.machine.root is (unheard d p)))
+    read_there w d z at p is e whose = inr (n.0, whose n.0.move n.0.counts (own_read w n.0.move n.2 y.outlet mine x.heard next d x.machine.root is (unheard d p)))
       where
         asks : Asks t (none_later x.heard) x.machine.phase k unasked
         asks = subst (λ v. Asks t (none_later x.heard) v k unasked) (sym p) (subst (λ v. Asks t (none_later x.heard) (reading d) v unasked) (sym z) (refl, unheard d p))
@@ -464,8 +464,11 @@ module _ (ctx : LayoutWriterContext) (image : ℕ → ChunkData → ChunkData) (
             by_answer (inr (late, one)) = inr (late, (let a = reads in let b = answers in omega (arith, a, b, one)))
 
         there : IsElsewhere e → There taken heard e
-        there far = inr (found.0, subst (λ z. IsOwn found.0.move z heard next e) (sym (found.1.0 ∙ counts_are)) (is_own w found.0.move found.1.1 y.outlet mine heard next fits
-            (whole_join (setting_of ctx image) (machine_ids x.machine) (first + length x.history) told x.machine k w at) last counts e far cause))
+        there far = inr (
+          found.0,
+          subst (λ z. IsOwn found.0.move z heard next e) (sym (found.1 ∙ counts_are)) (is_own w found.0.move found.2 y.outlet mine heard next fits
+              (whole_join (setting_of ctx image) (machine_ids x.machine) (first + length x.history) told x.machine k w at) last counts e far cause),
+        )
           where
             found : (a : NextAct (setting_of ctx image) way t (is_marked ctx) (counted_bytes ctx) taken heard schedule steps) × (a.counts ≡ tracked h x) × SameAct w a.move
             found = next_act h first o.notes x law u schedule steps o.shown told once k w at (asks_so h first x told k w (none_later heard) chosen) pick_at

@@ -7,10 +7,11 @@ use Rattle.vx_machine_ids.proofs.Stocks.{stock_is, both_none, none_both, both_as
 use Rattle.vx_machine_ids.proofs.MoveLaws.{moved_none, moved_then, moved_beside, moved_behind, moved_drop, owned_left, owned_right, owned_now, owned_as, moved_as}
 use Rattle.vx_machine_ids.proofs.Lists.{set_more, set_same}
 use Rattle.vx_write_answer.specs.declared.error.WriteError.{WriteError}
-use Rattle.vx_machine_tasks.specs.Stocks.{item_stock, items_stock, due_stock, dues_stock, local_stock, task_stock, tasks_stock}
-use Rattle.vx_machine_tasks.specs.declared.item.Due.{Due}
-use Rattle.vx_machine_tasks.specs.declared.item.Item.{Item}
-use Rattle.vx_machine_tasks.specs.declared.node.Local.{Local}
+use Rattle.vx_machine_nodes.specs.Stocks.{item_stock, items_stock, due_stock, dues_stock, local_stock}
+use Rattle.vx_machine_tasks.specs.Stocks.{task_stock, tasks_stock}
+use Rattle.vx_machine_nodes.specs.declared.item.Due.{Due}
+use Rattle.vx_machine_nodes.specs.declared.item.Item.{Item}
+use Rattle.vx_machine_nodes.specs.declared.node.Local.{Local}
 use Rattle.vx_machine_tasks.specs.declared.task.Task.{Task}
 
 -- nothing moves, and what is held is said in other words
@@ -143,6 +144,15 @@ module _ (u : Active) (l d k i : Stock) (o : Owned u (both (both (both l d) k) i
   pub take_flat_moved : (v : Active) (t : Stock) → Moved u v (both l i) t → Moved u v (both (both (both l d) k) i) (both (both t d) k)
   take_flat_moved v t m = moved_as u v (both (both l i) (both d k)) (both (both (both l d) k) i) (both t (both d k)) (both (both t d) k) (sym flat_is) (sym (both_assoc t d k))
       (moved_beside u v (both l i) t (both d k) flat_owned m)
+
+  -- by a node that regroups
+  pub take_group_owned : Owned u (both (both l d) i)
+  take_group_owned = owned_left u (both (both l d) i) k (owned_as u (both (both (both l d) k) i) (both (both (both l d) i) k) (both_turn (both l d) k i) o)
+
+  pub take_group_moved : (v : Active) (r : Stock) → Moved u v (both (both l d) i) r → Moved u v (both (both (both l d) k) i) (both r k)
+  take_group_moved v r m =
+      moved_as u v (both (both (both l d) i) k) (both (both (both l d) k) i) (both r k) (both r k) (sym (both_turn (both l d) k i)) refl
+      (moved_beside u v (both (both l d) i) r k (owned_as u (both (both (both l d) k) i) (both (both (both l d) i) k) (both_turn (both l d) k i) o) m)
 
 -- ---- the end of a stream
 

@@ -4,7 +4,7 @@ use Rattle.std.proofs.lemmas.Result.{IfErr-weaker}
 use Rattle.vx_model.specs.declared.encoding.EncodingId.{EncodingId}
 use Rattle.vx_layout_tree.specs.declared.layout.Layout.{Layout}
 use Rattle.vx_layout_tree.specs.LayoutView.{layout_data}
-use Rattle.vx_order.specs.Outlet.{Outlet, own, shared}
+use Rattle.vx_order.specs.Outlet.{Outlet}
 use Rattle.vx_order.specs.Answers.{IsPast, IsShared}
 use Rattle.vx_machine_view.specs.State.{Next, put, hand_on, append, shut_kids, join_kids, Mind, ending, made, Desk, Tasks}
 use Rattle.vx_machine_view.specs.Acts.{give, shut_all, layouts_in, folded, joined_rows, now, do_next}
@@ -12,29 +12,25 @@ use Rattle.vx_write_answer.specs.declared.step.ActionKind.{ActionKind}
 use Rattle.vx_write_answer.specs.declared.step.ActionKind.TheVariants as actions
 use Rattle.vx_write_answer.specs.declared.error.WriteError.{WriteError}
 use Rattle.vx_write_answer.specs.declared.error.WriteError.TheVariants.{OutOfMemory}
-use Rattle.vx_machine_tasks.specs.declared.item.Due.{Due}
-use Rattle.vx_machine_tasks.specs.declared.item.Due.TheVariants as dues
-use Rattle.vx_machine_tasks.specs.declared.item.Item.{Item}
-use Rattle.vx_machine_tasks.specs.declared.item.Stored.{Stored}
-use Rattle.vx_machine_tasks.specs.declared.node.Local.{Local}
-use Rattle.vx_machine_tasks.specs.declared.node.Local.TheVariants.{Made}
-use Rattle.vx_machine_tasks.specs.declared.node.Shape.{Shape}
+use Rattle.vx_machine_nodes.specs.declared.item.Due.{Due}
+use Rattle.vx_machine_nodes.specs.declared.item.Due.TheVariants as dues
+use Rattle.vx_machine_nodes.specs.declared.item.Item.{Item}
+use Rattle.vx_machine_nodes.specs.declared.item.Stored.{Stored}
+use Rattle.vx_machine_nodes.specs.declared.node.Local.{Local}
+use Rattle.vx_machine_nodes.specs.declared.node.Local.TheVariants.{Made}
+use Rattle.vx_machine_nodes.specs.declared.node.Shape.{Shape}
 use Rattle.vx_machine_tasks.specs.declared.task.Head.{Head}
 use Rattle.vx_machine_tasks.specs.declared.task.Task.{Task}
-use Rattle.vx_machine_tasks.specs.Acting.{ActRefused, AppendRefused, acted, ActDone, DueDone, DueRefused, JoinRefused, Acted}
-use Rattle.vx_machine_tasks.specs.Outcome.{Kept}
-use Rattle.vx_machine_tasks.specs.View.{item_of, stored_of, fold_of, mind_of, desk_of, row}
-use Rattle.vx_machine_tasks.proofs.Fitting.{none_fit}
-use Rattle.vx_machine_tasks.proofs.RefusalSteps.{any_past, memory_only}
+use Rattle.vx_machine_nodes.specs.Acting.{ActRefused, AppendRefused, acted, ActDone, JoinRefused}
+use Rattle.vx_machine_tasks.specs.Acting.{DueDone, DueRefused, Acted}
+use Rattle.vx_machine_nodes.specs.Outcome.{Kept}
+use Rattle.vx_machine_nodes.specs.View.{item_of, stored_of, fold_of, mind_of}
+use Rattle.vx_machine_tasks.specs.View.{desk_of, row}
+use Rattle.vx_machine_nodes.proofs.Fitting.{none_fit}
+use Rattle.vx_machine_nodes.proofs.RefusalSteps.{any_past, memory_only}
+use Rattle.vx_machine_nodes.proofs.WriteSteps.{kept_same}
 
 -- ---- what the sink is told
-
-kept_self : (o : Outlet) → Kept o o
-kept_self (own s) = (refl, refl, refl)
-kept_self (shared s) = (refl, refl, refl, refl, refl)
-
-pub kept_same : (o u : Outlet) → u ≡ o → Kept o u
-kept_same o u e = subst (λ z. Kept o z) (sym e) (kept_self o)
 
 pub on_ok : {A E P : Type 0} (r : Result A E) → P → OnOk r P
 on_ok (Ok x) p = p

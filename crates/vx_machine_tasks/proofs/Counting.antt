@@ -18,7 +18,8 @@ use Rattle.vx_machine_view.specs.Places.{one_if, ready_in as ready_steps}
 use Rattle.vx_machine_tasks.specs.Counting.{AllKnown}
 use Rattle.vx_machine_tasks.specs.declared.task.Head.{Head}
 use Rattle.vx_machine_tasks.specs.Ready.{ready_in, ready_among, counted}
-use Rattle.vx_machine_tasks.specs.View.{desk_of, todo_of, task_row, row}
+use Rattle.vx_machine_nodes.specs.View.{todo_of}
+use Rattle.vx_machine_tasks.specs.View.{desk_of, task_row, row}
 use Rattle.vx_machine_tasks.specs.declared.task.Task.{Task, out-Task}
 use Rattle.vx_machine_tasks.proofs.ReadyViews.{task_ready, kids_ready}
 use Rattle.vx_machine_tasks.proofs.ViewParts.{row_out, count_row}

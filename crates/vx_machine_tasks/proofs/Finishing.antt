@@ -1,18 +1,21 @@
 -- A task that has done all holds nothing, and has reserved nothing.
-use Rattle.std.proofs.Common.{◌≡◌, ℕ, zero, suc, ◌+◌, ◌≤◌, ◌&&◌, ◌==◌, true, false, List, [], ◌∷◌, map, length, inl, inr, ⊎_elim, ◌⊎◌, refl, ap, sym, ◌∙◌, arith}
+use Rattle.std.proofs.Common.{◌≡◌, ℕ, zero, suc, ◌+◌, ◌≤◌, ◌&&◌, ◌==◌, true, false, List, [], ◌∷◌, ◌++◌, map, length, length-append, inl, inr, ⊎_elim, ◌⊎◌, refl, ap, sym, ◌∙◌, arith}
 use Rattle.std.proofs.lemmas.Bool.{and_parts, true≢false, eqb-true}
 use Rattle.std.specs.VecDeque.{deque_len}
 use Rattle.vx_layout_tree.specs.declared.layout.Layout.{Layout}
 use Rattle.vx_machine_ids.specs.Stock.{Stock, none, both, all_stock}
-use Rattle.vx_machine_tasks.specs.Ledger.{dues_reserved, local_reserved, task_reserved, tasks_reserved}
+use Rattle.vx_machine_nodes.specs.Ledger.{dues_reserved, local_reserved}
+use Rattle.vx_machine_tasks.specs.Ledger.{task_reserved, tasks_reserved}
 use Rattle.vx_machine_tasks.specs.Sizes.{task_count, count_of_all}
-use Rattle.vx_machine_tasks.specs.Stocks.{local_stock, dues_stock, items_stock, task_stock, tasks_stock}
+use Rattle.vx_machine_nodes.specs.Stocks.{local_stock, dues_stock, items_stock}
+use Rattle.vx_machine_tasks.specs.Stocks.{task_stock, tasks_stock}
 use Rattle.vx_machine_tasks.specs.Ready.{no_others, has_layout, is_done}
-use Rattle.vx_machine_tasks.specs.declared.node.Local.{Local}
-use Rattle.vx_machine_tasks.specs.declared.node.Local.TheVariants.{Empty, Full, Chunked, Columns, Lists, Grouped, Over, Passing, Made}
+use Rattle.vx_machine_nodes.specs.declared.node.Local.{Local}
+use Rattle.vx_machine_nodes.specs.declared.node.Local.TheVariants.{Empty, Full, Chunked, Columns, Lists, Grouped, Over, Passing, Made}
 use Rattle.vx_machine_tasks.specs.declared.task.Task.{Task, out-Task}
 use Rattle.vx_machine_tasks.proofs.TaskParts.{task_stock_out, task_count_out}
-use Rattle.vx_machine_tasks.proofs.Readiness.{none_is, done_out}
+use Rattle.vx_machine_nodes.proofs.ListParts.{none_is}
+use Rattle.vx_machine_tasks.proofs.Readiness.{done_out}
 use Rattle.vx_machine_tasks.proofs.ReservedSteps.{task_reserved_out}
 
 -- the parts of a task that has done all
@@ -81,3 +84,23 @@ done_none t h = (none_upto (task_count t) t (omega arith) h).0
 
 pub done_unreserved : (t : Task) → is_done t ≡ true → task_reserved t ≡ 0
 done_unreserved t h = (none_upto (task_count t) t (omega arith) h).1
+
+-- ---- its only child
+
+made_passing : (x : Layout) → Made x ≡ Passing → ⊥
+made_passing x e = cc
+
+last_alone : (xs : List Task) (k j : Task) → xs ++ (k ∷ []) ≡ j ∷ [] → (xs ≡ []) × (k ≡ j)
+last_alone [] k j e = (refl, cc)
+last_alone (x ∷ xs) k j e = absurd (omega (arith, ap length e, length-append xs (k ∷ [])))
+
+-- the last child is the only one, and has done all
+pub only_child : (t k : Task) (xs : List Task) → is_done t ≡ true → (out-Task t).head.local ≡ Passing → (out-Task t).kids.items ≡ xs ++ (k ∷ [])
+    → (xs ≡ []) × (is_done k ≡ true) × ((out-Task t).kids.items ≡ k ∷ [])
+only_child t k xs h l e =
+    ⊎_elim
+    (λ z. absurd (made_passing z.0 (sym z.1 ∙ l)))
+    (λ z.
+    let a = last_alone xs k z.0 (sym e ∙ z.2) in
+    (a.0, ap is_done a.1 ∙ z.3, e ∙ ap (λ ys. ys ++ (k ∷ [])) a.0))
+    (there_cases (out-Task t).head.local (out-Task t).kids.items (done_parts t h).there)

@@ -9,8 +9,9 @@ use Rattle.vx_write_answer.specs.declared.step.ActionKind.TheVariants as actions
 use Rattle.vx_write_answer.specs.declared.error.WriteError.{WriteError}
 use Rattle.vx_machine_tasks.specs.declared.task.Head.{Head}
 use Rattle.vx_machine_tasks.specs.declared.task.Task.{Task}
-use Rattle.vx_machine_tasks.specs.Acting.{bare, named, Took, TakeRefused, TakeStopped, Ended, TakeDone}
-use Rattle.vx_machine_tasks.specs.Outcome.{action_of}
+use Rattle.vx_machine_nodes.specs.Acting.{bare, named, Took, TakeRefused, TakeStopped, Ended}
+use Rattle.vx_machine_tasks.specs.Acting.{TakeDone}
+use Rattle.vx_machine_nodes.specs.Outcome.{action_of}
 use Rattle.vx_machine_tasks.specs.View.{desk_of, row}
 
 module _ {S : Type 0} (g : Grouper S) (after : S → Option Piece → ℕ → Mind) (misfit : Bool) (x : S) (rows : ℕ) (c : Desk) (ks : Tasks) (i : Piece) (xs : List Piece) where

@@ -26,13 +26,13 @@ use Rattle.vx_layout_tree.proofs.KidSteps.{chunk_sum}
 use Rattle.vx_machine_view.specs.Acts.{column_count, columns_layout, folded, joined_rows}
 use Rattle.vx_write_answer.specs.declared.error.WriteError.{WriteError}
 use Rattle.vx_write_answer.specs.declared.error.WriteError.TheVariants.{TooLarge, OutOfMemory}
-use Rattle.vx_machine_tasks.specs.declared.kinds.ColumnsNode.{ColumnsNode}
-use Rattle.vx_machine_tasks.specs.declared.kinds.ListsNode.{ListsNode}
-use Rattle.vx_machine_tasks.specs.declared.node.Shape.{Shape}
-use Rattle.vx_machine_tasks.specs.declared.node.Shape.TheVariants as shapes
-use Rattle.vx_machine_tasks.specs.Acting.{JoinRefused}
-use Rattle.vx_machine_tasks.specs.View.{fold_of}
-use Rattle.vx_machine_tasks.proofs.RefusalSteps.{memory_only}
+use Rattle.vx_machine_nodes.specs.declared.kinds.ColumnsNode.{ColumnsNode}
+use Rattle.vx_machine_nodes.specs.declared.kinds.ListsNode.{ListsNode}
+use Rattle.vx_machine_nodes.specs.declared.node.Shape.{Shape}
+use Rattle.vx_machine_nodes.specs.declared.node.Shape.TheVariants as shapes
+use Rattle.vx_machine_nodes.specs.Acting.{JoinRefused}
+use Rattle.vx_machine_nodes.specs.View.{fold_of}
+use Rattle.vx_machine_nodes.proofs.RefusalSteps.{memory_only}
 
 never : (e : LayoutError) (l : LayoutData ℕ) (r : Result (LayoutData ℕ) Refusal) → r ≡ Ok l → e ≢ errors.OutOfMemory → Fails e r → ⊥
 never (errors.Grammar a) l r is n h = cc

@@ -9,22 +9,24 @@ use Rattle.vx_order.specs.Answers.{IsPast, IsShared}
 use Rattle.vx_sink.specs.declared.context.LayoutWriterContext.{LayoutWriterContext}
 use Rattle.vx_sink.specs.ContextView.{listed, counted}
 use Rattle.vx_machine_view.specs.State.{Next, Desk}
-use Rattle.vx_machine_view.specs.Acts.{Did, now, do_take, do_act}
+use Rattle.vx_machine_view.specs.Acts.{Did, now, do_next, take_end, do_take, do_act}
 use Rattle.vx_write_answer.specs.declared.step.ActionKind.{ActionKind}
 use Rattle.vx_write_answer.specs.declared.step.ActionKind.TheVariants as actions
 use Rattle.vx_write_answer.specs.declared.error.WriteError.{WriteError}
-use Rattle.vx_machine_tasks.specs.declared.item.Due.{Due}
-use Rattle.vx_machine_tasks.specs.declared.item.Item.{Item}
-use Rattle.vx_machine_tasks.specs.declared.node.Local.{Local}
+use Rattle.vx_machine_nodes.specs.declared.item.Due.{Due}
+use Rattle.vx_machine_nodes.specs.declared.item.Item.{Item}
+use Rattle.vx_machine_nodes.specs.declared.node.Local.{Local}
 use Rattle.vx_machine_tasks.specs.declared.task.Head.{Head}
 use Rattle.vx_machine_tasks.specs.declared.task.Task.{Task}
-use Rattle.vx_machine_tasks.specs.Acting.{ActStopped, DueDone, DueRefused, TakeStopped, ChunkTaken, ChunkStopped, EndTaken, EndRefused, TakeDone, NextTaken, NextUntaken, Acted, NextDone, NextRefused}
-use Rattle.vx_machine_tasks.specs.Context.{setting_of}
+use Rattle.vx_machine_nodes.specs.Acting.{ActStopped, TakeStopped, ChunkTaken, ChunkStopped, EndTaken, EndRefused}
+use Rattle.vx_machine_tasks.specs.Acting.{DueDone, DueRefused, TakeDone, NextTaken, NextUntaken, Acted, NextDone, NextRefused}
+use Rattle.vx_machine_nodes.specs.Context.{setting_of}
 use Rattle.vx_machine_tasks.specs.Ready.{Kid, is_over, may_now}
-use Rattle.vx_machine_tasks.specs.View.{item_of, items_of, next_of, todo_of, mind_of, desk_of, row}
+use Rattle.vx_machine_nodes.specs.View.{item_of, items_of, next_of, todo_of, mind_of}
+use Rattle.vx_machine_tasks.specs.View.{desk_of, row}
 use Rattle.vx_machine_tasks.proofs.ActShows.{act_shows, act_refused}
 use Rattle.vx_machine_tasks.proofs.Readiness.{may_none}
-use Rattle.vx_machine_tasks.proofs.RefusalSteps.{any_past, take_stops, act_stops}
+use Rattle.vx_machine_nodes.proofs.RefusalSteps.{any_past, take_stops, act_stops}
 use Rattle.vx_machine_tasks.proofs.TakeShows.{took_shows, took_stopped, ended_shows, end_fails, take_acts}
 use Rattle.vx_machine_tasks.proofs.ViewParts.{count_row}
 
@@ -61,7 +63,7 @@ module _ {A : Type 0} (ctx : LayoutWriterContext) (h : Head) (ks : List Task) wh
     end_refused n (Ok x) same f = tt
     end_refused n (Err e) same f = λ image.
         subst (λ xs. TakeStopped (counted ctx) (Takes ctx h ks xs image) e) (sym (is ∙ none))
-        (take_stops (counted ctx) _ e (end_fails (desk_of h) (row ks) e (mind_of h.local) (f (row ks) (count_row ks ∙ sym same))))
+        (take_stops (counted ctx) (take_end (desk_of h) (row ks) (mind_of h.local)) e (end_fails (desk_of h) (row ks) e (mind_of h.local) (f (row ks) (count_row ks ∙ sym same))))
 
 -- ---- of a block
 
@@ -79,7 +81,7 @@ module _ (ctx : LayoutWriterContext) (h : Head) (ks : List Task) (d : Due) (es :
   due_refused o (Ok a) f = tt
   due_refused o (Err e) f = λ image n.
       subst (λ zs. ActStopped (counted ctx) (do_act (setting_of ctx image) n (desk_of h) (row ks) (todo_of zs)) o e) (sym is)
-      (act_stops (counted ctx) _ o e (act_refused (listed ctx) n (desk_of h) (row ks) (next_of d) (todo_of es) o e (f n)))
+      (act_stops (counted ctx) (do_next (listed ctx) n (desk_of h) (row ks) (next_of d) (todo_of es)) o e (act_refused (listed ctx) n (desk_of h) (row ks) (next_of d) (todo_of es) o e (f n)))
 
 -- ---- where nothing is left of a block
 

@@ -1,8 +1,11 @@
 -- What is reserved and counted, over several calls and over the parts of a task.
-use Rattle.std.proofs.Common.{◌≡◌, ℕ, ◌+◌, ◌<◌, ◌≤◌, List, length, get_or, set, ap, arith}
+use Rattle.std.proofs.Common.{◌≡◌, ℕ, ◌+◌, ◌<◌, ◌≤◌, List, length, get_or, set, Result, Ok, Err, IfOk, refl, ap, arith}
 use Rattle.vx_sink.specs.declared.context.LayoutWriterContext.{LayoutWriterContext}
 use Rattle.vx_sink.specs.ContextView.{counted}
-use Rattle.vx_machine_tasks.specs.Ledger.{Paid, head_reserved, task_reserved, tasks_reserved}
+use Rattle.vx_write_answer.specs.declared.error.WriteError.{WriteError}
+use Rattle.vx_machine_nodes.specs.declared.node.Local.{Local}
+use Rattle.vx_machine_nodes.specs.Ledger.{Paid, ok_bytes, local_reserved}
+use Rattle.vx_machine_tasks.specs.Ledger.{head_reserved, task_reserved, tasks_reserved}
 use Rattle.vx_machine_tasks.specs.declared.task.Task.{Task, out-Task}
 use Rattle.vx_machine_tasks.specs.declared.task.Task.TheOpen.{Task-F}
 use Rattle.vx_machine_tasks.specs.declared.task.Task.TheViews.{roll-Task}
@@ -25,6 +28,11 @@ paid_within a b x y o h p = omega (arith, h, p)
 
 pub paid_as : (a b : LayoutWriterContext) (x y v w : ℕ) → x ≡ v → y ≡ w → Paid a b v w → Paid a b x y
 paid_as a b x y v w i j p = omega (arith, i, j, p)
+
+-- what is in mind has reserved nothing, or there was an error
+pub ok_none_reserved : (r : Result Local WriteError) → IfOk r (λ l. local_reserved l ≡ 0) → ok_bytes local_reserved r ≡ 0
+ok_none_reserved (Ok l) h = h
+ok_none_reserved (Err e) h = refl
 
 -- ---- over the parts of a task
 

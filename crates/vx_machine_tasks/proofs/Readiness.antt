@@ -13,18 +13,21 @@ use Rattle.vx_machine_ids.specs.Stock.{one, both}
 use Rattle.vx_machine_ids.specs.Balance.{Owned}
 use Rattle.vx_machine_ids.proofs.MoveLaws.{owned_left, owned_right}
 use Rattle.vx_machine_ids.proofs.Lists.{first_owned}
-use Rattle.vx_machine_tasks.specs.Stocks.{local_stock, dues_stock, due_stock, items_stock, head_stock}
+use Rattle.vx_machine_nodes.specs.Stocks.{local_stock, dues_stock, due_stock, items_stock}
+use Rattle.vx_machine_tasks.specs.Stocks.{head_stock}
 use Rattle.vx_machine_tasks.specs.Ready.{Kid, Seen, kid_of, kids_of, seen, seen_step, may_now, may_due, may_take, may_todo, least_at, room_at, room_in, all_made, all_true, is_made, made_step, made_of, has_layout, done_step, is_done, ready_in, ready_among, counted}
 use Rattle.vx_machine_tasks.specs.Sizes.{task_count, count_of_all}
-use Rattle.vx_machine_tasks.specs.declared.item.Due.{Due}
+use Rattle.vx_layout_tree.specs.declared.layout.Layout.{Layout}
+use Rattle.vx_machine_nodes.specs.declared.item.Due.{Due}
+use Rattle.vx_machine_nodes.specs.declared.node.Local.{Local}
+use Rattle.vx_machine_nodes.specs.declared.node.Local.TheVariants.{Empty, Full, Chunked, Columns, Lists, Grouped, Over, Passing, Made}
 use Rattle.vx_machine_tasks.specs.declared.task.Head.{Head}
 use Rattle.vx_machine_tasks.specs.declared.task.Task.{Task, out-Task}
 use Rattle.vx_machine_tasks.specs.declared.task.Task.TheFolds.{fold_out-Task}
 use Rattle.vx_machine_tasks.proofs.TaskParts.{task_count_out}
+use Rattle.vx_machine_nodes.proofs.ListParts.{none_is}
 
 -- ---- by the parts of a task
-
--- what is told of one that has done all, by its parts
 
 made_all : (ts : List Task) → all_true (map made_of ts) ≡ all_made (kids_of ts)
 made_all [] = refl
@@ -93,10 +96,6 @@ get_same (y ∷ ys) (suc i) x d h e = get_same ys i x d (omega (arith, h)) e
 pub front_is : {A : Type 0} (xs : List A) (x : A) → 0 < length xs → x ≡ get_or xs 0 x → xs ≡ x ∷ drop 1 xs
 front_is xs x h e = drop_is xs 0 x h e
 
-pub none_is : {A : Type 0} (xs : List A) → length xs ≡ 0 → xs ≡ []
-none_is [] h = refl
-none_is (y ∷ ys) h = absurd (omega (arith, h))
-
 and_false : (b : Bool) → (b && false) ≡ false
 and_false true = refl
 and_false false = refl
@@ -129,6 +128,39 @@ front_made (x ∷ xs) k h =
 -- without the last
 pub made_front : (all xs : List Task) (k : Task) → all ≡ xs ++ (k ∷ []) → all_made (kids_of all) ≡ true → all_made (kids_of xs) ≡ true
 made_front all xs k is h = front_made xs k (subst (λ z. all_made (kids_of z) ≡ true) is h)
+
+last_made : (xs : List Task) (k : Task) → all_made (kids_of (xs ++ (k ∷ []))) ≡ true → made_of k ≡ true
+last_made [] k h = (and_parts (made_of k) true h).0
+last_made (x ∷ xs) k h = last_made xs k (and_parts (kid_of x).made (all_made (kids_of (xs ++ (k ∷ [])))) h).1
+
+-- and the last
+pub made_popped : (all xs : List Task) (k : Task) → all ≡ xs ++ (k ∷ []) → all_made (kids_of all) ≡ true → made_of k ≡ true
+made_popped all xs k is h = last_made xs k (subst (λ z. all_made (kids_of z) ≡ true) is h)
+
+-- one that has done all has its layout, or its children's
+made_cases : (l : Local) (b c : Bool) → is_made l b c ≡ true → ((x : Layout) → l ≡ Made x → ⊥) → (l ≡ Passing → ⊥) → ⊥
+made_cases (Made x) b c h m p = m x refl
+made_cases Passing b c h m p = p refl
+made_cases (Empty n) b c h m p = true≢false (sym h)
+made_cases (Full s) b c h m p = true≢false (sym h)
+made_cases (Chunked n eof rows) b c h m p = true≢false (sym h)
+made_cases (Columns n rows) b c h m p = true≢false (sym h)
+made_cases (Lists n rows) b c h m p = true≢false (sym h)
+made_cases (Grouped n) b c h m p = true≢false (sym h)
+made_cases Over b c h m p = true≢false (sym h)
+
+pub not_made : (t : Task) → made_of t ≡ true → ((x : Layout) → (out-Task t).head.local ≡ Made x → ⊥) → ((out-Task t).head.local ≡ Passing → ⊥) → ⊥
+not_made t h m p = made_cases (out-Task t).head.local (deque_len (out-Task t).head.todo == 0) (all_made (kids_of (out-Task t).kids.items)) (sym (made_out t) ∙ h) m p
+
+-- and does, where they have done all
+pub made_passing : (t : Task) (b : Bool) → (out-Task t).head.local ≡ Passing → (deque_len (out-Task t).head.todo == 0) ≡ true → b ≡ all_made (kids_of (out-Task t).kids.items) → b ≡ made_of t
+made_passing t b e h k = k ∙ sym (made_out t ∙ (λ j. is_made (e j) (h j) (all_made (kids_of (out-Task t).kids.items))))
+
+pub made_kids : (t : Task) → made_of t ≡ true → (out-Task t).head.local ≡ Passing → all_made (kids_of (out-Task t).kids.items) ≡ true
+made_kids t h e =
+    let idle : Bool = deque_len (out-Task t).head.todo == 0 in
+    let below : Bool = all_made (kids_of (out-Task t).kids.items) in
+    (and_parts idle below (sym (ap (λ l. is_made l idle below) e) ∙ sym (made_out t) ∙ h)).1
 
 pub among_more : (u : Active) (xs : List Task) (i : ℕ) (x : Task) → i < length xs → x ≡ get_or xs i x
     → ready_among u (drop i xs) ≡ ready_in u x + ready_among u (drop (i + 1) xs)

@@ -21,21 +21,22 @@ use Rattle.vx_machine_view.specs.Acts.{count, column_count, layout_in, layouts_i
 use Rattle.vx_machine_view.specs.Moves as moves
 use Rattle.vx_machine_view.specs.Machine as whole
 use Rattle.vx_machine_view.specs.Places as places
-use Rattle.vx_machine_tasks.specs.declared.item.Item.{Item}
-use Rattle.vx_machine_tasks.specs.declared.item.Due.{Due}
-use Rattle.vx_machine_tasks.specs.declared.item.Due.TheVariants.{Put, HandOn, Append, Close, Join}
-use Rattle.vx_machine_tasks.specs.declared.node.Local.{Local}
-use Rattle.vx_machine_tasks.specs.declared.node.Local.TheVariants.{Empty, Full, Chunked, Columns, Lists, Grouped, Over, Passing, Made}
-use Rattle.vx_machine_tasks.specs.declared.node.Shape.{Shape}
-use Rattle.vx_machine_tasks.specs.declared.node.Shape.TheVariants as shapes
+use Rattle.vx_machine_nodes.specs.declared.item.Item.{Item}
+use Rattle.vx_machine_nodes.specs.declared.item.Due.{Due}
+use Rattle.vx_machine_nodes.specs.declared.item.Due.TheVariants.{Put, HandOn, Append, Close, Join}
+use Rattle.vx_machine_nodes.specs.declared.node.Local.{Local}
+use Rattle.vx_machine_nodes.specs.declared.node.Local.TheVariants.{Empty, Full, Chunked, Columns, Lists, Grouped, Over, Passing, Made}
+use Rattle.vx_machine_nodes.specs.declared.node.Shape.{Shape}
+use Rattle.vx_machine_nodes.specs.declared.node.Shape.TheVariants as shapes
 use Rattle.vx_machine_tasks.specs.declared.task.Head.{Head}
 use Rattle.vx_machine_tasks.specs.declared.task.Task.{Task, out-Task}
 use Rattle.vx_machine_tasks.specs.Ready.{made_of, no_others, has_layout, kid_of, kids_of, may_now, may_due, may_todo, room_at, all_made, can_join, is_made, is_over, ready_in, ready_among, counted, is_done}
 use Rattle.vx_machine_tasks.specs.Sizes.{task_count, count_of_all}
-use Rattle.vx_machine_tasks.specs.View.{item_of, items_of, fold_of, next_of, todo_of, mind_of, desk_of, task_row, row}
+use Rattle.vx_machine_nodes.specs.View.{item_of, items_of, fold_of, next_of, todo_of, mind_of}
+use Rattle.vx_machine_tasks.specs.View.{desk_of, task_row, row}
 use Rattle.vx_machine_tasks.proofs.TaskParts.{task_count_out}
 use Rattle.vx_machine_tasks.proofs.ViewParts.{row_out, count_row}
-use Rattle.vx_machine_tasks.specs.Regrouped.{mind_in}
+use Rattle.vx_machine_nodes.specs.Regrouped.{mind_in}
 use Rattle.vx_machine_tasks.proofs.Readiness.{ready_in_out, made_out, done_out}
 
 -- ---- whether a task may act

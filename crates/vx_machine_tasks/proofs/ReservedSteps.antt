@@ -10,22 +10,25 @@ use Rattle.vx_machine_turns.specs.Forms.{Form, Forms, flat_form, chunked_form, g
 use Rattle.vx_machine_view.specs.State.{no_tasks}
 use Rattle.vx_machine_view.specs.Start.{first_mind, first_kids, field_tasks}
 use Rattle.vx_machine_view.specs.Reserved.{next_reserved, mind_reserved, reserved_by}
-use Rattle.vx_machine_tasks.specs.declared.item.Due.{Due}
-use Rattle.vx_machine_tasks.specs.declared.item.Due.TheVariants.{Put, HandOn, Append, Close, Join}
-use Rattle.vx_machine_tasks.specs.declared.item.Item.{Item}
-use Rattle.vx_machine_tasks.specs.declared.node.Local.{Local}
-use Rattle.vx_machine_tasks.specs.declared.node.Local.TheVariants.{Empty, Full, Chunked, Columns, Lists, Grouped, Over, Passing, Made}
+use Rattle.vx_machine_nodes.specs.declared.item.Due.{Due}
+use Rattle.vx_machine_nodes.specs.declared.item.Due.TheVariants.{Put, HandOn, Append, Close, Join}
+use Rattle.vx_machine_nodes.specs.declared.item.Item.{Item}
+use Rattle.vx_machine_nodes.specs.declared.node.Local.{Local}
+use Rattle.vx_machine_nodes.specs.declared.node.Local.TheVariants.{Empty, Full, Chunked, Columns, Lists, Grouped, Over, Passing, Made}
 use Rattle.vx_machine_tasks.specs.declared.task.Head.{Head}
 use Rattle.vx_machine_tasks.specs.declared.task.Task.{Task, out-Task}
 use Rattle.vx_machine_tasks.specs.declared.task.Task.TheOpen.{Task-F}
 use Rattle.vx_machine_tasks.specs.declared.task.Task.TheViews.{roll-Task}
 use Rattle.vx_machine_tasks.specs.declared.task.Task.TheFolds.{fold_out-Task}
-use Rattle.vx_machine_tasks.specs.Ledger.{due_reserved, dues_reserved, local_reserved, head_reserved, step_reserved, task_reserved, tasks_reserved}
-use Rattle.vx_machine_tasks.specs.Regrouped.{sizes_in, mind_in}
-use Rattle.vx_machine_tasks.specs.Sizes.{sum_of, task_count, count_of_all}
+use Rattle.vx_machine_nodes.specs.Ledger.{dues_reserved, local_reserved}
+use Rattle.vx_machine_tasks.specs.Ledger.{head_reserved, step_reserved, task_reserved, tasks_reserved}
+use Rattle.vx_machine_nodes.specs.Regrouped.{sizes_in, mind_in}
+use Rattle.vx_machine_nodes.specs.Sizes.{sum_of}
+use Rattle.vx_machine_tasks.specs.Sizes.{task_count, count_of_all}
 use Rattle.vx_machine_tasks.specs.Starting.{Started}
-use Rattle.vx_machine_tasks.specs.View.{todo_of, mind_of, desk_of, task_row, row}
-use Rattle.vx_machine_tasks.proofs.GroupSizes.{sum_more, held_sum, held_push}
+use Rattle.vx_machine_nodes.specs.View.{todo_of, mind_of}
+use Rattle.vx_machine_tasks.specs.View.{desk_of, task_row, row}
+use Rattle.vx_machine_nodes.proofs.GroupSizes.{sum_more, held_sum, held_push}
 use Rattle.vx_machine_tasks.proofs.TaskParts.{out_roll, task_count_out}
 use Rattle.vx_machine_tasks.proofs.ViewParts.{row_out}
 
@@ -36,12 +39,6 @@ task_reserved_out = fold_out-Task ℕ step_reserved
 
 pub task_reserved_roll : (x : Task-F Task) → task_reserved (roll-Task x) ≡ head_reserved x.head + tasks_reserved x.kids.items
 task_reserved_roll x = task_reserved_out (roll-Task x) ∙ ap (λ (z : Task-F Task). head_reserved z.head + tasks_reserved z.kids.items) (out_roll x)
-
-pub dues_more : (xs ys : List Due) → dues_reserved (xs ++ ys) ≡ dues_reserved xs + dues_reserved ys
-dues_more xs ys = ap sum_of (map-append due_reserved xs ys) ∙ sum_more (map due_reserved xs) (map due_reserved ys)
-
-pub dues_push : (all xs : List Due) (d : Due) → all ≡ xs ++ (d ∷ []) → dues_reserved all ≡ dues_reserved xs + due_reserved d
-dues_push all xs d e = let r : dues_reserved (xs ++ (d ∷ [])) ≡ dues_reserved xs + (due_reserved d + 0) = dues_more xs (d ∷ []) in ap dues_reserved e ∙ omega (arith, r)
 
 pub tasks_more : (xs ys : List Task) → tasks_reserved (xs ++ ys) ≡ tasks_reserved xs + tasks_reserved ys
 tasks_more xs ys = ap sum_of (map-append task_reserved xs ys) ∙ sum_more (map task_reserved xs) (map task_reserved ys)

@@ -18,9 +18,11 @@ use Rattle.vx_machine_tasks.specs.declared.task.Task.{Task, out-Task}
 use Rattle.vx_write_answer.specs.declared.error.WriteError.{WriteError}
 use Rattle.vx_write_answer.specs.declared.error.WriteError.TheVariants.{SourceFault, SinkFault, CompressFault, BatchType, NotStruct, DuplicateField, ManyChunks, EmptyList, ZoneCut, ForbiddenAggregate, ForbiddenEncoding, TooLarge, OutOfMemory, Unbuilt, Stopped}
 use Rattle.vx_machine_tasks.specs.Starting.{Started, StartRefused, OneRefused, TooFar}
-use Rattle.vx_machine_tasks.specs.View.{form_at, mind_of, desk_of, task_row, row}
+use Rattle.vx_machine_nodes.specs.declared.node.Local.TheVariants.{Passing, Made}
+use Rattle.vx_machine_nodes.specs.View.{form_at, mind_of}
+use Rattle.vx_machine_tasks.specs.View.{desk_of, task_row, row}
 use Rattle.vx_machine_tasks.proofs.ViewParts.{row_out, row_push, count_row}
-use Rattle.vx_machine_tasks.proofs.Readiness.{none_is}
+use Rattle.vx_machine_nodes.proofs.ListParts.{none_is}
 
 -- ---- a put
 
@@ -83,41 +85,59 @@ shut_done ts all n h is = is ∙ shut_end n (row all) (count_row all ∙ h)
 
 -- ---- layouts, from the last one on
 
-layouts_first : (t : Task) (r : Tasks) → layouts_in (task_row t r) ≡ layout_in (mind_of (out-Task t).head.local) ++ layouts_in r
-layouts_first t r = ap layouts_in (row_out t r)
+-- a task's own, or its children's
+abbrev own_layouts : Task → List (LayoutData ℕ)
+own_layouts t = layout_in (mind_of (out-Task t).head.local) (layouts_in (row (out-Task t).kids.items))
 
-layouts_push : (ts : List Task) (t : Task) → layouts_in (row (ts ++ (t ∷ []))) ≡ layouts_in (row ts) ++ layout_in (mind_of (out-Task t).head.local)
-layouts_push [] t = layouts_first t no_tasks ∙ append-nil (layout_in (mind_of (out-Task t).head.local))
+layouts_own : (t : Task) → layouts_in (task_row t no_tasks) ≡ own_layouts t
+layouts_own t = ap layouts_in (row_out t no_tasks) ∙ append-nil (own_layouts t)
+
+layouts_first : (t : Task) (r : Tasks) → layouts_in (task_row t r) ≡ layouts_in (task_row t no_tasks) ++ layouts_in r
+layouts_first t r = ap layouts_in (row_out t r) ∙ ap (λ z. z ++ layouts_in r) (sym (layouts_own t))
+
+layouts_push : (ts : List Task) (t : Task) → layouts_in (row (ts ++ (t ∷ []))) ≡ layouts_in (row ts) ++ layouts_in (task_row t no_tasks)
+layouts_push [] t = refl
 layouts_push (x ∷ ts) t =
     layouts_first x (row (ts ++ (t ∷ [])))
-    ∙ ap (λ z. layout_in (mind_of (out-Task x).head.local) ++ z) (layouts_push ts t)
-    ∙ sym (append_assoc (layout_in (mind_of (out-Task x).head.local)) (layouts_in (row ts)) (layout_in (mind_of (out-Task t).head.local)))
-    ∙ ap (λ z. z ++ layout_in (mind_of (out-Task t).head.local)) (sym (layouts_first x (row ts)))
+    ∙ ap (λ z. layouts_in (task_row x no_tasks) ++ z) (layouts_push ts t)
+    ∙ sym (append_assoc (layouts_in (task_row x no_tasks)) (layouts_in (row ts)) (layouts_in (task_row t no_tasks)))
+    ∙ ap (λ z. z ++ layouts_in (task_row t no_tasks)) (sym (layouts_first x (row ts)))
 
 back_push : (ls : List Layout) (m : Layout) → map layout_data (reverse (ls ++ (m ∷ []))) ≡ layout_data m ∷ map layout_data (reverse ls)
 back_push ls m = ap (map layout_data) (reverse-append ls (m ∷ []))
 
-pub layouts_more : (init : List (LayoutData ℕ)) (all xs : List Task) (k : Task) (ls more : List Layout) (m : Layout) → all ≡ xs ++ (k ∷ []) → more ≡ ls ++ (m ∷ [])
-    → layout_in (mind_of (out-Task k).head.local) ≡ layout_data m ∷ []
+-- those of the last child were added
+pub layouts_more : (init : List (LayoutData ℕ)) (all xs : List Task) (k : Task) (ls more : List Layout) → all ≡ xs ++ (k ∷ [])
+    → map layout_data (reverse more) ≡ layouts_in (task_row k no_tasks) ++ map layout_data (reverse ls)
     → layouts_in (row all) ++ map layout_data (reverse ls) ≡ init → layouts_in (row xs) ++ map layout_data (reverse more) ≡ init
-layouts_more init all xs k ls more m a b is h =
-    ap (λ z. layouts_in (row xs) ++ map layout_data (reverse z)) b
-    ∙ ap (λ z. layouts_in (row xs) ++ z) (back_push ls m)
-    ∙ sym (append_assoc (layouts_in (row xs)) (layout_data m ∷ []) (map layout_data (reverse ls)))
-    ∙ ap (λ z. (layouts_in (row xs) ++ z) ++ map layout_data (reverse ls)) (sym is)
+layouts_more init all xs k ls more a is h =
+    ap (λ z. layouts_in (row xs) ++ z) is
+    ∙ sym (append_assoc (layouts_in (row xs)) (layouts_in (task_row k no_tasks)) (map layout_data (reverse ls)))
     ∙ ap (λ z. z ++ map layout_data (reverse ls)) (sym (layouts_push xs k))
     ∙ ap (λ z. layouts_in (row z) ++ map layout_data (reverse ls)) (sym a)
     ∙ h
 
--- before the first one is taken
-pub layouts_none : (ts : List Task) (ls : List Layout) → ls ≡ [] → layouts_in (row ts) ++ map layout_data (reverse ls) ≡ layouts_in (row ts)
-layouts_none ts ls e = ap (λ z. layouts_in (row ts) ++ map layout_data (reverse z)) e ∙ append-nil (layouts_in (row ts))
+-- behind the first one
+pub layouts_end : (init : List (LayoutData ℕ)) (ts : List Task) (ls : List Layout) → length ts ≡ 0
+    → layouts_in (row ts) ++ map layout_data (reverse ls) ≡ init → map layout_data (reverse ls) ≡ init
+layouts_end init ts ls n h = ap (λ z. layouts_in (row z) ++ map layout_data (reverse ls)) (sym (none_is ts n)) ∙ h
 
--- behind the last one
-pub layouts_all : (init : List (LayoutData ℕ)) (ts : List Task) (ls back : List Layout) → length ts ≡ 0 → back ≡ reverse ls
-    → layouts_in (row ts) ++ map layout_data (reverse ls) ≡ init → map layout_data back ≡ init
-layouts_all init ts ls back n b h =
-    ap (map layout_data) b ∙ ap (λ z. layouts_in (row z) ++ map layout_data (reverse ls)) (sym (none_is ts n)) ∙ h
+-- all that were added to none
+pub layouts_back : (ks : List Task) (none ls back : List Layout) → none ≡ [] → back ≡ reverse ls → map layout_data (reverse ls) ≡ layouts_in (row ks) ++ map layout_data (reverse none)
+    → map layout_data back ≡ layouts_in (row ks)
+layouts_back ks none ls back n b h =
+    ap (map layout_data) b ∙ h ∙ ap (λ z. layouts_in (row ks) ++ map layout_data (reverse z)) n ∙ append-nil (layouts_in (row ks))
+
+-- a task's own layout was added
+pub layouts_made : (t : Task) (x : Layout) (ls more : List Layout) → (out-Task t).head.local ≡ Made x → more ≡ ls ++ (x ∷ [])
+    → map layout_data (reverse more) ≡ layouts_in (task_row t no_tasks) ++ map layout_data (reverse ls)
+layouts_made t x ls more e b =
+    ap (λ z. map layout_data (reverse z)) b ∙ back_push ls x
+    ∙ ap (λ z. z ++ map layout_data (reverse ls)) (sym (layouts_own t ∙ ap (λ l. layout_in (mind_of l) (layouts_in (row (out-Task t).kids.items))) e))
+
+-- it has its children's
+pub layouts_passed : (t : Task) → (out-Task t).head.local ≡ Passing → layouts_in (task_row t no_tasks) ≡ layouts_in (row (out-Task t).kids.items)
+layouts_passed t e = layouts_own t ∙ ap (λ l. layout_in (mind_of l) (layouts_in (row (out-Task t).kids.items))) e
 
 -- ---- a child that is started with a chunk on its queue, which is closed
 

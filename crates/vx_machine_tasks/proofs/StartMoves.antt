@@ -5,7 +5,8 @@ use Rattle.vx_machine_ids.specs.Stock.{Stock, none, both}
 use Rattle.vx_machine_ids.specs.Balance.{Owned, Moved}
 use Rattle.vx_machine_ids.proofs.Stocks.{stock_is, both_none, none_both, both_assoc, both_swap, all_push}
 use Rattle.vx_machine_ids.proofs.MoveLaws.{moved_then, moved_beside, moved_drop_first, moved_as, owned_as, owned_now, owned_left, owned_right}
-use Rattle.vx_machine_tasks.specs.Stocks.{local_stock, dues_stock, items_stock, task_stock, tasks_stock}
+use Rattle.vx_machine_nodes.specs.Stocks.{local_stock, dues_stock, items_stock}
+use Rattle.vx_machine_tasks.specs.Stocks.{task_stock, tasks_stock}
 use Rattle.vx_machine_tasks.specs.declared.task.Task.{Task}
 use Rattle.vx_machine_tasks.specs.declared.task.Task.TheOpen.{Task-F}
 use Rattle.vx_machine_tasks.specs.declared.task.Task.TheViews.{roll-Task}

@@ -14,7 +14,7 @@ use Rattle.vx_rules.specs.Columns.{offset_type}
 use Rattle.vx_split.specs.ListState.{state_at}
 use Rattle.vx_table_dispatch.specs.Settled.{passes_on}
 use Rattle.vx_layout_tree.specs.Children.{fields_of}
-use Rattle.vx_strategy_spec.specs.StrategyData.{StrategyData}
+use Rattle.vx_strategy_spec.specs.StrategyData.{StrategyData, Grouping, grouped}
 use Rattle.vx_strategy_spec.specs.Walk.{chosen, duplicate, field_nodes, walk, walk_named}
 use Rattle.vx_strategy_spec.specs.Dispatch.{override, given_or}
 use Rattle.vx_strategy_spec.proofs.Lookups.{made, find_own}
@@ -24,21 +24,23 @@ use Rattle.vx_strategy.specs.declared.list.ListLayoutStrategy.{ListLayoutStrateg
 use Rattle.vx_strategy.specs.declared.structs.StructStrategy.{StructStrategy}
 use Rattle.vx_plan.specs.PlanData.{Setting, What, not_struct, duplicate_field}
 use Rattle.vx_machine_turns.specs.Acts.{or_else}
-use Rattle.vx_machine_turns.specs.Forms.{Form, Forms, struct_form, list_form, no_forms, form_then, forms_of, form_nodes}
+use Rattle.vx_machine_turns.specs.Forms.{Form, Forms, grouped_form, struct_form, list_form, no_forms, form_then, forms_of, form_nodes}
 use Rattle.vx_machine_turns.specs.Starts.{start_fault, start_faults}
 use Rattle.vx_machine_view.specs.State.{Tasks, no_tasks, task_then, by_list}
 use Rattle.vx_machine_view.specs.Start.{waiting, first_mind, first_kids, field_tasks, form_count, first_indices, field_indices}
 use Rattle.vx_machine_view.specs.Acts.{add}
 use Rattle.vx_write_answer.specs.declared.error.WriteError.{WriteError}
 use Rattle.vx_write_answer.specs.declared.error.WriteError.TheVariants as errors
-use Rattle.vx_machine_tasks.specs.declared.kinds.ListsNode.{ListsNode}
-use Rattle.vx_machine_tasks.specs.declared.node.Local.{Local}
-use Rattle.vx_machine_tasks.specs.declared.node.Local.TheVariants.{Lists}
+use Rattle.vx_machine_nodes.specs.declared.kinds.ListsNode.{ListsNode}
+use Rattle.vx_machine_nodes.specs.declared.node.Local.{Local}
+use Rattle.vx_machine_nodes.specs.declared.node.Local.TheVariants.{Lists}
 use Rattle.vx_machine_tasks.specs.declared.task.Task.{Task}
-use Rattle.vx_machine_tasks.specs.View.{form_at, mind_of, task_row, row}
-use Rattle.vx_machine_tasks.specs.Outcome.{AllFit}
-use Rattle.vx_machine_tasks.specs.Starting.{Counted, writer_of, field_form, field_forms, validity_form, validity_forms, columns_form, list_forms, lists_form, Started, ManyStarted, OneStarted, AllStarted, TooFar, StartRefused, many_indices, ManyRefused, OneRefused, PointerRefused, NodeRefused}
-use Rattle.vx_machine_tasks.proofs.Fitting.{none_fit, then_fit, one_fits, both_fit, first_fits, rest_fit, left_fit}
+use Rattle.vx_machine_nodes.specs.View.{form_at, mind_of}
+use Rattle.vx_machine_tasks.specs.View.{task_row, row}
+use Rattle.vx_machine_nodes.specs.Outcome.{AllFit}
+use Rattle.vx_machine_nodes.specs.Fresh.{NodeRefused}
+use Rattle.vx_machine_tasks.specs.Starting.{Counted, writer_of, field_form, field_forms, validity_form, validity_forms, columns_form, list_forms, lists_form, Started, ManyStarted, OneStarted, AllStarted, TooFar, StartRefused, many_indices, ManyRefused, OneRefused, PointerRefused, OnlyStarted}
+use Rattle.vx_machine_nodes.proofs.Fitting.{none_fit, then_fit, one_fits, both_fit, first_fits, rest_fit, left_fit}
 use Rattle.vx_machine_tasks.proofs.ViewParts.{add_none, add_add, row_push}
 
 no_true : false ≡ true → ⊥
@@ -171,6 +173,20 @@ started f m name e l ks t a fit mind kids is = record {
   allowed = a;
   counted = fit;
   tasks = λ r. is r ∙ (λ j. task_then (waiting name (mind j) [] false) (kids j) r);
+}
+
+-- ---- of a node that regroups
+
+-- its form, by what its strategy, its child and its type are
+pub grouped_at : (w c d : StrategyData) (g : Grouping) (t u : Ty) → w ≡ grouped g c → d ≡ c → u ≡ t → grouped_form g u (form_at d u) ≡ form_at w t
+grouped_at w c d g t u a b e = (λ j. grouped_form g (e j) (form_at (b j) (e j))) ∙ ap (λ z. form_at z t) (sym a)
+
+-- its only child
+pub only_started : (f : Form) (m : Bool) (at name : List ℕ) (e : Eof) (js : List Task) (t : Task) → Started f m name e t → name ≡ under at 0 → js ≡ t ∷ [] → OnlyStarted f m at e js
+only_started f m at name e js t h n is = record {
+  allowed = h.allowed;
+  counted = h.counted;
+  tasks = ap row is ∙ h.tasks no_tasks ∙ ap (λ z. task_then (waiting z (first_mind f m e) [] false) (first_kids f m z e) no_tasks) n;
 }
 
 -- ---- one more column

@@ -14,7 +14,7 @@ use Rattle.vx_machine_turns.specs.Forms.{form_nodes}
 use Rattle.vx_machine_view.specs.Built.{is_built, are_built}
 use Rattle.vx_machine_view.proofs.Tabling.{tables_are_built}
 use Rattle.vx_machine_tasks.specs.Starting.{field_form, field_forms}
-use Rattle.vx_machine_tasks.specs.View.{form_at}
+use Rattle.vx_machine_nodes.specs.View.{form_at}
 use Rattle.vx_machine_tasks.specs.Weight.{weight, weights}
 use Rattle.vx_machine_tasks.proofs.StartShows.{fields_more}
 

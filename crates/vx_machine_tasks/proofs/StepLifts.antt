@@ -5,16 +5,18 @@ use Rattle.std.specs.FinMap as fin
 use Rattle.vx_sequence.specs.Universe.{Active}
 use Rattle.vx_order.specs.Outlet.{Outlet}
 use Rattle.vx_sink.specs.declared.context.LayoutWriterContext.{LayoutWriterContext}
+use Rattle.vx_sink.specs.ContextView.{counted}
 use Rattle.vx_write_answer.specs.declared.error.WriteError.{WriteError}
 use Rattle.vx_machine_view.specs.State.{Tasks, no_tasks}
 use Rattle.vx_machine_view.specs.Moves.{may_act}
 use Rattle.vx_machine_view.specs.Places.{one_if, ready_in as ready_of}
 use Rattle.vx_machine_tasks.specs.declared.step.Did.{Did}
 use Rattle.vx_machine_tasks.specs.declared.task.Task.{Task, out-Task}
-use Rattle.vx_machine_tasks.specs.Context.{setting_of}
+use Rattle.vx_machine_nodes.specs.Context.{setting_of}
 use Rattle.vx_machine_tasks.specs.Ready.{ready_among}
 use Rattle.vx_machine_tasks.specs.Steps.{TaskStepped, TaskRefused, TaskDone, TaskFails}
-use Rattle.vx_machine_tasks.specs.View.{todo_of, desk_of, task_row, row}
+use Rattle.vx_machine_nodes.specs.View.{todo_of}
+use Rattle.vx_machine_tasks.specs.View.{desk_of, task_row, row}
 use Rattle.vx_machine_tasks.proofs.StepShows.{below_stepped, below_refused, kid_stepped, kid_refused}
 
 module _ (ctx : LayoutWriterContext) (u : Active) (before after : Outlet) (r : Result Did WriteError) where
@@ -48,7 +50,7 @@ module _ (ctx : LayoutWriterContext) (u : Active) (before after : Outlet) (r : R
     pub below_fails : Fails j (row ks) → Fails k (task_row t no_tasks)
     below_fails =
         IfErr-weaker r (TaskFails ctx (fin.keys u) j before (row ks)) (TaskFails ctx (fin.keys u) k before (task_row t no_tasks))
-        (λ e w image number. below_refused (setting_of ctx image) u number before t k j is less e (subst (λ z. TaskRefused (setting_of ctx image) (fin.keys u) j before number (row z) e) same (w image number)))
+        (λ e w image number. below_refused (setting_of ctx image) u number before t k j is less (counted ctx) e (subst (λ z. TaskRefused (setting_of ctx image) (fin.keys u) j (counted ctx) before number (row z) e) same (w image number)))
 
   -- a step of child i
   module _ (ks : List Task) (i : ℕ) (x : Task) (k j : ℕ) (is : k ≡ ready_among u (take i ks) + j) (less : i < length ks) (at : get_or ks i x ≡ x) where
@@ -61,4 +63,4 @@ module _ (ctx : LayoutWriterContext) (u : Active) (before after : Outlet) (r : R
     pub kid_fails : Fails j (task_row x no_tasks) → Fails k (row ks)
     kid_fails =
         IfErr-weaker r (TaskFails ctx (fin.keys u) j before (task_row x no_tasks)) (TaskFails ctx (fin.keys u) k before (row ks))
-        (λ e w image number. kid_refused (setting_of ctx image) u number before ks i x k j is less at e (w image number))
+        (λ e w image number. kid_refused (setting_of ctx image) u number before ks i x k j is less at (counted ctx) e (w image number))

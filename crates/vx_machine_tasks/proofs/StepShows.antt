@@ -1,5 +1,5 @@
 -- A task's act is its own step; a child's step is one of its parent's.
-use Rattle.std.proofs.Common.{◌≡◌, ℕ, ◌+◌, ◌<◌, true, List, length, get_or, set, take, Some, sym, ap, subst, ◌∙◌}
+use Rattle.std.proofs.Common.{◌≡◌, ℕ, ◌+◌, ◌<◌, true, List, ◌∷◌, length, get_or, set, take, Some, sym, ap, subst, ◌∙◌}
 use Rattle.std.specs.FinMap as fin
 use Rattle.vx_tasks.specs.Run.{nth}
 use Rattle.vx_sequence.specs.Universe.{Active}
@@ -17,10 +17,11 @@ use Rattle.vx_machine_tasks.specs.declared.task.Task.{Task, out-Task}
 use Rattle.vx_machine_tasks.specs.declared.task.Task.TheOpen.{Task-F}
 use Rattle.vx_machine_tasks.specs.declared.task.Task.TheViews.{roll-Task}
 use Rattle.vx_machine_tasks.specs.Acting.{Acted}
-use Rattle.vx_machine_tasks.specs.Outcome.{Refused}
+use Rattle.vx_machine_nodes.specs.Outcome.{Refused}
 use Rattle.vx_machine_tasks.specs.Ready.{kids_of, may_now, ready_among}
 use Rattle.vx_machine_tasks.specs.Steps.{TaskStepped, TaskRefused}
-use Rattle.vx_machine_tasks.specs.View.{todo_of, desk_of, task_row, row}
+use Rattle.vx_machine_nodes.specs.View.{todo_of}
+use Rattle.vx_machine_tasks.specs.View.{desk_of, task_row, row}
 use Rattle.vx_machine_tasks.proofs.ViewParts.{row_out, row_roll}
 use Rattle.vx_machine_tasks.proofs.ReadyViews.{may_view}
 use Rattle.vx_machine_tasks.proofs.StepViews.{with_after, kid_after, kid_set, kid_step, below_place}
@@ -55,8 +56,9 @@ module _ (s : Setting) (u : Active) (number : ℕ) (before : Outlet) (t : Task) 
     outlet = w.outlet;
   }
 
-  pub own_refused : (e : WriteError) → Refused did.refusal did.misfit did.numbers did.indices did.wrote (IsPast before) (IsShared before) did.joined e → TaskRefused s (fin.keys u) 0 before number (task_row t no_tasks) e
-  own_refused e h = record { step = own_step desk no_tasks did; place = own_first; cause = h }
+  pub own_refused : (counts : ℕ) (e : WriteError) → Refused did.refusal did.misfit ((counts + did.raises) ∷ did.numbers) did.indices did.wrote (IsPast before) (IsShared before) did.joined e
+      → TaskRefused s (fin.keys u) 0 counts before number (task_row t no_tasks) e
+  own_refused counts e h = record { step = own_step desk no_tasks did; place = own_first; cause = h }
 
 -- ---- a step of the children, behind the task's own
 
@@ -82,8 +84,8 @@ module _ (s : Setting) (u : Active) (number : ℕ) (before : Outlet) (t : Task) 
     outlet = w.outlet;
   }
 
-  pub below_refused : (e : WriteError) → TaskRefused s (fin.keys u) j before number (row (out-Task t).kids.items) e → TaskRefused s (fin.keys u) k before number (task_row t no_tasks) e
-  below_refused e w = record { step = with_after w.step (task_then (desk_of (out-Task t).head) w.step.after no_tasks); place = placed w.step w.place; cause = w.cause }
+  pub below_refused : (counts : ℕ) (e : WriteError) → TaskRefused s (fin.keys u) j counts before number (row (out-Task t).kids.items) e → TaskRefused s (fin.keys u) k counts before number (task_row t no_tasks) e
+  below_refused counts e w = record { step = with_after w.step (task_then (desk_of (out-Task t).head) w.step.after no_tasks); place = placed w.step w.place; cause = w.cause }
 
 -- ---- a step of one of the children
 
@@ -105,5 +107,5 @@ module _ (s : Setting) (u : Active) (number : ℕ) (before : Outlet) (ks : List 
     outlet = w.outlet;
   }
 
-  pub kid_refused : (e : WriteError) → TaskRefused s (fin.keys u) j before number (task_row x no_tasks) e → TaskRefused s (fin.keys u) k before number (row ks) e
-  kid_refused e w = record { step = with_after w.step (kid_after ks i w.step.after); place = stands w.step w.place; cause = w.cause }
+  pub kid_refused : (counts : ℕ) (e : WriteError) → TaskRefused s (fin.keys u) j counts before number (task_row x no_tasks) e → TaskRefused s (fin.keys u) k counts before number (row ks) e
+  kid_refused counts e w = record { step = with_after w.step (kid_after ks i w.step.after); place = stands w.step w.place; cause = w.cause }

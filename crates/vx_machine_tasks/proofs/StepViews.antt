@@ -11,13 +11,14 @@ use Rattle.vx_machine_view.specs.Places.{one_if, ready_in as ready_of}
 use Rattle.vx_machine_view.proofs.Placing.{kid_place, rest_place}
 use Rattle.vx_machine_tasks.specs.declared.task.Task.{Task, out-Task}
 use Rattle.vx_machine_tasks.specs.Ready.{ready_in, ready_among}
-use Rattle.vx_machine_tasks.specs.View.{desk_of, todo_of, task_row, row}
+use Rattle.vx_machine_nodes.specs.View.{todo_of}
+use Rattle.vx_machine_tasks.specs.View.{desk_of, task_row, row}
 use Rattle.vx_machine_tasks.proofs.ViewParts.{row_out}
 use Rattle.vx_machine_tasks.proofs.ReadyViews.{task_ready}
 
 -- the same step, after which these tasks stand
 abbrev pub with_after : Step → Tasks → Step
-with_after w cs = record { name = w.name; kind = w.kind; refusal = w.refusal; misfit = w.misfit; numbers = w.numbers; indices = w.indices; wrote = w.wrote; joined = w.joined; after = cs }
+with_after w cs = record { name = w.name; kind = w.kind; refusal = w.refusal; misfit = w.misfit; numbers = w.numbers; indices = w.indices; wrote = w.wrote; joined = w.joined; raises = w.raises; lowers = w.lowers; after = cs }
 
 -- with these tasks behind
 abbrev behind : Tasks → Step → Step

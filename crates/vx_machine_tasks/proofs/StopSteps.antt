@@ -1,16 +1,19 @@
 -- Refusals of takes, also where the tracker is asked.
-use Rattle.std.proofs.Common.{ℕ, List, Result, Ok, Err, IfErr, OnOk}
+use Rattle.std.proofs.Common.{◌≡◌, ℕ, true, List, Result, Ok, Err, IfErr, OnOk, refl, sym, subst}
+use Rattle.std.proofs.lemmas.Bool.{true≢false}
 use Rattle.vx_sink.specs.declared.context.LayoutWriterContext.{LayoutWriterContext}
 use Rattle.vx_sink.specs.ContextView.{counted}
 use Rattle.vx_plan.specs.PlanData.{Setting}
 use Rattle.vx_machine_view.specs.State.{Next, Tasks}
 use Rattle.vx_write_answer.specs.declared.error.WriteError.{WriteError}
-use Rattle.vx_machine_tasks.specs.declared.item.Item.{Item}
-use Rattle.vx_machine_tasks.specs.declared.node.Local.{Local}
-use Rattle.vx_machine_tasks.specs.Acting.{taken, Took, TakeStopped, ChunkTaken, ChunkRefused, ChunkStopped}
-use Rattle.vx_machine_tasks.specs.Context.{setting_of}
-use Rattle.vx_machine_tasks.specs.View.{item_of, mind_of}
-use Rattle.vx_machine_tasks.proofs.RefusalSteps.{take_stops}
+use Rattle.vx_machine_nodes.specs.declared.item.Item.{Item}
+use Rattle.vx_machine_nodes.specs.declared.grouped_node.GroupedNode.{GroupedNode}
+use Rattle.vx_machine_nodes.specs.declared.node.Local.{Local}
+use Rattle.vx_machine_nodes.specs.declared.node.Local.TheVariants.{Empty, Full, Chunked, Columns, Lists, Grouped, Over, Passing, Made}
+use Rattle.vx_machine_nodes.specs.Acting.{is_grouped, taken, Took, TakeStopped, ChunkTaken, ChunkRefused, ChunkStopped}
+use Rattle.vx_machine_nodes.specs.Context.{setting_of}
+use Rattle.vx_machine_nodes.specs.View.{item_of, mind_of}
+use Rattle.vx_machine_nodes.proofs.RefusalSteps.{take_stops}
 
 pub chunk_stops : {A : Type 0} (ctx : LayoutWriterContext) (name : List ℕ) (ks : Tasks) (i : Item) (l : Local) (r : Result A WriteError) → IfErr r (ChunkRefused ctx name ks i l) → IfErr r (ChunkStopped ctx name ks i l)
 chunk_stops ctx name ks i l (Ok x) h = tt
@@ -27,3 +30,25 @@ pub group_stops : {A : Type 0} (ctx : LayoutWriterContext) (name : List ℕ) (ks
     → IfErr r (λ e. (s : Setting) (n : List ℕ) (ts : Tasks) → TakeStopped (counted ctx) (taken s n ts (item_of i) (mind_of l)) e) → IfErr r (ChunkStopped ctx name ks i l)
 group_stops ctx name ks i l (Ok x) h = tt
 group_stops ctx name ks i l (Err e) h = λ image. h (setting_of ctx image) name ks
+
+-- of a local that was replaced, and then set anew
+
+module _ (s : Setting) (name : List ℕ) (ks : Tasks) (i : Item) (l k : Local) (is : l ≡ k) where
+  pub took_by : (m n : Local) (todo before : List Next) → n ≡ m → Took (taken s name ks (item_of i) (mind_of k)) (mind_of m) todo before ks → Took (taken s name ks (item_of i) (mind_of l)) (mind_of n) todo before ks
+  took_by m n todo before e h =
+      subst (λ z. Took (taken s name ks (item_of i) (mind_of z)) (mind_of n) todo before ks) (sym is)
+      (subst (λ z. Took (taken s name ks (item_of i) (mind_of k)) (mind_of z) todo before ks) (sym e) h)
+
+  pub stopped_by : (counts : ℕ) (e : WriteError) → TakeStopped counts (taken s name ks (item_of i) (mind_of k)) e → TakeStopped counts (taken s name ks (item_of i) (mind_of l)) e
+  stopped_by counts e h = subst (λ z. TakeStopped counts (taken s name ks (item_of i) (mind_of z)) e) (sym is) h
+
+pub grouped_only : (l : Local) → is_grouped l ≡ true → ((n : GroupedNode) → l ≡ Grouped n → ⊥) → ⊥
+grouped_only (Grouped n) h f = f n refl
+grouped_only (Empty n) h f = true≢false (sym h)
+grouped_only (Full x) h f = true≢false (sym h)
+grouped_only (Chunked n eof rows) h f = true≢false (sym h)
+grouped_only (Columns n rows) h f = true≢false (sym h)
+grouped_only (Lists n rows) h f = true≢false (sym h)
+grouped_only Over h f = true≢false (sym h)
+grouped_only Passing h f = true≢false (sym h)
+grouped_only (Made x) h f = true≢false (sym h)

@@ -8,8 +8,9 @@ use Rattle.vx_machine_ids.specs.Balance.{Owned, Moved}
 use Rattle.vx_machine_ids.proofs.Stocks.{stock_is, all_push}
 use Rattle.vx_machine_ids.proofs.MoveLaws.{owned_left, owned_right, moved_behind}
 use Rattle.vx_machine_tasks.specs.Sizes.{task_count, count_of_all, count_step}
-use Rattle.vx_machine_tasks.specs.Stocks.{item_stock, items_stock, head_stock, step_stock, task_stock, tasks_stock}
-use Rattle.vx_machine_tasks.specs.declared.item.Item.{Item}
+use Rattle.vx_machine_nodes.specs.Stocks.{item_stock, items_stock}
+use Rattle.vx_machine_tasks.specs.Stocks.{head_stock, step_stock, task_stock, tasks_stock}
+use Rattle.vx_machine_nodes.specs.declared.item.Item.{Item}
 use Rattle.vx_machine_tasks.specs.declared.task.Head.{Head}
 use Rattle.vx_machine_tasks.specs.declared.task.Task.{Task, out-Task}
 use Rattle.vx_machine_tasks.specs.declared.task.Task.TheOpen.{Task-F}

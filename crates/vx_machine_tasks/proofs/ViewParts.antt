@@ -5,13 +5,14 @@ use Rattle.std.proofs.lemmas.List.{map_push}
 use Rattle.vx_plan.specs.PlanData.{Item as Piece}
 use Rattle.vx_machine_view.specs.State.{Desk, Tasks, no_tasks, task_then}
 use Rattle.vx_machine_view.specs.Acts.{count, add, with_item}
-use Rattle.vx_machine_tasks.specs.declared.item.Item.{Item}
+use Rattle.vx_machine_nodes.specs.declared.item.Item.{Item}
 use Rattle.vx_machine_tasks.specs.declared.task.Head.{Head}
 use Rattle.vx_machine_tasks.specs.declared.task.Task.{Task, out-Task}
 use Rattle.vx_machine_tasks.specs.declared.task.Task.TheOpen.{Task-F}
 use Rattle.vx_machine_tasks.specs.declared.task.Task.TheViews.{roll-Task}
 use Rattle.vx_machine_tasks.specs.declared.task.Task.TheFolds.{fold_out-Task}
-use Rattle.vx_machine_tasks.specs.View.{item_of, items_of, todo_of, mind_of, desk_of, step_row, task_row, row}
+use Rattle.vx_machine_nodes.specs.View.{item_of, items_of, todo_of, mind_of}
+use Rattle.vx_machine_tasks.specs.View.{desk_of, step_row, task_row, row}
 use Rattle.vx_machine_tasks.proofs.TaskParts.{out_roll}
 
 -- ---- one task

@@ -1,48 +1,13 @@
 -- What is reserved in the tracker, against what it counts.
-use Rattle.std.specs.Prelude.{◌≡◌, ℕ, ◌+◌, Bool, List, map, Option, Some, None, Result, Ok, Err}
-use Rattle.vx_model.specs.declared.encoding.EncodingId.{EncodingId}
-use Rattle.vx_sink.specs.declared.context.LayoutWriterContext.{LayoutWriterContext}
-use Rattle.vx_sink.specs.ContextView.{listed, allowed_in, is_marked, counted}
-use Rattle.vx_machine_tasks.specs.declared.grouped_node.GroupedNode.{GroupedNode}
-use Rattle.vx_machine_tasks.specs.declared.item.Due.{Due}
-use Rattle.vx_machine_tasks.specs.declared.item.Due.TheVariants.{Put, HandOn, Append, Close, Join}
-use Rattle.vx_machine_tasks.specs.declared.node.Local.{Local}
-use Rattle.vx_machine_tasks.specs.declared.node.Local.TheVariants.{Empty, Full, Chunked, Columns, Lists, Grouped, Over, Passing, Made}
+use Rattle.std.specs.Prelude.{ℕ, ◌+◌, List, map}
 use Rattle.vx_machine_tasks.specs.declared.task.Head.{Head}
 use Rattle.vx_machine_tasks.specs.declared.task.Task.{Task}
 use Rattle.vx_machine_tasks.specs.declared.task.Task.TheOpen.{Task-F}
 use Rattle.vx_machine_tasks.specs.declared.task.Task.TheFolds.{fold-Task}
-use Rattle.vx_machine_tasks.specs.Sizes.{sum_of}
+use Rattle.vx_machine_nodes.specs.Sizes.{sum_of}
+use Rattle.vx_machine_nodes.specs.Ledger.{dues_reserved, local_reserved}
 
 -- ---- how much is reserved
-
-abbrev pub some_bytes : Option ℕ → ℕ
-some_bytes None = 0
-some_bytes (Some n) = n
-
-abbrev pub due_reserved : Due → ℕ
-due_reserved (HandOn i r) = some_bytes r
-due_reserved (Put child i) = 0
-due_reserved (Append s) = 0
-due_reserved Close = 0
-due_reserved (Join h) = 0
-
-abbrev pub dues_reserved : List Due → ℕ
-dues_reserved ds = sum_of (map due_reserved ds)
-
-abbrev pub node_reserved : GroupedNode → ℕ
-node_reserved n = sum_of n.reserved.items
-
-abbrev pub local_reserved : Local → ℕ
-local_reserved (Grouped n) = node_reserved n
-local_reserved (Empty n) = 0
-local_reserved (Full s) = 0
-local_reserved (Chunked n eof rows) = 0
-local_reserved (Columns n rows) = 0
-local_reserved (Lists n rows) = 0
-local_reserved Over = 0
-local_reserved Passing = 0
-local_reserved (Made l) = 0
 
 abbrev pub head_reserved : Head → ℕ
 head_reserved h = dues_reserved h.todo.items + local_reserved h.local
@@ -56,19 +21,3 @@ task_reserved = fold-Task ℕ step_reserved
 
 abbrev pub tasks_reserved : List Task → ℕ
 tasks_reserved ts = sum_of (map task_reserved ts)
-
--- of an answer: nothing where there is none
-abbrev pub ok_bytes : {A E : Type 0} → (A → ℕ) → Result A E → ℕ
-ok_bytes f (Ok x) = f x
-ok_bytes f (Err e) = 0
-
--- ---- against what is counted
-
--- What one that had reserved so much has reserved or released is what it has reserved now more or less, and the tracker counts as
--- much more or less. Nothing else was reserved or released.
-abbrev pub Paid : LayoutWriterContext → LayoutWriterContext → ℕ → ℕ → Type 0
-Paid before after had has = counted after + had ≡ counted before + has
-
--- what a context tells besides
-unfoldable pub told_by : LayoutWriterContext → List EncodingId × (Option (List (List ℕ)) × Bool)
-told_by ctx = (listed ctx, (allowed_in ctx, is_marked ctx))

@@ -1,16 +1,11 @@
 pub mod Weight
 pub mod Stocks
 pub mod Sizes
-pub mod Regrouped
 pub mod Ledger
 pub mod Ready
 pub mod Pairs
-pub mod Causes
-pub mod Calls
 pub mod View
-pub mod Context
 pub mod Counting
-pub mod Outcome
 pub mod Acting
 pub mod Steps
 pub mod Starting

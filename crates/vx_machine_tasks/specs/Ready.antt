@@ -10,14 +10,14 @@ use Rattle.vx_layout_tree.specs.Made.{struct_children}
 use Rattle.vx_machine_view.specs.Acts.{column_count}
 use Rattle.vx_sequence.specs.Universe.{Active}
 use Rattle.vx_machine_ids.specs.Stock.{one}
-use Rattle.vx_machine_tasks.specs.declared.item.Due.{Due}
-use Rattle.vx_machine_tasks.specs.declared.item.Due.TheVariants.{Put, HandOn, Append, Close, Join}
-use Rattle.vx_machine_tasks.specs.declared.kinds.ColumnsNode.{ColumnsNode}
-use Rattle.vx_machine_tasks.specs.declared.kinds.ListsNode.{ListsNode}
-use Rattle.vx_machine_tasks.specs.declared.node.Local.{Local}
-use Rattle.vx_machine_tasks.specs.declared.node.Local.TheVariants.{Empty, Full, Chunked, Columns, Lists, Grouped, Over, Passing, Made}
-use Rattle.vx_machine_tasks.specs.declared.node.Shape.{Shape}
-use Rattle.vx_machine_tasks.specs.declared.node.Shape.TheVariants as shapes
+use Rattle.vx_machine_nodes.specs.declared.item.Due.{Due}
+use Rattle.vx_machine_nodes.specs.declared.item.Due.TheVariants.{Put, HandOn, Append, Close, Join}
+use Rattle.vx_machine_nodes.specs.declared.kinds.ColumnsNode.{ColumnsNode}
+use Rattle.vx_machine_nodes.specs.declared.kinds.ListsNode.{ListsNode}
+use Rattle.vx_machine_nodes.specs.declared.node.Local.{Local}
+use Rattle.vx_machine_nodes.specs.declared.node.Local.TheVariants.{Empty, Full, Chunked, Columns, Lists, Grouped, Over, Passing, Made}
+use Rattle.vx_machine_nodes.specs.declared.node.Shape.{Shape}
+use Rattle.vx_machine_nodes.specs.declared.node.Shape.TheVariants as shapes
 use Rattle.vx_machine_tasks.specs.declared.task.Head.{Head}
 use Rattle.vx_machine_tasks.specs.declared.task.Task.{Task, out-Task}
 use Rattle.vx_machine_tasks.specs.declared.task.Task.TheOpen.{Task-F}

@@ -1,12 +1,9 @@
 -- How many tasks there are.
-use Rattle.std.specs.Prelude.{ℕ, ◌+◌, List, [], ◌∷◌, map}
+use Rattle.std.specs.Prelude.{ℕ, ◌+◌, List, map}
 use Rattle.vx_machine_tasks.specs.declared.task.Task.{Task}
 use Rattle.vx_machine_tasks.specs.declared.task.Task.TheOpen.{Task-F}
 use Rattle.vx_machine_tasks.specs.declared.task.Task.TheFolds.{fold-Task}
-
-abbrev pub sum_of : List ℕ → ℕ
-sum_of [] = 0
-sum_of (n ∷ ns) = n + sum_of ns
+use Rattle.vx_machine_nodes.specs.Sizes.{sum_of}
 
 abbrev pub count_step : Task-F ℕ → ℕ
 count_step f = 1 + sum_of f.kids.items

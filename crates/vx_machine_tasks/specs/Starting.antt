@@ -1,30 +1,28 @@
 -- What a start makes, and why it is refused.
 use Rattle.std.specs.Prelude.{◌≡◌, ℕ, ◌+◌, ◌^◌, ◌<◌, ◌≤◌, Bool, true, false, List, [], ◌∷◌, length, Option, Some, None}
-use Rattle.vx_model.specs.Ty.{Ty, Named, boolean, nullable, is_struct}
+use Rattle.vx_model.specs.Ty.{Ty, Named, boolean, nullable}
 use Rattle.vx_path.specs.Lists.{In}
 use Rattle.vx_path.specs.Path.{Eof, under}
 use Rattle.vx_rules.specs.Columns.{offset_type}
 use Rattle.vx_chunk_cells.specs.Parts.{element_type, struct_fields}
 use Rattle.vx_layout_tree.specs.Children.{fields_of}
-use Rattle.vx_strategy_spec.specs.StrategyData.{StrategyData, Grouping}
-use Rattle.vx_strategy_spec.specs.Walk.{duplicate}
+use Rattle.vx_strategy_spec.specs.StrategyData.{StrategyData}
 use Rattle.vx_strategy_spec.specs.Dispatch.{override, given_or}
 use Rattle.vx_strategy.specs.FieldWays.{field_ways}
 use Rattle.vx_strategy.specs.declared.list.ListLayoutStrategy.{ListLayoutStrategy}
 use Rattle.vx_strategy.specs.declared.structs.StructStrategy.{StructStrategy}
 use Rattle.vx_plan.specs.PlanData.{Setting, What, not_struct, duplicate_field}
-use Rattle.vx_machine_turns.specs.Forms.{Form, Forms, grouped_form, struct_form, list_form, no_forms, form_then}
+use Rattle.vx_machine_turns.specs.Forms.{Form, Forms, struct_form, list_form, no_forms, form_then}
 use Rattle.vx_machine_turns.specs.Starts.{start_fault, start_faults}
 use Rattle.vx_machine_view.specs.State.{Tasks, no_tasks, task_then}
 use Rattle.vx_machine_view.specs.Start.{waiting, first_mind, first_kids, field_tasks, form_count, first_indices, field_indices}
 use Rattle.vx_machine_view.specs.Acts.{add}
 use Rattle.vx_write_answer.specs.declared.error.WriteError.{WriteError}
 use Rattle.vx_write_answer.specs.declared.error.WriteError.TheVariants.{SourceFault, SinkFault, CompressFault, BatchType, NotStruct, DuplicateField, ManyChunks, EmptyList, ZoneCut, ForbiddenAggregate, ForbiddenEncoding, TooLarge, OutOfMemory, Unbuilt, Stopped}
-use Rattle.vx_machine_tasks.specs.declared.grouped_node.GroupedNode.{GroupedNode}
-use Rattle.vx_machine_tasks.specs.declared.node.Local.TheVariants.{Grouped}
 use Rattle.vx_machine_tasks.specs.declared.task.Task.{Task}
-use Rattle.vx_machine_tasks.specs.Outcome.{AllFit}
-use Rattle.vx_machine_tasks.specs.View.{form_at, mind_of, task_row, row}
+use Rattle.vx_machine_nodes.specs.Outcome.{AllFit}
+use Rattle.vx_machine_nodes.specs.View.{form_at}
+use Rattle.vx_machine_tasks.specs.View.{task_row, row}
 
 -- ---- the forms of a struct's columns
 
@@ -137,34 +135,7 @@ OneRefused f m e x = ManyRefused (form_then f no_forms) m e x
 abbrev pub PointerRefused : ℕ → WriteError → Type 0
 PointerRefused last x = StartRefused (λ s. None) ((last + 1) ∷ []) x
 
--- a struct node at a type is refused
-abbrev pub NodeRefused : Ty → WriteError → Type 0
-NodeRefused t NotStruct = is_struct t ≡ false
-NodeRefused t (DuplicateField name) = (is_struct t ≡ true) × (duplicate (struct_fields t) ≡ Some name)
-NodeRefused t OutOfMemory = Unit {0}
-NodeRefused t (TooLarge n) = ⊥
-NodeRefused t SourceFault = ⊥
-NodeRefused t SinkFault = ⊥
-NodeRefused t CompressFault = ⊥
-NodeRefused t (BatchType c) = ⊥
-NodeRefused t ManyChunks = ⊥
-NodeRefused t EmptyList = ⊥
-NodeRefused t (ZoneCut n) = ⊥
-NodeRefused t (ForbiddenAggregate id) = ⊥
-NodeRefused t (ForbiddenEncoding id) = ⊥
-NodeRefused t Unbuilt = ⊥
-NodeRefused t (Stopped by name) = ⊥
-
 -- ---- of a node that regroups
-
--- it has taken nothing
-pub record IsFresh (n : GroupedNode) : Type 0 where
-  pub newest : n.newest ≡ None
-  pub unreserved : n.reserved.items ≡ []
-
--- it is what such a form begins with
-abbrev pub Begins : Grouping → Ty → GroupedNode → Type 0
-Begins g t n = (k : Form) (m : Bool) (e : Eof) → mind_of (Grouped n) ≡ first_mind (grouped_form g t k) m e
 
 -- the only child is what the form starts, with this pointer
 pub record OnlyStarted (f : Form) (m : Bool) (at : List ℕ) (e : Eof) (ks : List Task) : Type 0 where

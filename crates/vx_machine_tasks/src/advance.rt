@@ -13,31 +13,32 @@ ghost use Rattle.vx_sink.specs.ContextView.{listed, counted};
 ghost use Rattle.vx_plan.specs.PlanData.{Setting};
 ghost use Rattle.vx_machine_view.specs.State.{append as append_next, join_kids, Mind, made as has_layout, Tasks};
 ghost use Rattle.vx_machine_view.specs.Acts.{give, shut_all, layouts_in, joined_rows, column_count};
-ghost use Rattle.vx_machine_tasks.specs.Acting.{AppendRefused, JoinRefused, acted, ActDone, DueDone, DueRefused, taken, Took, TakeStopped, is_grouped, ChunkTaken, ChunkStopped, EndTaken, EndRefused, NextTaken, NextUntaken, NextDone, NextRefused};
-ghost use Rattle.vx_machine_tasks.specs.Calls.{TaskTold};
-ghost use Rattle.vx_machine_tasks.specs.Causes.{MayCome, ActMay};
-ghost use Rattle.vx_machine_tasks.specs.Ledger.{Paid, told_by, some_bytes, ok_bytes, due_reserved, dues_reserved, local_reserved, head_reserved, tasks_reserved};
-ghost use Rattle.vx_machine_tasks.specs.Outcome.{Kept};
+ghost use Rattle.vx_machine_nodes.specs.Acting.{AppendRefused, JoinRefused, acted, ActDone, taken, Took, TakeStopped, is_grouped, ChunkTaken, ChunkStopped, EndTaken, EndRefused};
+ghost use Rattle.vx_machine_tasks.specs.Acting.{DueDone, DueRefused, NextTaken, NextUntaken, NextDone, NextRefused};
+ghost use Rattle.vx_machine_nodes.specs.Calls.{TaskTold};
+ghost use Rattle.vx_machine_nodes.specs.Causes.{MayCome, ActMay};
+ghost use Rattle.vx_machine_nodes.specs.Ledger.{Paid, told_by, some_bytes, ok_bytes, due_reserved, dues_reserved, local_reserved};
+ghost use Rattle.vx_machine_tasks.specs.Ledger.{head_reserved, tasks_reserved};
+ghost use Rattle.vx_machine_nodes.specs.Outcome.{Kept};
 ghost use Rattle.vx_machine_tasks.specs.Pairs.{due_pairs, next_pairs, AllMay};
 ghost use Rattle.vx_machine_tasks.specs.Ready.{is_over, may_due, may_now, room_at, all_made, kids_of};
-ghost use Rattle.vx_machine_tasks.specs.Stocks.{item_stock, stored_stock, due_stock, dues_stock, local_stock, head_stock, tasks_stock};
-ghost use Rattle.vx_machine_tasks.specs.View.{item_of, stored_of, fold_of, todo_of, mind_of, row};
+ghost use Rattle.vx_machine_nodes.specs.Stocks.{item_stock, stored_stock, due_stock, dues_stock, local_stock};
+ghost use Rattle.vx_machine_tasks.specs.Stocks.{head_stock, tasks_stock};
+ghost use Rattle.vx_machine_nodes.specs.View.{item_of, stored_of, fold_of, todo_of, mind_of};
+ghost use Rattle.vx_machine_tasks.specs.View.{row};
 
 use crate::chunked::take_chunked;
-use crate::columns::take_columns;
-use crate::flat::{append, set_local, take_flat};
-use crate::grouped::{end_grouped, take_grouped};
-use crate::item::{Due, Item, Stored, give_up_item, release};
 use crate::join::{gather, join, join_columns};
-use crate::kinds::{ChunkedNode, ColumnsNode, FlatNode};
-use crate::lists::{end_lists, take_lists};
-use crate::node::{Local, Shape};
 use crate::ready::columns_fit;
 use crate::task::{Head, Task};
 use std::alloc::Global;
 use std::collections::VecDeque;
 use std::mem;
 use vx_machine_ids::give_up_pointer;
+use vx_machine_nodes::{
+    ChunkedNode, ColumnsNode, Due, FlatNode, Item, Local, Shape, Stored, append, end_grouped,
+    end_lists, give_up_item, release, set_local, take_columns, take_flat, take_grouped, take_lists,
+};
 use vx_order::Order;
 use vx_path::owned::Path;
 use vx_sink::{BufferedBytesReservation, LayoutWriterContext};
@@ -273,6 +274,7 @@ fn regroup<O: Order>(
 /// What a flat node's task has in mind at the end of a stream without chunks: its layout.
 fn end_empty(alloc: Global, node: &FlatNode) -> Result<Local, WriteError>
     ensures local { IfOk result (λ l. local_stock l ≡ none) }
+    ensures unreserved { IfOk result (λ l. local_reserved l ≡ 0) }
     ensures layout { IfOk result (λ l. mind_of l ≡ has_layout (gathered (ty (arc_value node.now.dtype)) 0 [])) }
     ensures memory { IfErr result (λ e. e ≡ WriteError.OutOfMemory) }
     ensures cause { IfErr result MayCome }
@@ -298,7 +300,9 @@ fn end_columns(
 ) -> Result<Local, WriteError>
     requires { deque_len todo.old + 2 ≤ deque_capacity todo.old }
     ensures todo { dues_stock todo.new.items ≡ dues_stock todo.old.items }
+    ensures reserved { dues_reserved todo.new.items ≡ dues_reserved todo.old.items }
     ensures local { IfOk result (λ l. local_stock l ≡ none) }
+    ensures unreserved { IfOk result (λ l. local_reserved l ≡ 0) }
     ensures done { IfOk result (λ l. EndTaken (Local.Columns node rows) kids l (todo_of todo.new.items) (todo_of todo.old.items)) }
     ensures memory { IfErr result (λ e. e ≡ WriteError.OutOfMemory) }
     ensures cause { IfErr result MayCome }

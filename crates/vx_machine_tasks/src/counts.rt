@@ -6,16 +6,17 @@ ghost use Rattle.vx_machine_ids.specs.Balance.{Owned};
 ghost use Rattle.vx_kept.specs.Kept.{FreshFrom, Fresh, KnowsFrom, Knows, GoingFrom, asked_of};
 ghost use Rattle.vx_kept.specs.Follow.{touched_by, waits};
 ghost use Rattle.vx_machine_tasks.specs.Stocks.{task_stock, tasks_stock};
-ghost use Rattle.vx_machine_tasks.specs.View.{todo_of, row};
+ghost use Rattle.vx_machine_nodes.specs.View.{todo_of};
+ghost use Rattle.vx_machine_tasks.specs.View.{row};
 ghost use Rattle.vx_machine_tasks.specs.Ready.{ready_in, counted};
 ghost use Rattle.vx_machine_tasks.specs.Counting.{AllKnown};
 ghost use Rattle.vx_machine_tasks.specs.declared.task.Task.{out-Task};
 
-use crate::item::Due;
 use crate::ready::{may, one};
 use crate::task::{Head, Task};
 use std::alloc::{AllocError, Global};
 use vx_kept::{Counts, Touched, top_up};
+use vx_machine_nodes::Due;
 use vx_order::Order;
 use vx_tally::Tally;
 

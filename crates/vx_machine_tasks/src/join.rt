@@ -10,23 +10,23 @@ ghost use Rattle.vx_machine_ids.specs.Stock.{none};
 ghost use Rattle.vx_machine_ids.specs.Balance.{Owned, Moved};
 ghost use Rattle.vx_machine_view.specs.State.{no_tasks};
 ghost use Rattle.vx_machine_view.specs.Acts.{layouts_in, folded, joined_rows};
-ghost use Rattle.vx_machine_tasks.specs.Acting.{JoinRefused};
-ghost use Rattle.vx_machine_tasks.specs.Causes.{MayCome};
+ghost use Rattle.vx_machine_nodes.specs.Acting.{JoinRefused};
+ghost use Rattle.vx_machine_nodes.specs.Causes.{MayCome};
 ghost use Rattle.vx_sink.specs.ContextView.{counted};
-ghost use Rattle.vx_machine_tasks.specs.Ledger.{Paid, told_by, task_reserved, tasks_reserved};
+ghost use Rattle.vx_machine_nodes.specs.Ledger.{Paid, told_by};
+ghost use Rattle.vx_machine_tasks.specs.Ledger.{task_reserved, tasks_reserved};
 ghost use Rattle.vx_machine_tasks.specs.Ready.{made_of, all_made, columns_fit as are_columns, lists_fit as are_parts, kids_of};
 ghost use Rattle.vx_machine_tasks.specs.Stocks.{task_stock, tasks_stock};
-ghost use Rattle.vx_machine_tasks.specs.View.{fold_of, task_row, row};
+ghost use Rattle.vx_machine_nodes.specs.View.{fold_of};
+ghost use Rattle.vx_machine_tasks.specs.View.{task_row, row};
 
-use crate::item::{give_up_dues, give_up_items};
-use crate::kinds::{ColumnsNode, ListsNode};
-use crate::node::{Local, Shape};
 use crate::ready::{columns_fit, lists_fit};
 use crate::task::{Head, Task, refuse_all};
 use std::alloc::Global;
 use vx_layout_tree::{
     ChunkedLayout, KindParts, Layout, LayoutHead, StructLayout, layout_children, total_rows,
 };
+use vx_machine_nodes::{ColumnsNode, ListsNode, Local, Shape, give_up_dues, give_up_items};
 use vx_model::DType;
 use vx_order::Order;
 use vx_sink::LayoutWriterContext;
@@ -183,13 +183,18 @@ fn add_layout<O: Order>(
     } = head;
     give_up_dues(ctx, order, todo);
     give_up_items(order, inbox);
-    let added = match local {
-        Local::Made(layout) => add_one(layouts, layout),
-        Local::Passing => add_layouts(ctx, order, &mut kids, layouts),
+    match local {
+        Local::Made(layout) => {
+            refuse_all(kids, ctx, order);
+            add_one(layouts, layout)
+        }
+        Local::Passing => {
+            let added = add_layouts(ctx, order, &mut kids, layouts);
+            refuse_all(kids, ctx, order);
+            added
+        }
         _ => unreachable!(),
-    };
-    refuse_all(kids, ctx, order);
-    added
+    }
 }
 
 fn add_one(layouts: &mut Vec<Layout>, layout: Layout) -> Result<(), WriteError>

@@ -5,28 +5,14 @@
 
 mod advance;
 mod chunked;
-mod columns;
 mod counts;
-mod flat;
-mod grouped;
-mod grouped_node;
 mod grouped_start;
-mod item;
 mod join;
-mod kinds;
-mod lists;
-mod node;
-mod nodes;
 mod ready;
 mod start;
 mod step;
 mod task;
 
-pub use columns::has_type;
-pub use grouped_node::GroupedNode;
-pub use item::{Due, Item, Segment, Stored, give_up_item};
-pub use kinds::{ChunkedNode, ColumnsNode, FlatNode, ListsNode};
-pub use node::{Local, Shape};
 pub use ready::one;
 pub use start::start_task;
 pub use step::Did;

@@ -7,15 +7,15 @@ ghost use Rattle.vx_machine_ids.specs.Balance.{Owned};
 ghost use Rattle.vx_machine_view.specs.State.{no_tasks};
 ghost use Rattle.vx_machine_view.specs.Moves.{may_act};
 ghost use Rattle.vx_machine_view.specs.Places.{ready_in as ready_steps};
-ghost use Rattle.vx_machine_tasks.specs.Stocks.{due_stock, head_stock, task_stock, tasks_stock};
-ghost use Rattle.vx_machine_tasks.specs.View.{todo_of, desk_of, task_row, row};
+ghost use Rattle.vx_machine_nodes.specs.Stocks.{due_stock};
+ghost use Rattle.vx_machine_tasks.specs.Stocks.{head_stock, task_stock, tasks_stock};
+ghost use Rattle.vx_machine_nodes.specs.View.{todo_of};
+ghost use Rattle.vx_machine_tasks.specs.View.{desk_of, task_row, row};
 ghost use Rattle.vx_machine_tasks.specs.Ready.{made_of as has_done, is_done as is_done_task, is_over as takes_no_more, kids_of, all_made as have_layouts, room_at, can_join as joins, columns_fit as are_columns, lists_fit as are_parts, may_due as may_do, may_take as may_begin, may_now, ready_in, ready_among, counted};
 
-use crate::item::Due;
-use crate::kinds::{ColumnsNode, ListsNode};
-use crate::node::{Local, Shape};
 use crate::task::{Head, Task};
 use vx_layout_tree::struct_children;
+use vx_machine_nodes::{ColumnsNode, Due, ListsNode, Local, Shape};
 use vx_order::Order;
 
 /// Whether it has done all: its layout is there, or that of its children where it passes them on.

@@ -16,23 +16,26 @@ ghost use Rattle.vx_machine_ids.specs.Balance.{Owned, Moved};
 ghost use Rattle.vx_machine_view.specs.State.{Tasks, task_then};
 ghost use Rattle.vx_machine_view.specs.Start.{waiting};
 ghost use Rattle.vx_machine_view.specs.Built.{is_built};
-ghost use Rattle.vx_machine_tasks.specs.Causes.{StartMay};
+ghost use Rattle.vx_machine_nodes.specs.Causes.{StartMay};
 ghost use Rattle.vx_machine_tasks.specs.Ledger.{tasks_reserved};
-ghost use Rattle.vx_machine_tasks.specs.Starting.{OnlyStarted, IsFresh, Begins, lists_form, validity_forms, field_form, columns_form, Started, ManyStarted, OneStarted, AllStarted, FormRefused, ManyRefused, OneRefused, PointerRefused};
-ghost use Rattle.vx_machine_tasks.specs.Stocks.{local_stock, task_stock, tasks_stock};
-ghost use Rattle.vx_machine_tasks.specs.View.{form_at, form_of, mind_of, task_row, row};
+ghost use Rattle.vx_machine_nodes.specs.Fresh.{IsFresh, Begins};
+ghost use Rattle.vx_machine_tasks.specs.Starting.{OnlyStarted, lists_form, validity_forms, field_form, columns_form, Started, ManyStarted, OneStarted, AllStarted, FormRefused, ManyRefused, OneRefused, PointerRefused};
+ghost use Rattle.vx_machine_nodes.specs.Stocks.{local_stock};
+ghost use Rattle.vx_machine_tasks.specs.Stocks.{task_stock, tasks_stock};
+ghost use Rattle.vx_machine_nodes.specs.View.{form_at, form_of, mind_of};
+ghost use Rattle.vx_machine_tasks.specs.View.{task_row, row};
 
-use crate::grouped_node::GroupedNode;
-use crate::grouped_start::{blocks_node, buffer_node, child_parts, collect_node, drop_fresh};
-use crate::kinds::{ColumnsNode, FlatNode, ListsNode};
-use crate::node::Local;
-use crate::nodes::{chunked_node, columns_node, element_copy, lists_node};
+use crate::grouped_start::child_parts;
 use crate::task::{Head, Task, refuse_started};
 use std::alloc::{AllocError, Global};
 use std::collections::VecDeque;
 use std::sync::Arc;
 use vx_layout_tree::fields_in;
 use vx_machine_ids::{give_up_pointer, take_below};
+use vx_machine_nodes::{
+    ColumnsNode, FlatNode, GroupedNode, ListsNode, Local, blocks_node, buffer_node, chunked_node,
+    collect_node, columns_node, drop_fresh, element_copy, lists_node,
+};
 use vx_model::{DType, Nullability, PType, StructField};
 use vx_order::Order;
 use vx_path::owned::Path;

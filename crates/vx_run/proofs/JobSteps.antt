@@ -20,7 +20,8 @@ use Rattle.vx_machine_view.specs.Built.{is_built}
 use Rattle.vx_write.specs.Calls.{reads_in, appends_in, misfits}
 use Rattle.vx_write.specs.Traced.{Traced}
 use Rattle.vx_write.specs.RefusedAct.{RefusedThere}
-use Rattle.vx_write.specs.Written.{Planned, Wrote, HasCause, AskedInSteps, Halted}
+use Rattle.vx_write.specs.Written.{Planned, Wrote, HasCause, AskedInSteps, write_of, Halted}
+use Rattle.vx_write.specs.Tracking.{PassesAt}
 use Rattle.vx_write_answer.specs.Causes.{is_source_fault, is_sink_fault, is_unbuilt}
 use Rattle.vx_write_answer.specs.declared.step.Step.{Step}
 use Rattle.vx_write_answer.specs.declared.error.WriteError.{WriteError}
@@ -142,9 +143,9 @@ report_answers j {l} {stored} {steps} {shown} {status} {text} same w h =
 
 -- ---- a job that was refused
 
-unbuilt_cause : (e : WriteError) (t : Ty) (unbuilt : Type 0) (p : Plan) (taken : List ChunkData) (next stand : ℕ) → HasCause t unbuilt p taken next stand e → is_unbuilt e ≡ true → unbuilt
-unbuilt_cause errors.Unbuilt t unbuilt p taken next stand cause is = cause
-unbuilt_cause e t unbuilt p taken next stand cause is = absurd (let f : false ≡ true = is in cc)
+unbuilt_cause : (e : WriteError) (t : Ty) (unbuilt : Type 0) (passes : ℕ → Type 0) (p : Plan) (taken : List ChunkData) (next stand : ℕ) → HasCause t unbuilt passes p taken next stand e → is_unbuilt e ≡ true → unbuilt
+unbuilt_cause errors.Unbuilt t unbuilt passes p taken next stand cause is = cause
+unbuilt_cause e t unbuilt passes p taken next stand cause is = absurd (let f : false ≡ true = is in cc)
 
 built_is : (b u : Bool) → (b ≡ false → u ≡ true) → (u ≡ true → b ≡ false) → b ≡ not u
 built_is true true h k = absurd (let f : true ≡ false = k refl in cc)
@@ -153,11 +154,11 @@ built_is false true h k = refl
 built_is false false h k = absurd (let f : false ≡ true = h refl in cc)
 
 -- the source failed before its end was told
-unheard : (s : Setting) (w : StrategyData) (t : Ty) (m : Bool) (batches : List ChunkData) (heard : Bool) (next : ℕ) (schedule : List ℕ) (steps : List Step) (e : WriteError)
-    → RefusedThere s w t m batches heard next schedule steps e → IsTrue (is_source_fault e) → heard ≡ false
-unheard s w t m batches heard next schedule steps errors.SourceFault (inl h) is = absurd h.0
-unheard s w t m batches heard next schedule steps errors.SourceFault (inr (a, h)) is = h.2
-unheard s w t m batches heard next schedule steps e h is = absurd (let f : false ≡ true = is in cc)
+unheard : (s : Setting) (w : StrategyData) (t : Ty) (m : Bool) (tracker : ℕ) (batches : List ChunkData) (heard : Bool) (next : ℕ) (schedule : List ℕ) (steps : List Step) (e : WriteError)
+    → RefusedThere s w t m tracker batches heard next schedule steps e → IsTrue (is_source_fault e) → heard ≡ false
+unheard s w t m tracker batches heard next schedule steps errors.SourceFault (inl h) is = absurd h.0
+unheard s w t m tracker batches heard next schedule steps errors.SourceFault (inr (a, h)) is = h.2
+unheard s w t m tracker batches heard next schedule steps e h is = absurd (let f : false ≡ true = is in cc)
 
 -- and behind as many answers as batches were taken
 answers_before : (taken : List ChunkData) (heard : Bool) (steps : List Step) (e : WriteError) → AskedInSteps taken heard steps e → heard ≡ false → IsTrue (is_source_fault e) → reads_in steps + misfits e ≡ length taken
@@ -208,7 +209,7 @@ pub record RefusedWrite (j : JobData) (e : WriteError) (s : Setting) (t : Ty) (m
     (may_source must_source may_sink must_sink : ℕ → Type 0) (source_before source_now sink_before sink_now : ℕ) : Type 0 where
   pub start : Start j s t m first tracker a old schedule
   pub failing : Failing j may_source must_source may_sink must_sink source_before sink_before
-  pub halted : Halted s j.strategy t m first now a c old new schedule steps e
+  pub halted : Halted s j.strategy t m tracker first now a c old new schedule steps e
   pub source : FaultsTold source_before source_now may_source must_source (reads_in steps + misfits e) (is_source_fault e)
   pub sink : FaultsTold sink_before sink_now may_sink must_sink (now - first) (is_sink_fault e)
   pub unbuilt : is_built j.strategy ≡ false → (is_unbuilt e ≡ true) × (c ≡ a) × (now ≡ first) × (steps ≡ [])
@@ -226,15 +227,15 @@ job_refused j e {s} {t} {m} {first} {now} {tracker} {a} {c} {old} {new} {stand} 
     w.halted.stand.numbers ∙ (ap (λ n. n + length w.halted.stand.appended) start.numbers ∙ ap (λ (bs : List (List ℕ)). j.options.next + length bs) (sym stood)) in
     let count : now - first ≡ length stand = omega (arith, reached, start.numbers) in
     let sink = subst (λ n. FaultsTold sink_before sink_now may_sink must_sink n (is_sink_fault e)) count w.sink in
-    let no_form = unbuilt_cause e t (is_built j.strategy ≡ false) (taken_plan s j.strategy t m w.halted.stand.taken w.halted.heard) w.halted.stand.taken now (length w.halted.stand.appended) in
+    let no_form = unbuilt_cause e t (is_built j.strategy ≡ false) (PassesAt (write_of s j.strategy t m tracker) (of_schema t w.halted.stand.taken) w.halted.heard steps) (taken_plan s j.strategy t m w.halted.stand.taken w.halted.heard) w.halted.stand.taken now (length w.halted.stand.appended) in
     let of_source : IsTrue (is_source_fault e) → IsTrue (fails_at j.options.faults.source (reads_in steps + misfits e)) = λ is. w.failing.may_of_source (reads_in steps + misfits e) (w.source.allowed is) in
     let within : IsTrue (is_source_fault e) → reads_in steps + misfits e ≤ length j.batches = λ is.
-    (let still : w.halted.heard ≡ false = unheard s j.strategy t m (of_schema t w.halted.stand.taken) w.halted.heard now schedule steps e w.halted.refused is in
+    (let still : w.halted.heard ≡ false = unheard s j.strategy t m tracker (of_schema t w.halted.stand.taken) w.halted.heard now schedule steps e w.halted.refused is in
     omega (arith, answers_before w.halted.stand.taken w.halted.heard steps e w.halted.asked still is, taken_within w.halted.stand.taken rest.0 j.batches a c w.halted.stand.came start.batches rest.1)) in
     let of_sink : IsTrue (is_sink_fault e) → IsTrue (fails_at j.options.faults.sink (length stand)) = λ is. w.failing.may_of_sink (length stand) (sink.allowed is) in
     record {
       later = rest.0;
-      halted = rw (start.setting, start.schema, start.marked, start.numbers, reached, start.batches, rest.1, start.none, told, start.picks) at w.halted;
+      halted = rw (start.setting, start.schema, start.marked, start.counted, start.numbers, reached, start.batches, rest.1, start.none, told, start.picks) at w.halted;
       calls = none_fails j (reads_in steps + misfits e) (length stand) (is_source_fault e) (is_sink_fault e) w.failing w.source sink;
       appended = omega (arith, reached, start.numbers, w.appended);
       let_fail = is_let e j (reads_in steps + misfits e) (length stand) memory (λ is. (of_source is, within is)) of_sink;
@@ -249,8 +250,8 @@ job_refused j e {s} {t} {m} {first} {now} {tracker} {a} {c} {old} {new} {stand} 
           let f : true ≡ false = ap is_memory (sym out) ∙ memory in cc);
     }
 
-pub refused_fits : (j : JobData) {e : WriteError} {s : Setting} {t : Ty} {m : Bool} {first now : ℕ} {a c : Option (List ChunkData)} {old new : Option (List (List ℕ))} {stand : List (List ℕ)} {schedule : List ℕ} {steps : List Step}
-    → first ≡ j.options.next → old ≡ Some [] → new ≡ Some stand → Halted s j.strategy t m first now a c old new schedule steps e → now ≤ max first (2 ^ 32)
+pub refused_fits : (j : JobData) {e : WriteError} {s : Setting} {t : Ty} {m : Bool} {tracker first now : ℕ} {a c : Option (List ChunkData)} {old new : Option (List (List ℕ))} {stand : List (List ℕ)} {schedule : List ℕ} {steps : List Step}
+    → first ≡ j.options.next → old ≡ Some [] → new ≡ Some stand → Halted s j.strategy t m tracker first now a c old new schedule steps e → now ≤ max first (2 ^ 32)
     → j.options.next + length stand ≤ max j.options.next (2 ^ 32)
 refused_fits j {first = first} {now = now} {stand = stand} numbers none told halted last =
     let stood : stand ≡ halted.stand.appended = told_all none told halted.stand.stands in

@@ -1,4 +1,4 @@
--- What flat, chunked, struct and list nodes write has no zone tables.
+-- What flat, chunked, struct and list nodes write has no zone tables, nor has it below nodes that regroup.
 use Rattle.std.proofs.Common.{◌≡◌, ℕ, suc, ◌+◌, Bool, true, false, List, [], ◌∷◌, ◌++◌, Option, Some, None, refl, sym, ap, ◌∙◌}
 use Rattle.std.proofs.lemmas.Bool.{true≢false}
 use Rattle.vx_model.specs.Ty.{Ty, Tys, struct, no_fields, field}
@@ -11,6 +11,7 @@ use Rattle.vx_strategy_spec.specs.Walk.{walk}
 use Rattle.vx_plan.specs.PlanData.{Setting, Item, Node, Plan, row_total}
 use Rattle.vx_plan.specs.FlatNode.{flat_node}
 use Rattle.vx_plan.specs.ChunkedNode.{chunked_node, chunk_plans, all_layouts}
+use Rattle.vx_plan.specs.GroupNode.{grouped_stream}
 use Rattle.vx_plan.specs.ColumnNodes.{Column, marked, column_plans, struct_writers, struct_plans, struct_node, not_struct_node, list_writers, list_node}
 use Rattle.vx_plan.specs.SourcePlan.{plan_nodes, source_plan, batch_items}
 use Rattle.vx_plan.specs.Number.{numbered, number_of}
@@ -92,7 +93,7 @@ all_plain : (s : Setting) → Agree Node Form (plan_nodes s) form_nodes false Bu
 all_plain s = record {
   at_flat = λ o t built. flat_plain s o t;
   at_chunked = λ t k l plain built. chunked_plain t k (plain built.1);
-  at_grouped = λ g r t k l plain built. absurd built;
+  at_grouped = λ g r t k l plain built m is ended e f. plain built.1 m (grouped_stream g t is ended) ended e f;
   at_compressed = λ which room r t k l plain built. absurd built;
   at_dict = λ o t is c v f d w g x y z built. absurd built;
   at_zoned = λ o r t k l f g plain tables built. absurd built;

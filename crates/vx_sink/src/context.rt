@@ -4,6 +4,7 @@ ghost use Rattle.std.specs.Prelude.{◌≡◌, ◌+◌, ◌-◌, ◌<◌, ◌≤
 ghost use Rattle.vx_model.specs.Words.{lists_id};
 
 use crate::tracker::{BufferedBytesReservation, BufferedBytesTracker, TooLarge};
+use std::alloc::AllocError;
 use vx_model::{ArrayContext, Text};
 
 /// What a write may use, and what it holds back.
@@ -67,6 +68,21 @@ impl LayoutWriterContext {
         ensures counted { counted result ≡ tracker }
     {
         LayoutWriterContext { tracker, ..self }
+    }
+
+    /// The same for a worker, which counts for itself: nothing is held back yet.
+    pub fn for_worker(&self) -> Result<LayoutWriterContext, AllocError>
+        ensures listed { IfOk result (λ c. listed c ≡ listed self.now) }
+        ensures allowed { IfOk result (λ c. allowed_in c ≡ allowed_in self.now) }
+        ensures marked { IfOk result (λ c. is_marked c ≡ is_marked self.now) }
+        ensures counted { IfOk result (λ c. counted c ≡ 0) }
+    {
+        Ok(LayoutWriterContext {
+            array_ctx: self.array_ctx.clone()?,
+            allowed: self.allowed.clone()?,
+            marked: self.marked,
+            tracker: BufferedBytesTracker::new(),
+        })
     }
 
     /// The encodings that a write may use. No write extends them.

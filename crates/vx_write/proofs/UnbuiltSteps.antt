@@ -28,9 +28,9 @@ none_behind (Some xs) = ap Some (sym (append-nil xs))
 source_works : (s : Setting) (w : StrategyData) (t : Ty) (m : Bool) → 0 < work (tasks_of s w t m [] false)
 source_works s w t m = omega arith
 
-halted_here : (s : Setting) (w : StrategyData) (t : Ty) (m : Bool) (first : ℕ) (to_come : Option (List ChunkData)) (before : Option (List (List ℕ))) (schedule : List ℕ) → is_built w ≡ false
-    → Halted s w t m first first to_come to_come before before schedule [] Unbuilt
-halted_here s w t m first to_come before schedule unbuilt = record {
+halted_here : (s : Setting) (w : StrategyData) (t : Ty) (m : Bool) (tracker first : ℕ) (to_come : Option (List ChunkData)) (before : Option (List (List ℕ))) (schedule : List ℕ) → is_built w ≡ false
+    → Halted s w t m tracker first first to_come to_come before before schedule [] Unbuilt
+halted_here s w t m tracker first to_come before schedule unbuilt = record {
   heard = false;
   stand = record {
     taken = [];
@@ -49,6 +49,6 @@ halted_here s w t m first to_come before schedule unbuilt = record {
   refused = inl (unbuilt, refl, refl);
 }
 
-pub unbuilt_halts : (s : Setting) (w : StrategyData) (t : Ty) (m : Bool) (first : ℕ) (to_come : Option (List ChunkData)) (before : Option (List (List ℕ))) (schedule : List ℕ) (steps : List Step) → is_built w ≡ false → steps ≡ []
-    → Halted s w t m first first to_come to_come before before schedule steps Unbuilt
-unbuilt_halts s w t m first to_come before schedule steps unbuilt none = rw none (halted_here s w t m first to_come before schedule unbuilt)
+pub unbuilt_halts : (s : Setting) (w : StrategyData) (t : Ty) (m : Bool) (tracker first : ℕ) (to_come : Option (List ChunkData)) (before : Option (List (List ℕ))) (schedule : List ℕ) (steps : List Step) → is_built w ≡ false → steps ≡ []
+    → Halted s w t m tracker first first to_come to_come before before schedule steps Unbuilt
+unbuilt_halts s w t m tracker first to_come before schedule steps unbuilt none = rw none (halted_here s w t m tracker first to_come before schedule unbuilt)

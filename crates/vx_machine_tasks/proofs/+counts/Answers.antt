@@ -16,10 +16,12 @@ use Rattle.vx_machine_tasks.specs.Counting.{AllKnown}
 use Rattle.vx_machine_tasks.specs.Ready.{may_now, kids_of as kids_at, ready_in, ready_among, counted}
 use Rattle.vx_machine_tasks.specs.Sizes.{task_count, count_of_all}
 use Rattle.vx_machine_tasks.specs.Stocks.{task_stock, tasks_stock}
-use Rattle.vx_machine_tasks.specs.View.{desk_of, todo_of, row}
+use Rattle.vx_machine_nodes.specs.View.{todo_of}
+use Rattle.vx_machine_tasks.specs.View.{desk_of, row}
 use Rattle.vx_machine_tasks.specs.declared.task.Task.{Task, out-Task}
 use Rattle.vx_machine_tasks.proofs.TaskParts.{task_count_out, count_at, head_owned, kids_owned}
-use Rattle.vx_machine_tasks.proofs.Readiness.{ready_in_out, none_is, get_same}
+use Rattle.vx_machine_nodes.proofs.ListParts.{none_is}
+use Rattle.vx_machine_tasks.proofs.Readiness.{ready_in_out, get_same}
 use Rattle.vx_machine_tasks.proofs.ViewParts.{count_row}
 use Rattle.vx_machine_tasks.proofs.Counting.{all_known, fresh_sum, kid_is, task_at}
 use Rattle.vx_machine_tasks.proofs.+counts.Goals as goal

@@ -3,8 +3,8 @@ use Rattle.std.specs.Arc.{arc_value}
 use Rattle.std.specs.Prelude.{IfOk, IfErr}
 use Rattle.vx_strategy.specs.StrategyView.{strategy_data}
 use Rattle.vx_machine_tasks.specs.Starting.{Started, FormRefused}
-use Rattle.vx_machine_tasks.specs.View.{form_at, form_of}
-use Rattle.vx_machine_tasks.proofs.CauseSteps.{memory_start}
+use Rattle.vx_machine_nodes.specs.View.{form_at, form_of}
+use Rattle.vx_machine_nodes.proofs.CauseSteps.{memory_start}
 use Rattle.vx_machine_tasks.proofs.StartShows.{memory_refused}
 use Rattle.vx_machine.proofs.machine.start_root.Goals as goal
 

@@ -1,4 +1,4 @@
-use Rattle.std.proofs.Common.{◌≡◌, ◌<◌, ◌%◌, ◌++◌, [], ◌∷◌, length, subst, ap, ◌∙◌, refl, sym, arith}
+use Rattle.std.proofs.Common.{◌≡◌, ◌+◌, ◌<◌, ◌%◌, ◌++◌, [], ◌∷◌, length, subst, ap, ◌∙◌, refl, sym, arith}
 use Rattle.std.specs.Prelude.{slice_index}
 use Rattle.vx_sequence.specs.Universe.{Active}
 use Rattle.vx_machine_ids.specs.Stock.{none}
@@ -7,14 +7,16 @@ use Rattle.vx_machine_ids.proofs.MoveLaws.{moved_none, moved_then, owned_now}
 use Rattle.vx_machine_tasks.specs.Pairs.{task_pairs}
 use Rattle.vx_machine.specs.Whole.{machine_stock}
 use Rattle.vx_machine_tasks.proofs.PairSteps.{all_may}
+use Rattle.vx_machine_tasks.proofs.ReservedSteps.{task_view}
 use Rattle.vx_machine_ids.specs.Balance.{Exact}
 use Rattle.vx_fault.specs.Faults.{FaultsTold}
 use Rattle.vx_write_answer.specs.Causes.{is_sink_fault}
-use Rattle.vx_machine_tasks.specs.Calls.{reads_action, append_action}
+use Rattle.vx_machine_nodes.specs.Calls.{reads_action, append_action}
 use Rattle.vx_machine.specs.Calls.{reads_in, appends_in, reads_at}
-use Rattle.vx_machine_tasks.specs.Context.{setting_of}
-use Rattle.vx_machine_tasks.specs.Outcome.{Kept}
-use Rattle.vx_machine.specs.Run.{at, Ran, picked_at}
+use Rattle.vx_machine_nodes.specs.Context.{setting_of}
+use Rattle.vx_machine_nodes.specs.Outcome.{Kept}
+use Rattle.vx_sink.specs.ContextView.{counted as counted_bytes}
+use Rattle.vx_machine.specs.Run.{at, Ran, picked_at, tracker_by}
 use Rattle.vx_machine_tasks.specs.View.{row}
 use Rattle.vx_machine.specs.View.{phase_of, machine_of}
 use Rattle.vx_machine_tasks.specs.Ready.{counted}
@@ -34,6 +36,7 @@ steps-init g c = record {
   sinks = λ e.
       subst (λ ts. Answered g.O.Sink.Fallible.faults g.O.Sink.Fallible.may_fail g.O.Sink.Fallible.must_fail (g.O.Order.sink c.args.order.now) (g.O.Order.sink c.args.order.now) (appends_in ts)) (sym e)
       (none_called g.O.Sink.Fallible.faults g.O.Sink.Fallible.may_fail g.O.Sink.Fallible.must_fail (g.O.Order.sink c.args.order.now));
+  tracked = omega (arith, c.requires.unreserved);
   context = refl;
   known = c.new-counts.ensures (row (out-Task c.args.machine.root).kids.items);
   compressor = refl;
@@ -74,6 +77,7 @@ steps-preserved g c =
           (append_action c.in-Ok-step_counted.step.action) (appends_in c.push_reserved.new.self.items)
           (ap appends_in (c.push_reserved.ensures.items ∙ ap (λ z. z ++ (c.in-Ok-step_counted.step ∷ [])) c.reserve.ensures.items) ∙ appends_more c.steps.trace.items c.in-Ok-step_counted.step)
           (appends_once c.in-Ok-step_counted.step.action) c.in-Ok-step_counted.ensures.sink_told;
+      tracked = omega (arith, c.step_counted.ensures.tracked, c.steps.invariant.tracked);
       context = c.step_counted.ensures.context ∙ c.steps.invariant.context;
       known = c.in-Ok-step_counted.ensures.known;
       compressor = c.step_counted.ensures.compressor ∙ c.steps.invariant.compressor;
@@ -122,6 +126,7 @@ returns-in-Err-step_counted-clause-ran g c = λ e x.
     let place : c.len.result ≡ length c.reserve.new.self.items = c.len.ensures ∙ c.reserve.new.self.ok.0 in
     let some : 0 < machine_ready u c.steps.machine = omega (arith, c.in-Ok.ensures.told, c.if-ready-eq0.false) in
     let pick : c.pick_at-pick.result ≡ slice_index c.args.schedule.now (length c.reserve.new.self.items) = c.pick_at-pick.ensures ∙ ap (slice_index c.args.schedule.now) place in
+    let counts : counted_bytes c.steps.ctx ≡ tracker_by c.args.ctx.now (machine_of c.steps.machine) = c.steps.invariant.tracked ∙ ap (λ z. counted_bytes c.args.ctx.now + z) (sym (task_view c.steps.machine.root)) in
     record {
       stop = record {
         end = at (machine_of c.steps.machine) (g.B.BatchSource.to_come c.steps.source) (g.O.Order.outlet c.steps.order);
@@ -130,7 +135,7 @@ returns-in-Err-step_counted-clause-ran g c = λ e x.
         kept = subst (λ o. Kept (g.O.Order.outlet c.steps.order) o) (sym c.refuse-in-Err-step_counted.ensures.outlet) c.in-Err-step_counted.ensures.kept;
         stops = run_refused c.args.ctx.now c.steps.ctx c.steps.invariant.context (g.B.BatchSource.kind c.args.source.now) (g.B.BatchSource.kind c.steps.source) c.steps.invariant.kind c.args.schedule.now u c.steps.machine k
             some (length c.reserve.new.self.items) c.pick_at-pick.result pick
-            (g.B.BatchSource.to_come c.steps.source) (g.B.BatchSource.to_come c.step_counted.new.source) (g.O.Order.outlet c.steps.order) c.in-Err-step_counted.error c.in-Err-step_counted.ensures.refused;
+            (g.B.BatchSource.to_come c.steps.source) (g.B.BatchSource.to_come c.step_counted.new.source) (g.O.Order.outlet c.steps.order) c.in-Err-step_counted.error counts c.in-Err-step_counted.ensures.refused;
       };
       passed = misfit_passed g.B.Fallible.faults g.B.Fallible.may_fail g.B.Fallible.must_fail c.args.source.now c.steps.source c.step_counted.new.source (reads_in c.reserve.new.self.items)
           (subst (λ ts. Answered g.B.Fallible.faults g.B.Fallible.may_fail g.B.Fallible.must_fail c.args.source.now c.steps.source (reads_in ts)) (sym c.reserve.ensures.items) (c.steps.invariant.sources e))

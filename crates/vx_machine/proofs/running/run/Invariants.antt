@@ -1,4 +1,4 @@
-use Rattle.std.proofs.Common.{◌≡◌, vec_len, ◌-◌, ◌^◌, []}
+use Rattle.std.proofs.Common.{◌≡◌, ◌+◌, vec_len, ◌-◌, ◌^◌, []}
 use Rattle.vx_machine_ids.specs.Balance.{Owned, Moved, Exact}
 use Rattle.vx_machine.specs.Calls.{reads_in, appends_in}
 use Rattle.vx_machine.specs.Run.{at, Ran}
@@ -6,7 +6,9 @@ use Rattle.vx_kept.specs.Kept.{Knows}
 use Rattle.vx_machine_tasks.specs.declared.task.Task.{out-Task}
 use Rattle.vx_machine_tasks.specs.View.{row}
 use Rattle.vx_machine.specs.View.{machine_of}
-use Rattle.vx_machine.specs.Whole.{machine_stock}
+use Rattle.vx_sink.specs.ContextView.{counted}
+use Rattle.vx_machine_nodes.specs.Ledger.{told_by}
+use Rattle.vx_machine.specs.Whole.{machine_stock, machine_reserved}
 use Rattle.vx_machine.proofs.RunCalls.{Answered}
 use Rattle.vx_machine.proofs.running.run.Given as goal
 
@@ -17,7 +19,8 @@ invariant-steps g l = record {
   kind : g.B.BatchSource.kind l.source ≡ g.B.BatchSource.kind l.initial.source;
   sources : l.initial.trace.items ≡ [] → Answered g.B.Fallible.faults g.B.Fallible.may_fail g.B.Fallible.must_fail l.initial.source l.source (reads_in l.trace.items);
   sinks : l.initial.trace.items ≡ [] → Answered g.O.Sink.Fallible.faults g.O.Sink.Fallible.may_fail g.O.Sink.Fallible.must_fail (g.O.Order.sink l.initial.order) (g.O.Order.sink l.order) (appends_in l.trace.items);
-  context : l.ctx ≡ l.initial.ctx;
+  tracked : counted l.ctx ≡ counted l.initial.ctx + machine_reserved l.machine;
+  context : told_by l.ctx ≡ told_by l.initial.ctx;
   known : Knows l.counts (row (out-Task l.machine.root).kids.items);
   compressor : l.compressor ≡ l.initial.compressor;
   ran : l.initial.trace.items ≡ [] → Exact (g.O.Order.active l.initial.order) (machine_stock l.initial.machine)

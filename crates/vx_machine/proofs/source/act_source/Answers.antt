@@ -1,9 +1,10 @@
 use Rattle.std.proofs.Common.{ap, inl, true}
 use Rattle.vx_machine_view.specs.State.{no_tasks}
 use Rattle.vx_machine.specs.Calls.{reads_at}
-use Rattle.vx_machine_tasks.specs.View.{item_of, task_row}
+use Rattle.vx_machine_nodes.specs.View.{item_of}
+use Rattle.vx_machine_tasks.specs.View.{task_row}
 use Rattle.vx_machine.specs.View.{phase_of}
-use Rattle.vx_machine_tasks.proofs.CallSteps.{unasked_self}
+use Rattle.vx_machine_nodes.proofs.CallSteps.{unasked_self}
 use Rattle.vx_machine.proofs.CallSteps.{told_as}
 use Rattle.vx_machine.proofs.SourceSteps.{read_done, read_refused, put_done, put_refused, close_done, rest_done}
 use Rattle.vx_machine.proofs.source.act_source.Goals as goal

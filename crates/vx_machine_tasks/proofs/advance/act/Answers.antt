@@ -1,17 +1,19 @@
-use Rattle.std.proofs.Common.{◌≡◌, List, length, true, sym, ap, subst, ◌∙◌, refl}
+use Rattle.std.proofs.Common.{◌≡◌, List, length, true, sym, ap, subst, ◌∙◌, refl, arith}
 use Rattle.std.proofs.lemmas.Bool.{and_parts}
 use Rattle.vx_sequence.specs.Universe.{Active}
 use Rattle.vx_machine_ids.specs.Stock.{both}
 use Rattle.vx_write_answer.specs.declared.step.ActionKind.TheVariants as actions
 use Rattle.vx_machine_tasks.specs.Pairs.{due_pairs, AllMay}
 use Rattle.vx_machine_tasks.specs.Ready.{Kid, may_due, kids_of, all_made, can_join}
-use Rattle.vx_machine_tasks.specs.Stocks.{item_stock, stored_stock, due_stock, local_stock, tasks_stock}
-use Rattle.vx_machine_tasks.specs.declared.item.Due.{Due}
-use Rattle.vx_machine_tasks.specs.declared.item.Due.TheVariants.{Put, HandOn, Append, Join}
-use Rattle.vx_machine_tasks.specs.declared.node.Shape.{Shape}
+use Rattle.vx_machine_nodes.specs.Ledger.{some_bytes, due_reserved}
+use Rattle.vx_machine_nodes.specs.Stocks.{item_stock, stored_stock, due_stock, local_stock}
+use Rattle.vx_machine_tasks.specs.Stocks.{tasks_stock}
+use Rattle.vx_machine_nodes.specs.declared.item.Due.{Due}
+use Rattle.vx_machine_nodes.specs.declared.item.Due.TheVariants.{Put, HandOn, Append, Join}
+use Rattle.vx_machine_nodes.specs.declared.node.Shape.{Shape}
 use Rattle.vx_machine_tasks.proofs.ActMoves.{put_owned, put_moved, append_owned, append_moved, join_owned, join_moved, close_moved}
-use Rattle.vx_machine_tasks.proofs.ActCauses.{memory_may, all_wider}
-use Rattle.vx_machine_tasks.proofs.CallSteps.{unasked_self, quiet_told}
+use Rattle.vx_machine_nodes.proofs.ActCauses.{memory_may, all_wider}
+use Rattle.vx_machine_nodes.proofs.CallSteps.{unasked_self, quiet_told}
 use Rattle.vx_machine_tasks.proofs.Readiness.{least_means}
 use Rattle.vx_sink.specs.ContextView.{listed}
 use Rattle.vx_machine_tasks.proofs.ActShows.{err_kept, put_does, put_says, hand_does, hand_says, append_does, append_says, close_does, join_does, join_says, join_kind}
@@ -156,3 +158,31 @@ returns-in-HandOn-clause-refused g c =
 
 pub returns-in-HandOn-clause-kept : goal.returns-in-HandOn-clause-kept
 returns-in-HandOn-clause-kept g c = err_kept c.hand_over.result (g.O.Order.outlet c.args.order.now) (g.O.Order.outlet c.hand_over.new.order) c.hand_over.ensures.outlet
+
+-- ---- what is reserved
+
+pub returns-in-Put-clause-tracked : goal.returns-in-Put-clause-tracked
+returns-in-Put-clause-tracked g c = let d : due_reserved c.args.due ≡ 0 = ap due_reserved c.in-Put.is in omega (arith, d, c.put.ensures.same)
+
+pub hand_over-requires-clause-reserved : goal.hand_over-requires-clause-reserved
+hand_over-requires-clause-reserved g c = let d : due_reserved c.args.due ≡ some_bytes c.in-HandOn.reservation = ap due_reserved c.in-HandOn.is in omega (arith, d, c.requires.reserved)
+
+pub returns-in-HandOn-clause-tracked : goal.returns-in-HandOn-clause-tracked
+returns-in-HandOn-clause-tracked g c =
+    let d : due_reserved c.args.due ≡ some_bytes c.in-HandOn.reservation = ap due_reserved c.in-HandOn.is in
+    omega (arith, d, c.hand_over.ensures.same, c.hand_over.ensures.tracked)
+
+pub append_due-requires-clause-reserved : goal.append_due-requires-clause-reserved
+append_due-requires-clause-reserved g c = omega (arith, c.requires.reserved)
+
+pub returns-in-Append-clause-tracked : goal.returns-in-Append-clause-tracked
+returns-in-Append-clause-tracked g c = let d : due_reserved c.args.due ≡ 0 = ap due_reserved c.in-Append.is in omega (arith, d, c.append_due.ensures.tracked)
+
+pub returns-in-Close-clause-tracked : goal.returns-in-Close-clause-tracked
+returns-in-Close-clause-tracked g c = let d : due_reserved c.args.due ≡ 0 = ap due_reserved c.in-Close.is in omega (arith, d, c.close_all.ensures.reserved)
+
+pub join_due-requires-clause-reserved : goal.join_due-requires-clause-reserved
+join_due-requires-clause-reserved g c = omega (arith, c.requires.reserved)
+
+pub returns-in-Join-clause-tracked : goal.returns-in-Join-clause-tracked
+returns-in-Join-clause-tracked g c = let d : due_reserved c.args.due ≡ 0 = ap due_reserved c.in-Join.is in omega (arith, d, c.join_due.ensures.tracked)

@@ -1,15 +1,17 @@
-use Rattle.std.proofs.Common.{sym, ap, subst, ◌∙◌, ◌≡◌, [], refl}
+use Rattle.std.proofs.Common.{sym, ap, subst, ◌∙◌, ◌≡◌, ◌+◌, [], refl, arith}
 use Rattle.vx_machine_ids.specs.Stock.{both}
 use Rattle.vx_machine_tasks.specs.Pairs.{next_pairs, AllMay}
 use Rattle.vx_machine_tasks.specs.Ready.{may_todo, kids_of}
-use Rattle.vx_machine_tasks.specs.Stocks.{items_stock, head_stock, local_stock, tasks_stock}
+use Rattle.vx_machine_nodes.specs.Ledger.{due_reserved, dues_reserved}
+use Rattle.vx_machine_nodes.specs.Stocks.{items_stock, local_stock}
+use Rattle.vx_machine_tasks.specs.Stocks.{head_stock, tasks_stock}
 use Rattle.vx_machine_tasks.proofs.ActMoves.{act_owned, act_moved, idle_owned, idle_moved}
-use Rattle.vx_machine_tasks.proofs.ActCauses.{wider}
-use Rattle.vx_machine_tasks.proofs.CallSteps.{unasked_by, quiet_stops}
+use Rattle.vx_machine_nodes.proofs.ActCauses.{wider}
+use Rattle.vx_machine_nodes.proofs.CallSteps.{unasked_by, quiet_stops}
 use Rattle.vx_machine_tasks.specs.declared.task.Head.{Head}
-use Rattle.vx_machine_tasks.proofs.ActShows.{kept_same}
+use Rattle.vx_machine_nodes.proofs.WriteSteps.{kept_same}
 use Rattle.vx_machine_tasks.proofs.NextShows.{due_done, due_refused, take_acted, take_refused, take_open}
-use Rattle.vx_machine_tasks.proofs.Readiness.{none_is}
+use Rattle.vx_machine_nodes.proofs.ListParts.{none_is}
 use Rattle.vx_machine_tasks.proofs.advance.advance.Goals as goal
 
 pub act-requires-clause-owned : goal.act-requires-clause-owned
@@ -81,3 +83,30 @@ returns-in-Err-clause-refused g c = λ image n.
 
 pub returns-in-Err-clause-kept : goal.returns-in-Err-clause-kept
 returns-in-Err-clause-kept g c = kept_same (g.O.Order.outlet c.args.order.now) (g.O.Order.outlet c.take_next.new.order) c.take_next.ensures.outlet
+
+-- ---- what is reserved
+
+pub act-requires-clause-reserved : goal.act-requires-clause-reserved
+act-requires-clause-reserved g c =
+    let d : dues_reserved c.args.head.now.todo.items ≡ due_reserved c.in-Some.due + dues_reserved c.pop_front.new.self.items = ap dues_reserved c.in-Some.ensures.items in
+    omega (arith, d, c.requires.reserved)
+
+pub returns-in-Some-clause-tracked : goal.returns-in-Some-clause-tracked
+returns-in-Some-clause-tracked g c =
+    let d : dues_reserved c.args.head.now.todo.items ≡ due_reserved c.in-Some.due + dues_reserved c.pop_front.new.self.items = ap dues_reserved c.in-Some.ensures.items in
+    omega (arith, d, c.act.ensures.tracked)
+
+pub take_next-requires-clause-reserved : goal.take_next-requires-clause-reserved
+take_next-requires-clause-reserved g c =
+    let d : dues_reserved c.args.head.now.todo.items ≡ dues_reserved c.pop_front.new.self.items = ap dues_reserved c.in-None.ensures.items in
+    omega (arith, d, c.requires.reserved)
+
+pub returns-in-Ok-clause-tracked : goal.returns-in-Ok-clause-tracked
+returns-in-Ok-clause-tracked g c =
+    let d : dues_reserved c.args.head.now.todo.items ≡ dues_reserved c.pop_front.new.self.items = ap dues_reserved c.in-None.ensures.items in
+    omega (arith, d, c.take_next.ensures.tracked)
+
+pub returns-in-Err-clause-tracked : goal.returns-in-Err-clause-tracked
+returns-in-Err-clause-tracked g c =
+    let d : dues_reserved c.args.head.now.todo.items ≡ dues_reserved c.pop_front.new.self.items = ap dues_reserved c.in-None.ensures.items in
+    omega (arith, d, c.take_next.ensures.tracked)

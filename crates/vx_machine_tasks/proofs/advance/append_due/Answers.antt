@@ -1,12 +1,12 @@
 use Rattle.vx_machine_ids.proofs.MoveLaws.{owned_right}
-use Rattle.vx_machine_tasks.specs.Stocks.{local_stock, stored_stock}
+use Rattle.vx_machine_nodes.specs.Stocks.{local_stock, stored_stock}
 use Rattle.vx_machine_tasks.proofs.ActMoves.{spent, spent_owned, spent_then}
 use Rattle.std.proofs.Common.{◌≡◌, refl, sym, ap, subst, arith}
 use Rattle.vx_sink.specs.ContextView.{listed}
-use Rattle.vx_machine_tasks.specs.Acting.{IsAppended}
-use Rattle.vx_machine_tasks.specs.Ledger.{local_reserved}
-use Rattle.vx_machine_tasks.proofs.CallSteps.{then_called}
-use Rattle.vx_machine_tasks.proofs.WriteSteps.{appended_done}
+use Rattle.vx_machine_nodes.specs.Acting.{IsAppended}
+use Rattle.vx_machine_nodes.specs.Ledger.{local_reserved}
+use Rattle.vx_machine_nodes.proofs.CallSteps.{then_called}
+use Rattle.vx_machine_nodes.proofs.WriteSteps.{appended_done}
 use Rattle.vx_machine_tasks.proofs.advance.append_due.Goals as goal
 
 pub append-requires-clause-owned : goal.append-requires-clause-owned

@@ -1,11 +1,12 @@
-use Rattle.std.proofs.Common.{ap, subst, sym, ◌∙◌}
+use Rattle.std.proofs.Common.{◌≡◌, ap, subst, sym, ◌∙◌, arith}
 use Rattle.vx_machine_ids.specs.Stock.{none, both}
 use Rattle.vx_machine_ids.specs.Balance.{Moved}
-use Rattle.vx_machine_tasks.specs.Stocks.{dues_stock, local_stock}
+use Rattle.vx_machine_nodes.specs.Ledger.{dues_reserved, local_reserved}
+use Rattle.vx_machine_nodes.specs.Stocks.{dues_stock, local_stock}
 use Rattle.vx_machine_tasks.proofs.ActMoves.{stays_as, end_owned, end_moved, end_local, end_then}
 use Rattle.std.proofs.lemmas.Result.{err_from_is_err_and}
-use Rattle.vx_machine_tasks.specs.Acting.{EndRefused}
-use Rattle.vx_machine_tasks.specs.View.{todo_of}
+use Rattle.vx_machine_nodes.specs.Acting.{EndRefused}
+use Rattle.vx_machine_nodes.specs.View.{todo_of}
 use Rattle.vx_machine_tasks.proofs.TakeShows.{ended_by}
 use Rattle.vx_machine_tasks.proofs.advance.end.Goals as goal
 
@@ -53,3 +54,39 @@ returns-in_err-reserve-clause-refused g c =
 
 pub returns-in-Err-clause-refused : goal.returns-in-Err-clause-refused
 returns-in-Err-clause-refused g c = subst (λ l. EndRefused l c.args.kids c.in-Err.error) c.replace-before.ensures.value c.in-Err.ensures.refused
+
+-- ---- what is reserved
+
+pub returns-in_err-reserve-clause-tracked : goal.returns-in_err-reserve-clause-tracked
+returns-in_err-reserve-clause-tracked g c =
+    let d : dues_reserved c.reserve.new.self.items ≡ dues_reserved c.args.todo.now.items = ap dues_reserved c.reserve.ensures.items in
+    omega (arith, d)
+
+pub ended-requires-clause-reserved : goal.ended-requires-clause-reserved
+ended-requires-clause-reserved g c =
+    let l : local_reserved c.replace-before.result ≡ local_reserved c.args.local.now = ap local_reserved c.replace-before.ensures.value in
+    let d : dues_reserved c.reserve.new.self.items ≡ dues_reserved c.args.todo.now.items = ap dues_reserved c.reserve.ensures.items in
+    omega (arith, l, d, c.requires.reserved)
+
+pub set_local-requires-clause-reserved : goal.set_local-requires-clause-reserved
+set_local-requires-clause-reserved g c =
+    let n : local_reserved c.replace-before.new.dest ≡ 0 = ap local_reserved c.replace-before.ensures.after in
+    omega (arith, n)
+
+pub returns-in-Ok-clause-tracked : goal.returns-in-Ok-clause-tracked
+returns-in-Ok-clause-tracked g c =
+    let l : local_reserved c.replace-before.result ≡ local_reserved c.args.local.now = ap local_reserved c.replace-before.ensures.value in
+    let d : dues_reserved c.reserve.new.self.items ≡ dues_reserved c.args.todo.now.items = ap dues_reserved c.reserve.ensures.items in
+    let n : local_reserved c.replace-before.new.dest ≡ 0 = ap local_reserved c.replace-before.ensures.after in
+    let s : local_reserved c.set_local.new.local ≡ local_reserved c.in-Ok.after = ap local_reserved c.set_local.ensures.local in
+    omega (arith, l, d, n, s, c.in-Ok.ensures.tracked, c.set_local.ensures.tracked)
+
+pub returns-in-Err-clause-tracked : goal.returns-in-Err-clause-tracked
+returns-in-Err-clause-tracked g c =
+    let l : local_reserved c.replace-before.result ≡ local_reserved c.args.local.now = ap local_reserved c.replace-before.ensures.value in
+    let d : dues_reserved c.reserve.new.self.items ≡ dues_reserved c.args.todo.now.items = ap dues_reserved c.reserve.ensures.items in
+    let n : local_reserved c.replace-before.new.dest ≡ 0 = ap local_reserved c.replace-before.ensures.after in
+    omega (arith, l, d, n, c.in-Err.ensures.tracked)
+
+pub returns-in-Ok-clause-context : goal.returns-in-Ok-clause-context
+returns-in-Ok-clause-context g c = c.set_local.ensures.context ∙ c.ended.ensures.context

@@ -1,13 +1,15 @@
-use Rattle.std.proofs.Common.{map, refl, ap, sym, ◌∙◌}
+use Rattle.std.proofs.Common.{map, refl, ap, sym, ◌∙◌, arith}
 use Rattle.std.specs.Arc.{arc_value}
 use Rattle.vx_model.specs.TyView.{ty}
 use Rattle.vx_layout_spec.specs.LayoutTree.{struct_layout}
 use Rattle.vx_layout_tree.specs.LayoutView.{layout_data}
 use Rattle.vx_machine_view.specs.State as view
-use Rattle.vx_machine_tasks.specs.declared.node.Local.TheVariants.{Over, Made}
-use Rattle.vx_machine_tasks.specs.View.{todo_of}
-use Rattle.vx_machine_tasks.proofs.DueSteps.{two_free}
-use Rattle.vx_machine_tasks.proofs.TakeShows.{columns_made, columns_end, two_more}
+use Rattle.vx_machine_nodes.specs.declared.node.Local.TheVariants.{Over, Made}
+use Rattle.vx_machine_nodes.specs.View.{todo_of}
+use Rattle.vx_machine_nodes.proofs.DueSteps.{two_free}
+use Rattle.vx_machine_nodes.proofs.ReservedSteps.{dues_push}
+use Rattle.vx_machine_nodes.proofs.TakeShows.{two_more}
+use Rattle.vx_machine_tasks.proofs.TakeShows.{columns_made, columns_end}
 use Rattle.vx_machine_tasks.proofs.advance.end_columns.Goals as goal
 
 pub returns-clause-todo : goal.returns-clause-todo
@@ -22,3 +24,7 @@ pub returns-clause-done : goal.returns-clause-done
 returns-clause-done c =
     columns_end c.args.node c.args.rows c.args.kids Over (todo_of c.push_back_reserved-2.new.self.items) (todo_of c.args.todo.now.items) (sym c.has_no_columns.ensures ∙ c.if-has_no_columns.false) refl
     (two_more c.args.todo.now.items c.push_back_reserved.new.self.items c.push_back_reserved-2.new.self.items _ _ c.push_back_reserved.ensures.items c.push_back_reserved-2.ensures.items)
+
+pub returns-clause-reserved : goal.returns-clause-reserved
+returns-clause-reserved c =
+    omega (arith, dues_push c.push_back_reserved.new.self.items c.args.todo.now.items _ c.push_back_reserved.ensures.items, dues_push c.push_back_reserved-2.new.self.items c.push_back_reserved.new.self.items _ c.push_back_reserved-2.ensures.items)

@@ -5,8 +5,8 @@ use Rattle.vx_model.specs.TyView.{ty}
 use Rattle.vx_layout_spec.specs.LayoutTree.{row_count, gathered}
 use Rattle.vx_layout_tree.specs.LayoutView.{layout_data}
 use Rattle.vx_machine_view.specs.State as view
-use Rattle.vx_machine_tasks.specs.Acting.{JoinRefused}
-use Rattle.vx_machine_tasks.proofs.RefusalSteps.{none_joined}
+use Rattle.vx_machine_nodes.specs.Acting.{JoinRefused}
+use Rattle.vx_machine_nodes.proofs.RefusalSteps.{none_joined}
 use Rattle.vx_machine_tasks.proofs.advance.end_empty.Goals as goal
 
 pub returns-clause-layout : goal.returns-clause-layout

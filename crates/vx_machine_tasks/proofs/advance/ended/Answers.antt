@@ -1,12 +1,17 @@
-use Rattle.std.proofs.Common.{ap, refl, append-nil, sym, ◌∙◌}
-use Rattle.vx_machine_ids.specs.Stock.{none, end_stock, ok_stock}
-use Rattle.vx_machine_tasks.specs.Stocks.{stored_stock, dues_stock, local_stock}
+use Rattle.std.proofs.Common.{◌≡◌, ap, refl, append-nil, sym, ◌∙◌, arith}
+use Rattle.vx_machine_ids.specs.Stock.{none, both, end_stock, ok_stock}
+use Rattle.vx_machine_ids.proofs.MoveLaws.{owned_as, moved_as}
+use Rattle.vx_machine_nodes.specs.Ledger.{local_reserved, node_reserved}
+use Rattle.vx_machine_nodes.specs.Stocks.{stored_stock, dues_stock, node_stock, local_stock}
 use Rattle.vx_machine_tasks.proofs.ActMoves.{ok_none, ended_none, ended_full, ended_owned, ended_chunked}
-use Rattle.vx_machine_tasks.proofs.DueSteps.{one_more, one_free}
+use Rattle.vx_machine_nodes.proofs.DueSteps.{one_more, one_free}
+use Rattle.vx_machine_nodes.proofs.Fitting.{none_fit}
+use Rattle.vx_machine_nodes.proofs.ReservedSteps.{dues_push}
 use Rattle.std.proofs.lemmas.List.{map_push}
-use Rattle.vx_machine_tasks.specs.declared.node.Local.TheVariants.{Full, Chunked, Lists, Over, Made}
-use Rattle.vx_machine_tasks.specs.View.{next_of, todo_of}
-use Rattle.vx_machine_tasks.proofs.TakeShows.{ended_as, ended_empty, ended_struct, ended_lists, unended_as, end_memory}
+use Rattle.vx_machine_nodes.specs.declared.node.Local.TheVariants.{Full, Chunked, Lists, Grouped, Over, Passing, Made}
+use Rattle.vx_machine_nodes.specs.View.{next_of, todo_of}
+use Rattle.vx_machine_tasks.proofs.PaidSteps.{ok_none_reserved}
+use Rattle.vx_machine_tasks.proofs.TakeShows.{ended_as, ended_empty, ended_struct, ended_lists, ended_grouped, unended_as, end_memory}
 use Rattle.vx_machine_tasks.proofs.advance.ended.Goals as goal
 
 pub returns-in-Empty-clause-moved : goal.returns-in-Empty-clause-moved
@@ -47,34 +52,34 @@ returns-in-Made-clause-moved g c =
     ended_none (g.O.Order.active c.args.order.now) (local_stock c.args.local) none (dues_stock c.args.todo.now.items) (dues_stock c.args.todo.now.items) (ap local_stock c.in-Made.is) refl refl c.requires.owned
 
 pub returns-in-Empty-clause-done : goal.returns-in-Empty-clause-done
-returns-in-Empty-clause-done g c = ended_empty c.args.local c.in-Empty.node c.args.kids (todo_of c.args.todo.now.items) c.end_empty-after.result c.in-Empty.is c.end_empty-after.ensures.layout
+returns-in-Empty-clause-done g c = λ idle. ended_empty c.args.local c.in-Empty.node c.args.kids (todo_of c.args.todo.now.items) c.end_empty-after.result c.in-Empty.is c.end_empty-after.ensures.layout
 
 pub returns-in-Full-clause-done : goal.returns-in-Full-clause-done
-returns-in-Full-clause-done g c =
+returns-in-Full-clause-done g c = λ idle.
     ended_as c.args.local (Full c.in-Full.stored) Over c.args.kids (todo_of c.push_back_reserved.new.self.items) (todo_of c.args.todo.now.items) c.in-Full.is
-    (λ ks same. record { unrefused = refl; mind_is = refl; todo_is = ap todo_of c.push_back_reserved.ensures.items ∙ map_push next_of c.args.todo.now.items _ })
+    (λ ks same. record { unrefused = refl; fits = refl; counted = none_fit; mind_is = refl; todo_is = ap todo_of c.push_back_reserved.ensures.items ∙ map_push next_of c.args.todo.now.items _ })
 
 pub returns-in-Chunked-clause-done : goal.returns-in-Chunked-clause-done
-returns-in-Chunked-clause-done g c =
+returns-in-Chunked-clause-done g c = λ idle.
     ended_as c.args.local (Chunked c.in-Chunked.node c.in-Chunked.eof _) Over c.args.kids (todo_of c.push_back_reserved-in-Chunked.new.self.items) (todo_of c.args.todo.now.items) c.in-Chunked.is
-    (λ ks same. record { unrefused = refl; mind_is = refl; todo_is = ap todo_of c.push_back_reserved-in-Chunked.ensures.items ∙ map_push next_of c.args.todo.now.items _ })
+    (λ ks same. record { unrefused = refl; fits = refl; counted = none_fit; mind_is = refl; todo_is = ap todo_of c.push_back_reserved-in-Chunked.ensures.items ∙ map_push next_of c.args.todo.now.items _ })
 
 pub returns-in-Columns-clause-done : goal.returns-in-Columns-clause-done
-returns-in-Columns-clause-done g c =
+returns-in-Columns-clause-done g c = λ idle.
     ended_struct c.args.local c.in-Columns.node c.in-Columns.rows c.args.kids (todo_of c.end_columns.new.todo.items) (todo_of c.args.todo.now.items) c.end_columns.result c.in-Columns.is c.end_columns.ensures.done
 
 pub returns-in-Over-clause-done : goal.returns-in-Over-clause-done
-returns-in-Over-clause-done g c =
+returns-in-Over-clause-done g c = λ idle.
     ended_as c.args.local Over Over c.args.kids (todo_of c.args.todo.now.items) (todo_of c.args.todo.now.items) c.in-Over.is
-    (λ ks same. record { unrefused = refl; mind_is = refl; todo_is = sym (append-nil (todo_of c.args.todo.now.items)) })
+    (λ ks same. record { unrefused = refl; fits = refl; counted = none_fit; mind_is = refl; todo_is = sym (append-nil (todo_of c.args.todo.now.items)) })
 
 pub returns-in-Made-clause-done : goal.returns-in-Made-clause-done
-returns-in-Made-clause-done g c =
+returns-in-Made-clause-done g c = λ idle.
     ended_as c.args.local (Made c.in-Made.layout) (Made c.in-Made.layout) c.args.kids (todo_of c.args.todo.now.items) (todo_of c.args.todo.now.items) c.in-Made.is
-    (λ ks same. record { unrefused = refl; mind_is = refl; todo_is = sym (append-nil (todo_of c.args.todo.now.items)) })
+    (λ ks same. record { unrefused = refl; fits = refl; counted = none_fit; mind_is = refl; todo_is = sym (append-nil (todo_of c.args.todo.now.items)) })
 
 pub returns-in-Lists-clause-done : goal.returns-in-Lists-clause-done
-returns-in-Lists-clause-done g c =
+returns-in-Lists-clause-done g c = λ idle.
     ended_lists c.args.local c.in-Lists.node c.in-Lists.rows c.args.kids (todo_of c.end_lists.new.todo.items) (todo_of c.args.todo.now.items) c.end_lists.result c.in-Lists.is c.end_lists.ensures.done
 
 pub returns-in-Empty-clause-refused : goal.returns-in-Empty-clause-refused
@@ -85,3 +90,79 @@ returns-in-Columns-clause-refused g c = end_memory c.args.local c.args.kids c.en
 
 pub returns-in-Lists-clause-refused : goal.returns-in-Lists-clause-refused
 returns-in-Lists-clause-refused g c = unended_as c.args.local (Lists c.in-Lists.node c.in-Lists.rows) c.args.kids c.end_lists.result c.in-Lists.is c.end_lists.ensures.refused
+
+pub returns-in-Passing-clause-moved : goal.returns-in-Passing-clause-moved
+returns-in-Passing-clause-moved g c =
+    ended_none (g.O.Order.active c.args.order.now) (local_stock c.args.local) none (dues_stock c.args.todo.now.items) (dues_stock c.args.todo.now.items) (ap local_stock c.in-Passing.is) refl refl c.requires.owned
+
+pub returns-in-Passing-clause-done : goal.returns-in-Passing-clause-done
+returns-in-Passing-clause-done g c = λ idle.
+    ended_as c.args.local Passing Passing c.args.kids (todo_of c.args.todo.now.items) (todo_of c.args.todo.now.items) c.in-Passing.is
+    (λ ks same. record { unrefused = refl; fits = refl; counted = none_fit; mind_is = refl; todo_is = sym (append-nil (todo_of c.args.todo.now.items)) })
+
+-- ---- a node that regroups
+
+pub end_grouped-requires-clause-owned : goal.end_grouped-requires-clause-owned
+end_grouped-requires-clause-owned g c =
+    owned_as (g.O.Order.active c.args.order.now) (both (local_stock c.args.local) (dues_stock c.args.todo.now.items)) (both (node_stock c.in-Grouped.node) (dues_stock c.args.todo.now.items))
+    (ap (λ l. both (local_stock l) (dues_stock c.args.todo.now.items)) c.in-Grouped.is) c.requires.owned
+
+pub end_grouped-requires-clause-reserved : goal.end_grouped-requires-clause-reserved
+end_grouped-requires-clause-reserved g c =
+    let l : local_reserved c.args.local ≡ node_reserved c.in-Grouped.node = ap local_reserved c.in-Grouped.is in
+    omega (arith, l, c.requires.reserved)
+
+pub returns-in-Grouped-clause-moved : goal.returns-in-Grouped-clause-moved
+returns-in-Grouped-clause-moved g c =
+    let d = dues_stock c.args.todo.now.items in
+    let r = both (ok_stock local_stock c.end_grouped.result) (dues_stock c.end_grouped.new.todo.items) in
+    moved_as (g.O.Order.active c.args.order.now) (g.O.Order.active c.end_grouped.new.order) (both (node_stock c.in-Grouped.node) d) (both (local_stock c.args.local) d) r r
+    (sym (ap (λ l. both (local_stock l) (dues_stock c.args.todo.now.items)) c.in-Grouped.is)) refl c.end_grouped.ensures.moved
+
+pub returns-in-Grouped-clause-done : goal.returns-in-Grouped-clause-done
+returns-in-Grouped-clause-done g c = λ idle.
+    ended_grouped c.args.local c.in-Grouped.node c.args.kids (todo_of c.end_grouped.new.todo.items) (todo_of c.args.todo.now.items) c.end_grouped.result c.in-Grouped.is (c.end_grouped.ensures.done idle c.args.kids)
+
+pub returns-in-Grouped-clause-refused : goal.returns-in-Grouped-clause-refused
+returns-in-Grouped-clause-refused g c = unended_as c.args.local (Grouped c.in-Grouped.node) c.args.kids c.end_grouped.result c.in-Grouped.is (c.end_grouped.ensures.refused c.args.kids)
+
+-- ---- what is reserved
+
+pub returns-in-Empty-clause-tracked : goal.returns-in-Empty-clause-tracked
+returns-in-Empty-clause-tracked g c =
+    let l : local_reserved c.args.local ≡ 0 = ap local_reserved c.in-Empty.is in
+    omega (arith, l, ok_none_reserved c.end_empty-after.result c.end_empty-after.ensures.unreserved)
+
+pub returns-in-Full-clause-tracked : goal.returns-in-Full-clause-tracked
+returns-in-Full-clause-tracked g c =
+    let l : local_reserved c.args.local ≡ 0 = ap local_reserved c.in-Full.is in
+    omega (arith, l, dues_push c.push_back_reserved.new.self.items c.args.todo.now.items _ c.push_back_reserved.ensures.items)
+
+pub returns-in-Chunked-clause-tracked : goal.returns-in-Chunked-clause-tracked
+returns-in-Chunked-clause-tracked g c =
+    let l : local_reserved c.args.local ≡ 0 = ap local_reserved c.in-Chunked.is in
+    omega (arith, l, dues_push c.push_back_reserved-in-Chunked.new.self.items c.args.todo.now.items _ c.push_back_reserved-in-Chunked.ensures.items)
+
+pub returns-in-Columns-clause-tracked : goal.returns-in-Columns-clause-tracked
+returns-in-Columns-clause-tracked g c =
+    let l : local_reserved c.args.local ≡ 0 = ap local_reserved c.in-Columns.is in
+    omega (arith, l, c.end_columns.ensures.reserved, ok_none_reserved c.end_columns.result c.end_columns.ensures.unreserved)
+
+pub returns-in-Lists-clause-tracked : goal.returns-in-Lists-clause-tracked
+returns-in-Lists-clause-tracked g c =
+    let l : local_reserved c.args.local ≡ 0 = ap local_reserved c.in-Lists.is in
+    omega (arith, l, c.end_lists.ensures.reserved, ok_none_reserved c.end_lists.result c.end_lists.ensures.unreserved)
+
+pub returns-in-Grouped-clause-tracked : goal.returns-in-Grouped-clause-tracked
+returns-in-Grouped-clause-tracked g c =
+    let l : local_reserved c.args.local ≡ node_reserved c.in-Grouped.node = ap local_reserved c.in-Grouped.is in
+    omega (arith, l, c.end_grouped.ensures.tracked)
+
+pub returns-in-Over-clause-tracked : goal.returns-in-Over-clause-tracked
+returns-in-Over-clause-tracked g c = let l : local_reserved c.args.local ≡ 0 = ap local_reserved c.in-Over.is in omega (arith, l)
+
+pub returns-in-Passing-clause-tracked : goal.returns-in-Passing-clause-tracked
+returns-in-Passing-clause-tracked g c = let l : local_reserved c.args.local ≡ 0 = ap local_reserved c.in-Passing.is in omega (arith, l)
+
+pub returns-in-Made-clause-tracked : goal.returns-in-Made-clause-tracked
+returns-in-Made-clause-tracked g c = let l : local_reserved c.args.local ≡ 0 = ap local_reserved c.in-Made.is in omega (arith, l)

@@ -1,8 +1,9 @@
 use Rattle.vx_machine_ids.proofs.MoveLaws.{owned_right}
-use Rattle.vx_machine_tasks.specs.Stocks.{local_stock, tasks_stock}
+use Rattle.vx_machine_nodes.specs.Stocks.{local_stock}
+use Rattle.vx_machine_tasks.specs.Stocks.{tasks_stock}
 use Rattle.vx_machine_tasks.proofs.ActMoves.{joined_moved, local_owned, joined_then}
 use Rattle.std.proofs.Common.{◌≡◌, ap, ◌∙◌, arith}
-use Rattle.vx_machine_tasks.specs.Ledger.{local_reserved}
+use Rattle.vx_machine_nodes.specs.Ledger.{local_reserved}
 use Rattle.vx_machine_tasks.specs.View.{row}
 use Rattle.vx_machine_tasks.proofs.ActShows.{joined_done}
 use Rattle.vx_machine_tasks.proofs.advance.join_due.Goals as goal

@@ -3,10 +3,11 @@ use Rattle.vx_sequence.specs.Universe.{Active}
 use Rattle.vx_machine_ids.specs.Stock.{none}
 use Rattle.vx_machine_ids.specs.Balance.{Owned, Moved}
 use Rattle.vx_machine_ids.proofs.MoveLaws.{owned_right}
-use Rattle.vx_machine_tasks.specs.Stocks.{item_stock, tasks_stock}
+use Rattle.vx_machine_nodes.specs.Stocks.{item_stock}
+use Rattle.vx_machine_tasks.specs.Stocks.{tasks_stock}
 use Rattle.vx_machine_tasks.proofs.ActMoves.{given_moved, back_moved}
 use Rattle.vx_machine_tasks.proofs.Readiness.{room_within}
-use Rattle.vx_machine_tasks.specs.View.{item_of}
+use Rattle.vx_machine_nodes.specs.View.{item_of}
 use Rattle.vx_machine_tasks.proofs.PaidSteps.{at_same}
 use Rattle.vx_machine_tasks.proofs.RowSteps.{put_row}
 use Rattle.vx_machine_tasks.proofs.advance.put.Goals as goal

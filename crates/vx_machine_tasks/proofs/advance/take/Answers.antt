@@ -1,9 +1,13 @@
-use Rattle.std.proofs.Common.{ap, sym}
-use Rattle.vx_machine_ids.specs.Stock.{none, end_stock}
-use Rattle.vx_machine_tasks.specs.Stocks.{item_stock, dues_stock, local_stock, tasks_stock}
-use Rattle.vx_machine_tasks.proofs.ActMoves.{take_chunked_owned, take_chunked_moved, take_columns_owned, take_columns_moved, take_flat_owned, take_flat_moved}
-use Rattle.vx_machine_tasks.specs.declared.node.Local.TheVariants.{Chunked, Columns, Lists}
-use Rattle.vx_machine_tasks.specs.View.{todo_of, row}
+use Rattle.std.proofs.Common.{◌≡◌, ap, sym, arith}
+use Rattle.vx_machine_ids.specs.Stock.{none, both, end_stock}
+use Rattle.vx_machine_nodes.specs.Acting.{is_grouped}
+use Rattle.vx_machine_nodes.specs.Ledger.{local_reserved}
+use Rattle.vx_machine_nodes.specs.Stocks.{item_stock, dues_stock, local_stock}
+use Rattle.vx_machine_tasks.specs.Stocks.{tasks_stock}
+use Rattle.vx_machine_tasks.proofs.ActMoves.{take_chunked_owned, take_chunked_moved, take_columns_owned, take_columns_moved, take_flat_owned, take_flat_moved, take_group_owned, take_group_moved}
+use Rattle.vx_machine_nodes.specs.declared.node.Local.TheVariants.{Chunked, Columns, Lists}
+use Rattle.vx_machine_nodes.specs.View.{todo_of}
+use Rattle.vx_machine_tasks.specs.View.{row}
 use Rattle.vx_machine_tasks.proofs.TakeShows.{chunked_by, chunked_why_by, columns_by, columns_why_by, flat_by, flat_why_by, flat_left}
 use Rattle.vx_machine_tasks.proofs.StopSteps.{chunk_stops, group_done, group_stops}
 use Rattle.vx_machine_tasks.proofs.advance.take.Goals as goal
@@ -90,3 +94,38 @@ returns-in-Grouped-clause-done g c =
 pub returns-in-Grouped-clause-refused : goal.returns-in-Grouped-clause-refused
 returns-in-Grouped-clause-refused g c = λ more.
     group_stops c.args.ctx.now c.args.name.now (row c.args.kids.now.items) c.args.item c.args.local.now c.regroup.result c.regroup.ensures.refused
+
+pub regroup-requires-clause-owned : goal.regroup-requires-clause-owned
+regroup-requires-clause-owned g c =
+    take_group_owned (g.O.Order.active c.args.order.now) (local_stock c.args.local.now) (dues_stock c.args.todo.now.items) (tasks_stock c.args.kids.now.items) (item_stock c.args.item) c.requires.owned
+
+pub regroup-requires-clause-reserved : goal.regroup-requires-clause-reserved
+regroup-requires-clause-reserved g c = omega (arith, c.requires.reserved)
+
+pub regroup-requires-clause-grouped : goal.regroup-requires-clause-grouped
+regroup-requires-clause-grouped g c = ap is_grouped c.in-Grouped.is
+
+pub returns-in-Grouped-clause-moved : goal.returns-in-Grouped-clause-moved
+returns-in-Grouped-clause-moved g c =
+    take_group_moved (g.O.Order.active c.args.order.now) (local_stock c.args.local.now) (dues_stock c.args.todo.now.items) (tasks_stock c.args.kids.now.items) (item_stock c.args.item) c.requires.owned
+    (g.O.Order.active c.regroup.new.order) (both (local_stock c.regroup.new.local) (dues_stock c.regroup.new.todo.items)) c.regroup.ensures.moved
+
+-- ---- what is reserved
+
+pub returns-in-Chunked-clause-tracked : goal.returns-in-Chunked-clause-tracked
+returns-in-Chunked-clause-tracked g c = let l : local_reserved c.args.local.now ≡ 0 = ap local_reserved c.in-Chunked.is in omega (arith, l, c.take_chunked.ensures.tracked)
+
+pub returns-in-Columns-clause-tracked : goal.returns-in-Columns-clause-tracked
+returns-in-Columns-clause-tracked g c = let l : local_reserved c.args.local.now ≡ 0 = ap local_reserved c.in-Columns.is in omega (arith, l, c.take_columns.ensures.reserved)
+
+pub returns-in-Lists-clause-tracked : goal.returns-in-Lists-clause-tracked
+returns-in-Lists-clause-tracked g c = let l : local_reserved c.args.local.now ≡ 0 = ap local_reserved c.in-Lists.is in omega (arith, l, c.take_lists.ensures.reserved)
+
+pub returns-in-Grouped-clause-tracked : goal.returns-in-Grouped-clause-tracked
+returns-in-Grouped-clause-tracked g c = omega (arith, c.regroup.ensures.tracked)
+
+pub take_flat-requires-clause-reserved : goal.take_flat-requires-clause-reserved
+take_flat-requires-clause-reserved g c = omega (arith, c.requires.reserved)
+
+pub returns-in_default-clause-tracked : goal.returns-in_default-clause-tracked
+returns-in_default-clause-tracked g c = omega (arith, c.take_flat.ensures.tracked)

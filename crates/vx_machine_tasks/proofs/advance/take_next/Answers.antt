@@ -1,10 +1,11 @@
-use Rattle.vx_machine_tasks.specs.Stocks.{dues_stock, local_stock, tasks_stock}
+use Rattle.vx_machine_nodes.specs.Stocks.{dues_stock, local_stock}
+use Rattle.vx_machine_tasks.specs.Stocks.{tasks_stock}
 use Rattle.vx_machine_tasks.proofs.ActMoves.{take_owned, take_moved, last_owned, last_moved}
-use Rattle.std.proofs.Common.{refl, sym, ◌∙◌}
+use Rattle.std.proofs.Common.{refl, sym, ◌∙◌, arith}
 use Rattle.vx_machine_tasks.specs.declared.task.Head.{Head}
-use Rattle.vx_machine_tasks.specs.View.{todo_of}
+use Rattle.vx_machine_nodes.specs.View.{todo_of}
 use Rattle.vx_machine_tasks.proofs.NextShows.{chunk_done, chunk_refused, end_done, end_refused}
-use Rattle.vx_machine_tasks.proofs.Readiness.{none_is}
+use Rattle.vx_machine_nodes.proofs.ListParts.{none_is}
 use Rattle.vx_machine_tasks.proofs.advance.take_next.Goals as goal
 
 pub take-requires-clause-owned : goal.take-requires-clause-owned
@@ -50,3 +51,17 @@ pub returns-in-None-clause-refused : goal.returns-in-None-clause-refused
 returns-in-None-clause-refused g c = λ more.
     end_refused c.args.ctx.now c.args.head.now c.args.kids.now.items c.pop_front.new.self.items c.in-None.ensures.items
     (none_is c.pop_front.new.self.items (sym c.pop_front.new.self.ok.0 ∙ c.in-None.ensures.cases.1)) c.len.result c.end.result (c.len.ensures ∙ c.args.kids.now.ok.0) c.end.ensures.refused
+
+-- ---- what is reserved
+
+pub take-requires-clause-reserved : goal.take-requires-clause-reserved
+take-requires-clause-reserved g c = omega (arith, c.requires.reserved)
+
+pub returns-in-Some-clause-tracked : goal.returns-in-Some-clause-tracked
+returns-in-Some-clause-tracked g c = omega (arith, c.take.ensures.tracked)
+
+pub end-requires-clause-reserved : goal.end-requires-clause-reserved
+end-requires-clause-reserved g c = omega (arith, c.requires.reserved)
+
+pub returns-in-None-clause-tracked : goal.returns-in-None-clause-tracked
+returns-in-None-clause-tracked g c = omega (arith, c.end.ensures.tracked)

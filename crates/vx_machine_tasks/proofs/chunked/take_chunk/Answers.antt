@@ -1,11 +1,13 @@
-use Rattle.std.proofs.Common.{◌+◌, [], ◌∷◌, ◌++◌, ap, ◌∙◌, arith}
+use Rattle.std.proofs.Common.{◌≡◌, ◌+◌, [], ◌∷◌, ◌++◌, length, ap, ◌∙◌, arith}
 use Rattle.vx_machine_ids.specs.Stock.{end_stock}
-use Rattle.vx_machine_tasks.specs.Stocks.{item_stock}
+use Rattle.vx_machine_nodes.specs.Stocks.{item_stock}
 use Rattle.vx_machine_tasks.proofs.StartMoves.{fed_moved}
-use Rattle.vx_path.specs.Path.{inside}
+use Rattle.vx_path.specs.Path.{under, inside}
+use Rattle.vx_machine_tasks.specs.Ledger.{task_reserved, tasks_reserved}
+use Rattle.vx_machine_tasks.proofs.ReservedSteps.{tasks_push, started_none}
 use Rattle.vx_machine_view.specs.Start.{first_indices}
-use Rattle.vx_machine_tasks.specs.View.{item_of, child_form}
-use Rattle.vx_machine_tasks.proofs.Fitting.{then_fit}
+use Rattle.vx_machine_nodes.specs.View.{item_of, child_form}
+use Rattle.vx_machine_nodes.proofs.Fitting.{then_fit}
 use Rattle.vx_machine_tasks.proofs.RowSteps.{chunk_row}
 use Rattle.vx_machine_tasks.proofs.chunked.take_chunk.Goals as goal
 
@@ -27,3 +29,27 @@ pub returns-in_ok-kid-in-Ok-clause-kids : goal.returns-in_ok-kid-in-Ok-clause-ki
 returns-in_ok-kid-in-Ok-clause-kids g c =
     chunk_row (child_form c.args.node.now) c.args.node.now.marked c.args.name.now (inside c.args.eof.now) c.in-Ok.kid c.in_ok-kid-in-Ok.kid (item_of c.args.item) c.args.kids.now.items c.push_reserved.new.self.items
     c.in-Ok.ensures.started c.in_ok-kid-in-Ok.ensures.fed (c.push_reserved.ensures.items ∙ ap (λ z. z ++ (c.in_ok-kid-in-Ok.kid ∷ [])) c.next_child.ensures.kids)
+
+-- the child that was started has reserved nothing
+
+pub fed-requires-clause-reserved : goal.fed-requires-clause-reserved
+fed-requires-clause-reserved g c =
+    omega (arith, started_none (child_form c.args.node.now) c.args.node.now.marked (under c.args.name.now (length c.args.kids.now.items)) (inside c.args.eof.now) c.in-Ok.kid c.in-Ok.ensures.started)
+
+pub returns-in_ok-kid-in-Ok-clause-tracked : goal.returns-in_ok-kid-in-Ok-clause-tracked
+returns-in_ok-kid-in-Ok-clause-tracked g c =
+    let n : task_reserved c.in-Ok.kid ≡ 0 = started_none (child_form c.args.node.now) c.args.node.now.marked (under c.args.name.now (length c.args.kids.now.items)) (inside c.args.eof.now) c.in-Ok.kid c.in-Ok.ensures.started in
+    let p : tasks_reserved c.push_reserved.new.self.items ≡ tasks_reserved c.args.kids.now.items + task_reserved c.in_ok-kid-in-Ok.kid =
+    tasks_push c.push_reserved.new.self.items c.args.kids.now.items c.in_ok-kid-in-Ok.kid (c.push_reserved.ensures.items ∙ ap (λ z. z ++ (c.in_ok-kid-in-Ok.kid ∷ [])) c.next_child.ensures.kids) in
+    omega (arith, n, p, c.in_ok-kid-in-Ok.ensures.tracked)
+
+pub returns-in_err-kid-in-Ok-clause-tracked : goal.returns-in_err-kid-in-Ok-clause-tracked
+returns-in_err-kid-in-Ok-clause-tracked g c =
+    let n : task_reserved c.in-Ok.kid ≡ 0 = started_none (child_form c.args.node.now) c.args.node.now.marked (under c.args.name.now (length c.args.kids.now.items)) (inside c.args.eof.now) c.in-Ok.kid c.in-Ok.ensures.started in
+    let k : tasks_reserved c.next_child.new.kids.items ≡ tasks_reserved c.args.kids.now.items = ap tasks_reserved c.next_child.ensures.kids in
+    omega (arith, n, k, c.in_err-kid-in-Ok.ensures.tracked)
+
+pub returns-in-Err-clause-tracked : goal.returns-in-Err-clause-tracked
+returns-in-Err-clause-tracked g c =
+    let k : tasks_reserved c.next_child.new.kids.items ≡ tasks_reserved c.args.kids.now.items = ap tasks_reserved c.next_child.ensures.kids in
+    omega (arith, k)

@@ -2,8 +2,9 @@ use Rattle.std.proofs.Common.{◌+◌, ◌<◌, ◌^◌, false, ap, subst, ◌�
 use Rattle.std.proofs.lemmas.Result.{err_from_is_err_and}
 use Rattle.std.specs.Arc.{arc_value}
 use Rattle.vx_model.specs.TyView.{ty}
-use Rattle.vx_machine_tasks.specs.Acting.{SplitRefused}
-use Rattle.vx_machine_tasks.specs.View.{child_form, row}
+use Rattle.vx_machine_nodes.specs.Acting.{SplitRefused}
+use Rattle.vx_machine_nodes.specs.View.{child_form}
+use Rattle.vx_machine_tasks.specs.View.{row}
 use Rattle.vx_machine_tasks.proofs.TakeShows.{chunked_took, start_why, chunked_why}
 use Rattle.vx_machine_tasks.proofs.chunked.take_chunked.Goals as goal
 

@@ -3,7 +3,8 @@ use Rattle.vx_layout_tree.specs.LayoutView.{layout_data}
 use Rattle.vx_sink.specs.ContextView.{counted}
 use Rattle.vx_machine_view.specs.Acts.{layouts_in}
 use Rattle.vx_machine_ids.specs.Balance.{Owned, Moved}
-use Rattle.vx_machine_tasks.specs.Ledger.{Paid, told_by, tasks_reserved}
+use Rattle.vx_machine_nodes.specs.Ledger.{Paid, told_by}
+use Rattle.vx_machine_tasks.specs.Ledger.{tasks_reserved}
 use Rattle.vx_machine_tasks.specs.Ready.{all_made, kids_of}
 use Rattle.vx_machine_tasks.specs.Sizes.{task_count, count_of_all}
 use Rattle.vx_machine_tasks.specs.Stocks.{tasks_stock}
@@ -14,7 +15,7 @@ abbrev pub decreases-add_layout : goal.decreases-add_layout
 decreases-add_layout g l = 2 * task_count l.kid
 
 abbrev pub decreases-add_layouts : goal.decreases-add_layouts
-decreases-add_layouts g l = 2 * count_of_all l.kids.items + 1
+decreases-add_layouts g l = 2 * count_of_all l.kids.now.items + 1
 
 abbrev pub invariant-add_layouts-kids : goal.invariant-add_layouts-kids
 invariant-add_layouts-kids g l = record {

@@ -1,7 +1,8 @@
 use Rattle.std.proofs.Common.{map}
 use Rattle.vx_layout_tree.specs.LayoutView.{layout_data}
 use Rattle.vx_machine_view.specs.Acts.{layouts_in, joined_rows}
-use Rattle.vx_machine_tasks.specs.View.{fold_of, row}
+use Rattle.vx_machine_nodes.specs.View.{fold_of}
+use Rattle.vx_machine_tasks.specs.View.{row}
 use Rattle.vx_machine_tasks.proofs.ActShows.{on_ok}
 use Rattle.vx_machine_tasks.proofs.JoinSteps.{shape_chunks, chunks_refused, shape_columns, shape_lists, columns_refused}
 use Rattle.vx_machine_tasks.proofs.join.join.Goals as goal

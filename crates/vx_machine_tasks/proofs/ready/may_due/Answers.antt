@@ -3,7 +3,7 @@ use Rattle.vx_sequence.specs.Universe.{Active}
 use Rattle.vx_machine_ids.specs.Balance.{Owned}
 use Rattle.vx_machine_ids.proofs.CallLaws.{owned_active}
 use Rattle.vx_machine_tasks.specs.Ready.{may_due, kids_of}
-use Rattle.vx_machine_tasks.specs.Stocks.{due_stock}
+use Rattle.vx_machine_nodes.specs.Stocks.{due_stock}
 use Rattle.vx_machine_tasks.proofs.Readiness.{least_is}
 use Rattle.vx_machine_tasks.proofs.ready.may_due.Goals as goal
 

@@ -12,12 +12,13 @@ use Rattle.vx_layout_tree.specs.Children.{fields_of}
 use Rattle.vx_rules.specs.Columns.{offset_type}
 use Rattle.vx_split.specs.ListState.{state_at}
 use Rattle.vx_split.proofs.ListSteps.{ty_offsets}
-use Rattle.vx_strategy_spec.specs.StrategyData.{StrategyData}
+use Rattle.vx_strategy_spec.specs.StrategyData.{StrategyData, grouped, by_blocks, by_bytes, into_one}
+use Rattle.vx_strategy_options.specs.RuleViews.{block_rule}
 use Rattle.vx_table_dispatch.specs.Settled.{passes_on, settled}
 use Rattle.vx_table_dispatch.proofs.Settling.{no_other}
 use Rattle.vx_strategy.specs.declared.strategy.Strategy.TheVariants.{Flat}
 use Rattle.vx_write_answer.specs.declared.error.WriteError.TheVariants.{OutOfMemory}
-use Rattle.vx_machine_turns.specs.Forms.{Form, Forms, form_then}
+use Rattle.vx_machine_turns.specs.Forms.{Form, Forms, grouped_form, form_then}
 use Rattle.vx_machine_turns.specs.Starts.{start_fault}
 use Rattle.vx_machine_view.specs.State.{by_column}
 use Rattle.vx_machine_view.specs.Start.{first_indices}
@@ -25,21 +26,25 @@ use Rattle.vx_strategy.specs.FieldWays.{field_ways}
 use Rattle.vx_strategy.specs.NodeViews.{struct_way, list_way}
 use Rattle.vx_strategy.specs.StrategyView.{strategy_data}
 use Rattle.vx_sequence.specs.Universe.{Active}
-use Rattle.vx_machine_ids.specs.Stock.{Stock, none, both, end_stock, ok_stock}
+use Rattle.vx_machine_ids.specs.Stock.{Stock, none, both, end_stock, ok_stock, some_stock}
+use Rattle.vx_machine_ids.proofs.Stocks.{both_none}
 use Rattle.vx_machine_ids.specs.Balance.{Owned, Moved}
-use Rattle.vx_machine_ids.proofs.MoveLaws.{moved_none, moved_then, owned_left, owned_now}
+use Rattle.vx_machine_ids.proofs.MoveLaws.{moved_none, moved_then, moved_as, owned_left, owned_now}
 use Rattle.vx_machine_view.specs.Built.{is_built}
 use Rattle.vx_machine_tasks.specs.Weight.{weight, weights}
-use Rattle.vx_machine_tasks.specs.Starting.{field_form, field_forms, validity_form, validity_forms, columns_form, lists_form, Started, ManyStarted, OneStarted, AllStarted, StartRefused, ManyRefused, OneRefused}
+use Rattle.vx_machine_tasks.specs.Starting.{field_form, field_forms, validity_form, validity_forms, columns_form, lists_form, Started, ManyStarted, OneStarted, AllStarted, OnlyStarted, StartRefused, ManyRefused, OneRefused}
+use Rattle.vx_machine_nodes.specs.Fresh.{Begins}
+use Rattle.vx_machine_nodes.specs.Stocks.{item_stock}
 use Rattle.vx_machine_tasks.specs.Stocks.{task_stock, tasks_stock}
-use Rattle.vx_machine_tasks.specs.View.{form_at, form_of, row}
-use Rattle.vx_machine_tasks.specs.declared.node.Local.TheVariants.{Empty, Columns, Lists}
+use Rattle.vx_machine_nodes.specs.View.{form_at, form_of}
+use Rattle.vx_machine_tasks.specs.View.{row}
+use Rattle.vx_machine_nodes.specs.declared.node.Local.TheVariants.{Empty, Columns, Lists, Grouped}
 use Rattle.vx_machine_tasks.proofs.StartMoves.{alone_moved, none_yet, from_none, pointer_owned, kids_left, left_owned, held_kids, same_kids, pointer_moved, child_moved, off_owned, off_moved}
-use Rattle.vx_machine_tasks.proofs.Fitting.{none_fit}
-use Rattle.vx_machine_tasks.proofs.StartShows.{Left, plain_form, typed, field_form_is, fields_more, fields_end, memory_refused, node_refused, task_refused, pointer_refused, started, one_started, none_started, left_first, left_next, left_refused, all_started, validity_refused, list_at, list_plain, list_mind, left_elements, left_offsets, elements_refused, offsets_refused, last_started, rest_refused}
+use Rattle.vx_machine_nodes.proofs.Fitting.{none_fit}
+use Rattle.vx_machine_tasks.proofs.StartShows.{Left, grouped_at, only_started, plain_form, typed, field_form_is, fields_more, fields_end, memory_refused, node_refused, task_refused, pointer_refused, started, one_started, none_started, left_first, left_next, left_refused, all_started, validity_refused, list_at, list_plain, list_mind, left_elements, left_offsets, elements_refused, offsets_refused, last_started, rest_refused}
 use Rattle.vx_machine_tasks.proofs.ViewParts.{len_is}
 use Rattle.vx_machine_tasks.proofs.StartWeights.{field_weight, writer_built, struct_built, list_built, settled_built, settled_form}
-use Rattle.vx_machine_tasks.specs.Ledger.{tasks_reserved}
+use Rattle.vx_machine_tasks.specs.Ledger.{task_reserved, tasks_reserved}
 use Rattle.vx_machine_tasks.proofs.ReservedSteps.{tasks_push, started_none}
 use Rattle.vx_machine_tasks.proofs.start.+start.Goals as goal
 
@@ -628,10 +633,211 @@ pub start_grouped-start_only-requires : goal.start_grouped-start_only-requires
 start_grouped-start_only-requires g t c κs within =
     let k : Form = form_at c.args.child.now.item (ty (arc_value c.args.node.dtype)) in
     let falls : 8 * (2 + weight k) + 2 < 8 * (2 + weight k) + 3 = omega arith in
-    search (rules, arith, c.requires.owned, c.requires.built, falls)
+    let none : c.new-kids.result.items ≡ [] = c.new-kids.ensures.items in
+    search (rules, arith, c.requires.owned, c.requires.built, none, falls)
+
+pub start_grouped-returns-in-Ok-clause-moved : goal.start_grouped-returns-in-Ok-clause-moved
+start_grouped-returns-in-Ok-clause-moved g t c =
+    let k : Stock = tasks_stock c.start_only.new.kids.items in
+    held_kids (g.O.Order.active c.args.order.now) (g.O.Order.active c.start_only.new.order) (end_stock c.args.eof) k c.waiting.result
+    (c.waiting.ensures.held ∙ ap (λ z. both (some_stock item_stock z) k) c.requires.fresh.newest) c.start_only.ensures.moved
+
+pub start_grouped-returns-in-Ok-clause-shows : goal.start_grouped-returns-in-Ok-clause-shows
+start_grouped-returns-in-Ok-clause-shows g t c = λ by begins.
+    let u : Ty = ty (arc_value c.args.node.dtype) in
+    let k : Form = form_at c.args.child.now.item u in
+    let h : OnlyStarted k c.args.marked c.args.name c.args.eof c.start_only.new.kids.items = c.in-Ok.ensures.shows in
+    started (grouped_form by u k) c.args.marked c.args.name c.args.eof (Grouped c.args.node) c.start_only.new.kids.items c.waiting.result
+    h.allowed h.counted (begins k c.args.marked c.args.eof) h.tasks c.waiting.ensures.shows
+
+pub start_grouped-refuse_started-requires-clause-owned : goal.start_grouped-refuse_started-requires-clause-owned
+start_grouped-refuse_started-requires-clause-owned g t c =
+    owned_now (g.O.Order.active c.args.order.now) (g.O.Order.active c.start_only.new.order) (end_stock c.args.eof) (tasks_stock c.start_only.new.kids.items) c.requires.owned c.start_only.ensures.moved
+
+pub start_grouped-returns-in-Err-clause-moved : goal.start_grouped-returns-in-Err-clause-moved
+start_grouped-returns-in-Err-clause-moved g t c =
+    moved_then (g.O.Order.active c.args.order.now) (g.O.Order.active c.start_only.new.order) (g.O.Order.active c.refuse_started.new.order) (end_stock c.args.eof) (tasks_stock c.start_only.new.kids.items) none
+    c.start_only.ensures.moved c.refuse_started.ensures.moved
+
+-- its only child
 
 pub start_only-start_task-requires : goal.start_only-start_task-requires
 start_only-start_task-requires g t c κs within =
     let k : Form = form_at c.args.child.now.item (ty (arc_value c.args.dtype.now)) in
-    let falls : 8 * weight k + 5 < 8 * (2 + weight k) + 2 = omega arith in
-    search (rules, arith, c.requires.owned, c.requires.built, falls)
+    let f : form_of c.strategy.result.now (arc_value c.in-Ok.dtype) ≡ k = λ j. form_at (c.strategy.ensures.same j) (c.in-Ok.ensures.dtype j) in
+    let b : IsTrue (is_built (strategy_data c.strategy.result.now)) = subst (λ x. IsTrue (is_built x)) (sym c.strategy.ensures.same) c.requires.built in
+    let n : weight (form_of c.strategy.result.now (arc_value c.in-Ok.dtype)) ≡ weight k = ap weight f in
+    let falls : 8 * weight (form_of c.strategy.result.now (arc_value c.in-Ok.dtype)) + 5 < 8 * (2 + weight k) + 2 = omega (arith, n) in
+    search (rules, arith, c.requires.owned, b, falls)
+
+pub start_only-returns-in_ok-kid-in-Ok-clause-moved : goal.start_only-returns-in_ok-kid-in-Ok-clause-moved
+start_only-returns-in_ok-kid-in-Ok-clause-moved g t c =
+    let s : Stock = task_stock c.in_ok-kid-in-Ok.kid in
+    let e : Stock = end_stock c.args.eof in
+    let is : c.push_reserved.new.self.items ≡ c.in_ok-kid-in-Ok.kid ∷ [] = c.push_reserved.ensures.items ∙ ap (λ z. z ++ (c.in_ok-kid-in-Ok.kid ∷ [])) (c.child_parts.ensures.kids ∙ c.requires.none) in
+    moved_as (g.O.Order.active c.args.order.now) (g.O.Order.active c.start_task.new.order) e e s (tasks_stock c.push_reserved.new.self.items) refl (sym (ap tasks_stock is ∙ both_none s)) c.in_ok-kid-in-Ok.ensures.moved
+
+pub start_only-returns-in_ok-kid-in-Ok-clause-reserved : goal.start_only-returns-in_ok-kid-in-Ok-clause-reserved
+start_only-returns-in_ok-kid-in-Ok-clause-reserved g t c =
+    let is : c.push_reserved.new.self.items ≡ c.in_ok-kid-in-Ok.kid ∷ [] = c.push_reserved.ensures.items ∙ ap (λ z. z ++ (c.in_ok-kid-in-Ok.kid ∷ [])) (c.child_parts.ensures.kids ∙ c.requires.none) in
+    let r : tasks_reserved c.push_reserved.new.self.items ≡ task_reserved c.in_ok-kid-in-Ok.kid + 0 = ap tasks_reserved is in
+    omega (arith, r, started_none (form_of c.strategy.result.now (arc_value c.in-Ok.dtype)) c.args.marked c.in-Ok.name c.args.eof c.in_ok-kid-in-Ok.kid c.in_ok-kid-in-Ok.ensures.shows)
+
+pub start_only-returns-in_ok-kid-in-Ok-clause-shows : goal.start_only-returns-in_ok-kid-in-Ok-clause-shows
+start_only-returns-in_ok-kid-in-Ok-clause-shows g t c =
+    let k : Form = form_at c.args.child.now.item (ty (arc_value c.args.dtype.now)) in
+    let f : form_of c.strategy.result.now (arc_value c.in-Ok.dtype) ≡ k = λ j. form_at (c.strategy.ensures.same j) (c.in-Ok.ensures.dtype j) in
+    only_started k c.args.marked c.args.name.now c.in-Ok.name c.args.eof c.push_reserved.new.self.items c.in_ok-kid-in-Ok.kid
+    (subst (λ z. Started z c.args.marked c.in-Ok.name c.args.eof c.in_ok-kid-in-Ok.kid) f c.in_ok-kid-in-Ok.ensures.shows)
+    (c.in-Ok.ensures.name ∙ ap (under c.args.name.now) (c.args.kids.now.ok.0 ∙ ap length c.requires.none))
+    (c.push_reserved.ensures.items ∙ ap (λ z. z ++ (c.in_ok-kid-in-Ok.kid ∷ [])) (c.child_parts.ensures.kids ∙ c.requires.none))
+
+pub start_only-returns-in_err-kid-in-Ok-clause-moved : goal.start_only-returns-in_err-kid-in-Ok-clause-moved
+start_only-returns-in_err-kid-in-Ok-clause-moved g t c =
+    let e : Stock = end_stock c.args.eof in
+    moved_as (g.O.Order.active c.args.order.now) (g.O.Order.active c.start_task.new.order) e e none (tasks_stock c.child_parts.new.kids.items) refl
+    (sym (ap tasks_stock (c.child_parts.ensures.kids ∙ c.requires.none))) c.in_err-kid-in-Ok.ensures.moved
+
+pub start_only-returns-in_err-kid-in-Ok-clause-reserved : goal.start_only-returns-in_err-kid-in-Ok-clause-reserved
+start_only-returns-in_err-kid-in-Ok-clause-reserved g t c = ap tasks_reserved (c.child_parts.ensures.kids ∙ c.requires.none)
+
+pub start_only-returns-in_err-kid-in-Ok-clause-refused : goal.start_only-returns-in_err-kid-in-Ok-clause-refused
+start_only-returns-in_err-kid-in-Ok-clause-refused g t c =
+    let p = err_from_is_err_and c.from_residual.result c.from_residual.ensures.1 in
+    let k : Form = form_at c.args.child.now.item (ty (arc_value c.args.dtype.now)) in
+    let f : form_of c.strategy.result.now (arc_value c.in-Ok.dtype) ≡ k = λ j. form_at (c.strategy.ensures.same j) (c.in-Ok.ensures.dtype j) in
+    rw (p.1, p.2) (subst (λ z. StartRefused (λ s. start_fault s z c.args.marked) (first_indices z c.args.eof) c.in_err-kid-in-Ok.field-0.0) f c.in_err-kid-in-Ok.ensures.refused)
+
+pub start_only-returns-in-Err-clause-moved : goal.start_only-returns-in-Err-clause-moved
+start_only-returns-in-Err-clause-moved g t c =
+    let e : Stock = end_stock c.args.eof in
+    moved_as (g.O.Order.active c.args.order.now) (g.O.Order.active c.give_up_pointer.new.order) e e none (tasks_stock c.child_parts.new.kids.items) refl
+    (sym (ap tasks_stock (c.child_parts.ensures.kids ∙ c.requires.none))) c.give_up_pointer.ensures.moved
+
+pub start_only-returns-in-Err-clause-reserved : goal.start_only-returns-in-Err-clause-reserved
+start_only-returns-in-Err-clause-reserved g t c = ap tasks_reserved (c.child_parts.ensures.kids ∙ c.requires.none)
+
+-- by rule: of blocks
+
+pub start_settled-start_grouped-requires : goal.start_settled-start_grouped-requires
+start_settled-start_grouped-requires g t c κs within =
+    let by = c.in-Repartition.by in
+    let w : StrategyData = strategy_data c.args.strategy.now in
+    let u : Ty = ty (arc_value c.args.dtype) in
+    let n = c.in-Ok-blocks_node.node in
+    let k : StrategyData = c.child.result.now.item in
+    let a : w ≡ grouped (by_blocks (block_rule by.rule)) by.child.item = ap strategy_data c.in-Repartition.is in
+    let d : k ≡ by.child.item = ap (λ x. x.item) c.child.ensures in
+    let e : ty (arc_value n.dtype) ≡ u = ap (λ z. ty (arc_value z)) c.in-Ok-blocks_node.ensures.dtype in
+    let b : IsTrue (is_built k) = ap is_built d ∙ sym (ap is_built a) ∙ c.requires.built in
+    let f : 2 + weight (form_at k (ty (arc_value n.dtype))) ≡ weight (form_at w u) = ap weight (grouped_at w by.child.item k (by_blocks (block_rule by.rule)) u (ty (arc_value n.dtype)) a d e) in
+    let falls : 8 * (2 + weight (form_at k (ty (arc_value n.dtype)))) + 3 < 8 * weight (form_at w u) + 4 = omega (arith, f) in
+    search (rules, arith, c.requires.owned, b, c.in-Ok-blocks_node.ensures.fresh, falls)
+
+pub start_settled-returns-in-Ok-blocks_node-clause-shows : goal.start_settled-returns-in-Ok-blocks_node-clause-shows
+start_settled-returns-in-Ok-blocks_node-clause-shows g t c =
+    let by = c.in-Repartition.by in
+    let w : StrategyData = strategy_data c.args.strategy.now in
+    let u : Ty = ty (arc_value c.args.dtype) in
+    let n = c.in-Ok-blocks_node.node in
+    let k : StrategyData = c.child.result.now.item in
+    let r = by_blocks (block_rule by.rule) in
+    let e : ty (arc_value n.dtype) ≡ u = ap (λ z. ty (arc_value z)) c.in-Ok-blocks_node.ensures.dtype in
+    subst (λ z. IfOk c.start_grouped.result (Started z c.args.marked c.args.name c.args.eof))
+    (grouped_at w by.child.item k r u (ty (arc_value n.dtype)) (ap strategy_data c.in-Repartition.is) (ap (λ x. x.item) c.child.ensures) e)
+    (c.start_grouped.ensures.shows r (subst (λ z. Begins r z n) (sym e) c.in-Ok-blocks_node.ensures.begins))
+
+pub start_settled-returns-in-Ok-blocks_node-clause-refused : goal.start_settled-returns-in-Ok-blocks_node-clause-refused
+start_settled-returns-in-Ok-blocks_node-clause-refused g t c =
+    let by = c.in-Repartition.by in
+    let w : StrategyData = strategy_data c.args.strategy.now in
+    let u : Ty = ty (arc_value c.args.dtype) in
+    let n = c.in-Ok-blocks_node.node in
+    let k : StrategyData = c.child.result.now.item in
+    let e : ty (arc_value n.dtype) ≡ u = ap (λ z. ty (arc_value z)) c.in-Ok-blocks_node.ensures.dtype in
+    subst (λ z. IfErr c.start_grouped.result (StartRefused (λ s. start_fault s z c.args.marked) (first_indices z c.args.eof)))
+    (grouped_at w by.child.item k (by_blocks (block_rule by.rule)) u (ty (arc_value n.dtype)) (ap strategy_data c.in-Repartition.is) (ap (λ x. x.item) c.child.ensures) e)
+    c.start_grouped.ensures.refused
+
+-- of a held size
+
+pub start_settled-start_grouped-requires-in-Buffered : goal.start_settled-start_grouped-requires-in-Buffered
+start_settled-start_grouped-requires-in-Buffered g t c κs within =
+    let by = c.in-Buffered.by in
+    let w : StrategyData = strategy_data c.args.strategy.now in
+    let u : Ty = ty (arc_value c.args.dtype) in
+    let n = c.buffer_node-node.result in
+    let k : StrategyData = c.child-in-Buffered.result.now.item in
+    let a : w ≡ grouped (by_bytes by.buffer_size) by.child.item = ap strategy_data c.in-Buffered.is in
+    let d : k ≡ by.child.item = ap (λ x. x.item) c.child-in-Buffered.ensures in
+    let e : ty (arc_value n.dtype) ≡ u = ap (λ z. ty (arc_value z)) c.buffer_node-node.ensures.dtype in
+    let b : IsTrue (is_built k) = ap is_built d ∙ sym (ap is_built a) ∙ c.requires.built in
+    let f : 2 + weight (form_at k (ty (arc_value n.dtype))) ≡ weight (form_at w u) = ap weight (grouped_at w by.child.item k (by_bytes by.buffer_size) u (ty (arc_value n.dtype)) a d e) in
+    let falls : 8 * (2 + weight (form_at k (ty (arc_value n.dtype)))) + 3 < 8 * weight (form_at w u) + 4 = omega (arith, f) in
+    search (rules, arith, c.requires.owned, b, c.buffer_node-node.ensures.fresh, falls)
+
+pub start_settled-returns-in-Buffered-clause-shows : goal.start_settled-returns-in-Buffered-clause-shows
+start_settled-returns-in-Buffered-clause-shows g t c =
+    let by = c.in-Buffered.by in
+    let w : StrategyData = strategy_data c.args.strategy.now in
+    let u : Ty = ty (arc_value c.args.dtype) in
+    let n = c.buffer_node-node.result in
+    let k : StrategyData = c.child-in-Buffered.result.now.item in
+    let r = by_bytes by.buffer_size in
+    let e : ty (arc_value n.dtype) ≡ u = ap (λ z. ty (arc_value z)) c.buffer_node-node.ensures.dtype in
+    subst (λ z. IfOk c.start_grouped-in-Buffered.result (Started z c.args.marked c.args.name c.args.eof))
+    (grouped_at w by.child.item k r u (ty (arc_value n.dtype)) (ap strategy_data c.in-Buffered.is) (ap (λ x. x.item) c.child-in-Buffered.ensures) e)
+    (c.start_grouped-in-Buffered.ensures.shows r (subst (λ z. Begins r z n) (sym e) c.buffer_node-node.ensures.begins))
+
+pub start_settled-returns-in-Buffered-clause-refused : goal.start_settled-returns-in-Buffered-clause-refused
+start_settled-returns-in-Buffered-clause-refused g t c =
+    let by = c.in-Buffered.by in
+    let w : StrategyData = strategy_data c.args.strategy.now in
+    let u : Ty = ty (arc_value c.args.dtype) in
+    let n = c.buffer_node-node.result in
+    let k : StrategyData = c.child-in-Buffered.result.now.item in
+    let e : ty (arc_value n.dtype) ≡ u = ap (λ z. ty (arc_value z)) c.buffer_node-node.ensures.dtype in
+    subst (λ z. IfErr c.start_grouped-in-Buffered.result (StartRefused (λ s. start_fault s z c.args.marked) (first_indices z c.args.eof)))
+    (grouped_at w by.child.item k (by_bytes by.buffer_size) u (ty (arc_value n.dtype)) (ap strategy_data c.in-Buffered.is) (ap (λ x. x.item) c.child-in-Buffered.ensures) e)
+    c.start_grouped-in-Buffered.ensures.refused
+
+-- of one chunk for all
+
+pub start_settled-start_grouped-requires-in-Ok-collect_node : goal.start_settled-start_grouped-requires-in-Ok-collect_node
+start_settled-start_grouped-requires-in-Ok-collect_node g t c κs within =
+    let by = c.in-Collect.into in
+    let w : StrategyData = strategy_data c.args.strategy.now in
+    let u : Ty = ty (arc_value c.args.dtype) in
+    let n = c.in-Ok-collect_node.node in
+    let k : StrategyData = c.child-in-Ok-collect_node.result.now.item in
+    let a : w ≡ grouped into_one by.child.item = ap strategy_data c.in-Collect.is in
+    let d : k ≡ by.child.item = ap (λ x. x.item) c.child-in-Ok-collect_node.ensures in
+    let e : ty (arc_value n.dtype) ≡ u = ap (λ z. ty (arc_value z)) c.in-Ok-collect_node.ensures.dtype in
+    let b : IsTrue (is_built k) = ap is_built d ∙ sym (ap is_built a) ∙ c.requires.built in
+    let f : 2 + weight (form_at k (ty (arc_value n.dtype))) ≡ weight (form_at w u) = ap weight (grouped_at w by.child.item k into_one u (ty (arc_value n.dtype)) a d e) in
+    let falls : 8 * (2 + weight (form_at k (ty (arc_value n.dtype)))) + 3 < 8 * weight (form_at w u) + 4 = omega (arith, f) in
+    search (rules, arith, c.requires.owned, b, c.in-Ok-collect_node.ensures.fresh, falls)
+
+pub start_settled-returns-in-Ok-collect_node-clause-shows : goal.start_settled-returns-in-Ok-collect_node-clause-shows
+start_settled-returns-in-Ok-collect_node-clause-shows g t c =
+    let by = c.in-Collect.into in
+    let w : StrategyData = strategy_data c.args.strategy.now in
+    let u : Ty = ty (arc_value c.args.dtype) in
+    let n = c.in-Ok-collect_node.node in
+    let k : StrategyData = c.child-in-Ok-collect_node.result.now.item in
+    let e : ty (arc_value n.dtype) ≡ u = ap (λ z. ty (arc_value z)) c.in-Ok-collect_node.ensures.dtype in
+    subst (λ z. IfOk c.start_grouped-in-Ok-collect_node.result (Started z c.args.marked c.args.name c.args.eof))
+    (grouped_at w by.child.item k into_one u (ty (arc_value n.dtype)) (ap strategy_data c.in-Collect.is) (ap (λ x. x.item) c.child-in-Ok-collect_node.ensures) e)
+    (c.start_grouped-in-Ok-collect_node.ensures.shows into_one (subst (λ z. Begins into_one z n) (sym e) c.in-Ok-collect_node.ensures.begins))
+
+pub start_settled-returns-in-Ok-collect_node-clause-refused : goal.start_settled-returns-in-Ok-collect_node-clause-refused
+start_settled-returns-in-Ok-collect_node-clause-refused g t c =
+    let by = c.in-Collect.into in
+    let w : StrategyData = strategy_data c.args.strategy.now in
+    let u : Ty = ty (arc_value c.args.dtype) in
+    let n = c.in-Ok-collect_node.node in
+    let k : StrategyData = c.child-in-Ok-collect_node.result.now.item in
+    let e : ty (arc_value n.dtype) ≡ u = ap (λ z. ty (arc_value z)) c.in-Ok-collect_node.ensures.dtype in
+    subst (λ z. IfErr c.start_grouped-in-Ok-collect_node.result (StartRefused (λ s. start_fault s z c.args.marked) (first_indices z c.args.eof)))
+    (grouped_at w by.child.item k into_one u (ty (arc_value n.dtype)) (ap strategy_data c.in-Collect.is) (ap (λ x. x.item) c.child-in-Ok-collect_node.ensures) e)
+    c.start_grouped-in-Ok-collect_node.ensures.refused

@@ -8,7 +8,7 @@ use Rattle.vx_machine_tasks.specs.Weight.{weight}
 use Rattle.vx_machine_tasks.specs.Starting.{field_form, field_forms, columns_form, lists_form}
 use Rattle.vx_machine_tasks.specs.Ledger.{tasks_reserved}
 use Rattle.vx_machine_tasks.specs.Stocks.{tasks_stock}
-use Rattle.vx_machine_tasks.specs.View.{form_at, form_of}
+use Rattle.vx_machine_nodes.specs.View.{form_at, form_of}
 use Rattle.vx_machine_tasks.proofs.StartShows.{Left}
 use Rattle.vx_machine_tasks.proofs.start.+start.Given as goal
 

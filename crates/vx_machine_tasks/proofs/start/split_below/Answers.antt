@@ -1,7 +1,8 @@
 use Rattle.std.proofs.Common.{sym, subst}
-use Rattle.vx_machine_tasks.specs.Causes.{StartMay}
+use Rattle.vx_machine_nodes.specs.Causes.{StartMay}
 use Rattle.vx_machine_tasks.specs.Starting.{PointerRefused}
-use Rattle.vx_machine_tasks.proofs.CauseSteps.{full_starts, full_refused}
+use Rattle.vx_machine_nodes.proofs.CauseSteps.{full_starts}
+use Rattle.vx_machine_tasks.proofs.CauseSteps.{full_refused}
 use Rattle.vx_machine_tasks.proofs.start.split_below.Goals as goal
 
 pub returns-in-Err-clause-cause : goal.returns-in-Err-clause-cause

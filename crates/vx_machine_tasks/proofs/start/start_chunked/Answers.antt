@@ -6,12 +6,13 @@ use Rattle.vx_machine_ids.specs.Stock.{end_stock}
 use Rattle.vx_machine_ids.proofs.MoveLaws.{moved_none}
 use Rattle.vx_machine_view.specs.State.{by_chunk}
 use Rattle.vx_strategy.specs.NodeViews.{chunked_way}
-use Rattle.vx_machine_tasks.specs.View.{form_at, row}
-use Rattle.vx_machine_tasks.specs.declared.node.Local.TheVariants.{Chunked}
+use Rattle.vx_machine_nodes.specs.View.{form_at}
+use Rattle.vx_machine_tasks.specs.View.{row}
+use Rattle.vx_machine_nodes.specs.declared.node.Local.TheVariants.{Chunked}
 use Rattle.vx_machine_tasks.proofs.StartMoves.{alone_moved}
-use Rattle.vx_machine_tasks.proofs.Fitting.{none_fit}
+use Rattle.vx_machine_nodes.proofs.Fitting.{none_fit}
 use Rattle.vx_machine_tasks.proofs.StartShows.{started}
-use Rattle.vx_machine_tasks.proofs.CauseSteps.{memory_start}
+use Rattle.vx_machine_nodes.proofs.CauseSteps.{memory_start}
 use Rattle.vx_machine_tasks.proofs.start.start_chunked.Goals as goal
 
 pub returns-in-Ok-clause-moved : goal.returns-in-Ok-clause-moved

@@ -2,7 +2,8 @@ use Rattle.std.proofs.Common.{◌≡◌, ◌+◌, ◌*◌, ◌≤◌, vec_len}
 use Rattle.vx_machine_ids.specs.Balance.{Owned, Moved}
 use Rattle.vx_machine_tasks.specs.Sizes.{task_count, count_of_all}
 use Rattle.vx_sink.specs.ContextView.{counted}
-use Rattle.vx_machine_tasks.specs.Ledger.{Paid, told_by, tasks_reserved}
+use Rattle.vx_machine_nodes.specs.Ledger.{Paid, told_by}
+use Rattle.vx_machine_tasks.specs.Ledger.{tasks_reserved}
 use Rattle.vx_machine_tasks.specs.Stocks.{tasks_stock}
 use Rattle.vx_machine_tasks.proofs.task.+refuse.Given as goal
 

@@ -2,7 +2,7 @@ use Rattle.vx_sequence.specs.Universe.{Active}
 use Rattle.vx_machine_ids.specs.Stock.{Stock, both, none}
 use Rattle.vx_machine_ids.specs.Balance.{Owned, Moved}
 use Rattle.vx_machine_ids.proofs.MoveLaws.{owned_left, owned_now, moved_then, moved_drop_first}
-use Rattle.vx_machine_tasks.specs.Stocks.{items_stock, dues_stock, local_stock}
+use Rattle.vx_machine_nodes.specs.Stocks.{items_stock, dues_stock, local_stock}
 use Rattle.vx_machine_tasks.proofs.task.give_up_head.Goals as goal
 
 pub give_up_local-requires-clause-owned : goal.give_up_local-requires-clause-owned

@@ -1,5 +1,6 @@
 use Rattle.vx_model.specs.TyView.{ty}
 use Rattle.vx_strategy.specs.StrategyView.{strategy_data}
+use Rattle.vx_machine_nodes.proofs.LedgerSteps.{told_listed, told_allowed, told_marked}
 use Rattle.vx_machine.specs.View.{machine_of}
 use Rattle.vx_machine.specs.Whole.{machine_stock}
 use Rattle.vx_write.proofs.RanSteps.{all_held, has_run}
@@ -13,3 +14,15 @@ returns-clause-ran g c is exact =
     c.in-Ok.ensures.outlet c.in_ok-machine.ensures.outlet c.in_ok-machine.ensures.built c.in_ok-machine.ensures.allowed c.in_ok-machine.ensures.counted c.in_ok-machine.ensures.shows
     (c.run.ensures.ran c.requires.empty (all_held (g.O.Order.active c.args.order.now) (g.O.Order.active c.take_below.new.order) (g.O.Order.active c.start.new.order) c.args.eof c.take_below.new.pointer c.in-Ok.stream
     (machine_stock c.in_ok-machine.machine) exact c.in-Ok.ensures.moved c.in_ok-machine.ensures.moved))
+
+pub returns-clause-same : goal.returns-clause-same
+returns-clause-same g c = (
+  record {
+    listed_is = told_listed c.args.ctx.now c.run.new.ctx c.run.ensures.context;
+    allowed_is = told_allowed c.args.ctx.now c.run.new.ctx c.run.ensures.context;
+    marked_is = told_marked c.args.ctx.now c.run.new.ctx c.run.ensures.context;
+    counted_is = c.run.ensures.tracked;
+  },
+  c.run.ensures.kind,
+  c.run.ensures.compressor,
+)

@@ -1,4 +1,4 @@
-use Rattle.vx_machine.proofs.Finishing.{finished_parts, finished_none, closed_is}
+use Rattle.vx_machine.proofs.Finishing.{finished_parts, finished_none, finished_unreserved, closed_is}
 use Rattle.vx_machine.proofs.machine.Machine.finish.Goals as goal
 
 pub into_layout-layout-requires : goal.into_layout-layout-requires
@@ -9,3 +9,6 @@ unreachable-requires c = c.in_default.not-Finished (closed_is c.args.self.phase 
 
 pub returns-clause-free : goal.returns-clause-free
 returns-clause-free c = finished_none c.args.self c.requires
+
+pub returns-clause-unreserved : goal.returns-clause-unreserved
+returns-clause-unreserved c = finished_unreserved c.args.self c.requires

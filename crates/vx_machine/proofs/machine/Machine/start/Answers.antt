@@ -1,4 +1,4 @@
-use Rattle.std.proofs.Common.{sym, ap, subst, ◌∙◌}
+use Rattle.std.proofs.Common.{[], ◌∷◌, sym, ap, subst, ◌∙◌}
 use Rattle.vx_sink.specs.ContextView.{is_marked}
 use Rattle.vx_machine_ids.specs.Stock.{end_stock}
 use Rattle.vx_machine_ids.proofs.MoveLaws.{owned_left, owned_right, owned_rest, moved_twice, moved_behind}
@@ -9,8 +9,9 @@ use Rattle.vx_machine_view.specs.State.{no_tasks}
 use Rattle.vx_machine_view.specs.Machine.{reading}
 use Rattle.vx_machine_tasks.specs.Starting.{IsAllowed, FormRefused}
 use Rattle.vx_machine.specs.Starting.{machine_at}
-use Rattle.vx_machine_tasks.specs.View.{form_of}
+use Rattle.vx_machine_nodes.specs.View.{form_of}
 use Rattle.vx_machine_tasks.specs.Stocks.{task_stock}
+use Rattle.vx_machine_tasks.proofs.ReservedSteps.{started_none}
 use Rattle.vx_machine.proofs.MachineMoves.{first_left, second_first, unbuilt, built_may, unbuilt_refused, built_refused}
 use Rattle.vx_machine.proofs.machine.Machine.start.Goals as goal
 
@@ -34,6 +35,9 @@ returns-then-not-is_built-clause-refused g c =
 
 pub returns-in-Ok-clause-allowed : goal.returns-in-Ok-clause-allowed
 returns-in-Ok-clause-allowed g c = subst (λ z. IsAllowed (form_of c.args.strategy.now c.args.dtype.now) z) c.has_nullable_ancestor.ensures c.in-Ok.ensures.shows.allowed
+
+pub returns-in-Ok-clause-unreserved : goal.returns-in-Ok-clause-unreserved
+returns-in-Ok-clause-unreserved g c = started_none (form_of c.args.strategy.now c.args.dtype.now) c.has_nullable_ancestor.result (1 ∷ []) c.args.eof c.in-Ok.root c.in-Ok.ensures.shows
 
 pub returns-in-Ok-clause-counted : goal.returns-in-Ok-clause-counted
 returns-in-Ok-clause-counted g c = c.in-Ok.ensures.shows.counted

@@ -1,11 +1,12 @@
 use Rattle.std.proofs.Common.{inl, refl}
 use Rattle.vx_machine_ids.proofs.MoveLaws.{moved_none}
-use Rattle.vx_machine_tasks.specs.Context.{setting_of}
+use Rattle.vx_sink.specs.ContextView.{counted}
+use Rattle.vx_machine_nodes.specs.Context.{setting_of}
 use Rattle.vx_machine_tasks.specs.View.{row}
 use Rattle.vx_machine.specs.Whole.{machine_stock}
 use Rattle.vx_machine_tasks.specs.declared.task.Task.{out-Task}
-use Rattle.vx_machine_tasks.proofs.ActShows.{kept_same}
-use Rattle.vx_machine_tasks.proofs.CallSteps.{unasked_self}
+use Rattle.vx_machine_nodes.proofs.WriteSteps.{kept_same}
+use Rattle.vx_machine_nodes.proofs.CallSteps.{unasked_self}
 use Rattle.vx_machine.proofs.Remembering.{memory_first}
 use Rattle.vx_machine.proofs.machine.Machine.step.Goals as goal
 
@@ -24,7 +25,7 @@ returns-in_default-clause-sink_told g c =
 
 pub returns-in_default-clause-refused : goal.returns-in_default-clause-refused
 returns-in_default-clause-refused g c = λ image number.
-    memory_first (setting_of c.args.ctx.now image) (g.O.Order.active c.args.order.now) number (g.B.BatchSource.kind c.args.source.now) (g.O.Order.outlet c.args.order.now) c.args.self.now c.args.pick
+    memory_first (setting_of c.args.ctx.now image) (g.O.Order.active c.args.order.now) number (g.B.BatchSource.kind c.args.source.now) (g.O.Order.outlet c.args.order.now) c.args.self.now c.args.pick (counted c.args.ctx.now)
     (g.B.BatchSource.to_come c.args.source.now) c.requires.ready
 
 pub returns-in_default-clause-kept : goal.returns-in_default-clause-kept

@@ -12,14 +12,15 @@ use Rattle.vx_machine_view.specs.State.{no_tasks}
 use Rattle.vx_machine_view.specs.Machine as whole
 use Rattle.vx_machine_view.specs.Places.{one_if}
 use Rattle.vx_machine.specs.Calls.{reads_at}
-use Rattle.vx_machine_tasks.specs.Context.{setting_of}
+use Rattle.vx_sink.specs.ContextView.{counted as counted_bytes}
+use Rattle.vx_machine_nodes.specs.Context.{setting_of}
 use Rattle.vx_machine_tasks.specs.View.{task_row, row}
 use Rattle.vx_machine.specs.View.{phase_of}
 use Rattle.vx_machine.proofs.ReadyViews.{own_source, behind_source}
 use Rattle.vx_machine.proofs.StepShows.{source_stepped, source_refused, source_memory, root_stepped, root_refused}
-use Rattle.vx_machine_tasks.proofs.ActShows.{kept_same}
+use Rattle.vx_machine_nodes.proofs.WriteSteps.{kept_same}
 use Rattle.vx_machine.proofs.ActCauses.{act_step, source_step, act_elsewhere}
-use Rattle.vx_machine_tasks.proofs.CallSteps.{unasked_self}
+use Rattle.vx_machine_nodes.proofs.CallSteps.{unasked_self}
 use Rattle.vx_machine.proofs.CallSteps.{stops_as, source_quiet, source_act, source_appends, task_reads, task_stops, reads_behind}
 use Rattle.vx_kept.specs.Kept.{Knows, asked_of, ready_of, kids_of}
 use Rattle.vx_kept.proofs.Asking.{fresh_knows}
@@ -66,7 +67,7 @@ returns-in_err-task-clause-refused g c =
     let p = err_from_is_err_and c.from_residual.result c.from_residual.ensures.1 in
     rw (p.1, p.2) (λ image number.
     source_memory (setting_of c.args.ctx.now image) (fin.keys u) number (g.B.BatchSource.kind c.args.source.now) (g.O.Order.outlet c.args.order.now) (phase_of m.phase) (task_row m.root no_tasks) (c.args.pick % counted (machine_ready u m)) k h.1
-    (g.B.BatchSource.to_come c.args.source.now) (g.B.BatchSource.to_come c.args.source.now) refl)
+    (g.B.BatchSource.to_come c.args.source.now) (g.B.BatchSource.to_come c.args.source.now) (counted_bytes c.args.ctx.now) refl)
 
 pub returns-in_err-task-clause-kept : goal.returns-in_err-task-clause-kept
 returns-in_err-task-clause-kept g c =
@@ -93,7 +94,7 @@ returns-in-Err-clause-refused g c = λ image number.
     let h = own_source m.phase m.root (c.args.pick % c.args.ready) c.one-own.result x c.if-picked-own.true in
     let k : c.args.pick % counted (machine_ready u m) ≡ 0 = ap (λ n. c.args.pick % n) (sym c.requires.count) ∙ h.0 in
     source_refused (setting_of c.args.ctx.now image) (fin.keys u) number (g.B.BatchSource.kind c.args.source.now) (g.O.Order.outlet c.args.order.now) (phase_of m.phase) (task_row m.root no_tasks) (c.args.pick % counted (machine_ready u m)) k h.1
-    (g.B.BatchSource.to_come c.args.source.now) (g.B.BatchSource.to_come c.step_source.new.source) c.in-Err.error c.in-Err.ensures.refused
+    (g.B.BatchSource.to_come c.args.source.now) (g.B.BatchSource.to_come c.step_source.new.source) (counted_bytes c.args.ctx.now) c.in-Err.error c.in-Err.ensures.refused
 
 pub returns-in-Err-clause-kept : goal.returns-in-Err-clause-kept
 returns-in-Err-clause-kept g c = kept_same (g.O.Order.outlet c.args.order.now) (g.O.Order.outlet c.step_source.new.order) c.step_source.ensures.outlet
@@ -119,7 +120,7 @@ returns-in-Err-step-clause-refused g c = λ image number.
     let is : c.args.pick % counted (machine_ready u m) ≡ one_if (whole.may_source (phase_of m.phase) (task_row m.root no_tasks)) + (k - c.one-own.result)
     = ap (λ n. c.args.pick % n) (sym c.requires.count) ∙ behind_source m.phase m.root k c.one-own.result x c.if-picked-own.false in
     root_refused (setting_of c.args.ctx.now image) (fin.keys u) number (g.B.BatchSource.kind c.args.source.now) (g.O.Order.outlet c.args.order.now) (phase_of m.phase) (task_row m.root no_tasks)
-    (c.args.pick % counted (machine_ready u m)) (k - c.one-own.result) is (g.B.BatchSource.to_come c.args.source.now) (g.B.BatchSource.to_come c.args.source.now) refl c.in-Err-step.error
+    (c.args.pick % counted (machine_ready u m)) (k - c.one-own.result) is (g.B.BatchSource.to_come c.args.source.now) (g.B.BatchSource.to_come c.args.source.now) refl (counted_bytes c.args.ctx.now) c.in-Err-step.error
     (act_elsewhere c.in-Err-step.error c.in-Err-step.ensures.cause) (c.in-Err-step.ensures.refused image number)
 
 -- ---- calls of the source and of the sink
@@ -176,6 +177,14 @@ returns-in-Err-step-clause-source_told g c =
 
 pub returns-in-Err-step-clause-sink_told : goal.returns-in-Err-step-clause-sink_told
 returns-in-Err-step-clause-sink_told g c = c.in-Err-step.ensures.told
+
+-- ---- what the tracker counts
+
+pub returns-in-Ok-clause-tracked : goal.returns-in-Ok-clause-tracked
+returns-in-Ok-clause-tracked g c = omega (arith, c.step_source.ensures.reserved)
+
+pub returns-in-Err-clause-tracked : goal.returns-in-Err-clause-tracked
+returns-in-Err-clause-tracked g c = omega (arith, c.step_source.ensures.reserved)
 
 -- ---- what is kept
 

@@ -1,4 +1,4 @@
-use Rattle.vx_machine_tasks.specs.Stocks.{local_stock, dues_stock}
+use Rattle.vx_machine_nodes.specs.Stocks.{local_stock, dues_stock}
 use Rattle.vx_machine_tasks.proofs.TaskParts.{queue_more}
 use Rattle.vx_machine_tasks.proofs.ViewParts.{desk_more}
 use Rattle.vx_machine_tasks.proofs.task.Head.enqueue.Goals as goal

@@ -1,14 +1,15 @@
 use Rattle.std.proofs.Common.{inl}
 use Rattle.std.proofs.lemmas.Result.{err_from_is_err_and}
 use Rattle.vx_sequence.specs.Universe.{Active}
+use Rattle.vx_sink.specs.ContextView.{counted as counted_bytes}
 use Rattle.vx_write_answer.specs.declared.error.WriteError.TheVariants.{OutOfMemory}
 use Rattle.vx_machine_ids.specs.Stock.{Stock, both}
 use Rattle.vx_machine_tasks.specs.Stocks.{head_stock, tasks_stock}
 use Rattle.vx_machine_tasks.specs.declared.task.Task.{out-Task}
 use Rattle.vx_machine_tasks.specs.declared.task.Task.TheViews.{roll-Task}
 use Rattle.vx_machine_tasks.proofs.TaskParts.{parts_owned, parts_moved, rolled}
-use Rattle.vx_machine_tasks.specs.Context.{setting_of}
-use Rattle.vx_machine_tasks.proofs.CallSteps.{unasked_self}
+use Rattle.vx_machine_nodes.specs.Context.{setting_of}
+use Rattle.vx_machine_nodes.proofs.CallSteps.{unasked_self}
 use Rattle.vx_machine_tasks.proofs.StepShows.{own_stepped, own_refused}
 use Rattle.std.proofs.Common.{◌≡◌, ◌+◌, sym, subst, arith}
 use Rattle.vx_kept.specs.Kept.{Knows}
@@ -54,12 +55,12 @@ returns-in-Ok-clause-done g c = λ image.
 
 pub returns-in-Err-clause-refused : goal.returns-in-Err-clause-refused
 returns-in-Err-clause-refused g c = λ image number.
-    own_refused (setting_of c.args.ctx.now image) (g.O.Order.active c.args.order.now) number (g.O.Order.outlet c.args.order.now) c.args.self.now c.requires.ready c.in-Err.error (c.in-Err.ensures.refused image number)
+    own_refused (setting_of c.args.ctx.now image) (g.O.Order.active c.args.order.now) number (g.O.Order.outlet c.args.order.now) c.args.self.now c.requires.ready (counted_bytes c.args.ctx.now) c.in-Err.error (c.in-Err.ensures.refused image number)
 
 pub returns-in_err-task-clause-refused : goal.returns-in_err-task-clause-refused
 returns-in_err-task-clause-refused g c =
     let p = err_from_is_err_and c.from_residual.result c.from_residual.ensures.1 in
-    rw (p.1, p.2) (λ image number. own_refused (setting_of c.args.ctx.now image) (g.O.Order.active c.args.order.now) number (g.O.Order.outlet c.args.order.now) c.args.self.now c.requires.ready OutOfMemory tt)
+    rw (p.1, p.2) (λ image number. own_refused (setting_of c.args.ctx.now image) (g.O.Order.active c.args.order.now) number (g.O.Order.outlet c.args.order.now) c.args.self.now c.requires.ready (counted_bytes c.args.ctx.now) OutOfMemory tt)
 
 pub returns-in_err-task-clause-told : goal.returns-in_err-task-clause-told
 returns-in_err-task-clause-told g c =

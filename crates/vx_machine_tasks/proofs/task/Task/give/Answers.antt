@@ -1,7 +1,8 @@
 use Rattle.std.proofs.Common.{refl}
 use Rattle.vx_machine_view.specs.Acts.{with_item}
-use Rattle.vx_machine_tasks.specs.Stocks.{item_stock}
-use Rattle.vx_machine_tasks.specs.View.{item_of, desk_of}
+use Rattle.vx_machine_nodes.specs.Stocks.{item_stock}
+use Rattle.vx_machine_nodes.specs.View.{item_of}
+use Rattle.vx_machine_tasks.specs.View.{desk_of}
 use Rattle.vx_machine_tasks.specs.declared.task.Task.{out-Task}
 use Rattle.vx_machine_tasks.proofs.PaidSteps.{head_same}
 use Rattle.vx_machine_tasks.proofs.TaskParts.{head_more}

@@ -1,0 +1,190 @@
+-- Acts of a task against those in plain data, part by part.
+use Rattle.std.specs.Prelude.{◌≡◌, ℕ, ◌+◌, if◌then◌else◌, Bool, true, false, List, [], ◌∷◌, ◌++◌, length, Option, Some, None, Ok}
+use Rattle.std.specs.Arc.{arc_value}
+use Rattle.vx_model.specs.declared.encoding.EncodingId.{EncodingId}
+use Rattle.vx_model.specs.ChunkData.{ChunkData, cells}
+use Rattle.vx_model.specs.TyView.{ty}
+use Rattle.vx_segment_writer.specs.Segment.{encode, tree_bytes}
+use Rattle.vx_order_answer.specs.declared.receipt.Receipt.{Receipt}
+use Rattle.vx_order.specs.Outlet.{Outlet}
+use Rattle.vx_order.specs.Answers.{IsNumber, IsPast, IsShared, After}
+use Rattle.vx_order.specs.declared.attempt.Attempt.TheVariants.{Written}
+use Rattle.vx_plan.specs.PlanData.{Setting, Pair, What, many_chunks, Item as Piece}
+use Rattle.vx_machine_turns.specs.Flat.{forbidden}
+use Rattle.vx_machine_view.specs.State.{Next, Mind, ending, Desk, Tasks}
+use Rattle.vx_machine_view.specs.Start.{waiting}
+use Rattle.vx_sink.specs.declared.context.LayoutWriterContext.{LayoutWriterContext}
+use Rattle.vx_sink.specs.ContextView.{counted as bytes_counted}
+use Rattle.vx_machine_view.specs.Acts.{count, Did, do_next, take_chunk, take_end}
+use Rattle.vx_write_answer.specs.declared.step.ActionKind.{ActionKind}
+use Rattle.vx_write_answer.specs.declared.error.WriteError.{WriteError}
+use Rattle.vx_machine_nodes.specs.declared.item.Item.{Item}
+use Rattle.vx_machine_nodes.specs.declared.item.Segment.{Segment}
+use Rattle.vx_machine_nodes.specs.declared.kinds.FlatNode.{FlatNode}
+use Rattle.vx_machine_nodes.specs.declared.node.Local.{Local}
+use Rattle.vx_machine_nodes.specs.declared.node.Local.TheVariants.{Empty, Full, Chunked, Columns, Lists, Grouped, Over, Passing, Made}
+use Rattle.vx_machine_nodes.specs.Context.{setting_of}
+use Rattle.vx_machine_nodes.specs.Outcome.{action_of, AllFit, Refused, none_past}
+use Rattle.vx_machine_nodes.specs.View.{item_of, mind_of}
+
+-- ---- what a sink is told
+
+-- the pair was appended under this number
+pub record IsAppended (before : Outlet) (number : ℕ) (x : Pair) (after : Outlet) : Type 0 where
+  pub receipt : Receipt
+  pub path_is : receipt.path ≡ x.0
+  pub number_is : receipt.number ≡ number
+  pub told : IsNumber before number
+  pub written : After before x.1 (Ok (Written receipt)) after
+
+-- of at most one pair
+abbrev pub Behind : Outlet → ℕ → List Pair → Outlet → Type 0
+Behind o n [] u = u ≡ o
+Behind o n (x ∷ xs) u = IsAppended o n x u
+
+-- why an act is refused that may append
+abbrev pub ActRefused : Did → Outlet → WriteError → Type 0
+ActRefused w o e = Refused w.refusal w.misfit w.numbers w.indices w.wrote (IsPast o) (IsShared o) w.joined e
+
+-- The same where the tracker counts so much: what is added may be too much for it.
+abbrev pub ActStopped : ℕ → Did → Outlet → WriteError → Type 0
+ActStopped counts w o e = Refused w.refusal w.misfit ((counts + w.raises) ∷ w.numbers) w.indices w.wrote (IsPast o) (IsShared o) w.joined e
+
+-- why an append is
+abbrev pub AppendRefused : Outlet → Pair → WriteError → Type 0
+AppendRefused o x e = Refused None false [] [] (x ∷ []) (IsPast o) (IsShared o) [] e
+
+-- ---- acts of a block
+
+-- Of a task of which only this is told: what it has in mind.
+abbrev pub bare : Mind → Desk
+bare mind = waiting [] mind [] false
+
+abbrev pub acted : List EncodingId → ℕ → Mind → Tasks → Next → Did
+acted ids number mind ks x = do_next ids number (bare mind) ks x []
+
+-- an act was done, with this in mind then and these children
+pub record ActDone (w : Did) (before : Outlet) (number : ℕ) (after : Outlet) (mind : Mind) (kids : Tasks) (a : ActionKind) : Type 0 where
+  pub unrefused : w.refusal ≡ None
+  pub fits : w.misfit ≡ false
+  pub mind_is : mind ≡ w.desk.mind
+  pub kids_are : kids ≡ w.kids
+  pub kind : a ≡ action_of w.kind
+  pub outlet : Behind before number w.wrote after
+
+-- layouts of so many rows aren't joined
+abbrev pub JoinRefused : List ℕ → WriteError → Type 0
+JoinRefused ns e = Refused None false [] [] [] none_past ⊥ ns e
+
+-- ---- takes of chunks
+
+-- a task of this name
+abbrev pub named : List ℕ → Desk
+named name = waiting name ending [] false
+
+abbrev pub taken : Setting → List ℕ → Tasks → Piece → Mind → Did
+taken s name ks i mind = take_chunk s (named name) ks i [] mind
+
+-- a chunk was taken, with this in mind then, this left to do before what was, and these children
+pub record Took (w : Did) (mind : Mind) (todo before : List Next) (kids : Tasks) : Type 0 where
+  pub unrefused : w.refusal ≡ None
+  pub fits : w.misfit ≡ false
+  pub counted : AllFit (w.numbers ++ w.indices)
+  pub mind_is : mind ≡ w.desk.mind
+  pub todo_is : todo ≡ w.desk.todo ++ before
+  pub kids_are : kids ≡ w.kids
+
+abbrev pub TakeRefused : Did → WriteError → Type 0
+TakeRefused w e = Refused w.refusal w.misfit w.numbers w.indices w.wrote none_past ⊥ w.joined e
+
+-- the same where the tracker counts so much
+abbrev pub TakeStopped : ℕ → Did → WriteError → Type 0
+TakeStopped counts w e = Refused w.refusal w.misfit ((counts + w.raises) ∷ w.numbers) w.indices w.wrote none_past ⊥ w.joined e
+
+abbrev pub ChunkTaken : LayoutWriterContext → List ℕ → Tasks → Item → Local → Local → List Next → List Next → Tasks → Type 0
+ChunkTaken ctx name ks i l m todo before kids = (image : ℕ → ChunkData → ChunkData) → Took (taken (setting_of ctx image) name ks (item_of i) (mind_of l)) (mind_of m) todo before kids
+
+abbrev pub ChunkRefused : LayoutWriterContext → List ℕ → Tasks → Item → Local → WriteError → Type 0
+ChunkRefused ctx name ks i l e = (image : ℕ → ChunkData → ChunkData) → TakeRefused (taken (setting_of ctx image) name ks (item_of i) (mind_of l)) e
+
+-- where the tracker counts what the context tells
+abbrev pub ChunkStopped : LayoutWriterContext → List ℕ → Tasks → Item → Local → WriteError → Type 0
+ChunkStopped ctx name ks i l e = (image : ℕ → ChunkData → ChunkData) → TakeStopped (bytes_counted ctx) (taken (setting_of ctx image) name ks (item_of i) (mind_of l)) e
+
+-- what a flat node's layout keeps of a chunk's segment: its tree, where the node inlines
+abbrev pub tree_kept : List EncodingId → FlatNode → ChunkData → Option (List ℕ)
+tree_kept ids n p = if n.options.inline_array_node then Some (tree_bytes ids n.options.include_padding p) else None
+
+-- the segment of a chunk, at a flat node
+pub record IsStored (ids : List EncodingId) (n : FlatNode) (p : ChunkData) (x : Segment) : Type 0 where
+  pub bytes : encode ids n.options.include_padding p ≡ Some x.bytes.items
+  pub tree : x.tree ≡ tree_kept ids n p
+  pub rows : x.rows ≡ length (cells p)
+  pub type : ty (arc_value x.dtype) ≡ ty (arc_value n.dtype)
+  pub counted : AllFit (length (cells p) ∷ length x.bytes.items ∷ [])
+
+-- it is refused by this word of the plan alone
+abbrev pub WordRefused : Option What → WriteError → Type 0
+WordRefused word e = Refused word false [] [] [] none_past ⊥ [] e
+
+-- the word for a chunk whose first encoding that isn't listed is this one: a further chunk is refused in any case
+abbrev pub first_word : Option EncodingId → Local → Option What
+first_word first (Empty n) = forbidden first
+first_word first (Full x) = Some many_chunks
+first_word first (Chunked n eof rows) = Some many_chunks
+first_word first (Columns n rows) = Some many_chunks
+first_word first (Lists n rows) = Some many_chunks
+first_word first (Grouped n) = Some many_chunks
+first_word first Over = Some many_chunks
+first_word first Passing = Some many_chunks
+first_word first (Made l) = Some many_chunks
+
+-- whether it is a flat node's
+abbrev pub is_flat : Local → Bool
+is_flat (Empty n) = true
+is_flat (Full x) = true
+is_flat (Chunked n eof rows) = false
+is_flat (Columns n rows) = false
+is_flat (Lists n rows) = false
+is_flat (Grouped n) = false
+is_flat Over = false
+is_flat Passing = false
+is_flat (Made l) = false
+
+-- whether its node regroups
+abbrev pub is_grouped : Local → Bool
+is_grouped (Grouped n) = true
+is_grouped (Empty n) = false
+is_grouped (Full x) = false
+is_grouped (Chunked n eof rows) = false
+is_grouped (Columns n rows) = false
+is_grouped (Lists n rows) = false
+is_grouped Over = false
+is_grouped Passing = false
+is_grouped (Made l) = false
+
+-- why a chunk isn't split: it is of another type, or the rows with it are too many
+abbrev pub SplitRefused : Bool → ℕ → WriteError → Type 0
+SplitRefused misfit rows e = Refused None misfit (rows ∷ []) [] [] none_past ⊥ [] e
+
+-- why a chunk of lists isn't split: it is of another type, or one of these is too many
+abbrev pub ListRefused : Bool → List ℕ → WriteError → Type 0
+ListRefused misfit ns e = Refused None misfit ns [] [] none_past ⊥ [] e
+
+-- ---- the end of a stream
+
+-- it was taken, with this in mind then, and this left to do behind what was
+pub record Ended (w : Did) (mind : Mind) (todo before : List Next) : Type 0 where
+  pub unrefused : w.refusal ≡ None
+  pub fits : w.misfit ≡ false
+  pub counted : AllFit (w.numbers ++ w.indices)
+  pub mind_is : mind ≡ w.desk.mind
+  pub todo_is : todo ≡ before ++ w.desk.todo
+
+-- by a task with so many children, of which only this is told: what it had in mind
+abbrev pub EndTaken : Local → ℕ → Local → List Next → List Next → Type 0
+EndTaken l n m todo before = (ks : Tasks) → count ks ≡ n → Ended (take_end (bare (mind_of l)) ks (mind_of l)) (mind_of m) todo before
+
+-- or it is refused
+abbrev pub EndRefused : Local → ℕ → WriteError → Type 0
+EndRefused l n e = (ks : Tasks) → count ks ≡ n → TakeRefused (take_end (bare (mind_of l)) ks (mind_of l)) e

@@ -1,0 +1,11 @@
+pub mod Stocks
+pub mod Sizes
+pub mod Regrouped
+pub mod Ledger
+pub mod Causes
+pub mod Calls
+pub mod View
+pub mod Context
+pub mod Outcome
+pub mod Acting
+pub mod Fresh

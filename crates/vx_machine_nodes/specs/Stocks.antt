@@ -1,0 +1,43 @@
+-- What the parts of a machine hold.
+use Rattle.std.specs.Prelude.{List}
+use Rattle.vx_machine_ids.specs.Stock.{Stock, none, id_stock, end_stock, all_stock, some_stock}
+use Rattle.vx_machine_nodes.specs.declared.grouped_node.GroupedNode.{GroupedNode}
+use Rattle.vx_machine_nodes.specs.declared.item.Item.{Item}
+use Rattle.vx_machine_nodes.specs.declared.item.Stored.{Stored}
+use Rattle.vx_machine_nodes.specs.declared.item.Due.{Due}
+use Rattle.vx_machine_nodes.specs.declared.item.Due.TheVariants.{Put, HandOn, Append, Close, Join}
+use Rattle.vx_machine_nodes.specs.declared.node.Local.{Local}
+use Rattle.vx_machine_nodes.specs.declared.node.Local.TheVariants.{Empty, Full, Chunked, Columns, Lists, Grouped, Over, Passing, Made}
+
+abbrev pub item_stock : Item → Stock
+item_stock i = id_stock i.id
+
+abbrev pub items_stock : List Item → Stock
+items_stock xs = all_stock item_stock xs
+
+abbrev pub stored_stock : Stored → Stock
+stored_stock s = id_stock s.id
+
+abbrev pub due_stock : Due → Stock
+due_stock (Put child i) = item_stock i
+due_stock (HandOn i r) = item_stock i
+due_stock (Append s) = stored_stock s
+due_stock Close = none
+due_stock (Join h) = none
+
+abbrev pub dues_stock : List Due → Stock
+dues_stock xs = all_stock due_stock xs
+
+abbrev pub node_stock : GroupedNode → Stock
+node_stock n = some_stock item_stock n.newest
+
+abbrev pub local_stock : Local → Stock
+local_stock (Empty n) = none
+local_stock (Full s) = stored_stock s
+local_stock (Chunked n eof rows) = end_stock eof
+local_stock (Columns n rows) = none
+local_stock (Lists n rows) = none
+local_stock (Grouped n) = node_stock n
+local_stock Over = none
+local_stock Passing = none
+local_stock (Made l) = none

@@ -1,0 +1,75 @@
+-- Tasks in plain data: ids and pointers by their paths, chunks and layouts by their data, strategies at types as forms.
+use Rattle.std.specs.Prelude.{List, map}
+use Rattle.std.specs.Arc.{arc_value}
+use Rattle.vx_model.specs.Ty.{Ty, nullable}
+use Rattle.vx_chunk_cells.specs.Parts.{element_type}
+use Rattle.vx_model.specs.TyView.{ty}
+use Rattle.vx_model.specs.declared.dtype.DType.{DType}
+use Rattle.vx_layout_tree.specs.LayoutView.{layout_data}
+use Rattle.vx_strategy.specs.FlatViews.{flat_options}
+use Rattle.vx_strategy.specs.StrategyView.{strategy_data}
+use Rattle.vx_strategy.specs.declared.strategy.Strategy.{Strategy}
+use Rattle.vx_strategy_spec.specs.StrategyData.{StrategyData}
+use Rattle.vx_strategy_spec.specs.Walk.{walk}
+use Rattle.vx_plan.specs.PlanData.{Item as Piece}
+use Rattle.vx_machine_turns.specs.Forms.{Form, form_nodes}
+use Rattle.vx_machine_view.specs.State as view
+use Rattle.vx_machine_nodes.specs.declared.item.Item.{Item}
+use Rattle.vx_machine_nodes.specs.declared.item.Stored.{Stored}
+use Rattle.vx_machine_nodes.specs.declared.item.Due.{Due}
+use Rattle.vx_machine_nodes.specs.declared.item.Due.TheVariants.{Put, HandOn, Append, Close, Join}
+use Rattle.vx_machine_nodes.specs.declared.kinds.ChunkedNode.{ChunkedNode}
+use Rattle.vx_machine_nodes.specs.declared.node.Local.{Local}
+use Rattle.vx_machine_nodes.specs.declared.node.Local.TheVariants.{Empty, Full, Chunked, Columns, Lists, Grouped, Over, Passing, Made}
+use Rattle.vx_machine_nodes.specs.declared.node.Shape.{Shape}
+use Rattle.vx_machine_nodes.specs.declared.node.Shape.TheVariants as shapes
+use Rattle.vx_machine_nodes.specs.Ledger.{some_bytes}
+use Rattle.vx_machine_nodes.specs.Regrouped.{mind_in}
+
+-- a strategy at a type
+abbrev pub form_at : StrategyData → Ty → Form
+form_at w t = walk form_nodes w t
+
+-- a strategy of the program at a type of the program
+abbrev pub form_of : Strategy → DType → Form
+form_of w t = form_at (strategy_data w) (ty t)
+
+-- an item, of its path and its chunk's data
+abbrev pub item_of : Item → Piece
+item_of i = (i.id, i.chunk)
+
+abbrev pub items_of : List Item → List Piece
+items_of is = map item_of is
+
+abbrev pub stored_of : Stored → view.Stored
+stored_of x = record { id = x.id; bytes = x.segment.bytes.items; tree = x.segment.tree; rows = x.segment.rows; type = ty (arc_value x.segment.dtype) }
+
+abbrev pub fold_of : Shape → view.Fold
+fold_of (shapes.Chunks t) = view.fold_chunks (ty (arc_value t))
+fold_of (shapes.Columns n rows) = view.fold_columns (ty (arc_value n.dtype)) rows
+fold_of (shapes.Lists n rows) = view.fold_columns (ty (arc_value n.dtype)) rows
+
+abbrev pub next_of : Due → view.Next
+next_of (Put c i) = view.put c (item_of i)
+next_of (HandOn i r) = view.hand_on (some_bytes r) (item_of i)
+next_of (Append x) = view.append (stored_of x)
+next_of Close = view.shut_kids
+next_of (Join f) = view.join_kids (fold_of f)
+
+abbrev pub todo_of : List Due → List view.Next
+todo_of ds = map next_of ds
+
+-- the form of a chunked node's child
+abbrev pub child_form : ChunkedNode → Form
+child_form n = form_at n.child.item (ty (arc_value n.dtype))
+
+abbrev pub mind_of : Local → view.Mind
+mind_of (Empty n) = view.no_chunk (flat_options n.options) (ty (arc_value n.dtype))
+mind_of (Full x) = view.one_chunk (stored_of x)
+mind_of (Chunked n eof rows) = view.by_chunk n.marked (ty (arc_value n.dtype)) (child_form n) eof rows
+mind_of (Columns n rows) = view.by_column (ty (arc_value n.dtype)) rows
+mind_of (Lists n rows) = view.by_list (element_type (ty (arc_value n.dtype))) (nullable (ty (arc_value n.dtype))) n.split.first n.split.base rows
+mind_of (Grouped n) = mind_in n.rule n.newest n.rows
+mind_of Over = view.ending
+mind_of Passing = view.passing
+mind_of (Made l) = view.made (layout_data l)

@@ -1,0 +1,25 @@
+//! What a task's node is by itself: what it has in mind between two chunks, what it does with the next chunk and at the end of its
+//! stream, and how it gives up what it holds. So far there are the nodes that need no compressor.
+#![tactic(auto)]
+
+mod columns;
+mod flat;
+mod fresh;
+mod grouped;
+mod grouped_node;
+mod item;
+mod kinds;
+mod lists;
+mod node;
+mod nodes;
+
+pub use columns::{add_rows, has_type, take_columns};
+pub use flat::{append, set_local, take_flat};
+pub use fresh::{blocks_node, buffer_node, collect_node, drop_fresh};
+pub use grouped::{end_grouped, take_grouped};
+pub use grouped_node::GroupedNode;
+pub use item::{Due, Item, Segment, Stored, give_up_dues, give_up_item, give_up_items, release};
+pub use kinds::{ChunkedNode, ColumnsNode, FlatNode, ListsNode};
+pub use lists::{end_lists, take_lists};
+pub use node::{Local, Shape, give_up_local};
+pub use nodes::{chunked_node, columns_node, element_copy, lists_node};
