@@ -3,7 +3,7 @@ use Rattle.std.proofs.Common.{◌≡◌, ◌⊎◌, ℕ, zero, suc, ◌+◌, ◌
 use Rattle.std.proofs.lemmas.Bool.{true≢false}
 use Rattle.std.proofs.lemmas.List.Sums.{sum_by-cons}
 use Rattle.vx_path.specs.Lists.{In}
-use Rattle.vx_machine_view.specs.State.{Next, put, hand_on, append, shut_kids, join_kids, Desk, Tasks, no_tasks, task_then}
+use Rattle.vx_machine_view.specs.State.{Next, put, hand_on, append, shut_kids, join_kids, start_table, leave_kid, Desk, Tasks, no_tasks, task_then}
 use Rattle.vx_machine_view.specs.Acts.{count}
 use Rattle.vx_machine_view.specs.Moves.{may_act}
 use Rattle.vx_machine_view.specs.Places.{one_if, ready_in}
@@ -69,6 +69,8 @@ quiet all every c ks (hand_on n i ∷ todo) h = refl
 quiet all every c ks (append x ∷ todo) h = absurd (true≢false h)
 quiet all every c ks (shut_kids ∷ todo) h = refl
 quiet all every c ks (join_kids f ∷ todo) h = refl
+quiet all every c ks (start_table f e p ∷ todo) h = refl
+quiet all every c ks (leave_kid e ∷ todo) h = refl
 
 pub steady_by : (all : List (List ℕ)) (n : ℕ) (x : Counts) (c : Desk) (ks : Tasks) → waits c.todo ≡ false → asked_of x ≡ [] → n ≡ ready_at all c ks → Fresh all x ks → Steady n x c ks
 steady_by all n x c ks w none e f = λ every.

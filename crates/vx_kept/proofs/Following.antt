@@ -1,11 +1,13 @@
 -- What a task's own act changes below it.
-use Rattle.std.proofs.Common.{◌≡◌, ℕ, ◌==◌, ◌&&◌, ◌+◌, Bool, true, false, List, [], ◌∷◌, Some, None, refl, sym, ap, subst, arith}
+use Rattle.std.proofs.Common.{◌≡◌, ℕ, ◌==◌, ◌&&◌, ◌+◌, Bool, true, false, List, [], ◌∷◌, Option, Some, None, refl, sym, ap, subst, arith}
 use Rattle.vx_model.specs.Ty.{list}
 use Rattle.vx_plan.specs.PlanData.{Setting, Item}
-use Rattle.vx_path.specs.Path.{under, inside}
-use Rattle.vx_machine_view.specs.State.{Next, put, hand_on, append, shut_kids, join_kids, Mind, no_chunk, one_chunk, by_chunk, by_column, by_list, by_block, by_size, as_one, ending, passing, made, Desk, Tasks, no_tasks, task_then}
+use Rattle.vx_path.specs.Path.{under, inside, next}
+use Rattle.vx_zone_spec.specs.ZoneTable.{Filled, kept_columns}
+use Rattle.vx_machine_view.specs.Zoned.{table_item}
+use Rattle.vx_machine_view.specs.State.{Next, put, hand_on, append, shut_kids, join_kids, start_table, leave_kid, Mind, no_chunk, one_chunk, by_chunk, by_column, by_list, by_block, by_size, as_one, by_zone, ending, passing, made, Desk, Tasks, no_tasks, task_then}
 use Rattle.vx_machine_view.specs.Start.{started_task}
-use Rattle.vx_machine_view.specs.Acts.{count, give, add, column_count, take_chunk, end_columns, end_lists, take_end, do_take, do_act}
+use Rattle.vx_machine_view.specs.Acts.{count, give, add, column_count, take_chunk, end_columns, end_lists, end_zones, take_end, do_take, do_act}
 use Rattle.vx_kept.specs.Kept.{KnowsFrom, Knows, asked_of, ready_of, kids_of}
 use Rattle.vx_kept.specs.Follow.{touched_by, Follows}
 use Rattle.vx_kept.specs.declared.counts.Counts.{Counts}
@@ -42,6 +44,11 @@ end_grown c ks (by_block len minimum t x (Some j) rows) = same ks
 end_grown c ks (by_size size x None rows) = same ks
 end_grown c ks (by_size size x (Some j) rows) = same ks
 end_grown c ks (as_one t x rows) = same ks
+end_grown c ks (by_zone g e z) = by (kept_columns g.columns z.records)
+  where
+    by : (table : Option (List Filled)) → Grown ks (end_zones table g e z c ks).kids
+    by None = same ks
+    by (Some cs) = same ks
 end_grown c ks ending = same ks
 end_grown c ks passing = same ks
 end_grown c ks (made l) = same ks
@@ -57,6 +64,7 @@ chunk_grown s c ks i xs (by_block len minimum t x (Some j) rows) = same ks
 chunk_grown s c ks i xs (by_size size x None rows) = same ks
 chunk_grown s c ks i xs (by_size size x (Some j) rows) = same ks
 chunk_grown s c ks i xs (as_one t x rows) = same ks
+chunk_grown s c ks i xs (by_zone g e z) = same ks
 chunk_grown s c ks i xs ending = same ks
 chunk_grown s c ks i xs passing = same ks
 chunk_grown s c ks i xs (made l) = same ks
@@ -72,6 +80,8 @@ act_follows s number c ks (hand_on n i ∷ todo) = (i, refl)
 act_follows s number c ks (append x ∷ todo) = same ks
 act_follows s number c ks (shut_kids ∷ todo) = tt
 act_follows s number c ks (join_kids f ∷ todo) = tt
+act_follows s number c ks (start_table f e p ∷ todo) = (started_task f false (under c.name 1) (next e) (table_item e p ∷ []) true, refl)
+act_follows s number c ks (leave_kid e ∷ todo) = same ks
 
 -- so it is known
 pub child_known : (x : Counts) (j : ℕ) (ks js : Tasks) → Follows (Child j) ks js → Knows x ks → KnowsFrom (j ∷ asked_of x) 0 (ready_of x) (kids_of x) js

@@ -1,7 +1,7 @@
 -- What an act may change of the counts of its task's children.
 use Rattle.std.specs.Prelude.{◌≡◌, ℕ, zero, suc, Bool, true, false, List, [], ◌∷◌}
 use Rattle.vx_plan.specs.PlanData.{Item}
-use Rattle.vx_machine_view.specs.State.{Next, put, hand_on, append, shut_kids, join_kids, Desk, Tasks, no_tasks, task_then}
+use Rattle.vx_machine_view.specs.State.{Next, put, hand_on, append, shut_kids, join_kids, start_table, leave_kid, Desk, Tasks, no_tasks, task_then}
 use Rattle.vx_machine_view.specs.Acts.{give, add}
 use Rattle.vx_kept.specs.declared.counts.Touched.{Touched}
 use Rattle.vx_kept.specs.declared.counts.Touched.TheVariants.{Child, All, Nothing}
@@ -14,6 +14,8 @@ touched_by (hand_on n i ∷ todo) = Child 0
 touched_by (append x ∷ todo) = Nothing
 touched_by (shut_kids ∷ todo) = All
 touched_by (join_kids f ∷ todo) = All
+touched_by (start_table f e p ∷ todo) = Nothing
+touched_by (leave_kid e ∷ todo) = Nothing
 
 -- so the children become
 abbrev pub Follows : Touched → Tasks → Tasks → Type 0
@@ -41,3 +43,5 @@ waits (hand_on n i ∷ todo) = false
 waits (append x ∷ todo) = true
 waits (shut_kids ∷ todo) = false
 waits (join_kids f ∷ todo) = false
+waits (start_table f e p ∷ todo) = false
+waits (leave_kid e ∷ todo) = false

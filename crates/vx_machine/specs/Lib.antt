@@ -1,4 +1,3 @@
-pub mod Wrappers
 pub mod Calls
 pub mod Source
 pub mod Whole

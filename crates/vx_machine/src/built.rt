@@ -5,7 +5,6 @@ ghost use Rattle.vx_strategy.specs.FieldWays.{field_ways};
 ghost use Rattle.vx_strategy.specs.PathWays.{path_ways};
 ghost use Rattle.vx_strategy.specs.StrategyView.{strategy_data};
 ghost use Rattle.vx_strategy.specs.WrapViews.{wraps};
-ghost use Rattle.vx_machine.specs.Wrappers.{records_zones};
 ghost use Rattle.vx_machine_view.specs.Built.{is_built, are_built, wraps_built};
 
 use vx_strategy::{FieldWriter, Overrides, PathWriter, Strategy, Wrapper};
@@ -41,7 +40,12 @@ pub fn is_built(strategy: &Strategy) -> bool
         Strategy::Repartition(by) => is_built(by.child().strategy()),
         Strategy::Buffered(by) => is_built(by.child().strategy()),
         Strategy::Collect(into) => is_built(into.child().strategy()),
-        Strategy::Dict(_) | Strategy::Zoned(_) | Strategy::Compressing(_) => false,
+        Strategy::Zoned(zoned) => {
+            let child = is_built(zoned.child().strategy());
+            let stats = is_built(zoned.stats().strategy());
+            child && stats
+        }
+        Strategy::Dict(_) | Strategy::Compressing(_) => false,
     }
 }
 
@@ -79,23 +83,19 @@ fn paths_built(writers: &[PathWriter]) -> bool
     true
 }
 
-/// Whether none of the wrappers records zones.
+/// Whether the zone tables of wrappers are built.
+#[cycle(built)]
 fn wrappers_built(wrappers: &[Wrapper]) -> bool
     ensures { result ≡ wraps_built (wraps wrappers.now) }
 {
     'wrappers: for wrapper in wrappers {
-        if is_zoned(wrapper) {
+        let built = match wrapper {
+            Wrapper::Zoned(stats, _) => is_built(stats.strategy()),
+            Wrapper::Repartition(_) | Wrapper::Buffered(_) => true,
+        };
+        if !built {
             return false;
         }
     }
     true
-}
-
-fn is_zoned(wrapper: &Wrapper) -> bool
-    ensures { result ≡ records_zones wrapper.now }
-{
-    match wrapper {
-        Wrapper::Zoned(..) => true,
-        Wrapper::Repartition(_) | Wrapper::Buffered(_) => false,
-    }
 }

@@ -14,7 +14,7 @@ ghost use Rattle.vx_machine_view.specs.Start.{first_indices};
 ghost use Rattle.vx_machine_view.specs.Acts.{layouts_in};
 ghost use Rattle.vx_machine_view.specs.Machine.{is_finished as has_finished};
 ghost use Rattle.vx_machine_view.specs.Places.{whole_ready};
-ghost use Rattle.vx_sink.specs.ContextView.{is_marked, counted as counted_bytes};
+ghost use Rattle.vx_sink.specs.ContextView.{is_marked, counted as counted_bytes, allowed_in};
 ghost use Rattle.vx_machine_nodes.specs.Ledger.{Paid, told_by};
 ghost use Rattle.vx_machine_view.specs.Built.{is_built};
 ghost use Rattle.vx_machine_nodes.specs.Calls.{SinkTold};
@@ -76,7 +76,7 @@ fn start_root<O: Order>(
     alloc: Global,
     strategy: &Strategy,
     dtype: &DType,
-    marked: bool,
+    ctx: &LayoutWriterContext,
     order: &mut O,
     eof: SequencePointer,
 ) -> Result<Task, WriteError>
@@ -86,11 +86,14 @@ fn start_root<O: Order>(
     ensures outlet { O.outlet order.new ≡ O.outlet order.old }
     ensures sink { O.sink order.new ≡ O.sink order.old }
     ensures cause { IfErr result StartMay }
-    ensures shows { IfOk result (Started (form_of strategy.now dtype.now) marked (1 ∷ []) eof) }
-    ensures refused { IfErr result (FormRefused (form_of strategy.now dtype.now) marked eof) }
+    ensures shows { IfOk result (Started (allowed_in ctx.now) (form_of strategy.now dtype.now) (is_marked ctx.now) (1 ∷ []) eof) }
+    ensures refused { IfErr result (FormRefused (allowed_in ctx.now) (form_of strategy.now dtype.now) (is_marked ctx.now) eof) }
 {
     match root_parts(alloc, dtype) {
-        Ok((name, dtype)) => start_task(alloc, order, strategy, dtype, marked, name, eof),
+        Ok((name, dtype)) => {
+            let marked = ctx.has_nullable_ancestor();
+            start_task(alloc, ctx, order, strategy, dtype, marked, name, eof)
+        }
         Err(error) => {
             give_up_pointer(order, eof);
             Err(error)
@@ -121,8 +124,8 @@ impl Machine {
     /// The machine before its first step. The batches get paths from `stream` on; what is written behind all of them goes on
     /// from `eof`.
     ///
-    /// `Unbuilt` comes where the strategy names a node or a wrapper that isn't built. `NotStruct` and `DuplicateField` come of the nodes that
-    /// start with the root, `TooLarge(2^64)` where a path index has no next one. Refused, both pointers are given up.
+    /// `Unbuilt` comes where the strategy names a node or a wrapper that isn't built. `NotStruct`, `DuplicateField` and `ForbiddenAggregate` come of the nodes
+    /// that start with the root, `TooLarge(2^64)` where a path index has no next one. Refused, both pointers are given up.
     pub fn start<O: Order>(
         alloc: Global,
         strategy: &Strategy,
@@ -139,24 +142,17 @@ impl Machine {
         ensures outlet { O.outlet order.new ≡ O.outlet order.old }
         ensures sink { O.sink order.new ≡ O.sink order.old }
         ensures cause { IfErr result (WholeStartMay (is_built (strategy_data strategy.now))) }
-        ensures allowed { OnOk result (IsAllowed (form_of strategy.now dtype.now) (is_marked ctx.now)) }
-        ensures counted { OnOk result (Counted eof (first_indices (form_of strategy.now dtype.now) eof)) }
+        ensures allowed { OnOk result (IsAllowed (allowed_in ctx.now) (form_of strategy.now dtype.now) (is_marked ctx.now)) }
+        ensures counted { OnOk result (Counted eof (first_indices (form_of strategy.now dtype.now) (is_marked ctx.now) eof)) }
         ensures shows { IfOk result (λ m. machine_of m ≡ machine_at stream (form_of strategy.now dtype.now) (is_marked ctx.now) eof) }
-        ensures refused { IfErr result (WholeRefused (is_built (strategy_data strategy.now)) (form_of strategy.now dtype.now) (is_marked ctx.now) eof) }
+        ensures refused { IfErr result (WholeRefused (is_built (strategy_data strategy.now)) (allowed_in ctx.now) (form_of strategy.now dtype.now) (is_marked ctx.now) eof) }
     {
         if !is_built(strategy) {
             give_up_pointer(order, stream);
             give_up_pointer(order, eof);
             return Err(WriteError::Unbuilt);
         }
-        match start_root(
-            alloc,
-            strategy,
-            dtype,
-            ctx.has_nullable_ancestor(),
-            order,
-            eof,
-        ) {
+        match start_root(alloc, strategy, dtype, ctx, order, eof) {
             Ok(root) => Ok(Machine {
                 alloc,
                 phase: Phase::Reading(stream),

@@ -22,7 +22,7 @@ use Rattle.vx_machine_nodes.specs.declared.item.Item.{Item}
 use Rattle.vx_machine_nodes.specs.declared.item.Segment.{Segment}
 use Rattle.vx_machine_nodes.specs.declared.kinds.FlatNode.{FlatNode}
 use Rattle.vx_machine_nodes.specs.declared.node.Local.{Local}
-use Rattle.vx_machine_nodes.specs.declared.node.Local.TheVariants.{Empty, Full, Chunked, Columns, Lists, Grouped, Over, Passing, Made}
+use Rattle.vx_machine_nodes.specs.declared.node.Local.TheVariants.{Empty, Full, Chunked, Columns, Lists, Grouped, Over, Passing, Made, Zoned}
 use Rattle.vx_machine_nodes.specs.Context.{setting_of}
 use Rattle.vx_machine_nodes.specs.Outcome.{action_of, AllFit, Refused, none_past}
 use Rattle.vx_machine_nodes.specs.View.{item_of, mind_of}
@@ -56,17 +56,18 @@ AppendRefused o x e = Refused None false [] [] (x ∷ []) (IsPast o) (IsShared o
 
 -- ---- acts of a block
 
--- Of a task of which only this is told: what it has in mind.
-abbrev pub bare : Mind → Desk
-bare mind = waiting [] mind [] false
+-- Of a task of which only this is told: its name, and what it has in mind.
+abbrev pub bare : List ℕ → Mind → Desk
+bare name mind = waiting name mind [] false
 
-abbrev pub acted : List EncodingId → ℕ → Mind → Tasks → Next → Did
-acted ids number mind ks x = do_next ids number (bare mind) ks x []
+abbrev pub acted : Setting → List ℕ → ℕ → Mind → Tasks → Next → Did
+acted s name number mind ks x = do_next s number (bare name mind) ks x []
 
 -- an act was done, with this in mind then and these children
 pub record ActDone (w : Did) (before : Outlet) (number : ℕ) (after : Outlet) (mind : Mind) (kids : Tasks) (a : ActionKind) : Type 0 where
   pub unrefused : w.refusal ≡ None
   pub fits : w.misfit ≡ false
+  pub counted : AllFit (w.numbers ++ w.indices)
   pub mind_is : mind ≡ w.desk.mind
   pub kids_are : kids ≡ w.kids
   pub kind : a ≡ action_of w.kind
@@ -135,6 +136,7 @@ first_word first (Chunked n eof rows) = Some many_chunks
 first_word first (Columns n rows) = Some many_chunks
 first_word first (Lists n rows) = Some many_chunks
 first_word first (Grouped n) = Some many_chunks
+first_word first (Zoned n) = Some many_chunks
 first_word first Over = Some many_chunks
 first_word first Passing = Some many_chunks
 first_word first (Made l) = Some many_chunks
@@ -147,6 +149,7 @@ is_flat (Chunked n eof rows) = false
 is_flat (Columns n rows) = false
 is_flat (Lists n rows) = false
 is_flat (Grouped n) = false
+is_flat (Zoned n) = false
 is_flat Over = false
 is_flat Passing = false
 is_flat (Made l) = false
@@ -159,6 +162,7 @@ is_grouped (Full x) = false
 is_grouped (Chunked n eof rows) = false
 is_grouped (Columns n rows) = false
 is_grouped (Lists n rows) = false
+is_grouped (Zoned n) = false
 is_grouped Over = false
 is_grouped Passing = false
 is_grouped (Made l) = false
@@ -166,6 +170,10 @@ is_grouped (Made l) = false
 -- why a chunk isn't split: it is of another type, or the rows with it are too many
 abbrev pub SplitRefused : Bool → ℕ → WriteError → Type 0
 SplitRefused misfit rows e = Refused None misfit (rows ∷ []) [] [] none_past ⊥ [] e
+
+-- why a zoned node doesn't record a chunk: it makes no zone, it is of another type, or the rows with it are too many
+abbrev pub ZoneRefused : Option What → Bool → ℕ → WriteError → Type 0
+ZoneRefused word misfit rows e = Refused word misfit (rows ∷ []) [] [] none_past ⊥ [] e
 
 -- why a chunk of lists isn't split: it is of another type, or one of these is too many
 abbrev pub ListRefused : Bool → List ℕ → WriteError → Type 0
@@ -183,8 +191,8 @@ pub record Ended (w : Did) (mind : Mind) (todo before : List Next) : Type 0 wher
 
 -- by a task with so many children, of which only this is told: what it had in mind
 abbrev pub EndTaken : Local → ℕ → Local → List Next → List Next → Type 0
-EndTaken l n m todo before = (ks : Tasks) → count ks ≡ n → Ended (take_end (bare (mind_of l)) ks (mind_of l)) (mind_of m) todo before
+EndTaken l n m todo before = (ks : Tasks) → count ks ≡ n → Ended (take_end (bare [] (mind_of l)) ks (mind_of l)) (mind_of m) todo before
 
 -- or it is refused
 abbrev pub EndRefused : Local → ℕ → WriteError → Type 0
-EndRefused l n e = (ks : Tasks) → count ks ≡ n → TakeRefused (take_end (bare (mind_of l)) ks (mind_of l)) e
+EndRefused l n e = (ks : Tasks) → count ks ≡ n → TakeRefused (take_end (bare [] (mind_of l)) ks (mind_of l)) e

@@ -1,5 +1,5 @@
 -- Nodes as they stand before their first chunk.
-use Rattle.std.specs.Prelude.{◌≡◌, Bool, true, false, [], Some, None}
+use Rattle.std.specs.Prelude.{◌≡◌, Bool, true, false, [], Some, None, ℕ, List, Option}
 use Rattle.vx_model.specs.Ty.{Ty, is_struct}
 use Rattle.vx_path.specs.Path.{Eof}
 use Rattle.vx_chunk_cells.specs.Parts.{struct_fields}
@@ -11,7 +11,18 @@ use Rattle.vx_write_answer.specs.declared.error.WriteError.{WriteError}
 use Rattle.vx_write_answer.specs.declared.error.WriteError.TheVariants.{SourceFault, SinkFault, CompressFault, BatchType, NotStruct, DuplicateField, ManyChunks, EmptyList, ZoneCut, ForbiddenAggregate, ForbiddenEncoding, TooLarge, OutOfMemory, Unbuilt, Stopped}
 use Rattle.vx_machine_nodes.specs.declared.grouped_node.GroupedNode.{GroupedNode}
 use Rattle.vx_machine_nodes.specs.declared.node.Local.TheVariants.{Grouped}
-use Rattle.vx_machine_nodes.specs.View.{mind_of}
+use Rattle.vx_machine_nodes.specs.Context.{Allowed}
+use Rattle.vx_machine_nodes.specs.View.{mind_of, form_at, zoner_in, zones_in}
+use Rattle.std.specs.Arc.{arc_value}
+use Rattle.vx_model.specs.TyView.{ty}
+use Rattle.vx_strategy_options.specs.RuleViews.{zone_rule}
+use Rattle.vx_strategy.specs.declared.zoned.ZonedStrategy.{ZonedStrategy}
+use Rattle.vx_plan.specs.SourcePlan.{first_what}
+use Rattle.vx_plan.specs.PlanData.{forbidden_aggregate}
+use Rattle.vx_aggregate_spec.specs.Aggregate.{Column}
+use Rattle.vx_plan.specs.ZonedNode.{recorded, forbidden_faults}
+use Rattle.vx_machine_view.specs.Zoned.{zoner, no_zones}
+use Rattle.vx_machine_nodes.specs.declared.zoned_node.ZonedNode.{ZonedNode}
 
 -- ---- refusals
 
@@ -43,3 +54,30 @@ pub record IsFresh (n : GroupedNode) : Type 0 where
 -- it is what such a form begins with
 abbrev pub Begins : Grouping → Ty → GroupedNode → Type 0
 Begins g t n = (k : Form) (m : Bool) (e : Eof) → mind_of (Grouped n) ≡ first_mind (grouped_form g t k) m e
+
+-- ---- of a zoned node
+
+-- it has recorded nothing, and what it would record may be recorded
+pub record BeginsZones (a : Allowed) (w : ZonedStrategy) (n : ZonedNode) : Type 0 where
+  pub stats : n.stats ≡ w.stats
+  pub zoner : zoner_in n ≡ zoner (zone_rule w.rule) (ty (arc_value n.dtype)) (λ u. form_at w.stats.item u)
+  pub zones : zones_in n ≡ no_zones (zoner_in n)
+  pub allowed : forbidden_faults a (recorded (zone_rule w.rule) (ty (arc_value n.dtype))) ≡ []
+
+-- what these columns record may not be recorded
+abbrev pub ZonesRefused : Allowed → List Column → WriteError → Type 0
+ZonesRefused a columns (ForbiddenAggregate id) = first_what (forbidden_faults a columns) ≡ Some (forbidden_aggregate id)
+ZonesRefused a columns OutOfMemory = Unit {0}
+ZonesRefused a columns NotStruct = ⊥
+ZonesRefused a columns (DuplicateField name) = ⊥
+ZonesRefused a columns (TooLarge n) = ⊥
+ZonesRefused a columns SourceFault = ⊥
+ZonesRefused a columns SinkFault = ⊥
+ZonesRefused a columns CompressFault = ⊥
+ZonesRefused a columns (BatchType c) = ⊥
+ZonesRefused a columns ManyChunks = ⊥
+ZonesRefused a columns EmptyList = ⊥
+ZonesRefused a columns (ZoneCut n) = ⊥
+ZonesRefused a columns (ForbiddenEncoding id) = ⊥
+ZonesRefused a columns Unbuilt = ⊥
+ZonesRefused a columns (Stopped by name) = ⊥

@@ -5,9 +5,9 @@ use Rattle.vx_sink.specs.declared.context.LayoutWriterContext.{LayoutWriterConte
 use Rattle.vx_sink.specs.ContextView.{listed, allowed_in, is_marked, counted}
 use Rattle.vx_machine_nodes.specs.declared.grouped_node.GroupedNode.{GroupedNode}
 use Rattle.vx_machine_nodes.specs.declared.item.Due.{Due}
-use Rattle.vx_machine_nodes.specs.declared.item.Due.TheVariants.{Put, HandOn, Append, Close, Join}
+use Rattle.vx_machine_nodes.specs.declared.item.Due.TheVariants.{Put, HandOn, Append, Close, Join, Table, Leave}
 use Rattle.vx_machine_nodes.specs.declared.node.Local.{Local}
-use Rattle.vx_machine_nodes.specs.declared.node.Local.TheVariants.{Empty, Full, Chunked, Columns, Lists, Grouped, Over, Passing, Made}
+use Rattle.vx_machine_nodes.specs.declared.node.Local.TheVariants.{Empty, Full, Chunked, Columns, Lists, Grouped, Over, Passing, Made, Zoned}
 use Rattle.vx_machine_nodes.specs.Sizes.{sum_of}
 
 -- ---- how much is reserved
@@ -22,6 +22,8 @@ due_reserved (Put child i) = 0
 due_reserved (Append s) = 0
 due_reserved Close = 0
 due_reserved (Join h) = 0
+due_reserved (Table t) = 0
+due_reserved (Leave e) = 0
 
 abbrev pub dues_reserved : List Due → ℕ
 dues_reserved ds = sum_of (map due_reserved ds)
@@ -36,6 +38,7 @@ local_reserved (Full s) = 0
 local_reserved (Chunked n eof rows) = 0
 local_reserved (Columns n rows) = 0
 local_reserved (Lists n rows) = 0
+local_reserved (Zoned n) = 0
 local_reserved Over = 0
 local_reserved Passing = 0
 local_reserved (Made l) = 0

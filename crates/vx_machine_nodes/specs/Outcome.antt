@@ -2,7 +2,7 @@
 use Rattle.std.specs.Prelude.{◌≡◌, ◌⊎◌, ℕ, ◌^◌, ◌<◌, ◌≤◌, Bool, true, List, Option, Some}
 use Rattle.vx_path.specs.Lists.{In, Each}
 use Rattle.vx_tasks.specs.Task.{Kind, Free, Take, TakeEnd, Put, Append, Join, Batch, End, Call, Close}
-use Rattle.vx_plan.specs.PlanData.{Pair, What, not_struct, duplicate_field, many_chunks, empty_list, forbidden_encoding}
+use Rattle.vx_plan.specs.PlanData.{Pair, What, not_struct, duplicate_field, many_chunks, empty_list, forbidden_encoding, zone_cut, forbidden_aggregate}
 use Rattle.vx_order.specs.Outlet.{Outlet, own, shared}
 use Rattle.vx_write_answer.specs.declared.step.ActionKind.{ActionKind}
 use Rattle.vx_write_answer.specs.declared.step.ActionKind.TheVariants as actions
@@ -52,8 +52,8 @@ Refused refusal misfit numbers indices wrote past stopped joined NotStruct = ref
 Refused refusal misfit numbers indices wrote past stopped joined (DuplicateField name) = refusal ≡ Some (duplicate_field name)
 Refused refusal misfit numbers indices wrote past stopped joined ManyChunks = refusal ≡ Some many_chunks
 Refused refusal misfit numbers indices wrote past stopped joined EmptyList = refusal ≡ Some empty_list
-Refused refusal misfit numbers indices wrote past stopped joined (ZoneCut n) = ⊥
-Refused refusal misfit numbers indices wrote past stopped joined (ForbiddenAggregate id) = ⊥
+Refused refusal misfit numbers indices wrote past stopped joined (ZoneCut n) = refusal ≡ Some (zone_cut n)
+Refused refusal misfit numbers indices wrote past stopped joined (ForbiddenAggregate id) = refusal ≡ Some (forbidden_aggregate id)
 Refused refusal misfit numbers indices wrote past stopped joined (ForbiddenEncoding id) = refusal ≡ Some (forbidden_encoding id)
 Refused refusal misfit numbers indices wrote past stopped joined (TooLarge n) = Past numbers indices n ⊎ (Appending wrote × past n) ⊎ (In n joined × (2 ^ 64 ≤ n))
 Refused refusal misfit numbers indices wrote past stopped joined OutOfMemory = Unit {0}

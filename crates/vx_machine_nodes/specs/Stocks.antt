@@ -5,9 +5,11 @@ use Rattle.vx_machine_nodes.specs.declared.grouped_node.GroupedNode.{GroupedNode
 use Rattle.vx_machine_nodes.specs.declared.item.Item.{Item}
 use Rattle.vx_machine_nodes.specs.declared.item.Stored.{Stored}
 use Rattle.vx_machine_nodes.specs.declared.item.Due.{Due}
-use Rattle.vx_machine_nodes.specs.declared.item.Due.TheVariants.{Put, HandOn, Append, Close, Join}
+use Rattle.vx_machine_nodes.specs.declared.item.Due.TheVariants.{Put, HandOn, Append, Close, Join, Table, Leave}
 use Rattle.vx_machine_nodes.specs.declared.node.Local.{Local}
-use Rattle.vx_machine_nodes.specs.declared.node.Local.TheVariants.{Empty, Full, Chunked, Columns, Lists, Grouped, Over, Passing, Made}
+use Rattle.vx_machine_nodes.specs.declared.node.Local.TheVariants.{Empty, Full, Chunked, Columns, Lists, Grouped, Over, Passing, Made, Zoned}
+use Rattle.vx_machine_nodes.specs.declared.zoned_node.ZonedNode.{ZonedNode}
+use Rattle.vx_machine_nodes.specs.declared.zoned_node.TableStart.{TableStart}
 
 abbrev pub item_stock : Item → Stock
 item_stock i = id_stock i.id
@@ -18,12 +20,20 @@ items_stock xs = all_stock item_stock xs
 abbrev pub stored_stock : Stored → Stock
 stored_stock s = id_stock s.id
 
+abbrev pub zoned_stock : ZonedNode → Stock
+zoned_stock n = end_stock n.eof
+
+abbrev pub table_stock : TableStart → Stock
+table_stock t = end_stock t.eof
+
 abbrev pub due_stock : Due → Stock
 due_stock (Put child i) = item_stock i
 due_stock (HandOn i r) = item_stock i
 due_stock (Append s) = stored_stock s
 due_stock Close = none
 due_stock (Join h) = none
+due_stock (Table t) = table_stock t
+due_stock (Leave e) = end_stock e
 
 abbrev pub dues_stock : List Due → Stock
 dues_stock xs = all_stock due_stock xs
@@ -38,6 +48,7 @@ local_stock (Chunked n eof rows) = end_stock eof
 local_stock (Columns n rows) = none
 local_stock (Lists n rows) = none
 local_stock (Grouped n) = node_stock n
+local_stock (Zoned n) = zoned_stock n
 local_stock Over = none
 local_stock Passing = none
 local_stock (Made l) = none

@@ -8,13 +8,15 @@ ghost use Rattle.vx_machine_nodes.specs.Ledger.{Paid, told_by, some_bytes, due_r
 ghost use Rattle.vx_machine_nodes.specs.Stocks.{item_stock, items_stock, stored_stock, due_stock, dues_stock};
 
 use crate::node::Shape;
+use crate::zoned::give_up_table;
+use crate::zoned_node::TableStart;
 use std::collections::VecDeque;
 use std::sync::Arc;
 use vx_chunk::Chunk;
-use vx_machine_ids::give_up_id;
+use vx_machine_ids::{give_up_id, give_up_pointer};
 use vx_model::{Blob, DType};
 use vx_order::Order;
-use vx_sequence::SequenceId;
+use vx_sequence::{SequenceId, SequencePointer};
 use vx_sink::{BufferedBytesReservation, LayoutWriterContext};
 
 /// A chunk, and the place of what is written of it.
@@ -54,6 +56,10 @@ pub enum Due {
     /// Closes the queues of all children.
     Close,
     Join(Shape),
+    /// Once the data child has done all: starts the child of a zone table.
+    Table(TableStart),
+    /// Once the only child has done all: gives the pointer up.
+    Leave(SequencePointer),
 }
 
 /// Gives up its id.
@@ -110,6 +116,8 @@ pub(crate) fn give_up_due<O: Order>(ctx: &mut LayoutWriterContext, order: &mut O
         Due::Append(stored) => give_up_stored(order, stored),
         Due::Close => {}
         Due::Join(shape) => drop(shape),
+        Due::Table(table) => give_up_table(order, table),
+        Due::Leave(eof) => give_up_pointer(order, eof),
     }
 }
 

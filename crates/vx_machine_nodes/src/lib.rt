@@ -12,6 +12,9 @@ mod kinds;
 mod lists;
 mod node;
 mod nodes;
+mod zoned;
+mod zoned_fresh;
+mod zoned_node;
 
 pub use columns::{add_rows, has_type, take_columns};
 pub use flat::{append, set_local, take_flat};
@@ -23,3 +26,6 @@ pub use kinds::{ChunkedNode, ColumnsNode, FlatNode, ListsNode};
 pub use lists::{end_lists, take_lists};
 pub use node::{Local, Shape, give_up_local};
 pub use nodes::{chunked_node, columns_node, element_copy, lists_node};
+pub use zoned::{end_zoned, give_up_zoned, take_zoned};
+pub use zoned_fresh::zoned_node;
+pub use zoned_node::{TableStart, ZonedNode, Zones};

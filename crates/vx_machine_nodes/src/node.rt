@@ -11,6 +11,8 @@ use crate::grouped::give_up_grouped;
 use crate::grouped_node::GroupedNode;
 use crate::item::{Stored, give_up_stored};
 use crate::kinds::{ChunkedNode, ColumnsNode, FlatNode, ListsNode};
+use crate::zoned::give_up_zoned;
+use crate::zoned_node::{ZonedNode, Zones};
 use std::sync::Arc;
 use vx_layout_tree::Layout;
 use vx_machine_ids::give_up_pointer;
@@ -31,6 +33,7 @@ pub enum Local {
     /// With the rows so far.
     Lists(ListsNode, u64),
     Grouped(GroupedNode),
+    Zoned(ZonedNode),
     /// It has seen the end of its stream.
     Over,
     /// So it has, and its layout is its only child's.
@@ -47,6 +50,7 @@ pub enum Shape {
     Columns(ColumnsNode, u64),
     /// With the rows.
     Lists(ListsNode, u64),
+    Zones(Zones),
 }
 
 /// Gives up its id or pointer, and what it has reserved.
@@ -69,6 +73,7 @@ pub fn give_up_local<O: Order>(ctx: &mut LayoutWriterContext, order: &mut O, loc
         Local::Columns(node, _) => drop(node),
         Local::Lists(node, _) => drop(node),
         Local::Grouped(node) => give_up_grouped(ctx, order, node),
+        Local::Zoned(node) => give_up_zoned(order, node),
         Local::Over => {}
         Local::Passing => {}
         Local::Made(layout) => drop(layout),

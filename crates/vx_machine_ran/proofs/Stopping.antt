@@ -466,7 +466,7 @@ module _ (ctx : LayoutWriterContext) (image : ℕ → ChunkData → ChunkData) (
         there : IsElsewhere e → There taken heard e
         there far = inr (
           found.0,
-          subst (λ z. IsOwn found.0.move z heard next e) (sym (found.1 ∙ counts_are)) (is_own w found.0.move found.2 y.outlet mine heard next fits
+          subst (λ z. IsOwn found.0.move z heard next e) (sym (found.1.0 ∙ counts_are)) (is_own w found.0.move found.1.1 y.outlet mine heard next fits
               (whole_join (setting_of ctx image) (machine_ids x.machine) (first + length x.history) told x.machine k w at) last counts e far cause),
         )
           where

@@ -91,7 +91,8 @@ IsOwn m counts heard next (Stopped by name) = ⊥
 abbrev pub StartRefuses : Setting → StrategyData → Ty → Bool → WriteError → Type 0
 StartRefuses s w t m NotStruct = start_fault s w t m ≡ Some not_struct
 StartRefuses s w t m (DuplicateField name) = start_fault s w t m ≡ Some (duplicate_field name)
-StartRefuses s w t m (TooLarge n) = (n ≡ 2 ^ 64) × TooFar (first_indices (form_at w t) root_eof)
+StartRefuses s w t m (ForbiddenAggregate id) = start_fault s w t m ≡ Some (forbidden_aggregate id)
+StartRefuses s w t m (TooLarge n) = (n ≡ 2 ^ 64) × TooFar (first_indices (form_at w t) m root_eof)
 StartRefuses s w t m OutOfMemory = Unit {0}
 StartRefuses s w t m Unbuilt = is_built w ≡ false
 StartRefuses s w t m e = ⊥

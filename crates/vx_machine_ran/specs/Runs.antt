@@ -41,7 +41,7 @@ AllDone g to_come schedule first before steps outlet layout =
 abbrev pub DoneIsWritten : Type 0
 DoneIsWritten = (ctx : LayoutWriterContext) (image : ℕ → ChunkData → ChunkData) (w : StrategyData) (t : Ty) (schedule : List ℕ) (to_come to_come_now : Option (List ChunkData)) (borrow first : ℕ)
     (before : Option (List (List ℕ))) (steps : List Step) (outlet : Outlet) (l : Option Layout) → Keeps (setting_of ctx image) → IsTrue (is_built w)
-    → start_fault (setting_of ctx image) w t (is_marked ctx) ≡ None → AllBelow (2 ^ 64) (first_indices (form_of (write_by ctx image w t)) root_eof) → length steps < 2 ^ 64
+    → start_fault (setting_of ctx image) w t (is_marked ctx) ≡ None → AllBelow (2 ^ 64) (first_indices (form_of (write_by ctx image w t)) (is_marked ctx) root_eof) → length steps < 2 ^ 64
     → RunDone ctx t schedule (at_start (write_by ctx image w t) to_come borrow first before) steps to_come_now outlet l
     → (layout : Layout) × (l ≡ Some layout) × NoneTold to_come_now × AllDone (write_by ctx image w t) to_come schedule first before steps outlet layout
 

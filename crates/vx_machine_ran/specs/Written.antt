@@ -7,7 +7,7 @@ use Rattle.vx_layout_spec.specs.LayoutTree.{LayoutData}
 use Rattle.vx_layout_spec.specs.Rows.{rows}
 use Rattle.vx_segment_reader.specs.Codec.{segment_codec}
 use Rattle.vx_strategy_spec.specs.StrategyData.{StrategyData}
-use Rattle.vx_plan.specs.PlanData.{Setting, Plan, not_struct, duplicate_field, many_chunks, empty_list, forbidden_encoding}
+use Rattle.vx_plan.specs.PlanData.{Setting, Plan, not_struct, duplicate_field, many_chunks, empty_list, zone_cut, forbidden_aggregate, forbidden_encoding}
 use Rattle.vx_plan.specs.Number.{segments, numbered, segment_at}
 use Rattle.vx_plan.specs.SourcePlan.{of_schema, source_plan, taken_plan, source_values}
 use Rattle.vx_plan.specs.Valid.{Fit, IsPast, OfSchema, AllOf, Has}
@@ -87,8 +87,8 @@ HasCause t unbuilt passes p taken next stand SinkFault = Unit {0}
 HasCause t unbuilt passes p taken next stand OutOfMemory = Unit {0}
 HasCause t unbuilt passes p taken next stand Unbuilt = unbuilt
 HasCause t unbuilt passes p taken next stand CompressFault = ⊥
-HasCause t unbuilt passes p taken next stand (ZoneCut n) = ⊥
-HasCause t unbuilt passes p taken next stand (ForbiddenAggregate id) = ⊥
+HasCause t unbuilt passes p taken next stand (ZoneCut n) = Has (zone_cut n) p.faults
+HasCause t unbuilt passes p taken next stand (ForbiddenAggregate id) = Has (forbidden_aggregate id) p.faults
 HasCause t unbuilt passes p taken next stand (Stopped by name) = ⊥
 
 -- the source's answers were asked in steps; a batch of another type in none, nor one behind which the act was refused

@@ -40,7 +40,7 @@ use Rattle.vx_machine_runs.proofs.Stepping.{open_before, some_same, asks_so, sta
 abbrev Bounded : ℕ → Write → ℕ → List Note → Stand → Type 0
 Bounded most g first seen x = Underway (λ f t. Showing g first x.taken x.machine f t × AllBelow most (did t)) g x.taken x.heard seen x.history (tracked g x)
 
-start_bounded : StartIsReached → (most : ℕ) (g : Write) (first : ℕ) → is_built g.way ≡ true → start_fault g.setting g.way g.type g.mark ≡ None → AllBelow most (first_indices (form_of g) root_eof)
+start_bounded : StartIsReached → (most : ℕ) (g : Write) (first : ℕ) → is_built g.way ≡ true → start_fault g.setting g.way g.type g.mark ≡ None → AllBelow most (first_indices (form_of g) g.mark root_eof)
     → Bounded most g first [] (outset g)
 start_bounded reached most g first b s all f o =
     let r = reached g f in

@@ -42,6 +42,7 @@ use Rattle.vx_machine_view.proofs.Building.{built_is_built}
 use Rattle.vx_machine_view.proofs.Words.{no_cons}
 use Rattle.vx_machine_runs.proofs.Covers.{counted_by, count_reading, all_counted, Covers, most_over, most_in}
 use Rattle.vx_machine_runs.proofs.GroupCovering.{group_covers}
+use Rattle.vx_machine_runs.proofs.ZoneCovering.{zoned_covers}
 
 -- ---- several duties
 
@@ -354,7 +355,7 @@ all_covers s = record {
   at_grouped = λ g r t k l h b. group_covers s g t k l (h b.1);
   at_compressed = λ which room r t k l h b. absurd b;
   at_dict = λ o t is c v f d w g h i j b. absurd b;
-  at_zoned = λ o r t k l f g h i b. absurd b;
+  at_zoned = λ o r t k l f g h i b. zoned_covers s o t k l f g (h b.1) (λ u. i u (b.2 u).1);
   at_not_struct = λ t b. record { covers = λ m name items ended e d enough n i. absurd i };
   at_struct = λ fs n dup v w ks ls h r b. struct_covers s fs n dup v w ks ls (h b.1) r b.2;
   at_list = λ t n e o v f p w h i j b. list_covers s t n e o v f p w (h b.1) (i b.3) (j b.5);

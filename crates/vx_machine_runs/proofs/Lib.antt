@@ -11,6 +11,7 @@ pub mod Picking
 pub mod Tracking
 pub mod Covers
 pub mod GroupCovering
+pub mod ZoneCovering
 pub mod Covering
 pub mod Doing
 pub mod Bounding

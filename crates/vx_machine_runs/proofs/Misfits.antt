@@ -7,6 +7,7 @@ use Rattle.vx_model.specs.ChunkData.{ChunkData, held}
 use Rattle.vx_rules.specs.Blocks.{block_len}
 use Rattle.vx_path.specs.Lists.{In}
 use Rattle.vx_path.specs.Path.{Eof}
+use Rattle.vx_path.specs.Path as path
 use Rattle.vx_path.proofs.Lists.{in_cases, from_map}
 use Rattle.vx_tasks.specs.Run.{nth}
 use Rattle.vx_plan.specs.PlanData.{Setting, Item, rows_in}
@@ -19,11 +20,15 @@ use Rattle.vx_machine_turns.specs.Source.{source_seed}
 use Rattle.vx_machine_steps.specs.Tree.{Tree, Leaf, Work}
 use Rattle.vx_machine_promises.specs.Write.{Answer, unasked, came, over, planned}
 use Rattle.vx_machine_promises.specs.Reached.{Reached}
-use Rattle.vx_machine_view.specs.State.{shut_kids, Mind, no_chunk, one_chunk, by_chunk, by_column, by_list, by_block, by_size, as_one, ending, passing, made, Desk, Tasks, no_tasks, task_then}
-use Rattle.vx_machine_view.specs.Acts.{count, column_count, take_chunk, end_columns, end_lists, take_end, do_take, do_act, puts, hand_all}
+use Rattle.vx_zone_spec.specs.ZoneTable.{Filled, kept_columns}
+use Rattle.vx_machine_turns.specs.Locals.{ZonedNode}
+use Rattle.vx_machine_view.specs.Zoned.{Zoner, Zones}
+use Rattle.vx_machine_view.specs.Zoning.{zoner_of, put_each, zones_left}
+use Rattle.vx_machine_view.specs.State.{shut_kids, Mind, no_chunk, one_chunk, by_chunk, by_column, by_list, by_block, by_size, as_one, by_zone, ending, passing, made, Desk, Tasks, no_tasks, task_then}
+use Rattle.vx_machine_view.specs.Acts.{count, column_count, take_chunk, end_columns, end_lists, end_zones, take_end, do_take, do_act, puts, hand_all}
 use Rattle.vx_machine_view.specs.Moves.{Step, may_act, own_step, in_kids, in_rest, steps}
 use Rattle.vx_machine_view.specs.Typed.{AllTyped}
-use Rattle.vx_machine_view.specs.Shows.{Stage, waits_first, waits_end, appends, splits, gathers_all, hands, hands_lists, shuts, joins_columns, regroups_rows, regroups_chunks, collects, passes_on, passed, Done, Shows}
+use Rattle.vx_machine_view.specs.Shows.{Stage, waits_first, waits_end, appends, splits, gathers_all, hands, hands_lists, shuts, joins_columns, regroups_rows, regroups_chunks, collects, passes_on, passed, records_zones, closes_zones, joins_data, joins_zones, Done, Shows}
 use Rattle.vx_machine_view.specs.Machine.{Phase, reading, giving, closing, finished, may_source, WholeStep, source_step, in_root, machine_ids}
 use Rattle.vx_machine_view.specs.Whole.{form_of, root_depth}
 use Rattle.vx_machine_view.specs.Underway.{Showing}
@@ -43,6 +48,10 @@ lists_end : (b : Bool) (t : Ty) (rows : ℕ) (c : Desk) (ks : Tasks) → (end_li
 lists_end true t rows c ks = refl
 lists_end false t rows c ks = refl
 
+zones_end : (table : Option (List Filled)) (g : Zoner) (e : Eof) (z : Zones) (c : Desk) (ks : Tasks) → (end_zones table g e z c ks).misfit ≡ false
+zones_end None g e z c ks = refl
+zones_end (Some cs) g e z c ks = refl
+
 ends_fit : (c : Desk) (ks : Tasks) (mind : Mind) → (take_end c ks mind).misfit ≡ false
 ends_fit c ks (no_chunk o t) = refl
 ends_fit c ks (one_chunk x) = refl
@@ -54,6 +63,7 @@ ends_fit c ks (by_block len minimum t x (Some j) rows) = refl
 ends_fit c ks (by_size size x None rows) = refl
 ends_fit c ks (by_size size x (Some j) rows) = refl
 ends_fit c ks (as_one t x rows) = refl
+ends_fit c ks (by_zone g e z) = zones_end (kept_columns g.columns z.records) g e z c ks
 ends_fit c ks ending = refl
 ends_fit c ks passing = refl
 ends_fit c ks (made l) = refl
@@ -98,6 +108,18 @@ module _ (s : Setting) (number : List ℕ → ℕ) (next : ℕ) (all : List (Lis
   takes_all c ks [] t x rows e ty = tt
   takes_all c ks (i ∷ xs) t x rows e ty = ap (λ z. (take_chunk s c ks i xs z).misfit) e ∙ ap not (type_fits t i.1 ty.0)
 
+  takes_zones : (c : Desk) (ks : Tasks) (xs : List Item) (g : Zoner) (e : Eof) (z : Zones) → c.mind ≡ by_zone g e z → AllTyped g.type xs → Takes c ks xs c.mind
+  takes_zones c ks [] g e z m ty = tt
+  takes_zones c ks (i ∷ xs) g e z m ty = ap (λ v. (take_chunk s c ks i xs v).misfit) m ∙ ap not (type_fits g.type i.1 ty.0)
+
+  each_fits : (c : Desk) (ks : Tasks) (outs : List Item) → Takes c ks c.inbox c.mind → (do_act s next c ks (put_each outs)).misfit ≡ false
+  each_fits c ks [] t = take_fits c ks c.inbox t
+  each_fits c ks (i ∷ outs) t = refl
+
+  data_fits : (c : Desk) (ks : Tasks) (n : ZonedNode) (z : Zones) (table : Option (List Filled)) → (do_act s next c ks (zones_left n z table)).misfit ≡ false
+  data_fits c ks n z None = refl
+  data_fits c ks n z (Some cs) = refl
+
   hands_fit : (c : Desk) (ks : Tasks) (weight : ChunkData → ℕ) (outs : List Item) → Takes c ks c.inbox c.mind → (do_act s next c ks (hand_all weight outs)).misfit ≡ false
   hands_fit c ks weight [] t = take_fits c ks c.inbox t
   hands_fit c ks weight (i ∷ outs) t = refl
@@ -134,6 +156,11 @@ module _ (s : Setting) (number : List ℕ → ℕ) (next : ℕ) (all : List (Lis
   own_fits d c ks q past todo l off hs ty (collects n x rows w) = idle_fits c ks w.left_is (takes_all c ks c.inbox n.type x rows w.mind_is (subst (λ z. AllTyped z c.inbox) w.type_is ty))
   own_fits d c ks q past todo l off hs ty (passes_on t weight outs one to w) = ap (λ z. (do_act s next c ks z).misfit) w.left_is ∙ passes_fit c ks weight outs
   own_fits d c ks q past todo l off hs ty (passed t one w) = idle_fits c ks w.left_is (takes_first c ks c.inbox passing (λ i xs. refl) w.mind_is)
+  own_fits d c ks q past todo l off hs ty (records_zones n z outs iz one rw to w) =
+      ap (λ v. (do_act s next c ks v).misfit) w.left_is ∙ each_fits c ks outs (takes_zones c ks c.inbox (zoner_of n) (path.next n.eof) z w.mind_is (subst (λ v. AllTyped v c.inbox) iz.type_is ty))
+  own_fits d c ks q past todo l off hs ty (closes_zones n z table iz one w) = ap (λ v. (do_act s next c ks v).misfit) w.left_is
+  own_fits d c ks q past todo l off hs ty (joins_data n z table iz one w) = ap (λ v. (do_act s next c ks v).misfit) w.left_is ∙ data_fits c ks n z table
+  own_fits d c ks q past todo l off hs ty (joins_zones n rows cs both w) = ap (λ v. (do_act s next c ks v).misfit) w.left_is
 
   -- ---- of all tasks
 

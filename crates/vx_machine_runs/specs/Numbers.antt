@@ -27,10 +27,10 @@ CountsBelow most g first x (n ∷ ns) y l = AllBelow most (l.1.step.numbers ++ l
 abbrev pub NumbersAreCounted : Type 0
 NumbersAreCounted = (most : ℕ) (g : Write) (first : ℕ) (ns : List Note) (y : Stand) → Lawful g.setting.codec g.setting.encodings → IsTrue (is_built g.way)
     → start_fault g.setting g.way g.type g.mark ≡ None → (l : Led g first (outset g) ns y) → IsTrue (is_finished y.machine)
-    → 1 < most → AllBelow most (first_indices (form_of g) root_eof) → CountsBelow most g first (outset g) ns y l → AllBelow most (plan_of g y.taken true).numbers
+    → 1 < most → AllBelow most (first_indices (form_of g) g.mark root_eof) → CountsBelow most g first (outset g) ns y l → AllBelow most (plan_of g y.taken true).numbers
 
 -- so they fit 64 bits, where all that is counted does
 abbrev pub NumbersFit : Type 0
 NumbersFit = (g : Write) (first : ℕ) (ns : List Note) (y : Stand) → Lawful g.setting.codec g.setting.encodings → IsTrue (is_built g.way)
     → start_fault g.setting g.way g.type g.mark ≡ None → (l : Led g first (outset g) ns y) → IsTrue (is_finished y.machine)
-    → AllBelow (2 ^ 64) (first_indices (form_of g) root_eof) → CountsBelow (2 ^ 64) g first (outset g) ns y l → Fit (plan_of g y.taken true).numbers
+    → AllBelow (2 ^ 64) (first_indices (form_of g) g.mark root_eof) → CountsBelow (2 ^ 64) g first (outset g) ns y l → Fit (plan_of g y.taken true).numbers

@@ -54,7 +54,7 @@ PastIsCaused = (p : Plan) (w : WholeStep) (n : ℕ) → Caused p w → 2 ^ 64 �
 
 -- so it is at the start, of what is started with it
 abbrev pub StartIsCaused : Type 0
-StartIsCaused = (g : Write) (f : Future) (n : ℕ) → IsTrue (is_built g.way) → In n (first_indices (form_of g) root_eof) → 2 ^ 64 ≤ n → IsPast (2 ^ 64) (planned g [] f).numbers
+StartIsCaused = (g : Write) (f : Future) (n : ℕ) → IsTrue (is_built g.way) → In n (first_indices (form_of g) g.mark root_eof) → 2 ^ 64 ≤ n → IsPast (2 ^ 64) (planned g [] f).numbers
 
 -- A step that isn't refused, and whose counts fit.
 pub record SoundStep (w : WholeStep) : Type 0 where
@@ -72,4 +72,4 @@ ValidIsSound = (g : Write) (first : ℕ) (seen : List Note) (x : Stand) (told : 
 -- and so the start refuses nothing, and how far its pointers come fits
 abbrev pub ValidStarts : Type 0
 ValidStarts = (g : Write) (f : Future) → IsTrue (is_built g.way) → (planned g [] f).faults ≡ [] → Fit (planned g [] f).numbers
-    → (start_fault g.setting g.way g.type g.mark ≡ None) × ((n : ℕ) → In n (first_indices (form_of g) root_eof) → n < 2 ^ 64)
+    → (start_fault g.setting g.way g.type g.mark ≡ None) × ((n : ℕ) → In n (first_indices (form_of g) g.mark root_eof) → n < 2 ^ 64)

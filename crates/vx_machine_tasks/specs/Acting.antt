@@ -16,7 +16,7 @@ use Rattle.vx_machine_nodes.specs.declared.kinds.ChunkedNode.{ChunkedNode}
 use Rattle.vx_machine_nodes.specs.declared.node.Local.{Local}
 use Rattle.vx_machine_tasks.specs.declared.task.Head.{Head}
 use Rattle.vx_machine_tasks.specs.declared.task.Task.{Task}
-use Rattle.vx_machine_nodes.specs.Context.{setting_of}
+use Rattle.vx_machine_nodes.specs.Context.{Allowed, setting_of}
 use Rattle.vx_machine_nodes.specs.Outcome.{action_of, AllFit}
 use Rattle.vx_machine_tasks.specs.Starting.{StartRefused}
 use Rattle.vx_machine_nodes.specs.View.{items_of, next_of, todo_of, child_form, mind_of}
@@ -25,17 +25,17 @@ use Rattle.vx_machine_nodes.specs.Acting.{ActDone, ActRefused, ActStopped, Behin
 
 -- ---- acts of a block
 
-abbrev pub DueDone : List EncodingId → Local → List Task → Due → Outlet → Outlet → Local → List Task → ActionKind → Type 0
-DueDone ids l ks d before after m kids a = (n : ℕ) × ActDone (acted ids n (mind_of l) (row ks) (next_of d)) before n after (mind_of m) (row kids) a
+abbrev pub DueDone : LayoutWriterContext → List ℕ → Local → List Task → Due → Outlet → Outlet → Local → List Task → ActionKind → Type 0
+DueDone ctx name l ks d before after m kids a = (image : ℕ → ChunkData → ChunkData) → (n : ℕ) × ActDone (acted (setting_of ctx image) name n (mind_of l) (row ks) (next_of d)) before n after (mind_of m) (row kids) a
 
-abbrev pub DueRefused : List EncodingId → Local → List Task → Due → Outlet → WriteError → Type 0
-DueRefused ids l ks d o e = (n : ℕ) → ActRefused (acted ids n (mind_of l) (row ks) (next_of d)) o e
+abbrev pub DueRefused : LayoutWriterContext → List ℕ → Local → List Task → Due → Outlet → WriteError → Type 0
+DueRefused ctx name l ks d o e = (image : ℕ → ChunkData → ChunkData) (n : ℕ) → ActRefused (acted (setting_of ctx image) name n (mind_of l) (row ks) (next_of d)) o e
 
 -- ---- takes of chunks
 
 -- the next child of a chunked node, whose pointer is this one, isn't started
-abbrev pub ChildRefused : ChunkedNode → Eof → WriteError → Type 0
-ChildRefused n eof e = StartRefused (λ s. start_fault s (child_form n) n.marked) ((eof.last + 1) ∷ first_indices (child_form n) (inside eof)) e
+abbrev pub ChildRefused : Allowed → ChunkedNode → Eof → WriteError → Type 0
+ChildRefused allowed n eof e = StartRefused allowed (λ s. start_fault s (child_form n) n.marked) ((eof.last + 1) ∷ first_indices (child_form n) n.marked (inside eof)) e
 
 -- ---- the next act of a task
 

@@ -11,11 +11,11 @@ use Rattle.vx_machine_view.specs.Acts.{column_count}
 use Rattle.vx_sequence.specs.Universe.{Active}
 use Rattle.vx_machine_ids.specs.Stock.{one}
 use Rattle.vx_machine_nodes.specs.declared.item.Due.{Due}
-use Rattle.vx_machine_nodes.specs.declared.item.Due.TheVariants.{Put, HandOn, Append, Close, Join}
+use Rattle.vx_machine_nodes.specs.declared.item.Due.TheVariants.{Put, HandOn, Append, Close, Join, Table, Leave}
 use Rattle.vx_machine_nodes.specs.declared.kinds.ColumnsNode.{ColumnsNode}
 use Rattle.vx_machine_nodes.specs.declared.kinds.ListsNode.{ListsNode}
 use Rattle.vx_machine_nodes.specs.declared.node.Local.{Local}
-use Rattle.vx_machine_nodes.specs.declared.node.Local.TheVariants.{Empty, Full, Chunked, Columns, Lists, Grouped, Over, Passing, Made}
+use Rattle.vx_machine_nodes.specs.declared.node.Local.TheVariants.{Empty, Full, Chunked, Columns, Lists, Grouped, Over, Passing, Made, Zoned}
 use Rattle.vx_machine_nodes.specs.declared.node.Shape.{Shape}
 use Rattle.vx_machine_nodes.specs.declared.node.Shape.TheVariants as shapes
 use Rattle.vx_machine_tasks.specs.declared.task.Head.{Head}
@@ -34,6 +34,7 @@ is_made (Chunked n eof rows) idle below = false
 is_made (Columns n rows) idle below = false
 is_made (Lists n rows) idle below = false
 is_made (Grouped n) idle below = false
+is_made (Zoned n) idle below = false
 is_made Over idle below = false
 
 -- it takes no more
@@ -47,6 +48,7 @@ is_over (Chunked n eof rows) = false
 is_over (Columns n rows) = false
 is_over (Lists n rows) = false
 is_over (Grouped n) = false
+is_over (Zoned n) = false
 
 -- what its parent needs to know of a task
 pub record Kid : Type 0 where
@@ -94,6 +96,7 @@ abbrev pub can_join : Shape → ℕ → Bool
 can_join (shapes.Chunks t) n = true
 can_join (shapes.Columns node rows) n = columns_fit node n
 can_join (shapes.Lists node rows) n = lists_fit node n
+can_join (shapes.Zones z) n = n == 2
 
 abbrev pub least_at : Active → List ℕ → Bool
 least_at u p = is_least p (fin.keys u)
@@ -105,6 +108,8 @@ may_due u (HandOn i r) ks = room_at 0 ks
 may_due u (Append s) ks = least_at u s.id
 may_due u Close ks = true
 may_due u (Join h) ks = all_made ks && can_join h (length ks)
+may_due u (Table t) ks = all_made ks
+may_due u (Leave e) ks = all_made ks
 
 -- whether there is something to take: an item, or the end
 abbrev pub may_take : Head → Bool
@@ -158,6 +163,7 @@ has_layout (Chunked n eof rows) ks = false
 has_layout (Columns n rows) ks = false
 has_layout (Lists n rows) ks = false
 has_layout (Grouped n) ks = false
+has_layout (Zoned n) ks = false
 has_layout Over ks = false
 
 abbrev pub done_step : Task-F Bool → Bool

@@ -12,7 +12,7 @@ abbrev mutual
   weight (grouped_form g t k) = 2 + weight k
   weight (compressed_form which room t k) = 1
   weight (dict_form o t c v f) = 1
-  weight (zoned_form o t k stats) = 1
+  weight (zoned_form o t k stats) = 2 + weight k
   weight (no_struct_form t) = 1
 
   pub weights : Forms → ℕ

@@ -30,6 +30,7 @@ ghost use Rattle.vx_machine_tasks.specs.View.{row};
 use crate::chunked::take_chunked;
 use crate::join::{gather, join, join_columns};
 use crate::ready::columns_fit;
+use crate::table_start::start_table;
 use crate::task::{Head, Task};
 use std::alloc::Global;
 use std::collections::VecDeque;
@@ -37,7 +38,8 @@ use std::mem;
 use vx_machine_ids::give_up_pointer;
 use vx_machine_nodes::{
     ChunkedNode, ColumnsNode, Due, FlatNode, Item, Local, Shape, Stored, append, end_grouped,
-    end_lists, give_up_item, release, set_local, take_columns, take_flat, take_grouped, take_lists,
+    end_lists, end_zoned, give_up_item, release, set_local, take_columns, take_flat, take_grouped,
+    take_lists, take_zoned,
 };
 use vx_order::Order;
 use vx_path::owned::Path;
@@ -121,8 +123,8 @@ fn append_due<O: Order>(
     ensures moved { Moved (O.active order.old) (O.active order.new) (both (local_stock local.old) (stored_stock stored)) (local_stock local.new) }
     ensures tracked { Paid ctx.old ctx.new (local_reserved local.old) (local_reserved local.new) }
     ensures context { told_by ctx.new ≡ told_by ctx.old }
-    ensures done { IfOk result (λ a. (n : ℕ) × ((mind : Mind) (ks : Tasks)
-        → ActDone (acted (listed ctx.old) n mind ks (append_next (stored_of stored))) (O.outlet order.old) n (O.outlet order.new) (mind_of local.new) ks a)) }
+    ensures done { IfOk result (λ a. (n : ℕ) × ((s : Setting) (name : List ℕ) (mind : Mind) (ks : Tasks) → s.encodings ≡ listed ctx.old
+        → ActDone (acted s name n mind ks (append_next (stored_of stored))) (O.outlet order.old) n (O.outlet order.new) (mind_of local.new) ks a)) }
     ensures refused { IfErr result (AppendRefused (O.outlet order.old) (stored.id, stored.segment.bytes.items)) }
     ensures kept { OnErr result (Kept (O.outlet order.old) (O.outlet order.new)) }
     ensures told { TaskTold (O.Sink.faults (O.sink order.old)) (O.Sink.faults (O.sink order.new)) (O.Sink.may_fail (O.sink order.old)) (O.Sink.may_fail (O.sink order.new))
@@ -153,8 +155,8 @@ fn join_due<O: Order>(
     ensures moved { Moved (O.active order.old) (O.active order.new) (both (local_stock local.old) (tasks_stock kids.old.items)) (both (local_stock local.new) (tasks_stock kids.new.items)) }
     ensures tracked { Paid ctx.old ctx.new (local_reserved local.old + tasks_reserved kids.old.items) (local_reserved local.new + tasks_reserved kids.new.items) }
     ensures context { told_by ctx.new ≡ told_by ctx.old }
-    ensures done { IfOk result (λ a. (ids : List EncodingId) (n : ℕ) (mind : Mind)
-        → ActDone (acted ids n mind (row kids.old.items) (join_kids (fold_of shape))) (O.outlet order.old) n (O.outlet order.new) (mind_of local.new) (row kids.new.items) a) }
+    ensures done { IfOk result (λ a. (s : Setting) (name : List ℕ) (n : ℕ) (mind : Mind)
+        → ActDone (acted s name n mind (row kids.old.items) (join_kids (fold_of shape))) (O.outlet order.old) n (O.outlet order.new) (mind_of local.new) (row kids.new.items) a) }
     ensures refused { IfErr result (JoinRefused (joined_rows (fold_of shape) (layouts_in (row kids.old.items)))) }
     ensures outlet { O.outlet order.new ≡ O.outlet order.old }
     ensures sink { O.sink order.new ≡ O.sink order.old }
@@ -174,6 +176,7 @@ fn act<O: Order>(
     alloc: Global,
     ctx: &mut LayoutWriterContext,
     order: &mut O,
+    name: &Path,
     local: &mut Local,
     kids: &mut Vec<Task>,
     due: Due,
@@ -185,8 +188,8 @@ fn act<O: Order>(
     ensures moved { Moved (O.active order.old) (O.active order.new) (both (both (local_stock local.old) (tasks_stock kids.old.items)) (due_stock due)) (both (local_stock local.new) (tasks_stock kids.new.items)) }
     ensures tracked { Paid ctx.old ctx.new (local_reserved local.old + tasks_reserved kids.old.items + due_reserved due) (local_reserved local.new + tasks_reserved kids.new.items) }
     ensures context { told_by ctx.new ≡ told_by ctx.old }
-    ensures done { IfOk result (DueDone (listed ctx.old) local.old kids.old.items due (O.outlet order.old) (O.outlet order.new) local.new kids.new.items) }
-    ensures refused { IfErr result (DueRefused (listed ctx.old) local.old kids.old.items due (O.outlet order.old)) }
+    ensures done { IfOk result (DueDone ctx.old name.now local.old kids.old.items due (O.outlet order.old) (O.outlet order.new) local.new kids.new.items) }
+    ensures refused { IfErr result (DueRefused ctx.old name.now local.old kids.old.items due (O.outlet order.old)) }
     ensures kept { OnErr result (Kept (O.outlet order.old) (O.outlet order.new)) }
     ensures told { TaskTold (O.Sink.faults (O.sink order.old)) (O.Sink.faults (O.sink order.new)) (O.Sink.may_fail (O.sink order.old)) (O.Sink.may_fail (O.sink order.new))
         (O.Sink.must_fail (O.sink order.old)) (O.Sink.must_fail (O.sink order.new)) result (λ a. a) }
@@ -201,6 +204,11 @@ fn act<O: Order>(
             Ok(ActionKind::Close)
         }
         Due::Join(shape) => join_due(alloc, ctx, order, local, kids, shape),
+        Due::Table(table) => start_table(alloc, ctx, order, name, kids, table),
+        Due::Leave(eof) => {
+            give_up_pointer(order, eof);
+            Ok(ActionKind::Join)
+        }
     }
 }
 
@@ -234,6 +242,7 @@ fn take<O: Order>(
         Local::Columns(node, rows) => take_columns(alloc, order, node, rows, todo, item),
         Local::Lists(node, rows) => take_lists(alloc, order, node, rows, todo, item),
         Local::Grouped(_) => regroup(alloc, ctx, order, local, todo, item),
+        Local::Zoned(node) => take_zoned(alloc, order, node, todo, item),
         _ => take_flat(alloc, ctx, order, local, item),
     }
 }
@@ -331,7 +340,7 @@ fn ended<O: Order>(
 ) -> Result<Local, WriteError>
     requires owned { Owned (O.active order.old) (both (local_stock local) (dues_stock todo.old.items)) }
     requires reserved { local_reserved local + dues_reserved todo.old.items ≤ counted ctx.old }
-    requires room { deque_len todo.old + 2 ≤ deque_capacity todo.old }
+    requires room { deque_len todo.old + 3 ≤ deque_capacity todo.old }
     ensures moved { Moved (O.active order.old) (O.active order.new) (both (local_stock local) (dues_stock todo.old.items)) (both (ok_stock local_stock result) (dues_stock todo.new.items)) }
     ensures tracked { Paid ctx.old ctx.new (local_reserved local + dues_reserved todo.old.items) (ok_bytes local_reserved result + dues_reserved todo.new.items) }
     ensures context { told_by ctx.new ≡ told_by ctx.old }
@@ -361,6 +370,7 @@ fn ended<O: Order>(
         Local::Columns(node, rows) => end_columns(kids, todo, node, rows),
         Local::Lists(node, rows) => end_lists(kids, todo, node, rows),
         Local::Grouped(node) => end_grouped(alloc, ctx, order, todo, node),
+        Local::Zoned(node) => end_zoned(alloc, order, todo, node),
         Local::Over => Ok(Local::Over),
         Local::Passing => Ok(Local::Passing),
         Local::Made(layout) => Ok(Local::Made(layout)),
@@ -387,7 +397,7 @@ fn end<O: Order>(
     ensures sink { O.sink order.new ≡ O.sink order.old }
     ensures cause { IfErr result MayCome }
 {
-    todo.reserve(2)?;
+    todo.reserve(3)?;
     let before = mem::replace(local, Local::Over);
     match ended(alloc, ctx, order, kids, todo, before) {
         Ok(after) => {
@@ -462,7 +472,10 @@ pub(crate) fn advance<O: Order>(
     ensures cause { IfErr result ActMay }
 {
     match head.todo.pop_front() {
-        Some(due) => act(alloc, ctx, order, &mut head.local, kids, due),
+        Some(due) => {
+            let name = &head.name;
+            act(alloc, ctx, order, name, &mut head.local, kids, due)
+        }
         None => match take_next(alloc, ctx, order, head, kids) {
             Ok(()) => Ok(ActionKind::Take),
             Err(error) => Err(error),

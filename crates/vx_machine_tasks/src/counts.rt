@@ -29,6 +29,7 @@ fn is_steady(head: &Head, counts: &Counts) -> bool
             Due::Append(_) => false,
             Due::Put { .. } | Due::HandOn { .. } => counts.asked.is_empty(),
             Due::Close | Due::Join(_) => counts.asked.is_empty(),
+            Due::Table(_) | Due::Leave(_) => counts.asked.is_empty(),
         },
         None => counts.asked.is_empty(),
     }
@@ -42,7 +43,7 @@ pub(crate) fn touched(head: &Head) -> Touched
         Some(due) => match due {
             Due::Put { child, item: _ } => Touched::Child(*child),
             Due::HandOn { .. } => Touched::Child(0),
-            Due::Append(_) => Touched::Nothing,
+            Due::Append(_) | Due::Table(_) | Due::Leave(_) => Touched::Nothing,
             Due::Close | Due::Join(_) => Touched::All,
         },
         None => Touched::Nothing,

@@ -27,7 +27,7 @@ fn is_made(kid: &Task) -> bool
         Local::Made(_) => true,
         Local::Passing => kid.head.todo.is_empty() && all_made(&kid.kids),
         Local::Empty(_) | Local::Full(_) | Local::Chunked(..) | Local::Grouped(_) => false,
-        Local::Columns(..) | Local::Lists(..) | Local::Over => false,
+        Local::Columns(..) | Local::Lists(..) | Local::Zoned(_) | Local::Over => false,
     }
 }
 
@@ -38,6 +38,7 @@ fn is_over(local: &Local) -> bool
         Local::Made(_) | Local::Over | Local::Passing => true,
         Local::Empty(_) | Local::Full(_) | Local::Chunked(..) => false,
         Local::Columns(..) | Local::Lists(..) | Local::Grouped(_) => false,
+        Local::Zoned(_) => false,
     }
 }
 
@@ -94,6 +95,7 @@ fn can_join(shape: &Shape, kids: usize) -> bool
         Shape::Chunks(_) => true,
         Shape::Columns(node, _) => columns_fit(node, kids),
         Shape::Lists(node, _) => lists_fit(node, kids),
+        Shape::Zones(_) => kids == 2,
     }
 }
 
@@ -111,6 +113,7 @@ fn may_due<O: Order>(order: &O, due: &Due, kids: &[Task]) -> bool
             let made = all_made(kids);
             made && can_join(shape, kids.len())
         }
+        Due::Table(_) | Due::Leave(_) => all_made(kids),
     }
 }
 

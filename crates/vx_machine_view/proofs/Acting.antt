@@ -52,7 +52,7 @@ no_forbidden : (x : Option EncodingId) → is_some (forbidden x) ≡ false → x
 no_forbidden None e = refl
 no_forbidden (Some id) e = cc
 
-no_refusal : {A : Type 0} (x : Option A) → is_some x ≡ false → x ≡ None
+pub no_refusal : {A : Type 0} (x : Option A) → is_some x ≡ false → x ≡ None
 no_refusal None e = refl
 no_refusal (Some y) e = cc
 
@@ -86,7 +86,7 @@ not_none k = grind (arith, nat_tests)
 
 -- how far pointers come where one more child of a chunked task is started
 chunk_opened : (d : Fuel) (n : ChunkedNode) (j : ℕ) (e : Eof) → Enough d (chunked_form n.type n.child) → Built (chunked_form n.type n.child)
-    → opened d (seed_of n.child n.mark (under n.name j) (inside e) ∷ []) ≡ first_indices n.child (inside e)
+    → opened d (seed_of n.child n.mark (under n.name j) (inside e) ∷ []) ≡ first_indices n.child n.mark (inside e)
 chunk_opened spent n j e en b = absurd en
 chunk_opened (fuel g) n j e en b =
     ap (λ z. start_indices (local_of n.child n.mark (under n.name j) (inside e)) ++ z) (append-nil (opened (g (form_type n.child)) (firsts (seed_of n.child n.mark (under n.name j) (inside e)))))
@@ -104,7 +104,7 @@ chunk_fed s number (fuel g) q n e x a ks hs en b sp f ty k nm gs sh st =
       subst (λ z. Shows s number (fuel g) q 0 (add ks (started_task n.child n.mark (under z (count ks)) (inside e) (x ∷ []) true)) (feed (fuel g) a 0 hs)) nm
           (one_more s number g q 0 (count ks) a x (seed_of n.child n.mark (under n.name (count ks)) (inside e)) ks
           (started_task n.child n.mark (under n.name (count ks)) (inside e) (x ∷ []) true) hs k c gs sh st
-          (task_begun s number g q (count ks) n.child n.mark (under n.name (count ks)) (inside e) (x ∷ []) true sp (subst (λ z. Typed z x.1) (sym b.0) ty, tt) b.1 f en)),
+          (task_begun s number g q (count ks) n.child n.mark (under n.name (count ks)) (inside e) (x ∷ []) true (ap (λ z. get_or z (count ks) 0) sp) (subst (λ z. Typed z x.1) (sym b.0) ty, tt) b.1 f en)),
       rows_one_more s number g q 0 (count ks) a x (seed_of n.child n.mark (under n.name (count ks)) (inside e)) ks hs k c gs st
           (fresh_rows n.child n.mark (under n.name (count ks)) (inside e) (g (form_type n.child)) b.1),
     )

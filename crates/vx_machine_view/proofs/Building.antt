@@ -52,14 +52,9 @@ in_lists_fit : (a : Around Form) (t : Ty) (leaf k : Form) → AroundFits a → (
 in_lists_fit None t leaf k h l e = l
 in_lists_fit (Some f) t leaf k h l e = h t k e
 
-wraps_fit : (ws : Wraps) → wraps_built ws ≡ true → AroundFits (Some (walk_wraps form_nodes ws))
-wraps_fit no_wraps b t k h = h
-wraps_fit (wrap_grouped g ws) b t k h = let r : (form_type (walk_wraps form_nodes ws t k) ≡ t) × Built (walk_wraps form_nodes ws t k) = wraps_fit ws b t k h in (r.0, r)
-wraps_fit (wrap_zoned o stats ws) b t k h = absurd (no_true b)
-
-around_fits : (lists : Bool) (ws : Wraps) → wraps_built ws ≡ true → AroundFits (if lists then Some (walk_wraps form_nodes ws) else None)
-around_fits true ws b = wraps_fit ws b
-around_fits false ws b = tt
+around_fits : (lists : Bool) (ws : Wraps) → AroundFits (Some (walk_wraps form_nodes ws)) → AroundFits (if lists then Some (walk_wraps form_nodes ws) else None)
+around_fits true ws h = h
+around_fits false ws h = tt
 
 mutual
   table_fits : (v l : Ty → Form) (a : Around Form) (ws : Named Form) (walked : List (List ℕ)) → Fits v → Fits l → AroundFits a → AllFit ws → (t : Ty)
@@ -106,7 +101,7 @@ mutual
   built (grouped g w) b t = ((fuel_is_enough w t).0, built w b t)
   built (compressed which room w) b t = absurd (no_true b)
   built (coded o c v f) b t = absurd (no_true b)
-  built (zoned o w stats) b t = absurd (no_true b)
+  built (zoned o w stats) b t = ((fuel_is_enough w t).0, built w (and_left (is_built w) (is_built stats) b) t, λ u. ((fuel_is_enough stats u).0, built stats (and_right (is_built w) (is_built stats) b) u))
   built (listed e o v f) b (list t n) = (
     (fuel_is_enough e t).0,
     built e (and_left (is_built e) (is_built o && (is_built v && is_built f)) b) t,
@@ -127,7 +122,7 @@ mutual
       (table_fits (walk form_nodes v) (walk form_nodes l) (if lists then Some (walk_wraps form_nodes wraps) else None) (walk_named form_nodes ws) []
       (λ u. ((fuel_is_enough v u).0, built v (and_left (is_built v) (is_built l && (are_built ws && wraps_built wraps)) b) u))
       (λ u. ((fuel_is_enough l u).0, built l (and_left (is_built l) (are_built ws && wraps_built wraps) r) u))
-      (around_fits lists wraps (and_right (are_built ws) (wraps_built wraps) x)) (all_built ws (and_left (are_built ws) (wraps_built wraps) x)) t).1
+      (around_fits lists wraps (wraps_fit wraps (and_right (are_built ws) (wraps_built wraps) x))) (all_built ws (and_left (are_built ws) (wraps_built wraps) x)) t).1
 
   all_built : (ws : StrategyList) → are_built ws ≡ true → AllFit (walk_named form_nodes ws)
   all_built no_ways b = tt
@@ -135,6 +130,14 @@ mutual
     λ t. ((fuel_is_enough w t).0, built w (and_left (is_built w) (are_built ws) b) t),
     all_built ws (and_right (is_built w) (are_built ws) b),
   )
+
+  -- wrappers that are built keep what they wrap
+  wraps_fit : (ws : Wraps) → wraps_built ws ≡ true → AroundFits (Some (walk_wraps form_nodes ws))
+  wraps_fit no_wraps b t k h = h
+  wraps_fit (wrap_grouped g ws) b t k h = let r : (form_type (walk_wraps form_nodes ws t k) ≡ t) × Built (walk_wraps form_nodes ws t k) = wraps_fit ws b t k h in (r.0, r)
+  wraps_fit (wrap_zoned o stats ws) b t k h =
+      let r : (form_type (walk_wraps form_nodes ws t k) ≡ t) × Built (walk_wraps form_nodes ws t k) = wraps_fit ws (and_right (is_built stats) (wraps_built ws) b) t k h in
+      (r.0, (r.0, r.1, λ u. ((fuel_is_enough stats u).0, built stats (and_left (is_built stats) (wraps_built ws) b) u)))
 
 pub built_is_built : BuiltIsBuilt
 built_is_built w t b = built w b t

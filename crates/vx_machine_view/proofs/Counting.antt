@@ -1,14 +1,16 @@
 -- The rows of layouts that are joined were counted before.
-use Rattle.std.proofs.Common.{◌≡◌, ◌||◌, ◌&&◌, ◌==◌, ◌⊎◌, ◌∷◌, ◌++◌, ◌∙◌, ℕ, suc, Bool, true, false, cond, List, map, refl, sym, ap, subst, inl, inr, Some, None, []}
+use Rattle.std.proofs.Common.{◌≡◌, ◌||◌, ◌&&◌, ◌==◌, ◌⊎◌, ◌∷◌, ◌++◌, ◌∙◌, ℕ, suc, Bool, true, false, cond, List, map, refl, sym, ap, subst, inl, inr, Option, Some, None, []}
 use Rattle.vx_model.specs.Words.{total_by}
 use Rattle.vx_model.specs.Ty.{Ty, list}
 use Rattle.vx_model.specs.ChunkData.{ChunkData, held}
 use Rattle.vx_layout_spec.specs.LayoutTree.{row_count}
 use Rattle.vx_path.specs.Lists.{In}
+use Rattle.vx_path.specs.Path.{Eof}
 use Rattle.vx_path.proofs.Lists.{in_left, in_right, in_cases, from_map}
 use Rattle.vx_tasks.specs.Task.{Join}
 use Rattle.vx_plan.specs.PlanData.{Setting, Item}
-use Rattle.vx_machine_turns.specs.Locals.{Local}
+use Rattle.vx_zone_spec.specs.ZoneTable.{Filled, kept_columns}
+use Rattle.vx_machine_turns.specs.Locals.{ZonedNode, Local}
 use Rattle.vx_machine_turns.specs.Acts.{Seed, Act, does, numbers_in, gifts, shut}
 use Rattle.vx_machine_turns.specs.Readings.{number_reading}
 use Rattle.vx_machine_turns.specs.Source.{source_seed}
@@ -17,10 +19,12 @@ use Rattle.vx_machine_steps.specs.Tree.{Head, Tree, Leaf, Work, ahead, read}
 use Rattle.vx_machine_steps.specs.Moves.{doing, due_todo, all_paths, all_over}
 use Rattle.vx_machine_steps.specs.Laws.{JoinsFree}
 use Rattle.vx_machine_promises.specs.Write.{Write, Future, Answer, unasked, came, over, depth}
-use Rattle.vx_machine_view.specs.State.{shut_kids, Mind, no_chunk, one_chunk, by_chunk, by_column, by_list, by_block, by_size, as_one, ending, passing, made, Desk, Tasks, no_tasks, task_then}
-use Rattle.vx_machine_view.specs.Acts.{count, layouts_in, column_count, take_chunk, end_columns, end_lists, take_end, do_take, do_act, puts, hand_all}
+use Rattle.vx_machine_view.specs.Zoned.{Zoner, Zones}
+use Rattle.vx_machine_view.specs.Zoning.{put_each, zones_left}
+use Rattle.vx_machine_view.specs.State.{shut_kids, Mind, no_chunk, one_chunk, by_chunk, by_column, by_list, by_block, by_size, as_one, by_zone, ending, passing, made, Desk, Tasks, no_tasks, task_then}
+use Rattle.vx_machine_view.specs.Acts.{count, layouts_in, column_count, take_chunk, end_columns, end_lists, end_zones, take_end, do_take, do_act, puts, hand_all}
 use Rattle.vx_machine_view.specs.Moves.{Step, all_made, may_act, own_step, in_kids, in_rest, steps}
-use Rattle.vx_machine_view.specs.Shows.{Counted, Stage, waits_first, waits_end, appends, splits, gathers_all, hands, hands_lists, shuts, joins_columns, regroups_rows, regroups_chunks, collects, passes_on, passed, Done, Shows}
+use Rattle.vx_machine_view.specs.Shows.{Counted, Stage, waits_first, waits_end, appends, splits, gathers_all, hands, hands_lists, shuts, joins_columns, regroups_rows, regroups_chunks, collects, passes_on, passed, records_zones, closes_zones, joins_data, joins_zones, Done, Shows}
 use Rattle.vx_machine_view.specs.Machine.{Phase, reading, giving, closing, finished, Machine, may_source, WholeStep, source_step, in_root, whole_steps}
 use Rattle.vx_machine_view.specs.Whole.{form_of, phase_acts, source_at, root_depth, ShowsMachine}
 use Rattle.vx_machine_view.proofs.Words.{and_left, numbers_in-append}
@@ -39,6 +43,7 @@ chunk_joins s c ks i xs (by_block len minimum t x (Some j) rows) = refl
 chunk_joins s c ks i xs (by_size size x None rows) = refl
 chunk_joins s c ks i xs (by_size size x (Some j) rows) = refl
 chunk_joins s c ks i xs (as_one t x rows) = refl
+chunk_joins s c ks i xs (by_zone g e z) = refl
 chunk_joins s c ks i xs ending = refl
 chunk_joins s c ks i xs passing = refl
 chunk_joins s c ks i xs (made l) = refl
@@ -51,6 +56,10 @@ lists_join : (b : Bool) (t : Ty) (rows : ℕ) (c : Desk) (ks : Tasks) → (end_l
 lists_join true t rows c ks = refl
 lists_join false t rows c ks = refl
 
+zones_join : (table : Option (List Filled)) (g : Zoner) (e : Eof) (z : Zones) (c : Desk) (ks : Tasks) → (end_zones table g e z c ks).joined ≡ []
+zones_join None g e z c ks = refl
+zones_join (Some cs) g e z c ks = refl
+
 end_joins : (c : Desk) (ks : Tasks) (mind : Mind) → (take_end c ks mind).joined ≡ []
 end_joins c ks (no_chunk o t) = refl
 end_joins c ks (one_chunk x) = refl
@@ -62,6 +71,7 @@ end_joins c ks (by_block len minimum t x (Some j) rows) = refl
 end_joins c ks (by_size size x None rows) = refl
 end_joins c ks (by_size size x (Some j) rows) = refl
 end_joins c ks (as_one t x rows) = refl
+end_joins c ks (by_zone g e z) = zones_join (kept_columns g.columns z.records) g e z c ks
 end_joins c ks ending = refl
 end_joins c ks passing = refl
 end_joins c ks (made l) = refl
@@ -85,6 +95,14 @@ module _ (s : Setting) (number : List ℕ → ℕ) (next : ℕ) (all : List (Lis
   ends_join : (c : Desk) (ks : Tasks) (weight : ChunkData → ℕ) (outs : List Item) → (do_act s next c ks (hand_all weight outs ++ (shut_kids ∷ []))).joined ≡ []
   ends_join c ks weight [] = refl
   ends_join c ks weight (i ∷ outs) = refl
+
+  each_joins : (c : Desk) (ks : Tasks) (outs : List Item) → (do_act s next c ks (put_each outs)).joined ≡ []
+  each_joins c ks [] = take_joins s c ks c.inbox
+  each_joins c ks (i ∷ outs) = refl
+
+  data_joins : (c : Desk) (ks : Tasks) (n : ZonedNode) (z : Zones) (table : Option (List Filled)) → (do_act s next c ks (zones_left n z table)).joined ≡ []
+  data_joins c ks n z None = refl
+  data_joins c ks n z (Some cs) = refl
 
   nothing : (past : List Act) (ns : List ℕ) → ns ≡ [] → (n : ℕ) → In n ns → Counted past n
   nothing past ns e n i = absurd (subst (In n) e i)
@@ -116,6 +134,10 @@ module _ (s : Setting) (number : List ℕ → ℕ) (next : ℕ) (all : List (Lis
   own_joins d c ks q past todo l off hs (collects n x rows w) sh free m = nothing past (do_act s next c ks c.todo).joined (idle_joins c ks w.left_is)
   own_joins d c ks q past todo l off hs (passes_on t weight outs one to w) sh free m = nothing past (do_act s next c ks c.todo).joined (ap (λ z. (do_act s next c ks z).joined) w.left_is ∙ ends_join c ks weight outs)
   own_joins d c ks q past todo l off hs (passed t one w) sh free m = nothing past (do_act s next c ks c.todo).joined (idle_joins c ks w.left_is)
+  own_joins d c ks q past todo l off hs (records_zones n z outs iz one rw to w) sh free m = nothing past (do_act s next c ks c.todo).joined (ap (λ v. (do_act s next c ks v).joined) w.left_is ∙ each_joins c ks outs)
+  own_joins d c ks q past todo l off hs (closes_zones n z table iz one w) sh free m = nothing past (do_act s next c ks c.todo).joined (ap (λ v. (do_act s next c ks v).joined) w.left_is)
+  own_joins d c ks q past todo l off hs (joins_data n z table iz one w) sh free m = nothing past (do_act s next c ks c.todo).joined (ap (λ v. (do_act s next c ks v).joined) w.left_is ∙ data_joins c ks n z table)
+  own_joins d c ks q past todo l off hs (joins_zones n rows cs both w) sh free m = nothing past (do_act s next c ks c.todo).joined (ap (λ v. (do_act s next c ks v).joined) w.left_is)
 
   -- of all tasks: what is joined is none, or is among the numbers that are read off the state
   pub joins_counted : (d : Fuel) (q : Seed) (j : ℕ) (cs : Tasks) (t : Tree) (acts : List Act) → Shows s number d q j cs t → JoinsFree s t → (w : Step) → In w (steps s all next cs) → (n : ℕ) → In n w.joined

@@ -1,11 +1,14 @@
 -- What the program's tasks hold is what the abstract ones hold.
-use Rattle.std.proofs.Common.{◌≡◌, ◌⊎◌, ◌∷◌, ◌++◌, ◌∙◌, ℕ, suc, Bool, List, map, length, refl, sym, ap, inl, inr, arith, []}
+use Rattle.std.proofs.Common.{◌≡◌, ◌⊎◌, ◌∷◌, ◌++◌, ◌∙◌, ℕ, suc, Bool, true, List, map, length, refl, sym, ap, inl, inr, arith, Option, Some, None, []}
 use Rattle.vx_model.specs.ChunkData.{ChunkData, held}
 use Rattle.vx_path.specs.Path.{under}
 use Rattle.vx_plan.specs.PlanData.{Setting, Item}
 use Rattle.vx_machine_turns.specs.Forms.{Writer}
 use Rattle.vx_machine_turns.specs.Locals.{Local}
-use Rattle.vx_machine_turns.specs.Acts.{Seed, Act, close_queues}
+use Rattle.vx_zone_spec.specs.ZoneTable.{Filled}
+use Rattle.vx_machine_turns.specs.Locals.{ZonedNode}
+use Rattle.vx_machine_turns.specs.Zoned.{zoned_joins, zoned_ends, zoned_kept}
+use Rattle.vx_machine_turns.specs.Acts.{Seed, Act, put_all, close_queues}
 use Rattle.vx_machine_turns.specs.Grouped.{weighed_puts, group_kept}
 use Rattle.vx_machine_turns.specs.Columns.{column_puts}
 use Rattle.vx_machine_turns.specs.Scripts.{all_uses, filled}
@@ -13,9 +16,11 @@ use Rattle.vx_machine_turns.specs.Fuels.{Fuel, less}
 use Rattle.vx_machine_steps.specs.Tree.{Tree, Leaf, Work}
 use Rattle.vx_machine_steps.specs.Moves.{holding, all_paths}
 use Rattle.vx_machine_steps.specs.Stands.{kept_now, AllHold}
+use Rattle.vx_machine_view.specs.Zoned.{Zones}
+use Rattle.vx_machine_view.specs.Zoning.{put_each, zones_mind, zones_left}
 use Rattle.vx_machine_view.specs.State.{Next, shut_kids, Mind, Tasks, no_tasks, task_then}
 use Rattle.vx_machine_view.specs.Acts.{puts, hand_all}
-use Rattle.vx_machine_view.specs.Shows.{Stage, waits_first, waits_end, appends, splits, gathers_all, hands, hands_lists, shuts, joins_columns, regroups_rows, regroups_chunks, collects, passes_on, passed, Done, Shows}
+use Rattle.vx_machine_view.specs.Shows.{Stage, waits_first, waits_end, appends, splits, gathers_all, hands, hands_lists, shuts, joins_columns, regroups_rows, regroups_chunks, collects, passes_on, passed, records_zones, closes_zones, joins_data, joins_zones, Done, Shows}
 use Rattle.vx_machine_view.specs.Machine.{next_ids, mind_ids, held_by}
 use Rattle.vx_machine_view.proofs.Words.{carried}
 
@@ -32,6 +37,22 @@ hands_ids weight keep (i ∷ outs) = ap (λ z. i.0 ∷ z) (hands_ids weight keep
 ends_ids : (weight : ChunkData → ℕ) (outs : List Item) → next_ids (hand_all weight outs ++ (shut_kids ∷ [])) ≡ all_uses (filled [] (weighed_puts weight outs ++ (close_queues (0 ∷ []) ∷ [])))
 ends_ids weight [] = refl
 ends_ids weight (i ∷ outs) = ap (λ z. i.0 ∷ z) (ends_ids weight outs)
+
+each_ids : (keep : List (List ℕ)) (outs : List Item) → next_ids (put_each outs) ≡ all_uses (filled keep (put_all outs))
+each_ids keep [] = refl
+each_ids keep (i ∷ outs) = ap (λ z. i.0 ∷ z) (each_ids keep outs)
+
+-- behind the end of a zoned node's stream
+
+close_ids : (s : Setting) (n : ZonedNode) (z : Zones) (table : Option (List Filled)) (l : Local)
+    → next_ids (shut_kids ∷ zones_left n z table) ++ mind_ids (zones_mind table) ≡ all_uses (filled [] (zoned_ends s n z.zones table)) ++ kept_now true l
+close_ids s n z None l = refl
+close_ids s n z (Some cs) l = refl
+
+data_ids : (s : Setting) (n : ZonedNode) (z : Zones) (table : Option (List Filled)) (l : Local)
+    → next_ids (zones_left n z table) ++ mind_ids (zones_mind table) ≡ all_uses (filled [] (zoned_joins s n z.zones table)) ++ kept_now true l
+data_ids s n z None l = refl
+data_ids s n z (Some cs) l = refl
 
 stage_holds : (s : Setting) (d : Fuel) (mind : Mind) (left : List Next) (ks : Tasks) (q : Seed) (past todo : List Act) (l : Local) (over : Bool) (hs : Tree)
     → Stage s d mind left ks q past todo l over hs → next_ids left ++ mind_ids mind ≡ all_uses todo ++ kept_now over l
@@ -54,6 +75,11 @@ stage_holds s d mind left ks q past todo l over hs (collects n x rows w) = carri
 stage_holds s d mind left ks q past todo l over hs (passes_on t weight outs one to w) = carried (λ m f a z o. next_ids f ++ mind_ids m ≡ all_uses a ++ kept_now o z) w.mind_is w.left_is w.rest refl w.off
     (ap (λ z. z ++ []) (ends_ids weight outs))
 stage_holds s d mind left ks q past todo l over hs (passed t one w) = carried (λ m f a z o. next_ids f ++ mind_ids m ≡ all_uses a ++ kept_now o z) w.mind_is w.left_is w.rest refl w.off refl
+stage_holds s d mind left ks q past todo l over hs (records_zones n z outs iz one rw to w) = carried (λ m f a l o. next_ids f ++ mind_ids m ≡ all_uses a ++ kept_now o l) w.mind_is w.left_is w.rest w.local_is w.on
+    (ap (λ v. v ++ zoned_kept n) (each_ids (zoned_kept n) outs))
+stage_holds s d mind left ks q past todo l over hs (closes_zones n z table iz one w) = carried (λ m f a z o. next_ids f ++ mind_ids m ≡ all_uses a ++ kept_now o z) w.mind_is w.left_is w.rest refl w.off (close_ids s n z table l)
+stage_holds s d mind left ks q past todo l over hs (joins_data n z table iz one w) = carried (λ m f a z o. next_ids f ++ mind_ids m ≡ all_uses a ++ kept_now o z) w.mind_is w.left_is w.rest refl w.off (data_ids s n z table l)
+stage_holds s d mind left ks q past todo l over hs (joins_zones n rows cs both w) = carried (λ m f a z o. next_ids f ++ mind_ids m ≡ all_uses a ++ kept_now o z) w.mind_is w.left_is w.rest refl w.off refl
 
 done_holds : (number : List ℕ → ℕ) (mind : Mind) (left : List Next) (ks : Tasks) (past todo : List Act) (l : Local) (over : Bool) (hs : Tree) → Done number mind left ks past todo over hs
     → next_ids left ++ mind_ids mind ≡ all_uses todo ++ kept_now over l

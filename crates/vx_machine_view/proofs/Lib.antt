@@ -6,6 +6,7 @@ pub mod Acting
 pub mod Folding
 pub mod Grouping
 pub mod Regrouping
+pub mod Zoning
 pub mod Moving
 pub mod Holding
 pub mod Building

@@ -24,7 +24,7 @@ use Rattle.vx_machine_view.specs.Acts.{count, do_act, puts}
 use Rattle.vx_machine_view.specs.Moves.{Step, own_step, in_kids, in_rest, steps, may_act, may_take, is_over}
 use Rattle.vx_machine_view.specs.Built.{column_types, list_types}
 use Rattle.vx_machine_view.specs.Typed.{AllTyped, EachTyped}
-use Rattle.vx_machine_view.specs.Shows.{Alike, Hands, Groups, Counted, Stage, waits_first, waits_end, appends, splits, gathers_all, hands, hands_lists, shuts, joins_columns, regroups_rows, regroups_chunks, collects, passes_on, passed, Done, Shows, rows_of, types_of, local_rows, task_rows}
+use Rattle.vx_machine_view.specs.Shows.{Alike, Hands, Groups, Counted, Stage, waits_first, waits_end, appends, splits, gathers_all, hands, hands_lists, shuts, joins_columns, regroups_rows, regroups_chunks, collects, passes_on, passed, records_zones, closes_zones, joins_data, joins_zones, Done, Shows, rows_of, types_of, local_rows, task_rows}
 use Rattle.vx_machine_view.specs.Steps.{AllPairs, Steady, SameStep, StepsShow}
 use Rattle.vx_machine_view.proofs.Words.{carried, pairs_append, pairs_map}
 use Rattle.vx_machine_view.proofs.Feeding.{none_counted}
@@ -33,6 +33,7 @@ use Rattle.vx_machine_view.proofs.Acting.{desk, Own, Going, first_own, one_own, 
 use Rattle.vx_machine_view.proofs.Folding.{append_own, gather_own, shut_own, join_own}
 use Rattle.vx_machine_view.proofs.Grouping.{passes_own}
 use Rattle.vx_machine_view.proofs.Regrouping.{blocks_own, buffer_own, collect_own}
+use Rattle.vx_machine_view.proofs.Zoning.{zones_own, close_data, join_data, lay_own}
 
 -- ---- a task by itself
 
@@ -100,6 +101,14 @@ own_moves s number next all d q0 j0 q places ks more hs r past law pl sm kids mi
         nothing_own : (xs : List Item) → Own s number next all d q0 j0 q places ks more hs r past passing [] [] l true xs closed
         nothing_own [] = tt
         nothing_own (x ∷ xs) = tt
+    by (records_zones n z outs iz one rw to w) = carried (λ m f a l o. Own s number next all d q0 j0 q places ks more hs r past m f a l o xs closed) w.mind_is w.left_is w.rest w.local_is w.on
+        (zones_own s number next all d q0 j0 q places ks more hs r past law pl sm kids n z outs iz one rw to w.unshaped xs closed ty)
+    by (closes_zones n z table iz one w) = carried (λ m f a z o. Own s number next all d q0 j0 q places ks more hs r past m f a z o xs closed) w.mind_is w.left_is w.rest refl w.off
+        (close_data s number next all d q0 j0 q places ks more hs r past law pl sm kids n z table l iz one w.shape_is xs closed ty)
+    by (joins_data n z table iz one w) = carried (λ m f a z o. Own s number next all d q0 j0 q places ks more hs r past m f a z o xs closed) w.mind_is w.left_is w.rest refl w.off
+        (join_data s number next all d q0 j0 q places ks more hs r past law pl sm kids n z table l iz one w.shape_is xs closed ty)
+    by (joins_zones n rows cs both w) = carried (λ m f a z o. Own s number next all d q0 j0 q places ks more hs r past m f a z o xs closed) w.mind_is w.left_is w.rest refl w.off
+        (lay_own s number next all d q0 j0 q places ks more hs r past law pl sm kids n rows cs l both w.shape_is (free w.rest) xs closed ty)
 
 -- ---- a task whose children have moved
 
@@ -177,6 +186,10 @@ stage_on s d mind left ks kids q past todo l over hs ts st (collects n x rows w)
     collects n x rows (groups_on mind left q past todo l over hs ts (as_one n.type x rows) (collect_local n x rows) n.type (λ p. 0) (collect_kept x) [] st.types_are w)
 stage_on s d mind left ks kids q past todo l over hs ts st (passes_on t weight outs one to w) = passes_on t weight outs (st.types_are ∙ one) to w
 stage_on s d mind left ks kids q past todo l over hs ts st (passed t one w) = passed t (st.types_are ∙ one) w
+stage_on s d mind left ks kids q past todo l over hs ts st (records_zones n z outs iz one rw to w) = records_zones n z outs iz (st.types_are ∙ one) (rw ∙ ap (λ v. row_total outs + v) (sym st.rows_are)) to w
+stage_on s d mind left ks kids q past todo l over hs ts st (closes_zones n z table iz one w) = closes_zones n z table iz (st.types_are ∙ one) w
+stage_on s d mind left ks kids q past todo l over hs ts st (joins_data n z table iz one w) = joins_data n z table iz (st.types_are ∙ one) w
+stage_on s d mind left ks kids q past todo l over hs ts st (joins_zones n rows cs both w) = joins_zones n rows cs (st.types_are ∙ both) w
 
 -- ---- all
 

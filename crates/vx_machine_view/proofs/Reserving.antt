@@ -17,18 +17,21 @@ use Rattle.vx_plan.specs.FlatNode.{segment, inlined}
 use Rattle.vx_machine_turns.specs.Forms.{Form, Forms, flat_form, chunked_form, grouped_form, compressed_form, dict_form, zoned_form, no_struct_form, struct_form, list_form, no_forms, form_then}
 use Rattle.vx_machine_turns.specs.Grouped.{block_grouper}
 use Rattle.vx_machine_turns.specs.Collected.{collect_rest}
-use Rattle.vx_machine_turns.specs.Locals.{Local}
+use Rattle.vx_zone_spec.specs.ZoneTable.{Filled, kept_columns}
+use Rattle.vx_machine_turns.specs.Locals.{ZonedNode, Local}
 use Rattle.vx_machine_turns.specs.Acts.{Seed, Act}
 use Rattle.vx_machine_turns.specs.Source.{source_seed}
 use Rattle.vx_machine_turns.specs.Fuels.{Fuel, less}
 use Rattle.vx_machine_steps.specs.Tree.{Tree, Leaf, Work}
 use Rattle.vx_machine_promises.specs.Write.{Answer, unasked, came, over}
-use Rattle.vx_machine_view.specs.State.{Next, put, hand_on, append, shut_kids, join_kids, Mind, no_chunk, one_chunk, by_chunk, by_column, by_list, by_block, by_size, as_one, ending, passing, made, Desk, Tasks, no_tasks, task_then}
+use Rattle.vx_machine_view.specs.Zoned.{Zoner, Zones, table_item}
+use Rattle.vx_machine_view.specs.Zoning.{zoner_of, put_each, zones_mind, zones_left}
+use Rattle.vx_machine_view.specs.State.{Next, put, hand_on, append, shut_kids, join_kids, start_table, leave_kid, Mind, no_chunk, one_chunk, by_chunk, by_column, by_list, by_block, by_size, as_one, by_zone, ending, passing, made, Desk, Tasks, no_tasks, task_then}
 use Rattle.vx_machine_view.specs.Start.{first_mind, first_kids, field_tasks, started_task}
-use Rattle.vx_machine_view.specs.Acts.{count, add, give, shut_all, Did, column_count, columns_in, puts, stored, of_length, hand_all, take_chunk, end_columns, end_lists, take_end, do_take, do_act}
+use Rattle.vx_machine_view.specs.Acts.{count, add, give, shut_all, Did, column_count, columns_in, puts, stored, of_length, hand_all, take_chunk, end_columns, end_lists, end_zones, take_end, do_take, do_act}
 use Rattle.vx_machine_view.specs.Moves.{is_empty, all_made, Step, may_act, own_step, in_kids, in_rest, steps}
 use Rattle.vx_machine_view.specs.Machine.{Phase, reading, giving, closing, finished, no_more, is_alone, has_layout, is_done, has_closed, WholeStep, may_source, source_step, in_root}
-use Rattle.vx_machine_view.specs.Shows.{NoneHeld, Stage, waits_first, waits_end, appends, splits, gathers_all, hands, hands_lists, shuts, joins_columns, regroups_rows, regroups_chunks, collects, passes_on, passed, Done, Shows, types_of}
+use Rattle.vx_machine_view.specs.Shows.{NoneHeld, Stage, waits_first, waits_end, appends, splits, gathers_all, hands, hands_lists, shuts, joins_columns, regroups_rows, regroups_chunks, collects, passes_on, passed, records_zones, closes_zones, joins_data, joins_zones, Done, Shows, types_of}
 use Rattle.vx_machine_view.specs.Whole.{form_of, root_depth}
 use Rattle.vx_machine_view.specs.Reserved.{next_reserved, mind_reserved, reserved_by, StepsReserve, StartReserves, WholeReserves, FinishReserves}
 use Rattle.vx_machine_view.proofs.Words.{and_left, and_right}
@@ -112,7 +115,8 @@ first_reserved (grouped_form (by_bytes size) t k) m e = refl
 first_reserved (grouped_form into_one t k) m e = refl
 first_reserved (compressed_form which room t k) m e = refl
 first_reserved (dict_form o t c v f) m e = refl
-first_reserved (zoned_form o t k stats) m e = refl
+first_reserved (zoned_form o t k stats) true e = first_reserved k true e
+first_reserved (zoned_form o t k stats) false e = refl
 first_reserved (no_struct_form t) m e = refl
 first_reserved (struct_form fs n name v ks) m e = refl
 first_reserved (list_form t n es os v) m e = refl
@@ -124,7 +128,9 @@ mutual
   kids_reserved (grouped_form g t k) m at e = one_none (mind_reserved (first_mind k m e)) (reserved_by (first_kids k m (under at 0) e)) 0 (first_reserved k m e) (kids_reserved k m (under at 0) e) refl
   kids_reserved (compressed_form which room t k) m at e = refl
   kids_reserved (dict_form o t c v f) m at e = refl
-  kids_reserved (zoned_form o t k stats) m at e = refl
+  kids_reserved (zoned_form o t k stats) true at e = kids_reserved k true at e
+  kids_reserved (zoned_form o t k stats) false at e =
+      one_none (mind_reserved (first_mind k false (inside e))) (reserved_by (first_kids k false (under at 0) (inside e))) 0 (first_reserved k false (inside e)) (kids_reserved k false (under at 0) (inside e)) refl
   kids_reserved (no_struct_form t) m at e = refl
   kids_reserved (struct_form fs true name v ks) m at e =
       one_none (mind_reserved (first_mind v m (inside e))) (reserved_by (first_kids v m (under at 0) (inside e))) (reserved_by (field_tasks ks (m || true) at 1 (next e)))
@@ -176,6 +182,7 @@ chunk_even s c ks i xs (by_size size x (Some j) rows) =
     let k : total_by held ((flushes size).leaves x j.1) + total_by held ((flushes size).holds x j.1) ≡ total_by held x + held j.1 = leaves_held size x j.1 in
     let e : ((out + (total_by held ((flushes size).holds x j.1) + held i.1)) + reserved_by ks) + 0 ≡ ((0 + (total_by held x + held j.1)) + reserved_by ks) + held i.1 = omega (arith, h, k) in e
 chunk_even s c ks i xs (as_one t x rows) = refl
+chunk_even s c ks i xs (by_zone g e z) = refl
 chunk_even s c ks i xs ending = refl
 chunk_even s c ks i xs passing = refl
 chunk_even s c ks i xs (made l) = refl
@@ -190,6 +197,7 @@ Begun (by_column t rows) = Unit {0}
 Begun (by_list t n first from rows) = Unit {0}
 Begun (by_block len minimum t x j rows) = Unit {0}
 Begun (as_one t x rows) = Unit {0}
+Begun (by_zone g e z) = Unit {0}
 Begun ending = Unit {0}
 Begun passing = Unit {0}
 Begun (made l) = Unit {0}
@@ -201,6 +209,10 @@ columns_even false t rows c ks = refl
 lists_even : (first : Bool) (t : Ty) (n b : Bool) (from rows : ℕ) (c : Desk) (ks : Tasks) → Even (by_list t n b from rows) [] ks (end_lists first (list t n) rows c ks)
 lists_even true t n b from rows c ks = refl
 lists_even false t n b from rows c ks = refl
+
+zones_even : (table : Option (List Filled)) (g : Zoner) (e : Eof) (z : Zones) (c : Desk) (ks : Tasks) → Even (by_zone g e z) [] ks (end_zones table g e z c ks)
+zones_even None g e z c ks = refl
+zones_even (Some cs) g e z c ks = refl
 
 end_even : (c : Desk) (ks : Tasks) (mind : Mind) → Begun mind → Even mind [] ks (take_end c ks mind)
 end_even c ks (no_chunk o t) b = refl
@@ -220,6 +232,7 @@ end_even c ks (by_size size x (Some j) rows) b =
     let k : total_by held (x ++ (j.1 ∷ [])) ≡ total_by held x + held j.1 = with_one x j.1 in
     let e : ((out + 0) + reserved_by ks) + 0 ≡ ((0 + (total_by held x + held j.1)) + reserved_by ks) + 0 = omega (arith, h, k) in e
 end_even c ks (as_one t x rows) b = ap (λ z. ((z + 0) + reserved_by ks) + 0) (ends_reserved (λ p. 0) (collect_rest t x) ∙ none_reserved (collect_rest t x))
+end_even c ks (by_zone g e z) b = zones_even (kept_columns g.columns z.records) g e z c ks
 end_even c ks ending b = refl
 end_even c ks passing b = refl
 end_even c ks (made l) b = refl
@@ -232,22 +245,30 @@ Fine mind (hand_on n i ∷ todo) = Unit {0}
 Fine mind (append x ∷ todo) = mind_reserved mind ≡ 0
 Fine mind (shut_kids ∷ todo) = Unit {0}
 Fine mind (join_kids f ∷ todo) = mind_reserved mind ≡ 0
+Fine mind (start_table f e p ∷ todo) = Unit {0}
+Fine mind (leave_kid e ∷ todo) = Unit {0}
 
-act_even : (s : Setting) (all : List (List ℕ)) (next : ℕ) (c : Desk) (ks : Tasks) (todo : List Next) → Fine c.mind todo → (all_made ks ≡ true → reserved_by ks ≡ 0) → may_act all c ks todo ≡ true
-    → Even c.mind todo ks (do_act s next c ks todo)
-act_even s all next c ks [] f k m = by c.inbox
+act_even : (s : Setting) (all : List (List ℕ)) (number : ℕ) (c : Desk) (ks : Tasks) (todo : List Next) → Fine c.mind todo → (all_made ks ≡ true → reserved_by ks ≡ 0) → may_act all c ks todo ≡ true
+    → Even c.mind todo ks (do_act s number c ks todo)
+act_even s all number c ks [] f k m = by c.inbox
   where
     by : (xs : List Item) → Even c.mind [] ks (do_take s c ks xs)
     by [] = end_even c ks c.mind f
     by (i ∷ xs) = chunk_even s c ks i xs c.mind
-act_even s all next c ks (put j i ∷ todo) f k m = ap (λ z. ((next_reserved todo + mind_reserved c.mind) + z) + 0) (give_reserved j i ks)
-act_even s all next c ks (hand_on n i ∷ todo) f k m =
+act_even s all number c ks (put j i ∷ todo) f k m = ap (λ z. ((next_reserved todo + mind_reserved c.mind) + z) + 0) (give_reserved j i ks)
+act_even s all number c ks (hand_on n i ∷ todo) f k m =
     let h : reserved_by (give 0 i ks) ≡ reserved_by ks = give_reserved 0 i ks in
     let e : ((next_reserved todo + mind_reserved c.mind) + reserved_by (give 0 i ks)) + n ≡ (((n + next_reserved todo) + mind_reserved c.mind) + reserved_by ks) + 0 = omega (arith, h) in e
-act_even s all next c ks (append x ∷ todo) f k m = ap (λ z. ((next_reserved todo + z) + reserved_by ks) + 0) (sym f)
-act_even s all next c ks (shut_kids ∷ todo) f k m = ap (λ z. ((next_reserved todo + mind_reserved c.mind) + z) + 0) (shut_reserved ks)
-act_even s all next c ks (join_kids f ∷ todo) o k m =
+act_even s all number c ks (append x ∷ todo) f k m = ap (λ z. ((next_reserved todo + z) + reserved_by ks) + 0) (sym f)
+act_even s all number c ks (shut_kids ∷ todo) f k m = ap (λ z. ((next_reserved todo + mind_reserved c.mind) + z) + 0) (shut_reserved ks)
+act_even s all number c ks (join_kids f ∷ todo) o k m =
     ap (λ z. ((next_reserved todo + z) + 0) + 0) (sym o) ∙ ap (λ z. ((next_reserved todo + mind_reserved c.mind) + z) + 0) (sym (k (and_left (all_made ks) _ m)))
+act_even s all number c ks (start_table f e p ∷ todo) o k m =
+    let new : Tasks = started_task f false (under c.name 1) (next e) (table_item e p ∷ []) true in
+    let h : reserved_by (add ks new) ≡ reserved_by ks + reserved_by new = add_reserved ks new in
+    let x : reserved_by new ≡ 0 = started_reserved f false (under c.name 1) (next e) (table_item e p ∷ []) true in
+    let z : ((next_reserved todo + mind_reserved c.mind) + reserved_by (add ks new)) + 0 ≡ ((next_reserved todo + mind_reserved c.mind) + reserved_by ks) + 0 = omega (arith, h, x) in z
+act_even s all number c ks (leave_kid e ∷ todo) f k m = refl
 
 -- ---- tasks that show a state
 
@@ -261,6 +282,14 @@ puts_fine m b j p (x ∷ xs) = tt
 hands_fine : (m : Mind) → Begun m → (weight : ChunkData → ℕ) (outs : List Item) → Fine m (hand_all weight outs)
 hands_fine m b weight [] = b
 hands_fine m b weight (i ∷ outs) = tt
+
+each_fine : (m : Mind) → Begun m → (outs : List Item) → Fine m (put_each outs)
+each_fine m b [] = b
+each_fine m b (i ∷ outs) = tt
+
+data_fine : (m : Mind) (n : ZonedNode) (z : Zones) (table : Option (List Filled)) → Fine m (zones_left n z table)
+data_fine m n z None = tt
+data_fine m n z (Some cs) = tt
 
 ends_fine : (m : Mind) (weight : ChunkData → ℕ) (outs : List Item) → Fine m (hand_all weight outs ++ (shut_kids ∷ []))
 ends_fine m weight [] = tt
@@ -282,6 +311,10 @@ stage_fine s d mind left ks q past todo l off hs (regroups_chunks size n x j row
 stage_fine s d mind left ks q past todo l off hs (collects n x rows w) = carry w.mind_is w.left_is tt
 stage_fine s d mind left ks q past todo l off hs (passes_on t weight outs one to w) = carry w.mind_is w.left_is (ends_fine passing weight outs)
 stage_fine s d mind left ks q past todo l off hs (passed t one w) = carry w.mind_is w.left_is tt
+stage_fine s d mind left ks q past todo l off hs (records_zones n z outs iz one rw to w) = carry w.mind_is w.left_is (each_fine (by_zone (zoner_of n) (next n.eof) z) tt outs)
+stage_fine s d mind left ks q past todo l off hs (closes_zones n z table iz one w) = carry w.mind_is w.left_is tt
+stage_fine s d mind left ks q past todo l off hs (joins_data n z table iz one w) = carry w.mind_is w.left_is (data_fine (zones_mind table) n z table)
+stage_fine s d mind left ks q past todo l off hs (joins_zones n rows cs both w) = carry w.mind_is w.left_is refl
 
 module _ (s : Setting) (number : List ℕ → ℕ) where
   -- those that have done all have nothing
@@ -437,6 +470,7 @@ done_reserved (task_then c ks r) e k = by c.mind refl (λ a b. done_reserved ks 
     by (by_block len minimum t x j rows) h deeper = absurd (no_true (there (by_block len minimum t x j rows) h))
     by (by_size size x j rows) h deeper = absurd (no_true (there (by_size size x j rows) h))
     by (as_one t x rows) h deeper = absurd (no_true (there (as_one t x rows) h))
+    by (by_zone g z y) h deeper = absurd (no_true (there (by_zone g z y) h))
     by ending h deeper = absurd (no_true (there ending h))
 
 root_alone : (t : Ty) (cs : Tasks) (n : ℕ) → count cs ≡ n → n ≡ 1 → is_alone cs ≡ true

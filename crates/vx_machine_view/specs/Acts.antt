@@ -1,11 +1,11 @@
 -- What a task's next act does to it and to its children.
 use Rattle.std.specs.Prelude.{ℕ, zero, suc, ◌+◌, ◌==◌, ◌&&◌, not, if◌then◌else◌, Bool, true, false, List, [], ◌∷◌, ◌++◌, length, Option, Some, None}
-use Rattle.vx_model.specs.declared.encoding.EncodingId.{EncodingId}
 use Rattle.vx_model.specs.Words.{total_by}
 use Rattle.vx_model.specs.Ty.{Ty, struct, list, fields_in, ty_eq}
 use Rattle.vx_model.specs.ChunkData.{ChunkData, piece_type}
-use Rattle.vx_path.specs.Path.{under, inside, next}
-use Rattle.vx_layout_spec.specs.LayoutTree.{LayoutData, row_count, flat_layout, gathered, struct_layout, list_layout}
+use Rattle.vx_path.specs.Path.{Eof, under, inside, next}
+use Rattle.vx_layout_spec.specs.LayoutTree.{LayoutData, Spec, row_count, flat_layout, gathered, struct_layout, list_layout, zoned_layout}
+use Rattle.vx_zone_spec.specs.ZoneTable.{Filled, kept_columns, table_type, table_specs, table_piece}
 use Rattle.vx_rules.specs.Blocks.{BlockOptions}
 use Rattle.vx_rules.specs.Columns.{struct_columns, list_columns}
 use Rattle.vx_rules.specs.Regroup.{ranked}
@@ -19,8 +19,10 @@ use Rattle.vx_plan.specs.GroupNode.{left_count, rest_count}
 use Rattle.vx_machine_turns.specs.Starts.{start_fault}
 use Rattle.vx_machine_turns.specs.Flat.{forbidden}
 use Rattle.vx_machine_turns.specs.Grouped.{Grouper, block_grouper, byte_grouper}
+use Rattle.vx_machine_turns.specs.Zoned.{zone_fault}
 use Rattle.vx_machine_turns.specs.Collected.{collected_so_far, collect_rest}
-use Rattle.vx_machine_view.specs.State.{Fold, fold_chunks, fold_columns, Next, put, hand_on, append, shut_kids, join_kids, Mind, no_chunk, one_chunk, by_chunk, by_column, by_list, by_block, by_size, as_one, ending, passing, made, Desk, Tasks, no_tasks, task_then}
+use Rattle.vx_machine_view.specs.Zoned.{Zoner, Zones, one_zone, table_item}
+use Rattle.vx_machine_view.specs.State.{Fold, fold_chunks, fold_columns, fold_zones, Next, put, hand_on, append, shut_kids, join_kids, start_table, leave_kid, Mind, no_chunk, one_chunk, by_chunk, by_column, by_list, by_block, by_size, as_one, by_zone, ending, passing, made, Desk, Tasks, no_tasks, task_then}
 use Rattle.vx_machine_view.specs.Start.{first_indices, started_task}
 
 -- ---- children
@@ -63,6 +65,7 @@ layout_in (by_list t n first from rows) below = []
 layout_in (by_block len minimum t x j rows) below = []
 layout_in (by_size size x j rows) below = []
 layout_in (as_one t x rows) below = []
+layout_in (by_zone g e z) below = []
 layout_in ending below = []
 
 -- the layouts of those that have done all
@@ -102,21 +105,34 @@ abbrev pub columns_layout : {A : Type 0} → Ty → ℕ → List (LayoutData A) 
 columns_layout (list t n) rows ls = list_layout (list t n) rows ls
 columns_layout t rows ls = struct_layout t rows ls
 
+-- of a zoned node's data and table; other layouts it never has
+abbrev pub zones_layout : {A : Type 0} → Ty → ℕ → ℕ → List Spec → List (LayoutData A) → LayoutData A
+zones_layout t rows zone specs (data_child ∷ zones ∷ ls) = zoned_layout t rows zone specs data_child zones
+zones_layout t rows zone specs ls = struct_layout t rows ls
+
 abbrev pub folded : Fold → List (LayoutData ℕ) → LayoutData ℕ
 folded (fold_chunks t) ls = gathered t (total_by row_count ls) ls
 folded (fold_columns t rows) ls = columns_layout t rows ls
+folded (fold_zones t rows zone specs) ls = zones_layout t rows zone specs ls
 
 abbrev pub joined_rows : Fold → List (LayoutData ℕ) → List ℕ
 joined_rows (fold_chunks t) ls = total_by row_count ls ∷ []
 joined_rows (fold_columns t rows) ls = []
+joined_rows (fold_zones t rows zone specs) ls = []
 
--- Of what is left of its block: the layouts name these encodings, and an append gets this number. Joined children are given up.
-abbrev pub do_next : List EncodingId → ℕ → Desk → Tasks → Next → List Next → Did
-do_next ids number c ks (put j i) todo = done_as (Put j) (now c c.mind todo c.inbox) (give j i ks)
-do_next ids number c ks (hand_on n i) todo = record (done_as (Put 0) (now c c.mind todo c.inbox) (give 0 i ks)) { lowers = n }
-do_next ids number c ks (append x) todo = record (done_as (Append x.id) (now c (made (flat_layout x.type x.rows ids x.tree number)) todo c.inbox) ks) { wrote = (x.id, x.bytes) ∷ [] }
-do_next ids number c ks shut_kids todo = done_as (Free Close) (now c c.mind todo c.inbox) (shut_all ks)
-do_next ids number c ks (join_kids f) todo = record (done_as Join (now c (made (folded f (layouts_in ks))) todo c.inbox) no_tasks) { joined = joined_rows f (layouts_in ks) }
+-- Of what is left of its block: an append gets this number. Joined children are given up; a zoned node's table is started behind the data child.
+abbrev pub do_next : Setting → ℕ → Desk → Tasks → Next → List Next → Did
+do_next s number c ks (put j i) todo = done_as (Put j) (now c c.mind todo c.inbox) (give j i ks)
+do_next s number c ks (hand_on n i) todo = record (done_as (Put 0) (now c c.mind todo c.inbox) (give 0 i ks)) { lowers = n }
+do_next s number c ks (append x) todo = record (done_as (Append x.id) (now c (made (flat_layout x.type x.rows s.encodings x.tree number)) todo c.inbox) ks) { wrote = (x.id, x.bytes) ∷ [] }
+do_next s number c ks shut_kids todo = done_as (Free Close) (now c c.mind todo c.inbox) (shut_all ks)
+do_next s number c ks (join_kids f) todo = record (done_as Join (now c (made (folded f (layouts_in ks))) todo c.inbox) no_tasks) { joined = joined_rows f (layouts_in ks) }
+do_next s number c ks (start_table f e p) todo =
+    record (done_as Join (now c c.mind todo c.inbox) (add ks (started_task f false (under c.name 1) (next e) (table_item e p ∷ []) true))) {
+      refusal = start_fault s f false;
+      indices = (e.last + 1) ∷ first_indices f false (next e);
+    }
+do_next s number c ks (leave_kid e) todo = done_as Join (now c c.mind todo c.inbox) ks
 
 -- a chunk's segment, where it can be encoded, with the tree that its layout keeps
 abbrev pub stored : Ty → Item → Option (List ℕ) → Option (List ℕ) → Mind
@@ -174,6 +190,24 @@ abbrev pub end_grouped : {S : Type 0} → Grouper S → S → Option Item → De
 end_grouped g x None c ks = pass_on [] c ks
 end_grouped g x (Some j) c ks = record (pass_on (hand_all g.weight (ranked j.0 0 (g.rule.rest x j.1))) c ks) { numbers = g.acted x j.1; indices = rest_count g.rule x j.1 }
 
+-- ---- zoned nodes
+
+-- the chunk is recorded beside the data child
+abbrev pub take_zone : Setting → Zoner → Eof → Zones → Desk → Tasks → Item → List Item → Did
+take_zone s g e z c ks i xs = record (done_as Take (now c (by_zone g e (one_zone s g z i.1)) (put 0 i ∷ []) xs) ks) {
+  refusal = zone_fault g.zone_len g.columns z.last (rows_in i.1);
+  misfit = not (ty_eq (piece_type i.1) g.type);
+  numbers = (z.rows + rows_in i.1) ∷ [];
+}
+
+-- at the end, by the table's columns, if any are kept; without a table its layout is its only child's
+abbrev pub end_zones : Option (List Filled) → Zoner → Eof → Zones → Desk → Tasks → Did
+end_zones None g e z c ks = done_as TakeEnd (now c passing (shut_kids ∷ leave_kid e ∷ []) []) ks
+end_zones (Some cs) g e z c ks =
+    record (done_as TakeEnd (now c ending (shut_kids ∷ start_table (g.table (table_type cs)) e (table_piece cs z.zones) ∷ join_kids (fold_zones g.type z.rows g.zone_len (table_specs cs)) ∷ []) []) ks) {
+      numbers = z.zones ∷ [];
+    }
+
 -- takes a chunk, behind which these are left in its queue
 abbrev pub take_chunk : Setting → Desk → Tasks → Item → List Item → Mind → Did
 take_chunk s c ks i xs (no_chunk o t) = record {
@@ -195,7 +229,7 @@ take_chunk s c ks i xs (by_chunk m t f e rows) = record {
   refusal = start_fault s f m;
   misfit = false;
   numbers = (rows + rows_in i.1) ∷ [];
-  indices = (e.last + 1) ∷ first_indices f (inside e);
+  indices = (e.last + 1) ∷ first_indices f m (inside e);
   wrote = [];
   joined = [];
   raises = 0;
@@ -237,6 +271,7 @@ take_chunk s c ks i xs (as_one t x rows) = record (done_as Take (now c (as_one t
   misfit = not (ty_eq (piece_type i.1) t);
   numbers = (rows + rows_in i.1) ∷ [];
 }
+take_chunk s c ks i xs (by_zone g e z) = take_zone s g e z c ks i xs
 take_chunk s c ks i xs ending = done_as Take (now c ending [] xs) ks
 take_chunk s c ks i xs passing = done_as Take (now c passing [] xs) ks
 take_chunk s c ks i xs (made l) = done_as Take (now c (made l) [] xs) ks
@@ -260,6 +295,7 @@ take_end c ks (by_list t n first from rows) = end_lists first (list t n) rows c 
 take_end c ks (by_block len minimum t x j rows) = end_grouped (block_grouper (of_length len minimum) t) x j c ks
 take_end c ks (by_size size x j rows) = end_grouped (byte_grouper size) x j c ks
 take_end c ks (as_one t x rows) = pass_on (hand_all (λ p. 0) (collect_rest t x)) c ks
+take_end c ks (by_zone g e z) = end_zones (kept_columns g.columns z.records) g e z c ks
 take_end c ks ending = done_as TakeEnd (now c ending [] []) ks
 take_end c ks passing = done_as TakeEnd (now c passing [] []) ks
 take_end c ks (made l) = done_as TakeEnd (now c (made l) [] []) ks
@@ -269,5 +305,5 @@ do_take s c ks (i ∷ xs) = take_chunk s c ks i xs c.mind
 do_take s c ks [] = take_end c ks c.mind
 
 abbrev pub do_act : Setting → ℕ → Desk → Tasks → List Next → Did
-do_act s number c ks (x ∷ todo) = do_next s.encodings number c ks x todo
+do_act s number c ks (x ∷ todo) = do_next s number c ks x todo
 do_act s number c ks [] = do_take s c ks c.inbox

@@ -1,3 +1,4 @@
+pub mod Zoned
 pub mod State
 pub mod Start
 pub mod Acts
@@ -6,6 +7,7 @@ pub mod Machine
 pub mod Built
 pub mod Tables
 pub mod Typed
+pub mod Zoning
 pub mod Shows
 pub mod Reserved
 pub mod Steps

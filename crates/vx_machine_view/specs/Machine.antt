@@ -8,7 +8,7 @@ use Rattle.vx_machine_turns.specs.Forms.{Form}
 use Rattle.vx_machine_turns.specs.Grouped.{group_kept}
 use Rattle.vx_machine_turns.specs.Collected.{collect_kept}
 use Rattle.vx_machine_promises.specs.Write.{Answer, unasked, came, over}
-use Rattle.vx_machine_view.specs.State.{Next, put, hand_on, append, shut_kids, join_kids, Mind, no_chunk, one_chunk, by_chunk, by_column, by_list, by_block, by_size, as_one, ending, passing, made, Tasks, no_tasks, task_then}
+use Rattle.vx_machine_view.specs.State.{Next, put, hand_on, append, shut_kids, join_kids, start_table, leave_kid, Mind, no_chunk, one_chunk, by_chunk, by_column, by_list, by_block, by_size, as_one, by_zone, ending, passing, made, Tasks, no_tasks, task_then}
 use Rattle.vx_machine_view.specs.Start.{started_task}
 use Rattle.vx_machine_view.specs.Acts.{give, shut_all}
 use Rattle.vx_machine_view.specs.Moves.{is_empty, has_room, Step, steps}
@@ -101,6 +101,7 @@ has_layout (by_list t n first from rows) ks below = false
 has_layout (by_block len minimum t x j rows) ks below = false
 has_layout (by_size size x j rows) ks below = false
 has_layout (as_one t x rows) ks below = false
+has_layout (by_zone g e z) ks below = false
 has_layout ending ks below = false
 
 -- the first one's layout is there, its own or that of its only child, and nothing else
@@ -120,6 +121,8 @@ next_ids (hand_on n i ∷ todo) = i.0 ∷ next_ids todo
 next_ids (append x ∷ todo) = x.id ∷ next_ids todo
 next_ids (shut_kids ∷ todo) = next_ids todo
 next_ids (join_kids f ∷ todo) = next_ids todo
+next_ids (start_table f e p ∷ todo) = eof_path e ∷ next_ids todo
+next_ids (leave_kid e ∷ todo) = eof_path e ∷ next_ids todo
 
 abbrev pub mind_ids : Mind → List (List ℕ)
 mind_ids (no_chunk o t) = []
@@ -130,6 +133,7 @@ mind_ids (by_list t n first from rows) = []
 mind_ids (by_block len minimum t x j rows) = group_kept j
 mind_ids (by_size size x j rows) = group_kept j
 mind_ids (as_one t x rows) = collect_kept x
+mind_ids (by_zone g e z) = eof_path e ∷ []
 mind_ids ending = []
 mind_ids passing = []
 mind_ids (made l) = []

@@ -5,6 +5,7 @@ use Rattle.vx_model.specs.CellData.{CellData}
 use Rattle.vx_model.specs.ChunkData.{ChunkData, held}
 use Rattle.vx_path.specs.Lists.{In}
 use Rattle.vx_path.specs.Path.{Eof}
+use Rattle.vx_zone_spec.specs.ZoneTable.{Filled, table_type}
 use Rattle.vx_layout_spec.specs.LayoutTree.{LayoutData, row_count, renamed, flat_layout}
 use Rattle.vx_tasks.specs.Task.Kind.{Append, Join}
 use Rattle.vx_tasks.specs.Nodes.{numbers}
@@ -14,10 +15,11 @@ use Rattle.vx_strategy_spec.specs.StrategyData.{FlatOptions}
 use Rattle.vx_plan.specs.PlanData.{Setting, Item, row_total, rows_in}
 use Rattle.vx_plan.specs.FlatNode.{inlined}
 use Rattle.vx_machine_turns.specs.Forms.{Writer, chunked_form}
-use Rattle.vx_machine_turns.specs.Locals.{ChunkedNode, StructNode, ListNode, GroupedNode, Local, flat_empty, flat_full, flat_many, chunked_local, struct_local, list_local, blocks_local, bytes_local, collect_local, compressed_local, outlet_local, dict_local, fallback_local, runs_local, zoned_local, idle_local, source_local, outside_local}
+use Rattle.vx_machine_turns.specs.Locals.{ChunkedNode, StructNode, ListNode, GroupedNode, ZonedNode, Local, flat_empty, flat_full, flat_many, chunked_local, struct_local, list_local, blocks_local, bytes_local, collect_local, compressed_local, outlet_local, dict_local, fallback_local, runs_local, zoned_local, idle_local, source_local, outside_local}
 use Rattle.vx_machine_turns.specs.Acts.{Seed, Act, Shape, alone, gathers, struct_of, list_of, runs_of, zones_of, passes, does, close_queues, shape_in, gifts, numbers_in}
 use Rattle.vx_machine_turns.specs.Grouped.{weighed_puts, group_kept}
 use Rattle.vx_machine_turns.specs.Collected.{collected_so_far, collect_kept}
+use Rattle.vx_machine_turns.specs.Zoned.{zoned_ends, zoned_joins}
 use Rattle.vx_machine_turns.specs.Fuels.{Fuel, less, Enough}
 use Rattle.vx_machine_turns.specs.Columns.{column_puts}
 use Rattle.vx_machine_turns.specs.Readings.{shaped}
@@ -27,6 +29,8 @@ use Rattle.vx_machine_steps.specs.Moves.{all_paths, all_over}
 use Rattle.vx_machine_view.specs.State.{Stored, fold_chunks, fold_columns, Next, append, shut_kids, join_kids, Mind, no_chunk, one_chunk, by_chunk, by_column, by_list, by_block, by_size, as_one, ending, passing, made, Desk, Tasks, no_tasks, task_then}
 use Rattle.vx_machine_view.specs.Acts.{count, column_count, puts, hand_all}
 use Rattle.vx_machine_view.specs.Built.{Built, column_types, list_types}
+use Rattle.vx_machine_view.specs.Zoned.{Zones}
+use Rattle.vx_machine_view.specs.Zoning.{IsZoned, Records, zones_mind, lay_zones, zones_left, zones_shape}
 use Rattle.vx_machine_view.specs.Typed.{AllTyped, EachTyped, ChunksTyped, NewestTyped}
 
 -- ---- what is read off the abstract tree
@@ -202,6 +206,19 @@ pub data Stage (s : Setting) (d : Fuel) (mind : Mind) (left : List Next) (ks : T
       → Ends mind left past todo over passing (hand_all weight outs ++ (shut_kids ∷ [])) (filled [] (weighed_puts weight outs ++ (close_queues (0 ∷ []) ∷ []))) passes
       → Stage s d mind left ks q past todo l over hs
   passed : (t : Ty) → types_of hs ≡ t ∷ [] → Ends mind left past todo over passing [] [] passes → Stage s d mind left ks q past todo l over hs
+  -- the data child, and what is handed on next, have all rows so far
+  records_zones : (n : ZonedNode) (z : Zones) (outs : List Item) → IsZoned d q n → types_of hs ≡ n.type ∷ [] → z.rows ≡ row_total outs + rows_of hs → AllTyped n.type outs
+      → Records mind left past todo l over n z outs → Stage s d mind left ks q past todo l over hs
+  -- behind the end, by the table's columns: the data child's queue is closed; it is joined; so is the table's child
+  closes_zones : (n : ZonedNode) (z : Zones) (table : Option (List Filled)) → IsZoned d q n → types_of hs ≡ n.type ∷ []
+      → Ends mind left past todo over (zones_mind table) (shut_kids ∷ zones_left n z table) (filled [] (zoned_ends s n z.zones table)) (zones_shape n z.rows table)
+      → Stage s d mind left ks q past todo l over hs
+  joins_data : (n : ZonedNode) (z : Zones) (table : Option (List Filled)) → IsZoned d q n → types_of hs ≡ n.type ∷ []
+      → Ends mind left past todo over (zones_mind table) (zones_left n z table) (filled [] (zoned_joins s n z.zones table)) (zones_shape n z.rows table)
+      → Stage s d mind left ks q past todo l over hs
+  joins_zones : (n : ZonedNode) (rows : ℕ) (cs : List Filled) → types_of hs ≡ n.type ∷ table_type cs ∷ []
+      → Ends mind left past todo over ending (lay_zones n rows cs) (does Join ∷ []) (zones_shape n rows (Some cs))
+      → Stage s d mind left ks q past todo l over hs
 
 -- A task that has done all and has a layout of its own: its children are given up, and it is theirs, where `number` tells each
 -- segment's.

@@ -2,7 +2,7 @@
 
 ghost use Rattle.std.specs.Prelude.{◌≡◌, ◌+◌, ◌^◌, ◌≤◌, max, false, [], string_bytes, map, length, Some, IsSome, IfOk, IfErr, MatchResult, option_map};
 ghost use Rattle.vx_model.specs.TreeView.{val};
-ghost use Rattle.vx_layout_spec.specs.Rows.{rows};
+ghost use Rattle.vx_layout_spec.specs.Rows.{rows, all_there};
 ghost use Rattle.vx_segment_reader.specs.Codec.{segment_codec};
 ghost use Rattle.vx_layout_tree.specs.LayoutView.{layout_data};
 ghost use Rattle.vx_plan.specs.Number.{segment_at};
@@ -14,9 +14,10 @@ ghost use Rattle.vx_report.specs.Report.{report, refused_report};
 ghost use Rattle.vx_report.specs.ZoneText.{zone_tables};
 ghost use Rattle.vx_run.specs.declared.status.Status.TheVariants as statuses;
 ghost use Rattle.vx_run.specs.RefusalNames.{refusal_name, is_memory};
-ghost use Rattle.vx_run.specs.Answers.{IsText, IsAnswer, JobAnswer, IsWritten, Halts, bad_job};
+ghost use Rattle.vx_run.specs.Answers.{table_rows, IsText, IsAnswer, JobAnswer, IsWritten, Halts, bad_job};
 
 use crate::status::Status;
+use crate::tables::read_tables;
 use std::alloc::{AllocError, Global};
 use vx_job::{Job, JobError, Key, read_job};
 use vx_layout_tree::Layout;
@@ -82,7 +83,7 @@ fn write_batches(
     job: Job,
 ) -> Result<(Layout, Vec<Blob>, Vec<Step>), (WriteError, Vec<Blob>, Vec<Step>)>
     ensures ok { IfOk result (λ w. IsWritten (job_view job) (layout_data w.0) w.1.items w.2.items) }
-    ensures no_tables { IfOk result (λ w. zone_tables (layout_data w.0) ≡ []) }
+    ensures tables { IfOk result (λ w. IsSome (all_there (table_rows (segment_at job.next w.1.items) (zone_tables (layout_data w.0))))) }
     ensures err { IfErr result (λ r. Halts (job_view job) r.0 r.1.items r.2.items) }
     ensures numbered { MatchResult result (λ w. job.next + length w.1.items ≤ max job.next (2 ^ 32)) (λ r. job.next + length r.1.items ≤ max job.next (2 ^ 32)) }
 {
@@ -184,13 +185,15 @@ fn written(
 ) -> Result<Answer, AllocError>
     requires readable { IsSome (rows segment_codec (segment_at first list.items) (layout_data layout.now)) }
     requires numbered { first + length list.items ≤ max first (2 ^ 32) }
-    requires no_tables { zone_tables (layout_data layout.now) ≡ [] }
-    ensures { IfOk result (λ a. (a.status ≡ statuses.Done) × (Some (string_bytes a.text)
-        ≡ option_map (report first (layout_data layout.now) list.items [] steps.now) (rows segment_codec (segment_at first list.items) (layout_data layout.now)))) }
+    requires tables { IsSome (all_there (table_rows (segment_at first list.items) (zone_tables (layout_data layout.now)))) }
+    ensures { IfOk result (λ a. (a.status ≡ statuses.Done) × (Some (Some (string_bytes a.text))
+        ≡ option_map (λ tables. option_map (report first (layout_data layout.now) list.items tables steps.now) (rows segment_codec (segment_at first list.items) (layout_data layout.now)))
+        (all_there (table_rows (segment_at first list.items) (zone_tables (layout_data layout.now)))))) }
 {
     let segments = numbered(first, list);
+    let tables = read_tables(alloc, layout, &segments)?;
     let rows = read_back(alloc, layout, &segments)?;
-    let text = report(alloc, first, layout, &segments.list, steps, &rows)?;
+    let text = report(alloc, first, layout, &segments.list, &tables, steps, &rows)?;
     Ok(Answer {
         status: Status::Done,
         text,
@@ -210,7 +213,7 @@ fn numbered(first: u64, list: Vec<Blob>) -> SegmentMap
 }
 
 /// The rows that a layout gives from the segments.
-fn read_back(
+pub(crate) fn read_back(
     alloc: Global,
     layout: &Layout,
     segments: &SegmentMap,
