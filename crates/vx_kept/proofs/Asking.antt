@@ -3,7 +3,11 @@ use Rattle.std.proofs.Common.{◌≡◌, ◌⊎◌, ℕ, zero, suc, ◌+◌, ◌
 use Rattle.std.proofs.lemmas.Bool.{true≢false}
 use Rattle.std.proofs.lemmas.List.Sums.{sum_by-cons}
 use Rattle.vx_path.specs.Lists.{In}
+<<<<<<< HEAD
 use Rattle.vx_machine_view.specs.State.{Next, put, hand_on, append, shut_kids, join_kids, start_table, leave_kid, Desk, Tasks, no_tasks, task_then}
+=======
+use Rattle.vx_machine_view.specs.State.{Next, put, hand_on, press, probe, open_run, end_run, append, shut_kids, join_kids, Desk, Tasks, no_tasks, task_then}
+>>>>>>> d7a35731
 use Rattle.vx_machine_view.specs.Acts.{count}
 use Rattle.vx_machine_view.specs.Moves.{may_act}
 use Rattle.vx_machine_view.specs.Places.{one_if, ready_in}
@@ -66,6 +70,10 @@ quiet : (all every : List (List ℕ)) (c : Desk) (ks : Tasks) (todo : List Next)
 quiet all every c ks [] h = refl
 quiet all every c ks (put j i ∷ todo) h = refl
 quiet all every c ks (hand_on n i ∷ todo) h = refl
+quiet all every c ks (press which i ∷ todo) h = refl
+quiet all every c ks (probe n e i ∷ todo) h = refl
+quiet all every c ks (open_run n j e i ∷ todo) h = refl
+quiet all every c ks (end_run j i ∷ todo) h = refl
 quiet all every c ks (append x ∷ todo) h = absurd (true≢false h)
 quiet all every c ks (shut_kids ∷ todo) h = refl
 quiet all every c ks (join_kids f ∷ todo) h = refl

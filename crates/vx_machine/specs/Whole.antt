@@ -46,7 +46,7 @@ is_finished m = has_closed m.phase && is_done m.root
 abbrev pub StepMay : WriteError → Type 0
 StepMay SourceFault = Unit {0}
 StepMay SinkFault = Unit {0}
-StepMay CompressFault = ⊥
+StepMay CompressFault = Unit {0}
 StepMay (BatchType c) = Unit {0}
 StepMay NotStruct = Unit {0}
 StepMay (DuplicateField name) = Unit {0}

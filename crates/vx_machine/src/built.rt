@@ -40,12 +40,18 @@ pub fn is_built(strategy: &Strategy) -> bool
         Strategy::Repartition(by) => is_built(by.child().strategy()),
         Strategy::Buffered(by) => is_built(by.child().strategy()),
         Strategy::Collect(into) => is_built(into.child().strategy()),
+        Strategy::Compressing(by) => is_built(by.child().strategy()),
         Strategy::Zoned(zoned) => {
             let child = is_built(zoned.child().strategy());
             let stats = is_built(zoned.stats().strategy());
             child && stats
         }
-        Strategy::Dict(_) | Strategy::Compressing(_) => false,
+        Strategy::Dict(dict) => {
+            let codes = is_built(dict.codes().strategy());
+            let values = is_built(dict.values().strategy());
+            let fallback = is_built(dict.fallback().strategy());
+            codes && (values && fallback)
+        }
     }
 }
 

@@ -17,7 +17,7 @@ ghost use Rattle.vx_machine_view.specs.Places.{whole_ready};
 ghost use Rattle.vx_sink.specs.ContextView.{is_marked, counted as counted_bytes, allowed_in};
 ghost use Rattle.vx_machine_nodes.specs.Ledger.{Paid, told_by};
 ghost use Rattle.vx_machine_view.specs.Built.{is_built};
-ghost use Rattle.vx_machine_nodes.specs.Calls.{SinkTold};
+ghost use Rattle.vx_machine_nodes.specs.Calls.{SinkTold, PressTold};
 ghost use Rattle.vx_machine.specs.Calls.{SourceTold, reads_at};
 ghost use Rattle.vx_machine_nodes.specs.Causes.{StartMay};
 ghost use Rattle.vx_machine_nodes.specs.Outcome.{Kept};
@@ -234,7 +234,7 @@ impl Machine {
         ctx: &mut LayoutWriterContext,
         source: &mut B,
         order: &mut O,
-        _compressor: &mut C,
+        compressor: &mut C,
         counts: &mut Counts,
     ) -> Result<Step, WriteError>
         requires owned { Owned (O.active order.old) (machine_stock self.old) }
@@ -252,14 +252,16 @@ impl Machine {
             (reads_at (phase_of self.old.phase) (pick % counted (machine_ready (O.active order.old) self.old))) result (λ s. s.action) }
         ensures sink_told { SinkTold (O.Sink.faults (O.sink order.old)) (O.Sink.faults (O.sink order.new)) (O.Sink.may_fail (O.sink order.old)) (O.Sink.may_fail (O.sink order.new))
             (O.Sink.must_fail (O.sink order.old)) (O.Sink.must_fail (O.sink order.new)) result (λ s. s.action) }
+        ensures pressed { PressTold (C.faults compressor.old) (C.faults compressor.new) (C.may_fail compressor.old) (C.may_fail compressor.new)
+            (C.must_fail compressor.old) (C.must_fail compressor.new) result (λ s. s.action) }
         ensures cause { IfErr result StepMay }
-        ensures done { IfOk result (λ s. StepDone ctx.old (fin.keys (O.active order.old)) s.picked (B.kind source.old) (B.to_come source.old) (B.to_come source.new)
+        ensures done { IfOk result (λ s. StepDone ctx.old (C.image (C.kind compressor.old)) (fin.keys (O.active order.old)) s.picked (B.kind source.old) (B.to_come source.old) (B.to_come source.new)
             (O.outlet order.old) (O.outlet order.new) (machine_of self.old) (machine_of self.new) s.task s.action) }
-        ensures refused { IfErr result (StepFails ctx.old (counted_bytes ctx.old) (fin.keys (O.active order.old)) (pick % counted (machine_ready (O.active order.old) self.old)) (B.kind source.old) (B.to_come source.old) (B.to_come source.new)
+        ensures refused { IfErr result (StepFails ctx.old (C.image (C.kind compressor.old)) (counted_bytes ctx.old) (fin.keys (O.active order.old)) (pick % counted (machine_ready (O.active order.old) self.old)) (B.kind source.old) (B.to_come source.old) (B.to_come source.new)
             (O.outlet order.old) (machine_of self.old)) }
         ensures kept { OnErr result (Kept (O.outlet order.old) (O.outlet order.new)) }
         ensures context { told_by ctx.new ≡ told_by ctx.old }
-        ensures compressor { _compressor.new ≡ _compressor.old }
+        ensures compressor { C.kind compressor.new ≡ C.kind compressor.old }
         ensures known { OnOk result (Knows counts.new (row (out-Task self.new.root).kids.items)) }
     {
         let picked = pick % ready;
@@ -276,7 +278,11 @@ impl Machine {
                 Err(error) => Err(error),
             };
         }
-        match self.root.step(self.alloc, ctx, order, picked - own, counts) {
+        let place = picked - own;
+        match self
+            .root
+            .step(self.alloc, ctx, order, compressor, place, counts)
+        {
             Ok(did) => Ok(Step {
                 ready,
                 picked,
@@ -289,8 +295,9 @@ impl Machine {
 
     /// The ready task at the place `pick` modulo their number does its next act; tasks are in the order of their names.
     ///
-    /// After an error `refuse` alone is left to call. `SourceFault` and `SinkFault` come where that object's count of faults
-    /// says so. The source is called where it reads, and the sink where a segment is appended.
+    /// After an error `refuse` alone is left to call. `SourceFault`, `SinkFault` and `CompressFault` come where that object's
+    /// count of faults says so. The source is called where it reads, the sink where a segment is appended, and the compressor
+    /// at a call.
     pub fn step<B: BatchSource, O: Order, C: CompressorPlugin>(
         &mut self,
         pick: u64,
@@ -312,14 +319,16 @@ impl Machine {
             (reads_at (phase_of self.old.phase) (pick % counted (machine_ready (O.active order.old) self.old))) result (λ s. s.action) }
         ensures sink_told { SinkTold (O.Sink.faults (O.sink order.old)) (O.Sink.faults (O.sink order.new)) (O.Sink.may_fail (O.sink order.old)) (O.Sink.may_fail (O.sink order.new))
             (O.Sink.must_fail (O.sink order.old)) (O.Sink.must_fail (O.sink order.new)) result (λ s. s.action) }
+        ensures pressed { PressTold (C.faults compressor.old) (C.faults compressor.new) (C.may_fail compressor.old) (C.may_fail compressor.new)
+            (C.must_fail compressor.old) (C.must_fail compressor.new) result (λ s. s.action) }
         ensures cause { IfErr result StepMay }
-        ensures done { IfOk result (λ s. StepDone ctx.old (fin.keys (O.active order.old)) s.picked (B.kind source.old) (B.to_come source.old) (B.to_come source.new)
+        ensures done { IfOk result (λ s. StepDone ctx.old (C.image (C.kind compressor.old)) (fin.keys (O.active order.old)) s.picked (B.kind source.old) (B.to_come source.old) (B.to_come source.new)
             (O.outlet order.old) (O.outlet order.new) (machine_of self.old) (machine_of self.new) s.task s.action) }
-        ensures refused { IfErr result (StepFails ctx.old (counted_bytes ctx.old) (fin.keys (O.active order.old)) (pick % counted (machine_ready (O.active order.old) self.old)) (B.kind source.old) (B.to_come source.old) (B.to_come source.new)
+        ensures refused { IfErr result (StepFails ctx.old (C.image (C.kind compressor.old)) (counted_bytes ctx.old) (fin.keys (O.active order.old)) (pick % counted (machine_ready (O.active order.old) self.old)) (B.kind source.old) (B.to_come source.old) (B.to_come source.new)
             (O.outlet order.old) (machine_of self.old)) }
         ensures kept { OnErr result (Kept (O.outlet order.old) (O.outlet order.new)) }
         ensures context { told_by ctx.new ≡ told_by ctx.old }
-        ensures compressor { compressor.new ≡ compressor.old }
+        ensures compressor { C.kind compressor.new ≡ C.kind compressor.old }
     {
         let mut counts = Counts::new(self.alloc);
         let Ok(ready) = self.count_ready(order, &mut counts) else {

@@ -11,7 +11,8 @@ use Rattle.vx_order.specs.Answers.{IsNumber, IsPast, IsShared, After}
 use Rattle.vx_order.specs.declared.attempt.Attempt.TheVariants.{Written}
 use Rattle.vx_plan.specs.PlanData.{Setting, Pair, What, many_chunks, Item as Piece}
 use Rattle.vx_machine_turns.specs.Flat.{forbidden}
-use Rattle.vx_machine_view.specs.State.{Next, Mind, ending, Desk, Tasks}
+use Rattle.vx_machine_view.specs.State.{Next, hand_on, Mind, ending, Desk, Tasks}
+use Rattle.vx_machine_view.specs.Images.{images_of}
 use Rattle.vx_machine_view.specs.Start.{waiting}
 use Rattle.vx_sink.specs.declared.context.LayoutWriterContext.{LayoutWriterContext}
 use Rattle.vx_sink.specs.ContextView.{counted as bytes_counted}
@@ -22,7 +23,7 @@ use Rattle.vx_machine_nodes.specs.declared.item.Item.{Item}
 use Rattle.vx_machine_nodes.specs.declared.item.Segment.{Segment}
 use Rattle.vx_machine_nodes.specs.declared.kinds.FlatNode.{FlatNode}
 use Rattle.vx_machine_nodes.specs.declared.node.Local.{Local}
-use Rattle.vx_machine_nodes.specs.declared.node.Local.TheVariants.{Empty, Full, Chunked, Columns, Lists, Grouped, Over, Passing, Made, Zoned}
+use Rattle.vx_machine_nodes.specs.declared.node.Local.TheVariants.{Empty, Full, Chunked, Columns, Lists, Grouped, Over, Passing, Made, Zoned, Pressing, AsIs}
 use Rattle.vx_machine_nodes.specs.Context.{setting_of}
 use Rattle.vx_machine_nodes.specs.Outcome.{action_of, AllFit, Refused, none_past}
 use Rattle.vx_machine_nodes.specs.View.{item_of, mind_of}
@@ -63,15 +64,21 @@ bare name mind = waiting name mind [] false
 abbrev pub acted : Setting → List ℕ → ℕ → Mind → Tasks → Next → Did
 acted s name number mind ks x = do_next s number (bare name mind) ks x []
 
--- an act was done, with this in mind then and these children
-pub record ActDone (w : Did) (before : Outlet) (number : ℕ) (after : Outlet) (mind : Mind) (kids : Tasks) (a : ActionKind) : Type 0 where
+-- an act was done, with this in mind then, this left to do before what was, and these children
+pub record ActDone (w : Did) (before : Outlet) (number : ℕ) (after : Outlet) (mind : Mind) (todo left : List Next) (kids : Tasks) (a : ActionKind) : Type 0 where
   pub unrefused : w.refusal ≡ None
   pub fits : w.misfit ≡ false
   pub counted : AllFit (w.numbers ++ w.indices)
+  pub todo_is : todo ≡ w.desk.todo ++ left
   pub mind_is : mind ≡ w.desk.mind
   pub kids_are : kids ≡ w.kids
   pub kind : a ≡ action_of w.kind
   pub outlet : Behind before number w.wrote after
+
+-- The compressor was called under this number, and the image is to be handed on before what was. A compressor's images are known of
+-- chunks that can be in memory.
+abbrev pub Pressed : (ℕ → ChunkData → ChunkData) → ℕ → Piece → List Next → List Next → Type 0
+Pressed image which i todo before = todo ≡ hand_on 0 (i.0, images_of image which i.1) ∷ before
 
 -- layouts of so many rows aren't joined
 abbrev pub JoinRefused : List ℕ → WriteError → Type 0
@@ -137,6 +144,8 @@ first_word first (Columns n rows) = Some many_chunks
 first_word first (Lists n rows) = Some many_chunks
 first_word first (Grouped n) = Some many_chunks
 first_word first (Zoned n) = Some many_chunks
+first_word first (Pressing which) = Some many_chunks
+first_word first AsIs = Some many_chunks
 first_word first Over = Some many_chunks
 first_word first Passing = Some many_chunks
 first_word first (Made l) = Some many_chunks
@@ -150,6 +159,8 @@ is_flat (Columns n rows) = false
 is_flat (Lists n rows) = false
 is_flat (Grouped n) = false
 is_flat (Zoned n) = false
+is_flat (Pressing which) = false
+is_flat AsIs = false
 is_flat Over = false
 is_flat Passing = false
 is_flat (Made l) = false
@@ -163,6 +174,8 @@ is_grouped (Chunked n eof rows) = false
 is_grouped (Columns n rows) = false
 is_grouped (Lists n rows) = false
 is_grouped (Zoned n) = false
+is_grouped (Pressing which) = false
+is_grouped AsIs = false
 is_grouped Over = false
 is_grouped Passing = false
 is_grouped (Made l) = false
@@ -191,8 +204,8 @@ pub record Ended (w : Did) (mind : Mind) (todo before : List Next) : Type 0 wher
 
 -- by a task with so many children, of which only this is told: what it had in mind
 abbrev pub EndTaken : Local → ℕ → Local → List Next → List Next → Type 0
-EndTaken l n m todo before = (ks : Tasks) → count ks ≡ n → Ended (take_end (bare [] (mind_of l)) ks (mind_of l)) (mind_of m) todo before
+EndTaken l n m todo before = (s : Setting) (ks : Tasks) → count ks ≡ n → Ended (take_end s (bare [] (mind_of l)) ks (mind_of l)) (mind_of m) todo before
 
 -- or it is refused
 abbrev pub EndRefused : Local → ℕ → WriteError → Type 0
-EndRefused l n e = (ks : Tasks) → count ks ≡ n → TakeRefused (take_end (bare [] (mind_of l)) ks (mind_of l)) e
+EndRefused l n e = (s : Setting) (ks : Tasks) → count ks ≡ n → TakeRefused (take_end s (bare [] (mind_of l)) ks (mind_of l)) e

@@ -21,12 +21,19 @@ MayCome OutOfMemory = Unit {0}
 MayCome Unbuilt = ⊥
 MayCome (Stopped by name) = ⊥
 
--- the same of an act that may append: a segment's number passes 32 bits
+-- the same of an act that may append, or compress: a segment's number passes 32 bits
 abbrev pub ActMay : WriteError → Type 0
+ActMay CompressFault = Unit {0}
 ActMay SinkFault = Unit {0}
 ActMay (Stopped by name) = Unit {0}
 ActMay (TooLarge n) = 2 ^ 32 ≤ n
 ActMay e = MayCome e
+
+-- of a call of the compressor
+abbrev pub PressMay : WriteError → Type 0
+PressMay CompressFault = Unit {0}
+PressMay OutOfMemory = Unit {0}
+PressMay e = ⊥
 
 -- the same of what starts a task
 abbrev pub StartMay : WriteError → Type 0

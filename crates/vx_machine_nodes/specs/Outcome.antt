@@ -46,7 +46,7 @@ Appending wrote = (x : Pair) × In x wrote
 abbrev pub Refused : Option What → Bool → List ℕ → List ℕ → List Pair → (ℕ → Type 0) → Type 0 → List ℕ → WriteError → Type 0
 Refused refusal misfit numbers indices wrote past stopped joined SourceFault = Unit {0}
 Refused refusal misfit numbers indices wrote past stopped joined SinkFault = Appending wrote
-Refused refusal misfit numbers indices wrote past stopped joined CompressFault = ⊥
+Refused refusal misfit numbers indices wrote past stopped joined CompressFault = Unit {0}
 Refused refusal misfit numbers indices wrote past stopped joined (BatchType c) = misfit ≡ true
 Refused refusal misfit numbers indices wrote past stopped joined NotStruct = refusal ≡ Some not_struct
 Refused refusal misfit numbers indices wrote past stopped joined (DuplicateField name) = refusal ≡ Some (duplicate_field name)

@@ -5,9 +5,9 @@ use Rattle.vx_machine_nodes.specs.declared.grouped_node.GroupedNode.{GroupedNode
 use Rattle.vx_machine_nodes.specs.declared.item.Item.{Item}
 use Rattle.vx_machine_nodes.specs.declared.item.Stored.{Stored}
 use Rattle.vx_machine_nodes.specs.declared.item.Due.{Due}
-use Rattle.vx_machine_nodes.specs.declared.item.Due.TheVariants.{Put, HandOn, Append, Close, Join, Table, Leave}
+use Rattle.vx_machine_nodes.specs.declared.item.Due.TheVariants.{Put, HandOn, Append, Close, Join, Table, Leave, Press}
 use Rattle.vx_machine_nodes.specs.declared.node.Local.{Local}
-use Rattle.vx_machine_nodes.specs.declared.node.Local.TheVariants.{Empty, Full, Chunked, Columns, Lists, Grouped, Over, Passing, Made, Zoned}
+use Rattle.vx_machine_nodes.specs.declared.node.Local.TheVariants.{Empty, Full, Chunked, Columns, Lists, Grouped, Over, Passing, Made, Zoned, Pressing, AsIs}
 use Rattle.vx_machine_nodes.specs.declared.zoned_node.ZonedNode.{ZonedNode}
 use Rattle.vx_machine_nodes.specs.declared.zoned_node.TableStart.{TableStart}
 
@@ -29,6 +29,7 @@ table_stock t = end_stock t.eof
 abbrev pub due_stock : Due → Stock
 due_stock (Put child i) = item_stock i
 due_stock (HandOn i r) = item_stock i
+due_stock (Press which i) = item_stock i
 due_stock (Append s) = stored_stock s
 due_stock Close = none
 due_stock (Join h) = none
@@ -49,6 +50,8 @@ local_stock (Columns n rows) = none
 local_stock (Lists n rows) = none
 local_stock (Grouped n) = node_stock n
 local_stock (Zoned n) = zoned_stock n
+local_stock (Pressing which) = none
+local_stock AsIs = none
 local_stock Over = none
 local_stock Passing = none
 local_stock (Made l) = none

@@ -17,10 +17,10 @@ use Rattle.vx_machine_view.specs.State as view
 use Rattle.vx_machine_nodes.specs.declared.item.Item.{Item}
 use Rattle.vx_machine_nodes.specs.declared.item.Stored.{Stored}
 use Rattle.vx_machine_nodes.specs.declared.item.Due.{Due}
-use Rattle.vx_machine_nodes.specs.declared.item.Due.TheVariants.{Put, HandOn, Append, Close, Join, Table, Leave}
+use Rattle.vx_machine_nodes.specs.declared.item.Due.TheVariants.{Put, HandOn, Append, Close, Join, Table, Leave, Press}
 use Rattle.vx_machine_nodes.specs.declared.kinds.ChunkedNode.{ChunkedNode}
 use Rattle.vx_machine_nodes.specs.declared.node.Local.{Local}
-use Rattle.vx_machine_nodes.specs.declared.node.Local.TheVariants.{Empty, Full, Chunked, Columns, Lists, Grouped, Over, Passing, Made, Zoned}
+use Rattle.vx_machine_nodes.specs.declared.node.Local.TheVariants.{Empty, Full, Chunked, Columns, Lists, Grouped, Over, Passing, Made, Zoned, Pressing, AsIs}
 use Rattle.vx_machine_nodes.specs.declared.node.Shape.{Shape}
 use Rattle.vx_machine_nodes.specs.declared.node.Shape.TheVariants as shapes
 use Rattle.vx_machine_nodes.specs.Ledger.{some_bytes}
@@ -60,6 +60,7 @@ fold_of (shapes.Zones z) = view.fold_zones (ty (arc_value z.dtype)) z.rows (non_
 abbrev pub next_of : Due → view.Next
 next_of (Put c i) = view.put c (item_of i)
 next_of (HandOn i r) = view.hand_on (some_bytes r) (item_of i)
+next_of (Press which i) = view.press which (item_of i)
 next_of (Append x) = view.append (stored_of x)
 next_of Close = view.shut_kids
 next_of (Join f) = view.join_kids (fold_of f)
@@ -88,6 +89,8 @@ mind_of (Columns n rows) = view.by_column (ty (arc_value n.dtype)) rows
 mind_of (Lists n rows) = view.by_list (element_type (ty (arc_value n.dtype))) (nullable (ty (arc_value n.dtype))) n.split.first n.split.base rows
 mind_of (Grouped n) = mind_in n.rule n.newest n.rows
 mind_of (Zoned n) = view.by_zone (zoner_in n) n.eof (zones_in n)
+mind_of (Pressing which) = view.by_image which
+mind_of AsIs = view.as_is
 mind_of Over = view.ending
 mind_of Passing = view.passing
 mind_of (Made l) = view.made (layout_data l)

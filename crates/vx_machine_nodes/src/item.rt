@@ -52,6 +52,11 @@ pub enum Due {
         item: Item,
         reservation: Option<BufferedBytesReservation>,
     },
+    /// It calls the compressor under the number for the item's chunk; the image is then handed on in its place.
+    Press {
+        which: u32,
+        item: Item,
+    },
     Append(Stored),
     /// Closes the queues of all children.
     Close,
@@ -113,6 +118,7 @@ pub(crate) fn give_up_due<O: Order>(ctx: &mut LayoutWriterContext, order: &mut O
             release(ctx, reservation);
             give_up_item(order, item);
         }
+        Due::Press { which: _, item } => give_up_item(order, item),
         Due::Append(stored) => give_up_stored(order, stored),
         Due::Close => {}
         Due::Join(shape) => drop(shape),

@@ -1,5 +1,5 @@
 //! What a task's node is by itself: what it has in mind between two chunks, what it does with the next chunk and at the end of its
-//! stream, and how it gives up what it holds. So far there are the nodes that need no compressor.
+//! stream, and how it gives up what it holds.
 #![tactic(auto)]
 
 mod columns;
@@ -12,6 +12,7 @@ mod kinds;
 mod lists;
 mod node;
 mod nodes;
+mod pressing;
 mod zoned;
 mod zoned_fresh;
 mod zoned_node;
@@ -26,6 +27,7 @@ pub use kinds::{ChunkedNode, ColumnsNode, FlatNode, ListsNode};
 pub use lists::{end_lists, take_lists};
 pub use node::{Local, Shape, give_up_local};
 pub use nodes::{chunked_node, columns_node, element_copy, lists_node};
+pub use pressing::{press, take_as_is, take_pressing};
 pub use zoned::{end_zoned, give_up_zoned, take_zoned};
 pub use zoned_fresh::zoned_node;
 pub use zoned_node::{TableStart, ZonedNode, Zones};

@@ -34,6 +34,10 @@ pub enum Local {
     Lists(ListsNode, u64),
     Grouped(GroupedNode),
     Zoned(ZonedNode),
+    /// A compressing node's: the compressor's number.
+    Pressing(u32),
+    /// It hands on each chunk as it is.
+    AsIs,
     /// It has seen the end of its stream.
     Over,
     /// So it has, and its layout is its only child's.
@@ -74,6 +78,8 @@ pub fn give_up_local<O: Order>(ctx: &mut LayoutWriterContext, order: &mut O, loc
         Local::Lists(node, _) => drop(node),
         Local::Grouped(node) => give_up_grouped(ctx, order, node),
         Local::Zoned(node) => give_up_zoned(order, node),
+        Local::Pressing(_) => {}
+        Local::AsIs => {}
         Local::Over => {}
         Local::Passing => {}
         Local::Made(layout) => drop(layout),

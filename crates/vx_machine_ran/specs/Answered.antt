@@ -14,7 +14,7 @@ use Rattle.vx_sink.specs.declared.context.LayoutWriterContext.{LayoutWriterConte
 use Rattle.vx_sink.specs.ContextView.{allowed_in, is_marked, counted}
 use Rattle.vx_write_answer.specs.declared.step.Step.{Step}
 use Rattle.vx_write_answer.specs.declared.error.WriteError.{WriteError}
-use Rattle.vx_write_answer.specs.declared.error.WriteError.TheVariants.{SourceFault, SinkFault, BatchType, OutOfMemory}
+use Rattle.vx_write_answer.specs.declared.error.WriteError.TheVariants.{SourceFault, SinkFault, CompressFault, BatchType, OutOfMemory}
 use Rattle.vx_machine_view.specs.Built.{is_built}
 use Rattle.vx_machine_view.specs.Start.{first_indices}
 use Rattle.vx_machine_view.specs.Machine.{start}
@@ -49,17 +49,17 @@ pub record Unstarted (a : Allowed) (w : StrategyData) (t : Ty) (m : Bool) (to_co
 
 -- One was started and ran, if the start wasn't refused.
 
-abbrev pub HasRun : LayoutWriterContext → StrategyData → Ty → List ℕ → Option (List ChunkData) → Outlet → List Step → Option (List ChunkData) → Outlet → Option Layout → Type 0
-HasRun ctx w t schedule to_come before steps to_come_now after l = IsStarted (allowed_in ctx) w t (is_marked ctx) × RunDone ctx t schedule (begun w t (is_marked ctx) to_come before) steps to_come_now after l
+abbrev pub HasRun : LayoutWriterContext → (ℕ → ChunkData → ChunkData) → StrategyData → Ty → List ℕ → Option (List ChunkData) → Outlet → List Step → Option (List ChunkData) → Outlet → Option Layout → Type 0
+HasRun ctx image w t schedule to_come before steps to_come_now after l = IsStarted (allowed_in ctx) w t (is_marked ctx) × RunDone ctx image t schedule (begun w t (is_marked ctx) to_come before) steps to_come_now after l
 
-abbrev pub HasStopped : LayoutWriterContext → StrategyData → Ty → List ℕ → Option (List ChunkData) → Outlet → List Step → Option (List ChunkData) → Outlet → WriteError → Type 0
-HasStopped ctx w t schedule to_come before steps to_come_now after e =
+abbrev pub HasStopped : LayoutWriterContext → (ℕ → ChunkData → ChunkData) → StrategyData → Ty → List ℕ → Option (List ChunkData) → Outlet → List Step → Option (List ChunkData) → Outlet → WriteError → Type 0
+HasStopped ctx image w t schedule to_come before steps to_come_now after e =
     Unstarted (allowed_in ctx) w t (is_marked ctx) to_come to_come_now before after steps e
-    ⊎ (IsStarted (allowed_in ctx) w t (is_marked ctx) × RunStopped ctx t schedule (begun w t (is_marked ctx) to_come before) steps to_come_now after e)
+    ⊎ (IsStarted (allowed_in ctx) w t (is_marked ctx) × RunStopped ctx image t schedule (begun w t (is_marked ctx) to_come before) steps to_come_now after e)
 
-abbrev pub Answered : LayoutWriterContext → StrategyData → Ty → List ℕ → Option (List ChunkData) → Outlet → List Step → Option (List ChunkData) → Outlet → Result (Option Layout) WriteError → Type 0
-Answered ctx w t schedule to_come before steps to_come_now after r =
-    MatchResult r (HasRun ctx w t schedule to_come before steps to_come_now after) (HasStopped ctx w t schedule to_come before steps to_come_now after)
+abbrev pub Answered : LayoutWriterContext → (ℕ → ChunkData → ChunkData) → StrategyData → Ty → List ℕ → Option (List ChunkData) → Outlet → List Step → Option (List ChunkData) → Outlet → Result (Option Layout) WriteError → Type 0
+Answered ctx image w t schedule to_come before steps to_come_now after r =
+    MatchResult r (HasRun ctx image w t schedule to_come before steps to_come_now after) (HasStopped ctx image w t schedule to_come before steps to_come_now after)
 
 -- ---- against the plan
 
@@ -73,7 +73,7 @@ WroteAll s w t m first next to_come to_come_now before now schedule steps l =
 abbrev pub AnswersAreWritten : Type 0
 AnswersAreWritten = (ctx : LayoutWriterContext) (image : ℕ → ChunkData → ChunkData) (w : StrategyData) (t : Ty) (schedule : List ℕ) (to_come to_come_now : Option (List ChunkData)) (borrow first : ℕ)
     (before : Option (List (List ℕ))) (steps : List Step) (after : Outlet) (r : Result (Option Layout) WriteError) → Keeps (setting_of ctx image) → length steps < 2 ^ 64
-    → Answered ctx w t schedule to_come (own_sink borrow first before) steps to_come_now after r
+    → Answered ctx image w t schedule to_come (own_sink borrow first before) steps to_come_now after r
     → OwnSink after (λ next now. MatchResult r (WroteAll (setting_of ctx image) w t (is_marked ctx) first next to_come to_come_now before now schedule steps)
     (Halted (setting_of ctx image) w t (is_marked ctx) (counted ctx) first next to_come to_come_now before now schedule steps))
 
@@ -81,22 +81,22 @@ AnswersAreWritten = (ctx : LayoutWriterContext) (image : ℕ → ChunkData → C
 abbrev pub AnswersLeaveSinks : Type 0
 AnswersLeaveSinks = (ctx : LayoutWriterContext) (image : ℕ → ChunkData → ChunkData) (w : StrategyData) (t : Ty) (schedule : List ℕ) (to_come to_come_now : Option (List ChunkData)) (borrow first : ℕ)
     (before : Option (List (List ℕ))) (steps : List Step) (after : Outlet) (r : Result (Option Layout) WriteError) → Keeps (setting_of ctx image)
-    → Answered ctx w t schedule to_come (own_sink borrow first before) steps to_come_now after r → IsLeft borrow first steps after
+    → Answered ctx image w t schedule to_come (own_sink borrow first before) steps to_come_now after r → IsLeft borrow first steps after
 
 -- what comes from outside
 abbrev pub IsOutside : WriteError → Type 0
-IsOutside e = (e ≡ OutOfMemory) ⊎ (e ≡ SourceFault) ⊎ (e ≡ SinkFault)
+IsOutside e = (e ≡ OutOfMemory) ⊎ (e ≡ SourceFault) ⊎ (e ≡ SinkFault) ⊎ (e ≡ CompressFault)
 
 -- where the source tells a valid input of a strategy that is built, nothing else is refused
 abbrev pub AnswersAreComplete : Type 0
 AnswersAreComplete = (ctx : LayoutWriterContext) (image : ℕ → ChunkData → ChunkData) (w : StrategyData) (t : Ty) (schedule : List ℕ) (to_come to_come_now : Option (List ChunkData)) (borrow first : ℕ)
     (before : Option (List (List ℕ))) (steps : List Step) (after : Outlet) (e : WriteError) → Keeps (setting_of ctx image)
-    → Answered ctx w t schedule to_come (own_sink borrow first before) steps to_come_now after (Err e)
+    → Answered ctx image w t schedule to_come (own_sink borrow first before) steps to_come_now after (Err e)
     → (xs : List ChunkData) → to_come ≡ Some xs → is_built w ≡ true → Valid (setting_of ctx image) w t (is_marked ctx) first (counted ctx) xs → IsOutside e
 
 -- and a batch of another type is found where the source reads
 abbrev pub MisfitsAreRead : Type 0
 MisfitsAreRead = (ctx : LayoutWriterContext) (image : ℕ → ChunkData → ChunkData) (w : StrategyData) (t : Ty) (schedule : List ℕ) (to_come to_come_now : Option (List ChunkData)) (borrow first : ℕ)
     (before : Option (List (List ℕ))) (steps : List Step) (after : Outlet) (c : ChunkData) → Keeps (setting_of ctx image) → IsStarted (allowed_in ctx) w t (is_marked ctx)
-    → (r : RunStopped ctx t schedule (begun w t (is_marked ctx) to_come (own_sink borrow first before)) steps to_come_now after (BatchType c))
+    → (r : RunStopped ctx image t schedule (begun w t (is_marked ctx) to_come (own_sink borrow first before)) steps to_come_now after (BatchType c))
     → reads_at r.end.machine.phase (picked_at schedule (length steps) r.end.machine) ≡ true

@@ -42,7 +42,7 @@ abbrev pub DoneIsWritten : Type 0
 DoneIsWritten = (ctx : LayoutWriterContext) (image : ℕ → ChunkData → ChunkData) (w : StrategyData) (t : Ty) (schedule : List ℕ) (to_come to_come_now : Option (List ChunkData)) (borrow first : ℕ)
     (before : Option (List (List ℕ))) (steps : List Step) (outlet : Outlet) (l : Option Layout) → Keeps (setting_of ctx image) → IsTrue (is_built w)
     → start_fault (setting_of ctx image) w t (is_marked ctx) ≡ None → AllBelow (2 ^ 64) (first_indices (form_of (write_by ctx image w t)) (is_marked ctx) root_eof) → length steps < 2 ^ 64
-    → RunDone ctx t schedule (at_start (write_by ctx image w t) to_come borrow first before) steps to_come_now outlet l
+    → RunDone ctx image t schedule (at_start (write_by ctx image w t) to_come borrow first before) steps to_come_now outlet l
     → (layout : Layout) × (l ≡ Some layout) × NoneTold to_come_now × AllDone (write_by ctx image w t) to_come schedule first before steps outlet layout
 
 -- ---- stopped
@@ -63,7 +63,7 @@ abbrev pub StoppedHalts : Type 0
 StoppedHalts = (ctx : LayoutWriterContext) (image : ℕ → ChunkData → ChunkData) (w : StrategyData) (t : Ty) (schedule : List ℕ) (to_come to_come_now : Option (List ChunkData)) (borrow first : ℕ)
     (before : Option (List (List ℕ))) (steps : List Step) (outlet : Outlet) (e : WriteError) → Lawful (setting_of ctx image).codec (setting_of ctx image).encodings → IsTrue (is_built w)
     → start_fault (setting_of ctx image) w t (is_marked ctx) ≡ None
-    → RunStopped ctx t schedule (at_start (write_by ctx image w t) to_come borrow first before) steps to_come_now outlet e
+    → RunStopped ctx image t schedule (at_start (write_by ctx image w t) to_come borrow first before) steps to_come_now outlet e
     → OwnSink outlet (λ next now. Halts (write_by ctx image w t) first next to_come to_come_now before now schedule steps e)
 
 -- ---- either
@@ -75,4 +75,4 @@ IsLeft borrow first steps outlet = OwnSink outlet (λ next now. (next ≤ max fi
 abbrev pub RunsLeaveSinks : Type 0
 RunsLeaveSinks = (ctx : LayoutWriterContext) (image : ℕ → ChunkData → ChunkData) (w : StrategyData) (t : Ty) (schedule : List ℕ) (to_come : Option (List ChunkData)) (borrow first : ℕ)
     (before : Option (List (List ℕ))) (steps : List Step) (y : At) → Lawful (setting_of ctx image).codec (setting_of ctx image).encodings → IsTrue (is_built w)
-    → start_fault (setting_of ctx image) w t (is_marked ctx) ≡ None → Ran ctx t schedule 0 (at_start (write_by ctx image w t) to_come borrow first before) steps y → IsLeft borrow first steps y.outlet
+    → start_fault (setting_of ctx image) w t (is_marked ctx) ≡ None → Ran ctx image t schedule 0 (at_start (write_by ctx image w t) to_come borrow first before) steps y → IsLeft borrow first steps y.outlet

@@ -11,7 +11,12 @@ pub mod Picking
 pub mod Tracking
 pub mod Covers
 pub mod GroupCovering
+<<<<<<< HEAD
 pub mod ZoneCovering
+=======
+pub mod PressCovering
+pub mod DictCovering
+>>>>>>> d7a35731
 pub mod Covering
 pub mod Doing
 pub mod Bounding

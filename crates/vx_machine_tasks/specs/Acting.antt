@@ -22,14 +22,15 @@ use Rattle.vx_machine_tasks.specs.Starting.{StartRefused}
 use Rattle.vx_machine_nodes.specs.View.{items_of, next_of, todo_of, child_form, mind_of}
 use Rattle.vx_machine_tasks.specs.View.{desk_of, row}
 use Rattle.vx_machine_nodes.specs.Acting.{ActDone, ActRefused, ActStopped, Behind, TakeStopped, acted}
+use Rattle.vx_machine_view.specs.State.{Next}
 
 -- ---- acts of a block
 
-abbrev pub DueDone : LayoutWriterContext → List ℕ → Local → List Task → Due → Outlet → Outlet → Local → List Task → ActionKind → Type 0
-DueDone ctx name l ks d before after m kids a = (image : ℕ → ChunkData → ChunkData) → (n : ℕ) × ActDone (acted (setting_of ctx image) name n (mind_of l) (row ks) (next_of d)) before n after (mind_of m) (row kids) a
+abbrev pub DueDone : LayoutWriterContext → (ℕ → ChunkData → ChunkData) → List ℕ → Local → List Task → Due → Outlet → Outlet → Local → List Next → List Next → List Task → ActionKind → Type 0
+DueDone ctx image name l ks d before after m todo left kids a = (n : ℕ) × ActDone (acted (setting_of ctx image) name n (mind_of l) (row ks) (next_of d)) before n after (mind_of m) todo left (row kids) a
 
-abbrev pub DueRefused : LayoutWriterContext → List ℕ → Local → List Task → Due → Outlet → WriteError → Type 0
-DueRefused ctx name l ks d o e = (image : ℕ → ChunkData → ChunkData) (n : ℕ) → ActRefused (acted (setting_of ctx image) name n (mind_of l) (row ks) (next_of d)) o e
+abbrev pub DueRefused : LayoutWriterContext → (ℕ → ChunkData → ChunkData) → List ℕ → Local → List Task → Due → Outlet → WriteError → Type 0
+DueRefused ctx image name l ks d o e = (n : ℕ) → ActRefused (acted (setting_of ctx image) name n (mind_of l) (row ks) (next_of d)) o e
 
 -- ---- takes of chunks
 
@@ -69,8 +70,8 @@ pub record Acted (w : Did) (before : Outlet) (number : ℕ) (after : Outlet) (he
 abbrev pub act_next : LayoutWriterContext → (ℕ → ChunkData → ChunkData) → ℕ → Head → List Task → Did
 act_next ctx image n h ks = do_act (setting_of ctx image) n (desk_of h) (row ks) (todo_of h.todo.items)
 
-abbrev pub NextDone : LayoutWriterContext → Head → List Task → Outlet → Outlet → Head → List Task → ActionKind → Type 0
-NextDone ctx h ks before after head kids a = (image : ℕ → ChunkData → ChunkData) → (n : ℕ) × Acted (act_next ctx image n h ks) before n after head kids a
+abbrev pub NextDone : LayoutWriterContext → (ℕ → ChunkData → ChunkData) → Head → List Task → Outlet → Outlet → Head → List Task → ActionKind → Type 0
+NextDone ctx image h ks before after head kids a = (n : ℕ) × Acted (act_next ctx image n h ks) before n after head kids a
 
-abbrev pub NextRefused : LayoutWriterContext → Head → List Task → Outlet → WriteError → Type 0
-NextRefused ctx h ks o e = (image : ℕ → ChunkData → ChunkData) (n : ℕ) → ActStopped (bytes_counted ctx) (act_next ctx image n h ks) o e
+abbrev pub NextRefused : LayoutWriterContext → (ℕ → ChunkData → ChunkData) → Head → List Task → Outlet → WriteError → Type 0
+NextRefused ctx image h ks o e = (n : ℕ) → ActStopped (bytes_counted ctx) (act_next ctx image n h ks) o e

@@ -11,11 +11,11 @@ use Rattle.vx_machine_view.specs.Acts.{column_count}
 use Rattle.vx_sequence.specs.Universe.{Active}
 use Rattle.vx_machine_ids.specs.Stock.{one}
 use Rattle.vx_machine_nodes.specs.declared.item.Due.{Due}
-use Rattle.vx_machine_nodes.specs.declared.item.Due.TheVariants.{Put, HandOn, Append, Close, Join, Table, Leave}
+use Rattle.vx_machine_nodes.specs.declared.item.Due.TheVariants.{Put, HandOn, Append, Close, Join, Table, Leave, Press}
 use Rattle.vx_machine_nodes.specs.declared.kinds.ColumnsNode.{ColumnsNode}
 use Rattle.vx_machine_nodes.specs.declared.kinds.ListsNode.{ListsNode}
 use Rattle.vx_machine_nodes.specs.declared.node.Local.{Local}
-use Rattle.vx_machine_nodes.specs.declared.node.Local.TheVariants.{Empty, Full, Chunked, Columns, Lists, Grouped, Over, Passing, Made, Zoned}
+use Rattle.vx_machine_nodes.specs.declared.node.Local.TheVariants.{Empty, Full, Chunked, Columns, Lists, Grouped, Over, Passing, Made, Zoned, Pressing, AsIs}
 use Rattle.vx_machine_nodes.specs.declared.node.Shape.{Shape}
 use Rattle.vx_machine_nodes.specs.declared.node.Shape.TheVariants as shapes
 use Rattle.vx_machine_tasks.specs.declared.task.Head.{Head}
@@ -35,6 +35,8 @@ is_made (Columns n rows) idle below = false
 is_made (Lists n rows) idle below = false
 is_made (Grouped n) idle below = false
 is_made (Zoned n) idle below = false
+is_made (Pressing which) idle below = false
+is_made AsIs idle below = false
 is_made Over idle below = false
 
 -- it takes no more
@@ -49,6 +51,8 @@ is_over (Columns n rows) = false
 is_over (Lists n rows) = false
 is_over (Grouped n) = false
 is_over (Zoned n) = false
+is_over (Pressing which) = false
+is_over AsIs = false
 
 -- what its parent needs to know of a task
 pub record Kid : Type 0 where
@@ -105,6 +109,7 @@ least_at u p = is_least p (fin.keys u)
 abbrev pub may_due : Active → Due → List Kid → Bool
 may_due u (Put c i) ks = room_at c ks
 may_due u (HandOn i r) ks = room_at 0 ks
+may_due u (Press which i) ks = true
 may_due u (Append s) ks = least_at u s.id
 may_due u Close ks = true
 may_due u (Join h) ks = all_made ks && can_join h (length ks)
@@ -164,6 +169,8 @@ has_layout (Columns n rows) ks = false
 has_layout (Lists n rows) ks = false
 has_layout (Grouped n) ks = false
 has_layout (Zoned n) ks = false
+has_layout (Pressing which) ks = false
+has_layout AsIs ks = false
 has_layout Over ks = false
 
 abbrev pub done_step : Task-F Bool → Bool

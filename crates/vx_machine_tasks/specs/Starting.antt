@@ -15,7 +15,7 @@ use Rattle.vx_plan.specs.PlanData.{Setting, What, not_struct, duplicate_field, f
 use Rattle.vx_machine_turns.specs.Forms.{Form, Forms, struct_form, list_form, no_forms, form_then}
 use Rattle.vx_machine_turns.specs.Starts.{start_fault, start_faults}
 use Rattle.vx_machine_view.specs.State.{Tasks, no_tasks, task_then}
-use Rattle.vx_machine_view.specs.Start.{waiting, roomy, first_mind, first_kids, field_tasks, form_count, first_indices, field_indices}
+use Rattle.vx_machine_view.specs.Start.{waiting, roomy, first_mind, first_kids, field_tasks, form_count, first_indices, field_indices, outlet_desk}
 use Rattle.vx_machine_view.specs.Acts.{add}
 use Rattle.vx_write_answer.specs.declared.error.WriteError.{WriteError}
 use Rattle.vx_write_answer.specs.declared.error.WriteError.TheVariants.{SourceFault, SinkFault, CompressFault, BatchType, NotStruct, DuplicateField, ManyChunks, EmptyList, ZoneCut, ForbiddenAggregate, ForbiddenEncoding, TooLarge, OutOfMemory, Unbuilt, Stopped}
@@ -151,3 +151,9 @@ pub record DataStarted (a : Allowed) (room : ℕ) (f : Form) (at : List ℕ) (e 
   pub allowed : IsAllowed a f false
   pub counted : Counted e ((e.last + 1) ∷ first_indices f false (inside e))
   pub tasks : row ks ≡ task_then (roomy room (under at 0) (first_mind f false (inside e))) (first_kids f false (under at 0) (inside e)) no_tasks
+
+-- the outlet of so many places, with what the form starts below it
+pub record OutletStarted (a : Allowed) (room : ℕ) (f : Form) (m : Bool) (at : List ℕ) (e : Eof) (ks : List Task) : Type 0 where
+  pub allowed : IsAllowed a f m
+  pub counted : Counted e (first_indices f m e)
+  pub tasks : row ks ≡ task_then (outlet_desk room (under at 0)) (task_then (waiting (under at 1) (first_mind f m e) [] false) (first_kids f m (under at 1) e) no_tasks) no_tasks

@@ -36,8 +36,8 @@ pub record TaskRefused (s : Setting) (all : List (List ℕ)) (k counts : ℕ) (b
 -- whatever images there are, of which no act here asks: it was done where the next segment got some number, and is refused whatever
 -- that would be
 
-abbrev pub TaskDone : LayoutWriterContext → List (List ℕ) → ℕ → Outlet → Outlet → Tasks → Tasks → List ℕ → ActionKind → Type 0
-TaskDone ctx all k before after cs new name a = (image : ℕ → ChunkData → ChunkData) → (number : ℕ) × TaskStepped (setting_of ctx image) all k before number after cs new name a
+abbrev pub TaskDone : LayoutWriterContext → (ℕ → ChunkData → ChunkData) → List (List ℕ) → ℕ → Outlet → Outlet → Tasks → Tasks → List ℕ → ActionKind → Type 0
+TaskDone ctx image all k before after cs new name a = (number : ℕ) × TaskStepped (setting_of ctx image) all k before number after cs new name a
 
-abbrev pub TaskFails : LayoutWriterContext → List (List ℕ) → ℕ → Outlet → Tasks → WriteError → Type 0
-TaskFails ctx all k before cs e = (image : ℕ → ChunkData → ChunkData) (number : ℕ) → TaskRefused (setting_of ctx image) all k (bytes_counted ctx) before number cs e
+abbrev pub TaskFails : LayoutWriterContext → (ℕ → ChunkData → ChunkData) → List (List ℕ) → ℕ → Outlet → Tasks → WriteError → Type 0
+TaskFails ctx image all k before cs e = (number : ℕ) → TaskRefused (setting_of ctx image) all k (bytes_counted ctx) before number cs e

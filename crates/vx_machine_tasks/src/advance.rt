@@ -3,19 +3,18 @@
 ghost use Rattle.std.specs.Prelude.{◌≡◌, ◌≤◌, ◌+◌, ◌&&◌, ◌==◌, ℕ, List, [], IsTrue, IsFalse, length, IfOk, IfErr, OnOk, OnErr};
 ghost use Rattle.std.specs.Arc.{arc_value};
 ghost use Rattle.std.specs.VecDeque.{deque_len, deque_capacity};
-ghost use Rattle.vx_model.specs.declared.encoding.EncodingId.{EncodingId};
 ghost use Rattle.vx_model.specs.TyView.{ty};
 ghost use Rattle.vx_layout_spec.specs.LayoutTree.{gathered};
 ghost use Rattle.vx_sequence.specs.Universe.{IsLeast};
 ghost use Rattle.vx_machine_ids.specs.Stock.{none, both, ok_stock};
 ghost use Rattle.vx_machine_ids.specs.Balance.{Owned, Moved};
-ghost use Rattle.vx_sink.specs.ContextView.{listed, counted};
+ghost use Rattle.vx_sink.specs.ContextView.{counted};
 ghost use Rattle.vx_plan.specs.PlanData.{Setting};
-ghost use Rattle.vx_machine_view.specs.State.{append as append_next, join_kids, Mind, made as has_layout, Tasks};
+ghost use Rattle.vx_machine_view.specs.State.{append as append_next, join_kids, Next, Mind, made as has_layout, Tasks};
 ghost use Rattle.vx_machine_view.specs.Acts.{give, shut_all, layouts_in, joined_rows, column_count};
 ghost use Rattle.vx_machine_nodes.specs.Acting.{AppendRefused, JoinRefused, acted, ActDone, taken, Took, TakeStopped, is_grouped, ChunkTaken, ChunkStopped, EndTaken, EndRefused};
 ghost use Rattle.vx_machine_tasks.specs.Acting.{DueDone, DueRefused, NextTaken, NextUntaken, NextDone, NextRefused};
-ghost use Rattle.vx_machine_nodes.specs.Calls.{TaskTold};
+ghost use Rattle.vx_machine_nodes.specs.Calls.{TaskTold, PressTold};
 ghost use Rattle.vx_machine_nodes.specs.Causes.{MayCome, ActMay};
 ghost use Rattle.vx_machine_nodes.specs.Ledger.{Paid, told_by, some_bytes, ok_bytes, due_reserved, dues_reserved, local_reserved};
 ghost use Rattle.vx_machine_tasks.specs.Ledger.{head_reserved, tasks_reserved};
@@ -38,12 +37,12 @@ use std::mem;
 use vx_machine_ids::give_up_pointer;
 use vx_machine_nodes::{
     ChunkedNode, ColumnsNode, Due, FlatNode, Item, Local, Shape, Stored, append, end_grouped,
-    end_lists, end_zoned, give_up_item, release, set_local, take_columns, take_flat, take_grouped,
-    take_lists, take_zoned,
+    end_lists, end_zoned, give_up_item, press, release, set_local, take_as_is, take_columns,
+    take_flat, take_grouped, take_lists, take_pressing, take_zoned,
 };
 use vx_order::Order;
 use vx_path::owned::Path;
-use vx_sink::{BufferedBytesReservation, LayoutWriterContext};
+use vx_sink::{BufferedBytesReservation, CompressorPlugin, LayoutWriterContext};
 use vx_write_answer::{ActionKind, WriteError};
 
 /// Puts an item on the queue of a child.
@@ -123,8 +122,8 @@ fn append_due<O: Order>(
     ensures moved { Moved (O.active order.old) (O.active order.new) (both (local_stock local.old) (stored_stock stored)) (local_stock local.new) }
     ensures tracked { Paid ctx.old ctx.new (local_reserved local.old) (local_reserved local.new) }
     ensures context { told_by ctx.new ≡ told_by ctx.old }
-    ensures done { IfOk result (λ a. (n : ℕ) × ((s : Setting) (name : List ℕ) (mind : Mind) (ks : Tasks) → s.encodings ≡ listed ctx.old
-        → ActDone (acted s name n mind ks (append_next (stored_of stored))) (O.outlet order.old) n (O.outlet order.new) (mind_of local.new) ks a)) }
+    ensures done { IfOk result (λ a. (n : ℕ) × ((s : Setting) (name : List ℕ) (mind : Mind) (ks : Tasks) (left : List Next) → s.encodings ≡ listed ctx.old
+        → ActDone (acted s name n mind ks (append_next (stored_of stored))) (O.outlet order.old) n (O.outlet order.new) (mind_of local.new) left left ks a)) }
     ensures refused { IfErr result (AppendRefused (O.outlet order.old) (stored.id, stored.segment.bytes.items)) }
     ensures kept { OnErr result (Kept (O.outlet order.old) (O.outlet order.new)) }
     ensures told { TaskTold (O.Sink.faults (O.sink order.old)) (O.Sink.faults (O.sink order.new)) (O.Sink.may_fail (O.sink order.old)) (O.Sink.may_fail (O.sink order.new))
@@ -155,8 +154,8 @@ fn join_due<O: Order>(
     ensures moved { Moved (O.active order.old) (O.active order.new) (both (local_stock local.old) (tasks_stock kids.old.items)) (both (local_stock local.new) (tasks_stock kids.new.items)) }
     ensures tracked { Paid ctx.old ctx.new (local_reserved local.old + tasks_reserved kids.old.items) (local_reserved local.new + tasks_reserved kids.new.items) }
     ensures context { told_by ctx.new ≡ told_by ctx.old }
-    ensures done { IfOk result (λ a. (s : Setting) (name : List ℕ) (n : ℕ) (mind : Mind)
-        → ActDone (acted s name n mind (row kids.old.items) (join_kids (fold_of shape))) (O.outlet order.old) n (O.outlet order.new) (mind_of local.new) (row kids.new.items) a) }
+    ensures done { IfOk result (λ a. (s : Setting) (name : List ℕ) (n : ℕ) (mind : Mind) (left : List Next)
+        → ActDone (acted s name n mind (row kids.old.items) (join_kids (fold_of shape))) (O.outlet order.old) n (O.outlet order.new) (mind_of local.new) left left (row kids.new.items) a) }
     ensures refused { IfErr result (JoinRefused (joined_rows (fold_of shape) (layouts_in (row kids.old.items)))) }
     ensures outlet { O.outlet order.new ≡ O.outlet order.old }
     ensures sink { O.sink order.new ≡ O.sink order.old }
@@ -171,33 +170,39 @@ fn join_due<O: Order>(
     }
 }
 
-/// Does an act of a block.
-fn act<O: Order>(
+/// Does an act of a block, of which this is left to do behind it.
+fn act<O: Order, C: CompressorPlugin>(
     alloc: Global,
     ctx: &mut LayoutWriterContext,
     order: &mut O,
+    compressor: &mut C,
     name: &Path,
     local: &mut Local,
+    todo: &mut VecDeque<Due>,
     kids: &mut Vec<Task>,
     due: Due,
 ) -> Result<ActionKind, WriteError>
-    requires owned { Owned (O.active order.old) (both (both (local_stock local.old) (tasks_stock kids.old.items)) (due_stock due)) }
-    requires reserved { local_reserved local.old + tasks_reserved kids.old.items + due_reserved due ≤ counted ctx.old }
+    requires owned { Owned (O.active order.old) (both (both (both (local_stock local.old) (dues_stock todo.old.items)) (tasks_stock kids.old.items)) (due_stock due)) }
+    requires reserved { local_reserved local.old + dues_reserved todo.old.items + tasks_reserved kids.old.items + due_reserved due ≤ counted ctx.old }
     requires ready { IsTrue (may_due (O.active order.old) due (kids_of kids.old.items)) }
     requires allowed { AllMay (O.may_write order.old) (due_pairs due) }
-    ensures moved { Moved (O.active order.old) (O.active order.new) (both (both (local_stock local.old) (tasks_stock kids.old.items)) (due_stock due)) (both (local_stock local.new) (tasks_stock kids.new.items)) }
-    ensures tracked { Paid ctx.old ctx.new (local_reserved local.old + tasks_reserved kids.old.items + due_reserved due) (local_reserved local.new + tasks_reserved kids.new.items) }
+    ensures moved { Moved (O.active order.old) (O.active order.new) (both (both (both (local_stock local.old) (dues_stock todo.old.items)) (tasks_stock kids.old.items)) (due_stock due)) (both (both (local_stock local.new) (dues_stock todo.new.items)) (tasks_stock kids.new.items)) }
+    ensures tracked { Paid ctx.old ctx.new (local_reserved local.old + dues_reserved todo.old.items + tasks_reserved kids.old.items + due_reserved due) (local_reserved local.new + dues_reserved todo.new.items + tasks_reserved kids.new.items) }
     ensures context { told_by ctx.new ≡ told_by ctx.old }
-    ensures done { IfOk result (DueDone ctx.old name.now local.old kids.old.items due (O.outlet order.old) (O.outlet order.new) local.new kids.new.items) }
-    ensures refused { IfErr result (DueRefused ctx.old name.now local.old kids.old.items due (O.outlet order.old)) }
+    ensures done { IfOk result (DueDone ctx.old (C.image (C.kind compressor.old)) name.now local.old kids.old.items due (O.outlet order.old) (O.outlet order.new) local.new (todo_of todo.new.items) (todo_of todo.old.items) kids.new.items) }
+    ensures refused { IfErr result (DueRefused ctx.old (C.image (C.kind compressor.old)) name.now local.old kids.old.items due (O.outlet order.old)) }
     ensures kept { OnErr result (Kept (O.outlet order.old) (O.outlet order.new)) }
     ensures told { TaskTold (O.Sink.faults (O.sink order.old)) (O.Sink.faults (O.sink order.new)) (O.Sink.may_fail (O.sink order.old)) (O.Sink.may_fail (O.sink order.new))
         (O.Sink.must_fail (O.sink order.old)) (O.Sink.must_fail (O.sink order.new)) result (λ a. a) }
+    ensures pressed { PressTold (C.faults compressor.old) (C.faults compressor.new) (C.may_fail compressor.old) (C.may_fail compressor.new)
+        (C.must_fail compressor.old) (C.must_fail compressor.new) result (λ a. a) }
+    ensures compressor { C.kind compressor.new ≡ C.kind compressor.old }
     ensures cause { IfErr result ActMay }
 {
     match due {
         Due::Put { child, item } => put(order, kids, child, item),
         Due::HandOn { item, reservation } => hand_over(ctx, order, kids, item, reservation),
+        Due::Press { which, item } => press(order, compressor, todo, which, item),
         Due::Append(stored) => append_due(ctx, order, local, stored),
         Due::Close => {
             close_all(kids);
@@ -243,6 +248,8 @@ fn take<O: Order>(
         Local::Lists(node, rows) => take_lists(alloc, order, node, rows, todo, item),
         Local::Grouped(_) => regroup(alloc, ctx, order, local, todo, item),
         Local::Zoned(node) => take_zoned(alloc, order, node, todo, item),
+        Local::Pressing(which) => take_pressing(order, *which, todo, item),
+        Local::AsIs => take_as_is(order, todo, item),
         _ => take_flat(alloc, ctx, order, local, item),
     }
 }
@@ -371,6 +378,10 @@ fn ended<O: Order>(
         Local::Lists(node, rows) => end_lists(kids, todo, node, rows),
         Local::Grouped(node) => end_grouped(alloc, ctx, order, todo, node),
         Local::Zoned(node) => end_zoned(alloc, order, todo, node),
+        Local::Pressing(_) | Local::AsIs => {
+            todo.push_back_reserved(Due::Close);
+            Ok(Local::Passing)
+        }
         Local::Over => Ok(Local::Over),
         Local::Passing => Ok(Local::Passing),
         Local::Made(layout) => Ok(Local::Made(layout)),
@@ -450,10 +461,11 @@ fn take_next<O: Order>(
 }
 
 /// Does the next act of a task that is ready. After an error nothing but giving up is left to do.
-pub(crate) fn advance<O: Order>(
+pub(crate) fn advance<O: Order, C: CompressorPlugin>(
     alloc: Global,
     ctx: &mut LayoutWriterContext,
     order: &mut O,
+    compressor: &mut C,
     head: &mut Head,
     kids: &mut Vec<Task>,
 ) -> Result<ActionKind, WriteError>
@@ -464,17 +476,22 @@ pub(crate) fn advance<O: Order>(
     ensures moved { Moved (O.active order.old) (O.active order.new) (both (head_stock head.old) (tasks_stock kids.old.items)) (both (head_stock head.new) (tasks_stock kids.new.items)) }
     ensures tracked { Paid ctx.old ctx.new (head_reserved head.old + tasks_reserved kids.old.items) (head_reserved head.new + tasks_reserved kids.new.items) }
     ensures context { told_by ctx.new ≡ told_by ctx.old }
-    ensures done { IfOk result (NextDone ctx.old head.old kids.old.items (O.outlet order.old) (O.outlet order.new) head.new kids.new.items) }
-    ensures refused { IfErr result (NextRefused ctx.old head.old kids.old.items (O.outlet order.old)) }
+    ensures done { IfOk result (NextDone ctx.old (C.image (C.kind compressor.old)) head.old kids.old.items (O.outlet order.old) (O.outlet order.new) head.new kids.new.items) }
+    ensures refused { IfErr result (NextRefused ctx.old (C.image (C.kind compressor.old)) head.old kids.old.items (O.outlet order.old)) }
     ensures kept { OnErr result (Kept (O.outlet order.old) (O.outlet order.new)) }
     ensures told { TaskTold (O.Sink.faults (O.sink order.old)) (O.Sink.faults (O.sink order.new)) (O.Sink.may_fail (O.sink order.old)) (O.Sink.may_fail (O.sink order.new))
         (O.Sink.must_fail (O.sink order.old)) (O.Sink.must_fail (O.sink order.new)) result (λ a. a) }
+    ensures pressed { PressTold (C.faults compressor.old) (C.faults compressor.new) (C.may_fail compressor.old) (C.may_fail compressor.new)
+        (C.must_fail compressor.old) (C.must_fail compressor.new) result (λ a. a) }
+    ensures compressor { C.kind compressor.new ≡ C.kind compressor.old }
     ensures cause { IfErr result ActMay }
 {
     match head.todo.pop_front() {
         Some(due) => {
             let name = &head.name;
-            act(alloc, ctx, order, name, &mut head.local, kids, due)
+            let todo = &mut head.todo;
+            let local = &mut head.local;
+            act(alloc, ctx, order, compressor, name, local, todo, kids, due)
         }
         None => match take_next(alloc, ctx, order, head, kids) {
             Ok(()) => Ok(ActionKind::Take),

@@ -28,7 +28,7 @@ fn is_steady(head: &Head, counts: &Counts) -> bool
         Some(due) => match due {
             Due::Append(_) => false,
             Due::Put { .. } | Due::HandOn { .. } => counts.asked.is_empty(),
-            Due::Close | Due::Join(_) => counts.asked.is_empty(),
+            Due::Close | Due::Join(_) | Due::Press { .. } => counts.asked.is_empty(),
             Due::Table(_) | Due::Leave(_) => counts.asked.is_empty(),
         },
         None => counts.asked.is_empty(),
@@ -43,7 +43,8 @@ pub(crate) fn touched(head: &Head) -> Touched
         Some(due) => match due {
             Due::Put { child, item: _ } => Touched::Child(*child),
             Due::HandOn { .. } => Touched::Child(0),
-            Due::Append(_) | Due::Table(_) | Due::Leave(_) => Touched::Nothing,
+            Due::Append(_) | Due::Press { .. } => Touched::Nothing,
+            Due::Table(_) | Due::Leave(_) => Touched::Nothing,
             Due::Close | Due::Join(_) => Touched::All,
         },
         None => Touched::Nothing,

@@ -29,9 +29,7 @@ use std::alloc::Global;
 use vx_layout_tree::{
     ChunkedLayout, KindParts, Layout, LayoutHead, StructLayout, layout_children, total_rows,
 };
-use vx_machine_nodes::{
-    ColumnsNode, ListsNode, Local, Shape, Zones, give_up_dues, give_up_items,
-};
+use vx_machine_nodes::{ColumnsNode, ListsNode, Local, Shape, Zones, give_up_dues, give_up_items};
 use vx_model::DType;
 use vx_order::Order;
 use vx_sink::LayoutWriterContext;

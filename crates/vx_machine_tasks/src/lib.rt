@@ -1,6 +1,6 @@
 //! Tasks of the step machine, which own their queues and what they have in mind: they take chunks from queues, put parts of
-//! them on others, and append segments in the order of their paths, a step at a time. So far there are the nodes that need
-//! no compressor: flat, chunked, struct, list and zoned nodes, nodes that regroup, and tables.
+//! them on others, and append segments in the order of their paths, a step at a time. So far there are
+//! flat, chunked, struct, list and zoned nodes, nodes that regroup, compressing nodes, and tables.
 #![tactic(auto)]
 
 mod advance;
@@ -9,6 +9,7 @@ mod columns_start;
 mod counts;
 mod grouped_start;
 mod join;
+mod pressing_start;
 mod ready;
 mod start;
 mod step;

@@ -28,6 +28,7 @@ fn is_made(kid: &Task) -> bool
         Local::Passing => kid.head.todo.is_empty() && all_made(&kid.kids),
         Local::Empty(_) | Local::Full(_) | Local::Chunked(..) | Local::Grouped(_) => false,
         Local::Columns(..) | Local::Lists(..) | Local::Zoned(_) | Local::Over => false,
+        Local::Pressing(_) | Local::AsIs => false,
     }
 }
 
@@ -38,7 +39,7 @@ fn is_over(local: &Local) -> bool
         Local::Made(_) | Local::Over | Local::Passing => true,
         Local::Empty(_) | Local::Full(_) | Local::Chunked(..) => false,
         Local::Columns(..) | Local::Lists(..) | Local::Grouped(_) => false,
-        Local::Zoned(_) => false,
+        Local::Zoned(_) | Local::Pressing(_) | Local::AsIs => false,
     }
 }
 
@@ -107,6 +108,7 @@ fn may_due<O: Order>(order: &O, due: &Due, kids: &[Task]) -> bool
     match due {
         Due::Put { child, item: _ } => has_room(kids, *child),
         Due::HandOn { .. } => has_room(kids, 0),
+        Due::Press { .. } => true,
         Due::Append(stored) => order.is_least(&stored.id),
         Due::Close => true,
         Due::Join(shape) => {

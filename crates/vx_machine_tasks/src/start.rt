@@ -28,6 +28,7 @@ ghost use Rattle.vx_machine_tasks.specs.View.{task_row, row};
 
 use crate::columns_start::{start_columns, start_lists};
 use crate::grouped_start::child_parts;
+use crate::pressing_start::start_pressing;
 use crate::task::{Head, Task, refuse_started};
 use crate::zoned_start::start_zoned;
 use std::alloc::{AllocError, Global};
@@ -191,7 +192,9 @@ fn start_settled<O: Order>(
                 Err(error)
             }
         },
-        Strategy::Compressing(_) => unreachable!(),
+        Strategy::Compressing(by) => {
+            start_pressing(alloc, ctx, order, by, dtype, marked, name, eof)
+        }
         Strategy::Table(_) => unreachable!(),
     }
 }

@@ -9,7 +9,7 @@ ghost use Rattle.vx_machine_ids.specs.Stock.{both, id_stock, end_stock, ok_stock
 ghost use Rattle.vx_machine_ids.specs.Balance.{Owned, Moved};
 ghost use Rattle.vx_sink.specs.ContextView.{allowed_in, counted};
 ghost use Rattle.vx_plan.specs.PlanData.{Setting};
-ghost use Rattle.vx_machine_view.specs.State.{Mind};
+ghost use Rattle.vx_machine_view.specs.State.{Next, Mind};
 ghost use Rattle.vx_machine_view.specs.Start.{started_task};
 ghost use Rattle.vx_machine_view.specs.Acts.{add};
 ghost use Rattle.vx_machine_nodes.specs.Acting.{acted, ActDone, ActRefused};
@@ -73,8 +73,8 @@ pub(crate) fn start_table<O: Order>(
     ensures moved { Moved (O.active order.old) (O.active order.new) (both (tasks_stock kids.old.items) (table_stock table)) (tasks_stock kids.new.items) }
     ensures tracked { Paid ctx.old ctx.new (tasks_reserved kids.old.items) (tasks_reserved kids.new.items) }
     ensures context { told_by ctx.new ≡ told_by ctx.old }
-    ensures done { IfOk result (λ a. (s : Setting) (n : ℕ) (mind : Mind) → s.allowed ≡ allowed_in ctx.old
-        → ActDone (acted s name.now n mind (row kids.old.items) (next_of (Table table))) (O.outlet order.old) n (O.outlet order.new) mind (row kids.new.items) a) }
+    ensures done { IfOk result (λ a. (s : Setting) (n : ℕ) (mind : Mind) (left : List Next) → s.allowed ≡ allowed_in ctx.old
+        → ActDone (acted s name.now n mind (row kids.old.items) (next_of (Table table))) (O.outlet order.old) n (O.outlet order.new) mind left left (row kids.new.items) a) }
     ensures refused { IfErr result (λ e. (s : Setting) (n : ℕ) (mind : Mind) → s.allowed ≡ allowed_in ctx.old
         → ActRefused (acted s name.now n mind (row kids.old.items) (next_of (Table table))) (O.outlet order.old) e) }
     ensures outlet { O.outlet order.new ≡ O.outlet order.old }

@@ -8,7 +8,7 @@ use Rattle.vx_path.specs.Lists.{In}
 use Rattle.vx_path.proofs.Lists.{in_left, in_right}
 use Rattle.vx_path.specs.Path.{Eof, under, inside, next}
 use Rattle.vx_layout_spec.specs.LayoutTree.{renamed, flat_layout, gathered, struct_layout}
-use Rattle.vx_layout_spec.specs.Codec.{Lawful}
+use Rattle.vx_machine_view.specs.Images.{Careful}
 use Rattle.vx_rules.specs.Columns.{struct_columns, list_columns}
 use Rattle.vx_tasks.specs.Task.{Join, TakeEnd}
 use Rattle.vx_tasks.specs.Nodes.{numbers}
@@ -110,11 +110,11 @@ chunk_fed s number (fuel g) q n e x a ks hs en b sp f ty k nm gs sh st =
     )
 
 -- rows that were counted before an act or by it
-counted_before : (past : List Act) (a : Act) (n : ℕ) → Counted past n → Counted (past ++ (a ∷ [])) n
+pub counted_before : (past : List Act) (a : Act) (n : ℕ) → Counted past n → Counted (past ++ (a ∷ [])) n
 counted_before past a n (inl e) = inl e
 counted_before past a n (inr i) = inr (subst (In n) (sym (numbers_in-append past (a ∷ []))) (in_left n (numbers_in past) (numbers_in (a ∷ [])) i))
 
-counted_now : (past : List Act) (a : Act) (n : ℕ) → In n (a.numbers ++ []) → Counted (past ++ (a ∷ [])) n
+pub counted_now : (past : List Act) (a : Act) (n : ℕ) → In n (a.numbers ++ []) → Counted (past ++ (a ∷ [])) n
 counted_now past a n i = inr (subst (In n) (sym (numbers_in-append past (a ∷ []))) (in_right n (numbers_in past) (a.numbers ++ []) i))
 
 module _ (s : Setting) (number : List ℕ → ℕ) (segment_number : ℕ) (all : List (List ℕ)) (d : Fuel) (q0 : Seed) (j0 : ℕ) (q : Seed) (places : ℕ) (ks more : Tasks) (hs r : Tree) (past : List Act) where
@@ -164,7 +164,7 @@ module _ (s : Setting) (number : List ℕ → ℕ) (segment_number : ℕ) (all :
 
   -- ---- flat
 
-  module _ (law : Lawful s.codec s.encodings) (pl : places ≡ 1 + get_or q0.spare j0 0) (sm : Shows s number d q0 (suc j0) more r) (kids : Shows s number (less d q.type) q 0 ks hs) where
+  module _ (law : Careful s) (pl : places ≡ 1 + get_or q0.spare j0 0) (sm : Shows s number d q0 (suc j0) more r) (kids : Shows s number (less d q.type) q 0 ks hs) where
     pub still : (a : Act) → Leaves a 0 → Shows s number (less d q.type) q 0 ks (feed (less d q.type) a 0 hs)
     still a l = subst (Shows s number (less d q.type) q 0 ks) (sym (feed_none (less d q.type) a 0 hs l)) kids
 
@@ -175,7 +175,7 @@ module _ (s : Setting) (number : List ℕ → ℕ) (segment_number : ℕ) (all :
         → is_some (forbidden (s.codec.refused s.encodings x.1)) ≡ false
         → Then (stored t x (inlined s o x) (segment s o x)) [] ks (take_first s (flat_empty o t) x) [] (flat_full o t x (segment s o x)) false xs closed
         × Stays (desk (no_chunk o t) [] (x ∷ xs) closed) (stored t x (inlined s o x) (segment s o x)) [] ks (head past [] (flat_empty o t) false (x ∷ xs) closed) (take_first s (flat_empty o t) x) [] (flat_full o t x (segment s o x)) false xs closed
-    first_taken o t x xs closed nk un ty f = by (law.encodes o.padding x.1 (no_forbidden (s.codec.refused s.encodings x.1) f))
+    first_taken o t x xs closed nk un ty f = by (law.codec.encodes o.padding x.1 (no_forbidden (s.codec.refused s.encodings x.1) f))
       where
         by : (bytes : List ℕ) × (s.codec.encode s.encodings o.padding x.1 ≡ Some bytes)
             → Then (stored t x (inlined s o x) (segment s o x)) [] ks (take_first s (flat_empty o t) x) [] (flat_full o t x (segment s o x)) false xs closed

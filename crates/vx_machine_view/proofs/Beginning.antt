@@ -10,7 +10,7 @@ use Rattle.vx_plan.specs.SourcePlan.{first_what}
 use Rattle.vx_plan.specs.ZonedNode.{recorded, forbidden_faults}
 use Rattle.vx_plan.specs.PlanData.{Setting, Item, not_struct, duplicate_field}
 use Rattle.vx_machine_turns.specs.Forms.{Form, Forms, flat_form, chunked_form, grouped_form, compressed_form, dict_form, zoned_form, no_struct_form, struct_form, list_form, no_forms, form_then, form_type, Writer}
-use Rattle.vx_machine_turns.specs.Locals.{GroupedNode, Local, struct_local, list_local, blocks_local, bytes_local, collect_local}
+use Rattle.vx_machine_turns.specs.Locals.{GroupedNode, CompressedNode, Local, struct_local, list_local, blocks_local, bytes_local, collect_local, compressed_local}
 use Rattle.vx_machine_turns.specs.Acts.{Seed, or_else}
 use Rattle.vx_machine_turns.specs.Columns.{column_seeds}
 use Rattle.vx_machine_turns.specs.Starts.{start_fault, start_faults, marked_forms, local_of, seed_of}
@@ -18,13 +18,14 @@ use Rattle.vx_machine_turns.specs.Turns.{firsts, start_indices}
 use Rattle.vx_machine_turns.specs.Fuels.{Fuel, spent, fuel, Enough, AllEnough}
 use Rattle.vx_machine_steps.specs.Tree.{Tree, Leaf, Work, fresh, quiet, sprout, opened}
 use Rattle.vx_machine_view.specs.Zoned.{zoner, no_zones}
-use Rattle.vx_machine_view.specs.State.{Mind, by_column, by_list, by_block, by_size, as_one, Tasks, no_tasks, task_then}
+use Rattle.vx_machine_view.specs.State.{Mind, by_column, by_list, by_block, by_size, as_one, by_image, Tasks, no_tasks, task_then}
 use Rattle.vx_machine_view.specs.Start.{first_mind, first_kids, field_tasks, waiting, form_count, first_indices, field_indices, started_task}
 use Rattle.vx_machine_view.specs.Built.{Built, AllBuilt, field_types, column_types, list_types}
 use Rattle.vx_machine_view.specs.Typed.{AllTyped}
-use Rattle.vx_machine_view.specs.Shows.{Alike, Groups, Stage, waits_first, splits, hands, hands_lists, regroups_rows, regroups_chunks, collects, records_zones, Shows, rows_of, types_of, local_rows}
+use Rattle.vx_machine_view.specs.Shows.{Alike, Groups, Stage, waits_first, splits, hands, hands_lists, regroups_rows, regroups_chunks, collects, pressed, asks_first, records_zones, Shows, rows_of, types_of, local_rows}
 use Rattle.vx_machine_view.proofs.Words.{none_some, or_none}
 use Rattle.vx_machine_view.proofs.Feeding.{sprout_none, opened_none}
+use Rattle.vx_machine_view.proofs.Outlets.{outlet_begun, outlet_rows, outlet_opened}
 
 only_zero : (x : ℕ) → x ≡ 0 → (0 + 0) + (0 + ((x + 0) + 0)) ≡ 0
 only_zero x e = omega (arith, e)
@@ -48,8 +49,10 @@ fresh_rows (grouped_form (by_bytes size) t k) m name e (fuel g) b = only_zero (l
     (fresh_rows k m (under name 0) e (g (form_type k)) b.1)
 fresh_rows (grouped_form into_one t k) m name e (fuel g) b = one_zero (local_rows (local_of k m (under name 0) e) (0 + rows_of (sprout (g (form_type k)) quiet 0 (firsts (seed_of k m (under name 0) e)))))
     (fresh_rows k m (under name 0) e (g (form_type k)) b.1)
-fresh_rows (compressed_form which room t k) m name e d b = absurd b
-fresh_rows (dict_form o t c v w) m name e d b = absurd b
+fresh_rows (compressed_form which room t k) m name e spent b = refl
+fresh_rows (compressed_form which room t k) m name e (fuel g) b =
+    ap (λ z. 0 + (((0 + z) + 0) + 0)) (outlet_rows (record { name = name; mark = m; which = which; room = room; child = k; eof = e }) (g (form_type k)) (λ x. fresh_rows k m (under name 1) e x b.1))
+fresh_rows (dict_form o t c v w) m name e d b = refl
 fresh_rows (zoned_form o t k stats) true name e d b = fresh_rows k true name e d b.1
 fresh_rows (zoned_form o t k stats) false name e d b = refl
 fresh_rows (list_form t n es os v) m name e d b = refl
@@ -186,8 +189,22 @@ module _ (s : Setting) (number : List ℕ → ℕ) where
           groups_stage r t k m name e (fuel g) (sprout (fuel g) quiet 0 (seed_of k m (under name 0) e ∷ [])) (first_kids (grouped_form r t k) m name e) b.0 refl,
           (alike q 0 k m (under name 0) e [] false refl tt, inl (begun k m (under name 0) e (g (form_type k)) b.1 f n), tt),
         )
-    begun (compressed_form which room t k) m name e d b f n = absurd b
-    begun (dict_form o t c v w) m name e d b f n = absurd b
+    begun (compressed_form which room t k) m name e spent b f n = absurd n
+    begun (compressed_form which room t k) m name e (fuel g) b f n =
+        let node : CompressedNode = record { name = name; mark = m; which = which; room = room; child = k; eof = e } in
+        let q : Seed = seed_of (compressed_form which room t k) m name e in (
+          pressed node (form_type k) [] (groups_begun q (sprout (fuel g) quiet 0 (firsts q)) (by_image which) (compressed_local node) (form_type k) (λ p. 0) refl refl),
+          (
+            record { name = refl; inbox = refl; closed = refl; places = refl; typed = tt },
+            inl (outlet_begun s number node (g (form_type k)) n (λ x h. begun k m (under name 1) e x b.1 f h)),
+            tt,
+          ),
+        )
+    begun (dict_form o t c v w) m name e d b f n = (
+      asks_first (record { name = name; mark = m; options = o; type = t; codes = c; values = v; fallback = w; eof = e })
+          (record { name_is = refl; type_is = refl; spare = refl; built = b; enough = n }) refl (record { mind_is = refl; local_is = refl; idle = refl; rest = refl; on = refl; unshaped = refl }),
+      none_begun d (seed_of (dict_form o t c v w) m name e),
+    )
     begun (zoned_form o t k stats) true name e spent b f n = absurd n
     begun (zoned_form o t k stats) true name e (fuel g) b f n = begun k true name e (fuel g) b.1 f n.0
     begun (zoned_form o t k stats) false name e spent b f n = absurd n
@@ -253,7 +270,7 @@ column_length no_forms m = refl
 column_length (form_then k ks) m = ap suc (column_length ks m)
 
 -- one more column
-one_opened : (f : Form) (m : Bool) (name : List ℕ) (c : ℕ) (e : Eof) (g : Ty → Fuel) (qs : List Seed) (xs ys : List ℕ)
+pub one_opened : (f : Form) (m : Bool) (name : List ℕ) (c : ℕ) (e : Eof) (g : Ty → Fuel) (qs : List Seed) (xs ys : List ℕ)
     → start_indices (local_of f m (under name c) (inside e)) ++ opened (g (form_type f)) (firsts (seed_of f m (under name c) (inside e))) ≡ xs → opened (fuel g) qs ≡ ys
     → opened (fuel g) (seed_of f m (under name c) (inside e) ∷ qs) ≡ xs ++ ys
 one_opened f m name c e g qs xs ys h k =
@@ -289,8 +306,11 @@ mutual
   opened_is (grouped_form (by_blocks o) t k) m name e (fuel g) b n = kid_opened k m name e g (opened_is k m (under name 0) e (g (form_type k)) b.1 n)
   opened_is (grouped_form (by_bytes size) t k) m name e (fuel g) b n = kid_opened k m name e g (opened_is k m (under name 0) e (g (form_type k)) b.1 n)
   opened_is (grouped_form into_one t k) m name e (fuel g) b n = kid_opened k m name e g (opened_is k m (under name 0) e (g (form_type k)) b.1 n)
-  opened_is (compressed_form which room t k) m name e d b n = absurd b
-  opened_is (dict_form o t c v w) m name e d b n = absurd b
+  opened_is (compressed_form which room t k) m name e spent b n = absurd n
+  opened_is (compressed_form which room t k) m name e (fuel g) b n =
+      append-nil (opened (g (form_type k)) (seed_of k m (under name 1) e ∷ []))
+      ∙ outlet_opened (record { name = name; mark = m; which = which; room = room; child = k; eof = e }) (g (form_type k)) n (λ x h. opened_is k m (under name 1) e x b.1 h)
+  opened_is (dict_form o t c v w) m name e d b n = opened_none d
   opened_is (zoned_form o t k stats) true name e spent b n = absurd n
   opened_is (zoned_form o t k stats) true name e (fuel g) b n = opened_is k true name e (fuel g) b.1 n.0
   opened_is (zoned_form o t k stats) false name e spent b n = absurd n

@@ -4,7 +4,9 @@ use Rattle.vx_model.specs.Ty.{Ty, Tys, boolean, primitive, utf8, binary, list, s
 use Rattle.vx_strategy_spec.specs.StrategyData.{StrategyData, StrategyList, Wraps, flat, chunked, grouped, compressed, coded, zoned, structured, listed, tabled, no_ways, way_at, no_wraps, wrap_grouped, wrap_zoned}
 use Rattle.vx_strategy_spec.specs.Walk.{Named, Around, same_names, find, chosen, field_nodes, in_lists, of_table, of_tables, walk, walk_named, walk_wraps}
 use Rattle.vx_rules.specs.Columns.{offset_type}
-use Rattle.vx_machine_turns.specs.Forms.{Form, forms_of, form_nodes, form_type}
+use Rattle.vx_rules.specs.Runs.{DictOptions, code_type}
+use Rattle.vx_model.specs.ChunkData.{is_dict_type}
+use Rattle.vx_machine_turns.specs.Forms.{Form, dict_form, forms_of, form_nodes, form_type}
 use Rattle.vx_machine_turns.proofs.Fueled.{fuel_is_enough}
 use Rattle.vx_machine_view.specs.Built.{is_built, are_built, wraps_built, Built, AllBuilt}
 use Rattle.vx_machine_view.specs.Whole.{BuiltIsBuilt}
@@ -99,8 +101,8 @@ mutual
   built (structured v d ws) b (list t n) = tt
   built (structured v d ws) b (extension tag t) = tt
   built (grouped g w) b t = ((fuel_is_enough w t).0, built w b t)
-  built (compressed which room w) b t = absurd (no_true b)
-  built (coded o c v f) b t = absurd (no_true b)
+  built (compressed which room w) b t = ((fuel_is_enough w t).0, built w b t)
+  built (coded o c v f) b t = dict_built o c v f (and_left (is_built c) (is_built v && is_built f) b) (and_left (is_built v) (is_built f) (and_right (is_built c) (is_built v && is_built f) b)) (and_right (is_built v) (is_built f) (and_right (is_built c) (is_built v && is_built f) b)) t (is_dict_type t)
   built (zoned o w stats) b t = ((fuel_is_enough w t).0, built w (and_left (is_built w) (is_built stats) b) t, λ u. ((fuel_is_enough stats u).0, built stats (and_right (is_built w) (is_built stats) b) u))
   built (listed e o v f) b (list t n) = (
     (fuel_is_enough e t).0,
@@ -123,6 +125,12 @@ mutual
       (λ u. ((fuel_is_enough v u).0, built v (and_left (is_built v) (is_built l && (are_built ws && wraps_built wraps)) b) u))
       (λ u. ((fuel_is_enough l u).0, built l (and_left (is_built l) (are_built ws && wraps_built wraps) r) u))
       (around_fits lists wraps (wraps_fit wraps (and_right (are_built ws) (wraps_built wraps) x))) (all_built ws (and_left (are_built ws) (wraps_built wraps) x)) t).1
+
+  -- of a type that no dictionary can hold it is its fallback
+  dict_built : (o : DictOptions) (c v f : StrategyData) → is_built c ≡ true → is_built v ≡ true → is_built f ≡ true → (t : Ty) (b : Bool)
+      → Built (if b then dict_form o t (walk form_nodes c (code_type o)) (walk form_nodes v t) (walk form_nodes f t) else walk form_nodes f t)
+  dict_built o c v f hc hv hf t true = ((fuel_is_enough c (code_type o)).0, built c hc (code_type o), (fuel_is_enough v t).0, built v hv t, (fuel_is_enough f t).0, built f hf t)
+  dict_built o c v f hc hv hf t false = built f hf t
 
   all_built : (ws : StrategyList) → are_built ws ≡ true → AllFit (walk_named form_nodes ws)
   all_built no_ways b = tt

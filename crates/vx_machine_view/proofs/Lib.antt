@@ -18,3 +18,12 @@ pub mod Counting
 pub mod Underway
 pub mod Reserving
 pub mod Placing
+pub mod Outlets
+pub mod Pressing
+pub mod Imaging
+pub mod Deeding
+pub mod Sprouting
+pub mod Probing
+pub mod Cutting
+pub mod Laying
+pub mod Agreeing

@@ -10,20 +10,24 @@ use Rattle.vx_rules.specs.Blocks.{BlockOptions}
 use Rattle.vx_rules.specs.Columns.{struct_columns, list_columns}
 use Rattle.vx_rules.specs.Regroup.{ranked}
 use Rattle.vx_tasks.specs.Task.{Kind}
-use Rattle.vx_tasks.specs.Task.Prompt.{Close}
+use Rattle.vx_tasks.specs.Task.Prompt.{Call, Close}
 use Rattle.vx_tasks.specs.Task.Kind.{Free, Take, TakeEnd, Put, Append, Join}
 use Rattle.vx_plan.specs.PlanData.{Setting, Item, Pair, What, many_chunks, empty_list, rows_in}
 use Rattle.vx_plan.specs.ColumnNodes.{elements_in}
+use Rattle.vx_plan.specs.DictNode.{is_dictionary}
 use Rattle.vx_plan.specs.FlatNode.{segment, inlined, length_of}
 use Rattle.vx_plan.specs.GroupNode.{left_count, rest_count}
+use Rattle.vx_machine_turns.specs.Acts.{or_else}
 use Rattle.vx_machine_turns.specs.Starts.{start_fault}
 use Rattle.vx_machine_turns.specs.Flat.{forbidden}
 use Rattle.vx_machine_turns.specs.Grouped.{Grouper, block_grouper, byte_grouper}
 use Rattle.vx_machine_turns.specs.Zoned.{zone_fault}
 use Rattle.vx_machine_turns.specs.Collected.{collected_so_far, collect_rest}
 use Rattle.vx_machine_view.specs.Zoned.{Zoner, Zones, one_zone, table_item}
-use Rattle.vx_machine_view.specs.State.{Fold, fold_chunks, fold_columns, fold_zones, Next, put, hand_on, append, shut_kids, join_kids, start_table, leave_kid, Mind, no_chunk, one_chunk, by_chunk, by_column, by_list, by_block, by_size, as_one, by_zone, ending, passing, made, Desk, Tasks, no_tasks, task_then}
-use Rattle.vx_machine_view.specs.Start.{first_indices, started_task}
+use Rattle.vx_machine_view.specs.State.{Fold, fold_chunks, fold_columns, fold_runs, fold_zones, Next, put, hand_on, press, probe, open_run, end_run, append, shut_kids, join_kids, start_table, leave_kid, Mind, no_chunk, one_chunk, by_chunk, by_column, by_list, by_block, by_size, as_one, by_image, as_is, by_probe, asking, by_run, by_zone, ending, passing, made, Desk, Tasks, no_tasks, task_then}
+use Rattle.vx_machine_view.specs.Coder.{Coder}
+use Rattle.vx_machine_view.specs.Coding.{no_runs, runs_after, run_rows, cut_indices, last_indices, deeds_at, last_deeds, deed_nexts, runs_laid}
+use Rattle.vx_machine_view.specs.Start.{first_mind, first_kids, waiting, first_indices, started_task}
 
 -- ---- children
 
@@ -66,7 +70,22 @@ layout_in (by_block len minimum t x j rows) below = []
 layout_in (by_size size x j rows) below = []
 layout_in (as_one t x rows) below = []
 layout_in (by_zone g e z) below = []
+layout_in (by_image which) below = []
+layout_in as_is below = []
+layout_in (by_probe n e) below = []
+layout_in asking below = []
+layout_in (by_run n r j rows) below = []
 layout_in ending below = []
+
+-- the queue of child j closed
+abbrev pub shut_at : ℕ → Tasks → Tasks
+shut_at j no_tasks = no_tasks
+shut_at zero (task_then c ks r) = task_then (shut_desk c) ks r
+shut_at (suc j) (task_then c ks r) = task_then c ks (shut_at j r)
+
+-- an item on the queue of child j + 1; that and child j's are then closed
+abbrev pub end_at : ℕ → Item → Tasks → Tasks
+end_at j i ks = shut_at (suc j) (give (suc j) i (shut_at j ks))
 
 -- the layouts of those that have done all
 abbrev pub layouts_in : Tasks → List (LayoutData ℕ)
@@ -114,16 +133,44 @@ abbrev pub folded : Fold → List (LayoutData ℕ) → LayoutData ℕ
 folded (fold_chunks t) ls = gathered t (total_by row_count ls) ls
 folded (fold_columns t rows) ls = columns_layout t rows ls
 folded (fold_zones t rows zone specs) ls = zones_layout t rows zone specs ls
+folded (fold_runs t ns) ls = gathered t (total_by row_count (runs_laid t ns ls)) (runs_laid t ns ls)
 
 abbrev pub joined_rows : Fold → List (LayoutData ℕ) → List ℕ
 joined_rows (fold_chunks t) ls = total_by row_count ls ∷ []
 joined_rows (fold_columns t rows) ls = []
 joined_rows (fold_zones t rows zone specs) ls = []
+joined_rows (fold_runs t ns) ls = total_by row_count (runs_laid t ns ls) ∷ []
+
+-- the fallback of a dictionary node, which gets its pointer
+abbrev pub fall_back : Setting → Kind → Coder → Eof → Mind → List Next → Desk → Tasks → List Item → Did
+fall_back s kind n e mind todo c ks inbox =
+    record (done_as kind (now c mind todo inbox) (add ks (started_task n.fallback n.mark (under c.name (count ks)) e [] false))) {
+      refusal = start_fault s n.fallback n.mark;
+      indices = first_indices n.fallback n.mark e;
+    }
+
+-- by what the compressor makes of the first chunk
+abbrev pub probed : Setting → Bool → Coder → Eof → Item → List Next → Desk → Tasks → Did
+probed s true n e i todo c ks = done_as (Free Call) (now c (by_run n (no_runs e) i (0 + rows_in i.1)) todo c.inbox) ks
+probed s false n e i todo c ks = fall_back s (Free Call) n e as_is (hand_on 0 i ∷ todo) c ks c.inbox
+
+-- codes and values of a run from number j on
+abbrev pub run_tasks : Coder → List ℕ → ℕ → Eof → Item → Tasks
+run_tasks n at j e i =
+    task_then (waiting (under at j) (first_mind n.codes n.mark (inside e)) (i ∷ []) false) (first_kids n.codes n.mark (under at j) (inside e))
+    (task_then (waiting (under at (suc j)) (first_mind n.values n.mark (inside (next e))) [] false) (first_kids n.values n.mark (under at (suc j)) (inside (next e))) no_tasks)
 
 -- Of what is left of its block: an append gets this number. Joined children are given up; a zoned node's table is started behind the data child.
 abbrev pub do_next : Setting → ℕ → Desk → Tasks → Next → List Next → Did
 do_next s number c ks (put j i) todo = done_as (Put j) (now c c.mind todo c.inbox) (give j i ks)
 do_next s number c ks (hand_on n i) todo = record (done_as (Put 0) (now c c.mind todo c.inbox) (give 0 i ks)) { lowers = n }
+do_next s number c ks (press which i) todo = done_as (Free Call) (now c c.mind (hand_on 0 (i.0, s.image which i.1) ∷ todo) c.inbox) ks
+do_next s number c ks (probe n e i) todo = probed s (is_dictionary (s.image n.options.probe i.1)) n e i todo c ks
+do_next s number c ks (open_run n j e i) todo = record (done_as (Put j) (now c c.mind todo c.inbox) (add ks (run_tasks n c.name j e i))) {
+  refusal = or_else (start_fault s n.codes n.mark) (start_fault s n.values n.mark);
+  indices = first_indices n.codes n.mark (inside e) ++ first_indices n.values n.mark (inside (next e));
+}
+do_next s number c ks (end_run j i) todo = done_as (Put (suc j)) (now c c.mind todo c.inbox) (end_at j i ks)
 do_next s number c ks (append x) todo = record (done_as (Append x.id) (now c (made (flat_layout x.type x.rows s.encodings x.tree number)) todo c.inbox) ks) { wrote = (x.id, x.bytes) ∷ [] }
 do_next s number c ks shut_kids todo = done_as (Free Close) (now c c.mind todo c.inbox) (shut_all ks)
 do_next s number c ks (join_kids f) todo = record (done_as Join (now c (made (folded f (layouts_in ks))) todo c.inbox) no_tasks) { joined = joined_rows f (layouts_in ks) }
@@ -272,6 +319,19 @@ take_chunk s c ks i xs (as_one t x rows) = record (done_as Take (now c (as_one t
   numbers = (rows + rows_in i.1) ∷ [];
 }
 take_chunk s c ks i xs (by_zone g e z) = take_zone s g e z c ks i xs
+take_chunk s c ks i xs (by_image which) = done_as Take (now c (by_image which) (press which i ∷ []) xs) ks
+take_chunk s c ks i xs as_is = done_as Take (now c as_is (hand_on 0 i ∷ []) xs) ks
+take_chunk s c ks i xs (by_probe n e) = record (done_as Take (now c asking (probe n e i ∷ []) xs) ks) {
+  misfit = not (ty_eq (piece_type i.1) n.type);
+  numbers = if is_dictionary (s.image n.options.probe i.1) then (0 + rows_in i.1) ∷ [] else [];
+}
+take_chunk s c ks i xs asking = done_as Take (now c asking [] xs) ks
+take_chunk s c ks i xs (by_run n r j rows) =
+    record (done_as Take (now c (by_run n (runs_after n r j) i (rows + rows_in i.1)) (deed_nexts n (deeds_at n r j)) xs) ks) {
+      misfit = not (ty_eq (piece_type i.1) n.type);
+      numbers = (rows + rows_in i.1) ∷ [];
+      indices = cut_indices n r j;
+    }
 take_chunk s c ks i xs ending = done_as Take (now c ending [] xs) ks
 take_chunk s c ks i xs passing = done_as Take (now c passing [] xs) ks
 take_chunk s c ks i xs (made l) = done_as Take (now c (made l) [] xs) ks
@@ -286,23 +346,30 @@ abbrev pub end_lists : Bool → Ty → ℕ → Desk → Tasks → Did
 end_lists true t rows c ks = record (done_as TakeEnd (now c ending [] []) ks) { refusal = Some empty_list }
 end_lists false t rows c ks = done_as TakeEnd (now c ending (shut_kids ∷ join_kids (fold_columns t rows) ∷ []) []) ks
 
-abbrev pub take_end : Desk → Tasks → Mind → Did
-take_end c ks (no_chunk o t) = done_as TakeEnd (now c (made (gathered t 0 [])) [] []) ks
-take_end c ks (one_chunk x) = done_as TakeEnd (now c ending (append x ∷ []) []) ks
-take_end c ks (by_chunk m t f e rows) = done_as TakeEnd (now c ending (join_kids (fold_chunks t) ∷ []) []) ks
-take_end c ks (by_column t rows) = end_columns ((count ks == 0) && (0 == column_count t)) t rows c ks
-take_end c ks (by_list t n first from rows) = end_lists first (list t n) rows c ks
-take_end c ks (by_block len minimum t x j rows) = end_grouped (block_grouper (of_length len minimum) t) x j c ks
-take_end c ks (by_size size x j rows) = end_grouped (byte_grouper size) x j c ks
-take_end c ks (as_one t x rows) = pass_on (hand_all (λ p. 0) (collect_rest t x)) c ks
-take_end c ks (by_zone g e z) = end_zones (kept_columns g.columns z.records) g e z c ks
-take_end c ks ending = done_as TakeEnd (now c ending [] []) ks
-take_end c ks passing = done_as TakeEnd (now c passing [] []) ks
-take_end c ks (made l) = done_as TakeEnd (now c (made l) [] []) ks
+-- a dictionary node to which no chunk came hands its empty stream to the fallback
+abbrev pub take_end : Setting → Desk → Tasks → Mind → Did
+take_end s c ks (no_chunk o t) = done_as TakeEnd (now c (made (gathered t 0 [])) [] []) ks
+take_end s c ks (one_chunk x) = done_as TakeEnd (now c ending (append x ∷ []) []) ks
+take_end s c ks (by_chunk m t f e rows) = done_as TakeEnd (now c ending (join_kids (fold_chunks t) ∷ []) []) ks
+take_end s c ks (by_column t rows) = end_columns ((count ks == 0) && (0 == column_count t)) t rows c ks
+take_end s c ks (by_list t n first from rows) = end_lists first (list t n) rows c ks
+take_end s c ks (by_block len minimum t x j rows) = end_grouped (block_grouper (of_length len minimum) t) x j c ks
+take_end s c ks (by_size size x j rows) = end_grouped (byte_grouper size) x j c ks
+take_end s c ks (as_one t x rows) = pass_on (hand_all (λ p. 0) (collect_rest t x)) c ks
+take_end s c ks (by_zone g e z) = end_zones (kept_columns g.columns z.records) g e z c ks
+take_end s c ks (by_image which) = pass_on [] c ks
+take_end s c ks as_is = pass_on [] c ks
+take_end s c ks (by_probe n e) = fall_back s TakeEnd n e passing (shut_kids ∷ []) c ks []
+take_end s c ks asking = done_as TakeEnd (now c asking [] []) ks
+take_end s c ks (by_run n r j rows) =
+    record (done_as TakeEnd (now c ending (deed_nexts n (last_deeds n r j) ++ (join_kids (fold_runs n.type (run_rows n r j)) ∷ [])) []) ks) { indices = last_indices n r j }
+take_end s c ks ending = done_as TakeEnd (now c ending [] []) ks
+take_end s c ks passing = done_as TakeEnd (now c passing [] []) ks
+take_end s c ks (made l) = done_as TakeEnd (now c (made l) [] []) ks
 
 abbrev pub do_take : Setting → Desk → Tasks → List Item → Did
 do_take s c ks (i ∷ xs) = take_chunk s c ks i xs c.mind
-do_take s c ks [] = take_end c ks c.mind
+do_take s c ks [] = take_end s c ks c.mind
 
 abbrev pub do_act : Setting → ℕ → Desk → Tasks → List Next → Did
 do_act s number c ks (x ∷ todo) = do_next s number c ks x todo

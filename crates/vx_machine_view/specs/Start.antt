@@ -7,9 +7,9 @@ use Rattle.vx_path.specs.Path.{Eof, under, inside, next}
 use Rattle.vx_plan.specs.PlanData.{Item}
 use Rattle.vx_machine_turns.specs.Forms.{Form, Forms, flat_form, chunked_form, grouped_form, compressed_form, dict_form, zoned_form, no_struct_form, struct_form, list_form, no_forms, form_then}
 use Rattle.vx_machine_view.specs.Zoned.{zoner, no_zones}
-use Rattle.vx_machine_view.specs.State.{Mind, no_chunk, by_chunk, by_column, by_list, by_block, by_size, as_one, by_zone, ending, Desk, Tasks, no_tasks, task_then}
+use Rattle.vx_machine_view.specs.State.{Mind, no_chunk, by_chunk, by_column, by_list, by_block, by_size, as_one, by_image, as_is, by_probe, by_zone, ending, Desk, Tasks, no_tasks, task_then}
 
--- what it has in mind before a chunk comes: its mark and its pointer; kinds that aren't built start nothing, a marked zoned node is its child
+-- what it has in mind before a chunk comes: its mark and its pointer; a marked zoned node is its child
 abbrev pub first_mind : Form → Bool → Eof → Mind
 first_mind (flat_form o t) m e = no_chunk o t
 first_mind (chunked_form t k) m e = by_chunk m t k e 0
@@ -17,8 +17,8 @@ first_mind (struct_form fs n name v ks) m e = by_column (struct fs n) 0
 first_mind (grouped_form (by_blocks o) t k) m e = by_block (block_len o t) o.minimum t [] None 0
 first_mind (grouped_form (by_bytes size) t k) m e = by_size size [] None 0
 first_mind (grouped_form into_one t k) m e = as_one t None 0
-first_mind (compressed_form which room t k) m e = ending
-first_mind (dict_form o t c v f) m e = ending
+first_mind (compressed_form which room t k) m e = by_image which
+first_mind (dict_form o t c v f) m e = by_probe (record { mark = m; options = o; type = t; codes = c; values = v; fallback = f }) e
 first_mind (zoned_form o t k stats) true e = first_mind k true e
 first_mind (zoned_form o t k stats) false e = by_zone (zoner o t stats) (next e) (no_zones (zoner o t stats))
 first_mind (no_struct_form t) m e = ending
@@ -32,9 +32,14 @@ waiting name mind inbox closed = record { name = name; mind = mind; todo = []; i
 abbrev pub roomy : ℕ → List ℕ → Mind → Desk
 roomy room name mind = record { name = name; mind = mind; todo = []; inbox = []; places = 1 + (room - 1); closed = false }
 
+-- What stands between a compressing node and its child: it hands on each image, and its queue has so many places.
+abbrev pub outlet_desk : ℕ → List ℕ → Desk
+outlet_desk room name = roomy room name as_is
+
 -- A struct's columns start with it: validity where it is nullable, then the fields. So do a list's: elements, offsets, and
 -- validity where it is nullable. Column c has the c-th name below, and a pointer inside the c-th path from e on. So does the only
 -- child of a node that regroups, which gets the pointer itself, and the data child of a zoned node, whose queue has its own places.
+-- A compressing node has its outlet for a child, and that the node's child, whose name comes next beside the outlet's.
 abbrev mutual
   pub first_kids : Form → Bool → List ℕ → Eof → Tasks
   first_kids (struct_form fs n name v ks) m at e =
@@ -44,7 +49,8 @@ abbrev mutual
   first_kids (flat_form o t) m at e = no_tasks
   first_kids (chunked_form t k) m at e = no_tasks
   first_kids (grouped_form g t k) m at e = task_then (waiting (under at 0) (first_mind k m e) [] false) (first_kids k m (under at 0) e) no_tasks
-  first_kids (compressed_form which room t k) m at e = no_tasks
+  first_kids (compressed_form which room t k) m at e =
+      task_then (outlet_desk room (under at 0)) (task_then (waiting (under at 1) (first_mind k m e) [] false) (first_kids k m (under at 1) e) no_tasks) no_tasks
   first_kids (dict_form o t c v f) m at e = no_tasks
   first_kids (zoned_form o t k stats) true at e = first_kids k true at e
   first_kids (zoned_form o t k stats) false at e = task_then (roomy o.concurrency (under at 0) (first_mind k false (inside e))) (first_kids k false (under at 0) (inside e)) no_tasks
@@ -73,7 +79,7 @@ abbrev mutual
   first_indices (flat_form o t) m e = []
   first_indices (chunked_form t k) m e = []
   first_indices (grouped_form g t k) m e = first_indices k m e
-  first_indices (compressed_form which room t k) m e = []
+  first_indices (compressed_form which room t k) m e = first_indices k m e
   first_indices (dict_form o t c v f) m e = []
   first_indices (zoned_form o t k stats) true e = first_indices k true e
   first_indices (zoned_form o t k stats) false e = (e.last + 1) ∷ first_indices k false (inside e)

@@ -11,8 +11,10 @@ use Rattle.vx_plan.specs.Number.{segment_at}
 use Rattle.vx_plan.specs.Valid.{Valid}
 use Rattle.vx_fault.specs.Fails.{fails_at}
 use Rattle.vx_setting.specs.Setting.{real}
+use Rattle.vx_compressor_spec.specs.TableImage.{table_image}
 use Rattle.vx_machine_view.specs.Built.{is_built}
-use Rattle.vx_write.specs.Calls.{reads_in, appends_in, misfits}
+use Rattle.vx_machine_view.specs.Images.{images_of}
+use Rattle.vx_write.specs.Calls.{reads_in, appends_in, calls_in, misfits}
 use Rattle.vx_write.specs.Traced.{IsTraced}
 use Rattle.vx_write.specs.Written.{Wrote, Halted}
 use Rattle.vx_write_answer.specs.Causes.{is_unbuilt}
@@ -31,9 +33,9 @@ use Rattle.vx_run.specs.declared.status.Status.TheVariants.{Done, Usage, BadJob,
 
 -- ---- a job
 
--- what the job lists and allows; its compressor's image of a chunk is the chunk
+-- what the job lists and allows, with the table of images
 abbrev pub job_setting : JobData → Setting
-job_setting j = real j.options.encodings j.options.aggregates (λ which p. p)
+job_setting j = real j.options.encodings j.options.aggregates (images_of table_image)
 
 -- the plan of the job's batches
 abbrev pub job_plan : JobData → Plan
@@ -47,10 +49,11 @@ IsValid j = Valid (job_setting j) j.strategy j.schema j.options.marked j.options
 abbrev pub SetsNoFaults : JobData → Type 0
 SetsNoFaults j = j.options.faults ≡ failing [] [] []
 
--- The job lets none of these calls fail: so many first ones of the source, and so many first ones of the sink.
-pub record NoneFails (j : JobData) (asked appended : ℕ) : Type 0 where
+-- The job lets none of these calls fail: so many first ones of the source, of the sink, and of the compressor.
+pub record NoneFails (j : JobData) (asked appended called : ℕ) : Type 0 where
   pub source : (k : ℕ) → k < asked → ¬ (IsTrue (fails_at j.options.faults.source k))
   pub sink : (k : ℕ) → k < appended → ¬ (IsTrue (fails_at j.options.faults.sink k))
+  pub compressor : (k : ℕ) → k < called → ¬ (IsTrue (fails_at j.options.faults.compress k))
 
 -- ---- a job that is written
 
@@ -62,8 +65,8 @@ pub record IsWritten (j : JobData) (l : LayoutData ℕ) (stored : List (List ℕ
   pub traced : IsTraced (job_setting j) j.strategy j.schema j.options.marked j.options.schedule j.batches steps
   -- a segment each append
   pub appended : length stored ≡ appends_in steps
-  -- the source was asked for each batch and for the end, and the sink for each segment
-  pub calls : NoneFails j (length j.batches + 1) (length stored)
+  -- the source was asked for each batch and for the end, the sink for each segment, and the compressor at each call
+  pub calls : NoneFails j (length j.batches + 1) (length stored) (calls_in steps)
 
 -- the rows of each zone table
 abbrev pub table_rows : (ℕ → Option (List ℕ)) → List ZoneTable → List (Option (List ValueData))
@@ -84,11 +87,12 @@ pub record IsReport (j : JobData) (text : List ℕ) : Type 0 where
 
 -- A fault is that of a call that the job lets fail, the one behind those that were answered; of the source one that would have given a
 -- batch, or told the end. Want of memory isn't reported.
-abbrev pub IsLet : JobData → ℕ → ℕ → WriteError → Type 0
-IsLet j asked appended errors.SourceFault = IsTrue (fails_at j.options.faults.source asked) × (asked ≤ length j.batches)
-IsLet j asked appended errors.SinkFault = IsTrue (fails_at j.options.faults.sink appended)
-IsLet j asked appended errors.OutOfMemory = ⊥
-IsLet j asked appended e = Unit {0}
+abbrev pub IsLet : JobData → ℕ → ℕ → ℕ → WriteError → Type 0
+IsLet j asked appended called errors.SourceFault = IsTrue (fails_at j.options.faults.source asked) × (asked ≤ length j.batches)
+IsLet j asked appended called errors.SinkFault = IsTrue (fails_at j.options.faults.sink appended)
+IsLet j asked appended called errors.CompressFault = IsTrue (fails_at j.options.faults.compress called)
+IsLet j asked appended called errors.OutOfMemory = ⊥
+IsLet j asked appended called e = Unit {0}
 
 -- A write of the job was refused by this error: these segments stand, behind these steps, and it has its cause in the plan of
 -- the batches taken, at the act that the job's schedule picks next.
@@ -99,8 +103,8 @@ pub record IsRefused (j : JobData) (e : WriteError) (stand : List (List ℕ)) (s
       j.options.schedule steps e
   -- a segment each append
   pub appended : length stand ≡ appends_in steps
-  pub calls : NoneFails j (reads_in steps + misfits e) (length stand)
-  pub let_fail : IsLet j (reads_in steps + misfits e) (length stand) e
+  pub calls : NoneFails j (reads_in steps + misfits e) (length stand) (calls_in steps)
+  pub let_fail : IsLet j (reads_in steps + misfits e) (length stand) (calls_in steps) e
   -- a strategy that isn't built is refused as that and as nothing else, before anything is done
   pub built : is_built j.strategy ≡ not (is_unbuilt e)
   pub unasked : is_unbuilt e ≡ true → (later ≡ j.batches) × (stand ≡ []) × (steps ≡ [])

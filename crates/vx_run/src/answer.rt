@@ -24,7 +24,8 @@ use vx_layout_tree::Layout;
 use vx_model::{ArrayContext, Blob, Text, Value};
 use vx_read::{ReadError, SegmentMap, read_rows};
 use vx_report::{refused_report, report};
-use vx_sink::{LayoutWriterContext, ListSource, MemorySink, PlainCompressor};
+use vx_sink::{LayoutWriterContext, ListSource, MemorySink};
+use vx_table_compressor::TableCompressor;
 use vx_write::{Step, WriteError, write_stream};
 
 /// A status, and the text that is printed before it.
@@ -91,7 +92,7 @@ fn write_batches(
     let faults = job.faults;
     let mut source = ListSource::new(job.schema, job.batches, faults.source);
     let mut sink = MemorySink::new(job.next, faults.sink);
-    let mut compressor = PlainCompressor::new(faults.compress);
+    let mut compressor = TableCompressor::new(faults.compress);
     match write_stream(
         alloc,
         &job.strategy,

@@ -13,8 +13,8 @@ ghost use Rattle.vx_strategy.specs.StrategyView.{strategy_data};
 ghost use Rattle.vx_machine_ids.specs.Stock.{end_stock};
 ghost use Rattle.vx_machine_ids.specs.Balance.{Owned, Exact};
 ghost use Rattle.vx_write_answer.specs.declared.error.WriteError.TheVariants.{OutOfMemory};
-ghost use Rattle.vx_write_answer.specs.Causes.{errs, is_source_fault, is_sink_fault};
-ghost use Rattle.vx_machine.specs.Calls.{reads_in, appends_in, asked_by};
+ghost use Rattle.vx_write_answer.specs.Causes.{errs, is_source_fault, is_sink_fault, is_compress_fault};
+ghost use Rattle.vx_machine.specs.Calls.{reads_in, appends_in, calls_in, asked_by};
 ghost use Rattle.vx_machine_ran.specs.Built.{is_built};
 ghost use Rattle.vx_machine.specs.Context.{setting_of};
 ghost use Rattle.vx_machine_ran.specs.Traced.{Traced};
@@ -59,13 +59,15 @@ pub(crate) fn write_tasks<B: BatchSource, S: SegmentSink, C: CompressorPlugin>(
         (asked_by result.0 steps.new.items) (errs is_source_fault result.0) }
     ensures sink { FaultsTold (S.faults sink) (S.faults result.1) (S.may_fail sink) (S.must_fail sink)
         (appends_in steps.new.items) (errs is_sink_fault result.0) }
+    ensures compressor { FaultsTold (C.faults compressor.old) (C.faults compressor.new) (C.may_fail compressor.old) (C.must_fail compressor.old)
+        (calls_in steps.new.items) (errs is_compress_fault result.0) }
     ensures complete { (xs : List ChunkData) → B.to_come source.old ≡ Some xs → is_built (strategy_data strategy.now) ≡ true
         → Valid (setting_of ctx.old (C.image (C.kind compressor.old))) (strategy_data strategy.now) (B.kind source.old) (is_marked ctx.old)
         (S.next sink) (counted ctx.old) xs
         → IsCalm (B.faults source.old) (B.faults source.new) → IsCalm (S.faults sink) (S.faults result.1)
-        → IfErr result.0 (λ e. e ≡ OutOfMemory) }
+        → IsCalm (C.faults compressor.old) (C.faults compressor.new) → IfErr result.0 (λ e. e ≡ OutOfMemory) }
     ensures borrow { S.borrow result.1 ≡ S.borrow sink }
-    ensures same { SameContext ctx.old ctx.new × (B.kind source.new ≡ B.kind source.old) × (compressor.new ≡ compressor.old) }
+    ensures same { SameContext ctx.old ctx.new × (B.kind source.new ≡ B.kind source.old) × (C.kind compressor.new ≡ C.kind compressor.old) }
 {
     vx_machine_ran::answers();
     vx_setting::real_settings_keep();
@@ -116,10 +118,12 @@ fn write_in<B: BatchSource, O: Order, C: CompressorPlugin>(
         (reads_in steps.new.items) (errs is_source_fault result) }
     ensures sink { FaultsTold (O.Sink.faults (O.sink order.old)) (O.Sink.faults (O.sink order.new)) (O.Sink.may_fail (O.sink order.old)) (O.Sink.must_fail (O.sink order.old))
         (appends_in steps.new.items) (errs is_sink_fault result) }
+    ensures compressor { FaultsTold (C.faults compressor.old) (C.faults compressor.new) (C.may_fail compressor.old) (C.must_fail compressor.old)
+        (calls_in steps.new.items) (errs is_compress_fault result) }
     ensures ran { eof ≡ root → Exact (O.active order.old) (end_stock eof)
-        → AnsweredTold ctx.old (strategy_data strategy.now) (B.kind source.old) schedule.now (B.to_come source.old) (O.outlet order.old) steps.new.items (B.to_come source.new)
+        → AnsweredTold ctx.old (C.image (C.kind compressor.old)) (strategy_data strategy.now) (B.kind source.old) schedule.now (B.to_come source.old) (O.outlet order.old) steps.new.items (B.to_come source.new)
         (O.outlet order.new) (B.must_fail source.old) result }
-    ensures same { SameContext ctx.old ctx.new × (B.kind source.new ≡ B.kind source.old) × (compressor.new ≡ compressor.old) }
+    ensures same { SameContext ctx.old ctx.new × (B.kind source.new ≡ B.kind source.old) × (C.kind compressor.new ≡ C.kind compressor.old) }
 {
     let stream = match take_below(order, &mut eof) {
         Ok(stream) => stream,

@@ -10,8 +10,8 @@ ghost use Rattle.vx_fault.specs.Told.{NoneTold};
 ghost use Rattle.vx_sink.specs.ContextView.{is_marked, counted};
 ghost use Rattle.vx_strategy.specs.StrategyView.{strategy_data};
 ghost use Rattle.vx_write_answer.specs.declared.error.WriteError.TheVariants.{OutOfMemory, Unbuilt};
-ghost use Rattle.vx_write_answer.specs.Causes.{errs, is_source_fault, is_sink_fault};
-ghost use Rattle.vx_machine.specs.Calls.{appends_in};
+ghost use Rattle.vx_write_answer.specs.Causes.{errs, is_source_fault, is_sink_fault, is_compress_fault};
+ghost use Rattle.vx_machine.specs.Calls.{appends_in, calls_in};
 ghost use Rattle.vx_machine_ran.specs.Built.{is_built};
 ghost use Rattle.vx_machine.specs.Context.{setting_of};
 ghost use Rattle.vx_machine_ran.specs.Traced.{Traced};
@@ -80,6 +80,8 @@ pub fn write_stream<B: BatchSource, S: SegmentSink, C: CompressorPlugin>(
         (asked result) (errs (λ r. is_source_fault r.error) result) }
     ensures sink { FaultsTold (S.faults sink.old) (S.faults sink.new) (S.may_fail sink.old) (S.must_fail sink.old)
         (S.next sink.new - S.next sink.old) (errs (λ r. is_sink_fault r.error) result) }
+    ensures compressor { FaultsTold (C.faults compressor.old) (C.faults compressor.new) (C.may_fail compressor.old) (C.must_fail compressor.old)
+        (calls_in (steps_of result)) (errs (λ r. is_compress_fault r.error) result) }
     // A node that isn't built is refused before anything is done.
     ensures unbuilt { is_built (strategy_data strategy.now) ≡ false
         → MatchResult result (λ _. ⊥) (λ r. (r.error ≡ Unbuilt) × (r.trace.items ≡ [])) × (source.new ≡ source.old) × (sink.new ≡ sink.old) }
@@ -88,9 +90,9 @@ pub fn write_stream<B: BatchSource, S: SegmentSink, C: CompressorPlugin>(
         → Valid (setting_of ctx.old (C.image (C.kind compressor.old))) (strategy_data strategy.now) (B.kind source.old) (is_marked ctx.old)
         (S.next sink.old) (counted ctx.old) xs
         → IsCalm (B.faults source.old) (B.faults source.new) → IsCalm (S.faults sink.old) (S.faults sink.new)
-        → IfErr result (λ r. r.error ≡ OutOfMemory) }
+        → IsCalm (C.faults compressor.old) (C.faults compressor.new) → IfErr result (λ r. r.error ≡ OutOfMemory) }
     // Ok or refused, nothing is held back any more.
-    ensures same { SameContext ctx.old ctx.new × (B.kind source.new ≡ B.kind source.old) × (S.borrow sink.new ≡ S.borrow sink.old) × (compressor.new ≡ compressor.old) }
+    ensures same { SameContext ctx.old ctx.new × (B.kind source.new ≡ B.kind source.old) × (S.borrow sink.new ≡ S.borrow sink.old) × (C.kind compressor.new ≡ C.kind compressor.old) }
 {
     let mut trace = Vec::new(alloc);
     if !is_built(strategy) {
