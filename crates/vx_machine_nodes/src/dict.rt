@@ -324,7 +324,12 @@ pub fn end_runs<O: Order>(
         true,
     );
     drop(cutter);
-    let RunsSoFar { pointer, ended, .. } = runs;
+    let RunsSoFar {
+        pointer,
+        begun: _,
+        rows: _,
+        ended,
+    } = runs;
     give_up_pointer(order, pointer);
     match cut {
         Ok(()) => match todo.reserve(1) {

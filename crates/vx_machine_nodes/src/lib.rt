@@ -31,7 +31,7 @@ pub use item::{Due, Item, Segment, Stored, give_up_dues, give_up_item, give_up_i
 pub use kinds::{ChunkedNode, ColumnsNode, FlatNode, ListsNode};
 pub use lists::{end_lists, take_lists};
 pub use node::{Local, Shape, give_up_local};
-pub use nodes::{chunked_node, columns_node, dict_node, element_copy, lists_node};
+pub use nodes::{chunked_node, columns_node, element_copy, lists_node, runs_node};
 pub use pressing::{press, take_as_is, take_pressing};
 pub use zoned::{end_zoned, give_up_zoned, take_zoned};
 pub use zoned_fresh::zoned_node;

@@ -101,7 +101,7 @@ pub fn element_copy(dtype: &DType) -> Result<DType, AllocError>
 }
 
 /// Of a type that dictionaries can hold, with the strategies copied.
-pub fn dict_node(
+pub fn runs_node(
     alloc: Global,
     by: &DictStrategy,
     dtype: Arc<DType>,

@@ -37,7 +37,7 @@ use std::sync::Arc;
 use vx_machine_ids::{give_up_pointer, take_below};
 use vx_machine_nodes::{
     FlatNode, GroupedNode, Local, blocks_node, buffer_node, chunked_node, collect_node,
-    columns_node, dict_node, drop_fresh, lists_node,
+    columns_node, drop_fresh, lists_node, runs_node,
 };
 use vx_model::DType;
 use vx_order::Order;
@@ -166,7 +166,7 @@ fn start_settled<O: Order>(
                 Err(error)
             }
         },
-        Strategy::Dict(by) => match dict_node(alloc, by, dtype, marked) {
+        Strategy::Dict(by) => match runs_node(alloc, by, dtype, marked) {
             Ok(node) => {
                 let local = Local::Probe(node, eof);
                 Ok(waiting(alloc, name, local, Vec::new(alloc)))
