@@ -11,7 +11,7 @@ use Rattle.vx_machine_nodes.specs.Causes.{MayCome, ActMay}
 pub wider : (e : WriteError) → MayCome e → ActMay e
 wider SourceFault h = h
 wider SinkFault h = tt
-wider CompressFault h = h
+wider CompressFault h = tt
 wider (BatchType c) h = h
 wider NotStruct h = h
 wider (DuplicateField name) h = h
