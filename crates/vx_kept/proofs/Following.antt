@@ -1,25 +1,15 @@
 -- What a task's own act changes below it.
-<<<<<<< HEAD
-use Rattle.std.proofs.Common.{◌≡◌, ℕ, ◌==◌, ◌&&◌, ◌+◌, Bool, true, false, List, [], ◌∷◌, Option, Some, None, refl, sym, ap, subst, arith}
-use Rattle.vx_model.specs.Ty.{list}
-use Rattle.vx_plan.specs.PlanData.{Setting, Item}
-use Rattle.vx_path.specs.Path.{under, inside, next}
-use Rattle.vx_zone_spec.specs.ZoneTable.{Filled, kept_columns}
-use Rattle.vx_machine_view.specs.Zoned.{table_item}
-use Rattle.vx_machine_view.specs.State.{Next, put, hand_on, append, shut_kids, join_kids, start_table, leave_kid, Mind, no_chunk, one_chunk, by_chunk, by_column, by_list, by_block, by_size, as_one, by_zone, ending, passing, made, Desk, Tasks, no_tasks, task_then}
-use Rattle.vx_machine_view.specs.Start.{started_task}
-use Rattle.vx_machine_view.specs.Acts.{count, give, add, column_count, take_chunk, end_columns, end_lists, end_zones, take_end, do_take, do_act}
-=======
-use Rattle.std.proofs.Common.{◌≡◌, ℕ, suc, inl, ◌==◌, ◌&&◌, ◌+◌, Bool, true, false, List, [], ◌∷◌, Some, None, refl, sym, ap, subst, arith}
+use Rattle.std.proofs.Common.{◌≡◌, ℕ, suc, inl, ◌==◌, ◌&&◌, ◌+◌, Bool, true, false, List, [], ◌∷◌, Option, Some, None, refl, sym, ap, subst, arith}
 use Rattle.vx_model.specs.Ty.{list}
 use Rattle.vx_plan.specs.PlanData.{Setting, Item}
 use Rattle.vx_plan.specs.DictNode.{is_dictionary}
-use Rattle.vx_path.specs.Path.{Eof, under, inside}
-use Rattle.vx_machine_view.specs.State.{Next, put, hand_on, press, probe, open_run, end_run, append, shut_kids, join_kids, Mind, no_chunk, one_chunk, by_chunk, by_column, by_list, by_block, by_size, as_one, by_image, as_is, by_probe, asking, by_run, ending, passing, made, Desk, Tasks, no_tasks, task_then}
+use Rattle.vx_path.specs.Path.{Eof, under, inside, next}
+use Rattle.vx_zone_spec.specs.ZoneTable.{Filled, kept_columns}
+use Rattle.vx_machine_view.specs.Zoned.{table_item}
 use Rattle.vx_machine_view.specs.Coder.{Coder}
+use Rattle.vx_machine_view.specs.State.{Next, put, hand_on, press, probe, open_run, end_run, append, shut_kids, join_kids, start_table, leave_kid, Mind, no_chunk, one_chunk, by_chunk, by_column, by_list, by_block, by_size, as_one, by_image, as_is, by_probe, asking, by_run, by_zone, ending, passing, made, Desk, Tasks, no_tasks, task_then}
 use Rattle.vx_machine_view.specs.Start.{started_task}
-use Rattle.vx_machine_view.specs.Acts.{count, give, add, shut_at, end_at, probed, run_tasks, column_count, take_chunk, end_columns, end_lists, take_end, do_take, do_act}
->>>>>>> d7a35731
+use Rattle.vx_machine_view.specs.Acts.{count, give, add, shut_at, end_at, column_count, probed, run_tasks, take_chunk, end_columns, end_lists, end_zones, take_end, do_take, do_act}
 use Rattle.vx_kept.specs.Kept.{KnowsFrom, Knows, asked_of, ready_of, kids_of}
 use Rattle.vx_kept.specs.Follow.{touched_by, Follows}
 use Rattle.vx_kept.specs.declared.counts.Counts.{Counts}
@@ -51,21 +41,6 @@ end_grown s c ks (by_list t n first from rows) = by first
     by : (z : Bool) → Grown ks (end_lists z (list t n) rows c ks).kids
     by true = same ks
     by false = same ks
-<<<<<<< HEAD
-end_grown c ks (by_block len minimum t x None rows) = same ks
-end_grown c ks (by_block len minimum t x (Some j) rows) = same ks
-end_grown c ks (by_size size x None rows) = same ks
-end_grown c ks (by_size size x (Some j) rows) = same ks
-end_grown c ks (as_one t x rows) = same ks
-end_grown c ks (by_zone g e z) = by (kept_columns g.columns z.records)
-  where
-    by : (table : Option (List Filled)) → Grown ks (end_zones table g e z c ks).kids
-    by None = same ks
-    by (Some cs) = same ks
-end_grown c ks ending = same ks
-end_grown c ks passing = same ks
-end_grown c ks (made l) = same ks
-=======
 end_grown s c ks (by_block len minimum t x None rows) = same ks
 end_grown s c ks (by_block len minimum t x (Some j) rows) = same ks
 end_grown s c ks (by_size size x None rows) = same ks
@@ -76,10 +51,14 @@ end_grown s c ks as_is = same ks
 end_grown s c ks (by_probe n e) = (started_task n.fallback n.mark (under c.name (count ks)) e [] false, refl)
 end_grown s c ks asking = same ks
 end_grown s c ks (by_run n r j rows) = same ks
+end_grown s c ks (by_zone g e z) = by (kept_columns g.columns z.records)
+  where
+    by : (table : Option (List Filled)) → Grown ks (end_zones table g e z c ks).kids
+    by None = same ks
+    by (Some cs) = same ks
 end_grown s c ks ending = same ks
 end_grown s c ks passing = same ks
 end_grown s c ks (made l) = same ks
->>>>>>> d7a35731
 
 chunk_grown : (s : Setting) (c : Desk) (ks : Tasks) (i : Item) (xs : List Item) (m : Mind) → Grown ks (take_chunk s c ks i xs m).kids
 chunk_grown s c ks i xs (no_chunk o t) = same ks
@@ -92,15 +71,12 @@ chunk_grown s c ks i xs (by_block len minimum t x (Some j) rows) = same ks
 chunk_grown s c ks i xs (by_size size x None rows) = same ks
 chunk_grown s c ks i xs (by_size size x (Some j) rows) = same ks
 chunk_grown s c ks i xs (as_one t x rows) = same ks
-<<<<<<< HEAD
-chunk_grown s c ks i xs (by_zone g e z) = same ks
-=======
 chunk_grown s c ks i xs (by_image which) = same ks
 chunk_grown s c ks i xs as_is = same ks
 chunk_grown s c ks i xs (by_probe n e) = same ks
 chunk_grown s c ks i xs asking = same ks
 chunk_grown s c ks i xs (by_run n r j rows) = same ks
->>>>>>> d7a35731
+chunk_grown s c ks i xs (by_zone g e z) = same ks
 chunk_grown s c ks i xs ending = same ks
 chunk_grown s c ks i xs passing = same ks
 chunk_grown s c ks i xs (made l) = same ks

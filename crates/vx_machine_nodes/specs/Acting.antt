@@ -23,7 +23,7 @@ use Rattle.vx_machine_nodes.specs.declared.item.Item.{Item}
 use Rattle.vx_machine_nodes.specs.declared.item.Segment.{Segment}
 use Rattle.vx_machine_nodes.specs.declared.kinds.FlatNode.{FlatNode}
 use Rattle.vx_machine_nodes.specs.declared.node.Local.{Local}
-use Rattle.vx_machine_nodes.specs.declared.node.Local.TheVariants.{Empty, Full, Chunked, Columns, Lists, Grouped, Over, Passing, Made, Zoned, Pressing, AsIs}
+use Rattle.vx_machine_nodes.specs.declared.node.Local.TheVariants.{Empty, Full, Chunked, Columns, Lists, Grouped, Over, Passing, Made, Zoned, Pressing, AsIs, Probe, Asking, Runs}
 use Rattle.vx_machine_nodes.specs.Context.{setting_of}
 use Rattle.vx_machine_nodes.specs.Outcome.{action_of, AllFit, Refused, none_past}
 use Rattle.vx_machine_nodes.specs.View.{item_of, mind_of}
@@ -146,6 +146,9 @@ first_word first (Grouped n) = Some many_chunks
 first_word first (Zoned n) = Some many_chunks
 first_word first (Pressing which) = Some many_chunks
 first_word first AsIs = Some many_chunks
+first_word first (Probe n eof) = Some many_chunks
+first_word first Asking = Some many_chunks
+first_word first (Runs r) = Some many_chunks
 first_word first Over = Some many_chunks
 first_word first Passing = Some many_chunks
 first_word first (Made l) = Some many_chunks
@@ -161,6 +164,9 @@ is_flat (Grouped n) = false
 is_flat (Zoned n) = false
 is_flat (Pressing which) = false
 is_flat AsIs = false
+is_flat (Probe n eof) = false
+is_flat Asking = false
+is_flat (Runs r) = false
 is_flat Over = false
 is_flat Passing = false
 is_flat (Made l) = false
@@ -176,9 +182,48 @@ is_grouped (Lists n rows) = false
 is_grouped (Zoned n) = false
 is_grouped (Pressing which) = false
 is_grouped AsIs = false
+is_grouped (Probe n eof) = false
+is_grouped Asking = false
+is_grouped (Runs r) = false
 is_grouped Over = false
 is_grouped Passing = false
 is_grouped (Made l) = false
+
+-- whether no chunk came of a dictionary node
+abbrev pub is_probe : Local → Bool
+is_probe (Probe n eof) = true
+is_probe (Empty n) = false
+is_probe (Full x) = false
+is_probe (Chunked n eof rows) = false
+is_probe (Columns n rows) = false
+is_probe (Lists n rows) = false
+is_probe (Grouped n) = false
+is_probe (Zoned n) = false
+is_probe (Pressing which) = false
+is_probe AsIs = false
+is_probe Asking = false
+is_probe (Runs r) = false
+is_probe Over = false
+is_probe Passing = false
+is_probe (Made l) = false
+
+-- whether its node cuts runs
+abbrev pub is_cutting : Local → Bool
+is_cutting (Runs r) = true
+is_cutting (Empty n) = false
+is_cutting (Full x) = false
+is_cutting (Chunked n eof rows) = false
+is_cutting (Columns n rows) = false
+is_cutting (Lists n rows) = false
+is_cutting (Grouped n) = false
+is_cutting (Zoned n) = false
+is_cutting (Pressing which) = false
+is_cutting AsIs = false
+is_cutting (Probe n eof) = false
+is_cutting Asking = false
+is_cutting Over = false
+is_cutting Passing = false
+is_cutting (Made l) = false
 
 -- why a chunk isn't split: it is of another type, or the rows with it are too many
 abbrev pub SplitRefused : Bool → ℕ → WriteError → Type 0

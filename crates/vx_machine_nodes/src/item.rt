@@ -7,6 +7,8 @@ ghost use Rattle.vx_sink.specs.ContextView.{counted};
 ghost use Rattle.vx_machine_nodes.specs.Ledger.{Paid, told_by, some_bytes, due_reserved, dues_reserved};
 ghost use Rattle.vx_machine_nodes.specs.Stocks.{item_stock, items_stock, stored_stock, due_stock, dues_stock};
 
+use crate::dict::{give_up_probe, give_up_run};
+use crate::dict_node::{DictProbe, RunStart};
 use crate::node::Shape;
 use crate::zoned::give_up_table;
 use crate::zoned_node::TableStart;
@@ -65,6 +67,18 @@ pub enum Due {
     Table(TableStart),
     /// Once the only child has done all: gives the pointer up.
     Leave(SequencePointer),
+    /// It calls the compressor for a dictionary node's first chunk, and goes on by the image.
+    Ask(DictProbe),
+    /// It starts codes and values of a run, and puts the first codes on their queue.
+    OpenRun {
+        run: RunStart,
+        item: Item,
+    },
+    /// On the queue of the child behind this one, a run's values; then the queues of both are closed.
+    EndRun {
+        child: usize,
+        item: Item,
+    },
 }
 
 /// Gives up its id.
@@ -124,6 +138,12 @@ pub(crate) fn give_up_due<O: Order>(ctx: &mut LayoutWriterContext, order: &mut O
         Due::Join(shape) => drop(shape),
         Due::Table(table) => give_up_table(order, table),
         Due::Leave(eof) => give_up_pointer(order, eof),
+        Due::Ask(probe) => give_up_probe(order, probe),
+        Due::OpenRun { run, item } => {
+            give_up_run(order, run);
+            give_up_item(order, item);
+        }
+        Due::EndRun { child: _, item } => give_up_item(order, item),
     }
 }
 

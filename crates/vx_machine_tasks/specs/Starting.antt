@@ -11,11 +11,11 @@ use Rattle.vx_strategy_spec.specs.Dispatch.{override, given_or}
 use Rattle.vx_strategy.specs.FieldWays.{field_ways}
 use Rattle.vx_strategy.specs.declared.list.ListLayoutStrategy.{ListLayoutStrategy}
 use Rattle.vx_strategy.specs.declared.structs.StructStrategy.{StructStrategy}
-use Rattle.vx_plan.specs.PlanData.{Setting, What, not_struct, duplicate_field, forbidden_aggregate}
+use Rattle.vx_plan.specs.PlanData.{Setting, Item, What, not_struct, duplicate_field, forbidden_aggregate}
 use Rattle.vx_machine_turns.specs.Forms.{Form, Forms, struct_form, list_form, no_forms, form_then}
 use Rattle.vx_machine_turns.specs.Starts.{start_fault, start_faults}
 use Rattle.vx_machine_view.specs.State.{Tasks, no_tasks, task_then}
-use Rattle.vx_machine_view.specs.Start.{waiting, roomy, first_mind, first_kids, field_tasks, form_count, first_indices, field_indices, outlet_desk}
+use Rattle.vx_machine_view.specs.Start.{waiting, roomy, first_mind, first_kids, field_tasks, form_count, first_indices, field_indices, outlet_desk, started_task}
 use Rattle.vx_machine_view.specs.Acts.{add}
 use Rattle.vx_write_answer.specs.declared.error.WriteError.{WriteError}
 use Rattle.vx_write_answer.specs.declared.error.WriteError.TheVariants.{SourceFault, SinkFault, CompressFault, BatchType, NotStruct, DuplicateField, ManyChunks, EmptyList, ZoneCut, ForbiddenAggregate, ForbiddenEncoding, TooLarge, OutOfMemory, Unbuilt, Stopped}
@@ -143,6 +143,14 @@ pub record OnlyStarted (a : Allowed) (f : Form) (m : Bool) (at : List ℕ) (e : 
   pub allowed : IsAllowed a f m
   pub counted : Counted e (first_indices f m e)
   pub tasks : row ks ≡ task_then (waiting (under at 0) (first_mind f m e) [] false) (first_kids f m (under at 0) e) no_tasks
+
+-- ---- of a run
+
+-- one more child behind those that are there, with this queue
+pub record KidStarted (a : Allowed) (f : Form) (m : Bool) (name : List ℕ) (e : Eof) (inbox : List Item) (ks more : List Task) : Type 0 where
+  pub allowed : IsAllowed a f m
+  pub counted : AllFit (first_indices f m e)
+  pub tasks : row more ≡ add (row ks) (started_task f m name e inbox false)
 
 -- ---- of a zoned node
 

@@ -12,7 +12,7 @@ ghost use Rattle.vx_sink.specs.ContextView.{counted};
 ghost use Rattle.vx_plan.specs.PlanData.{Setting};
 ghost use Rattle.vx_machine_view.specs.State.{append as append_next, join_kids, Next, Mind, made as has_layout, Tasks};
 ghost use Rattle.vx_machine_view.specs.Acts.{give, shut_all, layouts_in, joined_rows, column_count};
-ghost use Rattle.vx_machine_nodes.specs.Acting.{AppendRefused, JoinRefused, acted, ActDone, taken, Took, TakeStopped, is_grouped, ChunkTaken, ChunkStopped, EndTaken, EndRefused};
+ghost use Rattle.vx_machine_nodes.specs.Acting.{AppendRefused, JoinRefused, acted, ActDone, taken, Took, TakeRefused, TakeStopped, is_grouped, is_probe, is_cutting, ChunkTaken, ChunkStopped, EndTaken, EndRefused};
 ghost use Rattle.vx_machine_tasks.specs.Acting.{DueDone, DueRefused, NextTaken, NextUntaken, NextDone, NextRefused};
 ghost use Rattle.vx_machine_nodes.specs.Calls.{TaskTold, PressTold};
 ghost use Rattle.vx_machine_nodes.specs.Causes.{MayCome, ActMay};
@@ -27,6 +27,7 @@ ghost use Rattle.vx_machine_nodes.specs.View.{item_of, stored_of, fold_of, todo_
 ghost use Rattle.vx_machine_tasks.specs.View.{row};
 
 use crate::chunked::take_chunked;
+use crate::dict_acts::{ask, end_probe, end_run, open_run};
 use crate::join::{gather, join, join_columns};
 use crate::ready::columns_fit;
 use crate::table_start::start_table;
@@ -37,8 +38,9 @@ use std::mem;
 use vx_machine_ids::give_up_pointer;
 use vx_machine_nodes::{
     ChunkedNode, ColumnsNode, Due, FlatNode, Item, Local, Shape, Stored, append, end_grouped,
-    end_lists, end_zoned, give_up_item, press, release, set_local, take_as_is, take_columns,
-    take_flat, take_grouped, take_lists, take_pressing, take_zoned,
+    end_lists, end_runs, end_zoned, give_up_item, press, release, set_local, take_as_is,
+    take_columns, take_flat, take_grouped, take_lists, take_pressing, take_probe, take_runs,
+    take_zoned,
 };
 use vx_order::Order;
 use vx_path::owned::Path;
@@ -46,7 +48,7 @@ use vx_sink::{BufferedBytesReservation, CompressorPlugin, LayoutWriterContext};
 use vx_write_answer::{ActionKind, WriteError};
 
 /// Puts an item on the queue of a child.
-fn put<O: Order>(
+pub(crate) fn put<O: Order>(
     order: &mut O,
     kids: &mut Vec<Task>,
     child: usize,
@@ -214,6 +216,11 @@ fn act<O: Order, C: CompressorPlugin>(
             give_up_pointer(order, eof);
             Ok(ActionKind::Join)
         }
+        Due::Ask(probe) => ask(
+            alloc, ctx, order, compressor, name, local, todo, kids, probe,
+        ),
+        Due::OpenRun { run, item } => open_run(alloc, ctx, order, name, kids, run, item),
+        Due::EndRun { child, item } => end_run(order, kids, child, item),
     }
 }
 
@@ -234,7 +241,7 @@ fn take<O: Order>(
     ensures tracked { Paid ctx.old ctx.new (local_reserved local.old + dues_reserved todo.old.items + tasks_reserved kids.old.items)
         (local_reserved local.new + dues_reserved todo.new.items + tasks_reserved kids.new.items) }
     ensures context { told_by ctx.new ≡ told_by ctx.old }
-    ensures done { OnOk result (ChunkTaken ctx.old name.now (row kids.old.items) item local.old local.new (todo_of todo.new.items) (todo_of todo.old.items) (row kids.new.items)) }
+    ensures done { todo.old.items ≡ [] → OnOk result (ChunkTaken ctx.old name.now (row kids.old.items) item local.old local.new (todo_of todo.new.items) (todo_of todo.old.items) (row kids.new.items)) }
     ensures refused { IsFalse (is_over local.old) → IfErr result (ChunkStopped ctx.old name.now (row kids.old.items) item local.old) }
     ensures outlet { O.outlet order.new ≡ O.outlet order.old }
     ensures sink { O.sink order.new ≡ O.sink order.old }
@@ -250,6 +257,12 @@ fn take<O: Order>(
         Local::Zoned(node) => take_zoned(alloc, order, node, todo, item),
         Local::Pressing(which) => take_pressing(order, *which, todo, item),
         Local::AsIs => take_as_is(order, todo, item),
+        Local::Probe(..) => ask_first(order, local, todo, item),
+        Local::Asking => {
+            give_up_item(order, item);
+            Ok(())
+        }
+        Local::Runs(_) => cut_runs(alloc, ctx, order, local, todo, item),
         _ => take_flat(alloc, ctx, order, local, item),
     }
 }
@@ -279,6 +292,64 @@ fn regroup<O: Order>(
         Local::Grouped(node) => match take_grouped(alloc, ctx, order, node, todo, item) {
             Ok(node) => {
                 set_local(ctx, order, local, Local::Grouped(node));
+                Ok(())
+            }
+            Err(error) => Err(error),
+        },
+        _ => unreachable!(),
+    }
+}
+
+/// Takes the first chunk of a dictionary node.
+fn ask_first<O: Order>(
+    order: &mut O,
+    local: &mut Local,
+    todo: &mut VecDeque<Due>,
+    item: Item,
+) -> Result<(), WriteError>
+    requires owned { Owned (O.active order.old) (both (both (local_stock local.old) (dues_stock todo.old.items)) (item_stock item)) }
+    requires probe { IsTrue (is_probe local.old) }
+    ensures moved { Moved (O.active order.old) (O.active order.new) (both (both (local_stock local.old) (dues_stock todo.old.items)) (item_stock item)) (both (local_stock local.new) (dues_stock todo.new.items)) }
+    ensures reserved { dues_reserved todo.new.items ≡ dues_reserved todo.old.items }
+    ensures unreserved { (local_reserved local.old ≡ 0) × (local_reserved local.new ≡ 0) }
+    ensures done { OnOk result ((s : Setting) (name : List ℕ) (ks : Tasks) → Took (taken s name ks (item_of item) (mind_of local.old)) (mind_of local.new) (todo_of todo.new.items) (todo_of todo.old.items) ks) }
+    ensures refused { IfErr result (λ e. (s : Setting) (name : List ℕ) (ks : Tasks) → TakeRefused (taken s name ks (item_of item) (mind_of local.old)) e) }
+    ensures outlet { O.outlet order.new ≡ O.outlet order.old }
+    ensures sink { O.sink order.new ≡ O.sink order.old }
+    ensures cause { IfErr result MayCome }
+{
+    match mem::replace(local, Local::Asking) {
+        Local::Probe(node, pointer) => take_probe(order, node, pointer, todo, item),
+        _ => unreachable!(),
+    }
+}
+
+/// Takes a chunk where the task's node cuts runs.
+fn cut_runs<O: Order>(
+    alloc: Global,
+    ctx: &mut LayoutWriterContext,
+    order: &mut O,
+    local: &mut Local,
+    todo: &mut VecDeque<Due>,
+    item: Item,
+) -> Result<(), WriteError>
+    requires owned { Owned (O.active order.old) (both (both (local_stock local.old) (dues_stock todo.old.items)) (item_stock item)) }
+    requires cutting { IsTrue (is_cutting local.old) }
+    ensures moved { Moved (O.active order.old) (O.active order.new) (both (both (local_stock local.old) (dues_stock todo.old.items)) (item_stock item)) (both (local_stock local.new) (dues_stock todo.new.items)) }
+    ensures tracked { counted ctx.new ≡ counted ctx.old }
+    ensures context { told_by ctx.new ≡ told_by ctx.old }
+    ensures reserved { dues_reserved todo.new.items ≡ dues_reserved todo.old.items }
+    ensures unreserved { (local_reserved local.old ≡ 0) × (local_reserved local.new ≡ 0) }
+    ensures done { todo.old.items ≡ [] → OnOk result ((s : Setting) (name : List ℕ) (ks : Tasks) → Took (taken s name ks (item_of item) (mind_of local.old)) (mind_of local.new) (todo_of todo.new.items) (todo_of todo.old.items) ks) }
+    ensures refused { IfErr result (λ e. (s : Setting) (name : List ℕ) (ks : Tasks) → TakeRefused (taken s name ks (item_of item) (mind_of local.old)) e) }
+    ensures outlet { O.outlet order.new ≡ O.outlet order.old }
+    ensures sink { O.sink order.new ≡ O.sink order.old }
+    ensures cause { IfErr result MayCome }
+{
+    match mem::replace(local, Local::Over) {
+        Local::Runs(runs) => match take_runs(alloc, order, runs, todo, item) {
+            Ok(runs) => {
+                set_local(ctx, order, local, Local::Runs(runs));
                 Ok(())
             }
             Err(error) => Err(error),
@@ -348,6 +419,7 @@ fn ended<O: Order>(
     requires owned { Owned (O.active order.old) (both (local_stock local) (dues_stock todo.old.items)) }
     requires reserved { local_reserved local + dues_reserved todo.old.items ≤ counted ctx.old }
     requires room { deque_len todo.old + 3 ≤ deque_capacity todo.old }
+    requires other { IsFalse (is_probe local) }
     ensures moved { Moved (O.active order.old) (O.active order.new) (both (local_stock local) (dues_stock todo.old.items)) (both (ok_stock local_stock result) (dues_stock todo.new.items)) }
     ensures tracked { Paid ctx.old ctx.new (local_reserved local + dues_reserved todo.old.items) (ok_bytes local_reserved result + dues_reserved todo.new.items) }
     ensures context { told_by ctx.new ≡ told_by ctx.old }
@@ -382,6 +454,9 @@ fn ended<O: Order>(
             todo.push_back_reserved(Due::Close);
             Ok(Local::Passing)
         }
+        Local::Probe(..) => unreachable!(),
+        Local::Asking => Ok(Local::Asking),
+        Local::Runs(runs) => end_runs(alloc, order, todo, runs),
         Local::Over => Ok(Local::Over),
         Local::Passing => Ok(Local::Passing),
         Local::Made(layout) => Ok(Local::Made(layout)),
@@ -399,6 +474,7 @@ fn end<O: Order>(
 ) -> Result<(), WriteError>
     requires owned { Owned (O.active order.old) (both (local_stock local.old) (dues_stock todo.old.items)) }
     requires reserved { local_reserved local.old + dues_reserved todo.old.items ≤ counted ctx.old }
+    requires other { IsFalse (is_probe local.old) }
     ensures moved { Moved (O.active order.old) (O.active order.new) (both (local_stock local.old) (dues_stock todo.old.items)) (both (local_stock local.new) (dues_stock todo.new.items)) }
     ensures tracked { Paid ctx.old ctx.new (local_reserved local.old + dues_reserved todo.old.items) (local_reserved local.new + dues_reserved todo.new.items) }
     ensures context { told_by ctx.new ≡ told_by ctx.old }
@@ -449,14 +525,14 @@ fn take_next<O: Order>(
             kids,
             item,
         ),
-        None => end(
-            alloc,
-            ctx,
-            order,
-            kids.len(),
-            &mut head.local,
-            &mut head.todo,
-        ),
+        None => {
+            let local = &mut head.local;
+            let todo = &mut head.todo;
+            match local {
+                Local::Probe(..) => end_probe(alloc, ctx, order, &head.name, local, todo, kids),
+                _ => end(alloc, ctx, order, kids.len(), local, todo),
+            }
+        }
     }
 }
 

@@ -30,6 +30,8 @@ fn is_steady(head: &Head, counts: &Counts) -> bool
             Due::Put { .. } | Due::HandOn { .. } => counts.asked.is_empty(),
             Due::Close | Due::Join(_) | Due::Press { .. } => counts.asked.is_empty(),
             Due::Table(_) | Due::Leave(_) => counts.asked.is_empty(),
+            Due::Ask(_) | Due::OpenRun { .. } => counts.asked.is_empty(),
+            Due::EndRun { .. } => counts.asked.is_empty(),
         },
         None => counts.asked.is_empty(),
     }
@@ -45,6 +47,8 @@ pub(crate) fn touched(head: &Head) -> Touched
             Due::HandOn { .. } => Touched::Child(0),
             Due::Append(_) | Due::Press { .. } => Touched::Nothing,
             Due::Table(_) | Due::Leave(_) => Touched::Nothing,
+            Due::Ask(_) | Due::OpenRun { .. } => Touched::Nothing,
+            Due::EndRun { child, item: _ } => Touched::Both(*child),
             Due::Close | Due::Join(_) => Touched::All,
         },
         None => Touched::Nothing,

@@ -23,6 +23,7 @@ ghost use Rattle.vx_machine_tasks.specs.Stocks.{task_stock, tasks_stock};
 ghost use Rattle.vx_machine_nodes.specs.View.{fold_of};
 ghost use Rattle.vx_machine_tasks.specs.View.{task_row, row};
 
+use crate::dict_join::join_runs;
 use crate::ready::{columns_fit, lists_fit};
 use crate::task::{Head, Task, refuse_all};
 use std::alloc::Global;
@@ -346,6 +347,11 @@ pub(crate) fn join<O: Order>(
                 layout
             }
             Shape::Zones(zones) => join_zones(alloc, zones, layouts),
+            Shape::Runs(node, rows) => {
+                let layout = join_runs(alloc, &node, rows, layouts);
+                drop(node);
+                layout
+            }
         },
         Err(error) => {
             drop(shape);

@@ -29,6 +29,7 @@ fn is_made(kid: &Task) -> bool
         Local::Empty(_) | Local::Full(_) | Local::Chunked(..) | Local::Grouped(_) => false,
         Local::Columns(..) | Local::Lists(..) | Local::Zoned(_) | Local::Over => false,
         Local::Pressing(_) | Local::AsIs => false,
+        Local::Probe(..) | Local::Asking | Local::Runs(_) => false,
     }
 }
 
@@ -40,6 +41,7 @@ fn is_over(local: &Local) -> bool
         Local::Empty(_) | Local::Full(_) | Local::Chunked(..) => false,
         Local::Columns(..) | Local::Lists(..) | Local::Grouped(_) => false,
         Local::Zoned(_) | Local::Pressing(_) | Local::AsIs => false,
+        Local::Probe(..) | Local::Asking | Local::Runs(_) => false,
     }
 }
 
@@ -97,6 +99,7 @@ fn can_join(shape: &Shape, kids: usize) -> bool
         Shape::Columns(node, _) => columns_fit(node, kids),
         Shape::Lists(node, _) => lists_fit(node, kids),
         Shape::Zones(_) => kids == 2,
+        Shape::Runs(_, rows) => kids == 2 * rows.len(),
     }
 }
 
@@ -116,6 +119,8 @@ fn may_due<O: Order>(order: &O, due: &Due, kids: &[Task]) -> bool
             made && can_join(shape, kids.len())
         }
         Due::Table(_) | Due::Leave(_) => all_made(kids),
+        Due::Ask(_) | Due::OpenRun { .. } => true,
+        Due::EndRun { child, item: _ } => *child < kids.len() && has_room(kids, *child + 1),
     }
 }
 

@@ -37,7 +37,7 @@ use std::sync::Arc;
 use vx_machine_ids::{give_up_pointer, take_below};
 use vx_machine_nodes::{
     FlatNode, GroupedNode, Local, blocks_node, buffer_node, chunked_node, collect_node,
-    columns_node, drop_fresh, lists_node,
+    columns_node, drop_fresh, lists_node, runs_node,
 };
 use vx_model::DType;
 use vx_order::Order;
@@ -83,8 +83,8 @@ pub(crate) fn next_name(
 
 /// The task of a strategy that is built, at a type. Refused, it gives up the pointer and all that was made of it.
 ///
-/// It refuses a struct node of another type, repeated names of fields, and aggregates that may not be recorded, of all nodes that start with it. A table, and a
-/// list node of another type, give way to what stands for them.
+/// It refuses a struct node of another type, repeated names of fields, and aggregates that may not be recorded, of all nodes that start with it. A table, a
+/// list node of another type, and a dictionary node of a type that it can't hold, give way to what stands for them.
 #[cycle(start)]
 pub fn start_task<O: Order>(
     alloc: Global,
@@ -166,7 +166,16 @@ fn start_settled<O: Order>(
                 Err(error)
             }
         },
-        Strategy::Dict(_) => unreachable!(),
+        Strategy::Dict(by) => match runs_node(alloc, by, dtype, marked) {
+            Ok(node) => {
+                let local = Local::Probe(node, eof);
+                Ok(waiting(alloc, name, local, Vec::new(alloc)))
+            }
+            Err(error) => {
+                give_up_pointer(order, eof);
+                Err(error)
+            }
+        },
         Strategy::Zoned(zoned) => {
             if marked {
                 let child = zoned.child().strategy();

@@ -278,7 +278,7 @@ one_opened f m name c e g qs xs ys h k =
     ∙ ap (λ z. z ++ opened (fuel g) qs) h ∙ ap (λ z. xs ++ z) k
 
 -- an only child gets the pointer itself
-kid_opened : (k : Form) (m : Bool) (name : List ℕ) (e : Eof) (g : Ty → Fuel)
+pub kid_opened : (k : Form) (m : Bool) (name : List ℕ) (e : Eof) (g : Ty → Fuel)
     → start_indices (local_of k m (under name 0) e) ++ opened (g (form_type k)) (firsts (seed_of k m (under name 0) e)) ≡ first_indices k m e
     → opened (fuel g) (seed_of k m (under name 0) e ∷ []) ≡ first_indices k m e
 kid_opened k m name e g h = ap (λ z. start_indices (local_of k m (under name 0) e) ++ z) (append-nil (opened (g (form_type k)) (firsts (seed_of k m (under name 0) e)))) ∙ h

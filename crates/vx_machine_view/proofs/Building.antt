@@ -83,6 +83,12 @@ mutual
 
 -- ---- all
 
+-- of a type that no dictionary can hold it is its fallback
+dict_built : (o : DictOptions) (c v f : StrategyData) (t : Ty) (b : Bool) → Built (walk form_nodes c (code_type o)) → Built (walk form_nodes v t) → Built (walk form_nodes f t)
+    → Built (if b then dict_form o t (walk form_nodes c (code_type o)) (walk form_nodes v t) (walk form_nodes f t) else walk form_nodes f t)
+dict_built o c v f t true x y z = ((fuel_is_enough c (code_type o)).0, x, (fuel_is_enough v t).0, y, (fuel_is_enough f t).0, z)
+dict_built o c v f t false x y z = z
+
 mutual
   built : (w : StrategyData) → is_built w ≡ true → (t : Ty) → Built (walk form_nodes w t)
   built (flat o) b t = tt
@@ -102,7 +108,9 @@ mutual
   built (structured v d ws) b (extension tag t) = tt
   built (grouped g w) b t = ((fuel_is_enough w t).0, built w b t)
   built (compressed which room w) b t = ((fuel_is_enough w t).0, built w b t)
-  built (coded o c v f) b t = dict_built o c v f (and_left (is_built c) (is_built v && is_built f) b) (and_left (is_built v) (is_built f) (and_right (is_built c) (is_built v && is_built f) b)) (and_right (is_built v) (is_built f) (and_right (is_built c) (is_built v && is_built f) b)) t (is_dict_type t)
+  built (coded o c v f) b t =
+      let r : (is_built v && is_built f) ≡ true = and_right (is_built c) (is_built v && is_built f) b in
+      dict_built o c v f t (is_dict_type t) (built c (and_left (is_built c) (is_built v && is_built f) b) (code_type o)) (built v (and_left (is_built v) (is_built f) r) t) (built f (and_right (is_built v) (is_built f) r) t)
   built (zoned o w stats) b t = ((fuel_is_enough w t).0, built w (and_left (is_built w) (is_built stats) b) t, λ u. ((fuel_is_enough stats u).0, built stats (and_right (is_built w) (is_built stats) b) u))
   built (listed e o v f) b (list t n) = (
     (fuel_is_enough e t).0,
@@ -125,12 +133,6 @@ mutual
       (λ u. ((fuel_is_enough v u).0, built v (and_left (is_built v) (is_built l && (are_built ws && wraps_built wraps)) b) u))
       (λ u. ((fuel_is_enough l u).0, built l (and_left (is_built l) (are_built ws && wraps_built wraps) r) u))
       (around_fits lists wraps (wraps_fit wraps (and_right (are_built ws) (wraps_built wraps) x))) (all_built ws (and_left (are_built ws) (wraps_built wraps) x)) t).1
-
-  -- of a type that no dictionary can hold it is its fallback
-  dict_built : (o : DictOptions) (c v f : StrategyData) → is_built c ≡ true → is_built v ≡ true → is_built f ≡ true → (t : Ty) (b : Bool)
-      → Built (if b then dict_form o t (walk form_nodes c (code_type o)) (walk form_nodes v t) (walk form_nodes f t) else walk form_nodes f t)
-  dict_built o c v f hc hv hf t true = ((fuel_is_enough c (code_type o)).0, built c hc (code_type o), (fuel_is_enough v t).0, built v hv t, (fuel_is_enough f t).0, built f hf t)
-  dict_built o c v f hc hv hf t false = built f hf t
 
   all_built : (ws : StrategyList) → are_built ws ≡ true → AllFit (walk_named form_nodes ws)
   all_built no_ways b = tt

@@ -1,15 +1,15 @@
 -- What a dictionary node can do that cuts runs is what the abstract one can.
-use Rattle.std.proofs.Common.{◌≡◌, ◌+◌, ◌*◌, ◌<◌, ◌≤◌, ◌&&◌, ◌==◌, ◌∷◌, ◌++◌, ◌∙◌, ℕ, suc, Bool, true, false, not, List, map, length, refl, sym, ap, subst, arith, get_or, eq-eqb, Some, None, []}
+use Rattle.std.proofs.Common.{◌≡◌, ◌+◌, ◌*◌, ◌<◌, ◌≤◌, ◌&&◌, ◌==◌, ◌∷◌, ◌++◌, ◌∙◌, ℕ, zero, suc, inl, Bool, true, false, not, List, map, length, refl, sym, ap, subst, arith, get_or, eq-eqb, Some, None, []}
 use Rattle.vx_model.specs.Words.{total_by}
 use Rattle.vx_model.specs.Ty.{Ty}
-use Rattle.vx_layout_spec.specs.LayoutTree.{LayoutData, row_count, renamed, gathered}
+use Rattle.vx_layout_spec.specs.LayoutTree.{LayoutData, row_count, renamed, gathered, dict_layout}
 use Rattle.vx_rules.specs.Runs.{code_type}
 use Rattle.vx_tasks.specs.Task.{Join}
 use Rattle.vx_plan.specs.PlanData.{Setting, Item, row_total, rows_in}
 use Rattle.vx_plan.proofs.InOrderLaws.{renamed-gathered}
 use Rattle.vx_machine_turns.specs.Locals.{DictNode, RunsSoFar, Local, runs_local}
 use Rattle.vx_machine_turns.specs.Acts.{Seed, Act, runs_of, does, shape_in}
-use Rattle.vx_machine_turns.specs.Dict.{cut_puts, next_cut, after_cut, runs_kept, runs_end, runs_ends}
+use Rattle.vx_machine_turns.specs.Dict.{cut_puts, rest_eof, next_cut, after_cut, runs_kept, runs_end, runs_ends}
 use Rattle.vx_machine_turns.specs.Readings.{run_layouts, shaped}
 use Rattle.vx_machine_turns.specs.Scripts.{with_holds, all_uses, filled}
 use Rattle.vx_machine_turns.specs.Fuels.{Fuel, less}
@@ -39,7 +39,7 @@ runs_renamed : (number : List ℕ → ℕ) (t : Ty) (ns : List ℕ) (ls : List (
 runs_renamed number t [] ls = refl
 runs_renamed number t (n ∷ ns) [] = refl
 runs_renamed number t (n ∷ ns) (l ∷ []) = refl
-runs_renamed number t (n ∷ ns) (k ∷ v ∷ ls) = ap (λ z. _ ∷ z) (runs_renamed number t ns ls)
+runs_renamed number t (n ∷ ns) (k ∷ v ∷ ls) = ap (λ z. renamed number (dict_layout t n v k) ∷ z) (runs_renamed number t ns ls)
 
 module _ (s : Setting) (number : List ℕ → ℕ) (segment_number : ℕ) (all : List (List ℕ)) (d : Fuel) (q0 : Seed) (j0 : ℕ) (q : Seed) (places : ℕ) (ks more : Tasks) (hs r : Tree) (past : List Act)
     (law : Careful s) (pl : places ≡ 1 + get_or q0.spare j0 0) (sm : Shows s number d q0 (suc j0) more r) (kids : Shows s number (less d q.type) q 0 ks hs) (n : DictNode) (k : Coded q (less d q.type) n) where
@@ -90,14 +90,14 @@ module _ (s : Setting) (number : List ℕ → ℕ) (segment_number : ℕ) (all :
       })
     where
       some : (c : ℕ) → j + 2 ≡ 2 * c → (b : ℕ) × (c ≡ suc b)
-      some 0 e = absurd (omega (arith, e))
+      some zero e = absurd (omega (arith, e))
       some (suc b) e = (b, refl)
   deed_own m l over (puts_codes j e false i) ds holds left todo c end ty_is go shaped_as onward rows xs closed ty =
       let a : Act = with_holds holds (deed_act s n (puts_codes j e false i)) in
       let len : length (types_of hs) ≡ 2 * c = ap length ty_is ∙ types_length n.options n.type c in
       let at : j ≡ length (types_of hs) = go.0 ∙ sym len in
       let all_of : j ≡ count ks = at ∙ sym (count_types s number (less d q.type) q 0 ks hs kids) in
-      let w = run_kinds (less d q.type) q n j e a hs k at refl in
+      let w = run_kinds s number (less d q.type) q n j e a hs k at refl in
       one_pair (SameStep s number segment_number d q0 j0 (task_then (own_desk m (deed_next (coder_of n) (puts_codes j e false i) ∷ left) xs closed) ks more) (Work (own_head past (a ∷ todo) l over xs closed) hs r))
       (own_step (own_desk m (deed_next (coder_of n) (puts_codes j e false i) ∷ left) xs closed) more (do_act s segment_number (own_desk m (deed_next (coder_of n) (puts_codes j e false i) ∷ left) xs closed) ks (deed_next (coder_of n) (puts_codes j e false i) ∷ left))) _
       true (not (is_full q 0 hs j)) (ap not (sym (not_full q 0 j hs (omega (arith, at)))))
@@ -150,7 +150,7 @@ module _ (s : Setting) (number : List ℕ → ℕ) (segment_number : ℕ) (all :
       })
     where
       some : (c : ℕ) → j + 2 ≡ 2 * c → (b : ℕ) × (c ≡ suc b)
-      some 0 e = absurd (omega (arith, e))
+      some zero e = absurd (omega (arith, e))
       some (suc b) e = (b, refl)
 
   -- ---- it waits for the next chunk
@@ -173,7 +173,7 @@ module _ (s : Setting) (number : List ℕ → ℕ) (segment_number : ℕ) (all :
           refusal = refl;
           misfit = refl;
           numbers = refl;
-          indices = ap (λ z. _ ∷ _ ∷ z) (sym (opened_none (less d q.type)));
+          indices = ap (λ z. (rest_eof (after_cut n so_far j)).last ∷ (2 * suc (length (next_cut n so_far j).closed)) ∷ z) (sym (opened_none (less d q.type)));
           wrote = refl;
           raises = refl;
           lowers = refl;
@@ -207,7 +207,7 @@ module _ (s : Setting) (number : List ℕ → ℕ) (segment_number : ℕ) (all :
           refusal = refl;
           misfit = ap not (type_fits n.type i.1 ti);
           numbers = refl;
-          indices = ap (λ z. _ ∷ _ ∷ z) (sym (opened_none (less d q.type)));
+          indices = ap (λ z. (rest_eof (after_cut n so_far j)).last ∷ (2 * length (next_cut n so_far j).closed + 1) ∷ z) (sym (opened_none (less d q.type)));
           wrote = refl;
           raises = refl;
           lowers = refl;

@@ -10,7 +10,7 @@ use Rattle.vx_rules.specs.Runs.{DictOptions, with_cell, place_in, cells_fit, str
 use Rattle.vx_plan.specs.PlanData.{Setting, Item, rows_in}
 use Rattle.vx_machine_turns.specs.Locals.{DictNode, RunsSoFar}
 use Rattle.vx_machine_turns.specs.Acts.{Act}
-use Rattle.vx_machine_turns.specs.Dict.{Stretch, codes_put, ended_puts, cut_puts, base_after, ended_rows, open_rows, next_cut, after_cut, last_stretches}
+use Rattle.vx_machine_turns.specs.Dict.{Stretch, codes_put, values_put, ended_puts, cut_puts, base_after, ended_rows, open_rows, next_cut, after_cut, last_stretches}
 use Rattle.vx_machine_view.specs.Coder.{coder_of}
 use Rattle.vx_machine_view.specs.Coding.{puts_codes, ended_deeds, cut_deeds, deeds_at, last_deeds, run_rows, runs_laid}
 use Rattle.vx_machine_view.specs.Deeds.{deed_act, deed_acts, run_types, Going, run_count, summed, Cutting}
@@ -26,15 +26,15 @@ cut_acts : (s : Setting) (n : DictNode) (p : List ℕ) (rank j : ℕ) (e : Eof) 
     → cut_puts s n p rank j e b xs codes ≡ deed_acts s n (cut_deeds (coder_of n) p rank j e b xs codes)
 cut_acts s n p rank j e b [] codes = ap (λ (z : Act). z ∷ []) (codes_act s n p rank j e b codes)
 cut_acts s n p rank j e b (x ∷ xs) codes =
-    ap (λ (z : Act). z ∷ _ ∷ cut_puts s n p (rank + 2) (suc (suc j)) (next (next e)) false xs codes) (codes_act s n p rank j e b x.0)
-    ∙ ap (λ (z : List Act). _ ∷ _ ∷ z) (cut_acts s n p (rank + 2) (suc (suc j)) (next (next e)) false xs codes)
+    ap (λ (z : Act). z ∷ values_put n p (suc rank) j x.1 ∷ cut_puts s n p (rank + 2) (suc (suc j)) (next (next e)) false xs codes) (codes_act s n p rank j e b x.0)
+    ∙ ap (λ (z : List Act). deed_act s n (puts_codes j e b (under p rank, codes_piece n.options x.0)) ∷ values_put n p (suc rank) j x.1 ∷ z) (cut_acts s n p (rank + 2) (suc (suc j)) (next (next e)) false xs codes)
 
 ended_acts : (s : Setting) (n : DictNode) (p : List ℕ) (rank j : ℕ) (e : Eof) (b : Bool) (xs : List Stretch)
     → ended_puts s n p rank j e b xs ≡ deed_acts s n (ended_deeds (coder_of n) p rank j e b xs)
 ended_acts s n p rank j e b [] = refl
 ended_acts s n p rank j e b (x ∷ xs) =
-    ap (λ (z : Act). z ∷ _ ∷ ended_puts s n p (rank + 2) (suc (suc j)) (next (next e)) false xs) (codes_act s n p rank j e b x.0)
-    ∙ ap (λ (z : List Act). _ ∷ _ ∷ z) (ended_acts s n p (rank + 2) (suc (suc j)) (next (next e)) false xs)
+    ap (λ (z : Act). z ∷ values_put n p (suc rank) j x.1 ∷ ended_puts s n p (rank + 2) (suc (suc j)) (next (next e)) false xs) (codes_act s n p rank j e b x.0)
+    ∙ ap (λ (z : List Act). deed_act s n (puts_codes j e b (under p rank, codes_piece n.options x.0)) ∷ values_put n p (suc rank) j x.1 ∷ z) (ended_acts s n p (rank + 2) (suc (suc j)) (next (next e)) false xs)
 
 pub acts_at : (s : Setting) (n : DictNode) (r : RunsSoFar) (j : Item) → cut_puts s n j.0 0 r.base r.eof r.begun (next_cut n r j).closed (next_cut n r j).codes ≡ deed_acts s n (deeds_at (coder_of n) r j)
 acts_at s n r j = cut_acts s n j.0 0 r.base r.eof r.begun (next_cut n r j).closed (next_cut n r j).codes
@@ -65,36 +65,18 @@ cut_going : (n : DictNode) (p : List ℕ) (rank j : ℕ) (e : Eof) (b : Bool) (x
 cut_going n p rank j e true [] codes k m a is = (a, refl, (let h : k ≡ m = omega (arith, is) in h))
 cut_going n p rank j e false [] codes k m a is = (a, refl, (let h : suc k ≡ m = omega (arith, is) in h))
 cut_going n p rank j e true (x ∷ xs) codes k m a is =
-    (a, refl, a, refl, cut_going n p (rank + 2) (suc (suc j)) (next (next e)) false xs codes k m (let h : suc (suc j) ≡ 2 * k = omega (arith, a) in h) (let h : m ≡ suc k + length xs = omega (arith, is) in h))
-cut_going n p rank j e false (x ∷ xs) codes k m a is = (
-  a,
-  refl,
-  (let h : j + 2 ≡ 2 * suc k = omega (arith, a) in h),
-  refl,
-  cut_going n p (rank + 2) (suc (suc j)) (next (next e)) false xs codes (suc k) m (let h : suc (suc j) ≡ 2 * suc k = omega (arith, a) in h) (let h : m ≡ suc (suc k) + length xs = omega (arith, is) in h),
-)
+    (a, refl, (a, refl, cut_going n p (rank + 2) (suc (suc j)) (next (next e)) false xs codes k m (let h : suc (suc j) ≡ 2 * k = omega (arith, a) in h) (let h : m ≡ suc k + length xs = omega (arith, is) in h)))
+cut_going n p rank j e false (x ∷ xs) codes k m a is = (a, refl, ((let h : j + 2 ≡ 2 * suc k = omega (arith, a) in h), refl, cut_going n p (rank + 2) (suc (suc j)) (next (next e)) false xs codes (suc k) m (let h : suc (suc j) ≡ 2 * suc k = omega (arith, a) in h) (let h : m ≡ suc (suc k) + length xs = omega (arith, is) in h)))
 
 fresh_going : (n : DictNode) (p : List ℕ) (rank j : ℕ) (e : Eof) (xs : List Stretch) (k m : ℕ) → j ≡ 2 * k → m ≡ k + length xs → Going n k (ended_deeds (coder_of n) p rank j e false xs) m
 fresh_going n p rank j e [] k m a is = (let h : k ≡ m = omega (arith, is) in h)
-fresh_going n p rank j e (x ∷ xs) k m a is = (
-  a,
-  refl,
-  (let h : j + 2 ≡ 2 * suc k = omega (arith, a) in h),
-  refl,
-  fresh_going n p (rank + 2) (suc (suc j)) (next (next e)) xs (suc k) m (let h : suc (suc j) ≡ 2 * suc k = omega (arith, a) in h) (let h : m ≡ suc k + length xs = omega (arith, is) in h),
-)
+fresh_going n p rank j e (x ∷ xs) k m a is = (a, refl, ((let h : j + 2 ≡ 2 * suc k = omega (arith, a) in h), refl, fresh_going n p (rank + 2) (suc (suc j)) (next (next e)) xs (suc k) m (let h : suc (suc j) ≡ 2 * suc k = omega (arith, a) in h) (let h : m ≡ suc k + length xs = omega (arith, is) in h)))
 
 ended_going : (n : DictNode) (p : List ℕ) (rank j : ℕ) (e : Eof) (b : Bool) (x : Stretch) (xs : List Stretch) (k m : ℕ) → At b j k → m ≡ then_count b k + length xs
     → Going n k (ended_deeds (coder_of n) p rank j e b (x ∷ xs)) m
 ended_going n p rank j e true x xs k m a is =
-    (a, refl, a, refl, fresh_going n p (rank + 2) (suc (suc j)) (next (next e)) xs k m (let h : suc (suc j) ≡ 2 * k = omega (arith, a) in h) (let h : m ≡ k + length xs = omega (arith, is) in h))
-ended_going n p rank j e false x xs k m a is = (
-  a,
-  refl,
-  (let h : j + 2 ≡ 2 * suc k = omega (arith, a) in h),
-  refl,
-  fresh_going n p (rank + 2) (suc (suc j)) (next (next e)) xs (suc k) m (let h : suc (suc j) ≡ 2 * suc k = omega (arith, a) in h) (let h : m ≡ suc k + length xs = omega (arith, is) in h),
-)
+    (a, refl, (a, refl, fresh_going n p (rank + 2) (suc (suc j)) (next (next e)) xs k m (let h : suc (suc j) ≡ 2 * k = omega (arith, a) in h) (let h : m ≡ k + length xs = omega (arith, is) in h)))
+ended_going n p rank j e false x xs k m a is = (a, refl, ((let h : j + 2 ≡ 2 * suc k = omega (arith, a) in h), refl, fresh_going n p (rank + 2) (suc (suc j)) (next (next e)) xs (suc k) m (let h : suc (suc j) ≡ 2 * suc k = omega (arith, a) in h) (let h : m ≡ suc k + length xs = omega (arith, is) in h)))
 
 -- where the runs so far stand
 at_runs : (b : Bool) (base ended : ℕ) → base ≡ 2 * ended → At b base (ended + (if b then 1 else 0))

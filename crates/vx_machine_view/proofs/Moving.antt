@@ -9,18 +9,21 @@ use Rattle.vx_model.specs.Ty.{Ty, struct}
 use Rattle.vx_rules.specs.Blocks.{block_len}
 use Rattle.vx_plan.specs.PlanData.{Setting, Item, row_total}
 use Rattle.vx_machine_turns.specs.Forms.{Writer}
-use Rattle.vx_machine_turns.specs.Locals.{Local, chunked_local, struct_local, list_local, blocks_local, bytes_local, collect_local, compressed_local, outlet_local, fallback_local}
+use Rattle.vx_machine_turns.specs.Locals.{Local, chunked_local, struct_local, list_local, blocks_local, bytes_local, collect_local, compressed_local, outlet_local, dict_local, fallback_local}
 use Rattle.vx_machine_turns.specs.Acts.{Seed, Act, does, put_item, close_queues, gathers, gifts}
 use Rattle.vx_machine_turns.specs.Grouped.{group_kept}
 use Rattle.vx_machine_turns.specs.Collected.{collect_kept}
 use Rattle.vx_machine_turns.specs.Columns.{column_puts}
+use Rattle.vx_machine_turns.specs.Dict.{dict_turn}
+use Rattle.vx_machine_turns.specs.Turns.{kept}
 use Rattle.vx_machine_turns.specs.Scripts.{filled}
 use Rattle.vx_machine_turns.specs.Fuels.{Fuel, less}
 use Rattle.vx_machine_steps.specs.Tree.{Head, Tree, Leaf, Work}
 use Rattle.vx_machine_steps.specs.Moves.{doing, due, due_todo, is_nil, all_paths, all_over, TreeMove, tree_moves, move_own}
 use Rattle.vx_machine_steps.specs.Moves as abstract
 use Rattle.vx_machine_steps.specs.Laws.{JoinsFree}
-use Rattle.vx_machine_view.specs.State.{Next, press, Mind, by_chunk, by_column, by_list, by_block, by_size, as_one, by_image, as_is, passing, Desk, Tasks, no_tasks, task_then}
+use Rattle.vx_machine_view.specs.State.{Next, press, probe, Mind, by_probe, asking, by_chunk, by_column, by_list, by_block, by_size, as_one, by_image, as_is, passing, Desk, Tasks, no_tasks, task_then}
+use Rattle.vx_machine_view.specs.Coder.{coder_of}
 use Rattle.vx_machine_view.specs.Acts.{count, do_act, puts}
 use Rattle.vx_machine_view.specs.Moves.{Step, own_step, in_kids, in_rest, steps, may_act, may_take, is_over}
 use Rattle.vx_machine_view.specs.Built.{column_types, list_types}
@@ -70,10 +73,10 @@ own_moves s number next all d q0 j0 q places ks more hs r past law pl sm kids mi
             (let z : length ws ≡ length ps = omega (arith, same) in z) w.unshaped xs closed ty
 
     -- one without children
-    childless : ks ≡ no_tasks → {m : Mind} {f : List Next} {a : List Act} {x : Local} {o : Bool}
+    childless : ks ≡ no_tasks → (m : Mind) (f : List Next) (a : List Act) (x : Local) (o : Bool)
         → ((z : Tasks) (y : Tree) → Own s number next all d q0 j0 q places z more y r past m f a x o xs closed → Own s number next all d q0 j0 q places z more y r past mind left todo l over xs closed)
         → Own s number next all d q0 j0 q places no_tasks more Leaf r past m f a x o xs closed → Own s number next all d q0 j0 q places ks more hs r past mind left todo l over xs closed
-    childless nk carry own =
+    childless nk m f a x o carry own =
         subst (λ z. Own s number next all d q0 j0 q places z more hs r past mind left todo l over xs closed) (sym nk)
         (subst (λ y. Own s number next all d q0 j0 q places no_tasks more y r past mind left todo l over xs closed) (sym (no_tree s number (less d q.type) q 0 ks hs nk kids)) (carry no_tasks Leaf own))
 
@@ -113,10 +116,10 @@ own_moves s number next all d q0 j0 q places ks more hs r past law pl sm kids mi
     by (lets_out n t outs w) = carried (λ m f a l o. Own s number next all d q0 j0 q places ks more hs r past m f a l o xs closed) w.mind_is w.left_is w.rest w.local_is w.on
         (out_own s number next all d q0 j0 q places ks more hs r past law pl sm kids n t outs w.type_is w.kids w.typed w.unshaped xs closed ty)
     by (asks_first n k nk w) =
-        childless nk (λ z y. carried (λ m f a l o. Own s number next all d q0 j0 q places z more y r past m f a l o xs closed) w.mind_is w.idle w.rest w.local_is w.on)
+        childless nk (by_probe (coder_of n) n.eof) [] [] (dict_local n) false (λ z y. carried (λ m f a l o. Own s number next all d q0 j0 q places z more y r past m f a l o xs closed) w.mind_is w.idle w.rest w.local_is w.on)
         (asks_own s number next all d q0 j0 q places more r past law pl sm n k w.unshaped xs closed ty)
     by (probes n i k nk w) =
-        childless nk (λ z y. carried (λ m f a l o. Own s number next all d q0 j0 q places z more y r past m f a l o xs closed) w.mind_is w.left_is w.rest w.local_is w.on)
+        childless nk asking (probe (coder_of n) n.eof i ∷ []) (filled (kept (dict_turn s n i).after) (dict_turn s n i).more) (dict_turn s n i).after false (λ z y. carried (λ m f a l o. Own s number next all d q0 j0 q places z more y r past m f a l o xs closed) w.mind_is w.left_is w.rest w.local_is w.on)
         (probes_own s number next all d q0 j0 q places more r past law pl sm n k i w.typed w.counted w.unshaped xs closed ty)
     by (falls_back t outs w) = carried (λ m f a l o. Own s number next all d q0 j0 q places ks more hs r past m f a l o xs closed) w.mind_is w.left_is w.rest w.local_is w.on
         (back_own s number next all d q0 j0 q places ks more hs r past law pl sm kids t outs w.type_is w.kids w.typed w.unshaped xs closed ty)

@@ -1,5 +1,5 @@
 -- Children that an act starts behind the others, and what one gets that is there.
-use Rattle.std.proofs.Common.{◌≡◌, ◌+◌, ◌≤◌, ◌<◌, ◌||◌, ◌∷◌, ◌++◌, ◌∙◌, ℕ, zero, suc, Bool, true, false, cond, nat_eq, List, length, refl, sym, ap, subst, arith, append-nil, []}
+use Rattle.std.proofs.Common.{◌≡◌, ◌+◌, ◌≤◌, ◌<◌, ◌||◌, ◌∷◌, ◌++◌, ◌∙◌, ℕ, zero, suc, Bool, true, false, cond, nat_eq, nat_le, get_or, None, List, length, refl, sym, ap, subst, arith, append-nil, []}
 use Rattle.std.proofs.lemmas.Bool.Decides.{nat_tests}
 use Rattle.vx_model.specs.Ty.{Ty}
 use Rattle.vx_path.specs.Path.{under, inside, next, Eof}
@@ -24,7 +24,7 @@ use Rattle.vx_machine_view.specs.Shows.{Shows, rows_of, types_of}
 use Rattle.vx_machine_view.specs.Deeds.{Coded}
 use Rattle.vx_machine_view.proofs.Words.{or_none, or_all}
 use Rattle.vx_machine_view.proofs.Feeding.{sprout_none, fed, fed_none, typed_more}
-use Rattle.vx_machine_view.proofs.Beginning.{task_begun, fresh_rows, opened_is, one_opened}
+use Rattle.vx_machine_view.proofs.Beginning.{task_begun, fresh_rows, kid_opened, opened_is, one_opened}
 
 pub types_behind : (d : Fuel) (a : Act) (j c : ℕ) (t : Tree) → c ≡ j + length (types_of t) → types_of (feed d a j t) ≡ types_of t ++ types_of (sprout d a c a.starts)
 types_behind d a j c Leaf e = let h : j ≡ c = omega (arith, e) in ap (λ z. types_of (sprout d a z a.starts)) h
@@ -33,11 +33,11 @@ types_behind d a j c (Work h ks r) e = ap (λ z. h.seed.type ∷ z) (types_behin
 -- no child has this number
 pub not_full : (q : Seed) (j c : ℕ) (t : Tree) → j + length (types_of t) ≤ c → is_full q j t c ≡ false
 not_full q j c Leaf l = refl
-not_full q j c (Work h ks r) l = let e : nat_eq j c ≡ false = grind (arith, nat_tests) in ap (λ z. cond z _ (is_full q (suc j) r c)) e ∙ not_full q (suc j) c r (omega (arith, l))
+not_full q j c (Work h ks r) l = let e : nat_eq j c ≡ false = grind (arith, nat_tests) in ap (λ z. cond z (nat_le (1 + get_or q.spare j 0) (length h.inbox)) (is_full q (suc j) r c)) e ∙ not_full q (suc j) c r (omega (arith, l))
 
 pub back_opened : (d : Fuel) (q : Seed) (n : DictNode) (a : Act) → Coded q d n → a.starts ≡ fallback_seed n ∷ [] → opened d a.starts ≡ first_indices n.fallback n.mark n.eof
 back_opened spent q n a k st = absurd k.enough
-back_opened (fuel g) q n a k st = ap (opened (fuel g)) st ∙ ap (λ z. _ ++ z) (append-nil (opened (g (form_type n.fallback)) (firsts (fallback_seed n)))) ∙ opened_is n.fallback n.mark (under n.name 0) n.eof (g (form_type n.fallback)) k.built.5 k.enough.2
+back_opened (fuel g) q n a k st = ap (opened (fuel g)) st ∙ kid_opened n.fallback n.mark n.name n.eof g (opened_is n.fallback n.mark (under n.name 0) n.eof (g (form_type n.fallback)) k.built.5 k.enough.2)
 
 module _ (s : Setting) (number : List ℕ → ℕ) where
   -- new children behind those that an act leaves as they are
@@ -67,7 +67,7 @@ module _ (s : Setting) (number : List ℕ → ℕ) where
   back_shows (fuel g) q n a k f gs sh st = (
     subst (λ z. Shows s number (fuel g) q 0 (started_task n.fallback n.mark (under z 0) n.eof [] false) (feed (fuel g) a 0 Leaf)) k.name_is
         (subst (Shows s number (fuel g) q 0 (started_task n.fallback n.mark (under n.name 0) n.eof [] false)) (sym is)
-        (task_begun s number g q 0 n.fallback n.mark (under n.name 0) n.eof [] false k.spare tt k.built.5 f k.enough.2)),
+        (task_begun s number g q 0 n.fallback n.mark (under n.name 0) n.eof [] false (ap (λ z. get_or z 0 0) k.spare) tt k.built.5 f k.enough.2)),
     ap types_of is ∙ ap (λ z. z ∷ []) k.built.4,
     ap rows_of is ∙ (let e = fresh_rows n.fallback n.mark (under n.name 0) n.eof (g (form_type n.fallback)) k.built.5 in ap (λ z. (z + 0) + 0) e),
   )
@@ -96,11 +96,11 @@ module _ (s : Setting) (number : List ℕ → ℕ) where
 
       first : Shows s number (fuel g) q c (started_task n.codes n.mark (under n.name c) (inside e) (i ∷ []) false)
           (Work (fresh (seed_of n.codes n.mark (under n.name c) (inside e)) (i ∷ []) false) (sprout (g (form_type n.codes)) quiet 0 (firsts (seed_of n.codes n.mark (under n.name c) (inside e)))) Leaf)
-      first = task_begun s number g q c n.codes n.mark (under n.name c) (inside e) (i ∷ []) false k.spare (subst (λ z. Typed z i.1) (sym k.built.0) ti, tt) k.built.1 no.0 k.enough.0
+      first = task_begun s number g q c n.codes n.mark (under n.name c) (inside e) (i ∷ []) false (ap (λ z. get_or z c 0) k.spare) (subst (λ z. Typed z i.1) (sym k.built.0) ti, tt) k.built.1 no.0 k.enough.0
 
       second : Shows s number (fuel g) q (suc c) (started_task n.values n.mark (under n.name (suc c)) (inside (next e)) [] false)
           (Work (fresh (seed_of n.values n.mark (under n.name (suc c)) (inside (next e))) [] false) (sprout (g (form_type n.values)) quiet 0 (firsts (seed_of n.values n.mark (under n.name (suc c)) (inside (next e))))) Leaf)
-      second = task_begun s number g q (suc c) n.values n.mark (under n.name (suc c)) (inside (next e)) [] false k.spare tt k.built.3 no.1 k.enough.1
+      second = task_begun s number g q (suc c) n.values n.mark (under n.name (suc c)) (inside (next e)) [] false (ap (λ z. get_or z (suc c) 0) k.spare) tt k.built.3 no.1 k.enough.1
 
       gets : for_child c a.gives ≡ i ∷ []
       gets = ap (for_child c) gs ∙ (let z : nat_eq c c ≡ true = grind (arith, nat_tests) in ap (λ y. cond y (i ∷ []) []) z)
@@ -133,18 +133,18 @@ module _ (s : Setting) (number : List ℕ → ℕ) where
   -- child k gets the item, and closes
   last_given : (d : Fuel) (q : Seed) (j k : ℕ) (a : Act) (i : Item) (u : Ty) (before : List Ty) (cs : Tasks) (t : Tree) → Shows s number d q j cs t → types_of t ≡ before ++ (u ∷ []) → length before ≡ k → Typed u i.1
       → a.gives ≡ ((j + k), i) ∷ [] → has (j + k) a.shuts ≡ true → ((x : ℕ) → j ≤ x → x < j + k → has x a.shuts ≡ false) → a.starts ≡ [] → Shows s number d q j (shut_at k (give k i cs)) (feed d a j t)
-  last_given d q j k a i u [] no_tasks Leaf w e l ty gs sh no st = absurd (omega (arith, ap length e))
-  last_given d q j k a i u (b ∷ before) no_tasks Leaf w e l ty gs sh no st = absurd (omega (arith, ap length e))
-  last_given d q j k a i u before no_tasks (Work h hs r) w e l ty gs sh no st = absurd w
-  last_given d q j k a i u before (task_then b ks more) Leaf w e l ty gs sh no st = absurd w
-  last_given d q j zero a i u before (task_then b ks no_tasks) (Work h hs Leaf) w e l ty gs sh no st =
+  last_given d q j k a i u [] no_tasks Leaf w e l ty gs sh far st = absurd (omega (arith, ap length e))
+  last_given d q j k a i u (b ∷ before) no_tasks Leaf w e l ty gs sh far st = absurd (omega (arith, ap length e))
+  last_given d q j k a i u before no_tasks (Work h hs r) w e l ty gs sh far st = absurd w
+  last_given d q j k a i u before (task_then b ks more) Leaf w e l ty gs sh far st = absurd w
+  last_given d q j zero a i u before (task_then b ks no_tasks) (Work h hs Leaf) w e l ty gs sh far st =
       subst (λ z. Shows s number d q j (task_then (shut_desk (with_item b i)) ks no_tasks) (Work z hs (feed d a (suc j) Leaf))) (sym head_is) (
         record {
           name = w.0.name;
           inbox = ap (λ z. z ++ (i ∷ [])) w.0.inbox;
           closed = sym (or_all h.closed);
           places = w.0.places;
-          typed = typed_more h.seed.type h.inbox i w.0.typed (subst (λ z. Typed z i.1) (only before e l) ty);
+          typed = typed_more s number h.seed.type h.inbox i w.0.typed (subst (λ z. Typed z i.1) (only before e l) ty);
         },
         w.1,
         subst (Shows s number d q (suc j) no_tasks) (sym (ap (sprout d a (suc j)) st ∙ sprout_none d a (suc j))) tt,
@@ -160,17 +160,17 @@ module _ (s : Setting) (number : List ℕ → ℕ) where
       head_is : fed h (for_child j a.gives) (has j a.shuts) ≡ fed h (i ∷ []) true
       head_is = ap (λ z. fed h z (has j a.shuts)) (ap (for_child j) gs ∙ (let z : nat_eq (j + 0) j ≡ true = grind (arith, nat_tests) in ap (λ y. cond y (i ∷ []) []) z))
           ∙ ap (fed h (i ∷ [])) (subst (λ z. has z a.shuts ≡ true) here sh)
-  last_given d q j zero a i u before (task_then b ks no_tasks) (Work h hs (Work x y z)) w e l ty gs sh no st = absurd w.2
-  last_given d q j zero a i u before (task_then b ks (task_then x y z)) (Work h hs Leaf) w e l ty gs sh no st = absurd w.2
-  last_given d q j zero a i u [] (task_then b ks (task_then x y z)) (Work h hs (Work m n o)) w e l ty gs sh no st = absurd (omega (arith, ap length e))
-  last_given d q j zero a i u (v ∷ before) (task_then b ks (task_then x y z)) (Work h hs (Work m n o)) w e l ty gs sh no st = absurd (omega (arith, l))
-  last_given d q j (suc k) a i u [] (task_then b ks more) (Work h hs r) w e l ty gs sh no st = absurd (omega (arith, l))
-  last_given d q j (suc k) a i u (v ∷ before) (task_then b ks more) (Work h hs r) w e l ty gs sh no st =
+  last_given d q j zero a i u before (task_then b ks no_tasks) (Work h hs (Work x y z)) w e l ty gs sh far st = absurd w.2
+  last_given d q j zero a i u before (task_then b ks (task_then x y z)) (Work h hs Leaf) w e l ty gs sh far st = absurd w.2
+  last_given d q j zero a i u [] (task_then b ks (task_then x y z)) (Work h hs (Work m n o)) w e l ty gs sh far st = absurd (omega (arith, ap length e))
+  last_given d q j zero a i u (v ∷ before) (task_then b ks (task_then x y z)) (Work h hs (Work m n o)) w e l ty gs sh far st = absurd (omega (arith, l))
+  last_given d q j (suc k) a i u [] (task_then b ks more) (Work h hs r) w e l ty gs sh far st = absurd (omega (arith, l))
+  last_given d q j (suc k) a i u (v ∷ before) (task_then b ks more) (Work h hs r) w e l ty gs sh far st =
       subst (λ z. Shows s number d q j (task_then b ks (shut_at k (give k i more))) (Work z hs (feed d a (suc j) r))) (sym head_is) (
         w.0,
         w.1,
         last_given d q (suc j) k a i u before more r w.2 (rest_types h.seed.type v (types_of r) (before ++ (u ∷ [])) e) (omega (arith, l)) ty (gs ∙ ap (λ z. (z, i) ∷ []) place) (subst (λ z. has z a.shuts ≡ true) place sh)
-            (λ x lo hi. no x (omega (arith, lo)) (omega (arith, hi))) st,
+            (λ x lo hi. far x (omega (arith, lo)) (omega (arith, hi))) st,
       )
     where
       place : j + suc k ≡ suc j + k
@@ -181,7 +181,7 @@ module _ (s : Setting) (number : List ℕ → ℕ) where
 
       head_is : fed h (for_child j a.gives) (has j a.shuts) ≡ h
       head_is = ap (λ z. fed h z (has j a.shuts)) (ap (for_child j) gs ∙ (let z : nat_eq (j + suc k) j ≡ false = grind (arith, nat_tests) in ap (λ y. cond y (i ∷ []) []) z))
-          ∙ ap (fed h []) (no j (omega arith) (omega arith)) ∙ fed_none h
+          ∙ ap (fed h []) (far j (omega arith) (omega arith)) ∙ fed_none h
 
   -- values go to the last child, and both queues of the run are closed
   pub end_shows : (d : Fuel) (q : Seed) (j k : ℕ) (a : Act) (i : Item) (c u : Ty) (before : List Ty) (cs : Tasks) (t : Tree) → Shows s number d q j cs t → types_of t ≡ before ++ (c ∷ u ∷ []) → length before ≡ k → Typed u i.1

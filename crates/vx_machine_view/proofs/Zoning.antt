@@ -5,7 +5,7 @@ use Rattle.vx_model.specs.Ty.{Ty}
 use Rattle.vx_model.specs.ChunkData.{pieces_of}
 use Rattle.vx_path.specs.Path.{under, next}
 use Rattle.vx_layout_spec.specs.LayoutTree.{LayoutData, Spec, row_count, renamed}
-use Rattle.vx_layout_spec.specs.Codec.{Lawful}
+use Rattle.vx_machine_view.specs.Images.{Careful}
 use Rattle.vx_zone_spec.specs.ZoneTable.{Filled, kept_columns, table_fields, table_type, table_columns, table_specs, table_piece}
 use Rattle.vx_tasks.specs.Task.{Join, TakeEnd}
 use Rattle.vx_plan.specs.PlanData.{Setting, Item, row_total, rows_in}
@@ -118,7 +118,7 @@ and_yes true = refl
 and_yes false = refl
 
 module _ (s : Setting) (number : List ℕ → ℕ) (segment_number : ℕ) (all : List (List ℕ)) (d : Fuel) (q0 : Seed) (j0 : ℕ) (q : Seed) (places : ℕ) (ks more : Tasks) (hs r : Tree) (past : List Act)
-    (law : Lawful s.codec s.encodings) (pl : places ≡ 1 + get_or q0.spare j0 0) (sm : Shows s number d q0 (suc j0) more r) (kids : Shows s number (less d q.type) q 0 ks hs) where
+    (law : Careful s) (pl : places ≡ 1 + get_or q0.spare j0 0) (sm : Shows s number d q0 (suc j0) more r) (kids : Shows s number (less d q.type) q 0 ks hs) where
   abbrev own_desk : Mind → List Next → List Item → Bool → Desk
   own_desk mind left xs closed = desk s number segment_number all d q0 j0 q places ks more hs r past mind left xs closed
 
