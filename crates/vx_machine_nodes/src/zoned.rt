@@ -15,6 +15,7 @@ ghost use Rattle.vx_machine_view.specs.State.{Tasks};
 ghost use Rattle.vx_machine_view.specs.Zoned.{one_zone};
 ghost use Rattle.vx_machine_nodes.specs.Acting.{ZoneRefused, taken, Took, TakeRefused, EndTaken};
 ghost use Rattle.vx_machine_nodes.specs.Causes.{MayCome};
+ghost use Rattle.vx_machine_nodes.specs.Ledger.{dues_reserved, local_reserved};
 ghost use Rattle.vx_machine_nodes.specs.Stocks.{item_stock, dues_stock, local_stock, zoned_stock, table_stock};
 ghost use Rattle.vx_machine_nodes.specs.View.{item_of, todo_of, mind_of, zoner_in, zones_in};
 ghost use Rattle.vx_machine_nodes.specs.declared.item.Due.TheVariants.{Table};
@@ -109,6 +110,7 @@ pub fn take_zoned<O: Order>(
 ) -> Result<(), WriteError>
     requires { Owned (O.active order.old) (both (both (zoned_stock node.old) (dues_stock todo.old.items)) (item_stock item)) }
     ensures moved { Moved (O.active order.old) (O.active order.new) (both (both (zoned_stock node.old) (dues_stock todo.old.items)) (item_stock item)) (both (zoned_stock node.new) (dues_stock todo.new.items)) }
+    ensures reserved { dues_reserved todo.new.items ≡ dues_reserved todo.old.items }
     ensures done { OnOk result ((s : Setting) (name : List ℕ) (ks : Tasks) → s.hash ≡ xxhash3_64
         → Took (taken s name ks (item_of item) (mind_of (Zoned node.old))) (mind_of (Zoned node.new)) (todo_of todo.new.items) (todo_of todo.old.items) ks) }
     ensures refused { IfErr result (λ e. (s : Setting) (name : List ℕ) (ks : Tasks) → TakeRefused (taken s name ks (item_of item) (mind_of (Zoned node.old))) e) }
@@ -149,6 +151,8 @@ pub fn end_zoned<O: Order>(
     requires owned { Owned (O.active order.old) (both (zoned_stock node) (dues_stock todo.old.items)) }
     requires room { deque_len todo.old + 3 ≤ deque_capacity todo.old }
     ensures moved { Moved (O.active order.old) (O.active order.new) (both (zoned_stock node) (dues_stock todo.old.items)) (both (ok_stock local_stock result) (dues_stock todo.new.items)) }
+    ensures reserved { dues_reserved todo.new.items ≡ dues_reserved todo.old.items }
+    ensures unreserved { IfOk result (λ l. local_reserved l ≡ 0) }
     ensures done { (kids : ℕ) → IfOk result (λ l. EndTaken (Zoned node) kids l (todo_of todo.new.items) (todo_of todo.old.items)) }
     ensures memory { IfErr result (λ e. e ≡ WriteError.OutOfMemory) }
     ensures outlet { O.outlet order.new ≡ O.outlet order.old }
