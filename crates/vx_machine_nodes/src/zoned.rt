@@ -1,12 +1,14 @@
 //! A zoned node records each chunk beside handing it on. At the end the records make a table.
 
-ghost use Rattle.std.specs.Prelude.{◌≡◌, ◌+◌, ◌<◌, ◌≤◌, ◌^◌, ℕ, List, None, length, IfOk, IfErr, OnOk};
+ghost use Rattle.std.specs.Prelude.{◌≡◌, ◌+◌, ◌<◌, ◌≤◌, ◌^◌, false, ℕ, List, None, length, IsTrue, IfOk, IfErr, OnOk, OnErr};
 ghost use Rattle.std.specs.Arc.{arc_value};
 ghost use Rattle.std.specs.VecDeque.{deque_len, deque_capacity};
 ghost use Rattle.vx_hash.specs.XxHash3.{xxhash3_64};
 ghost use Rattle.vx_model.specs.ChunkData.{ChunkData, piece_type, cells};
 ghost use Rattle.vx_model.specs.TyView.{ty};
-ghost use Rattle.vx_turn_laws.specs.Guard.{Guard, refused_at};
+ghost use Rattle.vx_zone_record_spec.specs.Held.{record_fits};
+ghost use Rattle.vx_turn_laws.specs.Guard.{Guard, refused_at, record_at, behind};
+ghost use Rattle.vx_zone_guard.specs.GuardView.{values_of};
 ghost use Rattle.vx_zone_guard.specs.Causes.{Refuses};
 ghost use Rattle.vx_machine_ids.specs.Stock.{none, both, ok_stock};
 ghost use Rattle.vx_machine_ids.specs.Balance.{Owned, Moved};
@@ -29,9 +31,10 @@ use std::alloc::Global;
 use std::collections::VecDeque;
 use vx_chunk::Chunk;
 use vx_machine_ids::{give_up_id, give_up_pointer};
+use vx_model::Value;
 use vx_order::Order;
 use vx_write_answer::WriteError;
-use vx_zone_guard::GuardError;
+use vx_zone_guard::{GuardError, ZoneGuard};
 
 // ---- what is given up
 
@@ -78,7 +81,25 @@ fn guard_refusal(error: GuardError) -> WriteError
     }
 }
 
-/// Records the chunk, and counts its rows. A chunk of which nothing is recorded has an empty record.
+/// The chunk's record, which is empty where nothing is recorded.
+fn record_of(alloc: Global, guard: &mut ZoneGuard, chunk: &Chunk) -> Result<Vec<Value>, WriteError>
+    requires { piece_type chunk.now ≡ guard.old.typed }
+    ensures values { IfOk result (λ v. values_of v ≡ record_at xxhash3_64 guard.old chunk.now) }
+    ensures fits { IfOk result (λ v. IsTrue (record_fits guard.old.columns (values_of v))) }
+    ensures next { OnOk result (guard.new ≡ behind guard.old chunk.now) }
+    ensures makes_zones { OnOk result (refused_at guard.old chunk.now ≡ None) }
+    ensures kept { OnErr result (guard.new ≡ guard.old) }
+    ensures refused { (rows : ℕ) → IfErr result (ZoneRefused (refused_at guard.old chunk.now) false rows) }
+    ensures cause { IfErr result MayCome }
+{
+    match guard.react(alloc, chunk) {
+        Ok(Some(zone)) => Ok(zone),
+        Ok(None) => Ok(Vec::new(alloc)),
+        Err(error) => Err(guard_refusal(error)),
+    }
+}
+
+/// Records the chunk, and counts its rows.
 fn record_chunk(alloc: Global, node: &mut ZonedNode, chunk: &Chunk) -> Result<(), WriteError>
     requires typed { piece_type chunk.now ≡ ty (arc_value node.old.dtype) }
     ensures held { node.new.eof ≡ node.old.eof }
@@ -90,11 +111,7 @@ fn record_chunk(alloc: Global, node: &mut ZonedNode, chunk: &Chunk) -> Result<()
     ensures cause { IfErr result MayCome }
 {
     let rows = add_rows(node.rows, chunk.len())?;
-    let zone = match node.guard.react(alloc, chunk) {
-        Ok(Some(zone)) => zone,
-        Ok(None) => Vec::new(alloc),
-        Err(error) => return Err(guard_refusal(error)),
-    };
+    let zone = record_of(alloc, &mut node.guard, chunk)?;
     node.records.push(zone)?;
     node.rows = rows;
     Ok(())
