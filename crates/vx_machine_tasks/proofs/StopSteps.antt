@@ -9,7 +9,7 @@ use Rattle.vx_write_answer.specs.declared.error.WriteError.{WriteError}
 use Rattle.vx_machine_nodes.specs.declared.item.Item.{Item}
 use Rattle.vx_machine_nodes.specs.declared.grouped_node.GroupedNode.{GroupedNode}
 use Rattle.vx_machine_nodes.specs.declared.node.Local.{Local}
-use Rattle.vx_machine_nodes.specs.declared.node.Local.TheVariants.{Empty, Full, Chunked, Columns, Lists, Grouped, Over, Passing, Made}
+use Rattle.vx_machine_nodes.specs.declared.node.Local.TheVariants.{Empty, Full, Chunked, Columns, Lists, Grouped, Over, Passing, Made, Zoned, Pressing, AsIs, Probe, Asking, Runs}
 use Rattle.vx_machine_nodes.specs.Acting.{is_grouped, taken, Took, TakeStopped, ChunkTaken, ChunkRefused, ChunkStopped}
 use Rattle.vx_machine_nodes.specs.Context.{setting_of}
 use Rattle.vx_machine_nodes.specs.View.{item_of, mind_of}
@@ -49,6 +49,12 @@ grouped_only (Full x) h f = true≢false (sym h)
 grouped_only (Chunked n eof rows) h f = true≢false (sym h)
 grouped_only (Columns n rows) h f = true≢false (sym h)
 grouped_only (Lists n rows) h f = true≢false (sym h)
+grouped_only (Zoned n) h f = true≢false (sym h)
+grouped_only (Pressing which) h f = true≢false (sym h)
+grouped_only AsIs h f = true≢false (sym h)
+grouped_only (Probe n eof) h f = true≢false (sym h)
+grouped_only Asking h f = true≢false (sym h)
+grouped_only (Runs r) h f = true≢false (sym h)
 grouped_only Over h f = true≢false (sym h)
 grouped_only Passing h f = true≢false (sym h)
 grouped_only (Made x) h f = true≢false (sym h)

@@ -1,21 +1,24 @@
 use Rattle.std.proofs.Common.{◌≡◌, List, length, true, sym, ap, subst, ◌∙◌, refl, arith}
 use Rattle.std.proofs.lemmas.Bool.{and_parts}
+use Rattle.std.proofs.lemmas.Result.{IfErr-weaker}
 use Rattle.vx_sequence.specs.Universe.{Active}
 use Rattle.vx_machine_ids.specs.Stock.{both}
 use Rattle.vx_write_answer.specs.declared.step.ActionKind.TheVariants as actions
 use Rattle.vx_machine_tasks.specs.Pairs.{due_pairs, AllMay}
 use Rattle.vx_machine_tasks.specs.Ready.{Kid, may_due, kids_of, all_made, can_join}
 use Rattle.vx_machine_nodes.specs.Ledger.{some_bytes, due_reserved}
-use Rattle.vx_machine_nodes.specs.Stocks.{item_stock, stored_stock, due_stock, local_stock}
+use Rattle.vx_machine_nodes.specs.Stocks.{item_stock, stored_stock, due_stock, dues_stock, local_stock}
+use Rattle.vx_machine_nodes.specs.View.{todo_of}
 use Rattle.vx_machine_tasks.specs.Stocks.{tasks_stock}
 use Rattle.vx_machine_nodes.specs.declared.item.Due.{Due}
 use Rattle.vx_machine_nodes.specs.declared.item.Due.TheVariants.{Put, HandOn, Append, Join}
 use Rattle.vx_machine_nodes.specs.declared.node.Shape.{Shape}
 use Rattle.vx_machine_tasks.proofs.ActMoves.{put_owned, put_moved, append_owned, append_moved, join_owned, join_moved, close_moved}
-use Rattle.vx_machine_nodes.proofs.ActCauses.{memory_may, all_wider}
+use Rattle.vx_machine_nodes.specs.Causes.{AppendMay, ActMay}
+use Rattle.vx_machine_nodes.specs.Context.{setting_of}
+use Rattle.vx_machine_nodes.proofs.ActCauses.{memory_may, all_wider, append_wider}
 use Rattle.vx_machine_nodes.proofs.CallSteps.{unasked_self, quiet_told}
 use Rattle.vx_machine_tasks.proofs.Readiness.{least_means}
-use Rattle.vx_sink.specs.ContextView.{listed}
 use Rattle.vx_machine_tasks.proofs.ActShows.{err_kept, put_does, put_says, hand_does, hand_says, append_does, append_says, close_does, join_does, join_says, join_kind}
 use Rattle.vx_machine_tasks.proofs.advance.act.Goals as goal
 
@@ -24,14 +27,14 @@ by_case u ks d e is h = sym (ap (λ x. may_due u x ks) is) ∙ h
 
 pub put-requires-clause-owned : goal.put-requires-clause-owned
 put-requires-clause-owned g c =
-    put_owned (g.O.Order.active c.args.order.now) (local_stock c.args.local.now) (tasks_stock c.args.kids.now.items) (due_stock c.args.due) (item_stock c.in-Put.item) (ap due_stock c.in-Put.is) c.requires.owned
+    put_owned (g.O.Order.active c.args.order.now) (both (local_stock c.args.local.now) (dues_stock c.args.todo.now.items)) (tasks_stock c.args.kids.now.items) (due_stock c.args.due) (item_stock c.in-Put.item) (ap due_stock c.in-Put.is) c.requires.owned
 
 pub put-requires-clause-room : goal.put-requires-clause-room
 put-requires-clause-room g c = by_case (g.O.Order.active c.args.order.now) (kids_of c.args.kids.now.items) c.args.due (Put c.in-Put.child c.in-Put.item) c.in-Put.is c.requires.ready
 
 pub returns-in-Put-clause-moved : goal.returns-in-Put-clause-moved
 returns-in-Put-clause-moved g c =
-    put_moved (g.O.Order.active c.args.order.now) (local_stock c.args.local.now) (tasks_stock c.args.kids.now.items) (due_stock c.args.due) (item_stock c.in-Put.item) (ap due_stock c.in-Put.is) c.requires.owned
+    put_moved (g.O.Order.active c.args.order.now) (both (local_stock c.args.local.now) (dues_stock c.args.todo.now.items)) (tasks_stock c.args.kids.now.items) (due_stock c.args.due) (item_stock c.in-Put.item) (ap due_stock c.in-Put.is) c.requires.owned
     (g.O.Order.active c.put.new.order) (tasks_stock c.put.new.kids.items) c.put.ensures.moved
 
 pub returns-in-Put-clause-told : goal.returns-in-Put-clause-told
@@ -43,7 +46,7 @@ returns-in-Put-clause-cause g c = all_wider c.put.result (memory_may c.put.resul
 
 pub append_due-requires-clause-owned : goal.append_due-requires-clause-owned
 append_due-requires-clause-owned g c =
-    append_owned (g.O.Order.active c.args.order.now) (local_stock c.args.local.now) (tasks_stock c.args.kids.now.items) (due_stock c.args.due) (stored_stock c.in-Append.stored) (ap due_stock c.in-Append.is) c.requires.owned
+    append_owned (g.O.Order.active c.args.order.now) (local_stock c.args.local.now) (dues_stock c.args.todo.now.items) (tasks_stock c.args.kids.now.items) (due_stock c.args.due) (stored_stock c.in-Append.stored) (ap due_stock c.in-Append.is) c.requires.owned
 
 pub append_due-requires-clause-least : goal.append_due-requires-clause-least
 append_due-requires-clause-least g c =
@@ -55,17 +58,17 @@ append_due-requires-clause-allowed g c =
 
 pub returns-in-Append-clause-moved : goal.returns-in-Append-clause-moved
 returns-in-Append-clause-moved g c =
-    append_moved (g.O.Order.active c.args.order.now) (local_stock c.args.local.now) (tasks_stock c.args.kids.now.items) (due_stock c.args.due) (stored_stock c.in-Append.stored) (ap due_stock c.in-Append.is) c.requires.owned
+    append_moved (g.O.Order.active c.args.order.now) (local_stock c.args.local.now) (dues_stock c.args.todo.now.items) (tasks_stock c.args.kids.now.items) (due_stock c.args.due) (stored_stock c.in-Append.stored) (ap due_stock c.in-Append.is) c.requires.owned
     (g.O.Order.active c.append_due.new.order) (local_stock c.append_due.new.local) c.append_due.ensures.moved
 
 pub returns-in-Close-clause-moved : goal.returns-in-Close-clause-moved
 returns-in-Close-clause-moved g c =
-    close_moved (g.O.Order.active c.args.order.now) (local_stock c.args.local.now) (tasks_stock c.args.kids.now.items) (due_stock c.args.due) (ap due_stock c.in-Close.is) c.requires.owned
+    close_moved (g.O.Order.active c.args.order.now) (local_stock c.args.local.now) (dues_stock c.args.todo.now.items) (tasks_stock c.args.kids.now.items) (due_stock c.args.due) (ap due_stock c.in-Close.is) c.requires.owned
     (tasks_stock c.close_all.new.kids.items) c.close_all.ensures.stock
 
 pub join_due-requires-clause-owned : goal.join_due-requires-clause-owned
 join_due-requires-clause-owned g c =
-    join_owned (g.O.Order.active c.args.order.now) (local_stock c.args.local.now) (tasks_stock c.args.kids.now.items) (due_stock c.args.due) (ap due_stock c.in-Join.is) c.requires.owned
+    join_owned (g.O.Order.active c.args.order.now) (local_stock c.args.local.now) (dues_stock c.args.todo.now.items) (tasks_stock c.args.kids.now.items) (due_stock c.args.due) (ap due_stock c.in-Join.is) c.requires.owned
 
 may_join : (u : Active) (ks : List Kid) (d : Due) (h : Shape) → d ≡ Join h → may_due u d ks ≡ true → (all_made ks ≡ true) × (can_join h (length ks) ≡ true)
 may_join u ks d h is m = and_parts (all_made ks) (can_join h (length ks)) (by_case u ks d (Join h) is m)
@@ -75,8 +78,8 @@ join_due-requires-clause-made g c = (may_join (g.O.Order.active c.args.order.now
 
 pub returns-in-Join-clause-moved : goal.returns-in-Join-clause-moved
 returns-in-Join-clause-moved g c =
-    join_moved (g.O.Order.active c.args.order.now) (local_stock c.args.local.now) (tasks_stock c.args.kids.now.items) (due_stock c.args.due) (ap due_stock c.in-Join.is) c.requires.owned
-    (g.O.Order.active c.join_due.new.order) (both (local_stock c.join_due.new.local) (tasks_stock c.join_due.new.kids.items)) c.join_due.ensures.moved
+    join_moved (g.O.Order.active c.args.order.now) (local_stock c.args.local.now) (dues_stock c.args.todo.now.items) (tasks_stock c.args.kids.now.items) (due_stock c.args.due) (ap due_stock c.in-Join.is) c.requires.owned
+    (g.O.Order.active c.join_due.new.order) (local_stock c.join_due.new.local) (tasks_stock c.join_due.new.kids.items) c.join_due.ensures.moved
 
 pub returns-in-Close-clause-told : goal.returns-in-Close-clause-told
 returns-in-Close-clause-told g c = (refl, unasked_self (g.O.Sink.Fallible.faults (g.O.Order.sink c.args.order.now)) (g.O.Sink.Fallible.may_fail (g.O.Order.sink c.args.order.now)) (g.O.Sink.Fallible.must_fail (g.O.Order.sink c.args.order.now)))
@@ -84,60 +87,63 @@ returns-in-Close-clause-told g c = (refl, unasked_self (g.O.Sink.Fallible.faults
 pub returns-in-Join-clause-told : goal.returns-in-Join-clause-told
 returns-in-Join-clause-told g c =
     quiet_told g.O.Sink.Fallible.faults g.O.Sink.Fallible.may_fail g.O.Sink.Fallible.must_fail (g.O.Order.sink c.args.order.now) (g.O.Order.sink c.join_due.new.order) c.join_due.ensures.sink actions.Join refl refl c.join_due.result
-    (join_kind c.in-Join.shape c.args.kids.now.items (g.O.Order.outlet c.args.order.now) (g.O.Order.outlet c.join_due.new.order) c.join_due.new.local c.join_due.new.kids.items c.join_due.result c.join_due.ensures.done)
+    (join_kind (setting_of c.args.ctx.now (g.C.CompressorPlugin.image (g.C.CompressorPlugin.kind c.args.compressor.now))) c.in-Join.shape c.args.kids.now.items (g.O.Order.outlet c.args.order.now) (g.O.Order.outlet c.join_due.new.order) c.join_due.new.local c.join_due.new.kids.items c.join_due.result c.join_due.ensures.done)
     c.join_due.ensures.cause
+
+pub returns-in-Append-clause-cause : goal.returns-in-Append-clause-cause
+returns-in-Append-clause-cause g c = IfErr-weaker c.append_due.result AppendMay ActMay append_wider c.append_due.ensures.cause
 
 pub returns-in-Join-clause-cause : goal.returns-in-Join-clause-cause
 returns-in-Join-clause-cause g c = all_wider c.join_due.result c.join_due.ensures.cause
 
 pub returns-in-Put-clause-done : goal.returns-in-Put-clause-done
 returns-in-Put-clause-done g c =
-    put_does (listed c.args.ctx.now) c.args.local.now c.args.kids.now.items c.args.due (g.O.Order.outlet c.args.order.now) (g.O.Order.outlet c.put.new.order) c.in-Put.child c.in-Put.item c.put.new.kids.items c.put.result
+    put_does c.args.ctx.now (g.C.CompressorPlugin.image (g.C.CompressorPlugin.kind c.args.compressor.now)) c.args.name.now c.args.local.now c.args.kids.now.items c.args.due (g.O.Order.outlet c.args.order.now) (g.O.Order.outlet c.put.new.order) c.in-Put.child c.in-Put.item (todo_of c.args.todo.now.items) c.put.new.kids.items c.put.result
     c.in-Put.is c.put.ensures.kind c.put.ensures.kids c.put.ensures.outlet
 
 pub returns-in-Put-clause-refused : goal.returns-in-Put-clause-refused
 returns-in-Put-clause-refused g c =
-    put_says (listed c.args.ctx.now) c.args.local.now c.args.kids.now.items c.args.due (g.O.Order.outlet c.args.order.now) (g.O.Order.outlet c.put.new.order) c.in-Put.child c.in-Put.item c.put.result c.in-Put.is c.put.ensures.memory
+    put_says c.args.ctx.now (g.C.CompressorPlugin.image (g.C.CompressorPlugin.kind c.args.compressor.now)) c.args.name.now c.args.local.now c.args.kids.now.items c.args.due (g.O.Order.outlet c.args.order.now) (g.O.Order.outlet c.put.new.order) c.in-Put.child c.in-Put.item c.put.result c.in-Put.is c.put.ensures.memory
 
 pub returns-in-Put-clause-kept : goal.returns-in-Put-clause-kept
 returns-in-Put-clause-kept g c = err_kept c.put.result (g.O.Order.outlet c.args.order.now) (g.O.Order.outlet c.put.new.order) c.put.ensures.outlet
 
 pub returns-in-Append-clause-done : goal.returns-in-Append-clause-done
 returns-in-Append-clause-done g c =
-    append_does (listed c.args.ctx.now) c.args.local.now c.args.kids.now.items c.args.due (g.O.Order.outlet c.args.order.now) (g.O.Order.outlet c.append_due.new.order) c.in-Append.stored c.append_due.new.local c.append_due.result
+    append_does c.args.ctx.now (g.C.CompressorPlugin.image (g.C.CompressorPlugin.kind c.args.compressor.now)) c.args.name.now c.args.local.now c.args.kids.now.items c.args.due (g.O.Order.outlet c.args.order.now) (g.O.Order.outlet c.append_due.new.order) c.in-Append.stored c.append_due.new.local (todo_of c.args.todo.now.items) c.append_due.result
     c.in-Append.is c.append_due.ensures.done
 
 pub returns-in-Append-clause-refused : goal.returns-in-Append-clause-refused
 returns-in-Append-clause-refused g c =
-    append_says (listed c.args.ctx.now) c.args.local.now c.args.kids.now.items c.args.due (g.O.Order.outlet c.args.order.now) (g.O.Order.outlet c.append_due.new.order) c.in-Append.stored c.append_due.result c.in-Append.is c.append_due.ensures.refused
+    append_says c.args.ctx.now (g.C.CompressorPlugin.image (g.C.CompressorPlugin.kind c.args.compressor.now)) c.args.name.now c.args.local.now c.args.kids.now.items c.args.due (g.O.Order.outlet c.args.order.now) (g.O.Order.outlet c.append_due.new.order) c.in-Append.stored c.append_due.result c.in-Append.is c.append_due.ensures.refused
 
 pub returns-in-Close-clause-done : goal.returns-in-Close-clause-done
 returns-in-Close-clause-done g c =
-    close_does (listed c.args.ctx.now) c.args.local.now c.args.kids.now.items c.args.due (g.O.Order.outlet c.args.order.now) (g.O.Order.outlet c.args.order.now) c.close_all.new.kids.items
+    close_does c.args.ctx.now (g.C.CompressorPlugin.image (g.C.CompressorPlugin.kind c.args.compressor.now)) c.args.name.now c.args.local.now c.args.kids.now.items c.args.due (g.O.Order.outlet c.args.order.now) (g.O.Order.outlet c.args.order.now) (todo_of c.args.todo.now.items) c.close_all.new.kids.items
     c.in-Close.is c.close_all.ensures.kids refl
 
 pub returns-in-Join-clause-done : goal.returns-in-Join-clause-done
 returns-in-Join-clause-done g c =
-    join_does (listed c.args.ctx.now) c.args.local.now c.args.kids.now.items c.args.due (g.O.Order.outlet c.args.order.now) (g.O.Order.outlet c.join_due.new.order) c.in-Join.shape c.join_due.new.local c.join_due.new.kids.items c.join_due.result
+    join_does c.args.ctx.now (g.C.CompressorPlugin.image (g.C.CompressorPlugin.kind c.args.compressor.now)) c.args.name.now c.args.local.now c.args.kids.now.items c.args.due (g.O.Order.outlet c.args.order.now) (g.O.Order.outlet c.join_due.new.order) c.in-Join.shape c.join_due.new.local (todo_of c.args.todo.now.items) c.join_due.new.kids.items c.join_due.result
     c.in-Join.is c.join_due.ensures.done
 
 pub returns-in-Join-clause-refused : goal.returns-in-Join-clause-refused
 returns-in-Join-clause-refused g c =
-    join_says (listed c.args.ctx.now) c.args.local.now c.args.kids.now.items c.args.due (g.O.Order.outlet c.args.order.now) (g.O.Order.outlet c.join_due.new.order) c.in-Join.shape c.join_due.result c.in-Join.is c.join_due.ensures.refused
+    join_says c.args.ctx.now (g.C.CompressorPlugin.image (g.C.CompressorPlugin.kind c.args.compressor.now)) c.args.name.now c.args.local.now c.args.kids.now.items c.args.due (g.O.Order.outlet c.args.order.now) (g.O.Order.outlet c.join_due.new.order) c.in-Join.shape c.join_due.result c.in-Join.is c.join_due.ensures.refused
 
 pub returns-in-Join-clause-kept : goal.returns-in-Join-clause-kept
 returns-in-Join-clause-kept g c = err_kept c.join_due.result (g.O.Order.outlet c.args.order.now) (g.O.Order.outlet c.join_due.new.order) c.join_due.ensures.outlet
 
 pub hand_over-requires-clause-owned : goal.hand_over-requires-clause-owned
 hand_over-requires-clause-owned g c =
-    put_owned (g.O.Order.active c.args.order.now) (local_stock c.args.local.now) (tasks_stock c.args.kids.now.items) (due_stock c.args.due) (item_stock c.in-HandOn.item) (ap due_stock c.in-HandOn.is) c.requires.owned
+    put_owned (g.O.Order.active c.args.order.now) (both (local_stock c.args.local.now) (dues_stock c.args.todo.now.items)) (tasks_stock c.args.kids.now.items) (due_stock c.args.due) (item_stock c.in-HandOn.item) (ap due_stock c.in-HandOn.is) c.requires.owned
 
 pub hand_over-requires-clause-room : goal.hand_over-requires-clause-room
 hand_over-requires-clause-room g c = by_case (g.O.Order.active c.args.order.now) (kids_of c.args.kids.now.items) c.args.due (HandOn c.in-HandOn.item c.in-HandOn.reservation) c.in-HandOn.is c.requires.ready
 
 pub returns-in-HandOn-clause-moved : goal.returns-in-HandOn-clause-moved
 returns-in-HandOn-clause-moved g c =
-    put_moved (g.O.Order.active c.args.order.now) (local_stock c.args.local.now) (tasks_stock c.args.kids.now.items) (due_stock c.args.due) (item_stock c.in-HandOn.item) (ap due_stock c.in-HandOn.is) c.requires.owned
+    put_moved (g.O.Order.active c.args.order.now) (both (local_stock c.args.local.now) (dues_stock c.args.todo.now.items)) (tasks_stock c.args.kids.now.items) (due_stock c.args.due) (item_stock c.in-HandOn.item) (ap due_stock c.in-HandOn.is) c.requires.owned
     (g.O.Order.active c.hand_over.new.order) (tasks_stock c.hand_over.new.kids.items) c.hand_over.ensures.moved
 
 pub returns-in-HandOn-clause-told : goal.returns-in-HandOn-clause-told
@@ -149,12 +155,12 @@ returns-in-HandOn-clause-cause g c = all_wider c.hand_over.result (memory_may c.
 
 pub returns-in-HandOn-clause-done : goal.returns-in-HandOn-clause-done
 returns-in-HandOn-clause-done g c =
-    hand_does (listed c.args.ctx.now) c.args.local.now c.args.kids.now.items c.args.due (g.O.Order.outlet c.args.order.now) (g.O.Order.outlet c.hand_over.new.order) c.in-HandOn.item c.in-HandOn.reservation c.hand_over.new.kids.items c.hand_over.result
+    hand_does c.args.ctx.now (g.C.CompressorPlugin.image (g.C.CompressorPlugin.kind c.args.compressor.now)) c.args.name.now c.args.local.now c.args.kids.now.items c.args.due (g.O.Order.outlet c.args.order.now) (g.O.Order.outlet c.hand_over.new.order) c.in-HandOn.item c.in-HandOn.reservation (todo_of c.args.todo.now.items) c.hand_over.new.kids.items c.hand_over.result
     c.in-HandOn.is c.hand_over.ensures.kind c.hand_over.ensures.kids c.hand_over.ensures.outlet
 
 pub returns-in-HandOn-clause-refused : goal.returns-in-HandOn-clause-refused
 returns-in-HandOn-clause-refused g c =
-    hand_says (listed c.args.ctx.now) c.args.local.now c.args.kids.now.items c.args.due (g.O.Order.outlet c.args.order.now) (g.O.Order.outlet c.hand_over.new.order) c.in-HandOn.item c.in-HandOn.reservation c.hand_over.result c.in-HandOn.is c.hand_over.ensures.memory
+    hand_says c.args.ctx.now (g.C.CompressorPlugin.image (g.C.CompressorPlugin.kind c.args.compressor.now)) c.args.name.now c.args.local.now c.args.kids.now.items c.args.due (g.O.Order.outlet c.args.order.now) (g.O.Order.outlet c.hand_over.new.order) c.in-HandOn.item c.in-HandOn.reservation c.hand_over.result c.in-HandOn.is c.hand_over.ensures.memory
 
 pub returns-in-HandOn-clause-kept : goal.returns-in-HandOn-clause-kept
 returns-in-HandOn-clause-kept g c = err_kept c.hand_over.result (g.O.Order.outlet c.args.order.now) (g.O.Order.outlet c.hand_over.new.order) c.hand_over.ensures.outlet
