@@ -294,3 +294,19 @@ module _ (u : Active) (l d k : Stock) (xs ys : List Item) (is : xs ≡ ys) (o : 
   last_moved v t r m = moved_as u v (both (both l d) (both (items_stock ys) k)) (both (both l (both d (items_stock xs))) k)
       (both (both t r) (both (items_stock ys) k)) (both (both t (both r (items_stock ys))) k) (sym rest_is) (last_is t r)
       (moved_beside u v (both l d) (both t r) (both (items_stock ys) k) rest_held m)
+
+  -- with the children
+  pub probe_owned : Owned u (both (both l d) k)
+  probe_owned = owned_left u (both (both l d) k) (items_stock ys) (owned_as u (both (both l d) (both (items_stock ys) k)) (both (both (both l d) k) (items_stock ys)) probe_is rest_held)
+    where
+      probe_is : both (both l d) (both (items_stock ys) k) ≡ both (both (both l d) k) (items_stock ys)
+      probe_is = stock_is (both (both l d) (both (items_stock ys) k)) (both (both (both l d) k) (items_stock ys)) (λ p. omega arith) (λ p. omega arith)
+
+  pub probe_moved : (v : Active) (t r n : Stock) → Moved u v (both (both l d) k) (both (both t r) n) → Moved u v (both (both l (both d (items_stock xs))) k) (both (both t (both r (items_stock ys))) n)
+  probe_moved v t r n m = moved_as u v (both (both (both l d) k) (items_stock ys)) (both (both l (both d (items_stock xs))) k)
+      (both (both (both t r) n) (items_stock ys)) (both (both t (both r (items_stock ys))) n) (sym apart)
+      (stock_is (both (both (both t r) n) (items_stock ys)) (both (both t (both r (items_stock ys))) n) (λ p. omega arith) (λ p. omega arith))
+      (moved_beside u v (both (both l d) k) (both (both t r) n) (items_stock ys) (owned_as u (both (both l (both d (items_stock xs))) k) (both (both (both l d) k) (items_stock ys)) apart o) m)
+    where
+      apart : both (both l (both d (items_stock xs))) k ≡ both (both (both l d) k) (items_stock ys)
+      apart = rest_is ∙ stock_is (both (both l d) (both (items_stock ys) k)) (both (both (both l d) k) (items_stock ys)) (λ p. omega arith) (λ p. omega arith)

@@ -6,6 +6,7 @@ use Rattle.vx_sink.specs.ContextView.{counted}
 use Rattle.vx_plan.specs.PlanData.{Setting}
 use Rattle.vx_machine_view.specs.State.{Next, Tasks}
 use Rattle.vx_write_answer.specs.declared.error.WriteError.{WriteError}
+use Rattle.vx_write_answer.specs.declared.error.WriteError.TheVariants.{OutOfMemory}
 use Rattle.vx_machine_nodes.specs.declared.item.Item.{Item}
 use Rattle.vx_machine_nodes.specs.declared.grouped_node.GroupedNode.{GroupedNode}
 use Rattle.vx_machine_nodes.specs.declared.node.Local.{Local}
@@ -13,11 +14,15 @@ use Rattle.vx_machine_nodes.specs.declared.node.Local.TheVariants.{Empty, Full, 
 use Rattle.vx_machine_nodes.specs.Acting.{is_grouped, taken, Took, TakeStopped, ChunkTaken, ChunkRefused, ChunkStopped}
 use Rattle.vx_machine_nodes.specs.Context.{setting_of}
 use Rattle.vx_machine_nodes.specs.View.{item_of, mind_of}
-use Rattle.vx_machine_nodes.proofs.RefusalSteps.{take_stops}
+use Rattle.vx_machine_nodes.proofs.RefusalSteps.{memory_only, take_stops}
 
 pub chunk_stops : {A : Type 0} (ctx : LayoutWriterContext) (name : List ℕ) (ks : Tasks) (i : Item) (l : Local) (r : Result A WriteError) → IfErr r (ChunkRefused ctx name ks i l) → IfErr r (ChunkStopped ctx name ks i l)
 chunk_stops ctx name ks i l (Ok x) h = tt
 chunk_stops ctx name ks i l (Err e) h = λ image. take_stops (counted ctx) (taken (setting_of ctx image) name ks (item_of i) (mind_of l)) e (h image)
+
+-- memory may run out
+pub chunk_memory : {A : Type 0} (ctx : LayoutWriterContext) (name : List ℕ) (ks : Tasks) (i : Item) (l : Local) (r : Result A WriteError) → IfErr r (λ e. e ≡ OutOfMemory) → IfErr r (ChunkStopped ctx name ks i l)
+chunk_memory ctx name ks i l r h = memory_only (ChunkStopped ctx name ks i l) r (λ image. tt) h
 
 -- of a node that regroups, told of each setting and each task
 

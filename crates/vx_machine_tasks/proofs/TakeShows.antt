@@ -190,6 +190,11 @@ module _ {A : Type 0} (ctx : LayoutWriterContext) (name : List ℕ) (ks : Tasks)
   columns_why_by (Ok x) h = tt
   columns_why_by (Err e) h = untaken_by (Err e) (λ image. h (setting_of ctx image) name ks)
 
+  -- what is in mind stays
+  pub taken_as : (todo before : List Next) (r : Result A WriteError)
+      → OnOk r ((s : Setting) (n : List ℕ) (ts : Tasks) → Took (taken s n ts (item_of i) (mind_of k)) (mind_of k) todo before ts) → OnOk r (ChunkTaken ctx name ks i l l todo before ks)
+  taken_as todo before r h = columns_by l todo before r (subst (λ z. OnOk r ((s : Setting) (n : List ℕ) (ts : Tasks) → Took (taken s n ts (item_of i) (mind_of k)) (mind_of z) todo before ts)) (sym is) h)
+
   -- by the program's own hash
   pub zones_by : (m : Local) (todo before : List Next) (r : Result A WriteError)
       → OnOk r ((s : Setting) (n : List ℕ) (ts : Tasks) → s.hash ≡ xxhash3_64 → Took (taken s n ts (item_of i) (mind_of k)) (mind_of m) todo before ts) → OnOk r (ChunkTaken ctx name ks i l m todo before ks)
