@@ -1,6 +1,6 @@
 //! A zone table's child, which writes the table once the data is written.
 
-ghost use Rattle.std.specs.Prelude.{◌≡◌, ◌+◌, ◌<◌, ◌≤◌, ◌^◌, ℕ, List, [], ◌∷◌, length, vec_len, vec_capacity, IfOk, IfErr, OnOk};
+ghost use Rattle.std.specs.Prelude.{◌≡◌, ◌+◌, ◌<◌, ◌≤◌, ◌^◌, ℕ, List, true, false, [], ◌∷◌, length, vec_len, vec_capacity, IfOk, IfErr, OnOk};
 ghost use Rattle.std.specs.Arc.{arc_value};
 ghost use Rattle.vx_path.specs.Path.{under, eof_path, next};
 ghost use Rattle.vx_model.specs.ChunkData.{piece_type};

@@ -92,7 +92,7 @@ pub start::start_settled-returns-in-Flat-clause-shows : goal.start::start_settle
 start::start_settled-returns-in-Flat-clause-shows g t c =
     subst (λ s. Started (allowed_in c.args.ctx.now) (form_at (strategy_data s) (ty (arc_value c.args.dtype))) c.args.marked c.args.name c.args.eof c.waiting.result) (sym c.in-Flat.is)
     (started (allowed_in c.args.ctx.now) (form_at (strategy_data (Flat c.in-Flat.options)) (ty (arc_value c.args.dtype))) c.args.marked c.args.name c.args.eof (Empty (record { options = c.in-Flat.options; dtype = c.args.dtype })) c.new.result.items c.waiting.result
-    (λ s q. refl) (λ a. none_fit) refl (ap row c.new.ensures.items) c.waiting.ensures.shows)
+    (λ s q. refl) (λ k. none_fit) refl (ap row c.new.ensures.items) c.waiting.ensures.shows)
 
 pub start::start_settled-returns-in-Chunked-clause-shows : goal.start::start_settled-returns-in-Chunked-clause-shows
 start::start_settled-returns-in-Chunked-clause-shows g t c =
