@@ -17,6 +17,7 @@ pub mod ReservedSteps
 pub mod PaidSteps
 pub mod StartShows
 pub mod StartKinds
+pub mod StartRooms
 pub mod RowSteps
 pub mod ActShows
 pub mod TakeShows
