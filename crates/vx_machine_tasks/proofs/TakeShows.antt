@@ -47,7 +47,7 @@ use Rattle.vx_machine_nodes.specs.declared.node.Local.{Local}
 use Rattle.vx_machine_nodes.specs.declared.node.Local.TheVariants.{Empty, Full, Chunked, Columns, Lists, Grouped, Over, Passing, Made, Zoned, Pressing, AsIs, Probe, Asking, Runs}
 use Rattle.vx_machine_tasks.specs.declared.task.Head.{Head}
 use Rattle.vx_machine_tasks.specs.declared.task.Task.{Task}
-use Rattle.vx_machine_nodes.specs.Acting.{Behind, bare, taken, Took, TakeRefused, TakeStopped, ChunkTaken, ChunkRefused, SplitRefused, is_flat, is_probe, Ended, EndTaken, EndRefused}
+use Rattle.vx_machine_nodes.specs.Acting.{Behind, bare, taken, Took, TakeRefused, TakeStopped, ChunkTaken, ChunkRefused, SplitRefused, is_flat, is_probe, is_cutting, Ended, EndTaken, EndRefused}
 use Rattle.vx_machine_tasks.specs.Acting.{TakeDone, Acted}
 use Rattle.vx_machine_nodes.specs.Context.{Allowed, setting_of}
 use Rattle.vx_machine_nodes.specs.Outcome.{action_of, AllFit}
@@ -96,6 +96,24 @@ unprobed Passing h = refl
 unprobed Over h = refl
 unprobed (Made x) h = refl
 unprobed (Probe n eof) h = absurd (h n eof refl)
+
+-- what isn't one of cutting runs
+pub uncut : (l : Local) → ((r : DictRuns) → l ≡ Runs r → ⊥) → is_cutting l ≡ false
+uncut (Runs r) h = absurd (h r refl)
+uncut (Empty n) h = refl
+uncut (Full x) h = refl
+uncut (Chunked n eof rows) h = refl
+uncut (Columns n rows) h = refl
+uncut (Lists n rows) h = refl
+uncut (Grouped n) h = refl
+uncut (Zoned n) h = refl
+uncut (Pressing which) h = refl
+uncut AsIs h = refl
+uncut (Probe n eof) h = refl
+uncut Asking h = refl
+uncut Passing h = refl
+uncut Over h = refl
+uncut (Made x) h = refl
 
 regrouped : (r : Regroup) (j : Option Item) (rows : ℕ) (n : Coder) (e : Eof) → mind_in r j rows ≡ by_probe n e → ⊥
 regrouped (Repartition h) j rows n e is = cc
