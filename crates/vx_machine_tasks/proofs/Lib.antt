@@ -21,6 +21,7 @@ pub mod RowSteps
 pub mod ActShows
 pub mod TakeShows
 pub mod NextShows
+pub mod CallShows
 pub mod StepViews
 pub mod StepShows
 pub mod StepLifts

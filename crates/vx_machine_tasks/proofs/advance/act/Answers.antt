@@ -13,7 +13,7 @@ use Rattle.vx_machine_nodes.specs.Stocks.{item_stock, stored_stock, table_stock,
 use Rattle.vx_machine_nodes.specs.View.{todo_of}
 use Rattle.vx_machine_tasks.specs.Stocks.{tasks_stock}
 use Rattle.vx_machine_nodes.specs.declared.item.Due.{Due}
-use Rattle.vx_machine_nodes.specs.declared.item.Due.TheVariants.{Put, HandOn, Append, Join, Table, Ask, OpenRun, EndRun}
+use Rattle.vx_machine_nodes.specs.declared.item.Due.TheVariants.{Put, HandOn, Press, Append, Join, Table, Ask, OpenRun, EndRun}
 use Rattle.vx_machine_nodes.specs.declared.node.Shape.{Shape}
 use Rattle.vx_machine_tasks.proofs.ActMoves.{put_owned, put_moved, append_owned, append_moved, press_owned, press_moved, leave_owned, leave_moved, join_owned, join_moved, close_moved}
 use Rattle.vx_machine_nodes.specs.Causes.{AppendMay, PressMay, ActMay}
@@ -22,6 +22,7 @@ use Rattle.vx_machine_nodes.proofs.ActCauses.{memory_may, all_wider, all_append,
 use Rattle.vx_machine_nodes.proofs.CallSteps.{unasked_self, unasked_by, quiet_told, pressed_told, uncalled}
 use Rattle.vx_machine_tasks.proofs.Readiness.{least_means}
 use Rattle.vx_machine_tasks.proofs.ActShows.{err_kept, put_does, put_says, hand_does, hand_says, append_does, append_says, close_does, leave_does, press_does, press_says, append_kind, join_does, join_says, join_kind, start_does, start_says, start_kind, ask_does, ask_says, end_does, end_says}
+use Rattle.vx_machine_tasks.proofs.CallShows.{all_calls, none_called, none_appended}
 use Rattle.vx_machine_tasks.proofs.advance.act.Goals as goal
 
 by_case : (u : Active) (ks : List Kid) (d e : Due) → d ≡ e → may_due u d ks ≡ true → may_due u e ks ≡ true
@@ -398,3 +399,32 @@ returns-in-EndRun-clause-told g c =
 
 pub returns-in-EndRun-clause-cause : goal.returns-in-EndRun-clause-cause
 returns-in-EndRun-clause-cause g c = all_wider c.end_run.result (memory_may c.end_run.result c.end_run.ensures.memory)
+
+-- ---- where the compressor fails
+
+pub returns-in-Put-clause-called : goal.returns-in-Put-clause-called
+returns-in-Put-clause-called g c = none_called c.args.due c.put.result (memory_may c.put.result c.put.ensures.memory)
+
+pub returns-in-HandOn-clause-called : goal.returns-in-HandOn-clause-called
+returns-in-HandOn-clause-called g c = none_called c.args.due c.hand_over.result (memory_may c.hand_over.result c.hand_over.ensures.memory)
+
+pub returns-in-Press-clause-called : goal.returns-in-Press-clause-called
+returns-in-Press-clause-called g c = all_calls c.args.due c.press.result (Press c.in-Press.which c.in-Press.item) c.in-Press.is refl
+
+pub returns-in-Append-clause-called : goal.returns-in-Append-clause-called
+returns-in-Append-clause-called g c = none_appended c.args.due c.append_due.result c.append_due.ensures.cause
+
+pub returns-in-Join-clause-called : goal.returns-in-Join-clause-called
+returns-in-Join-clause-called g c = none_called c.args.due c.join_due.result c.join_due.ensures.cause
+
+pub returns-in-Table-clause-called : goal.returns-in-Table-clause-called
+returns-in-Table-clause-called g c = none_called c.args.due c.start_table.result c.start_table.ensures.cause
+
+pub returns-in-Ask-clause-called : goal.returns-in-Ask-clause-called
+returns-in-Ask-clause-called g c = all_calls c.args.due c.ask.result (Ask c.in-Ask.probe) c.in-Ask.is refl
+
+pub returns-in-OpenRun-clause-called : goal.returns-in-OpenRun-clause-called
+returns-in-OpenRun-clause-called g c = none_called c.args.due c.open_run.result c.open_run.ensures.cause
+
+pub returns-in-EndRun-clause-called : goal.returns-in-EndRun-clause-called
+returns-in-EndRun-clause-called g c = none_called c.args.due c.end_run.result (memory_may c.end_run.result c.end_run.ensures.memory)

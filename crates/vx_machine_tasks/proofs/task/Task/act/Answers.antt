@@ -10,6 +10,7 @@ use Rattle.vx_machine_tasks.specs.declared.task.Task.TheViews.{roll-Task}
 use Rattle.vx_machine_tasks.proofs.TaskParts.{parts_owned, parts_moved, rolled}
 use Rattle.vx_machine_nodes.specs.Context.{setting_of}
 use Rattle.vx_machine_nodes.proofs.CallSteps.{unasked_self}
+use Rattle.vx_machine_tasks.proofs.CallShows.{memory_fails}
 use Rattle.vx_machine_tasks.proofs.StepShows.{own_stepped, own_refused}
 use Rattle.std.proofs.Common.{◌≡◌, ◌+◌, sym, subst, arith}
 use Rattle.vx_kept.specs.Kept.{Knows}
@@ -55,12 +56,12 @@ returns-in-Ok-clause-done g c = λ image.
 
 pub returns-in-Err-clause-refused : goal.returns-in-Err-clause-refused
 returns-in-Err-clause-refused g c = λ image number.
-    own_refused (setting_of c.args.ctx.now image) (g.O.Order.active c.args.order.now) number (g.O.Order.outlet c.args.order.now) c.args.self.now c.requires.ready (counted_bytes c.args.ctx.now) c.in-Err.error (c.in-Err.ensures.refused image number)
+    own_refused (setting_of c.args.ctx.now image) (g.O.Order.active c.args.order.now) number (g.O.Order.outlet c.args.order.now) c.args.self.now c.requires.ready (counted_bytes c.args.ctx.now) c.in-Err.error (c.in-Err.ensures.refused image number) c.in-Err.ensures.called
 
 pub returns-in_err-task-clause-refused : goal.returns-in_err-task-clause-refused
 returns-in_err-task-clause-refused g c =
     let p = err_from_is_err_and c.from_residual.result c.from_residual.ensures.1 in
-    rw (p.1, p.2) (λ image number. own_refused (setting_of c.args.ctx.now image) (g.O.Order.active c.args.order.now) number (g.O.Order.outlet c.args.order.now) c.args.self.now c.requires.ready (counted_bytes c.args.ctx.now) OutOfMemory tt)
+    rw (p.1, p.2) (λ image number. own_refused (setting_of c.args.ctx.now image) (g.O.Order.active c.args.order.now) number (g.O.Order.outlet c.args.order.now) c.args.self.now c.requires.ready (counted_bytes c.args.ctx.now) OutOfMemory tt (memory_fails (out-Task c.args.self.now).head.todo.items))
 
 pub returns-in_err-task-clause-told : goal.returns-in_err-task-clause-told
 returns-in_err-task-clause-told g c =
