@@ -24,3 +24,4 @@ pub mod NextShows
 pub mod StepViews
 pub mod StepShows
 pub mod StepLifts
+pub mod TableStarts
