@@ -25,3 +25,4 @@ pub mod CallShows
 pub mod StepViews
 pub mod StepShows
 pub mod StepLifts
+pub mod TableStarts
