@@ -1,5 +1,5 @@
 -- What the take of a chunk or of the end does, against the same in plain data.
-use Rattle.std.proofs.Common.{◌≡◌, ◌+◌, ◌^◌, ◌<◌, ◌&&◌, ◌==◌, not, ℕ, Bool, true, false, List, [], ◌∷◌, ◌++◌, length, Option, Some, None, Global, Result, Ok, Err, IfOk, IfErr, OnOk, refl, sym, ap, subst, ◌∙◌, inl, inr, append-nil}
+use Rattle.std.proofs.Common.{◌≡◌, ◌⊎◌, ◌+◌, ◌^◌, ◌<◌, ◌&&◌, ◌==◌, not, ℕ, Bool, true, false, List, [], ◌∷◌, ◌++◌, length, Option, Some, None, Global, Result, Ok, Err, IfOk, IfErr, OnOk, refl, sym, ap, subst, ◌∙◌, inl, inr, append-nil}
 use Rattle.std.proofs.lemmas.Bool.{true≢false}
 use Rattle.std.specs.Arc.{arc_value}
 use Rattle.std.specs.declared.sync.Arc.{Arc}
@@ -270,6 +270,11 @@ ended_by l b a m kids todo mid before x y z h =
 -- by what was in mind
 pub ended_as : (l k m : Local) (kids : ℕ) (todo before : List Next) → l ≡ k → EndTaken k kids m todo before → EndTaken l kids m todo before
 ended_as l k m kids todo before e h = subst (λ w. EndTaken w kids m todo before) (sym e) h
+
+-- of a node that only presses what it takes, or passes it on as it is
+pub of_way : (P : Local → Type 0) (l : Local) → ((w : ℕ) × (l ≡ Pressing w)) ⊎ (l ≡ AsIs) → ((w : ℕ) → P (Pressing w)) → P AsIs → P l
+of_way P l (inl (w, is)) f p = subst P (sym is) (f w)
+of_way P l (inr is) f p = subst P (sym is) p
 
 pub ended_empty : (l : Local) (n : FlatNode) (kids : ℕ) (todo : List Next) (r : Result Local WriteError) → l ≡ Empty n → IfOk r (λ m. mind_of m ≡ made (gathered (ty (arc_value n.dtype)) 0 []))
     → IfOk r (λ m. EndTaken l kids m todo todo)
