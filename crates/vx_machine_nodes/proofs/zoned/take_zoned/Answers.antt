@@ -1,0 +1,14 @@
+use Rattle.std.proofs.Common.{ap, sym, ◌∙◌}
+use Rattle.std.specs.Arc.{arc_value}
+use Rattle.vx_model.specs.ChunkData.{piece_type}
+use Rattle.vx_model.specs.TyView.{ty}
+use Rattle.vx_machine_nodes.proofs.SplitSteps.{misfit_eq, typed_eq}
+use Rattle.vx_machine_nodes.proofs.ZoneSteps.{zone_took}
+use Rattle.vx_machine_nodes.proofs.zoned.take_zoned.Goals as goal
+
+pub returns-then-not-has_type-clause-refused : goal.returns-then-not-has_type-clause-refused
+returns-then-not-has_type-clause-refused g c = λ s name ks.
+    misfit_eq (piece_type c.args.item.chunk) (ty c.deref.result.now) (ty (arc_value c.args.node.now.dtype)) c.has_type.result c.has_type.ensures (ap ty c.deref.ensures) c.if-not-has_type.true
+
+pub returns-in-Ok-clause-done : goal.returns-in-Ok-clause-done
+returns-in-Ok-clause-done g c = ?
