@@ -16,6 +16,11 @@ use Rattle.vx_zone_spec.specs.Record.{zone_record}
 use Rattle.vx_zone_spec.specs.ZoneMap.{names_of}
 use Rattle.vx_zone_spec.specs.ZoneTable.{Filled, kept_columns, table_specs, table_piece}
 use Rattle.vx_zone_record_spec.specs.Held.{record_fits}
+use Rattle.vx_sequence.specs.Universe.{Active}
+use Rattle.vx_machine_ids.specs.Stock.{Stock, none, both}
+use Rattle.vx_machine_ids.specs.Balance.{Owned, Moved}
+use Rattle.vx_machine_ids.proofs.Stocks.{stock_is}
+use Rattle.vx_machine_ids.proofs.MoveLaws.{moved_none}
 use Rattle.vx_sink.specs.ContextView.{allows_id}
 use Rattle.vx_plan.specs.PlanData.{Setting, fault, at_start, forbidden_aggregate}
 use Rattle.vx_plan.specs.SourcePlan.{first_what}
@@ -142,6 +147,11 @@ module _ (n : ZonedNode) (kids : ℕ) where
         todo_is = e ∙ (λ j. before ++ (shut_kids ∷ start_table (form_at n.stats.item (piece_type (piece j))) n.eof (piece j)
             ∷ join_kids (fold_zones (ty (arc_value n.dtype)) n.rows (non_zero_u32_get n.zone_len) (specs j)) ∷ []));
       })
+
+-- what was in mind is what is left to do
+pub kept_behind : (u : Active) (l d e : Stock) → e ≡ both d l → Owned u (both l d) → Moved u u (both l d) (both none e)
+kept_behind u l d e is o =
+    subst (λ s. Moved u u (both l d) s) (stock_is (both l d) (both none (both d l)) (λ p. omega arith) (λ p. omega arith) ∙ ap (both none) (sym is)) (moved_none u (both l d) o)
 
 -- ---- what may be recorded
 
