@@ -34,5 +34,5 @@ pub use node::{Local, Shape, give_up_local};
 pub use nodes::{chunked_node, columns_node, element_copy, lists_node, runs_node};
 pub use pressing::{press, take_as_is, take_pressing};
 pub use zoned::{end_zoned, give_up_zoned, take_zoned};
-pub use zoned_fresh::zoned_node;
+pub use zoned_fresh::zones_node;
 pub use zoned_node::{TableStart, ZonedNode, Zones};

@@ -110,7 +110,7 @@ fn guard_of(
 }
 
 /// A node that has recorded nothing.
-pub fn zoned_node(
+pub fn zones_node(
     alloc: Global,
     ctx: &LayoutWriterContext,
     zoned: &ZonedStrategy,

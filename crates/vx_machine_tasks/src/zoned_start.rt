@@ -25,7 +25,7 @@ use crate::task::{Task, refuse_started};
 use std::alloc::Global;
 use std::sync::Arc;
 use vx_machine_ids::give_up_pointer;
-use vx_machine_nodes::{Local, ZonedNode, give_up_zoned, zoned_node};
+use vx_machine_nodes::{Local, ZonedNode, give_up_zoned, zones_node};
 use vx_model::DType;
 use vx_order::Order;
 use vx_path::owned::Path;
@@ -54,7 +54,7 @@ pub(crate) fn start_zoned<O: Order>(
     ensures shows { IfOk result (Started (allowed_in ctx.now) (form_at (zoned_way zoned.now) (ty (arc_value dtype))) false name eof) }
     ensures refused { IfErr result (FormRefused (allowed_in ctx.now) (form_at (zoned_way zoned.now) (ty (arc_value dtype))) false eof) }
 {
-    match zoned_node(alloc, ctx, zoned, dtype, eof) {
+    match zones_node(alloc, ctx, zoned, dtype, eof) {
         Ok(node) => start_data(alloc, ctx, order, zoned, node, name),
         Err((error, eof)) => {
             give_up_pointer(order, eof);
