@@ -19,3 +19,5 @@ pub mod ListSteps
 pub mod PutSteps
 pub mod TakeShows
 pub mod ListParts
+pub mod PressSteps
+pub mod ZoneSteps

@@ -33,7 +33,7 @@ use Rattle.vx_machine_nodes.specs.declared.item.Segment.{Segment}
 use Rattle.vx_machine_nodes.specs.declared.kinds.FlatNode.{FlatNode}
 use Rattle.vx_machine_nodes.specs.declared.kinds.ListsNode.{ListsNode}
 use Rattle.vx_machine_nodes.specs.declared.node.Local.{Local}
-use Rattle.vx_machine_nodes.specs.declared.node.Local.TheVariants.{Empty, Full, Chunked, Columns, Lists, Grouped, Zoned, Pressing, AsIs, Over, Passing, Made}
+use Rattle.vx_machine_nodes.specs.declared.node.Local.TheVariants.{Empty, Full, Chunked, Columns, Lists, Grouped, Zoned, Pressing, AsIs, Probe, Asking, Runs, Over, Passing, Made}
 use Rattle.vx_machine_nodes.specs.Acting.{bare, taken, Took, TakeRefused, tree_kept, IsStored, WordRefused, first_word, SplitRefused, ListRefused, is_flat, Ended, EndTaken, EndRefused}
 use Rattle.vx_machine_nodes.specs.Context.{setting_of}
 use Rattle.vx_machine_nodes.specs.Outcome.{AllFit}
@@ -83,6 +83,9 @@ module _ (ctx : LayoutWriterContext) (image : ℕ → ChunkData → ChunkData) (
   flat_why (Zoned n) e f h = absurd (true≢false (sym f))
   flat_why (Pressing which) e f h = absurd (true≢false (sym f))
   flat_why AsIs e f h = absurd (true≢false (sym f))
+  flat_why (Probe n eof) e f h = absurd (true≢false (sym f))
+  flat_why Asking e f h = absurd (true≢false (sym f))
+  flat_why (Runs r) e f h = absurd (true≢false (sym f))
   flat_why Passing e f h = absurd (true≢false (sym f))
   flat_why Over e f h = absurd (true≢false (sym f))
   flat_why (Made x) e f h = absurd (true≢false (sym f))
@@ -119,6 +122,9 @@ second_why first (Grouped n) h = refl
 second_why first (Zoned n) h = refl
 second_why first (Pressing which) h = refl
 second_why first AsIs h = refl
+second_why first (Probe n eof) h = refl
+second_why first Asking h = refl
+second_why first (Runs r) h = refl
 second_why first Passing h = refl
 second_why first Over h = refl
 second_why first (Made x) h = refl

@@ -1,5 +1,5 @@
 -- Nodes as they stand before their first chunk.
-use Rattle.std.specs.Prelude.{◌≡◌, Bool, true, false, [], Some, None, ℕ, List, Option}
+use Rattle.std.specs.Prelude.{◌≡◌, if◌then◌else◌, Bool, true, false, List, [], ◌∷◌, Some, None}
 use Rattle.vx_model.specs.Ty.{Ty, is_struct}
 use Rattle.vx_path.specs.Path.{Eof}
 use Rattle.vx_chunk_cells.specs.Parts.{struct_fields}
@@ -18,8 +18,9 @@ use Rattle.vx_model.specs.TyView.{ty}
 use Rattle.vx_strategy_options.specs.RuleViews.{zone_rule}
 use Rattle.vx_strategy.specs.declared.zoned.ZonedStrategy.{ZonedStrategy}
 use Rattle.vx_plan.specs.SourcePlan.{first_what}
-use Rattle.vx_plan.specs.PlanData.{forbidden_aggregate}
-use Rattle.vx_aggregate_spec.specs.Aggregate.{Column}
+use Rattle.vx_plan.specs.PlanData.{Fault, fault, at_start, forbidden_aggregate}
+use Rattle.vx_aggregate_spec.specs.Aggregate.{Aggregate, aggregate_id}
+use Rattle.vx_sink.specs.ContextView.{allows_id}
 use Rattle.vx_plan.specs.ZonedNode.{recorded, forbidden_faults}
 use Rattle.vx_machine_view.specs.Zoned.{zoner, no_zones}
 use Rattle.vx_machine_nodes.specs.declared.zoned_node.ZonedNode.{ZonedNode}
@@ -64,20 +65,25 @@ pub record BeginsZones (a : Allowed) (w : ZonedStrategy) (n : ZonedNode) : Type 
   pub zones : zones_in n ≡ no_zones (zoner_in n)
   pub allowed : forbidden_faults a (recorded (zone_rule w.rule) (ty (arc_value n.dtype))) ≡ []
 
--- what these columns record may not be recorded
-abbrev pub ZonesRefused : Allowed → List Column → WriteError → Type 0
-ZonesRefused a columns (ForbiddenAggregate id) = first_what (forbidden_faults a columns) ≡ Some (forbidden_aggregate id)
-ZonesRefused a columns OutOfMemory = Unit {0}
-ZonesRefused a columns NotStruct = ⊥
-ZonesRefused a columns (DuplicateField name) = ⊥
-ZonesRefused a columns (TooLarge n) = ⊥
-ZonesRefused a columns SourceFault = ⊥
-ZonesRefused a columns SinkFault = ⊥
-ZonesRefused a columns CompressFault = ⊥
-ZonesRefused a columns (BatchType c) = ⊥
-ZonesRefused a columns ManyChunks = ⊥
-ZonesRefused a columns EmptyList = ⊥
-ZonesRefused a columns (ZoneCut n) = ⊥
-ZonesRefused a columns (ForbiddenEncoding id) = ⊥
-ZonesRefused a columns Unbuilt = ⊥
-ZonesRefused a columns (Stopped by name) = ⊥
+-- the first of these that may not be recorded
+abbrev pub forbidden_among : Allowed → List Aggregate → List Fault
+forbidden_among a [] = []
+forbidden_among a (x ∷ xs) = if allows_id a (aggregate_id x) then forbidden_among a xs else fault (forbidden_aggregate (aggregate_id x)) at_start ∷ []
+
+-- one of these may not be recorded
+abbrev pub ZonesRefused : List Fault → WriteError → Type 0
+ZonesRefused faults (ForbiddenAggregate id) = first_what faults ≡ Some (forbidden_aggregate id)
+ZonesRefused faults OutOfMemory = Unit {0}
+ZonesRefused faults NotStruct = ⊥
+ZonesRefused faults (DuplicateField name) = ⊥
+ZonesRefused faults (TooLarge n) = ⊥
+ZonesRefused faults SourceFault = ⊥
+ZonesRefused faults SinkFault = ⊥
+ZonesRefused faults CompressFault = ⊥
+ZonesRefused faults (BatchType c) = ⊥
+ZonesRefused faults ManyChunks = ⊥
+ZonesRefused faults EmptyList = ⊥
+ZonesRefused faults (ZoneCut n) = ⊥
+ZonesRefused faults (ForbiddenEncoding id) = ⊥
+ZonesRefused faults Unbuilt = ⊥
+ZonesRefused faults (Stopped by name) = ⊥

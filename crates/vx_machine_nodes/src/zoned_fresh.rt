@@ -3,8 +3,9 @@
 ghost use Rattle.std.specs.Prelude.{◌≡◌, List, [], map, IsTrue, IfOk, IfErr, OnOk};
 ghost use Rattle.std.specs.Arc.{arc_value};
 ghost use Rattle.vx_model.specs.TyView.{ty};
-ghost use Rattle.vx_aggregate_spec.specs.Aggregate.{Column, held_aggregates as columns_of};
+ghost use Rattle.vx_aggregate_spec.specs.Aggregate.{held_aggregates as columns_of};
 ghost use Rattle.vx_aggregate.specs.AggregateView.{aggregate as aggregate_of};
+ghost use Rattle.vx_zone_spec.specs.ZoneMap.{names_of};
 ghost use Rattle.vx_sink.specs.ContextView.{allowed_in};
 ghost use Rattle.vx_strategy_options.specs.RuleViews.{zone_rule};
 ghost use Rattle.vx_turn_laws.specs.Guard.{guard};
@@ -12,7 +13,7 @@ ghost use Rattle.vx_zone_table.specs.BuilderView.{gathered};
 ghost use Rattle.vx_plan.specs.ZonedNode.{recorded, forbidden_faults};
 ghost use Rattle.vx_machine_view.specs.Built.{is_built};
 ghost use Rattle.vx_machine_nodes.specs.Causes.{StartMay};
-ghost use Rattle.vx_machine_nodes.specs.Fresh.{BeginsZones, ZonesRefused};
+ghost use Rattle.vx_machine_nodes.specs.Fresh.{BeginsZones, forbidden_among, ZonesRefused};
 
 use crate::zoned_node::ZonedNode;
 use std::alloc::{AllocError, Global};
@@ -34,7 +35,7 @@ fn recorded(
     dtype: &DType,
 ) -> Result<Vec<AggregateFn>, AllocError>
     ensures columns { IfOk result (λ v. columns_of (map aggregate_of v.items) (ty dtype.now) ≡ recorded (zone_rule zoned.now.rule) (ty dtype.now)) }
-    ensures names { IfOk result (λ v. map aggregate_of v.items ≡ map (λ (c : Column). c.0) (recorded (zone_rule zoned.now.rule) (ty dtype.now))) }
+    ensures names { IfOk result (λ v. map aggregate_of v.items ≡ names_of (recorded (zone_rule zoned.now.rule) (ty dtype.now))) }
 {
     match zoned.aggregates() {
         Some(asked) => held_aggregates(alloc, asked, dtype),
@@ -51,16 +52,14 @@ fn all_allowed(
     ctx: &LayoutWriterContext,
     aggregates: &[AggregateFn],
 ) -> Result<(), WriteError>
-    ensures allowed { (columns : List Column) → map aggregate_of aggregates.now ≡ map (λ (c : Column). c.0) columns → OnOk result (forbidden_faults (allowed_in ctx.now) columns ≡ []) }
-    ensures refused { (columns : List Column) → map aggregate_of aggregates.now ≡ map (λ (c : Column). c.0) columns → IfErr result (ZonesRefused (allowed_in ctx.now) columns) }
+    ensures allowed { OnOk result (forbidden_among (allowed_in ctx.now) (map aggregate_of aggregates.now) ≡ []) }
+    ensures refused { IfErr result (ZonesRefused (forbidden_among (allowed_in ctx.now) (map aggregate_of aggregates.now))) }
     ensures cause { IfErr result StartMay }
 {
     'aggregates: for aggregate in aggregates {
         if !ctx.allows_aggregate(aggregate.id()) {
-            return Err(WriteError::ForbiddenAggregate(Text::from(format!(in alloc;
-                "{}",
-                aggregate.id()
-            )?)));
+            let id = String::from_str(alloc, aggregate.id())?;
+            return Err(WriteError::ForbiddenAggregate(Text::from(id)));
         }
     }
     Ok(())
@@ -76,7 +75,7 @@ fn zone_parts(
     ensures guard { IfOk result (λ r. (r.0.typed ≡ ty dtype.now) × (r.0.zone_len ≡ (zone_rule zoned.now.rule).zone_len) × (r.0.columns ≡ recorded (zone_rule zoned.now.rule) (ty dtype.now)) × (r.0.last ≡ r.0.zone_len)) }
     ensures records { IfOk result (λ r. gathered r.1 ≡ record { columns = recorded (zone_rule zoned.now.rule) (ty dtype.now); records = [] }) }
     ensures allowed { OnOk result (forbidden_faults (allowed_in ctx.now) (recorded (zone_rule zoned.now.rule) (ty dtype.now)) ≡ []) }
-    ensures refused { IfErr result (ZonesRefused (allowed_in ctx.now) (recorded (zone_rule zoned.now.rule) (ty dtype.now))) }
+    ensures refused { IfErr result (ZonesRefused (forbidden_faults (allowed_in ctx.now) (recorded (zone_rule zoned.now.rule) (ty dtype.now)))) }
     ensures cause { IfErr result StartMay }
 {
     let aggregates = recorded(alloc, zoned, dtype)?;
@@ -120,7 +119,7 @@ pub fn zones_node(
     requires built { IsTrue (is_built zoned.now.stats.item) }
     ensures node { IfOk result (λ n. (n.dtype ≡ dtype) × (n.eof ≡ eof)) }
     ensures begins { IfOk result (BeginsZones (allowed_in ctx.now) zoned.now) }
-    ensures refused { IfErr result (λ r. (r.1 ≡ eof) × ZonesRefused (allowed_in ctx.now) (recorded (zone_rule zoned.now.rule) (ty (arc_value dtype))) r.0) }
+    ensures refused { IfErr result (λ r. (r.1 ≡ eof) × ZonesRefused (forbidden_faults (allowed_in ctx.now) (recorded (zone_rule zoned.now.rule) (ty (arc_value dtype)))) r.0) }
     ensures cause { IfErr result (λ r. StartMay r.0) }
 {
     let Ok(stats) = zoned.stats().clone() else {

@@ -2,9 +2,11 @@
 
 ghost use Rattle.std.specs.Prelude.{◌≡◌, IsTrue};
 ghost use Rattle.std.specs.Arc.{arc_value};
+ghost use Rattle.std.specs.Coded.{Coded-set, coded×, coded_list};
 ghost use Rattle.std.specs.Int.NonZero.{non_zero_u32_get};
 ghost use Rattle.vx_model.specs.TyView.{ty};
 ghost use Rattle.vx_machine_view.specs.Built.{is_built};
+ghost use Rattle.vx_zone_guard.specs.GuardView.{aggregate_code, type_code};
 ghost use Rattle.vx_zone_table.specs.BuilderView.{gathered};
 
 use std::num::NonZeroU32;
@@ -31,9 +33,9 @@ pub struct ZonedNode {
     pub eof: SequencePointer,
     /// Of all chunks so far.
     pub rows: u64,
-    ghost typed: { guard.typed ≡ ty (arc_value dtype) },
+    ghost typed: { guard.typed ≡ ty (arc_value dtype) } by { Coded-set type_code guard.typed (ty (arc_value dtype)) },
     ghost same: { guard.zone_len ≡ non_zero_u32_get zone_len },
-    ghost columns: { (gathered records).columns ≡ guard.columns },
+    ghost columns: { (gathered records).columns ≡ guard.columns } by { Coded-set (coded_list (coded× aggregate_code type_code)) (gathered records).columns guard.columns },
     ghost built: { IsTrue (is_built stats.item) },
 }
 

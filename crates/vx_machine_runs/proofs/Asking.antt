@@ -10,21 +10,16 @@ use Rattle.vx_path.specs.Path.{Eof}
 use Rattle.vx_path.proofs.Lists.{in_cases, from_map}
 use Rattle.vx_tasks.specs.Task.{Kind}
 use Rattle.vx_tasks.specs.Run.{Note, nth}
+use Rattle.vx_zone_spec.specs.ZoneTable.{Filled, kept_columns}
 use Rattle.vx_plan.specs.PlanData.{Setting, Item}
 use Rattle.vx_plan.specs.DictNode.{is_dictionary}
 use Rattle.vx_plan.specs.SourcePlan.{of_schema}
 use Rattle.vx_layout_spec.specs.Real.{Of}
 use Rattle.vx_plan.specs.Valid.{OfSchema, AllOf}
 use Rattle.vx_machine_promises.specs.Write.{Write, Answer, unasked, came, over, taken_by, heard_by}
-<<<<<<< HEAD
-use Rattle.vx_zone_spec.specs.ZoneTable.{Filled, kept_columns}
 use Rattle.vx_machine_view.specs.Zoned.{Zoner, Zones}
-use Rattle.vx_machine_view.specs.State.{Next, put, hand_on, append, shut_kids, join_kids, start_table, leave_kid, Mind, no_chunk, one_chunk, by_chunk, by_column, by_list, by_block, by_size, as_one, by_zone, ending, passing, made, Desk, Tasks, no_tasks, task_then}
-use Rattle.vx_machine_view.specs.Acts.{count, column_count, take_chunk, end_columns, end_lists, end_zones, take_end, do_take, do_act}
-=======
-use Rattle.vx_machine_view.specs.State.{Next, put, hand_on, press, probe, open_run, end_run, append, shut_kids, join_kids, Mind, no_chunk, one_chunk, by_chunk, by_column, by_list, by_block, by_size, as_one, by_image, as_is, by_probe, asking, by_run, ending, passing, made, Desk, Tasks, no_tasks, task_then}
-use Rattle.vx_machine_view.specs.Acts.{count, column_count, probed, take_chunk, end_columns, end_lists, take_end, do_take, do_act}
->>>>>>> d7a35731
+use Rattle.vx_machine_view.specs.State.{Next, put, hand_on, press, probe, open_run, end_run, append, shut_kids, join_kids, start_table, leave_kid, Mind, no_chunk, one_chunk, by_chunk, by_column, by_list, by_block, by_size, as_one, by_image, as_is, by_probe, asking, by_run, by_zone, ending, passing, made, Desk, Tasks, no_tasks, task_then}
+use Rattle.vx_machine_view.specs.Acts.{count, column_count, probed, take_chunk, end_columns, end_lists, end_zones, take_end, do_take, do_act}
 use Rattle.vx_machine_view.specs.Moves.{has_room, Step, may_act, own_step, in_kids, in_rest, steps}
 use Rattle.vx_machine_view.specs.Machine.{Phase, reading, giving, closing, finished, may_source, WholeStep, source_step, in_root, machine_ids}
 use Rattle.vx_machine_view.proofs.Words.{typed_is}
@@ -48,15 +43,11 @@ module _ (s : Setting) (next : ℕ) where
   lists_quiet true t rows c ks = (refl, refl)
   lists_quiet false t rows c ks = (refl, refl)
 
-<<<<<<< HEAD
   zones_quiet : (table : Option (List Filled)) (g : Zoner) (e : Eof) (z : Zones) (c : Desk) (ks : Tasks) → Quiet (end_zones table g e z c ks).kind
   zones_quiet None g e z c ks = (refl, refl)
   zones_quiet (Some cs) g e z c ks = (refl, refl)
 
-  end_quiet : (c : Desk) (ks : Tasks) (mind : Mind) → Quiet (take_end c ks mind).kind
-=======
   end_quiet : (c : Desk) (ks : Tasks) (mind : Mind) → Quiet (take_end s c ks mind).kind
->>>>>>> d7a35731
   end_quiet c ks (no_chunk o t) = (refl, refl)
   end_quiet c ks (one_chunk x) = (refl, refl)
   end_quiet c ks (by_chunk m t f e rows) = (refl, refl)
@@ -67,15 +58,12 @@ module _ (s : Setting) (next : ℕ) where
   end_quiet c ks (by_size size x None rows) = (refl, refl)
   end_quiet c ks (by_size size x (Some j) rows) = (refl, refl)
   end_quiet c ks (as_one t x rows) = (refl, refl)
-<<<<<<< HEAD
-  end_quiet c ks (by_zone g e z) = zones_quiet (kept_columns g.columns z.records) g e z c ks
-=======
   end_quiet c ks (by_image which) = (refl, refl)
   end_quiet c ks as_is = (refl, refl)
   end_quiet c ks (by_probe n e) = (refl, refl)
   end_quiet c ks asking = (refl, refl)
   end_quiet c ks (by_run n r j rows) = (refl, refl)
->>>>>>> d7a35731
+  end_quiet c ks (by_zone g e z) = zones_quiet (kept_columns g.columns z.records) g e z c ks
   end_quiet c ks ending = (refl, refl)
   end_quiet c ks passing = (refl, refl)
   end_quiet c ks (made l) = (refl, refl)
@@ -91,15 +79,12 @@ module _ (s : Setting) (next : ℕ) where
   take_quiet c ks i xs (by_size size x None rows) = (refl, refl)
   take_quiet c ks i xs (by_size size x (Some j) rows) = (refl, refl)
   take_quiet c ks i xs (as_one t x rows) = (refl, refl)
-<<<<<<< HEAD
-  take_quiet c ks i xs (by_zone g e z) = (refl, refl)
-=======
   take_quiet c ks i xs (by_image which) = (refl, refl)
   take_quiet c ks i xs as_is = (refl, refl)
   take_quiet c ks i xs (by_probe n e) = (refl, refl)
   take_quiet c ks i xs asking = (refl, refl)
   take_quiet c ks i xs (by_run n r j rows) = (refl, refl)
->>>>>>> d7a35731
+  take_quiet c ks i xs (by_zone g e z) = (refl, refl)
   take_quiet c ks i xs ending = (refl, refl)
   take_quiet c ks i xs passing = (refl, refl)
   take_quiet c ks i xs (made l) = (refl, refl)

@@ -11,12 +11,9 @@ pub mod Picking
 pub mod Tracking
 pub mod Covers
 pub mod GroupCovering
-<<<<<<< HEAD
-pub mod ZoneCovering
-=======
 pub mod PressCovering
 pub mod DictCovering
->>>>>>> d7a35731
+pub mod ZoneCovering
 pub mod Covering
 pub mod Doing
 pub mod Bounding

@@ -21,7 +21,7 @@ use Rattle.vx_machine_turns.specs.Fuels.{Fuel, spent, fuel, Enough}
 use Rattle.vx_machine_turns.specs.Duties.{Duty, duty_of, duty_script, below, grown}
 use Rattle.vx_machine_turns.specs.Planned.{AtMost}
 use Rattle.vx_machine_turns.proofs.DutyLaws.{below_is}
-use Rattle.vx_machine_turns.proofs.ZonedLaws.{zoned_duties, zoned_streams}
+use Rattle.vx_machine_turns.proofs.ZonedLaws.{table_duties, zoned_duties, zoned_streams}
 use Rattle.vx_machine_runs.proofs.Covers.{counted_by, count_reading, all_counted, Covers, most_over, most_in}
 
 module _ (s : Setting) (n : ZonedNode) where
@@ -107,7 +107,7 @@ zoned_covers s o t k f stats forms h hs = record { covers = go }
 
         at_data : (y : ℕ) → In y (k false items ended (inside e)).numbers → AtMost y (e.last ∷ (mine ++ kids))
         at_data y j = most_over y 0 e.last (all_counted s (g (form_type f)) inner) (mine ++ kids) (omega arith)
-            (λ v z. in_right v mine kids (subst (λ w. In v w) (sym kids_are) (first_kid s g inner _ v z)))
+            (λ v z. in_right v mine kids (subst (λ w. In v w) (sym kids_are) (first_kid s g inner (table_duties s n (length items) (table_of s o t items ended)) v z)))
             (h.covers false (under name 0) items ended (inside e) (g (form_type f)) enough.1 y j)
 
         at : (table : Option (List Filled)) → table_of s o t items ended ≡ table → In x (with_table s o t stats false items e (k false items ended (inside e)) table).numbers → AtMost x (e.last ∷ (mine ++ kids))

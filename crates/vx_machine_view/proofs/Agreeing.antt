@@ -1,14 +1,15 @@
 -- What the abstract machine can do depends on which paths are held, and on no order of them.
-use Rattle.std.proofs.Common.{◌≡◌, ◌∷◌, ◌++◌, ◌∙◌, ◌⊎◌, ℕ, cond, List, map, refl, sym, ap, subst, inl, inr, Option, Some, None, []}
+use Rattle.std.proofs.Common.{◌≡◌, ◌+◌, ◌∷◌, ◌++◌, ◌∙◌, ◌⊎◌, ℕ, cond, List, length, map, refl, sym, ap, subst, inl, inr, Option, Some, None, []}
 use Rattle.vx_path.specs.Lists.{In}
 use Rattle.vx_path.proofs.Lists.{in_left, in_right, in_cases}
 use Rattle.vx_path.specs.Path.{is_least}
 use Rattle.vx_tasks.specs.Task.{Kind, Free, Take, TakeEnd, Put, Append, Join}
 use Rattle.vx_plan.specs.PlanData.{Setting}
-use Rattle.vx_machine_turns.specs.Acts.{Seed}
+use Rattle.vx_machine_turns.specs.Acts.{Seed, born}
+use Rattle.vx_machine_turns.specs.Turns.{firsts}
 use Rattle.vx_machine_turns.specs.Fuels.{Fuel, less}
-use Rattle.vx_machine_steps.specs.Tree.{Head, Tree, Leaf, Work}
-use Rattle.vx_machine_steps.specs.Moves.{Due, due, may, move_own, in_kids, in_rest, tree_moves}
+use Rattle.vx_machine_steps.specs.Tree.{Head, Tree, Leaf, Work, feed}
+use Rattle.vx_machine_steps.specs.Moves.{Due, due, may, TreeMove, move_own, in_kids, in_rest, tree_moves}
 use Rattle.vx_machine_view.specs.Whole.{SameHeld}
 use Rattle.vx_machine_view.proofs.Sounding.{least_same}
 
@@ -49,7 +50,9 @@ module _ (s : Setting) (all held : List (List ℕ)) (least : (p : List ℕ) → 
 
   own_least : (d : Fuel) (h : Head) (ks r : Tree) (x : Option Due) → move_own all d h ks r x ≡ move_own held d h ks r x
   own_least d h ks r None = refl
-  own_least d h ks r (Some g) = ap (λ z. cond z (_ ∷ []) []) (may_least h.seed ks g.act.kind)
+  own_least d h ks r (Some g) =
+      let m : TreeMove = record { name = h.seed.name; act = g.act; before = born h.past + length (firsts h.seed); room = less d h.seed.type; after = Work g.head (feed (less d h.seed.type) g.act 0 ks) r } in
+      ap (λ z. cond z (m ∷ []) []) (may_least h.seed ks g.act.kind)
 
   tree_least : (d : Fuel) (t : Tree) → tree_moves s all d t ≡ tree_moves s held d t
   tree_least d Leaf = refl

@@ -1,5 +1,5 @@
 -- What a dictionary node can do that cuts runs is what the abstract one can.
-use Rattle.std.proofs.Common.{◌≡◌, ◌+◌, ◌*◌, ◌<◌, ◌≤◌, ◌&&◌, ◌==◌, ◌∷◌, ◌++◌, ◌∙◌, ℕ, zero, suc, inl, Bool, true, false, not, List, map, length, refl, sym, ap, subst, arith, get_or, eq-eqb, Some, None, []}
+use Rattle.std.proofs.Common.{◌≡◌, ◌+◌, ◌*◌, ◌&&◌, ◌==◌, ◌∷◌, ◌++◌, ◌∙◌, ℕ, zero, suc, inl, Bool, true, false, not, List, map, length, refl, sym, ap, subst, arith, get_or, eq-eqb, Some, None, []}
 use Rattle.vx_model.specs.Words.{total_by}
 use Rattle.vx_model.specs.Ty.{Ty}
 use Rattle.vx_layout_spec.specs.LayoutTree.{LayoutData, row_count, renamed, gathered, dict_layout}
@@ -9,7 +9,7 @@ use Rattle.vx_plan.specs.PlanData.{Setting, Item, row_total, rows_in}
 use Rattle.vx_plan.proofs.InOrderLaws.{renamed-gathered}
 use Rattle.vx_machine_turns.specs.Locals.{DictNode, RunsSoFar, Local, runs_local}
 use Rattle.vx_machine_turns.specs.Acts.{Seed, Act, runs_of, does, shape_in}
-use Rattle.vx_machine_turns.specs.Dict.{cut_puts, rest_eof, next_cut, after_cut, runs_kept, runs_end, runs_ends}
+use Rattle.vx_machine_turns.specs.Dict.{cut_puts, rest_eof, next_cut, after_cut, runs_kept, runs_ends}
 use Rattle.vx_machine_turns.specs.Readings.{run_layouts, shaped}
 use Rattle.vx_machine_turns.specs.Scripts.{with_holds, all_uses, filled}
 use Rattle.vx_machine_turns.specs.Fuels.{Fuel, less}

@@ -11,7 +11,7 @@ use Rattle.vx_machine_turns.specs.Readings.{shaped, unread, layout_reading}
 use Rattle.vx_machine_turns.specs.Fuels.{Fuel, spent, fuel, less}
 use Rattle.vx_machine_steps.specs.Tree.{Tree, Leaf, Work, ahead, further, read}
 use Rattle.vx_machine_steps.specs.Moves.{is_nil, all_over, all_paths, holding, tree_moves}
-use Rattle.vx_machine_steps.specs.Stands.{KidsHold}
+use Rattle.vx_machine_steps.specs.Stands.{Stands, KidsHold}
 use Rattle.vx_machine_steps.proofs.Laws.{end_is_free}
 use Rattle.vx_machine_promises.specs.Write.{Write, Future, depth}
 use Rattle.vx_machine_view.specs.State.{Tasks, no_tasks, task_then}

@@ -75,58 +75,62 @@ last_ids s n (puts_codes j e true i ∷ ds) ns = ap (λ z. i.0 ∷ z) (last_ids 
 last_ids s n (puts_codes j e false i ∷ ds) ns = ap (λ z. i.0 ∷ eof_path e ∷ eof_path (next e) ∷ z) (last_ids s n ds ns)
 last_ids s n (puts_values j i ∷ ds) ns = ap (λ z. i.0 ∷ z) (last_ids s n ds ns)
 
+-- the paths of what is left and of what it has in mind are those that the abstract one holds
+abbrev InOrder : Mind → List Next → List Act → Local → Bool → Type 0
+InOrder mind left todo l over = next_ids left ++ mind_ids mind ≡ all_uses todo ++ kept_now over l
+
 stage_holds : (s : Setting) (d : Fuel) (mind : Mind) (left : List Next) (ks : Tasks) (q : Seed) (past todo : List Act) (l : Local) (over : Bool) (hs : Tree)
     → Stage s d mind left ks q past todo l over hs → SameHeld (next_ids left ++ mind_ids mind) (all_uses todo ++ kept_now over l)
-stage_holds s d mind left ks q past todo l over hs (waits_first o t k w) = carried (λ m f a l o. SameHeld (next_ids f ++ mind_ids m) (all_uses a ++ kept_now o l)) w.mind_is w.idle w.rest w.local_is w.on (same_held refl)
-stage_holds s d mind left ks q past todo l over hs (waits_end o t x b k w) = carried (λ m f a l o. SameHeld (next_ids f ++ mind_ids m) (all_uses a ++ kept_now o l)) w.mind_is w.idle w.rest w.local_is w.on (same_held refl)
-stage_holds s d mind left ks q past todo l over hs (appends x k w) = carried (λ m f a z o. SameHeld (next_ids f ++ mind_ids m) (all_uses a ++ kept_now o z)) w.mind_is w.left_is w.rest refl w.off (same_held refl)
-stage_holds s d mind left ks q past todo l over hs (splits n e nm t sp b en u w) = carried (λ m f a l o. SameHeld (next_ids f ++ mind_ids m) (all_uses a ++ kept_now o l)) w.mind_is w.idle w.rest w.local_is w.on (same_held refl)
-stage_holds s d mind left ks q past todo l over hs (gathers_all t u w) = carried (λ m f a z o. SameHeld (next_ids f ++ mind_ids m) (all_uses a ++ kept_now o z)) w.mind_is w.left_is w.rest refl w.off (same_held refl)
-stage_holds s d mind left ks q past todo l over hs (hands n rows j p xs ws t v w) = carried (λ m f a l o. SameHeld (next_ids f ++ mind_ids m) (all_uses a ++ kept_now o l)) w.mind_is w.left_is w.rest w.local_is w.on
-    (same_held (ap (λ z. z ++ []) (puts_ids j p xs ws w.same)))
-stage_holds s d mind left ks q past todo l over hs (hands_lists n first from rows j p xs ws t v w) = carried (λ m f a l o. SameHeld (next_ids f ++ mind_ids m) (all_uses a ++ kept_now o l)) w.mind_is w.left_is w.rest w.local_is w.on
-    (same_held (ap (λ z. z ++ []) (puts_ids j p xs ws w.same)))
-stage_holds s d mind left ks q past todo l over hs (shuts t rows c w) = carried (λ m f a z o. SameHeld (next_ids f ++ mind_ids m) (all_uses a ++ kept_now o z)) w.mind_is w.left_is w.rest refl w.off (same_held refl)
-stage_holds s d mind left ks q past todo l over hs (joins_columns t rows c w) = carried (λ m f a z o. SameHeld (next_ids f ++ mind_ids m) (all_uses a ++ kept_now o z)) w.mind_is w.left_is w.rest refl w.off (same_held refl)
-stage_holds s d mind left ks q past todo l over hs (regroups_rows o n x j rows outs tj nh w) = carried (λ m f a l o. SameHeld (next_ids f ++ mind_ids m) (all_uses a ++ kept_now o l)) w.mind_is w.left_is w.rest w.local_is w.on
-    (same_held (ap (λ z. z ++ group_kept j) (hands_ids (λ p. 0) (group_kept j) outs)))
-stage_holds s d mind left ks q past todo l over hs (regroups_chunks size n x j rows outs tx tj nh w) = carried (λ m f a l o. SameHeld (next_ids f ++ mind_ids m) (all_uses a ++ kept_now o l)) w.mind_is w.left_is w.rest w.local_is w.on
-    (same_held (ap (λ z. z ++ group_kept j) (hands_ids held (group_kept j) outs)))
-stage_holds s d mind left ks q past todo l over hs (collects n x rows w) = carried (λ m f a l o. SameHeld (next_ids f ++ mind_ids m) (all_uses a ++ kept_now o l)) w.mind_is w.left_is w.rest w.local_is w.on (same_held refl)
-stage_holds s d mind left ks q past todo l over hs (presses n t i ti w) = carried (λ m f a l o. SameHeld (next_ids f ++ mind_ids m) (all_uses a ++ kept_now o l)) w.mind_is w.left_is w.rest w.local_is w.on (same_held refl)
-stage_holds s d mind left ks q past todo l over hs (pressed n t outs w) = carried (λ m f a l o. SameHeld (next_ids f ++ mind_ids m) (all_uses a ++ kept_now o l)) w.mind_is w.left_is w.rest w.local_is w.on
-    (same_held (ap (λ z. z ++ []) (hands_ids (λ p. 0) [] outs)))
-stage_holds s d mind left ks q past todo l over hs (lets_out n t outs w) = carried (λ m f a l o. SameHeld (next_ids f ++ mind_ids m) (all_uses a ++ kept_now o l)) w.mind_is w.left_is w.rest w.local_is w.on
-    (same_held (ap (λ z. z ++ []) (hands_ids (λ p. 0) [] outs)))
-stage_holds s d mind left ks q past todo l over hs (asks_first n k nk w) = carried (λ m f a l o. SameHeld (next_ids f ++ mind_ids m) (all_uses a ++ kept_now o l)) w.mind_is w.idle w.rest w.local_is w.on (same_held refl)
+stage_holds s d mind left ks q past todo l over hs (waits_first o t k w) = same_held (carried InOrder w.mind_is w.idle w.rest w.local_is w.on refl)
+stage_holds s d mind left ks q past todo l over hs (waits_end o t x b k w) = same_held (carried InOrder w.mind_is w.idle w.rest w.local_is w.on refl)
+stage_holds s d mind left ks q past todo l over hs (appends x k w) = same_held (carried InOrder w.mind_is w.left_is w.rest refl w.off refl)
+stage_holds s d mind left ks q past todo l over hs (splits n e nm t sp b en u w) = same_held (carried InOrder w.mind_is w.idle w.rest w.local_is w.on refl)
+stage_holds s d mind left ks q past todo l over hs (gathers_all t u w) = same_held (carried InOrder w.mind_is w.left_is w.rest refl w.off refl)
+stage_holds s d mind left ks q past todo l over hs (hands n rows j p xs ws t v w) = same_held (carried InOrder w.mind_is w.left_is w.rest w.local_is w.on
+    (ap (λ z. z ++ []) (puts_ids j p xs ws w.same)))
+stage_holds s d mind left ks q past todo l over hs (hands_lists n first from rows j p xs ws t v w) = same_held (carried InOrder w.mind_is w.left_is w.rest w.local_is w.on
+    (ap (λ z. z ++ []) (puts_ids j p xs ws w.same)))
+stage_holds s d mind left ks q past todo l over hs (shuts t rows c w) = same_held (carried InOrder w.mind_is w.left_is w.rest refl w.off refl)
+stage_holds s d mind left ks q past todo l over hs (joins_columns t rows c w) = same_held (carried InOrder w.mind_is w.left_is w.rest refl w.off refl)
+stage_holds s d mind left ks q past todo l over hs (regroups_rows o n x j rows outs tj nh w) = same_held (carried InOrder w.mind_is w.left_is w.rest w.local_is w.on
+    (ap (λ z. z ++ group_kept j) (hands_ids (λ p. 0) (group_kept j) outs)))
+stage_holds s d mind left ks q past todo l over hs (regroups_chunks size n x j rows outs tx tj nh w) = same_held (carried InOrder w.mind_is w.left_is w.rest w.local_is w.on
+    (ap (λ z. z ++ group_kept j) (hands_ids held (group_kept j) outs)))
+stage_holds s d mind left ks q past todo l over hs (collects n x rows w) = same_held (carried InOrder w.mind_is w.left_is w.rest w.local_is w.on refl)
+stage_holds s d mind left ks q past todo l over hs (presses n t i ti w) = same_held (carried InOrder w.mind_is w.left_is w.rest w.local_is w.on refl)
+stage_holds s d mind left ks q past todo l over hs (pressed n t outs w) = same_held (carried InOrder w.mind_is w.left_is w.rest w.local_is w.on
+    (ap (λ z. z ++ []) (hands_ids (λ p. 0) [] outs)))
+stage_holds s d mind left ks q past todo l over hs (lets_out n t outs w) = same_held (carried InOrder w.mind_is w.left_is w.rest w.local_is w.on
+    (ap (λ z. z ++ []) (hands_ids (λ p. 0) [] outs)))
+stage_holds s d mind left ks q past todo l over hs (asks_first n k nk w) = same_held (carried InOrder w.mind_is w.idle w.rest w.local_is w.on refl)
 stage_holds s d mind left ks q past todo l over hs (probes n i k nk w) = carried (λ m f a l o. SameHeld (next_ids f ++ mind_ids m) (all_uses a ++ kept_now o l)) w.mind_is w.left_is w.rest w.local_is w.on
     (by (is_dictionary (s.image n.options.probe i.1)))
   where
     by : (b : Bool)
         → SameHeld (eof_path n.eof ∷ i.0 ∷ []) (all_uses (filled (kept (if b then runs_first n i else fallback_first s n i).after) (if b then runs_first n i else fallback_first s n i).more) ++ kept_now false (if b then runs_first n i else fallback_first s n i).after)
     by true = swapped (eof_path n.eof) i.0
-    by false = same_held refl
-stage_holds s d mind left ks q past todo l over hs (falls_back t outs w) = carried (λ m f a l o. SameHeld (next_ids f ++ mind_ids m) (all_uses a ++ kept_now o l)) w.mind_is w.left_is w.rest w.local_is w.on
-    (same_held (ap (λ z. z ++ []) (hands_ids (λ p. 0) [] outs)))
-stage_holds s d mind left ks q past todo l over hs (cuts n r i rows c ds k u w) = carried (λ m f a l o. SameHeld (next_ids f ++ mind_ids m) (all_uses a ++ kept_now o l)) w.mind_is w.left_is w.rest w.local_is w.on
-    (same_held (ap (λ z. z ++ runs_kept r i) (deeds_ids s n (runs_kept r i) ds)))
-stage_holds s d mind left ks q past todo l over hs (last_cuts n rows ns c ds k u sum is go w) = carried (λ m f a z o. SameHeld (next_ids f ++ mind_ids m) (all_uses a ++ kept_now o z)) w.mind_is w.left_is w.rest refl w.off
-    (same_held (ap (λ z. z ++ []) (last_ids s n ds ns)))
-stage_holds s d mind left ks q past todo l over hs (passes_on t weight outs one to w) = carried (λ m f a z o. SameHeld (next_ids f ++ mind_ids m) (all_uses a ++ kept_now o z)) w.mind_is w.left_is w.rest refl w.off
-    (same_held (ap (λ z. z ++ []) (ends_ids weight outs)))
-stage_holds s d mind left ks q past todo l over hs (passed t one w) = carried (λ m f a z o. SameHeld (next_ids f ++ mind_ids m) (all_uses a ++ kept_now o z)) w.mind_is w.left_is w.rest refl w.off (same_held refl)
-stage_holds s d mind left ks q past todo l over hs (records_zones n z outs iz one rw to w) = carried (λ m f a l o. next_ids f ++ mind_ids m ≡ all_uses a ++ kept_now o l) w.mind_is w.left_is w.rest w.local_is w.on
-    (ap (λ v. v ++ zoned_kept n) (each_ids (zoned_kept n) outs))
-stage_holds s d mind left ks q past todo l over hs (closes_zones n z table iz one w) = carried (λ m f a z o. next_ids f ++ mind_ids m ≡ all_uses a ++ kept_now o z) w.mind_is w.left_is w.rest refl w.off (close_ids s n z table l)
-stage_holds s d mind left ks q past todo l over hs (joins_data n z table iz one w) = carried (λ m f a z o. next_ids f ++ mind_ids m ≡ all_uses a ++ kept_now o z) w.mind_is w.left_is w.rest refl w.off (data_ids s n z table l)
-stage_holds s d mind left ks q past todo l over hs (joins_zones n rows cs both w) = carried (λ m f a z o. next_ids f ++ mind_ids m ≡ all_uses a ++ kept_now o z) w.mind_is w.left_is w.rest refl w.off refl
+    by false = same_held (let e : eof_path n.eof ∷ i.0 ∷ [] ≡ all_uses (filled (kept (fallback_first s n i).after) (fallback_first s n i).more) ++ kept_now false (fallback_first s n i).after = refl in e)
+stage_holds s d mind left ks q past todo l over hs (falls_back t outs w) = same_held (carried InOrder w.mind_is w.left_is w.rest w.local_is w.on
+    (ap (λ z. z ++ []) (hands_ids (λ p. 0) [] outs)))
+stage_holds s d mind left ks q past todo l over hs (cuts n r i rows c ds k u w) = same_held (carried InOrder w.mind_is w.left_is w.rest w.local_is w.on
+    (ap (λ z. z ++ runs_kept r i) (deeds_ids s n (runs_kept r i) ds)))
+stage_holds s d mind left ks q past todo l over hs (last_cuts n rows ns c ds k u sum is go w) = same_held (carried InOrder w.mind_is w.left_is w.rest refl w.off
+    (ap (λ z. z ++ []) (last_ids s n ds ns)))
+stage_holds s d mind left ks q past todo l over hs (passes_on t weight outs one to w) = same_held (carried InOrder w.mind_is w.left_is w.rest refl w.off
+    (ap (λ z. z ++ []) (ends_ids weight outs)))
+stage_holds s d mind left ks q past todo l over hs (passed t one w) = same_held (carried InOrder w.mind_is w.left_is w.rest refl w.off refl)
+stage_holds s d mind left ks q past todo l over hs (records_zones n z outs iz one rw to w) = same_held (carried InOrder w.mind_is w.left_is w.rest w.local_is w.on
+    (ap (λ v. v ++ zoned_kept n) (each_ids (zoned_kept n) outs)))
+stage_holds s d mind left ks q past todo l over hs (closes_zones n z table iz one w) = same_held (carried InOrder w.mind_is w.left_is w.rest refl w.off (close_ids s n z table l))
+stage_holds s d mind left ks q past todo l over hs (joins_data n z table iz one w) = same_held (carried InOrder w.mind_is w.left_is w.rest refl w.off (data_ids s n z table l))
+stage_holds s d mind left ks q past todo l over hs (joins_zones n rows cs both w) = same_held (carried InOrder w.mind_is w.left_is w.rest refl w.off refl)
 
 done_holds : (number : List ℕ → ℕ) (mind : Mind) (left : List Next) (ks : Tasks) (past todo : List Act) (l : Local) (over : Bool) (hs : Tree) → Done number mind left ks past todo over hs
     → SameHeld (next_ids left ++ mind_ids mind) (all_uses todo ++ kept_now over l)
-done_holds number mind left ks past todo l over hs w = carried (λ m f a z o. SameHeld (next_ids f ++ mind_ids m) (all_uses a ++ kept_now o z)) w.mind_is w.idle w.rest refl w.off (same_held refl)
+done_holds number mind left ks past todo l over hs w = same_held (carried InOrder w.mind_is w.idle w.rest refl w.off refl)
 
 pub held_is : (s : Setting) (number : List ℕ → ℕ) (d : Fuel) (q : Seed) (j : ℕ) (cs : Tasks) (t : Tree) → Shows s number d q j cs t → AllHold t → SameHeld (held_by cs) (all_paths t)
-held_is s number d q j no_tasks Leaf w k = same_held refl
+held_is s number d q j no_tasks Leaf w k = ((λ p i. i), (λ p i. i))
 held_is s number d q j no_tasks (Work h hs r) w k = absurd w
 held_is s number d q j (task_then c ks more) Leaf w k = absurd w
 held_is s number d q j (task_then c ks more) (Work h hs r) w k =

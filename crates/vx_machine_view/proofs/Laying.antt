@@ -1,5 +1,5 @@
 -- Each task that has done all has one layout.
-use Rattle.std.proofs.Common.{◌≡◌, ◌+◌, ◌&&◌, ◌⊎◌, ◌∷◌, ◌++◌, ◌∙◌, ℕ, suc, true, List, length, length-append, refl, ap, inl, inr, arith, []}
+use Rattle.std.proofs.Common.{◌≡◌, ◌+◌, ◌⊎◌, ◌++◌, ◌∙◌, ℕ, suc, true, List, length, length-append, refl, ap, inl, inr, arith}
 use Rattle.vx_plan.specs.PlanData.{Setting}
 use Rattle.vx_machine_turns.specs.Acts.{Seed}
 use Rattle.vx_machine_turns.specs.Fuels.{Fuel, less}

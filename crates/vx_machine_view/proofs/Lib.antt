@@ -3,6 +3,7 @@ pub mod Feeding
 pub mod Beginning
 pub mod Joining
 pub mod Acting
+pub mod Columns
 pub mod Folding
 pub mod Grouping
 pub mod Regrouping

@@ -33,7 +33,8 @@ use Rattle.vx_machine_view.specs.Steps.{AllPairs, Steady, SameStep, StepsShow}
 use Rattle.vx_machine_view.proofs.Words.{carried, pairs_append, pairs_map}
 use Rattle.vx_machine_view.proofs.Feeding.{none_counted, no_tree}
 use Rattle.vx_machine_view.proofs.Joining.{over_due, over_idle}
-use Rattle.vx_machine_view.proofs.Acting.{desk, Own, Going, first_own, one_own, chunks_own, put_own, struct_going, columns_own, lists_going, lists_own}
+use Rattle.vx_machine_view.proofs.Acting.{desk, Own, first_own, one_own, chunks_own}
+use Rattle.vx_machine_view.proofs.Columns.{Going, put_own, struct_going, columns_own, lists_going, lists_own}
 use Rattle.vx_machine_view.proofs.Folding.{append_own, gather_own, shut_own, join_own}
 use Rattle.vx_machine_view.proofs.Grouping.{passes_own}
 use Rattle.vx_machine_view.proofs.Pressing.{press_own, pressed_own, out_own, back_own}

@@ -1,5 +1,5 @@
 -- A compressing node's outlet at its start, with the node's child below it.
-use Rattle.std.proofs.Common.{◌≡◌, ◌+◌, ◌∷◌, ◌++◌, ◌∙◌, ℕ, false, List, refl, ap, inl, arith, append-nil, []}
+use Rattle.std.proofs.Common.{◌≡◌, ◌+◌, ◌++◌, ◌∙◌, ℕ, false, List, refl, ap, inl, append-nil, []}
 use Rattle.vx_path.specs.Path.{under}
 use Rattle.vx_plan.specs.PlanData.{Setting}
 use Rattle.vx_machine_turns.specs.Forms.{form_type}

@@ -1,6 +1,5 @@
 -- What a dictionary node can do before its first chunk, at it, and once it hands all to its fallback.
 use Rattle.std.proofs.Common.{◌≡◌, ◌+◌, ◌∷◌, ◌++◌, ◌∙◌, ℕ, suc, Bool, true, false, not, if◌then◌else◌, List, refl, sym, ap, subst, inl, arith, get_or, Some, None, []}
-use Rattle.vx_model.specs.Ty.{Ty}
 use Rattle.vx_path.specs.Path.{under}
 use Rattle.vx_tasks.specs.Task.Prompt.{Call}
 use Rattle.vx_tasks.specs.Task.{Free, Take, TakeEnd}
