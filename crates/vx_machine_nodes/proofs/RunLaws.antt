@@ -62,7 +62,7 @@ pub cut_total : (o : DictOptions) (t : Ty) (k : ℕ) (ds : List CellData) (cs : 
 cut_total o t k ds cs b =
     let cut = stretches o t ds [] cs in
     let e : all_rows (closed_outputs o t k cut.closed (open_outputs o t (next_number k cut.closed) cut.codes cut.distinct b)) ≡ code_total cut.closed + all_rows (open_outputs o t (next_number k cut.closed) cut.codes cut.distinct b)
-        = closed_total o t k cut.closed (open_outputs o t (next_number k cut.closed) cut.codes cut.distinct b) in
+    = closed_total o t k cut.closed (open_outputs o t (next_number k cut.closed) cut.codes cut.distinct b) in
     let f : all_rows (open_outputs o t (next_number k cut.closed) cut.codes cut.distinct b) ≡ length cut.codes = open_total o t (next_number k cut.closed) cut.codes cut.distinct b in
     let g : code_total cut.closed + length cut.codes ≡ 0 + length cs = stretch_rows o t ds [] cs in
     omega (arith, e, f, g)
@@ -192,13 +192,13 @@ rows_end rows (x ∷ xs) codes ds = ap (λ z. (rows + length x.0) ∷ z) (rows_e
 -- ---- pointers go on
 
 rest_at : (b : Bool) (e : Eof) → (if b then next (next e) else e).last ≤ (next (next e)).last
-rest_at true e = omega arith
+rest_at true e = (let h : (e.last + 1) + 1 ≤ (e.last + 1) + 1 = omega arith in h)
 rest_at false e = (let h : e.last ≤ (e.last + 1) + 1 = omega arith in h)
 
 -- values end a run that has begun
 one_later : (r : RunsSoFar) (x : Place) (c : ChunkData) → may_follow r.begun x ≡ true → (rest_eof r).last ≤ (rest_eof (behind r x c)).last
 one_later r (Codes k) c h = rest_at r.begun r.eof
-one_later r (Values k) c h = let e : (rest_eof r).last ≡ (next (next r.eof)).last = ap (λ b. (if b then next (next r.eof) else r.eof).last) h in omega (arith, e)
+one_later r (Values k) c h = subst (λ b. (if b then next (next r.eof) else r.eof).last ≤ (next (next r.eof)).last) (sym h) (rest_at true r.eof)
 one_later r Child c h = absurd (true≢false (sym h))
 one_later r (Column k) c h = absurd (true≢false (sym h))
 
@@ -209,15 +209,17 @@ begun_is r Child c h = absurd (true≢false (sym h))
 begun_is r (Column k) c h = absurd (true≢false (sym h))
 
 pub all_later : (r : RunsSoFar) (xs : List Output) → are_runs r.begun xs ≡ true → (rest_eof r).last ≤ (rest_eof (behind_all r xs)).last
-all_later r [] h = omega arith
+all_later r [] h = (let k : (rest_eof r).last ≤ (rest_eof r).last = omega arith in k)
 all_later r (x ∷ xs) h =
     let a = and_parts (may_follow r.begun x.0) (are_runs (is_codes x.0) xs) h in
     let b : are_runs (behind r x.0 x.1).begun xs ≡ true = ap (λ z. are_runs z xs) (begun_is r x.0 x.1 a.0) ∙ a.1 in
-    omega (arith, one_later r x.0 x.1 a.0, all_later (behind r x.0 x.1) xs b)
+    let c : (rest_eof r).last ≤ (rest_eof (behind r x.0 x.1)).last = one_later r x.0 x.1 a.0 in
+    let d : (rest_eof (behind r x.0 x.1)).last ≤ (rest_eof (behind_all r (x ∷ xs))).last = all_later (behind r x.0 x.1) xs b in
+    omega (arith, c, d)
 
 -- rows of the run that goes on
 pub rows_behind : (r : RunsSoFar) (x : Place) (c : ChunkData) → (behind r x c).rows ≤ r.rows + rows_of x c
-rows_behind r (Codes k) c = omega arith
-rows_behind r (Values k) c = omega arith
-rows_behind r Child c = omega arith
-rows_behind r (Column k) c = omega arith
+rows_behind r (Codes k) c = (let h : r.rows + length (cells c) ≤ r.rows + length (cells c) = omega arith in h)
+rows_behind r (Values k) c = (let h : 0 ≤ r.rows + 0 = omega arith in h)
+rows_behind r Child c = (let h : r.rows ≤ r.rows + 0 = omega arith in h)
+rows_behind r (Column k) c = (let h : r.rows ≤ r.rows + 0 = omega arith in h)

@@ -103,14 +103,20 @@ module _ (b l : ℕ) (t : Ty) (p q : ℕ) where
       (ap (behind_run codes ds) (any_probe (c ∷ []) (0 ∷ []) cs))
 
 -- there are fewer runs than their eof paths
-pub number_small : (c : CutterData) (n : DictNode) (p : ChunkData) (r : RunsSoFar) (b : Bool) → c.max_bytes ≡ n.constraints.max_bytes → c.max_len ≡ n.constraints.max_len → c.typed ≡ ty (arc_value n.dtype) → c.number ≡ length r.ended.items
-    → (held_at 0 c p).number ≤ (rest_eof (behind_all (runs_in r []) (gives_at n.probe c p b))).last
-number_small c n p r b bytes len typed number =
-    let z : (held_at 0 c p).number ≡ (held_at n.probe c p).number = ap (λ (x : Cut). next_number c.number x.closed) (any_probe c.max_bytes c.max_len c.typed 0 n.probe c.distinct [] (cells p)) in
-    let e : (held_at n.probe c p).number ≡ c.number + length (cut_in c n p).closed = held_number c n p bytes len typed in
-    let f : (rest_eof (behind_all (runs_in r []) (gives_at n.probe c p b))).last ≡ ((run_eof r.pointer r.begun).last + 2 * length (cut_in c n p).closed) + 2
-        = ap (λ z. (rest_eof (behind_all (runs_in r []) z)).last) (gives_are c n p bytes len typed b) ∙ rest_any (options_in n) (ty (arc_value n.dtype)) (runs_in r []) c.number (cut_in c n p) b in
+pub number_small : (c : CutterData) (q : ℕ) (p : ChunkData) (r : RunsSoFar) (b : Bool) → c.number ≡ length r.ended.items → (held_at 0 c p).number ≤ (rest_eof (behind_all (runs_in r []) (gives_at q c p b))).last
+number_small c q p r b number =
+    let cut : Cut = stretches (options_of c q) c.typed c.distinct [] (cells p) in
+    let z : (held_at 0 c p).number ≡ next_number c.number cut.closed = ap (λ (x : Cut). next_number c.number x.closed) (any_probe c.max_bytes c.max_len c.typed 0 q c.distinct [] (cells p)) in
+    let e : next_number c.number cut.closed ≡ c.number + length cut.closed = number_is c.number cut.closed in
+    let f : (rest_eof (behind_all (runs_in r []) (gives_at q c p b))).last ≡ ((run_eof r.pointer r.begun).last + 2 * length cut.closed) + 2 = rest_any (options_of c q) c.typed (runs_in r []) c.number cut b in
     omega (arith, z, e, f, number, begun_eof r r.begun refl)
+
+-- what a cutter gives, whatever its options
+pub outputs_follow : (c : CutterData) (p : ChunkData) (begun last : Bool) (xs : List Output) → ((probe : ℕ) → xs ≡ gives_at probe c p last) → are_runs begun xs ≡ true
+outputs_follow c p begun last xs e = ap (are_runs begun) (e 0) ∙ cut_follow (options_of c 0) c.typed c.number (stretches (options_of c 0) c.typed c.distinct [] (cells p)) begun last
+
+pub outputs_rows : (c : CutterData) (p : ChunkData) (last : Bool) (xs : List Output) → ((probe : ℕ) → xs ≡ gives_at probe c p last) → all_rows xs ≡ length (cells p)
+outputs_rows c p last xs e = ap all_rows (e 0) ∙ cut_total (options_of c 0) c.typed c.number c.distinct (cells p) last
 
 -- ---- a take
 
@@ -142,14 +148,14 @@ module _ (d : DictRuns) (next : RunsSoFar) where
   number_more cutter c e =
       let a : cutter.number ≡ d.cutter.number + length cut_here.closed = ap (λ (z : CutterData). z.number) c ∙ held_number d.cutter node_in d.newest.chunk d.bytes d.len d.typed in
       let b : length next.ended.items ≡ length (d.runs.ended.items ++ ended_rows d.runs.rows cut_here.closed)
-          = ap (λ (z : SoFar). length z.ended) (e [] ∙ ap (behind_all (runs_in d.runs [])) (gives_is false) ∙ cut_behind (options_in node_in) (ty (arc_value node_in.dtype)) (runs_in d.runs []) d.cutter.number cut_here) in
+      = ap (λ (z : SoFar). length z.ended) (e [] ∙ ap (behind_all (runs_in d.runs [])) (gives_is false) ∙ cut_behind (options_in node_in) (ty (arc_value node_in.dtype)) (runs_in d.runs []) d.cutter.number cut_here) in
       omega (arith, a, b, d.number, length-append d.runs.ended.items (ended_rows d.runs.rows cut_here.closed), ended_count d.runs.rows cut_here.closed)
 
   -- the last index of the eof paths that are taken
   rest_index : (b : Bool) → (rest_eof (behind_all (runs_in d.runs []) (gives b))).last ≡ (rest_eof (runs_after (coder_in node_in) (runs_in d.runs d.cutter.distinct) (item_of d.newest))).last
   rest_index b =
       let f : (rest_eof (behind_all (runs_in d.runs []) (gives b))).last ≡ ((run_eof d.runs.pointer d.runs.begun).last + 2 * length cut_here.closed) + 2
-          = ap (λ z. (rest_eof (behind_all (runs_in d.runs []) z)).last) (gives_is b) ∙ rest_any (options_in node_in) (ty (arc_value node_in.dtype)) (runs_in d.runs []) d.cutter.number cut_here b in
+      = ap (λ z. (rest_eof (behind_all (runs_in d.runs []) z)).last) (gives_is b) ∙ rest_any (options_in node_in) (ty (arc_value node_in.dtype)) (runs_in d.runs []) d.cutter.number cut_here b in
       let g : (rest_eof (runs_after (coder_in node_in) (runs_in d.runs d.cutter.distinct) (item_of d.newest))).last ≡ ((eof_after (run_eof d.runs.pointer d.runs.begun) cut_here.closed).last + 1) + 1 = refl in
       omega (arith, f, g, eofs_after (run_eof d.runs.pointer d.runs.begun) cut_here.closed)
 
@@ -163,9 +169,9 @@ module _ (d : DictRuns) (next : RunsSoFar) where
   made_last = ap length (gives_is true) ∙ last_count (options_in node_in) (ty (arc_value node_in.dtype)) d.cutter.number cut_here
 
   -- whichever pointers are refused
-  cut_why : (b : Bool) (k made : ℕ) (c : Bool) (ns : List ℕ) (e : WriteError) → length (gives b) ≡ made → CutRefused (rest_eof (behind_all (runs_in d.runs []) (gives b))).last (length (gives b)) e
+  cut_why : (b : Bool) (made : ℕ) (c : Bool) (ns : List ℕ) (e : WriteError) → length (gives b) ≡ made → CutRefused (rest_eof (behind_all (runs_in d.runs []) (gives b))).last (length (gives b)) e
       → Refused None c ns ((rest_eof (runs_after (coder_in node_in) (runs_in d.runs d.cutter.distinct) (item_of d.newest))).last ∷ made ∷ []) [] none_past ⊥ [] e
-  cut_why b k made c ns e m h =
+  cut_why b made c ns e m h =
       wider [] [] None None false c [] ns
       ((rest_eof (runs_after (coder_in node_in) (runs_in d.runs d.cutter.distinct) (item_of d.newest))).last ∷ made ∷ []) ((rest_eof (runs_after (coder_in node_in) (runs_in d.runs d.cutter.distinct) (item_of d.newest))).last ∷ made ∷ [])
       none_past none_past ⊥ ⊥ (λ x w. w) (λ w. absurd (true≢false (sym w))) (not_in ns) (λ n w. w) (λ n w. w) (λ w. w) e
@@ -213,7 +219,7 @@ module _ (s : Setting) (name : List ℕ) (ks : Tasks) (d : DictRuns) (i : Item) 
   pub runs_why : (e : WriteError) → CutRefused (rest_eof (behind_all (runs_in d.runs []) (gives_at (arc_value d.node).probe d.cutter d.newest.chunk false))).last (length (gives_at (arc_value d.node).probe d.cutter d.newest.chunk false)) e
       → TakeRefused (taken s name ks (item_of i) (mind_of (Runs d))) e
   runs_why e h =
-      cut_why d d.runs false 0 (2 * length (cut_in d.cutter (arc_value d.node) d.newest.chunk).closed + 1) (not (ty_eq (piece_type i.chunk) (ty (arc_value (arc_value d.node).dtype)))) ((d.rows + length (cells i.chunk)) ∷ []) e (made_here d d.runs) h
+      cut_why d d.runs false (2 * length (cut_in d.cutter (arc_value d.node) d.newest.chunk).closed + 1) (not (ty_eq (piece_type i.chunk) (ty (arc_value (arc_value d.node).dtype)))) ((d.rows + length (cells i.chunk)) ∷ []) e (made_here d d.runs) h
 
 -- ---- the end
 
@@ -235,4 +241,4 @@ runs_ended d next todo before all runs t eofs made a n = λ s ks c. record {
 
 pub end_why : (d : DictRuns) (n : ℕ) (e : WriteError)
     → CutRefused (rest_eof (behind_all (runs_in d.runs []) (gives_at (arc_value d.node).probe d.cutter d.newest.chunk true))).last (length (gives_at (arc_value d.node).probe d.cutter d.newest.chunk true)) e → EndRefused (Runs d) n e
-end_why d n e h = λ s ks c. cut_why d d.runs true 0 (2 * suc (length (cut_in d.cutter (arc_value d.node) d.newest.chunk).closed)) false [] e (made_last d d.runs) h
+end_why d n e h = λ s ks c. cut_why d d.runs true (2 * suc (length (cut_in d.cutter (arc_value d.node) d.newest.chunk).closed)) false [] e (made_last d d.runs) h
