@@ -24,7 +24,7 @@ use Rattle.vx_machine_turns.specs.Scripts.{script}
 use Rattle.vx_machine_turns.specs.Starts.{struct_columns_of, list_columns_of, marked_forms}
 use Rattle.vx_machine_turns.specs.Source.{source_acts, source_seed}
 use Rattle.vx_machine_turns.specs.Fuels.{Fuel, spent, fuel, fuel_of, Enough, AllEnough}
-use Rattle.vx_machine_turns.specs.Duties.{Duty, duty_of, seeds, duty_script, below}
+use Rattle.vx_machine_turns.specs.Duties.{Duty, duty_of, duty_script, below}
 use Rattle.vx_machine_turns.specs.Planned.{AtMost}
 use Rattle.vx_machine_turns.proofs.DutyLaws.{row_is, unread_same}
 use Rattle.vx_machine_turns.proofs.ChunkedLaws.{chunk_duties, all_seeds, all_given}

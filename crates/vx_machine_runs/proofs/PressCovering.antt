@@ -1,5 +1,5 @@
 -- Each number of the plan of a compressing node is at most one that its tasks count: it is one of its child's.
-use Rattle.std.proofs.Common.{◌≡◌, ℕ, Bool, List, refl, ap, ◌∷◌, []}
+use Rattle.std.proofs.Common.{ℕ, Bool, List, ap, ◌∷◌, []}
 use Rattle.vx_model.specs.Ty.{Ty}
 use Rattle.vx_path.specs.Lists.{In}
 use Rattle.vx_path.specs.Path.{Eof, under}
