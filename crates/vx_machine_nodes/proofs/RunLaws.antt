@@ -22,7 +22,7 @@ use Rattle.vx_machine_nodes.specs.Runs.{behind, next_at, may_follow, is_codes, r
 
 -- ---- rows
 
-code_total : List Stretch → ℕ
+abbrev code_total : List Stretch → ℕ
 code_total [] = 0
 code_total (x ∷ xs) = length x.0 + code_total xs
 
@@ -44,7 +44,7 @@ stretch_rows o t ds codes (c ∷ cs) =
         let h : (length codes + code_total (stretches o t (c ∷ []) (0 ∷ []) cs).closed) + length (stretches o t (c ∷ []) (0 ∷ []) cs).codes ≡ length codes + suc (length cs) = omega (arith, f) in h
 
 codes_length : (o : DictOptions) (codes : List ℕ) → length (cells (codes_piece o codes)) ≡ length codes
-codes_length o codes = length-map offset_cell codes
+codes_length o codes = length-map codes offset_cell
 
 closed_total : (o : DictOptions) (t : Ty) (k : ℕ) (xs : List Stretch) (more : List Output) → all_rows (closed_outputs o t k xs more) ≡ code_total xs + all_rows more
 closed_total o t k [] more = let h : all_rows more ≡ 0 + all_rows more = omega arith in h
@@ -134,11 +134,11 @@ module _ (n : Coder) (p : List ℕ) where
 -- ---- how far the runs come
 
 -- behind stretches that end, and the codes of the run that goes on
-abbrev come_to : RunsSoFar → List Stretch → List ℕ → RunsSoFar
+abbrev pub come_to : RunsSoFar → List Stretch → List ℕ → RunsSoFar
 come_to r xs codes = record { base = base_after r.base xs; eof = eof_after r.eof xs; begun = true; distinct = r.distinct; rows = open_rows r.rows xs codes; ended = r.ended ++ ended_rows r.rows xs }
 
 -- and behind all of them, once the last one ends too
-abbrev end_at : RunsSoFar → List Stretch → List ℕ → RunsSoFar
+abbrev pub end_at : RunsSoFar → List Stretch → List ℕ → RunsSoFar
 end_at r xs codes = record {
   base = suc (suc (base_after r.base xs));
   eof = next (next (eof_after r.eof xs));

@@ -158,8 +158,12 @@ ended_run old new c k ds h p b r e =
 
 -- ---- what is to be done
 
-pub pushed : (old new : List Due) (d : Due) (x : Next) → new ≡ old ++ (d ∷ []) → next_of d ≡ x → todo_of new ≡ todo_of old ++ (x ∷ [])
-pushed old new d x h e = ap todo_of h ∙ map_push next_of old d ∙ ap (λ z. todo_of old ++ (z ∷ [])) e
+-- the deque in between has room
+put_last : (old now new : List Due) (d : Due) → now ≡ old → new ≡ now ++ (d ∷ []) → new ≡ old ++ (d ∷ [])
+put_last old now new d a h = h ∙ ap (λ z. z ++ (d ∷ [])) a
+
+pub pushed : (old now new : List Due) (d : Due) (x : Next) → now ≡ old → new ≡ now ++ (d ∷ []) → next_of d ≡ x → todo_of new ≡ todo_of old ++ (x ∷ [])
+pushed old now new d x a h e = ap todo_of (put_last old now new d a h) ∙ map_push next_of old d ∙ ap (λ z. todo_of old ++ (z ∷ [])) e
 
 -- by their number
 pub many_runs : (n m number eof below : ℕ) (e : ChunkError) → e ≡ chunks.TooLarge n → m ≡ 2 ^ 64 → IsTooLarge number e → number ≤ eof → CutRefused eof below (TooLarge m)
@@ -170,17 +174,22 @@ many_runs n m number eof below e is large h l =
 
 -- ---- ids of what is put last
 
-pub put_moved : (u : Active) (p i : Stock) (xs ys : List Due) (d : Due) → ys ≡ xs ++ (d ∷ []) → due_stock d ≡ i → Owned u (both (both p (dues_stock xs)) i) → Moved u u (both (both p (dues_stock xs)) i) (both p (dues_stock ys))
-put_moved u p i xs ys d h k o =
-    let e : dues_stock ys ≡ both (dues_stock xs) i = one_more xs ys d h ∙ ap (both (dues_stock xs)) k in
+pub last_moved : (u : Active) (i : Stock) (xs ms ys : List Due) (d : Due) → ms ≡ xs → ys ≡ ms ++ (d ∷ []) → due_stock d ≡ i → Owned u (both (dues_stock xs) i) → Moved u u (both (dues_stock xs) i) (dues_stock ys)
+last_moved u i xs ms ys d a h k o =
+    let e : both (dues_stock xs) i ≡ dues_stock ys = sym (one_more xs ys d (put_last xs ms ys d a h) ∙ ap (both (dues_stock xs)) k) in
+    subst (λ z. Moved u u (both (dues_stock xs) i) z) e (moved_none u (both (dues_stock xs) i) o)
+
+pub put_moved : (u : Active) (p i : Stock) (xs ms ys : List Due) (d : Due) → ms ≡ xs → ys ≡ ms ++ (d ∷ []) → due_stock d ≡ i → Owned u (both (both p (dues_stock xs)) i) → Moved u u (both (both p (dues_stock xs)) i) (both p (dues_stock ys))
+put_moved u p i xs ms ys d a h k o =
+    let e : dues_stock ys ≡ both (dues_stock xs) i = one_more xs ys d (put_last xs ms ys d a h) ∙ ap (both (dues_stock xs)) k in
     let q : both (both p (dues_stock xs)) i ≡ both p (dues_stock ys) = both_assoc p (dues_stock xs) i ∙ ap (both p) (sym e) in
     subst (λ z. Moved u u (both (both p (dues_stock xs)) i) z) q (moved_none u (both (both p (dues_stock xs)) i) o)
 
 -- where a run begins besides
-pub open_moved : (u v : Active) (p q r i : Stock) (xs ys : List Due) (d : Due) → ys ≡ xs ++ (d ∷ []) → due_stock d ≡ both r i → Owned u (both (both p (dues_stock xs)) i) → Moved u v p (both q r)
+pub open_moved : (u v : Active) (p q r i : Stock) (xs ms ys : List Due) (d : Due) → ms ≡ xs → ys ≡ ms ++ (d ∷ []) → due_stock d ≡ both r i → Owned u (both (both p (dues_stock xs)) i) → Moved u v p (both q r)
     → Moved u v (both (both p (dues_stock xs)) i) (both q (dues_stock ys))
-open_moved u v p q r i xs ys d h k o m =
-    let e : dues_stock ys ≡ both (dues_stock xs) (both r i) = one_more xs ys d h ∙ ap (both (dues_stock xs)) k in
+open_moved u v p q r i xs ms ys d l h k o m =
+    let e : dues_stock ys ≡ both (dues_stock xs) (both r i) = one_more xs ys d (put_last xs ms ys d l h) ∙ ap (both (dues_stock xs)) k in
     let a : both (both p (dues_stock xs)) i ≡ both p (both (dues_stock xs) i) = both_assoc p (dues_stock xs) i in
     let b : Moved u v (both p (both (dues_stock xs) i)) (both (both q r) (both (dues_stock xs) i)) = moved_beside u v p (both q r) (both (dues_stock xs) i) (owned_as u _ _ a o) m in
     let c : both (both q r) (both (dues_stock xs) i) ≡ both q (dues_stock ys) =
@@ -188,8 +197,8 @@ open_moved u v p q r i xs ys d h k o m =
     ∙ ap (both q) (sym (both_assoc r (dues_stock xs) i) ∙ ap (λ z. both z i) (both_swap r (dues_stock xs)) ∙ both_assoc (dues_stock xs) r i ∙ sym e) in
     moved_as u v _ _ _ _ (sym a) c b
 
-pub put_reserved : (xs ys : List Due) (d : Due) → ys ≡ xs ++ (d ∷ []) → due_reserved d ≡ 0 → dues_reserved ys ≡ dues_reserved xs
-put_reserved xs ys d h k = dues_push ys xs d h ∙ (let e : dues_reserved xs + due_reserved d ≡ dues_reserved xs = omega (arith, k) in e)
+pub put_reserved : (xs ms ys : List Due) (d : Due) → ms ≡ xs → ys ≡ ms ++ (d ∷ []) → due_reserved d ≡ 0 → dues_reserved ys ≡ dues_reserved xs
+put_reserved xs ms ys d a h k = dues_push ys xs d (put_last xs ms ys d a h) ∙ (let e : dues_reserved xs + due_reserved d ≡ dues_reserved xs = omega (arith, k) in e)
 
 -- ---- an output, by its place
 

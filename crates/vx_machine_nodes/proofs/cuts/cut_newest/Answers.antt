@@ -1,4 +1,4 @@
-use Rattle.std.proofs.Common.{◌≡◌, ◌+◌, List, [], length, sym, ap, subst, ◌∙◌, arith}
+use Rattle.std.proofs.Common.{◌≡◌, ◌≤◌, ◌+◌, List, [], length, sym, ap, subst, ◌∙◌, arith}
 use Rattle.std.specs.Prelude.{IfErr, OnOk}
 use Rattle.std.specs.Arc.{arc_value}
 use Rattle.vx_react.specs.Reactor.{Output}
@@ -23,3 +23,7 @@ pub returns-in-Err-clause-refused : goal.returns-in-Err-clause-refused
 returns-in-Err-clause-refused g c =
     c.cut_refusal.ensures.refused (held_at 0 c.args.cutter.now c.args.newest.chunk).number _ _ c.in-Err.ensures.refused
     (number_small c.args.cutter.now (arc_value c.args.node.now).probe c.args.newest.chunk c.args.runs.now c.args.last c.requires.number)
+
+pub returns-in-Ok-clause-rows : goal.returns-in-Ok-clause-rows
+returns-in-Ok-clause-rows g c =
+    subst (λ n. OnOk c.put_below.result (c.put_below.new.runs.rows ≤ c.args.runs.now.rows + n)) (outputs_rows c.args.cutter.now c.args.newest.chunk c.args.last c.in-Ok.outputs.items c.in-Ok.ensures.gives) c.put_below.ensures.rows

@@ -1,4 +1,4 @@
-use Rattle.std.proofs.Common.{arith}
+use Rattle.std.proofs.Common.{◌+◌, arith}
 use Rattle.vx_machine_nodes.proofs.RunSteps.{many_runs}
 use Rattle.vx_machine_nodes.proofs.cuts.cut_refusal.Goals as goal
 
