@@ -21,13 +21,17 @@ MayCome OutOfMemory = Unit {0}
 MayCome Unbuilt = ⊥
 MayCome (Stopped by name) = ⊥
 
--- the same of an act that may append, or compress: a segment's number passes 32 bits
+-- the same of an act that may append: a segment's number passes 32 bits
+abbrev pub AppendMay : WriteError → Type 0
+AppendMay SinkFault = Unit {0}
+AppendMay (Stopped by name) = Unit {0}
+AppendMay (TooLarge n) = 2 ^ 32 ≤ n
+AppendMay e = MayCome e
+
+-- and of one that may compress as well
 abbrev pub ActMay : WriteError → Type 0
 ActMay CompressFault = Unit {0}
-ActMay SinkFault = Unit {0}
-ActMay (Stopped by name) = Unit {0}
-ActMay (TooLarge n) = 2 ^ 32 ≤ n
-ActMay e = MayCome e
+ActMay e = AppendMay e
 
 -- of a call of the compressor
 abbrev pub PressMay : WriteError → Type 0
