@@ -7,6 +7,7 @@ pub mod CauseSteps
 pub mod GatherSteps
 pub mod StartMoves
 pub mod JoinSteps
+pub mod RunJoins
 pub mod ActMoves
 pub mod ViewParts
 pub mod Counting
@@ -22,6 +23,8 @@ pub mod RowSteps
 pub mod ActShows
 pub mod TakeShows
 pub mod NextShows
+pub mod CallShows
 pub mod StepViews
 pub mod StepShows
 pub mod StepLifts
+pub mod TableStarts
