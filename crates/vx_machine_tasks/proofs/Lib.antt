@@ -7,6 +7,8 @@ pub mod CauseSteps
 pub mod GatherSteps
 pub mod StartMoves
 pub mod JoinSteps
+pub mod DictStarts
+pub mod RunJoins
 pub mod ActMoves
 pub mod ViewParts
 pub mod Counting
@@ -20,6 +22,7 @@ pub mod RowSteps
 pub mod ActShows
 pub mod TakeShows
 pub mod NextShows
+pub mod DictActs
 pub mod StepViews
 pub mod StepShows
 pub mod StepLifts
