@@ -18,6 +18,7 @@ pub mod StopSteps
 pub mod ReservedSteps
 pub mod PaidSteps
 pub mod StartShows
+pub mod StartKinds
 pub mod RowSteps
 pub mod ActShows
 pub mod TakeShows
