@@ -1,11 +1,17 @@
 -- What a dictionary node's task does with its children, against the same in plain data.
 use Rattle.std.proofs.Common.{◌≡◌, ℕ, zero, suc, ◌+◌, ◌<◌, Bool, true, false, List, [], ◌∷◌, ◌++◌, length, map, get_or, set, Option, Some, None, refl, sym, ap, subst, ◌∙◌, arith}
+use Rattle.std.proofs.lemmas.List.{length-set}
 use Rattle.vx_model.specs.ChunkData.{ChunkData}
 use Rattle.vx_layout_spec.specs.Real.{Whole}
 use Rattle.vx_path.specs.Path.{Eof, under, inside, next}
 use Rattle.vx_path.proofs.Lists.{in_left, in_right}
 use Rattle.vx_order.specs.Outlet.{Outlet}
 use Rattle.vx_order.specs.Answers.{IsPast, IsShared}
+use Rattle.vx_sequence.specs.Universe.{Active}
+use Rattle.vx_machine_ids.specs.Stock.{Stock, none, both}
+use Rattle.vx_machine_ids.specs.Balance.{Owned, Moved}
+use Rattle.vx_machine_ids.proofs.Stocks.{stock_is, none_both, both_swap, both_assoc}
+use Rattle.vx_machine_ids.proofs.MoveLaws.{moved_then, moved_beside, moved_drop, moved_as, owned_as, owned_left, owned_now}
 use Rattle.vx_plan.specs.DictNode.{is_dictionary}
 use Rattle.vx_plan.specs.PlanData.{Setting, What, Item as Piece, rows_in}
 use Rattle.vx_machine_turns.specs.Acts.{or_else}
@@ -150,3 +156,93 @@ room_beside ts n y = ap (λ k. room_at k (kids_of (set ts n y))) (one_up n) ∙ 
 pub ended_row : (n : ℕ) (i : Piece) (a b c d : Tasks) → b ≡ shut_at n a → c ≡ give (n + 1) i b → d ≡ shut_at (n + 1) c → d ≡ end_at n i a
 ended_row n i a b c d x y z =
     z ∙ ap (shut_at (n + 1)) (y ∙ ap (give (n + 1) i) x) ∙ ap (λ k. shut_at k (give k i (shut_at n a))) (one_up n)
+
+-- ---- as many children
+
+count_give : (j : ℕ) (i : Piece) (ks : Tasks) → count (give j i ks) ≡ count ks
+count_give j i no_tasks = refl
+count_give zero i (task_then c ks r) = refl
+count_give (suc j) i (task_then c ks r) = ap suc (count_give j i r)
+
+pub still_within : (ks js : List Task) (j n : ℕ) (i : Piece) → row js ≡ give j i (row ks) → n < length ks → n < length js
+still_within ks js j n i h l =
+    let e : length js ≡ length ks = sym (count_row js) ∙ ap count h ∙ count_give j i (row ks) ∙ count_row ks in
+    omega (arith, e, l)
+
+pub set_within : (ks : List Task) (n m : ℕ) (y : Task) → m < length ks → m < length (set ks n y)
+set_within ks n m y l = omega (arith, length-set ks n y, l)
+
+-- ---- ids of a run, and of the first chunk
+
+module _ (u v w : Active) (t c d i : Stock) (o : Owned u (both t (both (both c d) i))) where
+  run_apart : both t (both (both c d) i) ≡ both (both t (both c i)) d
+  run_apart = stock_is (both t (both (both c d) i)) (both (both t (both c i)) d) (λ p. omega arith) (λ p. omega arith)
+
+  pub codes_owned : Owned u (both t (both c i))
+  codes_owned = owned_left u (both t (both c i)) d (owned_as u (both t (both (both c d) i)) (both (both t (both c i)) d) run_apart o)
+
+  module _ (k : Stock) (m : Moved u v (both t (both c i)) k) where
+    codes_beside : Moved u v (both t (both (both c d) i)) (both k d)
+    codes_beside = moved_as u v (both (both t (both c i)) d) (both t (both (both c d) i)) (both k d) (both k d) (sym run_apart) refl
+        (moved_beside u v (both t (both c i)) k d (owned_as u (both t (both (both c d) i)) (both (both t (both c i)) d) run_apart o) m)
+
+    pub values_owned : Owned v (both k d)
+    values_owned = owned_now u v (both t (both (both c d) i)) (both k d) o codes_beside
+
+    pub run_moved : (l : Stock) → Moved v w (both k d) l → Moved u w (both t (both (both c d) i)) l
+    run_moved l n = moved_then u v w (both t (both (both c d) i)) (both k d) l codes_beside n
+
+    -- the values' id is given up
+    pub run_lost : Moved v w d none → Moved u w (both t (both (both c d) i)) k
+    run_lost n = run_moved k (moved_drop v w k d values_owned n)
+
+-- the first chunk's pointer goes to the fallback, its id to what is handed on, and what was in mind is given up
+pub fell_moved : (u v w : Active) (l t k e i f s m : Stock) → s ≡ both i t → Owned u (both (both (both l t) k) (both e i)) → Moved u v (both k e) f → Moved v w (both l none) m → Moved u w (both (both (both l t) k) (both e i)) (both (both m s) f)
+fell_moved u v w l t k e i f s m is o a b =
+    let whole : Stock = both (both (both l t) k) (both e i) in
+    let first : whole ≡ both (both k e) (both l (both t i)) = stock_is whole (both (both k e) (both l (both t i))) (λ p. omega arith) (λ p. omega arith) in
+    let then : both f (both l (both t i)) ≡ both (both l none) (both f (both t i)) = stock_is (both f (both l (both t i))) (both (both l none) (both f (both t i))) (λ p. omega arith) (λ p. omega arith) in
+    let last : both m (both f (both t i)) ≡ both (both m s) f = stock_is (both m (both f (both t i))) (both (both m (both i t)) f) (λ p. omega arith) (λ p. omega arith) ∙ ap (λ z. both (both m z) f) (sym is) in
+    let x : Moved u v whole (both (both l none) (both f (both t i))) =
+    moved_as u v (both (both k e) (both l (both t i))) whole (both f (both l (both t i))) (both (both l none) (both f (both t i))) (sym first) then
+    (moved_beside u v (both k e) f (both l (both t i)) (owned_as u whole (both (both k e) (both l (both t i))) first o) a) in
+    let y : Owned v (both (both l none) (both f (both t i))) = owned_now u v whole (both (both l none) (both f (both t i))) o x in
+    moved_as u w whole whole (both m (both f (both t i))) (both (both m s) f) refl last
+    (moved_then u v w whole (both (both l none) (both f (both t i))) (both m (both f (both t i))) x (moved_beside v w (both l none) m (both f (both t i)) y b))
+
+-- refused, all that came with the chunk is given up
+pub fell_lost : (u v w : Active) (l t k e i f : Stock) → Owned u (both (both (both l t) k) (both e i)) → Moved u v (both k e) f → Moved v w i none → Moved u w (both (both (both l t) k) (both e i)) (both (both l t) f)
+fell_lost u v w l t k e i f o a b =
+    let whole : Stock = both (both (both l t) k) (both e i) in
+    let first : whole ≡ both (both k e) (both (both l t) i) = stock_is whole (both (both k e) (both (both l t) i)) (λ p. omega arith) (λ p. omega arith) in
+    let then : both f (both (both l t) i) ≡ both i (both (both l t) f) = stock_is (both f (both (both l t) i)) (both i (both (both l t) f)) (λ p. omega arith) (λ p. omega arith) in
+    let x : Moved u v whole (both i (both (both l t) f)) =
+    moved_as u v (both (both k e) (both (both l t) i)) whole (both f (both (both l t) i)) (both i (both (both l t) f)) (sym first) then
+    (moved_beside u v (both k e) f (both (both l t) i) (owned_as u whole (both (both k e) (both (both l t) i)) first o) a) in
+    let y : Owned v (both i (both (both l t) f)) = owned_now u v whole (both i (both (both l t) f)) o x in
+    moved_as u w whole whole (both none (both (both l t) f)) (both (both l t) f) refl (none_both (both (both l t) f))
+    (moved_then u v w whole (both i (both (both l t) f)) (both none (both (both l t) f)) x (moved_beside v w i none (both (both l t) f) y b))
+
+-- runs are in mind in its place
+pub runs_moved : (u v w : Active) (l t k p r m : Stock) → Owned u (both (both (both l t) k) p) → Moved u v p r → Moved v w (both l r) m → Moved u w (both (both (both l t) k) p) (both (both m t) k)
+runs_moved u v w l t k p r m o a b =
+    let whole : Stock = both (both (both l t) k) p in
+    let first : whole ≡ both p (both (both l t) k) = both_swap (both (both l t) k) p in
+    let then : both r (both (both l t) k) ≡ both (both l r) (both t k) = stock_is (both r (both (both l t) k)) (both (both l r) (both t k)) (λ q. omega arith) (λ q. omega arith) in
+    let x : Moved u v whole (both (both l r) (both t k)) =
+    moved_as u v (both p (both (both l t) k)) whole (both r (both (both l t) k)) (both (both l r) (both t k)) (sym first) then (moved_beside u v p r (both (both l t) k) (owned_as u whole (both p (both (both l t) k)) first o) a) in
+    let y : Owned v (both (both l r) (both t k)) = owned_now u v whole (both (both l r) (both t k)) o x in
+    moved_as u w whole whole (both m (both t k)) (both (both m t) k) refl (sym (both_assoc m t k)) (moved_then u v w whole (both (both l r) (both t k)) (both m (both t k)) x (moved_beside v w (both l r) m (both t k) y b))
+
+-- no chunk came
+module _ (u v : Active) (e t k f : Stock) (o : Owned u (both (both e t) k)) where
+  end_apart : both (both e t) k ≡ both (both k e) t
+  end_apart = stock_is (both (both e t) k) (both (both k e) t) (λ p. omega arith) (λ p. omega arith)
+
+  pub end_owned : Owned u (both k e)
+  end_owned = owned_left u (both k e) t (owned_as u (both (both e t) k) (both (both k e) t) end_apart o)
+
+  pub end_moved : Moved u v (both k e) f → Moved u v (both (both e t) k) (both (both none t) f)
+  end_moved m =
+      moved_as u v (both (both k e) t) (both (both e t) k) (both f t) (both (both none t) f) (sym end_apart) (stock_is (both f t) (both (both none t) f) (λ p. omega arith) (λ p. omega arith))
+      (moved_beside u v (both k e) f t (owned_as u (both (both e t) k) (both (both k e) t) end_apart o) m)
