@@ -7,10 +7,7 @@ pub mod CauseSteps
 pub mod GatherSteps
 pub mod StartMoves
 pub mod JoinSteps
-<<<<<<< HEAD
-=======
 pub mod DictStarts
->>>>>>> a37dfea016fa30447bea394643a1d3622f187286
 pub mod RunJoins
 pub mod ActMoves
 pub mod ViewParts
@@ -27,11 +24,8 @@ pub mod RowSteps
 pub mod ActShows
 pub mod TakeShows
 pub mod NextShows
-<<<<<<< HEAD
 pub mod CallShows
-=======
 pub mod DictActs
->>>>>>> a37dfea016fa30447bea394643a1d3622f187286
 pub mod StepViews
 pub mod StepShows
 pub mod StepLifts
