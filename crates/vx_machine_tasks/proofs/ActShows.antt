@@ -2,6 +2,7 @@
 use Rattle.std.proofs.Common.{◌≡◌, ℕ, suc, Bool, true, false, List, [], ◌∷◌, Option, None, Result, Ok, Err, IfOk, IfErr, OnOk, OnErr, refl, sym, ap, subst, ◌∙◌}
 use Rattle.std.proofs.lemmas.Result.{IfErr-weaker}
 use Rattle.vx_model.specs.ChunkData.{ChunkData}
+use Rattle.vx_model.specs.declared.encoding.EncodingId.{EncodingId}
 use Rattle.vx_path.specs.Path.{Eof}
 use Rattle.vx_layout_tree.specs.declared.layout.Layout.{Layout}
 use Rattle.vx_layout_tree.specs.LayoutView.{layout_data}
@@ -13,7 +14,7 @@ use Rattle.vx_sink.specs.declared.context.LayoutWriterContext.{LayoutWriterConte
 use Rattle.vx_sink.specs.ContextView.{listed, allowed_in}
 use Rattle.vx_machine_view.specs.Coder.{Coder}
 use Rattle.vx_machine_view.specs.Images.{images_of}
-use Rattle.vx_machine_view.specs.State.{Next, put, hand_on, press, probe, open_run, end_run, append, shut_kids, join_kids, start_table, leave_kid, Mind, ending, made, Desk, Tasks}
+use Rattle.vx_machine_view.specs.State.{Next, put, hand_on, press, probe, open_run, end_run, append, shut_kids, join_kids, start_table, leave_kid, Mind, ending, made, Desk, Tasks, no_tasks}
 use Rattle.vx_machine_view.specs.Acts.{Did, give, end_at, shut_all, layouts_in, folded, joined_rows, now, probed, do_next}
 use Rattle.vx_write_answer.specs.declared.step.ActionKind.{ActionKind}
 use Rattle.vx_write_answer.specs.declared.step.ActionKind.TheVariants as actions
@@ -32,7 +33,7 @@ use Rattle.vx_machine_nodes.specs.Acting.{ActRefused, AppendRefused, bare, acted
 use Rattle.vx_machine_nodes.specs.Causes.{PressMay}
 use Rattle.vx_machine_nodes.specs.Context.{setting_of}
 use Rattle.vx_machine_tasks.specs.Acting.{DueDone, DueRefused, Acted}
-use Rattle.vx_machine_nodes.specs.Outcome.{Kept}
+use Rattle.vx_machine_nodes.specs.Outcome.{action_of, Kept}
 use Rattle.vx_machine_nodes.specs.View.{item_of, stored_of, fold_of, next_of, mind_of}
 use Rattle.vx_machine_tasks.specs.View.{desk_of, row}
 use Rattle.vx_machine_nodes.proofs.Fitting.{none_fit}
@@ -152,6 +153,11 @@ module _ (ctx : LayoutWriterContext) (image : ℕ → ChunkData → ChunkData) (
       (IfErr-weaker r (λ e. (s : Setting) (n : ℕ) (mind : Mind) → s.allowed ≡ allowed_in ctx → ActRefused (acted s name n mind (row ks) (next_of x)) o e) (DueRefused ctx image name l ks x o)
       (λ e k n. k (setting_of ctx image) n (mind_of l) refl) f)
 
+  pub start_kind : (x : Due) (more : List Task) (r : Result ActionKind WriteError) (k : ActionKind) → ((s : Setting) (n : ℕ) (mind : Mind) → k ≡ action_of (acted s name n mind (row ks) (next_of x)).kind)
+      → IfOk r (λ a. (s : Setting) (n : ℕ) (mind : Mind) (td : List Next) → s.allowed ≡ allowed_in ctx → ActDone (acted s name n mind (row ks) (next_of x)) o n u mind td td (row more) a) → IfOk r (λ a. a ≡ k)
+  start_kind x more (Ok a) k is f = (f (setting_of ctx image) 0 ending [] refl).kind ∙ sym (is (setting_of ctx image) 0 ending)
+  start_kind x more (Err e) k is f = tt
+
   -- by an image
   pub ask_does : (x : Due) (m : Local) (todo left : List Next) (more : List Task) (r : Result ActionKind WriteError) → d ≡ x
       → IfOk r (λ a. (s : Setting) (n : ℕ) (mind : Mind) → s.allowed ≡ allowed_in ctx → s.image ≡ images_of image → ActDone (acted s name n mind (row ks) (next_of x)) o n u (mind_of m) todo left (row more) a)
@@ -164,6 +170,11 @@ module _ (ctx : LayoutWriterContext) (image : ℕ → ChunkData → ChunkData) (
   ask_says x r is f = why_due x r is
       (IfErr-weaker r (λ e. (s : Setting) (n : ℕ) (mind : Mind) → s.allowed ≡ allowed_in ctx → s.image ≡ images_of image → ActRefused (acted s name n mind (row ks) (next_of x)) o e) (DueRefused ctx image name l ks x o)
       (λ e k n. k (setting_of ctx image) n (mind_of l) refl refl) f)
+
+pub append_kind : (x : Stored) (o u : Outlet) (m : Local) (s : Setting) (ids : List EncodingId) → s.encodings ≡ ids → (r : Result ActionKind WriteError)
+    → IfOk r (λ a. (n : ℕ) × ((s : Setting) (at : List ℕ) (mind : Mind) (kids : Tasks) (td : List Next) → s.encodings ≡ ids → ActDone (acted s at n mind kids (append (stored_of x))) o n u (mind_of m) td td kids a)) → IfOk r (λ a. a ≡ actions.Append)
+append_kind x o u m s ids q (Ok a) f = (f.1 s [] ending no_tasks [] q).kind
+append_kind x o u m s ids q (Err e) f = tt
 
 -- and is a join
 pub join_kind : (s : Setting) (h : Shape) (ks : List Task) (o u : Outlet) (m : Local) (more : List Task) (r : Result ActionKind WriteError)

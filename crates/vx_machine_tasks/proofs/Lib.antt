@@ -19,11 +19,14 @@ pub mod ReservedSteps
 pub mod PaidSteps
 pub mod StartShows
 pub mod StartKinds
+pub mod StartRooms
 pub mod RowSteps
 pub mod ActShows
 pub mod TakeShows
 pub mod NextShows
 pub mod DictActs
+pub mod CallShows
 pub mod StepViews
 pub mod StepShows
 pub mod StepLifts
+pub mod TableStarts

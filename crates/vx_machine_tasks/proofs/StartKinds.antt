@@ -87,12 +87,6 @@ zones_started a w n m name ks t b is d shows =
     let f : Form = form_at w.child.item u in
     started a (form_at (zoned_way w) u) false name n.eof (Zoned m) ks t (zoned_allowed a (zone_rule w.rule) u f (λ v. form_at w.stats.item v) n.eof b.allowed d.allowed) d.counted (zones_mind a w n m n.eof b is) d.tasks shows
 
--- ---- a task with more places
-
-placed : (x : Task-F Task) (t : Task) (c : Desk) (p : ℕ) (r : Tasks) → x.kids ≡ (out-Task t).kids → x.head ≡ record (out-Task t).head { places = p } → desk_of (out-Task t).head ≡ c
-    → task_row (roll-Task x) r ≡ task_then (record c { places = p }) (row (out-Task t).kids.items) r
-placed x t c p r k h is = row_roll x r ∙ (λ j. task_then (desk_of (h j)) (row (k j).items) r) ∙ ap (λ z. task_then (record z { places = p }) (row (out-Task t).kids.items) r) is
-
 -- ---- a dictionary node
 
 -- of a type that a dictionary can hold, where no other strategy stands for its node

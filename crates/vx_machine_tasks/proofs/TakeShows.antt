@@ -1,5 +1,5 @@
 -- What the take of a chunk or of the end does, against the same in plain data.
-use Rattle.std.proofs.Common.{◌≡◌, ◌+◌, ◌^◌, ◌<◌, ◌&&◌, ◌==◌, not, ℕ, Bool, true, false, List, [], ◌∷◌, ◌++◌, length, Option, Some, None, Global, Result, Ok, Err, IfOk, IfErr, OnOk, refl, sym, ap, subst, ◌∙◌, inl, inr, append-nil}
+use Rattle.std.proofs.Common.{◌≡◌, ◌⊎◌, ◌+◌, ◌^◌, ◌<◌, ◌&&◌, ◌==◌, not, ℕ, Bool, true, false, List, [], ◌∷◌, ◌++◌, length, Option, Some, None, Global, Result, Ok, Err, IfOk, IfErr, OnOk, refl, sym, ap, subst, ◌∙◌, inl, inr, append-nil}
 use Rattle.std.proofs.lemmas.Bool.{true≢false}
 use Rattle.std.specs.Arc.{arc_value}
 use Rattle.std.specs.declared.sync.Arc.{Arc}
@@ -47,7 +47,7 @@ use Rattle.vx_machine_nodes.specs.declared.node.Local.{Local}
 use Rattle.vx_machine_nodes.specs.declared.node.Local.TheVariants.{Empty, Full, Chunked, Columns, Lists, Grouped, Over, Passing, Made, Zoned, Pressing, AsIs, Probe, Asking, Runs}
 use Rattle.vx_machine_tasks.specs.declared.task.Head.{Head}
 use Rattle.vx_machine_tasks.specs.declared.task.Task.{Task}
-use Rattle.vx_machine_nodes.specs.Acting.{Behind, bare, taken, Took, TakeRefused, TakeStopped, ChunkTaken, ChunkRefused, SplitRefused, is_flat, is_probe, Ended, EndTaken, EndRefused}
+use Rattle.vx_machine_nodes.specs.Acting.{Behind, bare, taken, Took, TakeRefused, TakeStopped, ChunkTaken, ChunkRefused, SplitRefused, is_flat, is_probe, is_cutting, Ended, EndTaken, EndRefused}
 use Rattle.vx_machine_tasks.specs.Acting.{TakeDone, Acted}
 use Rattle.vx_machine_nodes.specs.Context.{Allowed, setting_of}
 use Rattle.vx_machine_nodes.specs.Outcome.{action_of, AllFit}
@@ -96,6 +96,24 @@ unprobed Passing h = refl
 unprobed Over h = refl
 unprobed (Made x) h = refl
 unprobed (Probe n eof) h = absurd (h n eof refl)
+
+-- what isn't one of cutting runs
+pub uncut : (l : Local) → ((r : DictRuns) → l ≡ Runs r → ⊥) → is_cutting l ≡ false
+uncut (Runs r) h = absurd (h r refl)
+uncut (Empty n) h = refl
+uncut (Full x) h = refl
+uncut (Chunked n eof rows) h = refl
+uncut (Columns n rows) h = refl
+uncut (Lists n rows) h = refl
+uncut (Grouped n) h = refl
+uncut (Zoned n) h = refl
+uncut (Pressing which) h = refl
+uncut AsIs h = refl
+uncut (Probe n eof) h = refl
+uncut Asking h = refl
+uncut Passing h = refl
+uncut Over h = refl
+uncut (Made x) h = refl
 
 regrouped : (r : Regroup) (j : Option Item) (rows : ℕ) (n : Coder) (e : Eof) → mind_in r j rows ≡ by_probe n e → ⊥
 regrouped (Repartition h) j rows n e is = cc
@@ -252,6 +270,11 @@ ended_by l b a m kids todo mid before x y z h =
 -- by what was in mind
 pub ended_as : (l k m : Local) (kids : ℕ) (todo before : List Next) → l ≡ k → EndTaken k kids m todo before → EndTaken l kids m todo before
 ended_as l k m kids todo before e h = subst (λ w. EndTaken w kids m todo before) (sym e) h
+
+-- of a node that only presses what it takes, or passes it on as it is
+pub of_way : (P : Local → Type 0) (l : Local) → ((w : ℕ) × (l ≡ Pressing w)) ⊎ (l ≡ AsIs) → ((w : ℕ) → P (Pressing w)) → P AsIs → P l
+of_way P l (inl (w, is)) f p = subst P (sym is) (f w)
+of_way P l (inr is) f p = subst P (sym is) p
 
 pub ended_empty : (l : Local) (n : FlatNode) (kids : ℕ) (todo : List Next) (r : Result Local WriteError) → l ≡ Empty n → IfOk r (λ m. mind_of m ≡ made (gathered (ty (arc_value n.dtype)) 0 []))
     → IfOk r (λ m. EndTaken l kids m todo todo)

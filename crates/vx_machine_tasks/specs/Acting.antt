@@ -1,8 +1,9 @@
 -- Acts of a task against those in plain data, part by part.
-use Rattle.std.specs.Prelude.{◌≡◌, ℕ, ◌+◌, false, List, ◌∷◌, ◌++◌, None}
+use Rattle.std.specs.Prelude.{◌≡◌, ℕ, ◌+◌, Bool, true, false, List, [], ◌∷◌, ◌++◌, None}
 use Rattle.vx_path.specs.Path.{Eof, inside}
 use Rattle.vx_model.specs.declared.encoding.EncodingId.{EncodingId}
 use Rattle.vx_model.specs.ChunkData.{ChunkData}
+use Rattle.vx_tasks.specs.Task.{Kind, Free, Call}
 use Rattle.vx_order.specs.Outlet.{Outlet}
 use Rattle.vx_machine_turns.specs.Starts.{start_fault}
 use Rattle.vx_machine_view.specs.Start.{first_indices}
@@ -11,7 +12,9 @@ use Rattle.vx_sink.specs.ContextView.{counted as bytes_counted}
 use Rattle.vx_machine_view.specs.Acts.{Did, do_take, do_act}
 use Rattle.vx_write_answer.specs.declared.step.ActionKind.{ActionKind}
 use Rattle.vx_write_answer.specs.declared.error.WriteError.{WriteError}
+use Rattle.vx_write_answer.specs.declared.error.WriteError.TheVariants.{CompressFault}
 use Rattle.vx_machine_nodes.specs.declared.item.Due.{Due}
+use Rattle.vx_machine_nodes.specs.declared.item.Due.TheVariants.{Put, HandOn, Press, Append, Close, Join, Table, Leave, Ask, OpenRun, EndRun}
 use Rattle.vx_machine_nodes.specs.declared.kinds.ChunkedNode.{ChunkedNode}
 use Rattle.vx_machine_nodes.specs.declared.node.Local.{Local}
 use Rattle.vx_machine_tasks.specs.declared.task.Head.{Head}
@@ -75,3 +78,35 @@ NextDone ctx image h ks before after head kids a = (n : ℕ) × Acted (act_next 
 
 abbrev pub NextRefused : LayoutWriterContext → (ℕ → ChunkData → ChunkData) → Head → List Task → Outlet → WriteError → Type 0
 NextRefused ctx image h ks o e = (n : ℕ) → ActStopped (bytes_counted ctx) (act_next ctx image n h ks) o e
+
+-- ---- where the compressor fails
+
+-- whether it is a call of the compressor
+abbrev pub is_call : Due → Bool
+is_call (Press which i) = true
+is_call (Ask p) = true
+is_call (Put c i) = false
+is_call (HandOn i r) = false
+is_call (Append x) = false
+is_call Close = false
+is_call (Join f) = false
+is_call (Table t) = false
+is_call (Leave e) = false
+is_call (OpenRun r i) = false
+is_call (EndRun c i) = false
+
+-- it fails only where it is called
+abbrev pub DueFails : Due → WriteError → Type 0
+DueFails d CompressFault = is_call d ≡ true
+DueFails d e = Unit {0}
+
+-- of what is left of a block
+abbrev pub NextFails : List Due → WriteError → Type 0
+NextFails [] CompressFault = ⊥
+NextFails [] e = Unit {0}
+NextFails (d ∷ ds) e = DueFails d e
+
+-- of a step
+abbrev pub CallFails : Kind → WriteError → Type 0
+CallFails k CompressFault = k ≡ Free Call
+CallFails k e = Unit {0}

@@ -13,7 +13,7 @@ ghost use Rattle.vx_plan.specs.PlanData.{Setting};
 ghost use Rattle.vx_machine_view.specs.State.{append as append_next, join_kids, Next, Mind, made as has_layout, Tasks};
 ghost use Rattle.vx_machine_view.specs.Acts.{give, shut_all, layouts_in, joined_rows, column_count};
 ghost use Rattle.vx_machine_nodes.specs.Acting.{AppendRefused, JoinRefused, acted, ActDone, taken, Took, TakeRefused, TakeStopped, is_grouped, is_probe, is_cutting, ChunkTaken, ChunkStopped, EndTaken, EndRefused};
-ghost use Rattle.vx_machine_tasks.specs.Acting.{DueDone, DueRefused, NextTaken, NextUntaken, NextDone, NextRefused};
+ghost use Rattle.vx_machine_tasks.specs.Acting.{DueDone, DueRefused, DueFails, NextTaken, NextUntaken, NextDone, NextRefused, NextFails};
 ghost use Rattle.vx_machine_nodes.specs.Calls.{TaskTold, PressTold};
 ghost use Rattle.vx_machine_nodes.specs.Causes.{MayCome, AppendMay, ActMay};
 ghost use Rattle.vx_machine_nodes.specs.Ledger.{Paid, told_by, some_bytes, ok_bytes, due_reserved, dues_reserved, local_reserved};
@@ -200,6 +200,7 @@ fn act<O: Order, C: CompressorPlugin>(
         (C.must_fail compressor.old) (C.must_fail compressor.new) result (λ a. a) }
     ensures compressor { C.kind compressor.new ≡ C.kind compressor.old }
     ensures cause { IfErr result ActMay }
+    ensures called { IfErr result (DueFails due) }
 {
     match due {
         Due::Put { child, item } => put(order, kids, child, item),
@@ -561,6 +562,7 @@ pub(crate) fn advance<O: Order, C: CompressorPlugin>(
         (C.must_fail compressor.old) (C.must_fail compressor.new) result (λ a. a) }
     ensures compressor { C.kind compressor.new ≡ C.kind compressor.old }
     ensures cause { IfErr result ActMay }
+    ensures called { IfErr result (NextFails head.old.todo.items) }
 {
     match head.todo.pop_front() {
         Some(due) => {

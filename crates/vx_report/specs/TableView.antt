@@ -1,18 +1,22 @@
 -- Zone tables that were read, against those of a layout.
-use Rattle.std.specs.Prelude.{◌≡◌, ℕ, List, [], ◌∷◌, ◌++◌, codes, decimal, map}
-use Rattle.std.specs.Global.{Vec}
-use Rattle.vx_model.specs.Ty.{Ty}
+use Rattle.std.specs.Prelude.{◌≡◌, ℕ, suc, List, [], ◌∷◌, ◌++◌, map}
 use Rattle.vx_model.specs.TyView.{ty}
 use Rattle.vx_model.specs.TreeView.{val}
 use Rattle.vx_model.specs.ValueData.{ValueData}
 use Rattle.vx_layout_spec.specs.LayoutTree.{layout_type}
-use Rattle.vx_report.specs.ZoneText.{ZoneTable}
+use Rattle.vx_report.specs.ZoneText.{ZoneTable, head_line}
+use Rattle.vx_report.specs.RowText.{row_lines}
 use Rattle.vx_report.specs.declared.zone_text.TableRows.{TableRows}
 
 -- the rows of each
 abbrev pub rows_of : List TableRows → List (List ValueData)
 rows_of [] = []
 rows_of (t ∷ ts) = map val t.rows.items ∷ rows_of ts
+
+-- a line a table from this number on, and below it a line a row
+abbrev pub tables_lines : ℕ → List TableRows → List ℕ
+tables_lines k [] = []
+tables_lines k (t ∷ ts) = head_line k t.zone_len (ty t.dtype) ++ (row_lines (map val t.rows.items) ++ tables_lines (suc k) ts)
 
 -- they are of these tables: of each it has the zone length and the type
 abbrev pub AreTables : List TableRows → List ZoneTable → Type 0

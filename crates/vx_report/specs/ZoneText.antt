@@ -1,5 +1,5 @@
 -- The text of zone tables in a report.
-use Rattle.std.specs.Prelude.{ℕ, suc, List, [], ◌∷◌, ◌++◌, codes, decimal}
+use Rattle.std.specs.Prelude.{ℕ, suc, Bool, true, false, List, [], ◌∷◌, ◌++◌, codes, decimal}
 use Rattle.vx_model.specs.Ty.{Ty, Tys, no_fields, field, struct}
 use Rattle.vx_model.specs.ValueData.{ValueData}
 use Rattle.vx_layout_spec.specs.LayoutTree.{Kind, zoned_kind, stats_kind, LayoutData, LayoutList, layout, no_layouts, child, layout_type}
@@ -36,14 +36,22 @@ abbrev pub names_text : Tys → List ℕ
 names_text no_fields = []
 names_text (field name t fs) = name ++ names_behind fs
 
+-- a comma where others come before
+abbrev pub comma_if : Bool → List ℕ
+comma_if true = codes ", "
+comma_if false = []
+
 -- the names of a table's columns
 abbrev pub column_names : Ty → List ℕ
 column_names (struct fs n) = names_text fs
 column_names t = []
 
--- the table of this number, its zone length and its columns
+-- the table of this number, its zone length and the columns of its type
+abbrev pub head_line : ℕ → ℕ → Ty → List ℕ
+head_line k n t = codes "table " ++ (decimal k ++ (codes " zone " ++ (decimal n ++ (codes ": " ++ (column_names t ++ codes "\n")))))
+
 abbrev pub table_line : ℕ → ZoneTable → List ℕ
-table_line k z = codes "table " ++ (decimal k ++ (codes " zone " ++ (decimal z.zone_len ++ (codes ": " ++ (column_names (layout_type z.rows) ++ codes "\n")))))
+table_line k z = head_line k z.zone_len (layout_type z.rows)
 
 -- a line a table, and below it a line a row, where the rows of each table are given in order
 abbrev pub zone_lines : ℕ → List ZoneTable → List (List ValueData) → List ℕ

@@ -123,7 +123,7 @@ start::start_settled-returns-in-Ok-clause-refused g t c =
 pub start::start_settled-returns-in-Err-clause-refused : goal.start::start_settled-returns-in-Err-clause-refused
 start::start_settled-returns-in-Err-clause-refused g t c =
     subst (λ s. FormRefused (allowed_in c.args.ctx.now) (form_at (strategy_data s) (ty (arc_value c.args.dtype))) c.args.marked c.args.eof c.in-Err.error) (sym c.in-Struct.is)
-    (node_refused (allowed_in c.args.ctx.now) c.in-Struct.fields (ty (arc_value c.args.dtype)) c.args.marked (first_indices (form_at (struct_way c.in-Struct.fields) (ty (arc_value c.args.dtype))) c.args.eof) c.in-Err.error c.in-Err.ensures.refused)
+    (node_refused (allowed_in c.args.ctx.now) c.in-Struct.fields (ty (arc_value c.args.dtype)) c.args.marked (first_indices (form_at (struct_way c.in-Struct.fields) (ty (arc_value c.args.dtype))) c.args.marked c.args.eof) c.in-Err.error c.in-Err.ensures.refused)
 
 pub start::start_settled-start_columns-requires : goal.start::start_settled-start_columns-requires
 start::start_settled-start_columns-requires g t c κs within =
@@ -726,9 +726,9 @@ start::start_settled-start_grouped-requires g t c κs within =
     let w : StrategyData = strategy_data c.args.strategy.now in
     let u : Ty = ty (arc_value c.args.dtype) in
     let n = c.in-Ok-blocks_node.node in
-    let k : StrategyData = c.child.result.now.item in
+    let k : StrategyData = c.child-in-Ok-blocks_node.result.now.item in
     let a : w ≡ grouped (by_blocks (block_rule by.rule)) by.child.item = ap strategy_data c.in-Repartition.is in
-    let d : k ≡ by.child.item = ap (λ x. x.item) c.child.ensures in
+    let d : k ≡ by.child.item = ap (λ x. x.item) c.child-in-Ok-blocks_node.ensures in
     let e : ty (arc_value n.dtype) ≡ u = ap (λ z. ty (arc_value z)) c.in-Ok-blocks_node.ensures.dtype in
     let b : IsTrue (is_built k) = ap is_built d ∙ sym (ap is_built a) ∙ c.requires.built in
     let f : 2 + weight (form_at k (ty (arc_value n.dtype))) ≡ weight (form_at w u) = ap weight (grouped_at w by.child.item k (by_blocks (block_rule by.rule)) u (ty (arc_value n.dtype)) a d e) in
@@ -741,11 +741,11 @@ start::start_settled-returns-in-Ok-blocks_node-clause-shows g t c =
     let w : StrategyData = strategy_data c.args.strategy.now in
     let u : Ty = ty (arc_value c.args.dtype) in
     let n = c.in-Ok-blocks_node.node in
-    let k : StrategyData = c.child.result.now.item in
+    let k : StrategyData = c.child-in-Ok-blocks_node.result.now.item in
     let r = by_blocks (block_rule by.rule) in
     let e : ty (arc_value n.dtype) ≡ u = ap (λ z. ty (arc_value z)) c.in-Ok-blocks_node.ensures.dtype in
     subst (λ z. IfOk c.start_grouped.result (Started (allowed_in c.args.ctx.now) z c.args.marked c.args.name c.args.eof))
-    (grouped_at w by.child.item k r u (ty (arc_value n.dtype)) (ap strategy_data c.in-Repartition.is) (ap (λ x. x.item) c.child.ensures) e)
+    (grouped_at w by.child.item k r u (ty (arc_value n.dtype)) (ap strategy_data c.in-Repartition.is) (ap (λ x. x.item) c.child-in-Ok-blocks_node.ensures) e)
     (c.start_grouped.ensures.shows r (subst (λ z. Begins r z n) (sym e) c.in-Ok-blocks_node.ensures.begins))
 
 pub start::start_settled-returns-in-Ok-blocks_node-clause-refused : goal.start::start_settled-returns-in-Ok-blocks_node-clause-refused
@@ -754,10 +754,10 @@ start::start_settled-returns-in-Ok-blocks_node-clause-refused g t c =
     let w : StrategyData = strategy_data c.args.strategy.now in
     let u : Ty = ty (arc_value c.args.dtype) in
     let n = c.in-Ok-blocks_node.node in
-    let k : StrategyData = c.child.result.now.item in
+    let k : StrategyData = c.child-in-Ok-blocks_node.result.now.item in
     let e : ty (arc_value n.dtype) ≡ u = ap (λ z. ty (arc_value z)) c.in-Ok-blocks_node.ensures.dtype in
     subst (λ z. IfErr c.start_grouped.result (FormRefused (allowed_in c.args.ctx.now) z c.args.marked c.args.eof))
-    (grouped_at w by.child.item k (by_blocks (block_rule by.rule)) u (ty (arc_value n.dtype)) (ap strategy_data c.in-Repartition.is) (ap (λ x. x.item) c.child.ensures) e)
+    (grouped_at w by.child.item k (by_blocks (block_rule by.rule)) u (ty (arc_value n.dtype)) (ap strategy_data c.in-Repartition.is) (ap (λ x. x.item) c.child-in-Ok-blocks_node.ensures) e)
     c.start_grouped.ensures.refused
 
 -- of a held size

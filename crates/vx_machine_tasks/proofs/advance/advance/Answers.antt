@@ -13,6 +13,9 @@ use Rattle.vx_machine_tasks.specs.declared.task.Head.{Head}
 use Rattle.vx_machine_nodes.proofs.WriteSteps.{kept_same}
 use Rattle.vx_machine_tasks.proofs.NextShows.{due_done, due_refused, take_acted, take_refused, take_open}
 use Rattle.vx_machine_nodes.proofs.ListParts.{none_is}
+use Rattle.std.proofs.lemmas.Result.{IfErr-weaker}
+use Rattle.vx_machine_tasks.specs.Acting.{DueFails, NextFails}
+use Rattle.vx_machine_tasks.proofs.CallShows.{due_fails, take_fails}
 use Rattle.vx_machine_tasks.proofs.advance.advance.Goals as goal
 
 pub act-requires-clause-owned : goal.act-requires-clause-owned
@@ -86,6 +89,16 @@ returns-in-Err-clause-refused g c = λ n.
 
 pub returns-in-Err-clause-kept : goal.returns-in-Err-clause-kept
 returns-in-Err-clause-kept g c = kept_same (g.O.Order.outlet c.args.order.now) (g.O.Order.outlet c.take_next.new.order) c.take_next.ensures.outlet
+
+pub returns-in-Some-clause-called : goal.returns-in-Some-clause-called
+returns-in-Some-clause-called g c =
+    IfErr-weaker c.act.result (DueFails c.in-Some.due) (NextFails c.args.head.now.todo.items)
+    (λ e. due_fails c.args.head.now.todo.items c.pop_front.new.self.items c.in-Some.due e c.in-Some.ensures.items) c.act.ensures.called
+
+pub returns-in-Err-clause-called : goal.returns-in-Err-clause-called
+returns-in-Err-clause-called g c =
+    let none : c.pop_front.new.self.items ≡ [] = none_is c.pop_front.new.self.items (sym c.pop_front.new.self.ok.0 ∙ c.in-None.ensures.cases.1) in
+    take_fails c.args.head.now.todo.items c.in-Err.error (c.in-None.ensures.items ∙ none) c.in-Err.ensures.cause
 
 -- ---- what is reserved
 

@@ -1,4 +1,4 @@
-use Rattle.std.proofs.Common.{◌≡◌, ap, refl, append-nil, sym, ◌∙◌, arith}
+use Rattle.std.proofs.Common.{◌≡◌, [], ◌∷◌, ◌++◌, ap, refl, append-nil, sym, ◌∙◌, arith}
 use Rattle.vx_machine_ids.specs.Stock.{none, both, end_stock, ok_stock}
 use Rattle.vx_machine_ids.proofs.MoveLaws.{owned_as, moved_as}
 use Rattle.vx_machine_nodes.specs.Ledger.{local_reserved, node_reserved}
@@ -9,9 +9,11 @@ use Rattle.vx_machine_nodes.proofs.Fitting.{none_fit}
 use Rattle.vx_machine_nodes.proofs.ReservedSteps.{dues_push}
 use Rattle.std.proofs.lemmas.List.{map_push}
 use Rattle.vx_machine_nodes.specs.declared.node.Local.TheVariants.{Full, Chunked, Columns, Lists, Grouped, Zoned, Pressing, AsIs, Asking, Runs, Over, Passing, Made}
+use Rattle.vx_machine_nodes.specs.declared.item.Due.TheVariants.{Close}
+use Rattle.vx_machine_nodes.specs.Acting.{EndTaken}
 use Rattle.vx_machine_nodes.specs.View.{next_of, todo_of}
 use Rattle.vx_machine_tasks.proofs.PaidSteps.{ok_none_reserved}
-use Rattle.vx_machine_tasks.proofs.TakeShows.{ended_as, ended_empty, ended_where, unended_as, end_memory}
+use Rattle.vx_machine_tasks.proofs.TakeShows.{of_way, ended_as, ended_empty, ended_where, unended_as, end_memory}
 use Rattle.vx_machine_tasks.proofs.advance.ended.Goals as goal
 
 pub returns-in-Empty-clause-moved : goal.returns-in-Empty-clause-moved
@@ -189,6 +191,25 @@ returns-in-Asking-clause-done g c = λ idle.
 
 pub returns-in-Asking-clause-tracked : goal.returns-in-Asking-clause-tracked
 returns-in-Asking-clause-tracked g c = let l : local_reserved c.args.local ≡ 0 = ap local_reserved c.in-Asking.is in omega (arith, l)
+
+-- ---- a node that presses what it takes, or passes it on as it is
+
+pub returns-in-Pressing-clause-moved : goal.returns-in-Pressing-clause-moved
+returns-in-Pressing-clause-moved g c =
+    ended_none (g.O.Order.active c.args.order.now) (local_stock c.args.local) none (dues_stock c.args.todo.now.items) (dues_stock c.push_back_reserved-in-Pressing.new.self.items)
+    (of_way (λ l. local_stock l ≡ none) c.args.local c.in-Pressing.is (λ w. refl) refl) refl (one_free c.args.todo.now.items c.push_back_reserved-in-Pressing.new.self.items Close c.push_back_reserved-in-Pressing.ensures.items refl) c.requires.owned
+
+pub returns-in-Pressing-clause-done : goal.returns-in-Pressing-clause-done
+returns-in-Pressing-clause-done g c = λ idle.
+    let e : todo_of c.push_back_reserved-in-Pressing.new.self.items ≡ todo_of c.args.todo.now.items ++ (next_of Close ∷ []) = ap todo_of c.push_back_reserved-in-Pressing.ensures.items ∙ map_push next_of c.args.todo.now.items Close in
+    of_way (λ l. EndTaken l c.args.kids Passing (todo_of c.push_back_reserved-in-Pressing.new.self.items) (todo_of c.args.todo.now.items)) c.args.local c.in-Pressing.is
+    (λ w s ks same. record { unrefused = refl; fits = refl; counted = none_fit; mind_is = refl; todo_is = e })
+    (λ s ks same. record { unrefused = refl; fits = refl; counted = none_fit; mind_is = refl; todo_is = e })
+
+pub returns-in-Pressing-clause-tracked : goal.returns-in-Pressing-clause-tracked
+returns-in-Pressing-clause-tracked g c =
+    let l : local_reserved c.args.local ≡ 0 = of_way (λ l. local_reserved l ≡ 0) c.args.local c.in-Pressing.is (λ w. refl) refl in
+    omega (arith, l, dues_push c.push_back_reserved-in-Pressing.new.self.items c.args.todo.now.items Close c.push_back_reserved-in-Pressing.ensures.items)
 
 -- ---- what is reserved
 
