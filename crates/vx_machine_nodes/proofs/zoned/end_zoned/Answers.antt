@@ -26,7 +26,7 @@ returns-in-Ok-Some-clause-reserved g c =
 pub returns-in-Ok-Some-clause-done : goal.returns-in-Ok-Some-clause-done
 returns-in-Ok-Some-clause-done g c = λ kids.
     zones_end_some c.args.node kids (todo_of c.push_back_reserved-in-Ok-Some-2.new.self.items) (todo_of c.args.todo.now.items) c.in-Ok-Some.chunk c.in-Ok-Some.aggregates.items
-    c.in-Ok-Some.ensures.table c.in-Ok-Some.ensures.few
+    (rw c.in-Ok-Some.field-0-is at c.in-Ok-Some.ensures.table) c.in-Ok-Some.ensures.few
     (three_more c.args.todo.now.items c.push_back_reserved.new.self.items c.push_back_reserved-in-Ok-Some.new.self.items c.push_back_reserved-in-Ok-Some-2.new.self.items _ _ _
     c.push_back_reserved.ensures.items c.push_back_reserved-in-Ok-Some.ensures.items c.push_back_reserved-in-Ok-Some-2.ensures.items)
 
