@@ -10,6 +10,7 @@ use Rattle.vx_write_answer.specs.declared.error.WriteError.TheVariants.{Unbuilt}
 use Rattle.vx_path.specs.Path.{Eof}
 use Rattle.vx_machine_turns.specs.Forms.{Form}
 use Rattle.vx_machine_nodes.specs.Causes.{StartMay}
+use Rattle.vx_machine_nodes.specs.Context.{Allowed}
 use Rattle.vx_machine_tasks.specs.Starting.{FormRefused}
 use Rattle.vx_machine.specs.Starting.{WholeRefused}
 use Rattle.vx_machine.specs.Whole.{WholeStartMay}
@@ -34,13 +35,13 @@ built_may true e h m = m
 built_may false e h m = absurd (true≢false (sym h))
 
 -- the same, by what is refused
-pub unbuilt_refused : (b : Bool) (f : Form) (m : Bool) (e : Eof) → b ≡ false → WholeRefused b f m e Unbuilt
-unbuilt_refused true f m e h = absurd (true≢false h)
-unbuilt_refused false f m e h = refl
+pub unbuilt_refused : (b : Bool) (a : Allowed) (f : Form) (m : Bool) (e : Eof) → b ≡ false → WholeRefused b a f m e Unbuilt
+unbuilt_refused true a f m e h = absurd (true≢false h)
+unbuilt_refused false a f m e h = refl
 
-pub built_refused : (b : Bool) (f : Form) (m : Bool) (e : Eof) (x : WriteError) → b ≡ true → FormRefused f m e x → WholeRefused b f m e x
-built_refused true f m e x h r = r
-built_refused false f m e x h r = absurd (true≢false (sym h))
+pub built_refused : (b : Bool) (a : Allowed) (f : Form) (m : Bool) (e : Eof) (x : WriteError) → b ≡ true → FormRefused a f m e x → WholeRefused b a f m e x
+built_refused true a f m e x h r = r
+built_refused false a f m e x h r = absurd (true≢false (sym h))
 
 -- ---- a step
 

@@ -8,7 +8,7 @@ use Rattle.vx_path.specs.Path.{root_eof}
 use Rattle.vx_tasks.specs.Run.{work}
 use Rattle.vx_layout_tree.specs.declared.layout.Layout.{Layout}
 use Rattle.vx_strategy_spec.specs.StrategyData.{StrategyData}
-use Rattle.vx_plan.specs.PlanData.{Setting, Plan, What, not_struct, duplicate_field}
+use Rattle.vx_plan.specs.PlanData.{Setting, Plan, What, not_struct, duplicate_field, forbidden_aggregate}
 use Rattle.vx_plan.specs.Number.{segments}
 use Rattle.vx_plan.specs.SourcePlan.{start_fault, batch_items, of_schema, source_plan, taken_plan}
 use Rattle.vx_plan.specs.Statements.{StartFaultStands}
@@ -17,12 +17,13 @@ use Rattle.vx_machine_turns.specs.Starts.{start_fault as form_fault}
 use Rattle.vx_machine_turns.specs.Planned.{StartFaultsAgree}
 use Rattle.vx_order.specs.Outlet.{Outlet, own, shared, borrow_of}
 use Rattle.vx_sink.specs.declared.context.LayoutWriterContext.{LayoutWriterContext}
-use Rattle.vx_sink.specs.ContextView.{is_marked, counted}
+use Rattle.vx_sink.specs.ContextView.{allowed_in, is_marked, counted}
 use Rattle.vx_write_answer.specs.declared.step.Step.{Step}
 use Rattle.vx_write_answer.specs.declared.error.WriteError.{WriteError}
 use Rattle.vx_write_answer.specs.declared.error.WriteError.TheVariants.{SourceFault, SinkFault, CompressFault, BatchType, NotStruct, DuplicateField, ManyChunks, EmptyList, ZoneCut, ForbiddenAggregate, ForbiddenEncoding, TooLarge, OutOfMemory, Unbuilt, Stopped}
 use Rattle.vx_machine_promises.specs.Write.{Write, Future, Open, planned}
 use Rattle.vx_machine_view.specs.Built.{is_built}
+use Rattle.vx_machine_view.specs.Images.{Careful}
 use Rattle.vx_machine_runs.specs.Runs.{scheduled}
 use Rattle.vx_machine_runs.specs.Steps.{StartIsCaused}
 use Rattle.vx_machine_runs.specs.Tracked.{TrackerComesWithin}
@@ -42,6 +43,7 @@ use Rattle.vx_machine_ran.specs.Runs.{AllDone, DoneIsWritten, Halts, StoppedHalt
 use Rattle.vx_machine_ran.specs.Tracking.{Passes, PassesAt}
 use Rattle.vx_machine_ran.specs.Written.{AreFirst, NeedsNumber, HasCause, write_of, Halted}
 use Rattle.vx_machine_ran.specs.Answered.{IsStarted, HasRun, HasStopped, WroteAll, AnswersAreWritten, AnswersLeaveSinks, IsOutside, AnswersAreComplete}
+use Rattle.vx_machine_ran.proofs.Imaging.{keeps_careful}
 use Rattle.vx_machine_ran.proofs.Leading.{told_same, then_same}
 use Rattle.vx_machine_ran.proofs.Writing.{own_more}
 use Rattle.vx_machine_ran.proofs.Stopping.{kept_own}
@@ -82,13 +84,17 @@ module _ (faults : StartFaultStands) (agree : StartFaultsAgree) (counts : StartI
     refused = inl (c.2, refl, refl);
   }
 
-  starts_with : (x : What) → ((z : Setting) → form_fault z (form_at w t) m ≡ Some x) → start_fault s w t m ≡ Some x
-  starts_with x h = sym (agree s w t m) ∙ h s
+  -- a form is refused so, where these may be recorded
+  abbrev Faulty : What → Type 0
+  Faulty x = (z : Setting) → z.allowed ≡ allowed_in ctx → form_fault z (form_at w t) m ≡ Some x
 
-  fault_stands : (x : What) (f : Future) → ((z : Setting) → form_fault z (form_at w t) m ≡ Some x) → Has x (planned g [] f).faults
+  starts_with : (x : What) → Faulty x → start_fault s w t m ≡ Some x
+  starts_with x h = sym (agree s w t m) ∙ h s refl
+
+  fault_stands : (x : What) (f : Future) → Faulty x → Has x (planned g [] f).faults
   fault_stands x f h = faults s w t m x (starts_with x h) (batch_items 0 f.later) f.fits root_eof
 
-  form_cause : is_built w ≡ true → (e : WriteError) → FormRefused (form_at w t) m root_eof e → Cause e
+  form_cause : is_built w ≡ true → (e : WriteError) → FormRefused (allowed_in ctx) (form_at w t) m root_eof e → Cause e
   form_cause b NotStruct h = (refl, λ f. fault_stands not_struct f h, starts_with not_struct h)
   form_cause b (DuplicateField name) h = (refl, λ f. fault_stands (duplicate_field name) f h, starts_with (duplicate_field name) h)
   form_cause b (TooLarge n) h = (refl, λ f. inr (inl (subst (λ z. IsPast z (planned g [] f).numbers) (sym h.0) (counts g f h.1.0 b h.1.1 h.1.2))), h)
@@ -100,16 +106,16 @@ module _ (faults : StartFaultStands) (agree : StartFaultsAgree) (counts : StartI
   form_cause b ManyChunks h = absurd h
   form_cause b EmptyList h = absurd h
   form_cause b (ZoneCut n) h = absurd h
-  form_cause b (ForbiddenAggregate id) h = absurd h
+  form_cause b (ForbiddenAggregate id) h = (refl, λ f. fault_stands (forbidden_aggregate id) f h, starts_with (forbidden_aggregate id) h)
   form_cause b (ForbiddenEncoding id) h = absurd h
   form_cause b Unbuilt h = absurd h
   form_cause b (Stopped by name) h = absurd h
 
-  start_cause : (e : WriteError) → (e ≡ OutOfMemory) ⊎ WholeRefused (is_built w) (form_at w t) m root_eof e → Cause e
+  start_cause : (e : WriteError) → (e ≡ OutOfMemory) ⊎ WholeRefused (is_built w) (allowed_in ctx) (form_at w t) m root_eof e → Cause e
   start_cause e (inl is) = subst Cause (sym is) (refl, λ f. tt, tt)
   start_cause e (inr h) = by (is_built w) refl h
     where
-      by : (b : Bool) → is_built w ≡ b → WholeRefused b (form_at w t) m root_eof e → Cause e
+      by : (b : Bool) → is_built w ≡ b → WholeRefused b (allowed_in ctx) (form_at w t) m root_eof e → Cause e
       by false is x = subst Cause (sym x) (refl, λ f. is, is)
       by true is x = form_cause is e x
 
@@ -199,10 +205,13 @@ module _ (s : Setting) (w : StrategyData) (t : Ty) (m : Bool) (tracker first nex
 module _ (done : DoneIsWritten) (stopped : StoppedHalts) (left : RunsLeaveSinks) (faults : StartFaultStands) (agree : StartFaultsAgree) (counts : StartIsCaused) (ctx : LayoutWriterContext)
     (image : ℕ → ChunkData → ChunkData) (w : StrategyData) (t : Ty) (schedule : List ℕ) (to_come to_come_now : Option (List ChunkData)) (borrow first : ℕ) (before : Option (List (List ℕ)))
     (steps : List Step) (after : Outlet) (keeps : Keeps (setting_of ctx image)) where
-  none_starts : IsStarted w t (is_marked ctx) → start_fault (setting_of ctx image) w t (is_marked ctx) ≡ None
-  none_starts a = sym (agree (setting_of ctx image) w t (is_marked ctx)) ∙ a.allowed (setting_of ctx image)
+  law : Careful (setting_of ctx image)
+  law = keeps_careful ctx image keeps
 
-  done_answer : length steps < 2 ^ 64 → (l : Option Layout) → HasRun ctx w t schedule to_come (own_sink borrow first before) steps to_come_now after l
+  none_starts : IsStarted (allowed_in ctx) w t (is_marked ctx) → start_fault (setting_of ctx image) w t (is_marked ctx) ≡ None
+  none_starts a = sym (agree (setting_of ctx image) w t (is_marked ctx)) ∙ a.allowed (setting_of ctx image) refl
+
+  done_answer : length steps < 2 ^ 64 → (l : Option Layout) → HasRun ctx image w t schedule to_come (own_sink borrow first before) steps to_come_now after l
       → OwnSink after (λ next now. WroteAll (setting_of ctx image) w t (is_marked ctx) first next to_come to_come_now before now schedule steps l)
   done_answer short l (a, r) = by (done ctx image w t schedule to_come to_come_now borrow first before steps after l keeps a.built (none_starts a) a.counted short r)
     where
@@ -212,13 +221,13 @@ module _ (done : DoneIsWritten) (stopped : StoppedHalts) (left : RunsLeaveSinks)
           subst (λ z. OwnSink after (λ next now. WroteAll (setting_of ctx image) w t (is_marked ctx) first next to_come to_come_now before now schedule steps z)) (sym is)
           (own_more after _ (λ next now. WroteAll (setting_of ctx image) w t (is_marked ctx) first next to_come to_come_now before now schedule steps (Some layout)) h (λ next now p. (ended, p, traced)))
 
-  stopped_answer : (e : WriteError) → HasStopped ctx w t schedule to_come (own_sink borrow first before) steps to_come_now after e
+  stopped_answer : (e : WriteError) → HasStopped ctx image w t schedule to_come (own_sink borrow first before) steps to_come_now after e
       → OwnSink after (λ next now. Halts (write_by ctx image w t) first next to_come to_come_now before now schedule steps e)
   stopped_answer e (inl u) = kept_own (own_sink borrow first before) after (λ next now. Halts (write_by ctx image w t) first next to_come to_come_now before now schedule steps e) u.kept
       (subst (λ z. Halts (write_by ctx image w t) first first to_come z before before schedule steps e) (sym u.told)
       (subst (λ z. Halts (write_by ctx image w t) first first to_come to_come before before schedule z e) (sym u.none)
       (none_stands faults agree counts ctx image w t to_come first before schedule e (start_cause faults agree counts ctx image w t to_come first before e u.cause))))
-  stopped_answer e (inr (a, r)) = stopped ctx image w t schedule to_come to_come_now borrow first before steps after e keeps.codec a.built (none_starts a) r
+  stopped_answer e (inr (a, r)) = stopped ctx image w t schedule to_come to_come_now borrow first before steps after e law a.built (none_starts a) r
 
   -- ---- what is left of the sink
 
@@ -236,12 +245,12 @@ module _ (done : DoneIsWritten) (stopped : StoppedHalts) (left : RunsLeaveSinks)
   none_left : steps ≡ [] → IsLeft borrow first steps (own_sink borrow first before)
   none_left e = subst (λ z. IsLeft borrow first z (own_sink borrow first before)) (sym e) ((omega arith, omega arith), refl)
 
-  done_left : (l : Option Layout) → HasRun ctx w t schedule to_come (own_sink borrow first before) steps to_come_now after l → IsLeft borrow first steps after
-  done_left l (a, r) = subst (λ z. IsLeft borrow first steps z) (sym r.sink) (left ctx image w t schedule to_come borrow first before steps r.end keeps.codec a.built (none_starts a) r.ran)
+  done_left : (l : Option Layout) → HasRun ctx image w t schedule to_come (own_sink borrow first before) steps to_come_now after l → IsLeft borrow first steps after
+  done_left l (a, r) = subst (λ z. IsLeft borrow first steps z) (sym r.sink) (left ctx image w t schedule to_come borrow first before steps r.end law a.built (none_starts a) r.ran)
 
-  stopped_left : (e : WriteError) → HasStopped ctx w t schedule to_come (own_sink borrow first before) steps to_come_now after e → IsLeft borrow first steps after
+  stopped_left : (e : WriteError) → HasStopped ctx image w t schedule to_come (own_sink borrow first before) steps to_come_now after e → IsLeft borrow first steps after
   stopped_left e (inl u) = kept_left (own_sink borrow first before) u.kept (none_left u.none)
-  stopped_left e (inr (a, r)) = kept_left r.end.outlet r.kept (left ctx image w t schedule to_come borrow first before steps r.end keeps.codec a.built (none_starts a) r.ran)
+  stopped_left e (inr (a, r)) = kept_left r.end.outlet r.kept (left ctx image w t schedule to_come borrow first before steps r.end law a.built (none_starts a) r.ran)
 
 -- ---- of valid input
 
@@ -264,7 +273,7 @@ module _ (t : Ty) (unbuilt : Type 0) (never : unbuilt → ⊥) (passes : ℕ →
   only_outside : (e : WriteError) → HasCause t unbuilt passes p taken next stand e → IsOutside e
   only_outside OutOfMemory h = inl refl
   only_outside SourceFault h = inr (inl refl)
-  only_outside SinkFault h = inr (inr refl)
+  only_outside SinkFault h = inr (inr (inl refl))
   only_outside (BatchType c) h = absurd (h.0 (last_of_schema t h.1.0 c (subst (λ z. OfSchema t z) h.1.1 typed)))
   only_outside NotStruct h = absurd (none_has _ p.faults clean h)
   only_outside (DuplicateField name) h = absurd (none_has _ p.faults clean h)
@@ -272,10 +281,10 @@ module _ (t : Ty) (unbuilt : Type 0) (never : unbuilt → ⊥) (passes : ℕ →
   only_outside (ForbiddenEncoding id) h = absurd (none_has _ p.faults clean h)
   only_outside (TooLarge n) h = absurd (number_fits n h)
   only_outside Unbuilt h = absurd (never h)
-  only_outside CompressFault h = absurd h
+  only_outside CompressFault h = inr (inr (inr refl))
   only_outside EmptyList h = absurd (none_has _ p.faults clean h)
-  only_outside (ZoneCut n) h = absurd h
-  only_outside (ForbiddenAggregate id) h = absurd h
+  only_outside (ZoneCut n) h = absurd (none_has _ p.faults clean h)
+  only_outside (ForbiddenAggregate id) h = absurd (none_has _ p.faults clean h)
   only_outside (Stopped by name) h = absurd h
 
 module _ (g : Write) (first next : ℕ) (to_come to_come_now : Option (List ChunkData)) (before now : Option (List (List ℕ))) (schedule : List ℕ) (steps : List Step) (e : WriteError)

@@ -8,7 +8,6 @@ use Rattle.vx_model.specs.ChunkData.{ChunkData}
 use Rattle.vx_fault.specs.Told.{before_told, then_told, NoneTold}
 use Rattle.vx_path.specs.Lists.{In}
 use Rattle.vx_path.specs.Path.{Eof}
-use Rattle.vx_layout_spec.specs.Codec.{Lawful}
 use Rattle.vx_tasks.specs.Task.{Forest}
 use Rattle.vx_tasks.specs.Run.{nth, trace, work}
 use Rattle.vx_tasks.proofs.Picks.{nth_there}
@@ -26,6 +25,7 @@ use Rattle.vx_write_answer.specs.declared.step.Step.{Step}
 use Rattle.vx_write_answer.specs.declared.error.WriteError.{WriteError}
 use Rattle.vx_write_answer.specs.declared.error.WriteError.TheVariants.{SourceFault, SinkFault, CompressFault, BatchType, NotStruct, DuplicateField, ManyChunks, EmptyList, ZoneCut, ForbiddenAggregate, ForbiddenEncoding, TooLarge, OutOfMemory, Unbuilt, Stopped}
 use Rattle.vx_machine_promises.specs.Write.{Write, Future, Open, Answer, unasked, came, over, scripts, planned, taken_by, heard_by, before, begin}
+use Rattle.vx_machine_view.specs.Images.{Careful}
 use Rattle.vx_machine_view.specs.Built.{is_built}
 use Rattle.vx_machine_view.specs.Machine.{Phase, reading, giving, closing, finished, Machine, may_source, WholeStep, source_step, whole_steps, is_finished, machine_ids}
 use Rattle.vx_machine_steps.specs.Moves.{TreeMove}
@@ -55,6 +55,7 @@ use Rattle.vx_machine.specs.Source.{ReadsNone, SourceMay, NoNumber}
 use Rattle.vx_machine.specs.SourceActs.{AsksAt, IsElsewhere, TellsNothing, TellsRefused}
 use Rattle.vx_machine.specs.Steps.{StepRefused}
 use Rattle.vx_machine.specs.Ready.{counted}
+use Rattle.vx_machine.specs.TaskActing.{CallFails}
 use Rattle.vx_machine.specs.Run.{At, ready_at, tracker_by, Stops}
 use Rattle.vx_machine_ran.specs.Ran.{write_by, OwnSink, ShowsCounted, Onward}
 use Rattle.vx_machine_ran.specs.Runs.{Halts, StoppedHalts}
@@ -186,14 +187,14 @@ module _ (t : Ty) (unbuilt : Type 0) (passes : ℕ → Type 0) (p : Plan) (taken
     step_cause : (e : WriteError) → RefusedBy counts w o e → Cause e
     step_cause SourceFault h = tt
     step_cause SinkFault h = tt
-    step_cause CompressFault h = absurd h
+    step_cause CompressFault h = tt
     step_cause (BatchType b) h = absurd (true≢false (sym h ∙ fits))
     step_cause NotStruct h = c.refusal _ h
     step_cause (DuplicateField name) h = c.refusal _ h
     step_cause ManyChunks h = c.refusal _ h
     step_cause EmptyList h = c.refusal _ h
-    step_cause (ZoneCut n) h = absurd h
-    step_cause (ForbiddenAggregate id) h = absurd h
+    step_cause (ZoneCut n) h = c.refusal _ h
+    step_cause (ForbiddenAggregate id) h = c.refusal _ h
     step_cause (ForbiddenEncoding id) h = c.refusal _ h
     step_cause (TooLarge n) h = too_large n h
     step_cause OutOfMemory h = tt
@@ -228,8 +229,8 @@ module _ (counts : ℕ) (w : WholeStep) (o : Outlet) (fits : w.misfit ≡ false)
   word_of (DuplicateField name) i h = (_, h)
   word_of ManyChunks i h = (_, h)
   word_of EmptyList i h = (_, h)
-  word_of (ZoneCut n) i h = absurd i
-  word_of (ForbiddenAggregate id) i h = absurd i
+  word_of (ZoneCut n) i h = (_, h)
+  word_of (ForbiddenAggregate id) i h = (_, h)
   word_of (ForbiddenEncoding id) i h = (_, h)
   word_of (TooLarge n) i h = absurd i
   word_of OutOfMemory i h = absurd i
@@ -246,7 +247,7 @@ read_is s all number a m d w is at =
 -- ---- where a run stopped
 
 module _ (ctx : LayoutWriterContext) (image : ℕ → ChunkData → ChunkData) (way : StrategyData) (t : Ty) (to_come : Option (List ChunkData)) (borrow first : ℕ) (before_it : Option (List (List ℕ)))
-    (law : Lawful (setting_of ctx image).codec (setting_of ctx image).encodings) (built : IsTrue (is_built way)) (clean : start_fault (setting_of ctx image) way t (is_marked ctx) ≡ None)
+    (law : Careful (setting_of ctx image)) (built : IsTrue (is_built way)) (clean : start_fault (setting_of ctx image) way t (is_marked ctx) ≡ None)
     (schedule : List ℕ) (steps : List Step) (y : At) (o : Onward (write_by ctx image way t) to_come borrow first before_it schedule 0 (outset (write_by ctx image way t)) steps y)
     (run : RunIsUnderway) (by : RunByIsUnderway) (front : HistoryIsFront) (causes : StepsHaveCause) (append : AppendIsOneMore) (firsts : NotesAreFirst) (refused_at : RefusalIsLast) (misfit_at : MisfitIsLast) (within : ReadyIsWithinAll) (next_within : NextIsWithinWork) (more_at : ReadyIsMore) (stays : StaysReady) (tracks : TrackerComes)
     (to_come_now : Option (List ChunkData)) (next : ℕ) (now : Option (List (List ℕ))) (sink : (next ≡ first + length o.stand.history) × (now ≡ then_told before_it (stored o.stand.history))) where
@@ -410,7 +411,7 @@ module _ (ctx : LayoutWriterContext) (image : ℕ → ChunkData → ChunkData) (
     read_halts w d z at p is (Stopped by_it name) r m c = absurd m
 
     module _ (told : Answer) (w : WholeStep) (at : nth (ready_steps h first x.history told x.machine) k ≡ Some w) (asks : Asking x.machine.phase k told) (e : WriteError)
-        (tells : TellsRefused x.machine.phase k t y.to_come to_come_now e told) (cause : RefusedBy counts w y.outlet e) where
+        (tells : TellsRefused x.machine.phase k t y.to_come to_come_now e told) (cause : RefusedBy counts w y.outlet e) (called : CallFails w.kind e) where
       abbrev taken : List ChunkData
       taken = taken_by x.taken told
 
@@ -467,7 +468,7 @@ module _ (ctx : LayoutWriterContext) (image : ℕ → ChunkData → ChunkData) (
         there far = inr (
           found.0,
           subst (λ z. IsOwn found.0.move z heard next e) (sym (found.1.0 ∙ counts_are)) (is_own w found.0.move found.1.1 y.outlet mine heard next fits
-              (whole_join (setting_of ctx image) (machine_ids x.machine) (first + length x.history) told x.machine k w at) last counts e far cause),
+              (whole_join (setting_of ctx image) (machine_ids x.machine) (first + length x.history) told x.machine k w at) last counts e far called cause),
         )
           where
             found : (a : NextAct (setting_of ctx image) way t (is_marked ctx) (counted_bytes ctx) taken heard schedule steps) × (a.counts ≡ tracked h x) × SameAct w a.move
@@ -517,7 +518,7 @@ module _ (ctx : LayoutWriterContext) (image : ℕ → ChunkData → ChunkData) (
     refused_halts e r = step_halts r.told r.step
         (subst (λ m. nth (whole_steps (setting_of ctx image) (machine_ids m) (first + length x.history) r.told m) k ≡ Some r.step) o.same.machine_is r.place)
         (asking x.machine.phase k r.told (subst (λ (m : Machine). AsksAt m.phase k r.told) o.same.machine_is r.asks)) e
-        (subst (λ (m : Machine). TellsRefused m.phase k t y.to_come to_come_now e r.told) o.same.machine_is r.tells) r.cause
+        (subst (λ (m : Machine). TellsRefused m.phase k t y.to_come to_come_now e r.told) o.same.machine_is r.tells) r.cause r.called
 
   -- memory ran out before a step: whatever step it would have been
   memory_halts : to_come_now ≡ y.to_come → is_finished y.machine ≡ false → Halting OutOfMemory
@@ -528,6 +529,7 @@ module _ (ctx : LayoutWriterContext) (image : ℕ → ChunkData → ChunkData) (
     asks = asks_not y.machine.phase k;
     tells = tells_memory y.machine.phase k t y.to_come to_come_now same;
     cause = tt;
+    called = tt;
   })
     where
       some : 0 < ready_at y.machine
@@ -548,9 +550,9 @@ module _ (ctx : LayoutWriterContext) (image : ℕ → ChunkData → ChunkData) (
           let are : length all ≡ ready_at y.machine = whole_is_ready (setting_of ctx image) (machine_ids y.machine) (first + length x.history) unasked y.machine in
           nth_there all k (omega (arith, less, are))
 
-  stops_halt : (e : WriteError) → Stops ctx t schedule (length steps) y to_come_now e → Halting e
+  stops_halt : (e : WriteError) → Stops ctx image t schedule (length steps) y to_come_now e → Halting e
   stops_halt e (inl (is, same, going)) = subst Halting (sym is) (memory_halts same going)
-  stops_halt e (inr (some, fails)) = refused_halts some _ refl e (fails image (first + length x.history))
+  stops_halt e (inr (some, fails)) = refused_halts some _ refl e (fails (first + length x.history))
 
 pub stopped_halts : RunIsUnderway → RunByIsUnderway → HistoryIsFront → StepsHaveCause → AppendIsOneMore → NotesAreFirst → RefusalIsLast → MisfitIsLast → ReadyIsWithinAll → NextIsWithinWork → ReadyIsMore → StaysReady → TrackerComes → StoppedHalts
 stopped_halts run by front causes append firsts refused misfit within next_within more stays tracks ctx image w t schedule to_come to_come_now borrow first before steps outlet e law built clean r =

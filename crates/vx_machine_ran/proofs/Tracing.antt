@@ -6,7 +6,6 @@ use Rattle.vx_model.specs.Words.{total_by}
 use Rattle.vx_model.specs.Ty.{Ty}
 use Rattle.vx_model.specs.ChunkData.{ChunkData}
 use Rattle.vx_path.specs.Lists.{In}
-use Rattle.vx_layout_spec.specs.Codec.{Lawful}
 use Rattle.vx_tasks.specs.Task.{Kind, Free, Take, TakeEnd, Put, Append, Join, Batch, End, Call, Close, appends_of}
 use Rattle.vx_tasks.specs.Run.{Note, nth, trace, work, first_pick}
 use Rattle.vx_cut_laws.specs.Cut.{cut}
@@ -18,6 +17,7 @@ use Rattle.vx_sink.specs.ContextView.{is_marked}
 use Rattle.vx_write_answer.specs.declared.step.Step.{Step}
 use Rattle.vx_machine_steps.specs.Runs.{picks_after}
 use Rattle.vx_machine_promises.specs.Write.{Write, Future, Open, Answer, unasked, scripts, taken_by, heard_by, before}
+use Rattle.vx_machine_view.specs.Images.{Careful}
 use Rattle.vx_machine_view.specs.Built.{is_built}
 use Rattle.vx_machine_view.specs.Machine.{WholeStep, is_finished, machine_ids}
 use Rattle.vx_machine_view.specs.Steps.{AllPairs}
@@ -99,7 +99,7 @@ paths_length (p ∷ ps) = ap suc (paths_length ps)
 -- ---- a run
 
 module _ (ctx : LayoutWriterContext) (image : ℕ → ChunkData → ChunkData) (w : StrategyData) (t : Ty) (to_come : Option (List ChunkData)) (borrow first : ℕ) (stood : Option (List (List ℕ)))
-    (law : Lawful (setting_of ctx image).codec (setting_of ctx image).encodings) (built : IsTrue (is_built w)) (clean : start_fault (setting_of ctx image) w t (is_marked ctx) ≡ None)
+    (law : Careful (setting_of ctx image)) (built : IsTrue (is_built w)) (clean : start_fault (setting_of ctx image) w t (is_marked ctx) ≡ None)
     (schedule : List ℕ) (steps : List Step) (y : At) (o : Onward (write_by ctx image w t) to_come borrow first stood schedule 0 (outset (write_by ctx image w t)) steps y) where
   abbrev g : Write
   g = write_by ctx image w t

@@ -4,7 +4,6 @@ use Rattle.vx_model.specs.Ty.{Ty}
 use Rattle.vx_model.specs.ChunkData.{ChunkData}
 use Rattle.vx_fault.specs.Told.{NoneTold}
 use Rattle.vx_path.specs.Path.{root_eof}
-use Rattle.vx_layout_spec.specs.Codec.{Lawful}
 use Rattle.vx_layout_tree.specs.declared.layout.Layout.{Layout}
 use Rattle.vx_layout_tree.specs.LayoutView.{layout_data}
 use Rattle.vx_strategy_spec.specs.StrategyData.{StrategyData}
@@ -16,6 +15,7 @@ use Rattle.vx_sink.specs.ContextView.{is_marked}
 use Rattle.vx_write_answer.specs.declared.step.Step.{Step}
 use Rattle.vx_write_answer.specs.declared.error.WriteError.{WriteError}
 use Rattle.vx_machine_promises.specs.Write.{Write, Future, Open, planned}
+use Rattle.vx_machine_view.specs.Images.{Careful}
 use Rattle.vx_machine_view.specs.Built.{is_built}
 use Rattle.vx_machine_view.specs.Start.{first_indices}
 use Rattle.vx_machine_view.specs.Whole.{form_of}
@@ -61,7 +61,7 @@ pub record Halts (g : Write) (first next : ℕ) (to_come_before to_come_now : Op
 
 abbrev pub StoppedHalts : Type 0
 StoppedHalts = (ctx : LayoutWriterContext) (image : ℕ → ChunkData → ChunkData) (w : StrategyData) (t : Ty) (schedule : List ℕ) (to_come to_come_now : Option (List ChunkData)) (borrow first : ℕ)
-    (before : Option (List (List ℕ))) (steps : List Step) (outlet : Outlet) (e : WriteError) → Lawful (setting_of ctx image).codec (setting_of ctx image).encodings → IsTrue (is_built w)
+    (before : Option (List (List ℕ))) (steps : List Step) (outlet : Outlet) (e : WriteError) → Careful (setting_of ctx image) → IsTrue (is_built w)
     → start_fault (setting_of ctx image) w t (is_marked ctx) ≡ None
     → RunStopped ctx image t schedule (at_start (write_by ctx image w t) to_come borrow first before) steps to_come_now outlet e
     → OwnSink outlet (λ next now. Halts (write_by ctx image w t) first next to_come to_come_now before now schedule steps e)
@@ -74,5 +74,5 @@ IsLeft borrow first steps outlet = OwnSink outlet (λ next now. (next ≤ max fi
 
 abbrev pub RunsLeaveSinks : Type 0
 RunsLeaveSinks = (ctx : LayoutWriterContext) (image : ℕ → ChunkData → ChunkData) (w : StrategyData) (t : Ty) (schedule : List ℕ) (to_come : Option (List ChunkData)) (borrow first : ℕ)
-    (before : Option (List (List ℕ))) (steps : List Step) (y : At) → Lawful (setting_of ctx image).codec (setting_of ctx image).encodings → IsTrue (is_built w)
+    (before : Option (List (List ℕ))) (steps : List Step) (y : At) → Careful (setting_of ctx image) → IsTrue (is_built w)
     → start_fault (setting_of ctx image) w t (is_marked ctx) ≡ None → Ran ctx image t schedule 0 (at_start (write_by ctx image w t) to_come borrow first before) steps y → IsLeft borrow first steps y.outlet

@@ -150,5 +150,5 @@ mutual
   fields_none no_forms m at c e = refl
   fields_none (form_then f fs) m at c e = two_none _ _ _ (mind_none f m (inside e)) (kids_none f m (under at c) (inside e)) (fields_none fs m at (suc c) (next e))
 
-pub started_none : (f : Form) (m : Bool) (name : List ℕ) (e : Eof) (t : Task) → Started f m name e t → task_reserved t ≡ 0
-started_none f m name e t s = sym (task_view t) ∙ ap reserved_by (s.tasks no_tasks) ∙ two_none _ _ 0 (mind_none f m e) (kids_none f m name e) refl
+pub started_none : (a : Allowed) (f : Form) (m : Bool) (name : List ℕ) (e : Eof) (t : Task) → Started a f m name e t → task_reserved t ≡ 0
+started_none a f m name e t s = sym (task_view t) ∙ ap reserved_by (s.tasks no_tasks) ∙ two_none _ _ 0 (mind_none f m e) (kids_none f m name e) refl

@@ -1,6 +1,7 @@
 use Rattle.std.proofs.Common.{[], ◌∷◌, subst}
 use Rattle.std.specs.Arc.{arc_value}
 use Rattle.std.specs.Prelude.{IfOk, IfErr}
+use Rattle.vx_sink.specs.ContextView.{allowed_in}
 use Rattle.vx_strategy.specs.StrategyView.{strategy_data}
 use Rattle.vx_machine_tasks.specs.Starting.{Started, FormRefused}
 use Rattle.vx_machine_nodes.specs.View.{form_at, form_of}
@@ -10,12 +11,12 @@ use Rattle.vx_machine.proofs.machine.start_root.Goals as goal
 
 pub returns-in-Ok-clause-shows : goal.returns-in-Ok-clause-shows
 returns-in-Ok-clause-shows g c =
-    subst (λ z. IfOk c.start_task.result (Started (form_at (strategy_data c.args.strategy.now) z) c.args.marked (1 ∷ []) c.args.eof)) c.in-Ok.ensures.parts.1
-    (subst (λ z. IfOk c.start_task.result (Started (form_of c.args.strategy.now (arc_value c.in-Ok.dtype)) c.args.marked z c.args.eof)) c.in-Ok.ensures.parts.0 c.start_task.ensures.shows)
+    subst (λ z. IfOk c.start_task.result (Started (allowed_in c.args.ctx.now) (form_at (strategy_data c.args.strategy.now) z) c.args.marked (1 ∷ []) c.args.eof)) c.in-Ok.ensures.parts.1
+    (subst (λ z. IfOk c.start_task.result (Started (allowed_in c.args.ctx.now) (form_of c.args.strategy.now (arc_value c.in-Ok.dtype)) c.args.marked z c.args.eof)) c.in-Ok.ensures.parts.0 c.start_task.ensures.shows)
 
 pub returns-in-Ok-clause-refused : goal.returns-in-Ok-clause-refused
 returns-in-Ok-clause-refused g c =
-    subst (λ z. IfErr c.start_task.result (FormRefused (form_at (strategy_data c.args.strategy.now) z) c.args.marked c.args.eof)) c.in-Ok.ensures.parts.1 c.start_task.ensures.refused
+    subst (λ z. IfErr c.start_task.result (FormRefused (allowed_in c.args.ctx.now) (form_at (strategy_data c.args.strategy.now) z) c.args.marked c.args.eof)) c.in-Ok.ensures.parts.1 c.start_task.ensures.refused
 
 pub returns-in-Err-clause-cause : goal.returns-in-Err-clause-cause
 returns-in-Err-clause-cause g c = memory_start c.in-Err.error c.in-Err.ensures.memory

@@ -1,5 +1,5 @@
 use Rattle.std.proofs.Common.{[], ◌∷◌, sym, ap, subst, ◌∙◌}
-use Rattle.vx_sink.specs.ContextView.{is_marked}
+use Rattle.vx_sink.specs.ContextView.{is_marked, allowed_in}
 use Rattle.vx_machine_ids.specs.Stock.{end_stock}
 use Rattle.vx_machine_ids.proofs.MoveLaws.{owned_left, owned_right, owned_rest, moved_twice, moved_behind}
 use Rattle.vx_strategy.specs.StrategyView.{strategy_data}
@@ -31,13 +31,13 @@ returns-then-not-is_built-clause-cause g c = unbuilt (is_built (strategy_data c.
 
 pub returns-then-not-is_built-clause-refused : goal.returns-then-not-is_built-clause-refused
 returns-then-not-is_built-clause-refused g c =
-    unbuilt_refused (is_built (strategy_data c.args.strategy.now)) (form_of c.args.strategy.now c.args.dtype.now) (is_marked c.args.ctx.now) c.args.eof (sym c.is_built.ensures ∙ c.if-not-is_built.true)
+    unbuilt_refused (is_built (strategy_data c.args.strategy.now)) (allowed_in c.args.ctx.now) (form_of c.args.strategy.now c.args.dtype.now) (is_marked c.args.ctx.now) c.args.eof (sym c.is_built.ensures ∙ c.if-not-is_built.true)
 
 pub returns-in-Ok-clause-allowed : goal.returns-in-Ok-clause-allowed
-returns-in-Ok-clause-allowed g c = subst (λ z. IsAllowed (form_of c.args.strategy.now c.args.dtype.now) z) c.has_nullable_ancestor.ensures c.in-Ok.ensures.shows.allowed
+returns-in-Ok-clause-allowed g c = subst (λ z. IsAllowed (allowed_in c.args.ctx.now) (form_of c.args.strategy.now c.args.dtype.now) z) c.has_nullable_ancestor.ensures c.in-Ok.ensures.shows.allowed
 
 pub returns-in-Ok-clause-unreserved : goal.returns-in-Ok-clause-unreserved
-returns-in-Ok-clause-unreserved g c = started_none (form_of c.args.strategy.now c.args.dtype.now) c.has_nullable_ancestor.result (1 ∷ []) c.args.eof c.in-Ok.root c.in-Ok.ensures.shows
+returns-in-Ok-clause-unreserved g c = started_none (allowed_in c.args.ctx.now) (form_of c.args.strategy.now c.args.dtype.now) c.has_nullable_ancestor.result (1 ∷ []) c.args.eof c.in-Ok.root c.in-Ok.ensures.shows
 
 pub returns-in-Ok-clause-counted : goal.returns-in-Ok-clause-counted
 returns-in-Ok-clause-counted g c = c.in-Ok.ensures.shows.counted
@@ -50,8 +50,8 @@ returns-in-Ok-clause-shows g c =
 pub returns-in-Err-clause-refused : goal.returns-in-Err-clause-refused
 returns-in-Err-clause-refused g c =
     let f : Form = form_of c.args.strategy.now c.args.dtype.now in
-    built_refused (is_built (strategy_data c.args.strategy.now)) f (is_marked c.args.ctx.now) c.args.eof c.in-Err.error (sym c.is_built.ensures ∙ c.if-not-is_built.false)
-    (subst (λ z. FormRefused f z c.args.eof c.in-Err.error) c.has_nullable_ancestor.ensures c.in-Err.ensures.refused)
+    built_refused (is_built (strategy_data c.args.strategy.now)) (allowed_in c.args.ctx.now) f (is_marked c.args.ctx.now) c.args.eof c.in-Err.error (sym c.is_built.ensures ∙ c.if-not-is_built.false)
+    (subst (λ z. FormRefused (allowed_in c.args.ctx.now) f z c.args.eof c.in-Err.error) c.has_nullable_ancestor.ensures c.in-Err.ensures.refused)
 
 pub start_root-requires-clause-owned : goal.start_root-requires-clause-owned
 start_root-requires-clause-owned g c = owned_right (g.O.Order.active c.args.order.now) (end_stock c.args.stream) (end_stock c.args.eof) c.requires

@@ -46,7 +46,7 @@ use Rattle.vx_machine_tasks.proofs.ViewParts.{len_is}
 use Rattle.vx_machine_tasks.proofs.StartWeights.{field_weight, writer_built, struct_built, list_built, settled_built, settled_form}
 use Rattle.vx_machine_tasks.specs.Ledger.{task_reserved, tasks_reserved}
 use Rattle.vx_machine_tasks.proofs.ReservedSteps.{tasks_push, started_none}
-use Rattle.vx_machine_tasks.proofs.start.+start.Goals as goal
+use Rattle.vx_machine_tasks.proofs.+start.Goals as goal
 
 -- ---- a strategy, and what stands for it
 

@@ -10,7 +10,7 @@ use Rattle.vx_machine_tasks.specs.Ledger.{tasks_reserved}
 use Rattle.vx_machine_tasks.specs.Stocks.{tasks_stock}
 use Rattle.vx_machine_nodes.specs.View.{form_at, form_of}
 use Rattle.vx_machine_tasks.proofs.StartShows.{Left}
-use Rattle.vx_machine_tasks.proofs.start.+start.Given as goal
+use Rattle.vx_machine_tasks.proofs.+start.Given as goal
 
 -- each calls what is lighter, or as heavy and later here
 
