@@ -2,3 +2,4 @@ mod WriteSteps
 mod RanSteps
 mod UnbuiltSteps
 mod LentSteps
+mod ReadSteps

@@ -17,9 +17,11 @@ ghost use Rattle.vx_write_answer.specs.Causes.{errs, is_source_fault, is_sink_fa
 ghost use Rattle.vx_machine.specs.Calls.{reads_in, appends_in, calls_in, asked_by};
 ghost use Rattle.vx_machine_ran.specs.Built.{is_built};
 ghost use Rattle.vx_machine.specs.Context.{setting_of};
+ghost use Rattle.vx_machine_ran.specs.Number.{segments};
 ghost use Rattle.vx_machine_ran.specs.Traced.{Traced};
 ghost use Rattle.vx_machine_ran.specs.Written.{Planned, Wrote, Halted};
 ghost use Rattle.vx_write.specs.Answer.{SameContext, AnsweredTold};
+ghost use Rattle.vx_write.specs.Readable.{IsReadable};
 
 use std::alloc::Global;
 use vx_layout_tree::Layout;
@@ -47,6 +49,9 @@ pub(crate) fn write_tasks<B: BatchSource, S: SegmentSink, C: CompressorPlugin>(
     ensures wrote { IfOk result.0 (λ l. Planned (setting_of ctx.old (C.image (C.kind compressor.old))) (strategy_data strategy.now) (B.kind source.old)
         (is_marked ctx.old) (B.to_come source.old)
         (Wrote (B.kind source.old) (S.next sink) (S.next result.1) (S.segments sink) (S.segments result.1) (layout_data l))) }
+    ensures readable { IfOk result.0 (λ l. Planned (setting_of ctx.old (C.image (C.kind compressor.old))) (strategy_data strategy.now) (B.kind source.old)
+        (is_marked ctx.old) (B.to_come source.old)
+        (λ xs p. IsReadable (setting_of ctx.old (C.image (C.kind compressor.old))) (B.kind source.old) (S.next sink) (segments p) (layout_data l))) }
     ensures ended { OnOk result.0 (NoneTold (B.to_come source.new)) }
     ensures trace { OnOk result.0 (Traced (setting_of ctx.old (C.image (C.kind compressor.old))) (strategy_data strategy.now) (B.kind source.old)
         (is_marked ctx.old) (B.to_come source.old) schedule.now steps.new.items) }
@@ -71,6 +76,8 @@ pub(crate) fn write_tasks<B: BatchSource, S: SegmentSink, C: CompressorPlugin>(
 {
     vx_machine_ran::answers();
     vx_setting::real_settings_keep();
+    vx_prune_laws::pruning_keeps_rows();
+    vx_parse_back_laws::written_is_parsed();
     // No encoding is listed twice.
     ctx.array_ctx().ids();
     let Ok((universe, eof)) = SequenceId::root(alloc) else {

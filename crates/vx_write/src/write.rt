@@ -14,9 +14,11 @@ ghost use Rattle.vx_write_answer.specs.Causes.{errs, is_source_fault, is_sink_fa
 ghost use Rattle.vx_machine.specs.Calls.{appends_in, calls_in};
 ghost use Rattle.vx_machine_ran.specs.Built.{is_built};
 ghost use Rattle.vx_machine.specs.Context.{setting_of};
+ghost use Rattle.vx_machine_ran.specs.Number.{segments};
 ghost use Rattle.vx_machine_ran.specs.Traced.{Traced};
 ghost use Rattle.vx_machine_ran.specs.Written.{Planned, Wrote, Halted};
 ghost use Rattle.vx_write.specs.Answer.{SameContext, steps_of, asked};
+ghost use Rattle.vx_write.specs.Readable.{IsReadable};
 
 use crate::lent::Lent;
 use crate::tasks::write_tasks;
@@ -63,6 +65,10 @@ pub fn write_stream<B: BatchSource, S: SegmentSink, C: CompressorPlugin>(
     ensures wrote { IfOk result (λ w. Planned (setting_of ctx.old (C.image (C.kind compressor.old))) (strategy_data strategy.now) (B.kind source.old)
         (is_marked ctx.old) (B.to_come source.old)
         (Wrote (B.kind source.old) (S.next sink.old) (S.next sink.new) (S.segments sink.old) (S.segments sink.new) (layout_data w.layout))) }
+    // Readers build the same layout of its bytes, and prune by its zone tables without a loss.
+    ensures readable { IfOk result (λ w. Planned (setting_of ctx.old (C.image (C.kind compressor.old))) (strategy_data strategy.now) (B.kind source.old)
+        (is_marked ctx.old) (B.to_come source.old)
+        (λ xs p. IsReadable (setting_of ctx.old (C.image (C.kind compressor.old))) (B.kind source.old) (S.next sink.old) (segments p) (layout_data w.layout))) }
     ensures ended { OnOk result (NoneTold (B.to_come source.new)) }
     // Its steps are all those of the batches' tasks, as the schedule picks them.
     ensures trace { IfOk result (λ w. Traced (setting_of ctx.old (C.image (C.kind compressor.old))) (strategy_data strategy.now) (B.kind source.old)

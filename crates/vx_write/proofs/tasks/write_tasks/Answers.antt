@@ -3,7 +3,9 @@ use Rattle.vx_model.specs.ChunkData.{ChunkData}
 use Rattle.vx_model.specs.Distinct.{first_repeat}
 use Rattle.vx_machine_ran.specs.Valid.{Keeps}
 use Rattle.vx_fault.specs.Counts.{Counts}
+use Rattle.vx_layout_tree.specs.LayoutView.{layout_data}
 use Rattle.vx_layout_tree.specs.declared.layout.Layout.{Layout}
+use Rattle.vx_sink.specs.ContextView.{is_marked}
 use Rattle.vx_strategy.specs.StrategyView.{strategy_data}
 use Rattle.vx_write_answer.specs.declared.error.WriteError.TheVariants.{OutOfMemory}
 use Rattle.vx_write_answer.specs.Causes.{is_sink_fault}
@@ -11,6 +13,7 @@ use Rattle.vx_machine.specs.Context.{setting_of}
 use Rattle.vx_machine_ran.specs.Answered.{Answered}
 use Rattle.vx_write.specs.Answer.{StoppedTold}
 use Rattle.vx_write.proofs.RanSteps.{setting_keeps, handed, outlet_of, first_held, answers_told, outside_memory}
+use Rattle.vx_write.proofs.ReadSteps.{planned_readable}
 use Rattle.vx_write.proofs.WriteSteps.{short_none}
 use Rattle.vx_write.proofs.tasks.write_tasks.Goals as goal
 
@@ -23,6 +26,15 @@ returns-in-Ok-Some-clause-wrote g c =
     (subst (λ (l : Option Layout). Answered c.args.ctx.now image (strategy_data c.args.strategy.now) (g.B.BatchSource.kind c.args.source.now) c.args.schedule.now (g.B.BatchSource.to_come c.args.source.now) (outlet_of g.S.SegmentSink.borrow g.S.SegmentSink.next g.S.SegmentSink.segments c.new-order.result.sink) c.write_in-written.new.steps.items (g.B.BatchSource.to_come c.write_in-written.new.source) (outlet_of g.S.SegmentSink.borrow g.S.SegmentSink.next g.S.SegmentSink.segments c.write_in-written.new.order.sink) (Ok l)) c.in-Ok-Some.field-0-is
     (c.in-Ok-Some.ensures.ran c.in-Ok.ensures.root.1 (first_held c.new-order.result.universe c.in-Ok.universe c.in-Ok.eof c.new-order.ensures.universe c.in-Ok.ensures.root.0 c.in-Ok.ensures.root.1))) in
     (c.answers.ensures.written c.args.ctx.now image (strategy_data c.args.strategy.now) (g.B.BatchSource.kind c.args.source.now) c.args.schedule.now (g.B.BatchSource.to_come c.args.source.now) (g.B.BatchSource.to_come c.write_in-written.new.source) (g.S.SegmentSink.borrow c.args.sink) (g.S.SegmentSink.next c.args.sink) (g.S.SegmentSink.segments c.args.sink) c.write_in-written.new.steps.items (outlet_of g.S.SegmentSink.borrow g.S.SegmentSink.next g.S.SegmentSink.segments c.into_sink-sink.result) (Ok (Some c.in-Ok-Some.layout)) keeps c.are_counted.ensures told).1
+
+pub returns-in-Ok-Some-clause-readable : goal.returns-in-Ok-Some-clause-readable
+returns-in-Ok-Some-clause-readable g c =
+    let image : ℕ → ChunkData → ChunkData = g.C.CompressorPlugin.image (g.C.CompressorPlugin.kind c.args.compressor.now) in
+    let keeps : Keeps (setting_of c.args.ctx.now image) = setting_keeps c.real_settings_keep.ensures.keeps c.args.ctx.now image
+    (ap (λ z. first_repeat z) (sym c.array_ctx.ensures) ∙ c.ids.ensures.distinct) (g.met.C.CompressorPlugin.keeps (g.C.CompressorPlugin.kind c.args.compressor.now)) in
+    planned_readable c.pruning_keeps_rows.ensures c.written_is_parsed.ensures.parsed c.written_is_parsed.ensures.known c.real_settings_keep.ensures.hash c.args.ctx.now image c.args.strategy.now (g.B.BatchSource.kind c.args.source.now)
+    (is_marked c.args.ctx.now) (g.B.BatchSource.to_come c.args.source.now) (g.S.SegmentSink.next c.args.sink) (g.S.SegmentSink.next c.into_sink-sink.result) (g.S.SegmentSink.segments c.args.sink) (g.S.SegmentSink.segments c.into_sink-sink.result)
+    (layout_data c.in-Ok-Some.layout) keeps (returns-in-Ok-Some-clause-wrote g c)
 
 pub returns-in-Ok-Some-clause-ended : goal.returns-in-Ok-Some-clause-ended
 returns-in-Ok-Some-clause-ended g c =

@@ -16,6 +16,9 @@ pub returns-in-Ok-clause-wrote : goal.returns-in-Ok-clause-wrote
 returns-in-Ok-clause-wrote g c =
     rw (c.sink-1.given.1 (sym (first_told c.write_tasks-written.result.1.sink.ghost_name (g.S.SegmentSink.borrow c.write_tasks-written.result.1.sink.now) c.lent-1.given (g.S.SegmentSink.borrow c.args.sink.now) c.write_tasks-written.ensures.borrow))) (rw c.in-Ok.is at c.write_tasks-written.ensures.wrote)
 
+pub returns-in-Ok-clause-readable : goal.returns-in-Ok-clause-readable
+returns-in-Ok-clause-readable g c = rw c.in-Ok.is at c.write_tasks-written.ensures.readable
+
 pub returns-in-Ok-clause-appended : goal.returns-in-Ok-clause-appended
 returns-in-Ok-clause-appended g c =
     rw (c.sink-1.given.1 (sym (first_told c.write_tasks-written.result.1.sink.ghost_name (g.S.SegmentSink.borrow c.write_tasks-written.result.1.sink.now) c.lent-1.given (g.S.SegmentSink.borrow c.args.sink.now) c.write_tasks-written.ensures.borrow))) c.write_tasks-written.ensures.appended
