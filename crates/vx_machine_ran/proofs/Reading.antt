@@ -34,7 +34,7 @@ misfits_are_read run agree ctx image w t schedule to_come to_come_now borrow fir
     o = runs_are_led ctx image w t schedule to_come borrow first before steps r.end r.ran
 
     u : UnderwayAt (scheduled g (places o.notes)) first o.notes o.stand
-    u = under ctx image w t to_come borrow first before (keeps_careful ctx image keeps) a.built clean schedule steps r.end o run
+    u = under ctx image w t to_come borrow first before (keeps_careful ctx image keeps) clean schedule steps r.end o run
 
     no_memory : BatchType c ≡ OutOfMemory → ⊥
     no_memory e = cc

@@ -1,5 +1,5 @@
 -- A write by tasks from before its start: what is started, and what its answer is then.
-use Rattle.std.proofs.Common.{◌≡◌, ◌⊎◌, ◌∙◌, ◌+◌, ℕ, Bool, true, false, List, sym, ap, subst, inl, inr, arith, add-zero, Option, None, Result, Ok, Err}
+use Rattle.std.proofs.Common.{◌≡◌, ◌⊎◌, ◌∙◌, ◌+◌, ℕ, Bool, true, List, sym, ap, subst, inl, inr, arith, add-zero, Option, None, Result, Ok, Err}
 use Rattle.std.specs.Prelude.{MatchResult}
 use Rattle.vx_fault.specs.Counts.{Counts, IsCalm}
 use Rattle.vx_model.specs.Ty.{Ty}
@@ -19,13 +19,12 @@ use Rattle.vx_write_answer.specs.declared.step.Step.{Step}
 use Rattle.vx_write_answer.specs.declared.error.WriteError.{WriteError}
 use Rattle.vx_machine_ids.specs.Stock.{Stock, both, end_stock}
 use Rattle.vx_machine_ids.specs.Balance.{Exact, Moved}
-use Rattle.vx_machine_ran.specs.Built.{is_built}
 use Rattle.vx_machine_ran.specs.Images.{images_of}
 use Rattle.vx_machine_ran.specs.Start.{first_indices}
 use Rattle.vx_machine_ran.specs.Machine.{Machine, start}
 use Rattle.vx_machine.specs.Outcome.{AllFit}
-use Rattle.vx_machine.specs.TaskStarting.{IsAllowed, Counted}
-use Rattle.vx_machine.specs.Starting.{WholeRefused, machine_at}
+use Rattle.vx_machine.specs.TaskStarting.{IsAllowed, Counted, FormRefused}
+use Rattle.vx_machine.specs.Starting.{machine_at}
 use Rattle.vx_machine_ran.specs.Valid.{Keeps}
 use Rattle.vx_fault.specs.Faults.{FaultsTold}
 use Rattle.vx_machine.specs.Calls.{reads_in, misfits}
@@ -52,25 +51,24 @@ module _ (ctx : LayoutWriterContext) (image : ℕ → ChunkData → ChunkData) (
     begins h = h ∙ ap (λ z. machine_at z (form_at w u) (is_marked ctx) d) (below ∙ ap inside is) ∙ ap (λ z. machine_at first_batch (form_at w u) (is_marked ctx) z) (goes ∙ ap next is)
         ∙ ap (λ z. machine_at first_batch (form_at w z) (is_marked ctx) root_eof) type
 
-    starts : is_built w ≡ true → IsAllowed (allowed_in ctx) (form_at w u) (is_marked ctx) → Counted d (first_indices (form_at w u) (is_marked ctx) d) → IsStarted (allowed_in ctx) w t (is_marked ctx)
-    starts b a c = record {
-      built = b;
+    starts : IsAllowed (allowed_in ctx) (form_at w u) (is_marked ctx) → Counted d (first_indices (form_at w u) (is_marked ctx) d) → IsStarted (allowed_in ctx) w t (is_marked ctx)
+    starts a c = record {
       allowed = subst (λ z. IsAllowed (allowed_in ctx) (form_at w z) (is_marked ctx)) type a;
       counted = subst (λ z. AllFit (first_indices (form_at w z) (is_marked ctx) root_eof)) type (subst (λ z. Counted z (first_indices (form_at w u) (is_marked ctx) z)) (goes ∙ ap next is) c (omega arith));
     }
 
     -- it ran
-    pub has_run : (y z v : Outlet) (to_come_now : Option (List ChunkData)) (must : ℕ → Type 0) (r : Result (Option Layout) WriteError) → y ≡ x → z ≡ y → is_built w ≡ true → IsAllowed (allowed_in ctx) (form_at w u) (is_marked ctx)
+    pub has_run : (y z v : Outlet) (to_come_now : Option (List ChunkData)) (must : ℕ → Type 0) (r : Result (Option Layout) WriteError) → y ≡ x → z ≡ y → IsAllowed (allowed_in ctx) (form_at w u) (is_marked ctx)
         → Counted d (first_indices (form_at w u) (is_marked ctx) d) → m ≡ machine_at stream (form_at w u) (is_marked ctx) d
         → MatchResult r (RunDone ctx image t schedule (at m to_come z) trace to_come_now v) (RunTold ctx image t schedule (at m to_come z) trace to_come_now v must)
         → AnsweredTold ctx image w t schedule to_come x trace to_come_now v must r
-    has_run y z v to_come_now must (Ok l) same again b a c h r = (
-      starts b a c,
+    has_run y z v to_come_now must (Ok l) same again a c h r = (
+      starts a c,
       subst (λ k. RunDone ctx image t schedule (at k to_come x) trace to_come_now v l) (begins h)
           (subst (λ o. RunDone ctx image t schedule (at m to_come o) trace to_come_now v l) (again ∙ same) r),
     )
-    has_run y z v to_come_now must (Err error) same again b a c h r = inr (
-      starts b a c,
+    has_run y z v to_come_now must (Err error) same again a c h r = inr (
+      starts a c,
       subst (λ k. RunTold ctx image t schedule (at k to_come x) trace to_come_now v must error) (begins h)
           (subst (λ o. RunTold ctx image t schedule (at m to_come o) trace to_come_now v must error) (again ∙ same) r),
     )
@@ -94,13 +92,9 @@ handed borrow next segments P given held left back a b h =
     subst (λ z. P (outlet_of borrow next segments z) (outlet_of borrow next segments back)) a (subst (λ z. P (outlet_of borrow next segments held) (outlet_of borrow next segments z)) (sym b) h)
 
 -- no start gives a batch of another type
-none_starts : (a : Allowed) (w : StrategyData) (t : Ty) (m : Bool) (c : ChunkData) → (errors.BatchType c ≡ errors.OutOfMemory) ⊎ WholeRefused (is_built w) a (form_at w t) m root_eof (errors.BatchType c) → ⊥
+none_starts : (a : Allowed) (w : StrategyData) (t : Ty) (m : Bool) (c : ChunkData) → (errors.BatchType c ≡ errors.OutOfMemory) ⊎ FormRefused a (form_at w t) m root_eof (errors.BatchType c) → ⊥
 none_starts a w t m c (inl e) = let f : errors.BatchType c ≡ errors.OutOfMemory = e in cc
-none_starts a w t m c (inr h) = by (is_built w) h
-  where
-    by : (b : Bool) → WholeRefused b a (form_at w t) m root_eof (errors.BatchType c) → ⊥
-    by false e = let f : errors.BatchType c ≡ errors.Unbuilt = e in cc
-    by true e = e
+none_starts a w t m c (inr h) = h
 
 -- the source's answers, with a batch of another type among them
 pub answers_told : (law : MisfitsAreRead) (ctx : LayoutWriterContext) (image : ℕ → ChunkData → ChunkData) (w : StrategyData) (t : Ty) (schedule : List ℕ) (to_come to_come_now : Option (List ChunkData)) (borrow first : ℕ)

@@ -96,7 +96,7 @@ returns-in-Err-clause-halted g c =
     c.answers.ensures.written c.args.ctx.now image (strategy_data c.args.strategy.now) (g.B.BatchSource.kind c.args.source.now) c.args.schedule.now (g.B.BatchSource.to_come c.args.source.now) (g.B.BatchSource.to_come c.write_in-written.new.source) (g.S.SegmentSink.borrow c.args.sink) (g.S.SegmentSink.next c.args.sink) (g.S.SegmentSink.segments c.args.sink) c.write_in-written.new.steps.items (outlet_of g.S.SegmentSink.borrow g.S.SegmentSink.next g.S.SegmentSink.segments c.into_sink-sink.result) (Err c.in-Err.error) keeps c.are_counted.ensures told
 
 pub returns-in-Err-clause-complete : goal.returns-in-Err-clause-complete
-returns-in-Err-clause-complete g c xs came built valid calm still quiet =
+returns-in-Err-clause-complete g c xs came valid calm still quiet =
     let image : ℕ → ChunkData → ChunkData = g.C.CompressorPlugin.image (g.C.CompressorPlugin.kind c.args.compressor.now) in
     let keeps : Keeps (setting_of c.args.ctx.now image) = setting_keeps c.real_settings_keep.ensures.keeps c.args.ctx.now image
     (ap (λ z. first_repeat z) (sym c.array_ctx.ensures) ∙ c.ids.ensures.distinct) (g.met.C.CompressorPlugin.keeps (g.C.CompressorPlugin.kind c.args.compressor.now)) in
@@ -105,7 +105,7 @@ returns-in-Err-clause-complete g c xs came built valid calm still quiet =
     let counted = subst (λ z. Counts (g.S.Fallible.faults z) (g.S.Fallible.faults c.into_sink-sink.result) (is_sink_fault c.in-Err.error)) c.new-order.ensures.sink
     (subst (λ z. Counts (g.S.Fallible.faults c.new-order.result.sink) (g.S.Fallible.faults z) (is_sink_fault c.in-Err.error)) (sym c.into_sink-sink.ensures) c.in-Err.ensures.sink.counted) in
     outside_memory c.in-Err.error (g.B.Fallible.faults c.args.source.now) (g.B.Fallible.faults c.write_in-written.new.source) (g.S.Fallible.faults c.args.sink) (g.S.Fallible.faults c.into_sink-sink.result)
-    (g.C.Fallible.faults c.args.compressor.now) (g.C.Fallible.faults c.write_in-written.new.compressor) (c.answers.ensures.complete c.args.ctx.now image (strategy_data c.args.strategy.now) (g.B.BatchSource.kind c.args.source.now) c.args.schedule.now (g.B.BatchSource.to_come c.args.source.now) (g.B.BatchSource.to_come c.write_in-written.new.source) (g.S.SegmentSink.borrow c.args.sink) (g.S.SegmentSink.next c.args.sink) (g.S.SegmentSink.segments c.args.sink) c.write_in-written.new.steps.items (outlet_of g.S.SegmentSink.borrow g.S.SegmentSink.next g.S.SegmentSink.segments c.into_sink-sink.result) c.in-Err.error keeps told xs came built valid) c.in-Err.ensures.source.counted counted c.in-Err.ensures.compressor.counted calm still quiet
+    (g.C.Fallible.faults c.args.compressor.now) (g.C.Fallible.faults c.write_in-written.new.compressor) (c.answers.ensures.complete c.args.ctx.now image (strategy_data c.args.strategy.now) (g.B.BatchSource.kind c.args.source.now) c.args.schedule.now (g.B.BatchSource.to_come c.args.source.now) (g.B.BatchSource.to_come c.write_in-written.new.source) (g.S.SegmentSink.borrow c.args.sink) (g.S.SegmentSink.next c.args.sink) (g.S.SegmentSink.segments c.args.sink) c.write_in-written.new.steps.items (outlet_of g.S.SegmentSink.borrow g.S.SegmentSink.next g.S.SegmentSink.segments c.into_sink-sink.result) c.in-Err.error keeps told xs came valid) c.in-Err.ensures.source.counted counted c.in-Err.ensures.compressor.counted calm still quiet
 
 pub returns-in-Err-clause-source : goal.returns-in-Err-clause-source
 returns-in-Err-clause-source g c =

@@ -1,16 +1,6 @@
 use Rattle.std.proofs.Common.{sym, ◌∙◌, ap, rules}
-use Rattle.vx_sink.specs.ContextView.{is_marked, counted}
-use Rattle.vx_strategy.specs.StrategyView.{strategy_data}
-use Rattle.vx_machine.specs.Context.{setting_of}
 use Rattle.vx_write.proofs.LentSteps.{first_told, second_told}
-use Rattle.vx_write.proofs.UnbuiltSteps.{unbuilt_halts}
 use Rattle.vx_write.proofs.write.write_stream.Goals as goal
-
-pub returns-then-not-is_built-clause-halted : goal.returns-then-not-is_built-clause-halted
-returns-then-not-is_built-clause-halted g c =
-    unbuilt_halts (setting_of c.args.ctx.now (g.C.CompressorPlugin.image (g.C.CompressorPlugin.kind c.args.compressor.now))) (strategy_data c.args.strategy.now) (g.B.BatchSource.kind c.args.source.now) (is_marked c.args.ctx.now)
-    (counted c.args.ctx.now) (g.S.SegmentSink.next c.args.sink.now) (g.B.BatchSource.to_come c.args.source.now) (g.S.SegmentSink.segments c.args.sink.now) c.args.schedule.now c.new-trace.result.items
-    (sym c.is_built.ensures ∙ c.if-not-is_built.true) c.new-trace.ensures.items
 
 pub returns-in-Ok-clause-wrote : goal.returns-in-Ok-clause-wrote
 returns-in-Ok-clause-wrote g c =
