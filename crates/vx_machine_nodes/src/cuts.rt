@@ -232,7 +232,8 @@ fn put_outputs<O: Order>(
     ensures sink { O.sink order.new ≡ O.sink order.old }
     ensures cause { IfErr result MayCome }
 {
-    'outputs: for (place, chunk) in outputs {
+    'outputs: for output in outputs {
+        let (place, chunk) = output;
         put_output(order, node, runs, below, todo, place, chunk)?;
     }
     Ok(())
@@ -280,7 +281,7 @@ fn cut_refusal(error: ChunkError) -> WriteError
     ensures cause { MayCome result }
 {
     match error {
-        ChunkError::TooLarge(_) => WriteError::TooLarge(1 << 64),
+        ChunkError::TooLarge(_) => WriteError::TooLarge(u128::from(u64::MAX) + 1),
         ChunkError::OutOfMemory => WriteError::OutOfMemory,
     }
 }
