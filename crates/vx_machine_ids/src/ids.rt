@@ -115,6 +115,5 @@ pub fn take_inside<O: Order>(order: &mut O, id: SequenceId) -> Result<SequencePo
 pub fn index_fits(pointer: &SequencePointer)
     ensures { pointer.now.last < 2 ^ 64 }
 {
-    let path = pointer.path();
-    let _last = path[path.len() - 1];
+    let _last = pointer.path().last();
 }

@@ -8,22 +8,23 @@ use Rattle.vx_write_answer.specs.declared.error.WriteError.{WriteError}
 use Rattle.vx_write_answer.specs.declared.error.WriteError.TheVariants.{SourceFault, SinkFault, CompressFault, BatchType, NotStruct, DuplicateField, ManyChunks, EmptyList, ZoneCut, ForbiddenAggregate, ForbiddenEncoding, TooLarge, OutOfMemory, Unbuilt, Stopped}
 use Rattle.vx_machine_nodes.specs.Causes.{MayCome, AppendMay, PressMay, ActMay}
 
-pub wider : (e : WriteError) → MayCome e → ActMay e
-wider SourceFault h = h
-wider SinkFault h = tt
-wider CompressFault h = tt
-wider (BatchType c) h = h
-wider NotStruct h = h
-wider (DuplicateField name) h = h
-wider ManyChunks h = h
-wider EmptyList h = h
-wider (ZoneCut n) h = h
-wider (ForbiddenAggregate id) h = h
-wider (ForbiddenEncoding id) h = h
-wider (TooLarge n) h = omega (arith, h)
-wider OutOfMemory h = h
-wider Unbuilt h = h
-wider (Stopped by name) h = tt
+-- what may come of an act that asks no sink may come of an append
+pub append_may : (e : WriteError) → MayCome e → AppendMay e
+append_may SourceFault h = h
+append_may SinkFault h = tt
+append_may CompressFault h = h
+append_may (BatchType c) h = h
+append_may NotStruct h = h
+append_may (DuplicateField name) h = h
+append_may ManyChunks h = h
+append_may EmptyList h = h
+append_may (ZoneCut n) h = h
+append_may (ForbiddenAggregate id) h = h
+append_may (ForbiddenEncoding id) h = h
+append_may (TooLarge n) h = omega (arith, h)
+append_may OutOfMemory h = h
+append_may Unbuilt h = h
+append_may (Stopped by name) h = tt
 
 -- an append may meet what an act may
 pub append_wider : (e : WriteError) → AppendMay e → ActMay e
@@ -42,6 +43,9 @@ append_wider (TooLarge n) h = h
 append_wider OutOfMemory h = h
 append_wider Unbuilt h = h
 append_wider (Stopped by name) h = h
+
+pub wider : (e : WriteError) → MayCome e → ActMay e
+wider e h = append_wider e (append_may e h)
 
 -- and so may a call of the compressor
 pub press_wider : (e : WriteError) → PressMay e → ActMay e
@@ -69,6 +73,9 @@ order_memory P e p is = subst (λ x. P (of_order x)) (sym is) p
 
 pub all_wider : {A : Type 0} (r : Result A WriteError) → IfErr r MayCome → IfErr r ActMay
 all_wider r h = IfErr-weaker r MayCome ActMay wider h
+
+pub all_append : {A : Type 0} (r : Result A WriteError) → IfErr r MayCome → IfErr r AppendMay
+all_append r h = IfErr-weaker r MayCome AppendMay append_may h
 
 pub memory_may : {A : Type 0} (r : Result A WriteError) → IfErr r (λ e. e ≡ OutOfMemory) → IfErr r MayCome
 memory_may r h = IfErr-weaker r (λ e. e ≡ OutOfMemory) MayCome (λ e k. subst (λ x. MayCome x) (sym k) tt) h

@@ -65,6 +65,11 @@ module _ {S : Type 0} (faults : S → ℕ) (may must : S → ℕ → Type 0) (a 
   pressed_stops Unbuilt h = absurd h
   pressed_stops (Stopped by name) h = absurd h
 
+  pub pressed_told : (k : ActionKind) → reads_action k ≡ 0 → append_action k ≡ 0 → (r : Result ActionKind WriteError) → IfOk r (λ x. x ≡ k) → IfErr r PressMay
+      → TaskTold (faults a) (faults b) (may a) (may b) (must a) (must b) r (λ x. x)
+  pressed_told k m n (Ok x) is h = quiet_told k m n (Ok x) is tt
+  pressed_told k m n (Err e) is h = pressed_stops e h
+
   -- of an act that compresses nothing
   pub uncalled_stops : (e : WriteError) → AppendMay e → PressStops (faults a) (faults b) (may a) (may b) (must a) (must b) e
   uncalled_stops SourceFault h = inl unasked_by

@@ -21,6 +21,3 @@ pub mod TakeShows
 pub mod ListParts
 pub mod PressSteps
 pub mod ZoneSteps
-pub mod RunLaws
-pub mod RunSteps
-pub mod RunTakes

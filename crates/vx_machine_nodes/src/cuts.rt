@@ -232,8 +232,7 @@ fn put_outputs<O: Order>(
     ensures sink { O.sink order.new ≡ O.sink order.old }
     ensures cause { IfErr result MayCome }
 {
-    'outputs: for output in outputs {
-        let (place, chunk) = output;
+    'outputs: for (place, chunk) in outputs {
         put_output(order, node, runs, below, todo, place, chunk)?;
     }
     Ok(())
@@ -281,7 +280,7 @@ fn cut_refusal(error: ChunkError) -> WriteError
     ensures cause { MayCome result }
 {
     match error {
-        ChunkError::TooLarge(_) => WriteError::TooLarge(u128::from(u64::MAX) + 1),
+        ChunkError::TooLarge(_) => WriteError::TooLarge(1 << 64),
         ChunkError::OutOfMemory => WriteError::OutOfMemory,
     }
 }

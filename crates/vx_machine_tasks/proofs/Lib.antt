@@ -16,6 +16,7 @@ pub mod StopSteps
 pub mod ReservedSteps
 pub mod PaidSteps
 pub mod StartShows
+pub mod StartKinds
 pub mod RowSteps
 pub mod ActShows
 pub mod TakeShows
@@ -24,3 +25,4 @@ pub mod CallShows
 pub mod StepViews
 pub mod StepShows
 pub mod StepLifts
+pub mod TableStarts

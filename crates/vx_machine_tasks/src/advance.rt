@@ -8,7 +8,7 @@ ghost use Rattle.vx_layout_spec.specs.LayoutTree.{gathered};
 ghost use Rattle.vx_sequence.specs.Universe.{IsLeast};
 ghost use Rattle.vx_machine_ids.specs.Stock.{none, both, ok_stock};
 ghost use Rattle.vx_machine_ids.specs.Balance.{Owned, Moved};
-ghost use Rattle.vx_sink.specs.ContextView.{counted};
+ghost use Rattle.vx_sink.specs.ContextView.{listed, counted};
 ghost use Rattle.vx_plan.specs.PlanData.{Setting};
 ghost use Rattle.vx_machine_view.specs.State.{append as append_next, join_kids, Next, Mind, made as has_layout, Tasks};
 ghost use Rattle.vx_machine_view.specs.Acts.{give, shut_all, layouts_in, joined_rows, column_count};

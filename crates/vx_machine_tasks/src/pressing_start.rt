@@ -2,6 +2,7 @@
 
 ghost use Rattle.std.specs.Prelude.{◌≡◌, ◌<◌, ◌≤◌, [], IsTrue, vec_capacity, IfOk, IfErr, OnOk};
 ghost use Rattle.std.specs.Arc.{arc_value};
+ghost use Rattle.std.specs.Int.NonZero.{non_zero_u64_get};
 ghost use Rattle.vx_path.specs.Path.{under};
 ghost use Rattle.vx_model.specs.TyView.{ty};
 ghost use Rattle.vx_strategy.specs.NodeViews.{compressed_way};
@@ -82,7 +83,7 @@ fn start_outlet<O: Order>(
     ensures outlet { O.outlet order.new ≡ O.outlet order.old }
     ensures sink { O.sink order.new ≡ O.sink order.old }
     ensures cause { IfErr result StartMay }
-    ensures shows { OnOk result (OutletStarted (allowed_in ctx.now) by.now.concurrency (form_at by.now.child.item (ty (arc_value dtype))) marked name.now eof kids.new.items) }
+    ensures shows { OnOk result (OutletStarted (allowed_in ctx.now) (non_zero_u64_get by.now.concurrency) (form_at by.now.child.item (ty (arc_value dtype))) marked name.now eof kids.new.items) }
     ensures refused { IfErr result (FormRefused (allowed_in ctx.now) (form_at by.now.child.item (ty (arc_value dtype))) marked eof) }
 {
     match outlet_parts(alloc, name, kids) {

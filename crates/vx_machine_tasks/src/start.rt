@@ -17,6 +17,7 @@ ghost use Rattle.vx_machine_ids.specs.Balance.{Owned, Moved};
 ghost use Rattle.vx_machine_view.specs.State.{Tasks, task_then};
 ghost use Rattle.vx_machine_view.specs.Start.{waiting};
 ghost use Rattle.vx_machine_view.specs.Built.{is_built};
+ghost use Rattle.vx_machine_nodes.specs.Context.{Allowed};
 ghost use Rattle.vx_machine_nodes.specs.Causes.{StartMay};
 ghost use Rattle.vx_machine_tasks.specs.Ledger.{tasks_reserved};
 ghost use Rattle.vx_machine_nodes.specs.Fresh.{IsFresh, Begins};

@@ -1,6 +1,6 @@
 //! A zone table's child, which writes the table once the data is written.
 
-ghost use Rattle.std.specs.Prelude.{◌≡◌, ◌+◌, ◌<◌, ◌≤◌, ◌^◌, ℕ, [], ◌∷◌, length, vec_len, vec_capacity, IfOk, IfErr, OnOk};
+ghost use Rattle.std.specs.Prelude.{◌≡◌, ◌+◌, ◌<◌, ◌≤◌, ◌^◌, ℕ, List, true, false, [], ◌∷◌, IsTrue, vec_len, vec_capacity, IfOk, IfErr, OnOk};
 ghost use Rattle.std.specs.Arc.{arc_value};
 ghost use Rattle.vx_path.specs.Path.{under, eof_path, next};
 ghost use Rattle.vx_model.specs.ChunkData.{piece_type};
@@ -10,13 +10,14 @@ ghost use Rattle.vx_machine_ids.specs.Balance.{Owned, Moved};
 ghost use Rattle.vx_sink.specs.ContextView.{allowed_in, counted};
 ghost use Rattle.vx_plan.specs.PlanData.{Setting};
 ghost use Rattle.vx_machine_view.specs.State.{Next, Mind};
-ghost use Rattle.vx_machine_view.specs.Start.{started_task};
+ghost use Rattle.vx_machine_view.specs.Start.{first_indices, started_task};
+ghost use Rattle.vx_machine_view.specs.Built.{is_built};
 ghost use Rattle.vx_machine_view.specs.Acts.{add};
 ghost use Rattle.vx_machine_nodes.specs.Acting.{acted, ActDone, ActRefused};
 ghost use Rattle.vx_machine_nodes.specs.Causes.{MayCome};
 ghost use Rattle.vx_machine_nodes.specs.Ledger.{Paid, told_by};
 ghost use Rattle.vx_machine_tasks.specs.Ledger.{tasks_reserved};
-ghost use Rattle.vx_machine_tasks.specs.Starting.{IsAllowed, FormRefused, PointerRefused};
+ghost use Rattle.vx_machine_tasks.specs.Starting.{IsAllowed, Counted, FormRefused, PointerRefused};
 ghost use Rattle.vx_machine_nodes.specs.Stocks.{item_stock, table_stock};
 ghost use Rattle.vx_machine_tasks.specs.Stocks.{tasks_stock};
 ghost use Rattle.vx_machine_nodes.specs.View.{form_at, item_of, next_of};
@@ -24,7 +25,7 @@ ghost use Rattle.vx_machine_tasks.specs.View.{row};
 ghost use Rattle.vx_machine_nodes.specs.declared.item.Due.TheVariants.{Table};
 
 use crate::chunked::fed;
-use crate::start::{next_name, start_task};
+use crate::start::start_task;
 use crate::task::Task;
 use std::alloc::Global;
 use std::sync::Arc;
@@ -101,7 +102,7 @@ pub(crate) fn start_table<O: Order>(
     }
 }
 
-/// Starts one more child, which gets the item alone.
+/// Starts the second child, which gets the item alone.
 fn start_fed<O: Order>(
     alloc: Global,
     ctx: &mut LayoutWriterContext,
@@ -114,11 +115,13 @@ fn start_fed<O: Order>(
 ) -> Result<(), WriteError>
     requires owned { Owned (O.active order.old) (both (both (tasks_stock kids.old.items) (item_stock item)) (end_stock eof)) }
     requires reserved { tasks_reserved kids.old.items ≤ counted ctx.old }
+    requires built { IsTrue (is_built stats.now.item) }
     ensures moved { Moved (O.active order.old) (O.active order.new) (both (both (tasks_stock kids.old.items) (item_stock item)) (end_stock eof)) (tasks_stock kids.new.items) }
     ensures tracked { Paid ctx.old ctx.new (tasks_reserved kids.old.items) (tasks_reserved kids.new.items) }
     ensures context { told_by ctx.new ≡ told_by ctx.old }
     ensures allowed { OnOk result (IsAllowed (allowed_in ctx.old) (form_at stats.now.item (piece_type item.chunk)) false) }
-    ensures kids { OnOk result (row kids.new.items ≡ add (row kids.old.items) (started_task (form_at stats.now.item (piece_type item.chunk)) false (under name.now (length kids.old.items)) eof (item_of item ∷ []) true)) }
+    ensures kids { OnOk result (row kids.new.items ≡ add (row kids.old.items) (started_task (form_at stats.now.item (piece_type item.chunk)) false (under name.now 1) eof (item_of item ∷ []) true)) }
+    ensures fit { OnOk result (Counted eof (first_indices (form_at stats.now.item (piece_type item.chunk)) false eof)) }
     ensures refused { IfErr result (FormRefused (allowed_in ctx.old) (form_at stats.now.item (piece_type item.chunk)) false eof) }
     ensures outlet { O.outlet order.new ≡ O.outlet order.old }
     ensures sink { O.sink order.new ≡ O.sink order.old }
@@ -146,24 +149,21 @@ fn start_fed<O: Order>(
     }
 }
 
-/// Room for the table's child, its name, and its type.
+/// Room for the table's child, its name, which is the second, and its type.
 fn table_parts(
     alloc: Global,
     name: &Path,
     kids: &mut Vec<Task>,
     chunk: &Chunk,
 ) -> Result<(Path, Arc<DType>), WriteError>
-    ensures parts { IfOk result (λ r. (r.0 ≡ under name.now (length kids.old.items)) × (ty (arc_value r.1) ≡ piece_type chunk.now)) }
+    ensures name { IfOk result (λ r. r.0 ≡ under name.now 1) }
+    ensures dtype { IfOk result (λ r. ty (arc_value r.1) ≡ piece_type chunk.now) }
     ensures kids { kids.new.items ≡ kids.old.items }
     ensures room { OnOk result (vec_len kids.new + 1 ≤ vec_capacity kids.new) }
     ensures memory { IfErr result (λ e. e ≡ WriteError.OutOfMemory) }
 {
+    kids.reserve(1)?;
+    let name = Path::child(alloc, name.as_slice(), 1)?;
     let dtype = Arc::new(alloc, chunk.dtype().clone()?)?;
-    match next_name(alloc, name, kids) {
-        Ok(name) => Ok((name, dtype)),
-        Err(_) => {
-            drop(dtype);
-            Err(WriteError::OutOfMemory)
-        }
-    }
+    Ok((name, dtype))
 }

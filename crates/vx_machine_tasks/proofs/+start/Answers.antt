@@ -30,9 +30,10 @@ use Rattle.vx_machine_ids.specs.Stock.{Stock, none, both, end_stock, ok_stock, s
 use Rattle.vx_machine_ids.proofs.Stocks.{both_none}
 use Rattle.vx_machine_ids.specs.Balance.{Owned, Moved}
 use Rattle.vx_machine_ids.proofs.MoveLaws.{moved_none, moved_then, moved_as, owned_left, owned_now}
+use Rattle.vx_sink.specs.ContextView.{allowed_in}
 use Rattle.vx_machine_view.specs.Built.{is_built}
 use Rattle.vx_machine_tasks.specs.Weight.{weight, weights}
-use Rattle.vx_machine_tasks.specs.Starting.{field_form, field_forms, validity_form, validity_forms, columns_form, lists_form, Started, ManyStarted, OneStarted, AllStarted, OnlyStarted, StartRefused, ManyRefused, OneRefused}
+use Rattle.vx_machine_tasks.specs.Starting.{field_form, field_forms, validity_form, validity_forms, columns_form, lists_form, Started, ManyStarted, OneStarted, AllStarted, OnlyStarted, FormRefused, ManyRefused, OneRefused}
 use Rattle.vx_machine_nodes.specs.Fresh.{Begins}
 use Rattle.vx_machine_nodes.specs.Stocks.{item_stock}
 use Rattle.vx_machine_tasks.specs.Stocks.{task_stock, tasks_stock}
@@ -50,14 +51,14 @@ use Rattle.vx_machine_tasks.proofs.+start.Goals as goal
 
 -- ---- a strategy, and what stands for it
 
-pub start_task-start_settled-requires : goal.start_task-start_settled-requires
-start_task-start_settled-requires g t c κs within =
+pub start::start_task-start_settled-requires : goal.start::start_task-start_settled-requires
+start::start_task-start_settled-requires g t c κs within =
     let falls : 8 * weight (form_of c.args.strategy.now (arc_value c.args.dtype)) + 4 < 8 * weight (form_of c.args.strategy.now (arc_value c.args.dtype)) + 5 = omega arith in
     let n : IsFalse (passes_on (strategy_data c.args.strategy.now) (ty (arc_value c.args.dtype))) = sym (c.passes_on.ensures ∙ ap (λ z. passes_on (strategy_data c.args.strategy.now) (ty z)) c.deref.ensures) ∙ c.if-not-passes_on.true in
     search (rules, arith, c.requires.owned, c.requires.built, n, falls)
 
-pub start_task-start_settled-task-requires : goal.start_task-start_settled-task-requires
-start_task-start_settled-task-requires g t c κs within =
+pub start::start_task-start_settled-task-requires : goal.start::start_task-start_settled-task-requires
+start::start_task-start_settled-task-requires g t c κs within =
     let w : StrategyData = strategy_data c.args.strategy.now in
     let u : Ty = ty (arc_value c.args.dtype) in
     let e : strategy_data c.in-Ok.found ≡ settled w u = c.in-Ok.ensures ∙ ap (λ z. settled w (ty z)) c.deref-2.ensures in
@@ -67,65 +68,65 @@ start_task-start_settled-task-requires g t c κs within =
     let falls : 8 * weight (form_at (strategy_data c.in-Ok.found) u) + 4 < 8 * weight (form_at w u) + 5 = omega (arith, f) in
     search (rules, arith, c.requires.owned, b, n, falls)
 
-pub start_task-returns-clause-shows : goal.start_task-returns-clause-shows
-start_task-returns-clause-shows g t c =
+pub start::start_task-returns-clause-shows : goal.start::start_task-returns-clause-shows
+start::start_task-returns-clause-shows g t c =
     let w : StrategyData = strategy_data c.args.strategy.now in
     let u : Ty = ty (arc_value c.args.dtype) in
     let e : strategy_data c.in-Ok.found ≡ settled w u = c.in-Ok.ensures ∙ ap (λ z. settled w (ty z)) c.deref-2.ensures in
-    subst (λ z. IfOk c.start_settled-task.result (Started z c.args.marked c.args.name c.args.eof)) (ap (λ z. form_at z u) e ∙ settled_form w u) c.start_settled-task.ensures.shows
+    subst (λ z. IfOk c.start_settled-task.result (Started (allowed_in c.args.ctx.now) z c.args.marked c.args.name c.args.eof)) (ap (λ z. form_at z u) e ∙ settled_form w u) c.start_settled-task.ensures.shows
 
-pub start_task-returns-clause-refused : goal.start_task-returns-clause-refused
-start_task-returns-clause-refused g t c =
+pub start::start_task-returns-clause-refused : goal.start::start_task-returns-clause-refused
+start::start_task-returns-clause-refused g t c =
     let w : StrategyData = strategy_data c.args.strategy.now in
     let u : Ty = ty (arc_value c.args.dtype) in
     let e : strategy_data c.in-Ok.found ≡ settled w u = c.in-Ok.ensures ∙ ap (λ z. settled w (ty z)) c.deref-2.ensures in
-    subst (λ z. IfErr c.start_settled-task.result (StartRefused (λ s. start_fault s z c.args.marked) (first_indices z c.args.eof))) (ap (λ z. form_at z u) e ∙ settled_form w u) c.start_settled-task.ensures.refused
+    subst (λ z. IfErr c.start_settled-task.result (FormRefused (allowed_in c.args.ctx.now) z c.args.marked c.args.eof)) (ap (λ z. form_at z u) e ∙ settled_form w u) c.start_settled-task.ensures.refused
 
 -- ---- a task
 
-pub start_settled-returns-in-Flat-clause-moved : goal.start_settled-returns-in-Flat-clause-moved
-start_settled-returns-in-Flat-clause-moved g t c =
+pub start::start_settled-returns-in-Flat-clause-moved : goal.start::start_settled-returns-in-Flat-clause-moved
+start::start_settled-returns-in-Flat-clause-moved g t c =
     alone_moved (g.O.Order.active c.args.order.now) (g.O.Order.active c.give_up_pointer.new.order) (end_stock c.args.eof) none c.waiting.result c.new.result.items c.new.ensures.items c.waiting.ensures.held c.give_up_pointer.ensures.moved
 
-pub start_settled-returns-in-Flat-clause-shows : goal.start_settled-returns-in-Flat-clause-shows
-start_settled-returns-in-Flat-clause-shows g t c =
-    subst (λ s. Started (form_at (strategy_data s) (ty (arc_value c.args.dtype))) c.args.marked c.args.name c.args.eof c.waiting.result) (sym c.in-Flat.is)
-    (started (form_at (strategy_data (Flat c.in-Flat.options)) (ty (arc_value c.args.dtype))) c.args.marked c.args.name c.args.eof (Empty (record { options = c.in-Flat.options; dtype = c.args.dtype })) c.new.result.items c.waiting.result
-    (λ s. refl) (λ a. none_fit) refl (ap row c.new.ensures.items) c.waiting.ensures.shows)
+pub start::start_settled-returns-in-Flat-clause-shows : goal.start::start_settled-returns-in-Flat-clause-shows
+start::start_settled-returns-in-Flat-clause-shows g t c =
+    subst (λ s. Started (allowed_in c.args.ctx.now) (form_at (strategy_data s) (ty (arc_value c.args.dtype))) c.args.marked c.args.name c.args.eof c.waiting.result) (sym c.in-Flat.is)
+    (started (allowed_in c.args.ctx.now) (form_at (strategy_data (Flat c.in-Flat.options)) (ty (arc_value c.args.dtype))) c.args.marked c.args.name c.args.eof (Empty (record { options = c.in-Flat.options; dtype = c.args.dtype })) c.new.result.items c.waiting.result
+    (λ s q. refl) (λ k. none_fit) refl (ap row c.new.ensures.items) c.waiting.ensures.shows)
 
-pub start_settled-returns-in-Chunked-clause-shows : goal.start_settled-returns-in-Chunked-clause-shows
-start_settled-returns-in-Chunked-clause-shows g t c =
-    subst (λ s. IfOk c.start_chunked.result (Started (form_at (strategy_data s) (ty (arc_value c.args.dtype))) c.args.marked c.args.name c.args.eof)) (sym c.in-Chunked.is) c.start_chunked.ensures.shows
+pub start::start_settled-returns-in-Chunked-clause-shows : goal.start::start_settled-returns-in-Chunked-clause-shows
+start::start_settled-returns-in-Chunked-clause-shows g t c =
+    subst (λ s. IfOk c.start_chunked.result (Started (allowed_in c.args.ctx.now) (form_at (strategy_data s) (ty (arc_value c.args.dtype))) c.args.marked c.args.name c.args.eof)) (sym c.in-Chunked.is) (c.start_chunked.ensures.shows (allowed_in c.args.ctx.now))
 
-pub start_settled-returns-in-Chunked-clause-refused : goal.start_settled-returns-in-Chunked-clause-refused
-start_settled-returns-in-Chunked-clause-refused g t c =
-    IfErr-weaker c.start_chunked.result (λ e. e ≡ OutOfMemory) _ (λ e h. memory_refused _ _ e h) c.start_chunked.ensures.memory
+pub start::start_settled-returns-in-Chunked-clause-refused : goal.start::start_settled-returns-in-Chunked-clause-refused
+start::start_settled-returns-in-Chunked-clause-refused g t c =
+    IfErr-weaker c.start_chunked.result (λ e. e ≡ OutOfMemory) _ (λ e h. memory_refused _ _ _ e h) c.start_chunked.ensures.memory
 
-pub start_settled-returns-in-Ok-clause-shows : goal.start_settled-returns-in-Ok-clause-shows
-start_settled-returns-in-Ok-clause-shows g t c =
+pub start::start_settled-returns-in-Ok-clause-shows : goal.start::start_settled-returns-in-Ok-clause-shows
+start::start_settled-returns-in-Ok-clause-shows g t c =
     let d : ty (arc_value c.in-Ok.node.dtype) ≡ ty (arc_value c.args.dtype) = ap (λ z. ty (arc_value z)) c.in-Ok.ensures.node in
     let f : columns_form c.in-Struct.fields (ty (arc_value c.in-Ok.node.dtype)) ≡ form_at (strategy_data c.args.strategy.now) (ty (arc_value c.args.dtype)) =
     ap (columns_form c.in-Struct.fields) d
     ∙ sym (plain_form c.in-Struct.fields (ty (arc_value c.args.dtype)) (subst (λ z. IsTrue (is_struct z)) d c.in-Ok.node.structs) c.in-Ok.ensures.distinct)
     ∙ ap (λ s. form_at (strategy_data s) (ty (arc_value c.args.dtype))) (sym c.in-Struct.is) in
-    subst (λ z. IfOk c.start_columns.result (Started z c.args.marked c.args.name c.args.eof)) f c.start_columns.ensures.shows
+    subst (λ z. IfOk c.start_columns.result (Started (allowed_in c.args.ctx.now) z c.args.marked c.args.name c.args.eof)) f c.start_columns.ensures.shows
 
-pub start_settled-returns-in-Ok-clause-refused : goal.start_settled-returns-in-Ok-clause-refused
-start_settled-returns-in-Ok-clause-refused g t c =
+pub start::start_settled-returns-in-Ok-clause-refused : goal.start::start_settled-returns-in-Ok-clause-refused
+start::start_settled-returns-in-Ok-clause-refused g t c =
     let d : ty (arc_value c.in-Ok.node.dtype) ≡ ty (arc_value c.args.dtype) = ap (λ z. ty (arc_value z)) c.in-Ok.ensures.node in
     let f : columns_form c.in-Struct.fields (ty (arc_value c.in-Ok.node.dtype)) ≡ form_at (strategy_data c.args.strategy.now) (ty (arc_value c.args.dtype)) =
     ap (columns_form c.in-Struct.fields) d
     ∙ sym (plain_form c.in-Struct.fields (ty (arc_value c.args.dtype)) (subst (λ z. IsTrue (is_struct z)) d c.in-Ok.node.structs) c.in-Ok.ensures.distinct)
     ∙ ap (λ s. form_at (strategy_data s) (ty (arc_value c.args.dtype))) (sym c.in-Struct.is) in
-    subst (λ z. IfErr c.start_columns.result (StartRefused (λ s. start_fault s z c.args.marked) (first_indices z c.args.eof))) f c.start_columns.ensures.refused
+    subst (λ z. IfErr c.start_columns.result (FormRefused (allowed_in c.args.ctx.now) z c.args.marked c.args.eof)) f c.start_columns.ensures.refused
 
-pub start_settled-returns-in-Err-clause-refused : goal.start_settled-returns-in-Err-clause-refused
-start_settled-returns-in-Err-clause-refused g t c =
-    subst (λ s. StartRefused (λ x. start_fault x (form_at (strategy_data s) (ty (arc_value c.args.dtype))) c.args.marked) (first_indices (form_at (strategy_data s) (ty (arc_value c.args.dtype))) c.args.eof) c.in-Err.error) (sym c.in-Struct.is)
-    (node_refused c.in-Struct.fields (ty (arc_value c.args.dtype)) c.args.marked (first_indices (form_at (struct_way c.in-Struct.fields) (ty (arc_value c.args.dtype))) c.args.eof) c.in-Err.error c.in-Err.ensures.refused)
+pub start::start_settled-returns-in-Err-clause-refused : goal.start::start_settled-returns-in-Err-clause-refused
+start::start_settled-returns-in-Err-clause-refused g t c =
+    subst (λ s. FormRefused (allowed_in c.args.ctx.now) (form_at (strategy_data s) (ty (arc_value c.args.dtype))) c.args.marked c.args.eof c.in-Err.error) (sym c.in-Struct.is)
+    (node_refused (allowed_in c.args.ctx.now) c.in-Struct.fields (ty (arc_value c.args.dtype)) c.args.marked (first_indices (form_at (struct_way c.in-Struct.fields) (ty (arc_value c.args.dtype))) c.args.eof) c.in-Err.error c.in-Err.ensures.refused)
 
-pub start_settled-start_columns-requires : goal.start_settled-start_columns-requires
-start_settled-start_columns-requires g t c κs within =
+pub start::start_settled-start_columns-requires : goal.start::start_settled-start_columns-requires
+start::start_settled-start_columns-requires g t c κs within =
     let b : IsTrue (is_built (struct_way c.in-Struct.fields)) = subst (λ s. IsTrue (is_built (strategy_data s))) c.in-Struct.is c.requires.built in
     let d : ty (arc_value c.in-Ok.node.dtype) ≡ ty (arc_value c.args.dtype) = ap (λ z. ty (arc_value z)) c.in-Ok.ensures.node in
     let f : columns_form c.in-Struct.fields (ty (arc_value c.in-Ok.node.dtype)) ≡ form_at (strategy_data c.args.strategy.now) (ty (arc_value c.args.dtype)) =
@@ -136,8 +137,8 @@ start_settled-start_columns-requires g t c κs within =
     let falls : 8 * weight (columns_form c.in-Struct.fields (ty (arc_value c.in-Ok.node.dtype))) + 3 < 8 * weight (form_of c.args.strategy.now (arc_value c.args.dtype)) + 4 = omega (arith, n) in
     search (rules, arith, c.requires.owned, b, falls)
 
-pub start_settled-start_lists-requires : goal.start_settled-start_lists-requires
-start_settled-start_lists-requires g t c κs within =
+pub start::start_settled-start_lists-requires : goal.start::start_settled-start_lists-requires
+start::start_settled-start_lists-requires g t c κs within =
     let u : Ty = ty (arc_value c.args.dtype) in
     let s = c.in-List.lists in
     let b : IsTrue (is_built (list_way s)) = subst (λ z. IsTrue (is_built (strategy_data z))) c.in-List.is c.requires.built in
@@ -150,40 +151,40 @@ start_settled-start_lists-requires g t c κs within =
     let falls : 8 * weight (lists_form s (ty (arc_value c.in-Ok-lists_node.node.dtype))) + 3 < 8 * weight (form_at (strategy_data c.args.strategy.now) u) + 4 = omega (arith, n) in
     search (rules, arith, c.requires.owned, b, h, falls)
 
-pub start_settled-lists_node-requires : goal.start_settled-lists_node-requires
-start_settled-lists_node-requires g t c =
+pub start::start_settled-lists_node-requires : goal.start::start_settled-lists_node-requires
+start::start_settled-lists_node-requires g t c =
     list_at c.in-List.lists (ty (arc_value c.args.dtype)) (subst (λ z. IsFalse (passes_on (strategy_data z) (ty (arc_value c.args.dtype)))) c.in-List.is c.requires.settled)
 
-pub start_settled-returns-in-Ok-lists_node-clause-shows : goal.start_settled-returns-in-Ok-lists_node-clause-shows
-start_settled-returns-in-Ok-lists_node-clause-shows g t c =
+pub start::start_settled-returns-in-Ok-lists_node-clause-shows : goal.start::start_settled-returns-in-Ok-lists_node-clause-shows
+start::start_settled-returns-in-Ok-lists_node-clause-shows g t c =
     let u : Ty = ty (arc_value c.args.dtype) in
     let s = c.in-List.lists in
     let l : is_list u ≡ true = list_at s u (subst (λ z. IsFalse (passes_on (strategy_data z) u)) c.in-List.is c.requires.settled) in
     let f : lists_form s (ty (arc_value c.in-Ok-lists_node.node.dtype)) ≡ form_at (strategy_data c.args.strategy.now) u =
     ap (λ z. lists_form s (ty (arc_value z))) c.in-Ok-lists_node.ensures.node.0 ∙ sym (list_plain s u l) ∙ ap (λ z. form_at (strategy_data z) u) (sym c.in-List.is) in
-    subst (λ z. IfOk c.start_lists.result (Started z c.args.marked c.args.name c.args.eof)) f c.start_lists.ensures.shows
+    subst (λ z. IfOk c.start_lists.result (Started (allowed_in c.args.ctx.now) z c.args.marked c.args.name c.args.eof)) f c.start_lists.ensures.shows
 
-pub start_settled-returns-in-Ok-lists_node-clause-refused : goal.start_settled-returns-in-Ok-lists_node-clause-refused
-start_settled-returns-in-Ok-lists_node-clause-refused g t c =
+pub start::start_settled-returns-in-Ok-lists_node-clause-refused : goal.start::start_settled-returns-in-Ok-lists_node-clause-refused
+start::start_settled-returns-in-Ok-lists_node-clause-refused g t c =
     let u : Ty = ty (arc_value c.args.dtype) in
     let s = c.in-List.lists in
     let l : is_list u ≡ true = list_at s u (subst (λ z. IsFalse (passes_on (strategy_data z) u)) c.in-List.is c.requires.settled) in
     let f : lists_form s (ty (arc_value c.in-Ok-lists_node.node.dtype)) ≡ form_at (strategy_data c.args.strategy.now) u =
     ap (λ z. lists_form s (ty (arc_value z))) c.in-Ok-lists_node.ensures.node.0 ∙ sym (list_plain s u l) ∙ ap (λ z. form_at (strategy_data z) u) (sym c.in-List.is) in
-    subst (λ z. IfErr c.start_lists.result (StartRefused (λ s. start_fault s z c.args.marked) (first_indices z c.args.eof))) f c.start_lists.ensures.refused
+    subst (λ z. IfErr c.start_lists.result (FormRefused (allowed_in c.args.ctx.now) z c.args.marked c.args.eof)) f c.start_lists.ensures.refused
 
 -- ---- a struct's columns
 
-pub start_columns-start_each-started-requires : goal.start_columns-start_each-started-requires
-start_columns-start_each-started-requires g t c κs within =
+pub columns_start::start_columns-start_each-started-requires : goal.columns_start::start_columns-start_each-started-requires
+columns_start::start_columns-start_each-started-requires g t c κs within =
     let u : Active = g.O.Order.active c.args.order.now in
     let o : Owned u (both (end_stock c.args.eof) (tasks_stock c.new-kids.result.items)) = none_yet u u (end_stock c.args.eof) c.new-kids.result.items c.new-kids.ensures.items c.requires.owned in
     let n : weight (columns_form c.args.fields.now (ty c.deref.result.now)) ≡ weight (columns_form c.args.fields.now (ty (arc_value c.args.node.dtype))) = ap (λ z. weight (columns_form c.args.fields.now (ty z))) c.deref.ensures in
     let falls : 8 * weight (columns_form c.args.fields.now (ty c.deref.result.now)) + 2 < 8 * weight (columns_form c.args.fields.now (ty (arc_value c.args.node.dtype))) + 3 = omega (arith, n) in
     search (rules, arith, o, c.requires.built, falls)
 
-pub start_columns-give_up_pointer-requires : goal.start_columns-give_up_pointer-requires
-start_columns-give_up_pointer-requires g t c =
+pub columns_start::start_columns-give_up_pointer-requires : goal.columns_start::start_columns-give_up_pointer-requires
+columns_start::start_columns-give_up_pointer-requires g t c =
     let u : Active = g.O.Order.active c.args.order.now in
     let v : Active = g.O.Order.active c.start_each-started.new.order in
     let e : Stock = end_stock c.args.eof in
@@ -191,8 +192,8 @@ start_columns-give_up_pointer-requires g t c =
     let k : Stock = tasks_stock c.start_each-started.new.kids.items in
     pointer_owned u v e f k c.requires.owned (from_none u v e c.new-kids.result.items c.new-kids.ensures.items (both f k) c.start_each-started.ensures.moved)
 
-pub start_columns-returns-in-Ok-clause-moved : goal.start_columns-returns-in-Ok-clause-moved
-start_columns-returns-in-Ok-clause-moved g t c =
+pub columns_start::start_columns-returns-in-Ok-clause-moved : goal.columns_start::start_columns-returns-in-Ok-clause-moved
+columns_start::start_columns-returns-in-Ok-clause-moved g t c =
     let u : Active = g.O.Order.active c.args.order.now in
     let v : Active = g.O.Order.active c.start_each-started.new.order in
     let w : Active = g.O.Order.active c.give_up_pointer.new.order in
@@ -202,20 +203,20 @@ start_columns-returns-in-Ok-clause-moved g t c =
     let m : Moved u v e (both f k) = from_none u v e c.new-kids.result.items c.new-kids.ensures.items (both f k) c.start_each-started.ensures.moved in
     held_kids u w e k c.waiting.result c.waiting.ensures.held (kids_left u v e f k c.requires.owned m w c.give_up_pointer.ensures.moved)
 
-pub start_columns-returns-in-Ok-clause-shows : goal.start_columns-returns-in-Ok-clause-shows
-start_columns-returns-in-Ok-clause-shows g t c =
+pub columns_start::start_columns-returns-in-Ok-clause-shows : goal.columns_start::start_columns-returns-in-Ok-clause-shows
+columns_start::start_columns-returns-in-Ok-clause-shows g t c =
     let u : Ty = ty (arc_value c.args.node.dtype) in
-    let h : AllStarted (columns_form c.args.fields.now u) c.args.marked c.args.name c.args.eof c.start_each-started.new.kids.items =
-    subst (λ z. AllStarted (columns_form c.args.fields.now (ty z)) c.args.marked c.args.name c.args.eof c.start_each-started.new.kids.items) c.deref.ensures (c.in-Ok.ensures.shows c.new-kids.ensures.items) in
-    started (columns_form c.args.fields.now u) c.args.marked c.args.name c.args.eof (Columns c.args.node 0) c.start_each-started.new.kids.items c.waiting.result
+    let h : AllStarted (allowed_in c.args.ctx.now) (columns_form c.args.fields.now u) c.args.marked c.args.name c.args.eof c.start_each-started.new.kids.items =
+    subst (λ z. AllStarted (allowed_in c.args.ctx.now) (columns_form c.args.fields.now (ty z)) c.args.marked c.args.name c.args.eof c.start_each-started.new.kids.items) c.deref.ensures (c.in-Ok.ensures.shows c.new-kids.ensures.items) in
+    started (allowed_in c.args.ctx.now) (columns_form c.args.fields.now u) c.args.marked c.args.name c.args.eof (Columns c.args.node 0) c.start_each-started.new.kids.items c.waiting.result
     h.allowed h.counted (ap (λ z. by_column z 0) (typed u c.args.node.structs)) h.tasks c.waiting.ensures.shows
 
-pub start_columns-returns-in-Err-clause-refused : goal.start_columns-returns-in-Err-clause-refused
-start_columns-returns-in-Err-clause-refused g t c =
-    subst (λ z. StartRefused (λ s. start_fault s (columns_form c.args.fields.now (ty z)) c.args.marked) (first_indices (columns_form c.args.fields.now (ty z)) c.args.eof) c.in-Err.error) c.deref.ensures c.in-Err.ensures.refused
+pub columns_start::start_columns-returns-in-Err-clause-refused : goal.columns_start::start_columns-returns-in-Err-clause-refused
+columns_start::start_columns-returns-in-Err-clause-refused g t c =
+    subst (λ z. FormRefused (allowed_in c.args.ctx.now) (columns_form c.args.fields.now (ty z)) c.args.marked c.args.eof c.in-Err.error) c.deref.ensures c.in-Err.ensures.refused
 
-pub start_columns-refuse_started-requires-clause-owned : goal.start_columns-refuse_started-requires-clause-owned
-start_columns-refuse_started-requires-clause-owned g t c =
+pub columns_start::start_columns-refuse_started-requires-clause-owned : goal.columns_start::start_columns-refuse_started-requires-clause-owned
+columns_start::start_columns-refuse_started-requires-clause-owned g t c =
     let u : Active = g.O.Order.active c.args.order.now in
     let v : Active = g.O.Order.active c.start_each-started.new.order in
     let w : Active = g.O.Order.active c.give_up_pointer.new.order in
@@ -225,11 +226,11 @@ start_columns-refuse_started-requires-clause-owned g t c =
     let m : Moved u v e (both f k) = from_none u v e c.new-kids.result.items c.new-kids.ensures.items (both f k) c.start_each-started.ensures.moved in
     left_owned u v e f k c.requires.owned m w c.give_up_pointer.ensures.moved
 
-pub start_columns-refuse_started-requires-clause-reserved : goal.start_columns-refuse_started-requires-clause-reserved
-start_columns-refuse_started-requires-clause-reserved g t c = c.start_each-started.ensures.reserved ∙ ap tasks_reserved c.new-kids.ensures.items
+pub columns_start::start_columns-refuse_started-requires-clause-reserved : goal.columns_start::start_columns-refuse_started-requires-clause-reserved
+columns_start::start_columns-refuse_started-requires-clause-reserved g t c = c.start_each-started.ensures.reserved ∙ ap tasks_reserved c.new-kids.ensures.items
 
-pub start_columns-returns-in-Err-clause-moved : goal.start_columns-returns-in-Err-clause-moved
-start_columns-returns-in-Err-clause-moved g t c =
+pub columns_start::start_columns-returns-in-Err-clause-moved : goal.columns_start::start_columns-returns-in-Err-clause-moved
+columns_start::start_columns-returns-in-Err-clause-moved g t c =
     let u : Active = g.O.Order.active c.args.order.now in
     let v : Active = g.O.Order.active c.start_each-started.new.order in
     let w : Active = g.O.Order.active c.give_up_pointer.new.order in
@@ -241,8 +242,8 @@ start_columns-returns-in-Err-clause-moved g t c =
 
 -- ---- a list's columns
 
-pub start_lists-start_parts-started-requires : goal.start_lists-start_parts-started-requires
-start_lists-start_parts-started-requires g t c κs within =
+pub columns_start::start_lists-start_parts-started-requires : goal.columns_start::start_lists-start_parts-started-requires
+columns_start::start_lists-start_parts-started-requires g t c κs within =
     let u : Active = g.O.Order.active c.args.order.now in
     let o : Owned u (both (end_stock c.args.eof) (tasks_stock c.new-kids.result.items)) = none_yet u u (end_stock c.args.eof) c.new-kids.result.items c.new-kids.ensures.items c.requires.owned in
     let l : IsTrue (is_list (ty c.deref.result.now)) = subst (λ z. IsTrue (is_list (ty z))) (sym c.deref.ensures) c.args.node.lists in
@@ -250,8 +251,8 @@ start_lists-start_parts-started-requires g t c κs within =
     let falls : 8 * weight (lists_form c.args.lists.now (ty c.deref.result.now)) + 2 < 8 * weight (lists_form c.args.lists.now (ty (arc_value c.args.node.dtype))) + 3 = omega (arith, n) in
     search (rules, arith, o, c.requires.built, l, falls)
 
-pub start_lists-give_up_pointer-requires : goal.start_lists-give_up_pointer-requires
-start_lists-give_up_pointer-requires g t c =
+pub columns_start::start_lists-give_up_pointer-requires : goal.columns_start::start_lists-give_up_pointer-requires
+columns_start::start_lists-give_up_pointer-requires g t c =
     let u : Active = g.O.Order.active c.args.order.now in
     let v : Active = g.O.Order.active c.start_parts-started.new.order in
     let e : Stock = end_stock c.args.eof in
@@ -259,8 +260,8 @@ start_lists-give_up_pointer-requires g t c =
     let k : Stock = tasks_stock c.start_parts-started.new.kids.items in
     pointer_owned u v e f k c.requires.owned (from_none u v e c.new-kids.result.items c.new-kids.ensures.items (both f k) c.start_parts-started.ensures.moved)
 
-pub start_lists-returns-in-Ok-clause-moved : goal.start_lists-returns-in-Ok-clause-moved
-start_lists-returns-in-Ok-clause-moved g t c =
+pub columns_start::start_lists-returns-in-Ok-clause-moved : goal.columns_start::start_lists-returns-in-Ok-clause-moved
+columns_start::start_lists-returns-in-Ok-clause-moved g t c =
     let u : Active = g.O.Order.active c.args.order.now in
     let v : Active = g.O.Order.active c.start_parts-started.new.order in
     let w : Active = g.O.Order.active c.give_up_pointer.new.order in
@@ -270,20 +271,20 @@ start_lists-returns-in-Ok-clause-moved g t c =
     let m : Moved u v e (both f k) = from_none u v e c.new-kids.result.items c.new-kids.ensures.items (both f k) c.start_parts-started.ensures.moved in
     held_kids u w e k c.waiting.result c.waiting.ensures.held (kids_left u v e f k c.requires.owned m w c.give_up_pointer.ensures.moved)
 
-pub start_lists-returns-in-Ok-clause-shows : goal.start_lists-returns-in-Ok-clause-shows
-start_lists-returns-in-Ok-clause-shows g t c =
+pub columns_start::start_lists-returns-in-Ok-clause-shows : goal.columns_start::start_lists-returns-in-Ok-clause-shows
+columns_start::start_lists-returns-in-Ok-clause-shows g t c =
     let u : Ty = ty (arc_value c.args.node.dtype) in
-    let h : AllStarted (lists_form c.args.lists.now u) c.args.marked c.args.name c.args.eof c.start_parts-started.new.kids.items =
-    subst (λ z. AllStarted (lists_form c.args.lists.now (ty z)) c.args.marked c.args.name c.args.eof c.start_parts-started.new.kids.items) c.deref.ensures (c.in-Ok.ensures.shows c.new-kids.ensures.items) in
-    started (lists_form c.args.lists.now u) c.args.marked c.args.name c.args.eof (Lists c.args.node 0) c.start_parts-started.new.kids.items c.waiting.result
+    let h : AllStarted (allowed_in c.args.ctx.now) (lists_form c.args.lists.now u) c.args.marked c.args.name c.args.eof c.start_parts-started.new.kids.items =
+    subst (λ z. AllStarted (allowed_in c.args.ctx.now) (lists_form c.args.lists.now (ty z)) c.args.marked c.args.name c.args.eof c.start_parts-started.new.kids.items) c.deref.ensures (c.in-Ok.ensures.shows c.new-kids.ensures.items) in
+    started (allowed_in c.args.ctx.now) (lists_form c.args.lists.now u) c.args.marked c.args.name c.args.eof (Lists c.args.node 0) c.start_parts-started.new.kids.items c.waiting.result
     h.allowed h.counted (list_mind c.args.node c.args.lists.now c.args.marked c.args.eof c.requires.fresh) h.tasks c.waiting.ensures.shows
 
-pub start_lists-returns-in-Err-clause-refused : goal.start_lists-returns-in-Err-clause-refused
-start_lists-returns-in-Err-clause-refused g t c =
-    subst (λ z. StartRefused (λ s. start_fault s (lists_form c.args.lists.now (ty z)) c.args.marked) (first_indices (lists_form c.args.lists.now (ty z)) c.args.eof) c.in-Err.error) c.deref.ensures c.in-Err.ensures.refused
+pub columns_start::start_lists-returns-in-Err-clause-refused : goal.columns_start::start_lists-returns-in-Err-clause-refused
+columns_start::start_lists-returns-in-Err-clause-refused g t c =
+    subst (λ z. FormRefused (allowed_in c.args.ctx.now) (lists_form c.args.lists.now (ty z)) c.args.marked c.args.eof c.in-Err.error) c.deref.ensures c.in-Err.ensures.refused
 
-pub start_lists-refuse_started-requires-clause-owned : goal.start_lists-refuse_started-requires-clause-owned
-start_lists-refuse_started-requires-clause-owned g t c =
+pub columns_start::start_lists-refuse_started-requires-clause-owned : goal.columns_start::start_lists-refuse_started-requires-clause-owned
+columns_start::start_lists-refuse_started-requires-clause-owned g t c =
     let u : Active = g.O.Order.active c.args.order.now in
     let v : Active = g.O.Order.active c.start_parts-started.new.order in
     let w : Active = g.O.Order.active c.give_up_pointer.new.order in
@@ -293,11 +294,11 @@ start_lists-refuse_started-requires-clause-owned g t c =
     let m : Moved u v e (both f k) = from_none u v e c.new-kids.result.items c.new-kids.ensures.items (both f k) c.start_parts-started.ensures.moved in
     left_owned u v e f k c.requires.owned m w c.give_up_pointer.ensures.moved
 
-pub start_lists-refuse_started-requires-clause-reserved : goal.start_lists-refuse_started-requires-clause-reserved
-start_lists-refuse_started-requires-clause-reserved g t c = c.start_parts-started.ensures.reserved ∙ ap tasks_reserved c.new-kids.ensures.items
+pub columns_start::start_lists-refuse_started-requires-clause-reserved : goal.columns_start::start_lists-refuse_started-requires-clause-reserved
+columns_start::start_lists-refuse_started-requires-clause-reserved g t c = c.start_parts-started.ensures.reserved ∙ ap tasks_reserved c.new-kids.ensures.items
 
-pub start_lists-returns-in-Err-clause-moved : goal.start_lists-returns-in-Err-clause-moved
-start_lists-returns-in-Err-clause-moved g t c =
+pub columns_start::start_lists-returns-in-Err-clause-moved : goal.columns_start::start_lists-returns-in-Err-clause-moved
+columns_start::start_lists-returns-in-Err-clause-moved g t c =
     let u : Active = g.O.Order.active c.args.order.now in
     let v : Active = g.O.Order.active c.start_parts-started.new.order in
     let w : Active = g.O.Order.active c.give_up_pointer.new.order in
@@ -309,8 +310,8 @@ start_lists-returns-in-Err-clause-moved g t c =
 
 -- ---- each of them
 
-pub start_each-start_validity-requires : goal.start_each-start_validity-requires
-start_each-start_validity-requires g t c κs within =
+pub columns_start::start_each-start_validity-requires : goal.columns_start::start_each-start_validity-requires
+columns_start::start_each-start_validity-requires g t c κs within =
     let s = c.args.fields.now in
     let p = struct_built s.validity.item s.default.item (field_ways s.writers.items) c.requires.built in
     let b : IsTrue (is_built c.validity-validity.result.now.item) = subst (λ x. IsTrue (is_built x.item)) (sym c.validity-validity.ensures) p.0 in
@@ -318,8 +319,8 @@ start_each-start_validity-requires g t c κs within =
     let falls : 8 * weight (form_at c.validity-validity.result.now.item (boolean false)) + 8 < 8 * weight (columns_form s (ty c.args.dtype.now)) + 2 = omega (arith, n) in
     search (rules, arith, c.requires.owned, b, falls)
 
-pub start_each-fields-init : goal.start_each-fields-init
-start_each-fields-init g t c = record {
+pub columns_start::start_each-fields-init : goal.columns_start::start_each-fields-init
+columns_start::start_each-fields-init g t c = record {
   owned = owned_now (g.O.Order.active c.args.order.now) (g.O.Order.active c.start_validity.new.order) (both (end_stock c.args.eof.now) (tasks_stock c.args.kids.now.items)) (both (end_stock c.start_validity.new.eof) (tasks_stock c.start_validity.new.kids.items)) c.requires.owned c.start_validity.ensures.moved;
   moved = c.start_validity.ensures.moved;
   reserved = c.start_validity.ensures.reserved;
@@ -327,19 +328,19 @@ start_each-fields-init g t c = record {
   sink = c.start_validity.ensures.sink;
   left =
       let b : c.if-marked.below ≡ (c.args.marked || c.is_nullable-nullable.result) = search (rules, tests) in
-      rw (b, c.fields_in-columns.ensures) (left_first c.args.fields.now (ty c.args.dtype.now) c.is_nullable-nullable.result c.args.marked c.args.name.now c.args.eof.now c.start_validity.new.eof c.args.kids.now.items c.start_validity.new.kids.items
+      rw (b, c.fields_in-columns.ensures) (left_first (allowed_in c.args.ctx.now) c.args.fields.now (ty c.args.dtype.now) c.is_nullable-nullable.result c.args.marked c.args.name.now c.args.eof.now c.start_validity.new.eof c.args.kids.now.items c.start_validity.new.kids.items
       c.is_nullable-nullable.ensures
-      (subst (λ z. ManyStarted (validity_forms z.item c.is_nullable-nullable.result) c.args.marked c.args.name.now c.args.eof.now c.args.kids.now.items c.start_validity.new.eof c.start_validity.new.kids.items) c.validity-validity.ensures c.in_ok-start_validity.ensures.shows));
+      (subst (λ z. ManyStarted (allowed_in c.args.ctx.now) (validity_forms z.item c.is_nullable-nullable.result) c.args.marked c.args.name.now c.args.eof.now c.args.kids.now.items c.start_validity.new.eof c.start_validity.new.kids.items) c.validity-validity.ensures c.in_ok-start_validity.ensures.shows));
 }
 
-pub start_each-returns-in_err-start_validity-clause-refused : goal.start_each-returns-in_err-start_validity-clause-refused
-start_each-returns-in_err-start_validity-clause-refused g t c =
+pub columns_start::start_each-returns-in_err-start_validity-clause-refused : goal.columns_start::start_each-returns-in_err-start_validity-clause-refused
+columns_start::start_each-returns-in_err-start_validity-clause-refused g t c =
     let p = err_from_is_err_and c.from_residual.result c.from_residual.ensures.1 in
-    rw (p.1, p.2) (validity_refused c.args.fields.now (ty c.args.dtype.now) c.is_nullable-nullable.result c.args.marked c.args.eof.now c.in_err-start_validity.field-0.0 c.is_nullable-nullable.ensures
-    (subst (λ z. ManyRefused (validity_forms z.item c.is_nullable-nullable.result) c.args.marked c.args.eof.now c.in_err-start_validity.field-0.0) c.validity-validity.ensures c.in_err-start_validity.ensures.refused))
+    rw (p.1, p.2) (validity_refused (allowed_in c.args.ctx.now) c.args.fields.now (ty c.args.dtype.now) c.is_nullable-nullable.result c.args.marked c.args.eof.now c.in_err-start_validity.field-0.0 c.is_nullable-nullable.ensures
+    (subst (λ z. ManyRefused (allowed_in c.args.ctx.now) (validity_forms z.item c.is_nullable-nullable.result) c.args.marked c.args.eof.now c.in_err-start_validity.field-0.0) c.validity-validity.ensures c.in_err-start_validity.ensures.refused))
 
-pub start_each-start_field-requires : goal.start_each-start_field-requires
-start_each-start_field-requires g t c κs within =
+pub columns_start::start_each-start_field-requires : goal.columns_start::start_each-start_field-requires
+columns_start::start_each-start_field-requires g t c κs within =
     let s = c.args.fields.now in
     let x : StructField = c.field-item.result in
     let h : c.fields.field-index < length c.fields_in-columns.result.now = omega arith in
@@ -348,35 +349,35 @@ start_each-start_field-requires g t c κs within =
     let falls : 8 * weight (field_form s (field_ty x)) + 8 < 8 * weight (columns_form s (ty c.args.dtype.now)) + 2 = omega (arith, a, b) in
     search (rules, arith, c.fields.invariant.owned, c.requires.built, falls)
 
-pub start_each-returns-in_err-start_field-clause-moved : goal.start_each-returns-in_err-start_field-clause-moved
-start_each-returns-in_err-start_field-clause-moved g t c =
+pub columns_start::start_each-returns-in_err-start_field-clause-moved : goal.columns_start::start_each-returns-in_err-start_field-clause-moved
+columns_start::start_each-returns-in_err-start_field-clause-moved g t c =
     moved_then (g.O.Order.active c.args.order.now) (g.O.Order.active c.fields.order) (g.O.Order.active c.start_field.new.order)
     (both (end_stock c.args.eof.now) (tasks_stock c.args.kids.now.items)) (both (end_stock c.fields.eof) (tasks_stock c.fields.kids.items)) (both (end_stock c.start_field.new.eof) (tasks_stock c.start_field.new.kids.items))
     c.fields.invariant.moved c.start_field.ensures.moved
 
-pub start_each-returns-in_err-start_field-clause-refused : goal.start_each-returns-in_err-start_field-clause-refused
-start_each-returns-in_err-start_field-clause-refused g t c =
+pub columns_start::start_each-returns-in_err-start_field-clause-refused : goal.columns_start::start_each-returns-in_err-start_field-clause-refused
+columns_start::start_each-returns-in_err-start_field-clause-refused g t c =
     let p = err_from_is_err_and c.from_residual-in_err-start_field.result c.from_residual-in_err-start_field.ensures.1 in
     let f : Form = columns_form c.args.fields.now (ty c.args.dtype.now) in
     let x : StructField = c.field-item.result in
     let h : c.fields.field-index < length c.fields_in-columns.result.now = omega arith in
     let m = fields_more c.args.fields.now c.fields_in-columns.result.now c.fields.field-index x h c.field-item.is in
     let gs : Forms = field_forms c.args.fields.now (map field_ty (drop (c.fields.field-index + 1) c.fields_in-columns.result.now)) in
-    let l : Left f c.args.marked c.args.name.now c.args.eof.now c.args.kids.now.items (form_then (field_form c.args.fields.now (field_ty x)) gs) c.if-marked.below c.fields.kids.items c.fields.eof =
-    subst (λ z. Left f c.args.marked c.args.name.now c.args.eof.now c.args.kids.now.items z c.if-marked.below c.fields.kids.items c.fields.eof) m c.fields.invariant.left in
-    rw (p.1, p.2) (left_refused f c.args.marked c.args.name.now c.args.eof.now c.args.kids.now.items (field_form c.args.fields.now (field_ty x)) gs c.if-marked.below c.fields.kids.items c.fields.eof
+    let l : Left (allowed_in c.args.ctx.now) f c.args.marked c.args.name.now c.args.eof.now c.args.kids.now.items (form_then (field_form c.args.fields.now (field_ty x)) gs) c.if-marked.below c.fields.kids.items c.fields.eof =
+    subst (λ z. Left (allowed_in c.args.ctx.now) f c.args.marked c.args.name.now c.args.eof.now c.args.kids.now.items z c.if-marked.below c.fields.kids.items c.fields.eof) m c.fields.invariant.left in
+    rw (p.1, p.2) (left_refused (allowed_in c.args.ctx.now) f c.args.marked c.args.name.now c.args.eof.now c.args.kids.now.items (field_form c.args.fields.now (field_ty x)) gs c.if-marked.below c.fields.kids.items c.fields.eof
     c.in_err-start_field.field-0.0 l c.in_err-start_field.ensures.refused)
 
-pub start_each-returns-clause-shows : goal.start_each-returns-clause-shows
-start_each-returns-clause-shows g t c = λ empty.
+pub columns_start::start_each-returns-clause-shows : goal.columns_start::start_each-returns-clause-shows
+columns_start::start_each-returns-clause-shows g t c = λ empty.
     let f : Form = columns_form c.args.fields.now (ty c.args.dtype.now) in
     let b : Bool = c.if-marked.below in
-    all_started f c.args.marked c.args.name.now c.args.eof.now c.args.kids.now.items b c.fields.kids.items c.fields.eof
-    (subst (λ z. Left f c.args.marked c.args.name.now c.args.eof.now c.args.kids.now.items z b c.fields.kids.items c.fields.eof)
+    all_started (allowed_in c.args.ctx.now) f c.args.marked c.args.name.now c.args.eof.now c.args.kids.now.items b c.fields.kids.items c.fields.eof
+    (subst (λ z. Left (allowed_in c.args.ctx.now) f c.args.marked c.args.name.now c.args.eof.now c.args.kids.now.items z b c.fields.kids.items c.fields.eof)
     (fields_end c.args.fields.now c.fields_in-columns.result.now c.fields.field-index (omega arith)) c.fields.invariant.left) empty
 
-pub start_each-fields-preserved : goal.start_each-fields-preserved
-start_each-fields-preserved g t c = record {
+pub columns_start::start_each-fields-preserved : goal.columns_start::start_each-fields-preserved
+columns_start::start_each-fields-preserved g t c = record {
   owned = owned_now (g.O.Order.active c.fields.order) (g.O.Order.active c.start_field.new.order) (both (end_stock c.fields.eof) (tasks_stock c.fields.kids.items)) (both (end_stock c.start_field.new.eof) (tasks_stock c.start_field.new.kids.items)) c.fields.invariant.owned c.start_field.ensures.moved;
   moved = moved_then (g.O.Order.active c.args.order.now) (g.O.Order.active c.fields.order) (g.O.Order.active c.start_field.new.order)
       (both (end_stock c.args.eof.now) (tasks_stock c.args.kids.now.items)) (both (end_stock c.fields.eof) (tasks_stock c.fields.kids.items)) (both (end_stock c.start_field.new.eof) (tasks_stock c.start_field.new.kids.items))
@@ -390,15 +391,15 @@ start_each-fields-preserved g t c = record {
       let x : StructField = c.field-item.result in
       let h : c.fields.field-index < length c.fields_in-columns.result.now = omega arith in
       let gs : Forms = field_forms c.args.fields.now (map field_ty (drop (c.fields.field-index + 1) c.fields_in-columns.result.now)) in
-      left_next f c.args.marked c.args.name.now c.args.eof.now c.args.kids.now.items (field_form c.args.fields.now (field_ty x)) gs b c.fields.kids.items c.start_field.new.kids.items c.fields.eof c.start_field.new.eof
-      (subst (λ z. Left f c.args.marked c.args.name.now c.args.eof.now c.args.kids.now.items z b c.fields.kids.items c.fields.eof) (fields_more c.args.fields.now c.fields_in-columns.result.now c.fields.field-index x h c.field-item.is) c.fields.invariant.left)
+      left_next (allowed_in c.args.ctx.now) f c.args.marked c.args.name.now c.args.eof.now c.args.kids.now.items (field_form c.args.fields.now (field_ty x)) gs b c.fields.kids.items c.start_field.new.kids.items c.fields.eof c.start_field.new.eof
+      (subst (λ z. Left (allowed_in c.args.ctx.now) f c.args.marked c.args.name.now c.args.eof.now c.args.kids.now.items z b c.fields.kids.items c.fields.eof) (fields_more c.args.fields.now c.fields_in-columns.result.now c.fields.field-index x h c.field-item.is) c.fields.invariant.left)
       c.in_ok-start_field.ensures.shows;
 }
 
 -- ---- elements, offsets and validity
 
-pub start_parts-start_column-requires : goal.start_parts-start_column-requires
-start_parts-start_column-requires g t c κs within =
+pub columns_start::start_parts-start_column-requires : goal.columns_start::start_parts-start_column-requires
+columns_start::start_parts-start_column-requires g t c κs within =
     let s = c.args.lists.now in
     let p = list_built s.elements.item s.offsets.item s.validity.item s.fallback.item c.requires.built in
     let u : Ty = ty (arc_value c.in_ok-elements.elements) in
@@ -406,8 +407,8 @@ start_parts-start_column-requires g t c κs within =
     let falls : 8 * weight (form_at s.elements.item u) + 7 < 8 * weight (lists_form s (ty c.args.dtype.now)) + 2 = omega (arith, n) in
     search (rules, arith, c.requires.owned, p.0, falls)
 
-pub start_parts-start_column-requires-2 : goal.start_parts-start_column-requires-2
-start_parts-start_column-requires-2 g t c κs within =
+pub columns_start::start_parts-start_column-requires-2 : goal.columns_start::start_parts-start_column-requires-2
+columns_start::start_parts-start_column-requires-2 g t c κs within =
     let s = c.args.lists.now in
     let p = list_built s.elements.item s.offsets.item s.validity.item s.fallback.item c.requires.built in
     let u : Ty = ty (arc_value c.in_ok-offsets.offsets) in
@@ -417,8 +418,8 @@ start_parts-start_column-requires-2 g t c κs within =
     let falls : 8 * weight (form_at s.offsets.item u) + 7 < 8 * weight (lists_form s (ty c.args.dtype.now)) + 2 = omega (arith, n) in
     search (rules, arith, o, p.1, falls)
 
-pub start_parts-start_validity-requires : goal.start_parts-start_validity-requires
-start_parts-start_validity-requires g t c κs within =
+pub columns_start::start_parts-start_validity-requires : goal.columns_start::start_parts-start_validity-requires
+columns_start::start_parts-start_validity-requires g t c κs within =
     let s = c.args.lists.now in
     let p = list_built s.elements.item s.offsets.item s.validity.item s.fallback.item c.requires.built in
     let o : Owned (g.O.Order.active c.start_column-2.new.order) (both (end_stock c.start_column-2.new.eof) (tasks_stock c.start_column-2.new.kids.items)) =
@@ -426,18 +427,18 @@ start_parts-start_validity-requires g t c κs within =
     let falls : 8 * weight (form_at s.validity.item (boolean false)) + 8 < 8 * weight (lists_form s (ty c.args.dtype.now)) + 2 = omega arith in
     search (rules, arith, o, p.2, falls)
 
-pub start_parts-returns-in_err-start_column-clause-refused : goal.start_parts-returns-in_err-start_column-clause-refused
-start_parts-returns-in_err-start_column-clause-refused g t c =
+pub columns_start::start_parts-returns-in_err-start_column-clause-refused : goal.columns_start::start_parts-returns-in_err-start_column-clause-refused
+columns_start::start_parts-returns-in_err-start_column-clause-refused g t c =
     let r = err_from_is_err_and c.from_residual-in_err-start_column.result c.from_residual-in_err-start_column.ensures.1 in
-    rw (r.1, r.2) (elements_refused c.args.lists.now (ty c.args.dtype.now) c.args.marked c.args.name.now c.args.eof.now c.args.kids.now.items (ty (arc_value c.in_ok-elements.elements)) c.in_err-start_column.field-0.0
+    rw (r.1, r.2) (elements_refused (allowed_in c.args.ctx.now) c.args.lists.now (ty c.args.dtype.now) c.args.marked c.args.name.now c.args.eof.now c.args.kids.now.items (ty (arc_value c.in_ok-elements.elements)) c.in_err-start_column.field-0.0
     (ap ty c.in_ok-elements.ensures.ok ∙ c.in_ok-element_copy.ensures) c.in_err-start_column.ensures.refused)
 
-pub start_parts-returns-in_err-start_column-2-clause-moved : goal.start_parts-returns-in_err-start_column-2-clause-moved
-start_parts-returns-in_err-start_column-2-clause-moved g t c =
+pub columns_start::start_parts-returns-in_err-start_column-2-clause-moved : goal.columns_start::start_parts-returns-in_err-start_column-2-clause-moved
+columns_start::start_parts-returns-in_err-start_column-2-clause-moved g t c =
     moved_then (g.O.Order.active c.args.order.now) (g.O.Order.active c.start_column.new.order) (g.O.Order.active c.start_column-2.new.order) (both (end_stock c.args.eof.now) (tasks_stock c.args.kids.now.items)) (both (end_stock c.start_column.new.eof) (tasks_stock c.start_column.new.kids.items)) (both (end_stock c.start_column-2.new.eof) (tasks_stock c.start_column-2.new.kids.items)) c.start_column.ensures.moved c.start_column-2.ensures.moved
 
-pub start_parts-returns-in_err-start_column-2-clause-refused : goal.start_parts-returns-in_err-start_column-2-clause-refused
-start_parts-returns-in_err-start_column-2-clause-refused g t c =
+pub columns_start::start_parts-returns-in_err-start_column-2-clause-refused : goal.columns_start::start_parts-returns-in_err-start_column-2-clause-refused
+columns_start::start_parts-returns-in_err-start_column-2-clause-refused g t c =
     let s = c.args.lists.now in
     let u : Ty = ty c.args.dtype.now in
     let m : Bool = c.args.marked in
@@ -445,19 +446,19 @@ start_parts-returns-in_err-start_column-2-clause-refused g t c =
     let e = c.args.eof.now in
     let ts = c.args.kids.now.items in
     let p : ty (arc_value c.in_ok-elements.elements) ≡ element_type u = ap ty c.in_ok-elements.ensures.ok ∙ c.in_ok-element_copy.ensures in
-    let one : Left (lists_form s u) m at e ts (form_then (form_at s.offsets.item offset_type) (validity_forms s.validity.item (nullable u))) m c.start_column.new.kids.items c.start_column.new.eof =
-    left_elements s u m at e ts (ty (arc_value c.in_ok-elements.elements)) c.start_column.new.kids.items c.start_column.new.eof p c.in_ok-start_column.ensures.shows in
+    let one : Left (allowed_in c.args.ctx.now) (lists_form s u) m at e ts (form_then (form_at s.offsets.item offset_type) (validity_forms s.validity.item (nullable u))) m c.start_column.new.kids.items c.start_column.new.eof =
+    left_elements (allowed_in c.args.ctx.now) s u m at e ts (ty (arc_value c.in_ok-elements.elements)) c.start_column.new.kids.items c.start_column.new.eof p c.in_ok-start_column.ensures.shows in
     let q : ty (arc_value c.in_ok-offsets.offsets) ≡ offset_type = ap ty c.in_ok-offsets.ensures.ok ∙ ty_offsets in
     let r = err_from_is_err_and c.from_residual-in_err-start_column-2.result c.from_residual-in_err-start_column-2.ensures.1 in
-    rw (r.1, r.2) (offsets_refused s u m at e ts (ty (arc_value c.in_ok-offsets.offsets)) c.start_column.new.kids.items c.start_column.new.eof c.in_err-start_column-2.field-0.0 q one c.in_err-start_column-2.ensures.refused)
+    rw (r.1, r.2) (offsets_refused (allowed_in c.args.ctx.now) s u m at e ts (ty (arc_value c.in_ok-offsets.offsets)) c.start_column.new.kids.items c.start_column.new.eof c.in_err-start_column-2.field-0.0 q one c.in_err-start_column-2.ensures.refused)
 
-pub start_parts-returns-clause-moved : goal.start_parts-returns-clause-moved
-start_parts-returns-clause-moved g t c =
+pub columns_start::start_parts-returns-clause-moved : goal.columns_start::start_parts-returns-clause-moved
+columns_start::start_parts-returns-clause-moved g t c =
     moved_then (g.O.Order.active c.args.order.now) (g.O.Order.active c.start_column-2.new.order) (g.O.Order.active c.start_validity.new.order) (both (end_stock c.args.eof.now) (tasks_stock c.args.kids.now.items)) (both (end_stock c.start_column-2.new.eof) (tasks_stock c.start_column-2.new.kids.items)) (both (end_stock c.start_validity.new.eof) (tasks_stock c.start_validity.new.kids.items))
     (moved_then (g.O.Order.active c.args.order.now) (g.O.Order.active c.start_column.new.order) (g.O.Order.active c.start_column-2.new.order) (both (end_stock c.args.eof.now) (tasks_stock c.args.kids.now.items)) (both (end_stock c.start_column.new.eof) (tasks_stock c.start_column.new.kids.items)) (both (end_stock c.start_column-2.new.eof) (tasks_stock c.start_column-2.new.kids.items)) c.start_column.ensures.moved c.start_column-2.ensures.moved) c.start_validity.ensures.moved
 
-pub start_parts-returns-clause-shows : goal.start_parts-returns-clause-shows
-start_parts-returns-clause-shows g t c =
+pub columns_start::start_parts-returns-clause-shows : goal.columns_start::start_parts-returns-clause-shows
+columns_start::start_parts-returns-clause-shows g t c =
     let s = c.args.lists.now in
     let u : Ty = ty c.args.dtype.now in
     let m : Bool = c.args.marked in
@@ -465,18 +466,18 @@ start_parts-returns-clause-shows g t c =
     let e = c.args.eof.now in
     let ts = c.args.kids.now.items in
     let p : ty (arc_value c.in_ok-elements.elements) ≡ element_type u = ap ty c.in_ok-elements.ensures.ok ∙ c.in_ok-element_copy.ensures in
-    let one : Left (lists_form s u) m at e ts (form_then (form_at s.offsets.item offset_type) (validity_forms s.validity.item (nullable u))) m c.start_column.new.kids.items c.start_column.new.eof =
-    left_elements s u m at e ts (ty (arc_value c.in_ok-elements.elements)) c.start_column.new.kids.items c.start_column.new.eof p c.in_ok-start_column.ensures.shows in
+    let one : Left (allowed_in c.args.ctx.now) (lists_form s u) m at e ts (form_then (form_at s.offsets.item offset_type) (validity_forms s.validity.item (nullable u))) m c.start_column.new.kids.items c.start_column.new.eof =
+    left_elements (allowed_in c.args.ctx.now) s u m at e ts (ty (arc_value c.in_ok-elements.elements)) c.start_column.new.kids.items c.start_column.new.eof p c.in_ok-start_column.ensures.shows in
     let q : ty (arc_value c.in_ok-offsets.offsets) ≡ offset_type = ap ty c.in_ok-offsets.ensures.ok ∙ ty_offsets in
-    let two : Left (lists_form s u) m at e ts (validity_forms s.validity.item (nullable u)) m c.start_column-2.new.kids.items c.start_column-2.new.eof =
-    left_offsets s u m at e ts (ty (arc_value c.in_ok-offsets.offsets)) c.start_column.new.kids.items c.start_column-2.new.kids.items c.start_column.new.eof c.start_column-2.new.eof q one c.in_ok-start_column-2.ensures.shows in
+    let two : Left (allowed_in c.args.ctx.now) (lists_form s u) m at e ts (validity_forms s.validity.item (nullable u)) m c.start_column-2.new.kids.items c.start_column-2.new.eof =
+    left_offsets (allowed_in c.args.ctx.now) s u m at e ts (ty (arc_value c.in_ok-offsets.offsets)) c.start_column.new.kids.items c.start_column-2.new.kids.items c.start_column.new.eof c.start_column-2.new.eof q one c.in_ok-start_column-2.ensures.shows in
     IfOk-weaker c.start_validity.result _ _
-    (λ k h empty. last_started (lists_form s u) m at e ts s.validity.item (nullable u) m c.start_column-2.new.kids.items c.start_validity.new.kids.items c.start_column-2.new.eof c.start_validity.new.eof two
-    (subst (λ z. ManyStarted (validity_forms s.validity.item z) m at c.start_column-2.new.eof c.start_column-2.new.kids.items c.start_validity.new.eof c.start_validity.new.kids.items) c.is_nullable-nullable.ensures h) empty)
+    (λ k h empty. last_started (allowed_in c.args.ctx.now) (lists_form s u) m at e ts s.validity.item (nullable u) m c.start_column-2.new.kids.items c.start_validity.new.kids.items c.start_column-2.new.eof c.start_validity.new.eof two
+    (subst (λ z. ManyStarted (allowed_in c.args.ctx.now) (validity_forms s.validity.item z) m at c.start_column-2.new.eof c.start_column-2.new.kids.items c.start_validity.new.eof c.start_validity.new.kids.items) c.is_nullable-nullable.ensures h) empty)
     c.start_validity.ensures.shows
 
-pub start_parts-returns-clause-refused : goal.start_parts-returns-clause-refused
-start_parts-returns-clause-refused g t c =
+pub columns_start::start_parts-returns-clause-refused : goal.columns_start::start_parts-returns-clause-refused
+columns_start::start_parts-returns-clause-refused g t c =
     let s = c.args.lists.now in
     let u : Ty = ty c.args.dtype.now in
     let m : Bool = c.args.marked in
@@ -484,58 +485,58 @@ start_parts-returns-clause-refused g t c =
     let e = c.args.eof.now in
     let ts = c.args.kids.now.items in
     let p : ty (arc_value c.in_ok-elements.elements) ≡ element_type u = ap ty c.in_ok-elements.ensures.ok ∙ c.in_ok-element_copy.ensures in
-    let one : Left (lists_form s u) m at e ts (form_then (form_at s.offsets.item offset_type) (validity_forms s.validity.item (nullable u))) m c.start_column.new.kids.items c.start_column.new.eof =
-    left_elements s u m at e ts (ty (arc_value c.in_ok-elements.elements)) c.start_column.new.kids.items c.start_column.new.eof p c.in_ok-start_column.ensures.shows in
+    let one : Left (allowed_in c.args.ctx.now) (lists_form s u) m at e ts (form_then (form_at s.offsets.item offset_type) (validity_forms s.validity.item (nullable u))) m c.start_column.new.kids.items c.start_column.new.eof =
+    left_elements (allowed_in c.args.ctx.now) s u m at e ts (ty (arc_value c.in_ok-elements.elements)) c.start_column.new.kids.items c.start_column.new.eof p c.in_ok-start_column.ensures.shows in
     let q : ty (arc_value c.in_ok-offsets.offsets) ≡ offset_type = ap ty c.in_ok-offsets.ensures.ok ∙ ty_offsets in
-    let two : Left (lists_form s u) m at e ts (validity_forms s.validity.item (nullable u)) m c.start_column-2.new.kids.items c.start_column-2.new.eof =
-    left_offsets s u m at e ts (ty (arc_value c.in_ok-offsets.offsets)) c.start_column.new.kids.items c.start_column-2.new.kids.items c.start_column.new.eof c.start_column-2.new.eof q one c.in_ok-start_column-2.ensures.shows in
+    let two : Left (allowed_in c.args.ctx.now) (lists_form s u) m at e ts (validity_forms s.validity.item (nullable u)) m c.start_column-2.new.kids.items c.start_column-2.new.eof =
+    left_offsets (allowed_in c.args.ctx.now) s u m at e ts (ty (arc_value c.in_ok-offsets.offsets)) c.start_column.new.kids.items c.start_column-2.new.kids.items c.start_column.new.eof c.start_column-2.new.eof q one c.in_ok-start_column-2.ensures.shows in
     IfErr-weaker c.start_validity.result _ _
-    (λ x h. rest_refused (lists_form s u) m at e ts (validity_forms s.validity.item (nullable u)) m c.start_column-2.new.kids.items c.start_column-2.new.eof x two
-    (subst (λ z. ManyRefused (validity_forms s.validity.item z) m c.start_column-2.new.eof x) c.is_nullable-nullable.ensures h))
+    (λ x h. rest_refused (allowed_in c.args.ctx.now) (lists_form s u) m at e ts (validity_forms s.validity.item (nullable u)) m c.start_column-2.new.kids.items c.start_column-2.new.eof x two
+    (subst (λ z. ManyRefused (allowed_in c.args.ctx.now) (validity_forms s.validity.item z) m c.start_column-2.new.eof x) c.is_nullable-nullable.ensures h))
     c.start_validity.ensures.refused
 
 -- ---- the validity, and a field
 
-pub start_validity-start_column-requires : goal.start_validity-start_column-requires
-start_validity-start_column-requires g t c κs within =
+pub columns_start::start_validity-start_column-requires : goal.columns_start::start_validity-start_column-requires
+columns_start::start_validity-start_column-requires g t c κs within =
     let w = c.args.validity.now.item in
     let n : weight (form_at w (ty (arc_value c.in_ok-flags.flags))) ≡ weight (form_at w (boolean false)) = ap (λ z. weight (form_at w z)) (ap ty c.in_ok-flags.ensures.ok ∙ ty_flags) in
     let falls : 8 * weight (form_at w (ty (arc_value c.in_ok-flags.flags))) + 7 < 8 * weight (form_at w (boolean false)) + 8 = omega (arith, n) in
     search (rules, arith, c.requires.owned, c.requires.built, falls)
 
-pub start_validity-returns-then-not-nullable-clause-shows : goal.start_validity-returns-then-not-nullable-clause-shows
-start_validity-returns-then-not-nullable-clause-shows g t c =
-    subst (λ z. ManyStarted (validity_forms c.args.validity.now.item z) c.args.marked c.args.name.now c.args.eof.now c.args.kids.now.items c.args.eof.now c.args.kids.now.items) (sym c.if-not-nullable.true)
-    (none_started c.args.marked c.args.name.now c.args.eof.now c.args.kids.now.items)
+pub columns_start::start_validity-returns-then-not-nullable-clause-shows : goal.columns_start::start_validity-returns-then-not-nullable-clause-shows
+columns_start::start_validity-returns-then-not-nullable-clause-shows g t c =
+    subst (λ z. ManyStarted (allowed_in c.args.ctx.now) (validity_forms c.args.validity.now.item z) c.args.marked c.args.name.now c.args.eof.now c.args.kids.now.items c.args.eof.now c.args.kids.now.items) (sym c.if-not-nullable.true)
+    (none_started (allowed_in c.args.ctx.now) c.args.marked c.args.name.now c.args.eof.now c.args.kids.now.items)
 
-pub start_validity-returns-clause-shows : goal.start_validity-returns-clause-shows
-start_validity-returns-clause-shows g t c =
+pub columns_start::start_validity-returns-clause-shows : goal.columns_start::start_validity-returns-clause-shows
+columns_start::start_validity-returns-clause-shows g t c =
     let w = c.args.validity.now.item in
     let f : form_at w (ty (arc_value c.in_ok-flags.flags)) ≡ form_at w (boolean false) = ap (form_at w) (ap ty c.in_ok-flags.ensures.ok ∙ ty_flags) in
-    subst (λ z. OnOk c.start_column.result (ManyStarted (validity_forms w z) c.args.marked c.args.name.now c.args.eof.now c.args.kids.now.items c.start_column.new.eof c.start_column.new.kids.items)) (sym c.if-not-nullable.false)
-    (subst (λ z. OnOk c.start_column.result (OneStarted z c.args.marked c.args.name.now c.args.eof.now c.args.kids.now.items c.start_column.new.eof c.start_column.new.kids.items)) f c.start_column.ensures.shows)
+    subst (λ z. OnOk c.start_column.result (ManyStarted (allowed_in c.args.ctx.now) (validity_forms w z) c.args.marked c.args.name.now c.args.eof.now c.args.kids.now.items c.start_column.new.eof c.start_column.new.kids.items)) (sym c.if-not-nullable.false)
+    (subst (λ z. OnOk c.start_column.result (OneStarted (allowed_in c.args.ctx.now) z c.args.marked c.args.name.now c.args.eof.now c.args.kids.now.items c.start_column.new.eof c.start_column.new.kids.items)) f c.start_column.ensures.shows)
 
-pub start_validity-returns-clause-refused : goal.start_validity-returns-clause-refused
-start_validity-returns-clause-refused g t c =
+pub columns_start::start_validity-returns-clause-refused : goal.columns_start::start_validity-returns-clause-refused
+columns_start::start_validity-returns-clause-refused g t c =
     let w = c.args.validity.now.item in
     let f : form_at w (ty (arc_value c.in_ok-flags.flags)) ≡ form_at w (boolean false) = ap (form_at w) (ap ty c.in_ok-flags.ensures.ok ∙ ty_flags) in
-    subst (λ z. IfErr c.start_column.result (ManyRefused (validity_forms w z) c.args.marked c.args.eof.now)) (sym c.if-not-nullable.false)
-    (subst (λ z. IfErr c.start_column.result (OneRefused z c.args.marked c.args.eof.now)) f c.start_column.ensures.refused)
+    subst (λ z. IfErr c.start_column.result (ManyRefused (allowed_in c.args.ctx.now) (validity_forms w z) c.args.marked c.args.eof.now)) (sym c.if-not-nullable.false)
+    (subst (λ z. IfErr c.start_column.result (OneRefused (allowed_in c.args.ctx.now) z c.args.marked c.args.eof.now)) f c.start_column.ensures.refused)
 
-pub start_field-returns-clause-shows : goal.start_field-returns-clause-shows
-start_field-returns-clause-shows g t c =
-    subst (λ z. OnOk c.start_column.result (OneStarted z c.args.marked c.args.name.now c.args.eof.now c.args.kids.now.items c.start_column.new.eof c.start_column.new.kids.items))
+pub columns_start::start_field-returns-clause-shows : goal.columns_start::start_field-returns-clause-shows
+columns_start::start_field-returns-clause-shows g t c =
+    subst (λ z. OnOk c.start_column.result (OneStarted (allowed_in c.args.ctx.now) z c.args.marked c.args.name.now c.args.eof.now c.args.kids.now.items c.start_column.new.eof c.start_column.new.kids.items))
     (field_form_is c.args.fields.now c.args.field.now c.writer-writer.result.now.item (ty (arc_value c.in_ok-dtype.dtype)) c.writer-writer.ensures (ap ty c.in_ok-dtype.ensures.ok ∙ c.in_ok-clone.ensures.cases))
     c.start_column.ensures.shows
 
-pub start_field-returns-clause-refused : goal.start_field-returns-clause-refused
-start_field-returns-clause-refused g t c =
-    subst (λ z. IfErr c.start_column.result (OneRefused z c.args.marked c.args.eof.now))
+pub columns_start::start_field-returns-clause-refused : goal.columns_start::start_field-returns-clause-refused
+columns_start::start_field-returns-clause-refused g t c =
+    subst (λ z. IfErr c.start_column.result (OneRefused (allowed_in c.args.ctx.now) z c.args.marked c.args.eof.now))
     (field_form_is c.args.fields.now c.args.field.now c.writer-writer.result.now.item (ty (arc_value c.in_ok-dtype.dtype)) c.writer-writer.ensures (ap ty c.in_ok-dtype.ensures.ok ∙ c.in_ok-clone.ensures.cases))
     c.start_column.ensures.refused
 
-pub start_field-start_column-requires : goal.start_field-start_column-requires
-start_field-start_column-requires g t c κs within =
+pub columns_start::start_field-start_column-requires : goal.columns_start::start_field-start_column-requires
+columns_start::start_field-start_column-requires g t c κs within =
     let s = c.args.fields.now in
     let p = struct_built s.validity.item s.default.item (field_ways s.writers.items) c.requires.built in
     let b : IsTrue (is_built c.writer-writer.result.now.item) = subst (λ x. IsTrue (is_built x)) (sym c.writer-writer.ensures) (writer_built c.args.field.now.name (field_ways s.writers.items) s.default.item p.2 p.1) in
@@ -546,21 +547,21 @@ start_field-start_column-requires g t c κs within =
 
 -- ---- one more child
 
-pub start_column-returns-in_default-clause-moved : goal.start_column-returns-in_default-clause-moved
-start_column-returns-in_default-clause-moved g t c =
+pub columns_start::start_column-returns-in_default-clause-moved : goal.columns_start::start_column-returns-in_default-clause-moved
+columns_start::start_column-returns-in_default-clause-moved g t c =
     let u : Active = g.O.Order.active c.args.order.now in
     let e : Stock = end_stock c.args.eof.now in
     same_kids u u (both e (tasks_stock c.args.kids.now.items)) e c.args.kids.now.items c.next_name.new.kids.items c.next_name.ensures.kids (moved_none u (both e (tasks_stock c.args.kids.now.items)) c.requires.owned)
 
-pub start_column-start_under-requires : goal.start_column-start_under-requires
-start_column-start_under-requires g t c κs within =
+pub columns_start::start_column-start_under-requires : goal.columns_start::start_column-start_under-requires
+columns_start::start_column-start_under-requires g t c κs within =
     let u : Active = g.O.Order.active c.args.order.now in
     let o : Owned u (end_stock c.args.eof.now) = owned_left u (end_stock c.args.eof.now) (tasks_stock c.args.kids.now.items) c.requires.owned in
     let falls : 8 * weight (form_at c.args.writer.now.item (ty (arc_value c.args.dtype))) + 6 < 8 * weight (form_at c.args.writer.now.item (ty (arc_value c.args.dtype))) + 7 = omega arith in
     search (rules, arith, o, c.requires.built, falls)
 
-pub start_column-returns-in_err-kid-clause-moved : goal.start_column-returns-in_err-kid-clause-moved
-start_column-returns-in_err-kid-clause-moved g t c =
+pub columns_start::start_column-returns-in_err-kid-clause-moved : goal.columns_start::start_column-returns-in_err-kid-clause-moved
+columns_start::start_column-returns-in_err-kid-clause-moved g t c =
     let u : Active = g.O.Order.active c.args.order.now in
     let v : Active = g.O.Order.active c.start_under.new.order in
     let e : Stock = end_stock c.args.eof.now in
@@ -568,20 +569,20 @@ start_column-returns-in_err-kid-clause-moved g t c =
     same_kids u v (both e (tasks_stock c.args.kids.now.items)) f c.args.kids.now.items c.next_name.new.kids.items c.next_name.ensures.kids
     (pointer_moved u v e f (tasks_stock c.args.kids.now.items) c.requires.owned c.in_err-kid.ensures.moved)
 
-pub start_column-returns-clause-moved : goal.start_column-returns-clause-moved
-start_column-returns-clause-moved g t c =
+pub columns_start::start_column-returns-clause-moved : goal.columns_start::start_column-returns-clause-moved
+columns_start::start_column-returns-clause-moved g t c =
     child_moved (g.O.Order.active c.args.order.now) (g.O.Order.active c.start_under.new.order) (end_stock c.args.eof.now) (end_stock c.start_under.new.eof)
     c.args.kids.now.items c.push_reserved.new.self.items c.in_ok-kid.kid c.requires.owned c.in_ok-kid.ensures.moved
     (c.push_reserved.ensures.items ∙ ap (λ z. z ++ (c.in_ok-kid.kid ∷ [])) c.next_name.ensures.kids)
 
-pub start_column-returns-clause-shows : goal.start_column-returns-clause-shows
-start_column-returns-clause-shows g t c =
-    one_started (form_at c.args.writer.now.item (ty (arc_value c.args.dtype))) c.args.marked c.args.name.now c.in-Ok.name c.args.eof.now c.start_under.new.eof c.args.kids.now.items c.push_reserved.new.self.items c.in_ok-kid.kid
+pub columns_start::start_column-returns-clause-shows : goal.columns_start::start_column-returns-clause-shows
+columns_start::start_column-returns-clause-shows g t c =
+    one_started (allowed_in c.args.ctx.now) (form_at c.args.writer.now.item (ty (arc_value c.args.dtype))) c.args.marked c.args.name.now c.in-Ok.name c.args.eof.now c.start_under.new.eof c.args.kids.now.items c.push_reserved.new.self.items c.in_ok-kid.kid
     c.in_ok-kid.ensures.shows (c.in-Ok.ensures.name ∙ ap (under c.args.name.now) (len_is c.args.kids.now)) c.in_ok-kid.ensures.next c.in_ok-kid.ensures.fits
     (c.push_reserved.ensures.items ∙ ap (λ z. z ++ (c.in_ok-kid.kid ∷ [])) c.next_name.ensures.kids)
 
-pub start_under-start_task-requires : goal.start_under-start_task-requires
-start_under-start_task-requires g t c κs within =
+pub start::start_under-start_task-requires : goal.start::start_under-start_task-requires
+start::start_under-start_task-requires g t c κs within =
     let v : Active = g.O.Order.active c.split_below.new.order in
     let o : Owned v (end_stock c.in-Ok.below) = off_owned (g.O.Order.active c.args.order.now) v (end_stock c.args.eof.now) (end_stock c.split_below.new.eof) (end_stock c.in-Ok.below) c.requires.owned c.in-Ok.ensures.moved in
     let b : IsTrue (is_built (strategy_data c.strategy.result.now)) = subst (λ x. IsTrue (is_built x)) (sym c.strategy.ensures.same) c.requires.built in
@@ -589,80 +590,80 @@ start_under-start_task-requires g t c κs within =
     let falls : 8 * weight (form_of c.strategy.result.now (arc_value c.args.dtype)) + 5 < 8 * weight (form_at c.args.writer.now.item (ty (arc_value c.args.dtype))) + 6 = omega (arith, n) in
     search (rules, arith, o, b, falls)
 
-pub start_under-returns-in-Ok-clause-moved : goal.start_under-returns-in-Ok-clause-moved
-start_under-returns-in-Ok-clause-moved g t c =
+pub start::start_under-returns-in-Ok-clause-moved : goal.start::start_under-returns-in-Ok-clause-moved
+start::start_under-returns-in-Ok-clause-moved g t c =
     off_moved (g.O.Order.active c.args.order.now) (g.O.Order.active c.split_below.new.order) (end_stock c.args.eof.now) (end_stock c.split_below.new.eof) (end_stock c.in-Ok.below) c.requires.owned c.in-Ok.ensures.moved
     (g.O.Order.active c.start_task.new.order) (ok_stock task_stock c.start_task.result) c.start_task.ensures.moved
 
-pub start_under-returns-in-Ok-clause-shows : goal.start_under-returns-in-Ok-clause-shows
-start_under-returns-in-Ok-clause-shows g t c =
-    subst (λ z. IfOk c.start_task.result (Started (form_at z (ty (arc_value c.args.dtype))) c.args.marked c.args.name (inside c.args.eof.now))) c.strategy.ensures.same
-    (subst (λ z. IfOk c.start_task.result (Started (form_at (strategy_data c.strategy.result.now) (ty (arc_value c.args.dtype))) c.args.marked c.args.name z)) c.in-Ok.ensures.below c.start_task.ensures.shows)
+pub start::start_under-returns-in-Ok-clause-shows : goal.start::start_under-returns-in-Ok-clause-shows
+start::start_under-returns-in-Ok-clause-shows g t c =
+    subst (λ z. IfOk c.start_task.result (Started (allowed_in c.args.ctx.now) (form_at z (ty (arc_value c.args.dtype))) c.args.marked c.args.name (inside c.args.eof.now))) c.strategy.ensures.same
+    (subst (λ z. IfOk c.start_task.result (Started (allowed_in c.args.ctx.now) (form_at (strategy_data c.strategy.result.now) (ty (arc_value c.args.dtype))) c.args.marked c.args.name z)) c.in-Ok.ensures.below c.start_task.ensures.shows)
 
-pub start_under-returns-in-Ok-clause-next : goal.start_under-returns-in-Ok-clause-next
-start_under-returns-in-Ok-clause-next g t c = IfOk-weaker c.start_task.result _ _ (λ k h. c.in-Ok.ensures.next) c.start_task.ensures.shows
+pub start::start_under-returns-in-Ok-clause-next : goal.start::start_under-returns-in-Ok-clause-next
+start::start_under-returns-in-Ok-clause-next g t c = IfOk-weaker c.start_task.result _ _ (λ k h. c.in-Ok.ensures.next) c.start_task.ensures.shows
 
-pub start_under-returns-in-Ok-clause-fits : goal.start_under-returns-in-Ok-clause-fits
-start_under-returns-in-Ok-clause-fits g t c = IfOk-weaker c.start_task.result _ _ (λ k h. c.in-Ok.ensures.fits) c.start_task.ensures.shows
+pub start::start_under-returns-in-Ok-clause-fits : goal.start::start_under-returns-in-Ok-clause-fits
+start::start_under-returns-in-Ok-clause-fits g t c = IfOk-weaker c.start_task.result _ _ (λ k h. c.in-Ok.ensures.fits) c.start_task.ensures.shows
 
-pub start_under-returns-in-Ok-clause-refused : goal.start_under-returns-in-Ok-clause-refused
-start_under-returns-in-Ok-clause-refused g t c =
+pub start::start_under-returns-in-Ok-clause-refused : goal.start::start_under-returns-in-Ok-clause-refused
+start::start_under-returns-in-Ok-clause-refused g t c =
     let f : Form = form_at c.args.writer.now.item (ty (arc_value c.args.dtype)) in
-    IfErr-weaker c.start_task.result (StartRefused (λ s. start_fault s f c.args.marked) (first_indices f (inside c.args.eof.now))) (OneRefused f c.args.marked c.args.eof.now) (λ x h. task_refused f c.args.marked c.args.eof.now x h)
-    (subst (λ z. IfErr c.start_task.result (StartRefused (λ s. start_fault s (form_at z (ty (arc_value c.args.dtype))) c.args.marked) (first_indices (form_at z (ty (arc_value c.args.dtype))) (inside c.args.eof.now)))) c.strategy.ensures.same
-    (subst (λ z. IfErr c.start_task.result (StartRefused (λ s. start_fault s (form_at (strategy_data c.strategy.result.now) (ty (arc_value c.args.dtype))) c.args.marked) (first_indices (form_at (strategy_data c.strategy.result.now) (ty (arc_value c.args.dtype))) z))) c.in-Ok.ensures.below c.start_task.ensures.refused))
+    IfErr-weaker c.start_task.result (FormRefused (allowed_in c.args.ctx.now) f c.args.marked (inside c.args.eof.now)) (OneRefused (allowed_in c.args.ctx.now) f c.args.marked c.args.eof.now) (λ x h. task_refused (allowed_in c.args.ctx.now) f c.args.marked c.args.eof.now x h)
+    (subst (λ z. IfErr c.start_task.result (FormRefused (allowed_in c.args.ctx.now) (form_at z (ty (arc_value c.args.dtype))) c.args.marked (inside c.args.eof.now))) c.strategy.ensures.same
+    (subst (λ z. IfErr c.start_task.result (FormRefused (allowed_in c.args.ctx.now) (form_at (strategy_data c.strategy.result.now) (ty (arc_value c.args.dtype))) c.args.marked z)) c.in-Ok.ensures.below c.start_task.ensures.refused))
 
-pub start_under-returns-in-Err-clause-refused : goal.start_under-returns-in-Err-clause-refused
-start_under-returns-in-Err-clause-refused g t c =
-    pointer_refused (form_at c.args.writer.now.item (ty (arc_value c.args.dtype))) c.args.marked c.args.eof.now c.in-Err.error c.in-Err.ensures.refused
+pub start::start_under-returns-in-Err-clause-refused : goal.start::start_under-returns-in-Err-clause-refused
+start::start_under-returns-in-Err-clause-refused g t c =
+    pointer_refused (allowed_in c.args.ctx.now) (form_at c.args.writer.now.item (ty (arc_value c.args.dtype))) c.args.marked c.args.eof.now c.in-Err.error c.in-Err.ensures.refused
 
-pub start_column-returns-clause-reserved : goal.start_column-returns-clause-reserved
-start_column-returns-clause-reserved g t c =
-    let n = started_none (form_at c.args.writer.now.item (ty (arc_value c.args.dtype))) c.args.marked _ (inside c.args.eof.now) c.in_ok-kid.kid c.in_ok-kid.ensures.shows in
+pub columns_start::start_column-returns-clause-reserved : goal.columns_start::start_column-returns-clause-reserved
+columns_start::start_column-returns-clause-reserved g t c =
+    let n = started_none (allowed_in c.args.ctx.now) (form_at c.args.writer.now.item (ty (arc_value c.args.dtype))) c.args.marked _ (inside c.args.eof.now) c.in_ok-kid.kid c.in_ok-kid.ensures.shows in
     omega (arith, n, tasks_push c.push_reserved.new.self.items c.args.kids.now.items c.in_ok-kid.kid (c.push_reserved.ensures.items ∙ ap (λ z. z ++ (c.in_ok-kid.kid ∷ [])) c.next_name.ensures.kids))
 
-pub start_column-returns-in_default-clause-reserved : goal.start_column-returns-in_default-clause-reserved
-start_column-returns-in_default-clause-reserved g t c = ap tasks_reserved c.next_name.ensures.kids
+pub columns_start::start_column-returns-in_default-clause-reserved : goal.columns_start::start_column-returns-in_default-clause-reserved
+columns_start::start_column-returns-in_default-clause-reserved g t c = ap tasks_reserved c.next_name.ensures.kids
 
-pub start_column-returns-in_err-kid-clause-reserved : goal.start_column-returns-in_err-kid-clause-reserved
-start_column-returns-in_err-kid-clause-reserved g t c = ap tasks_reserved c.next_name.ensures.kids
+pub columns_start::start_column-returns-in_err-kid-clause-reserved : goal.columns_start::start_column-returns-in_err-kid-clause-reserved
+columns_start::start_column-returns-in_err-kid-clause-reserved g t c = ap tasks_reserved c.next_name.ensures.kids
 
 -- ---- a node that regroups
 
-pub start_grouped-start_only-requires : goal.start_grouped-start_only-requires
-start_grouped-start_only-requires g t c κs within =
+pub start::start_grouped-start_only-requires : goal.start::start_grouped-start_only-requires
+start::start_grouped-start_only-requires g t c κs within =
     let k : Form = form_at c.args.child.now.item (ty (arc_value c.args.node.dtype)) in
     let falls : 8 * (2 + weight k) + 2 < 8 * (2 + weight k) + 3 = omega arith in
     let none : c.new-kids.result.items ≡ [] = c.new-kids.ensures.items in
     search (rules, arith, c.requires.owned, c.requires.built, none, falls)
 
-pub start_grouped-returns-in-Ok-clause-moved : goal.start_grouped-returns-in-Ok-clause-moved
-start_grouped-returns-in-Ok-clause-moved g t c =
+pub start::start_grouped-returns-in-Ok-clause-moved : goal.start::start_grouped-returns-in-Ok-clause-moved
+start::start_grouped-returns-in-Ok-clause-moved g t c =
     let k : Stock = tasks_stock c.start_only.new.kids.items in
     held_kids (g.O.Order.active c.args.order.now) (g.O.Order.active c.start_only.new.order) (end_stock c.args.eof) k c.waiting.result
     (c.waiting.ensures.held ∙ ap (λ z. both (some_stock item_stock z) k) c.requires.fresh.newest) c.start_only.ensures.moved
 
-pub start_grouped-returns-in-Ok-clause-shows : goal.start_grouped-returns-in-Ok-clause-shows
-start_grouped-returns-in-Ok-clause-shows g t c = λ by begins.
+pub start::start_grouped-returns-in-Ok-clause-shows : goal.start::start_grouped-returns-in-Ok-clause-shows
+start::start_grouped-returns-in-Ok-clause-shows g t c = λ by begins.
     let u : Ty = ty (arc_value c.args.node.dtype) in
     let k : Form = form_at c.args.child.now.item u in
-    let h : OnlyStarted k c.args.marked c.args.name c.args.eof c.start_only.new.kids.items = c.in-Ok.ensures.shows in
-    started (grouped_form by u k) c.args.marked c.args.name c.args.eof (Grouped c.args.node) c.start_only.new.kids.items c.waiting.result
+    let h : OnlyStarted (allowed_in c.args.ctx.now) k c.args.marked c.args.name c.args.eof c.start_only.new.kids.items = c.in-Ok.ensures.shows in
+    started (allowed_in c.args.ctx.now) (grouped_form by u k) c.args.marked c.args.name c.args.eof (Grouped c.args.node) c.start_only.new.kids.items c.waiting.result
     h.allowed h.counted (begins k c.args.marked c.args.eof) h.tasks c.waiting.ensures.shows
 
-pub start_grouped-refuse_started-requires-clause-owned : goal.start_grouped-refuse_started-requires-clause-owned
-start_grouped-refuse_started-requires-clause-owned g t c =
+pub start::start_grouped-refuse_started-requires-clause-owned : goal.start::start_grouped-refuse_started-requires-clause-owned
+start::start_grouped-refuse_started-requires-clause-owned g t c =
     owned_now (g.O.Order.active c.args.order.now) (g.O.Order.active c.start_only.new.order) (end_stock c.args.eof) (tasks_stock c.start_only.new.kids.items) c.requires.owned c.start_only.ensures.moved
 
-pub start_grouped-returns-in-Err-clause-moved : goal.start_grouped-returns-in-Err-clause-moved
-start_grouped-returns-in-Err-clause-moved g t c =
+pub start::start_grouped-returns-in-Err-clause-moved : goal.start::start_grouped-returns-in-Err-clause-moved
+start::start_grouped-returns-in-Err-clause-moved g t c =
     moved_then (g.O.Order.active c.args.order.now) (g.O.Order.active c.start_only.new.order) (g.O.Order.active c.refuse_started.new.order) (end_stock c.args.eof) (tasks_stock c.start_only.new.kids.items) none
     c.start_only.ensures.moved c.refuse_started.ensures.moved
 
 -- its only child
 
-pub start_only-start_task-requires : goal.start_only-start_task-requires
-start_only-start_task-requires g t c κs within =
+pub start::start_only-start_task-requires : goal.start::start_only-start_task-requires
+start::start_only-start_task-requires g t c κs within =
     let k : Form = form_at c.args.child.now.item (ty (arc_value c.args.dtype.now)) in
     let f : form_of c.strategy.result.now (arc_value c.in-Ok.dtype) ≡ k = λ j. form_at (c.strategy.ensures.same j) (c.in-Ok.ensures.dtype j) in
     let b : IsTrue (is_built (strategy_data c.strategy.result.now)) = subst (λ x. IsTrue (is_built x)) (sym c.strategy.ensures.same) c.requires.built in
@@ -670,57 +671,57 @@ start_only-start_task-requires g t c κs within =
     let falls : 8 * weight (form_of c.strategy.result.now (arc_value c.in-Ok.dtype)) + 5 < 8 * (2 + weight k) + 2 = omega (arith, n) in
     search (rules, arith, c.requires.owned, b, falls)
 
-pub start_only-returns-in_ok-kid-in-Ok-clause-moved : goal.start_only-returns-in_ok-kid-in-Ok-clause-moved
-start_only-returns-in_ok-kid-in-Ok-clause-moved g t c =
+pub start::start_only-returns-in_ok-kid-in-Ok-clause-moved : goal.start::start_only-returns-in_ok-kid-in-Ok-clause-moved
+start::start_only-returns-in_ok-kid-in-Ok-clause-moved g t c =
     let s : Stock = task_stock c.in_ok-kid-in-Ok.kid in
     let e : Stock = end_stock c.args.eof in
     let is : c.push_reserved.new.self.items ≡ c.in_ok-kid-in-Ok.kid ∷ [] = c.push_reserved.ensures.items ∙ ap (λ z. z ++ (c.in_ok-kid-in-Ok.kid ∷ [])) (c.child_parts.ensures.kids ∙ c.requires.none) in
     moved_as (g.O.Order.active c.args.order.now) (g.O.Order.active c.start_task.new.order) e e s (tasks_stock c.push_reserved.new.self.items) refl (sym (ap tasks_stock is ∙ both_none s)) c.in_ok-kid-in-Ok.ensures.moved
 
-pub start_only-returns-in_ok-kid-in-Ok-clause-reserved : goal.start_only-returns-in_ok-kid-in-Ok-clause-reserved
-start_only-returns-in_ok-kid-in-Ok-clause-reserved g t c =
+pub start::start_only-returns-in_ok-kid-in-Ok-clause-reserved : goal.start::start_only-returns-in_ok-kid-in-Ok-clause-reserved
+start::start_only-returns-in_ok-kid-in-Ok-clause-reserved g t c =
     let is : c.push_reserved.new.self.items ≡ c.in_ok-kid-in-Ok.kid ∷ [] = c.push_reserved.ensures.items ∙ ap (λ z. z ++ (c.in_ok-kid-in-Ok.kid ∷ [])) (c.child_parts.ensures.kids ∙ c.requires.none) in
     let r : tasks_reserved c.push_reserved.new.self.items ≡ task_reserved c.in_ok-kid-in-Ok.kid + 0 = ap tasks_reserved is in
-    omega (arith, r, started_none (form_of c.strategy.result.now (arc_value c.in-Ok.dtype)) c.args.marked c.in-Ok.name c.args.eof c.in_ok-kid-in-Ok.kid c.in_ok-kid-in-Ok.ensures.shows)
+    omega (arith, r, started_none (allowed_in c.args.ctx.now) (form_of c.strategy.result.now (arc_value c.in-Ok.dtype)) c.args.marked c.in-Ok.name c.args.eof c.in_ok-kid-in-Ok.kid c.in_ok-kid-in-Ok.ensures.shows)
 
-pub start_only-returns-in_ok-kid-in-Ok-clause-shows : goal.start_only-returns-in_ok-kid-in-Ok-clause-shows
-start_only-returns-in_ok-kid-in-Ok-clause-shows g t c =
+pub start::start_only-returns-in_ok-kid-in-Ok-clause-shows : goal.start::start_only-returns-in_ok-kid-in-Ok-clause-shows
+start::start_only-returns-in_ok-kid-in-Ok-clause-shows g t c =
     let k : Form = form_at c.args.child.now.item (ty (arc_value c.args.dtype.now)) in
     let f : form_of c.strategy.result.now (arc_value c.in-Ok.dtype) ≡ k = λ j. form_at (c.strategy.ensures.same j) (c.in-Ok.ensures.dtype j) in
-    only_started k c.args.marked c.args.name.now c.in-Ok.name c.args.eof c.push_reserved.new.self.items c.in_ok-kid-in-Ok.kid
-    (subst (λ z. Started z c.args.marked c.in-Ok.name c.args.eof c.in_ok-kid-in-Ok.kid) f c.in_ok-kid-in-Ok.ensures.shows)
+    only_started (allowed_in c.args.ctx.now) k c.args.marked c.args.name.now c.in-Ok.name c.args.eof c.push_reserved.new.self.items c.in_ok-kid-in-Ok.kid
+    (subst (λ z. Started (allowed_in c.args.ctx.now) z c.args.marked c.in-Ok.name c.args.eof c.in_ok-kid-in-Ok.kid) f c.in_ok-kid-in-Ok.ensures.shows)
     (c.in-Ok.ensures.name ∙ ap (under c.args.name.now) (c.args.kids.now.ok.0 ∙ ap length c.requires.none))
     (c.push_reserved.ensures.items ∙ ap (λ z. z ++ (c.in_ok-kid-in-Ok.kid ∷ [])) (c.child_parts.ensures.kids ∙ c.requires.none))
 
-pub start_only-returns-in_err-kid-in-Ok-clause-moved : goal.start_only-returns-in_err-kid-in-Ok-clause-moved
-start_only-returns-in_err-kid-in-Ok-clause-moved g t c =
+pub start::start_only-returns-in_err-kid-in-Ok-clause-moved : goal.start::start_only-returns-in_err-kid-in-Ok-clause-moved
+start::start_only-returns-in_err-kid-in-Ok-clause-moved g t c =
     let e : Stock = end_stock c.args.eof in
     moved_as (g.O.Order.active c.args.order.now) (g.O.Order.active c.start_task.new.order) e e none (tasks_stock c.child_parts.new.kids.items) refl
     (sym (ap tasks_stock (c.child_parts.ensures.kids ∙ c.requires.none))) c.in_err-kid-in-Ok.ensures.moved
 
-pub start_only-returns-in_err-kid-in-Ok-clause-reserved : goal.start_only-returns-in_err-kid-in-Ok-clause-reserved
-start_only-returns-in_err-kid-in-Ok-clause-reserved g t c = ap tasks_reserved (c.child_parts.ensures.kids ∙ c.requires.none)
+pub start::start_only-returns-in_err-kid-in-Ok-clause-reserved : goal.start::start_only-returns-in_err-kid-in-Ok-clause-reserved
+start::start_only-returns-in_err-kid-in-Ok-clause-reserved g t c = ap tasks_reserved (c.child_parts.ensures.kids ∙ c.requires.none)
 
-pub start_only-returns-in_err-kid-in-Ok-clause-refused : goal.start_only-returns-in_err-kid-in-Ok-clause-refused
-start_only-returns-in_err-kid-in-Ok-clause-refused g t c =
+pub start::start_only-returns-in_err-kid-in-Ok-clause-refused : goal.start::start_only-returns-in_err-kid-in-Ok-clause-refused
+start::start_only-returns-in_err-kid-in-Ok-clause-refused g t c =
     let p = err_from_is_err_and c.from_residual.result c.from_residual.ensures.1 in
     let k : Form = form_at c.args.child.now.item (ty (arc_value c.args.dtype.now)) in
     let f : form_of c.strategy.result.now (arc_value c.in-Ok.dtype) ≡ k = λ j. form_at (c.strategy.ensures.same j) (c.in-Ok.ensures.dtype j) in
-    rw (p.1, p.2) (subst (λ z. StartRefused (λ s. start_fault s z c.args.marked) (first_indices z c.args.eof) c.in_err-kid-in-Ok.field-0.0) f c.in_err-kid-in-Ok.ensures.refused)
+    rw (p.1, p.2) (subst (λ z. FormRefused (allowed_in c.args.ctx.now) z c.args.marked c.args.eof c.in_err-kid-in-Ok.field-0.0) f c.in_err-kid-in-Ok.ensures.refused)
 
-pub start_only-returns-in-Err-clause-moved : goal.start_only-returns-in-Err-clause-moved
-start_only-returns-in-Err-clause-moved g t c =
+pub start::start_only-returns-in-Err-clause-moved : goal.start::start_only-returns-in-Err-clause-moved
+start::start_only-returns-in-Err-clause-moved g t c =
     let e : Stock = end_stock c.args.eof in
     moved_as (g.O.Order.active c.args.order.now) (g.O.Order.active c.give_up_pointer.new.order) e e none (tasks_stock c.child_parts.new.kids.items) refl
     (sym (ap tasks_stock (c.child_parts.ensures.kids ∙ c.requires.none))) c.give_up_pointer.ensures.moved
 
-pub start_only-returns-in-Err-clause-reserved : goal.start_only-returns-in-Err-clause-reserved
-start_only-returns-in-Err-clause-reserved g t c = ap tasks_reserved (c.child_parts.ensures.kids ∙ c.requires.none)
+pub start::start_only-returns-in-Err-clause-reserved : goal.start::start_only-returns-in-Err-clause-reserved
+start::start_only-returns-in-Err-clause-reserved g t c = ap tasks_reserved (c.child_parts.ensures.kids ∙ c.requires.none)
 
 -- by rule: of blocks
 
-pub start_settled-start_grouped-requires : goal.start_settled-start_grouped-requires
-start_settled-start_grouped-requires g t c κs within =
+pub start::start_settled-start_grouped-requires : goal.start::start_settled-start_grouped-requires
+start::start_settled-start_grouped-requires g t c κs within =
     let by = c.in-Repartition.by in
     let w : StrategyData = strategy_data c.args.strategy.now in
     let u : Ty = ty (arc_value c.args.dtype) in
@@ -734,8 +735,8 @@ start_settled-start_grouped-requires g t c κs within =
     let falls : 8 * (2 + weight (form_at k (ty (arc_value n.dtype)))) + 3 < 8 * weight (form_at w u) + 4 = omega (arith, f) in
     search (rules, arith, c.requires.owned, b, c.in-Ok-blocks_node.ensures.fresh, falls)
 
-pub start_settled-returns-in-Ok-blocks_node-clause-shows : goal.start_settled-returns-in-Ok-blocks_node-clause-shows
-start_settled-returns-in-Ok-blocks_node-clause-shows g t c =
+pub start::start_settled-returns-in-Ok-blocks_node-clause-shows : goal.start::start_settled-returns-in-Ok-blocks_node-clause-shows
+start::start_settled-returns-in-Ok-blocks_node-clause-shows g t c =
     let by = c.in-Repartition.by in
     let w : StrategyData = strategy_data c.args.strategy.now in
     let u : Ty = ty (arc_value c.args.dtype) in
@@ -743,26 +744,26 @@ start_settled-returns-in-Ok-blocks_node-clause-shows g t c =
     let k : StrategyData = c.child.result.now.item in
     let r = by_blocks (block_rule by.rule) in
     let e : ty (arc_value n.dtype) ≡ u = ap (λ z. ty (arc_value z)) c.in-Ok-blocks_node.ensures.dtype in
-    subst (λ z. IfOk c.start_grouped.result (Started z c.args.marked c.args.name c.args.eof))
+    subst (λ z. IfOk c.start_grouped.result (Started (allowed_in c.args.ctx.now) z c.args.marked c.args.name c.args.eof))
     (grouped_at w by.child.item k r u (ty (arc_value n.dtype)) (ap strategy_data c.in-Repartition.is) (ap (λ x. x.item) c.child.ensures) e)
     (c.start_grouped.ensures.shows r (subst (λ z. Begins r z n) (sym e) c.in-Ok-blocks_node.ensures.begins))
 
-pub start_settled-returns-in-Ok-blocks_node-clause-refused : goal.start_settled-returns-in-Ok-blocks_node-clause-refused
-start_settled-returns-in-Ok-blocks_node-clause-refused g t c =
+pub start::start_settled-returns-in-Ok-blocks_node-clause-refused : goal.start::start_settled-returns-in-Ok-blocks_node-clause-refused
+start::start_settled-returns-in-Ok-blocks_node-clause-refused g t c =
     let by = c.in-Repartition.by in
     let w : StrategyData = strategy_data c.args.strategy.now in
     let u : Ty = ty (arc_value c.args.dtype) in
     let n = c.in-Ok-blocks_node.node in
     let k : StrategyData = c.child.result.now.item in
     let e : ty (arc_value n.dtype) ≡ u = ap (λ z. ty (arc_value z)) c.in-Ok-blocks_node.ensures.dtype in
-    subst (λ z. IfErr c.start_grouped.result (StartRefused (λ s. start_fault s z c.args.marked) (first_indices z c.args.eof)))
+    subst (λ z. IfErr c.start_grouped.result (FormRefused (allowed_in c.args.ctx.now) z c.args.marked c.args.eof))
     (grouped_at w by.child.item k (by_blocks (block_rule by.rule)) u (ty (arc_value n.dtype)) (ap strategy_data c.in-Repartition.is) (ap (λ x. x.item) c.child.ensures) e)
     c.start_grouped.ensures.refused
 
 -- of a held size
 
-pub start_settled-start_grouped-requires-in-Buffered : goal.start_settled-start_grouped-requires-in-Buffered
-start_settled-start_grouped-requires-in-Buffered g t c κs within =
+pub start::start_settled-start_grouped-requires-in-Buffered : goal.start::start_settled-start_grouped-requires-in-Buffered
+start::start_settled-start_grouped-requires-in-Buffered g t c κs within =
     let by = c.in-Buffered.by in
     let w : StrategyData = strategy_data c.args.strategy.now in
     let u : Ty = ty (arc_value c.args.dtype) in
@@ -776,8 +777,8 @@ start_settled-start_grouped-requires-in-Buffered g t c κs within =
     let falls : 8 * (2 + weight (form_at k (ty (arc_value n.dtype)))) + 3 < 8 * weight (form_at w u) + 4 = omega (arith, f) in
     search (rules, arith, c.requires.owned, b, c.buffer_node-node.ensures.fresh, falls)
 
-pub start_settled-returns-in-Buffered-clause-shows : goal.start_settled-returns-in-Buffered-clause-shows
-start_settled-returns-in-Buffered-clause-shows g t c =
+pub start::start_settled-returns-in-Buffered-clause-shows : goal.start::start_settled-returns-in-Buffered-clause-shows
+start::start_settled-returns-in-Buffered-clause-shows g t c =
     let by = c.in-Buffered.by in
     let w : StrategyData = strategy_data c.args.strategy.now in
     let u : Ty = ty (arc_value c.args.dtype) in
@@ -785,26 +786,26 @@ start_settled-returns-in-Buffered-clause-shows g t c =
     let k : StrategyData = c.child-in-Buffered.result.now.item in
     let r = by_bytes by.buffer_size in
     let e : ty (arc_value n.dtype) ≡ u = ap (λ z. ty (arc_value z)) c.buffer_node-node.ensures.dtype in
-    subst (λ z. IfOk c.start_grouped-in-Buffered.result (Started z c.args.marked c.args.name c.args.eof))
+    subst (λ z. IfOk c.start_grouped-in-Buffered.result (Started (allowed_in c.args.ctx.now) z c.args.marked c.args.name c.args.eof))
     (grouped_at w by.child.item k r u (ty (arc_value n.dtype)) (ap strategy_data c.in-Buffered.is) (ap (λ x. x.item) c.child-in-Buffered.ensures) e)
     (c.start_grouped-in-Buffered.ensures.shows r (subst (λ z. Begins r z n) (sym e) c.buffer_node-node.ensures.begins))
 
-pub start_settled-returns-in-Buffered-clause-refused : goal.start_settled-returns-in-Buffered-clause-refused
-start_settled-returns-in-Buffered-clause-refused g t c =
+pub start::start_settled-returns-in-Buffered-clause-refused : goal.start::start_settled-returns-in-Buffered-clause-refused
+start::start_settled-returns-in-Buffered-clause-refused g t c =
     let by = c.in-Buffered.by in
     let w : StrategyData = strategy_data c.args.strategy.now in
     let u : Ty = ty (arc_value c.args.dtype) in
     let n = c.buffer_node-node.result in
     let k : StrategyData = c.child-in-Buffered.result.now.item in
     let e : ty (arc_value n.dtype) ≡ u = ap (λ z. ty (arc_value z)) c.buffer_node-node.ensures.dtype in
-    subst (λ z. IfErr c.start_grouped-in-Buffered.result (StartRefused (λ s. start_fault s z c.args.marked) (first_indices z c.args.eof)))
+    subst (λ z. IfErr c.start_grouped-in-Buffered.result (FormRefused (allowed_in c.args.ctx.now) z c.args.marked c.args.eof))
     (grouped_at w by.child.item k (by_bytes by.buffer_size) u (ty (arc_value n.dtype)) (ap strategy_data c.in-Buffered.is) (ap (λ x. x.item) c.child-in-Buffered.ensures) e)
     c.start_grouped-in-Buffered.ensures.refused
 
 -- of one chunk for all
 
-pub start_settled-start_grouped-requires-in-Ok-collect_node : goal.start_settled-start_grouped-requires-in-Ok-collect_node
-start_settled-start_grouped-requires-in-Ok-collect_node g t c κs within =
+pub start::start_settled-start_grouped-requires-in-Ok-collect_node : goal.start::start_settled-start_grouped-requires-in-Ok-collect_node
+start::start_settled-start_grouped-requires-in-Ok-collect_node g t c κs within =
     let by = c.in-Collect.into in
     let w : StrategyData = strategy_data c.args.strategy.now in
     let u : Ty = ty (arc_value c.args.dtype) in
@@ -818,26 +819,26 @@ start_settled-start_grouped-requires-in-Ok-collect_node g t c κs within =
     let falls : 8 * (2 + weight (form_at k (ty (arc_value n.dtype)))) + 3 < 8 * weight (form_at w u) + 4 = omega (arith, f) in
     search (rules, arith, c.requires.owned, b, c.in-Ok-collect_node.ensures.fresh, falls)
 
-pub start_settled-returns-in-Ok-collect_node-clause-shows : goal.start_settled-returns-in-Ok-collect_node-clause-shows
-start_settled-returns-in-Ok-collect_node-clause-shows g t c =
+pub start::start_settled-returns-in-Ok-collect_node-clause-shows : goal.start::start_settled-returns-in-Ok-collect_node-clause-shows
+start::start_settled-returns-in-Ok-collect_node-clause-shows g t c =
     let by = c.in-Collect.into in
     let w : StrategyData = strategy_data c.args.strategy.now in
     let u : Ty = ty (arc_value c.args.dtype) in
     let n = c.in-Ok-collect_node.node in
     let k : StrategyData = c.child-in-Ok-collect_node.result.now.item in
     let e : ty (arc_value n.dtype) ≡ u = ap (λ z. ty (arc_value z)) c.in-Ok-collect_node.ensures.dtype in
-    subst (λ z. IfOk c.start_grouped-in-Ok-collect_node.result (Started z c.args.marked c.args.name c.args.eof))
+    subst (λ z. IfOk c.start_grouped-in-Ok-collect_node.result (Started (allowed_in c.args.ctx.now) z c.args.marked c.args.name c.args.eof))
     (grouped_at w by.child.item k into_one u (ty (arc_value n.dtype)) (ap strategy_data c.in-Collect.is) (ap (λ x. x.item) c.child-in-Ok-collect_node.ensures) e)
     (c.start_grouped-in-Ok-collect_node.ensures.shows into_one (subst (λ z. Begins into_one z n) (sym e) c.in-Ok-collect_node.ensures.begins))
 
-pub start_settled-returns-in-Ok-collect_node-clause-refused : goal.start_settled-returns-in-Ok-collect_node-clause-refused
-start_settled-returns-in-Ok-collect_node-clause-refused g t c =
+pub start::start_settled-returns-in-Ok-collect_node-clause-refused : goal.start::start_settled-returns-in-Ok-collect_node-clause-refused
+start::start_settled-returns-in-Ok-collect_node-clause-refused g t c =
     let by = c.in-Collect.into in
     let w : StrategyData = strategy_data c.args.strategy.now in
     let u : Ty = ty (arc_value c.args.dtype) in
     let n = c.in-Ok-collect_node.node in
     let k : StrategyData = c.child-in-Ok-collect_node.result.now.item in
     let e : ty (arc_value n.dtype) ≡ u = ap (λ z. ty (arc_value z)) c.in-Ok-collect_node.ensures.dtype in
-    subst (λ z. IfErr c.start_grouped-in-Ok-collect_node.result (StartRefused (λ s. start_fault s z c.args.marked) (first_indices z c.args.eof)))
+    subst (λ z. IfErr c.start_grouped-in-Ok-collect_node.result (FormRefused (allowed_in c.args.ctx.now) z c.args.marked c.args.eof))
     (grouped_at w by.child.item k into_one u (ty (arc_value n.dtype)) (ap strategy_data c.in-Collect.is) (ap (λ x. x.item) c.child-in-Ok-collect_node.ensures) e)
     c.start_grouped-in-Ok-collect_node.ensures.refused
