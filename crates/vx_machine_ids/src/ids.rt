@@ -115,5 +115,6 @@ pub fn take_inside<O: Order>(order: &mut O, id: SequenceId) -> Result<SequencePo
 pub fn index_fits(pointer: &SequencePointer)
     ensures { pointer.now.last < 2 ^ 64 }
 {
-    let _last = pointer.path().last();
+    let path = pointer.path();
+    let _last = path[path.len() - 1];
 }

@@ -21,3 +21,6 @@ pub mod TakeShows
 pub mod ListParts
 pub mod PressSteps
 pub mod ZoneSteps
+pub mod RunLaws
+pub mod RunSteps
+pub mod RunTakes

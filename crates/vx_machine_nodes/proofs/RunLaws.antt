@@ -22,7 +22,7 @@ use Rattle.vx_machine_nodes.specs.Runs.{behind, next_at, may_follow, is_codes, r
 
 -- ---- rows
 
-code_total : List Stretch → ℕ
+abbrev code_total : List Stretch → ℕ
 code_total [] = 0
 code_total (x ∷ xs) = length x.0 + code_total xs
 
@@ -44,7 +44,7 @@ stretch_rows o t ds codes (c ∷ cs) =
         let h : (length codes + code_total (stretches o t (c ∷ []) (0 ∷ []) cs).closed) + length (stretches o t (c ∷ []) (0 ∷ []) cs).codes ≡ length codes + suc (length cs) = omega (arith, f) in h
 
 codes_length : (o : DictOptions) (codes : List ℕ) → length (cells (codes_piece o codes)) ≡ length codes
-codes_length o codes = length-map offset_cell codes
+codes_length o codes = length-map codes offset_cell
 
 closed_total : (o : DictOptions) (t : Ty) (k : ℕ) (xs : List Stretch) (more : List Output) → all_rows (closed_outputs o t k xs more) ≡ code_total xs + all_rows more
 closed_total o t k [] more = let h : all_rows more ≡ 0 + all_rows more = omega arith in h
@@ -62,7 +62,7 @@ pub cut_total : (o : DictOptions) (t : Ty) (k : ℕ) (ds : List CellData) (cs : 
 cut_total o t k ds cs b =
     let cut = stretches o t ds [] cs in
     let e : all_rows (closed_outputs o t k cut.closed (open_outputs o t (next_number k cut.closed) cut.codes cut.distinct b)) ≡ code_total cut.closed + all_rows (open_outputs o t (next_number k cut.closed) cut.codes cut.distinct b)
-        = closed_total o t k cut.closed (open_outputs o t (next_number k cut.closed) cut.codes cut.distinct b) in
+    = closed_total o t k cut.closed (open_outputs o t (next_number k cut.closed) cut.codes cut.distinct b) in
     let f : all_rows (open_outputs o t (next_number k cut.closed) cut.codes cut.distinct b) ≡ length cut.codes = open_total o t (next_number k cut.closed) cut.codes cut.distinct b in
     let g : code_total cut.closed + length cut.codes ≡ 0 + length cs = stretch_rows o t ds [] cs in
     omega (arith, e, f, g)
@@ -134,11 +134,11 @@ module _ (n : Coder) (p : List ℕ) where
 -- ---- how far the runs come
 
 -- behind stretches that end, and the codes of the run that goes on
-abbrev come_to : RunsSoFar → List Stretch → List ℕ → RunsSoFar
+abbrev pub come_to : RunsSoFar → List Stretch → List ℕ → RunsSoFar
 come_to r xs codes = record { base = base_after r.base xs; eof = eof_after r.eof xs; begun = true; distinct = r.distinct; rows = open_rows r.rows xs codes; ended = r.ended ++ ended_rows r.rows xs }
 
 -- and behind all of them, once the last one ends too
-abbrev end_at : RunsSoFar → List Stretch → List ℕ → RunsSoFar
+abbrev pub end_at : RunsSoFar → List Stretch → List ℕ → RunsSoFar
 end_at r xs codes = record {
   base = suc (suc (base_after r.base xs));
   eof = next (next (eof_after r.eof xs));
@@ -192,13 +192,13 @@ rows_end rows (x ∷ xs) codes ds = ap (λ z. (rows + length x.0) ∷ z) (rows_e
 -- ---- pointers go on
 
 rest_at : (b : Bool) (e : Eof) → (if b then next (next e) else e).last ≤ (next (next e)).last
-rest_at true e = omega arith
+rest_at true e = (let h : (e.last + 1) + 1 ≤ (e.last + 1) + 1 = omega arith in h)
 rest_at false e = (let h : e.last ≤ (e.last + 1) + 1 = omega arith in h)
 
 -- values end a run that has begun
 one_later : (r : RunsSoFar) (x : Place) (c : ChunkData) → may_follow r.begun x ≡ true → (rest_eof r).last ≤ (rest_eof (behind r x c)).last
 one_later r (Codes k) c h = rest_at r.begun r.eof
-one_later r (Values k) c h = let e : (rest_eof r).last ≡ (next (next r.eof)).last = ap (λ b. (if b then next (next r.eof) else r.eof).last) h in omega (arith, e)
+one_later r (Values k) c h = subst (λ b. (if b then next (next r.eof) else r.eof).last ≤ (next (next r.eof)).last) (sym h) (rest_at true r.eof)
 one_later r Child c h = absurd (true≢false (sym h))
 one_later r (Column k) c h = absurd (true≢false (sym h))
 
@@ -209,15 +209,17 @@ begun_is r Child c h = absurd (true≢false (sym h))
 begun_is r (Column k) c h = absurd (true≢false (sym h))
 
 pub all_later : (r : RunsSoFar) (xs : List Output) → are_runs r.begun xs ≡ true → (rest_eof r).last ≤ (rest_eof (behind_all r xs)).last
-all_later r [] h = omega arith
+all_later r [] h = (let k : (rest_eof r).last ≤ (rest_eof r).last = omega arith in k)
 all_later r (x ∷ xs) h =
     let a = and_parts (may_follow r.begun x.0) (are_runs (is_codes x.0) xs) h in
     let b : are_runs (behind r x.0 x.1).begun xs ≡ true = ap (λ z. are_runs z xs) (begun_is r x.0 x.1 a.0) ∙ a.1 in
-    omega (arith, one_later r x.0 x.1 a.0, all_later (behind r x.0 x.1) xs b)
+    let c : (rest_eof r).last ≤ (rest_eof (behind r x.0 x.1)).last = one_later r x.0 x.1 a.0 in
+    let d : (rest_eof (behind r x.0 x.1)).last ≤ (rest_eof (behind_all r (x ∷ xs))).last = all_later (behind r x.0 x.1) xs b in
+    omega (arith, c, d)
 
 -- rows of the run that goes on
 pub rows_behind : (r : RunsSoFar) (x : Place) (c : ChunkData) → (behind r x c).rows ≤ r.rows + rows_of x c
-rows_behind r (Codes k) c = omega arith
-rows_behind r (Values k) c = omega arith
-rows_behind r Child c = omega arith
-rows_behind r (Column k) c = omega arith
+rows_behind r (Codes k) c = (let h : r.rows + length (cells c) ≤ r.rows + length (cells c) = omega arith in h)
+rows_behind r (Values k) c = (let h : 0 ≤ r.rows + 0 = omega arith in h)
+rows_behind r Child c = (let h : r.rows ≤ r.rows + 0 = omega arith in h)
+rows_behind r (Column k) c = (let h : r.rows ≤ r.rows + 0 = omega arith in h)

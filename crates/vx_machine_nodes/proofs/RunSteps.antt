@@ -1,5 +1,6 @@
 -- Runs so far, of the program and in plain data, an output at a time.
-use Rattle.std.proofs.Common.{◌≡◌, ◌+◌, ◌*◌, ◌-◌, ◌<◌, ◌≤◌, ◌^◌, ◌∷◌, ◌++◌, ◌∙◌, ℕ, suc, Bool, true, false, if◌then◌else◌, List, [], length, refl, sym, ap, subst, inl, inr, ⊎_elim, arith, length-append}
+use Rattle.std.proofs.Common.{◌≡◌, ◌+◌, ◌*◌, ◌-◌, ◌<◌, ◌≤◌, ◌^◌, ◌∷◌, ◌++◌, ◌∙◌, ℕ, suc, Bool, true, false, if◌then◌else◌, List, [], length, refl, sym, ap, subst, inl, inr, ⊎_elim, arith, length-append, append_assoc, Result, Ok, Err, OnOk}
+use Rattle.std.proofs.lemmas.Bool.{and_parts}
 use Rattle.std.proofs.lemmas.List.{map_push}
 use Rattle.std.specs.Arc.{arc_value}
 use Rattle.vx_path.specs.Path.{Eof, eof_path, next}
@@ -10,8 +11,16 @@ use Rattle.vx_order_answer.specs.declared.errors.OrderError.{OrderError}
 use Rattle.vx_order_answer.specs.declared.errors.OrderError.TheVariants as order
 use Rattle.vx_chunk.specs.Conditions.{IsTooLarge}
 use Rattle.vx_chunk.specs.declared.error.ChunkError.{ChunkError}
+use Rattle.vx_chunk.specs.declared.error.ChunkError.TheVariants as chunks
+use Rattle.vx_sequence.specs.Universe.{Active}
+use Rattle.vx_machine_ids.specs.Stock.{Stock, both, end_stock}
+use Rattle.vx_machine_ids.specs.Balance.{Owned, Moved}
+use Rattle.vx_machine_ids.proofs.Stocks.{both_assoc, both_swap}
+use Rattle.vx_machine_ids.proofs.MoveLaws.{moved_none, moved_beside, moved_as, owned_as}
 use Rattle.vx_react.specs.declared.place.Place.{Place}
 use Rattle.vx_react.specs.declared.place.Place.TheVariants.{Codes, Values}
+use Rattle.vx_react.specs.Reactor.{Output}
+use Rattle.vx_machine_turns.specs.Locals.{RunsSoFar as SoFar}
 use Rattle.vx_machine_turns.specs.Dict.{rest_eof}
 use Rattle.vx_plan.specs.PlanData.{Item as Piece}
 use Rattle.vx_machine_view.specs.Coder.{Coder}
@@ -28,8 +37,13 @@ use Rattle.vx_machine_nodes.specs.declared.item.Due.TheVariants.{Put, OpenRun, E
 use Rattle.vx_machine_nodes.specs.declared.item.Item.{Item}
 use Rattle.vx_machine_nodes.specs.Causes.{MayCome}
 use Rattle.vx_machine_nodes.specs.RunPaths.{eof_at, begun_paths, run_eof}
-use Rattle.vx_machine_nodes.specs.Runs.{behind, next_at, CutRefused}
+use Rattle.vx_machine_nodes.specs.Runs.{behind, behind_all, next_at, nexts_at, may_follow, is_codes, rows_of, are_runs, all_rows, CutRefused}
+use Rattle.vx_machine_nodes.specs.Ledger.{due_reserved, dues_reserved}
+use Rattle.vx_machine_nodes.specs.Stocks.{due_stock, dues_stock}
 use Rattle.vx_machine_nodes.specs.View.{coder_in, runs_in, item_of, next_of, todo_of}
+use Rattle.vx_machine_nodes.proofs.DueSteps.{one_more}
+use Rattle.vx_machine_nodes.proofs.ReservedSteps.{dues_push}
+use Rattle.vx_machine_nodes.proofs.RunLaws.{begun_is, rows_behind, all_later}
 
 -- ---- paths
 
@@ -144,5 +158,93 @@ ended_run old new c k ds h p b r e =
 
 -- ---- what is to be done
 
-pub pushed : (old new : List Due) (d : Due) (x : Next) → new ≡ old ++ (d ∷ []) → next_of d ≡ x → todo_of new ≡ todo_of old ++ (x ∷ [])
-pushed old new d x h e = ap todo_of h ∙ map_push next_of old d ∙ ap (λ z. todo_of old ++ (z ∷ [])) e
+-- the deque in between has room
+put_last : (old now new : List Due) (d : Due) → now ≡ old → new ≡ now ++ (d ∷ []) → new ≡ old ++ (d ∷ [])
+put_last old now new d a h = h ∙ ap (λ z. z ++ (d ∷ [])) a
+
+pub pushed : (old now new : List Due) (d : Due) (x : Next) → now ≡ old → new ≡ now ++ (d ∷ []) → next_of d ≡ x → todo_of new ≡ todo_of old ++ (x ∷ [])
+pushed old now new d x a h e = ap todo_of (put_last old now new d a h) ∙ map_push next_of old d ∙ ap (λ z. todo_of old ++ (z ∷ [])) e
+
+-- by their number
+pub many_runs : (n m number eof below : ℕ) (e : ChunkError) → e ≡ chunks.TooLarge n → m ≡ 2 ^ 64 → IsTooLarge number e → number ≤ eof → CutRefused eof below (TooLarge m)
+many_runs n m number eof below e is large h l =
+    let k : IsTooLarge number (chunks.TooLarge n) = subst (λ z. IsTooLarge number z) is h in
+    let far : 2 ^ 64 ≤ eof = omega (arith, k.0, l) in
+    inl (inr (eof, inl refl, far, large))
+
+-- ---- ids of what is put last
+
+pub last_moved : (u : Active) (i : Stock) (xs ms ys : List Due) (d : Due) → ms ≡ xs → ys ≡ ms ++ (d ∷ []) → due_stock d ≡ i → Owned u (both (dues_stock xs) i) → Moved u u (both (dues_stock xs) i) (dues_stock ys)
+last_moved u i xs ms ys d a h k o =
+    let e : both (dues_stock xs) i ≡ dues_stock ys = sym (one_more xs ys d (put_last xs ms ys d a h) ∙ ap (both (dues_stock xs)) k) in
+    subst (λ z. Moved u u (both (dues_stock xs) i) z) e (moved_none u (both (dues_stock xs) i) o)
+
+pub put_moved : (u : Active) (p i : Stock) (xs ms ys : List Due) (d : Due) → ms ≡ xs → ys ≡ ms ++ (d ∷ []) → due_stock d ≡ i → Owned u (both (both p (dues_stock xs)) i) → Moved u u (both (both p (dues_stock xs)) i) (both p (dues_stock ys))
+put_moved u p i xs ms ys d a h k o =
+    let e : dues_stock ys ≡ both (dues_stock xs) i = one_more xs ys d (put_last xs ms ys d a h) ∙ ap (both (dues_stock xs)) k in
+    let q : both (both p (dues_stock xs)) i ≡ both p (dues_stock ys) = both_assoc p (dues_stock xs) i ∙ ap (both p) (sym e) in
+    subst (λ z. Moved u u (both (both p (dues_stock xs)) i) z) q (moved_none u (both (both p (dues_stock xs)) i) o)
+
+-- where a run begins besides
+pub open_moved : (u v : Active) (p q r i : Stock) (xs ms ys : List Due) (d : Due) → ms ≡ xs → ys ≡ ms ++ (d ∷ []) → due_stock d ≡ both r i → Owned u (both (both p (dues_stock xs)) i) → Moved u v p (both q r)
+    → Moved u v (both (both p (dues_stock xs)) i) (both q (dues_stock ys))
+open_moved u v p q r i xs ms ys d l h k o m =
+    let e : dues_stock ys ≡ both (dues_stock xs) (both r i) = one_more xs ys d (put_last xs ms ys d l h) ∙ ap (both (dues_stock xs)) k in
+    let a : both (both p (dues_stock xs)) i ≡ both p (both (dues_stock xs) i) = both_assoc p (dues_stock xs) i in
+    let b : Moved u v (both p (both (dues_stock xs) i)) (both (both q r) (both (dues_stock xs) i)) = moved_beside u v p (both q r) (both (dues_stock xs) i) (owned_as u _ _ a o) m in
+    let c : both (both q r) (both (dues_stock xs) i) ≡ both q (dues_stock ys) =
+    both_assoc q r (both (dues_stock xs) i)
+    ∙ ap (both q) (sym (both_assoc r (dues_stock xs) i) ∙ ap (λ z. both z i) (both_swap r (dues_stock xs)) ∙ both_assoc (dues_stock xs) r i ∙ sym e) in
+    moved_as u v _ _ _ _ (sym a) c b
+
+pub put_reserved : (xs ms ys : List Due) (d : Due) → ms ≡ xs → ys ≡ ms ++ (d ∷ []) → due_reserved d ≡ 0 → dues_reserved ys ≡ dues_reserved xs
+put_reserved xs ms ys d a h k = dues_push ys xs d (put_last xs ms ys d a h) ∙ (let e : dues_reserved xs + due_reserved d ≡ dues_reserved xs = omega (arith, k) in e)
+
+-- ---- an output, by its place
+
+pub at_place : (P : Place → Type 0) (x y : Place) → x ≡ y → P y → P x
+at_place P x y e h = subst P (sym e) h
+
+-- rows and beginnings, as the program counts them
+pub begun_now : (old new : RunsSoFar) (x : Place) (c : ChunkData) → may_follow old.begun x ≡ true → ((ds : List CellData) → runs_in new ds ≡ behind (runs_in old ds) x c) → new.begun ≡ is_codes x
+begun_now old new x c h e = ap (λ (z : SoFar). z.begun) (e []) ∙ begun_is (runs_in old []) x c h
+
+pub rows_now : (old new : RunsSoFar) (x : Place) (c : ChunkData) → ((ds : List CellData) → runs_in new ds ≡ behind (runs_in old ds) x c) → new.rows ≤ old.rows + rows_of x c
+rows_now old new x c e = let q : new.rows ≡ (behind (runs_in old []) x c).rows = ap (λ (z : SoFar). z.rows) (e []) in omega (arith, q, rows_behind (runs_in old []) x c)
+
+-- ---- the first of some outputs
+
+pub first_follows : (begun : Bool) (all : List Output) (x : Output) (xs : List Output) → all ≡ x ∷ xs → are_runs begun all ≡ true → may_follow begun x.0 ≡ true
+first_follows begun all x xs e h = (and_parts (may_follow begun x.0) (are_runs (is_codes x.0) xs) (ap (are_runs begun) (sym e) ∙ h)).0
+
+pub rest_follow : (begun : Bool) (all : List Output) (x : Output) (xs : List Output) → all ≡ x ∷ xs → are_runs begun all ≡ true → are_runs (is_codes x.0) xs ≡ true
+rest_follow begun all x xs e h = (and_parts (may_follow begun x.0) (are_runs (is_codes x.0) xs) (ap (are_runs begun) (sym e) ∙ h)).1
+
+pub first_few : (rows : ℕ) (all : List Output) (x : Output) (xs : List Output) → all ≡ x ∷ xs → rows + all_rows all ≡ (rows + rows_of x.0 x.1) + all_rows xs
+first_few rows all x xs e = let h : all_rows all ≡ rows_of x.0 x.1 + all_rows xs = ap all_rows e in omega (arith, h)
+
+-- a refusal of one is one of all
+pub late_refusal : (r : RunsSoFar) (all : List Output) (x : Output) (xs : List Output) → all ≡ x ∷ xs → are_runs r.begun all ≡ true → (last end : ℕ) (whole : SoFar) → behind_all (runs_in r []) all ≡ whole → last + 1 ≤ end
+    → (e : WriteError) → CutRefused (rest_eof (behind (runs_in r []) x.0 x.1)).last (last + 1) e → CutRefused (rest_eof whole).last end e
+late_refusal r all x xs s h last end whole w l e c =
+    let f = first_follows r.begun all x xs s h in
+    let k : are_runs (behind (runs_in r []) x.0 x.1).begun xs ≡ true = ap (λ b. are_runs b xs) (begun_is (runs_in r []) x.0 x.1 f) ∙ rest_follow r.begun all x xs s h in
+    let q : (rest_eof (behind_all (behind (runs_in r []) x.0 x.1) xs)).last ≡ (rest_eof whole).last = ap (λ ys. (rest_eof (behind_all (runs_in r []) ys)).last) (sym s) ∙ ap (λ (z : SoFar). (rest_eof z).last) w in
+    let b = all_later (behind (runs_in r []) x.0 x.1) xs k in
+    cut_wider (rest_eof (behind (runs_in r []) x.0 x.1)).last (last + 1) (rest_eof whole).last end (omega (arith, b, q)) l e c
+
+one_up : (n : ℕ) → n + 1 ≡ suc n
+one_up n = omega arith
+
+pub one_nexts : (n : Coder) (r : SoFar) (e : Eof) (all : List Output) (x : Output) (xs : List Output) → all ≡ x ∷ xs → (todo : List Next)
+    → (todo ++ (next_at n r x.0 (eof_path e, x.1) ∷ [])) ++ nexts_at n (behind r x.0 x.1) (next e).stem (next e).last xs ≡ todo ++ nexts_at n r e.stem e.last all
+one_nexts n r e all x xs s todo =
+    append_assoc todo (next_at n r x.0 (eof_path e, x.1) ∷ []) (nexts_at n (behind r x.0 x.1) e.stem (e.last + 1) xs)
+    ∙ ap (λ k. todo ++ (next_at n r x.0 (eof_path e, x.1) ∷ nexts_at n (behind r x.0 x.1) e.stem k xs)) (one_up e.last)
+    ∙ ap (λ ys. todo ++ nexts_at n r e.stem e.last ys) (sym s)
+
+-- ---- answers
+
+pub on_ok : {T E : Type 0} (r : Result T E) (A B : Type 0) → (A → B) → OnOk r A → OnOk r B
+on_ok (Ok x) A B f h = f h
+on_ok (Err e) A B f h = tt

@@ -15,16 +15,22 @@ use Rattle.vx_runs.specs.CutterData.{CutterData, options_of, gives_at, held_at, 
 use Rattle.vx_react.specs.Reactor.{Output}
 use Rattle.vx_react.specs.Cutter.{next_number, cut_outputs}
 use Rattle.vx_plan.specs.PlanData.{Setting}
+use Rattle.vx_sequence.specs.Universe.{Active}
+use Rattle.vx_machine_ids.specs.Stock.{Stock, none, both}
+use Rattle.vx_machine_ids.specs.Balance.{Owned, Moved}
+use Rattle.vx_machine_ids.proofs.Stocks.{both_assoc, both_swap}
+use Rattle.vx_machine_ids.proofs.MoveLaws.{moved_beside, moved_as, moved_then, owned_now}
 use Rattle.vx_machine_turns.specs.Locals.{RunsSoFar as SoFar}
 use Rattle.vx_machine_turns.specs.Dict.{Stretch, eof_after, ended_rows, open_rows, rest_eof}
 use Rattle.vx_machine_view.specs.Coder.{Coder}
-use Rattle.vx_machine_view.specs.Coding.{runs_after, cut_of, run_rows, deed_nexts, deeds_at, last_deeds}
+use Rattle.vx_machine_view.specs.Coding.{runs_after, cut_of, cut_indices, run_rows, deed_nexts, deeds_at, last_deeds}
 use Rattle.vx_machine_view.specs.State.{Next, Tasks, by_run, join_kids, fold_runs}
 use Rattle.vx_machine_view.specs.Acts.{count, take_end}
 use Rattle.vx_write_answer.specs.declared.error.WriteError.{WriteError}
 use Rattle.vx_machine_nodes.specs.declared.dict_node.DictNode.{DictNode}
 use Rattle.vx_machine_nodes.specs.declared.dict_node.DictRuns.{DictRuns}
 use Rattle.vx_machine_nodes.specs.declared.dict_node.RunsSoFar.{RunsSoFar}
+use Rattle.vx_machine_nodes.specs.declared.item.Due.{Due}
 use Rattle.vx_machine_nodes.specs.declared.item.Item.{Item}
 use Rattle.vx_machine_nodes.specs.declared.node.Local.{Local}
 use Rattle.vx_machine_nodes.specs.declared.node.Local.TheVariants.{Runs, Over}
@@ -32,9 +38,11 @@ use Rattle.vx_machine_nodes.specs.Acting.{bare, taken, Took, TakeRefused, SplitR
 use Rattle.vx_machine_nodes.specs.Outcome.{AllFit, Refused, none_past}
 use Rattle.vx_machine_nodes.specs.RunPaths.{begun_paths, run_eof}
 use Rattle.vx_machine_nodes.specs.Runs.{behind_all, nexts_at, are_runs, all_rows, CutRefused}
+use Rattle.vx_machine_nodes.specs.Stocks.{due_stock, dues_stock}
 use Rattle.vx_machine_nodes.specs.View.{options_in, coder_in, runs_in, item_of, todo_of, mind_of}
+use Rattle.vx_machine_nodes.proofs.DueSteps.{one_free}
 use Rattle.vx_machine_nodes.proofs.Fitting.{then_fit, one_fits}
-use Rattle.vx_machine_nodes.proofs.RefusalSteps.{wider, not_in}
+use Rattle.vx_machine_nodes.proofs.RefusalSteps.{wider, not_in, by_rows}
 use Rattle.vx_machine_nodes.proofs.RunLaws.{cut_total, cut_follow, cut_count, last_count, number_is, ended_count, cut_nexts, last_nexts, come_to, end_at, cut_behind, last_behind, rows_end}
 use Rattle.vx_machine_nodes.proofs.RunSteps.{rest_is}
 
@@ -103,14 +111,20 @@ module _ (b l : ℕ) (t : Ty) (p q : ℕ) where
       (ap (behind_run codes ds) (any_probe (c ∷ []) (0 ∷ []) cs))
 
 -- there are fewer runs than their eof paths
-pub number_small : (c : CutterData) (n : DictNode) (p : ChunkData) (r : RunsSoFar) (b : Bool) → c.max_bytes ≡ n.constraints.max_bytes → c.max_len ≡ n.constraints.max_len → c.typed ≡ ty (arc_value n.dtype) → c.number ≡ length r.ended.items
-    → (held_at 0 c p).number ≤ (rest_eof (behind_all (runs_in r []) (gives_at n.probe c p b))).last
-number_small c n p r b bytes len typed number =
-    let z : (held_at 0 c p).number ≡ (held_at n.probe c p).number = ap (λ (x : Cut). next_number c.number x.closed) (any_probe c.max_bytes c.max_len c.typed 0 n.probe c.distinct [] (cells p)) in
-    let e : (held_at n.probe c p).number ≡ c.number + length (cut_in c n p).closed = held_number c n p bytes len typed in
-    let f : (rest_eof (behind_all (runs_in r []) (gives_at n.probe c p b))).last ≡ ((run_eof r.pointer r.begun).last + 2 * length (cut_in c n p).closed) + 2
-        = ap (λ z. (rest_eof (behind_all (runs_in r []) z)).last) (gives_are c n p bytes len typed b) ∙ rest_any (options_in n) (ty (arc_value n.dtype)) (runs_in r []) c.number (cut_in c n p) b in
+pub number_small : (c : CutterData) (q : ℕ) (p : ChunkData) (r : RunsSoFar) (b : Bool) → c.number ≡ length r.ended.items → (held_at 0 c p).number ≤ (rest_eof (behind_all (runs_in r []) (gives_at q c p b))).last
+number_small c q p r b number =
+    let cut : Cut = stretches (options_of c q) c.typed c.distinct [] (cells p) in
+    let z : (held_at 0 c p).number ≡ next_number c.number cut.closed = ap (λ (x : Cut). next_number c.number x.closed) (any_probe c.max_bytes c.max_len c.typed 0 q c.distinct [] (cells p)) in
+    let e : next_number c.number cut.closed ≡ c.number + length cut.closed = number_is c.number cut.closed in
+    let f : (rest_eof (behind_all (runs_in r []) (gives_at q c p b))).last ≡ ((run_eof r.pointer r.begun).last + 2 * length cut.closed) + 2 = rest_any (options_of c q) c.typed (runs_in r []) c.number cut b in
     omega (arith, z, e, f, number, begun_eof r r.begun refl)
+
+-- what a cutter gives, whatever its options
+pub outputs_follow : (c : CutterData) (p : ChunkData) (begun last : Bool) (xs : List Output) → ((probe : ℕ) → xs ≡ gives_at probe c p last) → are_runs begun xs ≡ true
+outputs_follow c p begun last xs e = ap (are_runs begun) (e 0) ∙ cut_follow (options_of c 0) c.typed c.number (stretches (options_of c 0) c.typed c.distinct [] (cells p)) begun last
+
+pub outputs_rows : (c : CutterData) (p : ChunkData) (last : Bool) (xs : List Output) → ((probe : ℕ) → xs ≡ gives_at probe c p last) → all_rows xs ≡ length (cells p)
+outputs_rows c p last xs e = ap all_rows (e 0) ∙ cut_total (options_of c 0) c.typed c.number c.distinct (cells p) last
 
 -- ---- a take
 
@@ -142,14 +156,14 @@ module _ (d : DictRuns) (next : RunsSoFar) where
   number_more cutter c e =
       let a : cutter.number ≡ d.cutter.number + length cut_here.closed = ap (λ (z : CutterData). z.number) c ∙ held_number d.cutter node_in d.newest.chunk d.bytes d.len d.typed in
       let b : length next.ended.items ≡ length (d.runs.ended.items ++ ended_rows d.runs.rows cut_here.closed)
-          = ap (λ (z : SoFar). length z.ended) (e [] ∙ ap (behind_all (runs_in d.runs [])) (gives_is false) ∙ cut_behind (options_in node_in) (ty (arc_value node_in.dtype)) (runs_in d.runs []) d.cutter.number cut_here) in
+      = ap (λ (z : SoFar). length z.ended) (e [] ∙ ap (behind_all (runs_in d.runs [])) (gives_is false) ∙ cut_behind (options_in node_in) (ty (arc_value node_in.dtype)) (runs_in d.runs []) d.cutter.number cut_here) in
       omega (arith, a, b, d.number, length-append d.runs.ended.items (ended_rows d.runs.rows cut_here.closed), ended_count d.runs.rows cut_here.closed)
 
   -- the last index of the eof paths that are taken
   rest_index : (b : Bool) → (rest_eof (behind_all (runs_in d.runs []) (gives b))).last ≡ (rest_eof (runs_after (coder_in node_in) (runs_in d.runs d.cutter.distinct) (item_of d.newest))).last
   rest_index b =
       let f : (rest_eof (behind_all (runs_in d.runs []) (gives b))).last ≡ ((run_eof d.runs.pointer d.runs.begun).last + 2 * length cut_here.closed) + 2
-          = ap (λ z. (rest_eof (behind_all (runs_in d.runs []) z)).last) (gives_is b) ∙ rest_any (options_in node_in) (ty (arc_value node_in.dtype)) (runs_in d.runs []) d.cutter.number cut_here b in
+      = ap (λ z. (rest_eof (behind_all (runs_in d.runs []) z)).last) (gives_is b) ∙ rest_any (options_in node_in) (ty (arc_value node_in.dtype)) (runs_in d.runs []) d.cutter.number cut_here b in
       let g : (rest_eof (runs_after (coder_in node_in) (runs_in d.runs d.cutter.distinct) (item_of d.newest))).last ≡ ((eof_after (run_eof d.runs.pointer d.runs.begun) cut_here.closed).last + 1) + 1 = refl in
       omega (arith, f, g, eofs_after (run_eof d.runs.pointer d.runs.begun) cut_here.closed)
 
@@ -163,9 +177,9 @@ module _ (d : DictRuns) (next : RunsSoFar) where
   made_last = ap length (gives_is true) ∙ last_count (options_in node_in) (ty (arc_value node_in.dtype)) d.cutter.number cut_here
 
   -- whichever pointers are refused
-  cut_why : (b : Bool) (k made : ℕ) (c : Bool) (ns : List ℕ) (e : WriteError) → length (gives b) ≡ made → CutRefused (rest_eof (behind_all (runs_in d.runs []) (gives b))).last (length (gives b)) e
+  cut_why : (b : Bool) (made : ℕ) (c : Bool) (ns : List ℕ) (e : WriteError) → length (gives b) ≡ made → CutRefused (rest_eof (behind_all (runs_in d.runs []) (gives b))).last (length (gives b)) e
       → Refused None c ns ((rest_eof (runs_after (coder_in node_in) (runs_in d.runs d.cutter.distinct) (item_of d.newest))).last ∷ made ∷ []) [] none_past ⊥ [] e
-  cut_why b k made c ns e m h =
+  cut_why b made c ns e m h =
       wider [] [] None None false c [] ns
       ((rest_eof (runs_after (coder_in node_in) (runs_in d.runs d.cutter.distinct) (item_of d.newest))).last ∷ made ∷ []) ((rest_eof (runs_after (coder_in node_in) (runs_in d.runs d.cutter.distinct) (item_of d.newest))).last ∷ made ∷ [])
       none_past none_past ⊥ ⊥ (λ x w. w) (λ w. absurd (true≢false (sym w))) (not_in ns) (λ n w. w) (λ n w. w) (λ w. w) e
@@ -194,18 +208,18 @@ module _ (d : DictRuns) (next : RunsSoFar) where
 -- ---- the take of a chunk
 
 module _ (s : Setting) (name : List ℕ) (ks : Tasks) (d : DictRuns) (i : Item) where
-  pub runs_took : (r : DictRuns) (todo : List Next) → arc_value r.node ≡ arc_value d.node → r.newest ≡ i → r.rows ≡ d.rows + length (cells i.chunk) → d.rows + length (cells i.chunk) < 2 ^ 64
-      → piece_type i.chunk ≡ ty (arc_value (arc_value d.node).dtype) → r.cutter ≡ with_cutting d.cutter (held_at (arc_value d.node).probe d.cutter d.newest.chunk)
-      → ((ds : List CellData) → runs_in r.runs ds ≡ behind_all (runs_in d.runs ds) (gives_at (arc_value d.node).probe d.cutter d.newest.chunk false))
+  pub runs_took : (cutter : CutterData) (runs : RunsSoFar) (rows : ℕ) (todo : List Next) → rows ≡ d.rows + length (cells i.chunk) → d.rows + length (cells i.chunk) < 2 ^ 64
+      → piece_type i.chunk ≡ ty (arc_value (arc_value d.node).dtype) → cutter ≡ with_cutting d.cutter (held_at (arc_value d.node).probe d.cutter d.newest.chunk)
+      → ((ds : List CellData) → runs_in runs ds ≡ behind_all (runs_in d.runs ds) (gives_at (arc_value d.node).probe d.cutter d.newest.chunk false))
       → ((ds : List CellData) → todo ≡ nexts_at (coder_in (arc_value d.node)) (runs_in d.runs ds) d.newest.id 0 (gives_at (arc_value d.node).probe d.cutter d.newest.chunk false))
-      → r.runs.pointer.last < 2 ^ 64 → length (gives_at (arc_value d.node).probe d.cutter d.newest.chunk false) < 2 ^ 64
-      → Took (taken s name ks (item_of i) (mind_of (Runs d))) (mind_of (Runs r)) todo [] ks
-  runs_took r todo node newest rows few typed cutter runs t eofs made = record {
+      → runs.pointer.last < 2 ^ 64 → length (gives_at (arc_value d.node).probe d.cutter d.newest.chunk false) < 2 ^ 64
+      → Took (taken s name ks (item_of i) (mind_of (Runs d))) (by_run (coder_in (arc_value d.node)) (runs_in runs cutter.distinct) (item_of i) rows) todo [] ks
+  runs_took cutter next rows todo counted few typed held runs t eofs made = record {
     unrefused = refl;
     fits = typed_fits (piece_type i.chunk) (ty (arc_value (arc_value d.node).dtype)) typed;
-    counted = then_fit (d.rows + length (cells i.chunk)) _ few (then_fit _ _ (subst (λ z. z < 2 ^ 64) (rest_here d r.runs false runs) eofs) (one_fits _ (subst (λ z. z < 2 ^ 64) (made_here d r.runs) made)));
-    mind_is = (λ j. by_run (coder_in (node j)) (runs_come d r.runs r.cutter cutter runs j) (item_of (newest j)) (rows j));
-    todo_is = nexts_here d r.runs todo t ∙ sym (append-nil (deed_nexts (coder_in (arc_value d.node)) (deeds_at (coder_in (arc_value d.node)) (runs_in d.runs d.cutter.distinct) (item_of d.newest))));
+    counted = then_fit (d.rows + length (cells i.chunk)) ((rest_eof (runs_after (coder_in (arc_value d.node)) (runs_in d.runs d.cutter.distinct) (item_of d.newest))).last ∷ (2 * (length (cut_of (coder_in (arc_value d.node)) (runs_in d.runs d.cutter.distinct) (item_of d.newest)).closed) + 1) ∷ []) few (then_fit (rest_eof (runs_after (coder_in (arc_value d.node)) (runs_in d.runs d.cutter.distinct) (item_of d.newest))).last ((2 * (length (cut_of (coder_in (arc_value d.node)) (runs_in d.runs d.cutter.distinct) (item_of d.newest)).closed) + 1) ∷ []) (subst (λ z. z < 2 ^ 64) (rest_here d next false runs) eofs) (one_fits (2 * (length (cut_of (coder_in (arc_value d.node)) (runs_in d.runs d.cutter.distinct) (item_of d.newest)).closed) + 1) (subst (λ z. z < 2 ^ 64) (made_here d next) made)));
+    mind_is = (λ j. by_run (coder_in (arc_value d.node)) (runs_come d next cutter held runs j) (item_of i) (counted j));
+    todo_is = nexts_here d next todo t ∙ sym (append-nil (deed_nexts (coder_in (arc_value d.node)) (deeds_at (coder_in (arc_value d.node)) (runs_in d.runs d.cutter.distinct) (item_of d.newest))));
     kids_are = refl;
   }
 
@@ -213,9 +227,23 @@ module _ (s : Setting) (name : List ℕ) (ks : Tasks) (d : DictRuns) (i : Item) 
   pub runs_why : (e : WriteError) → CutRefused (rest_eof (behind_all (runs_in d.runs []) (gives_at (arc_value d.node).probe d.cutter d.newest.chunk false))).last (length (gives_at (arc_value d.node).probe d.cutter d.newest.chunk false)) e
       → TakeRefused (taken s name ks (item_of i) (mind_of (Runs d))) e
   runs_why e h =
-      cut_why d d.runs false 0 (2 * length (cut_in d.cutter (arc_value d.node) d.newest.chunk).closed + 1) (not (ty_eq (piece_type i.chunk) (ty (arc_value (arc_value d.node).dtype)))) ((d.rows + length (cells i.chunk)) ∷ []) e (made_here d d.runs) h
+      cut_why d d.runs false (2 * length (cut_in d.cutter (arc_value d.node) d.newest.chunk).closed + 1) (not (ty_eq (piece_type i.chunk) (ty (arc_value (arc_value d.node).dtype)))) ((d.rows + length (cells i.chunk)) ∷ []) e (made_here d d.runs) h
+
+  -- by the rows
+  pub runs_rows : (e : WriteError) → SplitRefused false (d.rows + length (cells i.chunk)) e → TakeRefused (taken s name ks (item_of i) (mind_of (Runs d))) e
+  runs_rows = by_rows None (not (ty_eq (piece_type i.chunk) (ty (arc_value (arc_value d.node).dtype)))) (d.rows + length (cells i.chunk)) (cut_indices (coder_in (arc_value d.node)) (runs_in d.runs d.cutter.distinct) (item_of d.newest))
 
 -- ---- the end
+
+-- the newest chunk's id, the pointer, and what is to be done
+pub end_moved : (u v w : Active) (i p q : Stock) (xs ys ms zs : List Due) (x : Due) → ms ≡ ys → zs ≡ ms ++ (x ∷ []) → due_stock x ≡ none → Owned u (both (both i p) (dues_stock xs)) → Moved u v (both (both p (dues_stock xs)) i) (both q (dues_stock ys)) → Moved v w q none
+    → Moved u w (both (both i p) (dues_stock xs)) (both none (dues_stock zs))
+end_moved u v w i p q xs ys ms zs x l e f o m n =
+    let s : both (both i p) (dues_stock xs) ≡ both (both p (dues_stock xs)) i = both_assoc i p (dues_stock xs) ∙ both_swap i (both p (dues_stock xs)) in
+    let a : Moved u v (both (both i p) (dues_stock xs)) (both q (dues_stock ys)) = moved_as u v _ _ _ _ (sym s) refl m in
+    let b : Owned v (both q (dues_stock ys)) = owned_now u v (both (both i p) (dues_stock xs)) (both q (dues_stock ys)) o a in
+    let c : Moved v w (both q (dues_stock ys)) (both none (dues_stock ys)) = moved_beside v w q none (dues_stock ys) b n in
+    moved_as u w _ _ _ _ refl (ap (both none) (sym (one_free ys zs x (e ∙ ap (λ z. z ++ (x ∷ [])) l) f))) (moved_then u v w (both (both i p) (dues_stock xs)) (both q (dues_stock ys)) (both none (dues_stock ys)) a c)
 
 pub runs_ended : (d : DictRuns) (next : RunsSoFar) (todo before all : List Next)
     → ((ds : List CellData) → runs_in next ds ≡ behind_all (runs_in d.runs ds) (gives_at (arc_value d.node).probe d.cutter d.newest.chunk true))
@@ -225,7 +253,7 @@ pub runs_ended : (d : DictRuns) (next : RunsSoFar) (todo before all : List Next)
 runs_ended d next todo before all runs t eofs made a n = λ s ks c. record {
   unrefused = refl;
   fits = refl;
-  counted = then_fit _ _ (subst (λ z. z < 2 ^ 64) (rest_here d next true runs) eofs) (one_fits _ (subst (λ z. z < 2 ^ 64) (made_last d next) made));
+  counted = then_fit (rest_eof (runs_after (coder_in (arc_value d.node)) (runs_in d.runs d.cutter.distinct) (item_of d.newest))).last ((2 * suc (length (cut_of (coder_in (arc_value d.node)) (runs_in d.runs d.cutter.distinct) (item_of d.newest)).closed)) ∷ []) (subst (λ z. z < 2 ^ 64) (rest_here d next true runs) eofs) (one_fits (2 * suc (length (cut_of (coder_in (arc_value d.node)) (runs_in d.runs d.cutter.distinct) (item_of d.newest)).closed)) (subst (λ z. z < 2 ^ 64) (made_last d next) made));
   mind_is = refl;
   todo_is =
       let deeds = deed_nexts (coder_in (arc_value d.node)) (last_deeds (coder_in (arc_value d.node)) (runs_in d.runs d.cutter.distinct) (item_of d.newest)) in
@@ -235,4 +263,4 @@ runs_ended d next todo before all runs t eofs made a n = λ s ks c. record {
 
 pub end_why : (d : DictRuns) (n : ℕ) (e : WriteError)
     → CutRefused (rest_eof (behind_all (runs_in d.runs []) (gives_at (arc_value d.node).probe d.cutter d.newest.chunk true))).last (length (gives_at (arc_value d.node).probe d.cutter d.newest.chunk true)) e → EndRefused (Runs d) n e
-end_why d n e h = λ s ks c. cut_why d d.runs true 0 (2 * suc (length (cut_in d.cutter (arc_value d.node) d.newest.chunk).closed)) false [] e (made_last d d.runs) h
+end_why d n e h = λ s ks c. cut_why d d.runs true (2 * suc (length (cut_in d.cutter (arc_value d.node) d.newest.chunk).closed)) false [] e (made_last d d.runs) h

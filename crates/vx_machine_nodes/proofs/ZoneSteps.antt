@@ -1,10 +1,11 @@
 -- What a zoned node records, and its table, against the same in plain data.
-use Rattle.std.proofs.Common.{◌≡◌, ◌+◌, ◌<◌, ◌≤◌, ◌^◌, if◌then◌else◌, ℕ, suc, true, false, List, [], ◌∷◌, ◌++◌, length, map, drop, get_or, Option, Some, None, refl, sym, ap, subst, ◌∙◌, arith, length-append, append_assoc}
+use Rattle.std.proofs.Common.{◌≡◌, ◌+◌, ◌<◌, ◌≤◌, ◌^◌, not, if◌then◌else◌, ℕ, suc, true, false, List, [], ◌∷◌, ◌++◌, length, map, drop, get_or, Option, Some, None, refl, sym, ap, subst, ◌∙◌, arith, length-append, append_assoc}
 use Rattle.std.proofs.lemmas.List.{map_push, drop_more, drop_all}
 use Rattle.std.specs.Option.{option_map}
 use Rattle.std.specs.Arc.{arc_value}
 use Rattle.std.specs.Int.NonZero.{non_zero_u32_get}
 use Rattle.vx_hash.specs.XxHash3.{xxhash3_64}
+use Rattle.vx_model.specs.Ty.{ty_eq}
 use Rattle.vx_model.specs.TyView.{ty}
 use Rattle.vx_model.specs.ValueData.{ValueData}
 use Rattle.vx_model.specs.ChunkData.{ChunkData, piece_type, cells, row_values}
@@ -15,23 +16,31 @@ use Rattle.vx_zone_spec.specs.Record.{zone_record}
 use Rattle.vx_zone_spec.specs.ZoneMap.{names_of}
 use Rattle.vx_zone_spec.specs.ZoneTable.{Filled, kept_columns, table_specs, table_piece}
 use Rattle.vx_zone_record_spec.specs.Held.{record_fits}
+use Rattle.vx_sequence.specs.Universe.{Active}
+use Rattle.vx_machine_ids.specs.Stock.{Stock, none, both}
+use Rattle.vx_machine_ids.specs.Balance.{Owned, Moved}
+use Rattle.vx_machine_ids.proofs.Stocks.{stock_is}
+use Rattle.vx_machine_ids.proofs.MoveLaws.{moved_none}
 use Rattle.vx_sink.specs.ContextView.{allows_id}
 use Rattle.vx_plan.specs.PlanData.{Setting, fault, at_start, forbidden_aggregate}
 use Rattle.vx_plan.specs.SourcePlan.{first_what}
 use Rattle.vx_plan.specs.ZonedNode.{allows, forbidden_faults}
-use Rattle.vx_turn_laws.specs.Guard.{Guard, where_some, record_at, behind}
+use Rattle.vx_machine_turns.specs.Zoned.{zone_fault}
+use Rattle.vx_turn_laws.specs.Guard.{Guard, where_some, record_at, refused_at, behind}
 use Rattle.vx_zone_table.specs.Gathered.{Gathered, with_record, aggregates_in, finished}
 use Rattle.vx_zone_table.specs.BuilderView.{gathered}
-use Rattle.vx_machine_view.specs.State.{Next, shut_kids, start_table, leave_kid, join_kids, fold_zones, Tasks}
+use Rattle.vx_machine_view.specs.State.{Next, shut_kids, start_table, leave_kid, join_kids, fold_zones, by_zone, Tasks}
 use Rattle.vx_machine_view.specs.Acts.{Did, end_zones}
 use Rattle.vx_machine_view.specs.Zoned.{Zones, one_zone}
 use Rattle.vx_machine_nodes.specs.declared.item.Due.{Due}
+use Rattle.vx_machine_nodes.specs.declared.item.Due.TheVariants.{Put}
+use Rattle.vx_machine_nodes.specs.declared.item.Item.{Item}
 use Rattle.vx_machine_nodes.specs.declared.node.Local.TheVariants.{Zoned, Over, Passing}
 use Rattle.vx_machine_nodes.specs.declared.zoned_node.ZonedNode.{ZonedNode}
-use Rattle.vx_machine_nodes.specs.Acting.{bare, Ended, EndTaken}
+use Rattle.vx_machine_nodes.specs.Acting.{bare, taken, Took, Ended, EndTaken}
 use Rattle.vx_machine_nodes.specs.Context.{Allowed}
 use Rattle.vx_machine_nodes.specs.Fresh.{forbidden_among}
-use Rattle.vx_machine_nodes.specs.View.{form_at, next_of, todo_of, zoner_in, zones_in, mind_of}
+use Rattle.vx_machine_nodes.specs.View.{form_at, item_of, next_of, todo_of, zoner_in, zones_in, mind_of}
 use Rattle.vx_machine_nodes.proofs.Fitting.{none_fit, one_fits}
 use Rattle.vx_machine_nodes.proofs.TakeShows.{two_more}
 
@@ -68,6 +77,19 @@ zone_more s n p v b g rows h is next more sum =
     let records : b.records ≡ had ++ (zone_record s.hash (ty (arc_value n.dtype)) (row_values p) n.guard.columns ∷ []) = ap (λ x. x.records) more ∙ ap (λ z. had ++ (z ∷ [])) (is ∙ same) in
     let zones : length b.records ≡ suc (length had) = ap (λ x. length x.records) more ∙ count in
     λ j. record { records = records j; last = (next j).last; zones = zones j; rows = sum j }
+
+-- the take of a chunk
+pub zone_took : (s : Setting) (name : List ℕ) (ks : Tasks) (n m : ZonedNode) (i : Item) (more before : List Due) → zoner_in m ≡ zoner_in n → m.eof ≡ n.eof
+    → zones_in m ≡ one_zone s (zoner_in n) (zones_in n) i.chunk → refused_at n.guard i.chunk ≡ None → n.rows + length (cells i.chunk) < 2 ^ 64 → ty_eq (piece_type i.chunk) (ty (arc_value n.dtype)) ≡ true
+    → more ≡ Put 0 i ∷ before → Took (taken s name ks (item_of i) (mind_of (Zoned n))) (mind_of (Zoned m)) (todo_of more) (todo_of before) ks
+zone_took s name ks n m i more before zoner eof zones makes few typed e = record {
+  unrefused = ap (λ k. zone_fault k n.guard.columns n.guard.last (length (cells i.chunk))) (sym n.same) ∙ makes;
+  fits = ap not typed;
+  counted = one_fits (n.rows + length (cells i.chunk)) few;
+  mind_is = λ j. by_zone (zoner j) (eof j) (zones j);
+  todo_is = ap todo_of e;
+  kids_are = refl;
+}
 
 -- ---- the table
 
@@ -125,6 +147,11 @@ module _ (n : ZonedNode) (kids : ℕ) where
         todo_is = e ∙ (λ j. before ++ (shut_kids ∷ start_table (form_at n.stats.item (piece_type (piece j))) n.eof (piece j)
             ∷ join_kids (fold_zones (ty (arc_value n.dtype)) n.rows (non_zero_u32_get n.zone_len) (specs j)) ∷ []));
       })
+
+-- what was in mind is what is left to do
+pub kept_behind : (u : Active) (l d e : Stock) → e ≡ both d l → Owned u (both l d) → Moved u u (both l d) (both none e)
+kept_behind u l d e is o =
+    subst (λ s. Moved u u (both l d) s) (stock_is (both l d) (both none (both d l)) (λ p. omega arith) (λ p. omega arith) ∙ ap (both none) (sym is)) (moved_none u (both l d) o)
 
 -- ---- what may be recorded
 

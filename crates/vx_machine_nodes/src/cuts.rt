@@ -106,7 +106,7 @@ fn put_codes<O: Order>(
     ensures reserved { dues_reserved todo.new.items ≡ dues_reserved todo.old.items }
     ensures runs { OnOk result ((ds : List CellData) (k : ℕ) → runs_in runs.new ds ≡ behind (runs_in runs.old ds) (Codes k) item.chunk) }
     ensures todo { OnOk result ((ds : List CellData) (k : ℕ) → todo_of todo.new.items ≡ todo_of todo.old.items ++ (next_at (coder_in (arc_value node.now)) (runs_in runs.old ds) (Codes k) (item_of item) ∷ [])) }
-    ensures refused { IfErr result (λ e. (below : ℕ) → CutRefused (runs.old.pointer.last + 2) below e) }
+    ensures refused { IfErr result (λ e. (k below : ℕ) → CutRefused (rest_eof (behind (runs_in runs.old []) (Codes k) item.chunk)).last below e) }
     ensures outlet { O.outlet order.new ≡ O.outlet order.old }
     ensures sink { O.sink order.new ≡ O.sink order.old }
     ensures cause { IfErr result MayCome }
@@ -232,7 +232,8 @@ fn put_outputs<O: Order>(
     ensures sink { O.sink order.new ≡ O.sink order.old }
     ensures cause { IfErr result MayCome }
 {
-    'outputs: for (place, chunk) in outputs {
+    'outputs: for output in outputs {
+        let (place, chunk) = output;
         put_output(order, node, runs, below, todo, place, chunk)?;
     }
     Ok(())
@@ -280,8 +281,45 @@ fn cut_refusal(error: ChunkError) -> WriteError
     ensures cause { MayCome result }
 {
     match error {
-        ChunkError::TooLarge(_) => WriteError::TooLarge(1 << 64),
+        ChunkError::TooLarge(_) => WriteError::TooLarge(u128::from(u64::MAX) + 1),
         ChunkError::OutOfMemory => WriteError::OutOfMemory,
+    }
+}
+
+/// As `cut`.
+fn cut_newest<O: Order>(
+    alloc: Global,
+    order: &mut O,
+    node: &Arc<DictNode>,
+    cutter: &mut RunCutter,
+    runs: &mut RunsSoFar,
+    newest: Item,
+    todo: &mut VecDeque<Due>,
+    last: bool,
+) -> Result<(), WriteError>
+    requires owned { Owned (O.active order.old) (both (both (end_stock runs.old.pointer) (dues_stock todo.old.items)) (item_stock newest)) }
+    requires typed { piece_type newest.chunk ≡ cutter.old.typed }
+    requires number { cutter.old.number ≡ length runs.old.ended.items }
+    requires few { runs.old.rows + length (cells newest.chunk) < 2 ^ 64 }
+    ensures moved { Moved (O.active order.old) (O.active order.new) (both (both (end_stock runs.old.pointer) (dues_stock todo.old.items)) (item_stock newest)) (both (end_stock runs.new.pointer) (dues_stock todo.new.items)) }
+    ensures reserved { dues_reserved todo.new.items ≡ dues_reserved todo.old.items }
+    ensures cutter { OnOk result (last ≡ false → cutter.new ≡ with_cutting cutter.old (held_at (arc_value node.now).probe cutter.old newest.chunk)) }
+    ensures runs { OnOk result ((ds : List CellData) → runs_in runs.new ds ≡ behind_all (runs_in runs.old ds) (gives_at (arc_value node.now).probe cutter.old newest.chunk last)) }
+    ensures todo { OnOk result ((ds : List CellData) → todo_of todo.new.items ≡ todo_of todo.old.items ++ nexts_at (coder_in (arc_value node.now)) (runs_in runs.old ds) newest.id 0 (gives_at (arc_value node.now).probe cutter.old newest.chunk last)) }
+    ensures rows { OnOk result (runs.new.rows ≤ runs.old.rows + length (cells newest.chunk)) }
+    ensures fits { OnOk result (length (gives_at (arc_value node.now).probe cutter.old newest.chunk last) < 2 ^ 64) }
+    ensures refused { IfErr result (CutRefused (rest_eof (behind_all (runs_in runs.old []) (gives_at (arc_value node.now).probe cutter.old newest.chunk last))).last (length (gives_at (arc_value node.now).probe cutter.old newest.chunk last))) }
+    ensures outlet { O.outlet order.new ≡ O.outlet order.old }
+    ensures sink { O.sink order.new ≡ O.sink order.old }
+    ensures cause { IfErr result MayCome }
+{
+    let Item { id, chunk } = newest;
+    match cutter.react(alloc, chunk, last) {
+        Ok(outputs) => put_below(order, node, runs, id, todo, outputs),
+        Err(error) => {
+            give_up_id(order, id);
+            Err(cut_refusal(error))
+        }
     }
 }
 
@@ -313,14 +351,7 @@ pub(crate) fn cut<O: Order>(
     ensures sink { O.sink order.new ≡ O.sink order.old }
     ensures cause { IfErr result MayCome }
 {
-    let Item { id, chunk } = newest;
-    let cut = match cutter.react(alloc, chunk, last) {
-        Ok(outputs) => put_below(order, node, runs, id, todo, outputs),
-        Err(error) => {
-            give_up_id(order, id);
-            Err(cut_refusal(error))
-        }
-    };
+    let cut = cut_newest(alloc, order, node, cutter, runs, newest, todo, last);
     index_fits(&runs.pointer);
     cut
 }

@@ -7,6 +7,7 @@ pub mod CauseSteps
 pub mod GatherSteps
 pub mod StartMoves
 pub mod JoinSteps
+pub mod RunJoins
 pub mod ActMoves
 pub mod ViewParts
 pub mod Counting

@@ -12,7 +12,7 @@ ghost use Rattle.vx_machine_view.specs.Acts.{folded};
 ghost use Rattle.vx_machine_nodes.specs.Acting.{JoinRefused};
 ghost use Rattle.vx_machine_nodes.specs.Causes.{MayCome};
 
-use crate::join::gather;
+use crate::join::{gather, in_order};
 use std::alloc::{AllocError, Global};
 use vx_layout_tree::{KindParts, Layout, LayoutHead};
 use vx_machine_nodes::DictNode;
@@ -45,11 +45,11 @@ fn run_layouts(
     alloc: Global,
     dtype: &DType,
     rows: Vec<u64>,
-    mut layouts: Vec<Layout>,
+    layouts: Vec<Layout>,
 ) -> Result<Vec<Layout>, AllocError>
     ensures { IfOk result (λ v. map layout_data v.items ≡ runs_laid (ty dtype.now) rows.items (map layout_data layouts.items)) }
 {
-    layouts.reverse();
+    let mut layouts = in_order(layouts);
     let mut runs = Vec::with_capacity(alloc, rows.len())?;
     'runs: for count in rows {
         let Some(codes) = layouts.pop() else {

@@ -271,7 +271,7 @@ fn add_layouts<O: Order>(
 }
 
 /// The layouts, the last one first.
-fn in_order(mut layouts: Vec<Layout>) -> Vec<Layout>
+pub(crate) fn in_order(mut layouts: Vec<Layout>) -> Vec<Layout>
     ensures items { result.items ≡ reverse layouts.items }
     ensures len { vec_len result ≡ vec_len layouts }
 {
