@@ -1,5 +1,5 @@
 -- The machine as a whole.
-use Rattle.std.specs.Prelude.{◌≡◌, ℕ, ◌+◌, ◌^◌, ◌≤◌, ◌&&◌, Bool, true, false}
+use Rattle.std.specs.Prelude.{ℕ, ◌+◌, ◌^◌, ◌≤◌, ◌&&◌, Bool, true, false}
 use Rattle.vx_sequence.specs.Universe.{Active}
 use Rattle.vx_machine_ids.specs.Stock.{Stock, one, both}
 use Rattle.vx_write_answer.specs.declared.error.WriteError.{WriteError}
@@ -8,7 +8,6 @@ use Rattle.vx_machine.specs.declared.source.Phase.{Phase}
 use Rattle.vx_machine.specs.declared.source.Phase.TheVariants.{Reading, Giving, Closing, Finished}
 use Rattle.vx_machine.specs.declared.machine.Machine.{Machine}
 use Rattle.vx_machine_tasks.specs.declared.task.Task.{Task}
-use Rattle.vx_machine_nodes.specs.Causes.{StartMay}
 use Rattle.vx_machine_tasks.specs.Ledger.{task_reserved}
 use Rattle.vx_machine_tasks.specs.Stocks.{task_stock}
 use Rattle.vx_machine.specs.Source.{phase_stock}
@@ -59,8 +58,3 @@ StepMay (TooLarge n) = 2 ^ 32 ≤ n
 StepMay OutOfMemory = Unit {0}
 StepMay Unbuilt = ⊥
 StepMay (Stopped by name) = Unit {0}
-
--- why a start is refused: a strategy that isn't built always is, and takes no memory
-abbrev pub WholeStartMay : Bool → WriteError → Type 0
-WholeStartMay false e = e ≡ Unbuilt
-WholeStartMay true e = StartMay e

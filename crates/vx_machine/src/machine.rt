@@ -16,7 +16,6 @@ ghost use Rattle.vx_machine_view.specs.Machine.{is_finished as has_finished};
 ghost use Rattle.vx_machine_view.specs.Places.{whole_ready};
 ghost use Rattle.vx_sink.specs.ContextView.{is_marked, counted as counted_bytes, allowed_in};
 ghost use Rattle.vx_machine_nodes.specs.Ledger.{Paid, told_by};
-ghost use Rattle.vx_machine_view.specs.Built.{is_built};
 ghost use Rattle.vx_machine_nodes.specs.Calls.{SinkTold, PressTold};
 ghost use Rattle.vx_machine.specs.Calls.{SourceTold, reads_at};
 ghost use Rattle.vx_machine_nodes.specs.Causes.{StartMay};
@@ -26,16 +25,15 @@ ghost use Rattle.vx_machine_tasks.specs.Ready.{is_done as is_done_task, counted}
 ghost use Rattle.vx_machine.specs.Source.{SourceMay};
 ghost use Rattle.vx_machine.specs.SourceActs.{SourceActed, SourceRefused};
 ghost use Rattle.vx_machine_tasks.specs.Starting.{IsAllowed, Counted, Started, FormRefused};
-ghost use Rattle.vx_machine.specs.Starting.{WholeRefused, machine_at};
+ghost use Rattle.vx_machine.specs.Starting.{machine_at};
 ghost use Rattle.vx_machine.specs.Steps.{StepDone, StepFails};
 ghost use Rattle.vx_machine_tasks.specs.Stocks.{task_stock};
 ghost use Rattle.vx_machine_nodes.specs.View.{form_of};
 ghost use Rattle.vx_machine_tasks.specs.View.{task_row, row};
 ghost use Rattle.vx_machine.specs.View.{phase_of, machine_of};
 ghost use Rattle.vx_machine_tasks.specs.declared.task.Task.{out-Task};
-ghost use Rattle.vx_machine.specs.Whole.{machine_stock, machine_reserved, machine_ready, may_source as may_act, has_closed as is_closed, is_finished, StepMay, WholeStartMay};
+ghost use Rattle.vx_machine.specs.Whole.{machine_stock, machine_reserved, machine_ready, may_source as may_act, has_closed as is_closed, is_finished, StepMay};
 
-use crate::built::is_built;
 use crate::source::{Phase, act_source, give_up_phase};
 use std::alloc::{AllocError, Global};
 use std::mem;
@@ -81,7 +79,6 @@ fn start_root<O: Order>(
     eof: SequencePointer,
 ) -> Result<Task, WriteError>
     requires owned { Owned (O.active order.old) (end_stock eof) }
-    requires built { IsTrue (is_built (strategy_data strategy.now)) }
     ensures moved { Moved (O.active order.old) (O.active order.new) (end_stock eof) (ok_stock task_stock result) }
     ensures outlet { O.outlet order.new ≡ O.outlet order.old }
     ensures sink { O.sink order.new ≡ O.sink order.old }
@@ -124,8 +121,8 @@ impl Machine {
     /// The machine before its first step. The batches get paths from `stream` on; what is written behind all of them goes on
     /// from `eof`.
     ///
-    /// `Unbuilt` comes where the strategy names a node or a wrapper that isn't built. `NotStruct`, `DuplicateField` and `ForbiddenAggregate` come of the nodes
-    /// that start with the root, `TooLarge(2^64)` where a path index has no next one. Refused, both pointers are given up.
+    /// `NotStruct`, `DuplicateField` and `ForbiddenAggregate` come of the nodes that start with the root, `TooLarge(2^64)` where
+    /// a path index has no next one. Refused, both pointers are given up.
     pub fn start<O: Order>(
         alloc: Global,
         strategy: &Strategy,
@@ -138,20 +135,14 @@ impl Machine {
         requires { Owned (O.active order.old) (both (end_stock stream) (end_stock eof)) }
         ensures moved { Moved (O.active order.old) (O.active order.new) (both (end_stock stream) (end_stock eof)) (ok_stock machine_stock result) }
         ensures unreserved { IfOk result (λ m. machine_reserved m ≡ 0) }
-        ensures built { OnOk result (IsTrue (is_built (strategy_data strategy.now))) }
         ensures outlet { O.outlet order.new ≡ O.outlet order.old }
         ensures sink { O.sink order.new ≡ O.sink order.old }
-        ensures cause { IfErr result (WholeStartMay (is_built (strategy_data strategy.now))) }
+        ensures cause { IfErr result StartMay }
         ensures allowed { OnOk result (IsAllowed (allowed_in ctx.now) (form_of strategy.now dtype.now) (is_marked ctx.now)) }
         ensures counted { OnOk result (Counted eof (first_indices (form_of strategy.now dtype.now) (is_marked ctx.now) eof)) }
         ensures shows { IfOk result (λ m. machine_of m ≡ machine_at stream (form_of strategy.now dtype.now) (is_marked ctx.now) eof) }
-        ensures refused { IfErr result (WholeRefused (is_built (strategy_data strategy.now)) (allowed_in ctx.now) (form_of strategy.now dtype.now) (is_marked ctx.now) eof) }
+        ensures refused { IfErr result (FormRefused (allowed_in ctx.now) (form_of strategy.now dtype.now) (is_marked ctx.now) eof) }
     {
-        if !is_built(strategy) {
-            give_up_pointer(order, stream);
-            give_up_pointer(order, eof);
-            return Err(WriteError::Unbuilt);
-        }
         match start_root(alloc, strategy, dtype, ctx, order, eof) {
             Ok(root) => Ok(Machine {
                 alloc,

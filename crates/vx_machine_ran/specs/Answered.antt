@@ -15,14 +15,12 @@ use Rattle.vx_sink.specs.ContextView.{allowed_in, is_marked, counted}
 use Rattle.vx_write_answer.specs.declared.step.Step.{Step}
 use Rattle.vx_write_answer.specs.declared.error.WriteError.{WriteError}
 use Rattle.vx_write_answer.specs.declared.error.WriteError.TheVariants.{SourceFault, SinkFault, CompressFault, BatchType, OutOfMemory}
-use Rattle.vx_machine_view.specs.Built.{is_built}
 use Rattle.vx_machine_view.specs.Start.{first_indices}
 use Rattle.vx_machine_view.specs.Machine.{start}
 use Rattle.vx_machine.specs.Context.{Allowed, setting_of}
 use Rattle.vx_machine.specs.Outcome.{AllFit, Kept}
-use Rattle.vx_machine.specs.TaskStarting.{IsAllowed}
+use Rattle.vx_machine.specs.TaskStarting.{IsAllowed, FormRefused}
 use Rattle.vx_machine.specs.Calls.{reads_at}
-use Rattle.vx_machine.specs.Starting.{WholeRefused}
 use Rattle.vx_machine.specs.Run.{At, at, RunDone, RunStopped, picked_at}
 use Rattle.vx_machine.specs.TaskView.{form_at}
 use Rattle.vx_machine_ran.specs.Ran.{OwnSink, own_sink}
@@ -36,13 +34,12 @@ begun w t m to_come outlet = at (start (form_at w t) m) to_come outlet
 
 -- a machine was started
 pub record IsStarted (a : Allowed) (w : StrategyData) (t : Ty) (m : Bool) : Type 0 where
-  pub built : is_built w ≡ true
   pub allowed : IsAllowed a (form_at w t) m
   pub counted : AllFit (first_indices (form_at w t) m root_eof)
 
 -- none was, for want of memory or since its start is refused; the source wasn't asked, nothing was appended, and there is no step
 pub record Unstarted (a : Allowed) (w : StrategyData) (t : Ty) (m : Bool) (to_come to_come_now : Option (List ChunkData)) (before after : Outlet) (steps : List Step) (e : WriteError) : Type 0 where
-  pub cause : (e ≡ OutOfMemory) ⊎ WholeRefused (is_built w) a (form_at w t) m root_eof e
+  pub cause : (e ≡ OutOfMemory) ⊎ FormRefused a (form_at w t) m root_eof e
   pub told : to_come_now ≡ to_come
   pub kept : Kept before after
   pub none : steps ≡ []
@@ -87,12 +84,12 @@ AnswersLeaveSinks = (ctx : LayoutWriterContext) (image : ℕ → ChunkData → C
 abbrev pub IsOutside : WriteError → Type 0
 IsOutside e = (e ≡ OutOfMemory) ⊎ (e ≡ SourceFault) ⊎ (e ≡ SinkFault) ⊎ (e ≡ CompressFault)
 
--- where the source tells a valid input of a strategy that is built, nothing else is refused
+-- where the source tells a valid input, nothing else is refused
 abbrev pub AnswersAreComplete : Type 0
 AnswersAreComplete = (ctx : LayoutWriterContext) (image : ℕ → ChunkData → ChunkData) (w : StrategyData) (t : Ty) (schedule : List ℕ) (to_come to_come_now : Option (List ChunkData)) (borrow first : ℕ)
     (before : Option (List (List ℕ))) (steps : List Step) (after : Outlet) (e : WriteError) → Keeps (setting_of ctx image)
     → Answered ctx image w t schedule to_come (own_sink borrow first before) steps to_come_now after (Err e)
-    → (xs : List ChunkData) → to_come ≡ Some xs → is_built w ≡ true → Valid (setting_of ctx image) w t (is_marked ctx) first (counted ctx) xs → IsOutside e
+    → (xs : List ChunkData) → to_come ≡ Some xs → Valid (setting_of ctx image) w t (is_marked ctx) first (counted ctx) xs → IsOutside e
 
 -- and a batch of another type is found where the source reads
 abbrev pub MisfitsAreRead : Type 0
