@@ -1,5 +1,5 @@
 -- Which text belongs to which status.
-use Rattle.std.specs.Prelude.{◌≡◌, ℕ, ◌+◌, ◌++◌, ◌^◌, ◌≤◌, ◌<◌, max, Bool, true, false, not, List, [], ◌∷◌, length, codes, Option, Some, None, IsTrue, Result, Ok, Err}
+use Rattle.std.specs.Prelude.{◌≡◌, ℕ, ◌+◌, ◌++◌, ◌^◌, ◌≤◌, ◌<◌, max, Bool, true, false, List, [], ◌∷◌, length, codes, Option, Some, None, IsTrue, Result, Ok, Err}
 use Rattle.vx_model.specs.ChunkData.{ChunkData}
 use Rattle.vx_model.specs.ValueData.{ValueData}
 use Rattle.vx_layout_spec.specs.LayoutTree.{LayoutData}
@@ -12,12 +12,11 @@ use Rattle.vx_plan.specs.Valid.{Valid}
 use Rattle.vx_fault.specs.Fails.{fails_at}
 use Rattle.vx_setting.specs.Setting.{real}
 use Rattle.vx_compressor_spec.specs.TableImage.{table_image}
-use Rattle.vx_machine_view.specs.Built.{is_built}
 use Rattle.vx_machine_view.specs.Images.{images_of}
 use Rattle.vx_write.specs.Calls.{reads_in, appends_in, calls_in, misfits}
+use Rattle.vx_write.specs.Readable.{IsReadable}
 use Rattle.vx_write.specs.Traced.{IsTraced}
 use Rattle.vx_write.specs.Written.{Wrote, Halted}
-use Rattle.vx_write_answer.specs.Causes.{is_unbuilt}
 use Rattle.vx_write_answer.specs.declared.step.Step.{Step}
 use Rattle.vx_write_answer.specs.declared.error.WriteError.{WriteError}
 use Rattle.vx_write_answer.specs.declared.error.WriteError.TheVariants as errors
@@ -60,8 +59,9 @@ pub record NoneFails (j : JobData) (asked appended called : ℕ) : Type 0 where
 -- A write of the job came to its end, with this layout, these segments and these steps: those of the plan of the job's batches,
 -- numbered from the job's first number, and of their tasks under the job's schedule.
 pub record IsWritten (j : JobData) (l : LayoutData ℕ) (stored : List (List ℕ)) (steps : List Step) : Type 0 where
-  pub form : is_built j.strategy ≡ true
   pub wrote : Wrote j.schema j.options.next (j.options.next + length stored) (Some []) (Some stored) l j.batches (job_plan j)
+  -- readers build the layout again, and prune by its zone tables without a loss
+  pub readable : IsReadable (job_setting j) j.schema j.options.next stored l
   pub traced : IsTraced (job_setting j) j.strategy j.schema j.options.marked j.options.schedule j.batches steps
   -- a segment each append
   pub appended : length stored ≡ appends_in steps
@@ -105,10 +105,7 @@ pub record IsRefused (j : JobData) (e : WriteError) (stand : List (List ℕ)) (s
   pub appended : length stand ≡ appends_in steps
   pub calls : NoneFails j (reads_in steps + misfits e) (length stand) (calls_in steps)
   pub let_fail : IsLet j (reads_in steps + misfits e) (length stand) (calls_in steps) e
-  -- a strategy that isn't built is refused as that and as nothing else, before anything is done
-  pub built : is_built j.strategy ≡ not (is_unbuilt e)
-  pub unasked : is_unbuilt e ≡ true → (later ≡ j.batches) × (stand ≡ []) × (steps ≡ [])
-  pub not_valid : is_built j.strategy ≡ true → SetsNoFaults j → ¬ (IsValid j)
+  pub not_valid : SetsNoFaults j → ¬ (IsValid j)
 
 -- the report of such a write: the refusal's name, the segments that stand, and the steps before
 pub record IsRefusal (j : JobData) (text : List ℕ) : Type 0 where
