@@ -14,7 +14,7 @@ drop_table ts i t lt is =
     rw (drop_more ts i t lt, ← is, n) refl
 
 pub drop_name : (later : Bool) (fs : List StructField) (i : ℕ) (f : StructField) → i < length fs → f ≡ get_or fs i f
-    → names_from later (map field_ty (drop i fs)) ≡ comma_if later ++ ((field_ty f).0 ++ names_from true (map field_ty (drop (i + 1) fs)))
+    → names_from later (map field_ty (drop i fs)) ≡ comma_if later ++ (f.name ++ names_from true (map field_ty (drop (i + 1) fs)))
 drop_name later fs i f lt is = rw (drop_more fs i f lt, ← is) refl
 
 -- tables that were read are told as those of the layout
