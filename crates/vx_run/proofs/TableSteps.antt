@@ -32,14 +32,15 @@ rows_there : (read : Option (List ValueData)) (m : List ValueData → Option Zon
 rows_there None m map e = absurd (let f : None ≡ Some map = e in cc)
 rows_there (Some vs) m map e = refl
 
+abbrev made : Ty → ℕ → ℕ → List Aggregate → List ValueData → Option ZoneMap
+made t n count aggregates table = Some (record { column = t; aggregates = aggregates; zone_len = n; row_count = count; zones = table })
+
 map_there : (s : Setting) (look : ℕ → Option (List ℕ)) (n : ℕ) (specs : List Spec) (t : Ty) (count : ℕ) (zones : LayoutData ℕ) (map : ZoneMap) → zone_map s.codec look n specs t count zones ≡ Some map → IsSome (rows s.codec look zones)
 map_there s look n specs t count zones map e = by_names (aggregates_of specs) e
   where
-    by_names : (names : Option (List Aggregate))
-        → and_then (λ aggregates. and_then (λ table. Some (record { column = t; aggregates = aggregates; zone_len = n; row_count = count; zones = table })) (rows s.codec look zones)) names ≡ Some map
-        → IsSome (rows s.codec look zones)
+    by_names : (names : Option (List Aggregate)) → and_then (λ aggregates. and_then (made t n count aggregates) (rows s.codec look zones)) names ≡ Some map → IsSome (rows s.codec look zones)
     by_names None e = absurd (let f : None ≡ Some map = e in cc)
-    by_names (Some aggregates) e = rows_there (rows s.codec look zones) (λ table. Some (record { column = t; aggregates = aggregates; zone_len = n; row_count = count; zones = table })) map e
+    by_names (Some aggregates) e = rows_there (rows s.codec look zones) (made t n count aggregates) map e
 
 module _ (s : Setting) (look : ℕ → Option (List ℕ)) (codec : s.codec ≡ segment_codec) where
   own_there : (k : Kind) (t : Ty) (n : ℕ) (names : List ℕ) (ls : LayoutList ℕ) → OfWrite k ls → EachZoned (IsPrunable s look) (layout k t n names ls) → OwnThere look k ls
@@ -102,7 +103,7 @@ module _ (look : ℕ → Option (List ℕ)) where
   -- ---- a node's own table
 
   -- the zones child, which gives its rows
-  record Owns (l : LayoutData ℕ) (n : ℕ) : Type 0 where
+  pub record Owns (l : LayoutData ℕ) (n : ℕ) : Type 0 where
     pub zones : LayoutData ℕ
     pub own : own_tables l ≡ table_of n zones
     pub second : child_in (children_of l) 1 ≡ Ok zones
@@ -156,7 +157,9 @@ module _ (look : ℕ → Option (List ℕ)) where
 next_tables : (ls : List (LayoutData ℕ)) (i : ℕ) → i < length ls → tables_in (take (i + 1) ls) ≡ tables_in (take i ls) ++ tables_at ls i
 next_tables [] i less = absurd (omega (arith, less))
 next_tables (l ∷ ls) zero less = append-nil (zone_tables l)
-next_tables (l ∷ ls) (suc i) less = rw (next_tables ls i (omega (arith, less))) (sym (append_assoc (zone_tables l) (tables_in (take i ls)) (tables_at ls i)))
+next_tables (l ∷ ls) (suc i) less =
+    let next : suc i + 1 ≡ suc (i + 1) = omega arith in
+    rw (next, next_tables ls i (omega (arith, less))) (sym (append_assoc (zone_tables l) (tables_in (take i ls)) (tables_at ls i)))
 
 below_is : (ls : LayoutList ℕ) → tables_in (lays_in ls) ≡ tables_below ls
 below_is no_layouts = refl
