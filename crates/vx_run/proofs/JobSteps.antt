@@ -34,8 +34,8 @@ use Rattle.vx_report.specs.ZoneText.{ZoneTable, zone_tables}
 use Rattle.vx_run.specs.declared.status.Status.{Status}
 use Rattle.vx_run.specs.declared.status.Status.TheVariants.{Done, Refused}
 use Rattle.vx_run.specs.RefusalNames.{refusal_name, is_memory}
-use Rattle.vx_run.specs.Answers.{job_setting, job_plan, IsValid, SetsNoFaults, NoneFails, IsWritten, table_rows, IsReport, IsLet, IsRefused, IsRefusal, Halts, JobAnswer, IsText}
-use Rattle.vx_run.specs.Tables.{TablesThere}
+use Rattle.vx_run.specs.Answers.{job_setting, job_plan, IsValid, SetsNoFaults, NoneFails, IsWritten, IsReport, IsLet, IsRefused, IsRefusal, Halts, JobAnswer, IsText}
+use Rattle.vx_run.specs.Tables.{TablesThere, table_rows}
 use Rattle.vx_run.proofs.ShapeSteps.{Shaped, written_shaped}
 use Rattle.vx_run.proofs.TableSteps.{tables_there}
 

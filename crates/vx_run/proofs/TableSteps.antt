@@ -22,8 +22,7 @@ use Rattle.vx_prune_laws.specs.Statements.{IsPrunable}
 use Rattle.vx_report.specs.declared.zone_text.TableRows.{TableRows}
 use Rattle.vx_report.specs.ZoneText.{ZoneTable, table_of, own_table, zone_tables, tables_below}
 use Rattle.vx_report.specs.TableView.{rows_of, AreTables}
-use Rattle.vx_run.specs.Answers.{table_rows}
-use Rattle.vx_run.specs.Tables.{OwnThere, TablesThere, AllThere, zone_length, own_tables, tables_in, tables_at, HasChild, IsRead, AreRead, ReadsOn}
+use Rattle.vx_run.specs.Tables.{OwnThere, TablesThere, AllThere, table_rows, zone_length, own_tables, tables_in, tables_at, HasChild, IsRead, AreRead, ReadsOn}
 use Rattle.vx_run.proofs.ShapeSteps.{OfWrite, Shaped, AllShaped}
 
 -- ---- tables of what is written

@@ -3,8 +3,7 @@ use Rattle.std.specs.Prelude.{◌≡◌, ℕ, ◌+◌, ◌++◌, ◌^◌, ◌≤
 use Rattle.vx_model.specs.ChunkData.{ChunkData}
 use Rattle.vx_model.specs.ValueData.{ValueData}
 use Rattle.vx_layout_spec.specs.LayoutTree.{LayoutData}
-use Rattle.vx_layout_spec.specs.Rows.{rows, all_there}
-use Rattle.vx_segment_reader.specs.Codec.{segment_codec}
+use Rattle.vx_layout_spec.specs.Rows.{all_there}
 use Rattle.vx_plan.specs.PlanData.{Setting, Plan}
 use Rattle.vx_plan.specs.SourcePlan.{source_plan, source_values}
 use Rattle.vx_plan.specs.Number.{segment_at}
@@ -25,7 +24,8 @@ use Rattle.vx_job.specs.JobParts.{failing}
 use Rattle.vx_job.specs.JobText.{JobData}
 use Rattle.vx_job.specs.KeyNames.{key_name}
 use Rattle.vx_report.specs.Report.{report, refused_report}
-use Rattle.vx_report.specs.ZoneText.{ZoneTable, zone_tables}
+use Rattle.vx_report.specs.ZoneText.{zone_tables}
+use Rattle.vx_run.specs.Tables.{table_rows}
 use Rattle.vx_run.specs.RefusalNames.{refusal_name, is_memory}
 use Rattle.vx_run.specs.declared.status.Status.{Status}
 use Rattle.vx_run.specs.declared.status.Status.TheVariants.{Done, Usage, BadJob, Refused, InputFault, OutputFault, OutOfMemory}
@@ -67,11 +67,6 @@ pub record IsWritten (j : JobData) (l : LayoutData ℕ) (stored : List (List ℕ
   pub appended : length stored ≡ appends_in steps
   -- the source was asked for each batch and for the end, the sink for each segment, and the compressor at each call
   pub calls : NoneFails j (length j.batches + 1) (length stored) (calls_in steps)
-
--- the rows of each zone table
-abbrev pub table_rows : (ℕ → Option (List ℕ)) → List ZoneTable → List (Option (List ValueData))
-table_rows look [] = []
-table_rows look (z ∷ zs) = rows segment_codec look z.rows ∷ table_rows look zs
 
 -- The report of such a write, with the batches' rows, and the rows of its zone tables, read from the segments.
 pub record IsReport (j : JobData) (text : List ℕ) : Type 0 where

@@ -31,6 +31,11 @@ abbrev mutual
   AllThere look no_layouts = Unit {0}
   AllThere look (child l ls) = TablesThere look l × AllThere look ls
 
+-- the rows of each zone table
+abbrev pub table_rows : (ℕ → Option (List ℕ)) → List ZoneTable → List (Option (List ValueData))
+table_rows look [] = []
+table_rows look (z ∷ zs) = rows segment_codec look z.rows ∷ table_rows look zs
+
 -- ---- the tables of a node and of its children
 
 -- the zone length of a node that has a table

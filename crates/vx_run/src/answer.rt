@@ -14,8 +14,8 @@ ghost use Rattle.vx_report.specs.Report.{report, refused_report};
 ghost use Rattle.vx_report.specs.ZoneText.{zone_tables};
 ghost use Rattle.vx_run.specs.declared.status.Status.TheVariants as statuses;
 ghost use Rattle.vx_run.specs.RefusalNames.{refusal_name, is_memory};
-ghost use Rattle.vx_run.specs.Tables.{TablesThere};
-ghost use Rattle.vx_run.specs.Answers.{table_rows, IsText, IsAnswer, JobAnswer, IsWritten, Halts, bad_job};
+ghost use Rattle.vx_run.specs.Tables.{TablesThere, table_rows};
+ghost use Rattle.vx_run.specs.Answers.{IsText, IsAnswer, JobAnswer, IsWritten, Halts, bad_job};
 
 use crate::status::Status;
 use crate::tables::read_tables;
