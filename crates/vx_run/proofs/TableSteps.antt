@@ -186,7 +186,7 @@ pub are_tables : (look : ℕ → Option (List ℕ)) (ts : List TableRows) (zs : 
 are_tables look [] [] h = tt
 are_tables look [] (z ∷ zs) h = absurd h
 are_tables look (t ∷ ts) [] h = absurd h
-are_tables look (t ∷ ts) (z ∷ zs) h = (h.0.length_is, (h.0.type_is, are_tables look ts zs h.1))
+are_tables look (t ∷ ts) (z ∷ zs) h = (h.0.length_is, h.0.type_is, are_tables look ts zs h.1)
 
 pub rows_are_of : (look : ℕ → Option (List ℕ)) (ts : List TableRows) (zs : List ZoneTable) → AreRead look ts zs → all_there (table_rows look zs) ≡ Some (rows_of ts)
 rows_are_of look [] [] h = refl
