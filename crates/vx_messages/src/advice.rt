@@ -20,6 +20,10 @@ pub(crate) fn refusal_advice(line: &str) -> &'static str {
         "refused ManyChunks" =>
             "a flat node of `strategy` takes one batch; put `chunked` around it",
         "refused EmptyList" => "a list node of `strategy` takes a batch, and `batches` has none",
+        "refused ZoneCut" =>
+            "a zoned node of `strategy` takes batches of `zone` rows, of which the last has 1 at least",
+        "refused ForbiddenAggregate" =>
+            "a zoned node of `strategy` records an aggregate that `aggregates` doesn't list",
         "refused ForbiddenEncoding" => "a batch has an encoding that `encodings` doesn't list",
         "refused TooLarge" =>
             "there are more segments than 32 bits count, or more rows or elements than 64 do",

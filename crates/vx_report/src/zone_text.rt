@@ -2,8 +2,8 @@
 
 ghost use Rattle.std.specs.Prelude.{◌≡◌, ◌++◌, string_bytes, OnOk};
 ghost use Rattle.vx_model.specs.TyView.{ty};
-ghost use Rattle.vx_report.specs.ZoneText.{comma_if, column_names, head_line};
-ghost use Rattle.vx_report.specs.TableView.{tables_lines};
+ghost use Rattle.vx_report.specs.ZoneText.{comma_if, column_names};
+ghost use Rattle.vx_report.specs.TableView.{told_table, told_tables};
 
 use crate::row_text::push_rows;
 use std::alloc::{AllocError, Global};
@@ -19,32 +19,37 @@ pub struct TableRows {
 }
 
 /// A line a table, with its columns, and below it a line a row.
-#[tactic(auto, using(crate::proofs::TableSteps::table_rules))]
+#[tactic(auto, using(crate::proofs::ZoneSteps::table_rules))]
 pub(crate) fn push_tables(
     alloc: Global,
     out: &mut String,
     tables: &[TableRows],
 ) -> Result<(), AllocError>
-    ensures { OnOk result (string_bytes out.new ≡ string_bytes out.old ++ tables_lines 0 tables.now) }
+    ensures { OnOk result (string_bytes out.new ≡ string_bytes out.old ++ told_tables 0 tables.now) }
 {
     for i in 0..tables.len() {
-        push_head(out, i, &tables[i])?;
-        push_rows(alloc, out, &tables[i].rows)?;
+        push_table(alloc, out, i, &tables[i])?;
     }
     Ok(())
 }
 
-#[tactic(auto, using(crate::proofs::TableSteps::table_rules))]
-fn push_head(out: &mut String, number: usize, table: &TableRows) -> Result<(), AllocError>
-    ensures { OnOk result (string_bytes out.new ≡ string_bytes out.old ++ head_line number table.now.zone_len (ty table.now.dtype)) }
+#[tactic(auto, using(crate::proofs::ZoneSteps::table_rules))]
+fn push_table(
+    alloc: Global,
+    out: &mut String,
+    number: usize,
+    table: &TableRows,
+) -> Result<(), AllocError>
+    ensures { OnOk result (string_bytes out.new ≡ string_bytes out.old ++ told_table number table.now) }
 {
     write!(out, "table {} zone {}: ", number, table.zone_len)?;
     push_names(out, &table.dtype)?;
-    out.push_str("\n")
+    out.push_str("\n")?;
+    push_rows(alloc, out, &table.rows)
 }
 
 /// The names of the columns, with commas between them.
-#[tactic(auto, using(crate::proofs::TableSteps::name_rules))]
+#[tactic(auto, using(crate::proofs::ZoneSteps::name_rules))]
 fn push_names(out: &mut String, dtype: &DType) -> Result<(), AllocError>
     ensures { OnOk result (string_bytes out.new ≡ string_bytes out.old ++ column_names (ty dtype.now)) }
 {

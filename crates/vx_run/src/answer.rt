@@ -14,7 +14,8 @@ ghost use Rattle.vx_report.specs.Report.{report, refused_report};
 ghost use Rattle.vx_report.specs.ZoneText.{zone_tables};
 ghost use Rattle.vx_run.specs.declared.status.Status.TheVariants as statuses;
 ghost use Rattle.vx_run.specs.RefusalNames.{refusal_name, is_memory};
-ghost use Rattle.vx_run.specs.Answers.{table_rows, IsText, IsAnswer, JobAnswer, IsWritten, Halts, bad_job};
+ghost use Rattle.vx_run.specs.Tables.{TablesThere, table_rows};
+ghost use Rattle.vx_run.specs.Answers.{IsText, IsAnswer, JobAnswer, IsWritten, Halts, bad_job};
 
 use crate::status::Status;
 use crate::tables::read_tables;
@@ -84,7 +85,7 @@ fn write_batches(
     job: Job,
 ) -> Result<(Layout, Vec<Blob>, Vec<Step>), (WriteError, Vec<Blob>, Vec<Step>)>
     ensures ok { IfOk result (λ w. IsWritten (job_view job) (layout_data w.0) w.1.items w.2.items) }
-    ensures tables { IfOk result (λ w. IsSome (all_there (table_rows (segment_at job.next w.1.items) (zone_tables (layout_data w.0))))) }
+    ensures tables { IfOk result (λ w. TablesThere (segment_at job.next w.1.items) (layout_data w.0)) }
     ensures err { IfErr result (λ r. Halts (job_view job) r.0 r.1.items r.2.items) }
     ensures numbered { MatchResult result (λ w. job.next + length w.1.items ≤ max job.next (2 ^ 32)) (λ r. job.next + length r.1.items ≤ max job.next (2 ^ 32)) }
 {
@@ -177,6 +178,7 @@ fn refusal_name(error: &WriteError) -> &'static str
 }
 
 /// The report of what was written, with the rows that are read back from the segments.
+#[tactic(auto, using(crate::proofs::TableSteps::report_rules))]
 fn written(
     alloc: Global,
     first: u64,
@@ -186,7 +188,7 @@ fn written(
 ) -> Result<Answer, AllocError>
     requires readable { IsSome (rows segment_codec (segment_at first list.items) (layout_data layout.now)) }
     requires numbered { first + length list.items ≤ max first (2 ^ 32) }
-    requires tables { IsSome (all_there (table_rows (segment_at first list.items) (zone_tables (layout_data layout.now)))) }
+    requires tables { TablesThere (segment_at first list.items) (layout_data layout.now) }
     ensures { IfOk result (λ a. (a.status ≡ statuses.Done) × (Some (Some (string_bytes a.text))
         ≡ option_map (λ tables. option_map (report first (layout_data layout.now) list.items tables steps.now) (rows segment_codec (segment_at first list.items) (layout_data layout.now)))
         (all_there (table_rows (segment_at first list.items) (zone_tables (layout_data layout.now)))))) }

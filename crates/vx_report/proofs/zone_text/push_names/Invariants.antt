@@ -1,8 +1,7 @@
 use Rattle.std.proofs.Common.{◌≡◌, ◌++◌, drop, map}
 use Rattle.std.specs.Prelude.{string_bytes, nat_lt}
 use Rattle.vx_model.specs.TyView.{ty, field_ty}
-use Rattle.vx_report.specs.ZoneText.{column_names}
-use Rattle.vx_report.proofs.TableSteps.{names_from}
+use Rattle.vx_report.specs.ZoneText.{names_from, column_names}
 use Rattle.vx_report.proofs.zone_text.push_names.Given as goal
 
 abbrev pub invariant-loop-i : goal.invariant-loop-i
