@@ -1,0 +1,9 @@
+pub mod FaultLaws
+pub mod FaultSteps
+pub mod PartSteps
+pub mod StructSteps
+pub mod DictSteps
+pub mod ListSteps
+pub mod NodeSteps
+pub mod ReadSteps
+pub mod FlatSteps

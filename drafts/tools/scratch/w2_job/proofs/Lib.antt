@@ -1,0 +1,3 @@
+mod ShapeSteps
+mod TableSteps
+mod JobSteps

@@ -1,0 +1,13 @@
+pub mod Calls
+pub mod Traced
+pub mod RefusedAct
+pub mod Written
+pub mod Readable
+pub mod RowText
+pub mod ZoneText
+pub mod TraceText
+pub mod Report
+pub mod TableView
+pub mod RefusalNames
+pub mod Tables
+pub mod Answers

@@ -1,0 +1,2 @@
+mod ShapeSteps
+mod TableSteps

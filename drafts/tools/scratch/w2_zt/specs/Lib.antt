@@ -1,0 +1,3 @@
+pub mod RowText
+pub mod ZoneText
+pub mod TableView

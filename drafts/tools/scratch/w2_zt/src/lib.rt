@@ -1,0 +1,7 @@
+//! Trial.
+#![tactic(auto)]
+
+mod row_text;
+mod zone_text;
+
+pub use zone_text::TableRows;

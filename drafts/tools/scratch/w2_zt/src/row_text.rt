@@ -1,0 +1,78 @@
+//! Rows as lines of JSON.
+
+ghost use Rattle.std.specs.Prelude.{◌≡◌, ◌∷◌, ◌++◌, string_bytes, map, OnOk, false};
+ghost use Rattle.std.specs.Fmt.{signed_decimal};
+ghost use Rattle.serde_json.specs.Data.{string};
+ghost use Rattle.serde_json.specs.Written.{compact_text, items_text, comma_if};
+ghost use Rattle.vx_model.specs.ValueData.{vals_of};
+ghost use Rattle.vx_model.specs.TreeView.{val};
+ghost use Rattle.w2_zt.specs.RowText.{row_text, row_lines, items_json};
+
+use serde_json::Value as Json;
+use std::alloc::{AllocError, Global};
+use vx_model::Value;
+
+/// A line a row.
+#[tactic(auto, using(crate::proofs::RowSteps::row_rules))]
+pub(crate) fn push_rows(alloc: Global, out: &mut String, rows: &[Value]) -> Result<(), AllocError>
+    ensures { OnOk result (string_bytes out.new ≡ string_bytes out.old ++ row_lines (map val rows.now)) }
+{
+    for row in rows {
+        push_row(alloc, out, row)?;
+        out.push_str("\n")?;
+    }
+    Ok(())
+}
+
+/// Bytes as hex text, lists and structs as lists.
+#[cycle(row)]
+#[tactic(auto, using(crate::proofs::RowSteps::value_rules))]
+fn push_row(alloc: Global, out: &mut String, row: &Value) -> Result<(), AllocError>
+    ensures { OnOk result (string_bytes out.new ≡ string_bytes out.old ++ row_text (val row.now)) }
+{
+    match row {
+        Value::Null => out.push_str("null"),
+        Value::Bool(b) => out.push_str(if *b { "true" } else { "false" }),
+        Value::Int(n) => push_integer(out, *n),
+        Value::Utf8(text) => push_quoted(alloc, out, String::from_str(alloc, text.as_str())?),
+        Value::Binary(bytes) => push_quoted(alloc, out, hex::encode(alloc, bytes.as_slice())?),
+        Value::List(items) => push_items(alloc, out, items),
+        Value::Struct(fields) => push_items(alloc, out, fields),
+    }
+}
+
+#[cycle(row)]
+#[tactic(auto, using(crate::proofs::RowSteps::value_rules))]
+fn push_items(alloc: Global, out: &mut String, items: &[Value]) -> Result<(), AllocError>
+    ensures { OnOk result (string_bytes out.new ≡ string_bytes out.old ++ (91 ∷ items_text false (items_json (vals_of (map val items.now))))) }
+{
+    out.push_str("[")?;
+    for i in 0..items.len() {
+        push_comma(out, i > 0)?;
+        push_row(alloc, out, &items[i])?;
+    }
+    out.push_str("]")
+}
+
+fn push_comma(out: &mut String, later: bool) -> Result<(), AllocError>
+    ensures { OnOk result (string_bytes out.new ≡ string_bytes out.old ++ comma_if later) }
+{
+    if later {
+        out.push_str(",")?;
+    }
+    Ok(())
+}
+
+fn push_integer(out: &mut String, number: i128) -> Result<(), AllocError>
+    ensures { OnOk result (string_bytes out.new ≡ string_bytes out.old ++ signed_decimal number) }
+{
+    write!(out, "{number}")?;
+    Ok(())
+}
+
+fn push_quoted(alloc: Global, out: &mut String, text: String) -> Result<(), AllocError>
+    ensures { OnOk result (string_bytes out.new ≡ string_bytes out.old ++ compact_text (string (string_bytes text))) }
+{
+    let quoted = Json::String(text).to_string(alloc)?;
+    out.push_str(&quoted)
+}
