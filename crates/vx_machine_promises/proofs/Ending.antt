@@ -20,6 +20,7 @@ use Rattle.vx_machine_turns.specs.Fuels.{less}
 use Rattle.vx_machine_turns.specs.Forms.{form_nodes}
 use Rattle.vx_machine_turns.proofs.WholeLaws.{source_is_silent}
 use Rattle.vx_strategy_spec.specs.Walk.{walk}
+use Rattle.vx_named_tasks.specs.Names.{onward, root_outset}
 use Rattle.vx_machine_steps.specs.Tree.{Tree, read, forest, counts}
 use Rattle.vx_machine_steps.specs.Moves.{all_paths, all_over, view}
 use Rattle.vx_machine_steps.specs.Runs.{acts_of, appended, done}
@@ -54,7 +55,7 @@ module _ (g : Write) (taken : List ChunkData) (f : Future) (seen : List Note) (h
 
   -- the source refuses where a batch doesn't fit
   fits : f.fits ≡ true
-  fits = not_false f.fits (sym (source_is_silent first_batch (taken ++ f.later) f.fits).1 ∙ sym (refuses-plain 1 (source_acts first_batch (taken ++ f.later) f.fits)) ∙ own)
+  fits = not_false f.fits (sym (source_is_silent (onward first_batch) (taken ++ f.later) f.fits).1 ∙ sym (refuses-plain 1 (source_acts first_batch (taken ++ f.later) f.fits)) ∙ own)
     where
       own : refuses_in (task_of (source_seed (walk form_nodes g.way g.type) g.mark) (source_acts first_batch (taken ++ f.later) f.fits)).script ≡ false
       own = (subst NoneRefuses (start_reads script_reading g.setting (depth g) (walk form_nodes g.way g.type) g.mark (taken ++ f.later) f.fits) none).0
@@ -68,7 +69,7 @@ module _ (g : Write) (taken : List ChunkData) (f : Future) (seen : List Note) (h
   all_raised : raised_in (acts_of r.moves) ≡ (planned g taken f).reserved
   all_raised =
       let a : done raised_in r.tree ≡ done raised_in (begin g taken f) + raised_in (acts_of r.moves) = sum_raised.grows g.setting (depth g) (begin g taken f) r.tree r.moves (runs g taken f seen history tracker r) in
-      let b : done raised_in (begin g taken f) ≡ 0 = raised_start (depth g) (walk form_nodes g.way g.type) g.mark (taken ++ f.later) f.fits in
+      let b : done raised_in (begin g taken f) ≡ 0 = raised_start (depth g) (walk form_nodes g.way g.type) g.mark root_outset (taken ++ f.later) f.fits in
       let c : done raised_in r.tree ≡ (planned g taken f).reserved = sum_raised.ends g.setting (depth g) r.tree left_none ∙ reads g taken f seen history tracker r raise_reading
       ∙ (at_start g taken f seen history tracker r).raises in
       omega (arith, a, b, c)
@@ -76,7 +77,7 @@ module _ (g : Write) (taken : List ChunkData) (f : Future) (seen : List Note) (h
   all_lowered : lowered_in (acts_of r.moves) ≡ (planned g taken f).reserved
   all_lowered =
       let a : done lowered_in r.tree ≡ done lowered_in (begin g taken f) + lowered_in (acts_of r.moves) = sum_lowered.grows g.setting (depth g) (begin g taken f) r.tree r.moves (runs g taken f seen history tracker r) in
-      let b : done lowered_in (begin g taken f) ≡ 0 = lowered_start (depth g) (walk form_nodes g.way g.type) g.mark (taken ++ f.later) f.fits in
+      let b : done lowered_in (begin g taken f) ≡ 0 = lowered_start (depth g) (walk form_nodes g.way g.type) g.mark root_outset (taken ++ f.later) f.fits in
       let c : done lowered_in r.tree ≡ (planned g taken f).reserved = sum_lowered.ends g.setting (depth g) r.tree left_none ∙ reads g taken f seen history tracker r lower_reading
       ∙ (at_start g taken f seen history tracker r).lowers fits in
       omega (arith, a, b, c)

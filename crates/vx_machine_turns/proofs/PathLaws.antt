@@ -495,5 +495,5 @@ turns_go e s fallback_local a = fallback_goes e s
 turns_go e s (runs_local n r j rows) a = runs_goes e s n r j rows a
 turns_go e s (zoned_local n records last zones rows) a = zoned_goes e s n records last zones rows a
 turns_go e s idle_local a = idle_goes e s
-turns_go e s (source_local f m) a = absurd a
+turns_go e s (source_local f m o) a = absurd a
 turns_go e s outside_local a = absurd a

@@ -74,7 +74,7 @@ local_rows fallback_local below = below
 local_rows (runs_local n r j rows) below = rows
 local_rows (zoned_local n records last zones rows) below = rows
 local_rows idle_local below = 0
-local_rows (source_local f m) below = 0
+local_rows (source_local f m o) below = 0
 local_rows outside_local below = 0
 
 abbrev pub task_rows : Bool → Local → List Act → ℕ → ℕ

@@ -8,6 +8,7 @@ use Rattle.vx_layout_spec.specs.LayoutTree.{renamed}
 use Rattle.vx_layout_spec.specs.Codec.{Lawful}
 use Rattle.vx_tasks.specs.Task.{Append}
 use Rattle.vx_tasks.specs.Run.{nth}
+use Rattle.vx_named_tasks.specs.Names.{root_outset}
 use Rattle.vx_strategy_spec.specs.StrategyData.{StrategyData}
 use Rattle.vx_strategy_spec.specs.Walk.{walk}
 use Rattle.vx_plan.specs.PlanData.{Setting}
@@ -59,7 +60,7 @@ source_at g past todo = record {
   seed = source_seed (form_of g) g.mark;
   past = past;
   todo = todo;
-  local = source_local (form_of g) g.mark;
+  local = source_local (form_of g) g.mark root_outset;
   over = true;
   inbox = [];
   closed = true;
