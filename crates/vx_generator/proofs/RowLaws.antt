@@ -1,5 +1,5 @@
 -- Rows from one on, with one more at the end.
-use Rattle.std.proofs.Common.{◌≡◌, ℕ, zero, suc, ◌+◌, List, [], ◌∷◌, ◌++◌, sym, ap, ◌∙◌, arith}
+use Rattle.std.proofs.Common.{◌≡◌, ℕ, zero, suc, ◌+◌, List, [], ◌∷◌, ◌++◌, ap, ◌∙◌, arith}
 use Rattle.vx_model.specs.CellData.{CellData}
 use Rattle.vx_generator.specs.Generated.{table_row, rows_from}
 

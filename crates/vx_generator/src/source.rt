@@ -29,7 +29,7 @@ pub struct GeneratedSource {
 }
 
 impl GeneratedSource {
-    /// The table of so many rows.
+    /// The table of so many rows. It takes memory for the type alone, and refuses only for want of it.
     pub fn new(alloc: Global, rows: u32) -> Result<GeneratedSource, AllocError>
         ensures kind { IfOk result (λ s. ⟦<GeneratedSource as BatchSource>⟧.kind s ≡ table_type) }
         ensures batches { IfOk result (λ s. ⟦<GeneratedSource as BatchSource>⟧.to_come s ≡ Some (table_batches rows)) }

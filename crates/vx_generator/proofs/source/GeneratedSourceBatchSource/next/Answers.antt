@@ -1,6 +1,4 @@
-use Rattle.std.proofs.Common.{◌≡◌}
 use Rattle.vx_model.specs.TyView.{ty}
-use Rattle.vx_chunk.specs.ChunkView.{piece}
 use Rattle.vx_generator.proofs.BatchLaws.{given}
 use Rattle.vx_generator.proofs.source.GeneratedSourceBatchSource.next.Goals as goal
 
