@@ -6,7 +6,10 @@ use anyhow::Result;
 use bytes::Bytes;
 use std::alloc::Global;
 use std::sync::Arc;
-use vx_layout::{LayoutChildren, RawNode, Scope, ViewedChildren, layout_children};
+use vx_layout::{
+    LayoutChildren, Limits, NodeViews, RawNode, Scope, ViewedChildren, layout_children, view_root,
+    write_node,
+};
 
 pub fn children_in(alloc: Global, text: &str) -> Result<LayoutChildren> {
     match text.strip_prefix("nodes ") {
@@ -17,12 +20,24 @@ pub fn children_in(alloc: Global, text: &str) -> Result<LayoutChildren> {
 
 fn viewed(alloc: Global, text: &str) -> Result<LayoutChildren> {
     let scope = shared_scope(alloc)?;
-    let nodes = nodes_in(alloc, text)?;
+    let nodes = views_in(alloc, text)?;
     Ok(LayoutChildren::Viewed(ViewedChildren::new(scope, nodes)))
 }
 
 fn shared_scope(alloc: Global) -> Result<Arc<Scope>> {
     Ok(Arc::new(alloc, scope(alloc)?)?)
+}
+
+/// The nodes below one that is spelled above them.
+fn views_in(alloc: Global, text: &str) -> Result<NodeViews> {
+    let bytes = Bytes::from_vec(bytes_above(alloc, text)?)?;
+    let root = view_root(alloc, bytes, Limits::default())?;
+    Ok(root.open(alloc)?.children)
+}
+
+fn bytes_above(alloc: Global, text: &str) -> Result<Vec<u8>> {
+    let node = Box::new(alloc, raw_node(alloc, 0, nodes_in(alloc, text)?)?)?;
+    Ok(write_node(alloc, &node)?)
 }
 
 fn nodes_in(alloc: Global, text: &str) -> Result<Vec<RawNode>> {

@@ -10,7 +10,9 @@ pub use vx_layout_build::{
     DepthFirst, LayoutChild, LayoutChildrenWalk, LayoutDeserializeArgs, LayoutEncodingExt,
     LayoutWalk, build_node,
 };
-pub use vx_layout_bytes::{GrammarError, Limits, RawNode, read_nodes, write_node};
+pub use vx_layout_bytes::{
+    GrammarError, Limits, NodeView, NodeViews, OpenNode, RawNode, read_nodes, view_root, write_node,
+};
 pub use vx_layout_codec::{
     layout_bytes, layout_from_flatbuffer, layout_from_flatbuffer_with_options,
 };

@@ -7,13 +7,15 @@ use Rattle.vx_model.specs.Ty.{Ty, boolean, tys_of}
 use Rattle.vx_model.specs.TyView.{ty, field_ty}
 use Rattle.vx_model.proofs.Views.{view_rules, field_ty_is}
 use Rattle.vx_layout_spec.specs.LayoutTree.{LayoutData}
-use Rattle.vx_layout_bytes.specs.declared.node.RawNode.{RawNode}
-use Rattle.vx_layout_bytes.specs.Node.{Own, nodes_of}
-use Rattle.vx_layout_bytes.specs.Views.{raw}
+use Rattle.vx_layout_bytes.specs.declared.view.NodeView.{NodeView}
+use Rattle.vx_layout_bytes.specs.declared.view.NodeViews.{NodeViews}
+use Rattle.vx_layout_bytes.specs.Node.{Own, nodes_of, own_of}
+use Rattle.vx_layout_bytes.specs.There.{node_there}
+use Rattle.vx_layout_bytes.specs.Views.{seen_node, seen_nodes, nth_node}
 use Rattle.vx_session.specs.Scope.{Scope}
 use Rattle.vx_session.specs.Made.{Made, ChildData, all_stand, each_stands}
 use Rattle.vx_session.specs.Kinds.{types_in}
-use Rattle.vx_session.specs.Builder.{kids, own_of, builder, built_or_refused, is_flat_node}
+use Rattle.vx_session.specs.Builder.{kids, builder, built_or_refused, is_flat_node}
 use Rattle.vx_layout_tree.specs.declared.error.LayoutError.{LayoutError}
 use Rattle.vx_layout_tree.specs.Children.{answered, child_in}
 use Rattle.vx_layout_tree.specs.Views.{Fails}
@@ -38,19 +40,19 @@ stands_built : (is_one : Bool) (o : Own) (t : Ty) (r : Made) → answered (built
 stands_built is_one o t (Ok l) = refl
 stands_built is_one o t (Err refusal) = refl
 
-pub viewed_answer : (s : Scope) (ns : List RawNode) (i : ℕ) (n : RawNode) (t : Ty) → i < length ns → n ≡ get_or ns i n → answer_at (kids s (nodes_of (map raw ns))) i t ≡ built (builder s (raw n) t)
-viewed_answer s [] i n t lt is = absurd (omega (arith, lt))
-viewed_answer s (x ∷ ns) zero n t lt is = rw is (stands_built (is_flat_node s (own_of (raw x))) (own_of (raw x)) t (builder s (raw x) t))
-viewed_answer s (x ∷ ns) (suc i) n t lt is = viewed_answer s ns i n t (omega (arith, lt)) is
+viewed_answer : (s : Scope) (bytes ps : List ℕ) (i : ℕ) (t : Ty) → i < length ps → answer_at (kids s (nodes_of (map (node_there bytes) ps))) i t ≡ built (builder s (node_there bytes (get_or ps i 0)) t)
+viewed_answer s bytes [] i t lt = absurd (omega (arith, lt))
+viewed_answer s bytes (p ∷ ps) zero t lt = stands_built (is_flat_node s (own_of (node_there bytes p))) (own_of (node_there bytes p)) t (builder s (node_there bytes p) t)
+viewed_answer s bytes (p ∷ ps) (suc i) t lt = viewed_answer s bytes ps i t (omega (arith, lt))
 
 -- the answer of a node that is built
-pub answer_is : (s : Scope) (ns : List RawNode) (i : ℕ) (n copy : RawNode) (t : Ty) (l : LayoutData ℕ) → i < length ns → n ≡ get_or ns i n → raw copy ≡ raw n → builder s (raw copy) t ≡ Ok l → answered l ≡ Ok l
-    → answer_at (kids s (nodes_of (map raw ns))) i t ≡ Ok l
-answer_is s ns i n copy t l lt is same made whole_l = rw (viewed_answer s ns i n t lt is, ← same, made) whole_l
+pub answer_is : (s : Scope) (v : NodeViews) (i : ℕ) (n : NodeView) (t : Ty) (l : LayoutData ℕ) → i < length v.places.items → seen_node n ≡ nth_node v i → builder s (seen_node n) t ≡ Ok l → answered l ≡ Ok l
+    → answer_at (kids s (nodes_of (seen_nodes v))) i t ≡ Ok l
+answer_is s v i n t l lt is made whole_l = rw (viewed_answer s v.bytes v.places.items i t lt, ← is, made) whole_l
 
-pub answer_fails : (e : LayoutError) (s : Scope) (ns : List RawNode) (i : ℕ) (n copy : RawNode) (t : Ty) → i < length ns → n ≡ get_or ns i n → raw copy ≡ raw n → Fails e (builder s (raw copy) t)
-    → Fails e (answer_at (kids s (nodes_of (map raw ns))) i t)
-answer_fails e s ns i n copy t lt is same h = fails_by e (builder s (raw copy) t) (answer_at (kids s (nodes_of (map raw ns))) i t) (λ x made. rw (viewed_answer s ns i n t lt is, ← same, made) refl) h
+pub answer_fails : (e : LayoutError) (s : Scope) (v : NodeViews) (i : ℕ) (n : NodeView) (t : Ty) → i < length v.places.items → seen_node n ≡ nth_node v i → Fails e (builder s (seen_node n) t)
+    → Fails e (answer_at (kids s (nodes_of (seen_nodes v))) i t)
+answer_fails e s v i n t lt is h = fails_by e (builder s (seen_node n) t) (answer_at (kids s (nodes_of (seen_nodes v))) i t) (λ x made. rw (viewed_answer s v.bytes v.places.items i t lt, ← is, made) refl) h
 
 pub ruleset built_rules = (answer_is, answer_fails, length-kids, length-map)
 

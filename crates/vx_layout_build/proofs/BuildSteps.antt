@@ -8,18 +8,16 @@ use Rattle.vx_model.specs.Ty.{Ty, is_struct}
 use Rattle.vx_model.specs.TyView.{ty}
 use Rattle.vx_layout_spec.specs.LayoutTree.{LayoutData, row_count, chunked_kind, struct_kind}
 use Rattle.vx_layout_spec.specs.Refusal.{Refusal, unknown_index, unregistered, other_rows}
-use Rattle.vx_layout_bytes.specs.declared.node.RawNode.{RawNode, out-RawNode}
-use Rattle.vx_layout_bytes.specs.Node.{Own, Node, node, nodes_of}
+use Rattle.vx_layout_bytes.specs.Node.{Own, Node, Nodes, node, nodes_of, own_of}
 use Rattle.vx_layout_bytes.specs.Values.{depth, depths}
-use Rattle.vx_layout_bytes.specs.Views.{raw}
-use Rattle.vx_layout_bytes.proofs.Nodes.{raw_is}
+use Rattle.vx_layout_bytes.specs.Views.{seen_nodes}
 use Rattle.vx_session.specs.declared.encoding.LayoutEncoding.{LayoutEncoding}
 use Rattle.vx_session.specs.Ids.{id_at}
 use Rattle.vx_session.specs.Encodings.{kind_of}
 use Rattle.vx_session.specs.Scope.{Scope, Context}
 use Rattle.vx_session.specs.Made.{Made, ◌>>=◌, ChildData, kid_rows, spelled, has_children, has_rows, all_have_rows}
 use Rattle.vx_session.specs.Kinds.{Parts, nothing_in, struct_types, build_kind, build_chunked, build_struct}
-use Rattle.vx_session.specs.Builder.{builder, build_foreign, build_registered, known_id, own_of, own_parts, node_parts, kids}
+use Rattle.vx_session.specs.Builder.{builder, build_foreign, build_registered, known_id, own_parts, node_parts, kids}
 use Rattle.vx_layout_tree.specs.declared.error.LayoutError.{LayoutError}
 use Rattle.vx_layout_tree.specs.declared.parts.LayoutParts.{LayoutParts}
 use Rattle.vx_layout_tree.specs.declared.children.LayoutChildren.TheVariants as children
@@ -72,34 +70,31 @@ by_id s o ks other t (Err e) = refl
 node_is : (s : Scope) (n : Node) (t : Ty) → builder s n t ≡ (node_kind s (own_of n).index >>= built_by s (own_of n) (node_parts s t n).kids (build_foreign s.ids n t) t)
 node_is s (node o ns) t = by_id s o (kids s ns) (build_foreign s.ids (node o ns) t) t (known_id s.ids o.index)
 
-own_index : (n : RawNode) → (own_of (raw n)).index ≡ (out-RawNode n).index
-own_index n = rw (raw_is n) refl
+pub node_kind_fails : (e : LayoutError) (s : Scope) (n : Node) (t : Ty) → Fails e (node_kind s (own_of n).index) → Fails e (builder s n t)
+node_kind_fails e s n t h = fails_by e (node_kind s (own_of n).index) (builder s n t) (λ x made. node_is s n t ∙ rw made refl) h
 
 own_parts_are : (s : Scope) (n : Node) (t : Ty) → own_parts (own_of n) (node_parts s t n).kids t ≡ node_parts s t n
 own_parts_are s (node o ns) t = refl
 
-pub node_kind_fails : (e : LayoutError) (s : Scope) (n : RawNode) (t : Ty) → Fails e (node_kind s (out-RawNode n).index) → Fails e (builder s (raw n) t)
-node_kind_fails e s n t h = fails_by e (node_kind s (out-RawNode n).index) (builder s (raw n) t) (λ x made. node_is s (raw n) t ∙ rw (own_index n, made) refl) h
+pub node_foreign : (s : Scope) (n : Node) (t : Ty) → node_kind s (own_of n).index ≡ Ok None → builder s n t ≡ build_foreign s.ids n t
+node_foreign s n t is = node_is s n t ∙ rw is refl
 
-pub node_foreign : (s : Scope) (n : RawNode) (t : Ty) → node_kind s (out-RawNode n).index ≡ Ok None → builder s (raw n) t ≡ build_foreign s.ids (raw n) t
-node_foreign s n t is = node_is s (raw n) t ∙ rw (own_index n, is) refl
-
-pub node_built : (s : Scope) (n : RawNode) (t : Ty) (kind : LayoutEncoding) (c : Context) (p : Parts) (metadata : List ℕ) → node_kind s (out-RawNode n).index ≡ Ok (Some kind)
-    → c ≡ s.context → p ≡ node_parts s t (raw n) → metadata ≡ (own_of (raw n)).metadata → builder s (raw n) t ≡ build_kind kind c p metadata
+pub node_built : (s : Scope) (n : Node) (t : Ty) (kind : LayoutEncoding) (c : Context) (p : Parts) (metadata : List ℕ) → node_kind s (own_of n).index ≡ Ok (Some kind)
+    → c ≡ s.context → p ≡ node_parts s t n → metadata ≡ (own_of n).metadata → builder s n t ≡ build_kind kind c p metadata
 node_built s n t kind c p metadata is within parts kept =
-    node_is s (raw n) t ∙ rw (own_index n, is, own_parts_are s (raw n) t, within, parts, kept) refl
+    node_is s n t ∙ rw (is, own_parts_are s n t, within, parts, kept) refl
 
 -- the nodes that a build is still over
-pub parts_depth : (n : RawNode) → depth (raw n) ≡ depths (nodes_of (map raw (out-RawNode n).children.items)) + 1
-parts_depth n = rw (raw_is n) (omega arith)
+pub parts_depth : (o : Own) (ns : Nodes) → depth (node o ns) ≡ depths ns + 1
+parts_depth o ns = omega arith
 
-pub viewed_kids_are : (v w : ViewedChildren) → v ≡ w → layout_kids (children.Viewed v) ≡ kids (scope_of w.scope.value) (nodes_of (map raw w.nodes.items))
+pub viewed_kids_are : (v w : ViewedChildren) → v ≡ w → layout_kids (children.Viewed v) ≡ kids (scope_of w.scope.value) (nodes_of (seen_nodes w.nodes))
 viewed_kids_are v w is = rw is refl
 
-pub viewed_depth_is : (v w : ViewedChildren) → v ≡ w → children_depth (children.Viewed v) ≡ depths (nodes_of (map raw w.nodes.items))
+pub viewed_depth_is : (v w : ViewedChildren) → v ≡ w → children_depth (children.Viewed v) ≡ depths (nodes_of (seen_nodes w.nodes))
 viewed_depth_is v w is = rw is refl
 
-pub ruleset parts_rules = (raw_is, parts_depth, viewed_kids_are, viewed_depth_is)
+pub ruleset parts_rules = (parts_depth, viewed_kids_are, viewed_depth_is)
 
 -- ---- layouts of each kind, where nothing is refused
 

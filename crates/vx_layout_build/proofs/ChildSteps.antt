@@ -4,13 +4,14 @@ use Rattle.std.proofs.lemmas.List.{length-map}
 use Rattle.vx_model.specs.Ty.{Ty, ty_eq}
 use Rattle.vx_layout_spec.specs.Refusal.{slot_range, child_type}
 use Rattle.vx_layout_spec.specs.LayoutTree.{Kind, flat_kind, chunked_kind, struct_kind, list_kind, dict_kind, zoned_kind, unread_zoned_kind, stats_kind, foreign_kind, refused_kind, layout_kind, layout_type}
-use Rattle.vx_layout_bytes.specs.declared.node.RawNode.{RawNode, out-RawNode}
-use Rattle.vx_layout_bytes.specs.Node.{nodes_of}
-use Rattle.vx_layout_bytes.specs.Views.{raw}
-use Rattle.vx_layout_bytes.proofs.Nodes.{raw_is}
+use Rattle.vx_layout_bytes.specs.declared.view.NodeView.{NodeView}
+use Rattle.vx_layout_bytes.specs.declared.view.NodeViews.{NodeViews}
+use Rattle.vx_layout_bytes.specs.Node.{nodes_of, own_of}
+use Rattle.vx_layout_bytes.specs.There.{node_there}
+use Rattle.vx_layout_bytes.specs.Views.{seen_node, seen_nodes, nth_node}
 use Rattle.vx_session.specs.Scope.{Scope}
 use Rattle.vx_session.specs.Made.{ChildData, kid_at, child_at}
-use Rattle.vx_session.specs.Builder.{kids, own_of, builder, is_flat_node, kid_of}
+use Rattle.vx_session.specs.Builder.{kids, builder, is_flat_node, kid_of}
 use Rattle.vx_layout_tree.specs.declared.kind.LayoutKind.TheVariants as kinds
 use Rattle.vx_layout_tree.specs.declared.layout.Layout.{Layout}
 use Rattle.vx_layout_tree.specs.LayoutView.{layout_data}
@@ -49,15 +50,15 @@ pub ruleset kept_rules = (kept_same, kept_other, length-map)
 
 -- ---- a node
 
-viewed_at : (s : Scope) (ns : List RawNode) (i : ℕ) (n : RawNode) → i < length ns → n ≡ get_or ns i n
-    → kid_at (kids s (nodes_of (map raw ns))) i ≡ Some (kid_of s (own_of (raw n)) (builder s (raw n)))
-viewed_at s [] i n lt is = absurd (omega (arith, lt))
-viewed_at s (x ∷ ns) zero n lt is = rw (← is) refl
-viewed_at s (x ∷ ns) (suc i) n lt is = viewed_at s ns i n (omega (arith, lt)) is
+viewed_at : (s : Scope) (bytes ps : List ℕ) (i : ℕ) → i < length ps
+    → kid_at (kids s (nodes_of (map (node_there bytes) ps))) i ≡ Some (kid_of s (own_of (node_there bytes (get_or ps i 0))) (builder s (node_there bytes (get_or ps i 0))))
+viewed_at s bytes [] i lt = absurd (omega (arith, lt))
+viewed_at s bytes (p ∷ ps) zero lt = refl
+viewed_at s bytes (p ∷ ps) (suc i) lt = viewed_at s bytes ps i (omega (arith, lt))
 
-pub node_is : (s : Scope) (ns : List RawNode) (i : ℕ) (n copy : RawNode) (t : Ty) → i < length ns → n ≡ get_or ns i n → raw copy ≡ raw n
-    → builder s (raw copy) t ≡ child_at (kids s (nodes_of (map raw ns))) i t
-node_is s ns i n copy t lt is same = rw (viewed_at s ns i n lt is, same) refl
+pub node_is : (s : Scope) (v : NodeViews) (i : ℕ) (n : NodeView) (t : Ty) → i < length v.places.items → seen_node n ≡ nth_node v i
+    → builder s (seen_node n) t ≡ child_at (kids s (nodes_of (seen_nodes v))) i t
+node_is s v i n t lt is = rw (viewed_at s v.bytes v.places.items i lt, is) refl
 
 pub ruleset viewed_rules = (node_is, length-kids, length-map)
 
@@ -93,12 +94,7 @@ is_flat_of (x ∷ ks) (suc i) k is = is_flat_of ks i k is
 pub kept_flat : (ls : List Layout) (i : ℕ) (l : Layout) (b : Bool) → i < length ls → l ≡ get_or ls i l → IsTrue b ↔ (kind_name (layout_kind (layout_data l)) ≡ kinds.Flat) → b ≡ is_flat_at (owned_kids (map layout_data ls)) i
 kept_flat ls i l b lt is named = flat_named b (layout_kind (layout_data l)) named ∙ sym (is_flat_of (owned_kids (map layout_data ls)) i (owned_kid (layout_data l)) (owned_at ls i l lt is))
 
-pub node_flat : (s : Scope) (ns : List RawNode) (i : ℕ) (n : RawNode) → i < length ns → n ≡ get_or ns i n → is_flat_node s (own_of (raw n)) ≡ is_flat_at (kids s (nodes_of (map raw ns))) i
-node_flat s ns i n lt is = sym (is_flat_of (kids s (nodes_of (map raw ns))) i (kid_of s (own_of (raw n)) (builder s (raw n))) (viewed_at s ns i n lt is))
+pub node_flat : (s : Scope) (v : NodeViews) (i : ℕ) → i < length v.places.items → is_flat_node s (own_of (nth_node v i)) ≡ is_flat_at (kids s (nodes_of (seen_nodes v))) i
+node_flat s v i lt = sym (is_flat_of (kids s (nodes_of (seen_nodes v))) i (kid_of s (own_of (nth_node v i)) (builder s (nth_node v i))) (viewed_at s v.bytes v.places.items i lt))
 
 pub ruleset flat_rules = (kept_flat, node_flat, length-owned, length-kids, length-map)
-
-pub index_is : (n : RawNode) → (own_of (raw n)).index ≡ (out-RawNode n).index
-index_is n = rw (raw_is n) refl
-
-pub ruleset flat_node_rules = (index_is)

@@ -29,9 +29,10 @@ use Rattle.vx_layout_tree.specs.declared.parts.LayoutParts.{LayoutParts}
 use Rattle.vx_layout_build.specs.declared.one_child.OneChild.TheVariants as ones
 use Rattle.vx_layout_tree.specs.declared.children.LayoutChildren.TheVariants as children
 use Rattle.vx_layout_tree.specs.declared.children.ViewedChildren.{ViewedChildren}
-use Rattle.vx_layout_bytes.specs.declared.node.RawNode.{RawNode}
-use Rattle.vx_layout_bytes.specs.Views.{raw}
-use Rattle.vx_session.specs.Builder.{kid_of, own_of, builder}
+use Rattle.vx_layout_bytes.specs.declared.view.NodeView.{NodeView}
+use Rattle.vx_layout_bytes.specs.Views.{seen_node, seen_nodes}
+use Rattle.vx_layout_bytes.specs.Node.{own_of}
+use Rattle.vx_session.specs.Builder.{kid_of, builder}
 use Rattle.vx_session.specs.Views.{scope_of}
 use Rattle.vx_layout_tree.specs.declared.layout.Layout.{Layout}
 use Rattle.vx_layout_tree.specs.LayoutView.{layout_data, number}
@@ -199,8 +200,8 @@ pub ruleset triple_rules = (triple_wanted, triple_depth, triple_fails)
 pub standing_kept : (t : Ty) (ls : List Layout) (l : Layout) → ls ≡ l ∷ [] → map layout_data ls ≡ layout_data l ∷ []
 standing_kept t ls l is = rw is refl
 
-pub standing_viewed : (t : Ty) (v w : ViewedChildren) (n : RawNode) → v ≡ w → w.nodes.items ≡ n ∷ []
-    → chunks t (children.Viewed v) ≡ (kid_of (scope_of w.scope.value) (own_of (raw n)) (builder (scope_of w.scope.value) (raw n))).stands t ∷ []
+pub standing_viewed : (t : Ty) (v w : ViewedChildren) (n : NodeView) → v ≡ w → seen_nodes w.nodes ≡ seen_node n ∷ []
+    → chunks t (children.Viewed v) ≡ (kid_of (scope_of w.scope.value) (own_of (seen_node n)) (builder (scope_of w.scope.value) (seen_node n))).stands t ∷ []
 standing_viewed t v w n is nodes = rw (is, nodes) refl
 
 pub ruleset standing_rules = (standing_kept, standing_viewed)

@@ -1,16 +1,18 @@
 -- Children taken out one by one, and checks of parts.
-use Rattle.std.proofs.Common.{◌≡◌, ℕ, zero, suc, ◌+◌, ◌<◌, ◌≤◌, ◌++◌, Bool, true, false, List, [], ◌∷◌, length, drop, map, Ok, Err, refl, ◌∙◌, ap, arith, length-append}
+use Rattle.std.proofs.Common.{◌≡◌, ℕ, zero, suc, ◌+◌, ◌<◌, ◌≤◌, ◌++◌, Bool, true, false, List, [], ◌∷◌, length, get_or, drop, map, Ok, Err, refl, ◌∙◌, ap, arith, length-append}
 use Rattle.std.specs.Prelude.{◌==◌}
 use Rattle.std.proofs.lemmas.List.{length-map}
 use Rattle.std.proofs.lemmas.Bool.Decides.{nat_tests}
 use Rattle.vx_layout_spec.specs.Refusal.{child_count}
-use Rattle.vx_layout_bytes.specs.declared.node.RawNode.{RawNode}
-use Rattle.vx_layout_bytes.specs.Node.{nodes_of}
+use Rattle.vx_layout_bytes.specs.declared.view.NodeView.{NodeView}
+use Rattle.vx_layout_bytes.specs.declared.view.NodeViews.{NodeViews}
+use Rattle.vx_layout_bytes.specs.Node.{nodes_of, own_of}
 use Rattle.vx_layout_bytes.specs.Values.{depth, depths}
-use Rattle.vx_layout_bytes.specs.Views.{raw}
+use Rattle.vx_layout_bytes.specs.There.{node_there}
+use Rattle.vx_layout_bytes.specs.Views.{seen_node, seen_nodes, nth_node}
 use Rattle.vx_session.specs.Scope.{Scope}
 use Rattle.vx_session.specs.Made.{◌>>=◌, ChildData, rows_at, has_children, has_rows, all_have_rows}
-use Rattle.vx_session.specs.Builder.{kids, kid_of, own_of, builder}
+use Rattle.vx_session.specs.Builder.{kids, kid_of, builder}
 use Rattle.vx_layout_tree.specs.declared.layout.Layout.{Layout}
 use Rattle.vx_layout_tree.specs.LayoutView.{layout_data}
 use Rattle.vx_layout_tree.specs.KidsView.{owned_kid, owned_kids}
@@ -37,22 +39,36 @@ owned_two ls a b is = rw is refl
 pub owned_three : (ls : List Layout) (a b c : Layout) → ls ≡ a ∷ b ∷ c ∷ [] → owned_kids (map layout_data ls) ≡ owned_kid (layout_data a) ∷ owned_kid (layout_data b) ∷ owned_kid (layout_data c) ∷ []
 owned_three ls a b c is = rw is refl
 
-abbrev node_kid : Scope → RawNode → ChildData
-node_kid s n = kid_of s (own_of (raw n)) (builder s (raw n))
+two_are : (s : Scope) (bytes ps : List ℕ) → length ps ≡ 2
+    → kids s (nodes_of (map (node_there bytes) ps)) ≡ kid_of s (own_of (node_there bytes (get_or ps 0 0))) (builder s (node_there bytes (get_or ps 0 0))) ∷ kid_of s (own_of (node_there bytes (get_or ps 1 0))) (builder s (node_there bytes (get_or ps 1 0))) ∷ []
+two_are s bytes [] e = absurd (omega (arith, e))
+two_are s bytes (p ∷ []) e = absurd (omega (arith, e))
+two_are s bytes (p ∷ q ∷ []) e = refl
+two_are s bytes (p ∷ q ∷ r ∷ ps) e = absurd (omega (arith, e))
 
-pub viewed_two : (s : Scope) (ns : List RawNode) (a b : RawNode) → ns ≡ a ∷ b ∷ [] → kids s (nodes_of (map raw ns)) ≡ kid_of s (own_of (raw a)) (builder s (raw a)) ∷ kid_of s (own_of (raw b)) (builder s (raw b)) ∷ []
-viewed_two s ns a b is = rw is refl
+three_are : (s : Scope) (bytes ps : List ℕ) → length ps ≡ 3
+    → kids s (nodes_of (map (node_there bytes) ps)) ≡ kid_of s (own_of (node_there bytes (get_or ps 0 0))) (builder s (node_there bytes (get_or ps 0 0))) ∷ kid_of s (own_of (node_there bytes (get_or ps 1 0))) (builder s (node_there bytes (get_or ps 1 0))) ∷ kid_of s (own_of (node_there bytes (get_or ps 2 0))) (builder s (node_there bytes (get_or ps 2 0))) ∷ []
+three_are s bytes [] e = absurd (omega (arith, e))
+three_are s bytes (p ∷ []) e = absurd (omega (arith, e))
+three_are s bytes (p ∷ q ∷ []) e = absurd (omega (arith, e))
+three_are s bytes (p ∷ q ∷ r ∷ []) e = refl
+three_are s bytes (p ∷ q ∷ r ∷ u ∷ ps) e = absurd (omega (arith, e))
 
-pub viewed_three : (s : Scope) (ns : List RawNode) (a b c : RawNode) → ns ≡ a ∷ b ∷ c ∷ []
-    → kids s (nodes_of (map raw ns)) ≡ kid_of s (own_of (raw a)) (builder s (raw a)) ∷ kid_of s (own_of (raw b)) (builder s (raw b)) ∷ kid_of s (own_of (raw c)) (builder s (raw c)) ∷ []
-viewed_three s ns a b c is = rw is refl
+pub viewed_two : (s : Scope) (v : NodeViews) (a b : NodeView) → length v.places.items ≡ 2 → seen_node a ≡ nth_node v 0 → seen_node b ≡ nth_node v 1
+    → kids s (nodes_of (seen_nodes v)) ≡ kid_of s (own_of (seen_node a)) (builder s (seen_node a)) ∷ kid_of s (own_of (seen_node b)) (builder s (seen_node b)) ∷ []
+viewed_two s v a b e x y = rw (x, y) (two_are s v.bytes v.places.items e)
 
-pub deep_of_two : (ns : List RawNode) (a b : RawNode) → ns ≡ a ∷ b ∷ [] → (depth (raw a) ≤ depths (nodes_of (map raw ns))) × (depth (raw b) ≤ depths (nodes_of (map raw ns)))
-deep_of_two ns a b is = rw is (omega arith, omega arith)
+pub viewed_three : (s : Scope) (v : NodeViews) (a b c : NodeView) → length v.places.items ≡ 3 → seen_node a ≡ nth_node v 0 → seen_node b ≡ nth_node v 1 → seen_node c ≡ nth_node v 2
+    → kids s (nodes_of (seen_nodes v)) ≡ kid_of s (own_of (seen_node a)) (builder s (seen_node a)) ∷ kid_of s (own_of (seen_node b)) (builder s (seen_node b)) ∷ kid_of s (own_of (seen_node c)) (builder s (seen_node c)) ∷ []
+viewed_three s v a b c e x y z = rw (x, y, z) (three_are s v.bytes v.places.items e)
 
-pub deep_of_three : (ns : List RawNode) (a b c : RawNode) → ns ≡ a ∷ b ∷ c ∷ []
-    → (depth (raw a) ≤ depths (nodes_of (map raw ns))) × (depth (raw b) ≤ depths (nodes_of (map raw ns))) × (depth (raw c) ≤ depths (nodes_of (map raw ns)))
-deep_of_three ns a b c is = rw is (omega arith, omega arith, omega arith)
+nth_deep : (bytes ps : List ℕ) (i : ℕ) → i < length ps → depth (node_there bytes (get_or ps i 0)) ≤ depths (nodes_of (map (node_there bytes) ps))
+nth_deep bytes [] i lt = absurd (omega (arith, lt))
+nth_deep bytes (p ∷ ps) zero lt = omega arith
+nth_deep bytes (p ∷ ps) (suc i) lt = omega (arith, nth_deep bytes ps i (omega (arith, lt)))
+
+pub deep_at : (v : NodeViews) (a : NodeView) (i : ℕ) → i < length v.places.items → seen_node a ≡ nth_node v i → depth (seen_node a) ≤ depths (nodes_of (seen_nodes v))
+deep_at v a i lt x = rw x (nth_deep v.bytes v.places.items i lt)
 
 other_count : (b : Bool) (has n : ℕ) → ((has == n) ≡ b) → (has ≡ n → ⊥) → (has == n) ≡ false
 other_count true has n e h = absurd (h (grind (arith, nat_tests, e)))
@@ -61,9 +77,9 @@ other_count false has n e h = e
 pub miscounted : (ks : List ChildData) (has n : ℕ) → has ≡ length ks → (length ks ≡ n → ⊥) → has_children n ks ≡ Err (child_count has n)
 miscounted ks has n e h = rw (other_count (length ks == n) (length ks) n refl h, e) refl
 
-pub ruleset two_rules = (owned_two, viewed_two, deep_of_two, miscounted, length-owned, length-kids, length-map)
+pub ruleset two_rules = (owned_two, viewed_two, deep_at, miscounted, length-owned, length-kids, length-map)
 
-pub ruleset three_rules = (owned_three, viewed_three, deep_of_three, miscounted, length-owned, length-kids, length-map)
+pub ruleset three_rules = (owned_three, viewed_three, deep_at, miscounted, length-owned, length-kids, length-map)
 
 -- ---- checks
 

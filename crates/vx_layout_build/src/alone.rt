@@ -9,6 +9,7 @@ ghost use Rattle.vx_layout_tree.specs.Views.{Gives};
 use crate::checks::{
     all_have_rows, flat_metadata, has_children, has_rows, no_metadata, one_segment,
 };
+use bytes::Bytes;
 use std::alloc::Global;
 use vx_layout_tree::{
     FlatLayout, KindParts, Layout, LayoutError, LayoutParts, struct_children, total_rows,
@@ -20,7 +21,7 @@ pub(crate) fn build_flat(
     alloc: Global,
     within: &LayoutBuildContext,
     parts: LayoutParts,
-    metadata: &[u8],
+    metadata: &Bytes,
 ) -> Result<Layout, LayoutError>
     ensures { Gives layout_data result (flat_built (context_of within.now) (parts_of parts) metadata.now) }
 {
@@ -42,7 +43,7 @@ pub(crate) fn build_flat(
 pub(crate) fn build_chunked(
     alloc: Global,
     parts: LayoutParts,
-    metadata: &[u8],
+    metadata: &Bytes,
 ) -> Result<Layout, LayoutError>
     ensures { Gives layout_data result (chunked_built (parts_of parts) metadata.now) }
 {
@@ -55,7 +56,7 @@ pub(crate) fn build_chunked(
 pub(crate) fn build_struct(
     alloc: Global,
     parts: LayoutParts,
-    metadata: &[u8],
+    metadata: &Bytes,
 ) -> Result<Layout, LayoutError>
     ensures { Gives layout_data result (struct_built (parts_of parts) metadata.now) }
 {

@@ -3,9 +3,10 @@
 ghost use Rattle.std.specs.Prelude.{◌≡◌, ◌+◌, length, IfOk};
 ghost use Rattle.vx_model.specs.TyView.{ty};
 ghost use Rattle.vx_layout_bytes.specs.Values.{depth};
-ghost use Rattle.vx_layout_bytes.specs.Views.{raw};
+ghost use Rattle.vx_layout_bytes.specs.Views.{seen_node};
 ghost use Rattle.vx_session.specs.Views.{scope_of, context as context_of};
-ghost use Rattle.vx_session.specs.Builder.{builder, build_foreign as foreign_built, node_parts, own_of};
+ghost use Rattle.vx_layout_bytes.specs.Node.{own_of};
+ghost use Rattle.vx_session.specs.Builder.{builder, build_foreign as foreign_built, node_parts};
 ghost use Rattle.vx_session.specs.Kinds.{build_kind as kind_built};
 ghost use Rattle.vx_layout_tree.specs.KidsView.{owned_kid};
 ghost use Rattle.vx_layout_tree.specs.LayoutView.{layout_data};
@@ -22,7 +23,7 @@ use crate::opened::{open_dict, open_list, open_stats, open_zoned};
 use bytes::Bytes;
 use std::alloc::{AllocError, Global};
 use std::sync::Arc;
-use vx_layout_bytes::RawNode;
+use vx_layout_bytes::NodeView;
 use vx_layout_tree::{Layout, LayoutChildren, LayoutError, LayoutParts, ViewedChildren};
 use vx_model::DType;
 use vx_session::{LayoutBuildContext, LayoutEncoding, Scope};
@@ -34,26 +35,27 @@ pub fn build_node(
     alloc: Global,
     scope: &Arc<Scope>,
     dtype: &DType,
-    node: RawNode,
+    node: NodeView,
 ) -> Result<Layout, LayoutError>
-    ensures { Gives layout_data result (builder (scope_of scope.now.value) (raw node) (ty dtype.now)) }
+    ensures { Gives layout_data result (builder (scope_of scope.now.value) (seen_node node) (ty dtype.now)) }
 {
-    let kind = kind_of_node(scope, node.index)?;
+    let kind = kind_of_node(scope, &node)?;
     match kind {
         Some(kind) => {
             let within = context_in(scope);
             let (parts, metadata) = parts_of_node(alloc, scope, dtype, node)?;
-            build_kind(alloc, kind, within, parts, metadata.as_slice())
+            build_kind(alloc, kind, within, parts, &metadata)
         }
         None => foreign_node(alloc, scope, dtype, node),
     }
 }
 
-/// The kind that the scope registers for the index. None where it registers none, and such nodes are kept.
+/// The kind that the scope registers for the node. None where it registers none, and such nodes are kept.
 #[tactic(auto, using(crate::proofs::BuildSteps::found_rules))]
-fn kind_of_node(scope: &Arc<Scope>, index: u16) -> Result<Option<LayoutEncoding>, LayoutError>
-    ensures { Gives the_kind result (node_kind (scope_of scope.now.value) index) }
+fn kind_of_node(scope: &Arc<Scope>, node: &NodeView) -> Result<Option<LayoutEncoding>, LayoutError>
+    ensures { Gives the_kind result (node_kind (scope_of scope.now.value) (own_of (seen_node node.now)).index) }
 {
+    let index = node.index();
     let Some(id) = scope.ids.id(index) else {
         return Err(LayoutError::UnknownIndex(index));
     };
@@ -79,10 +81,11 @@ fn foreign_node(
     alloc: Global,
     scope: &Arc<Scope>,
     dtype: &DType,
-    node: RawNode,
+    node: NodeView,
 ) -> Result<Layout, LayoutError>
-    ensures { Gives layout_data result (foreign_built (scope_of scope.now.value).ids (raw node) (ty dtype.now)) }
+    ensures { Gives layout_data result (foreign_built (scope_of scope.now.value).ids (seen_node node) (ty dtype.now)) }
 {
+    let node = node.to_raw(alloc)?;
     build_foreign(alloc, &scope.ids, dtype, &node)
 }
 
@@ -92,10 +95,11 @@ fn parts_of_node(
     alloc: Global,
     scope: &Arc<Scope>,
     dtype: &DType,
-    node: RawNode,
+    node: NodeView,
 ) -> Result<(LayoutParts, Bytes), AllocError>
-    ensures { IfOk result (λ p. (parts_of p.0 ≡ node_parts (scope_of scope.now.value) (ty dtype.now) (raw node)) × (p.1 ≡ (own_of (raw node)).metadata) × (children_depth p.0.children + 1 ≡ depth (raw node))) }
+    ensures { IfOk result (λ p. (parts_of p.0 ≡ node_parts (scope_of scope.now.value) (ty dtype.now) (seen_node node)) × (p.1 ≡ (own_of (seen_node node)).metadata) × (children_depth p.0.children + 1 ≡ depth (seen_node node))) }
 {
+    let node = node.open(alloc)?;
     let segment_ids = segment_ids(alloc, &node.segments)?;
     let dtype = dtype.clone()?;
     let scope = scope.clone()?;
@@ -116,7 +120,7 @@ pub(crate) fn build_kind(
     kind: LayoutEncoding,
     within: &LayoutBuildContext,
     parts: LayoutParts,
-    metadata: &[u8],
+    metadata: &Bytes,
 ) -> Result<Layout, LayoutError>
     ensures { Gives layout_data result (kind_built kind (context_of within.now) (parts_of parts) metadata.now) }
 {

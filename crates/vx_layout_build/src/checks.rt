@@ -11,6 +11,7 @@ ghost use Rattle.vx_layout_tree.specs.KidsView.{layout_kids};
 ghost use Rattle.vx_layout_tree.specs.LayoutView.{number};
 ghost use Rattle.vx_layout_tree.specs.Views.{Gives, done};
 
+use bytes::Bytes;
 use std::alloc::Global;
 use vx_aggregate::AggregateFn;
 use vx_layout_tree::{LayoutChildren, LayoutError};
@@ -67,50 +68,50 @@ pub(crate) fn one_segment(segment_ids: &[SegmentId]) -> Result<SegmentId, Layout
 }
 
 /// Chunked and struct layouts have no metadata.
-pub(crate) fn no_metadata(alloc: Global, bytes: &[u8]) -> Result<(), LayoutError>
+pub(crate) fn no_metadata(alloc: Global, bytes: &Bytes) -> Result<(), LayoutError>
     ensures { Gives done result (spelled bytes.now (nothing_in bytes.now)) }
 {
-    match bytes {
+    match bytes.as_slice() {
         [] => Ok(()),
-        [_, ..] => Err(LayoutError::Metadata(Blob::from_slice(alloc, bytes)?)),
+        [_, ..] => Err(LayoutError::Metadata(Blob::from_slice(alloc, bytes.as_slice())?)),
     }
 }
 
-pub(crate) fn flat_metadata(alloc: Global, bytes: &[u8]) -> Result<FlatLayoutMetadata, LayoutError>
+pub(crate) fn flat_metadata(alloc: Global, bytes: &Bytes) -> Result<FlatLayoutMetadata, LayoutError>
     ensures { Gives kept_tree result (spelled bytes.now (flat_in bytes.now)) }
 {
-    match FlatLayoutMetadata::deserialize(alloc, bytes) {
+    match FlatLayoutMetadata::deserialize(alloc, bytes.as_slice()) {
         Ok(metadata) => Ok(metadata),
         Err(MetadataError::Metadata(kept)) => Err(LayoutError::Metadata(kept)),
         Err(MetadataError::OutOfMemory) => Err(LayoutError::OutOfMemory),
     }
 }
 
-pub(crate) fn list_metadata(alloc: Global, bytes: &[u8]) -> Result<ListLayoutMetadata, LayoutError>
+pub(crate) fn list_metadata(alloc: Global, bytes: &Bytes) -> Result<ListLayoutMetadata, LayoutError>
     ensures { Gives the_same result (spelled bytes.now (list_in bytes.now)) }
 {
-    match ListLayoutMetadata::deserialize(alloc, bytes) {
+    match ListLayoutMetadata::deserialize(alloc, bytes.as_slice()) {
         Ok(metadata) => Ok(metadata),
         Err(MetadataError::Metadata(kept)) => Err(LayoutError::Metadata(kept)),
         Err(MetadataError::OutOfMemory) => Err(LayoutError::OutOfMemory),
     }
 }
 
-pub(crate) fn dict_metadata(alloc: Global, bytes: &[u8]) -> Result<DictLayoutMetadata, LayoutError>
+pub(crate) fn dict_metadata(alloc: Global, bytes: &Bytes) -> Result<DictLayoutMetadata, LayoutError>
     ensures { Gives the_same result (spelled bytes.now (dict_in bytes.now)) }
 {
-    match DictLayoutMetadata::deserialize(alloc, bytes) {
+    match DictLayoutMetadata::deserialize(alloc, bytes.as_slice()) {
         Ok(metadata) => Ok(metadata),
         Err(MetadataError::Metadata(kept)) => Err(LayoutError::Metadata(kept)),
         Err(MetadataError::OutOfMemory) => Err(LayoutError::OutOfMemory),
     }
 }
 
-pub(crate) fn zoned_metadata(alloc: Global, bytes: &[u8]) -> Result<ZonedMetadata, LayoutError>
+pub(crate) fn zoned_metadata(alloc: Global, bytes: &Bytes) -> Result<ZonedMetadata, LayoutError>
     ensures exact { Gives zoned result (spelled bytes.now (zoned_in bytes.now)) }
     ensures few { IfOk result (λ m. length m.specs.items < 2 ^ 32) }
 {
-    match ZonedMetadata::deserialize(alloc, bytes) {
+    match ZonedMetadata::deserialize(alloc, bytes.as_slice()) {
         Ok(metadata) => Ok(metadata),
         Err(MetadataError::Metadata(kept)) => Err(LayoutError::Metadata(kept)),
         Err(MetadataError::OutOfMemory) => Err(LayoutError::OutOfMemory),
@@ -119,11 +120,11 @@ pub(crate) fn zoned_metadata(alloc: Global, bytes: &[u8]) -> Result<ZonedMetadat
 
 pub(crate) fn stats_metadata(
     alloc: Global,
-    bytes: &[u8],
+    bytes: &Bytes,
 ) -> Result<LegacyStatsMetadata, LayoutError>
     ensures { Gives the_same result (spelled bytes.now (legacy_in bytes.now)) }
 {
-    match LegacyStatsMetadata::deserialize(alloc, bytes) {
+    match LegacyStatsMetadata::deserialize(alloc, bytes.as_slice()) {
         Ok(metadata) => Ok(metadata),
         Err(MetadataError::Metadata(kept)) => Err(LayoutError::Metadata(kept)),
         Err(MetadataError::OutOfMemory) => Err(LayoutError::OutOfMemory),

@@ -2,10 +2,11 @@
 
 ghost use Rattle.std.specs.Prelude.{◌≡◌, ◌↔◌, ◌<◌, length, map, IsTrue};
 ghost use Rattle.vx_model.specs.TyView.{ty};
-ghost use Rattle.vx_session.specs.Builder.{is_flat_node, own_of};
+ghost use Rattle.vx_layout_bytes.specs.Node.{own_of};
+ghost use Rattle.vx_session.specs.Builder.{is_flat_node};
 ghost use Rattle.vx_session.specs.Made.{child_at};
 ghost use Rattle.vx_session.specs.Views.{scope_of};
-ghost use Rattle.vx_layout_bytes.specs.Views.{raw};
+ghost use Rattle.vx_layout_bytes.specs.Views.{nth_node};
 ghost use Rattle.vx_layout_build.specs.ChildView.{child_lay};
 ghost use Rattle.vx_layout_build.specs.Asked.{is_flat_at};
 ghost use Rattle.vx_layout_tree.specs.KidsView.{layout_kids, owned_kids, viewed_kids};
@@ -14,7 +15,7 @@ ghost use Rattle.vx_layout_tree.specs.Views.{Gives};
 
 use crate::build::build_node;
 use crate::child::LayoutChild;
-use vx_layout_bytes::RawNode;
+use vx_layout_bytes::NodeViews;
 use vx_layout_tree::{Layout, LayoutChildren, LayoutError, ViewedChildren};
 use vx_model::DType;
 use vx_session::Scope;
@@ -76,7 +77,7 @@ impl LayoutChildrenWalk for LayoutChildren {
             LayoutChildren::Owned(layouts) => layouts[index as usize].is_indivisible(),
             LayoutChildren::Viewed(viewed) => {
                 let (scope, nodes) = viewed.as_parts();
-                is_flat_in(scope, &nodes[index as usize])
+                is_flat_in(scope, nodes, index)
             }
         }
     }
@@ -114,19 +115,19 @@ fn built_at<'a>(
     ensures { Gives child_lay result (child_at (viewed_kids viewed.now) index (ty dtype.now)) }
 {
     let (scope, nodes) = viewed.as_parts();
-    let node = nodes[index as usize].clone()?;
-    match build_node(*nodes.allocator(), scope, dtype, node) {
+    let node = nodes.node(index)?;
+    match build_node(nodes.allocator(), scope, dtype, node) {
         Ok(layout) => Ok(LayoutChild::Built(layout)),
         Err(error) => Err(error),
     }
 }
 
-/// Whether the node's id is registered as that of flat layouts.
-#[tactic(auto, using(crate::proofs::ChildSteps::flat_node_rules))]
-fn is_flat_in(scope: &Scope, node: &RawNode) -> bool
-    ensures { result ≡ is_flat_node (scope_of scope.now) (own_of (raw node.now)) }
+/// Whether the id of the node at the place is registered as that of flat layouts.
+fn is_flat_in(scope: &Scope, nodes: &NodeViews, index: u64) -> bool
+    requires { index < length nodes.now.places.items }
+    ensures { result ≡ is_flat_node (scope_of scope.now) (own_of (nth_node nodes.now index)) }
 {
-    let id = match scope.ids.id(node.index) {
+    let id = match scope.ids.id(nodes.index(index)) {
         Some(id) => id.as_str(),
         None => "",
     };

@@ -1,6 +1,7 @@
 //! What a known kind builds of parts.
 
 use crate::build::build_kind;
+use bytes::Bytes;
 use std::alloc::Global;
 use vx_layout_tree::{Layout, LayoutError, LayoutParts};
 use vx_session::{LayoutBuildContext, LayoutEncoding};
@@ -44,6 +45,7 @@ impl LayoutEncodingExt for LayoutEncoding {
         metadata: &[u8],
     ) -> Result<Layout, LayoutError> {
         let LayoutDeserializeArgs { parts, context } = args;
-        build_kind(alloc, *self, &context, parts, metadata)
+        let metadata = Bytes::copy_from_slice(alloc, metadata)?;
+        build_kind(alloc, *self, &context, parts, &metadata)
     }
 }

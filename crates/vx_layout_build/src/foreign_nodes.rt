@@ -13,7 +13,7 @@ ghost use Rattle.vx_layout_tree.specs.Views.{Gives};
 use std::alloc::{AllocError, Global};
 use vx_layout_bytes::RawNode;
 use vx_layout_tree::{ForeignLayout, Layout, LayoutError};
-use vx_model::{Blob, DType, SegmentId, Text};
+use vx_model::{DType, SegmentId, Text};
 use vx_session::LayoutContext;
 
 /// A layout in which all is foreign.
@@ -69,7 +69,7 @@ fn foreign(
     let children = all_foreign(alloc, ids, dtype, &node.children)?;
     let id = id_text(alloc, ids, node.index)?;
     let segment_ids = segment_ids(alloc, &node.segments)?;
-    let metadata = Blob::from_slice(alloc, node.metadata.as_slice())?;
+    let metadata = node.metadata.clone()?;
     let dtype = dtype.clone()?;
     let layout = ForeignLayout::new(node.rows, dtype, segment_ids, children, id, metadata);
     Ok(layout.into_layout())

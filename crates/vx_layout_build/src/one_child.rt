@@ -3,7 +3,7 @@
 ghost use Rattle.std.specs.Prelude.{◌≡◌, ◌≢◌, ◌≤◌, [], ◌∷◌, length, map, MatchOption, MatchResult};
 ghost use Rattle.vx_layout_bytes.specs.Node.{nodes_of};
 ghost use Rattle.vx_layout_bytes.specs.Values.{depths};
-ghost use Rattle.vx_layout_bytes.specs.Views.{raw};
+ghost use Rattle.vx_layout_bytes.specs.Views.{seen_nodes};
 ghost use Rattle.vx_session.specs.Builder.{kids};
 ghost use Rattle.vx_session.specs.Made.{has_children as children_needed};
 ghost use Rattle.vx_session.specs.Views.{scope_of};
@@ -12,7 +12,7 @@ ghost use Rattle.vx_layout_build.specs.PartsView.{one_kid, one_depth, children_d
 ghost use Rattle.vx_layout_tree.specs.Views.{Fails};
 
 use std::sync::Arc;
-use vx_layout_bytes::RawNode;
+use vx_layout_bytes::{NodeView, NodeViews};
 use vx_layout_tree::{Layout, LayoutChildren, LayoutError};
 use vx_session::Scope;
 
@@ -20,7 +20,7 @@ use vx_session::Scope;
 #[derive(Drop)]
 pub(crate) enum OneChild {
     Kept(Layout),
-    Node(Arc<Scope>, RawNode),
+    Node(Arc<Scope>, NodeView),
 }
 
 /// Both children, where there are two.
@@ -69,40 +69,45 @@ pub(crate) fn three(children: LayoutChildren) -> Result<(OneChild, OneChild, One
 
 /// Both nodes, where there are two.
 #[tactic(auto, using(crate::proofs::PartSteps::two_rules))]
-fn two_nodes(scope: Arc<Scope>, nodes: Vec<RawNode>) -> Result<(OneChild, OneChild), LayoutError>
+fn two_nodes(scope: Arc<Scope>, nodes: NodeViews) -> Result<(OneChild, OneChild), LayoutError>
     ensures { MatchResult result
-        (λ p. (kids (scope_of scope.value) (nodes_of (map raw nodes.items)) ≡ one_kid p.0 ∷ one_kid p.1 ∷ []) × (one_depth p.0 ≤ depths (nodes_of (map raw nodes.items))) × (one_depth p.1 ≤ depths (nodes_of (map raw nodes.items))))
-        (λ e. Fails e (children_needed 2 (kids (scope_of scope.value) (nodes_of (map raw nodes.items))))) }
+        (λ p. (kids (scope_of scope.value) (nodes_of (seen_nodes nodes)) ≡ one_kid p.0 ∷ one_kid p.1 ∷ []) × (one_depth p.0 ≤ depths (nodes_of (seen_nodes nodes))) × (one_depth p.1 ≤ depths (nodes_of (seen_nodes nodes))))
+        (λ e. Fails e (children_needed 2 (kids (scope_of scope.value) (nodes_of (seen_nodes nodes))))) }
 {
-    let has = nodes.len() as u64;
-    let same = scope.clone()?;
-    match take_two(nodes) {
-        Some((first, second)) => Ok((OneChild::Node(same, first), OneChild::Node(scope, second))),
-        None => Err(LayoutError::ChildCount { has, needs: 2 }),
+    let has = nodes.len();
+    if has != 2 {
+        return Err(LayoutError::ChildCount { has, needs: 2 });
     }
+    let first = nodes.node(0)?;
+    let second = nodes.node(1)?;
+    let same = scope.clone()?;
+    Ok((OneChild::Node(same, first), OneChild::Node(scope, second)))
 }
 
 /// All nodes, where there are three.
 #[tactic(auto, using(crate::proofs::PartSteps::three_rules))]
 fn three_nodes(
     scope: Arc<Scope>,
-    nodes: Vec<RawNode>,
+    nodes: NodeViews,
 ) -> Result<(OneChild, OneChild, OneChild), LayoutError>
     ensures { MatchResult result
-        (λ p. (kids (scope_of scope.value) (nodes_of (map raw nodes.items)) ≡ one_kid p.0 ∷ one_kid p.1 ∷ one_kid p.2 ∷ []) × (one_depth p.0 ≤ depths (nodes_of (map raw nodes.items))) × (one_depth p.1 ≤ depths (nodes_of (map raw nodes.items))) × (one_depth p.2 ≤ depths (nodes_of (map raw nodes.items))))
-        (λ e. Fails e (children_needed 3 (kids (scope_of scope.value) (nodes_of (map raw nodes.items))))) }
+        (λ p. (kids (scope_of scope.value) (nodes_of (seen_nodes nodes)) ≡ one_kid p.0 ∷ one_kid p.1 ∷ one_kid p.2 ∷ []) × (one_depth p.0 ≤ depths (nodes_of (seen_nodes nodes))) × (one_depth p.1 ≤ depths (nodes_of (seen_nodes nodes))) × (one_depth p.2 ≤ depths (nodes_of (seen_nodes nodes))))
+        (λ e. Fails e (children_needed 3 (kids (scope_of scope.value) (nodes_of (seen_nodes nodes))))) }
 {
-    let has = nodes.len() as u64;
+    let has = nodes.len();
+    if has != 3 {
+        return Err(LayoutError::ChildCount { has, needs: 3 });
+    }
+    let first = nodes.node(0)?;
+    let second = nodes.node(1)?;
+    let third = nodes.node(2)?;
     let same = scope.clone()?;
     let again = scope.clone()?;
-    match take_three(nodes) {
-        Some((first, second, third)) => Ok((
-            OneChild::Node(same, first),
-            OneChild::Node(again, second),
-            OneChild::Node(scope, third),
-        )),
-        None => Err(LayoutError::ChildCount { has, needs: 3 }),
-    }
+    Ok((
+        OneChild::Node(same, first),
+        OneChild::Node(again, second),
+        OneChild::Node(scope, third),
+    ))
 }
 
 #[tactic(auto, using(crate::proofs::PartSteps::pop_rules))]

@@ -12,10 +12,11 @@ ghost use Rattle.vx_layout_tree.specs.Views.{Gives, Fails, done};
 
 use crate::checks::has_rows;
 use crate::one_child::{OneChild, three, two};
+use bytes::Bytes;
 use std::alloc::{AllocError, Global};
 use vx_aggregate::{AggregateFn, Stat};
 use vx_layout_tree::{KindParts, Layout, LayoutChildren, LayoutError, LayoutHead, ViewedChildren};
-use vx_model::{Blob, DType, Nullability};
+use vx_model::{DType, Nullability};
 
 /// What the rows of a child must be.
 #[derive(Clone, Copy)]
@@ -44,7 +45,7 @@ pub(crate) enum Frame {
     /// With the zone length, and what the table records.
     Zoned(LayoutHead, u32, Vec<AggregateFn>),
     /// The table isn't read: its metadata, and the table as it was found.
-    Unread(LayoutHead, Blob, LayoutChildren),
+    Unread(LayoutHead, Bytes, LayoutChildren),
     /// With the zone length, and what the table records.
     LegacyStats(LayoutHead, u32, Vec<Stat>),
 }
@@ -146,7 +147,7 @@ pub(crate) fn standing(alloc: Global, child: OneChild) -> Result<LayoutChildren,
     match child {
         OneChild::Kept(layout) => { Ok(LayoutChildren::Owned(vec![in alloc; layout]?)) }
         OneChild::Node(scope, node) => {
-            Ok(LayoutChildren::Viewed(ViewedChildren::new(scope, vec![in alloc; node]?)))
+            Ok(LayoutChildren::Viewed(ViewedChildren::new(scope, node.alone(alloc)?)))
         }
     }
 }

@@ -20,18 +20,19 @@ use crate::checks::{
 };
 use crate::one_child::two;
 use crate::open::{Frame, Open, RowsRule, Wanted, pair_of, standing, triple_of};
+use bytes::Bytes;
 use std::alloc::Global;
 use vx_aggregate::{AggregateFn, aggregate_stats_table_dtype, legacy_stats_table_dtype};
 use vx_layout_tree::{LayoutChildren, LayoutError, LayoutHead, LayoutParts, ZonedLayout};
 use vx_metadata::DictLayoutMetadata;
-use vx_model::{Blob, DType, Nullability, PType};
+use vx_model::{DType, Nullability, PType};
 use vx_session::LayoutBuildContext;
 
 #[tactic(auto, using(crate::proofs::OpenSteps::dict_rules))]
 pub(crate) fn open_dict(
     alloc: Global,
     parts: LayoutParts,
-    metadata: &[u8],
+    metadata: &Bytes,
 ) -> Result<Open, LayoutError>
     ensures { Opens result (dict_built (parts_of parts) metadata.now) (children_depth parts.children) }
 {
@@ -63,7 +64,7 @@ fn codes_type(dict: &DictLayoutMetadata) -> DType
 pub(crate) fn open_stats(
     alloc: Global,
     parts: LayoutParts,
-    metadata: &[u8],
+    metadata: &Bytes,
 ) -> Result<Open, LayoutError>
     ensures { Opens result (stats_built (parts_of parts) metadata.now) (children_depth parts.children) }
 {
@@ -85,7 +86,7 @@ pub(crate) fn open_stats(
 pub(crate) fn open_list(
     alloc: Global,
     parts: LayoutParts,
-    metadata: &[u8],
+    metadata: &Bytes,
 ) -> Result<Open, LayoutError>
     ensures { Opens result (list_built (parts_of parts) metadata.now) (children_depth parts.children) }
 {
@@ -146,7 +147,7 @@ pub(crate) fn open_zoned(
     alloc: Global,
     within: &LayoutBuildContext,
     parts: LayoutParts,
-    metadata: &[u8],
+    metadata: &Bytes,
 ) -> Result<Open, LayoutError>
     ensures { Opens result (zoned_built (context_of within.now) (parts_of parts) metadata.now) (children_depth parts.children) }
 {
@@ -161,7 +162,7 @@ pub(crate) fn open_zoned(
 fn open_zones(
     alloc: Global,
     parts: LayoutParts,
-    metadata: &[u8],
+    metadata: &Bytes,
     zone_len: u32,
     aggregates: Option<Vec<AggregateFn>>,
 ) -> Result<Open, LayoutError>
@@ -180,7 +181,7 @@ fn open_zones(
 fn open_table(
     alloc: Global,
     parts: LayoutParts,
-    metadata: &[u8],
+    metadata: &Bytes,
     zone_len: u32,
     aggregates: Vec<AggregateFn>,
 ) -> Result<Open, LayoutError>
@@ -206,14 +207,14 @@ fn open_table(
 fn open_unread(
     alloc: Global,
     parts: LayoutParts,
-    metadata: &[u8],
+    metadata: &Bytes,
     zone_len: u32,
 ) -> Result<Open, LayoutError>
     requires { length (layout_kids parts.children) ≡ 2 }
     ensures { Opens result (zones_built (parts_of parts) metadata.now zone_len None) (children_depth parts.children) }
 {
     let _ = zone_len;
-    let metadata = Blob::from_slice(alloc, metadata)?;
+    let metadata = metadata.clone()?;
     let column_type = parts.dtype.clone()?;
     let (wanted, zones) = column_of(alloc, parts.children, column_type)?;
     let head = LayoutHead {

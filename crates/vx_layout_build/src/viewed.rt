@@ -103,8 +103,8 @@ fn standing<'a>(
     ensures { Gives child_lay result (answer_at (viewed_kids viewed.now) i (ty dtype.now)) }
 {
     let (scope, nodes) = viewed.as_parts();
-    let node = nodes[i as usize].clone()?;
-    match build_node(*nodes.allocator(), scope, dtype, node) {
+    let node = nodes.node(i)?;
+    match build_node(nodes.allocator(), scope, dtype, node) {
         Ok(layout) => {
             layout.built();
             Ok(LayoutChild::Built(layout))

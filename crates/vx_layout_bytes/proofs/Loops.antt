@@ -8,7 +8,7 @@ use Rattle.vx_layout_bytes.specs.Node.{Own, Node, Nodes, node, no_nodes, first, 
 use Rattle.vx_layout_bytes.specs.Reading.{Fault, bad_grammar, too_deep, too_many, own_at, ReaderOf, many_nodes, none_at, node_with, node_at}
 use Rattle.vx_layout_bytes.specs.Views.{Fails}
 
-fails_with : {A B : Type 0} (e : GrammarError) (r : Result A Fault) (total : Result B Fault) → ((f : Fault) → r ≡ Err f → total ≡ Err f) → Fails e r → Fails e total
+pub fails_with : {A B : Type 0} (e : GrammarError) (r : Result A Fault) (total : Result B Fault) → ((f : Fault) → r ≡ Err f → total ≡ Err f) → Fails e r → Fails e total
 fails_with (errors.Grammar p) r total carry h = carry (bad_grammar p) h
 fails_with (errors.TooDeep p) r total carry h = carry (too_deep p) h
 fails_with (errors.TooManyNodes p) r total carry h = carry (too_many p) h
@@ -37,6 +37,10 @@ before-none (n ∷ front) = ap (first n) (before-none front)
 
 abbrev pub with_nodes : List Node → Result (Nodes × ℕ × List ℕ) Fault → Result (Nodes × ℕ × List ℕ) Fault
 with_nodes front read = read >>= λ x. Ok (before front x.0, x.1, x.2)
+
+pub with_none : (read : Result (Nodes × ℕ × List ℕ) Fault) → with_nodes [] read ≡ read
+with_none (Ok x) = refl
+with_none (Err f) = refl
 
 regroup_nodes : (front : List Node) (n : Node) (read : Result (Nodes × ℕ × List ℕ) Fault) → with_nodes front (read >>= λ x. Ok (first n x.0, x.1, x.2)) ≡ with_nodes (front ++ n ∷ []) read
 regroup_nodes front n (Ok x) = ap (λ (ns : Nodes). Ok (ns, x.1, x.2)) (before-push front n x.0)

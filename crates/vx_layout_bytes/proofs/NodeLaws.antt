@@ -59,7 +59,7 @@ reads_segments stop = record { takes = takes; again = again }
         ap (segments_at stop) (append_assoc (u64_bytes (length s)) (joined_by u32_bytes s) rest)
         ∙ rw ((reads_u64 stop).again (length s) (joined_by u32_bytes s ++ rest) kind.count) (many_again (number_at w32 stop) u32_bytes (λ n. n < 2 ^ 32) (reads_u32 stop) s rest kind.each)
 
-own_takes : (stop : ℕ) (bytes : List ℕ) (x : Own × ℕ × List ℕ) → AreBytes bytes → own_at stop bytes ≡ Ok x → Takes bytes (own_bytes x.0 x.1) x.2 × FitsOwn x.0 x.1
+pub own_takes : (stop : ℕ) (bytes : List ℕ) (x : Own × ℕ × List ℕ) → AreBytes bytes → own_at stop bytes ≡ Ok x → Takes bytes (own_bytes x.0 x.1) x.2 × FitsOwn x.0 x.1
 unfolding own_at
 own_takes stop bytes x fits e =
     let a = bind_ok (number_at w16 stop bytes) (λ index. number_at w64 stop index.1 >>= λ rows. numbered_at stop rows.1 >>= λ metadata. segments_at stop metadata.1 >>= λ segments. number_at w64 stop segments.1 >>= λ children. Ok (record { index = index.0; rows = rows.0; metadata = metadata.0; segments = segments.0 }, children.0, children.1)) x e in
@@ -101,11 +101,11 @@ own_again stop o children rest kind =
 -- ---- what is read
 
 -- what a reader of nodes took, where so many nodes were left and they may be so deep
-record Taken (deep left : ℕ) (bytes : List ℕ) (x : Node × ℕ × List ℕ) : Type 0 where
-  takes : Takes bytes (spelling x.0) x.2
-  fits : Fits x.0
-  depth : depth x.0 ≤ deep
-  size : size x.0 + x.1 ≡ left
+pub record Taken (deep left : ℕ) (bytes : List ℕ) (x : Node × ℕ × List ℕ) : Type 0 where
+  pub takes : Takes bytes (spelling x.0) x.2
+  pub fits : Fits x.0
+  pub depth : depth x.0 ≤ deep
+  pub size : size x.0 + x.1 ≡ left
 
 record AllTaken (deep left n : ℕ) (bytes : List ℕ) (x : Nodes × ℕ × List ℕ) : Type 0 where
   takes : Takes bytes (spellings x.0) x.2
@@ -114,7 +114,7 @@ record AllTaken (deep left n : ℕ) (bytes : List ℕ) (x : Nodes × ℕ × List
   sizes : sizes x.0 + x.1 ≡ left
   number : number_of x.0 ≡ n
 
-abbrev TakesNodes : ℕ → ReaderOf Node → Type 0
+abbrev pub TakesNodes : ℕ → ReaderOf Node → Type 0
 TakesNodes deep read = (left : ℕ) (bytes : List ℕ) (x : Node × ℕ × List ℕ) → AreBytes bytes → read left bytes ≡ Ok x → Taken deep left bytes x
 
 many_taken : (deep : ℕ) (read : ReaderOf Node) → TakesNodes deep read → (n left : ℕ) (bytes : List ℕ) (x : Nodes × ℕ × List ℕ) → AreBytes bytes → many_nodes read n left bytes ≡ Ok x → AllTaken deep left n bytes x
@@ -153,7 +153,7 @@ with_taken deep stop read reads (suc left) bytes x is e =
       size = omega (arith, others.sizes);
     })
 
-node_taken : (deep stop : ℕ) → TakesNodes deep (node_at deep stop)
+pub node_taken : (deep stop : ℕ) → TakesNodes deep (node_at deep stop)
 unfolding none_at
 node_taken zero stop = λ left bytes x is e. absurd cc
 node_taken (suc deep) stop = with_taken deep stop (node_at deep stop) (node_taken deep stop)
@@ -163,7 +163,7 @@ node_taken (suc deep) stop = with_taken deep stop (node_at deep stop) (node_take
 mutual
   unfolding node_with many_nodes
 
-  node_again : (deep stop more : ℕ) (n : Node) (rest : List ℕ) → Fits n → depth n ≤ deep → node_at deep stop (size n + more) (spelling n ++ rest) ≡ Ok (n, more, rest)
+  pub node_again : (deep stop more : ℕ) (n : Node) (rest : List ℕ) → Fits n → depth n ≤ deep → node_at deep stop (size n + more) (spelling n ++ rest) ≡ Ok (n, more, rest)
   node_again zero stop more (node o ns) rest fits le = absurd (omega (arith, le))
   node_again (suc deep) stop more (node o ns) rest fits le =
       let s : suc (sizes ns) + more ≡ suc (sizes ns + more) = omega arith in

@@ -2,4 +2,5 @@ pub mod Node
 pub mod Values
 pub mod Spelled
 pub mod Reading
+pub mod There
 pub mod Views

@@ -19,6 +19,9 @@ mutual
     no_nodes : Nodes
     first : Node → Nodes → Nodes
 
+abbrev pub own_of : Node → Own
+own_of (node o ns) = o
+
 abbrev pub nodes_of : List Node → Nodes
 nodes_of [] = no_nodes
 nodes_of (n ∷ ns) = first n (nodes_of ns)

@@ -5,10 +5,16 @@ mod copy;
 mod error;
 mod fields;
 mod node;
+mod open;
 mod read;
+mod skip;
+mod view;
+mod views;
 mod write;
 
 pub use error::GrammarError;
 pub use node::{Limits, RawNode};
+pub use open::view_root;
 pub use read::read_nodes;
+pub use view::{NodeView, NodeViews, OpenNode};
 pub use write::write_node;

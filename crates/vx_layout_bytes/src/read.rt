@@ -16,10 +16,10 @@ use std::alloc::Global;
 /// A node without its children.
 #[derive(Debug, Drop)]
 pub(crate) struct Own {
-    index: u16,
-    rows: u64,
-    metadata: Bytes,
-    segments: Vec<u32>,
+    pub(crate) index: u16,
+    pub(crate) rows: u64,
+    pub(crate) metadata: Bytes,
+    pub(crate) segments: Vec<u32>,
 }
 
 /// The node that the bytes are, all of them; its metadata are parts of the same memory. Nothing is built past the limits,
@@ -39,7 +39,7 @@ pub fn read_nodes(alloc: Global, bytes: Bytes, limits: Limits) -> Result<RawNode
 }
 
 /// The place at which the bytes end.
-fn end_of(bytes: &[u8]) -> u64
+pub(crate) fn end_of(bytes: &[u8]) -> u64
     ensures place { result ≡ length bytes.now }
     ensures octets { AreBytes bytes.now }
 {
@@ -66,7 +66,11 @@ fn read_root(
 }
 
 #[tactic(auto, unfolding(crate::specs::Reading::own_at))]
-fn own_at(alloc: Global, stop: u64, bytes: &mut Bytes) -> Result<(Own, u64), GrammarError>
+pub(crate) fn own_at(
+    alloc: Global,
+    stop: u64,
+    bytes: &mut Bytes,
+) -> Result<(Own, u64), GrammarError>
     ensures { Gives (λ x. (own x.0, x.1, bytes.new)) result (own_read stop bytes.old) }
 {
     let index = u16_at(stop, bytes)?;
@@ -88,7 +92,7 @@ fn own_at(alloc: Global, stop: u64, bytes: &mut Bytes) -> Result<(Own, u64), Gra
 /// A node, `depth` deep at most and of `left` nodes at most, and how many nodes may still come.
 #[cycle(reading)]
 #[tactic(auto, using(crate::proofs::Loops::node_rules))]
-fn node_at(
+pub(crate) fn node_at(
     alloc: Global,
     stop: u64,
     depth: u64,

@@ -1,11 +1,12 @@
 //! What each word prints.
 
 use crate::children::asked_of;
+use crate::opened::opened;
 use crate::own::{own, with};
 use crate::segments::{lengths, rows, tree};
 use crate::sessions::{copied_scope, known, registered};
 use crate::shown::{as_kinds, names, slots};
-use crate::spelling::{again, codes, metadata, node};
+use crate::spelling::{again, codes, metadata, node, viewed};
 use crate::walks::{in_slot, present, walk};
 use anyhow::{Result, bail};
 use std::alloc::Global;
@@ -29,6 +30,7 @@ pub(crate) fn layout_answer(
         "tree" => tree(alloc, layout),
         "lengths" => lengths(alloc, layout, args),
         "rows" => rows(alloc, layout, args),
+        "viewed" => viewed(alloc, layout),
         "again" => again(alloc, layout),
         _ => bail!("no such word"),
     }
@@ -55,6 +57,7 @@ pub(crate) fn answer(alloc: Global, word: &str, args: &str) -> Result<String> {
         "register" => registered(alloc, args),
         "scope" => copied_scope(alloc, args),
         "node" => node(alloc, args),
+        "opened" => opened(alloc, args),
         "metadata" => metadata(alloc, args),
         "codes" => codes(alloc, args),
         _ => bail!("no such word"),

@@ -23,6 +23,25 @@ fn asked_of_copy(alloc: Global, children: &LayoutChildren, dtype: &DType) -> Res
     asked(alloc, &copy, dtype)
 }
 
+/// The children as layouts of the type, then their places and that of none.
+pub(crate) fn with_places(
+    alloc: Global,
+    children: &LayoutChildren,
+    dtype: &DType,
+) -> Result<String> {
+    let mut out = asked(alloc, children, dtype)?;
+    push_places(&mut out, children)?;
+    Ok(out)
+}
+
+fn push_places(out: &mut String, children: &LayoutChildren) -> Result<(), AllocError> {
+    let count = children.nchildren();
+    for i in 0..count {
+        write!(out, "\n{:?}", children.place(i))?;
+    }
+    write!(out, "\n{:?}", children.place(count))
+}
+
 fn asked(alloc: Global, children: &LayoutChildren, dtype: &DType) -> Result<String> {
     let mut out = String::new(alloc);
     for i in 0..children.nchildren() {

@@ -5,6 +5,7 @@ ghost use Rattle.vx_metadata.specs.Values.{are_in_order};
 
 use crate::parts::built;
 use anyhow::{Error, Result, bail};
+use bytes::Bytes;
 use std::alloc::{AllocError, Global};
 use std::num::NonZeroU32;
 use vx_case_layouts::{
@@ -16,7 +17,7 @@ use vx_layout::{
     ListLayout, Stat, StructLayout, ZonedLayout, aggregate_stats_table_dtype, are_in_order,
     legacy_stats_table_dtype,
 };
-use vx_model::{Blob, DType, Nullability, StructField, StructFields, Text};
+use vx_model::{DType, Nullability, StructField, StructFields, Text};
 
 pub(crate) fn layout(alloc: Global, text: &str) -> Result<Layout> {
     match cut(text) {
@@ -187,7 +188,7 @@ fn older_zones_of(alloc: Global, column: &DType, maxima: &[Stat], text: &str) ->
 /// Four rows of an unknown kind above other layouts.
 fn foreign(alloc: Global, text: &str) -> Result<Layout> {
     let id = Text::from_str(alloc, "x.y")?;
-    let metadata = Blob::from_slice(alloc, &[1])?;
+    let metadata = Bytes::copy_from_slice(alloc, &[1])?;
     let children = below(alloc, text)?;
     Ok(ForeignLayout::new(4, TEXTS, Vec::new(alloc), children, id, metadata).into_layout())
 }

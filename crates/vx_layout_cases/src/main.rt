@@ -19,6 +19,8 @@
 //! - `tree`: the plain text
 //! - `lengths FIRST SEGMENT..`: the text with the lengths of buffers, or the fault of a segment
 //! - `rows FIRST SEGMENT..`: the rows, or the fault
+//! - `viewed`: of a chunked layout that is read from its bytes, what `children` prints, then the places of the children in
+//!   the bytes, and of none
 //! - `again`: the slots of what is read from its bytes, where that has the same bytes
 //!
 //! Without a layout:
@@ -33,6 +35,7 @@
 //!   aggregates are known, and whether unknown kinds and aggregates are kept
 //! - `node NODE`: its bytes; then the place of its id, the rows, the segments and how many children are read from them
 //! - `metadata ID BYTES`: the bytes of what the kind reads from them
+//! - `opened CHUNKS ASKED`: the rows of the first so many chunks of a layout of so many chunks of one row, read from its bytes
 //! - `codes TYPE`: the bytes of new metadata of a dictionary whose codes are `u8`, `u16` or `u32`
 //!
 //! A leaf is `TYPE:ROWS:SEGMENT`, a flat layout of so many rows in the segment. The types are `u8`, `i8?`, `bool` and
@@ -55,6 +58,7 @@ mod answers;
 mod case;
 mod children;
 mod layouts;
+mod opened;
 mod own;
 mod parts;
 mod segments;

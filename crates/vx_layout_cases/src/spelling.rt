@@ -1,5 +1,6 @@
 //! Layouts, nodes and metadata as bytes.
 
+use crate::children::with_places;
 use crate::shown::slots;
 use anyhow::{Error, Result, bail};
 use bytes::Bytes;
@@ -22,6 +23,25 @@ pub(crate) fn again(alloc: Global, layout: &Layout) -> Result<String> {
     let bytes = spelled(alloc, layout)?;
     let read = boxed(alloc, parsed(alloc, layout.dtype(), &bytes)?)?;
     same_as(alloc, &read, &bytes)
+}
+
+/// What the children of a chunked layout are that is read from the layout's bytes.
+pub(crate) fn viewed(alloc: Global, layout: &Layout) -> Result<String> {
+    let read = boxed(alloc, reread(alloc, layout)?)?;
+    chunks_of(alloc, &read)
+}
+
+/// What is read from the layout's bytes.
+pub(crate) fn reread(alloc: Global, layout: &Layout) -> Result<Layout> {
+    let bytes = spelled(alloc, layout)?;
+    parsed(alloc, layout.dtype(), &bytes)
+}
+
+fn chunks_of(alloc: Global, layout: &Layout) -> Result<String> {
+    match layout {
+        Layout::Chunked(chunked) => with_places(alloc, chunked.children(), layout.dtype()),
+        _ => bail!("not chunked"),
+    }
 }
 
 /// The slots of the layout, where it has these bytes.

@@ -19,7 +19,7 @@ use Rattle.vx_layout_codec_spec.specs.Bytes.{bytes_in}
 use Rattle.vx_layout_codec_spec.specs.Parsed.{parsed, built_at, node_or_refusal, refused_by, ParsedWithin}
 use Rattle.vx_layout_codec_spec.proofs.SpelledAgain.{the_law}
 
-distinct_of : (ids : List (List ℕ)) → IsTrue (is_context ids) → are_distinct ids ≡ true
+pub distinct_of : (ids : List (List ℕ)) → IsTrue (is_context ids) → are_distinct ids ≡ true
 distinct_of ids h = both (not (nat_lt (2 ^ 16) (length ids))) (are_distinct ids) h
   where
     both : (a b : Bool) → IsTrue (a && b) → b ≡ true

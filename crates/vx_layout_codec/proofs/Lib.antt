@@ -1,3 +1,4 @@
 pub mod WalkSteps
 pub mod AnswerSteps
 pub mod FitSteps
+pub mod PlaceSteps

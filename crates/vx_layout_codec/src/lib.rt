@@ -1,6 +1,7 @@
 //! The bytes of layouts, both ways: a layout is spelled in a context, and bytes are read and built in a session.
 #![tactic(auto)]
 
+mod indexed;
 mod parse;
 mod permitted;
 mod spell;

@@ -5,7 +5,7 @@ ghost use Rattle.vx_model.specs.TyView.{ty};
 ghost use Rattle.vx_layout_bytes.specs.Node.{Node};
 ghost use Rattle.vx_layout_bytes.specs.Spelled.{spelling};
 ghost use Rattle.vx_layout_bytes.specs.Values.{AreBytes, IsWithin};
-ghost use Rattle.vx_layout_bytes.specs.Views.{raw};
+ghost use Rattle.vx_layout_bytes.specs.Views.{seen_node};
 ghost use Rattle.vx_session.specs.Builder.{builder};
 ghost use Rattle.vx_session.specs.Views.{scope_in, scope_of};
 ghost use Rattle.vx_layout_tree.specs.LayoutView.{layout_data};
@@ -18,7 +18,7 @@ use bytes::Bytes;
 use std::alloc::Global;
 use std::sync::Arc;
 use vx_layout_build::build_node;
-use vx_layout_bytes::{GrammarError, Limits, RawNode, read_nodes};
+use vx_layout_bytes::{GrammarError, Limits, NodeView, view_root};
 use vx_layout_tree::{Layout, LayoutError};
 use vx_model::{ArrayContext, DType};
 use vx_session::{LayoutContext, Scope, Session};
@@ -90,12 +90,12 @@ fn read_in(
 }
 
 /// The node that all of the bytes are.
-fn read_within(alloc: Global, flatbuffer: Bytes, limits: Limits) -> Result<RawNode, LayoutError>
+fn read_within(alloc: Global, flatbuffer: Bytes, limits: Limits) -> Result<NodeView, LayoutError>
     requires { limits.depth ≤ 1024 }
-    ensures exact { Gives raw result (node_within limits.depth limits.nodes flatbuffer) }
+    ensures exact { Gives seen_node result (node_within limits.depth limits.nodes flatbuffer) }
     ensures octets { OnOk result (AreBytes flatbuffer) }
 {
-    match read_nodes(alloc, flatbuffer, limits) {
+    match view_root(alloc, flatbuffer, limits) {
         Ok(node) => Ok(node),
         Err(GrammarError::Grammar(place)) => Err(LayoutError::Grammar(place)),
         Err(GrammarError::TooDeep(place)) => Err(LayoutError::TooDeep(place)),

@@ -8,18 +8,18 @@ ghost use Rattle.vx_layout_tree.specs.Views.{Gives};
 ghost use Rattle.vx_layout_codec_spec.specs.Permitted.{listed, permitted};
 ghost use Rattle.vx_layout_codec.specs.Views.{children_answer, kept};
 
+use crate::indexed::IndexedContext;
 use std::alloc::{AllocError, Global};
 use vx_layout_build::{LayoutChild, LayoutWalk};
 use vx_layout_tree::{Layout, LayoutError};
 use vx_model::Text;
-use vx_session::LayoutContext;
 
 /// The first id in pre-order that isn't listed. A node that can't be built has no id.
 #[tactic(auto, using(crate::proofs::WalkSteps::walk_rules))]
 pub(crate) fn check_permitted(
     alloc: Global,
     layout: &Layout,
-    ctx: &LayoutContext,
+    ctx: &IndexedContext<'_>,
 ) -> Result<(), LayoutError>
     ensures { Gives (λ u. u) result (permitted ctx.now (layout_data layout.now)) }
 {
@@ -38,7 +38,7 @@ pub(crate) fn check_permitted(
     Ok(())
 }
 
-fn check_listed(alloc: Global, id: &str, ctx: &LayoutContext) -> Result<(), LayoutError>
+fn check_listed(alloc: Global, id: &str, ctx: &IndexedContext<'_>) -> Result<(), LayoutError>
     ensures { Gives (λ u. u) result (listed ctx.now id.now) }
 {
     match ctx.place(id) {

@@ -12,6 +12,7 @@ ghost use Rattle.vx_layout_codec_spec.specs.Permitted.{built};
 ghost use Rattle.vx_layout_codec_spec.specs.NodeOf.{own_in, node_in};
 ghost use Rattle.vx_layout_codec_spec.specs.Bytes.{unless_refused, bytes_in};
 
+use crate::indexed::IndexedContext;
 use crate::permitted::check_permitted;
 use bytes::Bytes;
 use std::alloc::{AllocError, Global};
@@ -32,14 +33,15 @@ pub fn layout_bytes(
     // Each number of the node that is spelled fits its field.
     ensures fits { IfOk result (λ v. Fits (node_in ctx.now (layout_data layout.now))) }
 {
-    check_permitted(alloc, layout, ctx)?;
-    let node = node_of(alloc, layout, ctx)?;
+    let ctx = IndexedContext::new(alloc, ctx)?;
+    check_permitted(alloc, layout, &ctx)?;
+    let node = node_of(alloc, layout, &ctx)?;
     Ok(write_node(alloc, &node)?)
 }
 
 /// The node that the layout is. An id that the context doesn't list is taken as the first one.
 #[tactic(auto, using(crate::proofs::WalkSteps::node_rules))]
-fn node_of(alloc: Global, layout: &Layout, ctx: &LayoutContext) -> Result<RawNode, LayoutError>
+fn node_of(alloc: Global, layout: &Layout, ctx: &IndexedContext<'_>) -> Result<RawNode, LayoutError>
     ensures node { Gives raw result (unless_refused (built (layout_data layout.now)) (node_in ctx.now (layout_data layout.now))) }
     ensures fits { IfOk result (λ n. Fits (raw n)) }
 {
@@ -59,7 +61,7 @@ fn node_of(alloc: Global, layout: &Layout, ctx: &LayoutContext) -> Result<RawNod
 fn own_node(
     alloc: Global,
     layout: &Layout,
-    ctx: &LayoutContext,
+    ctx: &IndexedContext<'_>,
     children: Vec<RawNode>,
 ) -> Result<RawNode, AllocError>
     ensures node { IfOk result (λ n. raw n ≡ node (own_in ctx.now (layout_data layout.now)) (nodes_of (map raw children.items))) }

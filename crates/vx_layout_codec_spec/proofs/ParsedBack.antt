@@ -19,7 +19,7 @@ use Rattle.vx_metadata.specs.Values.{Zoned, IsZoned, are_in_order}
 use Rattle.vx_metadata.proofs.SmallLaws.{dict_again, list_again}
 use Rattle.vx_metadata.proofs.SpecLaws.{zoned_again}
 use Rattle.vx_metadata.proofs.StatLaws.{legacy_again}
-use Rattle.vx_layout_bytes.specs.Node.{Own, Node, Nodes, node, no_nodes, first}
+use Rattle.vx_layout_bytes.specs.Node.{Own, Node, Nodes, node, no_nodes, first, own_of}
 use Rattle.vx_layout_bytes.specs.Values.{IsWithin}
 use Rattle.vx_layout_bytes.specs.Spelled.{spelling}
 use Rattle.vx_layout_bytes.specs.Reading.{root_at}
@@ -31,7 +31,7 @@ use Rattle.vx_session.specs.Ids.{id_at, place_of, further}
 use Rattle.vx_session.specs.Scope.{Context, Scope}
 use Rattle.vx_session.specs.Made.{Made, ◌>>=◌, needs, ChildData, kid_rows, child_at, rows_at, standing_at, all_stand, each_stands, all_have_rows}
 use Rattle.vx_session.specs.Kinds.{Parts, struct_types, validity_type, validity_types, element_type, build_validity, build_offsets, read_specs, build_flat, build_chunked, build_struct, build_list, build_dict, build_zoned, build_zones, build_stats, build_kind}
-use Rattle.vx_session.specs.Builder.{unknown_in, unknown_among, earlier, unknown_here, foreign, all_foreign, id_or_none, build_foreign, known_id, own_parts, build_registered, build_own, own_of, kid_of, builder, kids}
+use Rattle.vx_session.specs.Builder.{unknown_in, unknown_among, earlier, unknown_here, foreign, all_foreign, id_or_none, build_foreign, known_id, own_parts, build_registered, build_own, kid_of, builder, kids}
 use Rattle.vx_layout_codec_spec.specs.Permitted.{Checked, and_checked, listed, permitted, all_permitted, built}
 use Rattle.vx_layout_codec_spec.specs.NodeOf.{or_first, own_in, node_in, nodes_in}
 use Rattle.vx_layout_codec_spec.specs.Bytes.{unless_refused, bytes_in}

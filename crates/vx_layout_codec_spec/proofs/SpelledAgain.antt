@@ -22,7 +22,7 @@ use Rattle.vx_metadata.specs.Values.{Zoned}
 use Rattle.vx_metadata.proofs.SmallLaws.{dict_takes, list_takes}
 use Rattle.vx_metadata.proofs.SpecLaws.{zoned_takes}
 use Rattle.vx_metadata.proofs.StatLaws.{legacy_takes}
-use Rattle.vx_layout_bytes.specs.Node.{Own, Node, Nodes, node, no_nodes, first, number_of}
+use Rattle.vx_layout_bytes.specs.Node.{Own, Node, Nodes, node, no_nodes, first, number_of, own_of}
 use Rattle.vx_layout_bytes.specs.Spelled.{numbered, segment_bytes, own_bytes, spelling, spellings}
 use Rattle.vx_layout_bytes.specs.Reading.{Fault, root_at}
 use Rattle.vx_layout_bytes.specs.Values.{AreBytes}
@@ -34,7 +34,7 @@ use Rattle.vx_session.specs.Ids.{id_at, place_of, are_distinct, is_listed, furth
 use Rattle.vx_session.specs.Scope.{Context, Scope}
 use Rattle.vx_session.specs.Made.{Made, ◌>>=◌, needs, spelled, ChildData, kid_rows, child_at, rows_at, standing_at, all_stand, each_stands, has_children, has_rows, all_have_rows, one_segment}
 use Rattle.vx_session.specs.Kinds.{names_aggregate, nothing_in, struct_types, validity_type, validity_types, element_type, build_validity, build_offsets, read_spec, read_specs, read_on, with_options, build_flat, build_chunked, build_struct, build_list, build_dict, build_zoned, build_zones, build_stats, build_kind}
-use Rattle.vx_session.specs.Builder.{unknown_in, unknown_among, unknown_here, earlier, foreign, all_foreign, id_or_none, unless_unknown, build_foreign, known_id, own_parts, build_registered, built_or_refused, is_flat_node, own_of, builder, kids}
+use Rattle.vx_session.specs.Builder.{unknown_in, unknown_among, unknown_here, earlier, foreign, all_foreign, id_or_none, unless_unknown, build_foreign, known_id, own_parts, build_registered, built_or_refused, is_flat_node, builder, kids}
 use Rattle.vx_layout_codec_spec.specs.Permitted.{Checked, and_checked, refusal_in, own_built, permitted, all_permitted, built, all_built}
 use Rattle.vx_session.proofs.Named.{means}
 use Rattle.vx_layout_codec_spec.specs.NodeOf.{node_in, nodes_in}

@@ -21,20 +21,20 @@ pub same_chunks : (t : Ty) (c d : LayoutChildren) → SameChildren c d → chunk
 same_chunks t (children.Owned v) (children.Owned w) same = same
 same_chunks t (children.Owned v) (children.Viewed w) same = absurd same
 same_chunks t (children.Viewed v) (children.Owned w) same = absurd same
-same_chunks t (children.Viewed v) (children.Viewed w) same = rw (same.0, same.1) refl
+same_chunks t (children.Viewed v) (children.Viewed w) same = rw (same.0, same.1, same.2) refl
 
 pub same_fields : (t : Ty) (c d : LayoutChildren) → SameChildren c d → fields t c ≡ fields t d
 same_fields t (children.Owned v) (children.Owned w) same = same
 same_fields t (children.Owned v) (children.Viewed w) same = absurd same
 same_fields t (children.Viewed v) (children.Owned w) same = absurd same
-same_fields t (children.Viewed v) (children.Viewed w) same = rw (same.0, same.1) refl
+same_fields t (children.Viewed v) (children.Viewed w) same = rw (same.0, same.1, same.2) refl
 
 -- a copy builds the same
 pub same_kids : (c d : LayoutChildren) → SameChildren c d → layout_kids c ≡ layout_kids d
 same_kids (children.Owned v) (children.Owned w) same = ap owned_kids same
 same_kids (children.Owned v) (children.Viewed w) same = absurd same
 same_kids (children.Viewed v) (children.Owned w) same = absurd same
-same_kids (children.Viewed v) (children.Viewed w) same = rw (same.0, same.1) refl
+same_kids (children.Viewed v) (children.Viewed w) same = rw (same.0, same.1, same.2) refl
 
 pub ruleset copy_rules = (same_chunks, same_fields, same_kids, lays_in-lays_of)
 

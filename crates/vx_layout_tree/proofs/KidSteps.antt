@@ -7,14 +7,13 @@ use Rattle.vx_model.specs.Ty.{Ty, Tys, struct, boolean, no_fields, field, fields
 use Rattle.vx_layout_spec.specs.Refusal.{Refusal}
 use Rattle.vx_layout_spec.specs.LayoutTree.{LayoutData, row_count}
 use Rattle.vx_layout_spec.proofs.LayoutLaws.{lays_in-lays_of}
-use Rattle.vx_layout_bytes.specs.declared.node.RawNode.{RawNode, out-RawNode}
-use Rattle.vx_layout_bytes.specs.Node.{Node, nodes_of}
-use Rattle.vx_layout_bytes.specs.Views.{raw}
-use Rattle.vx_layout_bytes.proofs.Nodes.{raw_is}
+use Rattle.vx_layout_bytes.specs.Node.{Node, nodes_of, own_of}
+use Rattle.vx_layout_bytes.specs.There.{node_there}
+use Rattle.vx_layout_bytes.specs.Views.{seen_nodes}
 use Rattle.vx_session.specs.Scope.{Scope}
 use Rattle.vx_session.specs.Made.{ChildData, kid_rows, rows_at, all_stand, each_stands}
 use Rattle.vx_session.specs.Kinds.{struct_types, types_in, field_types}
-use Rattle.vx_session.specs.Builder.{kids, own_of}
+use Rattle.vx_session.specs.Builder.{kids}
 use Rattle.vx_session.proofs.RowsKept.{stands_kept}
 use Rattle.vx_session.specs.Views.{scope_of}
 use Rattle.vx_layout_tree.specs.declared.error.LayoutError.{LayoutError}
@@ -44,13 +43,10 @@ owned_rows [] i l lt is = absurd (omega (arith, lt))
 owned_rows (x ∷ ls) zero l lt is = rw is refl
 owned_rows (x ∷ ls) (suc i) l lt is = owned_rows ls i l (omega (arith, lt)) is
 
-pub own_rows : (n : RawNode) → (own_of (raw n)).rows ≡ (out-RawNode n).rows
-own_rows n = rw (raw_is n) refl
-
-pub viewed_rows : (s : Scope) (ns : List RawNode) (i : ℕ) (n : RawNode) → i < length ns → n ≡ get_or ns i n → (out-RawNode n).rows ≡ rows_at (kids s (nodes_of (map raw ns))) i
-viewed_rows s [] i n lt is = absurd (omega (arith, lt))
-viewed_rows s (x ∷ ns) zero n lt is = rw (own_rows x, ← is) refl
-viewed_rows s (x ∷ ns) (suc i) n lt is = viewed_rows s ns i n (omega (arith, lt)) is
+pub viewed_rows : (s : Scope) (bytes ps : List ℕ) (i : ℕ) → i < length ps → (own_of (node_there bytes (get_or ps i 0))).rows ≡ rows_at (kids s (nodes_of (map (node_there bytes) ps))) i
+viewed_rows s bytes [] i lt = absurd (omega (arith, lt))
+viewed_rows s bytes (p ∷ ps) zero lt = refl
+viewed_rows s bytes (p ∷ ps) (suc i) lt = viewed_rows s bytes ps i (omega (arith, lt))
 
 pub ruleset rows_rules = (owned_rows, viewed_rows, length-owned, length-kids, length-map)
 
@@ -91,7 +87,7 @@ viewed_total s t (n ∷ ns) (suc i) = rw (stands_kept s n t, viewed_total s t ns
 
 pub chunk_total : (t : Ty) (c : LayoutChildren) (i : ℕ) → total_by row_count (take i (chunks t c)) ≡ total_by kid_rows (take i (layout_kids c))
 chunk_total t (children.Owned v) i = owned_total (map layout_data v.items) i
-chunk_total t (children.Viewed v) i = viewed_total (scope_of v.scope.value) t (map raw v.nodes.items) i
+chunk_total t (children.Viewed v) i = viewed_total (scope_of v.scope.value) t (seen_nodes v.nodes) i
 
 whole : {X : Type 0} (f : X → ℕ) (xs : List X) → total_by f (take (length xs) xs) ≡ total_by f xs
 whole f [] = refl
@@ -173,7 +169,7 @@ viewed_at s t (n ∷ ns) (suc i) = viewed_at s t ns i
 
 pub chunk_rows_at : (t : Ty) (c : LayoutChildren) (i : ℕ) → places.rows_at (chunks t c) i ≡ rows_at (layout_kids c) i
 chunk_rows_at t (children.Owned v) i = owned_at (map layout_data v.items) i
-chunk_rows_at t (children.Viewed v) i = viewed_at (scope_of v.scope.value) t (map raw v.nodes.items) i
+chunk_rows_at t (children.Viewed v) i = viewed_at (scope_of v.scope.value) t (seen_nodes v.nodes) i
 
 field_at : (s : Scope) (ts : List Ty) (ns : List Node) (i : ℕ) → length (kids s (nodes_of ns)) ≡ length ts → places.rows_at (each_stands ts (kids s (nodes_of ns))) i ≡ rows_at (kids s (nodes_of ns)) i
 field_at s [] [] i e = refl
@@ -184,7 +180,7 @@ field_at s (t ∷ ts) (n ∷ ns) (suc i) e = field_at s ts ns i (omega (arith, e
 
 pub field_rows_at : (t : Ty) (c : LayoutChildren) (i : ℕ) → length (layout_kids c) ≡ length (struct_types t) → places.rows_at (fields t c) i ≡ rows_at (layout_kids c) i
 field_rows_at t (children.Owned v) i e = owned_at (map layout_data v.items) i
-field_rows_at t (children.Viewed v) i e = field_at (scope_of v.scope.value) (struct_types t) (map raw v.nodes.items) i e
+field_rows_at t (children.Viewed v) i e = field_at (scope_of v.scope.value) (struct_types t) (seen_nodes v.nodes) i e
 
 pub ruleset place_rules = (lays_in-lays_of, length-map, length-chunks, length-fields, chunk_rows_at, field_rows_at)
 

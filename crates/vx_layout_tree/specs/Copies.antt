@@ -3,7 +3,6 @@ use Rattle.std.specs.Prelude.{◌≡◌, ℕ, ◌==◌, if◌then◌else◌, Lis
 use Rattle.vx_model.specs.Words.{total_by}
 use Rattle.vx_layout_spec.specs.Refusal.{other_rows}
 use Rattle.vx_layout_spec.specs.LayoutTree.{LayoutData, layout, lays_of, row_count}
-use Rattle.vx_layout_bytes.specs.Views.{raw}
 use Rattle.vx_session.specs.Views.{scope_of}
 use Rattle.vx_session.specs.Made.{Made}
 use Rattle.vx_layout_tree.specs.declared.children.LayoutChildren.{LayoutChildren}
@@ -14,9 +13,9 @@ use Rattle.vx_layout_tree.specs.declared.zoned.ZoneTable.TheVariants as tables
 use Rattle.vx_layout_tree.specs.LayoutView.{layout_data}
 use Rattle.vx_layout_tree.specs.LayDepth.{depths}
 
--- the same nodes, built in the same
+-- nodes at the same places of the same bytes, built in the same
 abbrev pub SameNodes : ViewedChildren → ViewedChildren → Type 0
-SameNodes v w = (scope_of v.scope.value ≡ scope_of w.scope.value) × (map raw v.nodes.items ≡ map raw w.nodes.items)
+SameNodes v w = (scope_of v.scope.value ≡ scope_of w.scope.value) × (v.nodes.bytes ≡ w.nodes.bytes) × (v.nodes.places.items ≡ w.nodes.places.items)
 
 -- layouts that are kept are of the same trees
 abbrev pub SameChildren : LayoutChildren → LayoutChildren → Type 0

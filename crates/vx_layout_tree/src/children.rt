@@ -8,7 +8,7 @@ ghost use Rattle.vx_layout_tree.specs.LayoutView.{layout_data};
 use crate::layout::Layout;
 use std::alloc::Global;
 use std::sync::Arc;
-use vx_layout_bytes::RawNode;
+use vx_layout_bytes::NodeViews;
 use vx_session::Scope;
 
 /// What a chunked or a struct layout has below it.
@@ -19,25 +19,25 @@ pub enum LayoutChildren {
     Viewed(ViewedChildren),
 }
 
-/// Nodes of bytes, and what they are built in.
+/// Nodes that stay in their bytes, and what they are built in.
 #[derive(Debug, Drop)]
 pub struct ViewedChildren {
     pub(crate) scope: Arc<Scope>,
-    pub(crate) nodes: Vec<RawNode>,
+    pub(crate) nodes: NodeViews,
 }
 
 impl ViewedChildren {
     ghost use Rattle.std.specs.Prelude.{◌≡◌};
 
-    /// Nodes that bytes spell, and what they are built in. Takes no memory.
-    pub fn new(scope: Arc<Scope>, nodes: Vec<RawNode>) -> ViewedChildren
+    /// Takes no memory.
+    pub fn new(scope: Arc<Scope>, nodes: NodeViews) -> ViewedChildren
         ensures { result ≡ record { scope = scope; nodes = nodes } }
     {
         ViewedChildren { scope, nodes }
     }
 
     /// What the nodes are built in, and the nodes.
-    pub fn as_parts(&self) -> (&Arc<Scope>, &Vec<RawNode>)
+    pub fn as_parts(&self) -> (&Arc<Scope>, &NodeViews)
         ensures scope { result.0.now ≡ self.now.scope }
         ensures nodes { result.1.now ≡ self.now.nodes }
     {
@@ -45,7 +45,7 @@ impl ViewedChildren {
     }
 
     /// The same by themselves. Takes no memory.
-    pub fn into_parts(self) -> (Arc<Scope>, Vec<RawNode>)
+    pub fn into_parts(self) -> (Arc<Scope>, NodeViews)
         ensures scope { result.0 ≡ self.scope }
         ensures nodes { result.1 ≡ self.nodes }
     {
@@ -63,7 +63,7 @@ pub fn layout_children(children: Vec<Layout>) -> LayoutChildren
 impl LayoutChildren {
     ghost use Rattle.std.specs.Prelude.{◌≡◌, ◌<◌, ◌^◌, length};
     ghost use Rattle.vx_session.specs.Made.{rows_at};
-    ghost use Rattle.vx_layout_tree.specs.KidsView.{layout_kids};
+    ghost use Rattle.vx_layout_tree.specs.KidsView.{layout_kids, place_in};
 
     /// How many there are, built or not.
     #[tactic(auto, using(crate::proofs::KidSteps::rows_rules))]
@@ -73,7 +73,7 @@ impl LayoutChildren {
     {
         match self {
             LayoutChildren::Owned(layouts) => layouts.len() as u64,
-            LayoutChildren::Viewed(viewed) => viewed.nodes.len() as u64,
+            LayoutChildren::Viewed(viewed) => viewed.nodes.len(),
         }
     }
 
@@ -85,7 +85,18 @@ impl LayoutChildren {
     {
         match self {
             LayoutChildren::Owned(layouts) => layouts[i as usize].row_count(),
-            LayoutChildren::Viewed(viewed) => viewed.nodes[i as usize].rows,
+            LayoutChildren::Viewed(viewed) => viewed.nodes.rows(i),
+        }
+    }
+
+    /// The byte at which the node of the child begins, counted from the first of the bytes that were parsed. None of
+    /// children that are kept, and where there is no such child. Takes no memory.
+    pub fn place(&self, idx: u64) -> Option<u64>
+        ensures { result ≡ place_in self.now idx }
+    {
+        match self {
+            LayoutChildren::Owned(_) => None,
+            LayoutChildren::Viewed(viewed) => viewed.nodes.place(idx),
         }
     }
 
@@ -93,7 +104,7 @@ impl LayoutChildren {
     pub fn allocator(&self) -> Global {
         match self {
             LayoutChildren::Owned(layouts) => *layouts.allocator(),
-            LayoutChildren::Viewed(viewed) => *viewed.nodes.allocator(),
+            LayoutChildren::Viewed(viewed) => viewed.nodes.allocator(),
         }
     }
 }

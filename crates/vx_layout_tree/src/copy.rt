@@ -1,7 +1,6 @@
 //! Equal copies of layouts and of children.
 
 ghost use Rattle.std.specs.Prelude.{◌≡◌, map, length, IfOk};
-ghost use Rattle.vx_layout_bytes.specs.Views.{raw};
 ghost use Rattle.vx_layout_tree.specs.Copies.{SameChildren, SameNodes, SameTable};
 ghost use Rattle.vx_layout_tree.specs.FlatView.{flat_lay};
 ghost use Rattle.vx_layout_tree.specs.LayoutView.{layout_data};
@@ -12,7 +11,6 @@ use crate::layout::Layout;
 use crate::rebuilt::same_segments;
 use crate::zoned::{UnreadZones, ZoneTable, ZonedLayout};
 use std::alloc::AllocError;
-use vx_layout_bytes::RawNode;
 use vx_model::Blob;
 
 impl Layout {
@@ -109,21 +107,10 @@ impl ViewedChildren {
     fn copy(&self) -> Result<ViewedChildren, AllocError>
         ensures { IfOk result (λ copy. SameNodes copy self.now) }
     {
-        let nodes = copy_nodes(&self.nodes)?;
+        let nodes = self.nodes.clone()?;
         let scope = self.scope.clone()?;
         Ok(ViewedChildren { scope, nodes })
     }
-}
-
-#[tactic(auto, using(crate::proofs::CopySteps::push_rules))]
-fn copy_nodes(nodes: &Vec<RawNode>) -> Result<Vec<RawNode>, AllocError>
-    ensures { IfOk result (λ v. map raw v.items ≡ map raw nodes.now.items) }
-{
-    let mut copies = Vec::with_capacity(*nodes.allocator(), nodes.len())?;
-    for node in nodes {
-        copies.push(node.clone()?)?;
-    }
-    Ok(copies)
 }
 
 impl FlatLayout {

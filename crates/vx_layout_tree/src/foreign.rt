@@ -1,6 +1,7 @@
 use crate::layout::Layout;
+use bytes::Bytes;
 use std::marker::Model;
-use vx_model::{Blob, DType, SegmentId, Text};
+use vx_model::{DType, SegmentId, Text};
 
 /// A layout of an id that isn't known here, kept as it was found.
 #[derive(Debug, Drop)]
@@ -11,7 +12,7 @@ pub struct ForeignLayout {
     pub(crate) segment_ids: Vec<SegmentId>,
     pub(crate) children: Vec<Layout>,
     pub(crate) id: Text,
-    pub(crate) metadata: Blob,
+    pub(crate) metadata: Bytes,
 }
 
 impl Model for ForeignLayout {
@@ -50,7 +51,7 @@ impl ForeignLayout {
         segment_ids: Vec<SegmentId>,
         children: Vec<Layout>,
         id: Text,
-        metadata: Blob,
+        metadata: Bytes,
     ) -> ForeignLayout
         ensures { result ≡ layout (foreign_kind id metadata) (ty dtype) row_count (map number segment_ids.items) (lays_of (map layout_data children.items)) }
     {

@@ -4,8 +4,9 @@ use crate::children::LayoutChildren;
 use crate::flat::FlatLayout;
 use crate::layout::Layout;
 use crate::zoned::ZoneTable;
+use bytes::Bytes;
 use vx_aggregate::{AggregateFn, Stat};
-use vx_model::{Blob, Text};
+use vx_model::Text;
 
 /// The kind of a layout, and what it keeps besides rows, type and segments.
 #[derive(Clone, Copy)]
@@ -19,11 +20,11 @@ pub enum KindRef<'a> {
     /// With the zone length, and what the table records.
     Zoned(&'a [Layout], u32, &'a [AggregateFn]),
     /// The table isn't read: its metadata, and the table as it was found.
-    Unread(&'a [Layout], &'a Blob, &'a LayoutChildren),
+    Unread(&'a [Layout], &'a Bytes, &'a LayoutChildren),
     /// With the zone length, and what the table records.
     LegacyStats(&'a [Layout], u32, &'a [Stat]),
     /// With the id and the metadata.
-    Foreign(&'a [Layout], &'a Text, &'a Blob),
+    Foreign(&'a [Layout], &'a Text, &'a Bytes),
 }
 
 impl Layout {

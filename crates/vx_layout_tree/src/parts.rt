@@ -8,9 +8,10 @@ use crate::list::ListLayout;
 use crate::stats::LegacyStatsLayout;
 use crate::structs::StructLayout;
 use crate::zoned::{UnreadZones, ZoneTable, ZonedLayout};
+use bytes::Bytes;
 use std::alloc::Global;
 use vx_aggregate::{AggregateFn, Stat};
-use vx_model::{Blob, DType, SegmentId};
+use vx_model::{DType, SegmentId};
 
 /// What layouts of all kinds have.
 #[derive(Debug, Drop)]
@@ -60,7 +61,7 @@ pub enum KindParts {
     /// With the zone length, and what the table records.
     Zoned(LayoutHead, Vec<Layout>, u32, Vec<AggregateFn>),
     /// The table isn't read: its metadata, and the table as it was found.
-    Unread(LayoutHead, Vec<Layout>, Blob, LayoutChildren),
+    Unread(LayoutHead, Vec<Layout>, Bytes, LayoutChildren),
     /// With the zone length, and what the table records.
     LegacyStats(LayoutHead, Vec<Layout>, u32, Vec<Stat>),
 }

@@ -2,17 +2,18 @@ use crate::children::{LayoutChildren, kept_rows};
 use crate::error::LayoutError;
 use crate::layout::Layout;
 use crate::shape::column_type;
+use bytes::Bytes;
 use std::alloc::Global;
 use std::marker::Model;
 use std::num::NonZeroU32;
 use vx_aggregate::{AggregateFn, aggregate_stats_table_dtype};
-use vx_model::{Blob, DType, SegmentId};
+use vx_model::{DType, SegmentId};
 
 /// A table that records an aggregate that isn't known: its metadata, and the table as it was found.
 #[derive(Debug, Drop)]
 #[cycle(layout)]
 pub struct UnreadZones {
-    pub(crate) metadata: Blob,
+    pub(crate) metadata: Bytes,
     pub(crate) zones: LayoutChildren,
 }
 

@@ -9,13 +9,13 @@ use Rattle.vx_layout_spec.specs.LayoutTree.{LayoutData, row_count}
 use Rattle.vx_layout_spec.specs.Refusal.{Refusal, no_list, no_struct}
 use Rattle.vx_aggregate.specs.Tables.{stats_table, legacy_table}
 use Rattle.vx_metadata.specs.Reading.{flat_in, list_in, dict_in, zoned_in, legacy_in}
-use Rattle.vx_layout_bytes.specs.Node.{Own, Node, node}
+use Rattle.vx_layout_bytes.specs.Node.{Own, Node, node, own_of}
 use Rattle.vx_session.specs.declared.encoding.LayoutEncoding.{LayoutEncoding}
 use Rattle.vx_session.specs.declared.encoding.LayoutEncoding.TheVariants as kinds
 use Rattle.vx_session.specs.Scope.{Context, Scope}
 use Rattle.vx_session.specs.Made.{Made, ◌>>=◌, needs, spelled, ChildData, kid_rows, child_at, rows_at, has_children, has_rows, all_have_rows, one_segment}
 use Rattle.vx_session.specs.Kinds.{Parts, nothing_in, struct_types, validity_types, element_type, build_validity, build_offsets, read_specs, build_flat, build_chunked, build_struct, build_list, build_dict, build_zoned, build_zones, build_stats, build_kind}
-use Rattle.vx_session.specs.Builder.{unknown_in, foreign, unless_unknown, build_foreign, known_id, build_registered, built_or_refused, is_flat_node, kid_of, own_of, builder, kids}
+use Rattle.vx_session.specs.Builder.{unknown_in, foreign, unless_unknown, build_foreign, known_id, build_registered, built_or_refused, is_flat_node, kid_of, builder, kids}
 use Rattle.vx_session.specs.Encodings.{kind_of}
 
 -- what comes of it has so many rows, where something does

@@ -3,7 +3,7 @@ use Rattle.std.specs.Prelude.{ℕ, Bool, false, if◌then◌else◌, List, [], �
 use Rattle.vx_model.specs.Ty.{Ty}
 use Rattle.vx_layout_spec.specs.LayoutTree.{LayoutData, LayoutList, layout, no_layouts, child, foreign_kind, refused_kind}
 use Rattle.vx_layout_spec.specs.Refusal.{Refusal, unknown_index, unregistered}
-use Rattle.vx_layout_bytes.specs.Node.{Own, Node, Nodes, node, no_nodes, first}
+use Rattle.vx_layout_bytes.specs.Node.{Own, Node, Nodes, node, no_nodes, first, own_of}
 use Rattle.vx_session.specs.declared.encoding.LayoutEncoding.{LayoutEncoding}
 use Rattle.vx_session.specs.Ids.{id_at}
 use Rattle.vx_session.specs.Encodings.{kind_of, is_flat}
@@ -93,9 +93,6 @@ kid_of s o build = record {
   build = build;
   stands = λ t. built_or_refused (is_flat_node s o) o t (build t);
 }
-
-abbrev pub own_of : Node → Own
-own_of (node o ns) = o
 
 abbrev mutual
   pub builder : Scope → Node → Ty → Made

@@ -4,7 +4,7 @@ use Rattle.std.proofs.lemmas.Result.{err_from_is_err_and}
 use Rattle.std.specs.Vec.Iter.{into_iter_items}
 use Rattle.vx_model.specs.TyView.{ty}
 use Rattle.vx_layout_bytes.specs.Values.{depth}
-use Rattle.vx_layout_bytes.specs.Views.{raw}
+use Rattle.vx_layout_bytes.specs.Views.{seen_node}
 use Rattle.vx_session.specs.Views.{scope_of, context}
 use Rattle.vx_layout_tree.specs.LayoutView.{layout_data}
 use Rattle.vx_layout_build.specs.OpenView.{all_built, wanted_depths, fits}
@@ -122,7 +122,7 @@ build_kind-returns-in_ok-open_stats-in-LegacyStats t c = rw (c.in-LegacyStats.is
 pub build_node-returns-in_err-kind : goal.build_node-returns-in_err-kind
 build_node-returns-in_err-kind t c =
     let p = err_from_is_err_and c.from_residual.result c.from_residual.ensures.1 in
-    rw (p.1, p.2) (node_kind_fails _ (scope_of c.args.scope.now.value) c.args.node (ty c.args.dtype.now) c.in_err-kind.ensures)
+    rw (p.1, p.2) (node_kind_fails _ (scope_of c.args.scope.now.value) (seen_node c.args.node) (ty c.args.dtype.now) c.in_err-kind.ensures)
 
 pub build_node-returns-in_err-parts-in-Some : goal.build_node-returns-in_err-parts-in-Some
 build_node-returns-in_err-parts-in-Some t c =
@@ -137,20 +137,20 @@ build_node-build_kind-requires t c =
 pub build_node-returns-in_ok-parts-in-Some : goal.build_node-returns-in_ok-parts-in-Some
 build_node-returns-in_ok-parts-in-Some t c =
     let is = c.in_ok-kind.ensures ∙ ap Ok c.in-Some.is in
-    let same = node_built (scope_of c.args.scope.now.value) c.args.node (ty c.args.dtype.now) c.in-Some.kind (context c.context_in-within.result.now) (parts_of c.in_ok-parts-in-Some.parts) c.as_slice.result.now is c.context_in-within.ensures c.in_ok-parts-in-Some.ensures.0 (c.as_slice.ensures ∙ c.in_ok-parts-in-Some.ensures.1) in
+    let same = node_built (scope_of c.args.scope.now.value) (seen_node c.args.node) (ty c.args.dtype.now) c.in-Some.kind (context c.context_in-within.result.now) (parts_of c.in_ok-parts-in-Some.parts) c.in_ok-parts-in-Some.metadata is c.context_in-within.ensures c.in_ok-parts-in-Some.ensures.0 c.in_ok-parts-in-Some.ensures.1 in
     rw same c.build_kind.ensures
 
 pub build_node-returns-in-None : goal.build_node-returns-in-None
 build_node-returns-in-None t c =
-    let same = node_foreign (scope_of c.args.scope.now.value) c.args.node (ty c.args.dtype.now) (c.in_ok-kind.ensures ∙ ap Ok c.in-None.is) in
+    let same = node_foreign (scope_of c.args.scope.now.value) (seen_node c.args.node) (ty c.args.dtype.now) (c.in_ok-kind.ensures ∙ ap Ok c.in-None.is) in
     rw same c.foreign_node.ensures
 
 -- ---- one child
 
 pub build_one-build_node-requires : goal.build_one-build_node-requires
 build_one-build_node-requires t c =
-    let deep : one_depth c.args.child ≡ depth (raw c.in-Node.node) = rw c.in-Node.is refl in
-    let lt : 8 * depth (raw c.in-Node.node) < t = omega (arith, c.decreases, deep) in
+    let deep : one_depth c.args.child ≡ depth (seen_node c.in-Node.node) = rw c.in-Node.is refl in
+    let lt : 8 * depth (seen_node c.in-Node.node) < t = omega (arith, c.decreases, deep) in
     (lt, tt)
 
 pub build_one-returns-in-Kept : goal.build_one-returns-in-Kept

@@ -1,7 +1,7 @@
 use Rattle.std.proofs.Common.{◌≡◌, ◌≤◌, ◌+◌, ◌*◌}
 use Rattle.std.specs.Vec.Iter.{into_iter_items}
 use Rattle.vx_layout_bytes.specs.Values.{depth}
-use Rattle.vx_layout_bytes.specs.Views.{raw}
+use Rattle.vx_layout_bytes.specs.Views.{seen_node}
 use Rattle.vx_layout_build.specs.PartsView.{one_depth, children_depth}
 use Rattle.vx_layout_build.specs.OpenView.{all_built, wanted_depths}
 use Rattle.vx_layout_tree.specs.Views.{all_lays}
@@ -9,7 +9,7 @@ use Rattle.vx_layout_build.proofs.BuildSteps.{so_far}
 use Rattle.vx_layout_build.proofs.build.+build.Given as goal
 
 abbrev pub decreases-build_node : goal.decreases-build_node
-decreases-build_node l = 8 * depth (raw l.node)
+decreases-build_node l = 8 * depth (seen_node l.node)
 
 abbrev pub decreases-build_kind : goal.decreases-build_kind
 decreases-build_kind l = 8 * children_depth l.parts.children + 5

@@ -7,4 +7,4 @@ use Rattle.vx_layout_build.proofs.opened.open_unread.Goals as goal
 pub returns : goal.returns
 returns c =
     let made = unread_opens c.args.parts c.args.metadata.now c.args.zone_len (ty c.in_ok-column_type.column_type) c.in_ok-wanted.wanted.items (chunks no_columns c.in_ok-wanted.zones) c.in_ok-column_type.ensures.cases (c.in_ok-wanted.ensures.0 no_columns) in
-    (rw c.in_ok-metadata.ensures made, c.in_ok-wanted.ensures.1, tt)
+    (rw c.in_ok-metadata.ensures.cases made, c.in_ok-wanted.ensures.1, tt)

@@ -1,6 +1,7 @@
 use Rattle.std.proofs.Common.{◌<◌, ◌∙◌, length, map, arith}
 use Rattle.std.proofs.lemmas.List.{length-map}
-use Rattle.vx_layout_bytes.specs.Views.{raw}
+use Rattle.vx_layout_bytes.specs.There.{node_there}
+use Rattle.vx_layout_bytes.specs.Views.{seen_nodes}
 use Rattle.vx_session.specs.Views.{scope_of}
 use Rattle.vx_layout_tree.specs.LayoutView.{layout_data}
 use Rattle.vx_layout_tree.proofs.KidSteps.{length-owned, length-kids}
@@ -15,8 +16,7 @@ returns-in-Owned c =
 
 pub returns-in-Viewed : goal.returns-in-Viewed
 returns-in-Viewed c =
-    let ns = c.in-Viewed.viewed.nodes.items in
+    let v = c.in-Viewed.viewed.nodes in
     let s = scope_of c.in-Viewed.viewed.scope.value in
-    let lt : c.args.index < length ns = omega (arith, rw c.in-Viewed.is at c.requires, length-kids s (map raw ns), length-map ns raw) in
-    let is = rw c.as_parts.ensures.nodes at c.index-in-Viewed.ensures in
-    rw c.in-Viewed.is (c.is_flat_in.ensures ∙ rw (c.deref.ensures, c.as_parts.ensures.scope) (node_flat s ns c.args.index c.index-in-Viewed.result.now lt is))
+    let lt : c.args.index < length v.places.items = omega (arith, rw c.in-Viewed.is at c.requires, length-kids s (seen_nodes v), length-map v.places.items (node_there v.bytes)) in
+    rw c.in-Viewed.is (c.is_flat_in.ensures ∙ rw (c.deref.ensures, c.as_parts.ensures.scope, c.as_parts.ensures.nodes) (node_flat s v c.args.index lt))
