@@ -6,14 +6,16 @@ use crate::own::{own, with};
 use crate::segments::{lengths, rows, tree};
 use crate::sessions::{copied_scope, known, registered};
 use crate::shown::{as_kinds, names, slots};
-use crate::spelling::{again, codes, metadata, node, viewed};
+use crate::spelling::{again, codes, metadata, node, sent, viewed};
 use crate::walks::{in_slot, present, walk};
 use anyhow::{Result, bail};
 use std::alloc::Global;
+use std::thread::Threads;
 use vx_case_lines::boxed;
 use vx_layout::Layout;
 
 pub(crate) fn layout_answer(
+    rt: &impl Threads,
     alloc: Global,
     word: &str,
     args: &str,
@@ -31,6 +33,7 @@ pub(crate) fn layout_answer(
         "lengths" => lengths(alloc, layout, args),
         "rows" => rows(alloc, layout, args),
         "viewed" => viewed(alloc, layout),
+        "sent" => sent(rt, alloc, layout),
         "again" => again(alloc, layout),
         _ => bail!("no such word"),
     }

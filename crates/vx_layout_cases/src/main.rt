@@ -21,6 +21,7 @@
 //! - `rows FIRST SEGMENT..`: the rows, or the fault
 //! - `viewed`: of a chunked layout that is read from its bytes, what `children` prints, then the places of the children in
 //!   the bytes, and of none
+//! - `sent`: the same, once another thread had the layout that is read
 //! - `again`: the slots of what is read from its bytes, where that has the same bytes
 //!
 //! Without a layout:
@@ -73,7 +74,7 @@ fn main(rt: HostRuntime) -> anyhow::Result<()> {
     let alloc = rt.alloc();
     let cases = io::read_to_string(alloc, rt.stdin())?;
     for line in cases.lines() {
-        let text = case::answers(alloc, line)?;
+        let text = case::answers(&rt, alloc, line)?;
         print!(rt; "{text}")?;
     }
     Ok(())

@@ -5,6 +5,7 @@ use crate::shown::slots;
 use anyhow::{Error, Result, bail};
 use bytes::Bytes;
 use std::alloc::{AllocError, Global};
+use std::thread::Threads;
 use vx_case_layouts::{bytes_in, encodings, ids, node_in, session};
 use vx_case_lines::{boxed, cut};
 use vx_layout::{
@@ -12,6 +13,7 @@ use vx_layout::{
     ListLayoutMetadata, RawNode, Session, ZonedMetadata, layout_bytes, layout_from_flatbuffer,
     read_nodes, write_node,
 };
+use vx_layout_sent::through_a_thread;
 use vx_model::{DType, PType};
 
 fn shown(alloc: Global, bytes: &[u8]) -> Result<String, AllocError> {
@@ -29,6 +31,12 @@ pub(crate) fn again(alloc: Global, layout: &Layout) -> Result<String> {
 pub(crate) fn viewed(alloc: Global, layout: &Layout) -> Result<String> {
     let read = boxed(alloc, reread(alloc, layout)?)?;
     chunks_of(alloc, &read)
+}
+
+/// The same, once another thread had the layout that is read.
+pub(crate) fn sent(rt: &impl Threads, alloc: Global, layout: &Layout) -> Result<String> {
+    let back = boxed(alloc, through_a_thread(rt, reread(alloc, layout)?))?;
+    chunks_of(alloc, &back)
 }
 
 /// What is read from the layout's bytes.
