@@ -30,6 +30,7 @@ pub mod layout {
         layout_bytes, layout_from_flatbuffer, layout_from_flatbuffer_with_options,
     };
     pub use vx_layout_fields::LayoutFields;
+    pub use vx_layout_sent::through_a_thread;
     pub use vx_layout_slots::{
         ChildNames, ChildRowOffsets, ChildTypes, LayoutChildType, LayoutSlots,
     };

@@ -17,6 +17,7 @@ pub use vx_layout_codec::{
     layout_bytes, layout_from_flatbuffer, layout_from_flatbuffer_with_options,
 };
 pub use vx_layout_fields::LayoutFields;
+pub use vx_layout_sent::through_a_thread;
 pub use vx_layout_slots::{ChildNames, ChildRowOffsets, ChildTypes, LayoutChildType, LayoutSlots};
 pub use vx_layout_tree::{
     ChunkedLayout, DictLayout, ELEMENTS_CHILD_INDEX, FlatLayout, ForeignLayout, Layout,

@@ -11,9 +11,8 @@ use vx_case_lines::{boxed, cut};
 use vx_layout::{
     DictLayoutMetadata, FlatLayoutMetadata, Layout, LayoutContext, LegacyStatsMetadata, Limits,
     ListLayoutMetadata, RawNode, Session, ZonedMetadata, layout_bytes, layout_from_flatbuffer,
-    read_nodes, write_node,
+    read_nodes, through_a_thread, write_node,
 };
-use vx_layout_sent::through_a_thread;
 use vx_model::{DType, PType};
 
 fn shown(alloc: Global, bytes: &[u8]) -> Result<String, AllocError> {
