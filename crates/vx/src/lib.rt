@@ -140,7 +140,7 @@ pub mod nodes {
     };
 }
 
-/// The step machine, for strategies of flat, chunked, struct and list nodes, and tables of these.
+/// The step machine, for strategies of all kinds.
 pub mod machine {
     pub use vx_machine::{Machine, run};
 }

@@ -98,7 +98,7 @@ fn layout_in(alloc: Global, word: &str, given: &str) -> anyhow::Result<Layout> {
 fn reported(alloc: Global, layout: &Layout, rows: &[Value]) -> anyhow::Result<String> {
     match layout {
         Layout::Flat(_) => {
-            let text = report(alloc, 0, layout, &[], &[], rows)?;
+            let text = report(alloc, 0, layout, &[], &[], &[], rows)?;
             Ok(text.replace(alloc, "\n", "|")?)
         }
         _ => bail!("no flat layout"),

@@ -3,7 +3,7 @@ use Rattle.std.proofs.Common.{◌≡◌, ◌⊎◌, ℕ, zero, suc, ◌+◌, ◌
 use Rattle.std.proofs.lemmas.Bool.{true≢false}
 use Rattle.std.proofs.lemmas.List.Sums.{sum_by-cons}
 use Rattle.vx_path.specs.Lists.{In}
-use Rattle.vx_machine_view.specs.State.{Next, put, hand_on, append, shut_kids, join_kids, Desk, Tasks, no_tasks, task_then}
+use Rattle.vx_machine_view.specs.State.{Next, put, hand_on, press, probe, open_run, end_run, append, shut_kids, join_kids, start_table, leave_kid, Desk, Tasks, no_tasks, task_then}
 use Rattle.vx_machine_view.specs.Acts.{count}
 use Rattle.vx_machine_view.specs.Moves.{may_act}
 use Rattle.vx_machine_view.specs.Places.{one_if, ready_in}
@@ -66,9 +66,15 @@ quiet : (all every : List (List ℕ)) (c : Desk) (ks : Tasks) (todo : List Next)
 quiet all every c ks [] h = refl
 quiet all every c ks (put j i ∷ todo) h = refl
 quiet all every c ks (hand_on n i ∷ todo) h = refl
+quiet all every c ks (press which i ∷ todo) h = refl
+quiet all every c ks (probe n e i ∷ todo) h = refl
+quiet all every c ks (open_run n j e i ∷ todo) h = refl
+quiet all every c ks (end_run j i ∷ todo) h = refl
 quiet all every c ks (append x ∷ todo) h = absurd (true≢false h)
 quiet all every c ks (shut_kids ∷ todo) h = refl
 quiet all every c ks (join_kids f ∷ todo) h = refl
+quiet all every c ks (start_table f e p ∷ todo) h = refl
+quiet all every c ks (leave_kid e ∷ todo) h = refl
 
 pub steady_by : (all : List (List ℕ)) (n : ℕ) (x : Counts) (c : Desk) (ks : Tasks) → waits c.todo ≡ false → asked_of x ≡ [] → n ≡ ready_at all c ks → Fresh all x ks → Steady n x c ks
 steady_by all n x c ks w none e f = λ every.

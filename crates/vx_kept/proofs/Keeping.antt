@@ -3,7 +3,7 @@ use Rattle.std.proofs.Common.{◌≡◌, ◌⊎◌, ℕ, zero, suc, ◌+◌, ◌
 use Rattle.vx_path.specs.Lists.{In}
 use Rattle.vx_plan.specs.PlanData.{Item}
 use Rattle.vx_machine_view.specs.State.{Desk, Tasks, no_tasks, task_then}
-use Rattle.vx_machine_view.specs.Acts.{give, add, count}
+use Rattle.vx_machine_view.specs.Acts.{give, shut_at, add, count}
 use Rattle.vx_kept.specs.Kept.{KnowsFrom, Knows}
 use Rattle.vx_kept.specs.Follow.{swap}
 use Rattle.vx_kept.specs.declared.counts.Counts.{Counts}
@@ -62,6 +62,17 @@ give_leaves zero it asked i (n ∷ ns) (x ∷ xs) (task_then c ks r) k =
     (inl (inl (omega arith)), k.1, knows_more asked ((i + 0) ∷ asked) (suc i) ns xs r (more_within (i + 0) asked) k.2)
 give_leaves (suc j) it asked i (n ∷ ns) (x ∷ xs) (task_then c ks r) k =
     (⊎_elim (λ h. inl (inr h)) (λ s. inr s) k.0, k.1, moved (suc i + j) (i + suc j) asked (suc i) ns xs (give j it r) (omega arith) (give_leaves j it asked (suc i) ns xs r k.2))
+
+-- child j's queue closed
+pub shut_leaves : (j : ℕ) (asked : List ℕ) (i : ℕ) (ns : List ℕ) (xs : List Counts) (ks : Tasks) → KnowsFrom asked i ns xs ks → KnowsFrom ((i + j) ∷ asked) i ns xs (shut_at j ks)
+shut_leaves j asked i [] [] ks k = tt
+shut_leaves j asked i (n ∷ ns) [] ks k = absurd k
+shut_leaves j asked i [] (x ∷ xs) ks k = absurd k
+shut_leaves j asked i (n ∷ ns) (x ∷ xs) no_tasks k = absurd k
+shut_leaves zero asked i (n ∷ ns) (x ∷ xs) (task_then c ks r) k =
+    (inl (inl (omega arith)), k.1, knows_more asked ((i + 0) ∷ asked) (suc i) ns xs r (more_within (i + 0) asked) k.2)
+shut_leaves (suc j) asked i (n ∷ ns) (x ∷ xs) (task_then c ks r) k =
+    (⊎_elim (λ h. inl (inr h)) (λ s. inr s) k.0, k.1, moved (suc i + j) (i + suc j) asked (suc i) ns xs (shut_at j r) (omega arith) (shut_leaves j asked (suc i) ns xs r k.2))
 
 -- more children
 pub add_leaves : (new : Tasks) (asked : List ℕ) (i : ℕ) (ns : List ℕ) (xs : List Counts) (ks : Tasks) → KnowsFrom asked i ns xs ks → KnowsFrom asked i ns xs (add ks new)

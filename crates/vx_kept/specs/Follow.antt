@@ -1,23 +1,30 @@
 -- What an act may change of the counts of its task's children.
 use Rattle.std.specs.Prelude.{◌≡◌, ℕ, zero, suc, Bool, true, false, List, [], ◌∷◌}
 use Rattle.vx_plan.specs.PlanData.{Item}
-use Rattle.vx_machine_view.specs.State.{Next, put, hand_on, append, shut_kids, join_kids, Desk, Tasks, no_tasks, task_then}
-use Rattle.vx_machine_view.specs.Acts.{give, add}
+use Rattle.vx_machine_view.specs.State.{Next, put, hand_on, press, probe, open_run, end_run, append, shut_kids, join_kids, start_table, leave_kid, Desk, Tasks, no_tasks, task_then}
+use Rattle.vx_machine_view.specs.Acts.{give, add, end_at}
 use Rattle.vx_kept.specs.declared.counts.Touched.{Touched}
-use Rattle.vx_kept.specs.declared.counts.Touched.TheVariants.{Child, All, Nothing}
+use Rattle.vx_kept.specs.declared.counts.Touched.TheVariants.{Child, Both, All, Nothing}
 
 -- the next act of a task that has this left to do
 abbrev pub touched_by : List Next → Touched
 touched_by [] = Nothing
 touched_by (put j i ∷ todo) = Child j
 touched_by (hand_on n i ∷ todo) = Child 0
+touched_by (press which i ∷ todo) = Nothing
+touched_by (probe n e i ∷ todo) = Nothing
+touched_by (open_run n j e i ∷ todo) = Nothing
+touched_by (end_run j i ∷ todo) = Both j
 touched_by (append x ∷ todo) = Nothing
 touched_by (shut_kids ∷ todo) = All
 touched_by (join_kids f ∷ todo) = All
+touched_by (start_table f e p ∷ todo) = Nothing
+touched_by (leave_kid e ∷ todo) = Nothing
 
 -- so the children become
 abbrev pub Follows : Touched → Tasks → Tasks → Type 0
 Follows (Child j) ks js = (i : Item) × (js ≡ give j i ks)
+Follows (Both j) ks js = (i : Item) × (js ≡ end_at j i ks)
 Follows All ks js = Unit {0}
 Follows Nothing ks js = (new : Tasks) × (js ≡ add ks new)
 
@@ -38,6 +45,12 @@ abbrev pub waits : List Next → Bool
 waits [] = false
 waits (put j i ∷ todo) = false
 waits (hand_on n i ∷ todo) = false
+waits (press which i ∷ todo) = false
+waits (probe n e i ∷ todo) = false
+waits (open_run n j e i ∷ todo) = false
+waits (end_run j i ∷ todo) = false
 waits (append x ∷ todo) = true
 waits (shut_kids ∷ todo) = false
 waits (join_kids f ∷ todo) = false
+waits (start_table f e p ∷ todo) = false
+waits (leave_kid e ∷ todo) = false

@@ -23,6 +23,8 @@ pub struct Counts {
 pub enum Touched {
     /// A child's queue.
     Child(usize),
+    /// This child's queue and the next one's.
+    Both(usize),
     All,
     /// There may be one child more.
     Nothing,
@@ -58,6 +60,13 @@ impl Counts {
     {
         match touched {
             Touched::Child(child) => self.mark(alloc, child),
+            Touched::Both(first) => {
+                self.mark(alloc, first);
+                match first.checked_add(1) {
+                    Some(second) => self.mark(alloc, second),
+                    None => *self = Counts::new(alloc),
+                }
+            }
             Touched::All => *self = Counts::new(alloc),
             Touched::Nothing => {}
         }

@@ -1,9 +1,11 @@
 -- Which errors a step of the machine may meet, of those that an act may.
 use Rattle.std.proofs.Common.{arith}
 use Rattle.vx_model.specs.Ty.{Ty}
+use Rattle.vx_tasks.specs.Task.{Kind}
 use Rattle.vx_write_answer.specs.declared.error.WriteError.{WriteError}
-use Rattle.vx_write_answer.specs.declared.error.WriteError.TheVariants.{SourceFault, SinkFault, CompressFault, BatchType, NotStruct, DuplicateField, ManyChunks, EmptyList, ZoneCut, ForbiddenAggregate, ForbiddenEncoding, TooLarge, OutOfMemory, Unbuilt, Stopped}
+use Rattle.vx_write_answer.specs.declared.error.WriteError.TheVariants.{SourceFault, SinkFault, CompressFault, BatchType, NotStruct, DuplicateField, ManyChunks, EmptyList, ZoneCut, ForbiddenAggregate, ForbiddenEncoding, TooLarge, OutOfMemory, Stopped}
 use Rattle.vx_machine_nodes.specs.Causes.{ActMay}
+use Rattle.vx_machine_tasks.specs.Acting.{CallFails}
 use Rattle.vx_machine.specs.Source.{SourceMay}
 use Rattle.vx_machine.specs.SourceActs.{IsElsewhere}
 use Rattle.vx_machine.specs.Whole.{StepMay}
@@ -22,27 +24,30 @@ act_step (ForbiddenAggregate id) h = h
 act_step (ForbiddenEncoding id) h = tt
 act_step (TooLarge n) h = h
 act_step OutOfMemory h = tt
-act_step Unbuilt h = h
 act_step (Stopped by name) h = tt
 
 pub source_step : (t : Ty) (e : WriteError) → SourceMay t e → StepMay e
 source_step t SourceFault h = tt
 source_step t SinkFault h = tt
-source_step t CompressFault h = h
+source_step t CompressFault h = absurd h
 source_step t (BatchType c) h = tt
 source_step t NotStruct h = tt
 source_step t (DuplicateField name) h = tt
 source_step t ManyChunks h = tt
 source_step t EmptyList h = tt
-source_step t (ZoneCut n) h = h
-source_step t (ForbiddenAggregate id) h = h
+source_step t (ZoneCut n) h = absurd h
+source_step t (ForbiddenAggregate id) h = absurd h
 source_step t (ForbiddenEncoding id) h = tt
 source_step t (TooLarge n) h = omega (arith, h)
 source_step t OutOfMemory h = tt
-source_step t Unbuilt h = h
 source_step t (Stopped by name) h = tt
 
 -- a task's act never says that the source failed
 pub act_elsewhere : (e : WriteError) → ActMay e → IsElsewhere e
 act_elsewhere SourceFault h = h
 act_elsewhere e h = tt
+
+-- and the source's never says that the compressor did
+pub source_uncalled : (t : Ty) (k : Kind) (e : WriteError) → SourceMay t e → CallFails k e
+source_uncalled t k CompressFault h = absurd h
+source_uncalled t k e h = tt

@@ -1,28 +1,26 @@
--- A walk over wrappers.
-use Rattle.std.proofs.Common.{◌≡◌, ◌<◌, ◌≤◌, ◌+◌, ℕ, true, false, List, [], ◌∷◌, length, drop, get_or, refl, sym, ap, ◌∙◌, arith}
-use Rattle.vx_strategy.specs.WrapViews.{wraps}
-use Rattle.vx_strategy.specs.declared.wrapper.Wrapper.{Wrapper}
-use Rattle.vx_strategy.specs.declared.wrapper.Wrapper.TheVariants as tested
-use Rattle.vx_machine_view.specs.Built.{wraps_built}
-use Rattle.vx_machine_tasks.proofs.Readiness.{drop_is, drop_end}
-use Rattle.vx_machine.specs.Wrappers.{records_zones}
+-- Every strategy is built.
+use Rattle.std.proofs.Common.{◌≡◌, true, refl}
+use Rattle.std.proofs.lemmas.Bool.{and_from}
+use Rattle.vx_strategy_spec.specs.StrategyData.{StrategyData, StrategyList, Wraps, flat, chunked, grouped, compressed, coded, zoned, structured, listed, tabled, no_ways, way_at, no_wraps, wrap_grouped, wrap_zoned}
+use Rattle.vx_machine_view.specs.Built.{is_built, are_built, wraps_built}
 
-one_less : (w : Wrapper) (ws : List Wrapper) → records_zones w ≡ false → wraps_built (wraps (w ∷ ws)) ≡ wraps_built (wraps ws)
-one_less (tested.Repartition r) ws h = refl
-one_less (tested.Buffered size) ws h = refl
-one_less (tested.Zoned stats r) ws h = absurd cc
+mutual
+  pub all_built : (w : StrategyData) → is_built w ≡ true
+  all_built (flat o) = refl
+  all_built (chunked w) = all_built w
+  all_built (grouped g w) = all_built w
+  all_built (compressed which room w) = all_built w
+  all_built (coded o c v f) = and_from _ _ (all_built c) (and_from _ _ (all_built v) (all_built f))
+  all_built (zoned o w stats) = and_from _ _ (all_built w) (all_built stats)
+  all_built (structured v d ws) = and_from _ _ (all_built v) (and_from _ _ (all_built d) (ways_built ws))
+  all_built (listed e o v f) = and_from _ _ (all_built e) (and_from _ _ (all_built o) (and_from _ _ (all_built v) (all_built f)))
+  all_built (tabled v l ws lists wraps) = and_from _ _ (all_built v) (and_from _ _ (all_built l) (and_from _ _ (ways_built ws) (all_wraps_built wraps)))
 
-one_zoned : (w : Wrapper) (ws : List Wrapper) → records_zones w ≡ true → wraps_built (wraps (w ∷ ws)) ≡ false
-one_zoned (tested.Repartition r) ws h = absurd cc
-one_zoned (tested.Buffered size) ws h = absurd cc
-one_zoned (tested.Zoned stats r) ws h = refl
+  ways_built : (ws : StrategyList) → are_built ws ≡ true
+  ways_built no_ways = refl
+  ways_built (way_at path w ws) = and_from _ _ (all_built w) (ways_built ws)
 
--- the rest is built where all are, past one that records no zones
-pub wrap_next : (ws : List Wrapper) (i : ℕ) (w : Wrapper) → i < length ws → w ≡ get_or ws i w → records_zones w ≡ false → wraps_built (wraps (drop (i + 1) ws)) ≡ wraps_built (wraps (drop i ws))
-wrap_next ws i w h e z = sym (ap (λ (xs : List Wrapper). wraps_built (wraps xs)) (drop_is ws i w h e) ∙ one_less w (drop (i + 1) ws) z)
-
-pub wrap_zone : (ws : List Wrapper) (i : ℕ) (w : Wrapper) → i < length ws → w ≡ get_or ws i w → records_zones w ≡ true → wraps_built (wraps (drop i ws)) ≡ false
-wrap_zone ws i w h e z = ap (λ (xs : List Wrapper). wraps_built (wraps xs)) (drop_is ws i w h e) ∙ one_zoned w (drop (i + 1) ws) z
-
-pub wrap_end : (ws : List Wrapper) (i : ℕ) → length ws ≤ i → wraps_built (wraps (drop i ws)) ≡ true
-wrap_end ws i h = ap (λ (xs : List Wrapper). wraps_built (wraps xs)) (drop_end ws i h)
+  all_wraps_built : (ws : Wraps) → wraps_built ws ≡ true
+  all_wraps_built no_wraps = refl
+  all_wraps_built (wrap_grouped g ws) = all_wraps_built ws
+  all_wraps_built (wrap_zoned o stats ws) = and_from _ _ (all_built stats) (all_wraps_built ws)

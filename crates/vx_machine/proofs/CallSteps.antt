@@ -1,4 +1,4 @@
--- What is told of calls of the source and of the sink, step by step.
+-- What is told of calls of the source, of the sink and of the compressor, step by step.
 use Rattle.std.proofs.Common.{◌≡◌, ℕ, suc, ◌+◌, Bool, true, false, List, Option, Result, Err, inl, inr, refl, sym, subst, arith}
 use Rattle.vx_model.specs.Ty.{Ty}
 use Rattle.vx_model.specs.ChunkData.{ChunkData}
@@ -16,8 +16,8 @@ use Rattle.vx_machine_view.specs.Places.{one_if}
 use Rattle.vx_write_answer.specs.Causes.{of_source, of_order}
 use Rattle.vx_write_answer.specs.declared.step.ActionKind.{ActionKind}
 use Rattle.vx_write_answer.specs.declared.error.WriteError.{WriteError}
-use Rattle.vx_write_answer.specs.declared.error.WriteError.TheVariants.{SourceFault, SinkFault, CompressFault, BatchType, NotStruct, DuplicateField, ManyChunks, EmptyList, ZoneCut, ForbiddenAggregate, ForbiddenEncoding, TooLarge, OutOfMemory, Unbuilt, Stopped}
-use Rattle.vx_machine_nodes.specs.Calls.{reads_action, append_action, CalledTimes, SinkStops}
+use Rattle.vx_write_answer.specs.declared.error.WriteError.TheVariants.{SourceFault, SinkFault, CompressFault, BatchType, NotStruct, DuplicateField, ManyChunks, EmptyList, ZoneCut, ForbiddenAggregate, ForbiddenEncoding, TooLarge, OutOfMemory, Stopped}
+use Rattle.vx_machine_nodes.specs.Calls.{reads_action, append_action, call_action, CalledTimes, SinkStops, PressStops}
 use Rattle.vx_machine.specs.Calls.{reads_at, SourceStops, SourceTold}
 use Rattle.vx_machine_nodes.specs.Causes.{ActMay}
 use Rattle.vx_machine_nodes.specs.Outcome.{action_of}
@@ -41,7 +41,6 @@ module _ {S : Type 0} (faults : S → ℕ) (may must : S → ℕ → Type 0) (a 
   source_quiet t (ForbiddenEncoding id) h = inl (unasked_by faults may must a b same)
   source_quiet t (TooLarge n) h = inl (unasked_by faults may must a b same)
   source_quiet t OutOfMemory h = inl (unasked_by faults may must a b same)
-  source_quiet t Unbuilt h = inl (unasked_by faults may must a b same)
   source_quiet t (Stopped by name) h = inl (unasked_by faults may must a b same)
 
   pub source_act : (x : ActionKind) → append_action x ≡ 0 → CalledTimes (faults a) (faults b) (may a) (may b) (must a) (must b) (append_action x)
@@ -94,7 +93,6 @@ module _ (n : ℕ) (may must : ℕ → Type 0) where
   by_task (ForbiddenEncoding id) h = inl (unasked_self n may must)
   by_task (TooLarge k) h = inl (unasked_self n may must)
   by_task OutOfMemory h = inl (unasked_self n may must)
-  by_task Unbuilt h = inl (unasked_self n may must)
   by_task (Stopped by name) h = inl (unasked_self n may must)
 
   pub task_stops : (reads : Bool) → reads ≡ false → (e : WriteError) → ActMay e → SourceStops n n may may must must reads e
@@ -123,3 +121,24 @@ step_appends a finished root = refl
 
 pub source_appends : (t : Ty) (before now : Option (List ChunkData)) (p q : Phase) (root new : Tasks) (x : ActionKind) → SourceActed t before now p q root new x → append_action x ≡ 0
 source_appends t before now p q root new x d = subst (λ z. append_action z ≡ 0) (sym d.kind) (step_appends d.told p root)
+
+-- ---- of the compressor, by the source's act
+
+module _ (n : ℕ) (may must : ℕ → Type 0) where
+  pub source_unpressed : (t : Ty) (e : WriteError) → SourceMay t e → PressStops n n may may must must e
+  source_unpressed t CompressFault h = absurd h
+  source_unpressed t e h = inl (unasked_self n may must)
+
+  pub none_pressed : (x : ActionKind) → call_action x ≡ 0 → CalledTimes n n may may must must (call_action x)
+  none_pressed x is = subst (λ z. CalledTimes n n may may must must z) (sym is) (unasked_self n may must)
+
+step_calls : (a : Answer) (p : Phase) (root : Tasks) → call_action (action_of (source_step a p root).kind) ≡ 0
+step_calls (came b) (reading e) root = refl
+step_calls over (reading e) root = refl
+step_calls unasked (reading e) root = refl
+step_calls a (giving e i) root = refl
+step_calls a closing root = refl
+step_calls a finished root = refl
+
+pub source_calls : (t : Ty) (before now : Option (List ChunkData)) (p q : Phase) (root new : Tasks) (x : ActionKind) → SourceActed t before now p q root new x → call_action x ≡ 0
+source_calls t before now p q root new x d = subst (λ z. call_action z ≡ 0) (sym d.kind) (step_calls d.told p root)

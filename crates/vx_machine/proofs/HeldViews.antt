@@ -5,6 +5,7 @@ use Rattle.std.specs.FinMap as fin
 use Rattle.std.specs.List.{list_any}
 use Rattle.std.specs.Ordering.{eq_by_cmp}
 use Rattle.vx_path.specs.Lists.{In}
+use Rattle.vx_path.specs.Path.{eof_path, next}
 use Rattle.vx_sequence.specs.Universe.{path_cmp, Active}
 use Rattle.vx_sequence.proofs.Sets.{same_refl, same_true}
 use Rattle.vx_plan.specs.PlanData.{Setting}
@@ -12,15 +13,16 @@ use Rattle.vx_regroup.specs.declared.regroup.Regroup.{Regroup}
 use Rattle.vx_regroup.specs.declared.regroup.Regroup.TheVariants.{Repartition, Buffered, Collect}
 use Rattle.vx_machine_ids.specs.Stock.{Stock, held, both, same, one, some_stock}
 use Rattle.vx_machine_ids.specs.Balance.{active_at, Exact, Moved}
+use Rattle.vx_machine_turns.specs.Dict.{rest_eof}
 use Rattle.vx_machine_promises.specs.Write.{Answer}
 use Rattle.vx_machine_view.specs.State.{Tasks, no_tasks}
 use Rattle.vx_machine_view.specs.Machine as whole
 use Rattle.vx_machine_view.proofs.Sounding.{least_agrees}
 use Rattle.vx_machine_nodes.specs.declared.item.Item.{Item}
 use Rattle.vx_machine_nodes.specs.declared.item.Due.{Due}
-use Rattle.vx_machine_nodes.specs.declared.item.Due.TheVariants.{Put, HandOn, Append, Close, Join}
+use Rattle.vx_machine_nodes.specs.declared.item.Due.TheVariants.{Put, HandOn, Append, Close, Join, Table, Leave, Press, Ask, OpenRun, EndRun}
 use Rattle.vx_machine_nodes.specs.declared.node.Local.{Local}
-use Rattle.vx_machine_nodes.specs.declared.node.Local.TheVariants.{Empty, Full, Chunked, Columns, Lists, Grouped, Over, Passing, Made}
+use Rattle.vx_machine_nodes.specs.declared.node.Local.TheVariants.{Empty, Full, Chunked, Columns, Lists, Grouped, Over, Passing, Made, Zoned, Pressing, AsIs, Probe, Asking, Runs}
 use Rattle.vx_machine.specs.declared.source.Phase.{Phase}
 use Rattle.vx_machine.specs.declared.source.Phase.TheVariants.{Reading, Giving, Closing, Finished}
 use Rattle.vx_machine.specs.declared.machine.Machine.{Machine}
@@ -31,9 +33,11 @@ use Rattle.vx_machine_nodes.specs.Regrouped.{mind_in}
 use Rattle.vx_machine_nodes.specs.Stocks.{item_stock, items_stock, dues_stock, local_stock}
 use Rattle.vx_machine_tasks.specs.Stocks.{head_stock, task_stock, tasks_stock}
 use Rattle.vx_machine.specs.Whole.{machine_stock}
-use Rattle.vx_machine_nodes.specs.View.{items_of, todo_of, mind_of}
+use Rattle.vx_machine_nodes.specs.RunPaths.{eof_at}
+use Rattle.vx_machine_nodes.specs.View.{items_of, todo_of, mind_of, runs_in}
 use Rattle.vx_machine_tasks.specs.View.{task_row, row}
 use Rattle.vx_machine.specs.View.{phase_of, machine_of}
+use Rattle.vx_machine_nodes.proofs.RunSteps.{rest_is}
 use Rattle.vx_machine_tasks.proofs.TaskParts.{task_count_out, task_stock_out}
 use Rattle.vx_machine_tasks.proofs.ViewParts.{row_out}
 
@@ -85,9 +89,19 @@ dues_held : (p : List ℕ) (ds : List Due) → count p (whole.next_ids (todo_of 
 dues_held p [] = refl
 dues_held p (Put c i ∷ ds) = let e : count p (whole.next_ids (todo_of ds)) ≡ held (dues_stock ds) p = dues_held p ds in omega (arith, e)
 dues_held p (HandOn i r ∷ ds) = let e : count p (whole.next_ids (todo_of ds)) ≡ held (dues_stock ds) p = dues_held p ds in omega (arith, e)
+dues_held p (Press which i ∷ ds) = let e : count p (whole.next_ids (todo_of ds)) ≡ held (dues_stock ds) p = dues_held p ds in omega (arith, e)
 dues_held p (Append x ∷ ds) = let e : count p (whole.next_ids (todo_of ds)) ≡ held (dues_stock ds) p = dues_held p ds in omega (arith, e)
 dues_held p (Close ∷ ds) = let e : count p (whole.next_ids (todo_of ds)) ≡ held (dues_stock ds) p = dues_held p ds in omega (arith, e)
 dues_held p (Join f ∷ ds) = let e : count p (whole.next_ids (todo_of ds)) ≡ held (dues_stock ds) p = dues_held p ds in omega (arith, e)
+dues_held p (Table t ∷ ds) = let e : count p (whole.next_ids (todo_of ds)) ≡ held (dues_stock ds) p = dues_held p ds in omega (arith, e)
+dues_held p (Leave e ∷ ds) = let h : count p (whole.next_ids (todo_of ds)) ≡ held (dues_stock ds) p = dues_held p ds in omega (arith, h)
+dues_held p (Ask q ∷ ds) = let e : count p (whole.next_ids (todo_of ds)) ≡ held (dues_stock ds) p = dues_held p ds in omega (arith, e)
+dues_held p (OpenRun r i ∷ ds) =
+    let e : count p (whole.next_ids (todo_of ds)) ≡ held (dues_stock ds) p = dues_held p ds in
+    let a : one (same p (eof_path (eof_at r.codes))) ≡ one (same p r.codes) = ap (λ q. one (same p q)) (sym r.first) in
+    let b : one (same p (eof_path (next (eof_at r.codes)))) ≡ one (same p r.values) = ap (λ q. one (same p q)) (sym r.second) in
+    omega (arith, e, a, b)
+dues_held p (EndRun c i ∷ ds) = let e : count p (whole.next_ids (todo_of ds)) ≡ held (dues_stock ds) p = dues_held p ds in omega (arith, e)
 
 -- of a node that regroups
 newest_held : (p : List ℕ) (r : Regroup) (j : Option Item) (rows : ℕ) → count p (whole.mind_ids (mind_in r j rows)) ≡ held (some_stock item_stock j) p
@@ -105,6 +119,14 @@ mind_held p (Chunked n e rows) = omega arith
 mind_held p (Columns n rows) = refl
 mind_held p (Lists n rows) = refl
 mind_held p (Grouped n) = newest_held p n.rule n.newest n.rows
+mind_held p (Zoned n) = omega arith
+mind_held p (Pressing which) = refl
+mind_held p AsIs = refl
+mind_held p (Probe n e) = omega arith
+mind_held p Asking = refl
+mind_held p (Runs r) =
+    let e : one (same p (eof_path (rest_eof (runs_in r.runs r.cutter.distinct)))) ≡ one (same p (eof_path r.runs.pointer)) = ap (λ d. one (same p (eof_path d))) (rest_is r.runs r.cutter.distinct) in
+    omega (arith, e)
 mind_held p Over = refl
 mind_held p Passing = refl
 mind_held p (Made l) = refl

@@ -1,18 +1,9 @@
 -- What a machine as a whole moves.
-use Rattle.std.proofs.Common.{◌≡◌, ℕ, ◌+◌, ◌-◌, ◌<◌, ◌≤◌, Bool, true, false, refl, sym, ap, arith}
-use Rattle.std.proofs.lemmas.Bool.{true≢false}
+use Rattle.std.proofs.Common.{◌≡◌, ℕ, ◌+◌, ◌-◌, ◌<◌, ◌≤◌, sym, ap, arith}
 use Rattle.vx_sequence.specs.Universe.{Active}
 use Rattle.vx_machine_ids.specs.Stock.{Stock, none, both}
 use Rattle.vx_machine_ids.specs.Balance.{Owned, Moved}
 use Rattle.vx_machine_ids.proofs.MoveLaws.{moved_then, moved_drop, owned_now, owned_as, moved_as}
-use Rattle.vx_write_answer.specs.declared.error.WriteError.{WriteError}
-use Rattle.vx_write_answer.specs.declared.error.WriteError.TheVariants.{Unbuilt}
-use Rattle.vx_path.specs.Path.{Eof}
-use Rattle.vx_machine_turns.specs.Forms.{Form}
-use Rattle.vx_machine_nodes.specs.Causes.{StartMay}
-use Rattle.vx_machine_tasks.specs.Starting.{FormRefused}
-use Rattle.vx_machine.specs.Starting.{WholeRefused}
-use Rattle.vx_machine.specs.Whole.{WholeStartMay}
 use Rattle.vx_machine_tasks.specs.Ready.{counted}
 
 -- ---- the start, with two pointers
@@ -24,23 +15,6 @@ module _ (u v : Active) (s e : Stock) (o : Owned u (both s e)) (m : Moved u v e 
 
   pub second_first : (w : Active) → Moved v w s none → Moved u w (both s e) none
   second_first w n = moved_then u v w (both s e) s none (moved_drop u v s e o m) n
-
-pub unbuilt : (b : Bool) → b ≡ false → WholeStartMay b Unbuilt
-unbuilt true h = absurd (true≢false h)
-unbuilt false h = refl
-
-pub built_may : (b : Bool) (e : WriteError) → b ≡ true → StartMay e → WholeStartMay b e
-built_may true e h m = m
-built_may false e h m = absurd (true≢false (sym h))
-
--- the same, by what is refused
-pub unbuilt_refused : (b : Bool) (f : Form) (m : Bool) (e : Eof) → b ≡ false → WholeRefused b f m e Unbuilt
-unbuilt_refused true f m e h = absurd (true≢false h)
-unbuilt_refused false f m e h = refl
-
-pub built_refused : (b : Bool) (f : Form) (m : Bool) (e : Eof) (x : WriteError) → b ≡ true → FormRefused f m e x → WholeRefused b f m e x
-built_refused true f m e x h r = r
-built_refused false f m e x h r = absurd (true≢false (sym h))
 
 -- ---- a step
 

@@ -40,4 +40,5 @@ memory_first s u number t before m pick counts to_come some =
       asks = asks_not (machine_of m).phase k;
       tells = tells_memory (machine_of m).phase k t to_come to_come refl;
       cause = tt;
+      called = tt;
     }

@@ -4,14 +4,14 @@ use Rattle.std.proofs.lemmas.Bool.{true≢false}
 use Rattle.vx_fault.specs.Counts.{Counts}
 use Rattle.vx_fault.specs.Faults.{Called, FaultsTold}
 use Rattle.vx_order.specs.Answers.{Unasked}
-use Rattle.vx_write_answer.specs.Causes.{is_source_fault, is_sink_fault}
+use Rattle.vx_write_answer.specs.Causes.{is_source_fault, is_sink_fault, is_compress_fault}
 use Rattle.vx_write_answer.specs.declared.step.Step.{Step}
 use Rattle.vx_write_answer.specs.declared.step.ActionKind.{ActionKind}
 use Rattle.vx_write_answer.specs.declared.step.ActionKind.TheVariants as actions
 use Rattle.vx_write_answer.specs.declared.error.WriteError.{WriteError}
-use Rattle.vx_write_answer.specs.declared.error.WriteError.TheVariants.{SourceFault, SinkFault, CompressFault, BatchType, NotStruct, DuplicateField, ManyChunks, EmptyList, ZoneCut, ForbiddenAggregate, ForbiddenEncoding, TooLarge, OutOfMemory, Unbuilt, Stopped}
-use Rattle.vx_machine_nodes.specs.Calls.{reads_action, append_action, CalledTimes, MaybeCalled, SinkStops}
-use Rattle.vx_machine.specs.Calls.{reads_in, appends_in, MisfitTold, SourceStops}
+use Rattle.vx_write_answer.specs.declared.error.WriteError.TheVariants.{SourceFault, SinkFault, CompressFault, BatchType, NotStruct, DuplicateField, ManyChunks, EmptyList, ZoneCut, ForbiddenAggregate, ForbiddenEncoding, TooLarge, OutOfMemory, Stopped}
+use Rattle.vx_machine_nodes.specs.Calls.{reads_action, append_action, call_action, CalledTimes, MaybeCalled, SinkStops, PressStops}
+use Rattle.vx_machine.specs.Calls.{reads_in, appends_in, calls_in, MisfitTold, SourceStops}
 use Rattle.vx_machine.specs.Run.{OfMisfit}
 
 -- ---- how often
@@ -36,6 +36,16 @@ appends_once actions.Close = inl refl
 appends_once actions.Call = inl refl
 appends_once actions.Join = inl refl
 
+pub calls_once : (x : ActionKind) → (call_action x ≡ 0) ⊎ (call_action x ≡ 1)
+calls_once actions.Call = inr refl
+calls_once actions.Batch = inl refl
+calls_once actions.End = inl refl
+calls_once actions.Take = inl refl
+calls_once actions.Put = inl refl
+calls_once actions.Close = inl refl
+calls_once actions.Append = inl refl
+calls_once actions.Join = inl refl
+
 pub reads_more : (ss : List Step) (s : Step) → reads_in (ss ++ (s ∷ [])) ≡ reads_in ss + reads_action s.action
 reads_more [] s = omega arith
 reads_more (q ∷ qs) s = let h = reads_more qs s in omega (arith, h)
@@ -43,6 +53,10 @@ reads_more (q ∷ qs) s = let h = reads_more qs s in omega (arith, h)
 pub appends_more : (ss : List Step) (s : Step) → appends_in (ss ++ (s ∷ [])) ≡ appends_in ss + append_action s.action
 appends_more [] s = omega arith
 appends_more (q ∷ qs) s = let h = appends_more qs s in omega (arith, h)
+
+pub calls_more : (ss : List Step) (s : Step) → calls_in (ss ++ (s ∷ [])) ≡ calls_in ss + call_action s.action
+calls_more [] s = omega arith
+calls_more (q ∷ qs) s = let h = calls_more qs s in omega (arith, h)
 
 -- ---- what is told of so many calls, none of which failed
 
@@ -123,8 +137,23 @@ module _ {S : Type 0} (faults : S → ℕ) (may must : S → ℕ → Type 0) whe
     sink_ends (ForbiddenEncoding id) h = quietly h
     sink_ends (TooLarge k) h = quietly h
     sink_ends OutOfMemory h = quietly h
-    sink_ends Unbuilt h = quietly h
     sink_ends (Stopped by name) h = quietly h
+
+    pub press_ends : (e : WriteError) → PressStops (faults b) (faults c) (may b) (may c) (must b) (must c) e → FaultsTold (faults a) (faults c) (may a) (must a) n (is_compress_fault e)
+    press_ends SourceFault h = quietly h
+    press_ends SinkFault h = quietly h
+    press_ends CompressFault h = failing h
+    press_ends (BatchType x) h = quietly h
+    press_ends NotStruct h = quietly h
+    press_ends (DuplicateField name) h = quietly h
+    press_ends ManyChunks h = quietly h
+    press_ends EmptyList h = quietly h
+    press_ends (ZoneCut k) h = quietly h
+    press_ends (ForbiddenAggregate id) h = quietly h
+    press_ends (ForbiddenEncoding id) h = quietly h
+    press_ends (TooLarge k) h = quietly h
+    press_ends OutOfMemory h = quietly h
+    press_ends (Stopped by name) h = quietly h
 
     misfit_ends : (reads : Bool) → MisfitTold (faults b) (faults c) (may b) (may c) (must b) (must c) reads → FaultsTold (faults a) (faults c) (may a) (must a) n false
     misfit_ends true h = quietly (inr h)
@@ -144,7 +173,6 @@ module _ {S : Type 0} (faults : S → ℕ) (may must : S → ℕ → Type 0) whe
     source_ends reads (ForbiddenEncoding id) h = quietly h
     source_ends reads (TooLarge k) h = quietly h
     source_ends reads OutOfMemory h = quietly h
-    source_ends reads Unbuilt h = quietly h
     source_ends reads (Stopped by name) h = quietly h
 
     -- a read that gave a batch of another type

@@ -14,7 +14,7 @@ use Rattle.vx_sink.specs.declared.source.SourceError.TheVariants as source
 use Rattle.vx_write_answer.specs.declared.step.ActionKind.{ActionKind}
 use Rattle.vx_write_answer.specs.declared.step.ActionKind.TheVariants.{Batch, End, Put, Close}
 use Rattle.vx_write_answer.specs.declared.error.WriteError.{WriteError}
-use Rattle.vx_write_answer.specs.declared.error.WriteError.TheVariants.{SourceFault, SinkFault, CompressFault, BatchType, NotStruct, DuplicateField, ManyChunks, EmptyList, ZoneCut, ForbiddenAggregate, ForbiddenEncoding, TooLarge, OutOfMemory, Unbuilt, Stopped}
+use Rattle.vx_write_answer.specs.declared.error.WriteError.TheVariants.{SourceFault, SinkFault, CompressFault, BatchType, NotStruct, DuplicateField, ManyChunks, EmptyList, ZoneCut, ForbiddenAggregate, ForbiddenEncoding, TooLarge, OutOfMemory, Stopped}
 use Rattle.vx_write_answer.specs.Causes.{of_source, of_order}
 use Rattle.vx_plan.specs.PlanData.{Item as Piece}
 use Rattle.vx_machine_promises.specs.Write.{unasked, came, over}
@@ -50,7 +50,6 @@ read_cause t (ForbiddenAggregate id) h k = absurd h
 read_cause t (ForbiddenEncoding id) h k = absurd h
 read_cause t (TooLarge n) h k = absurd k
 read_cause t OutOfMemory h k = tt
-read_cause t Unbuilt h k = absurd h
 read_cause t (Stopped by name) h k = absurd h
 
 full_cause : (last : ℕ) (x : OrderError) → FullAt last x → Refused None false [] ((last + 1) ∷ []) [] none_past ⊥ [] (of_order x)

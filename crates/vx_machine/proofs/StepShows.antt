@@ -16,11 +16,13 @@ use Rattle.vx_machine_view.specs.Machine as whole
 use Rattle.vx_machine_view.specs.Places.{one_if}
 use Rattle.vx_machine_view.proofs.Placing.{source_place, root_place}
 use Rattle.vx_machine_nodes.specs.Acting.{Behind}
+use Rattle.vx_machine.specs.Source.{SourceMay}
 use Rattle.vx_machine.specs.SourceActs.{AsksAt, IsElsewhere, TellsNothing, TellsRefused, whole_at, SourceActed, SourceRefused}
 use Rattle.vx_machine_tasks.specs.Steps.{TaskStepped, TaskRefused}
 use Rattle.vx_machine.specs.Steps.{WholeStepped, StepRefused}
 use Rattle.vx_machine_nodes.specs.Outcome.{Refused, none_past}
 use Rattle.vx_machine_nodes.proofs.RefusalSteps.{wider}
+use Rattle.vx_machine.proofs.ActCauses.{source_uncalled}
 
 pub asks_not : (p : whole.Phase) (k : ℕ) → AsksAt p k unasked
 asks_not (whole.reading e) zero = tt
@@ -86,8 +88,8 @@ module _ (s : Setting) (all : List (List ℕ)) (number : ℕ) (t : Ty) (before :
           outlet = subst (λ ps. Behind before number ps after) (sym f.silent) o;
         }
 
-    pub source_refused : (counts : ℕ) (e : WriteError) → SourceRefused t to_come to_come_then phase root e → StepRefused s all picked counts t to_come to_come_then before number (whole_at phase root) e
-    source_refused counts e w =
+    pub source_refused : (counts : ℕ) (e : WriteError) → SourceMay t e → SourceRefused t to_come to_come_then phase root e → StepRefused s all picked counts t to_come to_come_then before number (whole_at phase root) e
+    source_refused counts e m w =
         let q : whole.WholeStep = whole.source_step w.told phase root in
         record {
           told = w.told;
@@ -96,11 +98,12 @@ module _ (s : Setting) (all : List (List ℕ)) (number : ℕ) (t : Ty) (before :
           asks = subst (λ k. AsksAt phase k w.told) (sym first) w.asks;
           tells = subst (λ k. TellsRefused phase k t to_come to_come_then e w.told) (sym first) w.tells;
           cause = any_count q.refusal q.misfit (counts + q.raises) q.numbers q.indices q.wrote (IsPast before) (IsShared before) q.joined e w.cause;
+          called = source_uncalled t q.kind e m;
         }
 
     -- memory ran out before it
     pub source_memory : (counts : ℕ) → to_come_then ≡ to_come → StepRefused s all picked counts t to_come to_come_then before number (whole_at phase root) OutOfMemory
-    source_memory counts h = record { told = unasked; step = whole.source_step unasked phase root; place = source_at unasked; asks = asks_not phase picked; tells = tells_memory phase picked t to_come to_come_then h; cause = tt }
+    source_memory counts h = record { told = unasked; step = whole.source_step unasked phase root; place = source_at unasked; asks = asks_not phase picked; tells = tells_memory phase picked t to_come to_come_then h; cause = tt; called = tt }
 
   -- one of the root, or below it
   module _ (picked j : ℕ) (is : picked ≡ one_if (whole.may_source phase root) + j) (to_come to_come_then : Option (List ChunkData)) (silent : to_come_then ≡ to_come) where
@@ -135,4 +138,5 @@ module _ (s : Setting) (all : List (List ℕ)) (number : ℕ) (t : Ty) (before :
       asks = asks_not phase picked;
       tells = tells_none phase root picked j t to_come to_come_then e is silent elsewhere;
       cause = w.cause;
+      called = w.called;
     }

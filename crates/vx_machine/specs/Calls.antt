@@ -7,7 +7,7 @@ use Rattle.vx_write_answer.specs.declared.step.ActionKind.TheVariants as actions
 use Rattle.vx_write_answer.specs.declared.step.Step.{Step}
 use Rattle.vx_write_answer.specs.declared.error.WriteError.{WriteError}
 use Rattle.vx_write_answer.specs.declared.error.WriteError.TheVariants.{SourceFault, BatchType}
-use Rattle.vx_machine_nodes.specs.Calls.{reads_action, append_action, CalledTimes, MaybeCalled}
+use Rattle.vx_machine_nodes.specs.Calls.{reads_action, append_action, CalledTimes, MaybeCalled, call_action}
 
 -- ---- how often
 
@@ -18,6 +18,10 @@ reads_in (s ∷ ss) = reads_action s.action + reads_in ss
 abbrev pub appends_in : List Step → ℕ
 appends_in [] = 0
 appends_in (s ∷ ss) = append_action s.action + appends_in ss
+
+abbrev pub calls_in : List Step → ℕ
+calls_in [] = 0
+calls_in (s ∷ ss) = call_action s.action + calls_in ss
 
 -- a batch of another type is an answer too
 abbrev pub misfits : WriteError → ℕ

@@ -1,4 +1,3 @@
-pub mod Wrappers
 pub mod Calls
 pub mod Source
 pub mod Whole
@@ -11,6 +10,7 @@ pub use Rattle.vx_machine_nodes.specs.Acting
 pub use Rattle.vx_machine_nodes.specs.Calls as TaskCalls
 pub use Rattle.vx_machine_nodes.specs.Context
 pub use Rattle.vx_machine_nodes.specs.Outcome
+pub use Rattle.vx_machine_tasks.specs.Acting as TaskActing
 pub use Rattle.vx_machine_tasks.specs.Ready
 pub use Rattle.vx_machine_tasks.specs.Starting as TaskStarting
 pub use Rattle.vx_machine_nodes.specs.View as TaskView

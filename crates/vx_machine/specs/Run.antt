@@ -33,25 +33,25 @@ abbrev pub ready_at : Machine → ℕ
 ready_at m = whole_ready (machine_ids m) m
 
 -- the step of this place, by the schedule's pick
-pub record RunStep (ctx : LayoutWriterContext) (t : Ty) (schedule : List ℕ) (place : ℕ) (x y : At) (s : Step) : Type 0 where
+pub record RunStep (ctx : LayoutWriterContext) (image : ℕ → ChunkData → ChunkData) (t : Ty) (schedule : List ℕ) (place : ℕ) (x y : At) (s : Step) : Type 0 where
   pub some : 0 < ready_at x.machine
   pub ready : s.ready ≡ counted (ready_at x.machine)
   pub picked : s.picked ≡ slice_index schedule place % s.ready
-  pub done : StepDone ctx (machine_ids x.machine) s.picked t x.to_come y.to_come x.outlet y.outlet x.machine y.machine s.task s.action
+  pub done : StepDone ctx image (machine_ids x.machine) s.picked t x.to_come y.to_come x.outlet y.outlet x.machine y.machine s.task s.action
 
 -- the steps lead from one stand to another
-abbrev pub Ran : LayoutWriterContext → Ty → List ℕ → ℕ → At → List Step → At → Type 0
-Ran ctx t schedule place x [] y = x ≡ y
-Ran ctx t schedule place x (s ∷ ss) y = (z : At) × RunStep ctx t schedule place x z s × Ran ctx t schedule (suc place) z ss y
+abbrev pub Ran : LayoutWriterContext → (ℕ → ChunkData → ChunkData) → Ty → List ℕ → ℕ → At → List Step → At → Type 0
+Ran ctx image t schedule place x [] y = x ≡ y
+Ran ctx image t schedule place x (s ∷ ss) y = (z : At) × RunStep ctx image t schedule place x z s × Ran ctx image t schedule (suc place) z ss y
 
 -- how it ends: with a layout, or where nothing is ready
 abbrev pub Ends : Machine → Option Layout → Type 0
 Ends m (Some l) = (is_finished m ≡ true) × (layouts_in m.root ≡ layout_data l ∷ [])
 Ends m None = (is_finished m ≡ false) × (ready_at m ≡ 0)
 
-pub record RunDone (ctx : LayoutWriterContext) (t : Ty) (schedule : List ℕ) (x : At) (trace : List Step) (to_come : Option (List ChunkData)) (outlet : Outlet) (l : Option Layout) : Type 0 where
+pub record RunDone (ctx : LayoutWriterContext) (image : ℕ → ChunkData → ChunkData) (t : Ty) (schedule : List ℕ) (x : At) (trace : List Step) (to_come : Option (List ChunkData)) (outlet : Outlet) (l : Option Layout) : Type 0 where
   pub end : At
-  pub ran : Ran ctx t schedule 0 x trace end
+  pub ran : Ran ctx image t schedule 0 x trace end
   pub told : to_come ≡ end.to_come
   pub sink : outlet ≡ end.outlet
   pub left : Ends end.machine l
@@ -65,15 +65,15 @@ abbrev pub tracker_by : LayoutWriterContext → Machine → ℕ
 tracker_by ctx m = counted_bytes ctx + reserved_by m.root
 
 -- memory ran out before a step, where the machine hasn't finished, or one was refused
-abbrev pub Stops : LayoutWriterContext → Ty → List ℕ → ℕ → At → Option (List ChunkData) → WriteError → Type 0
-Stops ctx t schedule place x to_come e = ((e ≡ OutOfMemory) × (to_come ≡ x.to_come) × (is_finished x.machine ≡ false))
-    ⊎ ((0 < ready_at x.machine) × StepFails ctx (tracker_by ctx x.machine) (machine_ids x.machine) (picked_at schedule place x.machine) t x.to_come to_come x.outlet x.machine e)
+abbrev pub Stops : LayoutWriterContext → (ℕ → ChunkData → ChunkData) → Ty → List ℕ → ℕ → At → Option (List ChunkData) → WriteError → Type 0
+Stops ctx image t schedule place x to_come e = ((e ≡ OutOfMemory) × (to_come ≡ x.to_come) × (is_finished x.machine ≡ false))
+    ⊎ ((0 < ready_at x.machine) × StepFails ctx image (tracker_by ctx x.machine) (machine_ids x.machine) (picked_at schedule place x.machine) t x.to_come to_come x.outlet x.machine e)
 
-pub record RunStopped (ctx : LayoutWriterContext) (t : Ty) (schedule : List ℕ) (x : At) (trace : List Step) (to_come : Option (List ChunkData)) (outlet : Outlet) (e : WriteError) : Type 0 where
+pub record RunStopped (ctx : LayoutWriterContext) (image : ℕ → ChunkData → ChunkData) (t : Ty) (schedule : List ℕ) (x : At) (trace : List Step) (to_come : Option (List ChunkData)) (outlet : Outlet) (e : WriteError) : Type 0 where
   pub end : At
-  pub ran : Ran ctx t schedule 0 x trace end
+  pub ran : Ran ctx image t schedule 0 x trace end
   pub kept : Kept end.outlet outlet
-  pub stops : Stops ctx t schedule (length trace) end to_come e
+  pub stops : Stops ctx image t schedule (length trace) end to_come e
 
 -- of a batch of another type alone
 abbrev pub OfMisfit : WriteError → Type 0 → Type 0
@@ -81,7 +81,7 @@ OfMisfit (BatchType c) P = P
 OfMisfit e P = Unit {0}
 
 -- the same, where these calls of the source must fail
-pub record RunTold (ctx : LayoutWriterContext) (t : Ty) (schedule : List ℕ) (x : At) (trace : List Step) (to_come : Option (List ChunkData)) (outlet : Outlet) (must : ℕ → Type 0) (e : WriteError) : Type 0 where
-  pub stop : RunStopped ctx t schedule x trace to_come outlet e
+pub record RunTold (ctx : LayoutWriterContext) (image : ℕ → ChunkData → ChunkData) (t : Ty) (schedule : List ℕ) (x : At) (trace : List Step) (to_come : Option (List ChunkData)) (outlet : Outlet) (must : ℕ → Type 0) (e : WriteError) : Type 0 where
+  pub stop : RunStopped ctx image t schedule x trace to_come outlet e
   -- where the step that was refused is a read, which gave a batch of another type: this call wasn't one of them
   pub passed : OfMisfit e (reads_at stop.end.machine.phase (picked_at schedule (length trace) stop.end.machine) ≡ true → ¬ must (reads_in trace))

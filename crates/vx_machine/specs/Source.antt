@@ -6,7 +6,7 @@ use Rattle.vx_layout_spec.specs.Real.{Whole}
 use Rattle.vx_fault.specs.Told.{NoneTold}
 use Rattle.vx_machine_ids.specs.Stock.{Stock, none, both, end_stock}
 use Rattle.vx_write_answer.specs.declared.error.WriteError.{WriteError}
-use Rattle.vx_write_answer.specs.declared.error.WriteError.TheVariants.{SourceFault, SinkFault, CompressFault, BatchType, NotStruct, DuplicateField, ManyChunks, EmptyList, ZoneCut, ForbiddenAggregate, ForbiddenEncoding, TooLarge, OutOfMemory, Unbuilt, Stopped}
+use Rattle.vx_write_answer.specs.declared.error.WriteError.TheVariants.{SourceFault, SinkFault, CompressFault, BatchType, NotStruct, DuplicateField, ManyChunks, EmptyList, ZoneCut, ForbiddenAggregate, ForbiddenEncoding, TooLarge, OutOfMemory, Stopped}
 use Rattle.vx_machine.specs.declared.source.Phase.{Phase}
 use Rattle.vx_machine.specs.declared.source.Phase.TheVariants.{Reading, Giving, Closing, Finished}
 use Rattle.vx_machine_nodes.specs.Stocks.{item_stock}
@@ -52,7 +52,6 @@ SourceMay t EmptyList = ⊥
 SourceMay t (ZoneCut n) = ⊥
 SourceMay t (ForbiddenAggregate id) = ⊥
 SourceMay t (ForbiddenEncoding id) = ⊥
-SourceMay t Unbuilt = ⊥
 SourceMay t (Stopped by name) = ⊥
 
 -- what a source answers where it gives no batch is no number that is too large

@@ -14,6 +14,7 @@ use Rattle.vx_sink.specs.declared.context.LayoutWriterContext.{LayoutWriterConte
 use Rattle.vx_machine_nodes.specs.Context.{setting_of}
 use Rattle.vx_machine_nodes.specs.Outcome.{action_of, AllFit, Refused}
 use Rattle.vx_machine_nodes.specs.Acting.{Behind}
+use Rattle.vx_machine_tasks.specs.Acting.{CallFails}
 use Rattle.vx_machine.specs.SourceActs.{AsksAt, Tells, TellsRefused}
 
 -- The step at this place was done: what the source told in it, and what it wrote.
@@ -39,11 +40,12 @@ pub record StepRefused (s : Setting) (all : List (List ℕ)) (picked counts : �
   pub asks : AsksAt m.phase picked told
   pub tells : TellsRefused m.phase picked t to_come to_come_then e told
   pub cause : Refused step.refusal step.misfit ((counts + step.raises) ∷ step.numbers) step.indices step.wrote (IsPast before) (IsShared before) step.joined e
+  pub called : CallFails step.kind e
 
-abbrev pub StepDone : LayoutWriterContext → List (List ℕ) → ℕ → Ty → Option (List ChunkData) → Option (List ChunkData) → Outlet → Outlet → Machine → Machine → List ℕ → ActionKind → Type 0
-StepDone ctx all picked t to_come to_come_then before after m new name a =
-    (image : ℕ → ChunkData → ChunkData) → (number : ℕ) × WholeStepped (setting_of ctx image) all picked t to_come to_come_then before number after m new name a
+abbrev pub StepDone : LayoutWriterContext → (ℕ → ChunkData → ChunkData) → List (List ℕ) → ℕ → Ty → Option (List ChunkData) → Option (List ChunkData) → Outlet → Outlet → Machine → Machine → List ℕ → ActionKind → Type 0
+StepDone ctx image all picked t to_come to_come_then before after m new name a =
+    (number : ℕ) × WholeStepped (setting_of ctx image) all picked t to_come to_come_then before number after m new name a
 
-abbrev pub StepFails : LayoutWriterContext → ℕ → List (List ℕ) → ℕ → Ty → Option (List ChunkData) → Option (List ChunkData) → Outlet → Machine → WriteError → Type 0
-StepFails ctx counts all picked t to_come to_come_then before m e =
-    (image : ℕ → ChunkData → ChunkData) (number : ℕ) → StepRefused (setting_of ctx image) all picked counts t to_come to_come_then before number m e
+abbrev pub StepFails : LayoutWriterContext → (ℕ → ChunkData → ChunkData) → ℕ → List (List ℕ) → ℕ → Ty → Option (List ChunkData) → Option (List ChunkData) → Outlet → Machine → WriteError → Type 0
+StepFails ctx image counts all picked t to_come to_come_then before m e =
+    (number : ℕ) → StepRefused (setting_of ctx image) all picked counts t to_come to_come_then before number m e

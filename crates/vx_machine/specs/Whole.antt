@@ -1,14 +1,13 @@
 -- The machine as a whole.
-use Rattle.std.specs.Prelude.{◌≡◌, ℕ, ◌+◌, ◌^◌, ◌≤◌, ◌&&◌, Bool, true, false}
+use Rattle.std.specs.Prelude.{ℕ, ◌+◌, ◌^◌, ◌≤◌, ◌&&◌, Bool, true, false}
 use Rattle.vx_sequence.specs.Universe.{Active}
 use Rattle.vx_machine_ids.specs.Stock.{Stock, one, both}
 use Rattle.vx_write_answer.specs.declared.error.WriteError.{WriteError}
-use Rattle.vx_write_answer.specs.declared.error.WriteError.TheVariants.{SourceFault, SinkFault, CompressFault, BatchType, NotStruct, DuplicateField, ManyChunks, EmptyList, ZoneCut, ForbiddenAggregate, ForbiddenEncoding, TooLarge, OutOfMemory, Unbuilt, Stopped}
+use Rattle.vx_write_answer.specs.declared.error.WriteError.TheVariants.{SourceFault, SinkFault, CompressFault, BatchType, NotStruct, DuplicateField, ManyChunks, EmptyList, ZoneCut, ForbiddenAggregate, ForbiddenEncoding, TooLarge, OutOfMemory, Stopped}
 use Rattle.vx_machine.specs.declared.source.Phase.{Phase}
 use Rattle.vx_machine.specs.declared.source.Phase.TheVariants.{Reading, Giving, Closing, Finished}
 use Rattle.vx_machine.specs.declared.machine.Machine.{Machine}
 use Rattle.vx_machine_tasks.specs.declared.task.Task.{Task}
-use Rattle.vx_machine_nodes.specs.Causes.{StartMay}
 use Rattle.vx_machine_tasks.specs.Ledger.{task_reserved}
 use Rattle.vx_machine_tasks.specs.Stocks.{task_stock}
 use Rattle.vx_machine.specs.Source.{phase_stock}
@@ -46,21 +45,15 @@ is_finished m = has_closed m.phase && is_done m.root
 abbrev pub StepMay : WriteError → Type 0
 StepMay SourceFault = Unit {0}
 StepMay SinkFault = Unit {0}
-StepMay CompressFault = ⊥
+StepMay CompressFault = Unit {0}
 StepMay (BatchType c) = Unit {0}
 StepMay NotStruct = Unit {0}
 StepMay (DuplicateField name) = Unit {0}
 StepMay ManyChunks = Unit {0}
 StepMay EmptyList = Unit {0}
-StepMay (ZoneCut n) = ⊥
-StepMay (ForbiddenAggregate id) = ⊥
+StepMay (ZoneCut n) = Unit {0}
+StepMay (ForbiddenAggregate id) = Unit {0}
 StepMay (ForbiddenEncoding id) = Unit {0}
 StepMay (TooLarge n) = 2 ^ 32 ≤ n
 StepMay OutOfMemory = Unit {0}
-StepMay Unbuilt = ⊥
 StepMay (Stopped by name) = Unit {0}
-
--- why a start is refused: a strategy that isn't built always is, and takes no memory
-abbrev pub WholeStartMay : Bool → WriteError → Type 0
-WholeStartMay false e = e ≡ Unbuilt
-WholeStartMay true e = StartMay e

@@ -2,12 +2,10 @@
 //! act of one ready task.
 #![tactic(auto)]
 
-mod built;
 mod machine;
 mod running;
 mod source;
 
-pub use built::is_built;
 pub use machine::Machine;
 pub use running::run;
 pub use vx_machine_ids::{give_up_pointer, take_below};

@@ -6,7 +6,6 @@ ghost use Rattle.std.specs.Arc.{arc_value};
 ghost use Rattle.vx_model.specs.TyView.{ty};
 ghost use Rattle.vx_kept.specs.Kept.{Fresh, Knows};
 ghost use Rattle.vx_layout_tree.specs.LayoutView.{layout_data};
-ghost use Rattle.vx_strategy.specs.StrategyView.{strategy_data};
 ghost use Rattle.vx_machine_ids.specs.Stock.{none, both, end_stock, ok_stock};
 ghost use Rattle.vx_machine_ids.specs.Balance.{Owned, Moved, Exact, IsNone};
 ghost use Rattle.vx_machine_view.specs.State.{no_tasks};
@@ -14,10 +13,9 @@ ghost use Rattle.vx_machine_view.specs.Start.{first_indices};
 ghost use Rattle.vx_machine_view.specs.Acts.{layouts_in};
 ghost use Rattle.vx_machine_view.specs.Machine.{is_finished as has_finished};
 ghost use Rattle.vx_machine_view.specs.Places.{whole_ready};
-ghost use Rattle.vx_sink.specs.ContextView.{is_marked, counted as counted_bytes};
+ghost use Rattle.vx_sink.specs.ContextView.{is_marked, counted as counted_bytes, allowed_in};
 ghost use Rattle.vx_machine_nodes.specs.Ledger.{Paid, told_by};
-ghost use Rattle.vx_machine_view.specs.Built.{is_built};
-ghost use Rattle.vx_machine_nodes.specs.Calls.{SinkTold};
+ghost use Rattle.vx_machine_nodes.specs.Calls.{SinkTold, PressTold};
 ghost use Rattle.vx_machine.specs.Calls.{SourceTold, reads_at};
 ghost use Rattle.vx_machine_nodes.specs.Causes.{StartMay};
 ghost use Rattle.vx_machine_nodes.specs.Outcome.{Kept};
@@ -26,16 +24,15 @@ ghost use Rattle.vx_machine_tasks.specs.Ready.{is_done as is_done_task, counted}
 ghost use Rattle.vx_machine.specs.Source.{SourceMay};
 ghost use Rattle.vx_machine.specs.SourceActs.{SourceActed, SourceRefused};
 ghost use Rattle.vx_machine_tasks.specs.Starting.{IsAllowed, Counted, Started, FormRefused};
-ghost use Rattle.vx_machine.specs.Starting.{WholeRefused, machine_at};
+ghost use Rattle.vx_machine.specs.Starting.{machine_at};
 ghost use Rattle.vx_machine.specs.Steps.{StepDone, StepFails};
 ghost use Rattle.vx_machine_tasks.specs.Stocks.{task_stock};
 ghost use Rattle.vx_machine_nodes.specs.View.{form_of};
 ghost use Rattle.vx_machine_tasks.specs.View.{task_row, row};
 ghost use Rattle.vx_machine.specs.View.{phase_of, machine_of};
 ghost use Rattle.vx_machine_tasks.specs.declared.task.Task.{out-Task};
-ghost use Rattle.vx_machine.specs.Whole.{machine_stock, machine_reserved, machine_ready, may_source as may_act, has_closed as is_closed, is_finished, StepMay, WholeStartMay};
+ghost use Rattle.vx_machine.specs.Whole.{machine_stock, machine_reserved, machine_ready, may_source as may_act, has_closed as is_closed, is_finished, StepMay};
 
-use crate::built::is_built;
 use crate::source::{Phase, act_source, give_up_phase};
 use std::alloc::{AllocError, Global};
 use std::mem;
@@ -76,21 +73,23 @@ fn start_root<O: Order>(
     alloc: Global,
     strategy: &Strategy,
     dtype: &DType,
-    marked: bool,
+    ctx: &LayoutWriterContext,
     order: &mut O,
     eof: SequencePointer,
 ) -> Result<Task, WriteError>
-    requires owned { Owned (O.active order.old) (end_stock eof) }
-    requires built { IsTrue (is_built (strategy_data strategy.now)) }
+    requires { Owned (O.active order.old) (end_stock eof) }
     ensures moved { Moved (O.active order.old) (O.active order.new) (end_stock eof) (ok_stock task_stock result) }
     ensures outlet { O.outlet order.new ≡ O.outlet order.old }
     ensures sink { O.sink order.new ≡ O.sink order.old }
     ensures cause { IfErr result StartMay }
-    ensures shows { IfOk result (Started (form_of strategy.now dtype.now) marked (1 ∷ []) eof) }
-    ensures refused { IfErr result (FormRefused (form_of strategy.now dtype.now) marked eof) }
+    ensures shows { IfOk result (Started (allowed_in ctx.now) (form_of strategy.now dtype.now) (is_marked ctx.now) (1 ∷ []) eof) }
+    ensures refused { IfErr result (FormRefused (allowed_in ctx.now) (form_of strategy.now dtype.now) (is_marked ctx.now) eof) }
 {
     match root_parts(alloc, dtype) {
-        Ok((name, dtype)) => start_task(alloc, order, strategy, dtype, marked, name, eof),
+        Ok((name, dtype)) => {
+            let marked = ctx.has_nullable_ancestor();
+            start_task(alloc, ctx, order, strategy, dtype, marked, name, eof)
+        }
         Err(error) => {
             give_up_pointer(order, eof);
             Err(error)
@@ -121,8 +120,8 @@ impl Machine {
     /// The machine before its first step. The batches get paths from `stream` on; what is written behind all of them goes on
     /// from `eof`.
     ///
-    /// `Unbuilt` comes where the strategy names a node or a wrapper that isn't built. `NotStruct` and `DuplicateField` come of the nodes that
-    /// start with the root, `TooLarge(2^64)` where a path index has no next one. Refused, both pointers are given up.
+    /// `NotStruct`, `DuplicateField` and `ForbiddenAggregate` come of the nodes that start with the root, `TooLarge(2^64)` where
+    /// a path index has no next one. Refused, both pointers are given up.
     pub fn start<O: Order>(
         alloc: Global,
         strategy: &Strategy,
@@ -135,28 +134,15 @@ impl Machine {
         requires { Owned (O.active order.old) (both (end_stock stream) (end_stock eof)) }
         ensures moved { Moved (O.active order.old) (O.active order.new) (both (end_stock stream) (end_stock eof)) (ok_stock machine_stock result) }
         ensures unreserved { IfOk result (λ m. machine_reserved m ≡ 0) }
-        ensures built { OnOk result (IsTrue (is_built (strategy_data strategy.now))) }
         ensures outlet { O.outlet order.new ≡ O.outlet order.old }
         ensures sink { O.sink order.new ≡ O.sink order.old }
-        ensures cause { IfErr result (WholeStartMay (is_built (strategy_data strategy.now))) }
-        ensures allowed { OnOk result (IsAllowed (form_of strategy.now dtype.now) (is_marked ctx.now)) }
-        ensures counted { OnOk result (Counted eof (first_indices (form_of strategy.now dtype.now) eof)) }
+        ensures cause { IfErr result StartMay }
+        ensures allowed { OnOk result (IsAllowed (allowed_in ctx.now) (form_of strategy.now dtype.now) (is_marked ctx.now)) }
+        ensures counted { OnOk result (Counted eof (first_indices (form_of strategy.now dtype.now) (is_marked ctx.now) eof)) }
         ensures shows { IfOk result (λ m. machine_of m ≡ machine_at stream (form_of strategy.now dtype.now) (is_marked ctx.now) eof) }
-        ensures refused { IfErr result (WholeRefused (is_built (strategy_data strategy.now)) (form_of strategy.now dtype.now) (is_marked ctx.now) eof) }
+        ensures refused { IfErr result (FormRefused (allowed_in ctx.now) (form_of strategy.now dtype.now) (is_marked ctx.now) eof) }
     {
-        if !is_built(strategy) {
-            give_up_pointer(order, stream);
-            give_up_pointer(order, eof);
-            return Err(WriteError::Unbuilt);
-        }
-        match start_root(
-            alloc,
-            strategy,
-            dtype,
-            ctx.has_nullable_ancestor(),
-            order,
-            eof,
-        ) {
+        match start_root(alloc, strategy, dtype, ctx, order, eof) {
             Ok(root) => Ok(Machine {
                 alloc,
                 phase: Phase::Reading(stream),
@@ -238,7 +224,7 @@ impl Machine {
         ctx: &mut LayoutWriterContext,
         source: &mut B,
         order: &mut O,
-        _compressor: &mut C,
+        compressor: &mut C,
         counts: &mut Counts,
     ) -> Result<Step, WriteError>
         requires owned { Owned (O.active order.old) (machine_stock self.old) }
@@ -256,14 +242,16 @@ impl Machine {
             (reads_at (phase_of self.old.phase) (pick % counted (machine_ready (O.active order.old) self.old))) result (λ s. s.action) }
         ensures sink_told { SinkTold (O.Sink.faults (O.sink order.old)) (O.Sink.faults (O.sink order.new)) (O.Sink.may_fail (O.sink order.old)) (O.Sink.may_fail (O.sink order.new))
             (O.Sink.must_fail (O.sink order.old)) (O.Sink.must_fail (O.sink order.new)) result (λ s. s.action) }
+        ensures pressed { PressTold (C.faults compressor.old) (C.faults compressor.new) (C.may_fail compressor.old) (C.may_fail compressor.new)
+            (C.must_fail compressor.old) (C.must_fail compressor.new) result (λ s. s.action) }
         ensures cause { IfErr result StepMay }
-        ensures done { IfOk result (λ s. StepDone ctx.old (fin.keys (O.active order.old)) s.picked (B.kind source.old) (B.to_come source.old) (B.to_come source.new)
+        ensures done { IfOk result (λ s. StepDone ctx.old (C.image (C.kind compressor.old)) (fin.keys (O.active order.old)) s.picked (B.kind source.old) (B.to_come source.old) (B.to_come source.new)
             (O.outlet order.old) (O.outlet order.new) (machine_of self.old) (machine_of self.new) s.task s.action) }
-        ensures refused { IfErr result (StepFails ctx.old (counted_bytes ctx.old) (fin.keys (O.active order.old)) (pick % counted (machine_ready (O.active order.old) self.old)) (B.kind source.old) (B.to_come source.old) (B.to_come source.new)
+        ensures refused { IfErr result (StepFails ctx.old (C.image (C.kind compressor.old)) (counted_bytes ctx.old) (fin.keys (O.active order.old)) (pick % counted (machine_ready (O.active order.old) self.old)) (B.kind source.old) (B.to_come source.old) (B.to_come source.new)
             (O.outlet order.old) (machine_of self.old)) }
         ensures kept { OnErr result (Kept (O.outlet order.old) (O.outlet order.new)) }
         ensures context { told_by ctx.new ≡ told_by ctx.old }
-        ensures compressor { _compressor.new ≡ _compressor.old }
+        ensures compressor { C.kind compressor.new ≡ C.kind compressor.old }
         ensures known { OnOk result (Knows counts.new (row (out-Task self.new.root).kids.items)) }
     {
         let picked = pick % ready;
@@ -280,7 +268,11 @@ impl Machine {
                 Err(error) => Err(error),
             };
         }
-        match self.root.step(self.alloc, ctx, order, picked - own, counts) {
+        let place = picked - own;
+        match self
+            .root
+            .step(self.alloc, ctx, order, compressor, place, counts)
+        {
             Ok(did) => Ok(Step {
                 ready,
                 picked,
@@ -293,8 +285,9 @@ impl Machine {
 
     /// The ready task at the place `pick` modulo their number does its next act; tasks are in the order of their names.
     ///
-    /// After an error `refuse` alone is left to call. `SourceFault` and `SinkFault` come where that object's count of faults
-    /// says so. The source is called where it reads, and the sink where a segment is appended.
+    /// After an error `refuse` alone is left to call. `SourceFault`, `SinkFault` and `CompressFault` come where that object's
+    /// count of faults says so. The source is called where it reads, the sink where a segment is appended, and the compressor
+    /// at a call.
     pub fn step<B: BatchSource, O: Order, C: CompressorPlugin>(
         &mut self,
         pick: u64,
@@ -316,14 +309,16 @@ impl Machine {
             (reads_at (phase_of self.old.phase) (pick % counted (machine_ready (O.active order.old) self.old))) result (λ s. s.action) }
         ensures sink_told { SinkTold (O.Sink.faults (O.sink order.old)) (O.Sink.faults (O.sink order.new)) (O.Sink.may_fail (O.sink order.old)) (O.Sink.may_fail (O.sink order.new))
             (O.Sink.must_fail (O.sink order.old)) (O.Sink.must_fail (O.sink order.new)) result (λ s. s.action) }
+        ensures pressed { PressTold (C.faults compressor.old) (C.faults compressor.new) (C.may_fail compressor.old) (C.may_fail compressor.new)
+            (C.must_fail compressor.old) (C.must_fail compressor.new) result (λ s. s.action) }
         ensures cause { IfErr result StepMay }
-        ensures done { IfOk result (λ s. StepDone ctx.old (fin.keys (O.active order.old)) s.picked (B.kind source.old) (B.to_come source.old) (B.to_come source.new)
+        ensures done { IfOk result (λ s. StepDone ctx.old (C.image (C.kind compressor.old)) (fin.keys (O.active order.old)) s.picked (B.kind source.old) (B.to_come source.old) (B.to_come source.new)
             (O.outlet order.old) (O.outlet order.new) (machine_of self.old) (machine_of self.new) s.task s.action) }
-        ensures refused { IfErr result (StepFails ctx.old (counted_bytes ctx.old) (fin.keys (O.active order.old)) (pick % counted (machine_ready (O.active order.old) self.old)) (B.kind source.old) (B.to_come source.old) (B.to_come source.new)
+        ensures refused { IfErr result (StepFails ctx.old (C.image (C.kind compressor.old)) (counted_bytes ctx.old) (fin.keys (O.active order.old)) (pick % counted (machine_ready (O.active order.old) self.old)) (B.kind source.old) (B.to_come source.old) (B.to_come source.new)
             (O.outlet order.old) (machine_of self.old)) }
         ensures kept { OnErr result (Kept (O.outlet order.old) (O.outlet order.new)) }
         ensures context { told_by ctx.new ≡ told_by ctx.old }
-        ensures compressor { compressor.new ≡ compressor.old }
+        ensures compressor { C.kind compressor.new ≡ C.kind compressor.old }
     {
         let mut counts = Counts::new(self.alloc);
         let Ok(ready) = self.count_ready(order, &mut counts) else {

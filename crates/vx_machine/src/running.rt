@@ -4,8 +4,8 @@ ghost use Rattle.std.specs.Prelude.{◌≡◌, List, ℕ, [], slice_index, IfErr
 ghost use Rattle.vx_fault.specs.Faults.{FaultsTold};
 ghost use Rattle.vx_machine_ids.specs.Stock.{none, both};
 ghost use Rattle.vx_machine_ids.specs.Balance.{Owned, Moved, Exact};
-ghost use Rattle.vx_write_answer.specs.Causes.{errs, is_source_fault, is_sink_fault};
-ghost use Rattle.vx_machine.specs.Calls.{reads_in, appends_in};
+ghost use Rattle.vx_write_answer.specs.Causes.{errs, is_source_fault, is_sink_fault, is_compress_fault};
+ghost use Rattle.vx_machine.specs.Calls.{reads_in, appends_in, calls_in};
 ghost use Rattle.vx_machine.specs.Run.{at, RunDone, RunTold};
 ghost use Rattle.vx_machine.specs.View.{machine_of};
 ghost use Rattle.vx_sink.specs.ContextView.{counted};
@@ -53,16 +53,18 @@ pub fn run<B: BatchSource, O: Order, C: CompressorPlugin>(
         (reads_in trace.new.items) (errs is_source_fault result) }
     ensures sink { trace.old.items ≡ [] → FaultsTold (O.Sink.faults (O.sink order.old)) (O.Sink.faults (O.sink order.new)) (O.Sink.may_fail (O.sink order.old)) (O.Sink.must_fail (O.sink order.old))
         (appends_in trace.new.items) (errs is_sink_fault result) }
+    ensures pressed { trace.old.items ≡ [] → FaultsTold (C.faults compressor.old) (C.faults compressor.new) (C.may_fail compressor.old) (C.must_fail compressor.old)
+        (calls_in trace.new.items) (errs is_compress_fault result) }
     ensures cause { IfErr result StepMay }
     ensures ran { trace.old.items ≡ [] → Exact (O.active order.old) (machine_stock machine)
         → MatchResult result
-        (RunDone ctx.old (B.kind source.old) schedule.now (at (machine_of machine) (B.to_come source.old) (O.outlet order.old)) trace.new.items (B.to_come source.new) (O.outlet order.new))
-        (RunTold ctx.old (B.kind source.old) schedule.now (at (machine_of machine) (B.to_come source.old) (O.outlet order.old)) trace.new.items (B.to_come source.new) (O.outlet order.new)
+        (RunDone ctx.old (C.image (C.kind compressor.old)) (B.kind source.old) schedule.now (at (machine_of machine) (B.to_come source.old) (O.outlet order.old)) trace.new.items (B.to_come source.new) (O.outlet order.new))
+        (RunTold ctx.old (C.image (C.kind compressor.old)) (B.kind source.old) schedule.now (at (machine_of machine) (B.to_come source.old) (O.outlet order.old)) trace.new.items (B.to_come source.new) (O.outlet order.new)
         (B.must_fail source.old)) }
     // Behind it the tracker counts what it did.
     ensures tracked { counted ctx.new ≡ counted ctx.old }
     ensures context { told_by ctx.new ≡ told_by ctx.old }
-    ensures compressor { compressor.new ≡ compressor.old }
+    ensures compressor { C.kind compressor.new ≡ C.kind compressor.old }
 {
     let mut counts = Counts::new(machine.alloc);
     'steps: loop {

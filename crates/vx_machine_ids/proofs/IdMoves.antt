@@ -4,7 +4,7 @@ use Rattle.std.proofs.lemmas.List.{length-append}
 use Rattle.std.specs.FinMap as map
 use Rattle.vx_path.specs.Path.{under, Eof, eof_path, next, inside}
 use Rattle.vx_path.proofs.Path.{begins-under}
-use Rattle.vx_sequence.specs.Universe.{Active, IsActive, IsUniverse, advanced, released, split_from}
+use Rattle.vx_sequence.specs.Universe.{Active, IsActive, IsUniverse, advanced, descended, released, split_from}
 use Rattle.vx_sequence.proofs.Sets.{none_active, active_remove, get-insert_other}
 use Rattle.vx_sequence.proofs.Places.{same_parts}
 use Rattle.vx_order.specs.Ids.{children, with_children, SplitRefused}
@@ -12,7 +12,7 @@ use Rattle.vx_machine_ids.specs.Stock.{Stock, none, both, id_stock, end_stock, i
 use Rattle.vx_machine_ids.specs.Balance.{Owned, Moved}
 use Rattle.vx_machine_ids.proofs.Stocks.{both_none, all_push}
 use Rattle.vx_machine_ids.proofs.MoveLaws.{moved_none, moved_then, moved_behind, owned_now, owned_right, owned_as}
-use Rattle.vx_machine_ids.proofs.CallLaws.{owned_active, owned_open, advanced_moved, split_moved, released_moved, inserted_moved}
+use Rattle.vx_machine_ids.proofs.CallLaws.{owned_active, owned_open, advanced_moved, descended_moved, split_moved, released_moved, inserted_moved}
 
 -- ---- pointers
 
@@ -105,3 +105,13 @@ children_count p (suc n) =
     let e : length (children p n) ≡ n = children_count p n in
     let a : length (children p n ++ (under p n ∷ [])) ≡ length (children p n) + 1 = length-append (children p n) (under p n ∷ []) in
     omega (arith, e, a)
+
+-- ---- a pointer below an id
+
+pub below_took : (u v : Active) (p : List ℕ) (e : Eof) → IsUniverse u → v ≡ descended u p → e.stem ≡ p → e.last ≡ 0 → Owned u (id_stock p) → Moved u v (id_stock p) (end_stock e)
+below_took u v p e r a b d o =
+    let w : e ≡ record { stem = p; last = 0 } = λ j. record { stem = b j; last = d j } in
+    subst (λ x. Moved u x (id_stock p) (end_stock e)) (sym a) (subst (λ x. Moved u (descended u p) (id_stock p) (end_stock x)) (sym w) (descended_moved u p r (owned_active u p o)))
+
+pub id_gone : (u v w : Active) (p q : List ℕ) → v ≡ u → q ≡ p → w ≡ released v q → Owned u (id_stock p) → Moved u w (id_stock p) none
+id_gone u v w p q a b d o = id_lost u w p (d ∙ (λ j. released (a j) (b j))) o

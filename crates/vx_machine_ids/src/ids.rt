@@ -92,3 +92,29 @@ pub fn take_children<O: Order>(
         Err(error) => Err(error),
     }
 }
+
+/// A pointer at the first child of the id's path. The id is given up, also where memory runs out.
+pub fn take_inside<O: Order>(order: &mut O, id: SequenceId) -> Result<SequencePointer, OrderError>
+    requires { Owned (O.active order.old) (id_stock id) }
+    ensures moved { Moved (O.active order.old) (O.active order.new) (id_stock id) (ok_stock end_stock result) }
+    ensures pointer { IfOk result (λ p. (p.stem ≡ id) × (p.last ≡ 0)) }
+    ensures memory { IfErr result (λ e. e ≡ OrderError.OutOfMemory) }
+    ensures outlet { O.outlet order.new ≡ O.outlet order.old }
+    ensures sink { O.sink order.new ≡ O.sink order.old }
+{
+    match order.descend(id) {
+        Ok(pointer) => Ok(pointer),
+        Err((id, error)) => {
+            order.release(id);
+            Err(error)
+        }
+    }
+}
+
+/// Does nothing; tells a caller's proof that the pointer's last index fits 64 bits.
+pub fn index_fits(pointer: &SequencePointer)
+    ensures { pointer.now.last < 2 ^ 64 }
+{
+    let path = pointer.path();
+    let _last = path[path.len() - 1];
+}

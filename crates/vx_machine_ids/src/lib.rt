@@ -6,7 +6,9 @@ ghost use Rattle.vx_machine_ids.specs.Laws.{AdvanceMoves, DescendMoves, SplitMov
 
 mod ids;
 
-pub use ids::{give_up_id, give_up_pointer, take_below, take_children, take_id};
+pub use ids::{
+    give_up_id, give_up_pointer, index_fits, take_below, take_children, take_id, take_inside,
+};
 
 /// What each call on ids and pointers moves.
 pub fn calls()

@@ -16,7 +16,7 @@ use Rattle.vx_order.specs.Answers.{FullAt, IsPast, Refuses}
 use Rattle.vx_write_answer.specs.declared.error.WriteError.{WriteError}
 use Rattle.vx_write_answer.specs.declared.error.WriteError.TheVariants as errors
 use Rattle.vx_write_answer.specs.Causes.{of_encode, of_order, of_split}
-use Rattle.vx_machine_nodes.specs.Causes.{MayCome, ActMay, StartMay}
+use Rattle.vx_machine_nodes.specs.Causes.{MayCome, AppendMay, StartMay}
 use Rattle.vx_machine_nodes.specs.Fresh.{NodeRefused}
 
 -- ---- of an order
@@ -31,7 +31,7 @@ past_large : (o : Outlet) (n : ℕ) → IsPast o n → 2 ^ 32 ≤ n
 past_large (own s) n h = omega (arith, h.0, h.1)
 past_large (shared s) n h = h.0
 
-pub refused_may : (u : Active) (o : Outlet) (id : List ℕ) (e : OrderError) → Refuses u o id e → ActMay (of_order e)
+pub refused_may : (u : Active) (o : Outlet) (id : List ℕ) (e : OrderError) → Refuses u o id e → AppendMay (of_order e)
 refused_may u o id (order.TooLarge n) h = past_large o n h.1
 refused_may u o id order.SinkFault h = tt
 refused_may u o id order.OutOfMemory h = tt
@@ -73,9 +73,8 @@ start_may (errors.DuplicateField name) h = tt
 start_may errors.ManyChunks h = absurd h
 start_may errors.EmptyList h = absurd h
 start_may (errors.ZoneCut n) h = absurd h
-start_may (errors.ForbiddenAggregate id) h = absurd h
+start_may (errors.ForbiddenAggregate id) h = tt
 start_may (errors.ForbiddenEncoding id) h = absurd h
 start_may (errors.TooLarge n) h = omega (arith, h)
 start_may errors.OutOfMemory h = tt
-start_may errors.Unbuilt h = absurd h
 start_may (errors.Stopped by name) h = absurd h

@@ -19,3 +19,8 @@ pub mod ListSteps
 pub mod PutSteps
 pub mod TakeShows
 pub mod ListParts
+pub mod PressSteps
+pub mod ZoneSteps
+pub mod RunLaws
+pub mod RunSteps
+pub mod RunTakes

@@ -4,9 +4,9 @@ use Rattle.std.proofs.lemmas.Result.{IfErr-weaker}
 use Rattle.std.proofs.lemmas.Bool.{true≢false}
 use Rattle.vx_path.specs.Lists.{In}
 use Rattle.vx_path.proofs.Lists.{in_left}
-use Rattle.vx_plan.specs.PlanData.{Pair, What, not_struct, duplicate_field, many_chunks, empty_list, forbidden_encoding}
+use Rattle.vx_plan.specs.PlanData.{Pair, What, not_struct, duplicate_field, many_chunks, empty_list, zone_cut, forbidden_aggregate, forbidden_encoding}
 use Rattle.vx_write_answer.specs.declared.error.WriteError.{WriteError}
-use Rattle.vx_write_answer.specs.declared.error.WriteError.TheVariants.{SourceFault, SinkFault, CompressFault, BatchType, NotStruct, DuplicateField, ManyChunks, EmptyList, ZoneCut, ForbiddenAggregate, ForbiddenEncoding, TooLarge, OutOfMemory, Unbuilt, Stopped}
+use Rattle.vx_write_answer.specs.declared.error.WriteError.TheVariants.{SourceFault, SinkFault, CompressFault, BatchType, NotStruct, DuplicateField, ManyChunks, EmptyList, ZoneCut, ForbiddenAggregate, ForbiddenEncoding, TooLarge, OutOfMemory, Stopped}
 use Rattle.vx_order.specs.Outlet.{Outlet}
 use Rattle.vx_order.specs.Answers.{IsPast, IsShared}
 use Rattle.vx_machine_view.specs.Acts.{Did}
@@ -30,12 +30,11 @@ module _ (w : List Pair) (hs : List ℕ) (r q : Option What) (b c : Bool) (ns ms
   wider (DuplicateField a) h = word (duplicate_field a) h
   wider ManyChunks h = word many_chunks h
   wider EmptyList h = word empty_list h
-  wider (ZoneCut n) h = h
-  wider (ForbiddenAggregate id) h = h
+  wider (ZoneCut n) h = word (zone_cut n) h
+  wider (ForbiddenAggregate id) h = word (forbidden_aggregate id) h
   wider (ForbiddenEncoding id) h = word (forbidden_encoding id) h
   wider (TooLarge n) h = ⊎_elim (λ x. inl (past_wider n x)) (λ x. inr (⊎_elim (λ y. inl (y.0, later n y.1)) (λ y. inr y) x)) h
   wider OutOfMemory h = h
-  wider Unbuilt h = h
   wider (Stopped by name) h = (h.0, halts h.1)
 
 no_word : (q : Option What) (x : What) → None ≡ Some x → q ≡ Some x
@@ -95,12 +94,11 @@ none_joined NotStruct m h = cc
 none_joined (DuplicateField name) m h = cc
 none_joined ManyChunks m h = cc
 none_joined EmptyList m h = cc
-none_joined (ZoneCut n) m h = absurd m
-none_joined (ForbiddenAggregate id) m h = absurd m
+none_joined (ZoneCut n) m h = cc
+none_joined (ForbiddenAggregate id) m h = cc
 none_joined (ForbiddenEncoding id) m h = cc
 none_joined (TooLarge n) m h = ⊎_elim (λ x. ⊎_elim (λ y. absurd y.0) (λ y. absurd y.1) x) (λ x. ⊎_elim (λ y. absurd y.1) (λ y. ⊎_elim (λ z. absurd (omega (arith, z, y.1))) (λ z. absurd z) y.0) x) h
 none_joined OutOfMemory m h = refl
-none_joined Unbuilt m h = absurd m
 none_joined (Stopped by name) m h = absurd m
 
 -- also where the tracker is asked

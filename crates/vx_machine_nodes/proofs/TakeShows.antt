@@ -33,7 +33,7 @@ use Rattle.vx_machine_nodes.specs.declared.item.Segment.{Segment}
 use Rattle.vx_machine_nodes.specs.declared.kinds.FlatNode.{FlatNode}
 use Rattle.vx_machine_nodes.specs.declared.kinds.ListsNode.{ListsNode}
 use Rattle.vx_machine_nodes.specs.declared.node.Local.{Local}
-use Rattle.vx_machine_nodes.specs.declared.node.Local.TheVariants.{Empty, Full, Chunked, Columns, Lists, Grouped, Over, Passing, Made}
+use Rattle.vx_machine_nodes.specs.declared.node.Local.TheVariants.{Empty, Full, Chunked, Columns, Lists, Grouped, Zoned, Pressing, AsIs, Probe, Asking, Runs, Over, Passing, Made}
 use Rattle.vx_machine_nodes.specs.Acting.{bare, taken, Took, TakeRefused, tree_kept, IsStored, WordRefused, first_word, SplitRefused, ListRefused, is_flat, Ended, EndTaken, EndRefused}
 use Rattle.vx_machine_nodes.specs.Context.{setting_of}
 use Rattle.vx_machine_nodes.specs.Outcome.{AllFit}
@@ -80,6 +80,12 @@ module _ (ctx : LayoutWriterContext) (image : ℕ → ChunkData → ChunkData) (
   flat_why (Columns n rows) e f h = absurd (true≢false (sym f))
   flat_why (Lists n rows) e f h = absurd (true≢false (sym f))
   flat_why (Grouped n) e f h = absurd (true≢false (sym f))
+  flat_why (Zoned n) e f h = absurd (true≢false (sym f))
+  flat_why (Pressing which) e f h = absurd (true≢false (sym f))
+  flat_why AsIs e f h = absurd (true≢false (sym f))
+  flat_why (Probe n eof) e f h = absurd (true≢false (sym f))
+  flat_why Asking e f h = absurd (true≢false (sym f))
+  flat_why (Runs r) e f h = absurd (true≢false (sym f))
   flat_why Passing e f h = absurd (true≢false (sym f))
   flat_why Over e f h = absurd (true≢false (sym f))
   flat_why (Made x) e f h = absurd (true≢false (sym f))
@@ -113,6 +119,12 @@ second_why first (Chunked n eof rows) h = refl
 second_why first (Columns n rows) h = refl
 second_why first (Lists n rows) h = refl
 second_why first (Grouped n) h = refl
+second_why first (Zoned n) h = refl
+second_why first (Pressing which) h = refl
+second_why first AsIs h = refl
+second_why first (Probe n eof) h = refl
+second_why first Asking h = refl
+second_why first (Runs r) h = refl
 second_why first Passing h = refl
 second_why first Over h = refl
 second_why first (Made x) h = refl
@@ -190,12 +202,12 @@ two_more xs ys zs d e a b =
 module _ (n : ListsNode) (rows kids : ℕ) where
   -- its end, by whether a chunk came
   abbrev ends_by : Bool → Tasks → Did
-  ends_by b ks = end_lists b (list (element_type (ty (arc_value n.dtype))) (nullable (ty (arc_value n.dtype)))) rows (bare (mind_of (Lists n rows))) ks
+  ends_by b ks = end_lists b (list (element_type (ty (arc_value n.dtype))) (nullable (ty (arc_value n.dtype)))) rows (bare [] (mind_of (Lists n rows))) ks
 
   pub lists_end : (m : Local) (todo before : List Next) → n.split.first ≡ false → mind_of m ≡ ending
       → todo ≡ before ++ (shut_kids ∷ join_kids (fold_columns (ty (arc_value n.dtype)) rows) ∷ []) → EndTaken (Lists n rows) kids m todo before
-  lists_end m todo before is a e = λ ks same. subst (λ z. Ended (ends_by z ks) (mind_of m) todo before) (sym is)
+  lists_end m todo before is a e = λ s ks same. subst (λ z. Ended (ends_by z ks) (mind_of m) todo before) (sym is)
       (record { unrefused = refl; fits = refl; counted = none_fit; mind_is = a; todo_is = e ∙ ap (λ t. before ++ (shut_kids ∷ join_kids (fold_columns t rows) ∷ [])) (sym (list_parts (ty (arc_value n.dtype)) n.lists)) })
 
   pub lists_empty : n.split.first ≡ true → EndRefused (Lists n rows) kids EmptyList
-  lists_empty is = λ ks same. ap (λ z. (ends_by z ks).refusal) is
+  lists_empty is = λ s ks same. ap (λ z. (ends_by z ks).refusal) is

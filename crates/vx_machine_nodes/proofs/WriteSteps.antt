@@ -16,7 +16,8 @@ use Rattle.vx_order.specs.Answers.{Tried, Answers, After, Refuses}
 use Rattle.vx_order.specs.declared.attempt.Attempt.TheVariants.{Written}
 use Rattle.vx_sequence.specs.Universe.{Active}
 use Rattle.vx_sequence.specs.declared.ids.SequenceId.{SequenceId}
-use Rattle.vx_machine_view.specs.State.{append, Mind, Tasks}
+use Rattle.vx_plan.specs.PlanData.{Setting}
+use Rattle.vx_machine_view.specs.State.{append, Next, Mind, Tasks}
 use Rattle.vx_write_answer.specs.declared.step.ActionKind.TheVariants as actions
 use Rattle.vx_write_answer.specs.Causes.{of_order}
 use Rattle.vx_machine_nodes.specs.declared.item.Stored.{Stored}
@@ -26,6 +27,7 @@ use Rattle.vx_machine_view.specs.State as view
 use Rattle.vx_machine_nodes.specs.Acting.{IsAppended, AppendRefused, acted, ActDone}
 use Rattle.vx_machine_nodes.specs.Outcome.{Kept}
 use Rattle.vx_machine_nodes.specs.View.{stored_of, mind_of}
+use Rattle.vx_machine_nodes.proofs.Fitting.{none_fit}
 
 -- ---- the sink
 
@@ -59,10 +61,18 @@ flat_made f t u rows ids listed tree number n h a b c = h ∙ (λ j. flat_layout
 
 -- then it is in mind
 pub appended_done : (ids : List EncodingId) (n : ℕ) (x : Stored) (l : Layout) (m : Local) (o v : Outlet) → IsAppended o n (x.id, x.segment.bytes.items) v
-    → layout_data l ≡ flat_layout (stored_of x).type x.segment.rows ids x.segment.tree n → m ≡ Made l → (mind : Mind) (ks : Tasks)
-    → ActDone (acted ids n mind ks (append (stored_of x))) o n v (mind_of m) ks actions.Append
-appended_done ids n x l m o v w g is mind ks =
-    record { unrefused = refl; fits = refl; mind_is = ap mind_of is ∙ ap view.made g; kids_are = refl; kind = refl; outlet = w }
+    → layout_data l ≡ flat_layout (stored_of x).type x.segment.rows ids x.segment.tree n → m ≡ Made l → (s : Setting) (name : List ℕ) (mind : Mind) (ks : Tasks) (left : List Next) → s.encodings ≡ ids
+    → ActDone (acted s name n mind ks (append (stored_of x))) o n v (mind_of m) left left ks actions.Append
+appended_done ids n x l m o v w g is s name mind ks left same = record {
+  unrefused = refl;
+  fits = refl;
+  counted = none_fit;
+  todo_is = refl;
+  mind_is = ap mind_of is ∙ ap view.made g ∙ ap (λ z. view.made (flat_layout (stored_of x).type x.segment.rows z x.segment.tree n)) (sym same);
+  kids_are = refl;
+  kind = refl;
+  outlet = w;
+}
 
 -- ---- what the sink is told
 

@@ -11,7 +11,8 @@ use Rattle.vx_order.specs.Answers.{IsNumber, IsPast, IsShared, After}
 use Rattle.vx_order.specs.declared.attempt.Attempt.TheVariants.{Written}
 use Rattle.vx_plan.specs.PlanData.{Setting, Pair, What, many_chunks, Item as Piece}
 use Rattle.vx_machine_turns.specs.Flat.{forbidden}
-use Rattle.vx_machine_view.specs.State.{Next, Mind, ending, Desk, Tasks}
+use Rattle.vx_machine_view.specs.State.{Next, hand_on, Mind, ending, Desk, Tasks}
+use Rattle.vx_machine_view.specs.Images.{images_of}
 use Rattle.vx_machine_view.specs.Start.{waiting}
 use Rattle.vx_sink.specs.declared.context.LayoutWriterContext.{LayoutWriterContext}
 use Rattle.vx_sink.specs.ContextView.{counted as bytes_counted}
@@ -22,7 +23,7 @@ use Rattle.vx_machine_nodes.specs.declared.item.Item.{Item}
 use Rattle.vx_machine_nodes.specs.declared.item.Segment.{Segment}
 use Rattle.vx_machine_nodes.specs.declared.kinds.FlatNode.{FlatNode}
 use Rattle.vx_machine_nodes.specs.declared.node.Local.{Local}
-use Rattle.vx_machine_nodes.specs.declared.node.Local.TheVariants.{Empty, Full, Chunked, Columns, Lists, Grouped, Over, Passing, Made}
+use Rattle.vx_machine_nodes.specs.declared.node.Local.TheVariants.{Empty, Full, Chunked, Columns, Lists, Grouped, Over, Passing, Made, Zoned, Pressing, AsIs, Probe, Asking, Runs}
 use Rattle.vx_machine_nodes.specs.Context.{setting_of}
 use Rattle.vx_machine_nodes.specs.Outcome.{action_of, AllFit, Refused, none_past}
 use Rattle.vx_machine_nodes.specs.View.{item_of, mind_of}
@@ -56,21 +57,28 @@ AppendRefused o x e = Refused None false [] [] (x ∷ []) (IsPast o) (IsShared o
 
 -- ---- acts of a block
 
--- Of a task of which only this is told: what it has in mind.
-abbrev pub bare : Mind → Desk
-bare mind = waiting [] mind [] false
+-- Of a task of which only this is told: its name, and what it has in mind.
+abbrev pub bare : List ℕ → Mind → Desk
+bare name mind = waiting name mind [] false
 
-abbrev pub acted : List EncodingId → ℕ → Mind → Tasks → Next → Did
-acted ids number mind ks x = do_next ids number (bare mind) ks x []
+abbrev pub acted : Setting → List ℕ → ℕ → Mind → Tasks → Next → Did
+acted s name number mind ks x = do_next s number (bare name mind) ks x []
 
--- an act was done, with this in mind then and these children
-pub record ActDone (w : Did) (before : Outlet) (number : ℕ) (after : Outlet) (mind : Mind) (kids : Tasks) (a : ActionKind) : Type 0 where
+-- an act was done, with this in mind then, this left to do before what was, and these children
+pub record ActDone (w : Did) (before : Outlet) (number : ℕ) (after : Outlet) (mind : Mind) (todo left : List Next) (kids : Tasks) (a : ActionKind) : Type 0 where
   pub unrefused : w.refusal ≡ None
   pub fits : w.misfit ≡ false
+  pub counted : AllFit (w.numbers ++ w.indices)
+  pub todo_is : todo ≡ w.desk.todo ++ left
   pub mind_is : mind ≡ w.desk.mind
   pub kids_are : kids ≡ w.kids
   pub kind : a ≡ action_of w.kind
   pub outlet : Behind before number w.wrote after
+
+-- The compressor was called under this number, and the image is to be handed on before what was. A compressor's images are known of
+-- chunks that can be in memory.
+abbrev pub Pressed : (ℕ → ChunkData → ChunkData) → ℕ → Piece → List Next → List Next → Type 0
+Pressed image which i todo before = todo ≡ hand_on 0 (i.0, images_of image which i.1) ∷ before
 
 -- layouts of so many rows aren't joined
 abbrev pub JoinRefused : List ℕ → WriteError → Type 0
@@ -135,6 +143,12 @@ first_word first (Chunked n eof rows) = Some many_chunks
 first_word first (Columns n rows) = Some many_chunks
 first_word first (Lists n rows) = Some many_chunks
 first_word first (Grouped n) = Some many_chunks
+first_word first (Zoned n) = Some many_chunks
+first_word first (Pressing which) = Some many_chunks
+first_word first AsIs = Some many_chunks
+first_word first (Probe n eof) = Some many_chunks
+first_word first Asking = Some many_chunks
+first_word first (Runs r) = Some many_chunks
 first_word first Over = Some many_chunks
 first_word first Passing = Some many_chunks
 first_word first (Made l) = Some many_chunks
@@ -147,6 +161,12 @@ is_flat (Chunked n eof rows) = false
 is_flat (Columns n rows) = false
 is_flat (Lists n rows) = false
 is_flat (Grouped n) = false
+is_flat (Zoned n) = false
+is_flat (Pressing which) = false
+is_flat AsIs = false
+is_flat (Probe n eof) = false
+is_flat Asking = false
+is_flat (Runs r) = false
 is_flat Over = false
 is_flat Passing = false
 is_flat (Made l) = false
@@ -159,13 +179,59 @@ is_grouped (Full x) = false
 is_grouped (Chunked n eof rows) = false
 is_grouped (Columns n rows) = false
 is_grouped (Lists n rows) = false
+is_grouped (Zoned n) = false
+is_grouped (Pressing which) = false
+is_grouped AsIs = false
+is_grouped (Probe n eof) = false
+is_grouped Asking = false
+is_grouped (Runs r) = false
 is_grouped Over = false
 is_grouped Passing = false
 is_grouped (Made l) = false
 
+-- whether no chunk came of a dictionary node
+abbrev pub is_probe : Local → Bool
+is_probe (Probe n eof) = true
+is_probe (Empty n) = false
+is_probe (Full x) = false
+is_probe (Chunked n eof rows) = false
+is_probe (Columns n rows) = false
+is_probe (Lists n rows) = false
+is_probe (Grouped n) = false
+is_probe (Zoned n) = false
+is_probe (Pressing which) = false
+is_probe AsIs = false
+is_probe Asking = false
+is_probe (Runs r) = false
+is_probe Over = false
+is_probe Passing = false
+is_probe (Made l) = false
+
+-- whether its node cuts runs
+abbrev pub is_cutting : Local → Bool
+is_cutting (Runs r) = true
+is_cutting (Empty n) = false
+is_cutting (Full x) = false
+is_cutting (Chunked n eof rows) = false
+is_cutting (Columns n rows) = false
+is_cutting (Lists n rows) = false
+is_cutting (Grouped n) = false
+is_cutting (Zoned n) = false
+is_cutting (Pressing which) = false
+is_cutting AsIs = false
+is_cutting (Probe n eof) = false
+is_cutting Asking = false
+is_cutting Over = false
+is_cutting Passing = false
+is_cutting (Made l) = false
+
 -- why a chunk isn't split: it is of another type, or the rows with it are too many
 abbrev pub SplitRefused : Bool → ℕ → WriteError → Type 0
 SplitRefused misfit rows e = Refused None misfit (rows ∷ []) [] [] none_past ⊥ [] e
+
+-- why a zoned node doesn't record a chunk: it makes no zone, it is of another type, or the rows with it are too many
+abbrev pub ZoneRefused : Option What → Bool → ℕ → WriteError → Type 0
+ZoneRefused word misfit rows e = Refused word misfit (rows ∷ []) [] [] none_past ⊥ [] e
 
 -- why a chunk of lists isn't split: it is of another type, or one of these is too many
 abbrev pub ListRefused : Bool → List ℕ → WriteError → Type 0
@@ -183,8 +249,8 @@ pub record Ended (w : Did) (mind : Mind) (todo before : List Next) : Type 0 wher
 
 -- by a task with so many children, of which only this is told: what it had in mind
 abbrev pub EndTaken : Local → ℕ → Local → List Next → List Next → Type 0
-EndTaken l n m todo before = (ks : Tasks) → count ks ≡ n → Ended (take_end (bare (mind_of l)) ks (mind_of l)) (mind_of m) todo before
+EndTaken l n m todo before = (s : Setting) (ks : Tasks) → count ks ≡ n → Ended (take_end s (bare [] (mind_of l)) ks (mind_of l)) (mind_of m) todo before
 
 -- or it is refused
 abbrev pub EndRefused : Local → ℕ → WriteError → Type 0
-EndRefused l n e = (ks : Tasks) → count ks ≡ n → TakeRefused (take_end (bare (mind_of l)) ks (mind_of l)) e
+EndRefused l n e = (s : Setting) (ks : Tasks) → count ks ≡ n → TakeRefused (take_end s (bare [] (mind_of l)) ks (mind_of l)) e

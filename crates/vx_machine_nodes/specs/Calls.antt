@@ -5,7 +5,7 @@ use Rattle.vx_order.specs.Answers.{Unasked}
 use Rattle.vx_write_answer.specs.declared.step.ActionKind.{ActionKind}
 use Rattle.vx_write_answer.specs.declared.step.ActionKind.TheVariants as actions
 use Rattle.vx_write_answer.specs.declared.error.WriteError.{WriteError}
-use Rattle.vx_write_answer.specs.declared.error.WriteError.TheVariants.{SinkFault}
+use Rattle.vx_write_answer.specs.declared.error.WriteError.TheVariants.{SinkFault, CompressFault}
 
 -- ---- how often
 
@@ -30,6 +30,17 @@ append_action actions.Put = 0
 append_action actions.Close = 0
 append_action actions.Call = 0
 append_action actions.Join = 0
+
+-- and the compressor where it compresses
+abbrev pub call_action : ActionKind → ℕ
+call_action actions.Call = 1
+call_action actions.Batch = 0
+call_action actions.End = 0
+call_action actions.Take = 0
+call_action actions.Put = 0
+call_action actions.Close = 0
+call_action actions.Append = 0
+call_action actions.Join = 0
 
 -- ---- what is told of it, in six values: how often it failed, and which calls may and must fail
 
@@ -60,3 +71,13 @@ TaskTold before now may may_then must must_then (Err e) act = SinkStops before n
 -- of an append
 abbrev pub AppendTold : {A : Type 0} → ℕ → ℕ → (ℕ → Type 0) → (ℕ → Type 0) → (ℕ → Type 0) → (ℕ → Type 0) → Result A WriteError → Type 0
 AppendTold before now may may_then must must_then r = SinkTold before now may may_then must must_then r (λ x. actions.Append)
+
+-- The compressor failed. Another error tells less.
+abbrev pub PressStops : ℕ → ℕ → (ℕ → Type 0) → (ℕ → Type 0) → (ℕ → Type 0) → (ℕ → Type 0) → WriteError → Type 0
+PressStops before now may may_then must must_then CompressFault = Called before now may may_then must must_then true
+PressStops before now may may_then must must_then e = MaybeCalled before now may may_then must must_then
+
+-- of what is done by this act, or refused
+abbrev pub PressTold : {A : Type 0} → ℕ → ℕ → (ℕ → Type 0) → (ℕ → Type 0) → (ℕ → Type 0) → (ℕ → Type 0) → Result A WriteError → (A → ActionKind) → Type 0
+PressTold before now may may_then must must_then (Ok x) act = CalledTimes before now may may_then must must_then (call_action (act x))
+PressTold before now may may_then must must_then (Err e) act = PressStops before now may may_then must must_then e

@@ -5,9 +5,9 @@ use Rattle.vx_sink.specs.declared.context.LayoutWriterContext.{LayoutWriterConte
 use Rattle.vx_sink.specs.ContextView.{listed, allowed_in, is_marked, counted}
 use Rattle.vx_machine_nodes.specs.declared.grouped_node.GroupedNode.{GroupedNode}
 use Rattle.vx_machine_nodes.specs.declared.item.Due.{Due}
-use Rattle.vx_machine_nodes.specs.declared.item.Due.TheVariants.{Put, HandOn, Append, Close, Join}
+use Rattle.vx_machine_nodes.specs.declared.item.Due.TheVariants.{Put, HandOn, Append, Close, Join, Table, Leave, Press, Ask, OpenRun, EndRun}
 use Rattle.vx_machine_nodes.specs.declared.node.Local.{Local}
-use Rattle.vx_machine_nodes.specs.declared.node.Local.TheVariants.{Empty, Full, Chunked, Columns, Lists, Grouped, Over, Passing, Made}
+use Rattle.vx_machine_nodes.specs.declared.node.Local.TheVariants.{Empty, Full, Chunked, Columns, Lists, Grouped, Over, Passing, Made, Zoned, Pressing, AsIs, Probe, Asking, Runs}
 use Rattle.vx_machine_nodes.specs.Sizes.{sum_of}
 
 -- ---- how much is reserved
@@ -19,9 +19,15 @@ some_bytes (Some n) = n
 abbrev pub due_reserved : Due → ℕ
 due_reserved (HandOn i r) = some_bytes r
 due_reserved (Put child i) = 0
+due_reserved (Press which i) = 0
 due_reserved (Append s) = 0
 due_reserved Close = 0
 due_reserved (Join h) = 0
+due_reserved (Table t) = 0
+due_reserved (Leave e) = 0
+due_reserved (Ask p) = 0
+due_reserved (OpenRun r i) = 0
+due_reserved (EndRun child i) = 0
 
 abbrev pub dues_reserved : List Due → ℕ
 dues_reserved ds = sum_of (map due_reserved ds)
@@ -36,6 +42,12 @@ local_reserved (Full s) = 0
 local_reserved (Chunked n eof rows) = 0
 local_reserved (Columns n rows) = 0
 local_reserved (Lists n rows) = 0
+local_reserved (Zoned n) = 0
+local_reserved (Pressing which) = 0
+local_reserved AsIs = 0
+local_reserved (Probe n eof) = 0
+local_reserved Asking = 0
+local_reserved (Runs r) = 0
 local_reserved Over = 0
 local_reserved Passing = 0
 local_reserved (Made l) = 0

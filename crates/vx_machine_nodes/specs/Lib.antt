@@ -1,5 +1,6 @@
 pub mod Stocks
 pub mod Sizes
+pub mod RunPaths
 pub mod Regrouped
 pub mod Ledger
 pub mod Causes
@@ -7,5 +8,6 @@ pub mod Calls
 pub mod View
 pub mod Context
 pub mod Outcome
+pub mod Runs
 pub mod Acting
 pub mod Fresh

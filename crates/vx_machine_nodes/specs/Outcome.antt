@@ -2,12 +2,12 @@
 use Rattle.std.specs.Prelude.{◌≡◌, ◌⊎◌, ℕ, ◌^◌, ◌<◌, ◌≤◌, Bool, true, List, Option, Some}
 use Rattle.vx_path.specs.Lists.{In, Each}
 use Rattle.vx_tasks.specs.Task.{Kind, Free, Take, TakeEnd, Put, Append, Join, Batch, End, Call, Close}
-use Rattle.vx_plan.specs.PlanData.{Pair, What, not_struct, duplicate_field, many_chunks, empty_list, forbidden_encoding}
+use Rattle.vx_plan.specs.PlanData.{Pair, What, not_struct, duplicate_field, many_chunks, empty_list, forbidden_encoding, zone_cut, forbidden_aggregate}
 use Rattle.vx_order.specs.Outlet.{Outlet, own, shared}
 use Rattle.vx_write_answer.specs.declared.step.ActionKind.{ActionKind}
 use Rattle.vx_write_answer.specs.declared.step.ActionKind.TheVariants as actions
 use Rattle.vx_write_answer.specs.declared.error.WriteError.{WriteError}
-use Rattle.vx_write_answer.specs.declared.error.WriteError.TheVariants.{SourceFault, SinkFault, CompressFault, BatchType, NotStruct, DuplicateField, ManyChunks, EmptyList, ZoneCut, ForbiddenAggregate, ForbiddenEncoding, TooLarge, OutOfMemory, Unbuilt, Stopped}
+use Rattle.vx_write_answer.specs.declared.error.WriteError.TheVariants.{SourceFault, SinkFault, CompressFault, BatchType, NotStruct, DuplicateField, ManyChunks, EmptyList, ZoneCut, ForbiddenAggregate, ForbiddenEncoding, TooLarge, OutOfMemory, Stopped}
 
 -- a kind's name in a trace: a take of the end is a take
 abbrev pub action_of : Kind → ActionKind
@@ -46,18 +46,17 @@ Appending wrote = (x : Pair) × In x wrote
 abbrev pub Refused : Option What → Bool → List ℕ → List ℕ → List Pair → (ℕ → Type 0) → Type 0 → List ℕ → WriteError → Type 0
 Refused refusal misfit numbers indices wrote past stopped joined SourceFault = Unit {0}
 Refused refusal misfit numbers indices wrote past stopped joined SinkFault = Appending wrote
-Refused refusal misfit numbers indices wrote past stopped joined CompressFault = ⊥
+Refused refusal misfit numbers indices wrote past stopped joined CompressFault = Unit {0}
 Refused refusal misfit numbers indices wrote past stopped joined (BatchType c) = misfit ≡ true
 Refused refusal misfit numbers indices wrote past stopped joined NotStruct = refusal ≡ Some not_struct
 Refused refusal misfit numbers indices wrote past stopped joined (DuplicateField name) = refusal ≡ Some (duplicate_field name)
 Refused refusal misfit numbers indices wrote past stopped joined ManyChunks = refusal ≡ Some many_chunks
 Refused refusal misfit numbers indices wrote past stopped joined EmptyList = refusal ≡ Some empty_list
-Refused refusal misfit numbers indices wrote past stopped joined (ZoneCut n) = ⊥
-Refused refusal misfit numbers indices wrote past stopped joined (ForbiddenAggregate id) = ⊥
+Refused refusal misfit numbers indices wrote past stopped joined (ZoneCut n) = refusal ≡ Some (zone_cut n)
+Refused refusal misfit numbers indices wrote past stopped joined (ForbiddenAggregate id) = refusal ≡ Some (forbidden_aggregate id)
 Refused refusal misfit numbers indices wrote past stopped joined (ForbiddenEncoding id) = refusal ≡ Some (forbidden_encoding id)
 Refused refusal misfit numbers indices wrote past stopped joined (TooLarge n) = Past numbers indices n ⊎ (Appending wrote × past n) ⊎ (In n joined × (2 ^ 64 ≤ n))
 Refused refusal misfit numbers indices wrote past stopped joined OutOfMemory = Unit {0}
-Refused refusal misfit numbers indices wrote past stopped joined Unbuilt = ⊥
 Refused refusal misfit numbers indices wrote past stopped joined (Stopped by name) = Appending wrote × stopped
 
 -- of what appends nothing

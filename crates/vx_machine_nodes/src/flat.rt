@@ -17,7 +17,7 @@ ghost use Rattle.vx_machine_turns.specs.Flat.{forbidden};
 ghost use Rattle.vx_machine_view.specs.State.{Next, Tasks};
 ghost use Rattle.vx_machine_nodes.specs.Acting.{IsAppended, AppendRefused, tree_kept, IsStored, WordRefused, first_word, is_flat, ChunkTaken, ChunkRefused};
 ghost use Rattle.vx_machine_nodes.specs.Calls.{AppendTold};
-ghost use Rattle.vx_machine_nodes.specs.Causes.{MayCome, ActMay};
+ghost use Rattle.vx_machine_nodes.specs.Causes.{MayCome, AppendMay};
 ghost use Rattle.vx_machine_nodes.specs.Ledger.{Paid, told_by, local_reserved};
 ghost use Rattle.vx_machine_nodes.specs.Outcome.{Kept};
 ghost use Rattle.vx_machine_nodes.specs.Stocks.{item_stock, local_stock, stored_stock};
@@ -154,7 +154,7 @@ fn write<O: Order>(order: &mut O, id: SequenceId, bytes: &[u8]) -> Result<u32, W
     ensures kept { OnErr result (Kept (O.outlet order.old) (O.outlet order.new)) }
     ensures told { AppendTold (O.Sink.faults (O.sink order.old)) (O.Sink.faults (O.sink order.new)) (O.Sink.may_fail (O.sink order.old)) (O.Sink.may_fail (O.sink order.new))
         (O.Sink.must_fail (O.sink order.old)) (O.Sink.must_fail (O.sink order.new)) result }
-    ensures cause { IfErr result ActMay }
+    ensures cause { IfErr result AppendMay }
 {
     match order.try_write(id, bytes) {
         Ok(Attempt::Written(receipt)) => Ok(receipt.number),
@@ -208,7 +208,7 @@ pub fn append<O: Order>(
     ensures kept { OnErr result (Kept (O.outlet order.old) (O.outlet order.new)) }
     ensures told { AppendTold (O.Sink.faults (O.sink order.old)) (O.Sink.faults (O.sink order.new)) (O.Sink.may_fail (O.sink order.old)) (O.Sink.may_fail (O.sink order.new))
         (O.Sink.must_fail (O.sink order.old)) (O.Sink.must_fail (O.sink order.new)) result }
-    ensures cause { IfErr result ActMay }
+    ensures cause { IfErr result AppendMay }
 {
     let Stored { id, segment } = stored;
     match layout_parts(ctx, &segment.dtype) {

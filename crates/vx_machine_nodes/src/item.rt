@@ -7,14 +7,18 @@ ghost use Rattle.vx_sink.specs.ContextView.{counted};
 ghost use Rattle.vx_machine_nodes.specs.Ledger.{Paid, told_by, some_bytes, due_reserved, dues_reserved};
 ghost use Rattle.vx_machine_nodes.specs.Stocks.{item_stock, items_stock, stored_stock, due_stock, dues_stock};
 
+use crate::dict::{give_up_probe, give_up_run};
+use crate::dict_node::{DictProbe, RunStart};
 use crate::node::Shape;
+use crate::zoned::give_up_table;
+use crate::zoned_node::TableStart;
 use std::collections::VecDeque;
 use std::sync::Arc;
 use vx_chunk::Chunk;
-use vx_machine_ids::give_up_id;
+use vx_machine_ids::{give_up_id, give_up_pointer};
 use vx_model::{Blob, DType};
 use vx_order::Order;
-use vx_sequence::SequenceId;
+use vx_sequence::{SequenceId, SequencePointer};
 use vx_sink::{BufferedBytesReservation, LayoutWriterContext};
 
 /// A chunk, and the place of what is written of it.
@@ -50,10 +54,31 @@ pub enum Due {
         item: Item,
         reservation: Option<BufferedBytesReservation>,
     },
+    /// It calls the compressor under the number for the item's chunk; the image is then handed on in its place.
+    Press {
+        which: u32,
+        item: Item,
+    },
     Append(Stored),
     /// Closes the queues of all children.
     Close,
     Join(Shape),
+    /// Once the data child has done all: starts the child of a zone table.
+    Table(TableStart),
+    /// Once the only child has done all: gives the pointer up.
+    Leave(SequencePointer),
+    /// It calls the compressor for a dictionary node's first chunk, and goes on by the image.
+    Ask(DictProbe),
+    /// It starts codes and values of a run, and puts the first codes on their queue.
+    OpenRun {
+        run: RunStart,
+        item: Item,
+    },
+    /// On the queue of the child behind this one, a run's values; then the queues of both are closed.
+    EndRun {
+        child: usize,
+        item: Item,
+    },
 }
 
 /// Gives up its id.
@@ -107,9 +132,18 @@ pub(crate) fn give_up_due<O: Order>(ctx: &mut LayoutWriterContext, order: &mut O
             release(ctx, reservation);
             give_up_item(order, item);
         }
+        Due::Press { which: _, item } => give_up_item(order, item),
         Due::Append(stored) => give_up_stored(order, stored),
         Due::Close => {}
         Due::Join(shape) => drop(shape),
+        Due::Table(table) => give_up_table(order, table),
+        Due::Leave(eof) => give_up_pointer(order, eof),
+        Due::Ask(probe) => give_up_probe(order, probe),
+        Due::OpenRun { run, item } => {
+            give_up_run(order, run);
+            give_up_item(order, item);
+        }
+        Due::EndRun { child: _, item } => give_up_item(order, item),
     }
 }
 

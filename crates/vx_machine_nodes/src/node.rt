@@ -7,10 +7,14 @@ ghost use Rattle.vx_sink.specs.ContextView.{counted};
 ghost use Rattle.vx_machine_nodes.specs.Ledger.{Paid, told_by, local_reserved};
 ghost use Rattle.vx_machine_nodes.specs.Stocks.{local_stock};
 
+use crate::dict::give_up_runs;
+use crate::dict_node::{DictNode, DictRuns};
 use crate::grouped::give_up_grouped;
 use crate::grouped_node::GroupedNode;
 use crate::item::{Stored, give_up_stored};
 use crate::kinds::{ChunkedNode, ColumnsNode, FlatNode, ListsNode};
+use crate::zoned::give_up_zoned;
+use crate::zoned_node::{ZonedNode, Zones};
 use std::sync::Arc;
 use vx_layout_tree::Layout;
 use vx_machine_ids::give_up_pointer;
@@ -31,6 +35,16 @@ pub enum Local {
     /// With the rows so far.
     Lists(ListsNode, u64),
     Grouped(GroupedNode),
+    Zoned(ZonedNode),
+    /// A compressing node's: the compressor's number.
+    Pressing(u32),
+    /// It hands on each chunk as it is.
+    AsIs,
+    /// A dictionary node's: no chunk came; with its pointer.
+    Probe(Arc<DictNode>, SequencePointer),
+    /// The compressor is called for its first chunk.
+    Asking,
+    Runs(DictRuns),
     /// It has seen the end of its stream.
     Over,
     /// So it has, and its layout is its only child's.
@@ -47,6 +61,9 @@ pub enum Shape {
     Columns(ColumnsNode, u64),
     /// With the rows.
     Lists(ListsNode, u64),
+    Zones(Zones),
+    /// Of a dictionary node, with the rows of each run.
+    Runs(Arc<DictNode>, Vec<u64>),
 }
 
 /// Gives up its id or pointer, and what it has reserved.
@@ -69,6 +86,15 @@ pub fn give_up_local<O: Order>(ctx: &mut LayoutWriterContext, order: &mut O, loc
         Local::Columns(node, _) => drop(node),
         Local::Lists(node, _) => drop(node),
         Local::Grouped(node) => give_up_grouped(ctx, order, node),
+        Local::Zoned(node) => give_up_zoned(order, node),
+        Local::Pressing(_) => {}
+        Local::AsIs => {}
+        Local::Probe(node, eof) => {
+            drop(node);
+            give_up_pointer(order, eof);
+        }
+        Local::Asking => {}
+        Local::Runs(runs) => give_up_runs(order, runs),
         Local::Over => {}
         Local::Passing => {}
         Local::Made(layout) => drop(layout),

@@ -5,18 +5,25 @@ ghost use Rattle.std.specs.Arc.{arc_value};
 ghost use Rattle.vx_model.specs.Ty.{is_list};
 ghost use Rattle.vx_model.specs.TyView.{ty};
 ghost use Rattle.vx_chunk_cells.specs.Parts.{element_type, struct_fields};
+ghost use Rattle.vx_model.specs.ChunkData.{is_dict_type};
+ghost use Rattle.vx_path.specs.Path.{Eof};
 ghost use Rattle.vx_split.specs.ListState.{state_at};
+ghost use Rattle.vx_strategy.specs.NodeViews.{dict_way};
 ghost use Rattle.vx_strategy_spec.specs.Walk.{duplicate};
+ghost use Rattle.vx_machine_view.specs.Start.{first_mind};
 ghost use Rattle.vx_machine_view.specs.Built.{is_built};
 ghost use Rattle.vx_machine_nodes.specs.Causes.{StartMay};
 ghost use Rattle.vx_machine_nodes.specs.Fresh.{NodeRefused};
+ghost use Rattle.vx_machine_nodes.specs.View.{form_at, mind_of};
+ghost use Rattle.vx_machine_nodes.specs.declared.node.Local.TheVariants.{Probe};
 
+use crate::dict_node::DictNode;
 use crate::kinds::{ChunkedNode, ColumnsNode, ListsNode};
 use std::alloc::{AllocError, Global};
 use std::sync::Arc;
 use vx_model::DType;
 use vx_split::{ColumnSplit, ListSplit};
-use vx_strategy::ChunkedLayoutStrategy;
+use vx_strategy::{ChildStrategy, ChunkedLayoutStrategy, DictStrategy};
 use vx_write_answer::WriteError;
 
 /// With the child's strategy copied.
@@ -91,4 +98,48 @@ pub fn element_copy(dtype: &DType) -> Result<DType, AllocError>
         DType::Bool(_) | DType::Primitive(..) | DType::Utf8(_) | DType::Binary(_) => unreachable!(),
         DType::Struct(..) | DType::Extension(_) => unreachable!(),
     }
+}
+
+/// Of a type that dictionaries can hold, with the strategies copied.
+pub fn runs_node(
+    alloc: Global,
+    by: &DictStrategy,
+    dtype: Arc<DType>,
+    marked: bool,
+) -> Result<Arc<DictNode>, WriteError>
+    requires dict { IsTrue (is_dict_type (ty (arc_value dtype))) }
+    requires built { IsTrue (is_built (dict_way by.now)) }
+    ensures mind { IfOk result (λ n. (e : Eof) → mind_of (Probe n e) ≡ first_mind (form_at (dict_way by.now) (ty (arc_value dtype))) marked e) }
+    ensures memory { IfErr result (λ e. e ≡ WriteError.OutOfMemory) }
+{
+    match dict_children(by) {
+        Ok((codes, values, fallback)) => {
+            let node = DictNode {
+                dtype,
+                marked,
+                constraints: by.constraints(),
+                probe: by.probe(),
+                codes,
+                values,
+                fallback,
+            };
+            Ok(Arc::new(alloc, node)?)
+        }
+        Err(_) => {
+            drop(dtype);
+            Err(WriteError::OutOfMemory)
+        }
+    }
+}
+
+/// Codes, values and fallback.
+fn dict_children(
+    by: &DictStrategy,
+) -> Result<(ChildStrategy, ChildStrategy, ChildStrategy), AllocError>
+    ensures { IfOk result (λ r. (r.0 ≡ by.now.codes) × (r.1 ≡ by.now.values) × (r.2 ≡ by.now.fallback)) }
+{
+    let codes = by.codes().clone()?;
+    let values = by.values().clone()?;
+    let fallback = by.fallback().clone()?;
+    Ok((codes, values, fallback))
 }

@@ -8,7 +8,7 @@ use Rattle.vx_path.specs.Path.{root_eof}
 use Rattle.vx_tasks.specs.Run.{work}
 use Rattle.vx_layout_tree.specs.declared.layout.Layout.{Layout}
 use Rattle.vx_strategy_spec.specs.StrategyData.{StrategyData}
-use Rattle.vx_plan.specs.PlanData.{Setting, Plan, What, not_struct, duplicate_field}
+use Rattle.vx_plan.specs.PlanData.{Setting, Plan, What, not_struct, duplicate_field, forbidden_aggregate}
 use Rattle.vx_plan.specs.Number.{segments}
 use Rattle.vx_plan.specs.SourcePlan.{start_fault, batch_items, of_schema, source_plan, taken_plan}
 use Rattle.vx_plan.specs.Statements.{StartFaultStands}
@@ -17,12 +17,12 @@ use Rattle.vx_machine_turns.specs.Starts.{start_fault as form_fault}
 use Rattle.vx_machine_turns.specs.Planned.{StartFaultsAgree}
 use Rattle.vx_order.specs.Outlet.{Outlet, own, shared, borrow_of}
 use Rattle.vx_sink.specs.declared.context.LayoutWriterContext.{LayoutWriterContext}
-use Rattle.vx_sink.specs.ContextView.{is_marked, counted}
+use Rattle.vx_sink.specs.ContextView.{allowed_in, is_marked, counted}
 use Rattle.vx_write_answer.specs.declared.step.Step.{Step}
 use Rattle.vx_write_answer.specs.declared.error.WriteError.{WriteError}
-use Rattle.vx_write_answer.specs.declared.error.WriteError.TheVariants.{SourceFault, SinkFault, CompressFault, BatchType, NotStruct, DuplicateField, ManyChunks, EmptyList, ZoneCut, ForbiddenAggregate, ForbiddenEncoding, TooLarge, OutOfMemory, Unbuilt, Stopped}
+use Rattle.vx_write_answer.specs.declared.error.WriteError.TheVariants.{SourceFault, SinkFault, CompressFault, BatchType, NotStruct, DuplicateField, ManyChunks, EmptyList, ZoneCut, ForbiddenAggregate, ForbiddenEncoding, TooLarge, OutOfMemory, Stopped}
 use Rattle.vx_machine_promises.specs.Write.{Write, Future, Open, planned}
-use Rattle.vx_machine_view.specs.Built.{is_built}
+use Rattle.vx_machine_view.specs.Images.{Careful}
 use Rattle.vx_machine_runs.specs.Runs.{scheduled}
 use Rattle.vx_machine_runs.specs.Steps.{StartIsCaused}
 use Rattle.vx_machine_runs.specs.Tracked.{TrackerComesWithin}
@@ -33,8 +33,8 @@ use Rattle.vx_machine.specs.Calls.{appends_in, misfits}
 use Rattle.vx_machine.specs.Context.{setting_of}
 use Rattle.vx_machine.specs.Outcome.{Kept}
 use Rattle.vx_machine.specs.TaskStarting.{FormRefused}
-use Rattle.vx_machine.specs.Starting.{WholeRefused}
 use Rattle.vx_machine.specs.TaskView.{form_at}
+use Rattle.vx_machine.proofs.BuiltSteps.{all_built}
 use Rattle.vx_machine_ran.specs.Ran.{write_by, OwnSink, own_sink}
 use Rattle.vx_machine_ran.specs.RefusedAct.{StartRefuses}
 use Rattle.vx_machine_ran.specs.Traced.{tasks_of}
@@ -42,6 +42,7 @@ use Rattle.vx_machine_ran.specs.Runs.{AllDone, DoneIsWritten, Halts, StoppedHalt
 use Rattle.vx_machine_ran.specs.Tracking.{Passes, PassesAt}
 use Rattle.vx_machine_ran.specs.Written.{AreFirst, NeedsNumber, HasCause, write_of, Halted}
 use Rattle.vx_machine_ran.specs.Answered.{IsStarted, HasRun, HasStopped, WroteAll, AnswersAreWritten, AnswersLeaveSinks, IsOutside, AnswersAreComplete}
+use Rattle.vx_machine_ran.proofs.Imaging.{keeps_careful}
 use Rattle.vx_machine_ran.proofs.Leading.{told_same, then_same}
 use Rattle.vx_machine_ran.proofs.Writing.{own_more}
 use Rattle.vx_machine_ran.proofs.Stopping.{kept_own}
@@ -66,7 +67,7 @@ module _ (faults : StartFaultStands) (agree : StartFaultsAgree) (counts : StartI
 
   -- no batch was read, whatever comes, this is the cause, and the start's own
   abbrev Cause : WriteError → Type 0
-  Cause e = (misfits e ≡ 0) × ((f : Future) → HasCause t (is_built w ≡ false) (Passes g [] f []) (planned g [] f) [] first 0 e) × StartRefuses s w t m e
+  Cause e = (misfits e ≡ 0) × ((f : Future) → HasCause t (Passes g [] f []) (planned g [] f) [] first 0 e) × StartRefuses s w t m e
 
   -- nothing stands
   none_stands : (schedule : List ℕ) (e : WriteError) → Cause e → Halts g first first to_come to_come before before schedule [] e
@@ -82,36 +83,35 @@ module _ (faults : StartFaultStands) (agree : StartFaultsAgree) (counts : StartI
     refused = inl (c.2, refl, refl);
   }
 
-  starts_with : (x : What) → ((z : Setting) → form_fault z (form_at w t) m ≡ Some x) → start_fault s w t m ≡ Some x
-  starts_with x h = sym (agree s w t m) ∙ h s
+  -- a form is refused so, where these may be recorded
+  abbrev Faulty : What → Type 0
+  Faulty x = (z : Setting) → z.allowed ≡ allowed_in ctx → form_fault z (form_at w t) m ≡ Some x
 
-  fault_stands : (x : What) (f : Future) → ((z : Setting) → form_fault z (form_at w t) m ≡ Some x) → Has x (planned g [] f).faults
+  starts_with : (x : What) → Faulty x → start_fault s w t m ≡ Some x
+  starts_with x h = sym (agree s w t m) ∙ h s refl
+
+  fault_stands : (x : What) (f : Future) → Faulty x → Has x (planned g [] f).faults
   fault_stands x f h = faults s w t m x (starts_with x h) (batch_items 0 f.later) f.fits root_eof
 
-  form_cause : is_built w ≡ true → (e : WriteError) → FormRefused (form_at w t) m root_eof e → Cause e
-  form_cause b NotStruct h = (refl, λ f. fault_stands not_struct f h, starts_with not_struct h)
-  form_cause b (DuplicateField name) h = (refl, λ f. fault_stands (duplicate_field name) f h, starts_with (duplicate_field name) h)
-  form_cause b (TooLarge n) h = (refl, λ f. inr (inl (subst (λ z. IsPast z (planned g [] f).numbers) (sym h.0) (counts g f h.1.0 b h.1.1 h.1.2))), h)
-  form_cause b OutOfMemory h = (refl, λ f. tt, tt)
-  form_cause b SourceFault h = absurd h
-  form_cause b SinkFault h = absurd h
-  form_cause b CompressFault h = absurd h
-  form_cause b (BatchType c) h = absurd h
-  form_cause b ManyChunks h = absurd h
-  form_cause b EmptyList h = absurd h
-  form_cause b (ZoneCut n) h = absurd h
-  form_cause b (ForbiddenAggregate id) h = absurd h
-  form_cause b (ForbiddenEncoding id) h = absurd h
-  form_cause b Unbuilt h = absurd h
-  form_cause b (Stopped by name) h = absurd h
+  form_cause : (e : WriteError) → FormRefused (allowed_in ctx) (form_at w t) m root_eof e → Cause e
+  form_cause NotStruct h = (refl, λ f. fault_stands not_struct f h, starts_with not_struct h)
+  form_cause (DuplicateField name) h = (refl, λ f. fault_stands (duplicate_field name) f h, starts_with (duplicate_field name) h)
+  form_cause (TooLarge n) h = (refl, λ f. inr (inl (subst (λ z. IsPast z (planned g [] f).numbers) (sym h.0) (counts g f h.1.0 (all_built w) h.1.1 h.1.2))), h)
+  form_cause OutOfMemory h = (refl, λ f. tt, tt)
+  form_cause SourceFault h = absurd h
+  form_cause SinkFault h = absurd h
+  form_cause CompressFault h = absurd h
+  form_cause (BatchType c) h = absurd h
+  form_cause ManyChunks h = absurd h
+  form_cause EmptyList h = absurd h
+  form_cause (ZoneCut n) h = absurd h
+  form_cause (ForbiddenAggregate id) h = (refl, λ f. fault_stands (forbidden_aggregate id) f h, starts_with (forbidden_aggregate id) h)
+  form_cause (ForbiddenEncoding id) h = absurd h
+  form_cause (Stopped by name) h = absurd h
 
-  start_cause : (e : WriteError) → (e ≡ OutOfMemory) ⊎ WholeRefused (is_built w) (form_at w t) m root_eof e → Cause e
+  start_cause : (e : WriteError) → (e ≡ OutOfMemory) ⊎ FormRefused (allowed_in ctx) (form_at w t) m root_eof e → Cause e
   start_cause e (inl is) = subst Cause (sym is) (refl, λ f. tt, tt)
-  start_cause e (inr h) = by (is_built w) refl h
-    where
-      by : (b : Bool) → is_built w ≡ b → WholeRefused b (form_at w t) m root_eof e → Cause e
-      by false is x = subst Cause (sym x) (refl, λ f. is, is)
-      by true is x = form_cause is e x
+  start_cause e (inr h) = form_cause e h
 
 -- ---- what the source told, and what it still tells
 
@@ -189,7 +189,7 @@ module _ (s : Setting) (w : StrategyData) (t : Ty) (m : Bool) (tracker first nex
     stand = h.stand;
     front = λ xs told. front_of_all by_itself first next to_come to_come_now before now schedule steps e h xs told;
     ended = h.ended;
-    cause = subst (λ z. HasCause t (is_built w ≡ false) (PassesAt by_itself (of_schema t h.stand.taken) h.heard steps) z h.stand.taken next (length h.stand.appended) e)
+    cause = subst (λ z. HasCause t (PassesAt by_itself (of_schema t h.stand.taken) h.heard steps) z h.stand.taken next (length h.stand.appended) e)
         (none_planned by_itself (of_schema t h.stand.taken) h.heard) (h.cause (none_later h.heard) (open_none h.heard));
     traced = h.traced;
     asked = h.asked;
@@ -199,12 +199,15 @@ module _ (s : Setting) (w : StrategyData) (t : Ty) (m : Bool) (tracker first nex
 module _ (done : DoneIsWritten) (stopped : StoppedHalts) (left : RunsLeaveSinks) (faults : StartFaultStands) (agree : StartFaultsAgree) (counts : StartIsCaused) (ctx : LayoutWriterContext)
     (image : ℕ → ChunkData → ChunkData) (w : StrategyData) (t : Ty) (schedule : List ℕ) (to_come to_come_now : Option (List ChunkData)) (borrow first : ℕ) (before : Option (List (List ℕ)))
     (steps : List Step) (after : Outlet) (keeps : Keeps (setting_of ctx image)) where
-  none_starts : IsStarted w t (is_marked ctx) → start_fault (setting_of ctx image) w t (is_marked ctx) ≡ None
-  none_starts a = sym (agree (setting_of ctx image) w t (is_marked ctx)) ∙ a.allowed (setting_of ctx image)
+  law : Careful (setting_of ctx image)
+  law = keeps_careful ctx image keeps
 
-  done_answer : length steps < 2 ^ 64 → (l : Option Layout) → HasRun ctx w t schedule to_come (own_sink borrow first before) steps to_come_now after l
+  none_starts : IsStarted (allowed_in ctx) w t (is_marked ctx) → start_fault (setting_of ctx image) w t (is_marked ctx) ≡ None
+  none_starts a = sym (agree (setting_of ctx image) w t (is_marked ctx)) ∙ a.allowed (setting_of ctx image) refl
+
+  done_answer : length steps < 2 ^ 64 → (l : Option Layout) → HasRun ctx image w t schedule to_come (own_sink borrow first before) steps to_come_now after l
       → OwnSink after (λ next now. WroteAll (setting_of ctx image) w t (is_marked ctx) first next to_come to_come_now before now schedule steps l)
-  done_answer short l (a, r) = by (done ctx image w t schedule to_come to_come_now borrow first before steps after l keeps a.built (none_starts a) a.counted short r)
+  done_answer short l (a, r) = by (done ctx image w t schedule to_come to_come_now borrow first before steps after l keeps (none_starts a) a.counted short r)
     where
       by : (layout : Layout) × (l ≡ Some layout) × NoneTold to_come_now × AllDone (write_by ctx image w t) to_come schedule first before steps after layout
           → OwnSink after (λ next now. WroteAll (setting_of ctx image) w t (is_marked ctx) first next to_come to_come_now before now schedule steps l)
@@ -212,13 +215,13 @@ module _ (done : DoneIsWritten) (stopped : StoppedHalts) (left : RunsLeaveSinks)
           subst (λ z. OwnSink after (λ next now. WroteAll (setting_of ctx image) w t (is_marked ctx) first next to_come to_come_now before now schedule steps z)) (sym is)
           (own_more after _ (λ next now. WroteAll (setting_of ctx image) w t (is_marked ctx) first next to_come to_come_now before now schedule steps (Some layout)) h (λ next now p. (ended, p, traced)))
 
-  stopped_answer : (e : WriteError) → HasStopped ctx w t schedule to_come (own_sink borrow first before) steps to_come_now after e
+  stopped_answer : (e : WriteError) → HasStopped ctx image w t schedule to_come (own_sink borrow first before) steps to_come_now after e
       → OwnSink after (λ next now. Halts (write_by ctx image w t) first next to_come to_come_now before now schedule steps e)
   stopped_answer e (inl u) = kept_own (own_sink borrow first before) after (λ next now. Halts (write_by ctx image w t) first next to_come to_come_now before now schedule steps e) u.kept
       (subst (λ z. Halts (write_by ctx image w t) first first to_come z before before schedule steps e) (sym u.told)
       (subst (λ z. Halts (write_by ctx image w t) first first to_come to_come before before schedule z e) (sym u.none)
       (none_stands faults agree counts ctx image w t to_come first before schedule e (start_cause faults agree counts ctx image w t to_come first before e u.cause))))
-  stopped_answer e (inr (a, r)) = stopped ctx image w t schedule to_come to_come_now borrow first before steps after e keeps.codec a.built (none_starts a) r
+  stopped_answer e (inr (a, r)) = stopped ctx image w t schedule to_come to_come_now borrow first before steps after e law (none_starts a) r
 
   -- ---- what is left of the sink
 
@@ -236,12 +239,12 @@ module _ (done : DoneIsWritten) (stopped : StoppedHalts) (left : RunsLeaveSinks)
   none_left : steps ≡ [] → IsLeft borrow first steps (own_sink borrow first before)
   none_left e = subst (λ z. IsLeft borrow first z (own_sink borrow first before)) (sym e) ((omega arith, omega arith), refl)
 
-  done_left : (l : Option Layout) → HasRun ctx w t schedule to_come (own_sink borrow first before) steps to_come_now after l → IsLeft borrow first steps after
-  done_left l (a, r) = subst (λ z. IsLeft borrow first steps z) (sym r.sink) (left ctx image w t schedule to_come borrow first before steps r.end keeps.codec a.built (none_starts a) r.ran)
+  done_left : (l : Option Layout) → HasRun ctx image w t schedule to_come (own_sink borrow first before) steps to_come_now after l → IsLeft borrow first steps after
+  done_left l (a, r) = subst (λ z. IsLeft borrow first steps z) (sym r.sink) (left ctx image w t schedule to_come borrow first before steps r.end law (none_starts a) r.ran)
 
-  stopped_left : (e : WriteError) → HasStopped ctx w t schedule to_come (own_sink borrow first before) steps to_come_now after e → IsLeft borrow first steps after
+  stopped_left : (e : WriteError) → HasStopped ctx image w t schedule to_come (own_sink borrow first before) steps to_come_now after e → IsLeft borrow first steps after
   stopped_left e (inl u) = kept_left (own_sink borrow first before) u.kept (none_left u.none)
-  stopped_left e (inr (a, r)) = kept_left r.end.outlet r.kept (left ctx image w t schedule to_come borrow first before steps r.end keeps.codec a.built (none_starts a) r.ran)
+  stopped_left e (inr (a, r)) = kept_left r.end.outlet r.kept (left ctx image w t schedule to_come borrow first before steps r.end law (none_starts a) r.ran)
 
 -- ---- of valid input
 
@@ -253,7 +256,7 @@ last_of_schema : (t : Ty) (front : List ChunkData) (b : ChunkData) → OfSchema 
 last_of_schema t [] b h = h.0
 last_of_schema t (x ∷ front) b h = last_of_schema t front b h.1
 
-module _ (t : Ty) (unbuilt : Type 0) (never : unbuilt → ⊥) (passes : ℕ → Type 0) (below : (n : ℕ) → passes n → n < 2 ^ 64) (past : (n : ℕ) → passes n → 2 ^ 64 ≤ n) (p : Plan) (taken : List ChunkData) (first next stand : ℕ) (clean : p.faults ≡ []) (typed : OfSchema t taken)
+module _ (t : Ty) (passes : ℕ → Type 0) (below : (n : ℕ) → passes n → n < 2 ^ 64) (past : (n : ℕ) → passes n → 2 ^ 64 ≤ n) (p : Plan) (taken : List ChunkData) (first next stand : ℕ) (clean : p.faults ≡ []) (typed : OfSchema t taken)
     (numbered : first + length p.pairs ≤ 2 ^ 32) (fit : Fit p.numbers) (stands : next ≡ first + stand) where
   number_fits : (n : ℕ) → NeedsNumber p next stand n ⊎ IsPast n p.numbers ⊎ passes n → ⊥
   number_fits n (inl (is, big, more)) = omega (arith, is, big, more, stands, numbered)
@@ -261,25 +264,24 @@ module _ (t : Ty) (unbuilt : Type 0) (never : unbuilt → ⊥) (passes : ℕ →
   number_fits n (inr (inl (big, inr (is, (k, i, far))))) = let l : k < 2 ^ 64 = fits k p.numbers fit i in omega (arith, l, far)
   number_fits n (inr (inr h)) = let l : n < 2 ^ 64 = below n h in let b : 2 ^ 64 ≤ n = past n h in omega (arith, l, b)
 
-  only_outside : (e : WriteError) → HasCause t unbuilt passes p taken next stand e → IsOutside e
+  only_outside : (e : WriteError) → HasCause t passes p taken next stand e → IsOutside e
   only_outside OutOfMemory h = inl refl
   only_outside SourceFault h = inr (inl refl)
-  only_outside SinkFault h = inr (inr refl)
+  only_outside SinkFault h = inr (inr (inl refl))
   only_outside (BatchType c) h = absurd (h.0 (last_of_schema t h.1.0 c (subst (λ z. OfSchema t z) h.1.1 typed)))
   only_outside NotStruct h = absurd (none_has _ p.faults clean h)
   only_outside (DuplicateField name) h = absurd (none_has _ p.faults clean h)
   only_outside ManyChunks h = absurd (none_has _ p.faults clean h)
   only_outside (ForbiddenEncoding id) h = absurd (none_has _ p.faults clean h)
   only_outside (TooLarge n) h = absurd (number_fits n h)
-  only_outside Unbuilt h = absurd (never h)
-  only_outside CompressFault h = absurd h
+  only_outside CompressFault h = inr (inr (inr refl))
   only_outside EmptyList h = absurd (none_has _ p.faults clean h)
-  only_outside (ZoneCut n) h = absurd h
-  only_outside (ForbiddenAggregate id) h = absurd h
+  only_outside (ZoneCut n) h = absurd (none_has _ p.faults clean h)
+  only_outside (ForbiddenAggregate id) h = absurd (none_has _ p.faults clean h)
   only_outside (Stopped by name) h = absurd h
 
 module _ (g : Write) (first next : ℕ) (to_come to_come_now : Option (List ChunkData)) (before now : Option (List (List ℕ))) (schedule : List ℕ) (steps : List Step) (e : WriteError)
-    (h : Halts g first next to_come to_come_now before now schedule steps e) (xs : List ChunkData) (told : to_come ≡ Some xs) (built : is_built g.way ≡ true)
+    (h : Halts g first next to_come to_come_now before now schedule steps e) (xs : List ChunkData) (told : to_come ≡ Some xs)
     (valid : Valid g.setting g.way g.type g.mark first g.tracker xs) (within : TrackerComesWithin) where
   abbrev p : Plan
   p = source_plan g.setting g.way g.type g.mark xs true
@@ -304,9 +306,9 @@ module _ (g : Write) (first next : ℕ) (to_come to_come_now : Option (List Chun
 
     by_rest : IsOutside e
     by_rest =
-        only_outside g.type (is_built g.way ≡ false) (λ i. true≢false (sym built ∙ i)) Past below past p h.stand.taken first next (length h.stand.appended) valid.faultless
+        only_outside g.type Past below past p h.stand.taken first next (length h.stand.appended) valid.faultless
         (front_of_schema g.type h.stand.taken rest (subst (λ z. OfSchema g.type z) is valid.of_schema)) valid.numbered valid.fit h.stand.numbers e
-        (subst (λ z. HasCause g.type (is_built g.way ≡ false) Past z h.stand.taken next (length h.stand.appended) e) plan_is
+        (subst (λ z. HasCause g.type Past z h.stand.taken next (length h.stand.appended) e) plan_is
         (h.cause (all_left rest) (still_open g first next to_come to_come_now before now schedule steps e h xs rest left is)))
 
   pub valid_outside : IsOutside e
@@ -332,6 +334,6 @@ answers_leave_sinks done stopped left faults agree counts ctx image w t schedule
     stopped_left done stopped left faults agree counts ctx image w t schedule to_come to_come_now borrow first before steps after keeps e h
 
 pub answers_are_complete : DoneIsWritten → StoppedHalts → RunsLeaveSinks → StartFaultStands → StartFaultsAgree → StartIsCaused → TrackerComesWithin → AnswersAreComplete
-answers_are_complete done stopped left faults agree counts within ctx image w t schedule to_come to_come_now borrow first before steps after e keeps h xs told built valid =
+answers_are_complete done stopped left faults agree counts within ctx image w t schedule to_come to_come_now borrow first before steps after e keeps h xs told valid =
     own_any after _ (IsOutside e) (stopped_answer done stopped left faults agree counts ctx image w t schedule to_come to_come_now borrow first before steps after keeps e h)
-    (λ next now p. valid_outside (write_by ctx image w t) first next to_come to_come_now before now schedule steps e p xs told built valid within)
+    (λ next now p. valid_outside (write_by ctx image w t) first next to_come to_come_now before now schedule steps e p xs told valid within)

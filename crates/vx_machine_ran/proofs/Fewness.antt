@@ -3,13 +3,18 @@ use Rattle.std.proofs.Common.{◌≡◌, ◌⊎◌, ◌&&◌, ◌==◌, ◌∷�
 use Rattle.vx_model.specs.Ty.{Ty, list, ty_eq}
 use Rattle.vx_model.specs.ChunkData.{piece_type}
 use Rattle.vx_path.specs.Lists.{In}
+use Rattle.vx_path.specs.Path.{Eof}
 use Rattle.vx_path.proofs.Lists.{in_cases, from_map}
+use Rattle.vx_zone_spec.specs.ZoneTable.{Filled, kept_columns}
 use Rattle.vx_tasks.specs.Run.{nth}
 use Rattle.vx_plan.specs.PlanData.{Setting, Item, Pair, What}
+use Rattle.vx_plan.specs.DictNode.{is_dictionary}
 use Rattle.vx_machine_turns.specs.Grouped.{Grouper, block_grouper, byte_grouper}
 use Rattle.vx_machine_promises.specs.Write.{Answer, unasked, came, over}
-use Rattle.vx_machine_view.specs.State.{Next, put, hand_on, append, shut_kids, join_kids, Mind, no_chunk, one_chunk, by_chunk, by_column, by_list, by_block, by_size, as_one, ending, passing, made, Desk, Tasks, no_tasks, task_then}
-use Rattle.vx_machine_view.specs.Acts.{count, column_count, of_length, take_grouped, take_chunk, end_columns, end_lists, end_grouped, take_end, do_take, do_act}
+use Rattle.vx_machine_view.specs.Zoned.{Zoner, Zones}
+use Rattle.vx_machine_view.specs.Coder.{Coder}
+use Rattle.vx_machine_view.specs.State.{Next, put, hand_on, press, probe, open_run, end_run, append, shut_kids, join_kids, start_table, leave_kid, Mind, no_chunk, one_chunk, by_chunk, by_column, by_list, by_block, by_size, as_one, by_zone, by_image, as_is, by_probe, asking, by_run, ending, passing, made, Desk, Tasks, no_tasks, task_then}
+use Rattle.vx_machine_view.specs.Acts.{count, column_count, of_length, take_grouped, take_chunk, end_columns, end_lists, end_grouped, end_zones, probed, take_end, do_take, do_act}
 use Rattle.vx_machine_view.specs.Moves.{Step, may_act, own_step, in_kids, in_rest, steps}
 use Rattle.vx_machine_view.specs.Machine.{Phase, reading, giving, closing, finished, Machine, may_source, WholeStep, source_step, in_root, whole_steps}
 use Rattle.vx_machine_runs.proofs.Misfits.{at_place}
@@ -35,7 +40,15 @@ module _ (s : Setting) (next : ℕ) where
   grouped_take g after b x None rows c ks i xs = inl refl
   grouped_take g after b x (Some j) rows c ks i xs = inl refl
 
-  end_few : (c : Desk) (ks : Tasks) (mind : Mind) → Few (take_end c ks mind).wrote (take_end c ks mind).refusal
+  zones_few : (table : Option (List Filled)) (g : Zoner) (e : Eof) (z : Zones) (c : Desk) (ks : Tasks) → Few (end_zones table g e z c ks).wrote (end_zones table g e z c ks).refusal
+  zones_few None g e z c ks = inl refl
+  zones_few (Some cs) g e z c ks = inl refl
+
+  probe_few : (b : Bool) (n : Coder) (e : Eof) (i : Item) (todo : List Next) (c : Desk) (ks : Tasks) → Few (probed s b n e i todo c ks).wrote (probed s b n e i todo c ks).refusal
+  probe_few true n e i todo c ks = inl refl
+  probe_few false n e i todo c ks = inl refl
+
+  end_few : (c : Desk) (ks : Tasks) (mind : Mind) → Few (take_end s c ks mind).wrote (take_end s c ks mind).refusal
   end_few c ks (no_chunk o t) = inl refl
   end_few c ks (one_chunk x) = inl refl
   end_few c ks (by_chunk m t f e rows) = inl refl
@@ -44,6 +57,12 @@ module _ (s : Setting) (next : ℕ) where
   end_few c ks (by_block len minimum t x j rows) = grouped_end (block_grouper (of_length len minimum) t) x j c ks
   end_few c ks (by_size size x j rows) = grouped_end (byte_grouper size) x j c ks
   end_few c ks (as_one t x rows) = inl refl
+  end_few c ks (by_zone g e z) = zones_few (kept_columns g.columns z.records) g e z c ks
+  end_few c ks (by_image which) = inl refl
+  end_few c ks as_is = inl refl
+  end_few c ks (by_probe n e) = inl refl
+  end_few c ks asking = inl refl
+  end_few c ks (by_run n r j rows) = inl refl
   end_few c ks ending = inl refl
   end_few c ks passing = inl refl
   end_few c ks (made l) = inl refl
@@ -57,6 +76,12 @@ module _ (s : Setting) (next : ℕ) where
   take_few c ks i xs (by_block len minimum t x j rows) = grouped_take (block_grouper (of_length len minimum) t) (by_block len minimum t) (not (ty_eq (piece_type i.1) t)) x j rows c ks i xs
   take_few c ks i xs (by_size size x j rows) = grouped_take (byte_grouper size) (by_size size) false x j rows c ks i xs
   take_few c ks i xs (as_one t x rows) = inl refl
+  take_few c ks i xs (by_zone g e z) = inl refl
+  take_few c ks i xs (by_image which) = inl refl
+  take_few c ks i xs as_is = inl refl
+  take_few c ks i xs (by_probe n e) = inl refl
+  take_few c ks i xs asking = inl refl
+  take_few c ks i xs (by_run n r j rows) = inl refl
   take_few c ks i xs ending = inl refl
   take_few c ks i xs passing = inl refl
   take_few c ks i xs (made l) = inl refl
@@ -69,9 +94,15 @@ module _ (s : Setting) (next : ℕ) where
   act_few c ks [] = taken_few c ks c.inbox
   act_few c ks (put j i ∷ todo) = inl refl
   act_few c ks (hand_on n i ∷ todo) = inl refl
+  act_few c ks (press which i ∷ todo) = inl refl
+  act_few c ks (probe n e i ∷ todo) = probe_few (is_dictionary (s.image n.options.probe i.1)) n e i todo c ks
+  act_few c ks (open_run n j e i ∷ todo) = inl refl
+  act_few c ks (end_run j i ∷ todo) = inl refl
   act_few c ks (append x ∷ todo) = inr ((x.id, x.bytes), refl, refl)
   act_few c ks (shut_kids ∷ todo) = inl refl
   act_few c ks (join_kids f ∷ todo) = inl refl
+  act_few c ks (start_table f e p ∷ todo) = inl refl
+  act_few c ks (leave_kid e ∷ todo) = inl refl
 
   steps_few : (all : List (List ℕ)) (cs : Tasks) (w : Step) → In w (steps s all next cs) → Few w.wrote w.refusal
   steps_few all no_tasks w i = absurd i

@@ -3,14 +3,19 @@ use Rattle.std.proofs.Common.{◌≡◌, ◌⊎◌, ◌&&◌, ◌==◌, ◌∷�
 use Rattle.vx_model.specs.Ty.{Ty, list, ty_eq}
 use Rattle.vx_model.specs.ChunkData.{piece_type}
 use Rattle.vx_path.specs.Lists.{In}
+use Rattle.vx_path.specs.Path.{Eof}
 use Rattle.vx_path.proofs.Lists.{in_cases, from_map}
+use Rattle.vx_zone_spec.specs.ZoneTable.{Filled, kept_columns}
 use Rattle.vx_tasks.specs.Task.{Kind, Join}
 use Rattle.vx_tasks.specs.Run.{nth}
 use Rattle.vx_plan.specs.PlanData.{Setting, Item}
+use Rattle.vx_plan.specs.DictNode.{is_dictionary}
 use Rattle.vx_machine_turns.specs.Grouped.{Grouper, block_grouper, byte_grouper}
 use Rattle.vx_machine_promises.specs.Write.{Answer, unasked, came, over}
-use Rattle.vx_machine_view.specs.State.{Next, put, hand_on, append, shut_kids, join_kids, Mind, by_column, by_list, by_block, by_size, made, Desk, Tasks, no_tasks, task_then}
-use Rattle.vx_machine_view.specs.Acts.{count, column_count, of_length, take_grouped, take_chunk, end_columns, end_lists, end_grouped, take_end, do_take, do_act}
+use Rattle.vx_machine_view.specs.Zoned.{Zoner, Zones}
+use Rattle.vx_machine_view.specs.Coder.{Coder}
+use Rattle.vx_machine_view.specs.State.{Next, put, hand_on, press, probe, open_run, end_run, append, shut_kids, join_kids, start_table, leave_kid, Mind, by_column, by_list, by_block, by_size, by_zone, made, Desk, Tasks, no_tasks, task_then}
+use Rattle.vx_machine_view.specs.Acts.{count, column_count, of_length, take_grouped, take_chunk, end_columns, end_lists, end_grouped, end_zones, probed, take_end, do_take, do_act}
 use Rattle.vx_machine_view.specs.Moves.{Step, may_act, own_step, in_kids, in_rest, steps}
 use Rattle.vx_machine_view.specs.Machine.{Phase, reading, giving, closing, finished, Machine, may_source, WholeStep, source_step, in_root, whole_steps}
 use Rattle.vx_machine_runs.proofs.Misfits.{at_place}
@@ -37,11 +42,20 @@ module _ (s : Setting) (next : ℕ) where
   grouped_take g after b x None rows c ks i xs = λ n k. absurd k
   grouped_take g after b x (Some j) rows c ks i xs = λ n k. absurd k
 
-  end_join : (c : Desk) (ks : Tasks) (mind : Mind) → Joins (take_end c ks mind).kind (take_end c ks mind).joined
+  zones_join : (table : Option (List Filled)) (g : Zoner) (e : Eof) (z : Zones) (c : Desk) (ks : Tasks) → Joins (end_zones table g e z c ks).kind (end_zones table g e z c ks).joined
+  zones_join None g e z c ks = λ n i. absurd i
+  zones_join (Some cs) g e z c ks = λ n i. absurd i
+
+  probe_join : (b : Bool) (n : Coder) (e : Eof) (i : Item) (todo : List Next) (c : Desk) (ks : Tasks) → Joins (probed s b n e i todo c ks).kind (probed s b n e i todo c ks).joined
+  probe_join true n e i todo c ks = λ m x. absurd x
+  probe_join false n e i todo c ks = λ m x. absurd x
+
+  end_join : (c : Desk) (ks : Tasks) (mind : Mind) → Joins (take_end s c ks mind).kind (take_end s c ks mind).joined
   end_join c ks (by_column t rows) = columns_join ((count ks == 0) && (0 == column_count t)) t rows c ks
   end_join c ks (by_list t n first from rows) = lists_join first (list t n) rows c ks
   end_join c ks (by_block len minimum t x j rows) = grouped_end (block_grouper (of_length len minimum) t) x j c ks
   end_join c ks (by_size size x j rows) = grouped_end (byte_grouper size) x j c ks
+  end_join c ks (by_zone g e z) = zones_join (kept_columns g.columns z.records) g e z c ks
   end_join c ks mind = λ n i. absurd i
 
   take_join : (c : Desk) (ks : Tasks) (i : Item) (xs : List Item) (mind : Mind) → Joins (take_chunk s c ks i xs mind).kind (take_chunk s c ks i xs mind).joined
@@ -58,9 +72,15 @@ module _ (s : Setting) (next : ℕ) where
   act_join c ks [] = taken_join c ks c.inbox
   act_join c ks (put j i ∷ todo) = λ n x. absurd x
   act_join c ks (hand_on n i ∷ todo) = λ m x. absurd x
+  act_join c ks (press which i ∷ todo) = λ n x. absurd x
+  act_join c ks (probe n e i ∷ todo) = probe_join (is_dictionary (s.image n.options.probe i.1)) n e i todo c ks
+  act_join c ks (open_run n j e i ∷ todo) = λ m x. absurd x
+  act_join c ks (end_run j i ∷ todo) = λ n x. absurd x
   act_join c ks (append x ∷ todo) = λ n i. absurd i
   act_join c ks (shut_kids ∷ todo) = λ n i. absurd i
   act_join c ks (join_kids f ∷ todo) = λ n i. refl
+  act_join c ks (start_table f e p ∷ todo) = λ n i. absurd i
+  act_join c ks (leave_kid e ∷ todo) = λ n i. absurd i
 
   steps_join : (all : List (List ℕ)) (cs : Tasks) (w : Step) → In w (steps s all next cs) → Joins w.kind w.joined
   steps_join all no_tasks w i = absurd i

@@ -203,11 +203,11 @@ module _ (ctx : LayoutWriterContext) (image : ℕ → ChunkData → ChunkData) (
   -- ---- a run
 
   ran_on : (schedule : List ℕ) (from : ℕ) (steps : List Step) (ns : List Note) (s : Stand) (x y : At) → Led g first (outset g) ns s → SameStand to_come borrow first before x s
-      → Ran ctx t schedule from x steps y → Onward g to_come borrow first before schedule from s steps y
+      → Ran ctx image t schedule from x steps y → Onward g to_come borrow first before schedule from s steps y
   ran_on schedule from [] ns s x y led same r =
       record { notes = []; stand = s; led = refl; shown = tt; picked = tt; counts = tt; whole = tt; same = subst (λ z. SameStand to_come borrow first before z s) r same }
   ran_on schedule from (b ∷ steps) ns s x y led same r =
-      let h : (number : ℕ) × WholeStepped g.setting (machine_ids x.machine) b.picked t x.to_come r.0.to_come x.outlet number r.0.outlet x.machine r.0.machine b.task b.action = r.1.done image in
+      let h : (number : ℕ) × WholeStepped g.setting (machine_ids x.machine) b.picked t x.to_come r.0.to_come x.outlet number r.0.outlet x.machine r.0.machine b.task b.action = r.1.done in
       let o : OneOn g to_come borrow first before (ready_at x.machine) b.picked b.task b.action s r.0 = one_on ns s led x r.0 same b.picked b.task b.action h.0 h.1 in
       let q : Onward g to_come borrow first before schedule (suc from) o.to steps y =
       ran_on schedule (suc from) steps (ns ++ (o.note ∷ [])) o.to r.0 y (led_more g first (outset g) s o.to ns o.note led o.done) o.same r.2 in

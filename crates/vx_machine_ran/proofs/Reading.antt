@@ -1,5 +1,5 @@
 -- A batch of another type is found where the source reads.
-use Rattle.std.proofs.Common.{◌≡◌, ◌+◌, ◌∙◌, ℕ, true, length, sym, ap, subst, inl, inr, Some, None}
+use Rattle.std.proofs.Common.{◌≡◌, ◌+◌, ◌∙◌, ℕ, true, length, refl, sym, ap, subst, inl, inr, Some, None}
 use Rattle.vx_path.specs.Path.{Eof}
 use Rattle.vx_tasks.specs.Run.{nth}
 use Rattle.vx_plan.specs.SourcePlan.{start_fault}
@@ -17,6 +17,7 @@ use Rattle.vx_machine.specs.Steps.{StepRefused}
 use Rattle.vx_machine.specs.Run.{picked_at, tracker_by, Stops}
 use Rattle.vx_machine_ran.specs.Ran.{write_by, Onward}
 use Rattle.vx_machine_ran.specs.Answered.{MisfitsAreRead}
+use Rattle.vx_machine_ran.proofs.Imaging.{keeps_careful}
 use Rattle.vx_machine_ran.proofs.Leading.{runs_are_led}
 use Rattle.vx_machine_ran.proofs.Writing.{under}
 
@@ -27,13 +28,13 @@ misfits_are_read run agree ctx image w t schedule to_come to_come_now borrow fir
     g = write_by ctx image w t
 
     clean : start_fault (setting_of ctx image) w t (is_marked ctx) ≡ None
-    clean = sym (agree (setting_of ctx image) w t (is_marked ctx)) ∙ a.allowed (setting_of ctx image)
+    clean = sym (agree (setting_of ctx image) w t (is_marked ctx)) ∙ a.allowed (setting_of ctx image) refl
 
     o : Onward g to_come borrow first before schedule 0 (outset g) steps r.end
     o = runs_are_led ctx image w t schedule to_come borrow first before steps r.end r.ran
 
     u : UnderwayAt (scheduled g (places o.notes)) first o.notes o.stand
-    u = under ctx image w t to_come borrow first before keeps.codec a.built clean schedule steps r.end o run
+    u = under ctx image w t to_come borrow first before (keeps_careful ctx image keeps) clean schedule steps r.end o run
 
     no_memory : BatchType c ≡ OutOfMemory → ⊥
     no_memory e = cc
@@ -46,6 +47,6 @@ misfits_are_read run agree ctx image w t schedule to_come to_come_now borrow fir
     refused k x = reads k x.told (misfit_is_read (scheduled g (places o.notes)) first o.notes o.stand x.told k x.step u
         (subst (λ m. nth (whole_steps (setting_of ctx image) (machine_ids m) (first + length o.stand.history) x.told m) k ≡ Some x.step) o.same.machine_is x.place) x.cause)
 
-    by : Stops ctx t schedule (length steps) r.end to_come_now (BatchType c) → reads_at r.end.machine.phase (picked_at schedule (length steps) r.end.machine) ≡ true
+    by : Stops ctx image t schedule (length steps) r.end to_come_now (BatchType c) → reads_at r.end.machine.phase (picked_at schedule (length steps) r.end.machine) ≡ true
     by (inl (e, same, going)) = absurd (no_memory e)
-    by (inr (some, fails)) = refused _ (fails image (first + length o.stand.history))
+    by (inr (some, fails)) = refused _ (fails (first + length o.stand.history))

@@ -4,7 +4,6 @@ use Rattle.std.proofs.lemmas.Bool.{true≢false}
 use Rattle.vx_model.specs.ChunkData.{ChunkData}
 use Rattle.vx_path.specs.Lists.{In}
 use Rattle.vx_path.specs.Path.{Eof}
-use Rattle.vx_layout_spec.specs.Codec.{Lawful}
 use Rattle.vx_tasks.specs.Task.{Kind, Free, Take, TakeEnd, Put, Append, Join}
 use Rattle.vx_tasks.specs.Run.{Note, nth, later_picks}
 use Rattle.vx_plan.specs.PlanData.{Setting, Pair}
@@ -12,7 +11,7 @@ use Rattle.vx_order.specs.Outlet.{Outlet}
 use Rattle.vx_order.specs.Answers.{IsShared, IsPast as PastLast}
 use Rattle.vx_write_answer.specs.declared.step.Step.{Step}
 use Rattle.vx_write_answer.specs.declared.error.WriteError.{WriteError}
-use Rattle.vx_write_answer.specs.declared.error.WriteError.TheVariants.{SourceFault, SinkFault, CompressFault, BatchType, NotStruct, DuplicateField, ManyChunks, EmptyList, ZoneCut, ForbiddenAggregate, ForbiddenEncoding, TooLarge, OutOfMemory, Unbuilt, Stopped}
+use Rattle.vx_write_answer.specs.declared.error.WriteError.TheVariants.{SourceFault, SinkFault, CompressFault, BatchType, NotStruct, DuplicateField, ManyChunks, EmptyList, ZoneCut, ForbiddenAggregate, ForbiddenEncoding, TooLarge, OutOfMemory, Stopped}
 use Rattle.vx_machine_turns.specs.Acts.{written_by}
 use Rattle.vx_machine_turns.specs.Fuels.{Fuel}
 use Rattle.vx_machine_steps.specs.Tree.{Tree, opened}
@@ -21,6 +20,7 @@ use Rattle.vx_machine_steps.specs.Runs.{RunsBy, notes}
 use Rattle.vx_machine_steps.specs.StartPlanned.{started}
 use Rattle.vx_machine_promises.specs.Write.{Write, Future, Answer, unasked, came, over, depth, begin, taken_by, heard_by, before}
 use Rattle.vx_machine_promises.specs.Reached.{Reached, moves_at}
+use Rattle.vx_machine_view.specs.Images.{Careful}
 use Rattle.vx_machine_view.specs.State.{Tasks}
 use Rattle.vx_machine_view.specs.Machine.{WholeStep, reading, source_step, machine_ids}
 use Rattle.vx_machine_view.specs.Steps.{AllPairs}
@@ -33,6 +33,7 @@ use Rattle.vx_machine_runs.proofs.Reaching.{as_ready, move_of}
 use Rattle.vx_machine_runs.proofs.Stepping.{open_before}
 use Rattle.vx_machine.specs.Outcome.{Refused, Past, Appending}
 use Rattle.vx_machine.specs.Ready.{counted}
+use Rattle.vx_machine.specs.TaskActing.{CallFails}
 use Rattle.vx_machine.specs.SourceActs.{IsElsewhere}
 use Rattle.vx_machine.specs.Run.{ready_at}
 use Rattle.vx_machine_ran.specs.Ran.{ShowsCounted}
@@ -79,22 +80,21 @@ module _ (w : WholeStep) (m : TreeMove) (same : SameAct w m) (o : Outlet) (mine 
     counts_past n (inr (inl (a, p))) = inr (inr (inl (appends a, (last n p).0, (last n p).1)))
     counts_past n (inr (inr (i, big))) = inr (inr (inr (sym same.kind ∙ joins n i, big)))
 
-    pub is_own : (e : WriteError) → IsElsewhere e → RefusedBy counts w o e → IsOwn m counts heard next e
-    is_own SourceFault far h = absurd far
-    is_own SinkFault far h = appends h
-    is_own CompressFault far h = absurd h
-    is_own (BatchType c) far h = absurd (true≢false (sym h ∙ fits))
-    is_own NotStruct far h = sym same.refusal ∙ h
-    is_own (DuplicateField name) far h = sym same.refusal ∙ h
-    is_own ManyChunks far h = sym same.refusal ∙ h
-    is_own EmptyList far h = sym same.refusal ∙ h
-    is_own (ZoneCut n) far h = absurd h
-    is_own (ForbiddenAggregate id) far h = absurd h
-    is_own (ForbiddenEncoding id) far h = sym same.refusal ∙ h
-    is_own (TooLarge n) far h = counts_past n h
-    is_own OutOfMemory far h = tt
-    is_own Unbuilt far h = absurd h
-    is_own (Stopped by name) far h = absurd (mine h.1)
+    pub is_own : (e : WriteError) → IsElsewhere e → CallFails w.kind e → RefusedBy counts w o e → IsOwn m counts heard next e
+    is_own SourceFault far k h = absurd far
+    is_own SinkFault far k h = appends h
+    is_own CompressFault far k h = sym same.kind ∙ k
+    is_own (BatchType c) far k h = absurd (true≢false (sym h ∙ fits))
+    is_own NotStruct far k h = sym same.refusal ∙ h
+    is_own (DuplicateField name) far k h = sym same.refusal ∙ h
+    is_own ManyChunks far k h = sym same.refusal ∙ h
+    is_own EmptyList far k h = sym same.refusal ∙ h
+    is_own (ZoneCut n) far k h = sym same.refusal ∙ h
+    is_own (ForbiddenAggregate id) far k h = sym same.refusal ∙ h
+    is_own (ForbiddenEncoding id) far k h = sym same.refusal ∙ h
+    is_own (TooLarge n) far k h = counts_past n h
+    is_own OutOfMemory far k h = tt
+    is_own (Stopped by name) far k h = absurd (mine h.1)
 
   -- of one in which the source reads, and no more of the type comes
   pub own_read : (d : Eof) (root : Tasks) → w ≡ source_step unasked (reading d) root → heard ≡ false → IsRead m.act heard
@@ -118,7 +118,7 @@ same_begin g taken heard unasked = ap (λ z. started g.way g.type g.mark z heard
 same_begin g taken heard (came b) = refl
 same_begin g taken heard over = ap (λ z. started g.way g.type g.mark z true) (append-nil taken)
 
-module _ (g : Write) (first : ℕ) (seen : List Note) (x : Stand) (law : Lawful g.setting.codec g.setting.encodings) (u : UnderwayAt g first seen x) (schedule : List ℕ) (steps : List Step)
+module _ (g : Write) (first : ℕ) (seen : List Note) (x : Stand) (law : Careful g.setting) (u : UnderwayAt g first seen x) (schedule : List ℕ) (steps : List Step)
     (shown : AllPairs ShowsCounted steps seen) (told : Answer) (once : BeforeEnd x.heard told) (k : ℕ) (w : WholeStep) (place : nth (ready_steps g first x.history told x.machine) k ≡ Some w)
     (asks : Asks g.type (none_later (heard_by x.heard told)) x.machine.phase k told) (pick : k ≡ slice_index schedule (length steps) % counted (ready_at x.machine)) where
   abbrev f : Future

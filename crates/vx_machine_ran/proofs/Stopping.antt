@@ -1,6 +1,5 @@
 -- A run that stopped has written a front of the plan of the batches taken, and has a cause there.
 use Rattle.std.proofs.Common.{◌≡◌, ◌+◌, ◌%◌, ◌^◌, ◌<◌, ◌≤◌, ◌⊎◌, ◌∷◌, ◌++◌, ◌∙◌, ℕ, zero, suc, Bool, true, false, List, take, length, refl, sym, ap, subst, inl, inr, arith, Option, Some, None, if◌then◌else◌, append-nil, length-append, slice_index, []}
-use Rattle.std.specs.Prelude.{IsTrue}
 use Rattle.std.proofs.lemmas.Bool.{true≢false}
 use Rattle.std.proofs.Math.Nat.{mod-lt}
 use Rattle.vx_model.specs.Ty.{Ty}
@@ -8,7 +7,6 @@ use Rattle.vx_model.specs.ChunkData.{ChunkData}
 use Rattle.vx_fault.specs.Told.{before_told, then_told, NoneTold}
 use Rattle.vx_path.specs.Lists.{In}
 use Rattle.vx_path.specs.Path.{Eof}
-use Rattle.vx_layout_spec.specs.Codec.{Lawful}
 use Rattle.vx_tasks.specs.Task.{Forest}
 use Rattle.vx_tasks.specs.Run.{nth, trace, work}
 use Rattle.vx_tasks.proofs.Picks.{nth_there}
@@ -24,9 +22,9 @@ use Rattle.vx_sink.specs.declared.context.LayoutWriterContext.{LayoutWriterConte
 use Rattle.vx_sink.specs.ContextView.{is_marked, counted as counted_bytes}
 use Rattle.vx_write_answer.specs.declared.step.Step.{Step}
 use Rattle.vx_write_answer.specs.declared.error.WriteError.{WriteError}
-use Rattle.vx_write_answer.specs.declared.error.WriteError.TheVariants.{SourceFault, SinkFault, CompressFault, BatchType, NotStruct, DuplicateField, ManyChunks, EmptyList, ZoneCut, ForbiddenAggregate, ForbiddenEncoding, TooLarge, OutOfMemory, Unbuilt, Stopped}
+use Rattle.vx_write_answer.specs.declared.error.WriteError.TheVariants.{SourceFault, SinkFault, CompressFault, BatchType, NotStruct, DuplicateField, ManyChunks, EmptyList, ZoneCut, ForbiddenAggregate, ForbiddenEncoding, TooLarge, OutOfMemory, Stopped}
 use Rattle.vx_machine_promises.specs.Write.{Write, Future, Open, Answer, unasked, came, over, scripts, planned, taken_by, heard_by, before, begin}
-use Rattle.vx_machine_view.specs.Built.{is_built}
+use Rattle.vx_machine_view.specs.Images.{Careful}
 use Rattle.vx_machine_view.specs.Machine.{Phase, reading, giving, closing, finished, Machine, may_source, WholeStep, source_step, whole_steps, is_finished, machine_ids}
 use Rattle.vx_machine_steps.specs.Moves.{TreeMove}
 use Rattle.vx_machine_view.specs.Steps.{AllPairs}
@@ -55,6 +53,7 @@ use Rattle.vx_machine.specs.Source.{ReadsNone, SourceMay, NoNumber}
 use Rattle.vx_machine.specs.SourceActs.{AsksAt, IsElsewhere, TellsNothing, TellsRefused}
 use Rattle.vx_machine.specs.Steps.{StepRefused}
 use Rattle.vx_machine.specs.Ready.{counted}
+use Rattle.vx_machine.specs.TaskActing.{CallFails}
 use Rattle.vx_machine.specs.Run.{At, ready_at, tracker_by, Stops}
 use Rattle.vx_machine_ran.specs.Ran.{write_by, OwnSink, ShowsCounted, Onward}
 use Rattle.vx_machine_ran.specs.Runs.{Halts, StoppedHalts}
@@ -110,7 +109,6 @@ reads_same before now (ForbiddenAggregate id) n h = h
 reads_same before now (ForbiddenEncoding id) n h = h
 reads_same before now (TooLarge k) n h = h
 reads_same before now OutOfMemory n h = h
-reads_same before now Unbuilt n h = h
 reads_same before now (Stopped by name) n h = h
 
 nothing_told : (p : Phase) (k : ℕ) (t : Ty) (before now : Option (List ChunkData)) (e : WriteError) → NoBatch e → TellsNothing p k t before now e → now ≡ before
@@ -169,9 +167,9 @@ more_answers taken heard over once = let n : flag heard ≡ 0 = ap flag once in 
 
 -- ---- causes
 
-module _ (t : Ty) (unbuilt : Type 0) (passes : ℕ → Type 0) (p : Plan) (taken : List ChunkData) (next stand : ℕ) where
+module _ (t : Ty) (passes : ℕ → Type 0) (p : Plan) (taken : List ChunkData) (next stand : ℕ) where
   abbrev Cause : WriteError → Type 0
-  Cause e = HasCause t unbuilt passes p taken next stand e
+  Cause e = HasCause t passes p taken next stand e
 
   -- of a step that is no batch of another type
   module _ (w : WholeStep) (c : Caused p w) (o : Outlet) (mine : IsShared o → ⊥) (fits : w.misfit ≡ false) (more : (x : Pair) → In x w.wrote → stand < length p.pairs)
@@ -186,18 +184,17 @@ module _ (t : Ty) (unbuilt : Type 0) (passes : ℕ → Type 0) (p : Plan) (taken
     step_cause : (e : WriteError) → RefusedBy counts w o e → Cause e
     step_cause SourceFault h = tt
     step_cause SinkFault h = tt
-    step_cause CompressFault h = absurd h
+    step_cause CompressFault h = tt
     step_cause (BatchType b) h = absurd (true≢false (sym h ∙ fits))
     step_cause NotStruct h = c.refusal _ h
     step_cause (DuplicateField name) h = c.refusal _ h
     step_cause ManyChunks h = c.refusal _ h
     step_cause EmptyList h = c.refusal _ h
-    step_cause (ZoneCut n) h = absurd h
-    step_cause (ForbiddenAggregate id) h = absurd h
+    step_cause (ZoneCut n) h = c.refusal _ h
+    step_cause (ForbiddenAggregate id) h = c.refusal _ h
     step_cause (ForbiddenEncoding id) h = c.refusal _ h
     step_cause (TooLarge n) h = too_large n h
     step_cause OutOfMemory h = tt
-    step_cause Unbuilt h = absurd h
     step_cause (Stopped by name) h = absurd (mine h.1)
 
 module _ (counts : ℕ) (w : WholeStep) (o : Outlet) (fits : w.misfit ≡ false) where
@@ -215,7 +212,6 @@ module _ (counts : ℕ) (w : WholeStep) (o : Outlet) (fits : w.misfit ≡ false)
   fits_no_batch (ForbiddenEncoding id) h = refl
   fits_no_batch (TooLarge n) h = refl
   fits_no_batch OutOfMemory h = refl
-  fits_no_batch Unbuilt h = refl
   fits_no_batch (Stopped by name) h = refl
 
   -- the word of the plan by which it is refused
@@ -228,12 +224,11 @@ module _ (counts : ℕ) (w : WholeStep) (o : Outlet) (fits : w.misfit ≡ false)
   word_of (DuplicateField name) i h = (_, h)
   word_of ManyChunks i h = (_, h)
   word_of EmptyList i h = (_, h)
-  word_of (ZoneCut n) i h = absurd i
-  word_of (ForbiddenAggregate id) i h = absurd i
+  word_of (ZoneCut n) i h = (_, h)
+  word_of (ForbiddenAggregate id) i h = (_, h)
   word_of (ForbiddenEncoding id) i h = (_, h)
   word_of (TooLarge n) i h = absurd i
   word_of OutOfMemory i h = absurd i
-  word_of Unbuilt i h = absurd i
   word_of (Stopped by name) i h = absurd i
 
 -- ---- the step in which the source reads
@@ -246,7 +241,7 @@ read_is s all number a m d w is at =
 -- ---- where a run stopped
 
 module _ (ctx : LayoutWriterContext) (image : ℕ → ChunkData → ChunkData) (way : StrategyData) (t : Ty) (to_come : Option (List ChunkData)) (borrow first : ℕ) (before_it : Option (List (List ℕ)))
-    (law : Lawful (setting_of ctx image).codec (setting_of ctx image).encodings) (built : IsTrue (is_built way)) (clean : start_fault (setting_of ctx image) way t (is_marked ctx) ≡ None)
+    (law : Careful (setting_of ctx image)) (clean : start_fault (setting_of ctx image) way t (is_marked ctx) ≡ None)
     (schedule : List ℕ) (steps : List Step) (y : At) (o : Onward (write_by ctx image way t) to_come borrow first before_it schedule 0 (outset (write_by ctx image way t)) steps y)
     (run : RunIsUnderway) (by : RunByIsUnderway) (front : HistoryIsFront) (causes : StepsHaveCause) (append : AppendIsOneMore) (firsts : NotesAreFirst) (refused_at : RefusalIsLast) (misfit_at : MisfitIsLast) (within : ReadyIsWithinAll) (next_within : NextIsWithinWork) (more_at : ReadyIsMore) (stays : StaysReady) (tracks : TrackerComes)
     (to_come_now : Option (List ChunkData)) (next : ℕ) (now : Option (List (List ℕ))) (sink : (next ≡ first + length o.stand.history) × (now ≡ then_told before_it (stored o.stand.history))) where
@@ -261,7 +256,7 @@ module _ (ctx : LayoutWriterContext) (image : ℕ → ChunkData → ChunkData) (
   x = o.stand
 
   u : UnderwayAt h first o.notes x
-  u = under ctx image way t to_come borrow first before_it law built clean schedule steps y o run
+  u = under ctx image way t to_come borrow first before_it law clean schedule steps y o run
 
   -- what the tracker counts there
   abbrev counts : ℕ
@@ -274,7 +269,7 @@ module _ (ctx : LayoutWriterContext) (image : ℕ → ChunkData → ChunkData) (
   alone = taken_are_typed g first o.notes x o.led
 
   reads : answers_in x.taken x.heard ≡ reads_in steps
-  reads = sym (reads_are ctx image way t to_come borrow first before_it law built clean schedule steps y o)
+  reads = sym (reads_are ctx image way t to_come borrow first before_it law clean schedule steps y o)
 
   abbrev Halting : WriteError → Type 0
   Halting e = Halts g first next to_come to_come_now before_it now schedule steps e
@@ -306,7 +301,7 @@ module _ (ctx : LayoutWriterContext) (image : ℕ → ChunkData → ChunkData) (
       let f : Future = none_later (heard_by x.heard told) in
       subst (λ z. work z < 2 ^ 64 → AllPairs ShowsNote steps (take (length steps) (trace z schedule)))
       (ap cut (same_scripts g x.taken told f) ∙ tasks_are told)
-      (traced_front ctx image way t to_come borrow first before_it law built clean schedule steps y o by firsts within (before told f)
+      (traced_front ctx image way t to_come borrow first before_it law clean schedule steps y o by firsts within (before told f)
       (open_before x.heard told f once (open_none (heard_by x.heard told))))
 
   -- and all of them, where the next one refuses
@@ -315,13 +310,13 @@ module _ (ctx : LayoutWriterContext) (image : ℕ → ChunkData → ChunkData) (
   ends told once k pick w v c e short =
       let f : Future = none_later (heard_by x.heard told) in
       subst (λ z. AllPairs ShowsNote steps (trace z schedule)) (tasks_are told)
-      (refused_last ctx image way t to_come borrow first before_it law built clean schedule steps y o by within next_within told f once (open_none (heard_by x.heard told)) k pick
+      (refused_last ctx image way t to_come borrow first before_it law clean schedule steps y o by within next_within told f once (open_none (heard_by x.heard told)) k pick
       (subst (λ z. work z < 2 ^ 64) (sym (ap cut (same_scripts g x.taken told f) ∙ tasks_are told)) short) refused_at w v c e)
 
   -- what stands, by the plan of these batches
   halts : (e : WriteError) (taken bs : List ChunkData) (heard : Bool) → of_schema t taken ≡ bs → to_come ≡ before_told taken to_come_now → (heard ≡ true → NoneTold to_come_now)
       → (heard ≡ true → OfSchema t taken) → ((f : Future) → Open heard f → (more : List Pair) × (sorted (planned g bs f).pairs ≡ x.history ++ more)) → StepsAreFirst (tasks bs heard) schedule steps e → AskedInSteps taken heard steps e
-      → ((f : Future) → Open heard f → HasCause t (is_built way ≡ false) (Passes g bs f steps) (planned g bs f) taken next (length x.history) e) → There bs heard e → Halting e
+      → ((f : Future) → Open heard f → HasCause t (Passes g bs f steps) (planned g bs f) taken next (length x.history) e) → There bs heard e → Halting e
   halts e taken bs heard is told end typed stood traced asked c there = record {
     heard = heard;
     stand = record {
@@ -336,8 +331,8 @@ module _ (ctx : LayoutWriterContext) (image : ℕ → ChunkData → ChunkData) (
     front = λ f may. subst (λ z. AreFirst (stored x.history) (planned g z f)) (sym is) (now_first f may);
     typed = typed;
     ended = end;
-    cause = λ f may. subst (λ z. HasCause t (is_built way ≡ false) (Passes g z f steps) (planned g z f) taken next (length (stored x.history)) e) (sym is)
-        (subst (λ z. HasCause t (is_built way ≡ false) (Passes g bs f steps) (planned g bs f) taken next z e) (sym (stored_length x.history)) (c f may));
+    cause = λ f may. subst (λ z. HasCause t (Passes g z f steps) (planned g z f) taken next (length (stored x.history)) e) (sym is)
+        (subst (λ z. HasCause t (Passes g bs f steps) (planned g bs f) taken next z e) (sym (stored_length x.history)) (c f may));
     traced = subst (λ z. StepsAreFirst (tasks z heard) schedule steps e) (sym is) traced;
     asked = asked;
     refused = subst (λ z. There z heard e) (sym is) there;
@@ -351,7 +346,7 @@ module _ (ctx : LayoutWriterContext) (image : ℕ → ChunkData → ChunkData) (
   all_asked e n = inl (let a = reads in omega (arith, a, n))
 
   -- by the batches taken so far
-  so_far : (e : WriteError) → NoBatch e → (IsRefusal e → ⊥) → 0 < ready_at y.machine → to_come_now ≡ y.to_come → ((passes : ℕ → Type 0) (p : Plan) → HasCause t (is_built way ≡ false) passes p x.taken next (length x.history) e)
+  so_far : (e : WriteError) → NoBatch e → (IsRefusal e → ⊥) → 0 < ready_at y.machine → to_come_now ≡ y.to_come → ((passes : ℕ → Type 0) (p : Plan) → HasCause t passes p x.taken next (length x.history) e)
       → There x.taken x.heard e → Halting e
   so_far e n plain some same c there = halts e x.taken x.taken x.heard alone.all (o.same.came ∙ ap (before_told x.taken) (sym same)) (λ k. subst (λ z. NoneTold z) (sym same) (o.same.ended k))
       (λ k. alone.typed) (λ f may. front h first o.notes x unasked f tt may u) (record { fewer = goes_on unasked tt some; first = begins unasked tt; all = λ short i. absurd (plain i) }) (all_asked e n) (λ f may. c (Passes g x.taken f steps) (planned g x.taken f)) there
@@ -394,7 +389,7 @@ module _ (ctx : LayoutWriterContext) (image : ℕ → ChunkData → ChunkData) (
 
         all : work (tasks x.taken x.heard) < 2 ^ 64 → AllPairs ShowsNote steps (trace (tasks x.taken x.heard) schedule)
         all = subst (λ (v : Bool). work (tasks x.taken v) < 2 ^ 64 → AllPairs ShowsNote steps (trace (tasks x.taken v) schedule)) (sym (unheard d p))
-            (misfit_last ctx image way t to_come borrow first before_it law built clean schedule steps y o by within next_within misfit_at k pick (unheard d p) w
+            (misfit_last ctx image way t to_come borrow first before_it law clean schedule steps y o by within next_within misfit_at k pick (unheard d p) w
             (subst (λ v. nth (ready_steps h first x.history unasked x.machine) v ≡ Some w) (sym z) at) (ap (λ (v : WholeStep). v.misfit) is))
     read_halts w d z at p is (TooLarge n) r m c = absurd c
     read_halts w d z at p is SinkFault r m c = absurd m
@@ -406,11 +401,10 @@ module _ (ctx : LayoutWriterContext) (image : ℕ → ChunkData → ChunkData) (
     read_halts w d z at p is (ZoneCut n) r m c = absurd m
     read_halts w d z at p is (ForbiddenAggregate id) r m c = absurd m
     read_halts w d z at p is (ForbiddenEncoding id) r m c = absurd m
-    read_halts w d z at p is Unbuilt r m c = absurd m
     read_halts w d z at p is (Stopped by_it name) r m c = absurd m
 
     module _ (told : Answer) (w : WholeStep) (at : nth (ready_steps h first x.history told x.machine) k ≡ Some w) (asks : Asking x.machine.phase k told) (e : WriteError)
-        (tells : TellsRefused x.machine.phase k t y.to_come to_come_now e told) (cause : RefusedBy counts w y.outlet e) where
+        (tells : TellsRefused x.machine.phase k t y.to_come to_come_now e told) (cause : RefusedBy counts w y.outlet e) (called : CallFails w.kind e) where
       abbrev taken : List ChunkData
       taken = taken_by x.taken told
 
@@ -467,7 +461,7 @@ module _ (ctx : LayoutWriterContext) (image : ℕ → ChunkData → ChunkData) (
         there far = inr (
           found.0,
           subst (λ z. IsOwn found.0.move z heard next e) (sym (found.1 ∙ counts_are)) (is_own w found.0.move found.2 y.outlet mine heard next fits
-              (whole_join (setting_of ctx image) (machine_ids x.machine) (first + length x.history) told x.machine k w at) last counts e far cause),
+              (whole_join (setting_of ctx image) (machine_ids x.machine) (first + length x.history) told x.machine k w at) last counts e far called cause),
         )
           where
             found : (a : NextAct (setting_of ctx image) way t (is_marked ctx) (counted_bytes ctx) taken heard schedule steps) × (a.counts ≡ tracked h x) × SameAct w a.move
@@ -479,7 +473,7 @@ module _ (ctx : LayoutWriterContext) (image : ℕ → ChunkData → ChunkData) (
         fit_halts : IsElsewhere e → Halting e
         fit_halts far = halts e taken taken heard (all_of_schema t taken (answer_of_schema t x.taken told alone.typed typed)) (refused_came x.machine.phase k t to_come y.to_come to_come_now x.taken e told n tells o.same.came)
             (refused_ended x.machine.phase k t y.to_come to_come_now x.heard e told n tells once o.same.ended) (λ k. answer_of_schema t x.taken told alone.typed typed) (λ f may. front h first o.notes x told f once may u) (record { fewer = goes_on told once some; first = begins told once; all = λ short i. inr (refused short (word_of counts w y.outlet fits e i cause)) }) fit_asked
-            (λ f may. step_cause t (is_built way ≡ false) (Passes g taken f steps) (planned g taken f) taken next (length x.history) w (causes h first o.notes x told f k w law u may chosen) y.outlet
+            (λ f may. step_cause t (Passes g taken f steps) (planned g taken f) taken next (length x.history) w (causes h first o.notes x told f k w law u may chosen) y.outlet
             mine fits (more f may) last counts (passes f may) e cause)
             (there far)
 
@@ -517,7 +511,7 @@ module _ (ctx : LayoutWriterContext) (image : ℕ → ChunkData → ChunkData) (
     refused_halts e r = step_halts r.told r.step
         (subst (λ m. nth (whole_steps (setting_of ctx image) (machine_ids m) (first + length x.history) r.told m) k ≡ Some r.step) o.same.machine_is r.place)
         (asking x.machine.phase k r.told (subst (λ (m : Machine). AsksAt m.phase k r.told) o.same.machine_is r.asks)) e
-        (subst (λ (m : Machine). TellsRefused m.phase k t y.to_come to_come_now e r.told) o.same.machine_is r.tells) r.cause
+        (subst (λ (m : Machine). TellsRefused m.phase k t y.to_come to_come_now e r.told) o.same.machine_is r.tells) r.cause r.called
 
   -- memory ran out before a step: whatever step it would have been
   memory_halts : to_come_now ≡ y.to_come → is_finished y.machine ≡ false → Halting OutOfMemory
@@ -528,6 +522,7 @@ module _ (ctx : LayoutWriterContext) (image : ℕ → ChunkData → ChunkData) (
     asks = asks_not y.machine.phase k;
     tells = tells_memory y.machine.phase k t y.to_come to_come_now same;
     cause = tt;
+    called = tt;
   })
     where
       some : 0 < ready_at y.machine
@@ -548,16 +543,16 @@ module _ (ctx : LayoutWriterContext) (image : ℕ → ChunkData → ChunkData) (
           let are : length all ≡ ready_at y.machine = whole_is_ready (setting_of ctx image) (machine_ids y.machine) (first + length x.history) unasked y.machine in
           nth_there all k (omega (arith, less, are))
 
-  stops_halt : (e : WriteError) → Stops ctx t schedule (length steps) y to_come_now e → Halting e
+  stops_halt : (e : WriteError) → Stops ctx image t schedule (length steps) y to_come_now e → Halting e
   stops_halt e (inl (is, same, going)) = subst Halting (sym is) (memory_halts same going)
-  stops_halt e (inr (some, fails)) = refused_halts some _ refl e (fails image (first + length x.history))
+  stops_halt e (inr (some, fails)) = refused_halts some _ refl e (fails (first + length x.history))
 
 pub stopped_halts : RunIsUnderway → RunByIsUnderway → HistoryIsFront → StepsHaveCause → AppendIsOneMore → NotesAreFirst → RefusalIsLast → MisfitIsLast → ReadyIsWithinAll → NextIsWithinWork → ReadyIsMore → StaysReady → TrackerComes → StoppedHalts
-stopped_halts run by front causes append firsts refused misfit within next_within more stays tracks ctx image w t schedule to_come to_come_now borrow first before steps outlet e law built clean r =
+stopped_halts run by front causes append firsts refused misfit within next_within more stays tracks ctx image w t schedule to_come to_come_now borrow first before steps outlet e law clean r =
     own_more outlet (λ next now. (next ≡ first + length o.stand.history) × (now ≡ then_told before (stored o.stand.history)))
     (λ next now. Halts (write_by ctx image w t) first next to_come to_come_now before now schedule steps e)
     (kept_own r.end.outlet outlet (λ next now. (next ≡ first + length o.stand.history) × (now ≡ then_told before (stored o.stand.history))) r.kept o.same.sink)
-    (λ next now s. stops_halt ctx image w t to_come borrow first before law built clean schedule steps r.end o run by front causes append firsts refused misfit within next_within more stays tracks to_come_now next now s e r.stops)
+    (λ next now s. stops_halt ctx image w t to_come borrow first before law clean schedule steps r.end o run by front causes append firsts refused misfit within next_within more stays tracks to_come_now next now s e r.stops)
   where
     o : Onward (write_by ctx image w t) to_come borrow first before schedule 0 (outset (write_by ctx image w t)) steps r.end
     o = runs_are_led ctx image w t schedule to_come borrow first before steps r.end r.ran

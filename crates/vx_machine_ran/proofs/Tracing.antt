@@ -1,12 +1,10 @@
 -- The steps of a run show the notes of its trace, and what they call.
 use Rattle.std.proofs.Common.{◌≡◌, ◌+◌, ◌-◌, ◌%◌, ◌^◌, ◌<◌, ◌≤◌, ◌∷◌, ◌++◌, ◌∙◌, ℕ, suc, true, false, List, take, length, refl, sym, ap, subst, inl, inr, arith, Option, Some, None, if◌then◌else◌, slice_index, append-nil, length-append, []}
 use Rattle.std.proofs.lemmas.Bool.{true≢false}
-use Rattle.std.specs.Prelude.{IsTrue}
 use Rattle.vx_model.specs.Words.{total_by}
 use Rattle.vx_model.specs.Ty.{Ty}
 use Rattle.vx_model.specs.ChunkData.{ChunkData}
 use Rattle.vx_path.specs.Lists.{In}
-use Rattle.vx_layout_spec.specs.Codec.{Lawful}
 use Rattle.vx_tasks.specs.Task.{Kind, Free, Take, TakeEnd, Put, Append, Join, Batch, End, Call, Close, appends_of}
 use Rattle.vx_tasks.specs.Run.{Note, nth, trace, work, first_pick}
 use Rattle.vx_cut_laws.specs.Cut.{cut}
@@ -18,7 +16,7 @@ use Rattle.vx_sink.specs.ContextView.{is_marked}
 use Rattle.vx_write_answer.specs.declared.step.Step.{Step}
 use Rattle.vx_machine_steps.specs.Runs.{picks_after}
 use Rattle.vx_machine_promises.specs.Write.{Write, Future, Open, Answer, unasked, scripts, taken_by, heard_by, before}
-use Rattle.vx_machine_view.specs.Built.{is_built}
+use Rattle.vx_machine_view.specs.Images.{Careful}
 use Rattle.vx_machine_view.specs.Machine.{WholeStep, is_finished, machine_ids}
 use Rattle.vx_machine_view.specs.Steps.{AllPairs}
 use Rattle.vx_machine_view.specs.Underway.{ready_steps}
@@ -39,6 +37,7 @@ use Rattle.vx_machine.specs.Context.{setting_of}
 use Rattle.vx_machine.specs.Outcome.{action_of}
 use Rattle.vx_machine.specs.Ready.{counted}
 use Rattle.vx_machine.specs.Run.{At, ready_at}
+use Rattle.vx_machine.proofs.BuiltSteps.{all_built}
 use Rattle.vx_machine_ran.specs.Ran.{write_by, ShowsCounted, Onward}
 use Rattle.vx_machine_ran.specs.Traced.{ShowsNote, IsTraced, answers_in}
 
@@ -99,7 +98,7 @@ paths_length (p ∷ ps) = ap suc (paths_length ps)
 -- ---- a run
 
 module _ (ctx : LayoutWriterContext) (image : ℕ → ChunkData → ChunkData) (w : StrategyData) (t : Ty) (to_come : Option (List ChunkData)) (borrow first : ℕ) (stood : Option (List (List ℕ)))
-    (law : Lawful (setting_of ctx image).codec (setting_of ctx image).encodings) (built : IsTrue (is_built w)) (clean : start_fault (setting_of ctx image) w t (is_marked ctx) ≡ None)
+    (law : Careful (setting_of ctx image)) (clean : start_fault (setting_of ctx image) w t (is_marked ctx) ≡ None)
     (schedule : List ℕ) (steps : List Step) (y : At) (o : Onward (write_by ctx image w t) to_come borrow first stood schedule 0 (outset (write_by ctx image w t)) steps y) where
   abbrev g : Write
   g = write_by ctx image w t
@@ -121,7 +120,7 @@ module _ (ctx : LayoutWriterContext) (image : ℕ → ChunkData → ChunkData) (
 
   -- the write is under way there by the schedule, where no more were ready than are counted
   by_schedule : RunByIsUnderway → ((n : Note) → In n o.notes → n.ready ≤ 2 ^ 64 - 1) → UnderwayAt (scheduled g schedule) first o.notes o.stand
-  by_schedule run few = run (scheduled g schedule) first o.notes o.stand law built clean (picks_are_exact (2 ^ 64 - 1) schedule o.notes few o.picked)
+  by_schedule run few = run (scheduled g schedule) first o.notes o.stand law (all_built w) clean (picks_are_exact (2 ^ 64 - 1) schedule o.notes few o.picked)
       (schedule_is_free g first schedule (outset g) o.stand o.notes o.led)
 
   pub traced_whole : RunByIsUnderway → NotesAreWhole → ReadyIsWithinSteps → length steps < 2 ^ 64 → is_finished o.stand.machine ≡ true → o.stand.heard ≡ true
@@ -133,7 +132,7 @@ module _ (ctx : LayoutWriterContext) (image : ℕ → ChunkData → ChunkData) (
   }
     where
       few : (n : Note) → In n o.notes → n.ready ≤ 2 ^ 64 - 1
-      few n i = let a : n.ready ≤ length o.notes = within g first o.notes o.stand n law built clean o.led fin i in let b = as_many in omega (arith, a, b, short)
+      few n i = let a : n.ready ≤ length o.notes = within g first o.notes o.stand n law (all_built w) clean o.led fin i in let b = as_many in omega (arith, a, b, short)
 
       traced : WholeTrace (scheduled g schedule) o.notes (scripts_of g o.stand.taken true)
       traced = whole (scheduled g schedule) first o.notes o.stand (by_schedule run few) clean fin
@@ -146,7 +145,7 @@ module _ (ctx : LayoutWriterContext) (image : ℕ → ChunkData → ChunkData) (
       (exactly steps o.notes o.shown few)
     where
       few : (n : Note) → In n o.notes → n.ready ≤ 2 ^ 64 - 1
-      few n i = let a : n.ready ≤ work (cut (scripts g o.stand.taken f)) = within g first o.notes o.stand f n law built clean o.led may i in omega (arith, a, short)
+      few n i = let a : n.ready ≤ work (cut (scripts g o.stand.taken f)) = within g first o.notes o.stand f n law (all_built w) clean o.led may i in omega (arith, a, short)
 
   -- where the step that is picked next ends the tasks
   module _ (run : RunByIsUnderway) (within : ReadyIsWithinAll) (more : NextIsWithinWork) (told : Answer) (f : Future) (once : BeforeEnd o.stand.heard told) (may : Open (heard_by o.stand.heard told) f) (k : ℕ)
@@ -155,7 +154,7 @@ module _ (ctx : LayoutWriterContext) (image : ℕ → ChunkData → ChunkData) (
     still = open_before o.stand.heard told f once may
 
     few : (n : Note) → In n o.notes → n.ready ≤ 2 ^ 64 - 1
-    few n i = let a : n.ready ≤ work (cut (scripts g o.stand.taken (before told f))) = within g first o.notes o.stand (before told f) n law built clean o.led still i in omega (arith, a, short)
+    few n i = let a : n.ready ≤ work (cut (scripts g o.stand.taken (before told f))) = within g first o.notes o.stand (before told f) n law (all_built w) clean o.led still i in omega (arith, a, short)
 
     abbrev size : ℕ
     size = length (ready_steps g first o.stand.history told o.stand.machine)

@@ -1,13 +1,11 @@
 -- A run that is done has written the plan of all batches.
 use Rattle.std.proofs.Common.{◌≡◌, ◌+◌, ◌^◌, ◌≤◌, ◌⊎◌, ◌∷◌, ◌++◌, ◌∙◌, ℕ, suc, max, true, false, List, length, refl, sym, ap, subst, inl, inr, arith, Option, Some, None, append-nil, []}
-use Rattle.std.specs.Prelude.{IsTrue}
 use Rattle.std.proofs.lemmas.Bool.{true≢false}
 use Rattle.vx_model.specs.Ty.{Ty}
 use Rattle.vx_model.specs.ChunkData.{ChunkData}
 use Rattle.vx_fault.specs.Told.{before_told, then_told, NoneTold}
 use Rattle.vx_path.specs.Path.{root_eof}
 use Rattle.vx_path.proofs.Sort.{length-sort_by}
-use Rattle.vx_layout_spec.specs.Codec.{Lawful}
 use Rattle.vx_layout_spec.specs.LayoutTree.{LayoutData}
 use Rattle.vx_layout_spec.specs.Rows.{rows}
 use Rattle.vx_layout_tree.specs.declared.layout.Layout.{Layout}
@@ -23,8 +21,8 @@ use Rattle.vx_sink.specs.declared.context.LayoutWriterContext.{LayoutWriterConte
 use Rattle.vx_sink.specs.ContextView.{is_marked}
 use Rattle.vx_write_answer.specs.declared.step.Step.{Step}
 use Rattle.vx_machine_promises.specs.Write.{Write}
+use Rattle.vx_machine_view.specs.Images.{Careful}
 use Rattle.vx_machine_view.specs.Acts.{layouts_in}
-use Rattle.vx_machine_view.specs.Built.{is_built}
 use Rattle.vx_machine_view.specs.Start.{first_indices}
 use Rattle.vx_machine_view.specs.Machine.{Machine, is_finished}
 use Rattle.vx_machine_view.specs.Whole.{form_of}
@@ -43,6 +41,8 @@ use Rattle.vx_machine_ran.specs.Ran.{write_by, OwnSink, Onward}
 use Rattle.vx_machine_ran.specs.Runs.{AllDone, DoneIsWritten, RunsLeaveSinks}
 use Rattle.vx_machine_ran.specs.Traced.{IsTraced, Traced}
 use Rattle.vx_machine_ran.specs.Written.{Planned, Wrote}
+use Rattle.vx_machine.proofs.BuiltSteps.{all_built}
+use Rattle.vx_machine_ran.proofs.Imaging.{keeps_careful}
 use Rattle.vx_machine_ran.proofs.Leading.{runs_are_led}
 use Rattle.vx_machine_ran.proofs.Tracing.{appends_are, traced_whole}
 
@@ -72,11 +72,11 @@ module _ (ctx : LayoutWriterContext) (image : ℕ → ChunkData → ChunkData) (
   abbrev g : Write
   g = write_by ctx image w t
 
-  module _ (law : Lawful (setting_of ctx image).codec (setting_of ctx image).encodings) (built : IsTrue (is_built w)) (clean : start_fault (setting_of ctx image) w t (is_marked ctx) ≡ None)
+  module _ (law : Careful (setting_of ctx image)) (clean : start_fault (setting_of ctx image) w t (is_marked ctx) ≡ None)
       (schedule : List ℕ) (steps : List Step) (y : At) (o : Onward g to_come borrow first before schedule 0 (outset g) steps y) where
     -- the write is under way there, by the places that were picked
     pub under : RunIsUnderway → UnderwayAt (scheduled g (places o.notes)) first o.notes o.stand
-    under run = run (scheduled g (places o.notes)) first o.notes o.stand law built clean refl (schedule_is_free g first (places o.notes) (outset g) o.stand o.notes o.led)
+    under run = run (scheduled g (places o.notes)) first o.notes o.stand law (all_built w) clean refl (schedule_is_free g first (places o.notes) (outset g) o.stand o.notes o.led)
 
     abbrev End : Layout → Type 0
     End layout = Whole (scheduled g (places o.notes)) first o.stand × (is_finished o.stand.machine ≡ true) × (layout_data layout ≡ numbered (plan_of g o.stand.taken true) first)
@@ -97,13 +97,13 @@ module _ (ctx : LayoutWriterContext) (image : ℕ → ChunkData → ChunkData) (
         one a b e = cc
 
     -- by the plan of the batches that were taken
-    wrote_taken : NumbersFit → RowsComeBack → Keeps (setting_of ctx image) → AllBelow (2 ^ 64) (first_indices (form_of g) root_eof) → (layout : Layout) → End layout
+    wrote_taken : NumbersFit → RowsComeBack → Keeps (setting_of ctx image) → AllBelow (2 ^ 64) (first_indices (form_of g) (is_marked ctx) root_eof) → (layout : Layout) → End layout
         → (next : ℕ) (now : Option (List (List ℕ))) → (next ≡ first + length o.stand.history) × (now ≡ then_told before (stored o.stand.history))
         → Wrote t first next before now (layout_data layout) o.stand.taken (plan_of g o.stand.taken true)
     wrote_taken fit back keeps starts layout (h, fin, laid) next now s =
         let p : Plan = plan_of g o.stand.taken true in
         let all : AllOf t o.stand.taken = taken_are_whole g first o.notes o.stand o.led o.whole in
-        let numbers : Fit p.numbers = fit g first o.notes o.stand law built clean o.led fin starts o.counts in
+        let numbers : Fit p.numbers = fit g first o.notes o.stand law (all_built w) clean o.led fin starts o.counts in
         let some : length o.stand.history ≡ length p.pairs = ap length h.appended ∙ length-sort_by path_of p.pairs in
         record {
           laid = laid;
@@ -119,16 +119,19 @@ module _ (ctx : LayoutWriterContext) (image : ℕ → ChunkData → ChunkData) (
         }
 
 pub done_is_written : RunIsUnderway → RunByIsUnderway → EndsWhole → NotesAreWhole → ReadyIsWithinSteps → NumbersFit → RowsComeBack → DoneIsWritten
-done_is_written run by ends traces within fit back ctx image w t schedule to_come to_come_now borrow first before steps outlet l keeps built clean starts short r =
-    ended (end_is ctx image w t to_come borrow first before keeps.codec built clean schedule steps r.end o run ends l r.left)
+done_is_written run by ends traces within fit back ctx image w t schedule to_come to_come_now borrow first before steps outlet l keeps clean starts short r =
+    ended (end_is ctx image w t to_come borrow first before law clean schedule steps r.end o run ends l r.left)
   where
     g : Write
     g = write_by ctx image w t
 
+    law : Careful (setting_of ctx image)
+    law = keeps_careful ctx image keeps
+
     o : Onward g to_come borrow first before schedule 0 (outset g) steps r.end
     o = runs_are_led ctx image w t schedule to_come borrow first before steps r.end r.ran
 
-    ended : (layout : Layout) × (l ≡ Some layout) × End ctx image w t to_come borrow first before keeps.codec built clean schedule steps r.end o layout
+    ended : (layout : Layout) × (l ≡ Some layout) × End ctx image w t to_come borrow first before law clean schedule steps r.end o layout
         → (layout : Layout) × (l ≡ Some layout) × NoneTold to_come_now × AllDone g to_come schedule first before steps outlet layout
     ended (layout, is, e) = (layout, is, none, (written, traced))
       where
@@ -145,7 +148,7 @@ done_is_written run by ends traces within fit back ctx image w t schedule to_com
             → Planned (setting_of ctx image) w t (is_marked ctx) to_come (Wrote t first next before now (layout_data layout))
         all next now s xs told =
             subst (λ z. Wrote t first next before now (layout_data layout) z (source_plan (setting_of ctx image) w t (is_marked ctx) z true)) (taken_is xs told)
-            (wrote_taken ctx image w t to_come borrow first before keeps.codec built clean schedule steps r.end o fit back keeps starts layout e next now s)
+            (wrote_taken ctx image w t to_come borrow first before law clean schedule steps r.end o fit back keeps starts layout e next now s)
 
         written : OwnSink outlet (λ next now. Planned (setting_of ctx image) w t (is_marked ctx) to_come (Wrote t first next before now (layout_data layout)))
         written =
@@ -155,16 +158,16 @@ done_is_written run by ends traces within fit back ctx image w t schedule to_com
 
         traced : Traced (setting_of ctx image) w t (is_marked ctx) to_come schedule steps
         traced xs told = subst (λ z. IsTraced (setting_of ctx image) w t (is_marked ctx) schedule z steps) (taken_is xs told)
-            (traced_whole ctx image w t to_come borrow first before keeps.codec built clean schedule steps r.end o by traces within short e.1 e.0.heard)
+            (traced_whole ctx image w t to_come borrow first before law clean schedule steps r.end o by traces within short e.1 e.0.heard)
 
 -- ---- what is left of the sink
 
 pub runs_leave_sinks : RunIsUnderway → RunsLeaveSinks
-runs_leave_sinks run ctx image w t schedule to_come borrow first before steps y law built clean r = (
+runs_leave_sinks run ctx image w t schedule to_come borrow first before steps y law clean r = (
   own_more y.outlet (λ next now. (next ≡ first + length o.stand.history) × (now ≡ then_told before (stored o.stand.history))) (λ next now. (next ≤ max first (2 ^ 32)) × (next ≡ first + appends_in steps))
       o.same.sink (λ next now s. (
         subst (λ z. z ≤ max first (2 ^ 32)) (sym s.0) (at_most first (length o.stand.history) o.same.numbered),
-        s.0 ∙ ap (λ z. first + z) (appends_are ctx image w t to_come borrow first before law built clean schedule steps y o u),
+        s.0 ∙ ap (λ z. first + z) (appends_are ctx image w t to_come borrow first before law clean schedule steps y o u),
       )),
   o.same.borrowed,
 )
@@ -173,4 +176,4 @@ runs_leave_sinks run ctx image w t schedule to_come borrow first before steps y 
     o = runs_are_led ctx image w t schedule to_come borrow first before steps y r
 
     u : UnderwayAt (scheduled (write_by ctx image w t) (places o.notes)) first o.notes o.stand
-    u = under ctx image w t to_come borrow first before law built clean schedule steps y o run
+    u = under ctx image w t to_come borrow first before law clean schedule steps y o run

@@ -11,18 +11,16 @@ use Rattle.vx_plan.specs.PlanData.{Setting}
 use Rattle.vx_plan.specs.Valid.{Valid, Keeps}
 use Rattle.vx_order.specs.Outlet.{Outlet}
 use Rattle.vx_sink.specs.declared.context.LayoutWriterContext.{LayoutWriterContext}
-use Rattle.vx_sink.specs.ContextView.{is_marked, counted}
+use Rattle.vx_sink.specs.ContextView.{allowed_in, is_marked, counted}
 use Rattle.vx_write_answer.specs.declared.step.Step.{Step}
 use Rattle.vx_write_answer.specs.declared.error.WriteError.{WriteError}
-use Rattle.vx_write_answer.specs.declared.error.WriteError.TheVariants.{SourceFault, SinkFault, BatchType, OutOfMemory}
-use Rattle.vx_machine_view.specs.Built.{is_built}
+use Rattle.vx_write_answer.specs.declared.error.WriteError.TheVariants.{SourceFault, SinkFault, CompressFault, BatchType, OutOfMemory}
 use Rattle.vx_machine_view.specs.Start.{first_indices}
 use Rattle.vx_machine_view.specs.Machine.{start}
-use Rattle.vx_machine.specs.Context.{setting_of}
+use Rattle.vx_machine.specs.Context.{Allowed, setting_of}
 use Rattle.vx_machine.specs.Outcome.{AllFit, Kept}
-use Rattle.vx_machine.specs.TaskStarting.{IsAllowed}
+use Rattle.vx_machine.specs.TaskStarting.{IsAllowed, FormRefused}
 use Rattle.vx_machine.specs.Calls.{reads_at}
-use Rattle.vx_machine.specs.Starting.{WholeRefused}
 use Rattle.vx_machine.specs.Run.{At, at, RunDone, RunStopped, picked_at}
 use Rattle.vx_machine.specs.TaskView.{form_at}
 use Rattle.vx_machine_ran.specs.Ran.{OwnSink, own_sink}
@@ -35,31 +33,30 @@ abbrev pub begun : StrategyData → Ty → Bool → Option (List ChunkData) → 
 begun w t m to_come outlet = at (start (form_at w t) m) to_come outlet
 
 -- a machine was started
-pub record IsStarted (w : StrategyData) (t : Ty) (m : Bool) : Type 0 where
-  pub built : is_built w ≡ true
-  pub allowed : IsAllowed (form_at w t) m
-  pub counted : AllFit (first_indices (form_at w t) root_eof)
+pub record IsStarted (a : Allowed) (w : StrategyData) (t : Ty) (m : Bool) : Type 0 where
+  pub allowed : IsAllowed a (form_at w t) m
+  pub counted : AllFit (first_indices (form_at w t) m root_eof)
 
 -- none was, for want of memory or since its start is refused; the source wasn't asked, nothing was appended, and there is no step
-pub record Unstarted (w : StrategyData) (t : Ty) (m : Bool) (to_come to_come_now : Option (List ChunkData)) (before after : Outlet) (steps : List Step) (e : WriteError) : Type 0 where
-  pub cause : (e ≡ OutOfMemory) ⊎ WholeRefused (is_built w) (form_at w t) m root_eof e
+pub record Unstarted (a : Allowed) (w : StrategyData) (t : Ty) (m : Bool) (to_come to_come_now : Option (List ChunkData)) (before after : Outlet) (steps : List Step) (e : WriteError) : Type 0 where
+  pub cause : (e ≡ OutOfMemory) ⊎ FormRefused a (form_at w t) m root_eof e
   pub told : to_come_now ≡ to_come
   pub kept : Kept before after
   pub none : steps ≡ []
 
 -- One was started and ran, if the start wasn't refused.
 
-abbrev pub HasRun : LayoutWriterContext → StrategyData → Ty → List ℕ → Option (List ChunkData) → Outlet → List Step → Option (List ChunkData) → Outlet → Option Layout → Type 0
-HasRun ctx w t schedule to_come before steps to_come_now after l = IsStarted w t (is_marked ctx) × RunDone ctx t schedule (begun w t (is_marked ctx) to_come before) steps to_come_now after l
+abbrev pub HasRun : LayoutWriterContext → (ℕ → ChunkData → ChunkData) → StrategyData → Ty → List ℕ → Option (List ChunkData) → Outlet → List Step → Option (List ChunkData) → Outlet → Option Layout → Type 0
+HasRun ctx image w t schedule to_come before steps to_come_now after l = IsStarted (allowed_in ctx) w t (is_marked ctx) × RunDone ctx image t schedule (begun w t (is_marked ctx) to_come before) steps to_come_now after l
 
-abbrev pub HasStopped : LayoutWriterContext → StrategyData → Ty → List ℕ → Option (List ChunkData) → Outlet → List Step → Option (List ChunkData) → Outlet → WriteError → Type 0
-HasStopped ctx w t schedule to_come before steps to_come_now after e =
-    Unstarted w t (is_marked ctx) to_come to_come_now before after steps e
-    ⊎ (IsStarted w t (is_marked ctx) × RunStopped ctx t schedule (begun w t (is_marked ctx) to_come before) steps to_come_now after e)
+abbrev pub HasStopped : LayoutWriterContext → (ℕ → ChunkData → ChunkData) → StrategyData → Ty → List ℕ → Option (List ChunkData) → Outlet → List Step → Option (List ChunkData) → Outlet → WriteError → Type 0
+HasStopped ctx image w t schedule to_come before steps to_come_now after e =
+    Unstarted (allowed_in ctx) w t (is_marked ctx) to_come to_come_now before after steps e
+    ⊎ (IsStarted (allowed_in ctx) w t (is_marked ctx) × RunStopped ctx image t schedule (begun w t (is_marked ctx) to_come before) steps to_come_now after e)
 
-abbrev pub Answered : LayoutWriterContext → StrategyData → Ty → List ℕ → Option (List ChunkData) → Outlet → List Step → Option (List ChunkData) → Outlet → Result (Option Layout) WriteError → Type 0
-Answered ctx w t schedule to_come before steps to_come_now after r =
-    MatchResult r (HasRun ctx w t schedule to_come before steps to_come_now after) (HasStopped ctx w t schedule to_come before steps to_come_now after)
+abbrev pub Answered : LayoutWriterContext → (ℕ → ChunkData → ChunkData) → StrategyData → Ty → List ℕ → Option (List ChunkData) → Outlet → List Step → Option (List ChunkData) → Outlet → Result (Option Layout) WriteError → Type 0
+Answered ctx image w t schedule to_come before steps to_come_now after r =
+    MatchResult r (HasRun ctx image w t schedule to_come before steps to_come_now after) (HasStopped ctx image w t schedule to_come before steps to_come_now after)
 
 -- ---- against the plan
 
@@ -73,7 +70,7 @@ WroteAll s w t m first next to_come to_come_now before now schedule steps l =
 abbrev pub AnswersAreWritten : Type 0
 AnswersAreWritten = (ctx : LayoutWriterContext) (image : ℕ → ChunkData → ChunkData) (w : StrategyData) (t : Ty) (schedule : List ℕ) (to_come to_come_now : Option (List ChunkData)) (borrow first : ℕ)
     (before : Option (List (List ℕ))) (steps : List Step) (after : Outlet) (r : Result (Option Layout) WriteError) → Keeps (setting_of ctx image) → length steps < 2 ^ 64
-    → Answered ctx w t schedule to_come (own_sink borrow first before) steps to_come_now after r
+    → Answered ctx image w t schedule to_come (own_sink borrow first before) steps to_come_now after r
     → OwnSink after (λ next now. MatchResult r (WroteAll (setting_of ctx image) w t (is_marked ctx) first next to_come to_come_now before now schedule steps)
     (Halted (setting_of ctx image) w t (is_marked ctx) (counted ctx) first next to_come to_come_now before now schedule steps))
 
@@ -81,22 +78,22 @@ AnswersAreWritten = (ctx : LayoutWriterContext) (image : ℕ → ChunkData → C
 abbrev pub AnswersLeaveSinks : Type 0
 AnswersLeaveSinks = (ctx : LayoutWriterContext) (image : ℕ → ChunkData → ChunkData) (w : StrategyData) (t : Ty) (schedule : List ℕ) (to_come to_come_now : Option (List ChunkData)) (borrow first : ℕ)
     (before : Option (List (List ℕ))) (steps : List Step) (after : Outlet) (r : Result (Option Layout) WriteError) → Keeps (setting_of ctx image)
-    → Answered ctx w t schedule to_come (own_sink borrow first before) steps to_come_now after r → IsLeft borrow first steps after
+    → Answered ctx image w t schedule to_come (own_sink borrow first before) steps to_come_now after r → IsLeft borrow first steps after
 
 -- what comes from outside
 abbrev pub IsOutside : WriteError → Type 0
-IsOutside e = (e ≡ OutOfMemory) ⊎ (e ≡ SourceFault) ⊎ (e ≡ SinkFault)
+IsOutside e = (e ≡ OutOfMemory) ⊎ (e ≡ SourceFault) ⊎ (e ≡ SinkFault) ⊎ (e ≡ CompressFault)
 
--- where the source tells a valid input of a strategy that is built, nothing else is refused
+-- where the source tells a valid input, nothing else is refused
 abbrev pub AnswersAreComplete : Type 0
 AnswersAreComplete = (ctx : LayoutWriterContext) (image : ℕ → ChunkData → ChunkData) (w : StrategyData) (t : Ty) (schedule : List ℕ) (to_come to_come_now : Option (List ChunkData)) (borrow first : ℕ)
     (before : Option (List (List ℕ))) (steps : List Step) (after : Outlet) (e : WriteError) → Keeps (setting_of ctx image)
-    → Answered ctx w t schedule to_come (own_sink borrow first before) steps to_come_now after (Err e)
-    → (xs : List ChunkData) → to_come ≡ Some xs → is_built w ≡ true → Valid (setting_of ctx image) w t (is_marked ctx) first (counted ctx) xs → IsOutside e
+    → Answered ctx image w t schedule to_come (own_sink borrow first before) steps to_come_now after (Err e)
+    → (xs : List ChunkData) → to_come ≡ Some xs → Valid (setting_of ctx image) w t (is_marked ctx) first (counted ctx) xs → IsOutside e
 
 -- and a batch of another type is found where the source reads
 abbrev pub MisfitsAreRead : Type 0
 MisfitsAreRead = (ctx : LayoutWriterContext) (image : ℕ → ChunkData → ChunkData) (w : StrategyData) (t : Ty) (schedule : List ℕ) (to_come to_come_now : Option (List ChunkData)) (borrow first : ℕ)
-    (before : Option (List (List ℕ))) (steps : List Step) (after : Outlet) (c : ChunkData) → Keeps (setting_of ctx image) → IsStarted w t (is_marked ctx)
-    → (r : RunStopped ctx t schedule (begun w t (is_marked ctx) to_come (own_sink borrow first before)) steps to_come_now after (BatchType c))
+    (before : Option (List (List ℕ))) (steps : List Step) (after : Outlet) (c : ChunkData) → Keeps (setting_of ctx image) → IsStarted (allowed_in ctx) w t (is_marked ctx)
+    → (r : RunStopped ctx image t schedule (begun w t (is_marked ctx) to_come (own_sink borrow first before)) steps to_come_now after (BatchType c))
     → reads_at r.end.machine.phase (picked_at schedule (length steps) r.end.machine) ≡ true

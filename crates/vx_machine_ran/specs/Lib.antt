@@ -5,7 +5,7 @@ pub mod Tracking
 pub mod Written
 pub mod Runs
 pub mod Answered
-pub use Rattle.vx_machine_view.specs.Built
+pub use Rattle.vx_machine_view.specs.Images
 pub use Rattle.vx_machine_view.specs.Machine
 pub use Rattle.vx_machine_view.specs.Start
 pub use Rattle.vx_plan.specs.Number

@@ -68,5 +68,5 @@ pub record Onward (g : Write) (to_come : Option (List ChunkData)) (borrow first 
 -- so it is of each run from the start, over a sink that nobody else uses
 abbrev pub RunsAreLed : Type 0
 RunsAreLed = (ctx : LayoutWriterContext) (image : ℕ → ChunkData → ChunkData) (w : StrategyData) (t : Ty) (schedule : List ℕ) (to_come : Option (List ChunkData)) (borrow first : ℕ)
-    (before : Option (List (List ℕ))) (steps : List Step) (y : At) → Ran ctx t schedule 0 (at_start (write_by ctx image w t) to_come borrow first before) steps y
+    (before : Option (List (List ℕ))) (steps : List Step) (y : At) → Ran ctx image t schedule 0 (at_start (write_by ctx image w t) to_come borrow first before) steps y
     → Onward (write_by ctx image w t) to_come borrow first before schedule 0 (outset (write_by ctx image w t)) steps y

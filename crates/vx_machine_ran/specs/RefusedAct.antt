@@ -16,8 +16,7 @@ use Rattle.vx_machine_steps.specs.Runs.{acts_of}
 use Rattle.vx_machine_steps.specs.StartPlanned.{machine_fuel, started}
 use Rattle.vx_write_answer.specs.declared.step.Step.{Step}
 use Rattle.vx_write_answer.specs.declared.error.WriteError.{WriteError}
-use Rattle.vx_write_answer.specs.declared.error.WriteError.TheVariants.{SourceFault, SinkFault, CompressFault, BatchType, NotStruct, DuplicateField, ManyChunks, EmptyList, ZoneCut, ForbiddenAggregate, ForbiddenEncoding, TooLarge, OutOfMemory, Unbuilt, Stopped}
-use Rattle.vx_machine_view.specs.Built.{is_built}
+use Rattle.vx_write_answer.specs.declared.error.WriteError.TheVariants.{SourceFault, SinkFault, CompressFault, BatchType, NotStruct, DuplicateField, ManyChunks, EmptyList, ZoneCut, ForbiddenAggregate, ForbiddenEncoding, TooLarge, OutOfMemory, Stopped}
 use Rattle.vx_machine_view.specs.Start.{first_indices}
 use Rattle.vx_machine.specs.Outcome.{action_of, Past}
 use Rattle.vx_machine.specs.Ready.{counted}
@@ -84,16 +83,15 @@ IsOwn m counts heard next (ForbiddenAggregate id) = m.act.refusal ≡ Some (forb
 IsOwn m counts heard next (ForbiddenEncoding id) = m.act.refusal ≡ Some (forbidden_encoding id)
 IsOwn m counts heard next (TooLarge n) = CountsPast m counts next n
 IsOwn m counts heard next OutOfMemory = Unit {0}
-IsOwn m counts heard next Unbuilt = ⊥
 IsOwn m counts heard next (Stopped by name) = ⊥
 
--- a start is refused: by what the plan refuses there, for a pointer that comes too far, or since the strategy isn't built
+-- a start is refused: by what the plan refuses there, or for a pointer that comes too far
 abbrev pub StartRefuses : Setting → StrategyData → Ty → Bool → WriteError → Type 0
 StartRefuses s w t m NotStruct = start_fault s w t m ≡ Some not_struct
 StartRefuses s w t m (DuplicateField name) = start_fault s w t m ≡ Some (duplicate_field name)
-StartRefuses s w t m (TooLarge n) = (n ≡ 2 ^ 64) × TooFar (first_indices (form_at w t) root_eof)
+StartRefuses s w t m (ForbiddenAggregate id) = start_fault s w t m ≡ Some (forbidden_aggregate id)
+StartRefuses s w t m (TooLarge n) = (n ≡ 2 ^ 64) × TooFar (first_indices (form_at w t) m root_eof)
 StartRefuses s w t m OutOfMemory = Unit {0}
-StartRefuses s w t m Unbuilt = is_built w ≡ false
 StartRefuses s w t m e = ⊥
 
 -- The write was refused at its start, before any batch, or at the act that comes next.

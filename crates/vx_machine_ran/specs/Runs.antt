@@ -1,10 +1,9 @@
--- What a run of the machine in code has written, of a built strategy whose start refuses nothing, over a sink that nobody else uses.
-use Rattle.std.specs.Prelude.{◌≡◌, ℕ, ◌+◌, ◌^◌, ◌<◌, ◌≤◌, max, Bool, true, false, List, length, Option, Some, None, IsTrue}
+-- What a run of the machine in code has written, of a strategy whose start refuses nothing, over a sink that nobody else uses.
+use Rattle.std.specs.Prelude.{◌≡◌, ℕ, ◌+◌, ◌^◌, ◌<◌, ◌≤◌, max, Bool, true, List, length, Option, Some, None}
 use Rattle.vx_model.specs.Ty.{Ty}
 use Rattle.vx_model.specs.ChunkData.{ChunkData}
 use Rattle.vx_fault.specs.Told.{NoneTold}
 use Rattle.vx_path.specs.Path.{root_eof}
-use Rattle.vx_layout_spec.specs.Codec.{Lawful}
 use Rattle.vx_layout_tree.specs.declared.layout.Layout.{Layout}
 use Rattle.vx_layout_tree.specs.LayoutView.{layout_data}
 use Rattle.vx_strategy_spec.specs.StrategyData.{StrategyData}
@@ -16,7 +15,7 @@ use Rattle.vx_sink.specs.ContextView.{is_marked}
 use Rattle.vx_write_answer.specs.declared.step.Step.{Step}
 use Rattle.vx_write_answer.specs.declared.error.WriteError.{WriteError}
 use Rattle.vx_machine_promises.specs.Write.{Write, Future, Open, planned}
-use Rattle.vx_machine_view.specs.Built.{is_built}
+use Rattle.vx_machine_view.specs.Images.{Careful}
 use Rattle.vx_machine_view.specs.Start.{first_indices}
 use Rattle.vx_machine_view.specs.Whole.{form_of}
 use Rattle.vx_machine_runs.specs.Numbers.{AllBelow}
@@ -40,9 +39,9 @@ AllDone g to_come schedule first before steps outlet layout =
 -- a run that is done gives a layout, and the source has ended
 abbrev pub DoneIsWritten : Type 0
 DoneIsWritten = (ctx : LayoutWriterContext) (image : ℕ → ChunkData → ChunkData) (w : StrategyData) (t : Ty) (schedule : List ℕ) (to_come to_come_now : Option (List ChunkData)) (borrow first : ℕ)
-    (before : Option (List (List ℕ))) (steps : List Step) (outlet : Outlet) (l : Option Layout) → Keeps (setting_of ctx image) → IsTrue (is_built w)
-    → start_fault (setting_of ctx image) w t (is_marked ctx) ≡ None → AllBelow (2 ^ 64) (first_indices (form_of (write_by ctx image w t)) root_eof) → length steps < 2 ^ 64
-    → RunDone ctx t schedule (at_start (write_by ctx image w t) to_come borrow first before) steps to_come_now outlet l
+    (before : Option (List (List ℕ))) (steps : List Step) (outlet : Outlet) (l : Option Layout) → Keeps (setting_of ctx image)
+    → start_fault (setting_of ctx image) w t (is_marked ctx) ≡ None → AllBelow (2 ^ 64) (first_indices (form_of (write_by ctx image w t)) (is_marked ctx) root_eof) → length steps < 2 ^ 64
+    → RunDone ctx image t schedule (at_start (write_by ctx image w t) to_come borrow first before) steps to_come_now outlet l
     → (layout : Layout) × (l ≡ Some layout) × NoneTold to_come_now × AllDone (write_by ctx image w t) to_come schedule first before steps outlet layout
 
 -- ---- stopped
@@ -54,16 +53,16 @@ pub record Halts (g : Write) (first next : ℕ) (to_come_before to_come_now : Op
   pub front : (f : Future) → Open heard f → AreFirst stand.appended (planned g (of_schema g.type stand.taken) f)
   pub typed : heard ≡ true → OfSchema g.type stand.taken
   pub ended : heard ≡ true → NoneTold to_come_now
-  pub cause : (f : Future) → Open heard f → HasCause g.type (is_built g.way ≡ false) (Passes g (of_schema g.type stand.taken) f steps) (planned g (of_schema g.type stand.taken) f) stand.taken next (length stand.appended) e
+  pub cause : (f : Future) → Open heard f → HasCause g.type (Passes g (of_schema g.type stand.taken) f steps) (planned g (of_schema g.type stand.taken) f) stand.taken next (length stand.appended) e
   pub traced : StepsAreFirst (tasks_of g.setting g.way g.type g.mark (of_schema g.type stand.taken) heard) schedule steps e
   pub asked : AskedInSteps stand.taken heard steps e
   pub refused : RefusedThere g.setting g.way g.type g.mark g.tracker (of_schema g.type stand.taken) heard next schedule steps e
 
 abbrev pub StoppedHalts : Type 0
 StoppedHalts = (ctx : LayoutWriterContext) (image : ℕ → ChunkData → ChunkData) (w : StrategyData) (t : Ty) (schedule : List ℕ) (to_come to_come_now : Option (List ChunkData)) (borrow first : ℕ)
-    (before : Option (List (List ℕ))) (steps : List Step) (outlet : Outlet) (e : WriteError) → Lawful (setting_of ctx image).codec (setting_of ctx image).encodings → IsTrue (is_built w)
+    (before : Option (List (List ℕ))) (steps : List Step) (outlet : Outlet) (e : WriteError) → Careful (setting_of ctx image)
     → start_fault (setting_of ctx image) w t (is_marked ctx) ≡ None
-    → RunStopped ctx t schedule (at_start (write_by ctx image w t) to_come borrow first before) steps to_come_now outlet e
+    → RunStopped ctx image t schedule (at_start (write_by ctx image w t) to_come borrow first before) steps to_come_now outlet e
     → OwnSink outlet (λ next now. Halts (write_by ctx image w t) first next to_come to_come_now before now schedule steps e)
 
 -- ---- either
@@ -74,5 +73,5 @@ IsLeft borrow first steps outlet = OwnSink outlet (λ next now. (next ≤ max fi
 
 abbrev pub RunsLeaveSinks : Type 0
 RunsLeaveSinks = (ctx : LayoutWriterContext) (image : ℕ → ChunkData → ChunkData) (w : StrategyData) (t : Ty) (schedule : List ℕ) (to_come : Option (List ChunkData)) (borrow first : ℕ)
-    (before : Option (List (List ℕ))) (steps : List Step) (y : At) → Lawful (setting_of ctx image).codec (setting_of ctx image).encodings → IsTrue (is_built w)
-    → start_fault (setting_of ctx image) w t (is_marked ctx) ≡ None → Ran ctx t schedule 0 (at_start (write_by ctx image w t) to_come borrow first before) steps y → IsLeft borrow first steps y.outlet
+    (before : Option (List (List ℕ))) (steps : List Step) (y : At) → Careful (setting_of ctx image)
+    → start_fault (setting_of ctx image) w t (is_marked ctx) ≡ None → Ran ctx image t schedule 0 (at_start (write_by ctx image w t) to_come borrow first before) steps y → IsLeft borrow first steps y.outlet

@@ -10,7 +10,7 @@ use Rattle.vx_plan.specs.PlanData.{Setting}
 use Rattle.vx_machine_steps.specs.StartPlanned.{started_forest}
 use Rattle.vx_write_answer.specs.declared.step.Step.{Step}
 use Rattle.vx_write_answer.specs.declared.error.WriteError.{WriteError}
-use Rattle.vx_write_answer.specs.declared.error.WriteError.TheVariants.{BatchType, NotStruct, DuplicateField, ManyChunks, EmptyList, ForbiddenEncoding}
+use Rattle.vx_write_answer.specs.declared.error.WriteError.TheVariants.{BatchType, NotStruct, DuplicateField, ManyChunks, EmptyList, ZoneCut, ForbiddenAggregate, ForbiddenEncoding}
 use Rattle.vx_machine_view.specs.Steps.{AllPairs}
 use Rattle.vx_machine.specs.Calls.{reads_in}
 use Rattle.vx_machine.specs.Outcome.{action_of}
@@ -44,6 +44,8 @@ IsRefusal NotStruct = Unit {0}
 IsRefusal (DuplicateField name) = Unit {0}
 IsRefusal ManyChunks = Unit {0}
 IsRefusal EmptyList = Unit {0}
+IsRefusal (ZoneCut n) = Unit {0}
+IsRefusal (ForbiddenAggregate id) = Unit {0}
 IsRefusal (ForbiddenEncoding id) = Unit {0}
 IsRefusal e = ⊥
 

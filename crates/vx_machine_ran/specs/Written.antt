@@ -7,14 +7,13 @@ use Rattle.vx_layout_spec.specs.LayoutTree.{LayoutData}
 use Rattle.vx_layout_spec.specs.Rows.{rows}
 use Rattle.vx_segment_reader.specs.Codec.{segment_codec}
 use Rattle.vx_strategy_spec.specs.StrategyData.{StrategyData}
-use Rattle.vx_plan.specs.PlanData.{Setting, Plan, not_struct, duplicate_field, many_chunks, empty_list, forbidden_encoding}
+use Rattle.vx_plan.specs.PlanData.{Setting, Plan, not_struct, duplicate_field, many_chunks, empty_list, zone_cut, forbidden_aggregate, forbidden_encoding}
 use Rattle.vx_plan.specs.Number.{segments, numbered, segment_at}
 use Rattle.vx_plan.specs.SourcePlan.{of_schema, source_plan, taken_plan, source_values}
 use Rattle.vx_plan.specs.Valid.{Fit, IsPast, OfSchema, AllOf, Has}
 use Rattle.vx_write_answer.specs.declared.step.Step.{Step}
 use Rattle.vx_write_answer.specs.declared.error.WriteError.{WriteError}
-use Rattle.vx_write_answer.specs.declared.error.WriteError.TheVariants.{SourceFault, SinkFault, CompressFault, BatchType, NotStruct, DuplicateField, ManyChunks, EmptyList, ZoneCut, ForbiddenAggregate, ForbiddenEncoding, TooLarge, OutOfMemory, Unbuilt, Stopped}
-use Rattle.vx_machine_view.specs.Built.{is_built}
+use Rattle.vx_write_answer.specs.declared.error.WriteError.TheVariants.{SourceFault, SinkFault, CompressFault, BatchType, NotStruct, DuplicateField, ManyChunks, EmptyList, ZoneCut, ForbiddenAggregate, ForbiddenEncoding, TooLarge, OutOfMemory, Stopped}
 use Rattle.vx_machine.specs.Calls.{reads_in, misfits}
 use Rattle.vx_machine_promises.specs.Write.{Write}
 use Rattle.vx_machine_ran.specs.Traced.{tasks_of, StepsAreFirst, answers_in, IsLate}
@@ -73,23 +72,22 @@ abbrev pub NeedsNumber : Plan → ℕ → ℕ → ℕ → Type 0
 NeedsNumber p next stand n = (n ≡ next) × (2 ^ 32 ≤ n) × (stand < length p.pairs)
 
 -- The cause of an error, by the plan of the batches taken: a table, one line an error. Faults are told by counts, and memory may run
--- out; `unbuilt` says that a form isn't built, and `passes` what the tracker would count behind the steps, past 64 bits.
-abbrev pub HasCause : Ty → Type 0 → (ℕ → Type 0) → Plan → List ChunkData → ℕ → ℕ → WriteError → Type 0
-HasCause t unbuilt passes p taken next stand (BatchType c) = (¬ (piece_type c ≡ t)) × TookLast taken c
-HasCause t unbuilt passes p taken next stand NotStruct = Has not_struct p.faults
-HasCause t unbuilt passes p taken next stand (DuplicateField name) = Has (duplicate_field name) p.faults
-HasCause t unbuilt passes p taken next stand ManyChunks = Has many_chunks p.faults
-HasCause t unbuilt passes p taken next stand EmptyList = Has empty_list p.faults
-HasCause t unbuilt passes p taken next stand (ForbiddenEncoding id) = Has (forbidden_encoding id) p.faults
-HasCause t unbuilt passes p taken next stand (TooLarge n) = NeedsNumber p next stand n ⊎ IsPast n p.numbers ⊎ passes n
-HasCause t unbuilt passes p taken next stand SourceFault = Unit {0}
-HasCause t unbuilt passes p taken next stand SinkFault = Unit {0}
-HasCause t unbuilt passes p taken next stand OutOfMemory = Unit {0}
-HasCause t unbuilt passes p taken next stand Unbuilt = unbuilt
-HasCause t unbuilt passes p taken next stand CompressFault = ⊥
-HasCause t unbuilt passes p taken next stand (ZoneCut n) = ⊥
-HasCause t unbuilt passes p taken next stand (ForbiddenAggregate id) = ⊥
-HasCause t unbuilt passes p taken next stand (Stopped by name) = ⊥
+-- out; `passes` says what the tracker would count behind the steps, past 64 bits.
+abbrev pub HasCause : Ty → (ℕ → Type 0) → Plan → List ChunkData → ℕ → ℕ → WriteError → Type 0
+HasCause t passes p taken next stand (BatchType c) = (¬ (piece_type c ≡ t)) × TookLast taken c
+HasCause t passes p taken next stand NotStruct = Has not_struct p.faults
+HasCause t passes p taken next stand (DuplicateField name) = Has (duplicate_field name) p.faults
+HasCause t passes p taken next stand ManyChunks = Has many_chunks p.faults
+HasCause t passes p taken next stand EmptyList = Has empty_list p.faults
+HasCause t passes p taken next stand (ForbiddenEncoding id) = Has (forbidden_encoding id) p.faults
+HasCause t passes p taken next stand (TooLarge n) = NeedsNumber p next stand n ⊎ IsPast n p.numbers ⊎ passes n
+HasCause t passes p taken next stand SourceFault = Unit {0}
+HasCause t passes p taken next stand SinkFault = Unit {0}
+HasCause t passes p taken next stand OutOfMemory = Unit {0}
+HasCause t passes p taken next stand CompressFault = Unit {0}
+HasCause t passes p taken next stand (ZoneCut n) = Has (zone_cut n) p.faults
+HasCause t passes p taken next stand (ForbiddenAggregate id) = Has (forbidden_aggregate id) p.faults
+HasCause t passes p taken next stand (Stopped by name) = ⊥
 
 -- the source's answers were asked in steps; a batch of another type in none, nor one behind which the act was refused
 abbrev pub AskedInSteps : List ChunkData → Bool → List Step → WriteError → Type 0
@@ -106,7 +104,7 @@ pub record Halted (s : Setting) (w : StrategyData) (t : Ty) (m : Bool) (tracker 
   pub stand : Stands (λ taken. taken_plan s w t m taken heard) first next to_come_before to_come_now before now
   pub front : AreFirstOfAll s w t m to_come_before stand.appended
   pub ended : heard ≡ true → NoneTold to_come_now
-  pub cause : HasCause t (is_built w ≡ false) (PassesAt (write_of s w t m tracker) (of_schema t stand.taken) heard steps) (taken_plan s w t m stand.taken heard) stand.taken next (length stand.appended) e
+  pub cause : HasCause t (PassesAt (write_of s w t m tracker) (of_schema t stand.taken) heard steps) (taken_plan s w t m stand.taken heard) stand.taken next (length stand.appended) e
   pub traced : StepsAreFirst (tasks_of s w t m (of_schema t stand.taken) heard) schedule steps e
   pub asked : AskedInSteps stand.taken heard steps e
   pub refused : RefusedThere s w t m tracker (of_schema t stand.taken) heard next schedule steps e

@@ -1,5 +1,5 @@
 -- What the source told in a run.
-use Rattle.std.proofs.Common.{◌≡◌, ◌+◌, ◌&&◌, ◌==◌, ◌⊎◌, ◌∷◌, ◌++◌, ◌∙◌, ℕ, zero, suc, Bool, true, false, if◌then◌else◌, cond, List, map, length, refl, sym, ap, subst, inl, inr, arith, Some, None, length-append, []}
+use Rattle.std.proofs.Common.{◌≡◌, ◌+◌, ◌&&◌, ◌==◌, ◌⊎◌, ◌∷◌, ◌++◌, ◌∙◌, ℕ, zero, suc, Bool, true, false, if◌then◌else◌, cond, List, map, length, refl, sym, ap, subst, inl, inr, arith, Option, Some, None, length-append, []}
 use Rattle.std.proofs.lemmas.Bool.{true≢false}
 use Rattle.vx_model.specs.Words.{total_by}
 use Rattle.vx_model.specs.Ty.{Ty, list, ty_eq}
@@ -10,13 +10,16 @@ use Rattle.vx_path.specs.Path.{Eof}
 use Rattle.vx_path.proofs.Lists.{in_cases, from_map}
 use Rattle.vx_tasks.specs.Task.{Kind}
 use Rattle.vx_tasks.specs.Run.{Note, nth}
+use Rattle.vx_zone_spec.specs.ZoneTable.{Filled, kept_columns}
 use Rattle.vx_plan.specs.PlanData.{Setting, Item}
+use Rattle.vx_plan.specs.DictNode.{is_dictionary}
 use Rattle.vx_plan.specs.SourcePlan.{of_schema}
 use Rattle.vx_layout_spec.specs.Real.{Of}
 use Rattle.vx_plan.specs.Valid.{OfSchema, AllOf}
 use Rattle.vx_machine_promises.specs.Write.{Write, Answer, unasked, came, over, taken_by, heard_by}
-use Rattle.vx_machine_view.specs.State.{Next, put, hand_on, append, shut_kids, join_kids, Mind, no_chunk, one_chunk, by_chunk, by_column, by_list, by_block, by_size, as_one, ending, passing, made, Desk, Tasks, no_tasks, task_then}
-use Rattle.vx_machine_view.specs.Acts.{count, column_count, take_chunk, end_columns, end_lists, take_end, do_take, do_act}
+use Rattle.vx_machine_view.specs.Zoned.{Zoner, Zones}
+use Rattle.vx_machine_view.specs.State.{Next, put, hand_on, press, probe, open_run, end_run, append, shut_kids, join_kids, start_table, leave_kid, Mind, no_chunk, one_chunk, by_chunk, by_column, by_list, by_block, by_size, as_one, by_image, as_is, by_probe, asking, by_run, by_zone, ending, passing, made, Desk, Tasks, no_tasks, task_then}
+use Rattle.vx_machine_view.specs.Acts.{count, column_count, probed, take_chunk, end_columns, end_lists, end_zones, take_end, do_take, do_act}
 use Rattle.vx_machine_view.specs.Moves.{has_room, Step, may_act, own_step, in_kids, in_rest, steps}
 use Rattle.vx_machine_view.specs.Machine.{Phase, reading, giving, closing, finished, may_source, WholeStep, source_step, in_root, machine_ids}
 use Rattle.vx_machine_view.proofs.Words.{typed_is}
@@ -40,7 +43,11 @@ module _ (s : Setting) (next : ℕ) where
   lists_quiet true t rows c ks = (refl, refl)
   lists_quiet false t rows c ks = (refl, refl)
 
-  end_quiet : (c : Desk) (ks : Tasks) (mind : Mind) → Quiet (take_end c ks mind).kind
+  zones_quiet : (table : Option (List Filled)) (g : Zoner) (e : Eof) (z : Zones) (c : Desk) (ks : Tasks) → Quiet (end_zones table g e z c ks).kind
+  zones_quiet None g e z c ks = (refl, refl)
+  zones_quiet (Some cs) g e z c ks = (refl, refl)
+
+  end_quiet : (c : Desk) (ks : Tasks) (mind : Mind) → Quiet (take_end s c ks mind).kind
   end_quiet c ks (no_chunk o t) = (refl, refl)
   end_quiet c ks (one_chunk x) = (refl, refl)
   end_quiet c ks (by_chunk m t f e rows) = (refl, refl)
@@ -51,6 +58,12 @@ module _ (s : Setting) (next : ℕ) where
   end_quiet c ks (by_size size x None rows) = (refl, refl)
   end_quiet c ks (by_size size x (Some j) rows) = (refl, refl)
   end_quiet c ks (as_one t x rows) = (refl, refl)
+  end_quiet c ks (by_image which) = (refl, refl)
+  end_quiet c ks as_is = (refl, refl)
+  end_quiet c ks (by_probe n e) = (refl, refl)
+  end_quiet c ks asking = (refl, refl)
+  end_quiet c ks (by_run n r j rows) = (refl, refl)
+  end_quiet c ks (by_zone g e z) = zones_quiet (kept_columns g.columns z.records) g e z c ks
   end_quiet c ks ending = (refl, refl)
   end_quiet c ks passing = (refl, refl)
   end_quiet c ks (made l) = (refl, refl)
@@ -66,6 +79,12 @@ module _ (s : Setting) (next : ℕ) where
   take_quiet c ks i xs (by_size size x None rows) = (refl, refl)
   take_quiet c ks i xs (by_size size x (Some j) rows) = (refl, refl)
   take_quiet c ks i xs (as_one t x rows) = (refl, refl)
+  take_quiet c ks i xs (by_image which) = (refl, refl)
+  take_quiet c ks i xs as_is = (refl, refl)
+  take_quiet c ks i xs (by_probe n e) = (refl, refl)
+  take_quiet c ks i xs asking = (refl, refl)
+  take_quiet c ks i xs (by_run n r j rows) = (refl, refl)
+  take_quiet c ks i xs (by_zone g e z) = (refl, refl)
   take_quiet c ks i xs ending = (refl, refl)
   take_quiet c ks i xs passing = (refl, refl)
   take_quiet c ks i xs (made l) = (refl, refl)
@@ -78,9 +97,19 @@ module _ (s : Setting) (next : ℕ) where
   act_quiet c ks [] = taken_quiet c ks c.inbox
   act_quiet c ks (put j i ∷ todo) = (refl, refl)
   act_quiet c ks (hand_on n i ∷ todo) = (refl, refl)
+  act_quiet c ks (press which i ∷ todo) = (refl, refl)
+  act_quiet c ks (probe n e i ∷ todo) = by (is_dictionary (s.image n.options.probe i.1))
+    where
+      by : (b : Bool) → Quiet (probed s b n e i todo c ks).kind
+      by true = (refl, refl)
+      by false = (refl, refl)
+  act_quiet c ks (open_run n j e i ∷ todo) = (refl, refl)
+  act_quiet c ks (end_run j i ∷ todo) = (refl, refl)
   act_quiet c ks (append x ∷ todo) = (refl, refl)
   act_quiet c ks (shut_kids ∷ todo) = (refl, refl)
   act_quiet c ks (join_kids f ∷ todo) = (refl, refl)
+  act_quiet c ks (start_table f e p ∷ todo) = (refl, refl)
+  act_quiet c ks (leave_kid e ∷ todo) = (refl, refl)
 
   steps_quiet : (all : List (List ℕ)) (cs : Tasks) (w : Step) → In w (steps s all next cs) → Quiet w.kind
   steps_quiet all no_tasks w i = absurd i

@@ -2,7 +2,7 @@
 use Rattle.std.proofs.Common.{◌≡◌, ◌+◌, ◌^◌, ◌%◌, ◌<◌, ◌∷◌, ◌++◌, ◌∙◌, ℕ, true, List, length, refl, sym, ap, subst, inl, inr, ⊎_elim, arith, append_assoc, append-nil, None, []}
 use Rattle.vx_path.specs.Lists.{In}
 use Rattle.vx_path.specs.Path.{root_eof}
-use Rattle.vx_layout_spec.specs.Codec.{Lawful}
+use Rattle.vx_machine_view.specs.Images.{Careful}
 use Rattle.vx_tasks.specs.Run.{Note, nth, first_pick}
 use Rattle.vx_tasks.specs.Runs.{noted}
 use Rattle.vx_plan.specs.PlanData.{Plan}
@@ -40,7 +40,7 @@ use Rattle.vx_machine_runs.proofs.Stepping.{open_before, some_same, asks_so, sta
 abbrev Bounded : ℕ → Write → ℕ → List Note → Stand → Type 0
 Bounded most g first seen x = Underway (λ f t. Showing g first x.taken x.machine f t × AllBelow most (did t)) g x.taken x.heard seen x.history (tracked g x)
 
-start_bounded : StartIsReached → (most : ℕ) (g : Write) (first : ℕ) → is_built g.way ≡ true → start_fault g.setting g.way g.type g.mark ≡ None → AllBelow most (first_indices (form_of g) root_eof)
+start_bounded : StartIsReached → (most : ℕ) (g : Write) (first : ℕ) → is_built g.way ≡ true → start_fault g.setting g.way g.type g.mark ≡ None → AllBelow most (first_indices (form_of g) g.mark root_eof)
     → Bounded most g first [] (outset g)
 start_bounded reached most g first b s all f o =
     let r = reached g f in
@@ -52,7 +52,7 @@ start_bounded reached most g first b s all f o =
 
 -- ---- a step
 
-module _ (reached : StepIsReached) (most : ℕ) (g : Write) (first : ℕ) (seen : List Note) (x : Stand) (n : Note) (law : Lawful g.setting.codec g.setting.encodings)
+module _ (reached : StepIsReached) (most : ℕ) (g : Write) (first : ℕ) (seen : List Note) (x : Stand) (n : Note) (law : Careful g.setting)
     (pick : n.picked ≡ first_pick (picks_after (length seen) g.schedule) % n.ready) where
   step_to : (told : Answer) (w : WholeStep) → Chosen g first x told n.picked w → w.refusal ≡ None → n ≡ noted (length (ready_steps g first x.history told x.machine)) n.picked w.name w.kind
       → AllBelow most (w.numbers ++ w.indices) → Bounded most g first seen x
@@ -78,7 +78,7 @@ module _ (reached : StepIsReached) (most : ℕ) (g : Write) (first : ℕ) (seen 
           (move_did g.setting (all_paths r.tree) (depth g) r.tree st.0.move (nth_in (moves_at g r.tree) (pick_at g r.tree seen) st.0.move st.0.picked) i h) in
           subst Then (sym note) (q.0, subst (λ t. Showing g first (taken_by x.taken told) w.after f t × AllBelow most (did t)) (sym q.1) (st.1, after))
 
-module _ (reached : StepIsReached) (most : ℕ) (g : Write) (first : ℕ) (law : Lawful g.setting.codec g.setting.encodings) where
+module _ (reached : StepIsReached) (most : ℕ) (g : Write) (first : ℕ) (law : Careful g.setting) where
   led_bounded : (seen ns : List Note) (x y : Stand) → PickedBy (picks_after (length seen) g.schedule) ns → (l : Led g first x ns y) → CountsBelow most g first x ns y l → Bounded most g first seen x
       → Bounded most g first (seen ++ ns) y
   led_bounded seen [] x y p l c u = subst (λ z. Bounded most g first z y) (sym (append-nil seen)) (subst (λ z. Bounded most g first seen z) l u)

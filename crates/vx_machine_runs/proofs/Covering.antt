@@ -10,23 +10,23 @@ use Rattle.vx_rules.specs.Columns.{Split, column, other_columns, struct_splits, 
 use Rattle.vx_strategy_spec.specs.StrategyData.{StrategyData, FlatOptions}
 use Rattle.vx_strategy_spec.specs.Walk.{walk}
 use Rattle.vx_tasks.specs.Runs.{first_batch}
-use Rattle.vx_plan.specs.PlanData.{Setting, Item, Node, Plan, rows_in, totals, row_totals}
+use Rattle.vx_plan.specs.PlanData.{Setting, Item, Node, rows_in, totals, row_totals}
 use Rattle.vx_plan.specs.FlatNode.{flat_node, segment, length_of}
-use Rattle.vx_plan.specs.ChunkedNode.{all_numbers, chunked_node, chunk_plans, chunked_numbers}
+use Rattle.vx_plan.specs.ChunkedNode.{chunked_node, chunk_plans, chunked_numbers}
 use Rattle.vx_plan.specs.ColumnNodes.{Column, marked, column_plans, column_numbers, struct_writers, struct_plans, struct_node, elements_in, list_writers, list_numbers, list_plans, list_columns_plan, list_node}
 use Rattle.vx_plan.specs.SourcePlan.{plan_nodes, plan, batch_items, source_plan}
 use Rattle.vx_plan.proofs.Relate.{Agree, relate, Both}
 use Rattle.vx_machine_turns.specs.Forms.{Form, flat_form, chunked_form, struct_form, list_form, forms_of, form_nodes, form_type, Writer}
-use Rattle.vx_machine_turns.specs.Acts.{Act, births, gifts, shut, numbers_in, indices_in}
+use Rattle.vx_machine_turns.specs.Acts.{Act, gifts, shut, numbers_in, indices_in}
 use Rattle.vx_machine_turns.specs.Locals.{ChunkedNode, StructNode, ListNode, chunked_local, struct_local, list_local}
 use Rattle.vx_machine_turns.specs.Turns.{firsts, start_indices}
 use Rattle.vx_machine_turns.specs.Scripts.{script}
 use Rattle.vx_machine_turns.specs.Starts.{struct_columns_of, list_columns_of, marked_forms}
 use Rattle.vx_machine_turns.specs.Source.{source_acts, source_seed}
 use Rattle.vx_machine_turns.specs.Fuels.{Fuel, spent, fuel, fuel_of, Enough, AllEnough}
-use Rattle.vx_machine_turns.specs.Duties.{Duty, duty_of, seeds, duty_script, below, Given, grown}
+use Rattle.vx_machine_turns.specs.Duties.{Duty, duty_of, duty_script, below}
 use Rattle.vx_machine_turns.specs.Planned.{AtMost}
-use Rattle.vx_machine_turns.proofs.DutyLaws.{row_is, below_is, unread_same}
+use Rattle.vx_machine_turns.proofs.DutyLaws.{row_is, unread_same}
 use Rattle.vx_machine_turns.proofs.ChunkedLaws.{chunk_duties, all_seeds, all_given}
 use Rattle.vx_machine_turns.proofs.ColumnLaws.{column_duties, puts_add, ends_last}
 use Rattle.vx_machine_turns.proofs.StructLaws.{struct_streams}
@@ -40,40 +40,11 @@ use Rattle.vx_machine_view.specs.Built.{is_built, Built, AllBuilt}
 use Rattle.vx_machine_view.specs.Whole.{form_of}
 use Rattle.vx_machine_view.proofs.Building.{built_is_built}
 use Rattle.vx_machine_view.proofs.Words.{no_cons}
-use Rattle.vx_machine_runs.proofs.Covers.{counted_by, count_reading, all_counted, Covers, most_over, most_in}
+use Rattle.vx_machine_runs.proofs.Covers.{counted_by, count_reading, all_counted, Covers, most_over, most_in, AllCovered, parent_covers}
 use Rattle.vx_machine_runs.proofs.GroupCovering.{group_covers}
-
--- ---- several duties
-
-abbrev AllCovered : Setting → (Ty → Fuel) → List Duty → List Plan → Type 0
-AllCovered s g [] [] = Unit {0}
-AllCovered s g [] (p ∷ ps) = ⊥
-AllCovered s g (c ∷ cs) [] = ⊥
-AllCovered s g (c ∷ cs) (p ∷ ps) = ((n : ℕ) → In n p.numbers → AtMost n (0 ∷ all_counted s (g c.seed.type) c)) × AllCovered s g cs ps
-
-covered_all : (s : Setting) (g : Ty → Fuel) (cs : List Duty) (ps : List Plan) → AllCovered s g cs ps → (n : ℕ) → In n (all_numbers ps) → AtMost n (0 ∷ grown s count_reading g cs)
-covered_all s g [] [] h n i = absurd i
-covered_all s g [] (p ∷ ps) h n i = absurd h
-covered_all s g (c ∷ cs) [] h n i = absurd h
-covered_all s g (c ∷ cs) (p ∷ ps) (h, hs) n i =
-    let own : List ℕ = counted_by c.seed (duty_script s c) in
-    let kids : List ℕ = below s count_reading (g c.seed.type) c in
-    let rest : List ℕ = grown s count_reading g cs in
-    ⊎_elim (λ a. most_over n 0 0 (own ++ kids) (own ++ (kids ++ rest)) (omega arith) (λ k z. subst (λ y. In k y) (append_assoc own kids rest) (in_left k (own ++ kids) rest z)) (h n a))
-    (λ a. most_over n 0 0 rest (own ++ (kids ++ rest)) (omega arith) (λ k z. in_right k own (kids ++ rest) (in_right k kids rest z)) (covered_all s g cs ps hs n a))
-    (in_cases n p.numbers (all_numbers ps) i)
-
--- a node whose plan is of its duties' plans, with its own numbers
-parent_covers : (s : Setting) (g : Ty → Fuel) (c : Duty) (cs : List Duty) (p : Plan) (ps : List Plan) (own : List ℕ) (last : ℕ) → firsts c.seed ++ births (duty_script s c) ≡ seeds cs
-    → Given (duty_script s c) 0 cs → p.numbers ≡ own ++ all_numbers ps → ((n : ℕ) → In n own → AtMost n (last ∷ counted_by c.seed (duty_script s c))) → AllCovered s g cs ps
-    → (n : ℕ) → In n p.numbers → AtMost n (last ∷ all_counted s (fuel g) c)
-parent_covers s g c cs p ps own last e q is h all n i =
-    let mine : List ℕ = counted_by c.seed (duty_script s c) in
-    let kids : List ℕ = below s count_reading (fuel g) c in
-    ⊎_elim (λ a. most_over n last last mine (mine ++ kids) (omega arith) (λ k z. in_left k mine kids z) (h n a))
-    (λ a. most_over n 0 last (grown s count_reading g cs) (mine ++ kids) (omega arith)
-    (λ k z. in_right k mine kids (subst (λ y. In k y) (sym (below_is s count_reading g c cs e q)) z)) (covered_all s g cs ps all n a))
-    (in_cases n own (all_numbers ps) (subst (λ y. In n y) is i))
+use Rattle.vx_machine_runs.proofs.PressCovering.{compressed_covers}
+use Rattle.vx_machine_runs.proofs.DictCovering.{dict_covers}
+use Rattle.vx_machine_runs.proofs.ZoneCovering.{zoned_covers}
 
 -- ---- flat
 
@@ -352,9 +323,9 @@ all_covers s = record {
   at_flat = λ o t b. flat_covers s o t;
   at_chunked = λ t k l h b. chunked_covers s t k l (h b.1);
   at_grouped = λ g r t k l h b. group_covers s g t k l (h b.1);
-  at_compressed = λ which room r t k l h b. absurd b;
-  at_dict = λ o t is c v f d w g h i j b. absurd b;
-  at_zoned = λ o r t k l f g h i b. absurd b;
+  at_compressed = λ which room r t k l h b. compressed_covers s which room t k l (h b.1);
+  at_dict = λ o t is c v f d w g h i j b. dict_covers s o t c v f d w g (h b.1) (i b.3) (j b.5);
+  at_zoned = λ o r t k l f g h i b. zoned_covers s o t k l f g (h b.1) (λ u. i u (b.2 u).1);
   at_not_struct = λ t b. record { covers = λ m name items ended e d enough n i. absurd i };
   at_struct = λ fs n dup v w ks ls h r b. struct_covers s fs n dup v w ks ls (h b.1) r b.2;
   at_list = λ t n e o v f p w h i j b. list_covers s t n e o v f p w (h b.1) (i b.3) (j b.5);

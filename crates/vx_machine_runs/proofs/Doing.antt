@@ -179,12 +179,12 @@ all_did s d j (Work h ks r) e =
 -- ---- the start
 
 -- how far pointers come there
-pub opened_first : (g : Write) → is_built g.way ≡ true → opened (root_depth g) (root_seed (form_of g) g.mark ∷ []) ≡ first_indices (form_of g) root_eof
+pub opened_first : (g : Write) → is_built g.way ≡ true → opened (root_depth g) (root_seed (form_of g) g.mark ∷ []) ≡ first_indices (form_of g) g.mark root_eof
 opened_first g b =
     ap (λ z. start_indices (root_seed (form_of g) g.mark).local ++ z) (append-nil (opened (fuel_of (form_of g)) (firsts (root_seed (form_of g) g.mark))))
     ∙ opened_is (form_of g) g.mark (1 ∷ []) root_eof (fuel_of (form_of g)) (built_is_built g.way g.type b) (fuel_is_enough g.way g.type).1
 
-pub start_did : (g : Write) (taken : List ChunkData) (f : Future) → is_built g.way ≡ true → did (begin g taken f) ≡ first_indices (form_of g) root_eof
+pub start_did : (g : Write) (taken : List ChunkData) (f : Future) → is_built g.way ≡ true → did (begin g taken f) ≡ first_indices (form_of g) g.mark root_eof
 start_did g taken f b =
     append-nil (did (sprout (root_depth g) quiet 0 (firsts (source_seed (form_of g) g.mark))))
     ∙ sprout_did (root_depth g) 0 quiet (firsts (source_seed (form_of g) g.mark)) ∙ opened_first g b

@@ -3,7 +3,7 @@ use Rattle.std.proofs.Common.{◌≡◌, ◌⊎◌, ◌∷◌, ◌∙◌, ℕ, B
 use Rattle.vx_model.specs.ChunkData.{ChunkData}
 use Rattle.vx_path.specs.Lists.{In}
 use Rattle.vx_layout_spec.specs.LayoutTree.{renamed}
-use Rattle.vx_layout_spec.specs.Codec.{Lawful}
+use Rattle.vx_machine_view.specs.Images.{Careful}
 use Rattle.vx_tasks.specs.Run.{Note}
 use Rattle.vx_plan.specs.PlanData.{Plan}
 use Rattle.vx_plan.specs.Number.{sorted, number_of, numbered}
@@ -59,7 +59,7 @@ ends_whole planned_end g first seen x u s fin = from (u (none_later x.heard) (op
           released = finish_reserves g (number_of (planned g x.taken (none_later x.heard)).pairs first) (none_later x.heard) x.machine r.tree shown fin;
         }
 
-module _ (refusals : RefusalsHaveCause) (counts : MovesAreCounted) (g : Write) (first : ℕ) (seen : List Note) (x : Stand) (told : Answer) (k : ℕ) (w : WholeStep) (law : Lawful g.setting.codec g.setting.encodings)
+module _ (refusals : RefusalsHaveCause) (counts : MovesAreCounted) (g : Write) (first : ℕ) (seen : List Note) (x : Stand) (told : Answer) (k : ℕ) (w : WholeStep) (law : Careful g.setting)
     (c : Chosen g first x told k w) (f : Future) (o : Open (heard_by x.heard told) f) where
   pub caused : (r : Reached g x.taken (before told f) seen x.history (tracked g x)) → Showing g first x.taken x.machine (before told f) r.tree → Caused (planned g (taken_by x.taken told) f) w
   caused r shown =

@@ -2,7 +2,7 @@
 use Rattle.std.proofs.Common.{◌≡◌, ◌∷◌, ◌++◌, ◌∙◌, ℕ, cond, List, map, refl, sym, ap, Some, []}
 use Rattle.vx_plan.specs.PlanData.{Setting}
 use Rattle.vx_machine_promises.specs.Write.{Answer}
-use Rattle.vx_machine_view.specs.State.{Next, put, hand_on, append, shut_kids, join_kids, Desk, Tasks, no_tasks, task_then}
+use Rattle.vx_machine_view.specs.State.{Next, put, hand_on, press, probe, open_run, end_run, append, shut_kids, join_kids, start_table, leave_kid, Desk, Tasks, no_tasks, task_then}
 use Rattle.vx_machine_view.specs.Acts.{do_act}
 use Rattle.vx_machine_view.specs.Moves.{Step, may_act, own_step, in_kids, in_rest, steps}
 use Rattle.vx_machine_view.specs.Machine.{Machine, may_source, WholeStep, source_step, in_root, whole_steps}
@@ -15,9 +15,15 @@ act_free : (s : Setting) (n number : ℕ) (c : Desk) (ks : Tasks) (todo : List N
 act_free s n number c ks [] e = refl
 act_free s n number c ks (put j i ∷ todo) e = refl
 act_free s n number c ks (hand_on w i ∷ todo) e = refl
+act_free s n number c ks (press which i ∷ todo) e = refl
+act_free s n number c ks (probe a b i ∷ todo) e = refl
+act_free s n number c ks (open_run a j b i ∷ todo) e = refl
+act_free s n number c ks (end_run j i ∷ todo) e = refl
 act_free s n number c ks (append x ∷ todo) e = cc
 act_free s n number c ks (shut_kids ∷ todo) e = refl
 act_free s n number c ks (join_kids f ∷ todo) e = refl
+act_free s n number c ks (start_table f z p ∷ todo) e = refl
+act_free s n number c ks (leave_kid z ∷ todo) e = refl
 
 abbrev Free : Step → Step → Type 0
 Free w v = w.wrote ≡ [] → w ≡ v

@@ -129,7 +129,7 @@ module _ (S : Type 0) (s : Setting) (g : Grouper S) (l : S → Option Item → �
 
 -- ---- an only child, which gets the eof path itself
 
-pass_covers : (s : Setting) (g : Ty → Fuel) (c kid : Duty) (own : List ℕ) (p : Plan) (last : ℕ) → firsts c.seed ++ births (duty_script s c) ≡ kid.seed ∷ [] → Given (duty_script s c) 0 (kid ∷ [])
+pub pass_covers : (s : Setting) (g : Ty → Fuel) (c kid : Duty) (own : List ℕ) (p : Plan) (last : ℕ) → firsts c.seed ++ births (duty_script s c) ≡ kid.seed ∷ [] → Given (duty_script s c) 0 (kid ∷ [])
     → ((n : ℕ) → In n own → In n (told (duty_script s c))) → ((n : ℕ) → In n p.numbers → AtMost n (last ∷ all_counted s (g kid.seed.type) kid))
     → (n : ℕ) → In n (own ++ p.numbers) → AtMost n (last ∷ all_counted s (fuel g) c)
 pass_covers s g c kid own p last e q h k n i =

@@ -11,6 +11,9 @@ pub mod Picking
 pub mod Tracking
 pub mod Covers
 pub mod GroupCovering
+pub mod PressCovering
+pub mod DictCovering
+pub mod ZoneCovering
 pub mod Covering
 pub mod Doing
 pub mod Bounding

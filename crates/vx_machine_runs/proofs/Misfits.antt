@@ -7,23 +7,30 @@ use Rattle.vx_model.specs.ChunkData.{ChunkData, held}
 use Rattle.vx_rules.specs.Blocks.{block_len}
 use Rattle.vx_path.specs.Lists.{In}
 use Rattle.vx_path.specs.Path.{Eof}
+use Rattle.vx_path.specs.Path as path
 use Rattle.vx_path.proofs.Lists.{in_cases, from_map}
 use Rattle.vx_tasks.specs.Run.{nth}
+use Rattle.vx_zone_spec.specs.ZoneTable.{Filled, kept_columns}
 use Rattle.vx_plan.specs.PlanData.{Setting, Item, rows_in}
+use Rattle.vx_plan.specs.DictNode.{is_dictionary}
 use Rattle.vx_plan.specs.FlatNode.{inlined}
 use Rattle.vx_plan.specs.Number.{number_of}
 use Rattle.vx_machine_turns.specs.Acts.{Seed, Act}
-use Rattle.vx_machine_turns.specs.Locals.{Local}
+use Rattle.vx_machine_turns.specs.Locals.{Local, RunsSoFar, ZonedNode}
 use Rattle.vx_machine_turns.specs.Fuels.{Fuel, less}
 use Rattle.vx_machine_turns.specs.Source.{source_seed}
 use Rattle.vx_machine_steps.specs.Tree.{Tree, Leaf, Work}
 use Rattle.vx_machine_promises.specs.Write.{Answer, unasked, came, over, planned}
 use Rattle.vx_machine_promises.specs.Reached.{Reached}
-use Rattle.vx_machine_view.specs.State.{shut_kids, Mind, no_chunk, one_chunk, by_chunk, by_column, by_list, by_block, by_size, as_one, ending, passing, made, Desk, Tasks, no_tasks, task_then}
-use Rattle.vx_machine_view.specs.Acts.{count, column_count, take_chunk, end_columns, end_lists, take_end, do_take, do_act, puts, hand_all}
+use Rattle.vx_machine_view.specs.Zoned.{Zoner, Zones}
+use Rattle.vx_machine_view.specs.Zoning.{zoner_of, put_each, zones_left}
+use Rattle.vx_machine_view.specs.Coder.{Coder, coder_of}
+use Rattle.vx_machine_view.specs.Coding.{Deed, puts_codes, puts_values, deed_nexts}
+use Rattle.vx_machine_view.specs.State.{Fold, fold_runs, Next, shut_kids, join_kids, Mind, no_chunk, one_chunk, by_chunk, by_column, by_list, by_block, by_size, as_one, by_image, as_is, by_probe, asking, by_run, by_zone, ending, passing, made, Desk, Tasks, no_tasks, task_then}
+use Rattle.vx_machine_view.specs.Acts.{count, column_count, probed, take_chunk, end_columns, end_lists, end_zones, take_end, do_take, do_act, puts, hand_all}
 use Rattle.vx_machine_view.specs.Moves.{Step, may_act, own_step, in_kids, in_rest, steps}
 use Rattle.vx_machine_view.specs.Typed.{AllTyped}
-use Rattle.vx_machine_view.specs.Shows.{Stage, waits_first, waits_end, appends, splits, gathers_all, hands, hands_lists, shuts, joins_columns, regroups_rows, regroups_chunks, collects, passes_on, passed, Done, Shows}
+use Rattle.vx_machine_view.specs.Shows.{Stage, waits_first, waits_end, appends, splits, gathers_all, hands, hands_lists, shuts, joins_columns, regroups_rows, regroups_chunks, collects, presses, pressed, lets_out, asks_first, probes, falls_back, cuts, last_cuts, passes_on, passed, records_zones, closes_zones, joins_data, joins_zones, Done, Shows}
 use Rattle.vx_machine_view.specs.Machine.{Phase, reading, giving, closing, finished, may_source, WholeStep, source_step, in_root, machine_ids}
 use Rattle.vx_machine_view.specs.Whole.{form_of, root_depth}
 use Rattle.vx_machine_view.specs.Underway.{Showing}
@@ -43,20 +50,30 @@ lists_end : (b : Bool) (t : Ty) (rows : ℕ) (c : Desk) (ks : Tasks) → (end_li
 lists_end true t rows c ks = refl
 lists_end false t rows c ks = refl
 
-ends_fit : (c : Desk) (ks : Tasks) (mind : Mind) → (take_end c ks mind).misfit ≡ false
-ends_fit c ks (no_chunk o t) = refl
-ends_fit c ks (one_chunk x) = refl
-ends_fit c ks (by_chunk m t f e rows) = refl
-ends_fit c ks (by_column t rows) = columns_end ((count ks == 0) && (0 == column_count t)) t rows c ks
-ends_fit c ks (by_list t n first from rows) = lists_end first (list t n) rows c ks
-ends_fit c ks (by_block len minimum t x None rows) = refl
-ends_fit c ks (by_block len minimum t x (Some j) rows) = refl
-ends_fit c ks (by_size size x None rows) = refl
-ends_fit c ks (by_size size x (Some j) rows) = refl
-ends_fit c ks (as_one t x rows) = refl
-ends_fit c ks ending = refl
-ends_fit c ks passing = refl
-ends_fit c ks (made l) = refl
+zones_end : (table : Option (List Filled)) (g : Zoner) (e : Eof) (z : Zones) (c : Desk) (ks : Tasks) → (end_zones table g e z c ks).misfit ≡ false
+zones_end None g e z c ks = refl
+zones_end (Some cs) g e z c ks = refl
+
+ends_fit : (s : Setting) (c : Desk) (ks : Tasks) (mind : Mind) → (take_end s c ks mind).misfit ≡ false
+ends_fit s c ks (no_chunk o t) = refl
+ends_fit s c ks (one_chunk x) = refl
+ends_fit s c ks (by_chunk m t f e rows) = refl
+ends_fit s c ks (by_column t rows) = columns_end ((count ks == 0) && (0 == column_count t)) t rows c ks
+ends_fit s c ks (by_list t n first from rows) = lists_end first (list t n) rows c ks
+ends_fit s c ks (by_block len minimum t x None rows) = refl
+ends_fit s c ks (by_block len minimum t x (Some j) rows) = refl
+ends_fit s c ks (by_size size x None rows) = refl
+ends_fit s c ks (by_size size x (Some j) rows) = refl
+ends_fit s c ks (as_one t x rows) = refl
+ends_fit s c ks (by_image which) = refl
+ends_fit s c ks as_is = refl
+ends_fit s c ks (by_probe n e) = refl
+ends_fit s c ks asking = refl
+ends_fit s c ks (by_run n r j rows) = refl
+ends_fit s c ks (by_zone g e z) = zones_end (kept_columns g.columns z.records) g e z c ks
+ends_fit s c ks ending = refl
+ends_fit s c ks passing = refl
+ends_fit s c ks (made l) = refl
 
 module _ (s : Setting) (number : List ℕ → ℕ) (next : ℕ) (all : List (List ℕ)) where
   -- each chunk in these queues is one that the mind takes
@@ -65,7 +82,7 @@ module _ (s : Setting) (number : List ℕ → ℕ) (next : ℕ) (all : List (Lis
   Takes c ks (i ∷ xs) mind = (take_chunk s c ks i xs mind).misfit ≡ false
 
   take_fits : (c : Desk) (ks : Tasks) (xs : List Item) → Takes c ks xs c.mind → (do_take s c ks xs).misfit ≡ false
-  take_fits c ks [] t = ends_fit c ks c.mind
+  take_fits c ks [] t = ends_fit s c ks c.mind
   take_fits c ks (i ∷ xs) t = t
 
   idle_fits : (c : Desk) (ks : Tasks) → c.todo ≡ [] → Takes c ks c.inbox c.mind → (do_act s next c ks c.todo).misfit ≡ false
@@ -97,6 +114,42 @@ module _ (s : Setting) (number : List ℕ → ℕ) (next : ℕ) (all : List (Lis
   takes_all : (c : Desk) (ks : Tasks) (xs : List Item) (t : Ty) (x : Option (List ℕ × List ChunkData)) (rows : ℕ) → c.mind ≡ as_one t x rows → AllTyped t xs → Takes c ks xs c.mind
   takes_all c ks [] t x rows e ty = tt
   takes_all c ks (i ∷ xs) t x rows e ty = ap (λ z. (take_chunk s c ks i xs z).misfit) e ∙ ap not (type_fits t i.1 ty.0)
+
+  takes_probe : (c : Desk) (ks : Tasks) (xs : List Item) (n : Coder) (e : Eof) → c.mind ≡ by_probe n e → AllTyped n.type xs → Takes c ks xs c.mind
+  takes_probe c ks [] n e q ty = tt
+  takes_probe c ks (i ∷ xs) n e q ty = ap (λ z. (take_chunk s c ks i xs z).misfit) q ∙ ap not (type_fits n.type i.1 ty.0)
+
+  takes_runs : (c : Desk) (ks : Tasks) (xs : List Item) (n : Coder) (r : RunsSoFar) (j : Item) (rows : ℕ) → c.mind ≡ by_run n r j rows → AllTyped n.type xs → Takes c ks xs c.mind
+  takes_runs c ks [] n r j rows q ty = tt
+  takes_runs c ks (i ∷ xs) n r j rows q ty = ap (λ z. (take_chunk s c ks i xs z).misfit) q ∙ ap not (type_fits n.type i.1 ty.0)
+
+  probe_fits : (b : Bool) (n : Coder) (e : Eof) (i : Item) (todo : List Next) (c : Desk) (ks : Tasks) → (probed s b n e i todo c ks).misfit ≡ false
+  probe_fits true n e i todo c ks = refl
+  probe_fits false n e i todo c ks = refl
+
+  deeds_fit : (c : Desk) (ks : Tasks) (n : Coder) (ds : List Deed) → Takes c ks c.inbox c.mind → (do_act s next c ks (deed_nexts n ds)).misfit ≡ false
+  deeds_fit c ks n [] t = take_fits c ks c.inbox t
+  deeds_fit c ks n (puts_codes j e true i ∷ ds) t = refl
+  deeds_fit c ks n (puts_codes j e false i ∷ ds) t = refl
+  deeds_fit c ks n (puts_values j i ∷ ds) t = refl
+
+  last_fit : (c : Desk) (ks : Tasks) (n : Coder) (ds : List Deed) (f : Fold) → (do_act s next c ks (deed_nexts n ds ++ (join_kids f ∷ []))).misfit ≡ false
+  last_fit c ks n [] f = refl
+  last_fit c ks n (puts_codes j e true i ∷ ds) f = refl
+  last_fit c ks n (puts_codes j e false i ∷ ds) f = refl
+  last_fit c ks n (puts_values j i ∷ ds) f = refl
+
+  takes_zones : (c : Desk) (ks : Tasks) (xs : List Item) (g : Zoner) (e : Eof) (z : Zones) → c.mind ≡ by_zone g e z → AllTyped g.type xs → Takes c ks xs c.mind
+  takes_zones c ks [] g e z m ty = tt
+  takes_zones c ks (i ∷ xs) g e z m ty = ap (λ v. (take_chunk s c ks i xs v).misfit) m ∙ ap not (type_fits g.type i.1 ty.0)
+
+  each_fits : (c : Desk) (ks : Tasks) (outs : List Item) → Takes c ks c.inbox c.mind → (do_act s next c ks (put_each outs)).misfit ≡ false
+  each_fits c ks [] t = take_fits c ks c.inbox t
+  each_fits c ks (i ∷ outs) t = refl
+
+  data_fits : (c : Desk) (ks : Tasks) (n : ZonedNode) (z : Zones) (table : Option (List Filled)) → (do_act s next c ks (zones_left n z table)).misfit ≡ false
+  data_fits c ks n z None = refl
+  data_fits c ks n z (Some cs) = refl
 
   hands_fit : (c : Desk) (ks : Tasks) (weight : ChunkData → ℕ) (outs : List Item) → Takes c ks c.inbox c.mind → (do_act s next c ks (hand_all weight outs)).misfit ≡ false
   hands_fit c ks weight [] t = take_fits c ks c.inbox t
@@ -132,8 +185,26 @@ module _ (s : Setting) (number : List ℕ → ℕ) (next : ℕ) (all : List (Lis
   own_fits d c ks q past todo l off hs ty (regroups_chunks size n x j rows outs tx tj nh w) =
       ap (λ z. (do_act s next c ks z).misfit) w.left_is ∙ hands_fit c ks held outs (takes_sizes c ks c.inbox size x j rows w.mind_is)
   own_fits d c ks q past todo l off hs ty (collects n x rows w) = idle_fits c ks w.left_is (takes_all c ks c.inbox n.type x rows w.mind_is (subst (λ z. AllTyped z c.inbox) w.type_is ty))
+  own_fits d c ks q past todo l off hs ty (presses n t i ti w) = ap (λ z. (do_act s next c ks z).misfit) w.left_is
+  own_fits d c ks q past todo l off hs ty (pressed n t outs w) =
+      ap (λ z. (do_act s next c ks z).misfit) w.left_is ∙ hands_fit c ks (λ p. 0) outs (takes_first c ks c.inbox (by_image n.which) (λ i xs. refl) w.mind_is)
+  own_fits d c ks q past todo l off hs ty (lets_out n t outs w) =
+      ap (λ z. (do_act s next c ks z).misfit) w.left_is ∙ hands_fit c ks (λ p. 0) outs (takes_first c ks c.inbox as_is (λ i xs. refl) w.mind_is)
+  own_fits d c ks q past todo l off hs ty (asks_first n k nk w) = idle_fits c ks w.idle (takes_probe c ks c.inbox (coder_of n) n.eof w.mind_is (subst (λ z. AllTyped z c.inbox) k.type_is ty))
+  own_fits d c ks q past todo l off hs ty (probes n i k nk w) = ap (λ z. (do_act s next c ks z).misfit) w.left_is ∙ probe_fits (is_dictionary (s.image n.options.probe i.1)) (coder_of n) n.eof i [] c ks
+  own_fits d c ks q past todo l off hs ty (falls_back t outs w) =
+      ap (λ z. (do_act s next c ks z).misfit) w.left_is ∙ hands_fit c ks (λ p. 0) outs (takes_first c ks c.inbox as_is (λ i xs. refl) w.mind_is)
+  own_fits d c ks q past todo l off hs ty (cuts n r i rows x ds k at w) =
+      ap (λ z. (do_act s next c ks z).misfit) w.left_is ∙ deeds_fit c ks (coder_of n) ds (takes_runs c ks c.inbox (coder_of n) r i rows w.mind_is (subst (λ z. AllTyped z c.inbox) k.type_is ty))
+  own_fits d c ks q past todo l off hs ty (last_cuts n rows ns x ds k at sum kinds going w) =
+      ap (λ z. (do_act s next c ks z).misfit) w.left_is ∙ last_fit c ks (coder_of n) ds (fold_runs n.type ns)
   own_fits d c ks q past todo l off hs ty (passes_on t weight outs one to w) = ap (λ z. (do_act s next c ks z).misfit) w.left_is ∙ passes_fit c ks weight outs
   own_fits d c ks q past todo l off hs ty (passed t one w) = idle_fits c ks w.left_is (takes_first c ks c.inbox passing (λ i xs. refl) w.mind_is)
+  own_fits d c ks q past todo l off hs ty (records_zones n z outs iz one rw to w) =
+      ap (λ v. (do_act s next c ks v).misfit) w.left_is ∙ each_fits c ks outs (takes_zones c ks c.inbox (zoner_of n) (path.next n.eof) z w.mind_is (subst (λ v. AllTyped v c.inbox) iz.type_is ty))
+  own_fits d c ks q past todo l off hs ty (closes_zones n z table iz one w) = ap (λ v. (do_act s next c ks v).misfit) w.left_is
+  own_fits d c ks q past todo l off hs ty (joins_data n z table iz one w) = ap (λ v. (do_act s next c ks v).misfit) w.left_is ∙ data_fits c ks n z table
+  own_fits d c ks q past todo l off hs ty (joins_zones n rows cs both w) = ap (λ v. (do_act s next c ks v).misfit) w.left_is
 
   -- ---- of all tasks
 

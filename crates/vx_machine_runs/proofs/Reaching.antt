@@ -1,7 +1,7 @@
 -- The state that a write has come to, and the move that a ready step is.
 use Rattle.std.proofs.Common.{◌≡◌, ◌+◌, ◌++◌, ◌∙◌, ℕ, Bool, List, map, length, ap, subst, Some, []}
 use Rattle.vx_model.specs.ChunkData.{ChunkData}
-use Rattle.vx_layout_spec.specs.Codec.{Lawful}
+use Rattle.vx_machine_view.specs.Images.{Careful}
 use Rattle.vx_tasks.specs.Run.{Note, nth, Leads}
 use Rattle.vx_plan.specs.PlanData.{Pair}
 use Rattle.vx_plan.specs.Number.{number_of}
@@ -19,7 +19,7 @@ use Rattle.vx_machine_promises.specs.Reached.{Reached, moves_at}
 use Rattle.vx_machine_view.specs.Machine.{Machine, WholeStep, machine_ids}
 use Rattle.vx_machine_view.specs.Whole.{Asks, SameWhole}
 use Rattle.vx_machine_view.specs.Underway.{Showing, ready_steps}
-use Rattle.vx_machine_view.proofs.Ending.{held_shows}
+use Rattle.vx_machine_view.proofs.Ending.{moves_shows}
 use Rattle.vx_machine_view.proofs.Wholes.{step_shows, ready_shows}
 
 module _ (g : Write) (taken : List ChunkData) (f : Future) (seen : List Note) (history : List Pair) (tracker : ℕ) (r : Reached g taken f seen history tracker) where
@@ -39,16 +39,16 @@ module _ (g : Write) (taken : List ChunkData) (f : Future) (seen : List Note) (h
 
   module _ (first : ℕ) (m : Machine) (shown : Showing g first taken m f r.tree) where
     pub same_moves : tree_moves g.setting (machine_ids m) (depth g) r.tree ≡ moves_at g r.tree
-    same_moves = ap (λ z. tree_moves g.setting z (depth g) r.tree) (held_shows g (number_of (planned g taken f).pairs first) f m r.tree leads.2 shown)
+    same_moves = moves_shows g (number_of (planned g taken f).pairs first) f m r.tree leads.2 shown
 
     -- as many steps are ready as moves can be done
-    pub as_ready : (a : Answer) → Lawful g.setting.codec g.setting.encodings → length (ready_steps g first history a m) ≡ length (moves_at g r.tree)
+    pub as_ready : (a : Answer) → Careful g.setting → length (ready_steps g first history a m) ≡ length (moves_at g r.tree)
     as_ready a law = ready_shows g (number_of (planned g taken f).pairs first) (first + length history) (machine_ids m) a f m r.tree law leads.2 shown ∙ ap length same_moves
 
 -- the move at the same place
 pub move_of : (g : Write) (first : ℕ) (taken : List ChunkData) (heard : Bool) (a : Answer) (f : Future) (seen : List Note) (history : List Pair) (tracker : ℕ)
     (r : Reached g taken (before a f) seen history tracker) (m : Machine) (k : ℕ) (w : WholeStep)
-    → Lawful g.setting.codec g.setting.encodings → Open (heard_by heard a) f → Showing g first taken m (before a f) r.tree
+    → Careful g.setting → Open (heard_by heard a) f → Showing g first taken m (before a f) r.tree
     → nth (ready_steps g first history a m) k ≡ Some w → Asks g.type f m.phase k a
     → (v : TreeMove) × (nth (moves_at g r.tree) k ≡ Some v) × SameWhole g (number_of (planned g taken (before a f)).pairs first) (first + length history) f w v
 move_of g first taken heard a f seen history tracker r m k w law o shown at ask =

@@ -4,7 +4,7 @@ use Rattle.std.proofs.Math.Nat.{mod-eq_of_lt}
 use Rattle.std.proofs.lemmas.Bool.{true≢false}
 use Rattle.vx_model.specs.Ty.{Ty}
 use Rattle.vx_path.specs.Path.{Eof}
-use Rattle.vx_layout_spec.specs.Codec.{Lawful}
+use Rattle.vx_machine_view.specs.Images.{Careful}
 use Rattle.vx_tasks.specs.Run.{Note, nth, first_pick, later_picks}
 use Rattle.vx_tasks.specs.Runs.{noted}
 use Rattle.vx_plan.specs.PlanData.{Setting}
@@ -78,7 +78,7 @@ start_under reached g first b s f o =
 
 -- ---- a step
 
-module _ (reached : StepIsReached) (g : Write) (first : ℕ) (seen : List Note) (x : Stand) (n : Note) (law : Lawful g.setting.codec g.setting.encodings)
+module _ (reached : StepIsReached) (g : Write) (first : ℕ) (seen : List Note) (x : Stand) (n : Note) (law : Careful g.setting)
     (pick : n.picked ≡ first_pick (picks_after (length seen) g.schedule) % n.ready) where
   step_to : (told : Answer) (w : WholeStep) → Chosen g first x told n.picked w → w.refusal ≡ None → n ≡ noted (length (ready_steps g first x.history told x.machine)) n.picked w.name w.kind
       → UnderwayAt g first seen x → UnderwayAt g first (seen ++ (n ∷ [])) (record { machine = w.after; taken = taken_by x.taken told; heard = heard_by x.heard told; history = x.history ++ w.wrote })
@@ -111,7 +111,7 @@ pub picks_more : (seen : List Note) (n : Note) (picks : List ℕ) → picks_afte
 picks_more [] n picks = refl
 picks_more (m ∷ seen) n picks = picks_more seen n (later_picks picks)
 
-module _ (reached : StepIsReached) (g : Write) (first : ℕ) (law : Lawful g.setting.codec g.setting.encodings) where
+module _ (reached : StepIsReached) (g : Write) (first : ℕ) (law : Careful g.setting) where
   led_under : (seen ns : List Note) (x y : Stand) → PickedBy (picks_after (length seen) g.schedule) ns → Led g first x ns y → UnderwayAt g first seen x → UnderwayAt g first (seen ++ ns) y
   led_under seen [] x y p l u = subst (λ z. UnderwayAt g first z y) (sym (append-nil seen)) (subst (λ z. UnderwayAt g first seen z) l u)
   led_under seen (n ∷ ns) x y p l u = subst (λ z. UnderwayAt g first z y) (append_assoc seen (n ∷ []) ns)

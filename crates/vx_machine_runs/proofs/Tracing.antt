@@ -4,7 +4,7 @@ use Rattle.std.proofs.lemmas.Bool.{true≢false}
 use Rattle.vx_model.specs.ChunkData.{ChunkData}
 use Rattle.vx_path.specs.Lists.{In}
 use Rattle.vx_path.specs.Path.{Eof}
-use Rattle.vx_layout_spec.specs.Codec.{Lawful}
+use Rattle.vx_machine_view.specs.Images.{Careful}
 use Rattle.vx_tasks.specs.Task.{Kind, Free, Take, TakeEnd, Put, Append, Join, appends_of}
 use Rattle.vx_tasks.specs.State.{left}
 use Rattle.vx_tasks.specs.State.Counts.{Zeros}
@@ -131,7 +131,7 @@ same_scripts g taken unasked f = refl
 same_scripts g taken (came b) f = ap (λ z. started_forest g.setting g.way g.type g.mark z f.fits) (sym (append_assoc taken (b ∷ []) f.later))
 same_scripts g taken over f = refl
 
-module _ (whole : SeenIsWhole) (g : Write) (first : ℕ) (seen : List Note) (x : Stand) (told : Answer) (f : Future) (k : ℕ) (w : WholeStep) (law : Lawful g.setting.codec g.setting.encodings)
+module _ (whole : SeenIsWhole) (g : Write) (first : ℕ) (seen : List Note) (x : Stand) (told : Answer) (f : Future) (k : ℕ) (w : WholeStep) (law : Careful g.setting)
     (o : Open (heard_by x.heard told) f) (place : nth (ready_steps g first x.history told x.machine) k ≡ Some w) (asks : Asks g.type f x.machine.phase k told)
     (pick : k ≡ first_pick (picks_after (length seen) g.schedule) % length (ready_steps g first x.history told x.machine)) where
   -- where the picked step is refused

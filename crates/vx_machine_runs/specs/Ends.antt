@@ -2,7 +2,7 @@
 use Rattle.std.specs.Prelude.{◌≡◌, ◌<◌, ◌⊎◌, ℕ, Bool, true, List, [], ◌∷◌, length, Some, None, IsTrue, IsFalse}
 use Rattle.vx_model.specs.ChunkData.{ChunkData}
 use Rattle.vx_path.specs.Lists.{In}
-use Rattle.vx_layout_spec.specs.Codec.{Lawful}
+use Rattle.vx_machine_view.specs.Images.{Careful}
 use Rattle.vx_tasks.specs.Run.{Note}
 use Rattle.vx_plan.specs.PlanData.{Plan, What}
 use Rattle.vx_plan.specs.Number.{sorted, numbered}
@@ -22,7 +22,7 @@ plan_of g taken heard = source_plan g.setting g.way g.type g.mark taken heard
 
 -- something is ready until the machine has finished
 abbrev pub StaysReady : Type 0
-StaysReady = (g : Write) (first : ℕ) (seen : List Note) (x : Stand) (a : Answer) → Lawful g.setting.codec g.setting.encodings → UnderwayAt g first seen x
+StaysReady = (g : Write) (first : ℕ) (seen : List Note) (x : Stand) (a : Answer) → Careful g.setting → UnderwayAt g first seen x
     → IsFalse (is_finished x.machine) → 0 < length (ready_steps g first x.history a x.machine)
 
 -- All is done, by the plan of the batches that were taken.
@@ -47,5 +47,5 @@ pub record Caused (p : Plan) (w : WholeStep) : Type 0 where
 
 -- of the plan of the batches taken by then, and of those that may still come
 abbrev pub StepsHaveCause : Type 0
-StepsHaveCause = (g : Write) (first : ℕ) (seen : List Note) (x : Stand) (told : Answer) (f : Future) (k : ℕ) (w : WholeStep) → Lawful g.setting.codec g.setting.encodings
+StepsHaveCause = (g : Write) (first : ℕ) (seen : List Note) (x : Stand) (told : Answer) (f : Future) (k : ℕ) (w : WholeStep) → Careful g.setting
     → UnderwayAt g first seen x → Open (heard_by x.heard told) f → Chosen g first x told k w → Caused (planned g (taken_by x.taken told) f) w

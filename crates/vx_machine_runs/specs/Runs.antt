@@ -2,7 +2,7 @@
 use Rattle.std.specs.Prelude.{◌≡◌, ◌+◌, ◌%◌, ℕ, zero, suc, Bool, false, List, [], ◌∷◌, ◌++◌, map, length, Some, None, IsTrue, IsFalse}
 use Rattle.vx_model.specs.Ty.{Ty}
 use Rattle.vx_model.specs.ChunkData.{ChunkData}
-use Rattle.vx_layout_spec.specs.Codec.{Lawful}
+use Rattle.vx_machine_view.specs.Images.{Careful}
 use Rattle.vx_tasks.specs.Run.{Note, nth, first_pick, later_picks}
 use Rattle.vx_tasks.specs.Runs.{noted}
 use Rattle.vx_plan.specs.PlanData.{Setting, Pair}
@@ -95,12 +95,12 @@ StartIsUnderway = (g : Write) (first : ℕ) → IsTrue (is_built g.way) → star
 
 -- where the step is the one that the schedule picks
 abbrev pub StepIsUnderway : Type 0
-StepIsUnderway = (g : Write) (first : ℕ) (seen : List Note) (x y : Stand) (n : Note) → Lawful g.setting.codec g.setting.encodings
+StepIsUnderway = (g : Write) (first : ℕ) (seen : List Note) (x y : Stand) (n : Note) → Careful g.setting
     → n.picked ≡ first_pick (picks_after (length seen) g.schedule) % n.ready → Done g first x y n → UnderwayAt g first seen x → UnderwayAt g first (seen ++ (n ∷ [])) y
 
 -- whole runs, where the schedule picks these places
 abbrev pub RunByIsUnderway : Type 0
-RunByIsUnderway = (g : Write) (first : ℕ) (ns : List Note) (y : Stand) → Lawful g.setting.codec g.setting.encodings → IsTrue (is_built g.way)
+RunByIsUnderway = (g : Write) (first : ℕ) (ns : List Note) (y : Stand) → Careful g.setting → IsTrue (is_built g.way)
     → start_fault g.setting g.way g.type g.mark ≡ None → PickedBy g.schedule ns → Led g first (outset g) ns y → UnderwayAt g first ns y
 
 -- as each schedule does that tells them
@@ -108,7 +108,7 @@ abbrev pub PlacesArePicks : Type 0
 PlacesArePicks = (g : Write) (first : ℕ) (x y : Stand) (ns : List Note) → Led g first x ns y → PickedBy (map (λ n. n.picked) ns) ns
 
 abbrev pub RunIsUnderway : Type 0
-RunIsUnderway = (g : Write) (first : ℕ) (ns : List Note) (y : Stand) → Lawful g.setting.codec g.setting.encodings → IsTrue (is_built g.way)
+RunIsUnderway = (g : Write) (first : ℕ) (ns : List Note) (y : Stand) → Careful g.setting → IsTrue (is_built g.way)
     → start_fault g.setting g.way g.type g.mark ≡ None → g.schedule ≡ map (λ n. n.picked) ns → Led g first (outset g) ns y → UnderwayAt g first ns y
 
 -- which steps lead where depends on no schedule

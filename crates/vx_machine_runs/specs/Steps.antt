@@ -2,7 +2,7 @@
 use Rattle.std.specs.Prelude.{◌≡◌, ◌^◌, ◌<◌, ◌≤◌, ℕ, List, [], ◌∷◌, ◌++◌, length, Some, None, IsTrue}
 use Rattle.vx_path.specs.Lists.{In}
 use Rattle.vx_path.specs.Path.{Eof, root_eof}
-use Rattle.vx_layout_spec.specs.Codec.{Lawful}
+use Rattle.vx_machine_view.specs.Images.{Careful}
 use Rattle.vx_tasks.specs.Run.{Note, nth}
 use Rattle.vx_plan.specs.PlanData.{Pair, Plan}
 use Rattle.vx_plan.specs.Number.{sorted}
@@ -20,7 +20,7 @@ use Rattle.vx_machine_runs.specs.Ends.{Caused}
 
 -- where nothing is ready, the machine has finished
 abbrev pub IdleIsFinished : Type 0
-IdleIsFinished = (g : Write) (first : ℕ) (seen : List Note) (x : Stand) → Lawful g.setting.codec g.setting.encodings → UnderwayAt g first seen x
+IdleIsFinished = (g : Write) (first : ℕ) (seen : List Note) (x : Stand) → Careful g.setting → UnderwayAt g first seen x
     → whole_ready (machine_ids x.machine) x.machine ≡ 0 → IsTrue (is_finished x.machine)
 
 -- a step that finds a chunk of another type is the one in which the source reads, and is told nothing
@@ -36,7 +36,7 @@ HistoryIsFront = (g : Write) (first : ℕ) (seen : List Note) (x : Stand) (told 
 
 -- an append that isn't refused is one more of the plan's pairs, whatever may still come
 abbrev pub AppendIsOneMore : Type 0
-AppendIsOneMore = (g : Write) (first : ℕ) (seen : List Note) (x : Stand) (told : Answer) (f : Future) (k : ℕ) (w : WholeStep) (y : Pair) → Lawful g.setting.codec g.setting.encodings
+AppendIsOneMore = (g : Write) (first : ℕ) (seen : List Note) (x : Stand) (told : Answer) (f : Future) (k : ℕ) (w : WholeStep) (y : Pair) → Careful g.setting
     → UnderwayAt g first seen x → Open (heard_by x.heard told) f → Chosen g first x told k w → w.refusal ≡ None → w.wrote ≡ y ∷ []
     → length x.history < length (planned g (taken_by x.taken told) f).pairs
 
@@ -54,7 +54,7 @@ PastIsCaused = (p : Plan) (w : WholeStep) (n : ℕ) → Caused p w → 2 ^ 64 �
 
 -- so it is at the start, of what is started with it
 abbrev pub StartIsCaused : Type 0
-StartIsCaused = (g : Write) (f : Future) (n : ℕ) → IsTrue (is_built g.way) → In n (first_indices (form_of g) root_eof) → 2 ^ 64 ≤ n → IsPast (2 ^ 64) (planned g [] f).numbers
+StartIsCaused = (g : Write) (f : Future) (n : ℕ) → IsTrue (is_built g.way) → In n (first_indices (form_of g) g.mark root_eof) → 2 ^ 64 ≤ n → IsPast (2 ^ 64) (planned g [] f).numbers
 
 -- A step that isn't refused, and whose counts fit.
 pub record SoundStep (w : WholeStep) : Type 0 where
@@ -65,11 +65,11 @@ pub record SoundStep (w : WholeStep) : Type 0 where
 
 -- so it is where the plan of all that comes has no fault, and its numbers fit
 abbrev pub ValidIsSound : Type 0
-ValidIsSound = (g : Write) (first : ℕ) (seen : List Note) (x : Stand) (told : Answer) (f : Future) (k : ℕ) (w : WholeStep) → Lawful g.setting.codec g.setting.encodings
+ValidIsSound = (g : Write) (first : ℕ) (seen : List Note) (x : Stand) (told : Answer) (f : Future) (k : ℕ) (w : WholeStep) → Careful g.setting
     → UnderwayAt g first seen x → Open (heard_by x.heard told) f → Chosen g first x told k w
     → (planned g (taken_by x.taken told) f).faults ≡ [] → Fit (planned g (taken_by x.taken told) f).numbers → SoundStep w
 
 -- and so the start refuses nothing, and how far its pointers come fits
 abbrev pub ValidStarts : Type 0
 ValidStarts = (g : Write) (f : Future) → IsTrue (is_built g.way) → (planned g [] f).faults ≡ [] → Fit (planned g [] f).numbers
-    → (start_fault g.setting g.way g.type g.mark ≡ None) × ((n : ℕ) → In n (first_indices (form_of g) root_eof) → n < 2 ^ 64)
+    → (start_fault g.setting g.way g.type g.mark ≡ None) × ((n : ℕ) → In n (first_indices (form_of g) g.mark root_eof) → n < 2 ^ 64)

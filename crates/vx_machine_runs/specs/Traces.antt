@@ -2,7 +2,7 @@
 use Rattle.std.specs.Prelude.{◌≡◌, ◌+◌, ◌%◌, ◌<◌, ◌≤◌, ℕ, Bool, true, false, List, [], ◌∷◌, ◌++◌, take, length, Some, None, IsTrue, IsFalse}
 use Rattle.vx_model.specs.ChunkData.{ChunkData}
 use Rattle.vx_path.specs.Lists.{In}
-use Rattle.vx_layout_spec.specs.Codec.{Lawful}
+use Rattle.vx_machine_view.specs.Images.{Careful}
 use Rattle.vx_tasks.specs.Task.{Forest, appends_of}
 use Rattle.vx_tasks.specs.State.{Counts, left}
 use Rattle.vx_tasks.specs.Run.{Note, nth, ready, trace, work, first_pick}
@@ -28,12 +28,12 @@ ReadyIsWithinLeft = (f : Forest) (s : Counts) → ready f s ≤ left f s
 
 -- of the machine: beside the steps that were made
 abbrev pub ReadyIsWithinWork : Type 0
-ReadyIsWithinWork = (g : Write) (first : ℕ) (seen : List Note) (x : Stand) (a : Answer) (f : Future) → Lawful g.setting.codec g.setting.encodings
+ReadyIsWithinWork = (g : Write) (first : ℕ) (seen : List Note) (x : Stand) (a : Answer) (f : Future) → Careful g.setting
     → UnderwayAt g first seen x → Open x.heard f → length (ready_steps g first x.history a x.machine) + length seen ≤ work (scripts g x.taken f)
 
 -- and of the tree in which a refusal ends its task
 abbrev pub NextIsWithinWork : Type 0
-NextIsWithinWork = (g : Write) (first : ℕ) (seen : List Note) (x : Stand) (a : Answer) (f : Future) → Lawful g.setting.codec g.setting.encodings
+NextIsWithinWork = (g : Write) (first : ℕ) (seen : List Note) (x : Stand) (a : Answer) (f : Future) → Careful g.setting
     → UnderwayAt g first seen x → Open x.heard f → length (ready_steps g first x.history a x.machine) ≤ work (cut (scripts g x.taken f))
 
 -- and so it was at each step that was made
@@ -55,7 +55,7 @@ NotesAreFewer = (g : Write) (first : ℕ) (seen : List Note) (x : Stand) (f : Fu
 
 -- as they are where something is ready
 abbrev pub ReadyIsMore : Type 0
-ReadyIsMore = (g : Write) (first : ℕ) (seen : List Note) (x : Stand) (a : Answer) (f : Future) → Lawful g.setting.codec g.setting.encodings → UnderwayAt g first seen x → Open x.heard f
+ReadyIsMore = (g : Write) (first : ℕ) (seen : List Note) (x : Stand) (a : Answer) (f : Future) → Careful g.setting → UnderwayAt g first seen x → Open x.heard f
     → 0 < length (ready_steps g first x.history a x.machine) → length seen < work (cut (scripts g x.taken f))
 
 -- then they are the whole trace, and no step had more ready than there are steps
@@ -70,14 +70,14 @@ NotesAreWhole = (g : Write) (first : ℕ) (seen : List Note) (x : Stand) → Und
 
 -- where the picked step is refused, they are the whole trace too
 abbrev pub RefusalIsLast : Type 0
-RefusalIsLast = (g : Write) (first : ℕ) (seen : List Note) (x : Stand) (told : Answer) (f : Future) (k : ℕ) (w : WholeStep) (v : What) → Lawful g.setting.codec g.setting.encodings
+RefusalIsLast = (g : Write) (first : ℕ) (seen : List Note) (x : Stand) (told : Answer) (f : Future) (k : ℕ) (w : WholeStep) (v : What) → Careful g.setting
     → UnderwayAt g first seen x → Open (heard_by x.heard told) f → Chosen g first x told k w → w.refusal ≡ Some v
     → k ≡ first_pick (picks_after (length seen) g.schedule) % length (ready_steps g first x.history told x.machine)
     → seen ≡ trace (cut (scripts g (taken_by x.taken told) f)) g.schedule
 
 -- and where that is the source's, which finds a batch of another type, behind those that were taken
 abbrev pub MisfitIsLast : Type 0
-MisfitIsLast = (g : Write) (first : ℕ) (seen : List Note) (x : Stand) (k : ℕ) (w : WholeStep) → Lawful g.setting.codec g.setting.encodings → UnderwayAt g first seen x
+MisfitIsLast = (g : Write) (first : ℕ) (seen : List Note) (x : Stand) (k : ℕ) (w : WholeStep) → Careful g.setting → UnderwayAt g first seen x
     → IsFalse x.heard → nth (ready_steps g first x.history unasked x.machine) k ≡ Some w → IsTrue w.misfit
     → k ≡ first_pick (picks_after (length seen) g.schedule) % length (ready_steps g first x.history unasked x.machine)
     → seen ≡ trace (cut (scripts_of g x.taken false)) g.schedule

@@ -1,7 +1,7 @@
 -- What the tracker counts in a run.
 use Rattle.std.specs.Prelude.{◌≡◌, ◌+◌, ◌≤◌, ℕ, List, Some}
 use Rattle.vx_model.specs.ChunkData.{ChunkData}
-use Rattle.vx_layout_spec.specs.Codec.{Lawful}
+use Rattle.vx_machine_view.specs.Images.{Careful}
 use Rattle.vx_tasks.specs.Run.{Note, nth}
 use Rattle.vx_machine_turns.specs.Acts.{raised_in, lowered_in}
 use Rattle.vx_machine_steps.specs.Tree.{Tree}
@@ -19,7 +19,7 @@ StepIsTracked = (g : Write) (first : ℕ) (seen : List Note) (x y : Stand) (n : 
 -- With what the next step adds it is at most what it was at the start, and all that the plan reserves: of the batches taken by then,
 -- and of those that may still come.
 abbrev pub StepsAreTracked : Type 0
-StepsAreTracked = (g : Write) (first : ℕ) (seen : List Note) (x : Stand) (told : Answer) (f : Future) (k : ℕ) (w : WholeStep) → Lawful g.setting.codec g.setting.encodings
+StepsAreTracked = (g : Write) (first : ℕ) (seen : List Note) (x : Stand) (told : Answer) (f : Future) (k : ℕ) (w : WholeStep) → Careful g.setting
     → UnderwayAt g first seen x → Open (heard_by x.heard told) f → Chosen g first x told k w → tracked g x + w.raises ≤ g.tracker + (planned g (taken_by x.taken told) f).reserved
 
 -- The number that the tracker comes to by the tasks alone, from this state on: these notes are of moves that lead to another one, where
@@ -38,7 +38,7 @@ pub record Comes (g : Write) (start : Tree) (seen : List Note) (k n : ℕ) : Typ
 
 -- so it does with each step
 abbrev pub TrackerComes : Type 0
-TrackerComes = (g : Write) (first : ℕ) (seen : List Note) (x : Stand) (told : Answer) (f : Future) (k : ℕ) (w : WholeStep) → Lawful g.setting.codec g.setting.encodings
+TrackerComes = (g : Write) (first : ℕ) (seen : List Note) (x : Stand) (told : Answer) (f : Future) (k : ℕ) (w : WholeStep) → Careful g.setting
     → UnderwayAt g first seen x → Open (heard_by x.heard told) f → Chosen g first x told k w → Comes g (begin g (taken_by x.taken told) f) seen k (tracked g x + w.raises)
 
 -- and it is at most what was counted at first, and all that the plan reserves

@@ -61,8 +61,9 @@ module _ (u v : Active) (l k r : Stock) (o : Owned u (both l k)) (m : Moved u v 
   pub joined_then : (w : Active) (t : Stock) → Moved v w (both l none) t → Moved u w (both l k) (both t r)
   joined_then w t n = moved_then u v w (both l k) (both l r) (both t r) joined_moved (then_set v w l t r joined_owned n)
 
--- ---- an act by what is due: it holds an item, a segment, or nothing
+-- ---- an act by what is due
 
+-- it touches the children: what is in mind and what is left to do stay beside it
 module _ (u : Active) (l k d i : Stock) (is : d ≡ i) (o : Owned u (both (both l k) d)) where
   behind : both (both l k) d ≡ both l (both k i)
   behind = both_assoc l k d ∙ ap (λ z. both l (both k z)) is
@@ -74,28 +75,50 @@ module _ (u : Active) (l k d i : Stock) (is : d ≡ i) (o : Owned u (both (both 
   put_moved v r m = moved_as u v (both l (both k i)) (both (both l k) d) (both l r) (both l r) (sym behind) refl
       (moved_behind u v l (both k i) r (owned_as u (both (both l k) d) (both l (both k i)) behind o) m)
 
-  beside : both (both l k) d ≡ both (both l i) k
-  beside = both_turn l k d ∙ ap (λ z. both (both l z) k) is
+-- it touches what is in mind, or what is left to do
+module _ (u : Active) (l t k d i : Stock) (is : d ≡ i) (o : Owned u (both (both (both l t) k) d)) where
+  beside : both (both (both l t) k) d ≡ both (both l i) (both t k)
+  beside = stock_is (both (both (both l t) k) d) (both (both l d) (both t k)) (λ p. omega arith) (λ p. omega arith) ∙ ap (λ z. both (both l z) (both t k)) is
 
   pub append_owned : Owned u (both l i)
-  append_owned = owned_left u (both l i) k (owned_as u (both (both l k) d) (both (both l i) k) beside o)
+  append_owned = owned_left u (both l i) (both t k) (owned_as u (both (both (both l t) k) d) (both (both l i) (both t k)) beside o)
 
-  pub append_moved : (v : Active) (t : Stock) → Moved u v (both l i) t → Moved u v (both (both l k) d) (both t k)
-  append_moved v t m = moved_as u v (both (both l i) k) (both (both l k) d) (both t k) (both t k) (sym beside) refl
-      (moved_beside u v (both l i) t k (owned_as u (both (both l k) d) (both (both l i) k) beside o) m)
+  pub append_moved : (v : Active) (m : Stock) → Moved u v (both l i) m → Moved u v (both (both (both l t) k) d) (both (both m t) k)
+  append_moved v m h = moved_as u v (both (both l i) (both t k)) (both (both (both l t) k) d) (both m (both t k)) (both (both m t) k) (sym beside) (sym (both_assoc m t k))
+      (moved_beside u v (both l i) m (both t k) (owned_as u (both (both (both l t) k) d) (both (both l i) (both t k)) beside o) h)
 
-module _ (u : Active) (l k d : Stock) (is : d ≡ none) (o : Owned u (both (both l k) d)) where
-  alone : both (both l k) d ≡ both l k
-  alone = ap (both (both l k)) is ∙ both_none (both l k)
+  before : both (both (both l t) k) d ≡ both (both t i) (both l k)
+  before = stock_is (both (both (both l t) k) d) (both (both t d) (both l k)) (λ p. omega arith) (λ p. omega arith) ∙ ap (λ z. both (both t z) (both l k)) is
+
+  pub press_owned : Owned u (both t i)
+  press_owned = owned_left u (both t i) (both l k) (owned_as u (both (both (both l t) k) d) (both (both t i) (both l k)) before o)
+
+  pub press_moved : (v : Active) (m : Stock) → Moved u v (both t i) m → Moved u v (both (both (both l t) k) d) (both (both l m) k)
+  press_moved v m h = moved_as u v (both (both t i) (both l k)) (both (both (both l t) k) d) (both m (both l k)) (both (both l m) k) (sym before)
+      (stock_is (both m (both l k)) (both (both l m) k) (λ p. omega arith) (λ p. omega arith))
+      (moved_beside u v (both t i) m (both l k) (owned_as u (both (both (both l t) k) d) (both (both t i) (both l k)) before o) h)
+
+  -- or is given up
+  pub leave_owned : Owned u i
+  leave_owned = owned_right u t i press_owned
+
+  pub leave_moved : (v : Active) → Moved u v i none → Moved u v (both (both (both l t) k) d) (both (both l t) k)
+  leave_moved v h = press_moved v t (moved_drop u v t i press_owned h)
+
+-- it holds nothing
+module _ (u : Active) (l t k d : Stock) (is : d ≡ none) (o : Owned u (both (both (both l t) k) d)) where
+  alone : both (both (both l t) k) d ≡ both (both l k) t
+  alone = ap (both (both (both l t) k)) is ∙ both_none (both (both l t) k) ∙ both_turn l t k
 
   pub join_owned : Owned u (both l k)
-  join_owned = owned_as u (both (both l k) d) (both l k) alone o
+  join_owned = owned_left u (both l k) t (owned_as u (both (both (both l t) k) d) (both (both l k) t) alone o)
 
-  pub join_moved : (v : Active) (t : Stock) → Moved u v (both l k) t → Moved u v (both (both l k) d) t
-  join_moved v t m = moved_as u v (both l k) (both (both l k) d) t t (sym alone) refl m
+  pub join_moved : (v : Active) (m r : Stock) → Moved u v (both l k) (both m r) → Moved u v (both (both (both l t) k) d) (both (both m t) r)
+  join_moved v m r h = moved_as u v (both (both l k) t) (both (both (both l t) k) d) (both (both m r) t) (both (both m t) r) (sym alone) (both_turn m r t)
+      (moved_beside u v (both l k) (both m r) t (owned_as u (both (both (both l t) k) d) (both (both l k) t) alone o) h)
 
-  pub close_moved : (r : Stock) → r ≡ k → Moved u u (both (both l k) d) (both l r)
-  close_moved r e = stays_as u (both (both l k) d) (both l r) (alone ∙ ap (both l) (sym e)) o
+  pub close_moved : (r : Stock) → r ≡ k → Moved u u (both (both (both l t) k) d) (both (both l t) r)
+  close_moved r e = stays_as u (both (both (both l t) k) d) (both (both l t) r) (ap (both (both (both l t) k)) is ∙ both_none (both (both l t) k) ∙ ap (both (both l t)) (sym e)) o
 
 -- ---- a take
 
@@ -144,6 +167,13 @@ module _ (u : Active) (l d k i : Stock) (o : Owned u (both (both (both l d) k) i
   pub take_flat_moved : (v : Active) (t : Stock) → Moved u v (both l i) t → Moved u v (both (both (both l d) k) i) (both (both t d) k)
   take_flat_moved v t m = moved_as u v (both (both l i) (both d k)) (both (both (both l d) k) i) (both t (both d k)) (both (both t d) k) (sym flat_is) (sym (both_assoc t d k))
       (moved_beside u v (both l i) t (both d k) flat_owned m)
+
+  -- an item that is given up
+  pub take_nothing_owned : Owned u i
+  take_nothing_owned = owned_right u (both (both l d) k) i o
+
+  pub take_nothing_moved : (v : Active) → Moved u v i none → Moved u v (both (both (both l d) k) i) (both (both l d) k)
+  take_nothing_moved v m = moved_drop u v (both (both l d) k) i o m
 
   -- by a node that regroups
   pub take_group_owned : Owned u (both (both l d) i)
@@ -195,23 +225,23 @@ module _ (u v : Active) (l d b c t r : Stock) (is : b ≡ l) (due : c ≡ d) (o 
 -- ---- the next act of a task
 
 module _ (u : Active) (l q k : Stock) (ds rest : List Due) (d : Due) (is : ds ≡ d ∷ rest) (o : Owned u (both (both l (both (dues_stock ds) q)) k)) where
-  first_is : both (both l (both (dues_stock ds) q)) k ≡ both (both (both l k) (due_stock d)) (both (dues_stock rest) q)
+  first_is : both (both l (both (dues_stock ds) q)) k ≡ both (both (both (both l (dues_stock rest)) k) (due_stock d)) q
   first_is = ap (λ z. both (both l (both (dues_stock z) q)) k) is
-      ∙ stock_is (both (both l (both (both (due_stock d) (dues_stock rest)) q)) k) (both (both (both l k) (due_stock d)) (both (dues_stock rest) q)) (λ p. omega arith) (λ p. omega arith)
+      ∙ stock_is (both (both l (both (both (due_stock d) (dues_stock rest)) q)) k) (both (both (both (both l (dues_stock rest)) k) (due_stock d)) q) (λ p. omega arith) (λ p. omega arith)
 
-  first_held : Owned u (both (both (both l k) (due_stock d)) (both (dues_stock rest) q))
-  first_held = owned_as u (both (both l (both (dues_stock ds) q)) k) (both (both (both l k) (due_stock d)) (both (dues_stock rest) q)) first_is o
+  first_held : Owned u (both (both (both (both l (dues_stock rest)) k) (due_stock d)) q)
+  first_held = owned_as u (both (both l (both (dues_stock ds) q)) k) (both (both (both (both l (dues_stock rest)) k) (due_stock d)) q) first_is o
 
-  pub act_owned : Owned u (both (both l k) (due_stock d))
-  act_owned = owned_left u (both (both l k) (due_stock d)) (both (dues_stock rest) q) first_held
+  pub act_owned : Owned u (both (both (both l (dues_stock rest)) k) (due_stock d))
+  act_owned = owned_left u (both (both (both l (dues_stock rest)) k) (due_stock d)) q first_held
 
-  after_is : (t r : Stock) → both (both t r) (both (dues_stock rest) q) ≡ both (both t (both (dues_stock rest) q)) r
-  after_is t r = both_turn t r (both (dues_stock rest) q)
+  after_is : (m t r : Stock) → both (both (both m t) r) q ≡ both (both m (both t q)) r
+  after_is m t r = stock_is (both (both (both m t) r) q) (both (both m (both t q)) r) (λ p. omega arith) (λ p. omega arith)
 
-  pub act_moved : (v : Active) (t r : Stock) → Moved u v (both (both l k) (due_stock d)) (both t r) → Moved u v (both (both l (both (dues_stock ds) q)) k) (both (both t (both (dues_stock rest) q)) r)
-  act_moved v t r m = moved_as u v (both (both (both l k) (due_stock d)) (both (dues_stock rest) q)) (both (both l (both (dues_stock ds) q)) k)
-      (both (both t r) (both (dues_stock rest) q)) (both (both t (both (dues_stock rest) q)) r) (sym first_is) (after_is t r)
-      (moved_beside u v (both (both l k) (due_stock d)) (both t r) (both (dues_stock rest) q) first_held m)
+  pub act_moved : (v : Active) (m t r : Stock) → Moved u v (both (both (both l (dues_stock rest)) k) (due_stock d)) (both (both m t) r) → Moved u v (both (both l (both (dues_stock ds) q)) k) (both (both m (both t q)) r)
+  act_moved v m t r h = moved_as u v (both (both (both (both l (dues_stock rest)) k) (due_stock d)) q) (both (both l (both (dues_stock ds) q)) k)
+      (both (both (both m t) r) q) (both (both m (both t q)) r) (sym first_is) (after_is m t r)
+      (moved_beside u v (both (both (both l (dues_stock rest)) k) (due_stock d)) (both (both m t) r) q first_held h)
 
 -- none is due
 module _ (u : Active) (l q k : Stock) (ds es : List Due) (is : ds ≡ es) (o : Owned u (both (both l (both (dues_stock ds) q)) k)) where
@@ -264,3 +294,19 @@ module _ (u : Active) (l d k : Stock) (xs ys : List Item) (is : xs ≡ ys) (o : 
   last_moved v t r m = moved_as u v (both (both l d) (both (items_stock ys) k)) (both (both l (both d (items_stock xs))) k)
       (both (both t r) (both (items_stock ys) k)) (both (both t (both r (items_stock ys))) k) (sym rest_is) (last_is t r)
       (moved_beside u v (both l d) (both t r) (both (items_stock ys) k) rest_held m)
+
+  -- with the children
+  pub probe_owned : Owned u (both (both l d) k)
+  probe_owned = owned_left u (both (both l d) k) (items_stock ys) (owned_as u (both (both l d) (both (items_stock ys) k)) (both (both (both l d) k) (items_stock ys)) probe_is rest_held)
+    where
+      probe_is : both (both l d) (both (items_stock ys) k) ≡ both (both (both l d) k) (items_stock ys)
+      probe_is = stock_is (both (both l d) (both (items_stock ys) k)) (both (both (both l d) k) (items_stock ys)) (λ p. omega arith) (λ p. omega arith)
+
+  pub probe_moved : (v : Active) (t r n : Stock) → Moved u v (both (both l d) k) (both (both t r) n) → Moved u v (both (both l (both d (items_stock xs))) k) (both (both t (both r (items_stock ys))) n)
+  probe_moved v t r n m = moved_as u v (both (both (both l d) k) (items_stock ys)) (both (both l (both d (items_stock xs))) k)
+      (both (both (both t r) n) (items_stock ys)) (both (both t (both r (items_stock ys))) n) (sym apart)
+      (stock_is (both (both (both t r) n) (items_stock ys)) (both (both t (both r (items_stock ys))) n) (λ p. omega arith) (λ p. omega arith))
+      (moved_beside u v (both (both l d) k) (both (both t r) n) (items_stock ys) (owned_as u (both (both l (both d (items_stock xs))) k) (both (both (both l d) k) (items_stock ys)) apart o) m)
+    where
+      apart : both (both l (both d (items_stock xs))) k ≡ both (both (both l d) k) (items_stock ys)
+      apart = rest_is ∙ stock_is (both (both l d) (both (items_stock ys) k)) (both (both (both l d) k) (items_stock ys)) (λ p. omega arith) (λ p. omega arith)

@@ -11,7 +11,7 @@ use Rattle.vx_machine_nodes.specs.Stocks.{local_stock, dues_stock, items_stock}
 use Rattle.vx_machine_tasks.specs.Stocks.{task_stock, tasks_stock}
 use Rattle.vx_machine_tasks.specs.Ready.{no_others, has_layout, is_done}
 use Rattle.vx_machine_nodes.specs.declared.node.Local.{Local}
-use Rattle.vx_machine_nodes.specs.declared.node.Local.TheVariants.{Empty, Full, Chunked, Columns, Lists, Grouped, Over, Passing, Made}
+use Rattle.vx_machine_nodes.specs.declared.node.Local.TheVariants.{Empty, Full, Chunked, Columns, Lists, Grouped, Over, Passing, Made, Zoned, Pressing, AsIs, Probe, Asking, Runs}
 use Rattle.vx_machine_tasks.specs.declared.task.Task.{Task, out-Task}
 use Rattle.vx_machine_tasks.proofs.TaskParts.{task_stock_out, task_count_out}
 use Rattle.vx_machine_nodes.proofs.ListParts.{none_is}
@@ -46,6 +46,12 @@ there_cases (Chunked n eof rows) ts h = absurd (true≢false (sym h))
 there_cases (Columns n rows) ts h = absurd (true≢false (sym h))
 there_cases (Lists n rows) ts h = absurd (true≢false (sym h))
 there_cases (Grouped n) ts h = absurd (true≢false (sym h))
+there_cases (Zoned n) ts h = absurd (true≢false (sym h))
+there_cases (Pressing which) ts h = absurd (true≢false (sym h))
+there_cases AsIs ts h = absurd (true≢false (sym h))
+there_cases (Probe n eof) ts h = absurd (true≢false (sym h))
+there_cases Asking ts h = absurd (true≢false (sym h))
+there_cases (Runs r) ts h = absurd (true≢false (sym h))
 there_cases Over ts h = absurd (true≢false (sym h))
 
 nothing_of : {A : Type 0} (f : A → Stock) (xs : List A) → length xs ≡ 0 → all_stock f xs ≡ none

@@ -42,13 +42,13 @@ module _ {S : Type 0} (g : Grouper S) (after : S → Option Piece → ℕ → Mi
 
 module _ {S : Type 0} (g : Grouper S) (x : S) (c : Desk) (ks : Tasks) where
   pub rest_shows : (q m : Mind) (j : Option Piece) (todo : List Next) (h : Head) (kids : List Task) → row kids ≡ ks → desk_of h ≡ now c m todo []
-      → Ended (end_grouped g x j (bare q) ks) m todo [] → TakeDone (end_grouped g x j c ks) h kids
+      → Ended (end_grouped g x j (bare [] q) ks) m todo [] → TakeDone (end_grouped g x j c ks) h kids
   rest_shows q m None todo h kids same is d = record { unrefused = d.unrefused; fits = d.fits; counted = d.counted; kids_are = same; desk = is ∙ (λ k. now c (d.mind_is k) (d.todo_is k) []) }
   rest_shows q m (Some j) todo h kids same is d = record { unrefused = d.unrefused; fits = d.fits; counted = d.counted; kids_are = same; desk = is ∙ (λ k. now c (d.mind_is k) (d.todo_is k) []) }
 
-  pub rest_fails : (q : Mind) (j : Option Piece) (e : WriteError) → TakeRefused (end_grouped g x j (bare q) ks) e → TakeRefused (end_grouped g x j c ks) e
-  rest_fails q None e h = h
-  rest_fails q (Some j) e h = h
+  pub rest_fails : (at : List ℕ) (q : Mind) (j : Option Piece) (e : WriteError) → TakeRefused (end_grouped g x j (bare at q) ks) e → TakeRefused (end_grouped g x j c ks) e
+  rest_fails at q None e h = h
+  rest_fails at q (Some j) e h = h
 
   pub rest_kind : (j : Option Piece) → actions.Take ≡ action_of (end_grouped g x j c ks).kind
   rest_kind None = refl

@@ -3,11 +3,13 @@ use Rattle.std.proofs.Common.{◌≡◌, ◌≢◌, ℕ, ◌+◌, ◌==◌, ◌^
 use Rattle.std.proofs.lemmas.Bool.{true≢false}
 use Rattle.std.proofs.lemmas.List.{length-map}
 use Rattle.std.specs.Arc.{arc_value}
+use Rattle.std.specs.Int.NonZero.{non_zero_u32_get}
 use Rattle.std.specs.declared.sync.Arc.{Arc}
 use Rattle.vx_model.specs.Words.{total_by}
 use Rattle.vx_model.specs.Ty.{Ty, boolean, primitive, utf8, binary, list, struct, extension, is_struct, is_list}
 use Rattle.vx_layout_spec.specs.Refusal.{Refusal}
-use Rattle.vx_layout_spec.specs.LayoutTree.{LayoutData, layout, list_kind, lays_of, row_count, chunked_layout, gathered, struct_layout, list_layout}
+use Rattle.vx_layout_spec.proofs.LayoutLaws.{map_twice}
+use Rattle.vx_layout_spec.specs.LayoutTree.{LayoutData, Spec, layout, list_kind, zoned_kind, lays_of, row_count, chunked_layout, gathered, struct_layout, list_layout}
 use Rattle.vx_model.specs.TyView.{ty}
 use Rattle.vx_model.specs.declared.dtype.DType.{DType}
 use Rattle.vx_model.specs.declared.segment.SegmentId.{SegmentId}
@@ -21,13 +23,20 @@ use Rattle.vx_layout_tree.specs.declared.children.LayoutChildren.TheVariants as 
 use Rattle.vx_layout_tree.specs.LayoutView.{layout_data, number, seen_layout}
 use Rattle.vx_layout_tree.specs.KidsView.{layout_kids, chunks}
 use Rattle.vx_layout_tree.specs.Made.{make_chunked, make_struct, struct_children, validity_count}
+use Rattle.vx_layout_tree.specs.SpecView.{specs_of}
 use Rattle.vx_layout_tree.specs.Views.{Fails}
 use Rattle.vx_layout_tree.proofs.KidSteps.{chunk_sum}
-use Rattle.vx_machine_view.specs.Acts.{column_count, columns_layout, folded, joined_rows}
+use Rattle.vx_aggregate_spec.specs.Aggregate.{spec}
+use Rattle.vx_aggregate.specs.AggregateView.{aggregate}
+use Rattle.vx_aggregate.specs.declared.aggregate.AggregateFn.{AggregateFn}
+use Rattle.vx_machine_view.specs.State.{fold_runs}
+use Rattle.vx_machine_view.specs.Acts.{column_count, columns_layout, zones_layout, folded, joined_rows}
 use Rattle.vx_write_answer.specs.declared.error.WriteError.{WriteError}
 use Rattle.vx_write_answer.specs.declared.error.WriteError.TheVariants.{TooLarge, OutOfMemory}
 use Rattle.vx_machine_nodes.specs.declared.kinds.ColumnsNode.{ColumnsNode}
 use Rattle.vx_machine_nodes.specs.declared.kinds.ListsNode.{ListsNode}
+use Rattle.vx_machine_nodes.specs.declared.dict_node.DictNode.{DictNode}
+use Rattle.vx_machine_nodes.specs.declared.zoned_node.Zones.{Zones}
 use Rattle.vx_machine_nodes.specs.declared.node.Shape.{Shape}
 use Rattle.vx_machine_nodes.specs.declared.node.Shape.TheVariants as shapes
 use Rattle.vx_machine_nodes.specs.Acting.{JoinRefused}
@@ -134,6 +143,20 @@ pub lists_made : (d : DType) (u : Ty) (n : ℕ) (segments : Vec SegmentId Global
     → layout_data x ≡ seen_layout list_kind d n segments (map layout_data v.items) → layout_data x ≡ list_layout u n (map layout_data v.items)
 lists_made d u n segments v x is none h = h ∙ (λ j. layout list_kind (is j) n (map number (none j)) (lays_of (map layout_data v.items)))
 
+-- of a zoned node's data and table
+
+two_zones : (t : Ty) (n zone : ℕ) (specs : List Spec) (ls : List Layout) → length ls ≡ 2 → layout (zoned_kind zone specs) t n [] (lays_of (map layout_data ls)) ≡ zones_layout t n zone specs (map layout_data ls)
+two_zones t n zone specs [] h = absurd (omega (arith, h))
+two_zones t n zone specs (a ∷ []) h = absurd (omega (arith, h))
+two_zones t n zone specs (a ∷ b ∷ []) h = refl
+two_zones t n zone specs (a ∷ b ∷ c ∷ ls) h = absurd (omega (arith, h))
+
+pub zones_made : (d : DType) (u : Ty) (n len zone : ℕ) (columns : Vec AggregateFn Global) (segments : Vec SegmentId Global) (v : Vec Layout Global) (x : Layout) → ty d ≡ u → segments.items ≡ [] → len ≡ zone → vec_len v ≡ 2
+    → layout_data x ≡ seen_layout (zoned_kind len (specs_of columns)) d n segments (map layout_data v.items) → layout_data x ≡ zones_layout u n zone (map (λ a. spec (aggregate a)) columns.items) (map layout_data v.items)
+zones_made d u n len zone columns segments v x is none same two h =
+    h ∙ (λ j. layout (zoned_kind (same j) (map_twice aggregate spec columns.items j)) (is j) n (map number (none j)) (lays_of (map layout_data v.items)))
+    ∙ two_zones u n zone (map (λ a. spec (aggregate a)) columns.items) v.items (sym v.ok.0 ∙ two)
+
 -- by the type
 
 struct_is : (t : Ty) (n : ℕ) (ls : List (LayoutData ℕ)) → is_struct t ≡ true → columns_layout t n ls ≡ struct_layout t n ls
@@ -183,6 +206,23 @@ pub shape_lists : (h : Shape) (n : ListsNode) (rows : ℕ) (ls all : List (Layou
 shape_lists h n rows ls all r a e k =
     subst (λ z. IfOk r (λ l. layout_data l ≡ folded (fold_of z) all)) (sym a)
     (subst (λ z. IfOk r (λ l. layout_data l ≡ z)) (ap (list_layout (ty (arc_value n.dtype)) rows) e ∙ sym (list_is (ty (arc_value n.dtype)) rows all n.lists)) k)
+
+pub shape_zones : (h : Shape) (z : Zones) (ls all : List (LayoutData ℕ)) (r : Result Layout WriteError) → h ≡ shapes.Zones z → ls ≡ all
+    → IfOk r (λ l. layout_data l ≡ zones_layout (ty (arc_value z.dtype)) z.rows (non_zero_u32_get z.zone_len) (map (λ a. spec (aggregate a)) z.aggregates.items) ls) → IfOk r (λ l. layout_data l ≡ folded (fold_of h) all)
+shape_zones h z ls all r a e k =
+    subst (λ x. IfOk r (λ l. layout_data l ≡ folded (fold_of x) all)) (sym a)
+    (subst (λ x. IfOk r (λ l. layout_data l ≡ zones_layout (ty (arc_value z.dtype)) z.rows (non_zero_u32_get z.zone_len) (map (λ a. spec (aggregate a)) z.aggregates.items) x)) e k)
+
+module _ (h : Shape) (n : Arc DictNode Global) (rows : Vec ℕ Global) (d : DictNode) (ls all : List (LayoutData ℕ)) (r : Result Layout WriteError) (a : h ≡ shapes.Runs n rows) (b : d ≡ arc_value n) (e : ls ≡ all) where
+  pub shape_runs : IfOk r (λ l. layout_data l ≡ folded (fold_runs (ty (arc_value d.dtype)) rows.items) ls) → IfOk r (λ l. layout_data l ≡ folded (fold_of h) all)
+  shape_runs k =
+      subst (λ z. IfOk r (λ l. layout_data l ≡ folded (fold_of z) all)) (sym a)
+      (subst (λ z. IfOk r (λ l. layout_data l ≡ z)) (λ j. folded (fold_runs (ty (arc_value (b j).dtype)) rows.items) (e j)) k)
+
+  pub runs_refused : IfErr r (JoinRefused (joined_rows (fold_runs (ty (arc_value d.dtype)) rows.items) ls)) → IfErr r (JoinRefused (joined_rows (fold_of h) all))
+  runs_refused k =
+      subst (λ z. IfErr r (JoinRefused (joined_rows (fold_of z) all))) (sym a)
+      (subst (λ z. IfErr r (JoinRefused z)) (λ j. joined_rows (fold_runs (ty (arc_value (b j).dtype)) rows.items) (e j)) k)
 
 pub columns_refused : (ns : List ℕ) (r : Result Layout WriteError) → IfErr r (λ e. e ≡ OutOfMemory) → IfErr r (JoinRefused ns)
 columns_refused ns r h = memory_only (JoinRefused ns) r tt h

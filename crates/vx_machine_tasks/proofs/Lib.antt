@@ -7,6 +7,8 @@ pub mod CauseSteps
 pub mod GatherSteps
 pub mod StartMoves
 pub mod JoinSteps
+pub mod DictStarts
+pub mod RunJoins
 pub mod ActMoves
 pub mod ViewParts
 pub mod Counting
@@ -16,10 +18,16 @@ pub mod StopSteps
 pub mod ReservedSteps
 pub mod PaidSteps
 pub mod StartShows
+pub mod StartKinds
+pub mod StartRooms
 pub mod RowSteps
 pub mod ActShows
 pub mod TakeShows
 pub mod NextShows
+pub mod CallShows
+pub mod AskShows
+pub mod DictActs
 pub mod StepViews
 pub mod StepShows
 pub mod StepLifts
+pub mod TableStarts

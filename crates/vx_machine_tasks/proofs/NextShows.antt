@@ -1,13 +1,17 @@
 -- The next act of a task, by what is left to do and what stands on its queue.
-use Rattle.std.proofs.Common.{◌≡◌, ◌+◌, ◌||◌, ◌==◌, not, ℕ, Bool, true, false, List, [], ◌∷◌, length, Result, Ok, Err, IfOk, IfErr, OnOk, refl, sym, ap, subst, ◌∙◌}
+use Rattle.std.proofs.Common.{◌≡◌, ◌+◌, ◌||◌, ◌==◌, not, ℕ, Bool, true, false, List, [], ◌∷◌, length, Global, Result, Ok, Err, IfOk, IfErr, OnOk, refl, sym, ap, subst, ◌∙◌}
 use Rattle.std.proofs.lemmas.Bool.{and_parts, true≢false}
 use Rattle.std.specs.VecDeque.{deque_len}
+use Rattle.std.specs.Arc.{arc_value}
+use Rattle.std.specs.declared.sync.Arc.{Arc}
 use Rattle.vx_model.specs.ChunkData.{ChunkData}
 use Rattle.vx_sequence.specs.Universe.{Active}
 use Rattle.vx_order.specs.Outlet.{Outlet}
 use Rattle.vx_order.specs.Answers.{IsPast, IsShared}
 use Rattle.vx_sink.specs.declared.context.LayoutWriterContext.{LayoutWriterContext}
-use Rattle.vx_sink.specs.ContextView.{listed, counted}
+use Rattle.vx_sink.specs.ContextView.{allowed_in, counted}
+use Rattle.vx_path.specs.Path.{Eof}
+use Rattle.vx_plan.specs.PlanData.{Setting}
 use Rattle.vx_machine_view.specs.State.{Next, Desk}
 use Rattle.vx_machine_view.specs.Acts.{Did, now, do_next, take_end, do_take, do_act}
 use Rattle.vx_write_answer.specs.declared.step.ActionKind.{ActionKind}
@@ -15,19 +19,21 @@ use Rattle.vx_write_answer.specs.declared.step.ActionKind.TheVariants as actions
 use Rattle.vx_write_answer.specs.declared.error.WriteError.{WriteError}
 use Rattle.vx_machine_nodes.specs.declared.item.Due.{Due}
 use Rattle.vx_machine_nodes.specs.declared.item.Item.{Item}
+use Rattle.vx_machine_nodes.specs.declared.dict_node.DictNode.{DictNode}
 use Rattle.vx_machine_nodes.specs.declared.node.Local.{Local}
+use Rattle.vx_machine_nodes.specs.declared.node.Local.TheVariants.{Probe}
 use Rattle.vx_machine_tasks.specs.declared.task.Head.{Head}
 use Rattle.vx_machine_tasks.specs.declared.task.Task.{Task}
-use Rattle.vx_machine_nodes.specs.Acting.{ActStopped, TakeStopped, ChunkTaken, ChunkStopped, EndTaken, EndRefused}
+use Rattle.vx_machine_nodes.specs.Acting.{bare, ActStopped, TakeRefused, TakeStopped, ChunkTaken, ChunkStopped, is_probe, Ended, EndTaken, EndRefused}
 use Rattle.vx_machine_tasks.specs.Acting.{DueDone, DueRefused, TakeDone, NextTaken, NextUntaken, Acted, NextDone, NextRefused}
 use Rattle.vx_machine_nodes.specs.Context.{setting_of}
 use Rattle.vx_machine_tasks.specs.Ready.{Kid, is_over, may_now}
-use Rattle.vx_machine_nodes.specs.View.{item_of, items_of, next_of, todo_of, mind_of}
+use Rattle.vx_machine_nodes.specs.View.{coder_in, item_of, items_of, next_of, todo_of, mind_of}
 use Rattle.vx_machine_tasks.specs.View.{desk_of, row}
 use Rattle.vx_machine_tasks.proofs.ActShows.{act_shows, act_refused}
 use Rattle.vx_machine_tasks.proofs.Readiness.{may_none}
 use Rattle.vx_machine_nodes.proofs.RefusalSteps.{any_past, take_stops, act_stops}
-use Rattle.vx_machine_tasks.proofs.TakeShows.{took_shows, took_stopped, ended_shows, end_fails, take_acts}
+use Rattle.vx_machine_tasks.proofs.TakeShows.{no_probe, took_shows, took_stopped, ended_shows, probed_shows, end_fails, take_acts}
 use Rattle.vx_machine_tasks.proofs.ViewParts.{count_row}
 
 -- ---- from the queue
@@ -51,37 +57,57 @@ module _ {A : Type 0} (ctx : LayoutWriterContext) (h : Head) (ks : List Task) wh
         subst (λ xs. TakeStopped (counted ctx) (Takes ctx h ks xs image) e) (sym is) (took_stopped (counted ctx) (setting_of ctx image) (desk_of h) (row ks) (item_of i) (items_of rest) (mind_of h.local) e (f image))
 
   module _ (rest : List Item) (is : h.inbox.items ≡ rest) (none : rest ≡ []) where
-    pub end_done : (e : Head) (m : Local) (todo : List Next) (n : ℕ) (r : Result A WriteError) → n ≡ length ks → h.todo.items ≡ [] → desk_of e ≡ now (desk_of h) (mind_of m) todo (items_of rest)
+    pub end_done : (e : Head) (m : Local) (todo : List Next) (n : ℕ) (r : Result A WriteError) → n ≡ length ks → h.todo.items ≡ [] → is_probe h.local ≡ false → desk_of e ≡ now (desk_of h) (mind_of m) todo (items_of rest)
         → OnOk r (EndTaken h.local n m todo (todo_of h.todo.items)) → OnOk r (NextTaken ctx h ks e ks)
-    end_done e m todo n (Ok x) same idle d f = λ image.
+    end_done e m todo n (Ok x) same idle other d f = λ image.
         subst (λ xs. TakeDone (Takes ctx h ks xs image) e ks) (sym (is ∙ none))
-        (ended_shows (desk_of h) (row ks) (mind_of m) todo e ks refl (d ∙ ap (λ (xs : List Item). now (desk_of h) (mind_of m) todo (items_of xs)) none) (mind_of h.local) (todo_of h.todo.items)
-        (ap todo_of idle) (f (row ks) (count_row ks ∙ sym same)))
-    end_done e m todo n (Err x) same idle d f = tt
+        (ended_shows (setting_of ctx image) (desk_of h) (row ks) (mind_of m) todo e ks (d ∙ ap (λ (xs : List Item). now (desk_of h) (mind_of m) todo (items_of xs)) none) refl (mind_of h.local) (todo_of h.todo.items)
+        (no_probe h.local other) (ap todo_of idle) (f (setting_of ctx image) (row ks) (count_row ks ∙ sym same)))
+    end_done e m todo n (Err x) same idle other d f = tt
 
     pub end_refused : (n : ℕ) (r : Result A WriteError) → n ≡ length ks → IfErr r (EndRefused h.local n) → IfErr r (NextUntaken ctx h ks)
     end_refused n (Ok x) same f = tt
     end_refused n (Err e) same f = λ image.
+        let s : Setting = setting_of ctx image in
         subst (λ xs. TakeStopped (counted ctx) (Takes ctx h ks xs image) e) (sym (is ∙ none))
-        (take_stops (counted ctx) (take_end (desk_of h) (row ks) (mind_of h.local)) e (end_fails (desk_of h) (row ks) e (mind_of h.local) (f (row ks) (count_row ks ∙ sym same))))
+        (take_stops (counted ctx) (take_end s (desk_of h) (row ks) (mind_of h.local)) e (end_fails s (desk_of h) [] (row ks) e (mind_of h.local) (f s (row ks) (count_row ks ∙ sym same))))
+
+    -- of a dictionary node to which no chunk came
+    pub probe_done : (e : Head) (kids : List Task) (m : Local) (todo : List Next) (n : Arc DictNode Global) (p : Eof) (r : Result A WriteError) → h.local ≡ Probe n p → h.todo.items ≡ []
+        → desk_of e ≡ now (desk_of h) (mind_of m) todo (items_of rest)
+        → OnOk r ((s : Setting) → s.allowed ≡ allowed_in ctx → Ended (take_end s (bare h.name (mind_of h.local)) (row ks) (mind_of h.local)) (mind_of m) todo (todo_of h.todo.items))
+        → OnOk r ((s : Setting) → row kids ≡ (take_end s (bare h.name (mind_of h.local)) (row ks) (mind_of h.local)).kids) → OnOk r (NextTaken ctx h ks e kids)
+    probe_done e kids m todo n p (Ok x) q idle d f g = λ image.
+        let s : Setting = setting_of ctx image in
+        subst (λ xs. TakeDone (Takes ctx h ks xs image) e kids) (sym (is ∙ none))
+        (probed_shows s (desk_of h) (row ks) (mind_of m) todo e kids (d ∙ ap (λ (xs : List Item). now (desk_of h) (mind_of m) todo (items_of xs)) none) (mind_of h.local) (coder_in (arc_value n)) p (todo_of h.todo.items)
+        (ap mind_of q) (ap todo_of idle) (g s) (f s refl))
+    probe_done e kids m todo n p (Err x) q idle d f g = tt
+
+    pub probe_refused : (r : Result A WriteError) → IfErr r (λ e. (s : Setting) → s.allowed ≡ allowed_in ctx → TakeRefused (take_end s (bare h.name (mind_of h.local)) (row ks) (mind_of h.local)) e) → IfErr r (NextUntaken ctx h ks)
+    probe_refused (Ok x) f = tt
+    probe_refused (Err e) f = λ image.
+        let s : Setting = setting_of ctx image in
+        subst (λ xs. TakeStopped (counted ctx) (Takes ctx h ks xs image) e) (sym (is ∙ none))
+        (take_stops (counted ctx) (take_end s (desk_of h) (row ks) (mind_of h.local)) e (end_fails s (desk_of h) h.name (row ks) e (mind_of h.local) (f s refl)))
 
 -- ---- of a block
 
-module _ (ctx : LayoutWriterContext) (h : Head) (ks : List Task) (d : Due) (es : List Due) (is : h.todo.items ≡ d ∷ es) where
-  pub due_done : (e : Head) (kids : List Task) (o u : Outlet) (m : Local) (r : Result ActionKind WriteError) → desk_of e ≡ now (desk_of h) (mind_of m) (todo_of es) (items_of h.inbox.items)
-      → IfOk r (DueDone (listed ctx) h.local ks d o u m kids) → IfOk r (NextDone ctx h ks o u e kids)
-  due_done e kids o u m (Ok a) g f = λ image. (
+module _ (ctx : LayoutWriterContext) (image : ℕ → ChunkData → ChunkData) (h : Head) (ks : List Task) (d : Due) (es : List Due) (is : h.todo.items ≡ d ∷ es) where
+  pub due_done : (e : Head) (kids : List Task) (o u : Outlet) (m : Local) (todo : List Next) (r : Result ActionKind WriteError) → desk_of e ≡ now (desk_of h) (mind_of m) todo (items_of h.inbox.items)
+      → IfOk r (DueDone ctx image h.name h.local ks d o u m todo (todo_of es) kids) → IfOk r (NextDone ctx image h ks o u e kids)
+  due_done e kids o u m todo (Ok a) g f = (
     f.0,
     subst (λ zs. Acted (do_act (setting_of ctx image) f.0 (desk_of h) (row ks) (todo_of zs)) o f.0 u e kids a) (sym is)
-        (act_shows (listed ctx) f.0 (desk_of h) (row ks) (next_of d) (todo_of es) o u (mind_of m) e kids a f.1 g),
+        (act_shows (setting_of ctx image) f.0 (desk_of h) (row ks) (todo_of es) (next_of d) todo o u (mind_of m) e kids a f.1 g),
   )
-  due_done e kids o u m (Err x) g f = tt
+  due_done e kids o u m todo (Err x) g f = tt
 
-  pub due_refused : (o : Outlet) (r : Result ActionKind WriteError) → IfErr r (DueRefused (listed ctx) h.local ks d o) → IfErr r (NextRefused ctx h ks o)
+  pub due_refused : (o : Outlet) (r : Result ActionKind WriteError) → IfErr r (DueRefused ctx image h.name h.local ks d o) → IfErr r (NextRefused ctx image h ks o)
   due_refused o (Ok a) f = tt
-  due_refused o (Err e) f = λ image n.
+  due_refused o (Err e) f = λ n.
       subst (λ zs. ActStopped (counted ctx) (do_act (setting_of ctx image) n (desk_of h) (row ks) (todo_of zs)) o e) (sym is)
-      (act_stops (counted ctx) (do_next (listed ctx) n (desk_of h) (row ks) (next_of d) (todo_of es)) o e (act_refused (listed ctx) n (desk_of h) (row ks) (next_of d) (todo_of es) o e (f n)))
+      (act_stops (counted ctx) (do_next (setting_of ctx image) n (desk_of h) (row ks) (next_of d) (todo_of es)) o e (act_refused (setting_of ctx image) n (desk_of h) (row ks) (todo_of es) (next_of d) o e (f n)))
 
 -- ---- where nothing is left of a block
 

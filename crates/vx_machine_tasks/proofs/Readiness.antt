@@ -20,7 +20,7 @@ use Rattle.vx_machine_tasks.specs.Sizes.{task_count, count_of_all}
 use Rattle.vx_layout_tree.specs.declared.layout.Layout.{Layout}
 use Rattle.vx_machine_nodes.specs.declared.item.Due.{Due}
 use Rattle.vx_machine_nodes.specs.declared.node.Local.{Local}
-use Rattle.vx_machine_nodes.specs.declared.node.Local.TheVariants.{Empty, Full, Chunked, Columns, Lists, Grouped, Over, Passing, Made}
+use Rattle.vx_machine_nodes.specs.declared.node.Local.TheVariants.{Empty, Full, Chunked, Columns, Lists, Grouped, Over, Passing, Made, Zoned, Pressing, AsIs, Probe, Asking, Runs}
 use Rattle.vx_machine_tasks.specs.declared.task.Head.{Head}
 use Rattle.vx_machine_tasks.specs.declared.task.Task.{Task, out-Task}
 use Rattle.vx_machine_tasks.specs.declared.task.Task.TheFolds.{fold_out-Task}
@@ -147,6 +147,12 @@ made_cases (Chunked n eof rows) b c h m p = true≢false (sym h)
 made_cases (Columns n rows) b c h m p = true≢false (sym h)
 made_cases (Lists n rows) b c h m p = true≢false (sym h)
 made_cases (Grouped n) b c h m p = true≢false (sym h)
+made_cases (Zoned n) b c h m p = true≢false (sym h)
+made_cases (Pressing which) b c h m p = true≢false (sym h)
+made_cases AsIs b c h m p = true≢false (sym h)
+made_cases (Probe n eof) b c h m p = true≢false (sym h)
+made_cases Asking b c h m p = true≢false (sym h)
+made_cases (Runs r) b c h m p = true≢false (sym h)
 made_cases Over b c h m p = true≢false (sym h)
 
 pub not_made : (t : Task) → made_of t ≡ true → ((x : Layout) → (out-Task t).head.local ≡ Made x → ⊥) → ((out-Task t).head.local ≡ Passing → ⊥) → ⊥

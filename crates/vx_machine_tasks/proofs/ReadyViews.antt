@@ -1,5 +1,5 @@
 -- Which tasks are ready, and how many, and when one has done all: as tasks in plain data tell it.
-use Rattle.std.proofs.Common.{◌≡◌, ℕ, zero, suc, ◌+◌, ◌-◌, ◌<◌, ◌≤◌, ◌&&◌, ◌||◌, ◌==◌, not, nat_lt, Bool, true, false, List, [], ◌∷◌, ◌++◌, map, length, Option, refl, sym, ap, ◌∙◌, arith}
+use Rattle.std.proofs.Common.{◌≡◌, ℕ, zero, suc, ◌+◌, ◌-◌, ◌*◌, ◌<◌, ◌≤◌, ◌&&◌, ◌||◌, ◌==◌, not, nat_lt, Bool, true, false, List, [], ◌∷◌, ◌++◌, map, length, Option, refl, sym, ap, ◌∙◌, arith}
 use Rattle.std.specs.Prelude.{if◌then◌else◌}
 use Rattle.std.specs.Arc.{arc_value}
 use Rattle.std.specs.FinMap as fin
@@ -23,9 +23,9 @@ use Rattle.vx_machine_view.specs.Machine as whole
 use Rattle.vx_machine_view.specs.Places as places
 use Rattle.vx_machine_nodes.specs.declared.item.Item.{Item}
 use Rattle.vx_machine_nodes.specs.declared.item.Due.{Due}
-use Rattle.vx_machine_nodes.specs.declared.item.Due.TheVariants.{Put, HandOn, Append, Close, Join}
+use Rattle.vx_machine_nodes.specs.declared.item.Due.TheVariants.{Put, HandOn, Append, Close, Join, Table, Leave, Press, Ask, OpenRun, EndRun}
 use Rattle.vx_machine_nodes.specs.declared.node.Local.{Local}
-use Rattle.vx_machine_nodes.specs.declared.node.Local.TheVariants.{Empty, Full, Chunked, Columns, Lists, Grouped, Over, Passing, Made}
+use Rattle.vx_machine_nodes.specs.declared.node.Local.TheVariants.{Empty, Full, Chunked, Columns, Lists, Grouped, Over, Passing, Made, Zoned, Pressing, AsIs, Probe, Asking, Runs}
 use Rattle.vx_machine_nodes.specs.declared.node.Shape.{Shape}
 use Rattle.vx_machine_nodes.specs.declared.node.Shape.TheVariants as shapes
 use Rattle.vx_machine_tasks.specs.declared.task.Head.{Head}
@@ -67,6 +67,12 @@ made_view (Full s) n ds b c e h = refl
 made_view (Chunked k eof rows) n ds b c e h = refl
 made_view (Columns k rows) n ds b c e h = refl
 made_view (Lists k rows) n ds b c e h = refl
+made_view (Zoned k) n ds b c e h = refl
+made_view (Pressing which) n ds b c e h = refl
+made_view AsIs n ds b c e h = refl
+made_view (Probe k eof) n ds b c e h = refl
+made_view Asking n ds b c e h = refl
+made_view (Runs r) n ds b c e h = refl
 made_view (Grouped k) n ds b c e h = mind_unmade k.rule k.newest k.rows (todo_of ds) c
 made_view Over n ds b c e h = refl
 made_view Passing n ds b c e h = λ i. empty_by next_of n ds e i && h i
@@ -78,6 +84,12 @@ over_view (Full s) = refl
 over_view (Chunked n eof rows) = refl
 over_view (Columns n rows) = refl
 over_view (Lists n rows) = refl
+over_view (Zoned n) = refl
+over_view (Pressing which) = refl
+over_view AsIs = refl
+over_view (Probe n eof) = refl
+over_view Asking = refl
+over_view (Runs r) = refl
 over_view (Grouped n) = mind_open n.rule n.newest n.rows
 over_view Over = refl
 over_view Passing = refl
@@ -128,6 +140,8 @@ fold_view (shapes.Chunks t) ks = refl
 fold_view (shapes.Columns n rows) ks =
     ap (λ k. k == struct_children (ty (arc_value n.dtype))) (length-map ks kid_of ∙ sym (count_row ks)) ∙ columns_view (ty (arc_value n.dtype)) (count (row ks)) n.structs
 fold_view (shapes.Lists n rows) ks = ap (λ k. k == column_count (ty (arc_value n.dtype))) (length-map ks kid_of ∙ sym (count_row ks))
+fold_view (shapes.Zones z) ks = ap (λ k. k == 2) (length-map ks kid_of ∙ sym (count_row ks))
+fold_view (shapes.Runs n rows) ks = ap (λ k. k == 2 * length rows.items) (length-map ks kid_of ∙ sym (count_row ks))
 
 due_view : (u : Active) (d : Due) (ks : List Task) → may_due u d (kids_of ks) ≡ moves.may_next (fin.keys u) (row ks) (next_of d)
 due_view u (Put c i) ks = room_view c ks
@@ -135,6 +149,12 @@ due_view u (HandOn i r) ks = room_view 0 ks
 due_view u (Append s) ks = refl
 due_view u Close ks = refl
 due_view u (Join f) ks = λ i. all_view ks i && fold_view f ks i
+due_view u (Table t) ks = all_view ks
+due_view u (Leave e) ks = all_view ks
+due_view u (Press which i) ks = refl
+due_view u (Ask p) ks = refl
+due_view u (OpenRun r i) ks = refl
+due_view u (EndRun c i) ks = room_view (suc c) ks
 
 and_true : (b : Bool) → (b && true) ≡ b
 and_true true = refl
@@ -222,6 +242,12 @@ there_view (Full s) ts h = refl
 there_view (Chunked n eof rows) ts h = refl
 there_view (Columns n rows) ts h = refl
 there_view (Lists n rows) ts h = refl
+there_view (Zoned n) ts h = refl
+there_view (Pressing which) ts h = refl
+there_view AsIs ts h = refl
+there_view (Probe n eof) ts h = refl
+there_view Asking ts h = refl
+there_view (Runs r) ts h = refl
 there_view (Grouped n) ts h = mind_undone n.rule n.newest n.rows (row ts) (whole.is_done (row ts))
 there_view Over ts h = refl
 there_view Passing [] h = refl

@@ -11,10 +11,10 @@ use Rattle.vx_machine_view.specs.State.{no_tasks}
 use Rattle.vx_machine_view.specs.Start.{first_mind, first_kids, field_tasks}
 use Rattle.vx_machine_view.specs.Reserved.{next_reserved, mind_reserved, reserved_by}
 use Rattle.vx_machine_nodes.specs.declared.item.Due.{Due}
-use Rattle.vx_machine_nodes.specs.declared.item.Due.TheVariants.{Put, HandOn, Append, Close, Join}
+use Rattle.vx_machine_nodes.specs.declared.item.Due.TheVariants.{Put, HandOn, Append, Close, Join, Table, Leave, Press, Ask, OpenRun, EndRun}
 use Rattle.vx_machine_nodes.specs.declared.item.Item.{Item}
 use Rattle.vx_machine_nodes.specs.declared.node.Local.{Local}
-use Rattle.vx_machine_nodes.specs.declared.node.Local.TheVariants.{Empty, Full, Chunked, Columns, Lists, Grouped, Over, Passing, Made}
+use Rattle.vx_machine_nodes.specs.declared.node.Local.TheVariants.{Empty, Full, Chunked, Columns, Lists, Grouped, Over, Passing, Made, Zoned, Pressing, AsIs, Probe, Asking, Runs}
 use Rattle.vx_machine_tasks.specs.declared.task.Head.{Head}
 use Rattle.vx_machine_tasks.specs.declared.task.Task.{Task, out-Task}
 use Rattle.vx_machine_tasks.specs.declared.task.Task.TheOpen.{Task-F}
@@ -22,6 +22,7 @@ use Rattle.vx_machine_tasks.specs.declared.task.Task.TheViews.{roll-Task}
 use Rattle.vx_machine_tasks.specs.declared.task.Task.TheFolds.{fold_out-Task}
 use Rattle.vx_machine_nodes.specs.Ledger.{dues_reserved, local_reserved}
 use Rattle.vx_machine_tasks.specs.Ledger.{head_reserved, step_reserved, task_reserved, tasks_reserved}
+use Rattle.vx_machine_nodes.specs.Context.{Allowed}
 use Rattle.vx_machine_nodes.specs.Regrouped.{sizes_in, mind_in}
 use Rattle.vx_machine_nodes.specs.Sizes.{sum_of}
 use Rattle.vx_machine_tasks.specs.Sizes.{task_count, count_of_all}
@@ -68,6 +69,12 @@ dues_view (HandOn i (Some n) ∷ ds) = ap (λ k. n + k) (dues_view ds)
 dues_view (Append x ∷ ds) = let r : next_reserved (todo_of ds) ≡ dues_reserved ds = dues_view ds in omega (arith, r)
 dues_view (Close ∷ ds) = let r : next_reserved (todo_of ds) ≡ dues_reserved ds = dues_view ds in omega (arith, r)
 dues_view (Join f ∷ ds) = let r : next_reserved (todo_of ds) ≡ dues_reserved ds = dues_view ds in omega (arith, r)
+dues_view (Table t ∷ ds) = let r : next_reserved (todo_of ds) ≡ dues_reserved ds = dues_view ds in omega (arith, r)
+dues_view (Leave e ∷ ds) = let r : next_reserved (todo_of ds) ≡ dues_reserved ds = dues_view ds in omega (arith, r)
+dues_view (Press which i ∷ ds) = let r : next_reserved (todo_of ds) ≡ dues_reserved ds = dues_view ds in omega (arith, r)
+dues_view (Ask p ∷ ds) = let r : next_reserved (todo_of ds) ≡ dues_reserved ds = dues_view ds in omega (arith, r)
+dues_view (OpenRun o i ∷ ds) = let r : next_reserved (todo_of ds) ≡ dues_reserved ds = dues_view ds in omega (arith, r)
+dues_view (EndRun child i ∷ ds) = let r : next_reserved (todo_of ds) ≡ dues_reserved ds = dues_view ds in omega (arith, r)
 
 node_view : (r : Regroup) (j : Option Item) (rows : ℕ) (sizes : List ℕ) → sizes ≡ sizes_in r j → mind_reserved (mind_in r j rows) ≡ sum_of sizes
 node_view (Repartition h) j rows sizes e = ap sum_of (sym e)
@@ -86,6 +93,12 @@ local_view (Chunked n eof rows) = refl
 local_view (Columns n rows) = refl
 local_view (Lists n rows) = refl
 local_view (Grouped n) = node_view n.rule n.newest n.rows n.reserved.items n.weighed
+local_view (Zoned n) = refl
+local_view (Pressing which) = refl
+local_view AsIs = refl
+local_view (Probe n eof) = refl
+local_view Asking = refl
+local_view (Runs r) = refl
 local_view Over = refl
 local_view Passing = refl
 local_view (Made l) = refl
@@ -119,7 +132,8 @@ mind_none (grouped_form (by_bytes size) t k) m e = refl
 mind_none (grouped_form into_one t k) m e = refl
 mind_none (compressed_form which room t k) m e = refl
 mind_none (dict_form o t c v f) m e = refl
-mind_none (zoned_form o t k stats) m e = refl
+mind_none (zoned_form o t k stats) true e = mind_none k true e
+mind_none (zoned_form o t k stats) false e = refl
 mind_none (no_struct_form t) m e = refl
 mind_none (struct_form fs n name v ks) m e = refl
 mind_none (list_form t n es os v) m e = refl
@@ -132,9 +146,10 @@ mutual
   kids_none (flat_form o t) m at e = refl
   kids_none (chunked_form t k) m at e = refl
   kids_none (grouped_form g t k) m at e = two_none _ _ 0 (mind_none k m e) (kids_none k m (under at 0) e) refl
-  kids_none (compressed_form which room t k) m at e = refl
+  kids_none (compressed_form which room t k) m at e = two_none 0 _ 0 refl (two_none _ _ 0 (mind_none k m e) (kids_none k m (under at 1) e) refl) refl
   kids_none (dict_form o t c v f) m at e = refl
-  kids_none (zoned_form o t k stats) m at e = refl
+  kids_none (zoned_form o t k stats) true at e = kids_none k true at e
+  kids_none (zoned_form o t k stats) false at e = two_none _ _ 0 (mind_none k false (inside e)) (kids_none k false (under at 0) (inside e)) refl
   kids_none (no_struct_form t) m at e = refl
   kids_none (struct_form fs true name v ks) m at e = two_none _ _ _ (mind_none v m (inside e)) (kids_none v m (under at 0) (inside e)) (fields_none ks (m || true) at 1 (next e))
   kids_none (struct_form fs false name v ks) m at e = fields_none ks (m || false) at 0 e
@@ -150,5 +165,5 @@ mutual
   fields_none no_forms m at c e = refl
   fields_none (form_then f fs) m at c e = two_none _ _ _ (mind_none f m (inside e)) (kids_none f m (under at c) (inside e)) (fields_none fs m at (suc c) (next e))
 
-pub started_none : (f : Form) (m : Bool) (name : List ℕ) (e : Eof) (t : Task) → Started f m name e t → task_reserved t ≡ 0
-started_none f m name e t s = sym (task_view t) ∙ ap reserved_by (s.tasks no_tasks) ∙ two_none _ _ 0 (mind_none f m e) (kids_none f m name e) refl
+pub started_none : (a : Allowed) (f : Form) (m : Bool) (name : List ℕ) (e : Eof) (t : Task) → Started a f m name e t → task_reserved t ≡ 0
+started_none a f m name e t s = sym (task_view t) ∙ ap reserved_by (s.tasks no_tasks) ∙ two_none _ _ 0 (mind_none f m e) (kids_none f m name e) refl

@@ -1,26 +1,27 @@
 -- Children in plain data: a put on one's queue, the closing of all queues, and the layouts of those that have done all.
-use Rattle.std.proofs.Common.{◌≡◌, ℕ, zero, suc, ◌+◌, ◌<◌, Bool, true, List, [], ◌∷◌, ◌++◌, length, get_or, set, map, reverse, Option, Some, None, refl, sym, ap, subst, ◌∙◌, arith, append_assoc, append-nil}
+use Rattle.std.proofs.Common.{◌≡◌, ℕ, zero, suc, ◌+◌, ◌<◌, Bool, true, false, List, [], ◌∷◌, ◌++◌, length, get_or, set, map, reverse, Option, Some, None, refl, sym, ap, subst, ◌∙◌, arith, append_assoc, append-nil}
 use Rattle.std.proofs.lemmas.List.{reverse-append}
 use Rattle.vx_model.specs.Ty.{Ty}
 use Rattle.vx_path.specs.Path.{Eof, under, inside}
 use Rattle.vx_layout_spec.specs.LayoutTree.{LayoutData}
 use Rattle.vx_layout_tree.specs.declared.layout.Layout.{Layout}
 use Rattle.vx_layout_tree.specs.LayoutView.{layout_data}
-use Rattle.vx_plan.specs.PlanData.{What, not_struct, duplicate_field, Item as Piece}
+use Rattle.vx_plan.specs.PlanData.{What, Item as Piece}
 use Rattle.vx_strategy_spec.specs.StrategyData.{StrategyData}
 use Rattle.vx_machine_turns.specs.Acts.{or_else}
-use Rattle.vx_machine_turns.specs.Forms.{Form}
-use Rattle.vx_machine_turns.specs.Starts.{start_fault}
+use Rattle.vx_machine_turns.specs.Forms.{Form, no_forms, form_then}
+use Rattle.vx_machine_turns.specs.Starts.{start_fault, start_faults}
 use Rattle.vx_machine_view.specs.State.{Tasks, no_tasks, task_then}
 use Rattle.vx_machine_view.specs.Start.{first_indices, started_task}
-use Rattle.vx_machine_view.specs.Acts.{count, add, with_item, give, shut_desk, shut_all, layout_in, layouts_in}
+use Rattle.vx_machine_view.specs.Acts.{count, add, with_item, give, shut_desk, shut_all, shut_at, layout_in, layouts_in}
 use Rattle.vx_machine_tasks.specs.declared.task.Task.{Task, out-Task}
 use Rattle.vx_write_answer.specs.declared.error.WriteError.{WriteError}
-use Rattle.vx_write_answer.specs.declared.error.WriteError.TheVariants.{SourceFault, SinkFault, CompressFault, BatchType, NotStruct, DuplicateField, ManyChunks, EmptyList, ZoneCut, ForbiddenAggregate, ForbiddenEncoding, TooLarge, OutOfMemory, Unbuilt, Stopped}
-use Rattle.vx_machine_tasks.specs.Starting.{Started, StartRefused, OneRefused, TooFar}
+use Rattle.vx_machine_tasks.specs.Starting.{Started, StartRefused, OneRefused, TooFar, many_indices}
+use Rattle.vx_machine_nodes.specs.Context.{Allowed}
 use Rattle.vx_machine_nodes.specs.declared.node.Local.TheVariants.{Passing, Made}
 use Rattle.vx_machine_nodes.specs.View.{form_at, mind_of}
 use Rattle.vx_machine_tasks.specs.View.{desk_of, task_row, row}
+use Rattle.vx_machine_tasks.proofs.StartShows.{refused_as}
 use Rattle.vx_machine_tasks.proofs.ViewParts.{row_out, row_push, count_row}
 use Rattle.vx_machine_nodes.proofs.ListParts.{none_is}
 
@@ -38,11 +39,6 @@ put_row (t ∷ ts) (suc n) x y i h e f =
     ∙ ap (give (suc n) i) (sym (row_out t (row ts)))
 
 -- ---- all queues closed, one after the other
-
-abbrev pub shut_at : ℕ → Tasks → Tasks
-shut_at n no_tasks = no_tasks
-shut_at zero (task_then c ks r) = task_then (shut_desk c) ks r
-shut_at (suc n) (task_then c ks r) = task_then c ks (shut_at n r)
 
 -- the first n
 abbrev pub shut_first : ℕ → Tasks → Tasks
@@ -139,47 +135,47 @@ layouts_made t x ls more e b =
 pub layouts_passed : (t : Task) → (out-Task t).head.local ≡ Passing → layouts_in (task_row t no_tasks) ≡ layouts_in (row (out-Task t).kids.items)
 layouts_passed t e = layouts_own t ∙ ap (λ l. layout_in (mind_of l) (layouts_in (row (out-Task t).kids.items))) e
 
--- ---- a child that is started with a chunk on its queue, which is closed
+-- ---- a child that is started, with this queue
+
+-- one more child
+pub kid_added : (ks more : List Task) (t : Task) (x : Tasks) → more ≡ ks ++ (t ∷ []) → task_row t no_tasks ≡ x → row more ≡ add (row ks) x
+kid_added ks more t x is h = ap row is ∙ row_push ks t ∙ ap (add (row ks)) h
 
 pub fed_row : (t u v : Task) (i : Piece) → ((r : Tasks) → task_row u r ≡ task_then (with_item (desk_of (out-Task t).head) i) (row (out-Task t).kids.items) r)
     → ((r : Tasks) → task_row v r ≡ task_then (shut_desk (desk_of (out-Task u).head)) (row (out-Task u).kids.items) r)
     → (r : Tasks) → task_row v r ≡ task_then (shut_desk (with_item (desk_of (out-Task t).head) i)) (row (out-Task t).kids.items) r
 fed_row t u v i a b r = b r ∙ ap (shut_at zero) (sym (row_out u r) ∙ a r)
 
-pub chunk_row : (f : Form) (m : Bool) (at : List ℕ) (e : Eof) (k t : Task) (i : Piece) (ks more : List Task) → Started f m (under at (length ks)) e k
+module _ (a : Allowed) (f : Form) (m : Bool) (name : List ℕ) (e : Eof) (k t : Task) (i : Piece) (s : Started a f m name e k) where
+  -- an item on it
+  pub given_task : ((r : Tasks) → task_row t r ≡ task_then (with_item (desk_of (out-Task k).head) i) (row (out-Task k).kids.items) r) → task_row t no_tasks ≡ started_task f m name e (i ∷ []) false
+  given_task given = given no_tasks ∙ ap (give zero i) (sym (row_out k no_tasks) ∙ s.tasks no_tasks)
+
+  -- and closed
+  pub fed_task : ((r : Tasks) → task_row t r ≡ task_then (shut_desk (with_item (desk_of (out-Task k).head) i)) (row (out-Task k).kids.items) r) → task_row t no_tasks ≡ started_task f m name e (i ∷ []) true
+  fed_task fed = fed no_tasks ∙ ap (λ z. shut_at zero (give zero i z)) (sym (row_out k no_tasks) ∙ s.tasks no_tasks)
+
+pub chunk_row : (a : Allowed) (f : Form) (m : Bool) (at : List ℕ) (e : Eof) (k t : Task) (i : Piece) (ks more : List Task) → Started a f m (under at (length ks)) e k
     → ((r : Tasks) → task_row t r ≡ task_then (shut_desk (with_item (desk_of (out-Task k).head) i)) (row (out-Task k).kids.items) r)
     → more ≡ ks ++ (t ∷ []) → row more ≡ add (row ks) (started_task f m (under at (count (row ks))) e (i ∷ []) true)
-chunk_row f m at e k t i ks more s fed is =
-    ap row is ∙ row_push ks t
-    ∙ ap (add (row ks)) (fed no_tasks ∙ ap (λ z. shut_at zero (give zero i z)) (sym (row_out k no_tasks) ∙ s.tasks no_tasks))
+chunk_row a f m at e k t i ks more s fed is =
+    kid_added ks more t (started_task f m (under at (length ks)) e (i ∷ []) true) is (fed_task a f m (under at (length ks)) e k t i s fed)
     ∙ ap (λ n. add (row ks) (started_task f m (under at n) e (i ∷ []) true)) (sym (count_row ks))
 
 -- a form at a type, and a name, in other words
-pub started_as : (w : StrategyData) (t u : Ty) (m : Bool) (a b : List ℕ) (e : Eof) (k : Task) → t ≡ u → a ≡ b → Started (form_at w t) m a e k → Started (form_at w u) m b e k
-started_as w t u m a b e k x y h = subst (λ z. Started (form_at w z) m b e k) x (subst (λ z. Started (form_at w t) m z e k) y h)
+pub started_as : (a : Allowed) (w : StrategyData) (t u : Ty) (m : Bool) (b c : List ℕ) (e : Eof) (k : Task) → t ≡ u → b ≡ c → Started a (form_at w t) m b e k → Started a (form_at w u) m c e k
+started_as a w t u m b c e k x y h = subst (λ z. Started a (form_at w z) m c e k) x (subst (λ z. Started a (form_at w t) m z e k) y h)
 
 or_none : (o : Option What) (x : What) → or_else o None ≡ Some x → o ≡ Some x
 or_none None x h = h
 or_none (Some y) x h = h
 
 -- one column's refusal, as that of the form
-pub one_refused : (f : Form) (m : Bool) (e : Eof) (x : WriteError) → OneRefused f m e x → StartRefused (λ s. start_fault s f m) ((e.last + 1) ∷ first_indices f (inside e)) x
-one_refused f m e NotStruct h = λ s. or_none (start_fault s f m) not_struct (h s)
-one_refused f m e (DuplicateField name) h = λ s. or_none (start_fault s f m) (duplicate_field name) (h s)
-one_refused f m e (TooLarge n) h = (h.0, subst (λ zs. TooFar ((e.last + 1) ∷ zs)) (append-nil (first_indices f (inside e))) h.1)
-one_refused f m e OutOfMemory h = tt
-one_refused f m e SourceFault h = absurd h
-one_refused f m e SinkFault h = absurd h
-one_refused f m e CompressFault h = absurd h
-one_refused f m e (BatchType c) h = absurd h
-one_refused f m e ManyChunks h = absurd h
-one_refused f m e EmptyList h = absurd h
-one_refused f m e (ZoneCut n) h = absurd h
-one_refused f m e (ForbiddenAggregate id) h = absurd h
-one_refused f m e (ForbiddenEncoding id) h = absurd h
-one_refused f m e Unbuilt h = absurd h
-one_refused f m e (Stopped by name) h = absurd h
+pub one_refused : (a : Allowed) (f : Form) (m : Bool) (e : Eof) (x : WriteError) → OneRefused a f m e x → StartRefused a (λ s. start_fault s f m) ((e.last + 1) ∷ first_indices f m (inside e)) x
+one_refused a f m e x h =
+    refused_as a a (λ s. start_faults s (form_then f no_forms) m) (λ s. start_fault s f m) (many_indices (form_then f no_forms) m e) ((e.last + 1) ∷ first_indices f m (inside e)) x
+    (λ s w q k. or_none (start_fault s f m) w (k s q)) (λ p. subst (λ zs. TooFar ((e.last + 1) ∷ zs)) (append-nil (first_indices f m (inside e))) p) h
 
-pub one_refused_as : (w : StrategyData) (t u : Ty) (m : Bool) (e : Eof) (x : WriteError) → t ≡ u → OneRefused (form_at w t) m e x
-    → StartRefused (λ s. start_fault s (form_at w u) m) ((e.last + 1) ∷ first_indices (form_at w u) (inside e)) x
-one_refused_as w t u m e x is h = one_refused (form_at w u) m e x (subst (λ z. OneRefused (form_at w z) m e x) is h)
+pub one_refused_as : (a : Allowed) (w : StrategyData) (t u : Ty) (m : Bool) (e : Eof) (x : WriteError) → t ≡ u → OneRefused a (form_at w t) m e x
+    → StartRefused a (λ s. start_fault s (form_at w u) m) ((e.last + 1) ∷ first_indices (form_at w u) m (inside e)) x
+one_refused_as a w t u m e x is h = one_refused a (form_at w u) m e x (subst (λ z. OneRefused a (form_at w z) m e x) is h)

@@ -4,6 +4,7 @@ use Rattle.std.proofs.lemmas.Bool.{and_parts}
 use Rattle.vx_model.specs.declared.dtype.StructField.{StructField}
 use Rattle.vx_model.specs.TyView.{field_ty}
 use Rattle.vx_model.specs.Ty.{Ty, boolean, primitive, utf8, binary, list, struct, extension}
+use Rattle.vx_rules.specs.Runs.{DictOptions}
 use Rattle.vx_strategy_spec.specs.StrategyData.{StrategyData, StrategyList, flat, chunked, grouped, compressed, coded, zoned, structured, listed, tabled, no_ways, way_at}
 use Rattle.vx_strategy_spec.specs.Dispatch.{override, given_or}
 use Rattle.vx_strategy.specs.declared.structs.StructStrategy.{StructStrategy}
@@ -57,6 +58,13 @@ list_built e o v f h =
     let c = and_parts (is_built v) (is_built f) b.1 in
     (a.0, b.0, c.0, c.1)
 
+-- and of a dictionary: codes, values, fallback
+pub dict_built : (o : DictOptions) (c v f : StrategyData) → is_built (coded o c v f) ≡ true → (is_built c ≡ true) × (is_built v ≡ true) × (is_built f ≡ true)
+dict_built o c v f h =
+    let a = and_parts (is_built c) (is_built v && is_built f) h in
+    let b = and_parts (is_built v) (is_built f) a.1 in
+    (a.0, b.0, b.1)
+
 -- ---- what stands for a strategy
 
 further_built : (w : StrategyData) (t : Ty) → is_built w ≡ true → is_built (further w t) ≡ true
@@ -72,7 +80,13 @@ further_built (flat o) t h = h
 further_built (chunked w) t h = h
 further_built (grouped g w) t h = h
 further_built (compressed which room w) t h = h
-further_built (coded o c v f) t h = h
+further_built (coded o c v f) (boolean n) h = (dict_built o c v f h).2
+further_built (coded o c v f) (primitive p n) h = h
+further_built (coded o c v f) (utf8 n) h = h
+further_built (coded o c v f) (binary n) h = h
+further_built (coded o c v f) (list t n) h = (dict_built o c v f h).2
+further_built (coded o c v f) (struct fs n) h = (dict_built o c v f h).2
+further_built (coded o c v f) (extension tag t) h = (dict_built o c v f h).2
 further_built (zoned o w stats) t h = h
 further_built (structured v d ws) t h = h
 
@@ -89,7 +103,13 @@ further_form (flat o) t = refl
 further_form (chunked w) t = refl
 further_form (grouped g w) t = refl
 further_form (compressed which room w) t = refl
-further_form (coded o c v f) t = refl
+further_form (coded o c v f) (boolean n) = refl
+further_form (coded o c v f) (primitive p n) = refl
+further_form (coded o c v f) (utf8 n) = refl
+further_form (coded o c v f) (binary n) = refl
+further_form (coded o c v f) (list t n) = refl
+further_form (coded o c v f) (struct fs n) = refl
+further_form (coded o c v f) (extension tag t) = refl
 further_form (zoned o w stats) t = refl
 further_form (structured v d ws) t = refl
 

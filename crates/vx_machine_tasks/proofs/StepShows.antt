@@ -16,10 +16,11 @@ use Rattle.vx_machine_view.proofs.Placing.{own_place}
 use Rattle.vx_machine_tasks.specs.declared.task.Task.{Task, out-Task}
 use Rattle.vx_machine_tasks.specs.declared.task.Task.TheOpen.{Task-F}
 use Rattle.vx_machine_tasks.specs.declared.task.Task.TheViews.{roll-Task}
-use Rattle.vx_machine_tasks.specs.Acting.{Acted}
+use Rattle.vx_machine_tasks.specs.Acting.{Acted, NextFails}
 use Rattle.vx_machine_nodes.specs.Outcome.{Refused}
 use Rattle.vx_machine_tasks.specs.Ready.{kids_of, may_now, ready_among}
 use Rattle.vx_machine_tasks.specs.Steps.{TaskStepped, TaskRefused}
+use Rattle.vx_machine_tasks.proofs.CallShows.{act_calls}
 use Rattle.vx_machine_nodes.specs.View.{todo_of}
 use Rattle.vx_machine_tasks.specs.View.{desk_of, task_row, row}
 use Rattle.vx_machine_tasks.proofs.ViewParts.{row_out, row_roll}
@@ -57,8 +58,8 @@ module _ (s : Setting) (u : Active) (number : ℕ) (before : Outlet) (t : Task) 
   }
 
   pub own_refused : (counts : ℕ) (e : WriteError) → Refused did.refusal did.misfit ((counts + did.raises) ∷ did.numbers) did.indices did.wrote (IsPast before) (IsShared before) did.joined e
-      → TaskRefused s (fin.keys u) 0 counts before number (task_row t no_tasks) e
-  own_refused counts e h = record { step = own_step desk no_tasks did; place = own_first; cause = h }
+      → NextFails (out-Task t).head.todo.items e → TaskRefused s (fin.keys u) 0 counts before number (task_row t no_tasks) e
+  own_refused counts e h k = record { step = own_step desk no_tasks did; place = own_first; cause = h; called = act_calls s number desk below (out-Task t).head.todo.items e k }
 
 -- ---- a step of the children, behind the task's own
 
@@ -85,7 +86,7 @@ module _ (s : Setting) (u : Active) (number : ℕ) (before : Outlet) (t : Task) 
   }
 
   pub below_refused : (counts : ℕ) (e : WriteError) → TaskRefused s (fin.keys u) j counts before number (row (out-Task t).kids.items) e → TaskRefused s (fin.keys u) k counts before number (task_row t no_tasks) e
-  below_refused counts e w = record { step = with_after w.step (task_then (desk_of (out-Task t).head) w.step.after no_tasks); place = placed w.step w.place; cause = w.cause }
+  below_refused counts e w = record { step = with_after w.step (task_then (desk_of (out-Task t).head) w.step.after no_tasks); place = placed w.step w.place; cause = w.cause; called = w.called }
 
 -- ---- a step of one of the children
 
@@ -108,4 +109,4 @@ module _ (s : Setting) (u : Active) (number : ℕ) (before : Outlet) (ks : List 
   }
 
   pub kid_refused : (counts : ℕ) (e : WriteError) → TaskRefused s (fin.keys u) j counts before number (task_row x no_tasks) e → TaskRefused s (fin.keys u) k counts before number (row ks) e
-  kid_refused counts e w = record { step = with_after w.step (kid_after ks i w.step.after); place = stands w.step w.place; cause = w.cause }
+  kid_refused counts e w = record { step = with_after w.step (kid_after ks i w.step.after); place = stands w.step w.place; cause = w.cause; called = w.called }

@@ -7,5 +7,6 @@ pub mod Pairs
 pub mod View
 pub mod Counting
 pub mod Acting
+pub mod Asking
 pub mod Steps
 pub mod Starting

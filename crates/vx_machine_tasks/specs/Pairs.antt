@@ -1,7 +1,7 @@
 -- The pairs of path and bytes that tasks append next.
 use Rattle.std.specs.Prelude.{ℕ, List, [], ◌∷◌, ◌++◌, map}
 use Rattle.vx_machine_nodes.specs.declared.item.Due.{Due}
-use Rattle.vx_machine_nodes.specs.declared.item.Due.TheVariants.{Put, HandOn, Append, Close, Join}
+use Rattle.vx_machine_nodes.specs.declared.item.Due.TheVariants.{Put, HandOn, Append, Close, Join, Table, Leave, Press, Ask, OpenRun, EndRun}
 use Rattle.vx_machine_tasks.specs.declared.task.Task.{Task}
 use Rattle.vx_machine_tasks.specs.declared.task.Task.TheOpen.{Task-F}
 use Rattle.vx_machine_tasks.specs.declared.task.Task.TheFolds.{fold-Task}
@@ -12,9 +12,15 @@ Pair = List ℕ × List ℕ
 abbrev pub due_pairs : Due → List Pair
 due_pairs (Put child i) = []
 due_pairs (HandOn i r) = []
+due_pairs (Press which i) = []
 due_pairs (Append s) = (s.id, s.segment.bytes.items) ∷ []
 due_pairs Close = []
 due_pairs (Join h) = []
+due_pairs (Table t) = []
+due_pairs (Leave e) = []
+due_pairs (Ask p) = []
+due_pairs (OpenRun r i) = []
+due_pairs (EndRun child i) = []
 
 -- of the first of what is still to be done
 abbrev pub next_pairs : List Due → List Pair

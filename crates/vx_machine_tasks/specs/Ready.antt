@@ -1,5 +1,5 @@
 -- Which tasks are ready, and how many.
-use Rattle.std.specs.Prelude.{ℕ, zero, suc, ◌+◌, ◌-◌, ◌^◌, ◌&&◌, ◌||◌, ◌==◌, min, not, nat_lt, Bool, true, false, List, [], ◌∷◌, map, length}
+use Rattle.std.specs.Prelude.{ℕ, zero, suc, ◌+◌, ◌*◌, ◌-◌, ◌^◌, ◌&&◌, ◌||◌, ◌==◌, min, not, nat_lt, Bool, true, false, List, [], ◌∷◌, map, length}
 use Rattle.std.specs.Arc.{arc_value}
 use Rattle.std.specs.VecDeque.{deque_len}
 use Rattle.std.specs.FinMap as fin
@@ -11,11 +11,11 @@ use Rattle.vx_machine_view.specs.Acts.{column_count}
 use Rattle.vx_sequence.specs.Universe.{Active}
 use Rattle.vx_machine_ids.specs.Stock.{one}
 use Rattle.vx_machine_nodes.specs.declared.item.Due.{Due}
-use Rattle.vx_machine_nodes.specs.declared.item.Due.TheVariants.{Put, HandOn, Append, Close, Join}
+use Rattle.vx_machine_nodes.specs.declared.item.Due.TheVariants.{Put, HandOn, Append, Close, Join, Table, Leave, Press, Ask, OpenRun, EndRun}
 use Rattle.vx_machine_nodes.specs.declared.kinds.ColumnsNode.{ColumnsNode}
 use Rattle.vx_machine_nodes.specs.declared.kinds.ListsNode.{ListsNode}
 use Rattle.vx_machine_nodes.specs.declared.node.Local.{Local}
-use Rattle.vx_machine_nodes.specs.declared.node.Local.TheVariants.{Empty, Full, Chunked, Columns, Lists, Grouped, Over, Passing, Made}
+use Rattle.vx_machine_nodes.specs.declared.node.Local.TheVariants.{Empty, Full, Chunked, Columns, Lists, Grouped, Over, Passing, Made, Zoned, Pressing, AsIs, Probe, Asking, Runs}
 use Rattle.vx_machine_nodes.specs.declared.node.Shape.{Shape}
 use Rattle.vx_machine_nodes.specs.declared.node.Shape.TheVariants as shapes
 use Rattle.vx_machine_tasks.specs.declared.task.Head.{Head}
@@ -34,6 +34,12 @@ is_made (Chunked n eof rows) idle below = false
 is_made (Columns n rows) idle below = false
 is_made (Lists n rows) idle below = false
 is_made (Grouped n) idle below = false
+is_made (Zoned n) idle below = false
+is_made (Pressing which) idle below = false
+is_made AsIs idle below = false
+is_made (Probe n eof) idle below = false
+is_made Asking idle below = false
+is_made (Runs r) idle below = false
 is_made Over idle below = false
 
 -- it takes no more
@@ -47,6 +53,12 @@ is_over (Chunked n eof rows) = false
 is_over (Columns n rows) = false
 is_over (Lists n rows) = false
 is_over (Grouped n) = false
+is_over (Zoned n) = false
+is_over (Pressing which) = false
+is_over AsIs = false
+is_over (Probe n eof) = false
+is_over Asking = false
+is_over (Runs r) = false
 
 -- what its parent needs to know of a task
 pub record Kid : Type 0 where
@@ -94,6 +106,8 @@ abbrev pub can_join : Shape → ℕ → Bool
 can_join (shapes.Chunks t) n = true
 can_join (shapes.Columns node rows) n = columns_fit node n
 can_join (shapes.Lists node rows) n = lists_fit node n
+can_join (shapes.Zones z) n = n == 2
+can_join (shapes.Runs node rows) n = n == 2 * length rows.items
 
 abbrev pub least_at : Active → List ℕ → Bool
 least_at u p = is_least p (fin.keys u)
@@ -102,9 +116,15 @@ least_at u p = is_least p (fin.keys u)
 abbrev pub may_due : Active → Due → List Kid → Bool
 may_due u (Put c i) ks = room_at c ks
 may_due u (HandOn i r) ks = room_at 0 ks
+may_due u (Press which i) ks = true
 may_due u (Append s) ks = least_at u s.id
 may_due u Close ks = true
 may_due u (Join h) ks = all_made ks && can_join h (length ks)
+may_due u (Table t) ks = all_made ks
+may_due u (Leave e) ks = all_made ks
+may_due u (Ask p) ks = true
+may_due u (OpenRun r i) ks = true
+may_due u (EndRun c i) ks = room_at (suc c) ks
 
 -- whether there is something to take: an item, or the end
 abbrev pub may_take : Head → Bool
@@ -158,6 +178,12 @@ has_layout (Chunked n eof rows) ks = false
 has_layout (Columns n rows) ks = false
 has_layout (Lists n rows) ks = false
 has_layout (Grouped n) ks = false
+has_layout (Zoned n) ks = false
+has_layout (Pressing which) ks = false
+has_layout AsIs ks = false
+has_layout (Probe n eof) ks = false
+has_layout Asking ks = false
+has_layout (Runs r) ks = false
 has_layout Over ks = false
 
 abbrev pub done_step : Task-F Bool → Bool

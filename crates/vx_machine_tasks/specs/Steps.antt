@@ -14,6 +14,7 @@ use Rattle.vx_sink.specs.ContextView.{counted as bytes_counted}
 use Rattle.vx_machine_nodes.specs.Context.{setting_of}
 use Rattle.vx_machine_nodes.specs.Outcome.{action_of, AllFit, Refused}
 use Rattle.vx_machine_nodes.specs.Acting.{Behind}
+use Rattle.vx_machine_tasks.specs.Acting.{CallFails}
 
 -- The step at this place was done, by the task of this name, and left these tasks; what it wrote got this number.
 pub record TaskStepped (s : Setting) (all : List (List ℕ)) (k : ℕ) (before : Outlet) (number : ℕ) (after : Outlet) (cs new : Tasks) (name : List ℕ) (a : ActionKind) : Type 0 where
@@ -32,12 +33,13 @@ pub record TaskRefused (s : Setting) (all : List (List ℕ)) (k counts : ℕ) (b
   pub step : TaskStep
   pub place : nth (steps s all number cs) k ≡ Some step
   pub cause : Refused step.refusal step.misfit ((counts + step.raises) ∷ step.numbers) step.indices step.wrote (IsPast before) (IsShared before) step.joined e
+  pub called : CallFails step.kind e
 
 -- whatever images there are, of which no act here asks: it was done where the next segment got some number, and is refused whatever
 -- that would be
 
-abbrev pub TaskDone : LayoutWriterContext → List (List ℕ) → ℕ → Outlet → Outlet → Tasks → Tasks → List ℕ → ActionKind → Type 0
-TaskDone ctx all k before after cs new name a = (image : ℕ → ChunkData → ChunkData) → (number : ℕ) × TaskStepped (setting_of ctx image) all k before number after cs new name a
+abbrev pub TaskDone : LayoutWriterContext → (ℕ → ChunkData → ChunkData) → List (List ℕ) → ℕ → Outlet → Outlet → Tasks → Tasks → List ℕ → ActionKind → Type 0
+TaskDone ctx image all k before after cs new name a = (number : ℕ) × TaskStepped (setting_of ctx image) all k before number after cs new name a
 
-abbrev pub TaskFails : LayoutWriterContext → List (List ℕ) → ℕ → Outlet → Tasks → WriteError → Type 0
-TaskFails ctx all k before cs e = (image : ℕ → ChunkData → ChunkData) (number : ℕ) → TaskRefused (setting_of ctx image) all k (bytes_counted ctx) before number cs e
+abbrev pub TaskFails : LayoutWriterContext → (ℕ → ChunkData → ChunkData) → List (List ℕ) → ℕ → Outlet → Tasks → WriteError → Type 0
+TaskFails ctx image all k before cs e = (number : ℕ) → TaskRefused (setting_of ctx image) all k (bytes_counted ctx) before number cs e

@@ -10,9 +10,9 @@ abbrev mutual
   weight (flat_form o t) = 1
   weight (chunked_form t k) = 1
   weight (grouped_form g t k) = 2 + weight k
-  weight (compressed_form which room t k) = 1
+  weight (compressed_form which room t k) = 4 + weight k
   weight (dict_form o t c v f) = 1
-  weight (zoned_form o t k stats) = 1
+  weight (zoned_form o t k stats) = 2 + weight k
   weight (no_struct_form t) = 1
 
   pub weights : Forms → ℕ

@@ -2,7 +2,7 @@
 
 ghost use Rattle.std.specs.Prelude.{◌≡◌, ◌+◌, ◌<◌, ◌≤◌, ◌^◌, List, [], ◌∷◌, true, length, vec_len, vec_capacity, IfOk, IfErr, OnOk};
 ghost use Rattle.vx_path.specs.Path.{under, inside, next};
-ghost use Rattle.vx_machine_ids.specs.Stock.{none, both, end_stock, ok_stock};
+ghost use Rattle.vx_machine_ids.specs.Stock.{both, end_stock, ok_stock};
 ghost use Rattle.vx_machine_ids.specs.Balance.{Owned, Moved};
 ghost use Rattle.vx_plan.specs.PlanData.{Setting};
 ghost use Rattle.vx_machine_view.specs.State.{Next, Tasks, task_then};
@@ -11,7 +11,7 @@ ghost use Rattle.vx_machine_view.specs.Acts.{add, count, with_item, shut_desk};
 ghost use Rattle.vx_machine_nodes.specs.Acting.{taken, Took, TakeRefused};
 ghost use Rattle.vx_machine_tasks.specs.Acting.{ChildRefused};
 ghost use Rattle.vx_machine_nodes.specs.Causes.{MayCome};
-ghost use Rattle.vx_sink.specs.ContextView.{counted};
+ghost use Rattle.vx_sink.specs.ContextView.{counted, allowed_in};
 ghost use Rattle.vx_machine_nodes.specs.Ledger.{Paid, told_by, ok_bytes};
 ghost use Rattle.vx_machine_tasks.specs.Ledger.{task_reserved, tasks_reserved};
 ghost use Rattle.vx_machine_nodes.specs.Outcome.{AllFit};
@@ -35,7 +35,7 @@ use vx_sink::LayoutWriterContext;
 use vx_write_answer::WriteError;
 
 /// The task with the item on its queue, which is closed.
-fn fed<O: Order>(
+pub(crate) fn fed<O: Order>(
     ctx: &mut LayoutWriterContext,
     order: &mut O,
     mut kid: Task,
@@ -67,6 +67,7 @@ fn fed<O: Order>(
 /// Room for one more child, and the child.
 fn next_child<O: Order>(
     alloc: Global,
+    ctx: &LayoutWriterContext,
     order: &mut O,
     node: &ChunkedNode,
     eof: &mut SequencePointer,
@@ -77,17 +78,18 @@ fn next_child<O: Order>(
     ensures moved { Moved (O.active order.old) (O.active order.new) (end_stock eof.old) (both (end_stock eof.new) (ok_stock task_stock result)) }
     ensures kids { kids.new.items ≡ kids.old.items }
     ensures room { OnOk result (vec_len kids.new + 1 ≤ vec_capacity kids.new) }
-    ensures started { IfOk result (Started (child_form node.now) node.now.marked (under name.now (length kids.old.items)) (inside eof.old)) }
+    ensures started { IfOk result (Started (allowed_in ctx.now) (child_form node.now) node.now.marked (under name.now (length kids.old.items)) (inside eof.old)) }
     ensures pointer { OnOk result (eof.new ≡ next eof.old) }
     ensures fits { OnOk result (eof.old.last + 1 < 2 ^ 64) }
-    ensures refused { IfErr result (ChildRefused node.now eof.old) }
+    ensures refused { IfErr result (ChildRefused (allowed_in ctx.now) node.now eof.old) }
     ensures outlet { O.outlet order.new ≡ O.outlet order.old }
     ensures sink { O.sink order.new ≡ O.sink order.old }
     ensures cause { IfErr result MayCome }
 {
     let name = next_name(alloc, name, kids)?;
     let dtype = Arc::try_clone(&node.dtype)?;
-    let kid = start_under(alloc, order, &node.child, dtype, node.marked, name, eof)?;
+    let child = &node.child;
+    let kid = start_under(alloc, ctx, order, child, dtype, node.marked, name, eof)?;
     Ok(kid)
 }
 
@@ -106,17 +108,17 @@ pub(crate) fn take_chunk<O: Order>(
     ensures moved { Moved (O.active order.old) (O.active order.new) (both (both (end_stock eof.old) (tasks_stock kids.old.items)) (item_stock item)) (both (end_stock eof.new) (tasks_stock kids.new.items)) }
     ensures tracked { Paid ctx.old ctx.new (tasks_reserved kids.old.items) (tasks_reserved kids.new.items) }
     ensures context { told_by ctx.new ≡ told_by ctx.old }
-    ensures allowed { OnOk result (IsAllowed (child_form node.now) node.now.marked) }
+    ensures allowed { OnOk result (IsAllowed (allowed_in ctx.old) (child_form node.now) node.now.marked) }
     ensures kids { OnOk result (row kids.new.items ≡ add (row kids.old.items) (started_task (child_form node.now) node.now.marked (under name.now (count (row kids.old.items)))
         (inside eof.old) (item_of item ∷ []) true)) }
     ensures pointer { OnOk result (eof.new ≡ next eof.old) }
-    ensures counted { OnOk result (AllFit ((eof.old.last + 1) ∷ first_indices (child_form node.now) (inside eof.old))) }
-    ensures refused { IfErr result (ChildRefused node.now eof.old) }
+    ensures counted { OnOk result (AllFit ((eof.old.last + 1) ∷ first_indices (child_form node.now) node.now.marked (inside eof.old))) }
+    ensures refused { IfErr result (ChildRefused (allowed_in ctx.old) node.now eof.old) }
     ensures outlet { O.outlet order.new ≡ O.outlet order.old }
     ensures sink { O.sink order.new ≡ O.sink order.old }
     ensures cause { IfErr result MayCome }
 {
-    match next_child(alloc, order, node, eof, name, kids) {
+    match next_child(alloc, ctx, order, node, eof, name, kids) {
         Ok(kid) => {
             let kid = fed(ctx, order, kid, item)?;
             kids.push_reserved(kid);
@@ -145,9 +147,9 @@ pub(crate) fn take_chunked<O: Order>(
     ensures moved { Moved (O.active order.old) (O.active order.new) (both (both (end_stock eof.old) (tasks_stock kids.old.items)) (item_stock item)) (both (end_stock eof.new) (tasks_stock kids.new.items)) }
     ensures tracked { Paid ctx.old ctx.new (tasks_reserved kids.old.items) (tasks_reserved kids.new.items) }
     ensures context { told_by ctx.new ≡ told_by ctx.old }
-    ensures done { OnOk result ((s : Setting) (todo : List Next) → Took (taken s name.now (row kids.old.items) (item_of item) (mind_of (Chunked node.now eof.old rows.old)))
+    ensures done { OnOk result ((s : Setting) (todo : List Next) → s.allowed ≡ allowed_in ctx.old → Took (taken s name.now (row kids.old.items) (item_of item) (mind_of (Chunked node.now eof.old rows.old)))
         (mind_of (Chunked node.now eof.new rows.new)) todo todo (row kids.new.items)) }
-    ensures refused { IfErr result (λ e. (s : Setting) → TakeRefused (taken s name.now (row kids.old.items) (item_of item) (mind_of (Chunked node.now eof.old rows.old))) e) }
+    ensures refused { IfErr result (λ e. (s : Setting) → s.allowed ≡ allowed_in ctx.old → TakeRefused (taken s name.now (row kids.old.items) (item_of item) (mind_of (Chunked node.now eof.old rows.old))) e) }
     ensures outlet { O.outlet order.new ≡ O.outlet order.old }
     ensures sink { O.sink order.new ≡ O.sink order.old }
     ensures cause { IfErr result MayCome }

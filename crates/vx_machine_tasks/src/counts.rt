@@ -28,7 +28,10 @@ fn is_steady(head: &Head, counts: &Counts) -> bool
         Some(due) => match due {
             Due::Append(_) => false,
             Due::Put { .. } | Due::HandOn { .. } => counts.asked.is_empty(),
-            Due::Close | Due::Join(_) => counts.asked.is_empty(),
+            Due::Close | Due::Join(_) | Due::Press { .. } => counts.asked.is_empty(),
+            Due::Table(_) | Due::Leave(_) => counts.asked.is_empty(),
+            Due::Ask(_) | Due::OpenRun { .. } => counts.asked.is_empty(),
+            Due::EndRun { .. } => counts.asked.is_empty(),
         },
         None => counts.asked.is_empty(),
     }
@@ -42,7 +45,10 @@ pub(crate) fn touched(head: &Head) -> Touched
         Some(due) => match due {
             Due::Put { child, item: _ } => Touched::Child(*child),
             Due::HandOn { .. } => Touched::Child(0),
-            Due::Append(_) => Touched::Nothing,
+            Due::Append(_) | Due::Press { .. } => Touched::Nothing,
+            Due::Table(_) | Due::Leave(_) => Touched::Nothing,
+            Due::Ask(_) | Due::OpenRun { .. } => Touched::Nothing,
+            Due::EndRun { child, item: _ } => Touched::Both(*child),
             Due::Close | Due::Join(_) => Touched::All,
         },
         None => Touched::Nothing,

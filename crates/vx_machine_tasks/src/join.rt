@@ -2,14 +2,17 @@
 
 ghost use Rattle.std.specs.Prelude.{◌≡◌, ◌≤◌, ◌+◌, ◌++◌, [], ◌∷◌, IsTrue, length, map, reverse, vec_len, IfOk, IfErr, OnOk};
 ghost use Rattle.std.specs.Arc.{arc_value};
+ghost use Rattle.std.specs.Int.NonZero.{non_zero_u32_get};
 ghost use Rattle.vx_model.specs.Words.{total_by};
 ghost use Rattle.vx_model.specs.TyView.{ty};
 ghost use Rattle.vx_layout_spec.specs.LayoutTree.{row_count, chunked_layout, gathered, struct_layout, list_layout};
+ghost use Rattle.vx_aggregate_spec.specs.Aggregate.{spec};
+ghost use Rattle.vx_aggregate.specs.AggregateView.{aggregate};
 ghost use Rattle.vx_layout_tree.specs.LayoutView.{layout_data};
 ghost use Rattle.vx_machine_ids.specs.Stock.{none};
 ghost use Rattle.vx_machine_ids.specs.Balance.{Owned, Moved};
 ghost use Rattle.vx_machine_view.specs.State.{no_tasks};
-ghost use Rattle.vx_machine_view.specs.Acts.{layouts_in, folded, joined_rows};
+ghost use Rattle.vx_machine_view.specs.Acts.{layouts_in, folded, joined_rows, zones_layout};
 ghost use Rattle.vx_machine_nodes.specs.Acting.{JoinRefused};
 ghost use Rattle.vx_machine_nodes.specs.Causes.{MayCome};
 ghost use Rattle.vx_sink.specs.ContextView.{counted};
@@ -20,13 +23,14 @@ ghost use Rattle.vx_machine_tasks.specs.Stocks.{task_stock, tasks_stock};
 ghost use Rattle.vx_machine_nodes.specs.View.{fold_of};
 ghost use Rattle.vx_machine_tasks.specs.View.{task_row, row};
 
+use crate::dict_join::join_runs;
 use crate::ready::{columns_fit, lists_fit};
 use crate::task::{Head, Task, refuse_all};
 use std::alloc::Global;
 use vx_layout_tree::{
     ChunkedLayout, KindParts, Layout, LayoutHead, StructLayout, layout_children, total_rows,
 };
-use vx_machine_nodes::{ColumnsNode, ListsNode, Local, Shape, give_up_dues, give_up_items};
+use vx_machine_nodes::{ColumnsNode, ListsNode, Local, Shape, Zones, give_up_dues, give_up_items};
 use vx_model::DType;
 use vx_order::Order;
 use vx_sink::LayoutWriterContext;
@@ -152,6 +156,37 @@ fn join_lists(
     Ok(Layout::from_parts(alloc, KindParts::List(head, layouts)))
 }
 
+/// A zoned layout of the data's and the table's. Of another number there is none, and none of more columns of the table than four bytes
+/// count, which no memory holds.
+fn join_zones(alloc: Global, zones: Zones, layouts: Vec<Layout>) -> Result<Layout, WriteError>
+    ensures layout { IfOk result (λ l. layout_data l ≡ zones_layout (ty (arc_value zones.dtype)) zones.rows (non_zero_u32_get zones.zone_len) (map (λ a. spec (aggregate a)) zones.aggregates.items) (map layout_data layouts.items)) }
+    ensures memory { IfErr result (λ e. e ≡ WriteError.OutOfMemory) }
+    ensures cause { IfErr result MayCome }
+{
+    if layouts.len() != 2 || zones.aggregates.len() > u32::MAX as usize {
+        drop((zones, layouts));
+        return Err(WriteError::OutOfMemory);
+    }
+    let Zones {
+        dtype,
+        rows: row_count,
+        zone_len,
+        aggregates,
+    } = zones;
+    let Ok(copy) = DType::clone(&dtype) else {
+        drop((dtype, aggregates, layouts));
+        return Err(WriteError::OutOfMemory);
+    };
+    drop(dtype);
+    let head = LayoutHead {
+        row_count,
+        dtype: copy,
+        segment_ids: Vec::new(alloc),
+    };
+    let parts = KindParts::Zoned(head, layouts, zone_len.get(), aggregates);
+    Ok(Layout::from_parts(alloc, parts))
+}
+
 /// The layout of a task that has done all, or those of its children where it passes them on, behind the others. What else it
 /// might hold is given up.
 #[cycle(gather)]
@@ -237,7 +272,7 @@ fn add_layouts<O: Order>(
 }
 
 /// The layouts, the last one first.
-fn in_order(mut layouts: Vec<Layout>) -> Vec<Layout>
+pub(crate) fn in_order(mut layouts: Vec<Layout>) -> Vec<Layout>
     ensures items { result.items ≡ reverse layouts.items }
     ensures len { vec_len result ≡ vec_len layouts }
 {
@@ -309,6 +344,12 @@ pub(crate) fn join<O: Order>(
             }
             Shape::Lists(node, rows) => {
                 let layout = join_parts(alloc, &node, rows, layouts);
+                drop(node);
+                layout
+            }
+            Shape::Zones(zones) => join_zones(alloc, zones, layouts),
+            Shape::Runs(node, rows) => {
+                let layout = join_runs(alloc, &node, rows, layouts);
                 drop(node);
                 layout
             }

@@ -27,7 +27,9 @@ fn is_made(kid: &Task) -> bool
         Local::Made(_) => true,
         Local::Passing => kid.head.todo.is_empty() && all_made(&kid.kids),
         Local::Empty(_) | Local::Full(_) | Local::Chunked(..) | Local::Grouped(_) => false,
-        Local::Columns(..) | Local::Lists(..) | Local::Over => false,
+        Local::Columns(..) | Local::Lists(..) | Local::Zoned(_) | Local::Over => false,
+        Local::Pressing(_) | Local::AsIs => false,
+        Local::Probe(..) | Local::Asking | Local::Runs(_) => false,
     }
 }
 
@@ -38,6 +40,8 @@ fn is_over(local: &Local) -> bool
         Local::Made(_) | Local::Over | Local::Passing => true,
         Local::Empty(_) | Local::Full(_) | Local::Chunked(..) => false,
         Local::Columns(..) | Local::Lists(..) | Local::Grouped(_) => false,
+        Local::Zoned(_) | Local::Pressing(_) | Local::AsIs => false,
+        Local::Probe(..) | Local::Asking | Local::Runs(_) => false,
     }
 }
 
@@ -94,6 +98,8 @@ fn can_join(shape: &Shape, kids: usize) -> bool
         Shape::Chunks(_) => true,
         Shape::Columns(node, _) => columns_fit(node, kids),
         Shape::Lists(node, _) => lists_fit(node, kids),
+        Shape::Zones(_) => kids == 2,
+        Shape::Runs(_, rows) => kids == 2 * rows.len(),
     }
 }
 
@@ -105,12 +111,16 @@ fn may_due<O: Order>(order: &O, due: &Due, kids: &[Task]) -> bool
     match due {
         Due::Put { child, item: _ } => has_room(kids, *child),
         Due::HandOn { .. } => has_room(kids, 0),
+        Due::Press { .. } => true,
         Due::Append(stored) => order.is_least(&stored.id),
         Due::Close => true,
         Due::Join(shape) => {
             let made = all_made(kids);
             made && can_join(shape, kids.len())
         }
+        Due::Table(_) | Due::Leave(_) => all_made(kids),
+        Due::Ask(_) | Due::OpenRun { .. } => true,
+        Due::EndRun { child, item: _ } => *child < kids.len() && has_room(kids, *child + 1),
     }
 }
 

@@ -5,7 +5,7 @@ ghost use Rattle.std.specs.FinMap as fin;
 ghost use Rattle.vx_machine_ids.specs.Balance.{Owned, Moved};
 ghost use Rattle.vx_kept.specs.Kept.{Fresh, Knows};
 ghost use Rattle.vx_machine_view.specs.State.{no_tasks};
-ghost use Rattle.vx_machine_nodes.specs.Calls.{TaskTold};
+ghost use Rattle.vx_machine_nodes.specs.Calls.{TaskTold, PressTold};
 ghost use Rattle.vx_machine_nodes.specs.Causes.{ActMay};
 ghost use Rattle.vx_sink.specs.ContextView.{counted as counted_bytes};
 ghost use Rattle.vx_machine_nodes.specs.Ledger.{Paid, told_by};
@@ -26,7 +26,7 @@ use std::alloc::Global;
 use vx_kept::Counts;
 use vx_order::Order;
 use vx_path::owned::Path;
-use vx_sink::LayoutWriterContext;
+use vx_sink::{CompressorPlugin, LayoutWriterContext};
 use vx_write_answer::{ActionKind, WriteError};
 
 /// What a task did.
@@ -38,11 +38,12 @@ pub struct Did {
 
 impl Task {
     /// Does its own next act.
-    fn act<O: Order>(
+    fn act<O: Order, C: CompressorPlugin>(
         &mut self,
         alloc: Global,
         ctx: &mut LayoutWriterContext,
         order: &mut O,
+        compressor: &mut C,
         counts: &mut Counts,
     ) -> Result<Did, WriteError>
         requires owned { Owned (O.active order.old) (task_stock self.old) }
@@ -55,15 +56,25 @@ impl Task {
         ensures context { told_by ctx.new ≡ told_by ctx.old }
         ensures told { TaskTold (O.Sink.faults (O.sink order.old)) (O.Sink.faults (O.sink order.new)) (O.Sink.may_fail (O.sink order.old)) (O.Sink.may_fail (O.sink order.new))
             (O.Sink.must_fail (O.sink order.old)) (O.Sink.must_fail (O.sink order.new)) result (λ did. did.action) }
+        ensures pressed { PressTold (C.faults compressor.old) (C.faults compressor.new) (C.may_fail compressor.old) (C.may_fail compressor.new)
+            (C.must_fail compressor.old) (C.must_fail compressor.new) result (λ did. did.action) }
+        ensures compressor { C.kind compressor.new ≡ C.kind compressor.old }
         ensures cause { IfErr result ActMay }
-        ensures done { IfOk result (λ did. TaskDone ctx.old (fin.keys (O.active order.old)) 0 (O.outlet order.old) (O.outlet order.new) (task_row self.old no_tasks) (task_row self.new no_tasks) did.task did.action) }
-        ensures refused { IfErr result (TaskFails ctx.old (fin.keys (O.active order.old)) 0 (O.outlet order.old) (task_row self.old no_tasks)) }
+        ensures done { IfOk result (λ did. TaskDone ctx.old (C.image (C.kind compressor.old)) (fin.keys (O.active order.old)) 0 (O.outlet order.old) (O.outlet order.new) (task_row self.old no_tasks) (task_row self.new no_tasks) did.task did.action) }
+        ensures refused { IfErr result (TaskFails ctx.old (C.image (C.kind compressor.old)) (fin.keys (O.active order.old)) 0 (O.outlet order.old) (task_row self.old no_tasks)) }
         ensures kept { OnErr result (Kept (O.outlet order.old) (O.outlet order.new)) }
         ensures known { OnOk result (Knows counts.new (row (out-Task self.new).kids.items)) }
     {
         let task = self.head.name.clone()?;
         let touched = touched(&self.head);
-        match advance(alloc, ctx, order, &mut self.head, &mut self.kids) {
+        match advance(
+            alloc,
+            ctx,
+            order,
+            compressor,
+            &mut self.head,
+            &mut self.kids,
+        ) {
             Ok(action) => {
                 counts.follow(alloc, touched);
                 Ok(Did { task, action })
@@ -74,11 +85,12 @@ impl Task {
 
     /// The k-th ready one of this task and all below it does its next act.
     #[cycle(step)]
-    pub fn step<O: Order>(
+    pub fn step<O: Order, C: CompressorPlugin>(
         &mut self,
         alloc: Global,
         ctx: &mut LayoutWriterContext,
         order: &mut O,
+        compressor: &mut C,
         k: u64,
         counts: &mut Counts,
     ) -> Result<Did, WriteError>
@@ -92,27 +104,39 @@ impl Task {
         ensures context { told_by ctx.new ≡ told_by ctx.old }
         ensures told { TaskTold (O.Sink.faults (O.sink order.old)) (O.Sink.faults (O.sink order.new)) (O.Sink.may_fail (O.sink order.old)) (O.Sink.may_fail (O.sink order.new))
             (O.Sink.must_fail (O.sink order.old)) (O.Sink.must_fail (O.sink order.new)) result (λ did. did.action) }
+        ensures pressed { PressTold (C.faults compressor.old) (C.faults compressor.new) (C.may_fail compressor.old) (C.may_fail compressor.new)
+            (C.must_fail compressor.old) (C.must_fail compressor.new) result (λ did. did.action) }
+        ensures compressor { C.kind compressor.new ≡ C.kind compressor.old }
         ensures cause { IfErr result ActMay }
-        ensures done { IfOk result (λ did. TaskDone ctx.old (fin.keys (O.active order.old)) k (O.outlet order.old) (O.outlet order.new) (task_row self.old no_tasks) (task_row self.new no_tasks) did.task did.action) }
-        ensures refused { IfErr result (TaskFails ctx.old (fin.keys (O.active order.old)) k (O.outlet order.old) (task_row self.old no_tasks)) }
+        ensures done { IfOk result (λ did. TaskDone ctx.old (C.image (C.kind compressor.old)) (fin.keys (O.active order.old)) k (O.outlet order.old) (O.outlet order.new) (task_row self.old no_tasks) (task_row self.new no_tasks) did.task did.action) }
+        ensures refused { IfErr result (TaskFails ctx.old (C.image (C.kind compressor.old)) (fin.keys (O.active order.old)) k (O.outlet order.old) (task_row self.old no_tasks)) }
         ensures kept { OnErr result (Kept (O.outlet order.old) (O.outlet order.new)) }
         ensures known { OnOk result (Knows counts.new (row (out-Task self.new).kids.items)) }
     {
         let ready = may(order, &self.head, &self.kids);
         let own = one(ready);
         if k < own {
-            return self.act(alloc, ctx, order, counts);
+            return self.act(alloc, ctx, order, compressor, counts);
         }
-        step_kids(&mut self.kids, alloc, ctx, order, k - own, counts)
+        step_kids(
+            &mut self.kids,
+            alloc,
+            ctx,
+            order,
+            compressor,
+            k - own,
+            counts,
+        )
     }
 }
 
 #[cycle(step)]
-fn step_kids<O: Order>(
+fn step_kids<O: Order, C: CompressorPlugin>(
     kids: &mut [Task],
     alloc: Global,
     ctx: &mut LayoutWriterContext,
     order: &mut O,
+    compressor: &mut C,
     k: u64,
     counts: &mut Counts,
 ) -> Result<Did, WriteError>
@@ -126,14 +150,17 @@ fn step_kids<O: Order>(
     ensures context { told_by ctx.new ≡ told_by ctx.old }
     ensures told { TaskTold (O.Sink.faults (O.sink order.old)) (O.Sink.faults (O.sink order.new)) (O.Sink.may_fail (O.sink order.old)) (O.Sink.may_fail (O.sink order.new))
         (O.Sink.must_fail (O.sink order.old)) (O.Sink.must_fail (O.sink order.new)) result (λ did. did.action) }
+    ensures pressed { PressTold (C.faults compressor.old) (C.faults compressor.new) (C.may_fail compressor.old) (C.may_fail compressor.new)
+        (C.must_fail compressor.old) (C.must_fail compressor.new) result (λ did. did.action) }
+    ensures compressor { C.kind compressor.new ≡ C.kind compressor.old }
     ensures cause { IfErr result ActMay }
-    ensures done { IfOk result (λ did. TaskDone ctx.old (fin.keys (O.active order.old)) k (O.outlet order.old) (O.outlet order.new) (row kids.old) (row kids.new) did.task did.action) }
-    ensures refused { IfErr result (TaskFails ctx.old (fin.keys (O.active order.old)) k (O.outlet order.old) (row kids.old)) }
+    ensures done { IfOk result (λ did. TaskDone ctx.old (C.image (C.kind compressor.old)) (fin.keys (O.active order.old)) k (O.outlet order.old) (O.outlet order.new) (row kids.old) (row kids.new) did.task did.action) }
+    ensures refused { IfErr result (TaskFails ctx.old (C.image (C.kind compressor.old)) (fin.keys (O.active order.old)) k (O.outlet order.old) (row kids.old)) }
     ensures kept { OnErr result (Kept (O.outlet order.old) (O.outlet order.new)) }
     ensures known { OnOk result (Knows counts.new (row kids.new)) }
 {
     let (place, left) = counts.ready.find(k);
-    match kids[place].step(alloc, ctx, order, left, &mut counts.kids[place]) {
+    match kids[place].step(alloc, ctx, order, compressor, left, &mut counts.kids[place]) {
         Ok(did) => {
             counts.mark(alloc, place);
             Ok(did)

@@ -4,7 +4,9 @@ use Rattle.vx_model.specs.Ty.{Ty, Tys, boolean, primitive, utf8, binary, list, s
 use Rattle.vx_strategy_spec.specs.StrategyData.{StrategyData, StrategyList, Wraps, flat, chunked, grouped, compressed, coded, zoned, structured, listed, tabled, no_ways, way_at, no_wraps, wrap_grouped, wrap_zoned}
 use Rattle.vx_strategy_spec.specs.Walk.{Named, Around, same_names, find, chosen, field_nodes, in_lists, of_table, of_tables, walk, walk_named, walk_wraps}
 use Rattle.vx_rules.specs.Columns.{offset_type}
-use Rattle.vx_machine_turns.specs.Forms.{Form, forms_of, form_nodes, form_type}
+use Rattle.vx_rules.specs.Runs.{DictOptions, code_type}
+use Rattle.vx_model.specs.ChunkData.{is_dict_type}
+use Rattle.vx_machine_turns.specs.Forms.{Form, dict_form, forms_of, form_nodes, form_type}
 use Rattle.vx_machine_turns.proofs.Fueled.{fuel_is_enough}
 use Rattle.vx_machine_view.specs.Built.{is_built, are_built, wraps_built, Built, AllBuilt}
 use Rattle.vx_machine_view.specs.Whole.{BuiltIsBuilt}
@@ -52,14 +54,9 @@ in_lists_fit : (a : Around Form) (t : Ty) (leaf k : Form) → AroundFits a → (
 in_lists_fit None t leaf k h l e = l
 in_lists_fit (Some f) t leaf k h l e = h t k e
 
-wraps_fit : (ws : Wraps) → wraps_built ws ≡ true → AroundFits (Some (walk_wraps form_nodes ws))
-wraps_fit no_wraps b t k h = h
-wraps_fit (wrap_grouped g ws) b t k h = let r : (form_type (walk_wraps form_nodes ws t k) ≡ t) × Built (walk_wraps form_nodes ws t k) = wraps_fit ws b t k h in (r.0, r)
-wraps_fit (wrap_zoned o stats ws) b t k h = absurd (no_true b)
-
-around_fits : (lists : Bool) (ws : Wraps) → wraps_built ws ≡ true → AroundFits (if lists then Some (walk_wraps form_nodes ws) else None)
-around_fits true ws b = wraps_fit ws b
-around_fits false ws b = tt
+around_fits : (lists : Bool) (ws : Wraps) → AroundFits (Some (walk_wraps form_nodes ws)) → AroundFits (if lists then Some (walk_wraps form_nodes ws) else None)
+around_fits true ws h = h
+around_fits false ws h = tt
 
 mutual
   table_fits : (v l : Ty → Form) (a : Around Form) (ws : Named Form) (walked : List (List ℕ)) → Fits v → Fits l → AroundFits a → AllFit ws → (t : Ty)
@@ -86,6 +83,12 @@ mutual
 
 -- ---- all
 
+-- of a type that no dictionary can hold it is its fallback
+dict_built : (o : DictOptions) (c v f : StrategyData) (t : Ty) (b : Bool) → Built (walk form_nodes c (code_type o)) → Built (walk form_nodes v t) → Built (walk form_nodes f t)
+    → Built (if b then dict_form o t (walk form_nodes c (code_type o)) (walk form_nodes v t) (walk form_nodes f t) else walk form_nodes f t)
+dict_built o c v f t true x y z = ((fuel_is_enough c (code_type o)).0, x, (fuel_is_enough v t).0, y, (fuel_is_enough f t).0, z)
+dict_built o c v f t false x y z = z
+
 mutual
   built : (w : StrategyData) → is_built w ≡ true → (t : Ty) → Built (walk form_nodes w t)
   built (flat o) b t = tt
@@ -104,9 +107,11 @@ mutual
   built (structured v d ws) b (list t n) = tt
   built (structured v d ws) b (extension tag t) = tt
   built (grouped g w) b t = ((fuel_is_enough w t).0, built w b t)
-  built (compressed which room w) b t = absurd (no_true b)
-  built (coded o c v f) b t = absurd (no_true b)
-  built (zoned o w stats) b t = absurd (no_true b)
+  built (compressed which room w) b t = ((fuel_is_enough w t).0, built w b t)
+  built (coded o c v f) b t =
+      let r : (is_built v && is_built f) ≡ true = and_right (is_built c) (is_built v && is_built f) b in
+      dict_built o c v f t (is_dict_type t) (built c (and_left (is_built c) (is_built v && is_built f) b) (code_type o)) (built v (and_left (is_built v) (is_built f) r) t) (built f (and_right (is_built v) (is_built f) r) t)
+  built (zoned o w stats) b t = ((fuel_is_enough w t).0, built w (and_left (is_built w) (is_built stats) b) t, λ u. ((fuel_is_enough stats u).0, built stats (and_right (is_built w) (is_built stats) b) u))
   built (listed e o v f) b (list t n) = (
     (fuel_is_enough e t).0,
     built e (and_left (is_built e) (is_built o && (is_built v && is_built f)) b) t,
@@ -127,7 +132,7 @@ mutual
       (table_fits (walk form_nodes v) (walk form_nodes l) (if lists then Some (walk_wraps form_nodes wraps) else None) (walk_named form_nodes ws) []
       (λ u. ((fuel_is_enough v u).0, built v (and_left (is_built v) (is_built l && (are_built ws && wraps_built wraps)) b) u))
       (λ u. ((fuel_is_enough l u).0, built l (and_left (is_built l) (are_built ws && wraps_built wraps) r) u))
-      (around_fits lists wraps (and_right (are_built ws) (wraps_built wraps) x)) (all_built ws (and_left (are_built ws) (wraps_built wraps) x)) t).1
+      (around_fits lists wraps (wraps_fit wraps (and_right (are_built ws) (wraps_built wraps) x))) (all_built ws (and_left (are_built ws) (wraps_built wraps) x)) t).1
 
   all_built : (ws : StrategyList) → are_built ws ≡ true → AllFit (walk_named form_nodes ws)
   all_built no_ways b = tt
@@ -135,6 +140,14 @@ mutual
     λ t. ((fuel_is_enough w t).0, built w (and_left (is_built w) (are_built ws) b) t),
     all_built ws (and_right (is_built w) (are_built ws) b),
   )
+
+  -- wrappers that are built keep what they wrap
+  wraps_fit : (ws : Wraps) → wraps_built ws ≡ true → AroundFits (Some (walk_wraps form_nodes ws))
+  wraps_fit no_wraps b t k h = h
+  wraps_fit (wrap_grouped g ws) b t k h = let r : (form_type (walk_wraps form_nodes ws t k) ≡ t) × Built (walk_wraps form_nodes ws t k) = wraps_fit ws b t k h in (r.0, r)
+  wraps_fit (wrap_zoned o stats ws) b t k h =
+      let r : (form_type (walk_wraps form_nodes ws t k) ≡ t) × Built (walk_wraps form_nodes ws t k) = wraps_fit ws (and_right (is_built stats) (wraps_built ws) b) t k h in
+      (r.0, (r.0, r.1, λ u. ((fuel_is_enough stats u).0, built stats (and_left (is_built stats) (wraps_built ws) b) u)))
 
 pub built_is_built : BuiltIsBuilt
 built_is_built w t b = built w b t

@@ -10,30 +10,34 @@ use Rattle.vx_machine_turns.specs.Source.{source_acts, source_seed}
 use Rattle.vx_machine_turns.specs.Readings.{shaped, unread, layout_reading}
 use Rattle.vx_machine_turns.specs.Fuels.{Fuel, spent, fuel, less}
 use Rattle.vx_machine_steps.specs.Tree.{Tree, Leaf, Work, ahead, further, read}
-use Rattle.vx_machine_steps.specs.Moves.{is_nil, all_over, all_paths, holding}
-use Rattle.vx_machine_steps.specs.Stands.{KidsHold}
+use Rattle.vx_machine_steps.specs.Moves.{is_nil, all_over, all_paths, holding, tree_moves}
+use Rattle.vx_machine_steps.specs.Stands.{Stands, KidsHold}
 use Rattle.vx_machine_steps.proofs.Laws.{end_is_free}
-use Rattle.vx_machine_promises.specs.Write.{Future, depth}
+use Rattle.vx_machine_promises.specs.Write.{Write, Future, depth}
 use Rattle.vx_machine_view.specs.State.{Tasks, no_tasks, task_then}
 use Rattle.vx_machine_view.specs.Acts.{count}
 use Rattle.vx_machine_view.specs.Moves.{is_empty}
 use Rattle.vx_machine_view.specs.Shows.{Stage, Done, Shows, laid, types_of}
-use Rattle.vx_machine_view.specs.Machine.{Phase, reading, giving, closing, finished, has_closed, no_more, is_alone, has_layout, is_done, held_by}
-use Rattle.vx_machine_view.specs.Whole.{form_of, phase_acts, PhaseShape, source_at, root_depth, HeldShows, FinishShows, LayoutShows}
+use Rattle.vx_machine_view.specs.Machine.{Phase, reading, giving, closing, finished, Machine, has_closed, no_more, is_alone, has_layout, is_done, held_by, phase_ids, machine_ids}
+use Rattle.vx_machine_view.specs.Whole.{SameHeld, ShowsMachine, form_of, phase_acts, PhaseShape, source_at, root_depth, HeldShows, FinishShows, LayoutShows}
 use Rattle.vx_machine_view.proofs.Words.{no_cons, left_nil, right_nil, no_firsts, and_left, and_right}
 use Rattle.vx_machine_view.proofs.Feeding.{count_types}
 use Rattle.vx_machine_view.proofs.Joining.{Busy, Passed, stage_parts, done_over, and_last, made_is, AllLaid, laid_all}
+use Rattle.vx_machine_view.proofs.Agreeing.{same_held, both_held, moves_least}
 use Rattle.vx_machine_view.proofs.Holding.{held_is}
 
 -- ---- what is held
 
 pub held_shows : HeldShows
 held_shows g number f m t st w =
-    ap (λ z. z ++ held_by m.root) (sym w.held)
-    ∙ ap (λ z. holding (source_at g w.past (phase_acts m.phase f)) ++ z)
-    (held_is g.setting number (root_depth g) (source_seed (form_of g) g.mark) 0 m.root w.kids w.root (subst KidsHold w.tree_is st.holds).0)
-    ∙ sym (append-nil (holding (source_at g w.past (phase_acts m.phase f)) ++ all_paths w.kids))
-    ∙ ap all_paths (sym w.tree_is)
+    subst (SameHeld (machine_ids m)) (sym (append-nil (holding (source_at g w.past (phase_acts m.phase f)) ++ all_paths w.kids)) ∙ ap all_paths (sym w.tree_is))
+    (both_held (phase_ids m.phase) (holding (source_at g w.past (phase_acts m.phase f))) (held_by m.root) (all_paths w.kids) (same_held (sym w.held))
+    (held_is g.setting number (root_depth g) (source_seed (form_of g) g.mark) 0 m.root w.kids w.root (subst KidsHold w.tree_is st.holds).0))
+
+-- so the same can be done
+pub moves_shows : (g : Write) (number : List ℕ → ℕ) (f : Future) (m : Machine) (t : Tree) → Stands g.setting (depth g) t → ShowsMachine g number m f t
+    → tree_moves g.setting (machine_ids m) (depth g) t ≡ tree_moves g.setting (all_paths t) (depth g) t
+moves_shows g number f m t st w = moves_least g.setting (machine_ids m) (all_paths t) (depth g) t (held_shows g number f m t st w)
 
 -- ---- the end
 

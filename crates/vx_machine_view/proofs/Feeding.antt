@@ -27,10 +27,10 @@ opened_none spent = refl
 opened_none (fuel g) = refl
 
 -- a head that is given these, and whose queue is closed then
-abbrev fed : Head → List Item → Bool → Head
+abbrev pub fed : Head → List Item → Bool → Head
 fed h xs b = record { seed = h.seed; past = h.past; todo = h.todo; local = h.local; over = h.over; inbox = h.inbox ++ xs; closed = h.closed || b }
 
-fed_none : (h : Head) → fed h [] false ≡ h
+pub fed_none : (h : Head) → fed h [] false ≡ h
 fed_none h =
     ap (λ z. let k : Head = record { seed = h.seed; past = h.past; todo = h.todo; local = h.local; over = h.over; inbox = z; closed = h.closed || false } in k) (append-nil h.inbox)
     ∙ ap (λ z. let k : Head = record { seed = h.seed; past = h.past; todo = h.todo; local = h.local; over = h.over; inbox = h.inbox; closed = z } in k) (or_nothing h.closed)

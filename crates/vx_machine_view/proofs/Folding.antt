@@ -4,7 +4,7 @@ use Rattle.vx_model.specs.Words.{total_by}
 use Rattle.vx_model.specs.Ty.{Ty}
 use Rattle.vx_path.specs.Path.{is_least}
 use Rattle.vx_layout_spec.specs.LayoutTree.{LayoutData, row_count, renamed, flat_layout, gathered}
-use Rattle.vx_layout_spec.specs.Codec.{Lawful}
+use Rattle.vx_machine_view.specs.Images.{Careful}
 use Rattle.vx_tasks.specs.Task.{Join}
 use Rattle.vx_tasks.specs.Nodes.{numbers}
 use Rattle.vx_plan.specs.PlanData.{Setting, Item, row_total}
@@ -27,17 +27,17 @@ use Rattle.vx_machine_view.proofs.Feeding.{opened_none, Leaves, feed_none, count
 use Rattle.vx_machine_view.proofs.Acting.{desk, head, Own, then_open, then_done, then_steady, bare, one_pair}
 use Rattle.vx_machine_view.proofs.Joining.{made_is, AllLaid, laid_all}
 
-gathered_rows : (t : Ty) (ls : List (LayoutData ℕ)) → row_count (gathered t (total_by row_count ls) ls) ≡ total_by row_count ls
+pub gathered_rows : (t : Ty) (ls : List (LayoutData ℕ)) → row_count (gathered t (total_by row_count ls) ls) ≡ total_by row_count ls
 gathered_rows t [] = refl
 gathered_rows t (l ∷ []) = let h : row_count l ≡ row_count l + 0 = omega arith in h
 gathered_rows t (l ∷ k ∷ ls) = refl
 
-and_yes : (b : Bool) → (b && true) ≡ b
+pub and_yes : (b : Bool) → (b && true) ≡ b
 and_yes true = refl
 and_yes false = refl
 
 module _ (s : Setting) (number : List ℕ → ℕ) (segment_number : ℕ) (all : List (List ℕ)) (d : Fuel) (q0 : Seed) (j0 : ℕ) (q : Seed) (places : ℕ) (ks more : Tasks) (hs r : Tree) (past : List Act)
-    (law : Lawful s.codec s.encodings) (pl : places ≡ 1 + get_or q0.spare j0 0) (sm : Shows s number d q0 (suc j0) more r) (kids : Shows s number (less d q.type) q 0 ks hs) where
+    (law : Careful s) (pl : places ≡ 1 + get_or q0.spare j0 0) (sm : Shows s number d q0 (suc j0) more r) (kids : Shows s number (less d q.type) q 0 ks hs) where
   pub append_own : (x : Stored) (l : Local) → ks ≡ no_tasks → shape_in past ≡ Some (alone (flat_layout x.type x.rows s.encodings x.tree x.id)) → (xs : List Item) (closed : Bool) → AllTyped q.type xs
       → Own s number segment_number all d q0 j0 q places ks more hs r past ending (append x ∷ []) (append_of x ∷ []) l true xs closed
   append_own x l nk sh xs closed ty =

@@ -4,7 +4,7 @@ use Rattle.std.proofs.lemmas.Bool.Decides.{nat_tests}
 use Rattle.vx_model.specs.Ty.{Ty}
 use Rattle.vx_model.specs.CellData.{CellData}
 use Rattle.vx_model.specs.ChunkData.{ChunkData, cells}
-use Rattle.vx_layout_spec.specs.Codec.{Lawful}
+use Rattle.vx_machine_view.specs.Images.{Careful}
 use Rattle.vx_rules.specs.Regroup.{ranked}
 use Rattle.vx_rules.specs.Stream.{piece_cells}
 use Rattle.vx_tasks.specs.Task.{Take, TakeEnd}
@@ -47,7 +47,7 @@ ranked_typed t p k [] h = tt
 ranked_typed t p k (c ∷ ps) h = (h.0, ranked_typed t p (suc k) ps h.1)
 
 module _ (s : Setting) (number : List ℕ → ℕ) (segment_number : ℕ) (all : List (List ℕ)) (d : Fuel) (q0 : Seed) (j0 : ℕ) (q : Seed) (places : ℕ) (ks more : Tasks) (hs r : Tree) (past : List Act)
-    (law : Lawful s.codec s.encodings) (pl : places ≡ 1 + get_or q0.spare j0 0) (sm : Shows s number d q0 (suc j0) more r) (kids : Shows s number (less d q.type) q 0 ks hs) where
+    (law : Careful s) (pl : places ≡ 1 + get_or q0.spare j0 0) (sm : Shows s number d q0 (suc j0) more r) (kids : Shows s number (less d q.type) q 0 ks hs) where
   abbrev own_desk : Mind → List Next → List Item → Bool → Desk
   own_desk mind left xs closed = desk s number segment_number all d q0 j0 q places ks more hs r past mind left xs closed
 

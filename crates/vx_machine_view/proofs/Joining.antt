@@ -1,5 +1,5 @@
 -- Children that have done all, on both sides.
-use Rattle.std.proofs.Common.{◌≡◌, ◌+◌, ◌&&◌, ◌⊎◌, ◌∷◌, ◌++◌, ◌∙◌, ℕ, suc, Bool, true, false, List, map, refl, sym, ap, inl, inr, arith, None, []}
+use Rattle.std.proofs.Common.{◌≡◌, ◌+◌, ◌&&◌, ◌⊎◌, ◌∷◌, ◌++◌, ◌∙◌, ℕ, suc, Bool, true, false, List, map, refl, sym, ap, inl, inr, arith, Option, Some, None, []}
 use Rattle.std.proofs.lemmas.List.{map-append}
 use Rattle.vx_model.specs.Words.{total_by}
 use Rattle.vx_model.specs.ChunkData.{ChunkData}
@@ -8,19 +8,29 @@ use Rattle.vx_layout_spec.specs.LayoutTree.{LayoutData, row_count, renamed}
 use Rattle.vx_rules.specs.Blocks.{block_len}
 use Rattle.vx_plan.specs.PlanData.{Setting, Item, row_total, rows_in}
 use Rattle.vx_plan.specs.FlatNode.{inlined}
-use Rattle.vx_machine_turns.specs.Acts.{Seed, Act, passes, close_queues, shape_in, gifts}
+use Rattle.vx_zone_spec.specs.ZoneTable.{Filled}
+use Rattle.vx_path.specs.Path.{next}
+use Rattle.vx_machine_turns.specs.Locals.{ZonedNode}
+use Rattle.vx_machine_turns.specs.Zoned.{zoned_joins}
+use Rattle.vx_machine_turns.specs.Acts.{Seed, Act, passes, does, close_queues, shape_in, gifts}
 use Rattle.vx_machine_turns.specs.Grouped.{weighed_puts}
-use Rattle.vx_machine_turns.specs.Locals.{Local}
+use Rattle.vx_machine_turns.specs.Locals.{DictNode, Local}
 use Rattle.vx_machine_turns.specs.Readings.{shaped}
 use Rattle.vx_machine_turns.specs.Scripts.{filled}
 use Rattle.vx_machine_turns.specs.Fuels.{Fuel, less}
 use Rattle.vx_machine_steps.specs.Tree.{Head, Tree, Leaf, Work}
 use Rattle.vx_machine_steps.specs.Moves.{due, due_todo, due_more, holding, is_nil, all_paths, all_over, tree_moves, move_own, in_kids, in_rest}
-use Rattle.vx_machine_view.specs.State.{Next, shut_kids, Mind, no_chunk, one_chunk, by_chunk, by_column, by_list, by_block, by_size, as_one, ending, passing, Tasks, no_tasks, task_then}
+use Rattle.vx_machine_view.specs.State.{Next, shut_kids, Mind, no_chunk, one_chunk, by_chunk, by_column, by_list, by_block, by_size, as_one, by_image, as_is, by_probe, asking, by_run, by_zone, ending, passing, Tasks, no_tasks, task_then}
+use Rattle.vx_tasks.specs.Task.{Join}
+use Rattle.vx_machine_view.specs.Coder.{coder_of}
+use Rattle.vx_machine_view.specs.Coding.{Deed}
+use Rattle.vx_machine_view.specs.Deeds.{deed_acts}
 use Rattle.vx_machine_view.specs.Acts.{layout_in, layouts_in, hand_all}
 use Rattle.vx_machine_view.specs.Moves.{is_empty, is_made, all_made}
 use Rattle.vx_machine_view.specs.Machine.{has_layout}
-use Rattle.vx_machine_view.specs.Shows.{Ends, Stage, waits_first, waits_end, appends, splits, gathers_all, hands, hands_lists, shuts, joins_columns, regroups_rows, regroups_chunks, collects, passes_on, passed, Done, Shows, laid, rows_of, types_of, shape_rows, task_rows}
+use Rattle.vx_machine_view.specs.Zoned.{Zones}
+use Rattle.vx_machine_view.specs.Zoning.{zoner_of, zones_mind, zones_left, zones_shape}
+use Rattle.vx_machine_view.specs.Shows.{Ends, Stage, waits_first, waits_end, appends, splits, gathers_all, hands, hands_lists, shuts, joins_columns, regroups_rows, regroups_chunks, collects, presses, pressed, lets_out, asks_first, probes, falls_back, cuts, last_cuts, passes_on, passed, records_zones, closes_zones, joins_data, joins_zones, Done, Shows, laid, rows_of, types_of, shape_rows, task_rows}
 use Rattle.vx_machine_view.proofs.Words.{true_false, left_nil, right_nil, no_firsts, and_left, and_right}
 
 -- ---- what hasn't done all, and what has its only child's layout
@@ -68,6 +78,28 @@ outs_todo : (weight : ChunkData → ℕ) (outs : List Item) → is_nil (filled [
 outs_todo weight [] = refl
 outs_todo weight (i ∷ outs) = refl
 
+-- with something left it isn't made
+left_busy : (mind : Mind) (left : List Next) (todo : List Act) (over : Bool) (table : Option (List Filled)) (x : Next) (xs : List Next) (a : Act) (acts : List Act) → mind ≡ zones_mind table → left ≡ x ∷ xs → todo ≡ a ∷ acts
+    → Busy mind left todo over
+left_busy mind left todo over table x xs a acts e l t = record {
+  unmade = λ b. ap (λ z. is_made z left b) e ∙ ap (λ z. is_made (zones_mind table) z b) l ∙ no_end table b;
+  unlaid = λ ks b y. ap (λ z. has_layout mind ks b && (is_empty z && y)) l ∙ no_and (has_layout mind ks b);
+  goes_on = ends_busy over todo a acts t;
+}
+  where
+    no_end : (table : Option (List Filled)) (b : Bool) → is_made (zones_mind table) (x ∷ xs) b ≡ false
+    no_end None b = refl
+    no_end (Some cs) b = refl
+
+data_busy : (s : Setting) (mind : Mind) (left : List Next) (past todo : List Act) (over : Bool) (n : ZonedNode) (z : Zones) (table : Option (List Filled))
+    → Ends mind left past todo over (zones_mind table) (zones_left n z table) (filled [] (zoned_joins s n z.zones table)) (zones_shape n z.rows table) → Busy mind left todo over
+data_busy s mind left past todo over n z None w = left_busy mind left todo over None _ _ _ _ w.mind_is w.left_is w.rest
+data_busy s mind left past todo over n z (Some cs) w = left_busy mind left todo over (Some cs) _ _ _ _ w.mind_is w.left_is w.rest
+
+deeds_todo : (s : Setting) (n : DictNode) (ds : List Deed) → is_nil (filled [] (deed_acts s n ds ++ (does Join ∷ []))) ≡ false
+deeds_todo s n [] = refl
+deeds_todo s n (x ∷ ds) = refl
+
 pub stage_parts : (s : Setting) (d : Fuel) (mind : Mind) (left : List Next) (ks : Tasks) (q : Seed) (past todo : List Act) (l : Local) (over : Bool) (hs : Tree)
     → Stage s d mind left ks q past todo l over hs → Busy mind left todo over ⊎ Passed mind left past todo over hs
 stage_parts s d mind left ks q past todo l over hs (waits_first o t k r) = inl (busy_by mind (no_chunk o t) left todo over r.mind_is (λ b. refl) (λ ks b. refl) (on_busy over todo r.on))
@@ -88,6 +120,15 @@ stage_parts s d mind left ks q past todo l over hs (regroups_rows o n x j rows o
 stage_parts s d mind left ks q past todo l over hs (regroups_chunks size n x j rows outs tx tj nh r) =
     inl (busy_by mind (by_size size x j rows) left todo over r.mind_is (λ b. refl) (λ ks b. refl) (on_busy over todo r.on))
 stage_parts s d mind left ks q past todo l over hs (collects n x rows r) = inl (busy_by mind (as_one n.type x rows) left todo over r.mind_is (λ b. refl) (λ ks b. refl) (on_busy over todo r.on))
+stage_parts s d mind left ks q past todo l over hs (presses n t i ti r) = inl (busy_by mind (by_image n.which) left todo over r.mind_is (λ b. refl) (λ ks b. refl) (on_busy over todo r.on))
+stage_parts s d mind left ks q past todo l over hs (pressed n t outs r) = inl (busy_by mind (by_image n.which) left todo over r.mind_is (λ b. refl) (λ ks b. refl) (on_busy over todo r.on))
+stage_parts s d mind left ks q past todo l over hs (lets_out n t outs r) = inl (busy_by mind as_is left todo over r.mind_is (λ b. refl) (λ ks b. refl) (on_busy over todo r.on))
+stage_parts s d mind left ks q past todo l over hs (asks_first n k nk r) = inl (busy_by mind (by_probe (coder_of n) n.eof) left todo over r.mind_is (λ b. refl) (λ ks b. refl) (on_busy over todo r.on))
+stage_parts s d mind left ks q past todo l over hs (probes n i k nk r) = inl (busy_by mind asking left todo over r.mind_is (λ b. refl) (λ ks b. refl) (on_busy over todo r.on))
+stage_parts s d mind left ks q past todo l over hs (falls_back t outs r) = inl (busy_by mind as_is left todo over r.mind_is (λ b. refl) (λ ks b. refl) (on_busy over todo r.on))
+stage_parts s d mind left ks q past todo l over hs (cuts n so_far i rows c ds k u r) = inl (busy_by mind (by_run (coder_of n) so_far i rows) left todo over r.mind_is (λ b. refl) (λ ks b. refl) (on_busy over todo r.on))
+stage_parts s d mind left ks q past todo l over hs (last_cuts n rows ns c ds k u sum is go r) =
+    inl (busy_by mind ending left todo over r.mind_is (λ b. refl) (λ ks b. refl) (λ x. ap (λ z. is_nil z && over && x) r.rest ∙ ap (λ z. z && over && x) (deeds_todo s n ds)))
 stage_parts s d mind left ks q past todo l over hs (passes_on t weight outs one ty r) =
     let some : is_empty left ≡ false = ap is_empty r.left_is ∙ outs_left weight outs in
     inl (record {
@@ -96,6 +137,11 @@ stage_parts s d mind left ks q past todo l over hs (passes_on t weight outs one 
       goes_on = λ x. ap (λ z. is_nil z && over && x) r.rest ∙ ap (λ z. z && over && x) (outs_todo weight outs);
     })
 stage_parts s d mind left ks q past todo l over hs (passed t one r) = inr (record { type = t; one = one; ends = r })
+stage_parts s d mind left ks q past todo l over hs (records_zones n z outs iz one rw to r) =
+    inl (busy_by mind (by_zone (zoner_of n) (next n.eof) z) left todo over r.mind_is (λ b. refl) (λ ks b. refl) (on_busy over todo r.on))
+stage_parts s d mind left ks q past todo l over hs (closes_zones n z table iz one r) = inl (left_busy mind left todo over table _ _ _ _ r.mind_is r.left_is r.rest)
+stage_parts s d mind left ks q past todo l over hs (joins_data n z table iz one r) = inl (data_busy s mind left past todo over n z table r)
+stage_parts s d mind left ks q past todo l over hs (joins_zones n rows cs both r) = inl (busy_by mind ending left todo over r.mind_is (λ b. refl) (λ ks b. refl) (ends_busy over todo _ _ r.rest))
 
 -- what is made, of those that haven't a layout of their own, has its child's
 pub stage_made : (s : Setting) (d : Fuel) (mind : Mind) (left : List Next) (ks : Tasks) (q : Seed) (past todo : List Act) (l : Local) (over : Bool) (hs : Tree) (b : Bool)

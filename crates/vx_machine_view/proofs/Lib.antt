@@ -3,9 +3,11 @@ pub mod Feeding
 pub mod Beginning
 pub mod Joining
 pub mod Acting
+pub mod Columns
 pub mod Folding
 pub mod Grouping
 pub mod Regrouping
+pub mod Zoning
 pub mod Moving
 pub mod Holding
 pub mod Building
@@ -17,3 +19,12 @@ pub mod Counting
 pub mod Underway
 pub mod Reserving
 pub mod Placing
+pub mod Outlets
+pub mod Pressing
+pub mod Imaging
+pub mod Deeding
+pub mod Sprouting
+pub mod Probing
+pub mod Cutting
+pub mod Laying
+pub mod Agreeing

@@ -5,7 +5,7 @@ use Rattle.vx_model.specs.Words.{total_by}
 use Rattle.vx_model.specs.Ty.{Ty}
 use Rattle.vx_model.specs.CellData.{CellData}
 use Rattle.vx_model.specs.ChunkData.{ChunkData, cells, held}
-use Rattle.vx_layout_spec.specs.Codec.{Lawful}
+use Rattle.vx_machine_view.specs.Images.{Careful}
 use Rattle.vx_rules.specs.Blocks.{BlockOptions, block_len, sizes_at, cut_off, left_over, last_block}
 use Rattle.vx_rules.specs.Flushes.{flushed, still_held, is_full, flushes, concatenated}
 use Rattle.vx_rules.specs.Stream.{piece_cells}
@@ -64,7 +64,7 @@ one_more : (ps : List ChunkData) (c : ChunkData) → length (piece_cells (ps ++ 
 one_more ps c = ap length (piece_cells-append ps (c ∷ []) ∙ ap (λ z. piece_cells ps ++ z) (append-nil (cells c))) ∙ length-append (piece_cells ps) (cells c)
 
 module _ (s : Setting) (number : List ℕ → ℕ) (segment_number : ℕ) (all : List (List ℕ)) (d : Fuel) (q0 : Seed) (j0 : ℕ) (q : Seed) (places : ℕ) (ks more : Tasks) (hs r : Tree) (past : List Act)
-    (law : Lawful s.codec s.encodings) (pl : places ≡ 1 + get_or q0.spare j0 0) (sm : Shows s number d q0 (suc j0) more r) (kids : Shows s number (less d q.type) q 0 ks hs) where
+    (law : Careful s) (pl : places ≡ 1 + get_or q0.spare j0 0) (sm : Shows s number d q0 (suc j0) more r) (kids : Shows s number (less d q.type) q 0 ks hs) where
   -- ---- a repartition
 
   blocks_idle : (o : BlockOptions) (n : GroupedNode) (x : List CellData) (j : Option Item) (rows : ℕ) → NewestTyped n.type j → NoneHeld x j → q.type ≡ n.type → types_of hs ≡ n.type ∷ []

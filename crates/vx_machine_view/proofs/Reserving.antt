@@ -1,5 +1,5 @@
 -- What tasks have reserved in the tracker, step by step.
-use Rattle.std.proofs.Common.{◌≡◌, ◌+◌, ◌&&◌, ◌||◌, ◌==◌, ◌⊎◌, ◌∷◌, ◌++◌, ◌∙◌, ℕ, zero, suc, Bool, true, false, cond, List, map, length, refl, sym, ap, subst, inl, inr, arith, Option, Some, None, []}
+use Rattle.std.proofs.Common.{◌≡◌, ◌+◌, ◌&&◌, ◌||◌, ◌==◌, ◌⊎◌, ◌∷◌, ◌++◌, ◌∙◌, ℕ, zero, suc, Bool, true, false, cond, List, map, length, refl, sym, ap, subst, inl, inr, arith, append-nil, Option, Some, None, []}
 use Rattle.std.specs.Prelude.{if◌then◌else◌, nat_le}
 use Rattle.vx_model.specs.Words.{total_by}
 use Rattle.vx_model.specs.Ty.{Ty, list, struct}
@@ -14,21 +14,29 @@ use Rattle.vx_rules.specs.Columns.{list_columns}
 use Rattle.vx_strategy_spec.specs.StrategyData.{by_blocks, by_bytes, into_one}
 use Rattle.vx_plan.specs.PlanData.{Setting, Item}
 use Rattle.vx_plan.specs.FlatNode.{segment, inlined}
+use Rattle.vx_plan.specs.DictNode.{is_dictionary}
+use Rattle.vx_tasks.specs.Task.{Kind, Free, TakeEnd}
+use Rattle.vx_tasks.specs.Task.Prompt.{Call}
 use Rattle.vx_machine_turns.specs.Forms.{Form, Forms, flat_form, chunked_form, grouped_form, compressed_form, dict_form, zoned_form, no_struct_form, struct_form, list_form, no_forms, form_then}
 use Rattle.vx_machine_turns.specs.Grouped.{block_grouper}
 use Rattle.vx_machine_turns.specs.Collected.{collect_rest}
-use Rattle.vx_machine_turns.specs.Locals.{Local}
+use Rattle.vx_zone_spec.specs.ZoneTable.{Filled, kept_columns}
+use Rattle.vx_machine_turns.specs.Locals.{ZonedNode, Local}
 use Rattle.vx_machine_turns.specs.Acts.{Seed, Act}
 use Rattle.vx_machine_turns.specs.Source.{source_seed}
 use Rattle.vx_machine_turns.specs.Fuels.{Fuel, less}
 use Rattle.vx_machine_steps.specs.Tree.{Tree, Leaf, Work}
 use Rattle.vx_machine_promises.specs.Write.{Answer, unasked, came, over}
-use Rattle.vx_machine_view.specs.State.{Next, put, hand_on, append, shut_kids, join_kids, Mind, no_chunk, one_chunk, by_chunk, by_column, by_list, by_block, by_size, as_one, ending, passing, made, Desk, Tasks, no_tasks, task_then}
+use Rattle.vx_machine_view.specs.Zoned.{Zoner, Zones, table_item}
+use Rattle.vx_machine_view.specs.Zoning.{zoner_of, put_each, zones_mind, zones_left}
+use Rattle.vx_machine_view.specs.State.{Fold, fold_runs, Next, put, hand_on, press, probe, open_run, end_run, append, shut_kids, join_kids, start_table, leave_kid, Mind, no_chunk, one_chunk, by_chunk, by_column, by_list, by_block, by_size, as_one, by_image, as_is, by_probe, asking, by_run, by_zone, ending, passing, made, Desk, Tasks, no_tasks, task_then}
+use Rattle.vx_machine_view.specs.Coder.{Coder, coder_of}
+use Rattle.vx_machine_view.specs.Coding.{Deed, puts_codes, puts_values, run_rows, deeds_at, last_deeds, deed_nexts}
 use Rattle.vx_machine_view.specs.Start.{first_mind, first_kids, field_tasks, started_task}
-use Rattle.vx_machine_view.specs.Acts.{count, add, give, shut_all, Did, column_count, columns_in, puts, stored, of_length, hand_all, take_chunk, end_columns, end_lists, take_end, do_take, do_act}
+use Rattle.vx_machine_view.specs.Acts.{count, add, give, shut_at, end_at, fall_back, probed, run_tasks, shut_all, Did, column_count, columns_in, puts, stored, of_length, hand_all, take_chunk, end_columns, end_lists, end_zones, take_end, do_take, do_act}
 use Rattle.vx_machine_view.specs.Moves.{is_empty, all_made, Step, may_act, own_step, in_kids, in_rest, steps}
 use Rattle.vx_machine_view.specs.Machine.{Phase, reading, giving, closing, finished, no_more, is_alone, has_layout, is_done, has_closed, WholeStep, may_source, source_step, in_root}
-use Rattle.vx_machine_view.specs.Shows.{NoneHeld, Stage, waits_first, waits_end, appends, splits, gathers_all, hands, hands_lists, shuts, joins_columns, regroups_rows, regroups_chunks, collects, passes_on, passed, Done, Shows, types_of}
+use Rattle.vx_machine_view.specs.Shows.{NoneHeld, Stage, waits_first, waits_end, appends, splits, gathers_all, hands, hands_lists, shuts, joins_columns, regroups_rows, regroups_chunks, collects, presses, pressed, lets_out, asks_first, probes, falls_back, cuts, last_cuts, passes_on, passed, records_zones, closes_zones, joins_data, joins_zones, Done, Shows, types_of}
 use Rattle.vx_machine_view.specs.Whole.{form_of, root_depth}
 use Rattle.vx_machine_view.specs.Reserved.{next_reserved, mind_reserved, reserved_by, StepsReserve, StartReserves, WholeReserves, FinishReserves}
 use Rattle.vx_machine_view.proofs.Words.{and_left, and_right}
@@ -53,7 +61,22 @@ add_reserved (task_then c ks r) new =
     let own : ℕ = (next_reserved c.todo + mind_reserved c.mind) + reserved_by ks in
     let e : own + reserved_by (add r new) ≡ (own + reserved_by r) + reserved_by new = omega (arith, h) in e
 
+shut_at_reserved : (j : ℕ) (cs : Tasks) → reserved_by (shut_at j cs) ≡ reserved_by cs
+shut_at_reserved j no_tasks = refl
+shut_at_reserved zero (task_then c ks r) = refl
+shut_at_reserved (suc j) (task_then c ks r) = ap (λ z. ((next_reserved c.todo + mind_reserved c.mind) + reserved_by ks) + z) (shut_at_reserved j r)
+
+end_at_reserved : (j : ℕ) (i : Item) (cs : Tasks) → reserved_by (end_at j i cs) ≡ reserved_by cs
+end_at_reserved j i cs = shut_at_reserved (suc j) (give (suc j) i (shut_at j cs)) ∙ give_reserved (suc j) i (shut_at j cs) ∙ shut_at_reserved j cs
+
 -- ---- what is left to do
+
+-- codes and values that are to be put have reserved nothing
+deeds_reserved : (n : Coder) (ds : List Deed) (more : List Next) → next_reserved (deed_nexts n ds ++ more) ≡ next_reserved more
+deeds_reserved n [] more = refl
+deeds_reserved n (puts_codes j e true i ∷ ds) more = deeds_reserved n ds more
+deeds_reserved n (puts_codes j e false i ∷ ds) more = deeds_reserved n ds more
+deeds_reserved n (puts_values j i ∷ ds) more = deeds_reserved n ds more
 
 puts_reserved : (j : ℕ) (p : List ℕ) (xs : List ChunkData) → next_reserved (puts j p xs) ≡ 0
 puts_reserved j p [] = refl
@@ -112,7 +135,8 @@ first_reserved (grouped_form (by_bytes size) t k) m e = refl
 first_reserved (grouped_form into_one t k) m e = refl
 first_reserved (compressed_form which room t k) m e = refl
 first_reserved (dict_form o t c v f) m e = refl
-first_reserved (zoned_form o t k stats) m e = refl
+first_reserved (zoned_form o t k stats) true e = first_reserved k true e
+first_reserved (zoned_form o t k stats) false e = refl
 first_reserved (no_struct_form t) m e = refl
 first_reserved (struct_form fs n name v ks) m e = refl
 first_reserved (list_form t n es os v) m e = refl
@@ -122,9 +146,13 @@ mutual
   kids_reserved (flat_form o t) m at e = refl
   kids_reserved (chunked_form t k) m at e = refl
   kids_reserved (grouped_form g t k) m at e = one_none (mind_reserved (first_mind k m e)) (reserved_by (first_kids k m (under at 0) e)) 0 (first_reserved k m e) (kids_reserved k m (under at 0) e) refl
-  kids_reserved (compressed_form which room t k) m at e = refl
+  kids_reserved (compressed_form which room t k) m at e =
+      one_none 0 (((0 + mind_reserved (first_mind k m e)) + reserved_by (first_kids k m (under at 1) e)) + 0) 0 refl
+      (one_none (mind_reserved (first_mind k m e)) (reserved_by (first_kids k m (under at 1) e)) 0 (first_reserved k m e) (kids_reserved k m (under at 1) e) refl) refl
   kids_reserved (dict_form o t c v f) m at e = refl
-  kids_reserved (zoned_form o t k stats) m at e = refl
+  kids_reserved (zoned_form o t k stats) true at e = kids_reserved k true at e
+  kids_reserved (zoned_form o t k stats) false at e =
+      one_none (mind_reserved (first_mind k false (inside e))) (reserved_by (first_kids k false (under at 0) (inside e))) 0 (first_reserved k false (inside e)) (kids_reserved k false (under at 0) (inside e)) refl
   kids_reserved (no_struct_form t) m at e = refl
   kids_reserved (struct_form fs true name v ks) m at e =
       one_none (mind_reserved (first_mind v m (inside e))) (reserved_by (first_kids v m (under at 0) (inside e))) (reserved_by (field_tasks ks (m || true) at 1 (next e)))
@@ -153,6 +181,25 @@ started_reserved f m name e xs closed = one_none (mind_reserved (first_mind f m 
 abbrev Even : Mind → List Next → Tasks → Did → Type 0
 Even mind todo ks w = ((next_reserved w.desk.todo + mind_reserved w.desk.mind) + reserved_by w.kids) + w.lowers ≡ ((next_reserved todo + mind_reserved mind) + reserved_by ks) + w.raises
 
+-- the fallback is started
+back_even : (s : Setting) (kind : Kind) (n : Coder) (e : Eof) (mind : Mind) (todo : List Next) (c : Desk) (ks : Tasks) (inbox : List Item) (before : Mind) (left : List Next) (k : ℕ) → next_reserved todo + mind_reserved mind ≡ k
+    → next_reserved left + mind_reserved before ≡ k → Even before left ks (fall_back s kind n e mind todo c ks inbox)
+back_even s kind n e mind todo c ks inbox before left k a b =
+    let h : reserved_by (add ks (started_task n.fallback n.mark (under c.name (count ks)) e [] false)) ≡ reserved_by ks + reserved_by (started_task n.fallback n.mark (under c.name (count ks)) e [] false) = add_reserved ks (started_task n.fallback n.mark (under c.name (count ks)) e [] false) in
+    let z : reserved_by (started_task n.fallback n.mark (under c.name (count ks)) e [] false) ≡ 0 = started_reserved n.fallback n.mark (under c.name (count ks)) e [] false in
+    let v : ((next_reserved todo + mind_reserved mind) + reserved_by (add ks (started_task n.fallback n.mark (under c.name (count ks)) e [] false))) + 0 ≡ ((next_reserved left + mind_reserved before) + reserved_by ks) + 0 = omega (arith, h, z, a, b) in v
+
+probed_even : (s : Setting) (b : Bool) (n : Coder) (e : Eof) (i : Item) (todo : List Next) (c : Desk) (ks : Tasks) → mind_reserved c.mind ≡ 0 → Even c.mind (probe n e i ∷ todo) ks (probed s b n e i todo c ks)
+probed_even s true n e i todo c ks f = ap (λ z. ((next_reserved todo + z) + reserved_by ks) + 0) (sym f)
+probed_even s false n e i todo c ks f =
+    back_even s (Free Call) n e as_is (hand_on 0 i ∷ todo) c ks c.inbox c.mind (probe n e i ∷ todo) (next_reserved todo) (let z : (0 + next_reserved todo) + 0 ≡ next_reserved todo = omega arith in z)
+    (let z : next_reserved todo + mind_reserved c.mind ≡ next_reserved todo = omega (arith, f) in z)
+
+run_reserved : (n : Coder) (at : List ℕ) (j : ℕ) (e : Eof) (i : Item) → reserved_by (run_tasks n at j e i) ≡ 0
+run_reserved n at j e i =
+    one_none (mind_reserved (first_mind n.codes n.mark (inside e))) (reserved_by (first_kids n.codes n.mark (under at j) (inside e))) _ (first_reserved n.codes n.mark (inside e)) (kids_reserved n.codes n.mark (under at j) (inside e))
+    (one_none (mind_reserved (first_mind n.values n.mark (inside (next e)))) (reserved_by (first_kids n.values n.mark (under at (suc j)) (inside (next e)))) 0 (first_reserved n.values n.mark (inside (next e))) (kids_reserved n.values n.mark (under at (suc j)) (inside (next e))) refl)
+
 stored_reserved : (t : Ty) (i : Item) (tree x : Option (List ℕ)) → mind_reserved (stored t i tree x) ≡ 0
 stored_reserved t i tree None = refl
 stored_reserved t i tree (Some bytes) = refl
@@ -176,6 +223,13 @@ chunk_even s c ks i xs (by_size size x (Some j) rows) =
     let k : total_by held ((flushes size).leaves x j.1) + total_by held ((flushes size).holds x j.1) ≡ total_by held x + held j.1 = leaves_held size x j.1 in
     let e : ((out + (total_by held ((flushes size).holds x j.1) + held i.1)) + reserved_by ks) + 0 ≡ ((0 + (total_by held x + held j.1)) + reserved_by ks) + held i.1 = omega (arith, h, k) in e
 chunk_even s c ks i xs (as_one t x rows) = refl
+chunk_even s c ks i xs (by_zone g e z) = refl
+chunk_even s c ks i xs (by_image which) = refl
+chunk_even s c ks i xs as_is = refl
+chunk_even s c ks i xs (by_probe n e) = refl
+chunk_even s c ks i xs asking = refl
+chunk_even s c ks i xs (by_run n r j rows) =
+    ap (λ z. ((z + 0) + reserved_by ks) + 0) (ap next_reserved (sym (append-nil (deed_nexts n (deeds_at n r j)))) ∙ deeds_reserved n (deeds_at n r j) [])
 chunk_even s c ks i xs ending = refl
 chunk_even s c ks i xs passing = refl
 chunk_even s c ks i xs (made l) = refl
@@ -190,6 +244,12 @@ Begun (by_column t rows) = Unit {0}
 Begun (by_list t n first from rows) = Unit {0}
 Begun (by_block len minimum t x j rows) = Unit {0}
 Begun (as_one t x rows) = Unit {0}
+Begun (by_zone g e z) = Unit {0}
+Begun (by_image which) = Unit {0}
+Begun as_is = Unit {0}
+Begun (by_probe n e) = Unit {0}
+Begun asking = Unit {0}
+Begun (by_run n r j rows) = Unit {0}
 Begun ending = Unit {0}
 Begun passing = Unit {0}
 Begun (made l) = Unit {0}
@@ -202,52 +262,82 @@ lists_even : (first : Bool) (t : Ty) (n b : Bool) (from rows : ℕ) (c : Desk) (
 lists_even true t n b from rows c ks = refl
 lists_even false t n b from rows c ks = refl
 
-end_even : (c : Desk) (ks : Tasks) (mind : Mind) → Begun mind → Even mind [] ks (take_end c ks mind)
-end_even c ks (no_chunk o t) b = refl
-end_even c ks (one_chunk x) b = refl
-end_even c ks (by_chunk m t f e rows) b = refl
-end_even c ks (by_column t rows) b = columns_even ((count ks == 0) && (0 == column_count t)) t rows c ks
-end_even c ks (by_list t n first from rows) b = lists_even first t n first from rows c ks
-end_even c ks (by_block len minimum t x None rows) b = refl
-end_even c ks (by_block len minimum t x (Some j) rows) b =
+zones_even : (table : Option (List Filled)) (g : Zoner) (e : Eof) (z : Zones) (c : Desk) (ks : Tasks) → Even (by_zone g e z) [] ks (end_zones table g e z c ks)
+zones_even None g e z c ks = refl
+zones_even (Some cs) g e z c ks = refl
+
+end_even : (s : Setting) (c : Desk) (ks : Tasks) (mind : Mind) → Begun mind → Even mind [] ks (take_end s c ks mind)
+end_even s c ks (no_chunk o t) b = refl
+end_even s c ks (one_chunk x) b = refl
+end_even s c ks (by_chunk m t f e rows) b = refl
+end_even s c ks (by_column t rows) b = columns_even ((count ks == 0) && (0 == column_count t)) t rows c ks
+end_even s c ks (by_list t n first from rows) b = lists_even first t n first from rows c ks
+end_even s c ks (by_block len minimum t x None rows) b = refl
+end_even s c ks (by_block len minimum t x (Some j) rows) b =
     ap (λ z. ((z + 0) + reserved_by ks) + 0) (ends_reserved (λ p. 0) (ranked j.0 0 ((block_grouper (of_length len minimum) t).rule.rest x j.1)) ∙ none_reserved (ranked j.0 0 ((block_grouper (of_length len minimum) t).rule.rest x j.1)))
-end_even c ks (by_size size x None rows) b =
+end_even s c ks (by_size size x None rows) b =
     let h : total_by held x ≡ 0 = ap (total_by held) b in
     let e : ((0 + 0) + reserved_by ks) + 0 ≡ ((0 + (total_by held x + 0)) + reserved_by ks) + 0 = omega (arith, h) in e
-end_even c ks (by_size size x (Some j) rows) b =
+end_even s c ks (by_size size x (Some j) rows) b =
     let out : ℕ = next_reserved (hand_all held (ranked j.0 0 (x ++ (j.1 ∷ []))) ++ (shut_kids ∷ [])) in
     let h : out ≡ total_by held (x ++ (j.1 ∷ [])) = ends_reserved held (ranked j.0 0 (x ++ (j.1 ∷ []))) ∙ hands_reserved held j.0 0 (x ++ (j.1 ∷ [])) in
     let k : total_by held (x ++ (j.1 ∷ [])) ≡ total_by held x + held j.1 = with_one x j.1 in
     let e : ((out + 0) + reserved_by ks) + 0 ≡ ((0 + (total_by held x + held j.1)) + reserved_by ks) + 0 = omega (arith, h, k) in e
-end_even c ks (as_one t x rows) b = ap (λ z. ((z + 0) + reserved_by ks) + 0) (ends_reserved (λ p. 0) (collect_rest t x) ∙ none_reserved (collect_rest t x))
-end_even c ks ending b = refl
-end_even c ks passing b = refl
-end_even c ks (made l) b = refl
+end_even s c ks (as_one t x rows) b = ap (λ z. ((z + 0) + reserved_by ks) + 0) (ends_reserved (λ p. 0) (collect_rest t x) ∙ none_reserved (collect_rest t x))
+end_even s c ks (by_zone g e z) b = zones_even (kept_columns g.columns z.records) g e z c ks
+end_even s c ks (by_image which) b = refl
+end_even s c ks as_is b = refl
+end_even s c ks (by_probe n e) b = back_even s TakeEnd n e passing (shut_kids ∷ []) c ks [] (by_probe n e) [] 0 refl refl
+end_even s c ks asking b = refl
+end_even s c ks (by_run n r j rows) b = ap (λ z. ((z + 0) + reserved_by ks) + 0) (deeds_reserved n (last_deeds n r j) (join_kids (fold_runs n.type (run_rows n r j)) ∷ []))
+end_even s c ks ending b = refl
+end_even s c ks passing b = refl
+end_even s c ks (made l) b = refl
 
 -- what must hold of a task for its next act
 abbrev Fine : Mind → List Next → Type 0
 Fine mind [] = Begun mind
 Fine mind (put j i ∷ todo) = Unit {0}
 Fine mind (hand_on n i ∷ todo) = Unit {0}
+Fine mind (press which i ∷ todo) = Unit {0}
+Fine mind (probe n e i ∷ todo) = mind_reserved mind ≡ 0
+Fine mind (open_run n j e i ∷ todo) = Unit {0}
+Fine mind (end_run j i ∷ todo) = Unit {0}
 Fine mind (append x ∷ todo) = mind_reserved mind ≡ 0
 Fine mind (shut_kids ∷ todo) = Unit {0}
 Fine mind (join_kids f ∷ todo) = mind_reserved mind ≡ 0
+Fine mind (start_table f e p ∷ todo) = Unit {0}
+Fine mind (leave_kid e ∷ todo) = Unit {0}
 
-act_even : (s : Setting) (all : List (List ℕ)) (next : ℕ) (c : Desk) (ks : Tasks) (todo : List Next) → Fine c.mind todo → (all_made ks ≡ true → reserved_by ks ≡ 0) → may_act all c ks todo ≡ true
-    → Even c.mind todo ks (do_act s next c ks todo)
-act_even s all next c ks [] f k m = by c.inbox
+act_even : (s : Setting) (all : List (List ℕ)) (number : ℕ) (c : Desk) (ks : Tasks) (todo : List Next) → Fine c.mind todo → (all_made ks ≡ true → reserved_by ks ≡ 0) → may_act all c ks todo ≡ true
+    → Even c.mind todo ks (do_act s number c ks todo)
+act_even s all number c ks [] f k m = by c.inbox
   where
     by : (xs : List Item) → Even c.mind [] ks (do_take s c ks xs)
-    by [] = end_even c ks c.mind f
+    by [] = end_even s c ks c.mind f
     by (i ∷ xs) = chunk_even s c ks i xs c.mind
-act_even s all next c ks (put j i ∷ todo) f k m = ap (λ z. ((next_reserved todo + mind_reserved c.mind) + z) + 0) (give_reserved j i ks)
-act_even s all next c ks (hand_on n i ∷ todo) f k m =
+act_even s all number c ks (put j i ∷ todo) f k m = ap (λ z. ((next_reserved todo + mind_reserved c.mind) + z) + 0) (give_reserved j i ks)
+act_even s all number c ks (hand_on n i ∷ todo) f k m =
     let h : reserved_by (give 0 i ks) ≡ reserved_by ks = give_reserved 0 i ks in
     let e : ((next_reserved todo + mind_reserved c.mind) + reserved_by (give 0 i ks)) + n ≡ (((n + next_reserved todo) + mind_reserved c.mind) + reserved_by ks) + 0 = omega (arith, h) in e
-act_even s all next c ks (append x ∷ todo) f k m = ap (λ z. ((next_reserved todo + z) + reserved_by ks) + 0) (sym f)
-act_even s all next c ks (shut_kids ∷ todo) f k m = ap (λ z. ((next_reserved todo + mind_reserved c.mind) + z) + 0) (shut_reserved ks)
-act_even s all next c ks (join_kids f ∷ todo) o k m =
+act_even s all next c ks (press which i ∷ todo) f k m =
+    let e : (((0 + next_reserved todo) + mind_reserved c.mind) + reserved_by ks) + 0 ≡ ((next_reserved todo + mind_reserved c.mind) + reserved_by ks) + 0 = omega arith in e
+act_even s all next c ks (probe n e i ∷ todo) f k m = probed_even s (is_dictionary (s.image n.options.probe i.1)) n e i todo c ks f
+act_even s all next c ks (open_run n j e i ∷ todo) f k m =
+    let h : reserved_by (add ks (run_tasks n c.name j e i)) ≡ reserved_by ks + reserved_by (run_tasks n c.name j e i) = add_reserved ks (run_tasks n c.name j e i) in
+    let z : reserved_by (run_tasks n c.name j e i) ≡ 0 = run_reserved n c.name j e i in
+    let e : ((next_reserved todo + mind_reserved c.mind) + reserved_by (add ks (run_tasks n c.name j e i))) + 0 ≡ ((next_reserved todo + mind_reserved c.mind) + reserved_by ks) + 0 = omega (arith, h, z) in e
+act_even s all next c ks (end_run j i ∷ todo) f k m = ap (λ z. ((next_reserved todo + mind_reserved c.mind) + z) + 0) (end_at_reserved j i ks)
+act_even s all number c ks (append x ∷ todo) f k m = ap (λ z. ((next_reserved todo + z) + reserved_by ks) + 0) (sym f)
+act_even s all number c ks (shut_kids ∷ todo) f k m = ap (λ z. ((next_reserved todo + mind_reserved c.mind) + z) + 0) (shut_reserved ks)
+act_even s all number c ks (join_kids f ∷ todo) o k m =
     ap (λ z. ((next_reserved todo + z) + 0) + 0) (sym o) ∙ ap (λ z. ((next_reserved todo + mind_reserved c.mind) + z) + 0) (sym (k (and_left (all_made ks) _ m)))
+act_even s all number c ks (start_table f e p ∷ todo) o k m =
+    let new : Tasks = started_task f false (under c.name 1) (next e) (table_item e p ∷ []) true in
+    let h : reserved_by (add ks new) ≡ reserved_by ks + reserved_by new = add_reserved ks new in
+    let x : reserved_by new ≡ 0 = started_reserved f false (under c.name 1) (next e) (table_item e p ∷ []) true in
+    let z : ((next_reserved todo + mind_reserved c.mind) + reserved_by (add ks new)) + 0 ≡ ((next_reserved todo + mind_reserved c.mind) + reserved_by ks) + 0 = omega (arith, h, x) in z
+act_even s all number c ks (leave_kid e ∷ todo) f k m = refl
 
 -- ---- tasks that show a state
 
@@ -262,9 +352,29 @@ hands_fine : (m : Mind) → Begun m → (weight : ChunkData → ℕ) (outs : Lis
 hands_fine m b weight [] = b
 hands_fine m b weight (i ∷ outs) = tt
 
+each_fine : (m : Mind) → Begun m → (outs : List Item) → Fine m (put_each outs)
+each_fine m b [] = b
+each_fine m b (i ∷ outs) = tt
+
+data_fine : (m : Mind) (n : ZonedNode) (z : Zones) (table : Option (List Filled)) → Fine m (zones_left n z table)
+data_fine m n z None = tt
+data_fine m n z (Some cs) = tt
+
 ends_fine : (m : Mind) (weight : ChunkData → ℕ) (outs : List Item) → Fine m (hand_all weight outs ++ (shut_kids ∷ []))
 ends_fine m weight [] = tt
 ends_fine m weight (i ∷ outs) = tt
+
+deeds_fine : (m : Mind) → Begun m → (n : Coder) (ds : List Deed) → Fine m (deed_nexts n ds)
+deeds_fine m b n [] = b
+deeds_fine m b n (puts_codes j e true i ∷ ds) = tt
+deeds_fine m b n (puts_codes j e false i ∷ ds) = tt
+deeds_fine m b n (puts_values j i ∷ ds) = tt
+
+lasts_fine : (n : Coder) (ds : List Deed) (f : Fold) → Fine ending (deed_nexts n ds ++ (join_kids f ∷ []))
+lasts_fine n [] f = refl
+lasts_fine n (puts_codes j e true i ∷ ds) f = tt
+lasts_fine n (puts_codes j e false i ∷ ds) f = tt
+lasts_fine n (puts_values j i ∷ ds) f = tt
 
 stage_fine : (s : Setting) (d : Fuel) (mind : Mind) (left : List Next) (ks : Tasks) (q : Seed) (past todo : List Act) (l : Local) (off : Bool) (hs : Tree)
     → Stage s d mind left ks q past todo l off hs → Fine mind left
@@ -280,8 +390,20 @@ stage_fine s d mind left ks q past todo l off hs (joins_columns t rows k w) = ca
 stage_fine s d mind left ks q past todo l off hs (regroups_rows o n x j rows outs tj nh w) = carry w.mind_is w.left_is (hands_fine (by_block (block_len o n.type) o.minimum n.type x j rows) tt (λ p. 0) outs)
 stage_fine s d mind left ks q past todo l off hs (regroups_chunks size n x j rows outs tx tj nh w) = carry w.mind_is w.left_is (hands_fine (by_size size x j rows) nh held outs)
 stage_fine s d mind left ks q past todo l off hs (collects n x rows w) = carry w.mind_is w.left_is tt
+stage_fine s d mind left ks q past todo l off hs (presses n t i ti w) = carry w.mind_is w.left_is tt
+stage_fine s d mind left ks q past todo l off hs (pressed n t outs w) = carry w.mind_is w.left_is (hands_fine (by_image n.which) tt (λ p. 0) outs)
+stage_fine s d mind left ks q past todo l off hs (lets_out n t outs w) = carry w.mind_is w.left_is (hands_fine as_is tt (λ p. 0) outs)
+stage_fine s d mind left ks q past todo l off hs (asks_first n k nk w) = carry w.mind_is w.idle tt
+stage_fine s d mind left ks q past todo l off hs (probes n i k nk w) = carry w.mind_is w.left_is refl
+stage_fine s d mind left ks q past todo l off hs (falls_back t outs w) = carry w.mind_is w.left_is (hands_fine as_is tt (λ p. 0) outs)
+stage_fine s d mind left ks q past todo l off hs (cuts n r i rows c ds k u w) = carry w.mind_is w.left_is (deeds_fine (by_run (coder_of n) r i rows) tt (coder_of n) ds)
+stage_fine s d mind left ks q past todo l off hs (last_cuts n rows ns c ds k u sum is go w) = carry w.mind_is w.left_is (lasts_fine (coder_of n) ds (fold_runs n.type ns))
 stage_fine s d mind left ks q past todo l off hs (passes_on t weight outs one to w) = carry w.mind_is w.left_is (ends_fine passing weight outs)
 stage_fine s d mind left ks q past todo l off hs (passed t one w) = carry w.mind_is w.left_is tt
+stage_fine s d mind left ks q past todo l off hs (records_zones n z outs iz one rw to w) = carry w.mind_is w.left_is (each_fine (by_zone (zoner_of n) (next n.eof) z) tt outs)
+stage_fine s d mind left ks q past todo l off hs (closes_zones n z table iz one w) = carry w.mind_is w.left_is tt
+stage_fine s d mind left ks q past todo l off hs (joins_data n z table iz one w) = carry w.mind_is w.left_is (data_fine (zones_mind table) n z table)
+stage_fine s d mind left ks q past todo l off hs (joins_zones n rows cs both w) = carry w.mind_is w.left_is refl
 
 module _ (s : Setting) (number : List ℕ → ℕ) where
   -- those that have done all have nothing
@@ -437,6 +559,12 @@ done_reserved (task_then c ks r) e k = by c.mind refl (λ a b. done_reserved ks 
     by (by_block len minimum t x j rows) h deeper = absurd (no_true (there (by_block len minimum t x j rows) h))
     by (by_size size x j rows) h deeper = absurd (no_true (there (by_size size x j rows) h))
     by (as_one t x rows) h deeper = absurd (no_true (there (as_one t x rows) h))
+    by (by_zone g z y) h deeper = absurd (no_true (there (by_zone g z y) h))
+    by (by_image which) h deeper = absurd (no_true (there (by_image which) h))
+    by as_is h deeper = absurd (no_true (there as_is h))
+    by (by_probe n e) h deeper = absurd (no_true (there (by_probe n e) h))
+    by asking h deeper = absurd (no_true (there asking h))
+    by (by_run n v j rows) h deeper = absurd (no_true (there (by_run n v j rows) h))
     by ending h deeper = absurd (no_true (there ending h))
 
 root_alone : (t : Ty) (cs : Tasks) (n : ℕ) → count cs ≡ n → n ≡ 1 → is_alone cs ≡ true

@@ -6,7 +6,7 @@ use Rattle.vx_model.specs.Ty.{Ty, Tys, boolean, primitive, utf8, binary, list, s
 use Rattle.vx_model.specs.TyLaws.{ty_eq_decides}
 use Rattle.vx_model.specs.ChunkData.{ChunkData, ChunkList, plain_piece, constant_piece, dict_piece, chunked_piece, list_piece, struct_piece, extension_piece, no_pieces, part, pieces_in, piece_type, cells, is_sound, are_sound, match_fields}
 use Rattle.vx_plan.specs.PlanData.{Setting}
-use Rattle.vx_machine_view.specs.State.{Next, put, hand_on, append, shut_kids, join_kids, Desk, Tasks, no_tasks, task_then}
+use Rattle.vx_machine_view.specs.State.{Next, put, hand_on, press, probe, open_run, end_run, append, shut_kids, join_kids, start_table, leave_kid, Desk, Tasks, no_tasks, task_then}
 use Rattle.vx_machine_view.specs.Acts.{do_act}
 use Rattle.vx_machine_view.specs.Moves.{may_act, own_step, in_kids, in_rest, steps}
 use Rattle.vx_machine_view.specs.Typed.{fields_at, Typed, PartsTyped}
@@ -60,16 +60,22 @@ alike true b f g = sym (f refl)
 alike false true f g = g refl
 alike false false f g = refl
 
-least_same : (all held : List (List ℕ)) → ((p : List ℕ) → In p all → In p held) → ((p : List ℕ) → In p held → In p all) → (p : List ℕ) → is_least p all ≡ is_least p held
+pub least_same : (all held : List (List ℕ)) → ((p : List ℕ) → In p all → In p held) → ((p : List ℕ) → In p held → In p all) → (p : List ℕ) → is_least p all ≡ is_least p held
 least_same all held f g p = alike (is_least p all) (is_least p held) (λ e. each_least p held (λ q i. least_each p all e q (g q i))) (λ e. each_least p all (λ q i. least_each p held e q (f q i)))
 
 may_same : (all held : List (List ℕ)) → ((p : List ℕ) → is_least p all ≡ is_least p held) → (c : Desk) (ks : Tasks) (todo : List Next) → may_act all c ks todo ≡ may_act held c ks todo
 may_same all held h c ks [] = refl
 may_same all held h c ks (put j i ∷ todo) = refl
 may_same all held h c ks (hand_on n i ∷ todo) = refl
+may_same all held h c ks (press which i ∷ todo) = refl
+may_same all held h c ks (probe n e i ∷ todo) = refl
+may_same all held h c ks (open_run n j e i ∷ todo) = refl
+may_same all held h c ks (end_run j i ∷ todo) = refl
 may_same all held h c ks (append x ∷ todo) = h x.id
 may_same all held h c ks (shut_kids ∷ todo) = refl
 may_same all held h c ks (join_kids f ∷ todo) = refl
+may_same all held h c ks (start_table f e p ∷ todo) = refl
+may_same all held h c ks (leave_kid e ∷ todo) = refl
 
 same_steps : (s : Setting) (all held : List (List ℕ)) (next : ℕ) → ((p : List ℕ) → is_least p all ≡ is_least p held) → (cs : Tasks) → steps s all next cs ≡ steps s held next cs
 same_steps s all held next h no_tasks = refl

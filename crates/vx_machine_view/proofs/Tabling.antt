@@ -11,9 +11,6 @@ both_true : (a b : Bool) → a ≡ true → b ≡ true → (a && b) ≡ true
 both_true true b h k = k
 both_true false b h k = h
 
-no_true : false ≡ true → ⊥
-no_true e = cc
-
 -- ---- a field's writer
 
 own_built : (name : List ℕ) (ws : StrategyList) (d : StrategyData) → are_built ws ≡ true → is_built d ≡ true → is_built (given_or (override name ws) d) ≡ true
@@ -57,7 +54,7 @@ module _ (v l : StrategyData) (ws : StrategyList) (lists : Bool) (wraps : Wraps)
 wrapped_built : (wraps : Wraps) (w : StrategyData) → wraps_built wraps ≡ true → is_built w ≡ true → is_built (wrapped wraps w) ≡ true
 wrapped_built no_wraps w h k = k
 wrapped_built (wrap_grouped g ws) w h k = wrapped_built ws w h k
-wrapped_built (wrap_zoned o stats ws) w h k = absurd (no_true h)
+wrapped_built (wrap_zoned o stats ws) w h k = both_true (is_built (wrapped ws w)) (is_built stats) (wrapped_built ws w (and_right (is_built stats) (wraps_built ws) h) k) (and_left (is_built stats) (wraps_built ws) h)
 
 lists_built : (v l : StrategyData) (lists : Bool) (wraps : Wraps) → is_built v ≡ true → is_built l ≡ true → wraps_built wraps ≡ true
     → is_built (if lists then wrapped wraps (listed (tabled v l no_ways lists wraps) l v l) else l) ≡ true

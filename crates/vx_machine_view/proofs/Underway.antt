@@ -32,7 +32,7 @@ use Rattle.vx_machine_view.specs.Machine.{WholeStep, machine_ids}
 use Rattle.vx_machine_view.specs.Whole.{ShowsMachine, SameWhole}
 use Rattle.vx_machine_view.specs.Underway.{Showing, ready_steps, ReachedStands, AppendIsNext, IsMove, WriteMoves, WriteSteps, WriteReady, WriteEnds, WriteJoins}
 use Rattle.vx_machine_view.proofs.Words.{none_some, same_some}
-use Rattle.vx_machine_view.proofs.Ending.{held_shows, finish_shows, layout_shows}
+use Rattle.vx_machine_view.proofs.Ending.{moves_shows, finish_shows, layout_shows}
 use Rattle.vx_machine_view.proofs.Counting.{whole_joins}
 use Rattle.vx_machine_view.proofs.Wholes.{free_below, step_shows, ready_shows}
 
@@ -108,7 +108,7 @@ write_moves g first taken heard a f seen history tracker r m k w law o sh n ask 
     st = stands g taken (before a f) seen history tracker r
 
     held : tree_moves g.setting (machine_ids m) (depth g) r.tree ≡ moves_at g r.tree
-    held = ap (λ z. tree_moves g.setting z (depth g) r.tree) (held_shows g (number_of (planned g taken (before a f)).pairs first) (before a f) m r.tree st sh)
+    held = moves_shows g (number_of (planned g taken (before a f)).pairs first) (before a f) m r.tree st sh
 
     go : (v : TreeMove) × (nth (tree_moves g.setting (machine_ids m) (depth g) r.tree) k ≡ Some v) × SameWhole g (number_of (planned g taken (before a f)).pairs first) (first + length history) f w v
         → (v : TreeMove) × In v (moves_at g r.tree) × IsMove w v
@@ -126,7 +126,7 @@ write_steps g first taken heard a f seen history tracker tracker_then r m k w la
     st = stands g taken (before a f) seen history tracker r
 
     held : tree_moves g.setting (machine_ids m) (depth g) r.tree ≡ moves_at g r.tree
-    held = ap (λ z. tree_moves g.setting z (depth g) r.tree) (held_shows g (number_of (planned g taken (before a f)).pairs first) (before a f) m r.tree st sh)
+    held = moves_shows g (number_of (planned g taken (before a f)).pairs first) (before a f) m r.tree st sh
 
     ready : length (ready_steps g first history a m) ≡ length (moves_at g r.tree)
     ready = ready_shows g (number_of (planned g taken (before a f)).pairs first) (first + length history) (machine_ids m) a (before a f) m r.tree law st sh ∙ ap length held
@@ -160,7 +160,7 @@ write_ready g first taken a f seen history tracker r m law sh open_still =
     (runs g taken f seen history tracker r) (sym (finish_shows g (number_of (planned g taken f).pairs first) f m r.tree st sh) ∙ open_still) in
     let same : length (ready_steps g first history a m) ≡ length (moves_at g r.tree) =
     ready_shows g (number_of (planned g taken f).pairs first) (first + length history) (machine_ids m) a f m r.tree law st sh
-    ∙ ap (λ z. length (tree_moves g.setting z (depth g) r.tree)) (held_shows g (number_of (planned g taken f).pairs first) f m r.tree st sh) in
+    ∙ ap length (moves_shows g (number_of (planned g taken f).pairs first) f m r.tree st sh) in
     subst (λ z. 0 < z) (sym same) more
 
 pub write_ends : WriteEnds

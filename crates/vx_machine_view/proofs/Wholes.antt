@@ -3,7 +3,7 @@ use Rattle.std.proofs.Common.{◌≡◌, ◌+◌, ◌<◌, ◌||◌, ◌∷◌, 
 use Rattle.std.proofs.lemmas.Bool.Decides.{nat_tests}
 use Rattle.vx_model.specs.ChunkData.{ChunkData}
 use Rattle.vx_path.specs.Path.{Eof, eof_path, next, root_eof}
-use Rattle.vx_layout_spec.specs.Codec.{Lawful}
+use Rattle.vx_machine_view.specs.Images.{Careful}
 use Rattle.vx_tasks.specs.Task.{Free, Put, Batch, End, Close}
 use Rattle.vx_tasks.specs.Run.{nth}
 use Rattle.vx_plan.specs.PlanData.{Item}
@@ -216,7 +216,7 @@ module _ (g : Write) (number : List ℕ → ℕ) (next_number : ℕ) (all : List
     };
   }
 
-  root_steps : (p : Phase) (f : Future) (cs : Tasks) → Lawful g.setting.codec g.setting.encodings → Shows g.setting number (root_depth g) seed 0 cs kids → JoinsFree g.setting kids
+  root_steps : (p : Phase) (f : Future) (cs : Tasks) → Careful g.setting → Shows g.setting number (root_depth g) seed 0 cs kids → JoinsFree g.setting kids
       → types_of kids ≡ g.type ∷ [] → PhaseTyped g.type p → PhaseShape past p → holding (source_at g past (phase_acts p f)) ≡ phase_ids p
       → AllPairs (SameWhole g number next_number f) (map (in_root p) (steps g.setting all next_number cs))
       (map (abstract.in_kids (source_at g past (phase_acts p f)) Leaf) (tree_moves g.setting all (root_depth g) kids))
@@ -234,7 +234,7 @@ module _ (g : Write) (number : List ℕ → ℕ) (next_number : ℕ) (all : List
   below p f = map (abstract.in_kids (source_at g past (phase_acts p f)) Leaf) (tree_moves g.setting all (root_depth g) kids)
 
   -- where the source isn't asked: its own step is this one, or none
-  all_steps : (p : Phase) (f : Future) (cs : Tasks) (a : Answer) → Lawful g.setting.codec g.setting.encodings → Shows g.setting number (root_depth g) seed 0 cs kids → JoinsFree g.setting kids
+  all_steps : (p : Phase) (f : Future) (cs : Tasks) (a : Answer) → Careful g.setting → Shows g.setting number (root_depth g) seed 0 cs kids → JoinsFree g.setting kids
       → types_of kids ≡ g.type ∷ [] → PhaseTyped g.type p → PhaseShape past p → holding (source_at g past (phase_acts p f)) ≡ phase_ids p
       → AllPairs (SameWhole g number next_number f) (cond (may_source p cs) (source_step a p cs ∷ []) [])
       (move_own all (depth g) (source_at g past (phase_acts p f)) kids Leaf (due g.setting (source_at g past (phase_acts p f))))
@@ -265,7 +265,7 @@ module _ (g : Write) (number : List ℕ → ℕ) (next_number : ℕ) (all : List
   reading_own e (b ∷ bs) fits = (moved (batch_act e) (record (put_item 0 (eof_path e, b)) { holds = eof_path (next e) ∷ [] } ∷ source_acts (next e) bs fits), refl)
 
   -- so a further step is one of the root
-  later_step : (e : Eof) (f : Future) (cs : Tasks) (k : ℕ) (w : WholeStep) → Lawful g.setting.codec g.setting.encodings → Shows g.setting number (root_depth g) seed 0 cs kids → JoinsFree g.setting kids
+  later_step : (e : Eof) (f : Future) (cs : Tasks) (k : ℕ) (w : WholeStep) → Careful g.setting → Shows g.setting number (root_depth g) seed 0 cs kids → JoinsFree g.setting kids
       → types_of kids ≡ g.type ∷ [] → shape_in past ≡ None → holding (source_at g past (phase_acts (reading e) f)) ≡ phase_ids (reading e)
       → nth (map (in_root (reading e)) (steps g.setting all next_number cs)) k ≡ Some w
       → (v : TreeMove) × (nth (tree_moves g.setting all (depth g) (state (reading e) f)) (suc k) ≡ Some v) × SameWhole g number next_number f w v
@@ -303,7 +303,7 @@ module _ (g : Write) (number : List ℕ → ℕ) (next_number : ℕ) (all : List
   first_misfit e (b ∷ bs) fits f cs w x y q = absurd (no_cons b bs x)
 
   -- the step at each place
-  step_at : (p : Phase) (cs : Tasks) (heard : Bool) (a : Answer) (f : Future) (k : ℕ) (w : WholeStep) → Lawful g.setting.codec g.setting.encodings → JoinsFree g.setting kids → Open (heard_by heard a) f
+  step_at : (p : Phase) (cs : Tasks) (heard : Bool) (a : Answer) (f : Future) (k : ℕ) (w : WholeStep) → Careful g.setting → JoinsFree g.setting kids → Open (heard_by heard a) f
       → Shows g.setting number (root_depth g) seed 0 cs kids → types_of kids ≡ g.type ∷ [] → PhaseTyped g.type p → PhaseShape past p → holding (source_at g past (phase_acts p (before a f))) ≡ phase_ids p
       → nth (whole_steps g.setting all next_number a (record { phase = p; root = cs })) k ≡ Some w → Asks g.type f p k a
       → (v : TreeMove) × (nth (tree_moves g.setting all (depth g) (state p (before a f))) k ≡ Some v) × SameWhole g number next_number f w v
@@ -330,7 +330,7 @@ module _ (g : Write) (number : List ℕ → ℕ) (next_number : ℕ) (all : List
   step_at finished cs heard over f k w law jf o sh one ty un h n q = absurd (told q)
 
   -- as many
-  as_many : (p : Phase) (f : Future) (cs : Tasks) (a : Answer) → Lawful g.setting.codec g.setting.encodings → Shows g.setting number (root_depth g) seed 0 cs kids → JoinsFree g.setting kids
+  as_many : (p : Phase) (f : Future) (cs : Tasks) (a : Answer) → Careful g.setting → Shows g.setting number (root_depth g) seed 0 cs kids → JoinsFree g.setting kids
       → types_of kids ≡ g.type ∷ [] → PhaseTyped g.type p → PhaseShape past p → holding (source_at g past (phase_acts p f)) ≡ phase_ids p
       → length (whole_steps g.setting all next_number a (record { phase = p; root = cs })) ≡ length (tree_moves g.setting all (depth g) (state p f))
   as_many (reading e) f cs a law w jf one ty sh h =

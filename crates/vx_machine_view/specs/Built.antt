@@ -1,7 +1,8 @@
--- Which strategies and forms are built: those of flat, chunked, struct and list nodes, of nodes that regroup, and tables of these.
+-- Which strategies and forms are built: those whose parts are.
 use Rattle.std.specs.Prelude.{◌≡◌, ◌&&◌, Bool, true, false, List, [], ◌∷◌}
 use Rattle.vx_model.specs.Ty.{Ty, Tys, boolean, no_fields, field}
 use Rattle.vx_rules.specs.Columns.{offset_type}
+use Rattle.vx_rules.specs.Runs.{code_type}
 use Rattle.vx_strategy_spec.specs.StrategyData.{StrategyData, StrategyList, Wraps, flat, chunked, grouped, compressed, coded, zoned, structured, listed, tabled, no_ways, way_at, no_wraps, wrap_grouped, wrap_zoned}
 use Rattle.vx_machine_turns.specs.Forms.{Form, Forms, flat_form, chunked_form, grouped_form, compressed_form, dict_form, zoned_form, no_struct_form, struct_form, list_form, no_forms, form_then, form_type}
 
@@ -10,9 +11,9 @@ abbrev mutual
   is_built (flat o) = true
   is_built (chunked w) = is_built w
   is_built (grouped g w) = is_built w
-  is_built (compressed which room w) = false
-  is_built (coded o c v f) = false
-  is_built (zoned o w stats) = false
+  is_built (compressed which room w) = is_built w
+  is_built (coded o c v f) = is_built c && (is_built v && is_built f)
+  is_built (zoned o w stats) = is_built w && is_built stats
   is_built (structured v d ws) = is_built v && (is_built d && are_built ws)
   is_built (listed e o v f) = is_built e && (is_built o && (is_built v && is_built f))
   is_built (tabled v l ws lists wraps) = is_built v && (is_built l && (are_built ws && wraps_built wraps))
@@ -24,7 +25,7 @@ abbrev mutual
   pub wraps_built : Wraps → Bool
   wraps_built no_wraps = true
   wraps_built (wrap_grouped g ws) = wraps_built ws
-  wraps_built (wrap_zoned o stats ws) = false
+  wraps_built (wrap_zoned o stats ws) = is_built stats && wraps_built ws
 
 -- the types of a struct's columns: validity where it is nullable, then the fields
 
@@ -50,9 +51,9 @@ abbrev mutual
   Built (struct_form fs n name v ks) = (form_type v ≡ boolean false) × Built v × AllBuilt fs ks
   -- its start refuses
   Built (no_struct_form t) = Unit {0}
-  Built (compressed_form which room t k) = ⊥
-  Built (dict_form o t c v f) = ⊥
-  Built (zoned_form o t k stats) = ⊥
+  Built (compressed_form which room t k) = (form_type k ≡ t) × Built k
+  Built (dict_form o t c v f) = (form_type c ≡ code_type o) × Built c × (form_type v ≡ t) × Built v × (form_type f ≡ t) × Built f
+  Built (zoned_form o t k stats) = (form_type k ≡ t) × Built k × ((u : Ty) → (form_type (stats u) ≡ u) × Built (stats u))
   Built (list_form t n es os v) = (form_type es ≡ t) × Built es × (form_type os ≡ offset_type) × Built os × (form_type v ≡ boolean false) × Built v
 
   pub AllBuilt : Tys → Forms → Type 0

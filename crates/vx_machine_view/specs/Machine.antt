@@ -7,8 +7,9 @@ use Rattle.vx_plan.specs.PlanData.{Setting, Item, Pair, What}
 use Rattle.vx_machine_turns.specs.Forms.{Form}
 use Rattle.vx_machine_turns.specs.Grouped.{group_kept}
 use Rattle.vx_machine_turns.specs.Collected.{collect_kept}
+use Rattle.vx_machine_turns.specs.Dict.{runs_kept}
 use Rattle.vx_machine_promises.specs.Write.{Answer, unasked, came, over}
-use Rattle.vx_machine_view.specs.State.{Next, put, hand_on, append, shut_kids, join_kids, Mind, no_chunk, one_chunk, by_chunk, by_column, by_list, by_block, by_size, as_one, ending, passing, made, Tasks, no_tasks, task_then}
+use Rattle.vx_machine_view.specs.State.{Next, put, hand_on, press, probe, open_run, end_run, append, shut_kids, join_kids, start_table, leave_kid, Mind, no_chunk, one_chunk, by_chunk, by_column, by_list, by_block, by_size, as_one, by_image, as_is, by_probe, asking, by_run, by_zone, ending, passing, made, Tasks, no_tasks, task_then}
 use Rattle.vx_machine_view.specs.Start.{started_task}
 use Rattle.vx_machine_view.specs.Acts.{give, shut_all}
 use Rattle.vx_machine_view.specs.Moves.{is_empty, has_room, Step, steps}
@@ -101,6 +102,12 @@ has_layout (by_list t n first from rows) ks below = false
 has_layout (by_block len minimum t x j rows) ks below = false
 has_layout (by_size size x j rows) ks below = false
 has_layout (as_one t x rows) ks below = false
+has_layout (by_zone g e z) ks below = false
+has_layout (by_image which) ks below = false
+has_layout as_is ks below = false
+has_layout (by_probe n e) ks below = false
+has_layout asking ks below = false
+has_layout (by_run n r j rows) ks below = false
 has_layout ending ks below = false
 
 -- the first one's layout is there, its own or that of its only child, and nothing else
@@ -117,9 +124,15 @@ abbrev pub next_ids : List Next → List (List ℕ)
 next_ids [] = []
 next_ids (put j i ∷ todo) = i.0 ∷ next_ids todo
 next_ids (hand_on n i ∷ todo) = i.0 ∷ next_ids todo
+next_ids (press which i ∷ todo) = i.0 ∷ next_ids todo
+next_ids (probe n e i ∷ todo) = eof_path e ∷ i.0 ∷ next_ids todo
+next_ids (open_run n j e i ∷ todo) = i.0 ∷ eof_path e ∷ eof_path (next e) ∷ next_ids todo
+next_ids (end_run j i ∷ todo) = i.0 ∷ next_ids todo
 next_ids (append x ∷ todo) = x.id ∷ next_ids todo
 next_ids (shut_kids ∷ todo) = next_ids todo
 next_ids (join_kids f ∷ todo) = next_ids todo
+next_ids (start_table f e p ∷ todo) = eof_path e ∷ next_ids todo
+next_ids (leave_kid e ∷ todo) = eof_path e ∷ next_ids todo
 
 abbrev pub mind_ids : Mind → List (List ℕ)
 mind_ids (no_chunk o t) = []
@@ -130,6 +143,12 @@ mind_ids (by_list t n first from rows) = []
 mind_ids (by_block len minimum t x j rows) = group_kept j
 mind_ids (by_size size x j rows) = group_kept j
 mind_ids (as_one t x rows) = collect_kept x
+mind_ids (by_zone g e z) = eof_path e ∷ []
+mind_ids (by_image which) = []
+mind_ids as_is = []
+mind_ids (by_probe n e) = eof_path e ∷ []
+mind_ids asking = []
+mind_ids (by_run n r j rows) = runs_kept r j
 mind_ids ending = []
 mind_ids passing = []
 mind_ids (made l) = []

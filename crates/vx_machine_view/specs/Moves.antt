@@ -1,9 +1,9 @@
 -- Which tasks are ready, and what each of them would do.
-use Rattle.std.specs.Prelude.{ℕ, zero, suc, ◌==◌, ◌&&◌, not, nat_lt, cond, Bool, true, false, List, [], ◌∷◌, ◌++◌, length, map, Option}
+use Rattle.std.specs.Prelude.{ℕ, zero, suc, ◌*◌, ◌==◌, ◌&&◌, not, nat_lt, cond, Bool, true, false, List, [], ◌∷◌, ◌++◌, length, map, Option}
 use Rattle.vx_path.specs.Path.{is_least}
 use Rattle.vx_tasks.specs.Task.{Kind}
 use Rattle.vx_plan.specs.PlanData.{Setting, Item, Pair, What}
-use Rattle.vx_machine_view.specs.State.{Fold, fold_chunks, fold_columns, Next, put, hand_on, append, shut_kids, join_kids, Mind, no_chunk, one_chunk, by_chunk, by_column, by_list, by_block, by_size, as_one, ending, passing, made, Desk, Tasks, no_tasks, task_then}
+use Rattle.vx_machine_view.specs.State.{Fold, fold_chunks, fold_columns, fold_runs, fold_zones, Next, put, hand_on, press, probe, open_run, end_run, append, shut_kids, join_kids, start_table, leave_kid, Mind, no_chunk, one_chunk, by_chunk, by_column, by_list, by_block, by_size, as_one, by_image, as_is, by_probe, asking, by_run, by_zone, ending, passing, made, Desk, Tasks, no_tasks, task_then}
 use Rattle.vx_machine_view.specs.Acts.{count, Did, do_act, column_count}
 
 abbrev pub is_empty : {A : Type 0} → List A → Bool
@@ -22,6 +22,12 @@ is_made (by_list t n first from rows) left below = false
 is_made (by_block len minimum t x j rows) left below = false
 is_made (by_size size x j rows) left below = false
 is_made (as_one t x rows) left below = false
+is_made (by_zone g e z) left below = false
+is_made (by_image which) left below = false
+is_made as_is left below = false
+is_made (by_probe n e) left below = false
+is_made asking left below = false
+is_made (by_run n r j rows) left below = false
 is_made ending left below = false
 
 -- it takes no more
@@ -37,6 +43,12 @@ is_over (by_list t n first from rows) = false
 is_over (by_block len minimum t x j rows) = false
 is_over (by_size size x j rows) = false
 is_over (as_one t x rows) = false
+is_over (by_zone g e z) = false
+is_over (by_image which) = false
+is_over as_is = false
+is_over (by_probe n e) = false
+is_over asking = false
+is_over (by_run n r j rows) = false
 
 abbrev pub all_made : Tasks → Bool
 all_made no_tasks = true
@@ -52,14 +64,22 @@ has_room (suc j) (task_then c ks r) = has_room j r
 abbrev pub can_fold : Fold → ℕ → Bool
 can_fold (fold_chunks t) n = true
 can_fold (fold_columns t rows) n = n == column_count t
+can_fold (fold_zones t rows zone specs) n = n == 2
+can_fold (fold_runs t ns) n = n == 2 * length ns
 
 -- where these paths are held in all
 abbrev pub may_next : List (List ℕ) → Tasks → Next → Bool
 may_next all ks (put j i) = has_room j ks
 may_next all ks (hand_on n i) = has_room 0 ks
+may_next all ks (press which i) = true
+may_next all ks (probe n e i) = true
+may_next all ks (open_run n j e i) = true
+may_next all ks (end_run j i) = has_room (suc j) ks
 may_next all ks (append x) = is_least x.id all
 may_next all ks shut_kids = true
 may_next all ks (join_kids f) = all_made ks && can_fold f (count ks)
+may_next all ks (start_table f e p) = all_made ks
+may_next all ks (leave_kid e) = all_made ks
 
 -- an item, or the end, where it takes them
 abbrev pub may_take : Mind → List Item → Bool → Bool

@@ -9,7 +9,7 @@ use Rattle.vx_machine_turns.specs.Acts.{Seed}
 use Rattle.vx_machine_turns.specs.Fuels.{Fuel}
 use Rattle.vx_machine_steps.specs.Tree.{Tree}
 use Rattle.vx_machine_promises.specs.Write.{Write, Future, Answer}
-use Rattle.vx_machine_view.specs.State.{Next, put, hand_on, append, shut_kids, join_kids, Mind, no_chunk, one_chunk, by_chunk, by_column, by_list, by_block, by_size, as_one, ending, passing, made, Tasks, no_tasks, task_then}
+use Rattle.vx_machine_view.specs.State.{Next, put, hand_on, press, probe, open_run, end_run, append, shut_kids, join_kids, start_table, leave_kid, Mind, no_chunk, one_chunk, by_chunk, by_column, by_list, by_block, by_size, as_one, by_image, as_is, by_probe, asking, by_run, by_zone, ending, passing, made, Tasks, no_tasks, task_then}
 use Rattle.vx_machine_view.specs.Moves.{Step, steps}
 use Rattle.vx_machine_view.specs.Shows.{Shows}
 use Rattle.vx_machine_view.specs.Machine.{Machine, start, WholeStep, whole_steps, is_finished}
@@ -20,9 +20,15 @@ abbrev pub next_reserved : List Next → ℕ
 next_reserved [] = 0
 next_reserved (put j i ∷ todo) = next_reserved todo
 next_reserved (hand_on n i ∷ todo) = n + next_reserved todo
+next_reserved (press which i ∷ todo) = next_reserved todo
+next_reserved (probe n e i ∷ todo) = next_reserved todo
+next_reserved (open_run n j e i ∷ todo) = next_reserved todo
+next_reserved (end_run j i ∷ todo) = next_reserved todo
 next_reserved (append x ∷ todo) = next_reserved todo
 next_reserved (shut_kids ∷ todo) = next_reserved todo
 next_reserved (join_kids f ∷ todo) = next_reserved todo
+next_reserved (start_table f e p ∷ todo) = next_reserved todo
+next_reserved (leave_kid e ∷ todo) = next_reserved todo
 
 abbrev pub newest_held : Option Item → ℕ
 newest_held None = 0
@@ -38,6 +44,12 @@ mind_reserved (by_column t rows) = 0
 mind_reserved (by_list t n first from rows) = 0
 mind_reserved (by_block len minimum t x j rows) = 0
 mind_reserved (as_one t x rows) = 0
+mind_reserved (by_zone g e z) = 0
+mind_reserved (by_image which) = 0
+mind_reserved as_is = 0
+mind_reserved (by_probe n e) = 0
+mind_reserved asking = 0
+mind_reserved (by_run n r j rows) = 0
 mind_reserved ending = 0
 mind_reserved passing = 0
 mind_reserved (made l) = 0

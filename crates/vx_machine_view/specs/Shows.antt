@@ -5,29 +5,40 @@ use Rattle.vx_model.specs.CellData.{CellData}
 use Rattle.vx_model.specs.ChunkData.{ChunkData, held}
 use Rattle.vx_path.specs.Lists.{In}
 use Rattle.vx_path.specs.Path.{Eof}
+use Rattle.vx_zone_spec.specs.ZoneTable.{Filled, table_type}
 use Rattle.vx_layout_spec.specs.LayoutTree.{LayoutData, row_count, renamed, flat_layout}
-use Rattle.vx_tasks.specs.Task.Kind.{Append, Join}
+use Rattle.vx_tasks.specs.Task.Prompt.{Call}
+use Rattle.vx_tasks.specs.Task.Kind.{Free, Append, Join}
 use Rattle.vx_tasks.specs.Nodes.{numbers}
 use Rattle.vx_rules.specs.Blocks.{BlockOptions, block_len}
 use Rattle.vx_rules.specs.Stream.{piece_cells}
 use Rattle.vx_strategy_spec.specs.StrategyData.{FlatOptions}
 use Rattle.vx_plan.specs.PlanData.{Setting, Item, row_total, rows_in}
 use Rattle.vx_plan.specs.FlatNode.{inlined}
+use Rattle.vx_plan.specs.DictNode.{is_dictionary}
 use Rattle.vx_machine_turns.specs.Forms.{Writer, chunked_form}
-use Rattle.vx_machine_turns.specs.Locals.{ChunkedNode, StructNode, ListNode, GroupedNode, Local, flat_empty, flat_full, flat_many, chunked_local, struct_local, list_local, blocks_local, bytes_local, collect_local, compressed_local, outlet_local, dict_local, fallback_local, runs_local, zoned_local, idle_local, source_local, outside_local}
-use Rattle.vx_machine_turns.specs.Acts.{Seed, Act, Shape, alone, gathers, struct_of, list_of, runs_of, zones_of, passes, does, close_queues, shape_in, gifts, numbers_in}
+use Rattle.vx_machine_turns.specs.Locals.{ChunkedNode, StructNode, ListNode, GroupedNode, CompressedNode, DictNode, RunsSoFar, ZonedNode, Local, flat_empty, flat_full, flat_many, chunked_local, struct_local, list_local, blocks_local, bytes_local, collect_local, compressed_local, outlet_local, dict_local, fallback_local, runs_local, zoned_local, idle_local, source_local, outside_local}
+use Rattle.vx_machine_turns.specs.Acts.{Seed, Act, Shape, alone, gathers, struct_of, list_of, runs_of, zones_of, passes, does, put_item, close_queues, shape_in, gifts, numbers_in}
 use Rattle.vx_machine_turns.specs.Grouped.{weighed_puts, group_kept}
 use Rattle.vx_machine_turns.specs.Collected.{collected_so_far, collect_kept}
+use Rattle.vx_machine_turns.specs.Zoned.{zoned_ends, zoned_joins}
 use Rattle.vx_machine_turns.specs.Fuels.{Fuel, less, Enough}
+use Rattle.vx_machine_turns.specs.Dict.{dict_turn, runs_kept}
 use Rattle.vx_machine_turns.specs.Columns.{column_puts}
 use Rattle.vx_machine_turns.specs.Readings.{shaped}
+use Rattle.vx_machine_turns.specs.Turns.{kept}
 use Rattle.vx_machine_turns.specs.Scripts.{filled}
 use Rattle.vx_machine_steps.specs.Tree.{Head, Tree, Leaf, Work}
 use Rattle.vx_machine_steps.specs.Moves.{all_paths, all_over}
-use Rattle.vx_machine_view.specs.State.{Stored, fold_chunks, fold_columns, Next, append, shut_kids, join_kids, Mind, no_chunk, one_chunk, by_chunk, by_column, by_list, by_block, by_size, as_one, ending, passing, made, Desk, Tasks, no_tasks, task_then}
+use Rattle.vx_machine_view.specs.State.{Stored, fold_chunks, fold_columns, fold_runs, Next, press, probe, append, shut_kids, join_kids, Mind, no_chunk, one_chunk, by_chunk, by_column, by_list, by_block, by_size, as_one, by_image, as_is, by_probe, asking, by_run, ending, passing, made, Desk, Tasks, no_tasks, task_then}
 use Rattle.vx_machine_view.specs.Acts.{count, column_count, puts, hand_all}
+use Rattle.vx_machine_view.specs.Coder.{coder_of}
+use Rattle.vx_machine_view.specs.Coding.{Deed, deed_nexts}
+use Rattle.vx_machine_view.specs.Deeds.{deed_acts, run_types, Going, run_count, summed, Cutting, Coded}
 use Rattle.vx_machine_view.specs.Built.{Built, column_types, list_types}
-use Rattle.vx_machine_view.specs.Typed.{AllTyped, EachTyped, ChunksTyped, NewestTyped}
+use Rattle.vx_machine_view.specs.Zoned.{Zones}
+use Rattle.vx_machine_view.specs.Zoning.{IsZoned, Records, zones_mind, lay_zones, zones_left, zones_shape}
+use Rattle.vx_machine_view.specs.Typed.{Typed, AllTyped, EachTyped, ChunksTyped, NewestTyped}
 
 -- ---- what is read off the abstract tree
 
@@ -148,6 +159,47 @@ pub record Groups (mind : Mind) (left : List Next) (q : Seed) (past todo : List 
   pub kids : types_of hs ≡ t ∷ []
   pub typed : AllTyped t outs
 
+-- It has this in mind and calls the compressor next, as these acts tell. Its chunks are of this type.
+pub record Calls (mind : Mind) (left : List Next) (q : Seed) (past todo : List Act) (l : Local) (over : Bool) (hs : Tree) (mind_now : Mind) (left_now : List Next) (acts : List Act) (local_now : Local) (t : Ty) : Type 0 where
+  pub mind_is : mind ≡ mind_now
+  pub local_is : l ≡ local_now
+  pub left_is : left ≡ left_now
+  pub rest : todo ≡ acts
+  pub on : over ≡ false
+  pub unshaped : shape_in past ≡ None
+  pub type_is : q.type ≡ t
+  -- it has one child
+  pub kids : types_of hs ≡ t ∷ []
+
+-- rows that were counted, of one that has done these acts
+abbrev pub Counted : List Act → ℕ → Type 0
+Counted past n = (n ≡ 0) ⊎ In n (numbers_in past)
+
+-- a dictionary node calls the compressor for its first chunk: what it then does is what the image tells
+pub record Probes (s : Setting) (mind : Mind) (left : List Next) (past todo : List Act) (l : Local) (over : Bool) (n : DictNode) (i : Item) : Type 0 where
+  pub mind_is : mind ≡ asking
+  pub local_is : l ≡ (dict_turn s n i).after
+  pub left_is : left ≡ probe (coder_of n) n.eof i ∷ []
+  pub rest : todo ≡ filled (kept (dict_turn s n i).after) (dict_turn s n i).more
+  pub on : over ≡ false
+  pub unshaped : shape_in past ≡ None
+  pub typed : Typed n.type i.1
+  -- where it will cut runs
+  pub counted : is_dictionary (s.image n.options.probe i.1) ≡ true → Counted past (0 + rows_in i.1)
+
+-- it cuts runs, and does these next; so many runs have children
+pub record Cuts (s : Setting) (mind : Mind) (left : List Next) (past todo : List Act) (l : Local) (over : Bool) (hs : Tree) (n : DictNode) (r : RunsSoFar) (i : Item) (rows k : ℕ) (ds : List Deed) : Type 0 where
+  pub mind_is : mind ≡ by_run (coder_of n) r i rows
+  pub local_is : l ≡ runs_local n r i rows
+  pub left_is : left ≡ deed_nexts (coder_of n) ds
+  pub rest : todo ≡ filled (runs_kept r i) (deed_acts s n ds)
+  pub on : over ≡ false
+  pub unshaped : shape_in past ≡ None
+  pub typed : Typed n.type i.1
+  pub kids : types_of hs ≡ run_types n.options n.type k
+  pub going : Going n k ds (run_count r)
+  pub cutting : Cutting r i rows
+
 -- the shape of a node with columns of this type
 abbrev pub columns_of : Ty → ℕ → Shape
 columns_of (list t n) rows = list_of (list t n) rows
@@ -155,10 +207,6 @@ columns_of t rows = struct_of t rows
 
 abbrev pub append_of : Stored → Act
 append_of x = record (does (Append x.id)) { uses = x.id ∷ []; bytes = x.bytes }
-
--- rows that were counted, of one that has done these acts
-abbrev pub Counted : List Act → ℕ → Type 0
-Counted past n = (n ≡ 0) ⊎ In n (numbers_in past)
 
 -- A task that hasn't done all, or has its only child's layout: what the program's has in mind and left to do, with its children, against the abstract one's past,
 -- what that has left and its local, with its children, which may go as deep as d.
@@ -197,11 +245,42 @@ pub data Stage (s : Setting) (d : Fuel) (mind : Mind) (left : List Next) (ks : T
   collects : (n : GroupedNode) (x : Option (List ℕ × List ChunkData)) (rows : ℕ)
       → Groups mind left q past todo l over hs (as_one n.type x rows) (collect_local n x rows) n.type (λ p. 0) (collect_kept x) []
       → Stage s d mind left ks q past todo l over hs
+  -- a compressing node, before a chunk's image, and behind it
+  presses : (n : CompressedNode) (t : Ty) (i : Item) → Typed t i.1
+      → Calls mind left q past todo l over hs (by_image n.which) (press n.which i ∷ []) (filled [] (does (Free Call) ∷ put_item 0 (i.0, s.image n.which i.1) ∷ [])) (compressed_local n) t
+      → Stage s d mind left ks q past todo l over hs
+  pressed : (n : CompressedNode) (t : Ty) (outs : List Item) → Groups mind left q past todo l over hs (by_image n.which) (compressed_local n) t (λ p. 0) [] outs
+      → Stage s d mind left ks q past todo l over hs
+  lets_out : (n : CompressedNode) (t : Ty) (outs : List Item) → Groups mind left q past todo l over hs as_is (outlet_local n) t (λ p. 0) [] outs
+      → Stage s d mind left ks q past todo l over hs
+  -- a dictionary node: before its first chunk, and its image; it hands all to the fallback; it cuts runs; behind the end, it does
+  -- these and joins
+  asks_first : (n : DictNode) → Coded q d n → ks ≡ no_tasks → Rests mind left past todo l over (by_probe (coder_of n) n.eof) (dict_local n) → Stage s d mind left ks q past todo l over hs
+  probes : (n : DictNode) (i : Item) → Coded q d n → ks ≡ no_tasks → Probes s mind left past todo l over n i → Stage s d mind left ks q past todo l over hs
+  falls_back : (t : Ty) (outs : List Item) → Groups mind left q past todo l over hs as_is fallback_local t (λ p. 0) [] outs → Stage s d mind left ks q past todo l over hs
+  cuts : (n : DictNode) (r : RunsSoFar) (i : Item) (rows k : ℕ) (ds : List Deed) → Coded q d n → Counted past rows → Cuts s mind left past todo l over hs n r i rows k ds
+      → Stage s d mind left ks q past todo l over hs
+  last_cuts : (n : DictNode) (rows : ℕ) (ns : List ℕ) (k : ℕ) (ds : List Deed) → Coded q d n → Counted past rows → rows ≡ summed ns → types_of hs ≡ run_types n.options n.type k → Going n k ds (length ns)
+      → Ends mind left past todo over ending (deed_nexts (coder_of n) ds ++ (join_kids (fold_runs n.type ns) ∷ [])) (filled [] (deed_acts s n ds ++ (does Join ∷ []))) (runs_of n.type rows ns)
+      → Stage s d mind left ks q past todo l over hs
   -- behind the end: these are left to hand on, then the queue of its only child is closed; or nothing is left
   passes_on : (t : Ty) (weight : ChunkData → ℕ) (outs : List Item) → types_of hs ≡ t ∷ [] → AllTyped t outs
       → Ends mind left past todo over passing (hand_all weight outs ++ (shut_kids ∷ [])) (filled [] (weighed_puts weight outs ++ (close_queues (0 ∷ []) ∷ []))) passes
       → Stage s d mind left ks q past todo l over hs
   passed : (t : Ty) → types_of hs ≡ t ∷ [] → Ends mind left past todo over passing [] [] passes → Stage s d mind left ks q past todo l over hs
+  -- the data child, and what is handed on next, have all rows so far
+  records_zones : (n : ZonedNode) (z : Zones) (outs : List Item) → IsZoned d q n → types_of hs ≡ n.type ∷ [] → z.rows ≡ row_total outs + rows_of hs → AllTyped n.type outs
+      → Records mind left past todo l over n z outs → Stage s d mind left ks q past todo l over hs
+  -- behind the end, by the table's columns: the data child's queue is closed; it is joined; so is the table's child
+  closes_zones : (n : ZonedNode) (z : Zones) (table : Option (List Filled)) → IsZoned d q n → types_of hs ≡ n.type ∷ []
+      → Ends mind left past todo over (zones_mind table) (shut_kids ∷ zones_left n z table) (filled [] (zoned_ends s n z.zones table)) (zones_shape n z.rows table)
+      → Stage s d mind left ks q past todo l over hs
+  joins_data : (n : ZonedNode) (z : Zones) (table : Option (List Filled)) → IsZoned d q n → types_of hs ≡ n.type ∷ []
+      → Ends mind left past todo over (zones_mind table) (zones_left n z table) (filled [] (zoned_joins s n z.zones table)) (zones_shape n z.rows table)
+      → Stage s d mind left ks q past todo l over hs
+  joins_zones : (n : ZonedNode) (rows : ℕ) (cs : List Filled) → types_of hs ≡ n.type ∷ table_type cs ∷ []
+      → Ends mind left past todo over ending (lay_zones n rows cs) (does Join ∷ []) (zones_shape n rows (Some cs))
+      → Stage s d mind left ks q past todo l over hs
 
 -- A task that has done all and has a layout of its own: its children are given up, and it is theirs, where `number` tells each
 -- segment's.

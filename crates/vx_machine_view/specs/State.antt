@@ -4,10 +4,13 @@ use Rattle.vx_model.specs.Ty.{Ty}
 use Rattle.vx_model.specs.CellData.{CellData}
 use Rattle.vx_model.specs.ChunkData.{ChunkData}
 use Rattle.vx_path.specs.Path.{Eof}
-use Rattle.vx_layout_spec.specs.LayoutTree.{LayoutData}
+use Rattle.vx_layout_spec.specs.LayoutTree.{LayoutData, Spec}
 use Rattle.vx_strategy_spec.specs.StrategyData.{FlatOptions}
 use Rattle.vx_plan.specs.PlanData.{Item}
 use Rattle.vx_machine_turns.specs.Forms.{Form}
+use Rattle.vx_machine_view.specs.Zoned.{Zoner, Zones}
+use Rattle.vx_machine_turns.specs.Locals.{RunsSoFar}
+use Rattle.vx_machine_view.specs.Coder.{Coder}
 
 -- a chunk's segment that is to be appended: its path, its bytes, and what its layout needs
 pub record Stored : Type 0 where
@@ -23,16 +26,33 @@ pub data Fold : Type 0 where
   fold_chunks : Ty → Fold
   -- of a struct's or a list's columns, with the rows
   fold_columns : Ty → ℕ → Fold
+  -- of a zoned node's data and table, with the rows, the zone length and the table's columns
+  fold_zones : Ty → ℕ → ℕ → List Spec → Fold
+  -- of runs, each with its rows
+  fold_runs : Ty → List ℕ → Fold
 
 -- what is left of a task's present block
 pub data Next : Type 0 where
   put : ℕ → Item → Next
   -- on the queue of its only child; so many bytes are then taken from the tracker
   hand_on : ℕ → Item → Next
+  -- it calls the compressor under this number for the item's chunk; the image is then handed on in its place
+  press : ℕ → Item → Next
+  -- it calls the compressor for the first chunk, and goes on by the image: it cuts runs, or it starts the fallback at the pointer
+  probe : Coder → Eof → Item → Next
+  -- it starts codes and values of a run, from number j on, at the pointer, and puts the item on the codes' queue
+  open_run : Coder → ℕ → Eof → Item → Next
+  -- it puts the item on the queue of child j + 1, and closes that and child j's
+  end_run : ℕ → Item → Next
   append : Stored → Next
   -- the queues of all children
   shut_kids : Next
   join_kids : Fold → Next
+  -- Once the data child has done all: the table's child is started by its form, with this chunk alone; the pointer stands at the
+  -- path that the chunk stands below.
+  start_table : Form → Eof → ChunkData → Next
+  -- once the only child has done all: the pointer isn't needed
+  leave_kid : Eof → Next
 
 -- what a task has in mind between two chunks
 pub data Mind : Type 0 where
@@ -51,6 +71,16 @@ pub data Mind : Type 0 where
   by_size : ℕ → List ChunkData → Option Item → ℕ → Mind
   -- a collection's: type; the last path and the chunks so far, and their rows
   as_one : Ty → Option (List ℕ × List ChunkData) → ℕ → Mind
+  -- a zoned node's: the pointer at its table's path, and the zones so far
+  by_zone : Zoner → Eof → Zones → Mind
+  -- a compressing node's: the compressor's number
+  by_image : ℕ → Mind
+  -- of one that hands on each chunk as it is
+  as_is : Mind
+  -- a dictionary node's: no chunk came, and its pointer; the first one is probed; it cuts runs: how far it came, the newest chunk, rows so far
+  by_probe : Coder → Eof → Mind
+  asking : Mind
+  by_run : Coder → RunsSoFar → Item → ℕ → Mind
   -- it has seen the end of its stream
   ending : Mind
   -- so it has, and its layout is its only child's

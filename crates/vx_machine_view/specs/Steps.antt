@@ -1,6 +1,6 @@
 -- What the program's tasks would do against what the abstract ones can do.
 use Rattle.std.specs.Prelude.{◌≡◌, ℕ, List, [], ◌∷◌, ◌++◌, IsFalse}
-use Rattle.vx_layout_spec.specs.Codec.{Lawful}
+use Rattle.vx_machine_view.specs.Images.{Careful}
 use Rattle.vx_tasks.specs.Task.Kind.{Append}
 use Rattle.vx_plan.specs.PlanData.{Setting}
 use Rattle.vx_machine_turns.specs.Acts.{Seed, refuses, written_by}
@@ -43,5 +43,5 @@ pub record SameStep (s : Setting) (number : List ℕ → ℕ) (next : ℕ) (d : 
 
 -- Tasks that show a state can do just what it can, place by place.
 abbrev pub StepsShow : Type 0
-StepsShow = (s : Setting) (number : List ℕ → ℕ) (next : ℕ) (all : List (List ℕ)) (d : Fuel) (q : Seed) (j : ℕ) (cs : Tasks) (t : Tree) → Lawful s.codec s.encodings
+StepsShow = (s : Setting) (number : List ℕ → ℕ) (next : ℕ) (all : List (List ℕ)) (d : Fuel) (q : Seed) (j : ℕ) (cs : Tasks) (t : Tree) → Careful s
     → Shows s number d q j cs t → JoinsFree s t → AllPairs (SameStep s number next d q j cs t) (steps s all next cs) (tree_moves s all d t)

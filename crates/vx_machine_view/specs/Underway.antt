@@ -3,7 +3,7 @@ use Rattle.std.specs.Prelude.{◌≡◌, ◌+◌, ◌%◌, ◌<◌, ◌⊎◌, �
 use Rattle.vx_model.specs.ChunkData.{ChunkData}
 use Rattle.vx_path.specs.Lists.{In}
 use Rattle.vx_layout_spec.specs.LayoutTree.{renamed}
-use Rattle.vx_layout_spec.specs.Codec.{Lawful}
+use Rattle.vx_machine_view.specs.Images.{Careful}
 use Rattle.vx_tasks.specs.Task.{Append}
 use Rattle.vx_tasks.specs.Run.{Note, nth, first_pick}
 use Rattle.vx_tasks.specs.Runs.{noted}
@@ -52,14 +52,14 @@ pub record IsMove (w : WholeStep) (v : TreeMove) : Type 0 where
 abbrev pub WriteMoves : Type 0
 WriteMoves = (g : Write) (first : ℕ) (taken : List ChunkData) (heard : Bool) (a : Answer) (f : Future) (seen : List Note) (history : List Pair) (tracker : ℕ)
     (r : Reached g taken (before a f) seen history tracker) (m : Machine) (k : ℕ) (w : WholeStep)
-    → Lawful g.setting.codec g.setting.encodings → Open (heard_by heard a) f → Showing g first taken m (before a f) r.tree
+    → Careful g.setting → Open (heard_by heard a) f → Showing g first taken m (before a f) r.tree
     → nth (ready_steps g first history a m) k ≡ Some w → Asks g.type f m.phase k a → (v : TreeMove) × In v (moves_at g r.tree) × IsMove w v
 
 -- A step that is picked and not refused is a step of the write; what the machine then shows is where the write has then come.
 abbrev pub WriteSteps : Type 0
 WriteSteps = (g : Write) (first : ℕ) (taken : List ChunkData) (heard : Bool) (a : Answer) (f : Future) (seen : List Note) (history : List Pair) (tracker tracker_then : ℕ)
     (r : Reached g taken (before a f) seen history tracker) (m : Machine) (k : ℕ) (w : WholeStep)
-    → Lawful g.setting.codec g.setting.encodings → Open (heard_by heard a) f → Showing g first taken m (before a f) r.tree
+    → Careful g.setting → Open (heard_by heard a) f → Showing g first taken m (before a f) r.tree
     → nth (ready_steps g first history a m) k ≡ Some w → k ≡ first_pick (picks_after (length seen) g.schedule) % length (ready_steps g first history a m)
     → Asks g.type f m.phase k a → w.refusal ≡ None → IsFalse w.misfit → tracker_then + w.lowers ≡ tracker + w.raises
     → (st : Stepped g r.tree seen (noted (length (ready_steps g first history a m)) k w.name w.kind) history (history ++ w.wrote) tracker tracker_then)
@@ -68,7 +68,7 @@ WriteSteps = (g : Write) (first : ℕ) (taken : List ChunkData) (heard : Bool) (
 -- something is ready until the machine has finished
 abbrev pub WriteReady : Type 0
 WriteReady = (g : Write) (first : ℕ) (taken : List ChunkData) (a : Answer) (f : Future) (seen : List Note) (history : List Pair) (tracker : ℕ)
-    (r : Reached g taken f seen history tracker) (m : Machine) → Lawful g.setting.codec g.setting.encodings → Showing g first taken m f r.tree
+    (r : Reached g taken f seen history tracker) (m : Machine) → Careful g.setting → Showing g first taken m f r.tree
     → IsFalse (is_finished m) → 0 < length (ready_steps g first history a m)
 
 -- then all is done, and the layout that is made is the one that is read off the state

@@ -5,7 +5,7 @@ use Rattle.vx_model.specs.Ty.{Ty}
 use Rattle.vx_path.specs.Lists.{In}
 use Rattle.vx_path.specs.Path.{eof_path}
 use Rattle.vx_layout_spec.specs.LayoutTree.{renamed}
-use Rattle.vx_layout_spec.specs.Codec.{Lawful}
+use Rattle.vx_machine_view.specs.Images.{Careful}
 use Rattle.vx_tasks.specs.Task.{Append}
 use Rattle.vx_tasks.specs.Run.{nth}
 use Rattle.vx_strategy_spec.specs.StrategyData.{StrategyData}
@@ -116,19 +116,23 @@ pub record SameWhole (g : Write) (number : List ℕ → ℕ) (next : ℕ) (f : F
 -- so it is of the step at each place
 abbrev pub StepShows : Type 0
 StepShows = (g : Write) (number : List ℕ → ℕ) (next : ℕ) (all : List (List ℕ)) (heard : Bool) (a : Answer) (f : Future) (m : Machine) (t : Tree) (k : ℕ) (w : WholeStep)
-    → Lawful g.setting.codec g.setting.encodings → Stands g.setting (depth g) t → Open (heard_by heard a) f → ShowsMachine g number m (before a f) t
+    → Careful g.setting → Stands g.setting (depth g) t → Open (heard_by heard a) f → ShowsMachine g number m (before a f) t
     → nth (whole_steps g.setting all next a m) k ≡ Some w → Asks g.type f m.phase k a
     → (v : TreeMove) × (nth (tree_moves g.setting all (depth g) t) k ≡ Some v) × SameWhole g number next f w v
 
 -- as many are ready
 abbrev pub ReadyShows : Type 0
-ReadyShows = (g : Write) (number : List ℕ → ℕ) (next : ℕ) (all : List (List ℕ)) (a : Answer) (f : Future) (m : Machine) (t : Tree) → Lawful g.setting.codec g.setting.encodings
+ReadyShows = (g : Write) (number : List ℕ → ℕ) (next : ℕ) (all : List (List ℕ)) (a : Answer) (f : Future) (m : Machine) (t : Tree) → Careful g.setting
     → Stands g.setting (depth g) t → ShowsMachine g number m f t → length (whole_steps g.setting all next a m) ≡ length (tree_moves g.setting all (depth g) t)
 
 -- ---- what is held, and the end
 
+-- the same paths, in any order
+abbrev pub SameHeld : List (List ℕ) → List (List ℕ) → Type 0
+SameHeld xs ys = ((p : List ℕ) → In p xs → In p ys) × ((p : List ℕ) → In p ys → In p xs)
+
 abbrev pub HeldShows : Type 0
-HeldShows = (g : Write) (number : List ℕ → ℕ) (f : Future) (m : Machine) (t : Tree) → Stands g.setting (depth g) t → ShowsMachine g number m f t → machine_ids m ≡ all_paths t
+HeldShows = (g : Write) (number : List ℕ → ℕ) (f : Future) (m : Machine) (t : Tree) → Stands g.setting (depth g) t → ShowsMachine g number m f t → SameHeld (machine_ids m) (all_paths t)
 
 abbrev pub FinishShows : Type 0
 FinishShows = (g : Write) (number : List ℕ → ℕ) (f : Future) (m : Machine) (t : Tree) → Stands g.setting (depth g) t → ShowsMachine g number m f t → is_finished m ≡ all_over t

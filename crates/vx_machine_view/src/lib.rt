@@ -5,6 +5,7 @@
 
 ghost use Rattle.vx_machine_view.specs.Steps.{StepsShow};
 ghost use Rattle.vx_machine_view.specs.Reserved.{StepsReserve, StartReserves, WholeReserves, FinishReserves};
+ghost use Rattle.vx_machine_view.specs.Images.{ImagesAreCareful};
 ghost use Rattle.vx_machine_view.specs.Tables.{TablesAreBuilt};
 ghost use Rattle.vx_machine_view.specs.Places.{StepsAreReady, OwnPlace, KidPlace, RestPlace, WholeIsReady, SourcePlace, RootPlace};
 ghost use Rattle.vx_machine_view.specs.Underway.{ReachedStands, AppendIsNext, WriteMoves, WriteSteps, WriteReady, WriteEnds, WriteJoins};
@@ -59,10 +60,11 @@ pub fn writes()
     ensures joins { WriteJoins }
 {}
 
-/// What these laws ask of strategies, chunks and lists of paths; a table's strategies are built where it is.
+/// What these laws ask of strategies, chunks, images and lists of paths; a table's strategies are built where it is.
 pub fn conditions()
     ensures built { BuiltIsBuilt }
     ensures tables { TablesAreBuilt }
     ensures typed { SoundIsTyped }
     ensures least { LeastAgrees }
+    ensures images { ImagesAreCareful }
 {}

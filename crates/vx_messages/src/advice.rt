@@ -13,13 +13,16 @@ pub(crate) fn key_advice(line: &str) -> &'static str {
 /// About a write or a layout that is refused.
 pub(crate) fn refusal_advice(line: &str) -> &'static str {
     match line {
-        "refused Unbuilt" => "this strategy isn't built yet; docs/JOB.md says which are",
         "refused BatchType" => "a batch is of another type than `schema`",
         "refused NotStruct" => "a struct node of `strategy` stands where the type is no struct",
         "refused DuplicateField" => "a struct of `schema` that is split has a field name twice",
         "refused ManyChunks" =>
             "a flat node of `strategy` takes one batch; put `chunked` around it",
         "refused EmptyList" => "a list node of `strategy` takes a batch, and `batches` has none",
+        "refused ZoneCut" =>
+            "a zoned node of `strategy` takes batches of `zone` rows, of which the last has 1 at least",
+        "refused ForbiddenAggregate" =>
+            "a zoned node of `strategy` records an aggregate that `aggregates` doesn't list",
         "refused ForbiddenEncoding" => "a batch has an encoding that `encodings` doesn't list",
         "refused TooLarge" =>
             "there are more segments than 32 bits count, or more rows or elements than 64 do",

@@ -32,5 +32,4 @@ pub enum WriteErrorName {
     ForbiddenEncoding,
     TooLarge,
     OutOfMemory,
-    Unbuilt,
 }

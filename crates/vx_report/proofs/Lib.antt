@@ -1,3 +1,4 @@
 pub mod Lines
 pub mod RowSteps
 pub mod TraceSteps
+pub mod ZoneSteps

@@ -18,14 +18,11 @@ abbrev pub segment_lines : ℕ → List (List ℕ) → List ℕ
 segment_lines n [] = []
 segment_lines n (b ∷ bs) = segment_line n b ++ segment_lines (suc n) bs
 
--- the layout's verbose tree, the segments from the first number on, the text of the zone tables, the steps, and the rows
-abbrev pub told_report : ℕ → LayoutData ℕ → List (List ℕ) → List ℕ → List Step → List ValueData → List ℕ
-told_report first l segments zones steps rows =
-    codes "layout\n" ++ (display_text true l ++ (codes "segments\n" ++ (segment_lines first segments ++ (codes "zones\n" ++ (zones ++ (codes "trace\n" ++ (step_lines steps ++ (codes "rows\n" ++ row_lines rows))))))))
-
--- the report of a write, with the rows of the layout's zone tables
+-- The report of a write: the layout's verbose tree, the segments from the first number on, the rows of the layout's zone tables, the steps,
+-- and the rows.
 abbrev pub report : ℕ → LayoutData ℕ → List (List ℕ) → List (List ValueData) → List Step → List ValueData → List ℕ
-report first l segments tables steps rows = told_report first l segments (zone_lines 0 (zone_tables l) tables) steps rows
+report first l segments tables steps rows =
+    codes "layout\n" ++ (display_text true l ++ (codes "segments\n" ++ (segment_lines first segments ++ (codes "zones\n" ++ (zone_lines 0 (zone_tables l) tables ++ (codes "trace\n" ++ (step_lines steps ++ (codes "rows\n" ++ row_lines rows))))))))
 
 -- the refusal's name, the segments that were appended, and the steps before
 abbrev pub refused_report : List ℕ → ℕ → List (List ℕ) → List Step → List ℕ

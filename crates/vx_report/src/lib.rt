@@ -4,5 +4,7 @@
 mod report_text;
 mod row_text;
 mod trace_text;
+mod zone_text;
 
 pub use report_text::{refused_report, report};
+pub use zone_text::TableRows;

@@ -1,56 +1,45 @@
 //! The text that the program prints.
 
-ghost use Rattle.std.specs.Prelude.{◌≡◌, ◌++◌, ◌+◌, ◌<◌, ◌^◌, [], string_bytes, map, length, IfOk, OnOk};
+ghost use Rattle.std.specs.Prelude.{◌≡◌, ◌++◌, ◌+◌, ◌<◌, ◌^◌, string_bytes, map, length, IfOk, OnOk};
 ghost use Rattle.vx_model.specs.TreeView.{val};
 ghost use Rattle.vx_layout_tree.specs.LayoutView.{layout_data};
 ghost use Rattle.vx_report.specs.ZoneText.{zone_tables};
-ghost use Rattle.vx_report.specs.Report.{report, told_report, refused_report, segment_line, segment_lines};
+ghost use Rattle.vx_report.specs.TableView.{AreTables, rows_of};
+ghost use Rattle.vx_report.specs.Report.{report, refused_report, segment_line, segment_lines};
 
 use crate::row_text::push_rows;
 use crate::trace_text::push_steps;
+use crate::zone_text::{TableRows, push_tables};
 use std::alloc::{AllocError, Global};
 use vx_display::LayoutDisplay;
 use vx_layout_tree::Layout;
 use vx_model::{Blob, Value};
 use vx_write_answer::Step;
 
-/// The report of a write, whose first segment has the number `first`, with its steps and the rows that were read back.
-///
-/// It prints no zone table yet: no layout that is written so far has one.
+/// The report of a write, whose first segment has the number `first`, with the rows of its zone tables, its steps, and the rows
+/// that were read back.
+#[tactic(auto, using(crate::proofs::Lines::text_rules))]
 pub fn report(
     alloc: Global,
     first: u64,
     layout: &Layout,
     segments: &[Blob],
+    tables: &[TableRows],
     steps: &[Step],
     rows: &[Value],
 ) -> Result<String, AllocError>
     requires numbered { first + length segments.now < 2 ^ 64 }
-    requires no_tables { zone_tables (layout_data layout.now) ≡ [] }
-    ensures { IfOk result (λ text. string_bytes text ≡ report first (layout_data layout.now) segments.now [] steps.now (map val rows.now)) }
-{
-    told_report(alloc, first, layout, segments, steps, rows)
-}
-
-/// The report without zone tables.
-#[tactic(auto, using(crate::proofs::Lines::text_rules))]
-fn told_report(
-    alloc: Global,
-    first: u64,
-    layout: &Layout,
-    segments: &[Blob],
-    steps: &[Step],
-    rows: &[Value],
-) -> Result<String, AllocError>
-    requires { first + length segments.now < 2 ^ 64 }
-    ensures { IfOk result (λ text. string_bytes text ≡ told_report first (layout_data layout.now) segments.now [] steps.now (map val rows.now)) }
+    requires tables { AreTables tables.now (zone_tables (layout_data layout.now)) }
+    ensures { IfOk result (λ text. string_bytes text ≡ report first (layout_data layout.now) segments.now (rows_of tables.now) steps.now (map val rows.now)) }
 {
     let mut out = String::from_str(alloc, "layout\n")?;
     let tree = layout.display_tree_verbose(alloc, true)?;
     out.push_str(tree.as_str())?;
     out.push_str("segments\n")?;
     push_segments(alloc, &mut out, first, segments)?;
-    out.push_str("zones\ntrace\n")?;
+    out.push_str("zones\n")?;
+    push_tables(alloc, &mut out, tables)?;
+    out.push_str("trace\n")?;
     push_steps(&mut out, steps)?;
     out.push_str("rows\n")?;
     push_rows(alloc, &mut out, rows)?;

@@ -1,40 +1,42 @@
 -- What is shown of a job that was written, and of one that was refused.
-use Rattle.std.proofs.Common.{◌≡◌, ℕ, ◌+◌, ◌-◌, ◌≤◌, ◌<◌, ◌^◌, ◌&&◌, nat_lt, max, not, Bool, true, false, List, [], ◌∷◌, ◌++◌, length, Option, Some, None, refl, sym, ap, subst, inl, inr, ◌∙◌, if◌then◌else◌, length-append, arith}
+use Rattle.std.proofs.Common.{◌≡◌, ℕ, ◌+◌, ◌-◌, ◌≤◌, ◌^◌, ◌&&◌, nat_lt, max, Bool, true, false, List, [], ◌∷◌, ◌++◌, length, Option, Some, None, refl, sym, ap, subst, inl, inr, ◌∙◌, length-append, arith}
 use Rattle.std.specs.Prelude.{map, option_map, IsTrue}
 use Rattle.vx_chunk.specs.ChunkView.{piece}
 use Rattle.vx_model.specs.Ty.{Ty}
 use Rattle.vx_model.specs.ChunkData.{ChunkData}
+use Rattle.vx_model.specs.ValueData.{ValueData}
 use Rattle.vx_layout_spec.specs.LayoutTree.{LayoutData}
 use Rattle.vx_layout_spec.specs.Rows.{rows, all_there}
 use Rattle.vx_segment_reader.specs.Codec.{segment_codec}
 use Rattle.vx_strategy_spec.specs.StrategyData.{StrategyData}
-use Rattle.vx_plan.specs.PlanData.{Setting, Plan}
-use Rattle.vx_plan.specs.SourcePlan.{of_schema, taken_plan, source_values}
+use Rattle.vx_plan.specs.PlanData.{Setting}
+use Rattle.vx_plan.specs.SourcePlan.{of_schema, source_values}
 use Rattle.vx_plan.specs.Number.{segments, segment_at}
 use Rattle.vx_plan.specs.Valid.{Valid}
 use Rattle.vx_fault.specs.Counts.{Counts, IsCalm}
 use Rattle.vx_fault.specs.Fails.{fails_at}
 use Rattle.vx_fault.specs.Faults.{FaultsTold}
 use Rattle.vx_fault.specs.Told.{before_told, then_told}
-use Rattle.vx_machine_view.specs.Built.{is_built}
-use Rattle.vx_write.specs.Calls.{reads_in, appends_in, misfits}
+use Rattle.vx_write.specs.Calls.{reads_in, appends_in, calls_in, misfits}
+use Rattle.vx_write.specs.Readable.{IsReadable}
 use Rattle.vx_write.specs.Traced.{Traced}
 use Rattle.vx_write.specs.RefusedAct.{RefusedThere}
-use Rattle.vx_write.specs.Written.{Planned, Wrote, HasCause, AskedInSteps, write_of, Halted}
-use Rattle.vx_write.specs.Tracking.{PassesAt}
-use Rattle.vx_write_answer.specs.Causes.{is_source_fault, is_sink_fault, is_unbuilt}
+use Rattle.vx_write.specs.Written.{Planned, Wrote, AskedInSteps, Halted}
+use Rattle.vx_write_answer.specs.Causes.{is_source_fault, is_sink_fault, is_compress_fault}
 use Rattle.vx_write_answer.specs.declared.step.Step.{Step}
 use Rattle.vx_write_answer.specs.declared.error.WriteError.{WriteError}
 use Rattle.vx_write_answer.specs.declared.error.WriteError.TheVariants as errors
 use Rattle.vx_job.specs.JobParts.{FailingCalls}
 use Rattle.vx_job.specs.JobText.{JobData}
 use Rattle.vx_report.specs.Report.{report, refused_report}
-use Rattle.vx_report.specs.ZoneText.{ZoneTable, zone_tables}
+use Rattle.vx_report.specs.ZoneText.{zone_tables}
 use Rattle.vx_run.specs.declared.status.Status.{Status}
 use Rattle.vx_run.specs.declared.status.Status.TheVariants.{Done, Refused}
 use Rattle.vx_run.specs.RefusalNames.{refusal_name, is_memory}
-use Rattle.vx_run.specs.Answers.{job_setting, job_plan, IsValid, SetsNoFaults, NoneFails, IsWritten, table_rows, IsReport, IsLet, IsRefused, IsRefusal, Halts, JobAnswer, IsText}
-use Rattle.vx_run.proofs.TableSteps.{no_tables}
+use Rattle.vx_run.specs.Answers.{job_setting, job_plan, NoneFails, IsWritten, IsLet, Halts, JobAnswer, IsText}
+use Rattle.vx_run.specs.Tables.{TablesThere, table_rows}
+use Rattle.vx_run.proofs.ShapeSteps.{Shaped, written_shaped}
+use Rattle.vx_run.proofs.TableSteps.{tables_there}
 
 -- ---- what a write of a job starts from
 
@@ -48,14 +50,17 @@ pub record Start (j : JobData) (s : Setting) (t : Ty) (m : Bool) (first tracker 
   pub none : old ≡ Some []
   pub picks : schedule ≡ j.options.schedule
 
--- which calls of the source and the sink may fail, which must, and that none did before
-pub record Failing (j : JobData) (may_source must_source may_sink must_sink : ℕ → Type 0) (source_before sink_before : ℕ) : Type 0 where
+-- which calls of the source, the sink and the compressor may fail, which must, and that none did before
+pub record Failing (j : JobData) (may_source must_source may_sink must_sink may_press must_press : ℕ → Type 0) (source_before sink_before press_before : ℕ) : Type 0 where
   pub may_of_source : (k : ℕ) → may_source k → IsTrue (fails_at j.options.faults.source k)
   pub must_of_source : (k : ℕ) → IsTrue (fails_at j.options.faults.source k) → must_source k
   pub may_of_sink : (k : ℕ) → may_sink k → IsTrue (fails_at j.options.faults.sink k)
   pub must_of_sink : (k : ℕ) → IsTrue (fails_at j.options.faults.sink k) → must_sink k
+  pub may_of_compressor : (k : ℕ) → may_press k → IsTrue (fails_at j.options.faults.compress k)
+  pub must_of_compressor : (k : ℕ) → IsTrue (fails_at j.options.faults.compress k) → must_press k
   pub source_none : source_before ≡ 0
   pub sink_none : sink_before ≡ 0
+  pub compressor_none : press_before ≡ 0
 
 -- a chunk is seen as its piece
 pub same_pieces : (xs : List ChunkData) → map piece xs ≡ xs
@@ -69,48 +74,51 @@ told_rest : (taken : List ChunkData) (a c : Option (List ChunkData)) (xs : List 
 told_rest taken a None xs e f = absurd (let g : None ≡ Some xs = sym e ∙ f in cc)
 told_rest taken a (Some later) xs e f = (later, refl)
 
-is_true : (b : Bool) → (b ≡ false → ⊥) → b ≡ true
-is_true true h = refl
-is_true false h = absurd (h refl)
-
 is_false : (b : Bool) → (b ≡ true → ⊥) → b ≡ false
 is_false false h = refl
 is_false true h = absurd (h refl)
 
 -- no call that passed is one that the job lets fail
-none_fails : (j : JobData) {may_source must_source may_sink must_sink : ℕ → Type 0} {source_before source_now sink_before sink_now : ℕ} (asked appended : ℕ) (of_source of_sink : Bool)
-    → Failing j may_source must_source may_sink must_sink source_before sink_before
-    → FaultsTold source_before source_now may_source must_source asked of_source → FaultsTold sink_before sink_now may_sink must_sink appended of_sink → NoneFails j asked appended
-none_fails j asked appended of_source of_sink failing source sink = record {
+none_fails : (j : JobData) {may_source must_source may_sink must_sink may_press must_press : ℕ → Type 0} {source_before source_now sink_before sink_now press_before press_now : ℕ} (asked appended called : ℕ) (of_source of_sink of_press : Bool)
+    → Failing j may_source must_source may_sink must_sink may_press must_press source_before sink_before press_before
+    → FaultsTold source_before source_now may_source must_source asked of_source → FaultsTold sink_before sink_now may_sink must_sink appended of_sink
+    → FaultsTold press_before press_now may_press must_press called of_press → NoneFails j asked appended called
+none_fails j asked appended called of_source of_sink of_press failing source sink press = record {
   source = λ k less listed. source.passed k less (failing.must_of_source k listed);
   sink = λ k less listed. sink.passed k less (failing.must_of_sink k listed);
+  compressor = λ k less listed. press.passed k less (failing.must_of_compressor k listed);
 }
 
 -- ---- a job that was written
 
 pub job_written : (j : JobData) (s : Setting) (t : Ty) (m : Bool) {first now tracker : ℕ} {came : Option (List ChunkData)} {old new : Option (List (List ℕ))} {l : LayoutData ℕ} {stored : List (List ℕ)} {schedule : List ℕ} {steps : List Step}
-    {may_source must_source may_sink must_sink : ℕ → Type 0} {source_before source_now sink_before sink_now : ℕ} (of_source of_sink : Bool)
-    → Start j s t m first tracker came old schedule → Failing j may_source must_source may_sink must_sink source_before sink_before → new ≡ Some stored → (is_built j.strategy ≡ false → ⊥)
-    → Planned s j.strategy t m came (Wrote t first now old new l) → Traced s j.strategy t m came schedule steps → now ≡ first + appends_in steps
+    {may_source must_source may_sink must_sink may_press must_press : ℕ → Type 0} {source_before source_now sink_before sink_now press_before press_now : ℕ} (of_source of_sink of_press : Bool)
+    → Start j s t m first tracker came old schedule → Failing j may_source must_source may_sink must_sink may_press must_press source_before sink_before press_before → new ≡ Some stored
+    → Planned s j.strategy t m came (Wrote t first now old new l) → Planned s j.strategy t m came (λ xs p. IsReadable s t first (segments p) l) → Traced s j.strategy t m came schedule steps → now ≡ first + appends_in steps
     → FaultsTold source_before source_now may_source must_source (reads_in steps) of_source → FaultsTold sink_before sink_now may_sink must_sink (now - first) of_sink
+    → FaultsTold press_before press_now may_press must_press (calls_in steps) of_press
     → IsWritten j l stored steps
-job_written j s t m {first} {now} {tracker} {came} {old} {new} {l} {stored} {schedule} {steps} {may_source} {must_source} {may_sink} {must_sink} {source_before} {source_now} {sink_before} {sink_now} of_source of_sink start failing told unbuilt wrote traced appended source sink =
+job_written j s t m {first} {now} {tracker} {came} {old} {new} {l} {stored} {schedule} {steps} {may_source} {must_source} {may_sink} {must_sink} {may_press} {must_press} {source_before} {source_now} {sink_before} {sink_now} of_source of_sink of_press start failing told wrote readable traced appended source sink press =
     let so = rw (start.setting, start.schema, start.marked, start.numbers) at (wrote j.batches start.batches) in
+    let read = rw (start.setting, start.schema, start.marked, start.numbers) at (readable j.batches start.batches) in
     let by = rw (start.setting, start.schema, start.marked, start.picks) at (traced j.batches start.batches) in
     let all : stored ≡ segments (job_plan j) = told_all start.none told so.appended in
     let reached : now ≡ j.options.next + length stored = so.counted ∙ ap (λ (bs : List (List ℕ)). j.options.next + length bs) (sym all) in
     let count : now - first ≡ length stored = omega (arith, reached, start.numbers) in
     record {
-      form = is_true (is_built j.strategy) unbuilt;
       wrote = rw (reached, start.none, told) at so;
+      readable = subst (λ (bs : List (List ℕ)). IsReadable (job_setting j) j.schema j.options.next bs l) (sym all) read;
       traced = by;
       appended = omega (arith, reached, start.numbers, appended);
-      calls = none_fails j (length j.batches + 1) (length stored) of_source of_sink failing
-          (subst (λ n. FaultsTold source_before source_now may_source must_source n of_source) by.asked source) (subst (λ n. FaultsTold sink_before sink_now may_sink must_sink n of_sink) count sink);
+      calls = none_fails j (length j.batches + 1) (length stored) (calls_in steps) of_source of_sink of_press failing
+          (subst (λ n. FaultsTold source_before source_now may_source must_source n of_source) by.asked source) (subst (λ n. FaultsTold sink_before sink_now may_sink must_sink n of_sink) count sink) press;
     }
 
-pub written_tables : (j : JobData) {l : LayoutData ℕ} {stored : List (List ℕ)} {steps : List Step} → IsWritten j l stored steps → zone_tables l ≡ []
-written_tables j w = ap zone_tables w.wrote.laid ∙ no_tables (job_setting j) j.strategy j.schema j.options.marked j.batches j.options.next w.form
+-- its zone tables are there
+pub written_tables : (j : JobData) {l : LayoutData ℕ} {stored : List (List ℕ)} {steps : List Step} → IsWritten j l stored steps → TablesThere (segment_at j.options.next stored) l
+written_tables j {l} {stored} w =
+    tables_there (job_setting j) (segment_at j.options.next stored) refl l
+    (subst Shaped (sym w.wrote.laid) (written_shaped (job_setting j) j.strategy j.schema j.options.marked j.batches true j.options.next)) w.readable.zones
 
 -- the segments are those of the plan
 stored_is : (j : JobData) {l : LayoutData ℕ} {stored : List (List ℕ)} {steps : List Step} → IsWritten j l stored steps → stored ≡ segments (job_plan j)
@@ -126,32 +134,19 @@ fitting first now shown count last = rw (← count) last
 
 -- the report of what was written is the job's answer
 pub report_answers : (j : JobData) {l : LayoutData ℕ} {stored : List (List ℕ)} {steps shown : List Step} {status : Status} {text : List ℕ} → shown ≡ steps → IsWritten j l stored steps
-    → (status ≡ Done) × (Some text ≡ option_map (report j.options.next l stored [] shown) (rows segment_codec (segment_at j.options.next stored) l)) → JobAnswer j status text
-report_answers j {l} {stored} {steps} {shown} {status} {text} same w h =
-    let printed : Some text ≡ Some (report j.options.next l stored [] steps (source_values j.batches)) =
-    h.1 ∙ (ap (λ (ss : List Step). option_map (report j.options.next l stored [] ss) (rows segment_codec (segment_at j.options.next stored) l)) same ∙ ap (option_map (report j.options.next l stored [] steps)) (written_rows j w)) in
-    let text_is : text ≡ report j.options.next l stored [] steps (source_values j.batches) = cc in
-    subst (λ (st : Status). JobAnswer j st text) (sym h.0) (record {
-      layout = l;
-      stored = stored;
-      steps = steps;
-      written = w;
-      tables = [];
-      tables_read = ap (λ (zs : List ZoneTable). all_there (table_rows (segment_at j.options.next stored) zs)) (written_tables j w);
-      shown = text_is;
-    })
+    → (status ≡ Done) × (Some (Some text) ≡ option_map (λ tables. option_map (report j.options.next l stored tables shown) (rows segment_codec (segment_at j.options.next stored) l)) (all_there (table_rows (segment_at j.options.next stored) (zone_tables l))))
+    → JobAnswer j status text
+report_answers j {l} {stored} {steps} {shown} {status} {text} same w h = by_tables (all_there (table_rows (segment_at j.options.next stored) (zone_tables l))) refl h.1
+  where
+    by_tables : (read : Option (List (List ValueData))) → all_there (table_rows (segment_at j.options.next stored) (zone_tables l)) ≡ read
+        → Some (Some text) ≡ option_map (λ tables. option_map (report j.options.next l stored tables shown) (rows segment_codec (segment_at j.options.next stored) l)) read → JobAnswer j status text
+    by_tables None is printed = absurd (let f : Some (Some text) ≡ None = printed in cc)
+    by_tables (Some tables) is printed =
+        let whole : Some text ≡ Some (report j.options.next l stored tables steps (source_values j.batches)) = (let e : Some (Some text) ≡ Some (Some (report j.options.next l stored tables steps (source_values j.batches))) = rw (same, written_rows j w) at printed in cc) in
+        let text_is : text ≡ report j.options.next l stored tables steps (source_values j.batches) = cc in
+        subst (λ (st : Status). JobAnswer j st text) (sym h.0) (record { layout = l; stored = stored; steps = steps; written = w; tables = tables; tables_read = is; shown = text_is })
 
 -- ---- a job that was refused
-
-unbuilt_cause : (e : WriteError) (t : Ty) (unbuilt : Type 0) (passes : ℕ → Type 0) (p : Plan) (taken : List ChunkData) (next stand : ℕ) → HasCause t unbuilt passes p taken next stand e → is_unbuilt e ≡ true → unbuilt
-unbuilt_cause errors.Unbuilt t unbuilt passes p taken next stand cause is = cause
-unbuilt_cause e t unbuilt passes p taken next stand cause is = absurd (let f : false ≡ true = is in cc)
-
-built_is : (b u : Bool) → (b ≡ false → u ≡ true) → (u ≡ true → b ≡ false) → b ≡ not u
-built_is true true h k = absurd (let f : true ≡ false = k refl in cc)
-built_is true false h k = refl
-built_is false true h k = refl
-built_is false false h k = absurd (let f : false ≡ true = h refl in cc)
 
 -- the source failed before its end was told
 unheard : (s : Setting) (w : StrategyData) (t : Ty) (m : Bool) (tracker : ℕ) (batches : List ChunkData) (heard : Bool) (next : ℕ) (schedule : List ℕ) (steps : List Step) (e : WriteError)
@@ -174,12 +169,13 @@ taken_within taken later xs a c came is rest =
     let same : xs ≡ taken ++ later = cc in
     omega (arith, ap (λ (ys : List ChunkData). length ys) same, length-append taken later)
 
-is_let : (e : WriteError) (j : JobData) (asked appended : ℕ) → is_memory e ≡ false → (IsTrue (is_source_fault e) → IsTrue (fails_at j.options.faults.source asked) × (asked ≤ length j.batches))
-    → (IsTrue (is_sink_fault e) → IsTrue (fails_at j.options.faults.sink appended)) → IsLet j asked appended e
-is_let errors.SourceFault j asked appended memory of_source of_sink = of_source refl
-is_let errors.SinkFault j asked appended memory of_source of_sink = of_sink refl
-is_let errors.OutOfMemory j asked appended memory of_source of_sink = absurd (let f : true ≡ false = memory in cc)
-is_let e j asked appended memory of_source of_sink = tt
+is_let : (e : WriteError) (j : JobData) (asked appended called : ℕ) → is_memory e ≡ false → (IsTrue (is_source_fault e) → IsTrue (fails_at j.options.faults.source asked) × (asked ≤ length j.batches))
+    → (IsTrue (is_sink_fault e) → IsTrue (fails_at j.options.faults.sink appended)) → (IsTrue (is_compress_fault e) → IsTrue (fails_at j.options.faults.compress called)) → IsLet j asked appended called e
+is_let errors.SourceFault j asked appended called memory of_source of_sink of_press = of_source refl
+is_let errors.SinkFault j asked appended called memory of_source of_sink of_press = of_sink refl
+is_let errors.CompressFault j asked appended called memory of_source of_sink of_press = of_press refl
+is_let errors.OutOfMemory j asked appended called memory of_source of_sink of_press = absurd (let f : true ≡ false = memory in cc)
+is_let e j asked appended called memory of_source of_sink of_press = tt
 
 calm : (b : Bool) (before now : ℕ) → b ≡ false → before ≡ 0 → Counts before now b → IsCalm before now
 calm true before now is none counts = absurd (let f : true ≡ false = is in cc)
@@ -193,33 +189,22 @@ never_listed list k none h = by_test (nat_lt k (2 ^ 64 - 1)) (rw none at h)
     by_test true h = let f : false ≡ true = h in cc
     by_test false h = let f : false ≡ true = h in cc
 
-unbuilt_still : (e : WriteError) (j : JobData) {a c : Option (List ChunkData)} {later : List ChunkData} {stand : List (List ℕ)} {steps : List Step} {now : ℕ} → a ≡ Some j.batches → c ≡ Some later → now ≡ j.options.next + length stand
-    → (c ≡ a) × (now ≡ j.options.next) × (steps ≡ []) → (later ≡ j.batches) × (stand ≡ []) × (steps ≡ [])
-unbuilt_still e j {a} {c} {later} {stand} is rest reached h =
-    let g : Some later ≡ Some j.batches = sym rest ∙ (h.0 ∙ is) in
-    let same : later ≡ j.batches = cc in
-    (same, nothing stand (omega (arith, reached, h.1)), h.2)
-  where
-    nothing : (bs : List (List ℕ)) → length bs ≡ 0 → bs ≡ []
-    nothing [] h = refl
-    nothing (b ∷ bs) h = absurd (omega (arith, h))
-
 -- What a refused write of a job is known by.
 pub record RefusedWrite (j : JobData) (e : WriteError) (s : Setting) (t : Ty) (m : Bool) (first now tracker : ℕ) (a c : Option (List ChunkData)) (old new : Option (List (List ℕ))) (schedule : List ℕ) (steps : List Step)
-    (may_source must_source may_sink must_sink : ℕ → Type 0) (source_before source_now sink_before sink_now : ℕ) : Type 0 where
+    (may_source must_source may_sink must_sink may_press must_press : ℕ → Type 0) (source_before source_now sink_before sink_now press_before press_now : ℕ) : Type 0 where
   pub start : Start j s t m first tracker a old schedule
-  pub failing : Failing j may_source must_source may_sink must_sink source_before sink_before
+  pub failing : Failing j may_source must_source may_sink must_sink may_press must_press source_before sink_before press_before
   pub halted : Halted s j.strategy t m tracker first now a c old new schedule steps e
   pub source : FaultsTold source_before source_now may_source must_source (reads_in steps + misfits e) (is_source_fault e)
   pub sink : FaultsTold sink_before sink_now may_sink must_sink (now - first) (is_sink_fault e)
-  pub unbuilt : is_built j.strategy ≡ false → (is_unbuilt e ≡ true) × (c ≡ a) × (now ≡ first) × (steps ≡ [])
+  pub compressor : FaultsTold press_before press_now may_press must_press (calls_in steps) (is_compress_fault e)
   pub appended : now ≡ first + appends_in steps
-  pub complete : (xs : List ChunkData) → a ≡ Some xs → is_built j.strategy ≡ true → Valid s j.strategy t m first tracker xs → IsCalm source_before source_now → IsCalm sink_before sink_now → e ≡ errors.OutOfMemory
+  pub complete : (xs : List ChunkData) → a ≡ Some xs → Valid s j.strategy t m first tracker xs → IsCalm source_before source_now → IsCalm sink_before sink_now → IsCalm press_before press_now → e ≡ errors.OutOfMemory
 
 pub job_refused : (j : JobData) (e : WriteError) {s : Setting} {t : Ty} {m : Bool} {first now tracker : ℕ} {a c : Option (List ChunkData)} {old new : Option (List (List ℕ))} {stand : List (List ℕ)} {schedule : List ℕ} {steps : List Step}
-    {may_source must_source may_sink must_sink : ℕ → Type 0} {source_before source_now sink_before sink_now : ℕ} → new ≡ Some stand
-    → RefusedWrite j e s t m first now tracker a c old new schedule steps may_source must_source may_sink must_sink source_before source_now sink_before sink_now → Halts j e stand steps
-job_refused j e {s} {t} {m} {first} {now} {tracker} {a} {c} {old} {new} {stand} {schedule} {steps} {may_source} {must_source} {may_sink} {must_sink} {source_before} {source_now} {sink_before} {sink_now} told w memory =
+    {may_source must_source may_sink must_sink may_press must_press : ℕ → Type 0} {source_before source_now sink_before sink_now press_before press_now : ℕ} → new ≡ Some stand
+    → RefusedWrite j e s t m first now tracker a c old new schedule steps may_source must_source may_sink must_sink may_press must_press source_before source_now sink_before sink_now press_before press_now → Halts j e stand steps
+job_refused j e {s} {t} {m} {first} {now} {tracker} {a} {c} {old} {new} {stand} {schedule} {steps} {may_source} {must_source} {may_sink} {must_sink} {may_press} {must_press} {source_before} {source_now} {sink_before} {sink_now} {press_before} {press_now} told w memory =
     let start = w.start in
     let rest = told_rest w.halted.stand.taken a c j.batches w.halted.stand.came start.batches in
     let stood : stand ≡ w.halted.stand.appended = told_all start.none told w.halted.stand.stands in
@@ -227,26 +212,26 @@ job_refused j e {s} {t} {m} {first} {now} {tracker} {a} {c} {old} {new} {stand} 
     w.halted.stand.numbers ∙ (ap (λ n. n + length w.halted.stand.appended) start.numbers ∙ ap (λ (bs : List (List ℕ)). j.options.next + length bs) (sym stood)) in
     let count : now - first ≡ length stand = omega (arith, reached, start.numbers) in
     let sink = subst (λ n. FaultsTold sink_before sink_now may_sink must_sink n (is_sink_fault e)) count w.sink in
-    let no_form = unbuilt_cause e t (is_built j.strategy ≡ false) (PassesAt (write_of s j.strategy t m tracker) (of_schema t w.halted.stand.taken) w.halted.heard steps) (taken_plan s j.strategy t m w.halted.stand.taken w.halted.heard) w.halted.stand.taken now (length w.halted.stand.appended) in
     let of_source : IsTrue (is_source_fault e) → IsTrue (fails_at j.options.faults.source (reads_in steps + misfits e)) = λ is. w.failing.may_of_source (reads_in steps + misfits e) (w.source.allowed is) in
     let within : IsTrue (is_source_fault e) → reads_in steps + misfits e ≤ length j.batches = λ is.
     (let still : w.halted.heard ≡ false = unheard s j.strategy t m tracker (of_schema t w.halted.stand.taken) w.halted.heard now schedule steps e w.halted.refused is in
     omega (arith, answers_before w.halted.stand.taken w.halted.heard steps e w.halted.asked still is, taken_within w.halted.stand.taken rest.0 j.batches a c w.halted.stand.came start.batches rest.1)) in
     let of_sink : IsTrue (is_sink_fault e) → IsTrue (fails_at j.options.faults.sink (length stand)) = λ is. w.failing.may_of_sink (length stand) (sink.allowed is) in
+    let of_press : IsTrue (is_compress_fault e) → IsTrue (fails_at j.options.faults.compress (calls_in steps)) = λ is. w.failing.may_of_compressor (calls_in steps) (w.compressor.allowed is) in
     record {
       later = rest.0;
       halted = rw (start.setting, start.schema, start.marked, start.counted, start.numbers, reached, start.batches, rest.1, start.none, told, start.picks) at w.halted;
-      calls = none_fails j (reads_in steps + misfits e) (length stand) (is_source_fault e) (is_sink_fault e) w.failing w.source sink;
+      calls = none_fails j (reads_in steps + misfits e) (length stand) (calls_in steps) (is_source_fault e) (is_sink_fault e) (is_compress_fault e) w.failing w.source sink w.compressor;
       appended = omega (arith, reached, start.numbers, w.appended);
-      let_fail = is_let e j (reads_in steps + misfits e) (length stand) memory (λ is. (of_source is, within is)) of_sink;
-      built = built_is (is_built j.strategy) (is_unbuilt e) (λ f. (w.unbuilt f).0) (no_form w.halted.cause);
-      unasked = λ is. (let u = w.unbuilt (no_form w.halted.cause is) in unbuilt_still e j start.batches rest.1 reached (u.1, u.2 ∙ start.numbers, u.3));
-      not_valid = λ form no_faults valid.
-          (let out = w.complete j.batches start.batches form (rw (start.setting, start.schema, start.marked, start.numbers, start.counted) valid)
+      let_fail = is_let e j (reads_in steps + misfits e) (length stand) (calls_in steps) memory (λ is. (of_source is, within is)) of_sink of_press;
+      not_valid = λ no_faults valid.
+          (let out = w.complete j.batches start.batches (rw (start.setting, start.schema, start.marked, start.numbers, start.counted) valid)
           (calm (is_source_fault e) source_before source_now
           (is_false (is_source_fault e) (λ is. never_listed j.options.faults.source (reads_in steps + misfits e) (ap (λ (f : FailingCalls). f.source) no_faults) (of_source is))) w.failing.source_none w.source.counted)
           (calm (is_sink_fault e) sink_before sink_now
-          (is_false (is_sink_fault e) (λ is. never_listed j.options.faults.sink (length stand) (ap (λ (f : FailingCalls). f.sink) no_faults) (of_sink is))) w.failing.sink_none w.sink.counted) in
+          (is_false (is_sink_fault e) (λ is. never_listed j.options.faults.sink (length stand) (ap (λ (f : FailingCalls). f.sink) no_faults) (of_sink is))) w.failing.sink_none w.sink.counted)
+          (calm (is_compress_fault e) press_before press_now
+          (is_false (is_compress_fault e) (λ is. never_listed j.options.faults.compress (calls_in steps) (ap (λ (f : FailingCalls). f.compress) no_faults) (of_press is))) w.failing.compressor_none w.compressor.counted) in
           let f : true ≡ false = ap is_memory (sym out) ∙ memory in cc);
     }
 

@@ -1,4 +1,5 @@
 mod RunSteps
+mod ShapeSteps
 mod TableSteps
 mod JobSteps
 mod BackSteps

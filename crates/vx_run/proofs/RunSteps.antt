@@ -1,5 +1,5 @@
 -- Steps of reading and writing bytes.
-use Rattle.std.proofs.Common.{◌≡◌, ℕ, ◌+◌, ◌-◌, ◌≤◌, ◌<◌, List, [], ◌∷◌, ◌++◌, length, take, drop, Option, Some, None, refl, sym, ap, subst, inl, inr, ◌∙◌, arith, append_assoc, ltb, Bool, true, false, lit≤}
+use Rattle.std.proofs.Common.{◌≡◌, ℕ, ◌+◌, ◌-◌, ◌≤◌, ◌<◌, List, [], ◌++◌, length, take, drop, Option, Some, None, refl, sym, ap, subst, inl, inr, ◌∙◌, arith, append_assoc, ltb, Bool, true, false}
 use Rattle.std.proofs.lemmas.List.{append-nil, take-append-drop, length-take, length-drop, length-append, take_at, drop-drop, nil_from_length}
 use Rattle.std.specs.Io.KnownBytes.{Keeps, Appends, Consumes}
 use Rattle.std.specs.Prelude.{Result, Ok, Err}
@@ -11,7 +11,6 @@ use Rattle.std.proofs.Math.Seq.{take-add}
 use Rattle.std.proofs.lemmas.Bool.{ltb-true, ltb-false, lt-ltb}
 use Rattle.std.specs.Prelude.{◌⊎◌}
 use Rattle.vx_fault.specs.Counts.{Counts, IsCalm}
-use Rattle.vx_machine_view.specs.Built.{is_built}
 use Rattle.vx_run.specs.declared.status.Status.{Status}
 use Rattle.vx_run.specs.declared.status.Status.TheVariants.{Done, Usage, BadJob, Refused, InputFault, OutputFault, OutOfMemory}
 use Rattle.vx_session.specs.Made.{Made}
@@ -155,14 +154,14 @@ no_fault : (before now : ℕ) → Counts before now true → IsCalm before now �
 no_fault before now rose calm = absurd (omega (arith, rose.0, rose.1, calm.0, calm.1))
 
 -- which text belongs to a valid job: that of what is done
-valid_done : (j : JobData) (status : Status) (text : List ℕ) → is_built j.strategy ≡ true → SetsNoFaults j → IsValid j → JobAnswer j status text → status ≡ Done
-valid_done j Done text form no_faults valid answers = refl
-valid_done j Refused text form no_faults valid answers = absurd (answers.refused.not_valid form no_faults valid)
-valid_done j Usage text form no_faults valid answers = absurd answers
-valid_done j BadJob text form no_faults valid answers = absurd answers
-valid_done j InputFault text form no_faults valid answers = absurd answers
-valid_done j OutputFault text form no_faults valid answers = absurd answers
-valid_done j OutOfMemory text form no_faults valid answers = absurd answers
+valid_done : (j : JobData) (status : Status) (text : List ℕ) → SetsNoFaults j → IsValid j → JobAnswer j status text → status ≡ Done
+valid_done j Done text no_faults valid answers = refl
+valid_done j Refused text no_faults valid answers = absurd (answers.refused.not_valid no_faults valid)
+valid_done j Usage text no_faults valid answers = absurd answers
+valid_done j BadJob text no_faults valid answers = absurd answers
+valid_done j InputFault text no_faults valid answers = absurd answers
+valid_done j OutputFault text no_faults valid answers = absurd answers
+valid_done j OutOfMemory text no_faults valid answers = absurd answers
 
 -- Where nothing fails, a run whose answers all have one status ends with it, or memory ran out.
 calm_end : (P : Status → List ℕ → Type 0) (wanted : Status) → ((status : Status) (text : List ℕ) → P status text → status ≡ wanted) → (before now : Option (List ℕ)) (result : Status) (ins ins_now outs outs_now : ℕ)
@@ -176,11 +175,11 @@ calm_end P wanted only before now OutputFault ins ins_now outs outs_now ends ros
 calm_end P wanted only before now OutOfMemory ins ins_now outs outs_now ends rose calm risen still = inr refl
 
 pub written_or_memory : (bytes : List ℕ) (j : JobData) (before now : Option (List ℕ)) (result : Status) (ins ins_now outs outs_now : ℕ)
-    → job bytes ≡ Ok j → is_built j.strategy ≡ true → SetsNoFaults j → IsValid j
+    → job bytes ≡ Ok j → SetsNoFaults j → IsValid j
     → Ends (Answers Write bytes) before now result → Counts ins ins_now (is_input_fault result) → IsCalm ins ins_now → Counts outs outs_now (is_output_fault result) → IsCalm outs outs_now
     → (result ≡ Done) ⊎ (result ≡ OutOfMemory)
-written_or_memory bytes j before now result ins ins_now outs outs_now is form no_faults valid =
-    calm_end (Answers Write bytes) Done (λ status text answers. valid_done j status text form no_faults valid (subst (λ (k : Result JobData Key). IsAnswer k status text) is answers))
+written_or_memory bytes j before now result ins ins_now outs outs_now is no_faults valid =
+    calm_end (Answers Write bytes) Done (λ status text answers. valid_done j status text no_faults valid (subst (λ (k : Result JobData Key). IsAnswer k status text) is answers))
     before now result ins ins_now outs outs_now
 
 pub shown_or_memory : (bytes : List ℕ) (before now : Option (List ℕ)) (result : Status) (ins ins_now outs outs_now : ℕ)

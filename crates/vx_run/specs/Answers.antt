@@ -1,21 +1,21 @@
 -- Which text belongs to which status.
-use Rattle.std.specs.Prelude.{◌≡◌, ℕ, ◌+◌, ◌++◌, ◌^◌, ◌≤◌, ◌<◌, max, Bool, true, false, not, List, [], ◌∷◌, length, codes, Option, Some, None, IsTrue, Result, Ok, Err}
+use Rattle.std.specs.Prelude.{◌≡◌, ℕ, ◌+◌, ◌++◌, ◌≤◌, ◌<◌, true, false, List, [], length, codes, Some, IsTrue, Result, Ok, Err}
 use Rattle.vx_model.specs.ChunkData.{ChunkData}
 use Rattle.vx_model.specs.ValueData.{ValueData}
 use Rattle.vx_layout_spec.specs.LayoutTree.{LayoutData}
-use Rattle.vx_layout_spec.specs.Rows.{rows, all_there}
-use Rattle.vx_segment_reader.specs.Codec.{segment_codec}
+use Rattle.vx_layout_spec.specs.Rows.{all_there}
 use Rattle.vx_plan.specs.PlanData.{Setting, Plan}
 use Rattle.vx_plan.specs.SourcePlan.{source_plan, source_values}
 use Rattle.vx_plan.specs.Number.{segment_at}
 use Rattle.vx_plan.specs.Valid.{Valid}
 use Rattle.vx_fault.specs.Fails.{fails_at}
 use Rattle.vx_setting.specs.Setting.{real}
-use Rattle.vx_machine_view.specs.Built.{is_built}
-use Rattle.vx_write.specs.Calls.{reads_in, appends_in, misfits}
+use Rattle.vx_compressor_spec.specs.TableImage.{table_image}
+use Rattle.vx_machine_view.specs.Images.{images_of}
+use Rattle.vx_write.specs.Calls.{reads_in, appends_in, calls_in, misfits}
+use Rattle.vx_write.specs.Readable.{IsReadable}
 use Rattle.vx_write.specs.Traced.{IsTraced}
 use Rattle.vx_write.specs.Written.{Wrote, Halted}
-use Rattle.vx_write_answer.specs.Causes.{is_unbuilt}
 use Rattle.vx_write_answer.specs.declared.step.Step.{Step}
 use Rattle.vx_write_answer.specs.declared.error.WriteError.{WriteError}
 use Rattle.vx_write_answer.specs.declared.error.WriteError.TheVariants as errors
@@ -24,16 +24,17 @@ use Rattle.vx_job.specs.JobParts.{failing}
 use Rattle.vx_job.specs.JobText.{JobData}
 use Rattle.vx_job.specs.KeyNames.{key_name}
 use Rattle.vx_report.specs.Report.{report, refused_report}
-use Rattle.vx_report.specs.ZoneText.{ZoneTable, zone_tables}
+use Rattle.vx_report.specs.ZoneText.{zone_tables}
+use Rattle.vx_run.specs.Tables.{table_rows}
 use Rattle.vx_run.specs.RefusalNames.{refusal_name, is_memory}
 use Rattle.vx_run.specs.declared.status.Status.{Status}
 use Rattle.vx_run.specs.declared.status.Status.TheVariants.{Done, Usage, BadJob, Refused, InputFault, OutputFault, OutOfMemory}
 
 -- ---- a job
 
--- what the job lists and allows; its compressor's image of a chunk is the chunk
+-- what the job lists and allows, with the table of images
 abbrev pub job_setting : JobData → Setting
-job_setting j = real j.options.encodings j.options.aggregates (λ which p. p)
+job_setting j = real j.options.encodings j.options.aggregates (images_of table_image)
 
 -- the plan of the job's batches
 abbrev pub job_plan : JobData → Plan
@@ -47,28 +48,25 @@ IsValid j = Valid (job_setting j) j.strategy j.schema j.options.marked j.options
 abbrev pub SetsNoFaults : JobData → Type 0
 SetsNoFaults j = j.options.faults ≡ failing [] [] []
 
--- The job lets none of these calls fail: so many first ones of the source, and so many first ones of the sink.
-pub record NoneFails (j : JobData) (asked appended : ℕ) : Type 0 where
+-- The job lets none of these calls fail: so many first ones of the source, of the sink, and of the compressor.
+pub record NoneFails (j : JobData) (asked appended called : ℕ) : Type 0 where
   pub source : (k : ℕ) → k < asked → ¬ (IsTrue (fails_at j.options.faults.source k))
   pub sink : (k : ℕ) → k < appended → ¬ (IsTrue (fails_at j.options.faults.sink k))
+  pub compressor : (k : ℕ) → k < called → ¬ (IsTrue (fails_at j.options.faults.compress k))
 
 -- ---- a job that is written
 
 -- A write of the job came to its end, with this layout, these segments and these steps: those of the plan of the job's batches,
 -- numbered from the job's first number, and of their tasks under the job's schedule.
 pub record IsWritten (j : JobData) (l : LayoutData ℕ) (stored : List (List ℕ)) (steps : List Step) : Type 0 where
-  pub form : is_built j.strategy ≡ true
   pub wrote : Wrote j.schema j.options.next (j.options.next + length stored) (Some []) (Some stored) l j.batches (job_plan j)
+  -- readers build the layout again, and prune by its zone tables without a loss
+  pub readable : IsReadable (job_setting j) j.schema j.options.next stored l
   pub traced : IsTraced (job_setting j) j.strategy j.schema j.options.marked j.options.schedule j.batches steps
   -- a segment each append
   pub appended : length stored ≡ appends_in steps
-  -- the source was asked for each batch and for the end, and the sink for each segment
-  pub calls : NoneFails j (length j.batches + 1) (length stored)
-
--- the rows of each zone table
-abbrev pub table_rows : (ℕ → Option (List ℕ)) → List ZoneTable → List (Option (List ValueData))
-table_rows look [] = []
-table_rows look (z ∷ zs) = rows segment_codec look z.rows ∷ table_rows look zs
+  -- the source was asked for each batch and for the end, the sink for each segment, and the compressor at each call
+  pub calls : NoneFails j (length j.batches + 1) (length stored) (calls_in steps)
 
 -- The report of such a write, with the batches' rows, and the rows of its zone tables, read from the segments.
 pub record IsReport (j : JobData) (text : List ℕ) : Type 0 where
@@ -84,11 +82,12 @@ pub record IsReport (j : JobData) (text : List ℕ) : Type 0 where
 
 -- A fault is that of a call that the job lets fail, the one behind those that were answered; of the source one that would have given a
 -- batch, or told the end. Want of memory isn't reported.
-abbrev pub IsLet : JobData → ℕ → ℕ → WriteError → Type 0
-IsLet j asked appended errors.SourceFault = IsTrue (fails_at j.options.faults.source asked) × (asked ≤ length j.batches)
-IsLet j asked appended errors.SinkFault = IsTrue (fails_at j.options.faults.sink appended)
-IsLet j asked appended errors.OutOfMemory = ⊥
-IsLet j asked appended e = Unit {0}
+abbrev pub IsLet : JobData → ℕ → ℕ → ℕ → WriteError → Type 0
+IsLet j asked appended called errors.SourceFault = IsTrue (fails_at j.options.faults.source asked) × (asked ≤ length j.batches)
+IsLet j asked appended called errors.SinkFault = IsTrue (fails_at j.options.faults.sink appended)
+IsLet j asked appended called errors.CompressFault = IsTrue (fails_at j.options.faults.compress called)
+IsLet j asked appended called errors.OutOfMemory = ⊥
+IsLet j asked appended called e = Unit {0}
 
 -- A write of the job was refused by this error: these segments stand, behind these steps, and it has its cause in the plan of
 -- the batches taken, at the act that the job's schedule picks next.
@@ -99,12 +98,9 @@ pub record IsRefused (j : JobData) (e : WriteError) (stand : List (List ℕ)) (s
       j.options.schedule steps e
   -- a segment each append
   pub appended : length stand ≡ appends_in steps
-  pub calls : NoneFails j (reads_in steps + misfits e) (length stand)
-  pub let_fail : IsLet j (reads_in steps + misfits e) (length stand) e
-  -- a strategy that isn't built is refused as that and as nothing else, before anything is done
-  pub built : is_built j.strategy ≡ not (is_unbuilt e)
-  pub unasked : is_unbuilt e ≡ true → (later ≡ j.batches) × (stand ≡ []) × (steps ≡ [])
-  pub not_valid : is_built j.strategy ≡ true → SetsNoFaults j → ¬ (IsValid j)
+  pub calls : NoneFails j (reads_in steps + misfits e) (length stand) (calls_in steps)
+  pub let_fail : IsLet j (reads_in steps + misfits e) (length stand) (calls_in steps) e
+  pub not_valid : SetsNoFaults j → ¬ (IsValid j)
 
 -- the report of such a write: the refusal's name, the segments that stand, and the steps before
 pub record IsRefusal (j : JobData) (text : List ℕ) : Type 0 where

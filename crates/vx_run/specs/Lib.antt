@@ -1,5 +1,6 @@
 pub mod Failures
 pub mod RefusalNames
+pub mod Tables
 pub mod Answers
 pub mod TreeAnswers
 pub mod Commands

@@ -18,7 +18,6 @@ refusal_name (errors.ForbiddenAggregate id) = codes "ForbiddenAggregate"
 refusal_name (errors.ForbiddenEncoding id) = codes "ForbiddenEncoding"
 refusal_name (errors.TooLarge n) = codes "TooLarge"
 refusal_name errors.OutOfMemory = codes "OutOfMemory"
-refusal_name errors.Unbuilt = codes "Unbuilt"
 refusal_name (errors.Stopped column name) = codes "Stopped"
 
 abbrev pub is_memory : WriteError → Bool

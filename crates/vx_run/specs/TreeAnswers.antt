@@ -1,5 +1,5 @@
 -- What the command `tree` prints, and its status.
-use Rattle.std.specs.Prelude.{ℕ, ◌++◌, true, List, [], ◌∷◌, codes, Result, Ok, Err}
+use Rattle.std.specs.Prelude.{ℕ, ◌++◌, true, List, [], codes, Result, Ok, Err}
 use Rattle.vx_session.specs.Encodings.{with_kinds}
 use Rattle.vx_session.specs.Ids.{aggregate_ids}
 use Rattle.vx_session.specs.Scope.{Scope}

@@ -1,8 +1,8 @@
 //! What the command `write` answers to a job.
 
-ghost use Rattle.std.specs.Prelude.{◌≡◌, ◌+◌, ◌^◌, ◌≤◌, max, false, [], string_bytes, map, length, Some, IsSome, IfOk, IfErr, MatchResult, option_map};
+ghost use Rattle.std.specs.Prelude.{◌≡◌, ◌+◌, ◌^◌, ◌≤◌, max, false, string_bytes, map, length, Some, IsSome, IfOk, IfErr, MatchResult, option_map};
 ghost use Rattle.vx_model.specs.TreeView.{val};
-ghost use Rattle.vx_layout_spec.specs.Rows.{rows};
+ghost use Rattle.vx_layout_spec.specs.Rows.{rows, all_there};
 ghost use Rattle.vx_segment_reader.specs.Codec.{segment_codec};
 ghost use Rattle.vx_layout_tree.specs.LayoutView.{layout_data};
 ghost use Rattle.vx_plan.specs.Number.{segment_at};
@@ -14,16 +14,19 @@ ghost use Rattle.vx_report.specs.Report.{report, refused_report};
 ghost use Rattle.vx_report.specs.ZoneText.{zone_tables};
 ghost use Rattle.vx_run.specs.declared.status.Status.TheVariants as statuses;
 ghost use Rattle.vx_run.specs.RefusalNames.{refusal_name, is_memory};
+ghost use Rattle.vx_run.specs.Tables.{TablesThere, table_rows};
 ghost use Rattle.vx_run.specs.Answers.{IsText, IsAnswer, JobAnswer, IsWritten, Halts, bad_job};
 
 use crate::status::Status;
+use crate::tables::read_tables;
 use std::alloc::{AllocError, Global};
 use vx_job::{Job, JobError, Key, read_job};
 use vx_layout_tree::Layout;
 use vx_model::{ArrayContext, Blob, Text, Value};
 use vx_read::{ReadError, SegmentMap, read_rows};
 use vx_report::{refused_report, report};
-use vx_sink::{LayoutWriterContext, ListSource, MemorySink, PlainCompressor};
+use vx_sink::{LayoutWriterContext, ListSource, MemorySink};
+use vx_table_compressor::TableCompressor;
 use vx_write::{Step, WriteError, write_stream};
 
 /// A status, and the text that is printed before it.
@@ -82,7 +85,7 @@ fn write_batches(
     job: Job,
 ) -> Result<(Layout, Vec<Blob>, Vec<Step>), (WriteError, Vec<Blob>, Vec<Step>)>
     ensures ok { IfOk result (λ w. IsWritten (job_view job) (layout_data w.0) w.1.items w.2.items) }
-    ensures no_tables { IfOk result (λ w. zone_tables (layout_data w.0) ≡ []) }
+    ensures tables { IfOk result (λ w. TablesThere (segment_at job.next w.1.items) (layout_data w.0)) }
     ensures err { IfErr result (λ r. Halts (job_view job) r.0 r.1.items r.2.items) }
     ensures numbered { MatchResult result (λ w. job.next + length w.1.items ≤ max job.next (2 ^ 32)) (λ r. job.next + length r.1.items ≤ max job.next (2 ^ 32)) }
 {
@@ -90,7 +93,7 @@ fn write_batches(
     let faults = job.faults;
     let mut source = ListSource::new(job.schema, job.batches, faults.source);
     let mut sink = MemorySink::new(job.next, faults.sink);
-    let mut compressor = PlainCompressor::new(faults.compress);
+    let mut compressor = TableCompressor::new(faults.compress);
     match write_stream(
         alloc,
         &job.strategy,
@@ -169,12 +172,12 @@ fn refusal_name(error: &WriteError) -> &'static str
         WriteError::ForbiddenEncoding(_) => "ForbiddenEncoding",
         WriteError::TooLarge(_) => "TooLarge",
         WriteError::OutOfMemory => "OutOfMemory",
-        WriteError::Unbuilt => "Unbuilt",
         WriteError::Stopped(_, _) => "Stopped",
     }
 }
 
 /// The report of what was written, with the rows that are read back from the segments.
+#[tactic(auto, using(crate::proofs::TableSteps::are_tables))]
 fn written(
     alloc: Global,
     first: u64,
@@ -184,13 +187,15 @@ fn written(
 ) -> Result<Answer, AllocError>
     requires readable { IsSome (rows segment_codec (segment_at first list.items) (layout_data layout.now)) }
     requires numbered { first + length list.items ≤ max first (2 ^ 32) }
-    requires no_tables { zone_tables (layout_data layout.now) ≡ [] }
-    ensures { IfOk result (λ a. (a.status ≡ statuses.Done) × (Some (string_bytes a.text)
-        ≡ option_map (report first (layout_data layout.now) list.items [] steps.now) (rows segment_codec (segment_at first list.items) (layout_data layout.now)))) }
+    requires tables { TablesThere (segment_at first list.items) (layout_data layout.now) }
+    ensures { IfOk result (λ a. (a.status ≡ statuses.Done) × (Some (Some (string_bytes a.text))
+        ≡ option_map (λ tables. option_map (report first (layout_data layout.now) list.items tables steps.now) (rows segment_codec (segment_at first list.items) (layout_data layout.now)))
+        (all_there (table_rows (segment_at first list.items) (zone_tables (layout_data layout.now)))))) }
 {
     let segments = numbered(first, list);
+    let tables = read_tables(alloc, layout, &segments)?;
     let rows = read_back(alloc, layout, &segments)?;
-    let text = report(alloc, first, layout, &segments.list, steps, &rows)?;
+    let text = report(alloc, first, layout, &segments.list, &tables, steps, &rows)?;
     Ok(Answer {
         status: Status::Done,
         text,
@@ -210,7 +215,7 @@ fn numbered(first: u64, list: Vec<Blob>) -> SegmentMap
 }
 
 /// The rows that a layout gives from the segments.
-fn read_back(
+pub(crate) fn read_back(
     alloc: Global,
     layout: &Layout,
     segments: &SegmentMap,

@@ -9,6 +9,7 @@ mod output;
 mod real;
 mod running;
 mod status;
+mod tables;
 mod tree;
 
 pub use command::Command;

@@ -1,9 +1,8 @@
 //! The program.
 
-ghost use Rattle.std.specs.Prelude.{◌≡◌, ℕ, ◌+◌, ◌≤◌, ◌<◌, ◌⊎◌, true, false, List, Some, None, Ok, map, length, is_some, string_bytes, IsTrue, IfOk, OnOk, OnErr};
-ghost use Rattle.std.specs.Io.KnownBytes.{Keeps, Appends, IsAtEnd};
+ghost use Rattle.std.specs.Prelude.{◌≡◌, ℕ, ◌+◌, ◌<◌, ◌⊎◌, true, false, List, Some, None, Ok, map, is_some, string_bytes, IfOk, OnOk, OnErr};
+ghost use Rattle.std.specs.Io.KnownBytes.{Appends, IsAtEnd};
 ghost use Rattle.vx_fault.specs.Counts.{Counts, IsCalm};
-ghost use Rattle.vx_machine_view.specs.Built.{is_built};
 ghost use Rattle.vx_job.specs.JobText.{JobData, job, limit};
 ghost use Rattle.vx_job.specs.TreeText.{tree_job};
 ghost use Rattle.vx_run.specs.declared.status.Status.{Status};
@@ -51,7 +50,7 @@ pub fn run<I: Input, O: Output>(
     ensures untaken { command_of (map string_bytes words.now) ≡ None → I.to_come input.new ≡ I.to_come input.old }
     ensures untouched { command_of (map string_bytes words.now) ≡ None → input.new ≡ input.old }
     ensures complete { (bytes : List ℕ) (j : JobData) → command_of (map string_bytes words.now) ≡ Some commands.Write
-        → I.to_come input.old ≡ Some bytes → job bytes ≡ Ok j → is_built j.strategy ≡ true → SetsNoFaults j → IsValid j
+        → I.to_come input.old ≡ Some bytes → job bytes ≡ Ok j → SetsNoFaults j → IsValid j
         → IsCalm (I.faults input.old) (I.faults input.new) → IsCalm (O.faults output.old) (O.faults output.new)
         → (result ≡ statuses.Done) ⊎ (result ≡ statuses.OutOfMemory) }
     ensures told { (bytes : List ℕ) → command_of (map string_bytes words.now) ≡ Some commands.Tree → I.to_come input.old ≡ Some bytes

@@ -1,6 +1,6 @@
 //! What the command `tree` answers to the bytes of a layout.
 
-ghost use Rattle.std.specs.Prelude.{◌≡◌, ◌≤◌, ◌++◌, true, [], map, codes, string_bytes, IfOk};
+ghost use Rattle.std.specs.Prelude.{◌≡◌, ◌≤◌, true, [], map, string_bytes, IfOk};
 ghost use Rattle.vx_session.specs.Encodings.{with_kinds};
 ghost use Rattle.vx_session.specs.Ids.{aggregate_ids};
 ghost use Rattle.vx_layout_tree.specs.declared.error.LayoutError.TheVariants as layout_errors;

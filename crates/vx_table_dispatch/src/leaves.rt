@@ -1,4 +1,4 @@
-//! What tables and list nodes of other types stand for.
+//! What stands for tables, for list nodes of other types, and for dictionary nodes of types that no dictionary can hold.
 
 ghost use Rattle.std.specs.Prelude.{◌≡◌, IfOk};
 ghost use Rattle.vx_model.specs.TyView.{ty};
@@ -22,7 +22,11 @@ pub fn passes_on(strategy: &Strategy, dtype: &DType) -> bool
             DType::Bool(_) | DType::Primitive(..) | DType::Utf8(_) | DType::Binary(_) => true,
             DType::Struct(..) | DType::Extension(_) => true,
         },
-        Strategy::Flat(_) | Strategy::Chunked(_) | Strategy::Struct(_) | Strategy::Dict(_) => false,
+        Strategy::Dict(_) => match dtype {
+            DType::Primitive(..) | DType::Utf8(_) | DType::Binary(_) => false,
+            DType::Bool(_) | DType::List(..) | DType::Struct(..) | DType::Extension(_) => true,
+        },
+        Strategy::Flat(_) | Strategy::Chunked(_) | Strategy::Struct(_) => false,
         Strategy::Zoned(_) | Strategy::Repartition(_) | Strategy::Buffered(_) => false,
         Strategy::Collect(_) | Strategy::Compressing(_) => false,
     }
@@ -42,14 +46,20 @@ fn further(strategy: &Strategy, dtype: &DType) -> Result<Strategy, AllocError>
             }
             DType::Struct(..) | DType::Extension(_) => lists.fallback.strategy().clone(),
         },
+        Strategy::Dict(by) => match dtype {
+            DType::Primitive(..) | DType::Utf8(_) | DType::Binary(_) => strategy.clone(),
+            DType::Bool(_) | DType::List(..) | DType::Struct(..) | DType::Extension(_) => {
+                by.fallback().strategy().clone()
+            }
+        },
         Strategy::Flat(_) | Strategy::Chunked(_) | Strategy::Struct(_) => strategy.clone(),
-        Strategy::Dict(_) | Strategy::Zoned(_) | Strategy::Repartition(_) => strategy.clone(),
+        Strategy::Zoned(_) | Strategy::Repartition(_) => strategy.clone(),
         Strategy::Buffered(_) | Strategy::Collect(_) | Strategy::Compressing(_) => strategy.clone(),
     }
 }
 
-/// The strategy that writes at this type what the strategy writes, and for which no other stands: no table, and a list node
-/// of a list type alone.
+/// The strategy that writes at this type what the strategy writes, and for which no other stands: no table, a list node of a
+/// list type alone, and a dictionary node of a type that a dictionary can hold.
 pub fn settled(strategy: &Strategy, dtype: &DType) -> Result<Strategy, AllocError>
     ensures { IfOk result (λ s. strategy_data s ≡ settled (strategy_data strategy.now) (ty dtype.now)) }
 {

@@ -1,4 +1,4 @@
 mod WriteSteps
 mod RanSteps
-mod UnbuiltSteps
 mod LentSteps
+mod ReadSteps

@@ -27,14 +27,14 @@ asked (Err r) = asked_by {A = Layout} (Err r.error) r.trace.items
 
 -- How a write by tasks ended, of which these calls of the source must fail.
 
-abbrev pub StoppedTold : LayoutWriterContext → StrategyData → Ty → List ℕ → Option (List ChunkData) → Outlet → List Step → Option (List ChunkData) → Outlet → (ℕ → Type 0) → WriteError → Type 0
-StoppedTold ctx w t schedule to_come before steps to_come_now after must e =
-    Unstarted w t (is_marked ctx) to_come to_come_now before after steps e
-    ⊎ (IsStarted w t (is_marked ctx) × RunTold ctx t schedule (begun w t (is_marked ctx) to_come before) steps to_come_now after must e)
+abbrev pub StoppedTold : LayoutWriterContext → (ℕ → ChunkData → ChunkData) → StrategyData → Ty → List ℕ → Option (List ChunkData) → Outlet → List Step → Option (List ChunkData) → Outlet → (ℕ → Type 0) → WriteError → Type 0
+StoppedTold ctx image w t schedule to_come before steps to_come_now after must e =
+    Unstarted (allowed_in ctx) w t (is_marked ctx) to_come to_come_now before after steps e
+    ⊎ (IsStarted (allowed_in ctx) w t (is_marked ctx) × RunTold ctx image t schedule (begun w t (is_marked ctx) to_come before) steps to_come_now after must e)
 
-abbrev pub AnsweredTold : LayoutWriterContext → StrategyData → Ty → List ℕ → Option (List ChunkData) → Outlet → List Step → Option (List ChunkData) → Outlet → (ℕ → Type 0) → Result (Option Layout) WriteError → Type 0
-AnsweredTold ctx w t schedule to_come before steps to_come_now after must r =
-    MatchResult r (HasRun ctx w t schedule to_come before steps to_come_now after) (StoppedTold ctx w t schedule to_come before steps to_come_now after must)
+abbrev pub AnsweredTold : LayoutWriterContext → (ℕ → ChunkData → ChunkData) → StrategyData → Ty → List ℕ → Option (List ChunkData) → Outlet → List Step → Option (List ChunkData) → Outlet → (ℕ → Type 0) → Result (Option Layout) WriteError → Type 0
+AnsweredTold ctx image w t schedule to_come before steps to_come_now after must r =
+    MatchResult r (HasRun ctx image w t schedule to_come before steps to_come_now after) (StoppedTold ctx image w t schedule to_come before steps to_come_now after must)
 
 -- a context that tells the same: what it lists and allows, its mark, and what its tracker counts
 pub record SameContext (before after : LayoutWriterContext) : Type 0 where

@@ -7,3 +7,4 @@ pub use Rattle.vx_machine_ran.specs.Tracking
 pub use Rattle.vx_machine_ran.specs.Written
 pub use Rattle.vx_machine.specs.Calls
 pub use Rattle.vx_machine.specs.Context
+pub mod Readable

@@ -1,6 +1,6 @@
 //! A write by tasks, over ids and an order of its own.
 
-ghost use Rattle.std.specs.Prelude.{◌≡◌, ◌+◌, ◌<◌, ◌≤◌, ◌^◌, max, true, List, ℕ, [], length, Some, IfOk, IfErr, OnOk};
+ghost use Rattle.std.specs.Prelude.{◌≡◌, ◌+◌, ◌<◌, ◌≤◌, ◌^◌, max, List, ℕ, [], length, Some, IfOk, IfErr, OnOk};
 ghost use Rattle.vx_model.specs.ChunkData.{ChunkData};
 ghost use Rattle.vx_layout_tree.specs.LayoutView.{layout_data};
 ghost use Rattle.vx_machine_ran.specs.Valid.{Valid};
@@ -13,13 +13,14 @@ ghost use Rattle.vx_strategy.specs.StrategyView.{strategy_data};
 ghost use Rattle.vx_machine_ids.specs.Stock.{end_stock};
 ghost use Rattle.vx_machine_ids.specs.Balance.{Owned, Exact};
 ghost use Rattle.vx_write_answer.specs.declared.error.WriteError.TheVariants.{OutOfMemory};
-ghost use Rattle.vx_write_answer.specs.Causes.{errs, is_source_fault, is_sink_fault};
-ghost use Rattle.vx_machine.specs.Calls.{reads_in, appends_in, asked_by};
-ghost use Rattle.vx_machine_ran.specs.Built.{is_built};
+ghost use Rattle.vx_write_answer.specs.Causes.{errs, is_source_fault, is_sink_fault, is_compress_fault};
+ghost use Rattle.vx_machine.specs.Calls.{reads_in, appends_in, calls_in, asked_by};
 ghost use Rattle.vx_machine.specs.Context.{setting_of};
+ghost use Rattle.vx_machine_ran.specs.Number.{segments};
 ghost use Rattle.vx_machine_ran.specs.Traced.{Traced};
 ghost use Rattle.vx_machine_ran.specs.Written.{Planned, Wrote, Halted};
 ghost use Rattle.vx_write.specs.Answer.{SameContext, AnsweredTold};
+ghost use Rattle.vx_write.specs.Readable.{IsReadable};
 
 use std::alloc::Global;
 use vx_layout_tree::Layout;
@@ -47,6 +48,9 @@ pub(crate) fn write_tasks<B: BatchSource, S: SegmentSink, C: CompressorPlugin>(
     ensures wrote { IfOk result.0 (λ l. Planned (setting_of ctx.old (C.image (C.kind compressor.old))) (strategy_data strategy.now) (B.kind source.old)
         (is_marked ctx.old) (B.to_come source.old)
         (Wrote (B.kind source.old) (S.next sink) (S.next result.1) (S.segments sink) (S.segments result.1) (layout_data l))) }
+    ensures readable { IfOk result.0 (λ l. Planned (setting_of ctx.old (C.image (C.kind compressor.old))) (strategy_data strategy.now) (B.kind source.old)
+        (is_marked ctx.old) (B.to_come source.old)
+        (λ xs p. IsReadable (setting_of ctx.old (C.image (C.kind compressor.old))) (B.kind source.old) (S.next sink) (segments p) (layout_data l))) }
     ensures ended { OnOk result.0 (NoneTold (B.to_come source.new)) }
     ensures trace { OnOk result.0 (Traced (setting_of ctx.old (C.image (C.kind compressor.old))) (strategy_data strategy.now) (B.kind source.old)
         (is_marked ctx.old) (B.to_come source.old) schedule.now steps.new.items) }
@@ -59,16 +63,20 @@ pub(crate) fn write_tasks<B: BatchSource, S: SegmentSink, C: CompressorPlugin>(
         (asked_by result.0 steps.new.items) (errs is_source_fault result.0) }
     ensures sink { FaultsTold (S.faults sink) (S.faults result.1) (S.may_fail sink) (S.must_fail sink)
         (appends_in steps.new.items) (errs is_sink_fault result.0) }
-    ensures complete { (xs : List ChunkData) → B.to_come source.old ≡ Some xs → is_built (strategy_data strategy.now) ≡ true
+    ensures compressor { FaultsTold (C.faults compressor.old) (C.faults compressor.new) (C.may_fail compressor.old) (C.must_fail compressor.old)
+        (calls_in steps.new.items) (errs is_compress_fault result.0) }
+    ensures complete { (xs : List ChunkData) → B.to_come source.old ≡ Some xs
         → Valid (setting_of ctx.old (C.image (C.kind compressor.old))) (strategy_data strategy.now) (B.kind source.old) (is_marked ctx.old)
         (S.next sink) (counted ctx.old) xs
         → IsCalm (B.faults source.old) (B.faults source.new) → IsCalm (S.faults sink) (S.faults result.1)
-        → IfErr result.0 (λ e. e ≡ OutOfMemory) }
+        → IsCalm (C.faults compressor.old) (C.faults compressor.new) → IfErr result.0 (λ e. e ≡ OutOfMemory) }
     ensures borrow { S.borrow result.1 ≡ S.borrow sink }
-    ensures same { SameContext ctx.old ctx.new × (B.kind source.new ≡ B.kind source.old) × (compressor.new ≡ compressor.old) }
+    ensures same { SameContext ctx.old ctx.new × (B.kind source.new ≡ B.kind source.old) × (C.kind compressor.new ≡ C.kind compressor.old) }
 {
     vx_machine_ran::answers();
     vx_setting::real_settings_keep();
+    vx_prune_laws::pruning_keeps_rows();
+    vx_parse_back_laws::written_is_parsed();
     // No encoding is listed twice.
     ctx.array_ctx().ids();
     let Ok((universe, eof)) = SequenceId::root(alloc) else {
@@ -116,10 +124,12 @@ fn write_in<B: BatchSource, O: Order, C: CompressorPlugin>(
         (reads_in steps.new.items) (errs is_source_fault result) }
     ensures sink { FaultsTold (O.Sink.faults (O.sink order.old)) (O.Sink.faults (O.sink order.new)) (O.Sink.may_fail (O.sink order.old)) (O.Sink.must_fail (O.sink order.old))
         (appends_in steps.new.items) (errs is_sink_fault result) }
+    ensures compressor { FaultsTold (C.faults compressor.old) (C.faults compressor.new) (C.may_fail compressor.old) (C.must_fail compressor.old)
+        (calls_in steps.new.items) (errs is_compress_fault result) }
     ensures ran { eof ≡ root → Exact (O.active order.old) (end_stock eof)
-        → AnsweredTold ctx.old (strategy_data strategy.now) (B.kind source.old) schedule.now (B.to_come source.old) (O.outlet order.old) steps.new.items (B.to_come source.new)
+        → AnsweredTold ctx.old (C.image (C.kind compressor.old)) (strategy_data strategy.now) (B.kind source.old) schedule.now (B.to_come source.old) (O.outlet order.old) steps.new.items (B.to_come source.new)
         (O.outlet order.new) (B.must_fail source.old) result }
-    ensures same { SameContext ctx.old ctx.new × (B.kind source.new ≡ B.kind source.old) × (compressor.new ≡ compressor.old) }
+    ensures same { SameContext ctx.old ctx.new × (B.kind source.new ≡ B.kind source.old) × (C.kind compressor.new ≡ C.kind compressor.old) }
 {
     let stream = match take_below(order, &mut eof) {
         Ok(stream) => stream,

@@ -1,6 +1,6 @@
 //! The one call that writes a stream.
 
-ghost use Rattle.std.specs.Prelude.{◌≡◌, ◌+◌, ◌-◌, ◌≤◌, ◌^◌, max, true, false, List, [], Some, IfOk, IfErr, OnOk, MatchResult};
+ghost use Rattle.std.specs.Prelude.{◌≡◌, ◌+◌, ◌-◌, ◌≤◌, ◌^◌, max, List, Some, IfOk, IfErr, OnOk};
 ghost use Rattle.vx_model.specs.ChunkData.{ChunkData};
 ghost use Rattle.vx_layout_tree.specs.LayoutView.{layout_data};
 ghost use Rattle.vx_machine_ran.specs.Valid.{Valid};
@@ -9,20 +9,20 @@ ghost use Rattle.vx_fault.specs.Faults.{FaultsTold};
 ghost use Rattle.vx_fault.specs.Told.{NoneTold};
 ghost use Rattle.vx_sink.specs.ContextView.{is_marked, counted};
 ghost use Rattle.vx_strategy.specs.StrategyView.{strategy_data};
-ghost use Rattle.vx_write_answer.specs.declared.error.WriteError.TheVariants.{OutOfMemory, Unbuilt};
-ghost use Rattle.vx_write_answer.specs.Causes.{errs, is_source_fault, is_sink_fault};
-ghost use Rattle.vx_machine.specs.Calls.{appends_in};
-ghost use Rattle.vx_machine_ran.specs.Built.{is_built};
+ghost use Rattle.vx_write_answer.specs.declared.error.WriteError.TheVariants.{OutOfMemory};
+ghost use Rattle.vx_write_answer.specs.Causes.{errs, is_source_fault, is_sink_fault, is_compress_fault};
+ghost use Rattle.vx_machine.specs.Calls.{appends_in, calls_in};
 ghost use Rattle.vx_machine.specs.Context.{setting_of};
+ghost use Rattle.vx_machine_ran.specs.Number.{segments};
 ghost use Rattle.vx_machine_ran.specs.Traced.{Traced};
 ghost use Rattle.vx_machine_ran.specs.Written.{Planned, Wrote, Halted};
 ghost use Rattle.vx_write.specs.Answer.{SameContext, steps_of, asked};
+ghost use Rattle.vx_write.specs.Readable.{IsReadable};
 
 use crate::lent::Lent;
 use crate::tasks::write_tasks;
 use std::alloc::Global;
 use vx_layout_tree::Layout;
-use vx_machine::is_built;
 use vx_sink::{BatchSource, CompressorPlugin, LayoutWriterContext, SegmentSink};
 use vx_strategy::Strategy;
 use vx_write_answer::{Step, WriteError};
@@ -46,8 +46,7 @@ pub struct Refused {
 /// The source's type is the schema. It is written by tasks, a step at a time; of those that are ready a pick of the schedule
 /// takes the one at this place modulo their number, and past the schedule's end the first is taken. Layout and segments don't
 /// depend on the schedule. It decides the trace, and how far a write comes that is refused: where several faults stand in the
-/// stream, also which one comes. After a refusal earlier segments stand. `Unbuilt` comes exactly where the strategy names a
-/// node or a wrapper that isn't built, and before the source is asked.
+/// stream, also which one comes. After a refusal earlier segments stand.
 ///
 /// A step counts anew what changed, down to the task that acted, and what has an append that waits for its turn.
 pub fn write_stream<B: BatchSource, S: SegmentSink, C: CompressorPlugin>(
@@ -63,6 +62,10 @@ pub fn write_stream<B: BatchSource, S: SegmentSink, C: CompressorPlugin>(
     ensures wrote { IfOk result (λ w. Planned (setting_of ctx.old (C.image (C.kind compressor.old))) (strategy_data strategy.now) (B.kind source.old)
         (is_marked ctx.old) (B.to_come source.old)
         (Wrote (B.kind source.old) (S.next sink.old) (S.next sink.new) (S.segments sink.old) (S.segments sink.new) (layout_data w.layout))) }
+    // Readers build the same layout of its bytes, and prune by its zone tables without a loss.
+    ensures readable { IfOk result (λ w. Planned (setting_of ctx.old (C.image (C.kind compressor.old))) (strategy_data strategy.now) (B.kind source.old)
+        (is_marked ctx.old) (B.to_come source.old)
+        (λ xs p. IsReadable (setting_of ctx.old (C.image (C.kind compressor.old))) (B.kind source.old) (S.next sink.old) (segments p) (layout_data w.layout))) }
     ensures ended { OnOk result (NoneTold (B.to_come source.new)) }
     // Its steps are all those of the batches' tasks, as the schedule picks them.
     ensures trace { IfOk result (λ w. Traced (setting_of ctx.old (C.image (C.kind compressor.old))) (strategy_data strategy.now) (B.kind source.old)
@@ -80,25 +83,18 @@ pub fn write_stream<B: BatchSource, S: SegmentSink, C: CompressorPlugin>(
         (asked result) (errs (λ r. is_source_fault r.error) result) }
     ensures sink { FaultsTold (S.faults sink.old) (S.faults sink.new) (S.may_fail sink.old) (S.must_fail sink.old)
         (S.next sink.new - S.next sink.old) (errs (λ r. is_sink_fault r.error) result) }
-    // A node that isn't built is refused before anything is done.
-    ensures unbuilt { is_built (strategy_data strategy.now) ≡ false
-        → MatchResult result (λ _. ⊥) (λ r. (r.error ≡ Unbuilt) × (r.trace.items ≡ [])) × (source.new ≡ source.old) × (sink.new ≡ sink.old) }
+    ensures compressor { FaultsTold (C.faults compressor.old) (C.faults compressor.new) (C.may_fail compressor.old) (C.must_fail compressor.old)
+        (calls_in (steps_of result)) (errs (λ r. is_compress_fault r.error) result) }
     // Valid input, where nothing fails, gives Ok unless memory runs out.
-    ensures complete { (xs : List ChunkData) → B.to_come source.old ≡ Some xs → is_built (strategy_data strategy.now) ≡ true
+    ensures complete { (xs : List ChunkData) → B.to_come source.old ≡ Some xs
         → Valid (setting_of ctx.old (C.image (C.kind compressor.old))) (strategy_data strategy.now) (B.kind source.old) (is_marked ctx.old)
         (S.next sink.old) (counted ctx.old) xs
         → IsCalm (B.faults source.old) (B.faults source.new) → IsCalm (S.faults sink.old) (S.faults sink.new)
-        → IfErr result (λ r. r.error ≡ OutOfMemory) }
+        → IsCalm (C.faults compressor.old) (C.faults compressor.new) → IfErr result (λ r. r.error ≡ OutOfMemory) }
     // Ok or refused, nothing is held back any more.
-    ensures same { SameContext ctx.old ctx.new × (B.kind source.new ≡ B.kind source.old) × (S.borrow sink.new ≡ S.borrow sink.old) × (compressor.new ≡ compressor.old) }
+    ensures same { SameContext ctx.old ctx.new × (B.kind source.new ≡ B.kind source.old) × (S.borrow sink.new ≡ S.borrow sink.old) × (C.kind compressor.new ≡ C.kind compressor.old) }
 {
     let mut trace = Vec::new(alloc);
-    if !is_built(strategy) {
-        return Err(Refused {
-            error: WriteError::Unbuilt,
-            trace,
-        });
-    }
     let lent = Lent { sink: &mut *sink };
     let (written, Lent { sink: _sink }) = write_tasks(
         alloc, strategy, ctx, source, lent, schedule, compressor, &mut trace,

@@ -11,7 +11,7 @@ use Rattle.vx_order_answer.specs.declared.errors.OrderError.TheVariants as order
 use Rattle.vx_split.specs.declared.error.SplitError.{SplitError}
 use Rattle.vx_split.specs.declared.error.SplitError.TheVariants as split
 use Rattle.vx_write_answer.specs.declared.error.WriteError.{WriteError}
-use Rattle.vx_write_answer.specs.declared.error.WriteError.TheVariants.{SourceFault, SinkFault, CompressFault, NotStruct, DuplicateField, ForbiddenEncoding, TooLarge, OutOfMemory, Unbuilt, Stopped}
+use Rattle.vx_write_answer.specs.declared.error.WriteError.TheVariants.{SourceFault, SinkFault, CompressFault, NotStruct, DuplicateField, ForbiddenEncoding, TooLarge, OutOfMemory, Stopped}
 
 abbrev pub of_source : SourceError → WriteError
 of_source source.Failed = SourceFault
@@ -48,10 +48,6 @@ is_sink_fault e = false
 abbrev pub is_compress_fault : WriteError → Bool
 is_compress_fault CompressFault = true
 is_compress_fault e = false
-
-abbrev pub is_unbuilt : WriteError → Bool
-is_unbuilt Unbuilt = true
-is_unbuilt e = false
 
 -- whether the result is an error of which this holds
 abbrev pub errs : {A E : Type 0} → (E → Bool) → Result A E → Bool

@@ -48,9 +48,6 @@ pub enum WriteError {
     TooLarge(u128),
     #[error("out of memory")]
     OutOfMemory,
-    /// The strategy or the schema uses a form that isn't built.
-    #[error("this form is not built")]
-    Unbuilt,
     /// Of a column that is written beside others: this one was refused under this name, and the whole write ends.
     #[error("column {0} was refused: {1:?}")]
     Stopped(u64, WriteErrorName),

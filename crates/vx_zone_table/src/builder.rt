@@ -24,7 +24,7 @@ pub struct ZoneTableBuilder {
 }
 
 impl ZoneTableBuilder {
-    ghost use Rattle.std.specs.Prelude.{◌≡◌, [], map, option_map, IsTrue, IfOk, OnOk, OnErr};
+    ghost use Rattle.std.specs.Prelude.{◌≡◌, ◌<◌, ◌^◌, [], map, length, option_map, IsTrue, IfOk, OnOk, OnErr};
     ghost use Rattle.vx_model.specs.TyView.{ty};
     ghost use Rattle.vx_model.specs.TreeView.{val};
     ghost use Rattle.vx_aggregate_spec.specs.Aggregate.{held_aggregates};
@@ -67,7 +67,8 @@ impl ZoneTableBuilder {
     /// zone or no column is left. Moves each value. Takes time by the values, and by `n log n` of the columns.
     #[tactic(auto, using(crate::proofs::BuilderSteps::finish_rules))]
     pub fn finish(self, alloc: Global) -> Result<Option<(Chunk, Vec<AggregateFn>)>, AllocError>
-        ensures { IfOk result (λ t. option_map shown_table t ≡ finished (gathered self)) }
+        ensures table { IfOk result (λ t. option_map shown_table t ≡ finished (gathered self)) }
+        ensures few { OnOk result (length (gathered self).records < 2 ^ 64) }
     {
         let ZoneTableBuilder { columns, records } = self;
         let zones = records.len();

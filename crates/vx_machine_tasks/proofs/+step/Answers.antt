@@ -93,12 +93,12 @@ task::Task::step-returns-clause-known g t c =
 -- of the act that is the task's own, and of the children's
 pub task::Task::step-returns-then-k-own-clause-done : goal.task::Task::step-returns-then-k-own-clause-done
 task::Task::step-returns-then-k-own-clause-done g t c =
-    own_done c.args.ctx.now (g.O.Order.active c.args.order.now) (g.O.Order.outlet c.args.order.now) (g.O.Order.outlet c.act.new.order) c.act.result c.args.self.now (roll-Task (out-Task c.args.self.now)) c.args.k
+    own_done c.args.ctx.now (g.C.CompressorPlugin.image (g.C.CompressorPlugin.kind c.args.compressor.now)) (g.O.Order.active c.args.order.now) (g.O.Order.outlet c.args.order.now) (g.O.Order.outlet c.act.new.order) c.act.result c.args.self.now (roll-Task (out-Task c.args.self.now)) c.args.k
     (roll_out c.args.self.now) (none_before c.may-ready.result c.one-own.result c.args.k c.one-own.ensures c.if-k-own.true) (task_row c.act.new.self no_tasks) c.act.ensures.done
 
 pub task::Task::step-returns-then-k-own-clause-refused : goal.task::Task::step-returns-then-k-own-clause-refused
 task::Task::step-returns-then-k-own-clause-refused g t c =
-    own_fails c.args.ctx.now (g.O.Order.active c.args.order.now) (g.O.Order.outlet c.args.order.now) (g.O.Order.outlet c.act.new.order) c.act.result c.args.self.now (roll-Task (out-Task c.args.self.now)) c.args.k
+    own_fails c.args.ctx.now (g.C.CompressorPlugin.image (g.C.CompressorPlugin.kind c.args.compressor.now)) (g.O.Order.active c.args.order.now) (g.O.Order.outlet c.args.order.now) (g.O.Order.outlet c.act.new.order) c.act.result c.args.self.now (roll-Task (out-Task c.args.self.now)) c.args.k
     (roll_out c.args.self.now) (none_before c.may-ready.result c.one-own.result c.args.k c.one-own.ensures c.if-k-own.true) c.act.ensures.refused
 
 pub task::Task::step-returns-clause-done : goal.task::Task::step-returns-clause-done
@@ -111,7 +111,7 @@ task::Task::step-returns-clause-done g t c =
     let a : c.may-ready.result ≡ may_now u h (kids_of ks) = c.may-ready.ensures.told ∙ ap (λ z. may_now u h (kids_of z)) c.deref.ensures.value in
     let x : c.one-own.result ≡ one (may_now u h (kids_of ks)) = c.one-own.ensures ∙ ap one a in
     let p = behind_own u c.args.self.now c.args.k c.one-own.result x c.if-k-own.false c.requires.there in
-    below_done c.args.ctx.now u (g.O.Order.outlet c.args.order.now) (g.O.Order.outlet c.step_kids.new.order) c.step_kids.result c.args.self.now c.deref_mut.result.now c.args.k (c.args.k - c.one-own.result) kv p.0 p.1
+    below_done c.args.ctx.now (g.C.CompressorPlugin.image (g.C.CompressorPlugin.kind c.args.compressor.now)) u (g.O.Order.outlet c.args.order.now) (g.O.Order.outlet c.step_kids.new.order) c.step_kids.result c.args.self.now c.deref_mut.result.now c.args.k (c.args.k - c.one-own.result) kv p.0 p.1
     _ c.step_kids.new.kids (simp the_lemmas refl) (kids_of_roll _ _ c.step_kids.new.kids (omega (arith, c.deref_mut.ensures.len))) c.step_kids.ensures.done
 
 pub task::Task::step-returns-clause-refused : goal.task::Task::step-returns-clause-refused
@@ -124,7 +124,7 @@ task::Task::step-returns-clause-refused g t c =
     let a : c.may-ready.result ≡ may_now u h (kids_of ks) = c.may-ready.ensures.told ∙ ap (λ z. may_now u h (kids_of z)) c.deref.ensures.value in
     let x : c.one-own.result ≡ one (may_now u h (kids_of ks)) = c.one-own.ensures ∙ ap one a in
     let p = behind_own u c.args.self.now c.args.k c.one-own.result x c.if-k-own.false c.requires.there in
-    below_fails c.args.ctx.now u (g.O.Order.outlet c.args.order.now) (g.O.Order.outlet c.step_kids.new.order) c.step_kids.result c.args.self.now c.deref_mut.result.now c.args.k (c.args.k - c.one-own.result) kv p.0 p.1 c.step_kids.ensures.refused
+    below_fails c.args.ctx.now (g.C.CompressorPlugin.image (g.C.CompressorPlugin.kind c.args.compressor.now)) u (g.O.Order.outlet c.args.order.now) (g.O.Order.outlet c.step_kids.new.order) c.step_kids.result c.args.self.now c.deref_mut.result.now c.args.k (c.args.k - c.one-own.result) kv p.0 p.1 c.step_kids.ensures.refused
 
 -- ---- of the children
 
@@ -220,7 +220,7 @@ step::step_kids-returns-in-Ok-clause-done g t c =
     found u ts (asked_of y) (ready_of y) (kids_in y) c.requires.fresh i c.find-place.result.1 c.args.k c.find-place.ensures.within c.find-place.ensures.place c.find-place.ensures.inside c.requires.there in
     let x : Task = get_or ts i c.index-kids-place.result in
     let is : get_or ts i x ≡ x = ap (λ z. get_or ts i z) (sym c.index-kids-place.is) in
-    kid_done c.args.ctx.now u (g.O.Order.outlet c.args.order.now) (g.O.Order.outlet c.step.new.order) (Ok c.in-Ok.did) ts i x c.args.k c.find-place.result.1 w.passed w.place is c.step.new.self c.in-Ok.ensures.done
+    kid_done c.args.ctx.now (g.C.CompressorPlugin.image (g.C.CompressorPlugin.kind c.args.compressor.now)) u (g.O.Order.outlet c.args.order.now) (g.O.Order.outlet c.step.new.order) (Ok c.in-Ok.did) ts i x c.args.k c.find-place.result.1 w.passed w.place is c.step.new.self c.in-Ok.ensures.done
 
 pub step::step_kids-returns-in-Ok-clause-known : goal.step::step_kids-returns-in-Ok-clause-known
 step::step_kids-returns-in-Ok-clause-known g t c =
@@ -244,7 +244,7 @@ step::step_kids-returns-in-Err-clause-refused g t c =
     found u ts (asked_of y) (ready_of y) (kids_in y) c.requires.fresh i c.find-place.result.1 c.args.k c.find-place.ensures.within c.find-place.ensures.place c.find-place.ensures.inside c.requires.there in
     let x : Task = get_or ts i c.index-kids-place.result in
     let is : get_or ts i x ≡ x = ap (λ z. get_or ts i z) (sym c.index-kids-place.is) in
-    kid_fails c.args.ctx.now u (g.O.Order.outlet c.args.order.now) (g.O.Order.outlet c.step.new.order) (Err c.in-Err.error) ts i x c.args.k c.find-place.result.1 w.passed w.place is c.in-Err.ensures.refused
+    kid_fails c.args.ctx.now (g.C.CompressorPlugin.image (g.C.CompressorPlugin.kind c.args.compressor.now)) u (g.O.Order.outlet c.args.order.now) (g.O.Order.outlet c.step.new.order) (Err c.in-Err.error) ts i x c.args.k c.find-place.result.1 w.passed w.place is c.in-Err.ensures.refused
 
 pub step::step_kids-returns-in-Ok-clause-tracked : goal.step::step_kids-returns-in-Ok-clause-tracked
 step::step_kids-returns-in-Ok-clause-tracked g t c =

@@ -11,8 +11,8 @@ use Rattle.vx_machine_tasks.proofs.ReservedSteps.{task_view}
 use Rattle.vx_machine_ids.specs.Balance.{Exact}
 use Rattle.vx_fault.specs.Faults.{FaultsTold}
 use Rattle.vx_write_answer.specs.Causes.{is_sink_fault}
-use Rattle.vx_machine_nodes.specs.Calls.{reads_action, append_action}
-use Rattle.vx_machine.specs.Calls.{reads_in, appends_in, reads_at}
+use Rattle.vx_machine_nodes.specs.Calls.{reads_action, append_action, call_action}
+use Rattle.vx_machine.specs.Calls.{reads_in, appends_in, calls_in, reads_at}
 use Rattle.vx_machine_nodes.specs.Context.{setting_of}
 use Rattle.vx_machine_nodes.specs.Outcome.{Kept}
 use Rattle.vx_sink.specs.ContextView.{counted as counted_bytes}
@@ -23,7 +23,7 @@ use Rattle.vx_machine_tasks.specs.Ready.{counted}
 use Rattle.vx_machine_tasks.specs.declared.task.Task.{out-Task}
 use Rattle.vx_machine.specs.Whole.{machine_ready}
 use Rattle.vx_machine.proofs.HeldViews.{exact_then}
-use Rattle.vx_machine.proofs.RunCalls.{Answered, none_called, then_answered, reads_once, appends_once, reads_more, appends_more, ended, source_ends, sink_ends, misfit_passed}
+use Rattle.vx_machine.proofs.RunCalls.{Answered, none_called, then_answered, reads_once, appends_once, calls_once, reads_more, appends_more, calls_more, ended, source_ends, sink_ends, press_ends, misfit_passed}
 use Rattle.vx_machine.proofs.RunSteps.{ready_held, run_grows, run_step, run_refused, reads_same}
 use Rattle.vx_machine.proofs.running.run.Goals as goal
 
@@ -36,12 +36,13 @@ steps-init g c = record {
   sinks = λ e.
       subst (λ ts. Answered g.O.Sink.Fallible.faults g.O.Sink.Fallible.may_fail g.O.Sink.Fallible.must_fail (g.O.Order.sink c.args.order.now) (g.O.Order.sink c.args.order.now) (appends_in ts)) (sym e)
       (none_called g.O.Sink.Fallible.faults g.O.Sink.Fallible.may_fail g.O.Sink.Fallible.must_fail (g.O.Order.sink c.args.order.now));
+  pressed = λ e. subst (λ ts. Answered g.C.Fallible.faults g.C.Fallible.may_fail g.C.Fallible.must_fail c.args.compressor.now c.args.compressor.now (calls_in ts)) (sym e) (none_called g.C.Fallible.faults g.C.Fallible.may_fail g.C.Fallible.must_fail c.args.compressor.now);
   tracked = omega (arith, c.requires.unreserved);
   context = refl;
   known = c.new-counts.ensures (row (out-Task c.args.machine.root).kids.items);
   compressor = refl;
   ran = λ e x.
-      subst (λ ts. Ran c.args.ctx.now (g.B.BatchSource.kind c.args.source.now) c.args.schedule.now 0 (at (machine_of c.args.machine) (g.B.BatchSource.to_come c.args.source.now) (g.O.Order.outlet c.args.order.now)) ts
+      subst (λ ts. Ran c.args.ctx.now (g.C.CompressorPlugin.image (g.C.CompressorPlugin.kind c.args.compressor.now)) (g.B.BatchSource.kind c.args.source.now) c.args.schedule.now 0 (at (machine_of c.args.machine) (g.B.BatchSource.to_come c.args.source.now) (g.O.Order.outlet c.args.order.now)) ts
       (at (machine_of c.args.machine) (g.B.BatchSource.to_come c.args.source.now) (g.O.Order.outlet c.args.order.now))) (sym e) refl;
 }
 
@@ -77,6 +78,11 @@ steps-preserved g c =
           (append_action c.in-Ok-step_counted.step.action) (appends_in c.push_reserved.new.self.items)
           (ap appends_in (c.push_reserved.ensures.items ∙ ap (λ z. z ++ (c.in-Ok-step_counted.step ∷ [])) c.reserve.ensures.items) ∙ appends_more c.steps.trace.items c.in-Ok-step_counted.step)
           (appends_once c.in-Ok-step_counted.step.action) c.in-Ok-step_counted.ensures.sink_told;
+      pressed = λ e.
+          then_answered g.C.Fallible.faults g.C.Fallible.may_fail g.C.Fallible.must_fail c.args.compressor.now c.steps.compressor c.step_counted.new.compressor (calls_in c.steps.trace.items) (c.steps.invariant.pressed e)
+          (call_action c.in-Ok-step_counted.step.action) (calls_in c.push_reserved.new.self.items)
+          (ap calls_in (c.push_reserved.ensures.items ∙ ap (λ z. z ++ (c.in-Ok-step_counted.step ∷ [])) c.reserve.ensures.items) ∙ calls_more c.steps.trace.items c.in-Ok-step_counted.step)
+          (calls_once c.in-Ok-step_counted.step.action) c.in-Ok-step_counted.ensures.pressed;
       tracked = omega (arith, c.step_counted.ensures.tracked, c.steps.invariant.tracked);
       context = c.step_counted.ensures.context ∙ c.steps.invariant.context;
       known = c.in-Ok-step_counted.ensures.known;
@@ -84,11 +90,11 @@ steps-preserved g c =
       ran = λ e x.
           let k : Exact u (machine_stock c.steps.machine) = exact_then (g.O.Order.active c.args.order.now) u (machine_stock c.args.machine) (machine_stock c.steps.machine) x c.steps.invariant.moved in
           let place : c.len.result ≡ length c.steps.trace.items = c.len.ensures ∙ c.reserve.new.self.ok.0 ∙ ap length c.reserve.ensures.items in
-          run_grows c.args.ctx.now (g.B.BatchSource.kind c.args.source.now) c.args.schedule.now (at (machine_of c.args.machine) (g.B.BatchSource.to_come c.args.source.now) (g.O.Order.outlet c.args.order.now))
+          run_grows c.args.ctx.now (g.C.CompressorPlugin.image (g.C.CompressorPlugin.kind c.args.compressor.now)) (g.B.BatchSource.kind c.args.source.now) c.args.schedule.now (at (machine_of c.args.machine) (g.B.BatchSource.to_come c.args.source.now) (g.O.Order.outlet c.args.order.now))
           (at (machine_of c.steps.machine) (g.B.BatchSource.to_come c.steps.source) (g.O.Order.outlet c.steps.order))
           (at (machine_of c.step_counted.new.self) (g.B.BatchSource.to_come c.step_counted.new.source) (g.O.Order.outlet c.step_counted.new.order)) c.steps.trace.items c.push_reserved.new.self.items c.in-Ok-step_counted.step
           (c.push_reserved.ensures.items ∙ ap (λ z. z ++ (c.in-Ok-step_counted.step ∷ [])) c.reserve.ensures.items) (c.steps.invariant.ran e x)
-          (run_step c.args.ctx.now c.steps.ctx c.steps.invariant.context (g.B.BatchSource.kind c.args.source.now) (g.B.BatchSource.kind c.steps.source) c.steps.invariant.kind c.args.schedule.now u c.steps.machine k
+          (run_step c.args.ctx.now c.steps.ctx c.steps.invariant.context (g.C.CompressorPlugin.image (g.C.CompressorPlugin.kind c.args.compressor.now)) (g.C.CompressorPlugin.image (g.C.CompressorPlugin.kind c.steps.compressor)) (ap g.C.CompressorPlugin.image c.steps.invariant.compressor) (g.B.BatchSource.kind c.args.source.now) (g.B.BatchSource.kind c.steps.source) c.steps.invariant.kind c.args.schedule.now u c.steps.machine k
           (omega (arith, c.in-Ok.ensures.told, c.if-ready-eq0.false)) (length c.steps.trace.items) c.pick_at-pick.result (c.pick_at-pick.ensures ∙ ap (slice_index c.args.schedule.now) place)
           (g.B.BatchSource.to_come c.steps.source) (g.B.BatchSource.to_come c.step_counted.new.source) (g.O.Order.outlet c.steps.order) (g.O.Order.outlet c.step_counted.new.order) (machine_of c.step_counted.new.self) c.in-Ok-step_counted.step
           c.in-Ok-step_counted.ensures.told c.in-Ok-step_counted.ensures.done);
@@ -115,7 +121,7 @@ returns-then-ready-eq0-clause-ran g c = λ e x.
       ran = c.steps.invariant.ran e x;
       told = refl;
       sink = c.refuse-then-ready-eq0.ensures.outlet;
-      left = (sym c.finished.ensures.view ∙ c.if-finished.false, ready_held u c.steps.machine k (setting_of c.args.ctx.now (λ w p. p)) ∙ n);
+      left = (sym c.finished.ensures.view ∙ c.if-finished.false, ready_held u c.steps.machine k (setting_of c.args.ctx.now (g.C.CompressorPlugin.image (g.C.CompressorPlugin.kind c.args.compressor.now))) ∙ n);
     }
 
 -- the step is refused
@@ -130,10 +136,10 @@ returns-in-Err-step_counted-clause-ran g c = λ e x.
     record {
       stop = record {
         end = at (machine_of c.steps.machine) (g.B.BatchSource.to_come c.steps.source) (g.O.Order.outlet c.steps.order);
-        ran = subst (λ ts. Ran c.args.ctx.now (g.B.BatchSource.kind c.args.source.now) c.args.schedule.now 0 (at (machine_of c.args.machine) (g.B.BatchSource.to_come c.args.source.now) (g.O.Order.outlet c.args.order.now)) ts
+        ran = subst (λ ts. Ran c.args.ctx.now (g.C.CompressorPlugin.image (g.C.CompressorPlugin.kind c.args.compressor.now)) (g.B.BatchSource.kind c.args.source.now) c.args.schedule.now 0 (at (machine_of c.args.machine) (g.B.BatchSource.to_come c.args.source.now) (g.O.Order.outlet c.args.order.now)) ts
             (at (machine_of c.steps.machine) (g.B.BatchSource.to_come c.steps.source) (g.O.Order.outlet c.steps.order))) (sym c.reserve.ensures.items) (c.steps.invariant.ran e x);
         kept = subst (λ o. Kept (g.O.Order.outlet c.steps.order) o) (sym c.refuse-in-Err-step_counted.ensures.outlet) c.in-Err-step_counted.ensures.kept;
-        stops = run_refused c.args.ctx.now c.steps.ctx c.steps.invariant.context (g.B.BatchSource.kind c.args.source.now) (g.B.BatchSource.kind c.steps.source) c.steps.invariant.kind c.args.schedule.now u c.steps.machine k
+        stops = run_refused c.args.ctx.now c.steps.ctx c.steps.invariant.context (g.C.CompressorPlugin.image (g.C.CompressorPlugin.kind c.args.compressor.now)) (g.C.CompressorPlugin.image (g.C.CompressorPlugin.kind c.steps.compressor)) (ap g.C.CompressorPlugin.image c.steps.invariant.compressor) (g.B.BatchSource.kind c.args.source.now) (g.B.BatchSource.kind c.steps.source) c.steps.invariant.kind c.args.schedule.now u c.steps.machine k
             some (length c.reserve.new.self.items) c.pick_at-pick.result pick
             (g.B.BatchSource.to_come c.steps.source) (g.B.BatchSource.to_come c.step_counted.new.source) (g.O.Order.outlet c.steps.order) c.in-Err-step_counted.error counts c.in-Err-step_counted.ensures.refused;
       };
@@ -141,12 +147,12 @@ returns-in-Err-step_counted-clause-ran g c = λ e x.
           (subst (λ ts. Answered g.B.Fallible.faults g.B.Fallible.may_fail g.B.Fallible.must_fail c.args.source.now c.steps.source (reads_in ts)) (sym c.reserve.ensures.items) (c.steps.invariant.sources e))
           (reads_at (phase_of c.steps.machine.phase) (c.pick_at-pick.result % counted (machine_ready u c.steps.machine)))
           (reads_at (phase_of c.steps.machine.phase) (picked_at c.args.schedule.now (length c.reserve.new.self.items) (machine_of c.steps.machine))) c.in-Err-step_counted.error
-          (reads_same c.args.ctx.now c.steps.ctx c.steps.invariant.context (g.B.BatchSource.kind c.args.source.now) (g.B.BatchSource.kind c.steps.source) c.steps.invariant.kind c.args.schedule.now u c.steps.machine k
+          (reads_same c.args.ctx.now c.steps.ctx c.steps.invariant.context (g.C.CompressorPlugin.image (g.C.CompressorPlugin.kind c.args.compressor.now)) (g.C.CompressorPlugin.image (g.C.CompressorPlugin.kind c.steps.compressor)) (ap g.C.CompressorPlugin.image c.steps.invariant.compressor) (g.B.BatchSource.kind c.args.source.now) (g.B.BatchSource.kind c.steps.source) c.steps.invariant.kind c.args.schedule.now u c.steps.machine k
           some (length c.reserve.new.self.items) c.pick_at-pick.result pick)
           c.in-Err-step_counted.ensures.source_told;
     }
 
--- ---- calls of the source and of the sink
+-- ---- calls of the source, of the sink and of the compressor
 
 pub returns-then-finished-clause-source : goal.returns-then-finished-clause-source
 returns-then-finished-clause-source g c = λ e.
@@ -179,3 +185,17 @@ returns-in-Err-step_counted-clause-sink g c = λ e.
     (sink_ends g.O.Sink.Fallible.faults g.O.Sink.Fallible.may_fail g.O.Sink.Fallible.must_fail (g.O.Order.sink c.args.order.now) (g.O.Order.sink c.steps.order) (g.O.Order.sink c.step_counted.new.order) (appends_in c.reserve.new.self.items)
     (subst (λ ts. Answered g.O.Sink.Fallible.faults g.O.Sink.Fallible.may_fail g.O.Sink.Fallible.must_fail (g.O.Order.sink c.args.order.now) (g.O.Order.sink c.steps.order) (appends_in ts)) (sym c.reserve.ensures.items) (c.steps.invariant.sinks e))
     c.in-Err-step_counted.error c.in-Err-step_counted.ensures.sink_told)
+
+pub returns-then-finished-clause-pressed : goal.returns-then-finished-clause-pressed
+returns-then-finished-clause-pressed g c = λ e.
+    ended g.C.Fallible.faults g.C.Fallible.may_fail g.C.Fallible.must_fail c.args.compressor.now c.steps.compressor c.steps.compressor (calls_in c.steps.trace.items) (calls_in c.steps.trace.items) refl refl (c.steps.invariant.pressed e)
+
+pub returns-then-ready-eq0-clause-pressed : goal.returns-then-ready-eq0-clause-pressed
+returns-then-ready-eq0-clause-pressed g c = λ e.
+    ended g.C.Fallible.faults g.C.Fallible.may_fail g.C.Fallible.must_fail c.args.compressor.now c.steps.compressor c.steps.compressor (calls_in c.steps.trace.items) (calls_in c.steps.trace.items) refl refl (c.steps.invariant.pressed e)
+
+pub returns-in-Err-step_counted-clause-pressed : goal.returns-in-Err-step_counted-clause-pressed
+returns-in-Err-step_counted-clause-pressed g c = λ e.
+    press_ends g.C.Fallible.faults g.C.Fallible.may_fail g.C.Fallible.must_fail c.args.compressor.now c.steps.compressor c.step_counted.new.compressor (calls_in c.reserve.new.self.items)
+    (subst (λ ts. Answered g.C.Fallible.faults g.C.Fallible.may_fail g.C.Fallible.must_fail c.args.compressor.now c.steps.compressor (calls_in ts)) (sym c.reserve.ensures.items) (c.steps.invariant.pressed e))
+    c.in-Err-step_counted.error c.in-Err-step_counted.ensures.pressed

@@ -4,7 +4,7 @@ use Rattle.vx_order.specs.Answers.{active_after}
 use Rattle.vx_machine_ids.specs.Stock.{none, id_stock}
 use Rattle.vx_machine_ids.specs.Balance.{Moved}
 use Rattle.vx_machine_ids.proofs.CallLaws.{owned_active, released_moved}
-use Rattle.vx_machine_nodes.specs.Causes.{ActMay}
+use Rattle.vx_machine_nodes.specs.Causes.{AppendMay}
 use Rattle.vx_machine_nodes.proofs.CallSteps.{written_called, refused_stops}
 use Rattle.vx_machine_nodes.proofs.CauseSteps.{refused_may}
 use Rattle.vx_machine_nodes.proofs.WriteSteps.{written_told, then_kept, refused_why}
@@ -43,7 +43,7 @@ returns-in-Err-clause-told g c =
 
 pub returns-in-Err-clause-cause : goal.returns-in-Err-clause-cause
 returns-in-Err-clause-cause g c =
-    subst (λ e. ActMay e) (sym c.into.ensures) (refused_may (g.O.Order.active c.args.order.now) (g.O.Order.outlet c.args.order.now) c.args.id c.in-Err.error c.in-Err.ensures.answer.1)
+    subst (λ e. AppendMay e) (sym c.into.ensures) (refused_may (g.O.Order.active c.args.order.now) (g.O.Order.outlet c.args.order.now) c.args.id c.in-Err.error c.in-Err.ensures.answer.1)
 
 pub returns-in-Ok-Written-clause-appended : goal.returns-in-Ok-Written-clause-appended
 returns-in-Ok-Written-clause-appended g c =

@@ -33,8 +33,8 @@ returns-in_ok-reserve-in-Ok-clause-tracked g c =
     )
 
 pub returns-in_ok-reserve-in-Ok-clause-done : goal.returns-in_ok-reserve-in-Ok-clause-done
-returns-in_ok-reserve-in-Ok-clause-done g c = λ idle kids ks same.
+returns-in_ok-reserve-in-Ok-clause-done g c = λ idle kids s ks same.
     let rest = rest_hands c.args.node.rule c.args.node.newest in
-    group_ended c.args.node.rule c.args.node.newest c.args.node.rows ks (todo_of c.push_back_reserved.new.self.items) (todo_of c.args.todo.now.items) (ap todo_of idle) c.in-Ok.ensures.fits
+    group_ended s c.args.node.rule c.args.node.newest c.args.node.rows ks (todo_of c.push_back_reserved.new.self.items) (todo_of c.args.todo.now.items) (ap todo_of idle) c.in-Ok.ensures.fits
     (ap todo_of (c.push_back_reserved.ensures.items ∙ ap (λ z. z ++ (Close ∷ [])) c.reserve.ensures.items) ∙ map_push next_of c.hand_rest.new.todo.items Close
     ∙ ap (λ z. z ++ (shut_kids ∷ [])) (c.in-Ok.ensures.done ∙ ap (λ z. rest ++ todo_of z) idle ∙ append-nil rest))

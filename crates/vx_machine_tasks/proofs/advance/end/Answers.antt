@@ -5,7 +5,7 @@ use Rattle.vx_machine_nodes.specs.Ledger.{dues_reserved, local_reserved}
 use Rattle.vx_machine_nodes.specs.Stocks.{dues_stock, local_stock}
 use Rattle.vx_machine_tasks.proofs.ActMoves.{stays_as, end_owned, end_moved, end_local, end_then}
 use Rattle.std.proofs.lemmas.Result.{err_from_is_err_and}
-use Rattle.vx_machine_nodes.specs.Acting.{EndRefused}
+use Rattle.vx_machine_nodes.specs.Acting.{is_probe, EndRefused}
 use Rattle.vx_machine_nodes.specs.View.{todo_of}
 use Rattle.vx_machine_tasks.proofs.TakeShows.{ended_by}
 use Rattle.vx_machine_tasks.proofs.advance.end.Goals as goal
@@ -19,6 +19,9 @@ pub ended-requires-clause-owned : goal.ended-requires-clause-owned
 ended-requires-clause-owned g c =
     end_owned (g.O.Order.active c.args.order.now) (g.O.Order.active c.args.order.now) (local_stock c.args.local.now) (dues_stock c.args.todo.now.items) (local_stock c.replace-before.result) (dues_stock c.reserve.new.self.items) none none
     (ap local_stock c.replace-before.ensures.value) (ap dues_stock c.reserve.ensures.items) c.requires.owned
+
+pub ended-requires-clause-other : goal.ended-requires-clause-other
+ended-requires-clause-other g c = ap is_probe c.replace-before.ensures.value ∙ c.requires.other
 
 pub set_local-requires-clause-owned : goal.set_local-requires-clause-owned
 set_local-requires-clause-owned g c =
@@ -50,7 +53,7 @@ returns-in-Ok-clause-done g c = λ idle.
 pub returns-in_err-reserve-clause-refused : goal.returns-in_err-reserve-clause-refused
 returns-in_err-reserve-clause-refused g c =
     let p = err_from_is_err_and c.from_residual.result c.from_residual.ensures.1 in
-    rw (p.1, p.2) (λ ks same. tt)
+    rw (p.1, p.2) (λ s ks same. tt)
 
 pub returns-in-Err-clause-refused : goal.returns-in-Err-clause-refused
 returns-in-Err-clause-refused g c = subst (λ l. EndRefused l c.args.kids c.in-Err.error) c.replace-before.ensures.value c.in-Err.ensures.refused

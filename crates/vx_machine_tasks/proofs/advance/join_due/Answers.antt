@@ -24,8 +24,8 @@ returns-in-Err-clause-moved g c =
     joined_moved (g.O.Order.active c.args.order.now) (g.O.Order.active c.join.new.order) (local_stock c.args.local.now) (tasks_stock c.args.kids.now.items) (tasks_stock c.join.new.kids.items) c.requires.owned c.join.ensures.moved
 
 pub returns-in-Ok-clause-done : goal.returns-in-Ok-clause-done
-returns-in-Ok-clause-done g c = λ ids n mind.
-    joined_done ids n mind c.args.shape (row c.args.kids.now.items) c.in-Ok.layout c.set_local.new.local c.join.new.kids.items (g.O.Order.outlet c.args.order.now) (g.O.Order.outlet c.set_local.new.order)
+returns-in-Ok-clause-done g c = λ s at n mind left.
+    joined_done s at n mind left c.args.shape (row c.args.kids.now.items) c.in-Ok.layout c.set_local.new.local c.join.new.kids.items (g.O.Order.outlet c.args.order.now) (g.O.Order.outlet c.set_local.new.order)
     c.in-Ok.ensures.layout c.set_local.ensures.local c.in-Ok.ensures.no_kids (c.set_local.ensures.outlet ∙ c.join.ensures.outlet)
 
 -- of what is reserved: the children's part is paid first, then what was in mind

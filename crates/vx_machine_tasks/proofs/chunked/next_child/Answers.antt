@@ -10,6 +10,7 @@ use Rattle.vx_machine_nodes.proofs.CauseSteps.{start_may}
 use Rattle.std.specs.Arc.{arc_value}
 use Rattle.vx_path.specs.Path.{under, inside}
 use Rattle.vx_model.specs.TyView.{ty}
+use Rattle.vx_sink.specs.ContextView.{allowed_in}
 use Rattle.vx_machine_tasks.proofs.RowSteps.{started_as, one_refused_as}
 use Rattle.vx_machine_tasks.proofs.chunked.next_child.Goals as goal
 
@@ -39,11 +40,11 @@ returns-in_err-kid-clause-cause g c =
 
 pub returns-clause-started : goal.returns-clause-started
 returns-clause-started g c =
-    started_as c.args.node.now.child.item (ty (arc_value c.in_ok-dtype.dtype)) (ty (arc_value c.args.node.now.dtype)) c.args.node.now.marked c.in_ok-name.name (under c.args.name.now (length c.args.kids.now.items)) (inside c.args.eof.now) c.in_ok-kid.kid
+    started_as (allowed_in c.args.ctx.now) c.args.node.now.child.item (ty (arc_value c.in_ok-dtype.dtype)) (ty (arc_value c.args.node.now.dtype)) c.args.node.now.marked c.in_ok-name.name (under c.args.name.now (length c.args.kids.now.items)) (inside c.args.eof.now) c.in_ok-kid.kid
     (ap ty c.in_ok-dtype.ensures) (c.in_ok-name.ensures.name ∙ ap (under c.args.name.now) c.args.kids.now.ok.0) c.in_ok-kid.ensures.shows
 
 pub returns-in_err-kid-clause-refused : goal.returns-in_err-kid-clause-refused
 returns-in_err-kid-clause-refused g c =
     let p = err_from_is_err_and c.from_residual-in_err-kid.result c.from_residual-in_err-kid.ensures.1 in
-    rw (p.1, p.2) (one_refused_as c.args.node.now.child.item (ty (arc_value c.in_ok-dtype.dtype)) (ty (arc_value c.args.node.now.dtype)) c.args.node.now.marked c.args.eof.now c.in_err-kid.field-0.0
+    rw (p.1, p.2) (one_refused_as (allowed_in c.args.ctx.now) c.args.node.now.child.item (ty (arc_value c.in_ok-dtype.dtype)) (ty (arc_value c.args.node.now.dtype)) c.args.node.now.marked c.args.eof.now c.in_err-kid.field-0.0
     (ap ty c.in_ok-dtype.ensures) c.in_err-kid.ensures.refused)

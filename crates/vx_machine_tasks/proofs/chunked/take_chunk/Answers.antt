@@ -8,6 +8,7 @@ use Rattle.vx_machine_tasks.proofs.ReservedSteps.{tasks_push, started_none}
 use Rattle.vx_machine_view.specs.Start.{first_indices}
 use Rattle.vx_machine_nodes.specs.View.{item_of, child_form}
 use Rattle.vx_machine_nodes.proofs.Fitting.{then_fit}
+use Rattle.vx_sink.specs.ContextView.{allowed_in}
 use Rattle.vx_machine_tasks.proofs.RowSteps.{chunk_row}
 use Rattle.vx_machine_tasks.proofs.chunked.take_chunk.Goals as goal
 
@@ -23,29 +24,29 @@ returns-in_ok-kid-in-Ok-clause-allowed g c = c.in-Ok.ensures.started.allowed
 
 pub returns-in_ok-kid-in-Ok-clause-counted : goal.returns-in_ok-kid-in-Ok-clause-counted
 returns-in_ok-kid-in-Ok-clause-counted g c =
-    then_fit (c.args.eof.now.last + 1) (first_indices (child_form c.args.node.now) (inside c.args.eof.now)) c.in-Ok.ensures.fits (c.in-Ok.ensures.started.counted (omega arith))
+    then_fit (c.args.eof.now.last + 1) (first_indices (child_form c.args.node.now) c.args.node.now.marked (inside c.args.eof.now)) c.in-Ok.ensures.fits (c.in-Ok.ensures.started.counted (omega arith))
 
 pub returns-in_ok-kid-in-Ok-clause-kids : goal.returns-in_ok-kid-in-Ok-clause-kids
 returns-in_ok-kid-in-Ok-clause-kids g c =
-    chunk_row (child_form c.args.node.now) c.args.node.now.marked c.args.name.now (inside c.args.eof.now) c.in-Ok.kid c.in_ok-kid-in-Ok.kid (item_of c.args.item) c.args.kids.now.items c.push_reserved.new.self.items
+    chunk_row (allowed_in c.args.ctx.now) (child_form c.args.node.now) c.args.node.now.marked c.args.name.now (inside c.args.eof.now) c.in-Ok.kid c.in_ok-kid-in-Ok.kid (item_of c.args.item) c.args.kids.now.items c.push_reserved.new.self.items
     c.in-Ok.ensures.started c.in_ok-kid-in-Ok.ensures.fed (c.push_reserved.ensures.items ∙ ap (λ z. z ++ (c.in_ok-kid-in-Ok.kid ∷ [])) c.next_child.ensures.kids)
 
 -- the child that was started has reserved nothing
 
 pub fed-requires-clause-reserved : goal.fed-requires-clause-reserved
 fed-requires-clause-reserved g c =
-    omega (arith, started_none (child_form c.args.node.now) c.args.node.now.marked (under c.args.name.now (length c.args.kids.now.items)) (inside c.args.eof.now) c.in-Ok.kid c.in-Ok.ensures.started)
+    omega (arith, started_none (allowed_in c.args.ctx.now) (child_form c.args.node.now) c.args.node.now.marked (under c.args.name.now (length c.args.kids.now.items)) (inside c.args.eof.now) c.in-Ok.kid c.in-Ok.ensures.started)
 
 pub returns-in_ok-kid-in-Ok-clause-tracked : goal.returns-in_ok-kid-in-Ok-clause-tracked
 returns-in_ok-kid-in-Ok-clause-tracked g c =
-    let n : task_reserved c.in-Ok.kid ≡ 0 = started_none (child_form c.args.node.now) c.args.node.now.marked (under c.args.name.now (length c.args.kids.now.items)) (inside c.args.eof.now) c.in-Ok.kid c.in-Ok.ensures.started in
+    let n : task_reserved c.in-Ok.kid ≡ 0 = started_none (allowed_in c.args.ctx.now) (child_form c.args.node.now) c.args.node.now.marked (under c.args.name.now (length c.args.kids.now.items)) (inside c.args.eof.now) c.in-Ok.kid c.in-Ok.ensures.started in
     let p : tasks_reserved c.push_reserved.new.self.items ≡ tasks_reserved c.args.kids.now.items + task_reserved c.in_ok-kid-in-Ok.kid =
     tasks_push c.push_reserved.new.self.items c.args.kids.now.items c.in_ok-kid-in-Ok.kid (c.push_reserved.ensures.items ∙ ap (λ z. z ++ (c.in_ok-kid-in-Ok.kid ∷ [])) c.next_child.ensures.kids) in
     omega (arith, n, p, c.in_ok-kid-in-Ok.ensures.tracked)
 
 pub returns-in_err-kid-in-Ok-clause-tracked : goal.returns-in_err-kid-in-Ok-clause-tracked
 returns-in_err-kid-in-Ok-clause-tracked g c =
-    let n : task_reserved c.in-Ok.kid ≡ 0 = started_none (child_form c.args.node.now) c.args.node.now.marked (under c.args.name.now (length c.args.kids.now.items)) (inside c.args.eof.now) c.in-Ok.kid c.in-Ok.ensures.started in
+    let n : task_reserved c.in-Ok.kid ≡ 0 = started_none (allowed_in c.args.ctx.now) (child_form c.args.node.now) c.args.node.now.marked (under c.args.name.now (length c.args.kids.now.items)) (inside c.args.eof.now) c.in-Ok.kid c.in-Ok.ensures.started in
     let k : tasks_reserved c.next_child.new.kids.items ≡ tasks_reserved c.args.kids.now.items = ap tasks_reserved c.next_child.ensures.kids in
     omega (arith, n, k, c.in_err-kid-in-Ok.ensures.tracked)
 

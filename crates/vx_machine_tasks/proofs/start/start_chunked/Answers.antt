@@ -21,9 +21,9 @@ returns-in-Ok-clause-moved g c =
     alone_moved u u (end_stock c.args.eof) (end_stock c.args.eof) c.waiting.result c.new.result.items c.new.ensures.items c.waiting.ensures.held (moved_none u (end_stock c.args.eof) c.requires.owned)
 
 pub returns-in-Ok-clause-shows : goal.returns-in-Ok-clause-shows
-returns-in-Ok-clause-shows g c =
-    started (form_at (chunked_way c.args.chunked.now) (ty (arc_value c.args.dtype))) c.args.marked c.args.name c.args.eof (Chunked c.in-Ok.node c.args.eof 0) c.new.result.items c.waiting.result
-    (λ s. refl) (λ a. none_fit)
+returns-in-Ok-clause-shows g c = λ a.
+    started a (form_at (chunked_way c.args.chunked.now) (ty (arc_value c.args.dtype))) c.args.marked c.args.name c.args.eof (Chunked c.in-Ok.node c.args.eof 0) c.new.result.items c.waiting.result
+    (λ s q. refl) (λ k. none_fit)
     (λ j. by_chunk (c.in-Ok.ensures.node.2 j) (ty (arc_value (c.in-Ok.ensures.node.0 j))) (form_at ((c.in-Ok.ensures.node.1 j).item) (ty (arc_value (c.in-Ok.ensures.node.0 j)))) c.args.eof 0)
     (ap row c.new.ensures.items) c.waiting.ensures.shows
 

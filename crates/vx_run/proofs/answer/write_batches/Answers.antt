@@ -1,8 +1,9 @@
-use Rattle.std.proofs.Common.{◌≡◌, ℕ, List, Option, false, Some, refl, ap, ap₂, ◌∙◌}
+use Rattle.std.proofs.Common.{◌≡◌, ℕ, List, Option, false, Some, ap, ap₂, ◌∙◌}
 use Rattle.vx_model.specs.declared.encoding.EncodingId.{EncodingId}
-use Rattle.vx_plan.specs.PlanData.{Setting}
-use Rattle.vx_sink.specs.ContextView.{listed, allowed_in, is_marked}
+use Rattle.vx_sink.specs.ContextView.{is_marked}
 use Rattle.vx_setting.specs.Setting.{real}
+use Rattle.vx_compressor_spec.specs.TableImage.{table_image}
+use Rattle.vx_machine_view.specs.Images.{images_of}
 use Rattle.vx_write.specs.Context.{setting_of}
 use Rattle.vx_job.specs.JobText.{JobData}
 use Rattle.vx_job.specs.JobView.{job_view}
@@ -11,13 +12,13 @@ use Rattle.vx_run.proofs.answer.write_batches.Goals as goal
 
 -- the setting is the job's
 same_setting : (ids ids_now : List EncodingId) (allowed allowed_now : Option (List (List ℕ))) → ids ≡ ids_now → allowed ≡ allowed_now
-    → real ids allowed (λ which p. p) ≡ real ids_now allowed_now (λ which p. p)
-same_setting ids ids_now allowed allowed_now e f = ap₂ (λ (xs : List EncodingId) (ys : Option (List (List ℕ))). real xs ys (λ which p. p)) e f
+    → real ids allowed (images_of table_image) ≡ real ids_now allowed_now (images_of table_image)
+same_setting ids ids_now allowed allowed_now e f = ap₂ (λ (xs : List EncodingId) (ys : Option (List (List ℕ))). real xs ys (images_of table_image)) e f
 
 pub returns-in-Ok-clause-ok : goal.returns-in-Ok-clause-ok
 returns-in-Ok-clause-ok c =
     let j : JobData = job_view c.args.job in
-    job_written j (setting_of c.context-ctx.result (λ which p. p)) _ (is_marked c.context-ctx.result) false false
+    job_written j (setting_of c.context-ctx.result table_image) _ (is_marked c.context-ctx.result) false false false
     (record {
       setting = same_setting _ _ _ _ c.context-ctx.ensures.listed c.context-ctx.ensures.allowed;
       schema = c.new-source.ensures.kind;
@@ -33,13 +34,16 @@ returns-in-Ok-clause-ok c =
       must_of_source = c.new-source.ensures.must_fail;
       may_of_sink = c.new-sink.ensures.may_fail;
       must_of_sink = c.new-sink.ensures.must_fail;
+      may_of_compressor = c.new-compressor.ensures.may_fail;
+      must_of_compressor = c.new-compressor.ensures.must_fail;
       source_none = c.new-source.ensures.faults;
       sink_none = c.new-sink.ensures.faults;
+      compressor_none = c.new-compressor.ensures.faults;
     })
-    c.into_segments.ensures (λ f. absurd (c.in-Ok.ensures.unbuilt f).0) c.in-Ok.ensures.wrote c.in-Ok.ensures.trace c.in-Ok.ensures.appended c.in-Ok.ensures.source c.in-Ok.ensures.sink
+    c.into_segments.ensures c.in-Ok.ensures.wrote c.in-Ok.ensures.readable c.in-Ok.ensures.trace c.in-Ok.ensures.appended c.in-Ok.ensures.source c.in-Ok.ensures.sink c.in-Ok.ensures.compressor
 
-pub returns-in-Ok-clause-no_tables : goal.returns-in-Ok-clause-no_tables
-returns-in-Ok-clause-no_tables c = written_tables (job_view c.args.job) (returns-in-Ok-clause-ok c)
+pub returns-in-Ok-clause-tables : goal.returns-in-Ok-clause-tables
+returns-in-Ok-clause-tables c = written_tables (job_view c.args.job) (returns-in-Ok-clause-ok c)
 
 pub returns-in-Ok-clause-numbered : goal.returns-in-Ok-clause-numbered
 returns-in-Ok-clause-numbered c = written_fits (job_view c.args.job) c.new-sink.ensures.next (returns-in-Ok-clause-ok c) c.in-Ok.ensures.appended c.in-Ok.ensures.last
@@ -64,18 +68,16 @@ returns-clause-err c =
         must_of_source = c.new-source.ensures.must_fail;
         may_of_sink = c.new-sink.ensures.may_fail;
         must_of_sink = c.new-sink.ensures.must_fail;
+        may_of_compressor = c.new-compressor.ensures.may_fail;
+        must_of_compressor = c.new-compressor.ensures.must_fail;
         source_none = c.new-source.ensures.faults;
         sink_none = c.new-sink.ensures.faults;
+        compressor_none = c.new-compressor.ensures.faults;
       };
       halted = c.in-Err.ensures.halted;
       source = c.in-Err.ensures.source;
       sink = c.in-Err.ensures.sink;
-      unbuilt = λ f. (
-        rw (c.in-Err.ensures.unbuilt f).0.0 refl,
-        rw (c.in-Err.ensures.unbuilt f).1 refl,
-        rw (c.in-Err.ensures.unbuilt f).2 refl,
-        (c.in-Err.ensures.unbuilt f).0.1,
-      );
+      compressor = c.in-Err.ensures.compressor;
       appended = c.in-Err.ensures.appended;
       complete = c.in-Err.ensures.complete;
     })

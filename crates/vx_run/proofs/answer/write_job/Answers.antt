@@ -11,8 +11,8 @@ written-answer-requires-clause-readable c = ap is_some (written_rows (job_view c
 pub written-answer-requires-clause-numbered : goal.written-answer-requires-clause-numbered
 written-answer-requires-clause-numbered c = c.in-Ok.ensures.numbered
 
-pub written-answer-requires-clause-no_tables : goal.written-answer-requires-clause-no_tables
-written-answer-requires-clause-no_tables c = c.in-Ok.ensures.no_tables
+pub written-answer-requires-clause-tables : goal.written-answer-requires-clause-tables
+written-answer-requires-clause-tables c = c.in-Ok.ensures.tables
 
 pub returns-in-Ok : goal.returns-in-Ok
 returns-in-Ok c = IfOk-weaker c.written-answer.result _ _ (λ a h. report_answers (job_view c.args.job) c.deref.ensures.value c.in-Ok.ensures.ok h) c.written-answer.ensures

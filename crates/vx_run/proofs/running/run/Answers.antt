@@ -12,9 +12,9 @@ returns-in-Some-clause-ran g c command bytes is told =
     subst (λ (k : Command). Ends (Answers k bytes) (g.O.Output.written c.args.output.now) (g.O.Output.written c.run_command.new.output) c.run_command.result) same (c.run_command.ensures.ran bytes told)
 
 pub returns-in-Some-clause-complete : goal.returns-in-Some-clause-complete
-returns-in-Some-clause-complete g c bytes j writing told is form no_faults valid calm_input calm_output =
+returns-in-Some-clause-complete g c bytes j writing told is no_faults valid calm_input calm_output =
     let same : c.in-Some.command ≡ Write = cc (c.in-Some.ensures, writing) in
-    written_or_memory bytes j (g.O.Output.written c.args.output.now) (g.O.Output.written c.run_command.new.output) c.run_command.result _ _ _ _ is form no_faults valid
+    written_or_memory bytes j (g.O.Output.written c.args.output.now) (g.O.Output.written c.run_command.new.output) c.run_command.result _ _ _ _ is no_faults valid
     (subst (λ (k : Command). Ends (Answers k bytes) (g.O.Output.written c.args.output.now) (g.O.Output.written c.run_command.new.output) c.run_command.result) same (c.run_command.ensures.ran bytes told))
     c.run_command.ensures.input_count calm_input c.run_command.ensures.output_count calm_output
 

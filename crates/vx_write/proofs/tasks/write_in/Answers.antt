@@ -8,10 +8,10 @@ use Rattle.vx_write.proofs.tasks.write_in.Goals as goal
 
 pub returns-clause-ran : goal.returns-clause-ran
 returns-clause-ran g c is exact =
-    has_run c.args.ctx.now (strategy_data c.args.strategy.now) (g.B.BatchSource.kind c.args.source.now) c.args.schedule.now (g.B.BatchSource.to_come c.args.source.now) (g.O.Order.outlet c.args.order.now) c.run.new.trace.items
+    has_run c.args.ctx.now (g.C.CompressorPlugin.image (g.C.CompressorPlugin.kind c.args.compressor.now)) (strategy_data c.args.strategy.now) (g.B.BatchSource.kind c.args.source.now) c.args.schedule.now (g.B.BatchSource.to_come c.args.source.now) (g.O.Order.outlet c.args.order.now) c.run.new.trace.items
     c.args.eof c.take_below.new.pointer c.in-Ok.stream (ty c.dtype.result.now) (machine_of c.in_ok-machine.machine) is c.in-Ok.ensures.next c.in-Ok.ensures.below c.dtype.ensures
     (g.O.Order.outlet c.take_below.new.order) (g.O.Order.outlet c.start.new.order) (g.O.Order.outlet c.run.new.order) (g.B.BatchSource.to_come c.run.new.source) (g.B.Fallible.must_fail c.args.source.now) c.run.result
-    c.in-Ok.ensures.outlet c.in_ok-machine.ensures.outlet c.in_ok-machine.ensures.built c.in_ok-machine.ensures.allowed c.in_ok-machine.ensures.counted c.in_ok-machine.ensures.shows
+    c.in-Ok.ensures.outlet c.in_ok-machine.ensures.outlet c.in_ok-machine.ensures.allowed c.in_ok-machine.ensures.counted c.in_ok-machine.ensures.shows
     (c.run.ensures.ran c.requires.empty (all_held (g.O.Order.active c.args.order.now) (g.O.Order.active c.take_below.new.order) (g.O.Order.active c.start.new.order) c.args.eof c.take_below.new.pointer c.in-Ok.stream
     (machine_stock c.in_ok-machine.machine) exact c.in-Ok.ensures.moved c.in_ok-machine.ensures.moved))
 

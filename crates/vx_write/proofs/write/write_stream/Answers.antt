@@ -1,20 +1,13 @@
 use Rattle.std.proofs.Common.{sym, ◌∙◌, ap, rules}
-use Rattle.vx_sink.specs.ContextView.{is_marked, counted}
-use Rattle.vx_strategy.specs.StrategyView.{strategy_data}
-use Rattle.vx_machine.specs.Context.{setting_of}
 use Rattle.vx_write.proofs.LentSteps.{first_told, second_told}
-use Rattle.vx_write.proofs.UnbuiltSteps.{unbuilt_halts}
 use Rattle.vx_write.proofs.write.write_stream.Goals as goal
-
-pub returns-then-not-is_built-clause-halted : goal.returns-then-not-is_built-clause-halted
-returns-then-not-is_built-clause-halted g c =
-    unbuilt_halts (setting_of c.args.ctx.now (g.C.CompressorPlugin.image (g.C.CompressorPlugin.kind c.args.compressor.now))) (strategy_data c.args.strategy.now) (g.B.BatchSource.kind c.args.source.now) (is_marked c.args.ctx.now)
-    (counted c.args.ctx.now) (g.S.SegmentSink.next c.args.sink.now) (g.B.BatchSource.to_come c.args.source.now) (g.S.SegmentSink.segments c.args.sink.now) c.args.schedule.now c.new-trace.result.items
-    (sym c.is_built.ensures ∙ c.if-not-is_built.true) c.new-trace.ensures.items
 
 pub returns-in-Ok-clause-wrote : goal.returns-in-Ok-clause-wrote
 returns-in-Ok-clause-wrote g c =
     rw (c.sink-1.given.1 (sym (first_told c.write_tasks-written.result.1.sink.ghost_name (g.S.SegmentSink.borrow c.write_tasks-written.result.1.sink.now) c.lent-1.given (g.S.SegmentSink.borrow c.args.sink.now) c.write_tasks-written.ensures.borrow))) (rw c.in-Ok.is at c.write_tasks-written.ensures.wrote)
+
+pub returns-in-Ok-clause-readable : goal.returns-in-Ok-clause-readable
+returns-in-Ok-clause-readable g c = rw c.in-Ok.is at c.write_tasks-written.ensures.readable
 
 pub returns-in-Ok-clause-appended : goal.returns-in-Ok-clause-appended
 returns-in-Ok-clause-appended g c =

@@ -23,9 +23,12 @@ pub returns-in_default-clause-sink_told : goal.returns-in_default-clause-sink_to
 returns-in_default-clause-sink_told g c =
     inl (unasked_self (g.O.Sink.Fallible.faults (g.O.Order.sink c.args.order.now)) (g.O.Sink.Fallible.may_fail (g.O.Order.sink c.args.order.now)) (g.O.Sink.Fallible.must_fail (g.O.Order.sink c.args.order.now)))
 
+pub returns-in_default-clause-pressed : goal.returns-in_default-clause-pressed
+returns-in_default-clause-pressed g c = inl (unasked_self (g.C.Fallible.faults c.args.compressor.now) (g.C.Fallible.may_fail c.args.compressor.now) (g.C.Fallible.must_fail c.args.compressor.now))
+
 pub returns-in_default-clause-refused : goal.returns-in_default-clause-refused
-returns-in_default-clause-refused g c = λ image number.
-    memory_first (setting_of c.args.ctx.now image) (g.O.Order.active c.args.order.now) number (g.B.BatchSource.kind c.args.source.now) (g.O.Order.outlet c.args.order.now) c.args.self.now c.args.pick (counted c.args.ctx.now)
+returns-in_default-clause-refused g c = λ number.
+    memory_first (setting_of c.args.ctx.now (g.C.CompressorPlugin.image (g.C.CompressorPlugin.kind c.args.compressor.now))) (g.O.Order.active c.args.order.now) number (g.B.BatchSource.kind c.args.source.now) (g.O.Order.outlet c.args.order.now) c.args.self.now c.args.pick (counted c.args.ctx.now)
     (g.B.BatchSource.to_come c.args.source.now) c.requires.ready
 
 pub returns-in_default-clause-kept : goal.returns-in_default-clause-kept

@@ -1,4 +1,5 @@
 use Rattle.std.proofs.Common.{◌≡◌, ℕ, ◌+◌, ◌-◌, ◌%◌, inl, refl, sym, ap, subst, ◌∙◌, arith}
+use Rattle.vx_model.specs.ChunkData.{ChunkData}
 use Rattle.vx_sequence.specs.Universe.{Active}
 use Rattle.vx_machine_ids.specs.Stock.{one}
 use Rattle.vx_machine_ids.proofs.MoveLaws.{owned_right, moved_behind}
@@ -21,7 +22,7 @@ use Rattle.vx_machine.proofs.StepShows.{source_stepped, source_refused, source_m
 use Rattle.vx_machine_nodes.proofs.WriteSteps.{kept_same}
 use Rattle.vx_machine.proofs.ActCauses.{act_step, source_step, act_elsewhere}
 use Rattle.vx_machine_nodes.proofs.CallSteps.{unasked_self}
-use Rattle.vx_machine.proofs.CallSteps.{stops_as, source_quiet, source_act, source_appends, task_reads, task_stops, reads_behind}
+use Rattle.vx_machine.proofs.CallSteps.{stops_as, source_quiet, source_act, source_appends, source_unpressed, none_pressed, source_calls, task_reads, task_stops, reads_behind}
 use Rattle.vx_kept.specs.Kept.{Knows, asked_of, ready_of, kids_of}
 use Rattle.vx_kept.proofs.Asking.{fresh_knows}
 use Rattle.vx_machine_tasks.specs.declared.task.Task.{out-Task}
@@ -65,8 +66,8 @@ returns-in_err-task-clause-refused g c =
     let h = own_source m.phase m.root (c.args.pick % c.args.ready) c.one-own.result x c.if-picked-own.true in
     let k : c.args.pick % counted (machine_ready u m) ≡ 0 = ap (λ n. c.args.pick % n) (sym c.requires.count) ∙ h.0 in
     let p = err_from_is_err_and c.from_residual.result c.from_residual.ensures.1 in
-    rw (p.1, p.2) (λ image number.
-    source_memory (setting_of c.args.ctx.now image) (fin.keys u) number (g.B.BatchSource.kind c.args.source.now) (g.O.Order.outlet c.args.order.now) (phase_of m.phase) (task_row m.root no_tasks) (c.args.pick % counted (machine_ready u m)) k h.1
+    rw (p.1, p.2) (λ number.
+    source_memory (setting_of c.args.ctx.now (g.C.CompressorPlugin.image (g.C.CompressorPlugin.kind c.args.compressor.now))) (fin.keys u) number (g.B.BatchSource.kind c.args.source.now) (g.O.Order.outlet c.args.order.now) (phase_of m.phase) (task_row m.root no_tasks) (c.args.pick % counted (machine_ready u m)) k h.1
     (g.B.BatchSource.to_come c.args.source.now) (g.B.BatchSource.to_come c.args.source.now) (counted_bytes c.args.ctx.now) refl)
 
 pub returns-in_err-task-clause-kept : goal.returns-in_err-task-clause-kept
@@ -75,7 +76,8 @@ returns-in_err-task-clause-kept g c =
     rw p.1 (kept_same (g.O.Order.outlet c.args.order.now) (g.O.Order.outlet c.args.order.now) refl)
 
 pub returns-in-Ok-clause-done : goal.returns-in-Ok-clause-done
-returns-in-Ok-clause-done g c = λ image.
+returns-in-Ok-clause-done g c =
+    let image : ℕ → ChunkData → ChunkData = g.C.CompressorPlugin.image (g.C.CompressorPlugin.kind c.args.compressor.now) in
     let m = c.args.self.now in
     let n = c.step_source.new.self in
     let x : c.one-own.result ≡ one (may_source m.phase m.root) = c.one-own.ensures ∙ ap one c.source_may.ensures in
@@ -87,24 +89,26 @@ returns-in-Ok-clause-done g c = λ image.
     )
 
 pub returns-in-Err-clause-refused : goal.returns-in-Err-clause-refused
-returns-in-Err-clause-refused g c = λ image number.
+returns-in-Err-clause-refused g c = λ number.
+    let image : ℕ → ChunkData → ChunkData = g.C.CompressorPlugin.image (g.C.CompressorPlugin.kind c.args.compressor.now) in
     let u : Active = g.O.Order.active c.args.order.now in
     let m = c.args.self.now in
     let x : c.one-own.result ≡ one (may_source m.phase m.root) = c.one-own.ensures ∙ ap one c.source_may.ensures in
     let h = own_source m.phase m.root (c.args.pick % c.args.ready) c.one-own.result x c.if-picked-own.true in
     let k : c.args.pick % counted (machine_ready u m) ≡ 0 = ap (λ n. c.args.pick % n) (sym c.requires.count) ∙ h.0 in
     source_refused (setting_of c.args.ctx.now image) (fin.keys u) number (g.B.BatchSource.kind c.args.source.now) (g.O.Order.outlet c.args.order.now) (phase_of m.phase) (task_row m.root no_tasks) (c.args.pick % counted (machine_ready u m)) k h.1
-    (g.B.BatchSource.to_come c.args.source.now) (g.B.BatchSource.to_come c.step_source.new.source) (counted_bytes c.args.ctx.now) c.in-Err.error c.in-Err.ensures.refused
+    (g.B.BatchSource.to_come c.args.source.now) (g.B.BatchSource.to_come c.step_source.new.source) (counted_bytes c.args.ctx.now) c.in-Err.error c.in-Err.ensures.cause c.in-Err.ensures.refused
 
 pub returns-in-Err-clause-kept : goal.returns-in-Err-clause-kept
 returns-in-Err-clause-kept g c = kept_same (g.O.Order.outlet c.args.order.now) (g.O.Order.outlet c.step_source.new.order) c.step_source.ensures.outlet
 
 pub returns-in-Ok-step-clause-done : goal.returns-in-Ok-step-clause-done
-returns-in-Ok-step-clause-done g c = λ image.
+returns-in-Ok-step-clause-done g c =
+    let image : ℕ → ChunkData → ChunkData = g.C.CompressorPlugin.image (g.C.CompressorPlugin.kind c.args.compressor.now) in
     let m = c.args.self.now in
     let k : ℕ = c.args.pick % c.args.ready in
     let x : c.one-own.result ≡ one (may_source m.phase m.root) = c.one-own.ensures ∙ ap one c.source_may.ensures in
-    let w = c.in-Ok-step.ensures.done image in (
+    let w = c.in-Ok-step.ensures.done in (
       w.0,
       root_stepped (setting_of c.args.ctx.now image) (fin.keys (g.O.Order.active c.args.order.now)) w.0 (g.B.BatchSource.kind c.args.source.now) (g.O.Order.outlet c.args.order.now) (phase_of m.phase) (task_row m.root no_tasks)
           k (k - c.one-own.result) (behind_source m.phase m.root k c.one-own.result x c.if-picked-own.false) (g.B.BatchSource.to_come c.args.source.now) (g.B.BatchSource.to_come c.args.source.now) refl
@@ -112,7 +116,8 @@ returns-in-Ok-step-clause-done g c = λ image.
     )
 
 pub returns-in-Err-step-clause-refused : goal.returns-in-Err-step-clause-refused
-returns-in-Err-step-clause-refused g c = λ image number.
+returns-in-Err-step-clause-refused g c = λ number.
+    let image : ℕ → ChunkData → ChunkData = g.C.CompressorPlugin.image (g.C.CompressorPlugin.kind c.args.compressor.now) in
     let u : Active = g.O.Order.active c.args.order.now in
     let m = c.args.self.now in
     let k : ℕ = c.args.pick % c.args.ready in
@@ -121,9 +126,9 @@ returns-in-Err-step-clause-refused g c = λ image number.
     = ap (λ n. c.args.pick % n) (sym c.requires.count) ∙ behind_source m.phase m.root k c.one-own.result x c.if-picked-own.false in
     root_refused (setting_of c.args.ctx.now image) (fin.keys u) number (g.B.BatchSource.kind c.args.source.now) (g.O.Order.outlet c.args.order.now) (phase_of m.phase) (task_row m.root no_tasks)
     (c.args.pick % counted (machine_ready u m)) (k - c.one-own.result) is (g.B.BatchSource.to_come c.args.source.now) (g.B.BatchSource.to_come c.args.source.now) refl (counted_bytes c.args.ctx.now) c.in-Err-step.error
-    (act_elsewhere c.in-Err-step.error c.in-Err-step.ensures.cause) (c.in-Err-step.ensures.refused image number)
+    (act_elsewhere c.in-Err-step.error c.in-Err-step.ensures.cause) (c.in-Err-step.ensures.refused number)
 
--- ---- calls of the source and of the sink
+-- ---- calls of the source, of the sink and of the compressor
 
 pub returns-in_err-task-clause-source_told : goal.returns-in_err-task-clause-source_told
 returns-in_err-task-clause-source_told g c =
@@ -177,6 +182,29 @@ returns-in-Err-step-clause-source_told g c =
 
 pub returns-in-Err-step-clause-sink_told : goal.returns-in-Err-step-clause-sink_told
 returns-in-Err-step-clause-sink_told g c = c.in-Err-step.ensures.told
+
+pub returns-in_err-task-clause-pressed : goal.returns-in_err-task-clause-pressed
+returns-in_err-task-clause-pressed g c =
+    let p = err_from_is_err_and c.from_residual.result c.from_residual.ensures.1 in
+    rw (p.1, p.2) (inl (unasked_self (g.C.Fallible.faults c.args.compressor.now) (g.C.Fallible.may_fail c.args.compressor.now) (g.C.Fallible.must_fail c.args.compressor.now)))
+
+pub returns-in-Ok-clause-pressed : goal.returns-in-Ok-clause-pressed
+returns-in-Ok-clause-pressed g c =
+    let m = c.args.self.now in
+    let n = c.step_source.new.self in
+    none_pressed (g.C.Fallible.faults c.args.compressor.now) (g.C.Fallible.may_fail c.args.compressor.now) (g.C.Fallible.must_fail c.args.compressor.now) c.in-Ok.action
+    (source_calls (g.B.BatchSource.kind c.args.source.now) (g.B.BatchSource.to_come c.args.source.now) (g.B.BatchSource.to_come c.step_source.new.source) (phase_of m.phase) (phase_of n.phase)
+    (task_row m.root no_tasks) (task_row n.root no_tasks) c.in-Ok.action c.in-Ok.ensures.done)
+
+pub returns-in-Err-clause-pressed : goal.returns-in-Err-clause-pressed
+returns-in-Err-clause-pressed g c =
+    source_unpressed (g.C.Fallible.faults c.args.compressor.now) (g.C.Fallible.may_fail c.args.compressor.now) (g.C.Fallible.must_fail c.args.compressor.now) (g.B.BatchSource.kind c.args.source.now) c.in-Err.error c.in-Err.ensures.cause
+
+pub returns-in-Ok-step-clause-pressed : goal.returns-in-Ok-step-clause-pressed
+returns-in-Ok-step-clause-pressed g c = c.in-Ok-step.ensures.pressed
+
+pub returns-in-Err-step-clause-pressed : goal.returns-in-Err-step-clause-pressed
+returns-in-Err-step-clause-pressed g c = c.in-Err-step.ensures.pressed
 
 -- ---- what the tracker counts
 

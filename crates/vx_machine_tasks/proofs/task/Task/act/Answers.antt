@@ -10,6 +10,7 @@ use Rattle.vx_machine_tasks.specs.declared.task.Task.TheViews.{roll-Task}
 use Rattle.vx_machine_tasks.proofs.TaskParts.{parts_owned, parts_moved, rolled}
 use Rattle.vx_machine_nodes.specs.Context.{setting_of}
 use Rattle.vx_machine_nodes.proofs.CallSteps.{unasked_self}
+use Rattle.vx_machine_tasks.proofs.CallShows.{memory_fails}
 use Rattle.vx_machine_tasks.proofs.StepShows.{own_stepped, own_refused}
 use Rattle.std.proofs.Common.{◌≡◌, ◌+◌, sym, subst, arith}
 use Rattle.vx_kept.specs.Kept.{Knows}
@@ -48,19 +49,20 @@ returns-in-Err-clause-moved g c =
     (rolled u v s (record { head = c.advance.new.head; kids = c.advance.new.kids }) c.advance.ensures.moved)
 
 pub returns-in-Ok-clause-done : goal.returns-in-Ok-clause-done
-returns-in-Ok-clause-done g c = λ image.
+returns-in-Ok-clause-done g c =
+    let image = g.C.CompressorPlugin.image (g.C.CompressorPlugin.kind c.args.compressor.now) in
     let u : Active = g.O.Order.active c.args.order.now in
-    let w = c.in-Ok.ensures.done image in
+    let w = c.in-Ok.ensures.done in
     (w.0, own_stepped (setting_of c.args.ctx.now image) u w.0 (g.O.Order.outlet c.args.order.now) c.args.self.now c.requires.ready (g.O.Order.outlet c.advance.new.order) (record { head = c.advance.new.head; kids = c.advance.new.kids }) c.in_ok-task.task c.in-Ok.action c.in_ok-task.ensures.cases w.1)
 
 pub returns-in-Err-clause-refused : goal.returns-in-Err-clause-refused
-returns-in-Err-clause-refused g c = λ image number.
-    own_refused (setting_of c.args.ctx.now image) (g.O.Order.active c.args.order.now) number (g.O.Order.outlet c.args.order.now) c.args.self.now c.requires.ready (counted_bytes c.args.ctx.now) c.in-Err.error (c.in-Err.ensures.refused image number)
+returns-in-Err-clause-refused g c = λ number.
+    own_refused (setting_of c.args.ctx.now (g.C.CompressorPlugin.image (g.C.CompressorPlugin.kind c.args.compressor.now))) (g.O.Order.active c.args.order.now) number (g.O.Order.outlet c.args.order.now) c.args.self.now c.requires.ready (counted_bytes c.args.ctx.now) c.in-Err.error (c.in-Err.ensures.refused number) c.in-Err.ensures.called
 
 pub returns-in_err-task-clause-refused : goal.returns-in_err-task-clause-refused
 returns-in_err-task-clause-refused g c =
     let p = err_from_is_err_and c.from_residual.result c.from_residual.ensures.1 in
-    rw (p.1, p.2) (λ image number. own_refused (setting_of c.args.ctx.now image) (g.O.Order.active c.args.order.now) number (g.O.Order.outlet c.args.order.now) c.args.self.now c.requires.ready (counted_bytes c.args.ctx.now) OutOfMemory tt)
+    rw (p.1, p.2) (λ number. own_refused (setting_of c.args.ctx.now (g.C.CompressorPlugin.image (g.C.CompressorPlugin.kind c.args.compressor.now))) (g.O.Order.active c.args.order.now) number (g.O.Order.outlet c.args.order.now) c.args.self.now c.requires.ready (counted_bytes c.args.ctx.now) OutOfMemory tt (memory_fails (out-Task c.args.self.now).head.todo.items))
 
 pub returns-in_err-task-clause-told : goal.returns-in_err-task-clause-told
 returns-in_err-task-clause-told g c =
@@ -72,9 +74,10 @@ returns-in-Ok-clause-known g c =
     let h = (out-Task c.args.self.now).head in
     let ks = (out-Task c.args.self.now).kids.items in
     let js = c.advance.new.kids.items in
-    let w = c.in-Ok.ensures.done (λ n p. p) in
+    let image = g.C.CompressorPlugin.image (g.C.CompressorPlugin.kind c.args.compressor.now) in
+    let w = c.in-Ok.ensures.done in
     subst (λ (z : Task-F Task). Knows c.follow.new.self (row z.kids.items)) (sym (out_roll (record { head = c.advance.new.head; kids = c.advance.new.kids })))
-    (c.follow.ensures (row ks) (row js) (act_touches (setting_of c.args.ctx.now (λ n p. p)) w.0 h ks js c.touched-touched.result c.touched-touched.ensures w.1.kids_are) c.requires.known)
+    (c.follow.ensures (row ks) (row js) (act_touches (setting_of c.args.ctx.now image) w.0 h ks js c.touched-touched.result c.touched-touched.ensures w.1.kids_are) c.requires.known)
 
 pub advance-requires-clause-reserved : goal.advance-requires-clause-reserved
 advance-requires-clause-reserved g c =
@@ -94,3 +97,8 @@ returns-in-Err-clause-tracked g c =
     let y : task_reserved (roll-Task (record { head = c.advance.new.head; kids = c.advance.new.kids })) ≡ head_reserved c.advance.new.head + tasks_reserved c.advance.new.kids.items =
     task_reserved_roll (record { head = c.advance.new.head; kids = c.advance.new.kids }) in
     omega (arith, x, y, c.advance.ensures.tracked)
+
+pub returns-in_err-task-clause-pressed : goal.returns-in_err-task-clause-pressed
+returns-in_err-task-clause-pressed g c =
+    let p = err_from_is_err_and c.from_residual.result c.from_residual.ensures.1 in
+    rw (p.1, p.2) (inl (unasked_self (g.C.Fallible.faults c.args.compressor.now) (g.C.Fallible.may_fail c.args.compressor.now) (g.C.Fallible.must_fail c.args.compressor.now)))

@@ -13,8 +13,8 @@ table_of-requires c =
     table_whole (gathered c.args.self) c.drop_null_columns.new.table.items (c.drop_null_columns.ensures ∙ ap some_values c.in_ok-table.ensures)
     c.sort_columns.new.table.items c.len-zones.result c.in_ok-sort_columns.ensures zones c.args.self.fit
 
-pub returns : goal.returns
-returns c =
+pub returns-clause-table : goal.returns-clause-table
+returns-clause-table c =
     let zones : c.len-zones.result ≡ length (map zone_values c.args.self.records.items) = c.len-zones.ensures ∙ c.args.self.records.ok.0 ∙ sym (length-map c.args.self.records.items zone_values) in
     let some : 0 < c.drop_null_columns.new.table.len = some_left c.drop_null_columns.new.table.len c.is_empty.result c.is_empty.ensures c.if-is_empty.false in
     table_some (gathered c.args.self) c.drop_null_columns.new.table.items (c.drop_null_columns.ensures ∙ ap some_values c.in_ok-table.ensures)
