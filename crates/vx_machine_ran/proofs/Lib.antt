@@ -1,6 +1,7 @@
 pub mod Imaging
-mod Fewness
-mod Joining
+mod OwnJoins
+mod Bounded
+mod Joined
 mod Refusing
 mod Leading
 mod Tracing

@@ -1,5 +1,5 @@
 -- The act that the schedule picks next, and the error as its own.
-use Rattle.std.proofs.Common.{◌≡◌, ◌+◌, ◌%◌, ◌^◌, ◌≤◌, ◌⊎◌, ◌∷◌, ◌++◌, ◌∙◌, ℕ, Bool, true, false, List, length, refl, sym, ap, subst, inl, inr, Some, slice_index, append-nil, []}
+use Rattle.std.proofs.Common.{◌≡◌, ◌+◌, ◌%◌, ◌^◌, ◌<◌, ◌≤◌, ◌⊎◌, ◌∷◌, ◌++◌, ◌∙◌, ℕ, Bool, true, false, List, length, refl, sym, ap, subst, inl, inr, arith, Some, slice_index, append-nil, []}
 use Rattle.std.proofs.lemmas.Bool.{true≢false}
 use Rattle.vx_model.specs.ChunkData.{ChunkData}
 use Rattle.vx_path.specs.Lists.{In}
@@ -32,13 +32,11 @@ use Rattle.vx_machine_runs.proofs.Ending.{none_later, open_none}
 use Rattle.vx_machine_runs.proofs.Reaching.{as_ready, move_of}
 use Rattle.vx_machine_runs.proofs.Stepping.{open_before}
 use Rattle.vx_machine.specs.Outcome.{Refused, Past, Appending}
-use Rattle.vx_machine.specs.Ready.{counted}
 use Rattle.vx_machine.specs.TaskActing.{CallFails}
 use Rattle.vx_machine.specs.SourceActs.{IsElsewhere}
+use Rattle.vx_machine.specs.Progress.{ShowsNote}
 use Rattle.vx_machine.specs.Run.{ready_at}
-use Rattle.vx_machine_ran.specs.Ran.{ShowsCounted}
 use Rattle.vx_machine_ran.specs.RefusedAct.{LeadTo, NextAct, IsRead, IsAppend, CountsPast, IsOwn}
-use Rattle.vx_machine_ran.proofs.Joining.{Joins}
 
 -- why a step is refused over this sink, where the tracker counts so much
 abbrev pub RefusedBy : ℕ → WholeStep → Outlet → WriteError → Type 0
@@ -69,7 +67,7 @@ module _ (w : WholeStep) (m : TreeMove) (same : SameAct w m) (o : Outlet) (mine 
   appends a = written_appends m.act.kind m.act.bytes a.0 (subst (In a.0) same.wrote a.1)
 
   -- of a step that is no batch of another type
-  module _ (fits : w.misfit ≡ false) (joins : Joins w.kind w.joined) (last : (n : ℕ) → PastLast o n → (n ≡ next) × (2 ^ 32 ≤ n)) (counts : ℕ) where
+  module _ (fits : w.misfit ≡ false) (joined : (n : ℕ) → In n w.joined → n < 2 ^ 64) (last : (n : ℕ) → PastLast o n → (n ≡ next) × (2 ^ 32 ≤ n)) (counts : ℕ) where
     own_past : (n : ℕ) → Past w.numbers w.indices n → Past m.act.numbers (m.act.indices ++ opened m.room m.act.starts) n
     own_past n p = subst (λ z. Past z (m.act.indices ++ opened m.room m.act.starts) n) same.numbers (subst (λ z. Past w.numbers z n) same.indices p)
 
@@ -77,8 +75,8 @@ module _ (w : WholeStep) (m : TreeMove) (same : SameAct w m) (o : Outlet) (mine 
     counts_past n (inl (inl (inl is, big))) = inr (inl (is ∙ ap (λ z. counts + z) same.raises, big))
     counts_past n (inl (inl (inr i, big))) = inl (own_past n (inl (i, big)))
     counts_past n (inl (inr p)) = inl (own_past n (inr p))
-    counts_past n (inr (inl (a, p))) = inr (inr (inl (appends a, (last n p).0, (last n p).1)))
-    counts_past n (inr (inr (i, big))) = inr (inr (inr (sym same.kind ∙ joins n i, big)))
+    counts_past n (inr (inl (a, p))) = inr (inr (appends a, (last n p).0, (last n p).1))
+    counts_past n (inr (inr (i, big))) = let l : n < 2 ^ 64 = joined n i in absurd (omega (arith, l, big))
 
     pub is_own : (e : WriteError) → IsElsewhere e → CallFails w.kind e → RefusedBy counts w o e → IsOwn m counts heard next e
     is_own SourceFault far k h = absurd far
@@ -102,7 +100,7 @@ module _ (w : WholeStep) (m : TreeMove) (same : SameAct w m) (o : Outlet) (mine 
 
 -- ---- the act that is picked
 
-lead_to : (s : Setting) (d : Fuel) (t e : Tree) (picks : List ℕ) (steps : List Step) (ms : List TreeMove) → RunsBy s d t picks ms e → AllPairs ShowsCounted steps (notes s d t picks ms) → LeadTo s d t steps ms e
+lead_to : (s : Setting) (d : Fuel) (t e : Tree) (picks : List ℕ) (steps : List Step) (ms : List TreeMove) → RunsBy s d t picks ms e → AllPairs ShowsNote steps (notes s d t picks ms) → LeadTo s d t steps ms e
 lead_to s d t e picks [] [] r h = r
 lead_to s d t e picks [] (m ∷ ms) r h = absurd h
 lead_to s d t e picks (x ∷ steps) [] r h = absurd h
@@ -119,8 +117,8 @@ same_begin g taken heard (came b) = refl
 same_begin g taken heard over = ap (λ z. started g.way g.type g.mark z true) (append-nil taken)
 
 module _ (g : Write) (first : ℕ) (seen : List Note) (x : Stand) (law : Careful g.setting) (u : UnderwayAt g first seen x) (schedule : List ℕ) (steps : List Step)
-    (shown : AllPairs ShowsCounted steps seen) (told : Answer) (once : BeforeEnd x.heard told) (k : ℕ) (w : WholeStep) (place : nth (ready_steps g first x.history told x.machine) k ≡ Some w)
-    (asks : Asks g.type (none_later (heard_by x.heard told)) x.machine.phase k told) (pick : k ≡ slice_index schedule (length steps) % counted (ready_at x.machine)) where
+    (shown : AllPairs ShowsNote steps seen) (told : Answer) (once : BeforeEnd x.heard told) (k : ℕ) (w : WholeStep) (place : nth (ready_steps g first x.history told x.machine) k ≡ Some w)
+    (asks : Asks g.type (none_later (heard_by x.heard told)) x.machine.phase k told) (pick : k ≡ slice_index schedule (length steps) % ready_at x.machine) where
   abbrev f : Future
   f = none_later (heard_by x.heard told)
 
@@ -132,9 +130,9 @@ module _ (g : Write) (first : ℕ) (seen : List Note) (x : Stand) (law : Careful
       let m = move_of g first x.taken x.heard told f seen x.history (tracked g x) r x.machine k w law (open_none (heard_by x.heard told)) shows place asks in
       let size : ready_at x.machine ≡ length (moves_at g r.tree) =
       sym (whole_is_ready g.setting (machine_ids x.machine) (first + length x.history) told x.machine) ∙ as_ready g x.taken (before told f) seen x.history (tracked g x) r first x.machine shows told law in
-      let at : slice_index schedule (length steps) % counted (length (moves_at g r.tree)) ≡ k = ap (λ z. slice_index schedule (length steps) % counted z) (sym size) ∙ sym pick in
+      let at : slice_index schedule (length steps) % length (moves_at g r.tree) ≡ k = ap (λ z. slice_index schedule (length steps) % z) (sym size) ∙ sym pick in
       let led : LeadTo g.setting (depth g) (begin g x.taken (before told f)) steps r.moves r.tree =
-      lead_to g.setting (depth g) (begin g x.taken (before told f)) r.tree g.schedule steps r.moves r.runs (subst (AllPairs ShowsCounted steps) r.seen_is shown) in (
+      lead_to g.setting (depth g) (begin g x.taken (before told f)) r.tree g.schedule steps r.moves r.runs (subst (AllPairs ShowsNote steps) r.seen_is shown) in (
         record {
           stand = r.tree;
           moves = r.moves;

@@ -3,7 +3,7 @@ use Rattle.std.specs.Prelude.{◌≡◌, ◌⊎◌, ◌+◌, ◌%◌, ◌^◌, �
 use Rattle.vx_model.specs.Ty.{Ty}
 use Rattle.vx_model.specs.ChunkData.{ChunkData}
 use Rattle.vx_path.specs.Path.{root_eof}
-use Rattle.vx_tasks.specs.Task.{Free, Append, Join, Batch, Call}
+use Rattle.vx_tasks.specs.Task.{Free, Append, Batch, Call}
 use Rattle.vx_tasks.specs.Run.{nth}
 use Rattle.vx_strategy_spec.specs.StrategyData.{StrategyData}
 use Rattle.vx_plan.specs.PlanData.{Setting, not_struct, duplicate_field, many_chunks, empty_list, zone_cut, forbidden_aggregate, forbidden_encoding}
@@ -19,16 +19,15 @@ use Rattle.vx_write_answer.specs.declared.error.WriteError.{WriteError}
 use Rattle.vx_write_answer.specs.declared.error.WriteError.TheVariants.{SourceFault, SinkFault, CompressFault, BatchType, NotStruct, DuplicateField, ManyChunks, EmptyList, ZoneCut, ForbiddenAggregate, ForbiddenEncoding, TooLarge, OutOfMemory, Stopped}
 use Rattle.vx_machine_view.specs.Start.{first_indices}
 use Rattle.vx_machine.specs.Outcome.{action_of, Past}
-use Rattle.vx_machine.specs.Ready.{counted}
 use Rattle.vx_machine.specs.TaskStarting.{TooFar}
 use Rattle.vx_machine.specs.TaskView.{form_at}
 
 -- ---- the act that comes next
 
--- a step is this one of the acts that can be done: it tells its place, how many there are, as far as 64 bits count them, its task and kind
+-- a step is this one of the acts that can be done: it tells its place, how many there are, its task and kind
 pub record IsDone (moves : List TreeMove) (x : Step) (m : TreeMove) : Type 0 where
   pub place : nth moves x.picked ≡ Some m
-  pub ready : x.ready ≡ counted (length moves)
+  pub ready : x.ready ≡ length moves
   pub task : x.task ≡ m.name
   pub action : x.action ≡ action_of m.act.kind
   pub unrefused : refuses m.act ≡ false
@@ -49,7 +48,7 @@ pub record NextAct (s : Setting) (w : StrategyData) (t : Ty) (m : Bool) (tracker
   pub counts : ℕ
   pub counts_are : counts + lowered_in (acts_of moves) ≡ tracker + raised_in (acts_of moves)
   pub move : TreeMove
-  pub picked : nth (machine_moves s (machine_fuel w t) stand) (slice_index schedule (length steps) % counted (length (machine_moves s (machine_fuel w t) stand))) ≡ Some move
+  pub picked : nth (machine_moves s (machine_fuel w t) stand) (slice_index schedule (length steps) % length (machine_moves s (machine_fuel w t) stand)) ≡ Some move
 
 -- ---- whose own the error is
 
@@ -61,12 +60,11 @@ abbrev pub IsAppend : Act → Type 0
 IsAppend a = (p : List ℕ) × (a.kind ≡ Append p)
 
 -- It counts so many rows or bytes, or a pointer comes so far, and that doesn't fit 64 bits; or with what it adds the tracker counts so
--- much; or it appends the next segment, whose number doesn't fit 32; or it joins, and the number doesn't fit 64.
+-- much; or it appends the next segment, whose number doesn't fit 32.
 abbrev pub CountsPast : TreeMove → ℕ → ℕ → ℕ → Type 0
 CountsPast m counts next n = Past m.act.numbers (m.act.indices ++ opened m.room m.act.starts) n
     ⊎ ((n ≡ counts + m.act.raises) × (2 ^ 64 ≤ n))
     ⊎ (IsAppend m.act × (n ≡ next) × (2 ^ 32 ≤ n))
-    ⊎ ((m.act.kind ≡ Join) × (2 ^ 64 ≤ n))
 
 -- The error is this act's own, where the tracker counts so much, and the next segment has this number: a line an error. Want of memory is free.
 abbrev pub IsOwn : TreeMove → ℕ → Bool → ℕ → WriteError → Type 0

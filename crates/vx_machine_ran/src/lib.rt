@@ -18,11 +18,11 @@ pub fn writes()
     ensures left { RunsLeaveSinks }
 {
     vx_plan::rows_come_back();
+    vx_machine_promises::steps();
     vx_machine_runs::runs();
     vx_machine_runs::ends();
     vx_machine_runs::stands();
     vx_machine_runs::traces();
-    vx_machine_runs::picks();
     vx_machine_runs::counts();
     vx_machine_runs::tracks();
 }
