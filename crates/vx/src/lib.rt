@@ -155,7 +155,7 @@ pub mod write {
 /// The program as a call, over any input and output.
 pub mod run {
     pub use vx_run::{
-        ByteInput, ByteOutput, Command, Input, InputFailure, Output, OutputFailure, RealInput,
-        RealOutput, Status, run,
+        ByteInput, ByteOutput, Command, Input, InputFailure, Nobody, Output, OutputFailure,
+        Progress, RealInput, RealOutput, Status, run, run_told,
     };
 }

@@ -4,3 +4,4 @@ mod TableSteps
 mod JobSteps
 mod BackSteps
 mod TreeSteps
+mod WordSteps
