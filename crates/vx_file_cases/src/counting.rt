@@ -1,23 +1,17 @@
-//! What the tracker counts behind a write.
+//! What the tracker counts behind a write, and the segments that stand.
 
 ghost use Rattle.std.specs.Prelude.{◌≡◌};
 ghost use Rattle.vx_sink.specs.ContextView.{counted};
 
-use crate::given::{INTEGERS, context, integers, strategy};
-use anyhow::bail;
+use anyhow::Result;
 use std::alloc::{AllocError, Global};
-use vx_case_lines::{boxed, cut, parts};
-use vx_sink::{LayoutWriterContext, ListSource, MemorySink, PlainCompressor};
+use vx_case_lines::cut;
+use vx_job::{Job, read_job};
+use vx_sink::{LayoutWriterContext, ListSource, MemorySink};
 use vx_strategy::Strategy;
+use vx_table_compressor::TableCompressor;
+use vx_types::Blob;
 use vx_write::write_stream;
-
-/// The calls that fail: one, or none.
-fn calls(alloc: Global, text: &str) -> anyhow::Result<Vec<u64>> {
-    if text == "-" {
-        return Ok(Vec::new(alloc));
-    }
-    Ok(vec![in alloc; text.parse::<u64>()?]?)
-}
 
 /// How the write ends, and behind how many steps.
 fn ending(
@@ -26,11 +20,12 @@ fn ending(
     ctx: &mut LayoutWriterContext,
     source: &mut ListSource,
     sink: &mut MemorySink,
+    schedule: &[u64],
+    compressor: &mut TableCompressor,
 ) -> Result<String, AllocError>
     ensures { counted ctx.new ≡ counted ctx.old }
 {
-    let mut compressor = PlainCompressor::new(Vec::new(alloc));
-    match write_stream(alloc, by, ctx, source, sink, &[], &mut compressor) {
+    match write_stream(alloc, by, ctx, source, sink, schedule, compressor) {
         Ok(written) => {
             let steps = written.trace.len();
             drop(written);
@@ -45,38 +40,52 @@ fn ending(
     }
 }
 
-/// The same where so many bytes are counted before it, and how many are counted behind it.
-fn ended(
-    alloc: Global,
-    by: &Strategy,
-    before: u64,
-    source: &mut ListSource,
-    sink: &mut MemorySink,
-) -> anyhow::Result<String> {
-    let mut ctx = LayoutWriterContext::new(context(alloc)?);
+/// The same where so many bytes are counted before it, how many are counted behind it, and the segments.
+fn ended(alloc: Global, before: u64, job: Job) -> Result<String, AllocError> {
+    let faults = job.faults;
+    let mut ctx = LayoutWriterContext::new(job.encodings);
     let Ok(reservation) = ctx.reserve_buffered_bytes(before) else {
-        bail!("{before} bytes are too many")
+        return String::from_str(alloc, "too many are counted");
     };
-    let ending = ending(alloc, by, &mut ctx, source, sink);
+    let mut source = ListSource::new(job.schema, job.batches, faults.source);
+    let mut sink = MemorySink::new(job.next, faults.sink);
+    let mut compressor = TableCompressor::new(faults.compress);
+    let ending = ending(
+        alloc,
+        &job.strategy,
+        &mut ctx,
+        &mut source,
+        &mut sink,
+        &job.schedule,
+        &mut compressor,
+    );
     let counted = ctx.buffered_bytes();
     ctx.release_buffered_bytes(reservation);
-    drop(ctx);
-    let ending = ending?;
-    Ok(format!(in alloc; "{ending}, {counted} bytes counted")?)
+    shown(alloc, ending, counted, sink.segments())
 }
 
-pub(crate) fn told(alloc: Global, given: &str) -> anyhow::Result<String> {
-    let (before, rest) = cut(given);
+fn shown(
+    alloc: Global,
+    ending: Result<String, AllocError>,
+    counted: u64,
+    segments: &[Blob],
+) -> Result<String, AllocError> {
+    let mut text = ending?;
+    write!(text, ", {counted} bytes counted, segments")?;
+    push_segments(alloc, &mut text, segments)?;
+    Ok(text)
+}
+
+fn push_segments(alloc: Global, text: &mut String, segments: &[Blob]) -> Result<(), AllocError> {
+    for segment in segments {
+        let bytes = hex::encode(alloc, segment.as_slice())?;
+        write!(text, " {bytes}")?;
+    }
+    Ok(())
+}
+
+pub(crate) fn told(alloc: Global, given: &str) -> Result<String> {
+    let (before, job) = cut(given);
     let before = before.parse::<u64>()?;
-    let (of_source, rest) = cut(rest);
-    let (of_sink, rest) = cut(rest);
-    let (by, batches) = parts(rest)?;
-    let by = strategy(alloc, by)?;
-    let batches = integers(alloc, batches)?;
-    let mut source = boxed(
-        alloc,
-        ListSource::new(INTEGERS, batches, calls(alloc, of_source)?),
-    )?;
-    let mut sink = boxed(alloc, MemorySink::new(0, calls(alloc, of_sink)?))?;
-    ended(alloc, &by, before, &mut source, &mut sink)
+    Ok(ended(alloc, before, read_job(alloc, job.as_bytes())?)?)
 }

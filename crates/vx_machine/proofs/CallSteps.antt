@@ -15,10 +15,11 @@ use Rattle.vx_machine_view.specs.Machine.{Phase, reading, giving, closing, finis
 use Rattle.vx_machine_view.specs.Places.{one_if}
 use Rattle.vx_write_answer.specs.Causes.{of_source, of_order}
 use Rattle.vx_write_answer.specs.declared.step.ActionKind.{ActionKind}
+use Rattle.vx_write_answer.specs.declared.step.ActionKind.TheVariants as actions
 use Rattle.vx_write_answer.specs.declared.error.WriteError.{WriteError}
 use Rattle.vx_write_answer.specs.declared.error.WriteError.TheVariants.{SourceFault, SinkFault, CompressFault, BatchType, NotStruct, DuplicateField, ManyChunks, EmptyList, ZoneCut, ForbiddenAggregate, ForbiddenEncoding, TooLarge, OutOfMemory, Stopped}
 use Rattle.vx_machine_nodes.specs.Calls.{reads_action, append_action, call_action, CalledTimes, SinkStops, PressStops}
-use Rattle.vx_machine.specs.Calls.{reads_at, SourceStops, SourceTold}
+use Rattle.vx_machine.specs.Calls.{LeavesFewer, reads_at, SourceStops, SourceTold}
 use Rattle.vx_machine_nodes.specs.Causes.{ActMay}
 use Rattle.vx_machine_nodes.specs.Outcome.{action_of}
 use Rattle.vx_machine.specs.Source.{SourceMay}
@@ -100,6 +101,11 @@ module _ (n : ℕ) (may must : ℕ → Type 0) where
 
   pub task_reads : (x : ActionKind) → reads_action x ≡ 0 → CalledTimes n n may may must must (reads_action x)
   task_reads x is = subst (λ z. CalledTimes n n may may must must z) (sym is) (unasked_self n may must)
+
+-- an act that doesn't read
+pub none_fewer : (n : ℕ) (a : ActionKind) → reads_action a ≡ 0 → LeavesFewer n n a
+none_fewer n actions.Batch e = absurd (omega (arith, e))
+none_fewer n a e = omega arith
 
 -- behind the source's own place
 pub reads_behind : (p : Phase) (root : Tasks) (k j : ℕ) → k ≡ one_if (may_source p root) + j → reads_at p k ≡ false

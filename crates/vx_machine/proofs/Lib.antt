@@ -12,3 +12,5 @@ pub mod StepShows
 pub mod RunCalls
 pub mod RunSteps
 pub mod BuiltSteps
+pub mod Fewness
+pub mod Going

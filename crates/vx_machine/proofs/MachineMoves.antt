@@ -1,10 +1,9 @@
 -- What a machine as a whole moves.
-use Rattle.std.proofs.Common.{◌≡◌, ℕ, ◌+◌, ◌-◌, ◌<◌, ◌≤◌, sym, ap, arith}
+use Rattle.std.proofs.Common.{◌≡◌, sym, ap}
 use Rattle.vx_sequence.specs.Universe.{Active}
 use Rattle.vx_machine_ids.specs.Stock.{Stock, none, both}
 use Rattle.vx_machine_ids.specs.Balance.{Owned, Moved}
 use Rattle.vx_machine_ids.proofs.MoveLaws.{moved_then, moved_drop, owned_now, owned_as, moved_as}
-use Rattle.vx_machine_tasks.specs.Ready.{counted}
 
 -- ---- the start, with two pointers
 
@@ -24,7 +23,3 @@ source_owned u p q r e o = owned_as u (both p r) (both q r) (ap (λ z. both z r)
 
 pub source_moved : (u v : Active) (p q t n r w : Stock) → q ≡ p → n ≡ t → Moved u v (both q r) (both t w) → Moved u v (both p r) (both n w)
 source_moved u v p q t n r w e f m = moved_as u v (both q r) (both p r) (both t w) (both n w) (ap (λ z. both z r) e) (ap (λ z. both z w) (sym f)) m
-
--- a place behind the source's own
-pub below : (own n k : ℕ) → k < counted (own + n) → own ≤ k → k - own < counted n
-below own n k h l = omega (arith, h, l)

@@ -12,7 +12,6 @@ use Rattle.vx_write_answer.specs.declared.error.WriteError.TheVariants.{OutOfMem
 use Rattle.vx_machine_promises.specs.Write.{unasked}
 use Rattle.vx_machine_view.specs.Machine as whole
 use Rattle.vx_machine_view.proofs.Placing.{whole_is_ready}
-use Rattle.vx_machine_tasks.specs.Ready.{counted}
 use Rattle.vx_machine.specs.Steps.{StepRefused}
 use Rattle.vx_machine.specs.View.{machine_of}
 use Rattle.vx_machine.specs.Whole.{machine_ready}
@@ -27,10 +26,10 @@ nth_there (x ∷ xs) (suc k) h = nth_there xs k (omega (arith, h))
 
 -- whatever step it would have been
 pub memory_first : (s : Setting) (u : Active) (number : ℕ) (t : Ty) (before : Outlet) (m : Machine) (pick counts : ℕ) (to_come : Option (List ChunkData)) → 0 < machine_ready u m
-    → StepRefused s (fin.keys u) (pick % counted (machine_ready u m)) counts t to_come to_come before number (machine_of m) OutOfMemory
+    → StepRefused s (fin.keys u) (pick % machine_ready u m) counts t to_come to_come before number (machine_of m) OutOfMemory
 memory_first s u number t before m pick counts to_come some =
-    let k : ℕ = pick % counted (machine_ready u m) in
-    let less : k < counted (machine_ready u m) = mod-lt pick (omega (arith, some)) in
+    let k : ℕ = pick % machine_ready u m in
+    let less : k < machine_ready u m = mod-lt pick (omega (arith, some)) in
     let are : length (whole.whole_steps s (fin.keys u) number unasked (machine_of m)) ≡ machine_ready u m = whole_is_ready s (fin.keys u) number unasked (machine_of m) ∙ machine_view u m in
     let w = nth_there (whole.whole_steps s (fin.keys u) number unasked (machine_of m)) k (omega (arith, less, are)) in
     record {

@@ -24,7 +24,6 @@ use Rattle.vx_machine.specs.Calls.{reads_at}
 use Rattle.vx_machine_nodes.specs.Context.{setting_of}
 use Rattle.vx_machine_nodes.specs.Ledger.{told_by}
 use Rattle.vx_machine_nodes.proofs.LedgerSteps.{told_listed, told_allowed}
-use Rattle.vx_machine_tasks.specs.Ready.{counted}
 use Rattle.vx_machine.specs.Steps.{WholeStepped, StepRefused, StepDone, StepFails}
 use Rattle.vx_machine.specs.Run.{At, at, ready_at, RunStep, Ran, picked_at, tracker_by, Stops}
 use Rattle.vx_machine.specs.View.{phase_of, machine_of}
@@ -107,7 +106,7 @@ module _ (ctx now : LayoutWriterContext) (same : told_by now ≡ told_by ctx) (i
   setting_same = λ j. real (told_listed ctx now same j) (told_allowed ctx now same j) (images_of (alike j))
 
   -- done
-  pub run_step : (x y : Option (List ChunkData)) (o v : Outlet) (new : whole.Machine) (s : Step) → (s.ready ≡ counted (machine_ready u m)) × (s.picked ≡ pick % s.ready)
+  pub run_step : (x y : Option (List ChunkData)) (o v : Outlet) (new : whole.Machine) (s : Step) → (s.ready ≡ machine_ready u m) × (s.picked ≡ pick % s.ready)
       → StepDone now used (fin.keys u) s.picked kind x y o v (machine_of m) new s.task s.action → RunStep ctx image t schedule place (at (machine_of m) x o) (at new y v) s
   run_step x y o v new s told d =
       let b : StepDone ctx image (fin.keys u) s.picked kind x y o v (machine_of m) new s.task s.action =
@@ -115,24 +114,24 @@ module _ (ctx now : LayoutWriterContext) (same : told_by now ≡ told_by ctx) (i
       let e : StepDone ctx image (fin.keys u) s.picked t x y o v (machine_of m) new s.task s.action = subst (λ z. StepDone ctx image (fin.keys u) s.picked z x y o v (machine_of m) new s.task s.action) typed b in
       record {
         some = some_ready;
-        ready = told.0 ∙ ap counted (sym ready_counted);
+        ready = told.0 ∙ sym ready_counted;
         picked = told.1 ∙ ap (λ n. n % s.ready) is;
         done = done_held u m exact ctx image s.picked t x y o v new s.task s.action e;
       }
 
   -- refused, where the tracker counts what the machine has reserved
   pub run_refused : (x y : Option (List ChunkData)) (o : Outlet) (e : WriteError) → counted_bytes now ≡ tracker_by ctx (machine_of m)
-      → StepFails now used (counted_bytes now) (fin.keys u) (pick % counted (machine_ready u m)) kind x y o (machine_of m) e → Stops ctx image t schedule place (at (machine_of m) x o) y e
+      → StepFails now used (counted_bytes now) (fin.keys u) (pick % machine_ready u m) kind x y o (machine_of m) e → Stops ctx image t schedule place (at (machine_of m) x o) y e
   run_refused x y o e counts d =
-      let k : ℕ = pick % counted (machine_ready u m) in
+      let k : ℕ = pick % machine_ready u m in
       let n : ℕ = tracker_by ctx (machine_of m) in
       let b : StepFails ctx image n (fin.keys u) k kind x y o (machine_of m) e = λ number.
       subst (λ z. StepRefused (setting_of ctx image) (fin.keys u) k z kind x y o number (machine_of m) e) counts
       (subst (λ z. StepRefused z (fin.keys u) k (counted_bytes now) kind x y o number (machine_of m) e) setting_same (d number)) in
       let f : StepFails ctx image n (fin.keys u) k t x y o (machine_of m) e = subst (λ z. StepFails ctx image n (fin.keys u) k z x y o (machine_of m) e) typed b in
-      let p : k ≡ picked_at schedule place (machine_of m) = λ j. is j % counted (sym ready_counted j) in
+      let p : k ≡ picked_at schedule place (machine_of m) = λ j. is j % sym ready_counted j in
       inr (some_ready, subst (λ z. StepFails ctx image n (whole.machine_ids (machine_of m)) z t x y o (machine_of m) e) p (fails_held u m exact ctx image k t x y o n e f))
 
   -- whether the source reads in it
-  pub reads_same : reads_at (phase_of m.phase) (picked_at schedule place (machine_of m)) ≡ reads_at (phase_of m.phase) (pick % counted (machine_ready u m))
-  reads_same = λ j. reads_at (phase_of m.phase) (sym is j % counted (ready_counted j))
+  pub reads_same : reads_at (phase_of m.phase) (picked_at schedule place (machine_of m)) ≡ reads_at (phase_of m.phase) (pick % machine_ready u m)
+  reads_same = λ j. reads_at (phase_of m.phase) (sym is j % ready_counted j)

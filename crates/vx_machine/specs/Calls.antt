@@ -1,5 +1,5 @@
 -- What steps tell of their calls of the source.
-use Rattle.std.specs.Prelude.{◌≡◌, ℕ, zero, suc, ◌+◌, Bool, true, false, List, [], ◌∷◌, Result, Ok, Err}
+use Rattle.std.specs.Prelude.{◌≡◌, ℕ, zero, suc, ◌+◌, ◌<◌, ◌≤◌, Bool, true, false, List, [], ◌∷◌, Result, Ok, Err}
 use Rattle.vx_fault.specs.Faults.{Called}
 use Rattle.vx_machine_view.specs.Machine.{Phase, reading, giving, closing, finished}
 use Rattle.vx_write_answer.specs.declared.step.ActionKind.{ActionKind}
@@ -32,6 +32,11 @@ misfits e = 0
 abbrev pub asked_by : {A : Type 0} → Result A WriteError → List Step → ℕ
 asked_by (Ok x) ss = reads_in ss
 asked_by (Err e) ss = reads_in ss + misfits e
+
+-- an act that reads a batch leaves fewer, and no act more
+abbrev pub LeavesFewer : ℕ → ℕ → ActionKind → Type 0
+LeavesFewer before now actions.Batch = now < before
+LeavesFewer before now a = now ≤ before
 
 -- whether the source reads at this place
 abbrev pub reads_at : Phase → ℕ → Bool

@@ -5,6 +5,7 @@ pub mod View
 pub mod SourceActs
 pub mod Steps
 pub mod Run
+pub mod Progress
 pub mod Starting
 pub use Rattle.vx_machine_nodes.specs.Acting
 pub use Rattle.vx_machine_nodes.specs.Calls as TaskCalls

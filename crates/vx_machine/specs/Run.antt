@@ -15,7 +15,6 @@ use Rattle.vx_machine_view.specs.Reserved.{reserved_by}
 use Rattle.vx_machine_view.specs.Machine.{Machine, is_finished, machine_ids}
 use Rattle.vx_machine_view.specs.Places.{whole_ready}
 use Rattle.vx_machine.specs.Calls.{reads_in, reads_at}
-use Rattle.vx_machine_tasks.specs.Ready.{counted}
 use Rattle.vx_machine_nodes.specs.Outcome.{Kept}
 use Rattle.vx_machine.specs.Steps.{StepDone, StepFails}
 
@@ -35,7 +34,7 @@ ready_at m = whole_ready (machine_ids m) m
 -- the step of this place, by the schedule's pick
 pub record RunStep (ctx : LayoutWriterContext) (image : ℕ → ChunkData → ChunkData) (t : Ty) (schedule : List ℕ) (place : ℕ) (x y : At) (s : Step) : Type 0 where
   pub some : 0 < ready_at x.machine
-  pub ready : s.ready ≡ counted (ready_at x.machine)
+  pub ready : s.ready ≡ ready_at x.machine
   pub picked : s.picked ≡ slice_index schedule place % s.ready
   pub done : StepDone ctx image (machine_ids x.machine) s.picked t x.to_come y.to_come x.outlet y.outlet x.machine y.machine s.task s.action
 
@@ -58,7 +57,7 @@ pub record RunDone (ctx : LayoutWriterContext) (image : ℕ → ChunkData → Ch
 
 -- the place that the schedule picks
 abbrev pub picked_at : List ℕ → ℕ → Machine → ℕ
-picked_at schedule place m = slice_index schedule place % counted (ready_at m)
+picked_at schedule place m = slice_index schedule place % ready_at m
 
 -- what the tracker then counts: what it did before the run, and what is reserved
 abbrev pub tracker_by : LayoutWriterContext → Machine → ℕ

@@ -1,5 +1,5 @@
 -- The source's task.
-use Rattle.std.specs.Prelude.{◌≡◌, ◌^◌, List, ◌∷◌, Option, Some, None, option_map, Result, Ok, Err}
+use Rattle.std.specs.Prelude.{◌≡◌, ◌<◌, ◌≤◌, ◌^◌, ℕ, List, ◌∷◌, Option, Some, None, option_map, Result, Ok, Err}
 use Rattle.vx_model.specs.Ty.{Ty}
 use Rattle.vx_model.specs.ChunkData.{ChunkData, piece_type}
 use Rattle.vx_layout_spec.specs.Real.{Whole}
@@ -21,6 +21,11 @@ phase_stock Finished = none
 abbrev pub IsTyped : Ty → Option ChunkData → Type 0
 IsTyped t None = Unit {0}
 IsTyped t (Some c) = piece_type c ≡ t
+
+-- and leaves fewer; the end leaves no more
+abbrev pub IsFewer : ℕ → ℕ → Option ChunkData → Type 0
+IsFewer before now None = now ≤ before
+IsFewer before now (Some c) = now < before
 
 -- and whole
 abbrev pub IsWhole : Option ChunkData → Type 0

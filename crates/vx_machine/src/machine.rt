@@ -13,11 +13,13 @@ ghost use Rattle.vx_machine_view.specs.Start.{first_indices};
 ghost use Rattle.vx_machine_view.specs.Acts.{layouts_in};
 ghost use Rattle.vx_machine_view.specs.Machine.{is_finished as has_finished};
 ghost use Rattle.vx_machine_view.specs.Places.{whole_ready};
+ghost use Rattle.vx_strategy.specs.StrategyView.{strategy_data};
 ghost use Rattle.vx_sink.specs.ContextView.{is_marked, counted as counted_bytes, allowed_in};
 ghost use Rattle.vx_machine_nodes.specs.Ledger.{Paid, told_by};
 ghost use Rattle.vx_machine_nodes.specs.Calls.{SinkTold, PressTold};
-ghost use Rattle.vx_machine.specs.Calls.{SourceTold, reads_at};
+ghost use Rattle.vx_machine.specs.Calls.{SourceTold, LeavesFewer, reads_at};
 ghost use Rattle.vx_machine_nodes.specs.Causes.{StartMay};
+ghost use Rattle.vx_machine_nodes.specs.Context.{setting_of};
 ghost use Rattle.vx_machine_nodes.specs.Outcome.{Kept};
 ghost use Rattle.vx_machine_tasks.specs.Pairs.{task_pairs, AllMay};
 ghost use Rattle.vx_machine_tasks.specs.Ready.{is_done as is_done_task, counted};
@@ -25,6 +27,7 @@ ghost use Rattle.vx_machine.specs.Source.{SourceMay};
 ghost use Rattle.vx_machine.specs.SourceActs.{SourceActed, SourceRefused};
 ghost use Rattle.vx_machine_tasks.specs.Starting.{IsAllowed, Counted, Started, FormRefused};
 ghost use Rattle.vx_machine.specs.Starting.{machine_at};
+ghost use Rattle.vx_machine.specs.Progress.{Begins, NeverStuck, IsFront, StepsOn};
 ghost use Rattle.vx_machine.specs.Steps.{StepDone, StepFails};
 ghost use Rattle.vx_machine_tasks.specs.Stocks.{task_stock};
 ghost use Rattle.vx_machine_nodes.specs.View.{form_of};
@@ -140,6 +143,7 @@ impl Machine {
         ensures allowed { OnOk result (IsAllowed (allowed_in ctx.now) (form_of strategy.now dtype.now) (is_marked ctx.now)) }
         ensures counted { OnOk result (Counted eof (first_indices (form_of strategy.now dtype.now) (is_marked ctx.now) eof)) }
         ensures shows { IfOk result (λ m. machine_of m ≡ machine_at stream (form_of strategy.now dtype.now) (is_marked ctx.now) eof) }
+        ensures begins { IfOk result (λ m. Begins (allowed_in ctx.now) (strategy_data strategy.now) (ty dtype.now) (is_marked ctx.now) stream eof (machine_of m)) }
         ensures refused { IfErr result (FormRefused (allowed_in ctx.now) (form_of strategy.now dtype.now) (is_marked ctx.now) eof) }
     {
         match start_root(alloc, strategy, dtype, ctx, order, eof) {
@@ -170,12 +174,19 @@ impl Machine {
         requires { Owned (O.active order.now) (machine_stock self.now) }
         ensures told { result ≡ counted (machine_ready (O.active order.now) self.now) }
         ensures view { result ≡ counted (whole_ready (fin.keys (O.active order.now)) (machine_of self.now)) }
+        // Wherever a write has come, there is one until the machine has finished, whatever is picked.
+        ensures never_stuck { Exact (O.active order.now) (machine_stock self.now) → NeverStuck (machine_of self.now) result }
+        // What was appended by then are the first pairs of the plan, and no other pair's path is below the least held one.
+        ensures front { IsFront (machine_of self.now) }
     {
+        vx_machine_runs::runs();
+        vx_machine_promises::fronts();
         let own = one(self.source_may());
         own.saturating_add(self.root.ready(order))
     }
 
-    /// The same, where counts are kept of the root's children. It counts anew what they ask for.
+    /// How many tasks are ready, where counts are kept of the root's children. It counts anew what they ask for. Where 2^64 - 1
+    /// or more are below the source, no memory holds them, and it runs out here.
     pub(crate) fn count_ready<O: Order>(
         &self,
         order: &O,
@@ -183,12 +194,14 @@ impl Machine {
     ) -> Result<u64, AllocError>
         requires owned { Owned (O.active order.now) (machine_stock self.now) }
         requires known { Knows counts.old (row (out-Task self.now.root).kids.items) }
-        ensures told { IfOk result (λ n. n ≡ counted (machine_ready (O.active order.now) self.now)) }
+        ensures told { IfOk result (λ n. n ≡ machine_ready (O.active order.now) self.now) }
         ensures fresh { OnOk result (Fresh (fin.keys (O.active order.now)) counts.new (row (out-Task self.now.root).kids.items)) }
     {
-        let own = one(self.source_may());
         let below = self.root.count_ready(self.alloc, order, counts)?;
-        Ok(own.saturating_add(below))
+        if below == u64::MAX {
+            return Err(AllocError);
+        }
+        Ok(one(self.source_may()) + below)
     }
 
     /// The source's next act.
@@ -203,6 +216,7 @@ impl Machine {
         ensures outlet { O.outlet order.new ≡ O.outlet order.old }
         ensures sink { O.sink order.new ≡ O.sink order.old }
         ensures kind { B.kind source.new ≡ B.kind source.old }
+        ensures left { IfOk result (LeavesFewer (B.left source.old) (B.left source.new)) }
         ensures told { SourceTold (B.faults source.old) (B.faults source.new) (B.may_fail source.old) (B.may_fail source.new)
             (B.must_fail source.old) (B.must_fail source.new) (reads_at (phase_of self.old.phase) 0) result (λ a. a) }
         ensures cause { IfErr result (SourceMay (B.kind source.old)) }
@@ -230,16 +244,17 @@ impl Machine {
         requires owned { Owned (O.active order.old) (machine_stock self.old) }
         requires reserved { machine_reserved self.old ≤ counted_bytes ctx.old }
         requires ready { 0 < machine_ready (O.active order.old) self.old }
-        requires count { ready ≡ counted (machine_ready (O.active order.old) self.old) }
+        requires count { ready ≡ machine_ready (O.active order.old) self.old }
         requires fresh { Fresh (fin.keys (O.active order.old)) counts.old (row (out-Task self.old.root).kids.items) }
         requires allowed { AllMay (O.may_write order.old) (task_pairs self.old.root) }
         ensures moved { Moved (O.active order.old) (O.active order.new) (machine_stock self.old) (machine_stock self.new) }
         ensures tracked { Paid ctx.old ctx.new (machine_reserved self.old) (machine_reserved self.new) }
-        ensures told { IfOk result (λ s. (s.ready ≡ counted (machine_ready (O.active order.old) self.old)) × (s.picked ≡ pick % s.ready)) }
+        ensures told { IfOk result (λ s. (s.ready ≡ machine_ready (O.active order.old) self.old) × (s.picked ≡ pick % s.ready)) }
         ensures kind { B.kind source.new ≡ B.kind source.old }
+        ensures left { IfOk result (λ s. LeavesFewer (B.left source.old) (B.left source.new) s.action) }
         ensures source_told { SourceTold (B.faults source.old) (B.faults source.new) (B.may_fail source.old) (B.may_fail source.new)
             (B.must_fail source.old) (B.must_fail source.new)
-            (reads_at (phase_of self.old.phase) (pick % counted (machine_ready (O.active order.old) self.old))) result (λ s. s.action) }
+            (reads_at (phase_of self.old.phase) (pick % machine_ready (O.active order.old) self.old)) result (λ s. s.action) }
         ensures sink_told { SinkTold (O.Sink.faults (O.sink order.old)) (O.Sink.faults (O.sink order.new)) (O.Sink.may_fail (O.sink order.old)) (O.Sink.may_fail (O.sink order.new))
             (O.Sink.must_fail (O.sink order.old)) (O.Sink.must_fail (O.sink order.new)) result (λ s. s.action) }
         ensures pressed { PressTold (C.faults compressor.old) (C.faults compressor.new) (C.may_fail compressor.old) (C.may_fail compressor.new)
@@ -247,13 +262,18 @@ impl Machine {
         ensures cause { IfErr result StepMay }
         ensures done { IfOk result (λ s. StepDone ctx.old (C.image (C.kind compressor.old)) (fin.keys (O.active order.old)) s.picked (B.kind source.old) (B.to_come source.old) (B.to_come source.new)
             (O.outlet order.old) (O.outlet order.new) (machine_of self.old) (machine_of self.new) s.task s.action) }
-        ensures refused { IfErr result (StepFails ctx.old (C.image (C.kind compressor.old)) (counted_bytes ctx.old) (fin.keys (O.active order.old)) (pick % counted (machine_ready (O.active order.old) self.old)) (B.kind source.old) (B.to_come source.old) (B.to_come source.new)
+        // Wherever a write has come over a sink of its own, it leads the write on, and one act less is left.
+        ensures leads { IfOk result (λ s. Exact (O.active order.old) (machine_stock self.old)
+            → StepsOn (setting_of ctx.old (C.image (C.kind compressor.old))) (B.kind source.old) pick (B.to_come source.old) (B.to_come source.new) (O.outlet order.old) (O.outlet order.new) (machine_of self.old) (machine_of self.new) s) }
+        ensures refused { IfErr result (StepFails ctx.old (C.image (C.kind compressor.old)) (counted_bytes ctx.old) (fin.keys (O.active order.old)) (pick % machine_ready (O.active order.old) self.old) (B.kind source.old) (B.to_come source.old) (B.to_come source.new)
             (O.outlet order.old) (machine_of self.old)) }
         ensures kept { OnErr result (Kept (O.outlet order.old) (O.outlet order.new)) }
         ensures context { told_by ctx.new ≡ told_by ctx.old }
         ensures compressor { C.kind compressor.new ≡ C.kind compressor.old }
         ensures known { OnOk result (Knows counts.new (row (out-Task self.new.root).kids.items)) }
     {
+        vx_machine_runs::runs();
+        vx_machine_promises::steps();
         let picked = pick % ready;
         let own = one(self.source_may());
         if picked < own {
@@ -285,7 +305,8 @@ impl Machine {
 
     /// The ready task at the place `pick` modulo their number does its next act; tasks are in the order of their names.
     ///
-    /// After an error `refuse` alone is left to call. `SourceFault`, `SinkFault` and `CompressFault` come where that object's
+    /// Where 2^64 - 1 tasks or more are ready below the source, no memory holds them, and it runs out before the step. After an
+    /// error `refuse` alone is left to call. `SourceFault`, `SinkFault` and `CompressFault` come where that object's
     /// count of faults says so. The source is called where it reads, the sink where a segment is appended, and the compressor
     /// at a call.
     pub fn step<B: BatchSource, O: Order, C: CompressorPlugin>(
@@ -302,11 +323,12 @@ impl Machine {
         requires allowed { AllMay (O.may_write order.old) (task_pairs self.old.root) }
         ensures moved { Moved (O.active order.old) (O.active order.new) (machine_stock self.old) (machine_stock self.new) }
         ensures tracked { Paid ctx.old ctx.new (machine_reserved self.old) (machine_reserved self.new) }
-        ensures told { IfOk result (λ s. (s.ready ≡ counted (machine_ready (O.active order.old) self.old)) × (s.picked ≡ pick % s.ready)) }
+        ensures told { IfOk result (λ s. (s.ready ≡ machine_ready (O.active order.old) self.old) × (s.picked ≡ pick % s.ready)) }
         ensures kind { B.kind source.new ≡ B.kind source.old }
+        ensures left { IfOk result (λ s. LeavesFewer (B.left source.old) (B.left source.new) s.action) }
         ensures source_told { SourceTold (B.faults source.old) (B.faults source.new) (B.may_fail source.old) (B.may_fail source.new)
             (B.must_fail source.old) (B.must_fail source.new)
-            (reads_at (phase_of self.old.phase) (pick % counted (machine_ready (O.active order.old) self.old))) result (λ s. s.action) }
+            (reads_at (phase_of self.old.phase) (pick % machine_ready (O.active order.old) self.old)) result (λ s. s.action) }
         ensures sink_told { SinkTold (O.Sink.faults (O.sink order.old)) (O.Sink.faults (O.sink order.new)) (O.Sink.may_fail (O.sink order.old)) (O.Sink.may_fail (O.sink order.new))
             (O.Sink.must_fail (O.sink order.old)) (O.Sink.must_fail (O.sink order.new)) result (λ s. s.action) }
         ensures pressed { PressTold (C.faults compressor.old) (C.faults compressor.new) (C.may_fail compressor.old) (C.may_fail compressor.new)
@@ -314,7 +336,10 @@ impl Machine {
         ensures cause { IfErr result StepMay }
         ensures done { IfOk result (λ s. StepDone ctx.old (C.image (C.kind compressor.old)) (fin.keys (O.active order.old)) s.picked (B.kind source.old) (B.to_come source.old) (B.to_come source.new)
             (O.outlet order.old) (O.outlet order.new) (machine_of self.old) (machine_of self.new) s.task s.action) }
-        ensures refused { IfErr result (StepFails ctx.old (C.image (C.kind compressor.old)) (counted_bytes ctx.old) (fin.keys (O.active order.old)) (pick % counted (machine_ready (O.active order.old) self.old)) (B.kind source.old) (B.to_come source.old) (B.to_come source.new)
+        // Wherever a write has come over a sink of its own, it leads the write on, and one act less is left.
+        ensures leads { IfOk result (λ s. Exact (O.active order.old) (machine_stock self.old)
+            → StepsOn (setting_of ctx.old (C.image (C.kind compressor.old))) (B.kind source.old) pick (B.to_come source.old) (B.to_come source.new) (O.outlet order.old) (O.outlet order.new) (machine_of self.old) (machine_of self.new) s) }
+        ensures refused { IfErr result (StepFails ctx.old (C.image (C.kind compressor.old)) (counted_bytes ctx.old) (fin.keys (O.active order.old)) (pick % machine_ready (O.active order.old) self.old) (B.kind source.old) (B.to_come source.old) (B.to_come source.new)
             (O.outlet order.old) (machine_of self.old)) }
         ensures kept { OnErr result (Kept (O.outlet order.old) (O.outlet order.new)) }
         ensures context { told_by ctx.new ≡ told_by ctx.old }

@@ -8,8 +8,8 @@ ghost use Rattle.vx_machine_ids.specs.Stock.{none, both, id_stock, end_stock};
 ghost use Rattle.vx_machine_ids.specs.Balance.{Owned, Moved};
 ghost use Rattle.vx_machine_view.specs.State.{no_tasks};
 ghost use Rattle.vx_write_answer.specs.Causes.{of_order};
-ghost use Rattle.vx_machine.specs.Calls.{ReadTold, SourceTold, reads_at};
-ghost use Rattle.vx_machine.specs.Source.{phase_stock, Reads, IsTyped, IsWhole, SourceMay, NoNumber};
+ghost use Rattle.vx_machine.specs.Calls.{ReadTold, SourceTold, LeavesFewer, reads_at};
+ghost use Rattle.vx_machine.specs.Source.{phase_stock, Reads, IsTyped, IsWhole, IsFewer, SourceMay, NoNumber};
 ghost use Rattle.vx_machine.specs.SourceActs.{IsLate, SourceActed, SourceRefused, ReadActed, ReadRefused};
 ghost use Rattle.vx_machine_tasks.specs.Ledger.{task_reserved};
 ghost use Rattle.vx_machine_tasks.specs.Stocks.{task_stock};
@@ -58,6 +58,7 @@ fn next_batch<B: BatchSource>(source: &mut B) -> Result<Option<Chunk>, WriteErro
     ensures kind { B.kind source.new ≡ B.kind source.old }
     ensures typed { IfOk result (IsTyped (B.kind source.old)) }
     ensures whole { IfOk result IsWhole }
+    ensures left { IfOk result (IsFewer (B.left source.old) (B.left source.new)) }
     ensures reads { Reads (B.to_come source.old) (B.to_come source.new) result }
     ensures told { ReadTold (B.faults source.old) (B.faults source.new) (B.may_fail source.old) (B.may_fail source.new)
         (B.must_fail source.old) (B.must_fail source.new) result }
@@ -89,6 +90,7 @@ fn read_at<O: Order, B: BatchSource>(
     ensures outlet { O.outlet order.new ≡ O.outlet order.old }
     ensures sink { O.sink order.new ≡ O.sink order.old }
     ensures kind { B.kind source.new ≡ B.kind source.old }
+    ensures left { IfOk result.1 (LeavesFewer (B.left source.old) (B.left source.new)) }
     ensures told { SourceTold (B.faults source.old) (B.faults source.new) (B.may_fail source.old) (B.may_fail source.new)
         (B.must_fail source.old) (B.must_fail source.new) true result.1 (λ a. a) }
     ensures cause { IfErr result.1 (SourceMay (B.kind source.old)) }
@@ -127,6 +129,7 @@ fn read_none<O: Order, B: BatchSource>(
     ensures outlet { O.outlet order.new ≡ O.outlet order.old }
     ensures sink { O.sink order.new ≡ O.sink order.old }
     ensures kind { B.kind source.new ≡ B.kind source.old }
+    ensures left { IfOk result.1 (LeavesFewer (B.left source.old) (B.left source.new)) }
     ensures told { SourceTold (B.faults source.old) (B.faults source.new) (B.may_fail source.old) (B.may_fail source.new)
         (B.must_fail source.old) (B.must_fail source.new) true result.1 (λ a. a) }
     ensures cause { IfErr result.1 (SourceMay (B.kind source.old)) }
@@ -157,6 +160,7 @@ fn read<O: Order, B: BatchSource>(
     ensures outlet { O.outlet order.new ≡ O.outlet order.old }
     ensures sink { O.sink order.new ≡ O.sink order.old }
     ensures kind { B.kind source.new ≡ B.kind source.old }
+    ensures left { IfOk result.1 (LeavesFewer (B.left source.old) (B.left source.new)) }
     ensures told { SourceTold (B.faults source.old) (B.faults source.new) (B.may_fail source.old) (B.may_fail source.new)
         (B.must_fail source.old) (B.must_fail source.new) true result.1 (λ a. a) }
     ensures cause { IfErr result.1 (SourceMay (B.kind source.old)) }
@@ -183,6 +187,7 @@ pub(crate) fn act_source<O: Order, B: BatchSource>(
     ensures outlet { O.outlet order.new ≡ O.outlet order.old }
     ensures sink { O.sink order.new ≡ O.sink order.old }
     ensures kind { B.kind source.new ≡ B.kind source.old }
+    ensures left { IfOk result.1 (LeavesFewer (B.left source.old) (B.left source.new)) }
     ensures told { SourceTold (B.faults source.old) (B.faults source.new) (B.may_fail source.old) (B.may_fail source.new)
         (B.must_fail source.old) (B.must_fail source.new) (reads_at (phase_of phase) 0) result.1 (λ a. a) }
     ensures cause { IfErr result.1 (SourceMay (B.kind source.old)) }

@@ -37,7 +37,7 @@ use Rattle.vx_machine.specs.TaskView.{form_at}
 use Rattle.vx_machine.proofs.BuiltSteps.{all_built}
 use Rattle.vx_machine_ran.specs.Ran.{write_by, OwnSink, own_sink}
 use Rattle.vx_machine_ran.specs.RefusedAct.{StartRefuses}
-use Rattle.vx_machine_ran.specs.Traced.{tasks_of}
+use Rattle.vx_machine_ran.specs.Traced.{tasks_of, StepsBegin}
 use Rattle.vx_machine_ran.specs.Runs.{AllDone, DoneIsWritten, Halts, StoppedHalts, IsLeft, RunsLeaveSinks}
 use Rattle.vx_machine_ran.specs.Tracking.{Passes, PassesAt}
 use Rattle.vx_machine_ran.specs.Written.{AreFirst, NeedsNumber, HasCause, write_of, Halted}
@@ -50,9 +50,10 @@ use Rattle.vx_machine_ran.proofs.Stopping.{kept_own}
 -- ---- where nothing was started
 
 -- the source has something to do
-source_works : (s : Setting) (w : StrategyData) (t : Ty) (m heard : Bool) → 0 < work (tasks_of s w t m [] heard)
-source_works s w t m true = omega arith
-source_works s w t m false = omega arith
+source_works : (s : Setting) (w : StrategyData) (t : Ty) (m : Bool) (bs : List ChunkData) (ended : Bool) → 0 < work (tasks_of s w t m bs ended)
+source_works s w t m [] true = omega arith
+source_works s w t m [] false = omega arith
+source_works s w t m (b ∷ bs) ended = omega arith
 
 module _ (faults : StartFaultStands) (agree : StartFaultsAgree) (counts : StartIsCaused) (ctx : LayoutWriterContext) (image : ℕ → ChunkData → ChunkData) (w : StrategyData) (t : Ty)
     (to_come : Option (List ChunkData)) (first : ℕ) (before : Option (List (List ℕ))) where
@@ -78,7 +79,8 @@ module _ (faults : StartFaultStands) (agree : StartFaultsAgree) (counts : StartI
     typed = λ h. tt;
     ended = λ h. absurd (true≢false (sym h));
     cause = λ f still. c.1 f;
-    traced = record { fewer = source_works s w t m false; first = λ short. tt; all = λ short i. inl refl };
+    begun = λ f still. record { fewer = source_works s w t m f.later f.fits; first = tt };
+    traced = record { begin = record { fewer = source_works s w t m [] false; first = tt }; all = λ i. inl refl };
     asked = inl (let a = c.0 in omega (arith, a));
     refused = inl (c.2, refl, refl);
   }
@@ -148,33 +150,33 @@ module _ (g : Write) (first next : ℕ) (to_come to_come_now : Option (List Chun
     still_open : Open h.heard (all_left rest)
     still_open = λ i. (subst (λ z. NoneTold z) left (h.ended i), refl)
 
-    all_planned : OfSchema g.type xs → planned g (of_schema g.type h.stand.taken) (all_left rest) ≡ source_plan g.setting g.way g.type g.mark xs true
-    all_planned typed =
+    all_typed : OfSchema g.type xs → of_schema g.type h.stand.taken ++ rest ≡ xs
+    all_typed typed =
         let k : of_schema g.type h.stand.taken ≡ h.stand.taken = all_of_schema g.type h.stand.taken (front_of_schema g.type h.stand.taken rest (subst (λ z. OfSchema g.type z) is typed)) in
-        ap (λ z. source_plan g.setting g.way g.type g.mark z true) (ap (λ z. z ++ rest) k ∙ sym is)
+        ap (λ z. z ++ rest) k ∙ sym is
 
     -- where the end was told, all were of the schema
     heard_typed : h.heard ≡ true → OfSchema g.type xs
     heard_typed i = subst (λ z. OfSchema g.type z) (sym (is ∙ ap (λ z. h.stand.taken ++ z) (still_open i).0 ∙ append-nil h.stand.taken)) (h.typed i)
 
-    other : (b : Bool) → h.heard ≡ b → ¬ OfSchema g.type xs → AreFirst h.stand.appended (taken_plan g.setting g.way g.type g.mark xs false)
-    other true i differs = absurd (differs (heard_typed i))
-    other false i differs =
-        let m : (more : List ChunkData) × (of_schema g.type (h.stand.taken ++ rest) ≡ of_schema g.type h.stand.taken ++ more) = schema_more g.type h.stand.taken rest in
-        subst (λ z. AreFirst h.stand.appended (source_plan g.setting g.way g.type g.mark z false)) (sym (ap (of_schema g.type) is ∙ m.1))
-        (h.front (record { later = m.0; fits = false }) (λ k. absurd (true≢false (sym k ∙ i))))
+    -- what holds whatever may still come holds of these
+    module _ (P : List ChunkData → Bool → Type 0) (any : (f : Future) → Open h.heard f → P (of_schema g.type h.stand.taken ++ f.later) f.fits) where
+      typed_all : OfSchema g.type xs → P xs true
+      typed_all typed = subst (λ z. P z true) (all_typed typed) (any (all_left rest) still_open)
 
-  front_of_all : to_come ≡ Some xs → (OfSchema g.type xs → AreFirst h.stand.appended (source_plan g.setting g.way g.type g.mark xs true))
-      × (¬ OfSchema g.type xs → AreFirst h.stand.appended (taken_plan g.setting g.way g.type g.mark xs false))
-  front_of_all told = by (rest_told h.stand.taken xs to_come_now (sym told ∙ h.stand.came))
+      other : (b : Bool) → h.heard ≡ b → ¬ OfSchema g.type xs → P (of_schema g.type xs) false
+      other true i differs = absurd (differs (heard_typed i))
+      other false i differs =
+          let m : (more : List ChunkData) × (of_schema g.type (h.stand.taken ++ rest) ≡ of_schema g.type h.stand.taken ++ more) = schema_more g.type h.stand.taken rest in
+          subst (λ z. P z false) (sym (ap (of_schema g.type) is ∙ m.1)) (any (record { later = m.0; fits = false }) (λ k. absurd (true≢false (sym k ∙ i))))
+
+  -- of all that the source told, or where a batch is of another type, of those before the first such
+  of_all : (P : List ChunkData → Bool → Type 0) → ((f : Future) → Open h.heard f → P (of_schema g.type h.stand.taken ++ f.later) f.fits) → to_come ≡ Some xs
+      → (OfSchema g.type xs → P xs true) × (¬ OfSchema g.type xs → P (of_schema g.type xs) false)
+  of_all P any told = by (rest_told h.stand.taken xs to_come_now (sym told ∙ h.stand.came))
     where
-      by : (rest : List ChunkData) × (to_come_now ≡ Some rest) × (xs ≡ h.stand.taken ++ rest)
-          → (OfSchema g.type xs → AreFirst h.stand.appended (source_plan g.setting g.way g.type g.mark xs true))
-          × (¬ OfSchema g.type xs → AreFirst h.stand.appended (taken_plan g.setting g.way g.type g.mark xs false))
-      by (rest, left, is) = (
-        λ typed. subst (λ z. AreFirst h.stand.appended z) (all_planned rest left is typed) (h.front (all_left rest) (still_open rest left is)),
-        other rest left is h.heard refl,
-      )
+      by : (rest : List ChunkData) × (to_come_now ≡ Some rest) × (xs ≡ h.stand.taken ++ rest) → (OfSchema g.type xs → P xs true) × (¬ OfSchema g.type xs → P (of_schema g.type xs) false)
+      by (rest, left, is) = (typed_all rest left is P any, other rest left is P any h.heard refl)
 
 -- ---- what was answered
 
@@ -187,11 +189,12 @@ module _ (s : Setting) (w : StrategyData) (t : Ty) (m : Bool) (tracker first nex
   halted h = record {
     heard = h.heard;
     stand = h.stand;
-    front = λ xs told. front_of_all by_itself first next to_come to_come_now before now schedule steps e h xs told;
+    front = λ xs told. of_all by_itself first next to_come to_come_now before now schedule steps e h xs (λ bs ended. AreFirst h.stand.appended (source_plan s w t m bs ended)) h.front told;
     ended = h.ended;
     cause = subst (λ z. HasCause t (PassesAt by_itself (of_schema t h.stand.taken) h.heard steps) z h.stand.taken next (length h.stand.appended) e)
         (none_planned by_itself (of_schema t h.stand.taken) h.heard) (h.cause (none_later h.heard) (open_none h.heard));
     traced = h.traced;
+    traced_all = λ xs told. of_all by_itself first next to_come to_come_now before now schedule steps e h xs (λ bs ended. StepsBegin (tasks_of s w t m bs ended) schedule steps) h.begun told;
     asked = h.asked;
     refused = h.refused;
   }
@@ -205,9 +208,9 @@ module _ (done : DoneIsWritten) (stopped : StoppedHalts) (left : RunsLeaveSinks)
   none_starts : IsStarted (allowed_in ctx) w t (is_marked ctx) → start_fault (setting_of ctx image) w t (is_marked ctx) ≡ None
   none_starts a = sym (agree (setting_of ctx image) w t (is_marked ctx)) ∙ a.allowed (setting_of ctx image) refl
 
-  done_answer : length steps < 2 ^ 64 → (l : Option Layout) → HasRun ctx image w t schedule to_come (own_sink borrow first before) steps to_come_now after l
+  done_answer : (l : Option Layout) → HasRun ctx image w t schedule to_come (own_sink borrow first before) steps to_come_now after l
       → OwnSink after (λ next now. WroteAll (setting_of ctx image) w t (is_marked ctx) first next to_come to_come_now before now schedule steps l)
-  done_answer short l (a, r) = by (done ctx image w t schedule to_come to_come_now borrow first before steps after l keeps (none_starts a) a.counted short r)
+  done_answer l (a, r) = by (done ctx image w t schedule to_come to_come_now borrow first before steps after l keeps (none_starts a) a.counted r)
     where
       by : (layout : Layout) × (l ≡ Some layout) × NoneTold to_come_now × AllDone (write_by ctx image w t) to_come schedule first before steps after layout
           → OwnSink after (λ next now. WroteAll (setting_of ctx image) w t (is_marked ctx) first next to_come to_come_now before now schedule steps l)
@@ -292,7 +295,7 @@ module _ (g : Write) (first next : ℕ) (to_come to_come_now : Option (List Chun
     Past n = Passes g (of_schema g.type h.stand.taken) (all_left rest) steps n
 
     plan_is : planned g (of_schema g.type h.stand.taken) (all_left rest) ≡ p
-    plan_is = all_planned g first next to_come to_come_now before now schedule steps e h xs rest left is valid.of_schema
+    plan_is = ap (λ z. source_plan g.setting g.way g.type g.mark z true) (all_typed g first next to_come to_come_now before now schedule steps e h xs rest left is valid.of_schema)
 
     below : (n : ℕ) → Past n → n < 2 ^ 64
     below n q =
@@ -320,9 +323,9 @@ module _ (g : Write) (first next : ℕ) (to_come to_come_now : Option (List Chun
 -- ---- the laws
 
 pub answers_are_written : DoneIsWritten → StoppedHalts → RunsLeaveSinks → StartFaultStands → StartFaultsAgree → StartIsCaused → AnswersAreWritten
-answers_are_written done stopped left faults agree counts ctx image w t schedule to_come to_come_now borrow first before steps after (Ok l) keeps short h =
-    done_answer done stopped left faults agree counts ctx image w t schedule to_come to_come_now borrow first before steps after keeps short l h
-answers_are_written done stopped left faults agree counts ctx image w t schedule to_come to_come_now borrow first before steps after (Err e) keeps short h =
+answers_are_written done stopped left faults agree counts ctx image w t schedule to_come to_come_now borrow first before steps after (Ok l) keeps h =
+    done_answer done stopped left faults agree counts ctx image w t schedule to_come to_come_now borrow first before steps after keeps l h
+answers_are_written done stopped left faults agree counts ctx image w t schedule to_come to_come_now borrow first before steps after (Err e) keeps h =
     own_more after _ (λ next now. Halted (setting_of ctx image) w t (is_marked ctx) (counted ctx) first next to_come to_come_now before now schedule steps e)
     (stopped_answer done stopped left faults agree counts ctx image w t schedule to_come to_come_now borrow first before steps after keeps e h)
     (λ next now p. halted (setting_of ctx image) w t (is_marked ctx) (counted ctx) first next to_come to_come_now before now schedule steps e p)

@@ -1,5 +1,4 @@
 pub mod Imaging
-mod Fewness
 mod Joining
 mod Refusing
 mod Leading

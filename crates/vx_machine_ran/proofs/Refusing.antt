@@ -32,11 +32,10 @@ use Rattle.vx_machine_runs.proofs.Ending.{none_later, open_none}
 use Rattle.vx_machine_runs.proofs.Reaching.{as_ready, move_of}
 use Rattle.vx_machine_runs.proofs.Stepping.{open_before}
 use Rattle.vx_machine.specs.Outcome.{Refused, Past, Appending}
-use Rattle.vx_machine.specs.Ready.{counted}
 use Rattle.vx_machine.specs.TaskActing.{CallFails}
 use Rattle.vx_machine.specs.SourceActs.{IsElsewhere}
+use Rattle.vx_machine.specs.Progress.{ShowsNote}
 use Rattle.vx_machine.specs.Run.{ready_at}
-use Rattle.vx_machine_ran.specs.Ran.{ShowsCounted}
 use Rattle.vx_machine_ran.specs.RefusedAct.{LeadTo, NextAct, IsRead, IsAppend, CountsPast, IsOwn}
 use Rattle.vx_machine_ran.proofs.Joining.{Joins}
 
@@ -102,7 +101,7 @@ module _ (w : WholeStep) (m : TreeMove) (same : SameAct w m) (o : Outlet) (mine 
 
 -- ---- the act that is picked
 
-lead_to : (s : Setting) (d : Fuel) (t e : Tree) (picks : List ℕ) (steps : List Step) (ms : List TreeMove) → RunsBy s d t picks ms e → AllPairs ShowsCounted steps (notes s d t picks ms) → LeadTo s d t steps ms e
+lead_to : (s : Setting) (d : Fuel) (t e : Tree) (picks : List ℕ) (steps : List Step) (ms : List TreeMove) → RunsBy s d t picks ms e → AllPairs ShowsNote steps (notes s d t picks ms) → LeadTo s d t steps ms e
 lead_to s d t e picks [] [] r h = r
 lead_to s d t e picks [] (m ∷ ms) r h = absurd h
 lead_to s d t e picks (x ∷ steps) [] r h = absurd h
@@ -119,8 +118,8 @@ same_begin g taken heard (came b) = refl
 same_begin g taken heard over = ap (λ z. started g.way g.type g.mark z true) (append-nil taken)
 
 module _ (g : Write) (first : ℕ) (seen : List Note) (x : Stand) (law : Careful g.setting) (u : UnderwayAt g first seen x) (schedule : List ℕ) (steps : List Step)
-    (shown : AllPairs ShowsCounted steps seen) (told : Answer) (once : BeforeEnd x.heard told) (k : ℕ) (w : WholeStep) (place : nth (ready_steps g first x.history told x.machine) k ≡ Some w)
-    (asks : Asks g.type (none_later (heard_by x.heard told)) x.machine.phase k told) (pick : k ≡ slice_index schedule (length steps) % counted (ready_at x.machine)) where
+    (shown : AllPairs ShowsNote steps seen) (told : Answer) (once : BeforeEnd x.heard told) (k : ℕ) (w : WholeStep) (place : nth (ready_steps g first x.history told x.machine) k ≡ Some w)
+    (asks : Asks g.type (none_later (heard_by x.heard told)) x.machine.phase k told) (pick : k ≡ slice_index schedule (length steps) % ready_at x.machine) where
   abbrev f : Future
   f = none_later (heard_by x.heard told)
 
@@ -132,9 +131,9 @@ module _ (g : Write) (first : ℕ) (seen : List Note) (x : Stand) (law : Careful
       let m = move_of g first x.taken x.heard told f seen x.history (tracked g x) r x.machine k w law (open_none (heard_by x.heard told)) shows place asks in
       let size : ready_at x.machine ≡ length (moves_at g r.tree) =
       sym (whole_is_ready g.setting (machine_ids x.machine) (first + length x.history) told x.machine) ∙ as_ready g x.taken (before told f) seen x.history (tracked g x) r first x.machine shows told law in
-      let at : slice_index schedule (length steps) % counted (length (moves_at g r.tree)) ≡ k = ap (λ z. slice_index schedule (length steps) % counted z) (sym size) ∙ sym pick in
+      let at : slice_index schedule (length steps) % length (moves_at g r.tree) ≡ k = ap (λ z. slice_index schedule (length steps) % z) (sym size) ∙ sym pick in
       let led : LeadTo g.setting (depth g) (begin g x.taken (before told f)) steps r.moves r.tree =
-      lead_to g.setting (depth g) (begin g x.taken (before told f)) r.tree g.schedule steps r.moves r.runs (subst (AllPairs ShowsCounted steps) r.seen_is shown) in (
+      lead_to g.setting (depth g) (begin g x.taken (before told f)) r.tree g.schedule steps r.moves r.runs (subst (AllPairs ShowsNote steps) r.seen_is shown) in (
         record {
           stand = r.tree;
           moves = r.moves;

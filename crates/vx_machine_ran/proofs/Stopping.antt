@@ -1,5 +1,5 @@
 -- A run that stopped has written a front of the plan of the batches taken, and has a cause there.
-use Rattle.std.proofs.Common.{◌≡◌, ◌+◌, ◌%◌, ◌^◌, ◌<◌, ◌≤◌, ◌⊎◌, ◌∷◌, ◌++◌, ◌∙◌, ℕ, zero, suc, Bool, true, false, List, take, length, refl, sym, ap, subst, inl, inr, arith, Option, Some, None, if◌then◌else◌, append-nil, length-append, slice_index, []}
+use Rattle.std.proofs.Common.{◌≡◌, ◌+◌, ◌%◌, ◌^◌, ◌<◌, ◌≤◌, ◌⊎◌, ◌∷◌, ◌++◌, ◌∙◌, ℕ, zero, suc, Bool, true, false, List, length, refl, sym, ap, subst, inl, inr, arith, Option, Some, None, if◌then◌else◌, append-nil, length-append, slice_index, []}
 use Rattle.std.proofs.lemmas.Bool.{true≢false}
 use Rattle.std.proofs.Math.Nat.{mod-lt}
 use Rattle.vx_model.specs.Ty.{Ty}
@@ -37,9 +37,8 @@ use Rattle.vx_machine_runs.specs.Runs.{Stand, outset, tracked, Asking, TypedAnsw
 use Rattle.vx_machine_runs.specs.Ends.{plan_of, StaysReady, Caused, StepsHaveCause}
 use Rattle.vx_machine_runs.specs.Steps.{HistoryIsFront, AppendIsOneMore}
 use Rattle.vx_machine_runs.specs.Answers.{TakenAlone}
-use Rattle.vx_machine_runs.specs.Picks.{ReadyIsWithinAll}
 use Rattle.vx_machine_runs.specs.Tracked.{Comes, TrackerComes}
-use Rattle.vx_machine_runs.specs.Traces.{NextIsWithinWork, NotesAreFirst, ReadyIsMore, RefusalIsLast, MisfitIsLast}
+use Rattle.vx_machine_runs.specs.Traces.{NotesAreFirst, ReadyIsMore, RefusalIsLast, MisfitIsLast}
 use Rattle.vx_machine_runs.proofs.Asking.{asked_before_end, taken_are_typed, answer_of_schema, all_of_schema}
 use Rattle.vx_machine_runs.proofs.Ending.{none_later, open_none, none_planned}
 use Rattle.vx_machine_runs.proofs.Misfits.{misfit_is_read}
@@ -52,18 +51,19 @@ use Rattle.vx_machine.specs.Outcome.{Kept, Past, Appending}
 use Rattle.vx_machine.specs.Source.{ReadsNone, SourceMay, NoNumber}
 use Rattle.vx_machine.specs.SourceActs.{AsksAt, IsElsewhere, TellsNothing, TellsRefused}
 use Rattle.vx_machine.specs.Steps.{StepRefused}
-use Rattle.vx_machine.specs.Ready.{counted}
 use Rattle.vx_machine.specs.TaskActing.{CallFails}
 use Rattle.vx_machine.specs.Run.{At, ready_at, tracker_by, Stops}
-use Rattle.vx_machine_ran.specs.Ran.{write_by, OwnSink, ShowsCounted, Onward}
+use Rattle.vx_machine_ran.specs.Ran.{write_by, OwnSink, Onward}
 use Rattle.vx_machine_ran.specs.Runs.{Halts, StoppedHalts}
 use Rattle.vx_machine.proofs.StepShows.{asks_not, tells_memory}
 use Rattle.vx_machine_ran.specs.RefusedAct.{NextAct, IsRead, IsOwn, RefusedThere}
-use Rattle.vx_machine_ran.specs.Traced.{tasks_of, ShowsNote, IsRefusal, StepsAreFirst, answers_in, IsLate}
+use Rattle.vx_machine.specs.Progress.{ShowsNote}
+use Rattle.vx_machine_ran.specs.Traced.{tasks_of, IsRefusal, StepsBegin, StepsAreFirst, answers_in, IsLate}
 use Rattle.vx_machine_ran.specs.Tracking.{Passes}
 use Rattle.vx_machine_ran.specs.Written.{AreFirst, NeedsNumber, HasCause, AskedInSteps}
-use Rattle.vx_machine_ran.proofs.Fewness.{Few, whole_few}
-use Rattle.vx_machine_ran.proofs.Leading.{told_one, asking, runs_are_led}
+use Rattle.vx_machine.proofs.Fewness.{Few, whole_few}
+use Rattle.vx_machine.proofs.Going.{asking}
+use Rattle.vx_machine_ran.proofs.Leading.{told_one, runs_are_led}
 use Rattle.vx_machine_ran.proofs.Joining.{whole_join}
 use Rattle.vx_machine_ran.proofs.Refusing.{RefusedBy, SameAct, is_own, own_read, next_act}
 use Rattle.vx_machine_ran.proofs.Tracing.{reads_are, traced_front, refused_last, misfit_last}
@@ -243,7 +243,7 @@ read_is s all number a m d w is at =
 module _ (ctx : LayoutWriterContext) (image : ℕ → ChunkData → ChunkData) (way : StrategyData) (t : Ty) (to_come : Option (List ChunkData)) (borrow first : ℕ) (before_it : Option (List (List ℕ)))
     (law : Careful (setting_of ctx image)) (clean : start_fault (setting_of ctx image) way t (is_marked ctx) ≡ None)
     (schedule : List ℕ) (steps : List Step) (y : At) (o : Onward (write_by ctx image way t) to_come borrow first before_it schedule 0 (outset (write_by ctx image way t)) steps y)
-    (run : RunIsUnderway) (by : RunByIsUnderway) (front : HistoryIsFront) (causes : StepsHaveCause) (append : AppendIsOneMore) (firsts : NotesAreFirst) (refused_at : RefusalIsLast) (misfit_at : MisfitIsLast) (within : ReadyIsWithinAll) (next_within : NextIsWithinWork) (more_at : ReadyIsMore) (stays : StaysReady) (tracks : TrackerComes)
+    (run : RunIsUnderway) (by : RunByIsUnderway) (front : HistoryIsFront) (causes : StepsHaveCause) (append : AppendIsOneMore) (firsts : NotesAreFirst) (refused_at : RefusalIsLast) (misfit_at : MisfitIsLast) (more_at : ReadyIsMore) (stays : StaysReady) (tracks : TrackerComes)
     (to_come_now : Option (List ChunkData)) (next : ℕ) (now : Option (List (List ℕ))) (sink : (next ≡ first + length o.stand.history) × (now ≡ then_told before_it (stored o.stand.history))) where
   abbrev g : Write
   g = write_by ctx image way t
@@ -284,40 +284,34 @@ module _ (ctx : LayoutWriterContext) (image : ℕ → ChunkData → ChunkData) (
   tasks_are : (told : Answer) → cut (scripts g (taken_by x.taken told) (none_later (heard_by x.heard told))) ≡ tasks (taken_by x.taken told) (heard_by x.heard told)
   tasks_are told = ap (λ z. tasks z (heard_by x.heard told)) (append-nil (taken_by x.taken told))
 
-  -- these have more than the steps, where something is ready
-  goes_on : (told : Answer) → BeforeEnd x.heard told → 0 < ready_at y.machine → length steps < work (tasks (taken_by x.taken told) (heard_by x.heard told))
-  goes_on told once some =
-      let f : Future = none_later (heard_by x.heard told) in
+  -- where something is ready, the steps are fewer than the work of all that may come, and the first of its trace
+  begins : (told : Answer) → BeforeEnd x.heard told → 0 < ready_at y.machine → (f : Future) → Open (heard_by x.heard told) f → StepsBegin (cut (scripts g (taken_by x.taken told) f)) schedule steps
+  begins told once some f may =
       let size : length (ready_steps h first x.history told x.machine) ≡ ready_at x.machine = whole_is_ready (setting_of ctx image) (machine_ids x.machine) (first + length x.history) told x.machine in
       let ready : 0 < length (ready_steps h first x.history told x.machine) = subst (λ z. 0 < z) (sym size) (subst (λ (m : Machine). 0 < ready_at m) o.same.machine_is some) in
-      let less : length o.notes < work (cut (scripts g x.taken (before told f))) = more_at h first o.notes x told (before told f) law u (open_before x.heard told f once (open_none (heard_by x.heard told))) ready in
-      subst (λ z. z < work (tasks (taken_by x.taken told) (heard_by x.heard told))) (sym (pairs_length ShowsCounted steps o.notes o.shown))
-      (subst (λ z. length o.notes < work z) (ap cut (same_scripts g x.taken told f) ∙ tasks_are told) less)
+      let less : length o.notes < work (cut (scripts g x.taken (before told f))) = more_at h first o.notes x told (before told f) law u (open_before x.heard told f once may) ready in
+      subst (λ z. StepsBegin (cut z) schedule steps) (same_scripts g x.taken told f) (record {
+        fewer = subst (λ z. z < work (cut (scripts g x.taken (before told f)))) (sym (pairs_length ShowsNote steps o.notes o.shown)) less;
+        first = traced_front ctx image way t to_come borrow first before_it law clean schedule steps y o by firsts (before told f) (open_before x.heard told f once may);
+      })
 
-  -- the steps are the first of these
-  begins : (told : Answer) → BeforeEnd x.heard told → work (tasks (taken_by x.taken told) (heard_by x.heard told)) < 2 ^ 64
-      → AllPairs ShowsNote steps (take (length steps) (trace (tasks (taken_by x.taken told) (heard_by x.heard told)) schedule))
-  begins told once =
-      let f : Future = none_later (heard_by x.heard told) in
-      subst (λ z. work z < 2 ^ 64 → AllPairs ShowsNote steps (take (length steps) (trace z schedule)))
-      (ap cut (same_scripts g x.taken told f) ∙ tasks_are told)
-      (traced_front ctx image way t to_come borrow first before_it law clean schedule steps y o by firsts within (before told f)
-      (open_before x.heard told f once (open_none (heard_by x.heard told))))
+  -- so where no more comes
+  begun : (told : Answer) → BeforeEnd x.heard told → 0 < ready_at y.machine → StepsBegin (tasks (taken_by x.taken told) (heard_by x.heard told)) schedule steps
+  begun told once some = subst (λ z. StepsBegin z schedule steps) (tasks_are told) (begins told once some (none_later (heard_by x.heard told)) (open_none (heard_by x.heard told)))
 
   -- and all of them, where the next one refuses
-  ends : (told : Answer) → BeforeEnd x.heard told → (k : ℕ) → k ≡ slice_index schedule (length steps) % counted (ready_at y.machine) → (w : WholeStep) (v : What) → Chosen (scheduled g schedule) first x told k w
-      → w.refusal ≡ Some v → work (tasks (taken_by x.taken told) (heard_by x.heard told)) < 2 ^ 64 → AllPairs ShowsNote steps (trace (tasks (taken_by x.taken told) (heard_by x.heard told)) schedule)
-  ends told once k pick w v c e short =
+  ends : (told : Answer) → (k : ℕ) → k ≡ slice_index schedule (length steps) % ready_at y.machine → (w : WholeStep) (v : What) → Chosen (scheduled g schedule) first x told k w
+      → w.refusal ≡ Some v → AllPairs ShowsNote steps (trace (tasks (taken_by x.taken told) (heard_by x.heard told)) schedule)
+  ends told k pick w v c e =
       let f : Future = none_later (heard_by x.heard told) in
       subst (λ z. AllPairs ShowsNote steps (trace z schedule)) (tasks_are told)
-      (refused_last ctx image way t to_come borrow first before_it law clean schedule steps y o by within next_within told f once (open_none (heard_by x.heard told)) k pick
-      (subst (λ z. work z < 2 ^ 64) (sym (ap cut (same_scripts g x.taken told f) ∙ tasks_are told)) short) refused_at w v c e)
+      (refused_last ctx image way t to_come borrow first before_it law clean schedule steps y o by told k pick refused_at f (open_none (heard_by x.heard told)) w v c e)
 
   -- what stands, by the plan of these batches
   halts : (e : WriteError) (taken bs : List ChunkData) (heard : Bool) → of_schema t taken ≡ bs → to_come ≡ before_told taken to_come_now → (heard ≡ true → NoneTold to_come_now)
-      → (heard ≡ true → OfSchema t taken) → ((f : Future) → Open heard f → (more : List Pair) × (sorted (planned g bs f).pairs ≡ x.history ++ more)) → StepsAreFirst (tasks bs heard) schedule steps e → AskedInSteps taken heard steps e
+      → (heard ≡ true → OfSchema t taken) → ((f : Future) → Open heard f → (more : List Pair) × (sorted (planned g bs f).pairs ≡ x.history ++ more)) → ((f : Future) → Open heard f → StepsBegin (cut (scripts g bs f)) schedule steps) → StepsAreFirst (tasks bs heard) schedule steps e → AskedInSteps taken heard steps e
       → ((f : Future) → Open heard f → HasCause t (Passes g bs f steps) (planned g bs f) taken next (length x.history) e) → There bs heard e → Halting e
-  halts e taken bs heard is told end typed stood traced asked c there = record {
+  halts e taken bs heard is told end typed stood begun traced asked c there = record {
     heard = heard;
     stand = record {
       taken = taken;
@@ -333,6 +327,7 @@ module _ (ctx : LayoutWriterContext) (image : ℕ → ChunkData → ChunkData) (
     ended = end;
     cause = λ f may. subst (λ z. HasCause t (Passes g z f steps) (planned g z f) taken next (length (stored x.history)) e) (sym is)
         (subst (λ z. HasCause t (Passes g bs f steps) (planned g bs f) taken next z e) (sym (stored_length x.history)) (c f may));
+    begun = λ f may. subst (λ z. StepsBegin (cut (scripts g z f)) schedule steps) (sym is) (begun f may);
     traced = subst (λ z. StepsAreFirst (tasks z heard) schedule steps e) (sym is) traced;
     asked = asked;
     refused = subst (λ z. There z heard e) (sym is) there;
@@ -349,7 +344,7 @@ module _ (ctx : LayoutWriterContext) (image : ℕ → ChunkData → ChunkData) (
   so_far : (e : WriteError) → NoBatch e → (IsRefusal e → ⊥) → 0 < ready_at y.machine → to_come_now ≡ y.to_come → ((passes : ℕ → Type 0) (p : Plan) → HasCause t passes p x.taken next (length x.history) e)
       → There x.taken x.heard e → Halting e
   so_far e n plain some same c there = halts e x.taken x.taken x.heard alone.all (o.same.came ∙ ap (before_told x.taken) (sym same)) (λ k. subst (λ z. NoneTold z) (sym same) (o.same.ended k))
-      (λ k. alone.typed) (λ f may. front h first o.notes x unasked f tt may u) (record { fewer = goes_on unasked tt some; first = begins unasked tt; all = λ short i. absurd (plain i) }) (all_asked e n) (λ f may. c (Passes g x.taken f steps) (planned g x.taken f)) there
+      (λ k. alone.typed) (λ f may. front h first o.notes x unasked f tt may u) (begins unasked tt some) (record { begin = begun unasked tt some; all = λ i. absurd (plain i) }) (all_asked e n) (λ f may. c (Passes g x.taken f steps) (planned g x.taken f)) there
 
   -- where it reads, the end isn't told
   unheard : (d : Eof) → x.machine.phase ≡ reading d → x.heard ≡ false
@@ -359,9 +354,9 @@ module _ (ctx : LayoutWriterContext) (image : ℕ → ChunkData → ChunkData) (
   mine : IsShared y.outlet → ⊥
   mine = unshared y.outlet _ o.same.sink
 
-  module _ (some : 0 < ready_at y.machine) (k : ℕ) (pick : k ≡ slice_index schedule (length steps) % counted (ready_at y.machine)) where
-    pick_at : k ≡ slice_index schedule (length steps) % counted (ready_at x.machine)
-    pick_at = pick ∙ ap (λ m. slice_index schedule (length steps) % counted (ready_at m)) o.same.machine_is
+  module _ (some : 0 < ready_at y.machine) (k : ℕ) (pick : k ≡ slice_index schedule (length steps) % ready_at y.machine) where
+    pick_at : k ≡ slice_index schedule (length steps) % ready_at x.machine
+    pick_at = pick ∙ ap (λ m. slice_index schedule (length steps) % ready_at m) o.same.machine_is
 
     -- where it reads and nothing more of the type comes, that is the act
     read_there : (w : WholeStep) (d : Eof) → k ≡ 0 → nth (ready_steps h first x.history unasked x.machine) 0 ≡ Some w → x.machine.phase ≡ reading d → w ≡ source_step unasked (reading d) x.machine.root → (e : WriteError)
@@ -381,15 +376,15 @@ module _ (ctx : LayoutWriterContext) (image : ℕ → ChunkData → ChunkData) (
     read_halts w d z at p is OutOfMemory r m c = so_far OutOfMemory refl (λ i. i) some r (λ q p. tt) (read_there w d z at p is OutOfMemory (λ v q i. tt))
     read_halts w d z at p is (BatchType b) r m c =
         halts (BatchType b) (x.taken ++ (b ∷ [])) x.taken x.heard (alone.without b m) (o.same.came ∙ ap (before_told x.taken) r ∙ told_one x.taken b to_come_now)
-        (λ i. absurd (true≢false (sym i ∙ unheard d p))) (λ i. absurd (true≢false (sym i ∙ unheard d p))) (λ f may. front h first o.notes x unasked f tt may u) (record { fewer = goes_on unasked tt some; first = begins unasked tt; all = λ short i. inr (all short) }) (inl one) (λ f may. (m, (x.taken, refl)))
+        (λ i. absurd (true≢false (sym i ∙ unheard d p))) (λ i. absurd (true≢false (sym i ∙ unheard d p))) (λ f may. front h first o.notes x unasked f tt may u) (begins unasked tt some) (record { begin = begun unasked tt some; all = λ i. inr all }) (inl one) (λ f may. (m, (x.taken, refl)))
         (read_there w d z at p is (BatchType b) (λ v q i. i))
       where
         one : answers_in (x.taken ++ (b ∷ [])) x.heard ≡ reads_in steps + 1
         one = let a = reads in let n : length (x.taken ++ (b ∷ [])) ≡ length x.taken + 1 = length-append x.taken (b ∷ []) in omega (arith, a, n)
 
-        all : work (tasks x.taken x.heard) < 2 ^ 64 → AllPairs ShowsNote steps (trace (tasks x.taken x.heard) schedule)
-        all = subst (λ (v : Bool). work (tasks x.taken v) < 2 ^ 64 → AllPairs ShowsNote steps (trace (tasks x.taken v) schedule)) (sym (unheard d p))
-            (misfit_last ctx image way t to_come borrow first before_it law clean schedule steps y o by within next_within misfit_at k pick (unheard d p) w
+        all : AllPairs ShowsNote steps (trace (tasks x.taken x.heard) schedule)
+        all = subst (λ (v : Bool). AllPairs ShowsNote steps (trace (tasks x.taken v) schedule)) (sym (unheard d p))
+            (misfit_last ctx image way t to_come borrow first before_it law clean schedule steps y o by misfit_at k pick (unheard d p) w
             (subst (λ v. nth (ready_steps h first x.history unasked x.machine) v ≡ Some w) (sym z) at) (ap (λ (v : WholeStep). v.misfit) is))
     read_halts w d z at p is (TooLarge n) r m c = absurd c
     read_halts w d z at p is SinkFault r m c = absurd m
@@ -467,12 +462,12 @@ module _ (ctx : LayoutWriterContext) (image : ℕ → ChunkData → ChunkData) (
             found : (a : NextAct (setting_of ctx image) way t (is_marked ctx) (counted_bytes ctx) taken heard schedule steps) × (a.counts ≡ tracked h x) × SameAct w a.move
             found = next_act h first o.notes x law u schedule steps o.shown told once k w at (asks_so h first x told k w (none_later heard) chosen) pick_at
 
-        refused : work (tasks taken heard) < 2 ^ 64 → (v : What) × (w.refusal ≡ Some v) → AllPairs ShowsNote steps (trace (tasks taken heard) schedule)
-        refused short (v, i) = ends told once k pick w v (record { place = at; asks = asks; typed = typed; once = once; fits = fits }) i short
+        refused : (v : What) × (w.refusal ≡ Some v) → AllPairs ShowsNote steps (trace (tasks taken heard) schedule)
+        refused (v, i) = ends told k pick w v (record { place = at; asks = asks; typed = typed; once = once; fits = fits }) i
 
         fit_halts : IsElsewhere e → Halting e
         fit_halts far = halts e taken taken heard (all_of_schema t taken (answer_of_schema t x.taken told alone.typed typed)) (refused_came x.machine.phase k t to_come y.to_come to_come_now x.taken e told n tells o.same.came)
-            (refused_ended x.machine.phase k t y.to_come to_come_now x.heard e told n tells once o.same.ended) (λ k. answer_of_schema t x.taken told alone.typed typed) (λ f may. front h first o.notes x told f once may u) (record { fewer = goes_on told once some; first = begins told once; all = λ short i. inr (refused short (word_of counts w y.outlet fits e i cause)) }) fit_asked
+            (refused_ended x.machine.phase k t y.to_come to_come_now x.heard e told n tells once o.same.ended) (λ k. answer_of_schema t x.taken told alone.typed typed) (λ f may. front h first o.notes x told f once may u) (begins told once some) (record { begin = begun told once some; all = λ i. inr (refused (word_of counts w y.outlet fits e i cause)) }) fit_asked
             (λ f may. step_cause t (Passes g taken f steps) (planned g taken f) taken next (length x.history) w (causes h first o.notes x told f k w law u may chosen) y.outlet
             mine fits (more f may) last counts (passes f may) e cause)
             (there far)
@@ -532,14 +527,14 @@ module _ (ctx : LayoutWriterContext) (image : ℕ → ChunkData → ChunkData) (
           subst (λ m. 0 < ready_at m) (sym o.same.machine_is) (subst (λ z. 0 < z) size ready)
 
       k : ℕ
-      k = slice_index schedule (length steps) % counted (ready_at y.machine)
+      k = slice_index schedule (length steps) % ready_at y.machine
 
       all : List WholeStep
       all = whole_steps (setting_of ctx image) (machine_ids y.machine) (first + length x.history) unasked y.machine
 
       there : (w : WholeStep) × (nth all k ≡ Some w)
       there =
-          let less : k < counted (ready_at y.machine) = mod-lt (slice_index schedule (length steps)) (omega (arith, some)) in
+          let less : k < ready_at y.machine = mod-lt (slice_index schedule (length steps)) (omega (arith, some)) in
           let are : length all ≡ ready_at y.machine = whole_is_ready (setting_of ctx image) (machine_ids y.machine) (first + length x.history) unasked y.machine in
           nth_there all k (omega (arith, less, are))
 
@@ -547,12 +542,12 @@ module _ (ctx : LayoutWriterContext) (image : ℕ → ChunkData → ChunkData) (
   stops_halt e (inl (is, same, going)) = subst Halting (sym is) (memory_halts same going)
   stops_halt e (inr (some, fails)) = refused_halts some _ refl e (fails (first + length x.history))
 
-pub stopped_halts : RunIsUnderway → RunByIsUnderway → HistoryIsFront → StepsHaveCause → AppendIsOneMore → NotesAreFirst → RefusalIsLast → MisfitIsLast → ReadyIsWithinAll → NextIsWithinWork → ReadyIsMore → StaysReady → TrackerComes → StoppedHalts
-stopped_halts run by front causes append firsts refused misfit within next_within more stays tracks ctx image w t schedule to_come to_come_now borrow first before steps outlet e law clean r =
+pub stopped_halts : RunIsUnderway → RunByIsUnderway → HistoryIsFront → StepsHaveCause → AppendIsOneMore → NotesAreFirst → RefusalIsLast → MisfitIsLast → ReadyIsMore → StaysReady → TrackerComes → StoppedHalts
+stopped_halts run by front causes append firsts refused misfit more stays tracks ctx image w t schedule to_come to_come_now borrow first before steps outlet e law clean r =
     own_more outlet (λ next now. (next ≡ first + length o.stand.history) × (now ≡ then_told before (stored o.stand.history)))
     (λ next now. Halts (write_by ctx image w t) first next to_come to_come_now before now schedule steps e)
     (kept_own r.end.outlet outlet (λ next now. (next ≡ first + length o.stand.history) × (now ≡ then_told before (stored o.stand.history))) r.kept o.same.sink)
-    (λ next now s. stops_halt ctx image w t to_come borrow first before law clean schedule steps r.end o run by front causes append firsts refused misfit within next_within more stays tracks to_come_now next now s e r.stops)
+    (λ next now s. stops_halt ctx image w t to_come borrow first before law clean schedule steps r.end o run by front causes append firsts refused misfit more stays tracks to_come_now next now s e r.stops)
   where
     o : Onward (write_by ctx image w t) to_come borrow first before schedule 0 (outset (write_by ctx image w t)) steps r.end
     o = runs_are_led ctx image w t schedule to_come borrow first before steps r.end r.ran

@@ -1,12 +1,10 @@
 -- The steps of a run show the notes of its trace, and what they call.
-use Rattle.std.proofs.Common.{◌≡◌, ◌+◌, ◌-◌, ◌%◌, ◌^◌, ◌<◌, ◌≤◌, ◌∷◌, ◌++◌, ◌∙◌, ℕ, suc, true, false, List, take, length, refl, sym, ap, subst, inl, inr, arith, Option, Some, None, if◌then◌else◌, slice_index, append-nil, length-append, []}
-use Rattle.std.proofs.lemmas.Bool.{true≢false}
+use Rattle.std.proofs.Common.{◌≡◌, ◌+◌, ◌%◌, ◌∷◌, ◌++◌, ◌∙◌, ℕ, suc, true, false, List, take, length, refl, sym, ap, subst, arith, Option, Some, None, if◌then◌else◌, slice_index, length-append, []}
 use Rattle.vx_model.specs.Words.{total_by}
 use Rattle.vx_model.specs.Ty.{Ty}
 use Rattle.vx_model.specs.ChunkData.{ChunkData}
-use Rattle.vx_path.specs.Lists.{In}
 use Rattle.vx_tasks.specs.Task.{Kind, Free, Take, TakeEnd, Put, Append, Join, Batch, End, Call, Close, appends_of}
-use Rattle.vx_tasks.specs.Run.{Note, nth, trace, work, first_pick}
+use Rattle.vx_tasks.specs.Run.{Note, nth, trace, first_pick}
 use Rattle.vx_cut_laws.specs.Cut.{cut}
 use Rattle.vx_strategy_spec.specs.StrategyData.{StrategyData}
 use Rattle.vx_plan.specs.PlanData.{Pair, What, paths}
@@ -15,40 +13,31 @@ use Rattle.vx_sink.specs.declared.context.LayoutWriterContext.{LayoutWriterConte
 use Rattle.vx_sink.specs.ContextView.{is_marked}
 use Rattle.vx_write_answer.specs.declared.step.Step.{Step}
 use Rattle.vx_machine_steps.specs.Runs.{picks_after}
-use Rattle.vx_machine_promises.specs.Write.{Write, Future, Open, Answer, unasked, scripts, taken_by, heard_by, before}
+use Rattle.vx_machine_promises.specs.Write.{Write, Future, Open, Answer, unasked, scripts, taken_by, heard_by}
 use Rattle.vx_machine_view.specs.Images.{Careful}
 use Rattle.vx_machine_view.specs.Machine.{WholeStep, is_finished, machine_ids}
 use Rattle.vx_machine_view.specs.Steps.{AllPairs}
 use Rattle.vx_machine_view.specs.Underway.{ready_steps}
 use Rattle.vx_machine_view.proofs.Placing.{whole_is_ready}
 use Rattle.vx_machine_view.proofs.Words.{pairs_length}
-use Rattle.vx_machine_runs.specs.Runs.{outset, BeforeEnd, Chosen, scheduled, UnderwayAt, RunByIsUnderway}
+use Rattle.vx_machine_runs.specs.Runs.{outset, Chosen, scheduled, UnderwayAt, RunByIsUnderway}
 use Rattle.vx_machine_runs.specs.Answers.{batch_read, end_read}
-use Rattle.vx_machine_runs.specs.Traces.{scripts_of, NextIsWithinWork, NotesAreFirst, WholeTrace, NotesAreWhole, RefusalIsLast, MisfitIsLast, appends_noted}
-use Rattle.vx_machine_runs.specs.Picks.{ReadyIsWithinSteps, ReadyIsWithinAll}
+use Rattle.vx_machine_runs.specs.Traces.{scripts_of, NotesAreFirst, WholeTrace, NotesAreWhole, RefusalIsLast, MisfitIsLast, appends_noted}
 use Rattle.vx_machine_runs.proofs.Asking.{answers_are_noted}
-use Rattle.vx_machine_runs.proofs.Ending.{none_later}
-use Rattle.vx_machine_runs.proofs.Picking.{least, pick_here, picks_are_exact}
-use Rattle.vx_machine_runs.proofs.Stepping.{open_before, places, schedule_is_free}
+use Rattle.vx_machine_runs.proofs.Stepping.{places, schedule_is_free}
 use Rattle.vx_machine_runs.proofs.Tracing.{appends_are_noted}
 use Rattle.vx_machine.specs.TaskCalls.{reads_action, append_action}
 use Rattle.vx_machine.specs.Calls.{reads_in, appends_in}
 use Rattle.vx_machine.specs.Context.{setting_of}
 use Rattle.vx_machine.specs.Outcome.{action_of}
-use Rattle.vx_machine.specs.Ready.{counted}
 use Rattle.vx_machine.specs.Run.{At, ready_at}
 use Rattle.vx_machine.proofs.BuiltSteps.{all_built}
-use Rattle.vx_machine_ran.specs.Ran.{write_by, ShowsCounted, Onward}
-use Rattle.vx_machine_ran.specs.Traced.{ShowsNote, IsTraced, answers_in}
+use Rattle.vx_machine.proofs.Going.{pick_here}
+use Rattle.vx_machine_ran.specs.Ran.{write_by, Onward}
+use Rattle.vx_machine.specs.Progress.{ShowsNote}
+use Rattle.vx_machine_ran.specs.Traced.{IsTraced, answers_in}
 
 -- ---- lists of steps
-
--- exactly, where no more were ready than are counted
-exactly : (steps : List Step) (ns : List Note) → AllPairs ShowsCounted steps ns → ((n : Note) → In n ns → n.ready ≤ 2 ^ 64 - 1) → AllPairs ShowsNote steps ns
-exactly [] [] h l = tt
-exactly [] (n ∷ ns) h l = absurd h
-exactly (s ∷ steps) [] h l = absurd h
-exactly (s ∷ steps) (n ∷ ns) h l = ((h.0.0 ∙ least n.ready (2 ^ 64 - 1) (l n (inl refl)), h.0.1, h.0.2, h.0.3), exactly steps ns h.1 (λ k i. l k (inr i)))
 
 kind_reads : (k : Kind) → reads_action (action_of k) ≡ batch_read k + end_read k
 kind_reads (Free Batch) = refl
@@ -72,7 +61,7 @@ kind_appends (Put c) = refl
 kind_appends (Append p) = refl
 kind_appends Join = refl
 
-shown_reads : (steps : List Step) (ns : List Note) → AllPairs ShowsCounted steps ns → reads_in steps ≡ total_by (λ n. batch_read n.kind) ns + total_by (λ n. end_read n.kind) ns
+shown_reads : (steps : List Step) (ns : List Note) → AllPairs ShowsNote steps ns → reads_in steps ≡ total_by (λ n. batch_read n.kind) ns + total_by (λ n. end_read n.kind) ns
 shown_reads [] [] h = refl
 shown_reads [] (n ∷ ns) h = absurd h
 shown_reads (s ∷ steps) [] h = absurd h
@@ -81,7 +70,7 @@ shown_reads (s ∷ steps) (n ∷ ns) h =
     let b : reads_in steps ≡ total_by (λ n. batch_read n.kind) ns + total_by (λ n. end_read n.kind) ns = shown_reads steps ns h.1 in
     omega (arith, a, b)
 
-shown_appends : (steps : List Step) (ns : List Note) → AllPairs ShowsCounted steps ns → appends_in steps ≡ length (appends_noted ns)
+shown_appends : (steps : List Step) (ns : List Note) → AllPairs ShowsNote steps ns → appends_in steps ≡ length (appends_noted ns)
 shown_appends [] [] h = refl
 shown_appends [] (n ∷ ns) h = absurd h
 shown_appends (s ∷ steps) [] h = absurd h
@@ -104,7 +93,7 @@ module _ (ctx : LayoutWriterContext) (image : ℕ → ChunkData → ChunkData) (
   g = write_by ctx image w t
 
   as_many : length steps ≡ length o.notes
-  as_many = pairs_length ShowsCounted steps o.notes o.shown
+  as_many = pairs_length ShowsNote steps o.notes o.shown
 
   -- the source was asked for each batch taken, and for its end
   pub reads_are : reads_in steps ≡ answers_in o.stand.taken o.stand.heard
@@ -118,75 +107,44 @@ module _ (ctx : LayoutWriterContext) (image : ℕ → ChunkData → ChunkData) (
   appends_are u =
       sym (paths_length o.stand.history) ∙ ap length (appends_are_noted (scheduled g (places o.notes)) first o.notes o.stand u) ∙ sym (shown_appends steps o.notes o.shown)
 
-  -- the write is under way there by the schedule, where no more were ready than are counted
-  by_schedule : RunByIsUnderway → ((n : Note) → In n o.notes → n.ready ≤ 2 ^ 64 - 1) → UnderwayAt (scheduled g schedule) first o.notes o.stand
-  by_schedule run few = run (scheduled g schedule) first o.notes o.stand law (all_built w) clean (picks_are_exact (2 ^ 64 - 1) schedule o.notes few o.picked)
-      (schedule_is_free g first schedule (outset g) o.stand o.notes o.led)
+  -- the write is under way there by the schedule
+  by_schedule : RunByIsUnderway → UnderwayAt (scheduled g schedule) first o.notes o.stand
+  by_schedule run = run (scheduled g schedule) first o.notes o.stand law (all_built w) clean o.picked (schedule_is_free g first schedule (outset g) o.stand o.notes o.led)
 
-  pub traced_whole : RunByIsUnderway → NotesAreWhole → ReadyIsWithinSteps → length steps < 2 ^ 64 → is_finished o.stand.machine ≡ true → o.stand.heard ≡ true
-      → IsTraced (setting_of ctx image) w t (is_marked ctx) schedule o.stand.taken steps
-  traced_whole run whole within short fin heard = record {
-    steps_are = subst (λ z. AllPairs ShowsNote steps z) traced.trace_is (exactly steps o.notes o.shown few);
+  pub traced_whole : RunByIsUnderway → NotesAreWhole → is_finished o.stand.machine ≡ true → o.stand.heard ≡ true → IsTraced (setting_of ctx image) w t (is_marked ctx) schedule o.stand.taken steps
+  traced_whole run whole fin heard = record {
+    steps_are = subst (λ z. AllPairs ShowsNote steps z) traced.trace_is o.shown;
     count = as_many ∙ traced.count_is;
     asked = reads_are ∙ ap (λ z. answers_in o.stand.taken z) heard;
   }
     where
-      few : (n : Note) → In n o.notes → n.ready ≤ 2 ^ 64 - 1
-      few n i = let a : n.ready ≤ length o.notes = within g first o.notes o.stand n law (all_built w) clean o.led fin i in let b = as_many in omega (arith, a, b, short)
-
       traced : WholeTrace (scheduled g schedule) o.notes (scripts_of g o.stand.taken true)
-      traced = whole (scheduled g schedule) first o.notes o.stand (by_schedule run few) clean fin
+      traced = whole (scheduled g schedule) first o.notes o.stand (by_schedule run) clean fin
 
-  pub traced_front : RunByIsUnderway → NotesAreFirst → ReadyIsWithinAll → (f : Future) → Open o.stand.heard f → work (cut (scripts g o.stand.taken f)) < 2 ^ 64
-      → AllPairs ShowsNote steps (take (length steps) (trace (cut (scripts g o.stand.taken f)) schedule))
-  traced_front run front within f may short =
+  pub traced_front : RunByIsUnderway → NotesAreFirst → (f : Future) → Open o.stand.heard f → AllPairs ShowsNote steps (take (length steps) (trace (cut (scripts g o.stand.taken f)) schedule))
+  traced_front run front f may =
       subst (λ z. AllPairs ShowsNote steps z)
-      (front (scheduled g schedule) first o.notes o.stand f (by_schedule run few) may ∙ ap (λ z. take z (trace (cut (scripts g o.stand.taken f)) schedule)) (sym as_many))
-      (exactly steps o.notes o.shown few)
-    where
-      few : (n : Note) → In n o.notes → n.ready ≤ 2 ^ 64 - 1
-      few n i = let a : n.ready ≤ work (cut (scripts g o.stand.taken f)) = within g first o.notes o.stand f n law (all_built w) clean o.led may i in omega (arith, a, short)
+      (front (scheduled g schedule) first o.notes o.stand f (by_schedule run) may ∙ ap (λ z. take z (trace (cut (scripts g o.stand.taken f)) schedule)) (sym as_many)) o.shown
 
-  -- where the step that is picked next ends the tasks
-  module _ (run : RunByIsUnderway) (within : ReadyIsWithinAll) (more : NextIsWithinWork) (told : Answer) (f : Future) (once : BeforeEnd o.stand.heard told) (may : Open (heard_by o.stand.heard told) f) (k : ℕ)
-      (pick : k ≡ slice_index schedule (length steps) % counted (ready_at y.machine)) (short : work (cut (scripts g o.stand.taken (before told f))) < 2 ^ 64) where
-    still : Open o.stand.heard (before told f)
-    still = open_before o.stand.heard told f once may
-
-    few : (n : Note) → In n o.notes → n.ready ≤ 2 ^ 64 - 1
-    few n i = let a : n.ready ≤ work (cut (scripts g o.stand.taken (before told f))) = within g first o.notes o.stand (before told f) n law (all_built w) clean o.led still i in omega (arith, a, short)
-
+  -- the step that is picked next
+  module _ (run : RunByIsUnderway) (told : Answer) (k : ℕ) (pick : k ≡ slice_index schedule (length steps) % ready_at y.machine) where
     abbrev size : ℕ
     size = length (ready_steps g first o.stand.history told o.stand.machine)
 
-    size_is : counted (ready_at y.machine) ≡ size
-    size_is =
-        let a : size ≤ work (cut (scripts g o.stand.taken (before told f))) = more (scheduled g schedule) first o.notes o.stand told (before told f) law (by_schedule run few) still in
-        let b : size ≡ ready_at o.stand.machine = whole_is_ready (setting_of ctx image) (machine_ids o.stand.machine) (first + length o.stand.history) told o.stand.machine in
-        ap (λ m. counted (ready_at m)) o.same.machine_is ∙ ap counted (sym b) ∙ least size (2 ^ 64 - 1) (omega (arith, a, short))
+    size_is : ready_at y.machine ≡ size
+    size_is = ap ready_at o.same.machine_is ∙ sym (whole_is_ready (setting_of ctx image) (machine_ids o.stand.machine) (first + length o.stand.history) told o.stand.machine)
 
     picked : k ≡ first_pick (picks_after (length o.notes) schedule) % size
-    picked = pick ∙ ap (λ z. slice_index schedule z % counted (ready_at y.machine)) as_many ∙ ap (λ z. slice_index schedule (length o.notes) % z) size_is
+    picked = pick ∙ ap (λ z. slice_index schedule z % ready_at y.machine) as_many ∙ ap (λ z. slice_index schedule (length o.notes) % z) size_is
         ∙ ap (λ z. z % size) (sym (pick_here (length o.notes) schedule))
 
-    -- by a refusal
-    pub refused_last : RefusalIsLast → (w : WholeStep) (v : What) → Chosen (scheduled g schedule) first o.stand told k w → w.refusal ≡ Some v
+    -- it refuses
+    pub refused_last : RefusalIsLast → (f : Future) → Open (heard_by o.stand.heard told) f → (w : WholeStep) (v : What) → Chosen (scheduled g schedule) first o.stand told k w → w.refusal ≡ Some v
         → AllPairs ShowsNote steps (trace (cut (scripts g (taken_by o.stand.taken told) f)) schedule)
-    refused_last last w v c e = subst (λ z. AllPairs ShowsNote steps z) (last (scheduled g schedule) first o.notes o.stand told f k w v law (by_schedule run few) may c e picked) (exactly steps o.notes o.shown few)
+    refused_last last f may w v c e = subst (λ z. AllPairs ShowsNote steps z) (last (scheduled g schedule) first o.notes o.stand told f k w v law (by_schedule run) may c e picked) o.shown
 
-  -- by a batch of another type
-  pub misfit_last : RunByIsUnderway → ReadyIsWithinAll → NextIsWithinWork → MisfitIsLast → (k : ℕ) → k ≡ slice_index schedule (length steps) % counted (ready_at y.machine) → o.stand.heard ≡ false
-      → (w : WholeStep) → nth (ready_steps g first o.stand.history unasked o.stand.machine) k ≡ Some w → w.misfit ≡ true → work (cut (scripts_of g o.stand.taken false)) < 2 ^ 64
-      → AllPairs ShowsNote steps (trace (cut (scripts_of g o.stand.taken false)) schedule)
-  misfit_last run within more last k pick unheard w at misfit short =
-      subst (λ z. AllPairs ShowsNote steps z) (last (scheduled g schedule) first o.notes o.stand k w law (by_schedule run (few run within more unasked f tt may k pick all)) unheard at misfit
-      (picked run within more unasked f tt may k pick all)) (exactly steps o.notes o.shown (few run within more unasked f tt may k pick all))
-    where
-      f : Future
-      f = none_later false
-
-      may : Open o.stand.heard f
-      may = λ h. absurd (true≢false (sym h ∙ unheard))
-
-      all : work (cut (scripts g o.stand.taken f)) < 2 ^ 64
-      all = subst (λ z. work (cut (scripts_of g z false)) < 2 ^ 64) (sym (append-nil o.stand.taken)) short
+  -- it finds a batch of another type
+  pub misfit_last : RunByIsUnderway → MisfitIsLast → (k : ℕ) → k ≡ slice_index schedule (length steps) % ready_at y.machine → o.stand.heard ≡ false
+      → (w : WholeStep) → nth (ready_steps g first o.stand.history unasked o.stand.machine) k ≡ Some w → w.misfit ≡ true → AllPairs ShowsNote steps (trace (cut (scripts_of g o.stand.taken false)) schedule)
+  misfit_last run last k pick unheard w at misfit =
+      subst (λ z. AllPairs ShowsNote steps z) (last (scheduled g schedule) first o.notes o.stand k w law (by_schedule run) unheard at misfit (picked run unasked k pick)) o.shown

@@ -29,7 +29,6 @@ use Rattle.vx_machine_view.specs.Whole.{form_of}
 use Rattle.vx_machine_runs.specs.Runs.{outset, scheduled, UnderwayAt, RunByIsUnderway, RunIsUnderway}
 use Rattle.vx_machine_runs.specs.Ends.{plan_of, Whole, EndsWhole}
 use Rattle.vx_machine_runs.specs.Numbers.{AllBelow, NumbersFit}
-use Rattle.vx_machine_runs.specs.Picks.{ReadyIsWithinSteps}
 use Rattle.vx_machine_runs.specs.Traces.{NotesAreWhole}
 use Rattle.vx_machine_runs.proofs.Asking.{taken_are_whole}
 use Rattle.vx_machine_runs.proofs.Sounding.{idle_is_finished}
@@ -118,8 +117,8 @@ module _ (ctx : LayoutWriterContext) (image : ℕ → ChunkData → ChunkData) (
           };
         }
 
-pub done_is_written : RunIsUnderway → RunByIsUnderway → EndsWhole → NotesAreWhole → ReadyIsWithinSteps → NumbersFit → RowsComeBack → DoneIsWritten
-done_is_written run by ends traces within fit back ctx image w t schedule to_come to_come_now borrow first before steps outlet l keeps clean starts short r =
+pub done_is_written : RunIsUnderway → RunByIsUnderway → EndsWhole → NotesAreWhole → NumbersFit → RowsComeBack → DoneIsWritten
+done_is_written run by ends traces fit back ctx image w t schedule to_come to_come_now borrow first before steps outlet l keeps clean starts r =
     ended (end_is ctx image w t to_come borrow first before law clean schedule steps r.end o run ends l r.left)
   where
     g : Write
@@ -158,7 +157,7 @@ done_is_written run by ends traces within fit back ctx image w t schedule to_com
 
         traced : Traced (setting_of ctx image) w t (is_marked ctx) to_come schedule steps
         traced xs told = subst (λ z. IsTraced (setting_of ctx image) w t (is_marked ctx) schedule z steps) (taken_is xs told)
-            (traced_whole ctx image w t to_come borrow first before law clean schedule steps r.end o by traces within short e.1 e.0.heard)
+            (traced_whole ctx image w t to_come borrow first before law clean schedule steps r.end o by traces e.1 e.0.heard)
 
 -- ---- what is left of the sink
 

@@ -1,5 +1,5 @@
 -- What a write by the machine answers, from before its start.
-use Rattle.std.specs.Prelude.{◌≡◌, ◌⊎◌, ℕ, ◌^◌, ◌<◌, Bool, true, List, [], length, Option, Some, Result, Err, MatchOption, MatchResult}
+use Rattle.std.specs.Prelude.{◌≡◌, ◌⊎◌, ℕ, Bool, true, List, [], length, Option, Some, Result, Err, MatchOption, MatchResult}
 use Rattle.vx_model.specs.Ty.{Ty}
 use Rattle.vx_model.specs.ChunkData.{ChunkData}
 use Rattle.vx_fault.specs.Told.{NoneTold}
@@ -65,11 +65,10 @@ abbrev pub WroteAll : Setting → StrategyData → Ty → Bool → ℕ → ℕ �
 WroteAll s w t m first next to_come to_come_now before now schedule steps l =
     NoneTold to_come_now × MatchOption l ⊥ (λ layout. Planned s w t m to_come (Wrote t first next before now (layout_data layout))) × Traced s w t m to_come schedule steps
 
--- A write has written the plan, or a front of it. Its steps stand in a vector, so 64 bits count them, and at its end no more tasks were
--- ready in a step than there are steps.
+-- A write has written the plan, or a front of it.
 abbrev pub AnswersAreWritten : Type 0
 AnswersAreWritten = (ctx : LayoutWriterContext) (image : ℕ → ChunkData → ChunkData) (w : StrategyData) (t : Ty) (schedule : List ℕ) (to_come to_come_now : Option (List ChunkData)) (borrow first : ℕ)
-    (before : Option (List (List ℕ))) (steps : List Step) (after : Outlet) (r : Result (Option Layout) WriteError) → Keeps (setting_of ctx image) → length steps < 2 ^ 64
+    (before : Option (List (List ℕ))) (steps : List Step) (after : Outlet) (r : Result (Option Layout) WriteError) → Keeps (setting_of ctx image)
     → Answered ctx image w t schedule to_come (own_sink borrow first before) steps to_come_now after r
     → OwnSink after (λ next now. MatchResult r (WroteAll (setting_of ctx image) w t (is_marked ctx) first next to_come to_come_now before now schedule steps)
     (Halted (setting_of ctx image) w t (is_marked ctx) (counted ctx) first next to_come to_come_now before now schedule steps))

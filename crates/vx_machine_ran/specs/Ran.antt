@@ -1,5 +1,5 @@
 -- A run of the machine in code, as the machine in plain data has it.
-use Rattle.std.specs.Prelude.{◌≡◌, ◌+◌, ◌-◌, ◌^◌, ◌≤◌, ◌⊎◌, ℕ, true, List, [], length, Option}
+use Rattle.std.specs.Prelude.{◌≡◌, ◌+◌, ◌^◌, ◌≤◌, ◌⊎◌, ℕ, true, List, [], length, Option}
 use Rattle.vx_model.specs.Ty.{Ty}
 use Rattle.vx_model.specs.ChunkData.{ChunkData}
 use Rattle.vx_fault.specs.Told.{before_told, then_told, NoneTold}
@@ -10,17 +10,16 @@ use Rattle.vx_order.specs.Outlet.{Outlet, own, shared, borrow_of}
 use Rattle.vx_sink.specs.declared.context.LayoutWriterContext.{LayoutWriterContext}
 use Rattle.vx_sink.specs.ContextView.{is_marked, counted}
 use Rattle.vx_write_answer.specs.declared.step.Step.{Step}
+use Rattle.vx_machine_steps.specs.Runs.{picks_after}
 use Rattle.vx_machine_promises.specs.Write.{Write}
 use Rattle.vx_machine_view.specs.Machine.{start}
 use Rattle.vx_machine_view.specs.Steps.{AllPairs}
 use Rattle.vx_machine_view.specs.Whole.{form_of}
-use Rattle.vx_machine_runs.specs.Runs.{Stand, outset, Led}
+use Rattle.vx_machine_runs.specs.Runs.{Stand, outset, Led, PickedBy}
 use Rattle.vx_machine_runs.specs.Answers.{ToldWhole}
-use Rattle.vx_machine_runs.specs.Picks.{PickedUpTo}
 use Rattle.vx_machine_runs.specs.Numbers.{CountsBelow}
 use Rattle.vx_machine.specs.Context.{setting_of}
-use Rattle.vx_machine.specs.Outcome.{action_of}
-use Rattle.vx_machine.specs.Ready.{counted as counted_ready}
+use Rattle.vx_machine.specs.Progress.{ShowsNote}
 use Rattle.vx_machine.specs.Run.{At, at, Ran}
 
 -- the write of a context, with these images, by a strategy at a type; its schedule isn't asked
@@ -49,18 +48,14 @@ pub record SameStand (to_come : Option (List ChunkData)) (borrow first : ℕ) (b
   pub numbered : (length s.history ≡ 0) ⊎ (first + length s.history ≤ 2 ^ 32)
   pub borrowed : borrow_of x.outlet ≡ borrow
 
--- a step shows a note: how many were ready as far as 64 bits tell, the place that was picked, the task and its act
-abbrev pub ShowsCounted : Step → Note → Type 0
-ShowsCounted s n = (s.ready ≡ counted_ready n.ready) × (s.picked ≡ n.picked) × (s.task ≡ n.name) × (s.action ≡ action_of n.kind)
-
 -- Steps of the plain machine that lead on from a stand to where the code's has come, by the schedule from this place on. The code's
 -- steps show their notes. All that they count fits 64 bits, and each batch that was told is a whole chunk of the type.
 pub record Onward (g : Write) (to_come : Option (List ChunkData)) (borrow first : ℕ) (before : Option (List (List ℕ))) (schedule : List ℕ) (place : ℕ) (s : Stand) (steps : List Step) (y : At) : Type 0 where
   pub notes : List Note
   pub stand : Stand
   pub led : Led g first s notes stand
-  pub shown : AllPairs ShowsCounted steps notes
-  pub picked : PickedUpTo (2 ^ 64 - 1) schedule place notes
+  pub shown : AllPairs ShowsNote steps notes
+  pub picked : PickedBy (picks_after place schedule) notes
   pub counts : CountsBelow (2 ^ 64) g first s notes stand led
   pub whole : ToldWhole g first s notes stand led
   pub same : SameStand to_come borrow first before y stand

@@ -19,16 +19,15 @@ use Rattle.vx_write_answer.specs.declared.error.WriteError.{WriteError}
 use Rattle.vx_write_answer.specs.declared.error.WriteError.TheVariants.{SourceFault, SinkFault, CompressFault, BatchType, NotStruct, DuplicateField, ManyChunks, EmptyList, ZoneCut, ForbiddenAggregate, ForbiddenEncoding, TooLarge, OutOfMemory, Stopped}
 use Rattle.vx_machine_view.specs.Start.{first_indices}
 use Rattle.vx_machine.specs.Outcome.{action_of, Past}
-use Rattle.vx_machine.specs.Ready.{counted}
 use Rattle.vx_machine.specs.TaskStarting.{TooFar}
 use Rattle.vx_machine.specs.TaskView.{form_at}
 
 -- ---- the act that comes next
 
--- a step is this one of the acts that can be done: it tells its place, how many there are, as far as 64 bits count them, its task and kind
+-- a step is this one of the acts that can be done: it tells its place, how many there are, its task and kind
 pub record IsDone (moves : List TreeMove) (x : Step) (m : TreeMove) : Type 0 where
   pub place : nth moves x.picked ≡ Some m
-  pub ready : x.ready ≡ counted (length moves)
+  pub ready : x.ready ≡ length moves
   pub task : x.task ≡ m.name
   pub action : x.action ≡ action_of m.act.kind
   pub unrefused : refuses m.act ≡ false
@@ -49,7 +48,7 @@ pub record NextAct (s : Setting) (w : StrategyData) (t : Ty) (m : Bool) (tracker
   pub counts : ℕ
   pub counts_are : counts + lowered_in (acts_of moves) ≡ tracker + raised_in (acts_of moves)
   pub move : TreeMove
-  pub picked : nth (machine_moves s (machine_fuel w t) stand) (slice_index schedule (length steps) % counted (length (machine_moves s (machine_fuel w t) stand))) ≡ Some move
+  pub picked : nth (machine_moves s (machine_fuel w t) stand) (slice_index schedule (length steps) % length (machine_moves s (machine_fuel w t) stand)) ≡ Some move
 
 -- ---- whose own the error is
 

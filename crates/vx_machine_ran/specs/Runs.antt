@@ -1,5 +1,5 @@
 -- What a run of the machine in code has written, of a strategy whose start refuses nothing, over a sink that nobody else uses.
-use Rattle.std.specs.Prelude.{◌≡◌, ℕ, ◌+◌, ◌^◌, ◌<◌, ◌≤◌, max, Bool, true, List, length, Option, Some, None}
+use Rattle.std.specs.Prelude.{◌≡◌, ℕ, ◌+◌, ◌^◌, ◌≤◌, max, Bool, true, List, length, Option, Some, None}
 use Rattle.vx_model.specs.Ty.{Ty}
 use Rattle.vx_model.specs.ChunkData.{ChunkData}
 use Rattle.vx_fault.specs.Told.{NoneTold}
@@ -7,6 +7,7 @@ use Rattle.vx_path.specs.Path.{root_eof}
 use Rattle.vx_layout_tree.specs.declared.layout.Layout.{Layout}
 use Rattle.vx_layout_tree.specs.LayoutView.{layout_data}
 use Rattle.vx_strategy_spec.specs.StrategyData.{StrategyData}
+use Rattle.vx_cut_laws.specs.Cut.{cut}
 use Rattle.vx_plan.specs.SourcePlan.{start_fault, of_schema, taken_plan}
 use Rattle.vx_plan.specs.Valid.{OfSchema, Keeps}
 use Rattle.vx_order.specs.Outlet.{Outlet, borrow_of}
@@ -14,7 +15,7 @@ use Rattle.vx_sink.specs.declared.context.LayoutWriterContext.{LayoutWriterConte
 use Rattle.vx_sink.specs.ContextView.{is_marked}
 use Rattle.vx_write_answer.specs.declared.step.Step.{Step}
 use Rattle.vx_write_answer.specs.declared.error.WriteError.{WriteError}
-use Rattle.vx_machine_promises.specs.Write.{Write, Future, Open, planned}
+use Rattle.vx_machine_promises.specs.Write.{Write, Future, Open, scripts, planned}
 use Rattle.vx_machine_view.specs.Images.{Careful}
 use Rattle.vx_machine_view.specs.Start.{first_indices}
 use Rattle.vx_machine_view.specs.Whole.{form_of}
@@ -23,7 +24,7 @@ use Rattle.vx_machine.specs.Calls.{appends_in}
 use Rattle.vx_machine.specs.Context.{setting_of}
 use Rattle.vx_machine.specs.Run.{At, Ran, RunDone, RunStopped}
 use Rattle.vx_machine_ran.specs.Ran.{write_by, OwnSink, at_start}
-use Rattle.vx_machine_ran.specs.Traced.{tasks_of, Traced, StepsAreFirst}
+use Rattle.vx_machine_ran.specs.Traced.{tasks_of, Traced, StepsBegin, StepsAreFirst}
 use Rattle.vx_machine_ran.specs.Tracking.{Passes}
 use Rattle.vx_machine_ran.specs.RefusedAct.{RefusedThere}
 use Rattle.vx_machine_ran.specs.Written.{Planned, Wrote, Stands, AreFirst, HasCause, AskedInSteps}
@@ -40,7 +41,7 @@ AllDone g to_come schedule first before steps outlet layout =
 abbrev pub DoneIsWritten : Type 0
 DoneIsWritten = (ctx : LayoutWriterContext) (image : ℕ → ChunkData → ChunkData) (w : StrategyData) (t : Ty) (schedule : List ℕ) (to_come to_come_now : Option (List ChunkData)) (borrow first : ℕ)
     (before : Option (List (List ℕ))) (steps : List Step) (outlet : Outlet) (l : Option Layout) → Keeps (setting_of ctx image)
-    → start_fault (setting_of ctx image) w t (is_marked ctx) ≡ None → AllBelow (2 ^ 64) (first_indices (form_of (write_by ctx image w t)) (is_marked ctx) root_eof) → length steps < 2 ^ 64
+    → start_fault (setting_of ctx image) w t (is_marked ctx) ≡ None → AllBelow (2 ^ 64) (first_indices (form_of (write_by ctx image w t)) (is_marked ctx) root_eof)
     → RunDone ctx image t schedule (at_start (write_by ctx image w t) to_come borrow first before) steps to_come_now outlet l
     → (layout : Layout) × (l ≡ Some layout) × NoneTold to_come_now × AllDone (write_by ctx image w t) to_come schedule first before steps outlet layout
 
@@ -54,6 +55,7 @@ pub record Halts (g : Write) (first next : ℕ) (to_come_before to_come_now : Op
   pub typed : heard ≡ true → OfSchema g.type stand.taken
   pub ended : heard ≡ true → NoneTold to_come_now
   pub cause : (f : Future) → Open heard f → HasCause g.type (Passes g (of_schema g.type stand.taken) f steps) (planned g (of_schema g.type stand.taken) f) stand.taken next (length stand.appended) e
+  pub begun : (f : Future) → Open heard f → StepsBegin (cut (scripts g (of_schema g.type stand.taken) f)) schedule steps
   pub traced : StepsAreFirst (tasks_of g.setting g.way g.type g.mark (of_schema g.type stand.taken) heard) schedule steps e
   pub asked : AskedInSteps stand.taken heard steps e
   pub refused : RefusedThere g.setting g.way g.type g.mark g.tracker (of_schema g.type stand.taken) heard next schedule steps e

@@ -7,14 +7,14 @@ use Rattle.vx_machine_promises.specs.Write.{Write, Future, begin}
 use Rattle.vx_machine_view.specs.Steps.{AllPairs}
 use Rattle.vx_machine_runs.specs.Runs.{scheduled}
 use Rattle.vx_machine_runs.specs.Tracked.{Comes}
-use Rattle.vx_machine_ran.specs.Ran.{ShowsCounted}
+use Rattle.vx_machine.specs.Progress.{ShowsNote}
 
 -- Behind these steps a ready task of these batches would make the tracker count this number, which doesn't fit 64 bits. It is what was
 -- counted before the write, and what the acts of these steps and its own add, without what they take.
 pub record Passes (g : Write) (taken : List ChunkData) (f : Future) (steps : List Step) (n : ℕ) : Type 0 where
   pub picks : List ℕ
   pub notes : List Note
-  pub shown : AllPairs ShowsCounted steps notes
+  pub shown : AllPairs ShowsNote steps notes
   pub place : ℕ
   pub comes : Comes (scheduled g picks) (begin g taken f) notes place n
   pub past : 2 ^ 64 ≤ n

@@ -16,7 +16,7 @@ use Rattle.vx_write_answer.specs.declared.error.WriteError.{WriteError}
 use Rattle.vx_write_answer.specs.declared.error.WriteError.TheVariants.{SourceFault, SinkFault, CompressFault, BatchType, NotStruct, DuplicateField, ManyChunks, EmptyList, ZoneCut, ForbiddenAggregate, ForbiddenEncoding, TooLarge, OutOfMemory, Stopped}
 use Rattle.vx_machine.specs.Calls.{reads_in, misfits}
 use Rattle.vx_machine_promises.specs.Write.{Write}
-use Rattle.vx_machine_ran.specs.Traced.{tasks_of, StepsAreFirst, answers_in, IsLate}
+use Rattle.vx_machine_ran.specs.Traced.{tasks_of, StepsBeginAll, StepsAreFirst, answers_in, IsLate}
 use Rattle.vx_machine_ran.specs.Tracking.{PassesAt}
 use Rattle.vx_machine_ran.specs.RefusedAct.{RefusedThere}
 
@@ -106,5 +106,6 @@ pub record Halted (s : Setting) (w : StrategyData) (t : Ty) (m : Bool) (tracker 
   pub ended : heard ≡ true → NoneTold to_come_now
   pub cause : HasCause t (PassesAt (write_of s w t m tracker) (of_schema t stand.taken) heard steps) (taken_plan s w t m stand.taken heard) stand.taken next (length stand.appended) e
   pub traced : StepsAreFirst (tasks_of s w t m (of_schema t stand.taken) heard) schedule steps e
+  pub traced_all : StepsBeginAll s w t m to_come_before schedule steps
   pub asked : AskedInSteps stand.taken heard steps e
   pub refused : RefusedThere s w t m tracker (of_schema t stand.taken) heard next schedule steps e

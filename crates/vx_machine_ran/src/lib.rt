@@ -22,7 +22,6 @@ pub fn writes()
     vx_machine_runs::ends();
     vx_machine_runs::stands();
     vx_machine_runs::traces();
-    vx_machine_runs::picks();
     vx_machine_runs::counts();
     vx_machine_runs::tracks();
 }

@@ -16,7 +16,8 @@ use Rattle.vx_run.specs.declared.status.Status.TheVariants.{Done, Usage, BadJob,
 use Rattle.vx_session.specs.Made.{Made}
 use Rattle.vx_run.specs.declared.command.Command.{Command}
 use Rattle.vx_run.specs.declared.command.Command.TheVariants.{Write, Tree}
-use Rattle.vx_run.specs.Answers.{IsAnswer, JobAnswer, SetsNoFaults, IsValid}
+use Rattle.vx_summary.specs.Summary.{summary}
+use Rattle.vx_run.specs.Answers.{IsText, IsAnswer, JobAnswer, SetsNoFaults, IsValid}
 use Rattle.vx_run.specs.TreeAnswers.{made_status, job_layout, IsTreeAnswer, tree_status}
 use Rattle.vx_run.specs.Commands.{Answers}
 use Rattle.vx_run.specs.Running.{HasRead, Took, Finishes, Ends, is_input_fault, is_output_fault, is_usage}
@@ -187,6 +188,21 @@ pub shown_or_memory : (bytes : List ℕ) (before now : Option (List ℕ)) (resul
     → (result ≡ tree_status (tree_job bytes)) ⊎ (result ≡ OutOfMemory)
 shown_or_memory bytes before now result ins ins_now outs outs_now =
     calm_end (Answers Tree bytes) (tree_status (tree_job bytes)) (λ status text answers. tree_status_is (tree_job bytes) status text answers) before now result ins ins_now outs outs_now
+
+pub summed_or_memory : (n : ℕ) (before now : Option (List ℕ)) (result : Status) (outs outs_now : ℕ) → Ends (IsText Done (summary n)) before now result → is_input_fault result ≡ false
+    → Counts outs outs_now (is_output_fault result) → IsCalm outs outs_now → (result ≡ Done) ⊎ (result ≡ OutOfMemory)
+summed_or_memory n before now result outs outs_now ends unread risen still =
+    calm_end (IsText Done (summary n)) Done (λ status text answers. answers.0) before now result 0 0 outs outs_now ends (rw unread refl) (refl, omega arith) risen still
+
+-- a text that is printed whole, or in part, is the one of its status
+pub ends_text : (wanted : Status) (line : List ℕ) (before now : Option (List ℕ)) (result : Status) → is_answered wanted ≡ true → Finishes wanted line before now result → Ends (IsText wanted line) before now result
+ends_text wanted line before now result is (inl all) = subst (Ends (IsText wanted line) before now) (sym all.0) (wrote_it (IsText wanted line) wanted line before now is (refl, refl) all.1)
+ends_text wanted line before now result is (inr (inl failed, front)) = subst (Ends (IsText wanted line) before now) (sym failed) (record { status = wanted; text = line; answers = (refl, refl); count = front.count; wrote = front.wrote })
+ends_text wanted line before now result is (inr (inr memory, front)) = subst (Ends (IsText wanted line) before now) (sym memory) (inr (record { status = wanted; text = line; answers = (refl, refl); count = front.count; wrote = front.wrote }))
+
+pub ends_done : (line : List ℕ) (before now : Option (List ℕ)) (result : Status) → Finishes Done line before now result → Ends (IsText Done line) before now result
+unfolding is_answered
+ends_done line before now result finishes = ends_text Done line before now result refl finishes
 
 -- ---- an input in memory
 

@@ -1,5 +1,5 @@
--- The commands of the program.
-use Rattle.std.specs.Prelude.{ℕ, bytes_eq, if◌then◌else◌, List, [], ◌∷◌, codes, Option, Some, None}
+-- What the words ask for: a command that reads an input, or the generated table.
+use Rattle.std.specs.Prelude.{◌≡◌, ℕ, ◌≤◌, bytes_eq, if◌then◌else◌, List, [], ◌∷◌, codes, decimal, Option, Some, None}
 use Rattle.vx_job.specs.JobText.{job}
 use Rattle.vx_job.specs.TreeText.{tree_job}
 use Rattle.vx_run.specs.declared.command.Command.{Command}
@@ -16,6 +16,15 @@ abbrev pub command_of : List (List ℕ) → Option Command
 command_of [] = None
 command_of (word ∷ []) = command_named word
 command_of (word ∷ other ∷ words) = None
+
+-- the word is this number in decimal, from 1 to a million
+abbrev pub AreRows : List ℕ → ℕ → Type 0
+AreRows word n = (word ≡ decimal n) × (1 ≤ n) × (n ≤ 1000000)
+
+-- the words ask for the generated table of so many rows
+abbrev pub AsksRows : List (List ℕ) → ℕ → Type 0
+AsksRows (word ∷ number ∷ []) n = (word ≡ codes "gen") × AreRows number n
+AsksRows words n = ⊥
 
 -- which text belongs to which status of a command, by the bytes of its input
 abbrev pub Answers : Command → List ℕ → Status → List ℕ → Type 0

@@ -20,9 +20,11 @@ ghost use Rattle.vx_run.specs.Answers.{IsText, IsAnswer, JobAnswer, IsWritten, H
 use crate::status::Status;
 use crate::tables::read_tables;
 use std::alloc::{AllocError, Global};
+use std::cell::Cell;
 use vx_job::{Job, JobError, Key, read_job};
 use vx_layout_tree::Layout;
 use vx_model::{ArrayContext, Blob, Text, Value};
+use vx_progress::{CountedSink, Progress, ToldSource};
 use vx_read::{ReadError, SegmentMap, read_rows};
 use vx_report::{refused_report, report};
 use vx_sink::{LayoutWriterContext, ListSource, MemorySink};
@@ -37,11 +39,15 @@ pub(crate) struct Answer {
 }
 
 /// The answer to the bytes of an input.
-pub(crate) fn answer_to(alloc: Global, bytes: &[u8]) -> Result<Answer, AllocError>
+pub(crate) fn answer_to<P: Progress>(
+    alloc: Global,
+    bytes: &[u8],
+    progress: &mut P,
+) -> Result<Answer, AllocError>
     ensures { IfOk result (λ a. IsAnswer (job bytes.now) a.status (string_bytes a.text)) }
 {
     match read_job(alloc, bytes) {
-        Ok(job) => write_job(alloc, job),
+        Ok(job) => write_job(alloc, job, progress),
         Err(JobError::Wrong(key)) => bad_job(alloc, key),
         Err(JobError::OutOfMemory) => Err(AllocError),
     }
@@ -61,11 +67,11 @@ pub(crate) fn bad_job(alloc: Global, key: Key) -> Result<Answer, AllocError>
 }
 
 /// Writes the job's batches, reads their rows from the segments, and reports.
-fn write_job(alloc: Global, job: Job) -> Result<Answer, AllocError>
+fn write_job<P: Progress>(alloc: Global, job: Job, progress: &mut P) -> Result<Answer, AllocError>
     ensures { IfOk result (λ a. JobAnswer (job_view job) a.status (string_bytes a.text)) }
 {
     let first = job.next;
-    match write_batches(alloc, job) {
+    match write_batches(alloc, job, progress) {
         Ok((layout, segments, steps)) => {
             let answer = written(alloc, first, &layout, segments, &steps);
             drop(layout);
@@ -80,9 +86,10 @@ fn write_job(alloc: Global, job: Job) -> Result<Answer, AllocError>
 }
 
 /// Writes the job's batches, and gives the segments that were appended and the steps too.
-fn write_batches(
+fn write_batches<P: Progress>(
     alloc: Global,
     job: Job,
+    progress: &mut P,
 ) -> Result<(Layout, Vec<Blob>, Vec<Step>), (WriteError, Vec<Blob>, Vec<Step>)>
     ensures ok { IfOk result (λ w. IsWritten (job_view job) (layout_data w.0) w.1.items w.2.items) }
     ensures tables { IfOk result (λ w. TablesThere (segment_at job.next w.1.items) (layout_data w.0)) }
@@ -91,8 +98,11 @@ fn write_batches(
 {
     let mut ctx = context(job.encodings, job.aggregates, job.marked);
     let faults = job.faults;
-    let mut source = ListSource::new(job.schema, job.batches, faults.source);
-    let mut sink = MemorySink::new(job.next, faults.sink);
+    let appended = Cell::new(0);
+    let batches = ListSource::new(job.schema, job.batches, faults.source);
+    let mut source = ToldSource::new(batches, progress, &appended);
+    let segments = MemorySink::new(job.next, faults.sink);
+    let mut sink = CountedSink::new(segments, &appended);
     let mut compressor = TableCompressor::new(faults.compress);
     match write_stream(
         alloc,
@@ -103,8 +113,16 @@ fn write_batches(
         &job.schedule,
         &mut compressor,
     ) {
-        Ok(written) => Ok((written.layout, sink.into_segments(), written.trace)),
-        Err(refused) => Err((refused.error, sink.into_segments(), refused.trace)),
+        Ok(written) => Ok((
+            written.layout,
+            sink.into_inner().into_segments(),
+            written.trace,
+        )),
+        Err(refused) => Err((
+            refused.error,
+            sink.into_inner().into_segments(),
+            refused.trace,
+        )),
     }
 }
 

@@ -1,11 +1,13 @@
 //! What the words may ask for.
 
-ghost use Rattle.std.specs.Prelude.{◌≡◌, map, string_bytes, IfOk};
-ghost use Rattle.vx_run.specs.Commands.{command_of, command_named, Answers};
+ghost use Rattle.std.specs.Prelude.{◌≡◌, ℕ, map, string_bytes, IfOk, MatchOption};
+ghost use Rattle.vx_run.specs.Commands.{command_of, command_named, AsksRows, AreRows, Answers};
 
 use crate::answer::{Answer, answer_to};
 use crate::tree::tree_answer;
 use std::alloc::{AllocError, Global};
+use vx_progress::Progress;
+use vx_summary::MOST_ROWS;
 
 /// Each reads an input and prints one answer.
 #[derive(Clone, Copy, Debug, PartialEq, Eq)]
@@ -38,11 +40,44 @@ fn command_named(word: &str) -> Option<Command>
 }
 
 /// The command's answer to the bytes of an input.
-pub(crate) fn answer_by(alloc: Global, command: Command, bytes: &[u8]) -> Result<Answer, AllocError>
+pub(crate) fn answer_by<P: Progress>(
+    alloc: Global,
+    command: Command,
+    bytes: &[u8],
+    progress: &mut P,
+) -> Result<Answer, AllocError>
     ensures { IfOk result (λ a. Answers command bytes.now a.status (string_bytes a.text)) }
 {
     match command {
-        Command::Write => answer_to(alloc, bytes),
+        Command::Write => answer_to(alloc, bytes, progress),
         Command::Tree => tree_answer(alloc, bytes),
+    }
+}
+
+/// The rows of the table that the words ask for: `gen` and a number from 1 to 1,000,000, in decimal.
+pub(crate) fn rows_asked(alloc: Global, words: &[String]) -> Result<Option<u32>, AllocError>
+    ensures { IfOk result (λ r. MatchOption r ((n : ℕ) → ¬ AsksRows (map string_bytes words.now) n) (AsksRows (map string_bytes words.now))) }
+{
+    match words {
+        [word, number] if word.as_str() == "gen" => rows_of(alloc, number.as_str()),
+        _ => Ok(None),
+    }
+}
+
+/// The number of rows that a word is in decimal, without a sign and without a zero in front.
+fn rows_of(alloc: Global, word: &str) -> Result<Option<u32>, AllocError>
+    ensures { IfOk result (λ r. MatchOption r ((n : ℕ) → ¬ AreRows word.now n) (AreRows word.now)) }
+{
+    let Ok(rows) = word.parse::<u32>() else {
+        return Ok(None);
+    };
+    if rows == 0 || rows > MOST_ROWS {
+        return Ok(None);
+    }
+    let digits = format!(in alloc; "{rows}")?;
+    if digits.as_str() == word {
+        Ok(Some(rows))
+    } else {
+        Ok(None)
     }
 }

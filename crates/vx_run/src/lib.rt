@@ -17,5 +17,6 @@ pub use input::{Input, InputFailure};
 pub use memory::{ByteInput, ByteOutput};
 pub use output::{Output, OutputFailure};
 pub use real::{RealInput, RealOutput};
-pub use running::run;
+pub use running::{run, run_told};
 pub use status::Status;
+pub use vx_progress::{Nobody, Progress};

@@ -1,6 +1,6 @@
 //! The program.
 
-ghost use Rattle.std.specs.Prelude.{◌≡◌, ℕ, ◌+◌, ◌<◌, ◌⊎◌, true, false, List, Some, None, Ok, map, is_some, string_bytes, IfOk, OnOk, OnErr};
+ghost use Rattle.std.specs.Prelude.{◌≡◌, ℕ, ◌+◌, ◌<◌, ◌≤◌, ◌⊎◌, true, false, List, Some, None, Ok, map, is_some, string_bytes, IfOk, OnOk, OnErr};
 ghost use Rattle.std.specs.Io.KnownBytes.{Appends, IsAtEnd};
 ghost use Rattle.vx_fault.specs.Counts.{Counts, IsCalm};
 ghost use Rattle.vx_job.specs.JobText.{JobData, job, limit};
@@ -10,22 +10,25 @@ ghost use Rattle.vx_run.specs.declared.status.Status.TheVariants as statuses;
 ghost use Rattle.vx_run.specs.declared.command.Command.{Command};
 ghost use Rattle.vx_run.specs.declared.command.Command.TheVariants as commands;
 ghost use Rattle.vx_run.specs.Answers.{IsText, SetsNoFaults, IsValid};
-ghost use Rattle.vx_run.specs.Commands.{command_of, Answers};
+ghost use Rattle.vx_summary.specs.Summary.{summary};
+ghost use Rattle.vx_run.specs.Commands.{command_of, AsksRows, Answers};
 ghost use Rattle.vx_run.specs.Failures.{input_failed, output_failed};
 ghost use Rattle.vx_run.specs.TreeAnswers.{tree_status};
 ghost use Rattle.vx_run.specs.Running.{usage, is_input_fault, is_output_fault, is_usage, Ends, MayFail, Took, HasRead, has_read, Finishes, AppendsFront};
 
-use crate::command::{Command, answer_by, command_of};
+use crate::command::{Command, answer_by, command_of, rows_asked};
 use crate::input::{Input, InputFailure};
 use crate::output::{Output, OutputFailure};
 use crate::status::Status;
 use std::alloc::Global;
 use vx_job::LIMIT;
+use vx_progress::{Nobody, Progress};
+use vx_summary::table_summary;
 
 /// Does what the words say with the input and the output, and gives the exit status.
 ///
-/// A command is one word: it reads its input to the end and prints its answer. Other words print the usage.
-#[tactic(auto, using(crate::proofs::RunSteps::run_rules))]
+/// A command that is one word reads its input to the end and prints its answer. `gen` with a number of rows reads no input: it
+/// writes the generated table, reads it back and prints the summary. Other words print the usage.
 pub fn run<I: Input, O: Output>(
     alloc: Global,
     words: &[String],
@@ -44,8 +47,54 @@ pub fn run<I: Input, O: Output>(
     ensures known { is_some (command_of (map string_bytes words.now)) ≡ true → is_usage result ≡ false }
     ensures ran { (command : Command) (bytes : List ℕ) → command_of (map string_bytes words.now) ≡ Some command → I.to_come input.old ≡ Some bytes
         → Ends (Answers command bytes) (O.written output.old) (O.written output.new) result }
-    ensures used { command_of (map string_bytes words.now) ≡ None
+    ensures used { command_of (map string_bytes words.now) ≡ None → ((n : ℕ) → ¬ AsksRows (map string_bytes words.now) n)
         → Ends (IsText statuses.Usage usage) (O.written output.old) (O.written output.new) result }
+    ensures summed { (n : ℕ) → AsksRows (map string_bytes words.now) n
+        → Ends (IsText statuses.Done (summary n)) (O.written output.old) (O.written output.new) result }
+    ensures sums { (n : ℕ) → AsksRows (map string_bytes words.now) n → IsCalm (O.faults output.old) (O.faults output.new)
+        → (result ≡ statuses.Done) ⊎ (result ≡ statuses.OutOfMemory) }
+    ensures unread { command_of (map string_bytes words.now) ≡ None → is_input_fault result ≡ false }
+    ensures untaken { command_of (map string_bytes words.now) ≡ None → I.to_come input.new ≡ I.to_come input.old }
+    ensures untouched { command_of (map string_bytes words.now) ≡ None → input.new ≡ input.old }
+    ensures complete { (bytes : List ℕ) (j : JobData) → command_of (map string_bytes words.now) ≡ Some commands.Write
+        → I.to_come input.old ≡ Some bytes → job bytes ≡ Ok j → SetsNoFaults j → IsValid j
+        → IsCalm (I.faults input.old) (I.faults input.new) → IsCalm (O.faults output.old) (O.faults output.new)
+        → (result ≡ statuses.Done) ⊎ (result ≡ statuses.OutOfMemory) }
+    ensures told { (bytes : List ℕ) → command_of (map string_bytes words.now) ≡ Some commands.Tree → I.to_come input.old ≡ Some bytes
+        → IsCalm (I.faults input.old) (I.faults input.new) → IsCalm (O.faults output.old) (O.faults output.new)
+        → (result ≡ tree_status (tree_job bytes)) ⊎ (result ≡ statuses.OutOfMemory) }
+{
+    run_told(alloc, words, input, output, &mut Nobody)
+}
+
+/// As `run`, which tells nobody: tells of each batch that a write takes how many there are by then, with the rows and the
+/// segments.
+#[tactic(auto, using(crate::proofs::RunSteps::run_rules))]
+pub fn run_told<I: Input, O: Output, P: Progress>(
+    alloc: Global,
+    words: &[String],
+    input: &mut I,
+    output: &mut O,
+    progress: &mut P,
+) -> Status
+    ensures input_count { Counts (I.faults input.old) (I.faults input.new) (is_input_fault result) }
+    ensures output_count { Counts (O.faults output.old) (O.faults output.new) (is_output_fault result) }
+    ensures may_input { is_input_fault result ≡ true → MayFail (I.may_fail input.old) }
+    ensures may_output { is_output_fault result ≡ true → MayFail (O.may_fail output.old) }
+    ensures ended { is_some (command_of (map string_bytes words.now)) ≡ true → has_read result ≡ true → IsAtEnd (I.to_come input.new) }
+    ensures judged { is_some (command_of (map string_bytes words.now)) ≡ true → result ≡ statuses.BadJob
+        → (bytes : List ℕ) × HasRead (I.to_come input.old) (I.to_come input.new) bytes }
+    ensures took { Took (limit + 1) (I.to_come input.old) (I.to_come input.new) }
+    ensures early { is_input_fault result ≡ true → Took limit (I.to_come input.old) (I.to_come input.new) }
+    ensures known { is_some (command_of (map string_bytes words.now)) ≡ true → is_usage result ≡ false }
+    ensures ran { (command : Command) (bytes : List ℕ) → command_of (map string_bytes words.now) ≡ Some command → I.to_come input.old ≡ Some bytes
+        → Ends (Answers command bytes) (O.written output.old) (O.written output.new) result }
+    ensures used { command_of (map string_bytes words.now) ≡ None → ((n : ℕ) → ¬ AsksRows (map string_bytes words.now) n)
+        → Ends (IsText statuses.Usage usage) (O.written output.old) (O.written output.new) result }
+    ensures summed { (n : ℕ) → AsksRows (map string_bytes words.now) n
+        → Ends (IsText statuses.Done (summary n)) (O.written output.old) (O.written output.new) result }
+    ensures sums { (n : ℕ) → AsksRows (map string_bytes words.now) n → IsCalm (O.faults output.old) (O.faults output.new)
+        → (result ≡ statuses.Done) ⊎ (result ≡ statuses.OutOfMemory) }
     ensures unread { command_of (map string_bytes words.now) ≡ None → is_input_fault result ≡ false }
     ensures untaken { command_of (map string_bytes words.now) ≡ None → I.to_come input.new ≡ I.to_come input.old }
     ensures untouched { command_of (map string_bytes words.now) ≡ None → input.new ≡ input.old }
@@ -58,22 +107,65 @@ pub fn run<I: Input, O: Output>(
         → (result ≡ tree_status (tree_job bytes)) ⊎ (result ≡ statuses.OutOfMemory) }
 {
     match command_of(words) {
-        Some(command) => run_command(alloc, command, input, output),
-        None => finish(
+        Some(command) => run_command(alloc, command, input, output, progress),
+        None => run_other(alloc, words, output, progress),
+    }
+}
+
+/// Does what words say that are no command over an input: prints the summary of the generated table where they ask for it, and
+/// else the usage.
+fn run_other<O: Output, P: Progress>(
+    alloc: Global,
+    words: &[String],
+    output: &mut O,
+    progress: &mut P,
+) -> Status
+    ensures count { Counts (O.faults output.old) (O.faults output.new) (is_output_fault result) }
+    ensures may { is_output_fault result ≡ true → MayFail (O.may_fail output.old) }
+    ensures unread { is_input_fault result ≡ false }
+    ensures used { ((n : ℕ) → ¬ AsksRows (map string_bytes words.now) n)
+        → Ends (IsText statuses.Usage usage) (O.written output.old) (O.written output.new) result }
+    ensures summed { (n : ℕ) → AsksRows (map string_bytes words.now) n
+        → Ends (IsText statuses.Done (summary n)) (O.written output.old) (O.written output.new) result }
+{
+    match rows_asked(alloc, words) {
+        Ok(Some(rows)) => sum_up(alloc, rows, output, progress),
+        Ok(None) => finish(
             output,
             Status::Usage,
             "usage: vx_tool write | gen N | tree\n",
         ),
+        Err(_) => Status::OutOfMemory,
+    }
+}
+
+/// Writes the generated table of so many rows, and prints its summary.
+fn sum_up<O: Output, P: Progress>(
+    alloc: Global,
+    rows: u32,
+    output: &mut O,
+    progress: &mut P,
+) -> Status
+    requires { rows ≤ 1000000 }
+    ensures count { Counts (O.faults output.old) (O.faults output.new) (is_output_fault result) }
+    ensures may { is_output_fault result ≡ true → MayFail (O.may_fail output.old) }
+    ensures unread { is_input_fault result ≡ false }
+    ensures summed { Ends (IsText statuses.Done (summary rows)) (O.written output.old) (O.written output.new) result }
+{
+    match table_summary(alloc, rows, progress) {
+        Ok(text) => finish(output, Status::Done, &text),
+        Err(_) => Status::OutOfMemory,
     }
 }
 
 /// Reads the input to its end, and prints the command's answer.
 #[tactic(auto, using(crate::proofs::RunSteps::run_rules))]
-fn run_command<I: Input, O: Output>(
+fn run_command<I: Input, O: Output, P: Progress>(
     alloc: Global,
     command: Command,
     input: &mut I,
     output: &mut O,
+    progress: &mut P,
 ) -> Status
     ensures input_count { Counts (I.faults input.old) (I.faults input.new) (is_input_fault result) }
     ensures output_count { Counts (O.faults output.old) (O.faults output.new) (is_output_fault result) }
@@ -88,7 +180,7 @@ fn run_command<I: Input, O: Output>(
         → Ends (Answers command bytes) (O.written output.old) (O.written output.new) result }
 {
     match read_all(alloc, input) {
-        Ok(bytes) => match answer_by(alloc, command, &bytes) {
+        Ok(bytes) => match answer_by(alloc, command, &bytes, progress) {
             Ok(answer) => finish(output, answer.status, &answer.text),
             Err(_) => Status::OutOfMemory,
         },

@@ -1,12 +1,12 @@
 //! The program: does what its words say, with standard input and standard output, and tells people on standard error
-//! how it ended where that isn't well.
+//! how far it is where they ask for that, and how it ended where that isn't well.
 #![tactic(auto)]
 
 use std::alloc::AllocError;
 use std::env::{Env, FillError};
 use std::process::ExitCode;
-use vx_messages::{Front, Message};
-use vx_run::{RealInput, RealOutput, Status, run};
+use vx_messages::{Front, Message, ProgressLines};
+use vx_run::{RealInput, RealOutput, Status, run_told};
 
 // A word that is longer is no command.
 const WORD: usize = 16;
@@ -17,7 +17,8 @@ fn main(rt: HostRuntime) -> ExitCode {
     };
     let mut input = RealInput::new(rt.stdin());
     let mut output = Front::new(RealOutput::new(rt.stdout()));
-    let status = run(rt.alloc(), &words, &mut input, &mut output);
+    let mut progress = ProgressLines::new(&rt);
+    let status = run_told(rt.alloc(), &words, &mut input, &mut output, &mut progress);
     end(&rt, status, output.front())
 }
 

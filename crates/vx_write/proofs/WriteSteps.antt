@@ -1,10 +1,9 @@
 -- A write by tasks: what its pointer holds at the start.
-use Rattle.std.proofs.Common.{◌≡◌, ◌≢◌, ◌≤◌, ◌<◌, ◌^◌, ℕ, Bool, true, false, List, [], is_some, length, lit<, sym, ap, subst, ◌∙◌, ⊎_elim, arith}
+use Rattle.std.proofs.Common.{◌≡◌, ◌≢◌, ◌≤◌, ℕ, Bool, true, false, List, is_some, sym, ap, subst, ◌∙◌, ⊎_elim, arith}
 use Rattle.std.specs.FinMap as map
 use Rattle.vx_path.specs.Path.{Eof, eof_path}
 use Rattle.vx_sequence.specs.Universe.{Active, path_cmp, root, only}
 use Rattle.vx_sequence.proofs.Sets.{one_path, same_refl, same_false, get-inserted, get-insert_other}
-use Rattle.vx_write_answer.specs.declared.step.Step.{Step}
 use Rattle.vx_machine_ids.specs.Stock.{same, one, end_stock}
 use Rattle.vx_machine_ids.specs.Balance.{active_at, Owned, Exact}
 
@@ -48,8 +47,5 @@ start_owned u v e i j k = subst (λ (x : Eof). Owned v (end_stock x)) (sym k) (s
 
 pub start_first : (e : Eof) → e ≡ root → e.last ≡ 0
 start_first e k = ap (λ (x : Eof). x.last) k
-
-pub short_none : (steps : List Step) → steps ≡ [] → length steps < 2 ^ 64
-short_none steps none = rw none (lit< tt)
 
 pub ruleset write_rules = (start_owned, start_first)

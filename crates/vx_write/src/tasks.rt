@@ -1,6 +1,6 @@
 //! A write by tasks, over ids and an order of its own.
 
-ghost use Rattle.std.specs.Prelude.{◌≡◌, ◌+◌, ◌<◌, ◌≤◌, ◌^◌, max, List, ℕ, [], length, Some, IfOk, IfErr, OnOk};
+ghost use Rattle.std.specs.Prelude.{◌≡◌, ◌+◌, ◌≤◌, ◌^◌, max, List, ℕ, [], Some, IfOk, IfErr, OnOk};
 ghost use Rattle.vx_model.specs.ChunkData.{ChunkData};
 ghost use Rattle.vx_layout_tree.specs.LayoutView.{layout_data};
 ghost use Rattle.vx_machine_ran.specs.Valid.{Valid};
@@ -87,20 +87,12 @@ pub(crate) fn write_tasks<B: BatchSource, S: SegmentSink, C: CompressorPlugin>(
         alloc, strategy, ctx, source, &mut order, eof, schedule, compressor, steps,
     );
     let sink = order.into_sink();
-    are_counted(steps);
     match written {
         Ok(Some(layout)) => (Ok(layout), sink),
         // Something is ready until the machine has finished.
         Ok(None) => unreachable!(),
         Err(error) => (Err(error), sink),
     }
-}
-
-/// Steps in memory can be counted.
-fn are_counted(steps: &Vec<Step>)
-    ensures { length steps.now.items < 2 ^ 64 }
-{
-    let _count = steps.len();
 }
 
 /// The same in an order, from a pointer that is given up by the end.

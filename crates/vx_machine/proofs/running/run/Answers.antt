@@ -19,7 +19,6 @@ use Rattle.vx_sink.specs.ContextView.{counted as counted_bytes}
 use Rattle.vx_machine.specs.Run.{at, Ran, picked_at, tracker_by}
 use Rattle.vx_machine_tasks.specs.View.{row}
 use Rattle.vx_machine.specs.View.{phase_of, machine_of}
-use Rattle.vx_machine_tasks.specs.Ready.{counted}
 use Rattle.vx_machine_tasks.specs.declared.task.Task.{out-Task}
 use Rattle.vx_machine.specs.Whole.{machine_ready}
 use Rattle.vx_machine.proofs.HeldViews.{exact_then}
@@ -145,7 +144,7 @@ returns-in-Err-step_counted-clause-ran g c = λ e x.
       };
       passed = misfit_passed g.B.Fallible.faults g.B.Fallible.may_fail g.B.Fallible.must_fail c.args.source.now c.steps.source c.step_counted.new.source (reads_in c.reserve.new.self.items)
           (subst (λ ts. Answered g.B.Fallible.faults g.B.Fallible.may_fail g.B.Fallible.must_fail c.args.source.now c.steps.source (reads_in ts)) (sym c.reserve.ensures.items) (c.steps.invariant.sources e))
-          (reads_at (phase_of c.steps.machine.phase) (c.pick_at-pick.result % counted (machine_ready u c.steps.machine)))
+          (reads_at (phase_of c.steps.machine.phase) (c.pick_at-pick.result % machine_ready u c.steps.machine))
           (reads_at (phase_of c.steps.machine.phase) (picked_at c.args.schedule.now (length c.reserve.new.self.items) (machine_of c.steps.machine))) c.in-Err-step_counted.error
           (reads_same c.args.ctx.now c.steps.ctx c.steps.invariant.context (g.C.CompressorPlugin.image (g.C.CompressorPlugin.kind c.args.compressor.now)) (g.C.CompressorPlugin.image (g.C.CompressorPlugin.kind c.steps.compressor)) (ap g.C.CompressorPlugin.image c.steps.invariant.compressor) (g.B.BatchSource.kind c.args.source.now) (g.B.BatchSource.kind c.steps.source) c.steps.invariant.kind c.args.schedule.now u c.steps.machine k
           some (length c.reserve.new.self.items) c.pick_at-pick.result pick)
@@ -176,7 +175,7 @@ pub returns-in-Err-step_counted-clause-source : goal.returns-in-Err-step_counted
 returns-in-Err-step_counted-clause-source g c = λ e.
     source_ends g.B.Fallible.faults g.B.Fallible.may_fail g.B.Fallible.must_fail c.args.source.now c.steps.source c.step_counted.new.source (reads_in c.reserve.new.self.items)
     (subst (λ ts. Answered g.B.Fallible.faults g.B.Fallible.may_fail g.B.Fallible.must_fail c.args.source.now c.steps.source (reads_in ts)) (sym c.reserve.ensures.items) (c.steps.invariant.sources e))
-    (reads_at (phase_of c.steps.machine.phase) (c.pick_at-pick.result % counted (machine_ready (g.O.Order.active c.steps.order) c.steps.machine))) c.in-Err-step_counted.error c.in-Err-step_counted.ensures.source_told
+    (reads_at (phase_of c.steps.machine.phase) (c.pick_at-pick.result % machine_ready (g.O.Order.active c.steps.order) c.steps.machine)) c.in-Err-step_counted.error c.in-Err-step_counted.ensures.source_told
 
 pub returns-in-Err-step_counted-clause-sink : goal.returns-in-Err-step_counted-clause-sink
 returns-in-Err-step_counted-clause-sink g c = λ e.

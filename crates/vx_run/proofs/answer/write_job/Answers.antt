@@ -6,19 +6,19 @@ use Rattle.vx_run.proofs.JobSteps.{written_rows, report_answers, refusal_answers
 use Rattle.vx_run.proofs.answer.write_job.Goals as goal
 
 pub written-answer-requires-clause-readable : goal.written-answer-requires-clause-readable
-written-answer-requires-clause-readable c = ap is_some (written_rows (job_view c.args.job) c.in-Ok.ensures.ok)
+written-answer-requires-clause-readable g c = ap is_some (written_rows (job_view c.args.job) c.in-Ok.ensures.ok)
 
 pub written-answer-requires-clause-numbered : goal.written-answer-requires-clause-numbered
-written-answer-requires-clause-numbered c = c.in-Ok.ensures.numbered
+written-answer-requires-clause-numbered g c = c.in-Ok.ensures.numbered
 
 pub written-answer-requires-clause-tables : goal.written-answer-requires-clause-tables
-written-answer-requires-clause-tables c = c.in-Ok.ensures.tables
+written-answer-requires-clause-tables g c = c.in-Ok.ensures.tables
 
 pub returns-in-Ok : goal.returns-in-Ok
-returns-in-Ok c = IfOk-weaker c.written-answer.result _ _ (λ a h. report_answers (job_view c.args.job) c.deref.ensures.value c.in-Ok.ensures.ok h) c.written-answer.ensures
+returns-in-Ok g c = IfOk-weaker c.written-answer.result _ _ (λ a h. report_answers (job_view c.args.job) c.deref.ensures.value c.in-Ok.ensures.ok h) c.written-answer.ensures
 
 pub refusal-answer-requires : goal.refusal-answer-requires
-refusal-answer-requires c = c.in-Err.ensures.numbered
+refusal-answer-requires g c = c.in-Err.ensures.numbered
 
 pub returns-in-Err : goal.returns-in-Err
-returns-in-Err c = IfOk-weaker c.refusal-answer.result _ _ (λ a h. refusal_answers (job_view c.args.job) _ c.deref-in-Err.ensures.value c.in-Err.ensures.err h) c.refusal-answer.ensures
+returns-in-Err g c = IfOk-weaker c.refusal-answer.result _ _ (λ a h. refusal_answers (job_view c.args.job) _ c.deref-in-Err.ensures.value c.in-Err.ensures.err h) c.refusal-answer.ensures

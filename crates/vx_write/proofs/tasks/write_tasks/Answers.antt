@@ -14,7 +14,6 @@ use Rattle.vx_machine_ran.specs.Answered.{Answered}
 use Rattle.vx_write.specs.Answer.{StoppedTold}
 use Rattle.vx_write.proofs.RanSteps.{setting_keeps, handed, outlet_of, first_held, answers_told, outside_memory}
 use Rattle.vx_write.proofs.ReadSteps.{planned_readable}
-use Rattle.vx_write.proofs.WriteSteps.{short_none}
 use Rattle.vx_write.proofs.tasks.write_tasks.Goals as goal
 
 pub returns-in-Ok-Some-clause-wrote : goal.returns-in-Ok-Some-clause-wrote
@@ -25,7 +24,7 @@ returns-in-Ok-Some-clause-wrote g c =
     let told = handed g.S.SegmentSink.borrow g.S.SegmentSink.next g.S.SegmentSink.segments (λ x y. Answered c.args.ctx.now image (strategy_data c.args.strategy.now) (g.B.BatchSource.kind c.args.source.now) c.args.schedule.now (g.B.BatchSource.to_come c.args.source.now) x c.write_in-written.new.steps.items (g.B.BatchSource.to_come c.write_in-written.new.source) y (Ok (Some c.in-Ok-Some.layout))) c.args.sink c.new-order.result.sink c.write_in-written.new.order.sink c.into_sink-sink.result c.new-order.ensures.sink c.into_sink-sink.ensures
     (subst (λ (l : Option Layout). Answered c.args.ctx.now image (strategy_data c.args.strategy.now) (g.B.BatchSource.kind c.args.source.now) c.args.schedule.now (g.B.BatchSource.to_come c.args.source.now) (outlet_of g.S.SegmentSink.borrow g.S.SegmentSink.next g.S.SegmentSink.segments c.new-order.result.sink) c.write_in-written.new.steps.items (g.B.BatchSource.to_come c.write_in-written.new.source) (outlet_of g.S.SegmentSink.borrow g.S.SegmentSink.next g.S.SegmentSink.segments c.write_in-written.new.order.sink) (Ok l)) c.in-Ok-Some.field-0-is
     (c.in-Ok-Some.ensures.ran c.in-Ok.ensures.root.1 (first_held c.new-order.result.universe c.in-Ok.universe c.in-Ok.eof c.new-order.ensures.universe c.in-Ok.ensures.root.0 c.in-Ok.ensures.root.1))) in
-    (c.answers.ensures.written c.args.ctx.now image (strategy_data c.args.strategy.now) (g.B.BatchSource.kind c.args.source.now) c.args.schedule.now (g.B.BatchSource.to_come c.args.source.now) (g.B.BatchSource.to_come c.write_in-written.new.source) (g.S.SegmentSink.borrow c.args.sink) (g.S.SegmentSink.next c.args.sink) (g.S.SegmentSink.segments c.args.sink) c.write_in-written.new.steps.items (outlet_of g.S.SegmentSink.borrow g.S.SegmentSink.next g.S.SegmentSink.segments c.into_sink-sink.result) (Ok (Some c.in-Ok-Some.layout)) keeps c.are_counted.ensures told).1
+    (c.answers.ensures.written c.args.ctx.now image (strategy_data c.args.strategy.now) (g.B.BatchSource.kind c.args.source.now) c.args.schedule.now (g.B.BatchSource.to_come c.args.source.now) (g.B.BatchSource.to_come c.write_in-written.new.source) (g.S.SegmentSink.borrow c.args.sink) (g.S.SegmentSink.next c.args.sink) (g.S.SegmentSink.segments c.args.sink) c.write_in-written.new.steps.items (outlet_of g.S.SegmentSink.borrow g.S.SegmentSink.next g.S.SegmentSink.segments c.into_sink-sink.result) (Ok (Some c.in-Ok-Some.layout)) keeps told).1
 
 pub returns-in-Ok-Some-clause-readable : goal.returns-in-Ok-Some-clause-readable
 returns-in-Ok-Some-clause-readable g c =
@@ -44,7 +43,7 @@ returns-in-Ok-Some-clause-ended g c =
     let told = handed g.S.SegmentSink.borrow g.S.SegmentSink.next g.S.SegmentSink.segments (λ x y. Answered c.args.ctx.now image (strategy_data c.args.strategy.now) (g.B.BatchSource.kind c.args.source.now) c.args.schedule.now (g.B.BatchSource.to_come c.args.source.now) x c.write_in-written.new.steps.items (g.B.BatchSource.to_come c.write_in-written.new.source) y (Ok (Some c.in-Ok-Some.layout))) c.args.sink c.new-order.result.sink c.write_in-written.new.order.sink c.into_sink-sink.result c.new-order.ensures.sink c.into_sink-sink.ensures
     (subst (λ (l : Option Layout). Answered c.args.ctx.now image (strategy_data c.args.strategy.now) (g.B.BatchSource.kind c.args.source.now) c.args.schedule.now (g.B.BatchSource.to_come c.args.source.now) (outlet_of g.S.SegmentSink.borrow g.S.SegmentSink.next g.S.SegmentSink.segments c.new-order.result.sink) c.write_in-written.new.steps.items (g.B.BatchSource.to_come c.write_in-written.new.source) (outlet_of g.S.SegmentSink.borrow g.S.SegmentSink.next g.S.SegmentSink.segments c.write_in-written.new.order.sink) (Ok l)) c.in-Ok-Some.field-0-is
     (c.in-Ok-Some.ensures.ran c.in-Ok.ensures.root.1 (first_held c.new-order.result.universe c.in-Ok.universe c.in-Ok.eof c.new-order.ensures.universe c.in-Ok.ensures.root.0 c.in-Ok.ensures.root.1))) in
-    (c.answers.ensures.written c.args.ctx.now image (strategy_data c.args.strategy.now) (g.B.BatchSource.kind c.args.source.now) c.args.schedule.now (g.B.BatchSource.to_come c.args.source.now) (g.B.BatchSource.to_come c.write_in-written.new.source) (g.S.SegmentSink.borrow c.args.sink) (g.S.SegmentSink.next c.args.sink) (g.S.SegmentSink.segments c.args.sink) c.write_in-written.new.steps.items (outlet_of g.S.SegmentSink.borrow g.S.SegmentSink.next g.S.SegmentSink.segments c.into_sink-sink.result) (Ok (Some c.in-Ok-Some.layout)) keeps c.are_counted.ensures told).0
+    (c.answers.ensures.written c.args.ctx.now image (strategy_data c.args.strategy.now) (g.B.BatchSource.kind c.args.source.now) c.args.schedule.now (g.B.BatchSource.to_come c.args.source.now) (g.B.BatchSource.to_come c.write_in-written.new.source) (g.S.SegmentSink.borrow c.args.sink) (g.S.SegmentSink.next c.args.sink) (g.S.SegmentSink.segments c.args.sink) c.write_in-written.new.steps.items (outlet_of g.S.SegmentSink.borrow g.S.SegmentSink.next g.S.SegmentSink.segments c.into_sink-sink.result) (Ok (Some c.in-Ok-Some.layout)) keeps told).0
 
 pub returns-in-Ok-Some-clause-trace : goal.returns-in-Ok-Some-clause-trace
 returns-in-Ok-Some-clause-trace g c =
@@ -54,7 +53,7 @@ returns-in-Ok-Some-clause-trace g c =
     let told = handed g.S.SegmentSink.borrow g.S.SegmentSink.next g.S.SegmentSink.segments (λ x y. Answered c.args.ctx.now image (strategy_data c.args.strategy.now) (g.B.BatchSource.kind c.args.source.now) c.args.schedule.now (g.B.BatchSource.to_come c.args.source.now) x c.write_in-written.new.steps.items (g.B.BatchSource.to_come c.write_in-written.new.source) y (Ok (Some c.in-Ok-Some.layout))) c.args.sink c.new-order.result.sink c.write_in-written.new.order.sink c.into_sink-sink.result c.new-order.ensures.sink c.into_sink-sink.ensures
     (subst (λ (l : Option Layout). Answered c.args.ctx.now image (strategy_data c.args.strategy.now) (g.B.BatchSource.kind c.args.source.now) c.args.schedule.now (g.B.BatchSource.to_come c.args.source.now) (outlet_of g.S.SegmentSink.borrow g.S.SegmentSink.next g.S.SegmentSink.segments c.new-order.result.sink) c.write_in-written.new.steps.items (g.B.BatchSource.to_come c.write_in-written.new.source) (outlet_of g.S.SegmentSink.borrow g.S.SegmentSink.next g.S.SegmentSink.segments c.write_in-written.new.order.sink) (Ok l)) c.in-Ok-Some.field-0-is
     (c.in-Ok-Some.ensures.ran c.in-Ok.ensures.root.1 (first_held c.new-order.result.universe c.in-Ok.universe c.in-Ok.eof c.new-order.ensures.universe c.in-Ok.ensures.root.0 c.in-Ok.ensures.root.1))) in
-    (c.answers.ensures.written c.args.ctx.now image (strategy_data c.args.strategy.now) (g.B.BatchSource.kind c.args.source.now) c.args.schedule.now (g.B.BatchSource.to_come c.args.source.now) (g.B.BatchSource.to_come c.write_in-written.new.source) (g.S.SegmentSink.borrow c.args.sink) (g.S.SegmentSink.next c.args.sink) (g.S.SegmentSink.segments c.args.sink) c.write_in-written.new.steps.items (outlet_of g.S.SegmentSink.borrow g.S.SegmentSink.next g.S.SegmentSink.segments c.into_sink-sink.result) (Ok (Some c.in-Ok-Some.layout)) keeps c.are_counted.ensures told).2
+    (c.answers.ensures.written c.args.ctx.now image (strategy_data c.args.strategy.now) (g.B.BatchSource.kind c.args.source.now) c.args.schedule.now (g.B.BatchSource.to_come c.args.source.now) (g.B.BatchSource.to_come c.write_in-written.new.source) (g.S.SegmentSink.borrow c.args.sink) (g.S.SegmentSink.next c.args.sink) (g.S.SegmentSink.segments c.args.sink) c.write_in-written.new.steps.items (outlet_of g.S.SegmentSink.borrow g.S.SegmentSink.next g.S.SegmentSink.segments c.into_sink-sink.result) (Ok (Some c.in-Ok-Some.layout)) keeps told).2
 
 pub returns-in-Ok-Some-clause-appended : goal.returns-in-Ok-Some-clause-appended
 returns-in-Ok-Some-clause-appended g c =
@@ -93,7 +92,7 @@ returns-in-Err-clause-halted g c =
     (ap (λ z. first_repeat z) (sym c.array_ctx.ensures) ∙ c.ids.ensures.distinct) (g.met.C.CompressorPlugin.keeps (g.C.CompressorPlugin.kind c.args.compressor.now)) in
     let told = handed g.S.SegmentSink.borrow g.S.SegmentSink.next g.S.SegmentSink.segments (λ x y. Answered c.args.ctx.now image (strategy_data c.args.strategy.now) (g.B.BatchSource.kind c.args.source.now) c.args.schedule.now (g.B.BatchSource.to_come c.args.source.now) x c.write_in-written.new.steps.items (g.B.BatchSource.to_come c.write_in-written.new.source) y (Err c.in-Err.error)) c.args.sink c.new-order.result.sink c.write_in-written.new.order.sink c.into_sink-sink.result c.new-order.ensures.sink c.into_sink-sink.ensures
     (elim (c.in-Err.ensures.ran c.in-Ok.ensures.root.1 (first_held c.new-order.result.universe c.in-Ok.universe c.in-Ok.eof c.new-order.ensures.universe c.in-Ok.ensures.root.0 c.in-Ok.ensures.root.1)) [ inl u ↦ inl u | inr r ↦ inr (r.0, r.1.stop) ]) in
-    c.answers.ensures.written c.args.ctx.now image (strategy_data c.args.strategy.now) (g.B.BatchSource.kind c.args.source.now) c.args.schedule.now (g.B.BatchSource.to_come c.args.source.now) (g.B.BatchSource.to_come c.write_in-written.new.source) (g.S.SegmentSink.borrow c.args.sink) (g.S.SegmentSink.next c.args.sink) (g.S.SegmentSink.segments c.args.sink) c.write_in-written.new.steps.items (outlet_of g.S.SegmentSink.borrow g.S.SegmentSink.next g.S.SegmentSink.segments c.into_sink-sink.result) (Err c.in-Err.error) keeps c.are_counted.ensures told
+    c.answers.ensures.written c.args.ctx.now image (strategy_data c.args.strategy.now) (g.B.BatchSource.kind c.args.source.now) c.args.schedule.now (g.B.BatchSource.to_come c.args.source.now) (g.B.BatchSource.to_come c.write_in-written.new.source) (g.S.SegmentSink.borrow c.args.sink) (g.S.SegmentSink.next c.args.sink) (g.S.SegmentSink.segments c.args.sink) c.write_in-written.new.steps.items (outlet_of g.S.SegmentSink.borrow g.S.SegmentSink.next g.S.SegmentSink.segments c.into_sink-sink.result) (Err c.in-Err.error) keeps told
 
 pub returns-in-Err-clause-complete : goal.returns-in-Err-clause-complete
 returns-in-Err-clause-complete g c xs came valid calm still quiet =
@@ -151,7 +150,7 @@ unreachable-requires g c =
     let told = handed g.S.SegmentSink.borrow g.S.SegmentSink.next g.S.SegmentSink.segments (λ x y. Answered c.args.ctx.now image (strategy_data c.args.strategy.now) (g.B.BatchSource.kind c.args.source.now) c.args.schedule.now (g.B.BatchSource.to_come c.args.source.now) x c.write_in-written.new.steps.items (g.B.BatchSource.to_come c.write_in-written.new.source) y (Ok None)) c.args.sink c.new-order.result.sink c.write_in-written.new.order.sink c.into_sink-sink.result c.new-order.ensures.sink c.into_sink-sink.ensures
     (subst (λ (l : Option Layout). Answered c.args.ctx.now image (strategy_data c.args.strategy.now) (g.B.BatchSource.kind c.args.source.now) c.args.schedule.now (g.B.BatchSource.to_come c.args.source.now) (outlet_of g.S.SegmentSink.borrow g.S.SegmentSink.next g.S.SegmentSink.segments c.new-order.result.sink) c.write_in-written.new.steps.items (g.B.BatchSource.to_come c.write_in-written.new.source) (outlet_of g.S.SegmentSink.borrow g.S.SegmentSink.next g.S.SegmentSink.segments c.write_in-written.new.order.sink) (Ok l)) c.in-Ok-None.field-0-is
     (c.in-Ok-None.ensures.ran c.in-Ok.ensures.root.1 (first_held c.new-order.result.universe c.in-Ok.universe c.in-Ok.eof c.new-order.ensures.universe c.in-Ok.ensures.root.0 c.in-Ok.ensures.root.1))) in
-    (c.answers.ensures.written c.args.ctx.now image (strategy_data c.args.strategy.now) (g.B.BatchSource.kind c.args.source.now) c.args.schedule.now (g.B.BatchSource.to_come c.args.source.now) (g.B.BatchSource.to_come c.write_in-written.new.source) (g.S.SegmentSink.borrow c.args.sink) (g.S.SegmentSink.next c.args.sink) (g.S.SegmentSink.segments c.args.sink) c.write_in-written.new.steps.items (outlet_of g.S.SegmentSink.borrow g.S.SegmentSink.next g.S.SegmentSink.segments c.into_sink-sink.result) (Ok None) keeps c.are_counted.ensures told).1
+    (c.answers.ensures.written c.args.ctx.now image (strategy_data c.args.strategy.now) (g.B.BatchSource.kind c.args.source.now) c.args.schedule.now (g.B.BatchSource.to_come c.args.source.now) (g.B.BatchSource.to_come c.write_in-written.new.source) (g.S.SegmentSink.borrow c.args.sink) (g.S.SegmentSink.next c.args.sink) (g.S.SegmentSink.segments c.args.sink) c.write_in-written.new.steps.items (outlet_of g.S.SegmentSink.borrow g.S.SegmentSink.next g.S.SegmentSink.segments c.into_sink-sink.result) (Ok None) keeps told).1
 
 pub returns-in_default-clause-halted : goal.returns-in_default-clause-halted
 returns-in_default-clause-halted g c =
@@ -159,5 +158,5 @@ returns-in_default-clause-halted g c =
     let keeps : Keeps (setting_of c.args.ctx.now image) = setting_keeps c.real_settings_keep.ensures.keeps c.args.ctx.now image
     (ap (λ z. first_repeat z) (sym c.array_ctx.ensures) ∙ c.ids.ensures.distinct) (g.met.C.CompressorPlugin.keeps (g.C.CompressorPlugin.kind c.args.compressor.now)) in
     c.answers.ensures.written c.args.ctx.now image (strategy_data c.args.strategy.now) (g.B.BatchSource.kind c.args.source.now) c.args.schedule.now (g.B.BatchSource.to_come c.args.source.now)
-    (g.B.BatchSource.to_come c.args.source.now) (g.S.SegmentSink.borrow c.args.sink) (g.S.SegmentSink.next c.args.sink) (g.S.SegmentSink.segments c.args.sink) c.args.steps.now.items (outlet_of g.S.SegmentSink.borrow g.S.SegmentSink.next g.S.SegmentSink.segments c.args.sink) (Err OutOfMemory) keeps (short_none c.args.steps.now.items c.requires)
+    (g.B.BatchSource.to_come c.args.source.now) (g.S.SegmentSink.borrow c.args.sink) (g.S.SegmentSink.next c.args.sink) (g.S.SegmentSink.segments c.args.sink) c.args.steps.now.items (outlet_of g.S.SegmentSink.borrow g.S.SegmentSink.next g.S.SegmentSink.segments c.args.sink) (Err OutOfMemory) keeps
     (inl (record { cause = inl refl; told = refl; kept = (refl, refl, refl); none = c.requires }))

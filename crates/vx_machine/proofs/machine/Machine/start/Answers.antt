@@ -1,4 +1,6 @@
 use Rattle.std.proofs.Common.{[], ◌∷◌, ap}
+use Rattle.vx_model.specs.TyView.{ty}
+use Rattle.vx_strategy.specs.StrategyView.{strategy_data}
 use Rattle.vx_sink.specs.ContextView.{allowed_in, is_marked}
 use Rattle.vx_machine_ids.specs.Stock.{end_stock}
 use Rattle.vx_machine_ids.proofs.MoveLaws.{owned_right, moved_behind}
@@ -7,6 +9,7 @@ use Rattle.vx_machine_view.specs.Machine.{reading}
 use Rattle.vx_machine_nodes.specs.View.{form_of}
 use Rattle.vx_machine_tasks.specs.Stocks.{task_stock}
 use Rattle.vx_machine_tasks.proofs.ReservedSteps.{started_none}
+use Rattle.vx_machine.proofs.Going.{begins}
 use Rattle.vx_machine.proofs.MachineMoves.{first_left, second_first}
 use Rattle.vx_machine.proofs.machine.Machine.start.Goals as goal
 
@@ -21,6 +24,10 @@ returns-in-Ok-clause-counted g c = c.in-Ok.ensures.shows.counted
 
 pub returns-in-Ok-clause-shows : goal.returns-in-Ok-clause-shows
 returns-in-Ok-clause-shows g c = ap (λ z. record { phase = reading c.args.stream; root = z }) (c.in-Ok.ensures.shows.tasks no_tasks)
+
+pub returns-in-Ok-clause-begins : goal.returns-in-Ok-clause-begins
+returns-in-Ok-clause-begins g c =
+    begins (allowed_in c.args.ctx.now) (strategy_data c.args.strategy.now) (ty c.args.dtype.now) (is_marked c.args.ctx.now) c.args.stream c.args.eof _ c.in-Ok.ensures.shows.allowed (returns-in-Ok-clause-shows g c)
 
 pub start_root-requires : goal.start_root-requires
 start_root-requires g c = owned_right (g.O.Order.active c.args.order.now) (end_stock c.args.stream) (end_stock c.args.eof) c.requires

@@ -3,7 +3,6 @@ use Rattle.vx_model.specs.ChunkData.{ChunkData}
 use Rattle.vx_sequence.specs.Universe.{Active}
 use Rattle.vx_machine_ids.specs.Stock.{one}
 use Rattle.vx_machine_ids.proofs.MoveLaws.{owned_right, moved_behind}
-use Rattle.vx_machine_tasks.specs.Ready.{counted}
 use Rattle.vx_machine_tasks.specs.Stocks.{task_stock}
 use Rattle.vx_machine.specs.Source.{phase_stock}
 use Rattle.vx_machine.specs.Whole.{may_source, machine_ready}
@@ -16,13 +15,14 @@ use Rattle.vx_machine.specs.Calls.{reads_at}
 use Rattle.vx_sink.specs.ContextView.{counted as counted_bytes}
 use Rattle.vx_machine_nodes.specs.Context.{setting_of}
 use Rattle.vx_machine_tasks.specs.View.{task_row, row}
-use Rattle.vx_machine.specs.View.{phase_of}
+use Rattle.vx_machine.specs.View.{phase_of, machine_of}
+use Rattle.vx_machine.proofs.Going.{steps_on}
 use Rattle.vx_machine.proofs.ReadyViews.{own_source, behind_source}
 use Rattle.vx_machine.proofs.StepShows.{source_stepped, source_refused, source_memory, root_stepped, root_refused}
 use Rattle.vx_machine_nodes.proofs.WriteSteps.{kept_same}
 use Rattle.vx_machine.proofs.ActCauses.{act_step, source_step, act_elsewhere}
 use Rattle.vx_machine_nodes.proofs.CallSteps.{unasked_self}
-use Rattle.vx_machine.proofs.CallSteps.{stops_as, source_quiet, source_act, source_appends, source_unpressed, none_pressed, source_calls, task_reads, task_stops, reads_behind}
+use Rattle.vx_machine.proofs.CallSteps.{stops_as, source_quiet, source_act, source_appends, source_unpressed, none_pressed, source_calls, task_reads, task_stops, reads_behind, none_fewer}
 use Rattle.vx_kept.specs.Kept.{Knows, asked_of, ready_of, kids_of}
 use Rattle.vx_kept.proofs.Asking.{fresh_knows}
 use Rattle.vx_machine_tasks.specs.declared.task.Task.{out-Task}
@@ -42,8 +42,8 @@ pub step-requires-clause-there : goal.step-requires-clause-there
 step-requires-clause-there g c =
     let u : Active = g.O.Order.active c.args.order.now in
     let x : c.one-own.result ≡ one (may_source c.args.self.now.phase c.args.self.now.root) = c.one-own.ensures ∙ ap one c.source_may.ensures in
-    let r : c.args.ready ≡ counted (machine_ready u c.args.self.now) = c.requires.count in
-    omega (arith, x, r, c.requires.ready, c.if-picked-own.false)
+    let r : c.args.ready ≡ machine_ready u c.args.self.now = c.requires.count in
+    omega (arith, x, r, c.ranges.ready.fits, c.requires.ready, c.if-picked-own.false)
 
 pub returns-in-Ok-step-clause-moved : goal.returns-in-Ok-step-clause-moved
 returns-in-Ok-step-clause-moved g c =
@@ -64,10 +64,10 @@ returns-in_err-task-clause-refused g c =
     let m = c.args.self.now in
     let x : c.one-own.result ≡ one (may_source m.phase m.root) = c.one-own.ensures ∙ ap one c.source_may.ensures in
     let h = own_source m.phase m.root (c.args.pick % c.args.ready) c.one-own.result x c.if-picked-own.true in
-    let k : c.args.pick % counted (machine_ready u m) ≡ 0 = ap (λ n. c.args.pick % n) (sym c.requires.count) ∙ h.0 in
+    let k : c.args.pick % machine_ready u m ≡ 0 = ap (λ n. c.args.pick % n) (sym c.requires.count) ∙ h.0 in
     let p = err_from_is_err_and c.from_residual.result c.from_residual.ensures.1 in
     rw (p.1, p.2) (λ number.
-    source_memory (setting_of c.args.ctx.now (g.C.CompressorPlugin.image (g.C.CompressorPlugin.kind c.args.compressor.now))) (fin.keys u) number (g.B.BatchSource.kind c.args.source.now) (g.O.Order.outlet c.args.order.now) (phase_of m.phase) (task_row m.root no_tasks) (c.args.pick % counted (machine_ready u m)) k h.1
+    source_memory (setting_of c.args.ctx.now (g.C.CompressorPlugin.image (g.C.CompressorPlugin.kind c.args.compressor.now))) (fin.keys u) number (g.B.BatchSource.kind c.args.source.now) (g.O.Order.outlet c.args.order.now) (phase_of m.phase) (task_row m.root no_tasks) (c.args.pick % machine_ready u m) k h.1
     (g.B.BatchSource.to_come c.args.source.now) (g.B.BatchSource.to_come c.args.source.now) (counted_bytes c.args.ctx.now) refl)
 
 pub returns-in_err-task-clause-kept : goal.returns-in_err-task-clause-kept
@@ -95,8 +95,8 @@ returns-in-Err-clause-refused g c = λ number.
     let m = c.args.self.now in
     let x : c.one-own.result ≡ one (may_source m.phase m.root) = c.one-own.ensures ∙ ap one c.source_may.ensures in
     let h = own_source m.phase m.root (c.args.pick % c.args.ready) c.one-own.result x c.if-picked-own.true in
-    let k : c.args.pick % counted (machine_ready u m) ≡ 0 = ap (λ n. c.args.pick % n) (sym c.requires.count) ∙ h.0 in
-    source_refused (setting_of c.args.ctx.now image) (fin.keys u) number (g.B.BatchSource.kind c.args.source.now) (g.O.Order.outlet c.args.order.now) (phase_of m.phase) (task_row m.root no_tasks) (c.args.pick % counted (machine_ready u m)) k h.1
+    let k : c.args.pick % machine_ready u m ≡ 0 = ap (λ n. c.args.pick % n) (sym c.requires.count) ∙ h.0 in
+    source_refused (setting_of c.args.ctx.now image) (fin.keys u) number (g.B.BatchSource.kind c.args.source.now) (g.O.Order.outlet c.args.order.now) (phase_of m.phase) (task_row m.root no_tasks) (c.args.pick % machine_ready u m) k h.1
     (g.B.BatchSource.to_come c.args.source.now) (g.B.BatchSource.to_come c.step_source.new.source) (counted_bytes c.args.ctx.now) c.in-Err.error c.in-Err.ensures.cause c.in-Err.ensures.refused
 
 pub returns-in-Err-clause-kept : goal.returns-in-Err-clause-kept
@@ -122,11 +122,28 @@ returns-in-Err-step-clause-refused g c = λ number.
     let m = c.args.self.now in
     let k : ℕ = c.args.pick % c.args.ready in
     let x : c.one-own.result ≡ one (may_source m.phase m.root) = c.one-own.ensures ∙ ap one c.source_may.ensures in
-    let is : c.args.pick % counted (machine_ready u m) ≡ one_if (whole.may_source (phase_of m.phase) (task_row m.root no_tasks)) + (k - c.one-own.result)
+    let is : c.args.pick % machine_ready u m ≡ one_if (whole.may_source (phase_of m.phase) (task_row m.root no_tasks)) + (k - c.one-own.result)
     = ap (λ n. c.args.pick % n) (sym c.requires.count) ∙ behind_source m.phase m.root k c.one-own.result x c.if-picked-own.false in
     root_refused (setting_of c.args.ctx.now image) (fin.keys u) number (g.B.BatchSource.kind c.args.source.now) (g.O.Order.outlet c.args.order.now) (phase_of m.phase) (task_row m.root no_tasks)
-    (c.args.pick % counted (machine_ready u m)) (k - c.one-own.result) is (g.B.BatchSource.to_come c.args.source.now) (g.B.BatchSource.to_come c.args.source.now) refl (counted_bytes c.args.ctx.now) c.in-Err-step.error
+    (c.args.pick % machine_ready u m) (k - c.one-own.result) is (g.B.BatchSource.to_come c.args.source.now) (g.B.BatchSource.to_come c.args.source.now) refl (counted_bytes c.args.ctx.now) c.in-Err-step.error
     (act_elsewhere c.in-Err-step.error c.in-Err-step.ensures.cause) (c.in-Err-step.ensures.refused number)
+
+-- ---- where the write has then come
+
+pub returns-in-Ok-clause-leads : goal.returns-in-Ok-clause-leads
+returns-in-Ok-clause-leads g c = λ exact.
+    steps_on c.runs.ensures.by c.steps.ensures.step c.args.ctx.now (g.C.CompressorPlugin.image (g.C.CompressorPlugin.kind c.args.compressor.now)) (g.O.Order.active c.args.order.now) c.args.self.now exact (g.B.BatchSource.kind c.args.source.now) c.args.pick
+    (g.B.BatchSource.to_come c.args.source.now) (g.B.BatchSource.to_come c.step_source.new.source) (g.O.Order.outlet c.args.order.now) (g.O.Order.outlet c.step_source.new.order) (machine_of c.step_source.new.self)
+    (record { ready = c.args.ready; picked = c.args.pick % c.args.ready; task = c.in_ok-task.task; action = c.in-Ok.action }) c.requires.count refl (returns-in-Ok-clause-done g c)
+
+pub returns-in-Ok-step-clause-leads : goal.returns-in-Ok-step-clause-leads
+returns-in-Ok-step-clause-leads g c = λ exact.
+    steps_on c.runs.ensures.by c.steps.ensures.step c.args.ctx.now (g.C.CompressorPlugin.image (g.C.CompressorPlugin.kind c.args.compressor.now)) (g.O.Order.active c.args.order.now) c.args.self.now exact (g.B.BatchSource.kind c.args.source.now) c.args.pick
+    (g.B.BatchSource.to_come c.args.source.now) (g.B.BatchSource.to_come c.args.source.now) (g.O.Order.outlet c.args.order.now) (g.O.Order.outlet c.step.new.order) _
+    (record { ready = c.args.ready; picked = c.args.pick % c.args.ready; task = c.in-Ok-step.did.task; action = c.in-Ok-step.did.action }) c.requires.count refl (returns-in-Ok-step-clause-done g c)
+
+pub returns-in-Ok-step-clause-left : goal.returns-in-Ok-step-clause-left
+returns-in-Ok-step-clause-left g c = none_fewer (g.B.BatchSource.left c.args.source.now) c.in-Ok-step.did.action c.in-Ok-step.ensures.told.0
 
 -- ---- calls of the source, of the sink and of the compressor
 
@@ -156,8 +173,8 @@ returns-in-Err-clause-source_told g c =
     let m = c.args.self.now in
     let x : c.one-own.result ≡ one (may_source m.phase m.root) = c.one-own.ensures ∙ ap one c.source_may.ensures in
     let h = own_source m.phase m.root (c.args.pick % c.args.ready) c.one-own.result x c.if-picked-own.true in
-    let k : c.args.pick % counted (machine_ready (g.O.Order.active c.args.order.now) m) ≡ 0 = ap (λ n. c.args.pick % n) (sym c.requires.count) ∙ h.0 in
-    stops_as g.B.Fallible.faults g.B.Fallible.may_fail g.B.Fallible.must_fail c.args.source.now c.step_source.new.source (reads_at (phase_of m.phase) 0) (reads_at (phase_of m.phase) (c.args.pick % counted (machine_ready (g.O.Order.active c.args.order.now) m)))
+    let k : c.args.pick % machine_ready (g.O.Order.active c.args.order.now) m ≡ 0 = ap (λ n. c.args.pick % n) (sym c.requires.count) ∙ h.0 in
+    stops_as g.B.Fallible.faults g.B.Fallible.may_fail g.B.Fallible.must_fail c.args.source.now c.step_source.new.source (reads_at (phase_of m.phase) 0) (reads_at (phase_of m.phase) (c.args.pick % machine_ready (g.O.Order.active c.args.order.now) m))
     c.in-Err.error (ap (reads_at (phase_of m.phase)) k) c.in-Err.ensures.told
 
 pub returns-in-Err-clause-sink_told : goal.returns-in-Err-clause-sink_told
@@ -175,10 +192,10 @@ returns-in-Err-step-clause-source_told g c =
     let m = c.args.self.now in
     let k : ℕ = c.args.pick % c.args.ready in
     let x : c.one-own.result ≡ one (may_source m.phase m.root) = c.one-own.ensures ∙ ap one c.source_may.ensures in
-    let is : c.args.pick % counted (machine_ready (g.O.Order.active c.args.order.now) m) ≡ one_if (whole.may_source (phase_of m.phase) (task_row m.root no_tasks)) + (k - c.one-own.result)
+    let is : c.args.pick % machine_ready (g.O.Order.active c.args.order.now) m ≡ one_if (whole.may_source (phase_of m.phase) (task_row m.root no_tasks)) + (k - c.one-own.result)
     = ap (λ n. c.args.pick % n) (sym c.requires.count) ∙ behind_source m.phase m.root k c.one-own.result x c.if-picked-own.false in
-    task_stops (g.B.Fallible.faults c.args.source.now) (g.B.Fallible.may_fail c.args.source.now) (g.B.Fallible.must_fail c.args.source.now) (reads_at (phase_of m.phase) (c.args.pick % counted (machine_ready (g.O.Order.active c.args.order.now) m)))
-    (reads_behind (phase_of m.phase) (task_row m.root no_tasks) (c.args.pick % counted (machine_ready (g.O.Order.active c.args.order.now) m)) (k - c.one-own.result) is) c.in-Err-step.error c.in-Err-step.ensures.cause
+    task_stops (g.B.Fallible.faults c.args.source.now) (g.B.Fallible.may_fail c.args.source.now) (g.B.Fallible.must_fail c.args.source.now) (reads_at (phase_of m.phase) (c.args.pick % machine_ready (g.O.Order.active c.args.order.now) m))
+    (reads_behind (phase_of m.phase) (task_row m.root no_tasks) (c.args.pick % machine_ready (g.O.Order.active c.args.order.now) m) (k - c.one-own.result) is) c.in-Err-step.error c.in-Err-step.ensures.cause
 
 pub returns-in-Err-step-clause-sink_told : goal.returns-in-Err-step-clause-sink_told
 returns-in-Err-step-clause-sink_told g c = c.in-Err-step.ensures.told

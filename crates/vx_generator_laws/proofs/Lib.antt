@@ -1,0 +1,13 @@
+pub mod Sums
+pub mod RunSums
+pub mod BlockStreams
+pub mod Tame
+pub mod SegmentPlans
+pub mod DictPlans
+pub mod ZonePlans
+pub mod BlockPlans
+pub mod SegmentSizes
+pub mod TableSetting
+pub mod Aggregates
+pub mod TableColumns
+pub mod TableIsValid

@@ -1,0 +1,2 @@
+mod WriteSteps
+mod SummarySteps
