@@ -1,14 +1,16 @@
-//! What the tracker counts behind a write.
+//! What the tracker counts behind a write, and the segments that stand.
 
 ghost use Rattle.std.specs.Prelude.{◌≡◌};
 ghost use Rattle.vx_sink.specs.ContextView.{counted};
 
-use crate::given::{INTEGERS, context, integers, strategy};
+use crate::given::{context, source, strategy};
 use anyhow::bail;
 use std::alloc::{AllocError, Global};
 use vx_case_lines::{boxed, cut, parts};
-use vx_sink::{LayoutWriterContext, ListSource, MemorySink, PlainCompressor};
+use vx_sink::{LayoutWriterContext, ListSource, MemorySink};
 use vx_strategy::Strategy;
+use vx_table_compressor::TableCompressor;
+use vx_types::Blob;
 use vx_write::write_stream;
 
 /// The calls that fail: one, or none.
@@ -26,11 +28,11 @@ fn ending(
     ctx: &mut LayoutWriterContext,
     source: &mut ListSource,
     sink: &mut MemorySink,
+    compressor: &mut TableCompressor,
 ) -> Result<String, AllocError>
     ensures { counted ctx.new ≡ counted ctx.old }
 {
-    let mut compressor = PlainCompressor::new(Vec::new(alloc));
-    match write_stream(alloc, by, ctx, source, sink, &[], &mut compressor) {
+    match write_stream(alloc, by, ctx, source, sink, &[], compressor) {
         Ok(written) => {
             let steps = written.trace.len();
             drop(written);
@@ -52,12 +54,13 @@ fn ended(
     before: u64,
     source: &mut ListSource,
     sink: &mut MemorySink,
+    compressor: &mut TableCompressor,
 ) -> anyhow::Result<String> {
     let mut ctx = LayoutWriterContext::new(context(alloc)?);
     let Ok(reservation) = ctx.reserve_buffered_bytes(before) else {
         bail!("{before} bytes are too many")
     };
-    let ending = ending(alloc, by, &mut ctx, source, sink);
+    let ending = ending(alloc, by, &mut ctx, source, sink, compressor);
     let counted = ctx.buffered_bytes();
     ctx.release_buffered_bytes(reservation);
     drop(ctx);
@@ -65,18 +68,32 @@ fn ended(
     Ok(format!(in alloc; "{ending}, {counted} bytes counted")?)
 }
 
+fn push_segments(alloc: Global, text: &mut String, segments: &[Blob]) -> Result<(), AllocError> {
+    for segment in segments {
+        let bytes = hex::encode(alloc, segment.as_slice())?;
+        write!(text, " {bytes}")?;
+    }
+    Ok(())
+}
+
+/// The text, and the segments in the sink.
+fn with_segments(alloc: Global, text: &str, sink: &MemorySink) -> Result<String, AllocError> {
+    let mut text = format!(in alloc; "{text}, segments")?;
+    push_segments(alloc, &mut text, sink.segments())?;
+    Ok(text)
+}
+
 pub(crate) fn told(alloc: Global, given: &str) -> anyhow::Result<String> {
     let (before, rest) = cut(given);
     let before = before.parse::<u64>()?;
     let (of_source, rest) = cut(rest);
     let (of_sink, rest) = cut(rest);
-    let (by, batches) = parts(rest)?;
+    let (of_compressor, rest) = cut(rest);
+    let (by, rest) = parts(rest)?;
     let by = strategy(alloc, by)?;
-    let batches = integers(alloc, batches)?;
-    let mut source = boxed(
-        alloc,
-        ListSource::new(INTEGERS, batches, calls(alloc, of_source)?),
-    )?;
+    let mut source = source(alloc, rest, calls(alloc, of_source)?)?;
     let mut sink = boxed(alloc, MemorySink::new(0, calls(alloc, of_sink)?))?;
-    ended(alloc, &by, before, &mut source, &mut sink)
+    let mut compressor = boxed(alloc, TableCompressor::new(calls(alloc, of_compressor)?))?;
+    let text = ended(alloc, &by, before, &mut source, &mut sink, &mut compressor)?;
+    Ok(with_segments(alloc, &text, &sink)?)
 }

@@ -2,7 +2,6 @@
 
 use crate::given::{alone, chunk_of, context, dtype, encoded};
 use crate::spelling::parsed;
-use crate::written::segments_of;
 use anyhow::{Context, bail};
 use std::alloc::Global;
 use vx_case_lines::{boxed, parts};
@@ -10,7 +9,7 @@ use vx_layout_tree::{FlatLayout, Layout};
 use vx_model::Value;
 use vx_read::{ReadError, SegmentMap, read_rows};
 use vx_report::report;
-use vx_types::SegmentId;
+use vx_types::{Blob, SegmentId};
 
 /// The batch as a segment.
 fn segment(alloc: Global, of: &str, batch: &str) -> anyhow::Result<Vec<u8>> {
@@ -40,16 +39,21 @@ fn longer_segment(alloc: Global, given: &str) -> anyhow::Result<SegmentMap> {
     segment_and(alloc, behind)
 }
 
-fn written_segments(alloc: Global, given: &str) -> anyhow::Result<SegmentMap> {
-    let (_, batches) = parts(given)?;
-    segments_of(alloc, batches)
+/// The bytes behind the first part, as segments from 0 on.
+fn given_segments(alloc: Global, given: &str) -> anyhow::Result<SegmentMap> {
+    let (_, texts) = parts(given)?;
+    let mut list = Vec::new(alloc);
+    for text in texts.split(" / ") {
+        list.push(Blob::from(hex::decode(alloc, text)?))?;
+    }
+    Ok(SegmentMap { first: 0, list })
 }
 
 fn segments_in(alloc: Global, word: &str, given: &str) -> anyhow::Result<SegmentMap> {
     match word {
         "rows" => batch_segment(alloc, given),
         "read" => longer_segment(alloc, given),
-        _ => written_segments(alloc, given),
+        _ => given_segments(alloc, given),
     }
 }
 
@@ -81,8 +85,8 @@ fn flat_layout(alloc: Global, given: &str) -> anyhow::Result<Layout> {
 }
 
 fn parsed_layout(alloc: Global, given: &str) -> anyhow::Result<Layout> {
-    let (bytes, _) = parts(given)?;
-    parsed(alloc, bytes)
+    let (job, _) = parts(given)?;
+    Ok(Box::into_inner(parsed(alloc, job)?))
 }
 
 fn layout_in(alloc: Global, word: &str, given: &str) -> anyhow::Result<Layout> {

@@ -1,65 +1,83 @@
 //! Layouts as bytes.
 
-use crate::given::{INTEGERS, context};
 use crate::written::layout_of;
-use anyhow::ensure;
+use anyhow::{Result, ensure};
 use bytes::Bytes;
 use std::alloc::{AllocError, Global};
-use vx_case_lines::boxed;
-use vx_layout_bytes::Limits;
-use vx_layout_codec::{layout_bytes, layout_from_flatbuffer};
+use vx_case_lines::{boxed, parts};
+use vx_job::{TreeJob, read_tree_job};
+use vx_layout_codec::{layout_bytes, layout_from_flatbuffer_with_options};
 use vx_layout_tree::Layout;
 use vx_model::Text;
 use vx_session::{LayoutContext, LayoutSession, Session};
 
-/// The ids of the two kinds.
-fn ids(alloc: Global) -> anyhow::Result<LayoutContext> {
-    let chunked = Text::from_str(alloc, "vortex.chunked")?;
-    let ids = vec![in alloc; chunked, Text::from_str(alloc, "vortex.flat")?]?;
-    ensure!(LayoutContext::is_context(alloc, &ids)?, "no context");
+/// The ids of all aggregates.
+const AGGREGATES: &str =
+    "vortex.max vortex.min vortex.bounded_max vortex.bounded_min vortex.null_count vortex.sum vortex.bloom_filter.sbbf";
+
+fn texts(alloc: Global, words: &str) -> Result<Vec<Text>, AllocError> {
+    let mut texts = Vec::new(alloc);
+    for word in words.split_whitespace() {
+        texts.push(Text::from_str(alloc, word)?)?;
+    }
+    Ok(texts)
+}
+
+fn context(alloc: Global, words: &str) -> Result<LayoutContext> {
+    let ids = texts(alloc, words)?;
+    ensure!(
+        LayoutContext::is_context(alloc, &ids)?,
+        "an id is there twice"
+    );
     Ok(LayoutContext::new(ids))
 }
 
-/// All kinds, and no aggregates.
-fn session(alloc: Global) -> Result<Session, AllocError> {
+/// All kinds and all aggregates, and others too where they may be kept.
+fn session(alloc: Global, allow_unknown: bool) -> Result<Session, AllocError> {
     Ok(Session {
         layouts: LayoutSession::default(alloc)?,
-        aggregates: Vec::new(alloc),
-        allow_unknown: false,
+        aggregates: texts(alloc, AGGREGATES)?,
+        allow_unknown,
     })
 }
 
-fn parsed_in(
-    alloc: Global,
-    bytes: Bytes,
-    ids: &LayoutContext,
-    session: &Session,
-) -> anyhow::Result<Layout> {
-    let ctx = context(alloc)?;
-    let dtype = boxed(alloc, INTEGERS)?;
-    let limits = Limits::default();
-    Ok(layout_from_flatbuffer(alloc, bytes, &dtype, ids, &ctx, session, limits)?)
+fn layout_in(alloc: Global, job: &TreeJob) -> Result<Layout> {
+    let bytes = Bytes::copy_from_slice(alloc, &job.bytes)?;
+    let options = &job.options;
+    let session = boxed(alloc, session(alloc, options.allow_unknown)?)?;
+    Ok(layout_from_flatbuffer_with_options(
+        alloc,
+        bytes,
+        &job.dtype,
+        &job.layouts,
+        &options.encodings,
+        &session,
+        options.limits,
+        options.allow_unknown,
+    )?)
 }
 
 /// The layout that the bytes are.
-pub(crate) fn parsed(alloc: Global, text: &str) -> anyhow::Result<Layout> {
-    let bytes = Bytes::from_vec(hex::decode(alloc, text)?)?;
-    let ids = ids(alloc)?;
-    let session = boxed(alloc, session(alloc)?)?;
-    parsed_in(alloc, bytes, &ids, &session)
+pub(crate) fn parsed(alloc: Global, given: &str) -> Result<Box<Layout>> {
+    let job = boxed(alloc, read_tree_job(alloc, given.as_bytes())?)?;
+    Ok(boxed(alloc, layout_in(alloc, &job)?)?)
 }
 
-fn bytes_of(alloc: Global, layout: &Layout) -> anyhow::Result<Vec<u8>> {
-    let ids = ids(alloc)?;
-    Ok(layout_bytes(alloc, layout, &ids)?)
+/// The bytes that the layout is spelled as.
+pub(crate) fn again(alloc: Global, given: &str) -> Result<String> {
+    let job = boxed(alloc, read_tree_job(alloc, given.as_bytes())?)?;
+    let layout = boxed(alloc, layout_in(alloc, &job)?)?;
+    shown(alloc, &layout, &job.layouts)
 }
 
-fn bytes_written(alloc: Global, batches: &str) -> anyhow::Result<Vec<u8>> {
-    let layout = layout_of(alloc, batches)?;
-    bytes_of(alloc, &layout)
-}
-
-pub(crate) fn spelled(alloc: Global, given: &str) -> anyhow::Result<String> {
-    let bytes = bytes_written(alloc, given)?;
+fn shown(alloc: Global, layout: &Layout, ctx: &LayoutContext) -> Result<String> {
+    let bytes = layout_bytes(alloc, layout, ctx)?;
     Ok(hex::encode(alloc, &bytes)?)
+}
+
+pub(crate) fn spelled(alloc: Global, given: &str) -> Result<String> {
+    let (words, job) = parts(given)?;
+    let ctx = context(alloc, words)?;
+    let layout = layout_of(alloc, job)?;
+    shown(alloc, &layout, &ctx)
 }
