@@ -1,0 +1,11 @@
+-- What two columns may write.
+use Rattle.std.specs.Prelude.{ℕ, List, [], ◌∷◌}
+use Rattle.vx_seats.specs.History.{Pair}
+
+-- one byte at a path
+abbrev pub pair_at : List ℕ → ℕ → Pair
+pair_at p b = record { path = p; bytes = b ∷ [] }
+
+-- side by side
+abbrev pub beside : List Pair
+beside = pair_at (0 ∷ []) 1 ∷ pair_at (1 ∷ []) 2 ∷ []
